@@ -1,0 +1,159 @@
+//! What is promised of the restart of a recoverable queue manager: its definitions, in specs/, and their laws, each
+//! on a function below that does nothing.
+#![tactic(auto)]
+
+ghost use Rattle.rq_model.specs.LogLaws.{BodySpellsOne, RecordHasOneBody, BytesSpellOneState, RunsFit, FrameIsRight, RightIsFrame, RunStops, OneRun, OneRest, OneFrameRun, RunGivesFront, FramesJoin, LogJoins, LogEnds, FrontStops, OneLongest, OneWhy, OneFront, OneRestart, OneText, OneReport, FrontHasReport, OneRestartAt, TrueIsSame, OneAudit, CrashInTheTail, UpgradeIsSame};
+ghost use Rattle.rq_model.specs.WorkedLogs.{WorkedBytes, WorkedLogs, UnlawfulLogs, WorkedCheckpoint};
+ghost use Rattle.rq_model.specs.Ready.{RedoGoesWell, GoesOn};
+ghost use Rattle.rq_model.specs.Laws.{Projection, ArrivalsAreMerged, LawfulnessLooksAt, PartsDecide, IdsDiffer, PutInAnyOrder, RunsAreWellFormed, EmptyIsWellFormed, PartsGather, MembersDecide, NumbersAfter, VersionOneIsOneDeep, VersionTwoIsWider, RedoSteps, CrashIsHarmless};
+ghost use Rattle.rq_model.specs.MoveLaws.{MovesRise, ArrivalsRise};
+
+/// A body spells at most one record, a record has one body, and the bytes of a state spell no other state.
+pub fn one_spelling()
+    ensures record { BodySpellsOne }
+    ensures body { RecordHasOneBody }
+    ensures state { BytesSpellOneState }
+{}
+
+/// Where a length is in range and the digest is right, the frame of the body stands, and no other.
+pub fn frames_are_right()
+    ensures right { FrameIsRight }
+    ensures frame { RightIsFrame }
+{}
+
+/// A run of frames behind which no right frame stands is the longest; there is one, and one line says what follows.
+pub fn one_run()
+    ensures stops { RunStops }
+    ensures run { OneRun }
+    ensures rest { OneRest }
+    ensures chain { OneFrameRun }
+{}
+
+/// Further records are further frames, chained to the last 32 bytes.
+pub fn frames_join()
+    ensures frames { FramesJoin }
+    ensures log { LogJoins }
+    ensures end { LogEnds }
+{}
+
+/// Lawfulness is decided without elements and notes.
+pub fn lawfulness_looks_at()
+    ensures { LawfulnessLooksAt }
+{}
+
+/// Every state of a lawful run from a well-formed state is well formed, and the empty state is.
+pub fn runs_are_well_formed()
+    ensures start { EmptyIsWellFormed }
+    ensures runs { RunsAreWellFormed }
+{}
+
+/// Every state of a run of records keeps its widths.
+pub fn runs_fit()
+    ensures { RunsFit }
+{}
+
+/// Version 1 makes no chains of error queues, and version 2 takes all that version 1 takes.
+pub fn versions()
+    ensures one { VersionOneIsOneDeep }
+    ensures two { VersionTwoIsWider }
+{}
+
+/// The numbers, definitions and open units after a run are decided by the records and the outcomes alone.
+pub fn numbers_after()
+    ensures { NumbersAfter }
+{}
+
+/// Lawful records at whose end a line of WHY applies are the longest; there is one front, and one line of WHY.
+pub fn one_front()
+    ensures stops { FrontStops }
+    ensures longest { OneLongest }
+    ensures why { OneWhy }
+    ensures front { OneFront }
+    ensures from_run { RunGivesFront }
+{}
+
+/// There is one restart, one text, one report; one restart from each checkpoint; one audit.
+pub fn one_report()
+    ensures restart { OneRestart }
+    ensures text { OneText }
+    ensures report { OneReport }
+    ensures some { FrontHasReport }
+    ensures restart_at { OneRestartAt }
+    ensures audit { OneAudit }
+{}
+
+/// From a true checkpoint the restart is the same.
+pub fn true_checkpoints_say_the_same()
+    ensures { TrueIsSame }
+{}
+
+/// Whatever beginning of the final aborts stands in the log, the final state is the same.
+pub fn crash_is_harmless()
+    ensures { CrashIsHarmless }
+{}
+
+/// Whatever beginning of the tail stands behind the front, the state after restart is the same.
+pub fn crash_in_the_tail()
+    ensures { CrashInTheTail }
+{}
+
+/// A log in version 2 has the front, the restart and the audit of the log it was made of.
+pub fn upgrade_is_the_same()
+    ensures { UpgradeIsSame }
+{}
+
+/// What stays in a queue at an abort and what arrives have distinct ids, and are put in in any order.
+pub fn any_order()
+    ensures ids { IdsDiffer }
+    ensures order { PutInAnyOrder }
+{}
+
+/// A well-formed state is decided by its numbers, units, definitions and parts.
+pub fn parts_decide()
+    ensures { PartsDecide }
+{}
+
+/// A well-formed state is made of its parts, and is the only one with their members, its numbers, definitions and units.
+pub fn parts_gather()
+    ensures gather { PartsGather }
+    ensures decide { MembersDecide }
+{}
+
+/// A queue's part after a run, and what left it meanwhile, are decided by its part before, the operations that touch it and what arrives.
+pub fn projection()
+    ensures { Projection }
+{}
+
+/// The redo of one queue goes one arrival or one operation at a time.
+pub fn redo_steps()
+    ensures { RedoSteps }
+{}
+
+/// In a lawful run each operation on a queue finds its part ready, and each arrival is new to it.
+pub fn redo_goes_well()
+    ensures well { RedoGoesWell }
+    ensures steps { GoesOn }
+{}
+
+/// What arrives in a queue is what leaves its sources, merged by place and id.
+pub fn arrivals_are_merged()
+    ensures { ArrivalsAreMerged }
+{}
+
+/// What leaves a queue, and what arrives in one, stands in the order of places and ids.
+pub fn moves_rise()
+    ensures moves { MovesRise }
+    ensures arrivals { ArrivalsRise }
+{}
+
+/// Three bodies and two states, byte by byte.
+pub fn worked_bytes()
+    ensures { WorkedBytes }
+{}
+
+/// Worked logs, whose lengths are known without their digests, have these reports.
+pub fn worked_logs()
+    ensures whole { WorkedLogs }
+    ensures unlawful { UnlawfulLogs }
+    ensures checkpoint { WorkedCheckpoint }
+{}
