@@ -1,0 +1,6 @@
+pub mod Faults
+pub mod Padding
+pub mod PaddingLaws
+pub mod Views
+pub mod Reading
+pub mod Writing

@@ -1,0 +1,16 @@
+-- What a record of the code is among the words of the model.
+use Rattle.rq_model.specs.Records as model
+use Rattle.rq_record.specs.declared.record.Record.{Record}
+use Rattle.rq_record.specs.declared.record.Record.TheVariants.{Define, Register, Deregister, Begin, Enqueue, Dequeue, Commit, Abort, Checkpoint}
+
+-- the same kind with the same fields; a name, a payload, a registrant are already the model's
+abbrev pub record_of : Record → model.Record
+record_of (Define limit error name) = model.Define limit error.0 name
+record_of (Register queue name) = model.Register queue.0 name
+record_of (Deregister queue name) = model.Deregister queue.0 name
+record_of (Begin unit) = model.Begin unit.0
+record_of (Enqueue unit queue priority by payload) = model.Enqueue unit.0 queue.0 priority by payload
+record_of (Dequeue unit queue by) = model.Dequeue unit.0 queue.0 by
+record_of (Commit unit) = model.Commit unit.0
+record_of (Abort unit) = model.Abort unit.0
+record_of (Checkpoint bytes) = model.Checkpoint bytes

@@ -1,0 +1,151 @@
+//! Names of queues and registrants.
+
+ghost use Rattle.std.specs.Prelude.{◌≡◌, ◌≤◌, ◌-◌, ◌++◌, length, replicate, if◌then◌else◌, IsTrue, None};
+ghost use Rattle.std.specs.List.{list_all};
+ghost use Rattle.std.specs.Ordering.{is_lt, nat_cmp};
+ghost use Rattle.std.specs.Cmp.Lexicographic.{slice_cmp, pointwise, nat_list_eq_equiv, nat_list_cmp_total, texts_ties, texts_po};
+ghost use Rattle.std.specs.Cmp.{partial_equiv_from_equiv};
+ghost use Rattle.std.specs.Hash as fed;
+ghost use Rattle.std.specs.Cmp.Rules.{hashing};
+ghost use Rattle.std.proofs.Common.{rules};
+ghost use Rattle.std.specs.Prelude.{refl, nat_eq, Some};
+ghost use Rattle.rq_model.specs.Spelling.{is_name, is_name_byte};
+
+use std::cmp::Ordering;
+use std::hash::{Hash, Hasher};
+use std::marker::Model;
+
+/// 1 to 64 bytes of `a-z`, `0-9`, `-`, `.` and `_`. What stands behind them in the array is 0, so
+/// that two names are equal, or in order, where their arrays are.
+#[derive(Clone, Copy, Debug)]
+pub struct Name {
+    bytes: [u8; 64],
+    len: u8,
+}
+
+impl Model for Name {
+    ghost use Rattle.std.specs.Prelude.{ℕ, List, ◌≡◌, ◌≤◌, ◌-◌, ◌++◌, length, take, replicate, IsTrue};
+    ghost use Rattle.rq_model.specs.Spelling.{is_name};
+    ghost use Rattle.rq_record.specs.Padding.{Padded};
+
+    ghost Value = { List ℕ };
+
+    ghost view = { λ n. take n.len n.bytes };
+
+    ghost invariant = { λ n. Padded n.bytes n.len × IsTrue (is_name (take n.len n.bytes)) };
+
+    ghost inverse = { λ v. record { bytes = v ++ replicate (64 - length v) 0; len = length v } };
+
+    ghost use Rattle.rq_record.specs.PaddingLaws.{inside_again};
+
+    ghost inverse_ok = { inside_again };
+}
+
+fn is_name_char(b: u8) -> bool
+    ensures { result ≡ is_name_byte b }
+{
+    matches!(b, b'a'..=b'z' | b'0'..=b'9' | b'-' | b'.' | b'_')
+}
+
+fn are_name_chars(bytes: &[u8]) -> bool
+    ensures { result ≡ list_all is_name_byte bytes.now }
+{
+    bytes.iter().all(|b| is_name_char(*b))
+}
+
+fn is_name_bytes(bytes: &[u8]) -> bool
+    ensures { result ≡ is_name bytes.now }
+{
+    1 <= bytes.len() && bytes.len() <= 64 && are_name_chars(bytes)
+}
+
+fn padded(bytes: &[u8]) -> [u8; 64]
+    requires { length bytes.now ≤ 64 }
+    ensures { result ≡ bytes.now ++ replicate (64 - length bytes.now) 0 }
+{
+    let mut kept = [0; 64];
+    kept[..bytes.len()].copy_from_slice(bytes);
+    kept
+}
+
+impl Name {
+    /// The name of these bytes; none where they are none. Takes no memory.
+    pub fn new(bytes: &[u8]) -> Option<Name>
+        ensures { result ≡ (if is_name bytes.now then Some bytes.now else None) }
+    {
+        if is_name_bytes(bytes) {
+            Some(Name {
+                bytes: padded(bytes),
+                len: bytes.len() as u8,
+            })
+        } else {
+            None
+        }
+    }
+
+    /// The bytes of the name, 1 to 64, and that they are a name.
+    pub fn bytes(&self) -> &[u8]
+        ensures bytes { result.now ≡ self.now }
+        ensures name { IsTrue (is_name self.now) }
+    {
+        &self.bytes[..self.len as usize]
+    }
+
+    /// The same bytes as a text: each of them is a character of ASCII.
+    pub fn text(&self) -> &str
+        ensures { result.now ≡ self.now }
+    {
+        match std::str::from_utf8(self.bytes()) {
+            Ok(text) => text,
+            Err(_) => "",
+        }
+    }
+}
+
+impl PartialEq for Name {
+    ghost eq = { pointwise nat_eq };
+
+    ghost laws = { partial_equiv_from_equiv nat_list_eq_equiv };
+
+    fn eq(&self, other: &Name) -> bool {
+        self.bytes() == other.bytes()
+    }
+}
+
+impl Eq for Name {
+    ghost laws = { nat_list_eq_equiv };
+}
+
+impl PartialOrd for Name {
+    ghost partial_cmp = { λ x y. Some (slice_cmp nat_cmp x y) };
+
+    ghost laws = { texts_po };
+
+    fn partial_cmp(&self, other: &Name) -> Option<Ordering> {
+        Some(self.cmp(other))
+    }
+}
+
+impl Ord for Name {
+    ghost cmp = { slice_cmp nat_cmp };
+
+    ghost total = { nat_list_cmp_total };
+
+    ghost matches_partial_cmp = { λ x y. refl };
+
+    ghost matches_eq = { texts_ties };
+
+    fn cmp(&self, other: &Name) -> Ordering {
+        self.bytes().cmp(other.bytes())
+    }
+}
+
+impl Hash for Name {
+    ghost hash_input = { λ n. fed.slice (λ b. fed.u8 b) n };
+
+    ghost respects_eq = { Prim.search (hashing, rules) };
+
+    fn hash<H: Hasher>(&self, state: &mut H) {
+        self.bytes().hash(state);
+    }
+}

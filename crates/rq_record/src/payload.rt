@@ -1,0 +1,55 @@
+//! The payload of an element.
+
+ghost use Rattle.std.specs.Prelude.{◌≡◌, ◌≤◌, ◌↔◌, length, IsSome, IfSome, IfOk, IfErr};
+ghost use Rattle.rq_record.specs.declared.fault.Fault.TheVariants.{Resources};
+
+use crate::fault::Fault;
+use std::alloc::Global;
+use std::marker::Model;
+
+/// The payload of an element, at most 65,535 bytes.
+#[derive(Drop)]
+pub struct Payload {
+    bytes: Vec<u8>,
+}
+
+impl Model for Payload {
+    ghost use Rattle.std.specs.Prelude.{ℕ, List, ◌≤◌, length};
+
+    ghost Value = { List ℕ };
+
+    ghost view = { λ p. p.bytes.items };
+
+    ghost invariant = { λ p. length p.bytes.items ≤ 65535 };
+}
+
+impl Payload {
+    /// The payload of these bytes; none where there are more than 65,535, which are dropped. Takes no memory.
+    pub fn new(bytes: Vec<u8>) -> Option<Payload>
+        ensures bounded { IsSome result ↔ (length bytes.items ≤ 65535) }
+        ensures bytes { IfSome result (λ p. p ≡ bytes.items) }
+    {
+        if bytes.len() > 65535 {
+            return None;
+        }
+        Some(Payload { bytes })
+    }
+
+    /// The bytes, with their bound.
+    pub fn bytes(&self) -> &[u8]
+        ensures bytes { result.now ≡ self.now }
+        ensures bounded { length self.now ≤ 65535 }
+    {
+        &self.bytes
+    }
+
+    /// A payload of the same bytes. `Resources` where memory runs out.
+    pub fn copied(&self, alloc: Global) -> Result<Payload, Fault>
+        ensures copied { IfOk result (λ p. p ≡ self.now) }
+        ensures refused { IfErr result (λ e. e ≡ Resources) }
+    {
+        Ok(Payload {
+            bytes: Vec::from_slice(alloc, self.bytes())?,
+        })
+    }
+}

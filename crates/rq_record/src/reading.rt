@@ -1,0 +1,270 @@
+//! From bytes to a record.
+
+ghost use Rattle.rq_model.specs.Records.{One};
+ghost use Rattle.rq_record.specs.Reading.{Decodes, Reads, Copies, number_at, byte_at, piece_at, name_of, bounded, nothing_in, named, who_at, define_of, register_of, deregister_of, unit_of, begin_of, enqueue_of, dequeue_of, commit_of, abort_of, checkpoint_of, of_kind, record_from};
+ghost use Rattle.rq_record.specs.Views.{record_of};
+
+use crate::check_bytes::CheckBytes;
+use crate::fault::Fault;
+use crate::name::Name;
+use crate::payload::Payload;
+use crate::record::{By, QueueNo, Record, UnitNo};
+use byteorder::{BigEndian, ByteOrder};
+use std::alloc::Global;
+
+fn u16_at(bytes: &[u8]) -> Result<(u16, &[u8]), Fault>
+    ensures { Reads (λ x. (x.0, x.1.now)) result (number_at 2 bytes.now) }
+{
+    if bytes.len() < 2 {
+        return Err(Fault::Form);
+    }
+    Ok((BigEndian::read_u16(bytes), &bytes[2..]))
+}
+
+fn u32_at(bytes: &[u8]) -> Result<(u32, &[u8]), Fault>
+    ensures { Reads (λ x. (x.0, x.1.now)) result (number_at 4 bytes.now) }
+{
+    if bytes.len() < 4 {
+        return Err(Fault::Form);
+    }
+    Ok((BigEndian::read_u32(bytes), &bytes[4..]))
+}
+
+fn u64_at(bytes: &[u8]) -> Result<(u64, &[u8]), Fault>
+    ensures { Reads (λ x. (x.0, x.1.now)) result (number_at 8 bytes.now) }
+{
+    if bytes.len() < 8 {
+        return Err(Fault::Form);
+    }
+    Ok((BigEndian::read_u64(bytes), &bytes[8..]))
+}
+
+fn u8_at(bytes: &[u8]) -> Result<(u8, &[u8]), Fault>
+    ensures { Reads (λ x. (x.0, x.1.now)) result (byte_at bytes.now) }
+{
+    match bytes {
+        [] => Err(Fault::Form),
+        [byte, rest @ ..] => Ok((*byte, rest)),
+    }
+}
+
+fn take(count: u8, bytes: &[u8]) -> Result<(&[u8], &[u8]), Fault>
+    ensures { Reads (λ x. (x.0.now, x.1.now)) result (piece_at count bytes.now) }
+{
+    let count = count as usize;
+    if bytes.len() < count {
+        return Err(Fault::Form);
+    }
+    Ok(bytes.split_at(count))
+}
+
+fn name(bytes: &[u8]) -> Result<Name, Fault>
+    ensures { Reads (λ x. x) result (name_of bytes.now) }
+{
+    match Name::new(bytes) {
+        Some(name) => Ok(name),
+        None => Err(Fault::Form),
+    }
+}
+
+fn at_end(rest: &[u8]) -> Result<(), Fault>
+    ensures { Reads (λ x. x) result (nothing_in rest.now) }
+{
+    if rest.is_empty() {
+        Ok(())
+    } else {
+        Err(Fault::Form)
+    }
+}
+
+fn by(name: &[u8], tag: u64) -> Result<Option<By>, Fault>
+    ensures { Reads (λ x. x) result (named name.now tag) }
+{
+    if name.is_empty() {
+        if tag == 0 { Ok(None) } else { Err(Fault::Form) }
+    } else {
+        match Name::new(name) {
+            Some(name) => Ok(Some(By { name, tag })),
+            None => Err(Fault::Form),
+        }
+    }
+}
+
+#[tactic(auto, unfolding(crate::specs::Reading::who_at))]
+fn who(bytes: &[u8]) -> Result<(&[u8], u64, &[u8]), Fault>
+    ensures { Reads (λ x. (x.0.now, x.1, x.2.now)) result (who_at bytes.now) }
+{
+    let (len, rest) = u8_at(bytes)?;
+    let (name, rest) = take(len, rest)?;
+    let (tag, rest) = u64_at(rest)?;
+    Ok((name, tag, rest))
+}
+
+#[tactic(auto, unfolding(crate::specs::Reading::define_of))]
+fn define(bytes: &[u8]) -> Result<Record, Fault>
+    ensures { Reads record_of result (define_of bytes.now) }
+{
+    let (limit, rest) = u16_at(bytes)?;
+    let (error, rest) = u32_at(rest)?;
+    let name = name(rest)?;
+    Ok(Record::Define {
+        limit,
+        error: QueueNo(error),
+        name,
+    })
+}
+
+#[tactic(auto, unfolding(crate::specs::Reading::register_of))]
+fn register(bytes: &[u8]) -> Result<Record, Fault>
+    ensures { Reads record_of result (register_of bytes.now) }
+{
+    let (queue, rest) = u32_at(bytes)?;
+    let name = name(rest)?;
+    Ok(Record::Register {
+        queue: QueueNo(queue),
+        name,
+    })
+}
+
+#[tactic(auto, unfolding(crate::specs::Reading::deregister_of))]
+fn deregister(bytes: &[u8]) -> Result<Record, Fault>
+    ensures { Reads record_of result (deregister_of bytes.now) }
+{
+    let (queue, rest) = u32_at(bytes)?;
+    let name = name(rest)?;
+    Ok(Record::Deregister {
+        queue: QueueNo(queue),
+        name,
+    })
+}
+
+#[tactic(auto, unfolding(crate::specs::Reading::unit_of))]
+fn unit(bytes: &[u8]) -> Result<UnitNo, Fault>
+    ensures { Reads (λ x. x.0) result (unit_of bytes.now) }
+{
+    let (unit, rest) = u64_at(bytes)?;
+    at_end(rest)?;
+    Ok(UnitNo(unit))
+}
+
+#[tactic(auto, unfolding(crate::specs::Reading::begin_of))]
+fn begin(bytes: &[u8]) -> Result<Record, Fault>
+    ensures { Reads record_of result (begin_of bytes.now) }
+{
+    let unit = unit(bytes)?;
+    Ok(Record::Begin { unit })
+}
+
+#[tactic(auto, unfolding(crate::specs::Reading::commit_of))]
+fn commit(bytes: &[u8]) -> Result<Record, Fault>
+    ensures { Reads record_of result (commit_of bytes.now) }
+{
+    let unit = unit(bytes)?;
+    Ok(Record::Commit { unit })
+}
+
+#[tactic(auto, unfolding(crate::specs::Reading::abort_of))]
+fn abort(bytes: &[u8]) -> Result<Record, Fault>
+    ensures { Reads record_of result (abort_of bytes.now) }
+{
+    let unit = unit(bytes)?;
+    Ok(Record::Abort { unit })
+}
+
+fn payload(alloc: Global, bytes: &[u8]) -> Result<Payload, Fault>
+    ensures { Copies (λ x. x) result (bounded 65535 bytes.now) }
+{
+    if bytes.len() > 65535 {
+        return Err(Fault::Form);
+    }
+    let kept = Vec::from_slice(alloc, bytes)?;
+    match Payload::new(kept) {
+        Some(payload) => Ok(payload),
+        None => Err(Fault::Form),
+    }
+}
+
+#[tactic(auto, unfolding(crate::specs::Reading::enqueue_of))]
+fn enqueue(alloc: Global, bytes: &[u8]) -> Result<Record, Fault>
+    ensures { Copies record_of result (enqueue_of bytes.now) }
+{
+    let (unit, rest) = u64_at(bytes)?;
+    let (queue, rest) = u32_at(rest)?;
+    let (priority, rest) = u8_at(rest)?;
+    let (name, tag, rest) = who(rest)?;
+    let by = by(name, tag)?;
+    let payload = payload(alloc, rest)?;
+    Ok(Record::Enqueue {
+        unit: UnitNo(unit),
+        queue: QueueNo(queue),
+        priority,
+        by,
+        payload,
+    })
+}
+
+#[tactic(auto, unfolding(crate::specs::Reading::dequeue_of))]
+fn dequeue(bytes: &[u8]) -> Result<Record, Fault>
+    ensures { Reads record_of result (dequeue_of bytes.now) }
+{
+    let (unit, rest) = u64_at(bytes)?;
+    let (queue, rest) = u32_at(rest)?;
+    let (name, tag, rest) = who(rest)?;
+    let by = by(name, tag)?;
+    at_end(rest)?;
+    Ok(Record::Dequeue {
+        unit: UnitNo(unit),
+        queue: QueueNo(queue),
+        by,
+    })
+}
+
+#[tactic(auto, unfolding(crate::specs::Reading::checkpoint_of))]
+fn checkpoint(alloc: Global, bytes: &[u8]) -> Result<Record, Fault>
+    ensures { Copies record_of result (checkpoint_of bytes.now) }
+{
+    if bytes.len() > 268_435_455 {
+        return Err(Fault::Form);
+    }
+    let kept = Vec::from_slice(alloc, bytes)?;
+    match CheckBytes::new(kept) {
+        Some(bytes) => Ok(Record::Checkpoint { bytes }),
+        None => Err(Fault::Form),
+    }
+}
+
+#[tactic(auto, unfolding(crate::specs::Reading::of_kind))]
+fn of_kind(alloc: Global, kind: u8, bytes: &[u8]) -> Result<Record, Fault>
+    ensures { Copies record_of result (of_kind kind bytes.now) }
+{
+    match kind {
+        1 => define(bytes),
+        2 => register(bytes),
+        3 => deregister(bytes),
+        4 => begin(bytes),
+        5 => enqueue(alloc, bytes),
+        6 => dequeue(bytes),
+        7 => commit(bytes),
+        8 => abort(bytes),
+        9 => checkpoint(alloc, bytes),
+        _ => Err(Fault::Form),
+    }
+}
+
+#[tactic(auto, unfolding(crate::specs::Reading::record_from))]
+fn record(alloc: Global, bytes: &[u8]) -> Result<Record, Fault>
+    ensures { Copies record_of result (record_from bytes.now) }
+{
+    let (kind, rest) = u8_at(bytes)?;
+    of_kind(alloc, kind, rest)
+}
+
+/// The record that a body of version 1 spells.
+///
+/// `Form` answers exactly a body that spells none, and is found before memory is asked for; `Resources` answers a body
+/// that spells one whose bytes could not be copied.
+pub fn decode(alloc: Global, body: &[u8]) -> Result<Record, Fault>
+    ensures decodes { Decodes One body.now result }
+{
+    record(alloc, body)
+}

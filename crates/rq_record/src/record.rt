@@ -1,0 +1,98 @@
+//! The nine kinds of record, and the numbers that they name things by.
+
+use crate::check_bytes::CheckBytes;
+use crate::name::Name;
+use crate::payload::Payload;
+use std::marker::Model;
+
+/// The number of a queue: its place among the DEFINE records, counted from 0.
+#[derive(Clone, Copy, PartialEq, Eq, PartialOrd, Ord, Hash, Debug)]
+pub struct QueueNo(pub u32);
+
+impl QueueNo {
+    /// Stands for no queue: 4,294,967,295, the greatest number of its width.
+    pub const NONE: QueueNo = QueueNo(4294967295);
+}
+
+/// The number of a unit, given by its BEGIN record.
+#[derive(Clone, Copy, PartialEq, Eq, PartialOrd, Ord, Hash, Debug)]
+pub struct UnitNo(pub u64);
+
+/// The id of an element: the place of its ENQUEUE record in the log, counted from 0.
+#[derive(Clone, Copy, PartialEq, Eq, PartialOrd, Ord, Hash, Debug)]
+pub struct ElemId(pub u64);
+
+/// The registrant that an operation names, with the operation's tag.
+#[derive(Clone, Copy, Debug)]
+pub struct By {
+    /// The registrant's name.
+    pub name: Name,
+    /// What the registrant chose to know this operation by.
+    pub tag: u64,
+}
+
+impl Model for By {
+    ghost use Rattle.std.specs.Prelude.{refl};
+    ghost use Rattle.rq_model.specs.Records as model;
+
+    ghost Value = { model.By };
+
+    ghost view = { λ b. record { name = b.name; tag = b.tag } };
+
+    ghost inverse = { λ v. record { name = v.name; tag = v.tag } };
+
+    ghost inverse_ok = { λ b h. refl };
+}
+
+/// A record of the log, version 1. Whether it is lawful after those before it is no matter of its form: each number may
+/// be any of its width.
+#[derive(Drop)]
+pub enum Record {
+    /// Defines the next queue: how many failed attempts an element may have, 0 for no limit, and the queue that it goes
+    /// to then.
+    Define {
+        limit: u16,
+        error: QueueNo,
+        name: Name,
+    },
+    /// Registers a name with a queue.
+    Register {
+        queue: QueueNo,
+        name: Name,
+    },
+    /// Ends a registration.
+    Deregister {
+        queue: QueueNo,
+        name: Name,
+    },
+    /// Opens a unit.
+    Begin {
+        unit: UnitNo,
+    },
+    /// Puts an element into a queue, to be seen when the unit commits. Greater priorities come first.
+    Enqueue {
+        unit: UnitNo,
+        queue: QueueNo,
+        priority: u8,
+        by: Option<By>,
+        payload: Payload,
+    },
+    /// Takes the first free element of a queue, if there is one, to be gone when the unit commits.
+    Dequeue {
+        unit: UnitNo,
+        queue: QueueNo,
+        by: Option<By>,
+    },
+    /// Ends a unit: what it did stands.
+    Commit {
+        unit: UnitNo,
+    },
+    /// Ends a unit: what it did is undone.
+    Abort {
+        unit: UnitNo,
+    },
+    /// Keeps bytes that may spell the state at this place.
+    Checkpoint {
+        bytes: CheckBytes,
+    },
+}

@@ -1,0 +1,146 @@
+//! From a record to bytes.
+
+ghost use Rattle.std.specs.Prelude.{◌≡◌, ◌≤◌, ◌++◌, ◌∷◌, [], ℕ, List, length, OnOk};
+ghost use Rattle.std.specs.Int.{w16, w32, w64, to_be_bytes};
+ghost use Rattle.rq_model.specs.Records.{One};
+ghost use Rattle.rq_model.specs.Spelling.{who, IsWho, body_of, IsRecord, Spells};
+ghost use Rattle.rq_record.specs.Views.{record_of};
+ghost use Rattle.rq_record.specs.Writing.{Puts, Appends};
+
+use crate::fault::Fault;
+use crate::record::{By, Record};
+use byteorder::{BigEndian, ByteOrder};
+
+fn put(out: &mut Vec<u8>, bytes: &[u8]) -> Result<(), Fault>
+    ensures { Appends out.old.items out.new.items bytes.now result }
+{
+    out.extend_from_slice(bytes)?;
+    Ok(())
+}
+
+fn put_u8(out: &mut Vec<u8>, n: u8) -> Result<(), Fault>
+    ensures { Appends out.old.items out.new.items (n ∷ []) result }
+{
+    put(out, &[n])
+}
+
+fn put_u16(out: &mut Vec<u8>, n: u16) -> Result<(), Fault>
+    ensures { Appends out.old.items out.new.items (to_be_bytes w16 n) result }
+{
+    let mut cell = [0; 2];
+    BigEndian::write_u16(&mut cell, n);
+    put(out, &cell)
+}
+
+fn put_u32(out: &mut Vec<u8>, n: u32) -> Result<(), Fault>
+    ensures { Appends out.old.items out.new.items (to_be_bytes w32 n) result }
+{
+    let mut cell = [0; 4];
+    BigEndian::write_u32(&mut cell, n);
+    put(out, &cell)
+}
+
+fn put_u64(out: &mut Vec<u8>, n: u64) -> Result<(), Fault>
+    ensures { Appends out.old.items out.new.items (to_be_bytes w64 n) result }
+{
+    let mut cell = [0; 8];
+    BigEndian::write_u64(&mut cell, n);
+    put(out, &cell)
+}
+
+fn put_who(out: &mut Vec<u8>, by: &Option<By>) -> Result<(), Fault>
+    ensures bytes { Puts out.old.items out.new.items (who by.now) result }
+    ensures fits { OnOk result (IsWho by.now) }
+{
+    match by {
+        None => {
+            put_u8(out, 0)?;
+            put_u64(out, 0)?;
+        }
+        Some(by) => {
+            let name = by.name.bytes();
+            put_u8(out, name.len() as u8)?;
+            put(out, name)?;
+            put_u64(out, by.tag)?;
+        }
+    }
+    Ok(())
+}
+
+fn put_body(out: &mut Vec<u8>, r: &Record) -> Result<(), Fault>
+    ensures bytes { Puts out.old.items out.new.items (body_of (record_of r.now)) result }
+    ensures fits { OnOk result (IsRecord One (record_of r.now)) }
+{
+    match r {
+        Record::Define { limit, error, name } => {
+            put_u8(out, 1)?;
+            put_u16(out, *limit)?;
+            put_u32(out, error.0)?;
+            put(out, name.bytes())?;
+        }
+        Record::Register { queue, name } => {
+            put_u8(out, 2)?;
+            put_u32(out, queue.0)?;
+            put(out, name.bytes())?;
+        }
+        Record::Deregister { queue, name } => {
+            put_u8(out, 3)?;
+            put_u32(out, queue.0)?;
+            put(out, name.bytes())?;
+        }
+        Record::Begin { unit } => {
+            put_u8(out, 4)?;
+            put_u64(out, unit.0)?;
+        }
+        Record::Enqueue {
+            unit,
+            queue,
+            priority,
+            by,
+            payload,
+        } => {
+            put_u8(out, 5)?;
+            put_u64(out, unit.0)?;
+            put_u32(out, queue.0)?;
+            put_u8(out, *priority)?;
+            put_who(out, by)?;
+            put(out, payload.bytes())?;
+        }
+        Record::Dequeue { unit, queue, by } => {
+            put_u8(out, 6)?;
+            put_u64(out, unit.0)?;
+            put_u32(out, queue.0)?;
+            put_who(out, by)?;
+        }
+        Record::Commit { unit } => {
+            put_u8(out, 7)?;
+            put_u64(out, unit.0)?;
+        }
+        Record::Abort { unit } => {
+            put_u8(out, 8)?;
+            put_u64(out, unit.0)?;
+        }
+        Record::Checkpoint { bytes } => {
+            put_u8(out, 9)?;
+            put(out, bytes.bytes())?;
+        }
+    }
+    Ok(())
+}
+
+/// Appends the one body of the record, by the table of kinds of version 1.
+///
+/// `Resources` answers where memory runs out; `out` is then as before.
+pub fn encode(r: &Record, out: &mut Vec<u8>) -> Result<(), Fault>
+    ensures bytes { Appends out.old.items out.new.items (body_of (record_of r.now)) result }
+    ensures spelled { OnOk result (Spells One (record_of r.now) (body_of (record_of r.now))) }
+{
+    let before = out.len();
+    match put_body(out, r) {
+        Ok(()) => Ok(()),
+        Err(fault) => {
+            out.truncate(before);
+            Err(fault)
+        }
+    }
+}
