@@ -1,0 +1,36 @@
+-- What `chain` answers.
+use Rattle.std.specs.Prelude.{ℕ, ◌+◌, ◌<◌, ◌≤◌, List, [], ◌∷◌, length, map, slice_range, ⊤}
+use Rattle.rq_model.specs.Records.{One}
+use Rattle.rq_model.specs.Frames as model
+use Rattle.rq_model.specs.Frames.{HasHeader, log_limit}
+use Rattle.rq_front.specs.declared.spans.Span.{Span}
+use Rattle.rq_front.specs.declared.spans.Rest.{Rest}
+use Rattle.rq_front.specs.declared.spans.Rest.TheVariants.{Whole, Cut, Length, Digest}
+use Rattle.rq_record.specs.declared.fault.Fault.{Fault}
+use Rattle.rq_record.specs.declared.fault.Fault.TheVariants.{NotALog, TooLong, Resources}
+
+-- the bytes of a span
+abbrev pub body_at : List ℕ → Span → List ℕ
+body_at b s = slice_range b s.start (s.start + s.len)
+
+abbrev pub bodies_at : List ℕ → List Span → List (List ℕ)
+bodies_at b spans = map (body_at b) spans
+
+-- the spans of bodies whose frames stand one after the other from a place
+abbrev pub spans_from : ℕ → List (List ℕ) → List Span
+spans_from at [] = []
+spans_from at (body ∷ bodies) = record { start = at + 4; len = length body } ∷ spans_from (at + 36 + length body) bodies
+
+-- what follows, in the words of the model
+abbrev pub rest_of : Rest → model.Rest
+rest_of Whole = model.Whole
+rest_of Cut = model.Cut
+rest_of Length = model.Length
+rest_of Digest = model.Digest
+
+-- why bytes are refused: they are too long for a log, or begin with no header; or memory ran out
+abbrev pub Refused : List ℕ → Fault → Type 0
+Refused b TooLong = log_limit < length b
+Refused b NotALog = (length b ≤ log_limit) × (HasHeader One b → ⊥)
+Refused b Resources = ⊤
+Refused b _ = ⊥

@@ -1,0 +1,29 @@
+-- A walk along the lengths of a log, before any digest is looked at.
+use Rattle.std.specs.Prelude.{◌≡◌, ℕ, ◌+◌, ◌-◌, ◌≤◌, ◌<◌, List, [], ◌∷◌, length, take, drop, All}
+use Rattle.std.specs.List.{HoldsAt}
+use Rattle.rq_model.specs.Frames.{HasFrame, HasRightFrame, stated, before}
+use Rattle.rq_front.specs.declared.spans.Span.{Span}
+
+-- frames stand one after the other from a place to an end, their digests aside, with bodies at these spans
+abbrev pub IsWalk : List ℕ → ℕ → List Span → ℕ → Type 0
+IsWalk b at [] end = end ≡ at
+IsWalk b at (s ∷ ss) end = (s.start ≡ at + 4) × (s.len ≡ stated (drop at b)) × HasFrame (drop at b) × IsWalk b (at + 36 + s.len) ss end
+
+-- the span is that of the body of a frame, its digest aside, with 32 bytes before it
+pub record IsSpanOf (b : List ℕ) (s : Span) : Type 0 where
+  pub after : 36 ≤ s.start
+  pub frame : HasFrame (drop (s.start - 4) b)
+  pub size : s.len ≡ stated (drop (s.start - 4) b)
+
+-- the digest of its frame is right
+abbrev pub IsRight : List ℕ → Span → Type 0
+IsRight b s = HasRightFrame (before (s.start - 4) b) (drop (s.start - 4) b)
+
+-- the span at this place is the first whose digest is wrong
+pub record IsFirstWrong (b : List ℕ) (spans : List Span) (place : ℕ) : Type 0 where
+  pub within : place < length spans
+  pub before : All (IsRight b) (take place spans)
+  pub wrong : HoldsAt (λ s. IsRight b s → ⊥) spans place
+
+abbrev pub HasFirstWrong : List ℕ → List Span → Type 0
+HasFirstWrong b spans = (place : ℕ) × IsFirstWrong b spans place

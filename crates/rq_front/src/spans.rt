@@ -1,0 +1,34 @@
+//! A run of frames, and what follows it.
+
+/// Where the body of a frame stands in a log, in bytes. Its frame begins 4 bytes before it.
+#[derive(Clone, Copy, Debug, PartialEq, Eq)]
+pub struct Span {
+    /// The place of its first byte.
+    pub start: usize,
+    /// How many bytes it has.
+    pub len: usize,
+}
+
+/// What follows the frames of a run; the first line that applies.
+#[derive(Clone, Copy, Debug, PartialEq, Eq)]
+pub enum Rest {
+    /// Nothing.
+    Whole,
+    /// Fewer than 4 bytes, or fewer than the frame has whose length stands there.
+    Cut,
+    /// A length of no body: 0, or more than 268,435,456.
+    Length,
+    /// A frame with a wrong digest.
+    Digest,
+}
+
+/// The longest run of right frames from a place.
+#[derive(Debug, Drop)]
+pub struct Chain {
+    /// Where the bodies stand, in the order of the log.
+    pub spans: Vec<Span>,
+    /// The place behind the last frame, in bytes.
+    pub end: usize,
+    /// What follows there.
+    pub rest: Rest,
+}

@@ -1,0 +1,48 @@
+//! The bytes of a log.
+
+ghost use Rattle.std.specs.Prelude.{length};
+ghost use Rattle.rq_model.specs.Records.{One};
+ghost use Rattle.rq_model.specs.Frames.{IsBodyLength};
+ghost use Rattle.rq_model.specs.Frames as frames;
+ghost use Rattle.rq_record.specs.Writing.{Appends};
+
+use crate::{FRAME_LEN, HEADER_LEN, MAGIC};
+use byteorder::{BigEndian, ByteOrder};
+use rq_record::Fault;
+use sha2::{Digest, Sha256};
+
+/// Appends the header of a log of version 1: `RQLOG`, two zero bytes, the version, and the SHA-256 (FIPS 180-4) of these
+/// 8 bytes.
+///
+/// `Resources` answers where memory runs out; `out` is then as before.
+pub fn header(out: &mut Vec<u8>) -> Result<(), Fault>
+    ensures { Appends out.old.items out.new.items (frames.header One) result }
+{
+    out.reserve(HEADER_LEN)?;
+    let digest = Sha256::digest(MAGIC);
+    out.extend_from_slice(&MAGIC).unwrap();
+    out.extend_from_slice(&digest).unwrap();
+    Ok(())
+}
+
+/// Appends the frame of a body that follows the 32 bytes `prev`: the length of the body in 4 bytes, the body, and the
+/// SHA-256 of `prev`, the length and the body.
+///
+/// `Resources` answers where memory runs out; `out` is then as before.
+pub fn frame(prev: &[u8; 32], body: &[u8], out: &mut Vec<u8>) -> Result<(), Fault>
+    requires { IsBodyLength (length body.now) }
+    ensures { Appends out.old.items out.new.items (frames.frame prev.now body.now) result }
+{
+    out.reserve(FRAME_LEN + body.len())?;
+    let mut length = [0u8; 4];
+    BigEndian::write_u32(&mut length, body.len() as u32);
+    let mut hasher = Sha256::new();
+    hasher.update(prev);
+    hasher.update(length);
+    hasher.update(body);
+    let digest = hasher.finalize();
+    out.extend_from_slice(&length).unwrap();
+    out.extend_from_slice(body).unwrap();
+    out.extend_from_slice(&digest).unwrap();
+    Ok(())
+}
