@@ -1,0 +1,103 @@
+-- What is read and keeps what it must is the state that the bytes spell, and no bytes of a state break it.
+use Rattle.std.proofs.Common.{◌≡◌, ℕ, ◌<◌, ◌^◌, List, Option, Some, None, Err, ap, subst, sym, ◌∙◌, arith}
+use Rattle.std.specs.Prelude.{IfSome}
+use Rattle.rq_model.specs.Records.{One}
+use Rattle.rq_model.specs.States.{Last, Registrant, State}
+use Rattle.rq_model.specs.WellFormed.{IsWellFormed}
+use Rattle.rq_model.specs.StateSpelling.{FitsDefinition, FitsRegistrant, FitsElement, FitsNote, Fits, SpellsState}
+use Rattle.rq_model.proofs.Lists.{each_weaker, each_both}
+use Rattle.rq_model.proofs.StateCodes.{IsWideDefinition, IsWideLast, IsWideRegistrant, IsWide, IsWideNote, are_wide}
+use Rattle.rq_record.specs.declared.fault.Fault.{Fault}
+use Rattle.rq_record.specs.declared.fault.Fault.TheVariants as faults
+use Rattle.rq_state.specs.Keeping.{Tells, Keeps}
+use Rattle.rq_state.specs.Spelling.{ReadsState}
+use Rattle.rq_state.specs.Reading.{Fails, whole_state}
+use Rattle.rq_state.proofs.Readers.{IsBytes}
+use Rattle.rq_state.proofs.MemberReaders.{IsDefinitionSpelled, IsRegistrantSpelled}
+use Rattle.rq_state.proofs.ElementReaders.{IsElementSpelled, IsNoteSpelled}
+use Rattle.rq_state.proofs.StateReader.{IsSpelled, whole_takes, whole_again}
+
+spelled : (s : State) (bytes : List ℕ) → SpellsState One s bytes → IsSpelled s
+spelled s bytes h =
+    let w = are_wide One s bytes h in
+    record {
+      next = w.next;
+      greatest = w.greatest;
+      committed = w.committed;
+      aborted = w.aborted;
+      definitions = (w.definitions_few, each_both IsWideDefinition FitsDefinition s.definitions w.definitions h.fits.definitions);
+      units = (w.units_few, w.units);
+      registrants = (w.registrants_few, each_weaker (λ r. IsWideRegistrant r × FitsRegistrant r) IsRegistrantSpelled (λ r x. (x.0, x.1.0)) s.registrants (each_both IsWideRegistrant FitsRegistrant s.registrants w.registrants h.fits.registrants));
+      elements = (w.elements_few, each_weaker (λ e. IsWide e × FitsElement e) IsElementSpelled (λ e x. (x.0, x.1.0)) s.elements (each_both IsWide FitsElement s.elements w.elements h.fits.elements));
+      notes = (w.notes_few, each_weaker (λ n. IsWideNote n × FitsNote n) IsNoteSpelled (λ n x. (x.0, x.1.0)) s.notes (each_both IsWideNote FitsNote s.notes w.notes h.fits.notes));
+    }
+
+optional_tag : (r : Registrant) → IsRegistrantSpelled r → FitsRegistrant r
+optional_tag r h = (h.1, tag_of r.last h.0.1)
+  where
+    tag_of : (last : Option Last) → IfSome last IsWideLast → IfSome last (λ l. l.tag < 2 ^ 64)
+    tag_of None h = tt
+    tag_of (Some l) h = h.1
+
+-- what is read keeps the widths
+fits : (s : State) → IsSpelled s → Fits s
+fits s h = record {
+  greatest = h.greatest;
+  definitions = each_weaker IsDefinitionSpelled FitsDefinition (λ d x. x.1) s.definitions h.definitions.1;
+  registrants = each_weaker IsRegistrantSpelled FitsRegistrant optional_tag s.registrants h.registrants.1;
+  elements = each_weaker IsElementSpelled FitsElement (λ e x. (x.1, omega (arith, x.0.payload))) s.elements h.elements.1;
+  notes = each_weaker IsNoteSpelled FitsNote (λ n x. (x.1, x.0.2.1)) s.notes h.notes.1;
+}
+
+read_again : (s : State) (bytes : List ℕ) → SpellsState One s bytes → whole_state bytes ≡ Some s
+read_again s bytes h = ap whole_state h.spelling ∙ whole_again s (spelled s bytes h)
+
+pub kept_well : (s : State) → Keeps s → IsWellFormed s
+kept_well s k = record {
+  few = k.numbers.few;
+  names = k.definitions.names;
+  definitions = k.definitions.numbered;
+  units = k.units.units;
+  units_rise = k.units.units_rise;
+  counts = k.numbers.counts;
+  registrants = k.registrants.registrants;
+  registrants_rise = k.registrants.registrants_rise;
+  registrants_few = k.numbers.registrants_few;
+  elements = k.elements.elements;
+  elements_rise = k.elements.elements_rise;
+  notes = k.notes.notes;
+  notes_rise = k.notes.notes_rise;
+}
+
+spells_keeps : (s : State) (bytes : List ℕ) → SpellsState One s bytes → Keeps s
+spells_keeps s bytes h =
+    let w = h.keeps in
+    record {
+      numbers = record { next = h.next; few = w.few; counts = w.counts; registrants_few = w.registrants_few };
+      definitions = record { numbered = w.definitions; deep = h.deep; names = w.names };
+      units = record { units = w.units; units_rise = w.units_rise };
+      registrants = record { registrants = w.registrants; registrants_rise = w.registrants_rise };
+      elements = record { elements = w.elements; elements_rise = w.elements_rise };
+      notes = record { notes = w.notes; notes_rise = w.notes_rise };
+    }
+
+-- bytes that are not read spell no state
+pub not_read : (bytes : List ℕ) (e : Fault) → Fails e (whole_state bytes) → ReadsState bytes (Err e)
+not_read bytes faults.BadCheckpoint nothing = λ s h. let clash : None ≡ Some s = sym nothing ∙ read_again s bytes h in absurd cc
+not_read bytes faults.Resources nothing = tt
+not_read bytes e nothing = absurd nothing
+
+-- nor do bytes of which something else is read
+pub not_kept : (bytes : List ℕ) (t : State) (e : Fault) → whole_state bytes ≡ Some t → Tells {A = Unit {0}} (Keeps t) (Err e) → ReadsState bytes (Err e)
+not_kept bytes t faults.BadCheckpoint is told = λ s h. let same : s ≡ t = some_same s t (sym (read_again s bytes h) ∙ is) in told (subst Keeps same (spells_keeps s bytes h))
+  where
+    some_same : (x y : State) → Some x ≡ Some y → x ≡ y
+    some_same x y e = cc
+not_kept bytes t faults.Resources is told = tt
+not_kept bytes t e is told = absurd told
+
+-- what is read and keeps it all is spelled by the bytes
+pub is_read : (bytes : List ℕ) (t : State) → IsBytes bytes → whole_state bytes ≡ Some t → Keeps t → SpellsState One t bytes
+is_read bytes t byte is k =
+    let taken = whole_takes bytes t byte is in
+    record { next = k.numbers.next; keeps = kept_well t k; fits = fits t taken.0; deep = k.definitions.deep; spelling = taken.1 }

@@ -1,0 +1,51 @@
+-- What a spelled state must keep, piece by piece as it is tested.
+use Rattle.std.specs.Prelude.{◌≡◌, ◌+◌, ◌<◌, ◌≤◌, ⊤, true, false, List, length, Result, Ok, Err}
+use Rattle.std.specs.List.{AllByRecursion}
+use Rattle.std.specs.Str.{bytes_eq}
+use Rattle.rq_model.specs.States.{Definition, State, registrant_before}
+use Rattle.rq_model.specs.WellFormed.{Ordered, AreDefinitions, IsOneDeep, IsElement, IsNote, IsRegistrant}
+use Rattle.rq_record.specs.declared.fault.Fault.{Fault}
+use Rattle.rq_record.specs.declared.fault.Fault.TheVariants.{Resources, BadCheckpoint}
+
+-- that it holds, or that it does not, or that memory ran out
+abbrev pub Tells : {A : Type 0} → Type 0 → Result A Fault → Type 0
+Tells P (Ok x) = P
+Tells P (Err BadCheckpoint) = P → ⊥
+Tells P (Err Resources) = ⊤
+Tells P (Err e) = ⊥
+
+pub record KeepsNumbers (s : State) : Type 0 where
+  pub next : s.next ≤ 4294967295
+  pub few : length s.definitions ≤ 4096
+  pub counts : s.committed + s.aborted + length s.units ≤ s.next
+  pub registrants_few : length s.registrants ≤ s.next
+
+pub record KeepsDefinitions (definitions : List Definition) : Type 0 where
+  pub numbered : AreDefinitions 0 definitions
+  pub deep : IsOneDeep definitions
+  pub names : Ordered (λ d e. bytes_eq d.name e.name ≡ false) definitions
+
+pub record KeepsUnits (s : State) : Type 0 where
+  pub units : AllByRecursion (λ u. (1 ≤ u) × (u ≤ s.greatest)) s.units
+  pub units_rise : Ordered (λ u v. u < v) s.units
+
+pub record KeepsRegistrants (s : State) : Type 0 where
+  pub registrants : AllByRecursion (IsRegistrant s) s.registrants
+  pub registrants_rise : Ordered (λ r t. registrant_before r t ≡ true) s.registrants
+
+pub record KeepsElements (s : State) : Type 0 where
+  pub elements : AllByRecursion (IsElement s) s.elements
+  pub elements_rise : Ordered (λ e f. e.id < f.id) s.elements
+
+pub record KeepsNotes (s : State) : Type 0 where
+  pub notes : AllByRecursion (IsNote s) s.notes
+  pub notes_rise : Ordered (λ n m. n.last.place < m.last.place) s.notes
+
+-- all of it
+pub record Keeps (s : State) : Type 0 where
+  pub numbers : KeepsNumbers s
+  pub definitions : KeepsDefinitions s.definitions
+  pub units : KeepsUnits s
+  pub registrants : KeepsRegistrants s
+  pub elements : KeepsElements s
+  pub notes : KeepsNotes s

@@ -1,0 +1,32 @@
+-- Laws of lists put in order.
+use Rattle.std.specs.Prelude.{◌≡◌, length}
+use Rattle.std.specs.List.Sorted.{IsPermutation}
+use Rattle.rq_model.specs.States.{State}
+use Rattle.rq_model.specs.WellFormed.{IsWellFormed}
+use Rattle.rq_model.specs.Queues.{part_of}
+use Rattle.rq_model.specs.Laws.{gathered}
+use Rattle.rq_state.specs.Orders.{in_order}
+
+-- the state with the members that its queues' parts have, one queue after another
+abbrev pub of_parts : State → State
+of_parts s = record s { registrants = gathered (λ p. p.registrants) (part_of s) (length s.definitions); elements = gathered (λ p. p.elements) (part_of s) (length s.definitions); notes = gathered (λ p. p.notes) (part_of s) (length s.definitions) }
+
+-- What all queues' parts have, put in order, is the state
+abbrev pub PartsMakeTheState : Type 0
+PartsMakeTheState = (s : State) → IsWellFormed s → in_order (of_parts s) ≡ s
+
+-- the same numbers and definitions, and the same members in whatever order
+pub record HasSame (s t : State) : Type 0 where
+  pub next : t.next ≡ s.next
+  pub greatest : t.greatest ≡ s.greatest
+  pub committed : t.committed ≡ s.committed
+  pub aborted : t.aborted ≡ s.aborted
+  pub definitions : t.definitions ≡ s.definitions
+  pub units : IsPermutation s.units t.units
+  pub registrants : IsPermutation s.registrants t.registrants
+  pub elements : IsPermutation s.elements t.elements
+  pub notes : IsPermutation s.notes t.notes
+
+-- A state's members in whatever order, put in order, are the state
+abbrev pub AnyOrderMakesTheState : Type 0
+AnyOrderMakesTheState = (s t : State) → IsWellFormed s → HasSame s t → in_order t ≡ s

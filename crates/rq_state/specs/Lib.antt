@@ -1,0 +1,11 @@
+pub mod Gathering
+pub mod Inside
+pub mod Keeping
+pub mod Laws
+pub mod Orders
+pub mod Reading
+pub mod Spelling
+pub mod Tables
+pub mod Tests
+pub mod Views
+pub mod Writing

@@ -1,0 +1,25 @@
+-- Lists in the model's order, and the places of a queue's members.
+use Rattle.std.specs.Prelude.{ℕ, ◌+◌, nat_lt, Bool, if◌then◌else◌, List, [], ◌∷◌, map, slice_index_or}
+use Rattle.std.specs.Global.{Vec}
+use Rattle.rq_model.specs.States.{State, Note, put, id_before, registrant_before}
+
+-- each put in, from the last to the first
+abbrev pub put_each : {X : Type 0} → (X → X → Bool) → List X → List X
+put_each before [] = []
+put_each before (x ∷ xs) = put before x (put_each before xs)
+
+abbrev pub place_before : Note → Note → Bool
+place_before a b = nat_lt a.last.place b.last.place
+
+-- the state with its lists put in order
+abbrev pub in_order : State → State
+in_order s = record s { units = put_each nat_lt s.units; registrants = put_each registrant_before s.registrants; elements = put_each id_before s.elements; notes = put_each place_before s.notes }
+
+-- the places of those that pass the test, counted from n
+abbrev pub places_of : {X : Type 0} → (X → Bool) → ℕ → List X → List ℕ
+places_of p n [] = []
+places_of p n (x ∷ xs) = if p x then n ∷ places_of p (n + 1) xs else places_of p (n + 1) xs
+
+-- what a table has for a queue: nothing where there is no queue
+abbrev pub listed : {X : Type 0} → List (Vec X) → ℕ → List X
+listed table queue = slice_index_or (map (λ v. v.items) table) queue []

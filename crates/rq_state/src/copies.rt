@@ -1,0 +1,91 @@
+//! Copies of what belongs to one queue, at the cost of that queue's share of the state.
+
+ghost use Rattle.std.specs.Prelude.{◌≡◌, ◌<◌, length, map, IfOk, IfErr, slice_index_or};
+ghost use Rattle.std.specs.List.{AllByRecursion};
+ghost use Rattle.rq_model.specs.States as model;
+ghost use Rattle.rq_model.specs.Queues.{elements_at, registrants_at, notes_at};
+ghost use Rattle.rq_record.specs.declared.fault.Fault.TheVariants.{Resources};
+
+use crate::members::{Element, Note, Registrant};
+use crate::state::State;
+use rq_record::{Fault, QueueNo};
+use std::alloc::Global;
+
+impl State {
+    /// The elements of a queue by id, with payloads of the same bytes; none where no queue has the number.
+    pub fn copied_elements_of(&self, alloc: Global, queue: QueueNo) -> Result<Vec<Element>, Fault>
+        ensures elements { IfOk result (λ v. v.items ≡ elements_at queue.0 self.now.elements) }
+        ensures refused { IfErr result (λ e. e ≡ Resources) }
+    {
+        let copies = elements_copied(alloc, self, self.elements_of(queue))?;
+        Ok(copies)
+    }
+
+    /// The registrants of a queue by name; none where no queue has the number.
+    pub fn copied_registrants_of(
+        &self,
+        alloc: Global,
+        queue: QueueNo,
+    ) -> Result<Vec<Registrant>, Fault>
+        ensures registrants { IfOk result (λ v. v.items ≡ registrants_at queue.0 self.now.registrants) }
+        ensures refused { IfErr result (λ e. e ≡ Resources) }
+    {
+        let copies = registrants_copied(alloc, self, self.registrants_of(queue))?;
+        Ok(copies)
+    }
+
+    /// The notes of a queue by place; none where no queue has the number.
+    pub fn copied_notes_of(&self, alloc: Global, queue: QueueNo) -> Result<Vec<Note>, Fault>
+        ensures notes { IfOk result (λ v. v.items ≡ notes_at queue.0 self.now.notes) }
+        ensures refused { IfErr result (λ e. e ≡ Resources) }
+    {
+        let copies = notes_copied(alloc, self, self.notes_of(queue))?;
+        Ok(copies)
+    }
+}
+
+/// Copies of the elements at these places.
+fn elements_copied(alloc: Global, state: &State, places: &[usize]) -> Result<Vec<Element>, Fault>
+    requires { AllByRecursion (λ place. place < length state.now.elements) places.now }
+    ensures copied { IfOk result (λ v. (x : model.Element) → v.items ≡ map (λ place. slice_index_or state.now.elements place x) places.now) }
+    ensures refused { IfErr result (λ e. e ≡ Resources) }
+{
+    let mut copies = Vec::with_capacity(alloc, places.len())?;
+    for place in places {
+        let element = state.element(*place);
+        copies.push(element.copied(alloc)?)?;
+    }
+    Ok(copies)
+}
+
+/// Copies of the registrants at these places.
+fn registrants_copied(
+    alloc: Global,
+    state: &State,
+    places: &[usize],
+) -> Result<Vec<Registrant>, Fault>
+    requires { AllByRecursion (λ place. place < length state.now.registrants) places.now }
+    ensures copied { IfOk result (λ v. (x : model.Registrant) → v.items ≡ map (λ place. slice_index_or state.now.registrants place x) places.now) }
+    ensures refused { IfErr result (λ e. e ≡ Resources) }
+{
+    let mut copies = Vec::with_capacity(alloc, places.len())?;
+    for place in places {
+        let registrant = state.registrant(*place);
+        copies.push(registrant.copied())?;
+    }
+    Ok(copies)
+}
+
+/// Copies of the notes at these places.
+fn notes_copied(alloc: Global, state: &State, places: &[usize]) -> Result<Vec<Note>, Fault>
+    requires { AllByRecursion (λ place. place < length state.now.notes) places.now }
+    ensures copied { IfOk result (λ v. (x : model.Note) → v.items ≡ map (λ place. slice_index_or state.now.notes place x) places.now) }
+    ensures refused { IfErr result (λ e. e ≡ Resources) }
+{
+    let mut copies = Vec::with_capacity(alloc, places.len())?;
+    for place in places {
+        let note = state.note(*place);
+        copies.push(note.copied())?;
+    }
+    Ok(copies)
+}

@@ -1,0 +1,124 @@
+//! What a spelled state must keep before it is one: each piece is tested, and what breaks it is refused.
+
+ghost use Rattle.std.specs.Prelude.{◌≡◌, ◌<◌, ◌↔◌, IsTrue, false, true, map, IfOk, IfErr};
+ghost use Rattle.std.specs.Str.{bytes_eq};
+ghost use Rattle.rq_model.specs.States as model;
+ghost use Rattle.rq_model.specs.WellFormed.{Ordered};
+ghost use Rattle.rq_record.specs.declared.fault.Fault.TheVariants.{Resources};
+ghost use Rattle.rq_state.specs.Inside.{state_of};
+ghost use Rattle.rq_state.specs.Keeping.{Tells, KeepsNumbers, KeepsDefinitions, KeepsUnits, KeepsRegistrants, KeepsElements, KeepsNotes, Keeps};
+ghost use Rattle.rq_state.specs.Views.{unit_of};
+
+mod lists;
+mod members;
+mod searching;
+
+use crate::keeping::lists::{
+    are_definitions, are_elements, are_notes, are_one_deep, are_registrants, are_units,
+    do_elements_rise, do_notes_rise, do_registrants_rise, do_units_rise,
+};
+use crate::members::Definition;
+use crate::state::Fields;
+use rq_record::{Fault, Name};
+use std::alloc::Global;
+
+/// The greatest next record number that a spelling may have.
+const GREATEST_NEXT: u64 = 4_294_967_295;
+
+/// The most queues that may be defined.
+const MOST_QUEUES: usize = 4096;
+
+/// No more queues and records than their bounds, and no more units and registrants than records.
+fn are_numbers(fields: &Fields) -> bool
+    ensures { IsTrue result ↔ KeepsNumbers (state_of fields.now) }
+{
+    fields.next <= GREATEST_NEXT
+        && fields.definitions.len() <= MOST_QUEUES
+        && fields.committed <= fields.next
+        && fields.aborted <= fields.next - fields.committed
+        && fields.units.len() as u64 <= fields.next - fields.committed - fields.aborted
+        && fields.registrants.len() as u64 <= fields.next
+}
+
+/// The names of these queues, by number.
+fn names_of(alloc: Global, definitions: &[Definition]) -> Result<Vec<Name>, Fault>
+    ensures names { IfOk result (λ v. v.items ≡ map (λ (d : model.Definition). d.name) definitions.now) }
+    ensures refused { IfErr result (λ e. e ≡ Resources) }
+{
+    let mut names = Vec::with_capacity(alloc, definitions.len())?;
+    for definition in definitions {
+        names.push(definition.name)?;
+    }
+    Ok(names)
+}
+
+/// Whether no two of these names are equal: none is then, once they are sorted, beside its like.
+fn do_names_differ(mut names: Vec<Name>) -> bool
+    ensures { IsTrue result ↔ Ordered (λ a b. bytes_eq a b ≡ false) names.items }
+{
+    names.sort_unstable();
+    names.is_sorted_by(|one, next| one < next)
+}
+
+/// Goes on where it holds.
+fn kept(holds: bool) -> Result<(), Fault>
+    ensures { Tells (IsTrue holds) result }
+{
+    if holds {
+        Ok(())
+    } else {
+        Err(Fault::BadCheckpoint)
+    }
+}
+
+fn check_definitions(alloc: Global, definitions: &[Definition]) -> Result<(), Fault>
+    ensures { Tells (KeepsDefinitions definitions.now) result }
+{
+    kept(are_definitions(definitions))?;
+    kept(are_one_deep(definitions))?;
+    let names = names_of(alloc, definitions)?;
+    kept(do_names_differ(names))
+}
+
+fn check_units(fields: &Fields) -> Result<(), Fault>
+    ensures { Tells (KeepsUnits (state_of fields.now)) result }
+{
+    kept(do_units_rise(&fields.units))?;
+    kept(are_units(fields.greatest, &fields.units))
+}
+
+fn check_registrants(fields: &Fields) -> Result<(), Fault>
+    ensures { Tells (KeepsRegistrants (state_of fields.now)) result }
+{
+    kept(do_registrants_rise(&fields.registrants))?;
+    kept(are_registrants(fields))
+}
+
+fn check_elements(fields: &Fields) -> Result<(), Fault>
+    requires { Ordered (λ u v. u < v) (map unit_of fields.now.units.items) }
+    ensures { Tells (KeepsElements (state_of fields.now)) result }
+{
+    kept(do_elements_rise(&fields.elements))?;
+    kept(are_elements(fields))
+}
+
+fn check_notes(fields: &Fields) -> Result<(), Fault>
+    requires units { Ordered (λ u v. u < v) (map unit_of fields.now.units.items) }
+    requires registrants { Ordered (λ r t. model.registrant_before r t ≡ true) fields.now.registrants.items }
+    ensures { Tells (KeepsNotes (state_of fields.now)) result }
+{
+    kept(do_notes_rise(&fields.notes))?;
+    kept(are_notes(fields))
+}
+
+/// That the fields are those of a well-formed state, or BadCheckpoint, or Resources where there is no room to sort names.
+pub(crate) fn check(alloc: Global, fields: &Fields) -> Result<(), Fault>
+    ensures { Tells (Keeps (state_of fields.now)) result }
+{
+    kept(are_numbers(fields))?;
+    check_definitions(alloc, &fields.definitions)?;
+    check_units(fields)?;
+    check_registrants(fields)?;
+    check_elements(fields)?;
+    check_notes(fields)
+}

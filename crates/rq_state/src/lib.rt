@@ -1,0 +1,25 @@
+//! The state of the queue manager: what it keeps, looks into it, how it is made of its queues' parts, and its one
+//! spelling in bytes.
+#![tactic(auto)]
+
+mod copies;
+mod gathering;
+mod hearing;
+mod keeping;
+mod laws;
+mod looks;
+mod marks;
+mod members;
+mod orders;
+mod reading;
+mod state;
+mod tables;
+mod wholeness;
+mod writing;
+
+pub use gathering::gather;
+pub use laws::{any_order_makes_the_state, parts_make_the_state};
+pub use members::{Definition, Element, Last, Mark, Note, OpKind, Registrant};
+pub use reading::read;
+pub use state::{Fields, State};
+pub use writing::spell;

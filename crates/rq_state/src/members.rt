@@ -1,0 +1,258 @@
+//! What a state is made of.
+
+ghost use Rattle.std.specs.Prelude.{◌≡◌, IfOk, IfErr};
+ghost use Rattle.rq_model.specs.States as model;
+ghost use Rattle.rq_record.specs.declared.fault.Fault.TheVariants.{Resources};
+
+use rq_record::{ElemId, Fault, Name, Payload, QueueNo, UnitNo};
+use std::alloc::Global;
+use std::marker::Model;
+
+/// Whose an element is for now.
+#[derive(Clone, Copy, PartialEq, Eq, Debug)]
+pub enum Mark {
+    /// Nobody's: the next dequeue may take it.
+    Free,
+    /// An open unit put it in; it is seen by nobody before that unit commits.
+    Fresh(UnitNo),
+    /// An open unit took it out; it comes back if that unit aborts.
+    Held(UnitNo),
+}
+
+/// Which of the two operations of a unit on a queue.
+#[derive(Clone, Copy, PartialEq, Eq, Debug)]
+pub enum OpKind {
+    Enqueue,
+    Dequeue,
+}
+
+/// An element of a queue.
+#[derive(Drop)]
+pub struct Element {
+    /// The record number of the enqueue that made it.
+    pub id: ElemId,
+    /// The queue that it is in.
+    pub home: QueueNo,
+    /// The queue that it was put in first.
+    pub origin: QueueNo,
+    /// Greater ones are taken first.
+    pub priority: u8,
+    /// How often an aborted unit gave it back since it is in its home.
+    pub attempts: u64,
+    pub payload: Payload,
+    pub mark: Mark,
+}
+
+impl Model for Element {
+    ghost use Rattle.rq_model.specs.States as model;
+    ghost use Rattle.rq_state.specs.Views.{mark_of};
+
+    ghost Value = { model.Element };
+
+    ghost view = { λ e. record { id = e.id.0; home = e.home.0; origin = e.origin.0; priority = e.priority; attempts = e.attempts; payload = e.payload; mark = mark_of e.mark } };
+}
+
+impl Element {
+    /// Its id, as a number.
+    pub fn number(&self) -> u64
+        ensures { result ≡ self.now.id }
+    {
+        self.id.0
+    }
+
+    /// The queue that it is in.
+    pub fn home(&self) -> QueueNo
+        ensures { result.0 ≡ self.now.home }
+    {
+        self.home
+    }
+
+    /// An element with a payload of the same bytes; Resources where there is no room for these.
+    pub fn copied(&self, alloc: Global) -> Result<Element, Fault>
+        ensures copied { IfOk result (λ e. e ≡ self.now) }
+        ensures refused { IfErr result (λ e. e ≡ Resources) }
+    {
+        Ok(Element {
+            id: self.id,
+            home: self.home,
+            origin: self.origin,
+            priority: self.priority,
+            attempts: self.attempts,
+            payload: self.payload.copied(alloc)?,
+            mark: self.mark,
+        })
+    }
+}
+
+/// What a registrant did: an operation that named it.
+#[derive(Drop)]
+pub struct Last {
+    /// The record number of the operation.
+    pub place: u64,
+    pub kind: OpKind,
+    /// The tag that the registrant gave with the operation.
+    pub tag: u64,
+    /// The element put in, or the one taken; none where a dequeue found nothing.
+    pub element: Option<ElemId>,
+}
+
+impl Model for Last {
+    ghost use Rattle.rq_model.specs.States as model;
+    ghost use Rattle.rq_state.specs.Views.{kind_of, id_of};
+
+    ghost Value = { model.Last };
+
+    ghost view = { λ l. record { place = l.place; kind = kind_of l.kind; tag = l.tag; element = id_of l.element } };
+}
+
+impl Last {
+    /// The record number of the operation.
+    pub fn place(&self) -> u64
+        ensures { result ≡ self.now.place }
+    {
+        self.place
+    }
+
+    /// The same operation again.
+    pub fn copied(&self) -> Last
+        ensures { result ≡ self.now }
+    {
+        Last {
+            place: self.place,
+            kind: self.kind,
+            tag: self.tag,
+            element: self.element,
+        }
+    }
+}
+
+/// An operation of an open unit that named a registrant: its last one, should the unit commit.
+#[derive(Drop)]
+pub struct Note {
+    pub unit: UnitNo,
+    pub queue: QueueNo,
+    /// The registrant's name.
+    pub name: Name,
+    pub last: Last,
+}
+
+impl Model for Note {
+    ghost use Rattle.rq_model.specs.States as model;
+
+    ghost Value = { model.Note };
+
+    ghost view = { λ n. record { unit = n.unit.0; queue = n.queue.0; name = n.name; last = n.last } };
+}
+
+impl Note {
+    /// The record number of its operation.
+    pub fn place(&self) -> u64
+        ensures { result ≡ self.now.last.place }
+    {
+        self.last.place()
+    }
+
+    /// The queue of its operation.
+    pub fn queue(&self) -> QueueNo
+        ensures { result.0 ≡ self.now.queue }
+    {
+        self.queue
+    }
+
+    /// The same note again.
+    pub fn copied(&self) -> Note
+        ensures { result ≡ self.now }
+    {
+        Note {
+            unit: self.unit,
+            queue: self.queue,
+            name: self.name,
+            last: self.last.copied(),
+        }
+    }
+}
+
+/// A queue as it was defined.
+#[derive(Drop)]
+pub struct Definition {
+    /// The abort at which an element that came back so often leaves the queue, 1 to 1,000; 0 for never.
+    pub limit: u16,
+    /// Where an element goes at the limit; QueueNo::NONE where the limit is 0.
+    pub error: QueueNo,
+    pub name: Name,
+}
+
+impl Model for Definition {
+    ghost use Rattle.rq_model.specs.States as model;
+
+    ghost Value = { model.Definition };
+
+    ghost view = { λ d. record { limit = d.limit; error = d.error.0; name = d.name } };
+}
+
+impl Definition {
+    /// The same definition again.
+    pub fn copied(&self) -> Definition
+        ensures { result ≡ self.now }
+    {
+        Definition {
+            limit: self.limit,
+            error: self.error,
+            name: self.name,
+        }
+    }
+}
+
+/// Somebody who is registered with a queue.
+#[derive(Drop)]
+pub struct Registrant {
+    pub queue: QueueNo,
+    pub name: Name,
+    /// Its last operation in a committed unit, where there is one.
+    pub last: Option<Last>,
+}
+
+impl Model for Registrant {
+    ghost use Rattle.rq_model.specs.States as model;
+
+    ghost Value = { model.Registrant };
+
+    ghost view = { λ r. record { queue = r.queue.0; name = r.name; last = r.last } };
+}
+
+impl Registrant {
+    /// Its queue and name, by which registrants are in order.
+    pub fn key(&self) -> (u32, Name)
+        ensures { result ≡ (self.now.queue, self.now.name) }
+    {
+        (self.queue.0, self.name)
+    }
+
+    /// Whether it stands before the other, by queue and then by name.
+    pub(crate) fn is_before(&self, other: &Registrant) -> bool
+        ensures { result ≡ model.registrant_before self.now other.now }
+    {
+        self.queue.0 < other.queue.0 || (self.queue.0 == other.queue.0 && self.name < other.name)
+    }
+
+    /// The queue that it is registered with.
+    pub fn queue(&self) -> QueueNo
+        ensures { result.0 ≡ self.now.queue }
+    {
+        self.queue
+    }
+
+    /// The same registrant again.
+    pub fn copied(&self) -> Registrant
+        ensures { result ≡ self.now }
+    {
+        Registrant {
+            queue: self.queue,
+            name: self.name,
+            last: match &self.last {
+                Some(last) => Some(last.copied()),
+                None => None,
+            },
+        }
+    }
+}

@@ -1,0 +1,25 @@
+//! From a canonical spelling to the state.
+
+ghost use Rattle.rq_state.specs.Spelling.{ReadsState};
+
+mod cursor;
+mod lists;
+mod members;
+
+use crate::keeping::check;
+use crate::reading::lists::all_fields;
+use crate::state::State;
+use rq_record::Fault;
+use std::alloc::Global;
+
+/// The state that these bytes spell, as a checkpoint record holds them behind its kind. BadCheckpoint where they spell
+/// none: a member out of order or doubled, a count that does not fit, bytes left over, or fields that no state has;
+/// Resources where there is no room for the state.
+pub fn read(alloc: Global, bytes: &[u8]) -> Result<State, Fault>
+    ensures { ReadsState bytes.now result }
+{
+    let fields = all_fields(alloc, bytes)?;
+    check(alloc, &fields)?;
+    let state = State::of_ordered(alloc, fields)?;
+    Ok(state)
+}

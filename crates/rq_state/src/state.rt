@@ -1,0 +1,220 @@
+//! The state, and its lists.
+
+ghost use Rattle.std.specs.Prelude.{◌≡◌, ◌<◌, ℕ, length, map, IfOk, IfErr, slice_index_or};
+ghost use Rattle.std.specs.List.{AllByRecursion};
+ghost use Rattle.rq_model.specs.States as model;
+ghost use Rattle.rq_model.specs.Queues.{elements_at, registrants_at, notes_at};
+ghost use Rattle.rq_model.specs.WellFormed.{IsWellFormed};
+ghost use Rattle.rq_record.specs.declared.fault.Fault.TheVariants.{Resources};
+ghost use Rattle.rq_state.specs.Orders.{in_order};
+ghost use Rattle.rq_state.specs.Inside.{state_of};
+ghost use Rattle.rq_state.specs.Views.{unit_of};
+
+use crate::members::{Definition, Element, Note, Registrant};
+use crate::orders::{order_elements, order_notes, order_registrants, order_units};
+use crate::tables::{homes_of, listed_at, noted_of, registered_of};
+use rq_record::{Fault, QueueNo, UnitNo};
+use std::alloc::Global;
+use std::marker::Model;
+
+/// What a state is made from: definitions by number, the other lists in any order.
+#[derive(Drop)]
+pub struct Fields {
+    /// The next record number.
+    pub next: u64,
+    /// The greatest unit that ever began; 0 before the first.
+    pub greatest: u64,
+    /// How many units were committed.
+    pub committed: u64,
+    /// How many units were aborted.
+    pub aborted: u64,
+    pub definitions: Vec<Definition>,
+    /// The open units.
+    pub units: Vec<UnitNo>,
+    pub registrants: Vec<Registrant>,
+    pub elements: Vec<Element>,
+    pub notes: Vec<Note>,
+}
+
+/// What the queue manager keeps, and where the members of each queue stand in its lists.
+#[derive(Drop)]
+pub struct State {
+    next: u64,
+    greatest: u64,
+    committed: u64,
+    aborted: u64,
+    definitions: Vec<Definition>,
+    units: Vec<UnitNo>,
+    registrants: Vec<Registrant>,
+    elements: Vec<Element>,
+    notes: Vec<Note>,
+    homes: Vec<Vec<usize>>,
+    registered: Vec<Vec<usize>>,
+    noted: Vec<Vec<usize>>,
+}
+
+impl Model for State {
+    ghost use Rattle.rq_model.specs.States.{State};
+
+    ghost Value = { State };
+
+    ghost use Rattle.std.specs.Prelude.{map};
+    ghost use Rattle.rq_model.specs.WellFormed.{IsWellFormed};
+    ghost use Rattle.rq_state.specs.Views.{unit_of};
+    ghost use Rattle.rq_state.specs.Tables.{IsTabled};
+
+    ghost view = { λ s. record { next = s.next; greatest = s.greatest; committed = s.committed; aborted = s.aborted; definitions = s.definitions.items; units = map unit_of s.units.items; registrants = s.registrants.items; elements = s.elements.items; notes = s.notes.items } };
+
+    ghost invariant = { λ s. IsWellFormed (record { next = s.next; greatest = s.greatest; committed = s.committed; aborted = s.aborted; definitions = s.definitions.items; units = map unit_of s.units.items; registrants = s.registrants.items; elements = s.elements.items; notes = s.notes.items }) × IsTabled s.registrants.items s.elements.items s.notes.items s.registered.items s.homes.items s.noted.items };
+}
+
+impl State {
+    /// The state before the first record. It takes no memory.
+    pub fn empty(alloc: Global) -> State
+        ensures { result ≡ model.empty }
+    {
+        State {
+            next: 0,
+            greatest: 0,
+            committed: 0,
+            aborted: 0,
+            definitions: Vec::new(alloc),
+            units: Vec::new(alloc),
+            registrants: Vec::new(alloc),
+            elements: Vec::new(alloc),
+            notes: Vec::new(alloc),
+            homes: Vec::new(alloc),
+            registered: Vec::new(alloc),
+            noted: Vec::new(alloc),
+        }
+    }
+
+    /// The state of the fields, with their lists put in order. Where there is no memory for the tables of each queue's
+    /// members, Resources, and the fields are dropped.
+    pub fn build(alloc: Global, mut fields: Fields) -> Result<State, Fault>
+        requires { IsWellFormed (in_order (state_of fields)) }
+        ensures built { IfOk result (λ s. s ≡ in_order (state_of fields)) }
+        ensures refused { IfErr result (λ e. e ≡ Resources) }
+    {
+        order_units(&mut fields.units);
+        order_registrants(&mut fields.registrants);
+        order_elements(&mut fields.elements);
+        order_notes(&mut fields.notes);
+        let state = State::of_ordered(alloc, fields)?;
+        Ok(state)
+    }
+
+    /// The state of fields whose lists are in order already.
+    pub(crate) fn of_ordered(alloc: Global, fields: Fields) -> Result<State, Fault>
+        requires { IsWellFormed (state_of fields) }
+        ensures built { IfOk result (λ s. s ≡ state_of fields) }
+        ensures refused { IfErr result (λ e. e ≡ Resources) }
+    {
+        let queues = fields.definitions.len();
+        let homes = homes_of(alloc, queues, &fields.elements)?;
+        let registered = registered_of(alloc, queues, &fields.registrants)?;
+        let noted = noted_of(alloc, queues, &fields.notes)?;
+        Ok(State {
+            next: fields.next,
+            greatest: fields.greatest,
+            committed: fields.committed,
+            aborted: fields.aborted,
+            definitions: fields.definitions,
+            units: fields.units,
+            registrants: fields.registrants,
+            elements: fields.elements,
+            notes: fields.notes,
+            homes,
+            registered,
+            noted,
+        })
+    }
+
+    /// The number that the next record gets. What is well formed is so for each look into the state.
+    pub fn next(&self) -> u64
+        ensures next { result ≡ self.now.next }
+        ensures well_formed { IsWellFormed self.now }
+    {
+        self.next
+    }
+
+    /// The greatest unit that ever began; 0 before the first.
+    pub fn greatest(&self) -> u64
+        ensures { result ≡ self.now.greatest }
+    {
+        self.greatest
+    }
+
+    /// How many units were committed.
+    pub fn committed(&self) -> u64
+        ensures { result ≡ self.now.committed }
+    {
+        self.committed
+    }
+
+    /// How many units were aborted.
+    pub fn aborted(&self) -> u64
+        ensures { result ≡ self.now.aborted }
+    {
+        self.aborted
+    }
+
+    /// The queues, by number.
+    pub fn definitions(&self) -> &[Definition]
+        ensures { result.now ≡ self.now.definitions }
+    {
+        &self.definitions
+    }
+
+    /// The open units, rising.
+    pub fn units(&self) -> &[UnitNo]
+        ensures { map unit_of result.now ≡ self.now.units }
+    {
+        &self.units
+    }
+
+    /// The registrants, by queue and name.
+    pub fn registrants(&self) -> &[Registrant]
+        ensures { result.now ≡ self.now.registrants }
+    {
+        &self.registrants
+    }
+
+    /// The elements, by id.
+    pub fn elements(&self) -> &[Element]
+        ensures { result.now ≡ self.now.elements }
+    {
+        &self.elements
+    }
+
+    /// The notes of open units, by place.
+    pub fn notes(&self) -> &[Note]
+        ensures { result.now ≡ self.now.notes }
+    {
+        &self.notes
+    }
+
+    /// Where a queue's elements stand in the list of elements, rising; none where no queue has the number.
+    pub fn elements_of(&self, queue: QueueNo) -> &[usize]
+        ensures within { AllByRecursion (λ place. place < length self.now.elements) result.now }
+        ensures elements { (e : model.Element) → map (λ place. slice_index_or self.now.elements place e) result.now ≡ elements_at queue.0 self.now.elements }
+    {
+        listed_at(&self.homes, queue)
+    }
+
+    /// Where a queue's registrants stand in the list of registrants, rising; none where no queue has the number.
+    pub fn registrants_of(&self, queue: QueueNo) -> &[usize]
+        ensures within { AllByRecursion (λ place. place < length self.now.registrants) result.now }
+        ensures registrants { (r : model.Registrant) → map (λ place. slice_index_or self.now.registrants place r) result.now ≡ registrants_at queue.0 self.now.registrants }
+    {
+        listed_at(&self.registered, queue)
+    }
+
+    /// Where a queue's notes stand in the list of notes, rising; none where no queue has the number.
+    pub fn notes_of(&self, queue: QueueNo) -> &[usize]
+        ensures within { AllByRecursion (λ place. place < length self.now.notes) result.now }
+        ensures notes { (n : model.Note) → map (λ place. slice_index_or self.now.notes place n) result.now ≡ notes_at queue.0 self.now.notes }
+    {
+        listed_at(&self.noted, queue)
+    }
+}
