@@ -1,0 +1,106 @@
+-- The loop over the records, and its end.
+use Rattle.std.proofs.Common.{◌≡◌, ℕ, suc, zero, ◌+◌, ◌<◌, ◌≤◌, ◌++◌, true, false, List, [], ◌∷◌, length, map, refl, sym, ap, ◌∙◌, subst, arith, take, drop, get_or}
+use Rattle.std.specs.List.{AllByRecursion}
+use Rattle.std.proofs.lemmas.List.{length-map, length-take, map-append}
+use Rattle.std.proofs.Math.Seq.{take-suc}
+use Rattle.rq_model.specs.Records as model
+use Rattle.rq_model.specs.Records.{One}
+use Rattle.rq_model.specs.States.{State}
+use Rattle.rq_model.specs.Machine.{is_lawful, all_lawful, lawful_front, is_open, run, outcome}
+use Rattle.rq_model.specs.WellFormed.{IsWellFormed}
+use Rattle.rq_record.specs.declared.record.Record.{Record}
+use Rattle.rq_record.specs.Views.{record_of}
+use Rattle.rq_catalog.specs.declared.catalogue.Catalogue.{Catalogue}
+use Rattle.rq_catalog.specs.declared.analysis.Analysis.{Analysis}
+use Rattle.rq_catalog.specs.Lists.{listed}
+use Rattle.std.specs.Prelude.{option_map, nat_eq}
+use Rattle.indexmap.specs.IndexMap.{get, keys}
+use Rattle.rq_catalog.specs.Analyses.{numbered, outcome_of}
+use Rattle.rq_catalog.specs.Catalogues.{Follows, HasRoom, Takes, may_take}
+use Rattle.rq_catalog.specs.Analyses.{IsAnalysis}
+use Rattle.rq_catalog.proofs.Runs.{lawful_push, front_stops, front_whole}
+use Rattle.rq_catalog.proofs.Lawfulness.{lawful_here, open_here}
+use Rattle.rq_catalog.proofs.Seen.{open_again}
+use Rattle.rq_model.proofs.Lists.{filter_same, each_of}
+use Rattle.rq_model.proofs.Kept.{runs_are_well_formed}
+use Rattle.rq_model.proofs.Numbers.{numbers_after}
+use Rattle.std.specs.Prelude.{◌^◌}
+use Rattle.rq_catalog.specs.Analyses.{is_open_in}
+use Rattle.std.specs.List.{filter}
+use Rattle.rq_catalog.proofs.Keep.{follows_step, places_below}
+
+abbrev pub upto : ℕ → List Record → List model.Record
+upto n rs = map record_of (take n rs)
+
+pub length-upto : (n : ℕ) (rs : List Record) → n ≤ length rs → length (upto n rs) ≡ n
+length-upto n rs h = length-map (take n rs) record_of ∙ omega (arith, length-take n rs, h)
+
+pub upto_more : (n : ℕ) (rs : List Record) (x : Record) → n < length rs → upto n rs ++ record_of (get_or rs n x) ∷ [] ≡ upto (n + 1) rs
+upto_more n rs x h = sym (ap (λ k. upto k rs) (up n) ∙ ap (map record_of) (take-suc rs n x h) ∙ map-append record_of (take n rs) (get_or rs n x ∷ []))
+  where
+    up : (n : ℕ) → n + 1 ≡ suc n
+    up n = omega arith
+
+module _ (c : Catalogue) (s : State) (rs : List Record) (n : ℕ) (well : IsWellFormed s) (inside : n ≤ length rs) (lawful : all_lawful One s (upto n rs) ≡ true) (f : Follows c s (upto n rs)) where
+  pub places_here : (q : ℕ) → AllByRecursion (λ (p : ℕ × ℕ). p.0 < s.next + n) (listed c.touching.items q)
+  places_here = subst (λ k. (q : ℕ) → AllByRecursion (λ (p : ℕ × ℕ). p.0 < s.next + k) (listed c.touching.items q)) (length-upto n rs inside) (places_below c s (upto n rs) f)
+
+  -- what the catalogue asks of the next record's place
+  pub room_here : s.next + length rs < 2 ^ 64 → n < length rs → HasRoom c (s.next + n)
+  room_here small here =
+      let counts = (runs_are_well_formed One s (upto n rs) well lawful).counts in
+      let next = (numbers_after One s (upto n rs) well lawful).next in
+      record { after = places_here; committed = omega (arith, counts, next, f.committed, small, here, length-upto n rs inside); aborted = omega (arith, counts, next, f.aborted, small, here, length-upto n rs inside) }
+
+  pub one_further : (d : Catalogue) (x : Record) → n < length rs → may_take c (get_or rs n x) ≡ true → Takes c d (s.next + n, n) (get_or rs n x) → (all_lawful One s (upto (n + 1) rs) ≡ true) × Follows d s (upto (n + 1) rs)
+  one_further d x h may t =
+      let ok : is_lawful One (run s (upto n rs)) (record_of (get_or rs n x)) ≡ true = sym (lawful_here c s (upto n rs) f well lawful (get_or rs n x)) ∙ may in
+      subst (λ (l : List model.Record). (all_lawful One s l ≡ true) × Follows d s l) (upto_more n rs x h) (
+        lawful_push One s (upto n rs) (record_of (get_or rs n x)) lawful ok,
+        follows_step c s (upto n rs) f well lawful d (get_or rs n x) ok (subst (λ k. Takes c d (s.next + k, k) (get_or rs n x)) (sym (length-upto n rs inside)) t),
+      )
+
+  open_units : filter (λ u. is_open_in (get nat_eq c.outcomes u)) (keys c.outcomes) ≡ (run s (upto n rs)).units
+  open_units =
+      filter_same (λ u. is_open_in (get nat_eq c.outcomes u)) (λ u. is_open (run s (upto n rs)) u) (keys c.outcomes)
+      (each_of (λ u. is_open_in (get nat_eq c.outcomes u) ≡ is_open (run s (upto n rs)) u) (open_here c s (upto n rs) f well lawful) (keys c.outcomes))
+      ∙ ap (filter (λ u. is_open (run s (upto n rs)) u)) f.units ∙ open_again s (upto n rs) well lawful
+
+  front_here : lawful_front One s (map record_of rs) ≡ upto n rs → (a : Analysis) → a.lawful ≡ n → a.outcomes ≡ c.outcomes → a.touching ≡ c.touching → a.committed ≡ c.committed → a.aborted ≡ c.aborted → IsAnalysis s (map record_of rs) a
+  front_here e a l o t m b = record {
+    lawful = l ∙ sym (ap length e ∙ length-upto n rs inside);
+    outcomes = λ u. ap (λ m. option_map outcome_of (get nat_eq m u)) o ∙ f.outcomes u ∙ ap (λ k. outcome s k u) (sym e);
+    committed = m ∙ f.committed ∙ ap (λ k. (run s k).committed) (sym e);
+    aborted = b ∙ f.aborted ∙ ap (λ k. (run s k).aborted) (sym e);
+    units = ap (λ m. filter (λ u. is_open_in (get nat_eq m u)) (keys m)) o ∙ open_units ∙ ap (λ k. (run s k).units) (sym e);
+    touching = λ q. ap (λ v. listed v.items q) t ∙ f.touching q ∙ ap (λ k. numbered s k q) (sym e);
+  }
+
+  pub ends_whole : (length rs ≤ n) → IsAnalysis s (map record_of rs) (record { lawful = n; outcomes = c.outcomes; touching = c.touching; committed = c.committed; aborted = c.aborted })
+  ends_whole h = front_here (ap (lawful_front One s) (sym whole) ∙ front_whole One s (upto n rs) lawful) (record { lawful = n; outcomes = c.outcomes; touching = c.touching; committed = c.committed; aborted = c.aborted }) refl refl refl refl refl
+    where
+      all : (rs : List Record) (n : ℕ) → length rs ≤ n → take n rs ≡ rs
+      all [] zero h = refl
+      all [] (suc n) h = refl
+      all (x ∷ rs) zero h = let no : ⊥ = omega (arith, h) in absurd no
+      all (x ∷ rs) (suc n) h = ap (λ l. x ∷ l) (all rs n (omega (arith, h)))
+
+      whole : upto n rs ≡ map record_of rs
+      whole = ap (map record_of) (all rs n h)
+
+  pub ends_unlawful : (x : Record) → n < length rs → may_take c (get_or rs n x) ≡ false → IsAnalysis s (map record_of rs) (record { lawful = n; outcomes = c.outcomes; touching = c.touching; committed = c.committed; aborted = c.aborted })
+  ends_unlawful x h may = front_here (ap (lawful_front One s) (sym whole) ∙ front_stops One s (upto n rs) (record_of (get_or rs n x)) (map record_of (drop (suc n) rs)) lawful (sym (lawful_here c s (upto n rs) f well lawful (get_or rs n x)) ∙ may)) (record { lawful = n; outcomes = c.outcomes; touching = c.touching; committed = c.committed; aborted = c.aborted }) refl refl refl refl refl
+    where
+      parts : (rs : List Record) (n : ℕ) → n < length rs → take n rs ++ get_or rs n x ∷ drop (suc n) rs ≡ rs
+      parts [] n h = let no : ⊥ = omega (arith, h) in absurd no
+      parts (y ∷ rs) zero h = refl
+      parts (y ∷ rs) (suc n) h = ap (λ l. y ∷ l) (parts rs n (omega (arith, h)))
+
+      whole : upto n rs ++ record_of (get_or rs n x) ∷ map record_of (drop (suc n) rs) ≡ map record_of rs
+      whole = sym (map-append record_of (take n rs) (get_or rs n x ∷ drop (suc n) rs)) ∙ ap (map record_of) (parts rs n h)
+
+  pub one_on : (d : Catalogue) (r : Record) → r ≡ get_or rs n r → n < length rs → may_take c r ≡ true → Takes c d (s.next + n, n) r → (all_lawful One s (upto (n + 1) rs) ≡ true) × Follows d s (upto (n + 1) rs)
+  one_on d r e h may t = one_further d r h (sym (ap (may_take c) e) ∙ may) (subst (Takes c d (s.next + n, n)) e t)
+
+  pub ends_at_one : (r : Record) → r ≡ get_or rs n r → n < length rs → may_take c r ≡ false → IsAnalysis s (map record_of rs) (record { lawful = n; outcomes = c.outcomes; touching = c.touching; committed = c.committed; aborted = c.aborted })
+  ends_at_one r e h may = ends_unlawful r h (sym (ap (may_take c) e) ∙ may)

@@ -1,0 +1,87 @@
+-- What the catalogue takes is what is lawful.
+use Rattle.std.proofs.Common.{◌≡◌, ℕ, suc, zero, ◌≤◌, Bool, true, false, not, ◌&&◌, ◌||◌, List, [], ◌∷◌, length, Option, Some, None, map, refl, sym, ap, ◌∙◌, subst, arith}
+use Rattle.std.specs.Prelude.{◌==◌, nat_lt, nat_le, nat_eq, if◌then◌else◌, option_map, slice_index_or}
+use Rattle.std.proofs.lemmas.Bool.{eqb-true, eqb-false, le-leb}
+use Rattle.std.proofs.lemmas.List.{length-map}
+use Rattle.indexmap.specs.IndexMap.{get}
+use Rattle.rq_model.specs.Records as model
+use Rattle.rq_model.specs.Records.{One, no_queue}
+use Rattle.rq_model.specs.States.{State, Definition, definition_at}
+use Rattle.rq_model.specs.Machine as machine
+use Rattle.rq_model.specs.Machine.{is_lawful, all_lawful, lawful_front, is_open, is_registered, is_known, is_limit, step, run, outcome_from, outcome, begins}
+use Rattle.rq_model.specs.WellFormed.{IsWellFormed}
+use Rattle.rq_model.proofs.Lists.{by_cases}
+use Rattle.rq_model.specs.Records.{By}
+use Rattle.rq_record.specs.declared.record.Record.{Record}
+use Rattle.rq_record.specs.declared.record.Record.TheVariants.{Define, Register, Deregister, Begin, Enqueue, Dequeue, Commit, Abort, Checkpoint}
+use Rattle.rq_record.specs.Views.{record_of}
+use Rattle.rq_catalog.specs.declared.outcome.Outcome.{Outcome}
+use Rattle.rq_catalog.specs.declared.outcome.Outcome.TheVariants.{Committed, Aborted, Open}
+use Rattle.rq_catalog.specs.declared.catalogue.Catalogue.{Catalogue}
+use Rattle.rq_catalog.specs.Analyses.{is_open_in, outcome_of}
+use Rattle.rq_catalog.specs.Catalogues.{is_known_in, is_limit_in, may_take, Follows}
+use Rattle.rq_catalog.proofs.Runs.{is_open_outcome, open_by_outcome}
+
+-- Lawfulness.
+
+pub count : (c : Catalogue) (s : State) (xs : List model.Record) → Follows c s xs → length c.errors.items ≡ length (run s xs).definitions
+count c s xs f = ap length f.errors ∙ length-map (run s xs).definitions (λ (d : Definition). d.error)
+
+error_at : (ds : List Definition) (q : ℕ) → slice_index_or (map (λ (d : Definition). d.error) ds) q no_queue ≡ (definition_at ds q).error
+error_at [] q = refl
+error_at (d ∷ ds) zero = refl
+error_at (d ∷ ds) (suc q) = error_at ds q
+
+open_as : (o : Option Outcome) → is_open_in o ≡ is_open_outcome (option_map outcome_of o)
+open_as None = refl
+open_as (Some Open) = refl
+open_as (Some (Committed place)) = refl
+open_as (Some (Aborted place)) = refl
+
+known_as : (c : Catalogue) (s : State) (xs : List model.Record) (q : ℕ) (by : Option By) → Follows c s xs → is_known_in c q by ≡ is_known (run s xs) q by
+known_as c s xs q None f = refl
+known_as c s xs q (Some by) f = f.registrants (q, by.name)
+
+limit_as : (a b c : Bool) (limit : ℕ) → (if limit == 0 then a else nat_le limit 1000 && (b && c)) ≡ (((limit == 0) && a) || (nat_le 1 limit && (nat_le limit 1000 && (b && c))))
+limit_as a b c limit =
+    by_cases (limit == 0) (λ z. (limit == 0) ≡ z → (if z then a else nat_le limit 1000 && (b && c)) ≡ ((z && a) || (nat_le 1 limit && (nat_le limit 1000 && (b && c)))))
+    (λ _ e. subst (λ (n : ℕ). a ≡ (a || (nat_le 1 n && (nat_le n 1000 && (b && c))))) (sym (eqb-true limit 0 e)) (or_false a))
+    (λ _ e. let some : 1 ≤ limit = positive limit (eqb-false limit 0 e) in ap (λ x. x && (nat_le limit 1000 && (b && c))) (sym (le-leb 1 limit some)))
+    refl
+  where
+    or_false : (b : Bool) → b ≡ (b || false)
+    or_false true = refl
+    or_false false = refl
+
+    positive : (n : ℕ) → (n ≡ 0 → ⊥) → 1 ≤ n
+    positive zero h = absurd (h refl)
+    positive (suc n) h = omega arith
+
+module _ (c : Catalogue) (s : State) (xs : List model.Record) (f : Follows c s xs) (well : IsWellFormed s) (lawful : all_lawful One s xs ≡ true) where
+  defined_here : (q : ℕ) → nat_lt q (length c.errors.items) ≡ nat_lt q (length (run s xs).definitions)
+  defined_here q = ap (nat_lt q) (count c s xs f)
+
+  pub open_here : (u : ℕ) → is_open_in (get nat_eq c.outcomes u) ≡ is_open (run s xs) u
+  open_here u = open_as (get nat_eq c.outcomes u) ∙ ap is_open_outcome (f.outcomes u) ∙ sym (open_by_outcome One s xs u well lawful)
+
+  limit_here : (limit error : ℕ) → is_limit_in c limit error ≡ is_limit One (run s xs) limit error
+  limit_here limit error =
+      limit_as (error == no_queue) (nat_lt error (length c.errors.items)) (slice_index_or c.errors.items error no_queue == no_queue) limit
+      ∙ ap (λ b. ((limit == 0) && (error == no_queue)) || (nat_le 1 limit && (nat_le limit 1000 && (b && (slice_index_or c.errors.items error no_queue == no_queue))))) (defined_here error)
+      ∙ ap (λ n. ((limit == 0) && (error == no_queue)) || (nat_le 1 limit && (nat_le limit 1000 && (nat_lt error (length (run s xs).definitions) && (n == no_queue))))) (ap (λ l. slice_index_or l error no_queue) f.errors ∙ error_at (run s xs).definitions error)
+
+  operation_here : (u q : ℕ) (by : Option By)
+      → (nat_lt q (length c.errors.items) && (is_open_in (get nat_eq c.outcomes u) && is_known_in c q by)) ≡ (machine.is_defined (run s xs) q && (is_open (run s xs) u && is_known (run s xs) q by))
+  operation_here u q by = λ i. defined_here q i && (open_here u i && known_as c s xs q by f i)
+
+  -- what the catalogue takes is what is lawful
+  pub lawful_here : (r : Record) → may_take c r ≡ is_lawful One (run s xs) (record_of r)
+  lawful_here (Define limit error name) = λ i. limit_here limit error.0 i && (nat_lt (count c s xs f i) 4096 && not (f.names name i))
+  lawful_here (Register queue name) = defined_here queue.0
+  lawful_here (Deregister queue name) = f.registrants (queue.0, name)
+  lawful_here (Begin unit) = ap (λ g. nat_lt g unit.0) f.greatest
+  lawful_here (Enqueue unit queue priority by payload) = operation_here unit.0 queue.0 by
+  lawful_here (Dequeue unit queue by) = operation_here unit.0 queue.0 by
+  lawful_here (Commit unit) = open_here unit.0
+  lawful_here (Abort unit) = open_here unit.0
+  lawful_here (Checkpoint bytes) = refl

@@ -1,0 +1,9 @@
+pub mod Tables
+pub mod Once
+pub mod Runs
+pub mod Lawfulness
+pub mod Seen
+pub mod Keep
+pub mod Begins
+pub mod Ends
+pub mod Again

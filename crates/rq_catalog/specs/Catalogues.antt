@@ -1,0 +1,139 @@
+-- What a catalogue knows, and when a record is lawful by it.
+use Rattle.std.specs.Prelude.{ℕ, Bool, true, false, not, ◌&&◌, ◌||◌, ◌==◌, ◌≡◌, ◌+◌, ◌<◌, ◌^◌, cond, nat_lt, nat_le, nat_eq, if◌then◌else◌, List, [], ◌∷◌, ◌++◌, length, Option, Some, None, option_map, slice_index_or, map}
+use Rattle.std.specs.Cmp.Lexicographic.{pointwise}
+use Rattle.indexmap.specs.IndexMap.{get, insert_entry, keys}
+use Rattle.indexmap.specs.IndexSet.{contains}
+use Rattle.rq_model.specs.Records.{no_queue}
+use Rattle.rq_model.specs.Records as model
+use Rattle.rq_model.specs.States.{State, Definition}
+use Rattle.rq_model.specs.Machine.{is_registered, run, outcome}
+use Rattle.std.specs.List.{list_any, AllByRecursion}
+use Rattle.std.specs.Str.{bytes_eq}
+use Rattle.rq_model.specs.Laws.{begun}
+use Rattle.rq_model.specs.Queues.{is_engaged, engages}
+use Rattle.rq_model.specs.Records.{By}
+use Rattle.rq_record.specs.declared.record.Record.{Record}
+use Rattle.rq_record.specs.declared.record.Record.TheVariants.{Define, Register, Deregister, Begin, Enqueue, Dequeue, Commit, Abort, Checkpoint}
+use Rattle.rq_catalog.specs.Analyses.{is_open_in, outcome_of, numbered}
+use Rattle.rq_catalog.specs.Lists.{is_engaged_in, listed}
+use Rattle.rq_catalog.specs.declared.outcome.Outcome.{Outcome}
+use Rattle.rq_catalog.specs.declared.outcome.Outcome.TheVariants.{Committed, Aborted, Open}
+use Rattle.rq_catalog.specs.declared.catalogue.Catalogue.{Catalogue}
+
+abbrev pub key_eq : ℕ × List ℕ → ℕ × List ℕ → Bool
+key_eq a b = nat_eq a.0 b.0 && pointwise nat_eq a.1 b.1
+
+abbrev pub is_known_in : Catalogue → ℕ → Option By → Bool
+is_known_in c queue None = true
+is_known_in c queue (Some by) = contains key_eq c.registrants (queue, by.name)
+
+abbrev pub is_limit_in : Catalogue → ℕ → ℕ → Bool
+is_limit_in c limit error =
+    if limit == 0 then error == no_queue
+    else (nat_le limit 1000 && (nat_lt error (length c.errors.items) && (slice_index_or c.errors.items error no_queue == no_queue)))
+
+-- the record is lawful by the catalogue
+abbrev pub may_take : Catalogue → Record → Bool
+may_take c (Define limit error name) = is_limit_in c limit error.0 && (nat_lt (length c.errors.items) 4096 && not (contains (pointwise nat_eq) c.names name))
+may_take c (Register queue name) = nat_lt queue.0 (length c.errors.items)
+may_take c (Deregister queue name) = contains key_eq c.registrants (queue.0, name)
+may_take c (Begin unit) = nat_lt c.greatest unit.0
+may_take c (Enqueue unit queue priority by payload) = nat_lt queue.0 (length c.errors.items) && (is_open_in (get nat_eq c.outcomes unit.0) && is_known_in c queue.0 by)
+may_take c (Dequeue unit queue by) = nat_lt queue.0 (length c.errors.items) && (is_open_in (get nat_eq c.outcomes unit.0) && is_known_in c queue.0 by)
+may_take c (Commit unit) = is_open_in (get nat_eq c.outcomes unit.0)
+may_take c (Abort unit) = is_open_in (get nat_eq c.outcomes unit.0)
+may_take c (Checkpoint bytes) = true
+
+-- What a record changes, field by field.
+
+abbrev pub names_after : Record → List ℕ → Bool → Bool
+names_after (Define limit error name) n old = cond (pointwise nat_eq name n) true old
+names_after r n old = old
+
+-- how many queues it defines
+abbrev pub defines : Record → ℕ
+defines (Define limit error name) = 1
+defines r = 0
+
+abbrev pub errors_after : Record → List ℕ → List ℕ
+errors_after (Define limit error name) old = old ++ error.0 ∷ []
+errors_after r old = old
+
+abbrev pub registered_after : Record → ℕ × List ℕ → Bool → Bool
+registered_after (Register queue name) k old = cond (key_eq (queue.0, name) k) true old
+registered_after (Deregister queue name) k old = cond (key_eq (queue.0, name) k) false old
+registered_after r k old = old
+
+abbrev pub greatest_by : Record → ℕ → ℕ
+greatest_by (Begin unit) old = unit.0
+greatest_by r old = old
+
+abbrev pub outcome_after : ℕ → Record → ℕ → Option Outcome → Option Outcome
+outcome_after place (Begin unit) u old = cond (nat_eq unit.0 u) (Some Open) old
+outcome_after place (Commit unit) u old = cond (nat_eq unit.0 u) (Some (Committed place)) old
+outcome_after place (Abort unit) u old = cond (nat_eq unit.0 u) (Some (Aborted place)) old
+outcome_after place r u old = old
+
+-- the units with their outcomes, in the order in which they were begun
+abbrev pub entries_after : ℕ → Record → List (ℕ × Outcome) → List (ℕ × Outcome)
+entries_after place (Begin unit) old = insert_entry nat_eq old unit.0 Open
+entries_after place (Commit unit) old = insert_entry nat_eq old unit.0 (Committed place)
+entries_after place (Abort unit) old = insert_entry nat_eq old unit.0 (Aborted place)
+entries_after place r old = old
+
+abbrev pub committed_after : Record → ℕ → ℕ
+committed_after (Commit unit) old = old + 1
+committed_after r old = old
+
+abbrev pub aborted_after : Record → ℕ → ℕ
+aborted_after (Abort unit) old = old + 1
+aborted_after r old = old
+
+abbrev pub engaged_after : Record → ℕ → ℕ → Bool → Bool
+engaged_after (Enqueue unit queue priority by payload) u q old = ((unit.0 == u) && (queue.0 == q)) || old
+engaged_after (Dequeue unit queue by) u q old = ((unit.0 == u) && (queue.0 == q)) || old
+engaged_after r u q old = old
+
+-- the record touches the queue, by the catalogue before it
+abbrev pub touches_in : Catalogue → Record → ℕ → Bool
+touches_in c (Register queue name) q = queue.0 == q
+touches_in c (Deregister queue name) q = queue.0 == q
+touches_in c (Enqueue unit queue priority by payload) q = queue.0 == q
+touches_in c (Dequeue unit queue by) q = queue.0 == q
+touches_in c (Commit unit) q = is_engaged_in (get nat_eq c.engaged unit.0) q
+touches_in c (Abort unit) q = is_engaged_in (get nat_eq c.engaged unit.0) q
+touches_in c r q = false
+
+-- the place is after those of the table, and leaves room to count one unit more
+pub record HasRoom (c : Catalogue) (place : ℕ) : Type 0 where
+  pub after : (q : ℕ) → AllByRecursion (λ (p : ℕ × ℕ). p.0 < place) (listed c.touching.items q)
+  pub committed : c.committed + 1 < 2 ^ 64
+  pub aborted : c.aborted + 1 < 2 ^ 64
+
+-- d is c after the record
+pub record Takes (c d : Catalogue) (op : ℕ × ℕ) (r : Record) : Type 0 where
+  pub names : (n : List ℕ) → contains (pointwise nat_eq) d.names n ≡ names_after r n (contains (pointwise nat_eq) c.names n)
+  pub errors : d.errors.items ≡ errors_after r c.errors.items
+  pub registrants : (k : ℕ × List ℕ) → contains key_eq d.registrants k ≡ registered_after r k (contains key_eq c.registrants k)
+  pub greatest : d.greatest ≡ greatest_by r c.greatest
+  pub outcomes : (u : ℕ) → get nat_eq d.outcomes u ≡ outcome_after op.0 r u (get nat_eq c.outcomes u)
+  pub entries : d.outcomes.entries ≡ entries_after op.0 r c.outcomes.entries
+  pub committed : d.committed ≡ committed_after r c.committed
+  pub aborted : d.aborted ≡ aborted_after r c.aborted
+  pub engaged : (u q : ℕ) → is_engaged_in (get nat_eq d.engaged u) q ≡ engaged_after r u q (is_engaged_in (get nat_eq c.engaged u) q)
+  pub queues : length d.touching.items ≡ length c.touching.items + defines r
+  pub touching : (q : ℕ) → listed d.touching.items q ≡ (if touches_in c r q && nat_lt q (length c.touching.items) then listed c.touching.items q ++ op ∷ [] else listed c.touching.items q)
+
+-- the catalogue agrees with the run of xs from s
+pub record Follows (c : Catalogue) (s : State) (xs : List model.Record) : Type 0 where
+  pub names : (n : List ℕ) → contains (pointwise nat_eq) c.names n ≡ list_any (λ (d : Definition). bytes_eq d.name n) (run s xs).definitions
+  pub errors : c.errors.items ≡ map (λ (d : Definition). d.error) (run s xs).definitions
+  pub registrants : (k : ℕ × List ℕ) → contains key_eq c.registrants k ≡ is_registered (run s xs) k.0 k.1
+  pub greatest : c.greatest ≡ (run s xs).greatest
+  pub outcomes : (u : ℕ) → option_map outcome_of (get nat_eq c.outcomes u) ≡ outcome s xs u
+  pub units : keys c.outcomes ≡ s.units ++ begun xs
+  pub committed : c.committed ≡ (run s xs).committed
+  pub aborted : c.aborted ≡ (run s xs).aborted
+  pub engaged : (u q : ℕ) → is_engaged_in (get nat_eq c.engaged u) q ≡ (is_engaged s q u || list_any (engages q u) xs)
+  pub queues : length c.touching.items ≡ length c.errors.items
+  pub touching : (q : ℕ) → listed c.touching.items q ≡ numbered s xs q

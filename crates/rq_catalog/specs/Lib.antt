@@ -1,0 +1,4 @@
+pub mod Analyses
+pub mod Lists
+pub mod Members
+pub mod Catalogues

@@ -1,0 +1,140 @@
+//! The lawful front of a list of records.
+
+ghost use Rattle.std.specs.Prelude.{◌≡◌, ◌^◌, ◌+◌, ◌<◌, ℕ, List, length, map, IfOk, IfErr, OnOk, ◌++◌, ◌∷◌, [], Some, None, option_map, if◌then◌else◌};
+ghost use Rattle.indexmap.specs.IndexMap.{keys};
+ghost use Rattle.rq_model.specs.Records.{Record as ModelRecord};
+ghost use Rattle.rq_model.specs.States.{State};
+ghost use Rattle.rq_model.specs.Queues.{touching};
+ghost use Rattle.rq_record.specs.Views.{record_of};
+ghost use Rattle.rq_state.specs.Views.{unit_of};
+ghost use Rattle.rq_record.specs.declared.fault.Fault.TheVariants.{Resources};
+ghost use Rattle.rq_catalog.specs.Analyses.{IsAnalysis, outcome_of, outcome_in, open_in, is_open_at, unit_at, touched, numbered, op_again};
+
+use crate::catalogue::Catalogue;
+use crate::outcome::Outcome;
+use crate::start::catalogue_of;
+use indexmap::IndexMap;
+use rq_record::{Fault, QueueNo, Record, UnitNo};
+use rq_state::State;
+use std::alloc::Global;
+
+/// What one pass over a list of records finds: how many of them are lawful, what became of each unit, and which of the
+/// lawful records touch each queue.
+#[derive(Drop)]
+pub struct Analysis {
+    lawful: usize,
+    outcomes: IndexMap<u64, Outcome>,
+    touching: Vec<Vec<(u64, usize)>>,
+    committed: u64,
+    aborted: u64,
+}
+
+/// Analyses the records that follow the state. A record is lawful where it may come after those before it; the first that
+/// is not lawful ends the pass, and nothing is said of it or of those behind it. Refused with `Resources` alone.
+pub fn analyse(alloc: Global, state: &State, records: &[Record]) -> Result<Analysis, Fault>
+    requires { state.now.next + length records.now < 2 ^ 64 }
+    ensures analysis { IfOk result (IsAnalysis state.now (map record_of records.now)) }
+    ensures refused { IfErr result (λ e. e ≡ Resources) }
+{
+    let start = state.next();
+    let mut catalogue = catalogue_of(alloc, state)?;
+    let mut lawful = 0;
+    while lawful < records.len() {
+        let record = &records[lawful];
+        if !catalogue.may_take(record) {
+            break;
+        }
+        catalogue.take(alloc, record, (start + lawful as u64, lawful))?;
+        lawful += 1;
+    }
+    Ok(Analysis {
+        lawful,
+        outcomes: catalogue.outcomes,
+        touching: catalogue.touching,
+        committed: catalogue.committed,
+        aborted: catalogue.aborted,
+    })
+}
+
+impl Analysis {
+    /// How many records are lawful: the length of the longest lawful beginning.
+    pub fn lawful(&self) -> usize
+        ensures { result ≡ self.now.lawful }
+    {
+        self.lawful
+    }
+
+    /// What became of the unit in the lawful records; `None` where it was neither open in the state nor begun by one of them.
+    pub fn outcome(&self, unit: UnitNo) -> Option<Outcome>
+        ensures { option_map outcome_of result ≡ outcome_in self.now unit.0 }
+    {
+        self.outcomes.get(&unit.0).copied()
+    }
+
+    /// The lawful records that touch the queue, rising: the place of each in the log, and its index in the list that was
+    /// analysed. A COMMIT or ABORT touches the queues that its unit engaged. None for a queue that there is not.
+    pub fn touching(&self, queue: QueueNo) -> &[(u64, usize)]
+        ensures { result.now ≡ touched self.now queue.0 }
+    {
+        match self.touching.get(queue.0 as usize) {
+            Some(ops) => ops,
+            None => &[],
+        }
+    }
+
+    /// How many units are committed after the lawful records, those of the state included.
+    pub fn committed(&self) -> u64
+        ensures { result ≡ self.now.committed }
+    {
+        self.committed
+    }
+
+    /// How many units are aborted after the lawful records, those of the state included.
+    pub fn aborted(&self) -> u64
+        ensures { result ≡ self.now.aborted }
+    {
+        self.aborted
+    }
+
+    /// The units that are open after the lawful records, rising. Refused with `Resources` alone.
+    pub fn open_units(&self, alloc: Global) -> Result<Vec<UnitNo>, Fault>
+        ensures units { IfOk result (λ units. map unit_of units.items ≡ open_in self.now) }
+        ensures refused { IfErr result (λ e. e ≡ Resources) }
+    {
+        let mut units = Vec::new(alloc);
+        let mut place = 0;
+        while place < self.outcomes.len() {
+            self.push_open(place, &mut units)?;
+            place += 1;
+        }
+        Ok(units)
+    }
+
+    /// Adds the unit at a place of their list, where it is open.
+    fn push_open(&self, place: usize, units: &mut Vec<UnitNo>) -> Result<(), Fault>
+        requires { place < length (keys self.now.outcomes) }
+        ensures opened { OnOk result (map unit_of units.new.items ≡ (if is_open_at self.now place then map unit_of units.old.items ++ unit_at self.now place ∷ [] else map unit_of units.old.items)) }
+        ensures refused { IfErr result (λ e. e ≡ Resources) }
+    {
+        if let Some(unit) = self.open_at(place) {
+            units.push(unit)?;
+        }
+        Ok(())
+    }
+
+    /// The unit at a place of their list, where it is open.
+    fn open_at(&self, place: usize) -> Option<UnitNo>
+        requires { place < length (keys self.now.outcomes) }
+        ensures { option_map unit_of result ≡ (if is_open_at self.now place then Some (unit_at self.now place) else None) }
+    {
+        match self.outcomes.get_index(place) {
+            Some((unit, Outcome::Open)) => Some(UnitNo(*unit)),
+            _ => None,
+        }
+    }
+}
+
+/// The index that `touching` gives for a record leads to that record.
+pub fn indices()
+    ensures { (s : State) (rs : List ModelRecord) (q : ℕ) (d : ModelRecord) → map (op_again rs d) (numbered s rs q) ≡ touching s rs q }
+{}

@@ -1,0 +1,187 @@
+//! What lawfulness looks at, and what is noted on the way.
+
+ghost use Rattle.std.specs.Prelude.{◌≡◌, ℕ, ◌==◌, ◌&&◌, ◌||◌, List, ◌++◌, [], ◌∷◌, map, OnOk, IfErr, nat_lt, nat_eq, length, cond, true, ◌+◌, ◌<◌, Some, if◌then◌else◌};
+ghost use Rattle.indexmap.specs.IndexMap.{get, insert_entry};
+ghost use Rattle.indexmap.specs.IndexSet.{contains};
+ghost use Rattle.std.specs.List.{AllByRecursion};
+ghost use Rattle.std.specs.Cmp.Lexicographic.{pointwise};
+ghost use Rattle.rq_record.specs.declared.fault.Fault.TheVariants.{Resources};
+ghost use Rattle.rq_catalog.specs.Lists.{is_engaged_in, listed};
+ghost use Rattle.rq_catalog.specs.Analyses.{is_open_in};
+ghost use Rattle.rq_catalog.specs.Catalogues.{HasRoom, Takes, may_take, key_eq, is_known_in, is_limit_in};
+
+use crate::lists::{engage, touch, touch_all};
+use crate::outcome::Outcome;
+use indexmap::{IndexMap, IndexSet};
+use rq_record::{By, Fault, Name, QueueNo, Record};
+use std::alloc::Global;
+
+/// What lawfulness looks at, which is queues, registrants and units, and what is noted on the way: the queues that each unit
+/// engaged, the records that touch each queue, and the counts.
+#[derive(Drop)]
+pub(crate) struct Catalogue {
+    pub(crate) names: IndexSet<Name>,
+    pub(crate) errors: Vec<u32>,
+    pub(crate) registrants: IndexSet<(u32, Name)>,
+    pub(crate) greatest: u64,
+    pub(crate) committed: u64,
+    pub(crate) aborted: u64,
+    pub(crate) outcomes: IndexMap<u64, Outcome>,
+    pub(crate) engaged: IndexMap<u64, Vec<u32>>,
+    pub(crate) touching: Vec<Vec<(u64, usize)>>,
+}
+
+impl Catalogue {
+    fn is_defined(&self, queue: u32) -> bool
+        ensures { result ≡ nat_lt queue (length self.now.errors.items) }
+    {
+        (queue as usize) < self.errors.len()
+    }
+
+    fn is_open(&self, unit: u64) -> bool
+        ensures { result ≡ is_open_in (get nat_eq self.now.outcomes unit) }
+    {
+        matches!(self.outcomes.get(&unit), Some(Outcome::Open))
+    }
+
+    fn is_registered(&self, queue: u32, name: Name) -> bool
+        ensures { result ≡ contains key_eq self.now.registrants (queue, name) }
+    {
+        self.registrants.contains(&(queue, name))
+    }
+
+    fn is_known(&self, queue: u32, by: &Option<By>) -> bool
+        ensures { result ≡ is_known_in self.now queue by.now }
+    {
+        match by {
+            Some(by) => self.is_registered(queue, by.name),
+            None => true,
+        }
+    }
+
+    fn is_limit(&self, limit: u16, error: QueueNo) -> bool
+        ensures { result ≡ is_limit_in self.now limit error.0 }
+    {
+        if limit == 0 {
+            return error.0 == QueueNo::NONE.0;
+        }
+        limit <= 1000
+            && self.is_defined(error.0)
+            && self.errors[error.0 as usize] == QueueNo::NONE.0
+    }
+
+    /// Whether the record is lawful here.
+    pub(crate) fn may_take(&self, next: &Record) -> bool
+        ensures { result ≡ may_take self.now next.now }
+    {
+        match next {
+            Record::Define { limit, error, name } => {
+                self.is_limit(*limit, *error)
+                    && self.errors.len() < 4096
+                    && !self.names.contains(name)
+            }
+            Record::Register { queue, .. } => self.is_defined(queue.0),
+            Record::Deregister { queue, name } => self.is_registered(queue.0, *name),
+            Record::Begin { unit } => self.greatest < unit.0,
+            Record::Enqueue {
+                unit,
+                queue,
+                by,
+                ..
+            } => self.is_defined(queue.0) && self.is_open(unit.0) && self.is_known(queue.0, by),
+            Record::Dequeue { unit, queue, by } => self.is_defined(queue.0)
+                && self.is_open(unit.0)
+                && self.is_known(queue.0, by),
+            Record::Commit { unit } => self.is_open(unit.0),
+            Record::Abort { unit } => self.is_open(unit.0),
+            Record::Checkpoint { .. } => true,
+        }
+    }
+
+    /// Takes a record that is lawful here, of this place and index.
+    pub(crate) fn take(
+        &mut self,
+        alloc: Global,
+        next: &Record,
+        op: (u64, usize),
+    ) -> Result<(), Fault>
+        requires { HasRoom self.old op.0 }
+        ensures takes { OnOk result (Takes self.old self.new op next.now) }
+        ensures refused { IfErr result (λ e. e ≡ Resources) }
+    {
+        match next {
+            Record::Define { error, name, .. } => self.define(alloc, *error, *name),
+            Record::Register { queue, name } => {
+                self.registrants.insert((queue.0, *name))?;
+                touch(&mut self.touching, queue.0, op)
+            }
+            Record::Deregister { queue, name } => {
+                self.registrants.swap_remove(&(queue.0, *name));
+                touch(&mut self.touching, queue.0, op)
+            }
+            Record::Begin { unit } => {
+                self.greatest = unit.0;
+                self.outcomes.insert(unit.0, Outcome::Open)?;
+                Ok(())
+            }
+            Record::Enqueue { unit, queue, .. } => self.engage(alloc, unit.0, queue.0, op),
+            Record::Dequeue { unit, queue, .. } => self.engage(alloc, unit.0, queue.0, op),
+            Record::Commit { unit } => {
+                self.committed += 1;
+                self.close(unit.0, Outcome::Committed(op.0), op)
+            }
+            Record::Abort { unit } => {
+                self.aborted += 1;
+                self.close(unit.0, Outcome::Aborted(op.0), op)
+            }
+            Record::Checkpoint { .. } => Ok(()),
+        }
+    }
+
+    fn define(&mut self, alloc: Global, error: QueueNo, name: Name) -> Result<(), Fault>
+        ensures frame { self.new ≡ record self.old { names = self.new.names; errors = self.new.errors; touching = self.new.touching } }
+        ensures names { OnOk result ((n : List ℕ) → contains (pointwise nat_eq) self.new.names n ≡ cond (pointwise nat_eq name n) true (contains (pointwise nat_eq) self.old.names n)) }
+        ensures errors { OnOk result (self.new.errors.items ≡ self.old.errors.items ++ error.0 ∷ []) }
+        ensures queues { OnOk result (length self.new.touching.items ≡ length self.old.touching.items + 1) }
+        ensures touching { OnOk result ((q : ℕ) → listed self.new.touching.items q ≡ listed self.old.touching.items q) }
+        ensures refused { IfErr result (λ e. e ≡ Resources) }
+    {
+        self.names.insert(name)?;
+        self.errors.push(error.0)?;
+        self.touching.push(Vec::new(alloc))?;
+        Ok(())
+    }
+
+    fn engage(
+        &mut self,
+        alloc: Global,
+        unit: u64,
+        queue: u32,
+        op: (u64, usize),
+    ) -> Result<(), Fault>
+        ensures frame { self.new ≡ record self.old { engaged = self.new.engaged; touching = self.new.touching } }
+        ensures engaged { OnOk result ((u q : ℕ) → is_engaged_in (get nat_eq self.new.engaged u) q ≡ (((unit == u) && (queue == q)) || is_engaged_in (get nat_eq self.old.engaged u) q)) }
+        ensures queues { length self.new.touching.items ≡ length self.old.touching.items }
+        ensures touching { OnOk result ((q : ℕ) → listed self.new.touching.items q ≡ (if (queue == q) && nat_lt q (length self.old.touching.items) then listed self.old.touching.items q ++ op ∷ [] else listed self.old.touching.items q)) }
+        ensures refused { IfErr result (λ e. e ≡ Resources) }
+    {
+        engage(alloc, &mut self.engaged, unit, queue)?;
+        touch(&mut self.touching, queue, op)
+    }
+
+    fn close(&mut self, unit: u64, outcome: Outcome, op: (u64, usize)) -> Result<(), Fault>
+        requires { (q : ℕ) → AllByRecursion (λ p. p.0 < op.0) (listed self.old.touching.items q) }
+        ensures frame { self.new ≡ record self.old { outcomes = self.new.outcomes; touching = self.new.touching } }
+        ensures outcomes { OnOk result ((u : ℕ) → get nat_eq self.new.outcomes u ≡ cond (nat_eq unit u) (Some outcome) (get nat_eq self.old.outcomes u)) }
+        ensures entries { OnOk result (self.new.outcomes.entries ≡ insert_entry nat_eq self.old.outcomes.entries unit outcome) }
+        ensures queues { length self.new.touching.items ≡ length self.old.touching.items }
+        ensures touching { OnOk result ((q : ℕ) → listed self.new.touching.items q ≡ (if is_engaged_in (get nat_eq self.old.engaged unit) q && nat_lt q (length self.old.touching.items) then listed self.old.touching.items q ++ op ∷ [] else listed self.old.touching.items q)) }
+        ensures refused { IfErr result (λ e. e ≡ Resources) }
+    {
+        self.outcomes.insert(unit, outcome)?;
+        match self.engaged.get(&unit) {
+            Some(queues) => touch_all(&mut self.touching, queues, op),
+            None => Ok(()),
+        }
+    }
+}

@@ -1,0 +1,11 @@
+//! Which records are lawful, what became of each unit, and which records touch each queue.
+#![tactic(auto)]
+
+mod analysis;
+mod catalogue;
+mod lists;
+mod outcome;
+mod start;
+
+pub use analysis::{Analysis, analyse, indices};
+pub use outcome::Outcome;
