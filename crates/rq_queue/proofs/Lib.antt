@@ -1,0 +1,13 @@
+pub mod Sorting
+pub mod Firsts
+pub mod Moving
+pub mod Units
+pub mod Doing
+pub mod Ending
+pub mod Roll
+pub mod Registered
+pub mod NotesInOrder
+pub mod NotesByUnit
+pub mod Noting
+pub mod Steps
+pub mod Cases

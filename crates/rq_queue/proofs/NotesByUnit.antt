@@ -1,0 +1,124 @@
+-- Lists of notes by unit.
+use Rattle.std.proofs.Common.{◌≡◌, ◌≢◌, ℕ, Bool, true, cond, List, [], ◌∷◌, ◌++◌, Some, None, refl, sym, ap, ◌∙◌, subst, arith, append_assoc}
+use Rattle.std.specs.List.{AllByRecursion}
+use Rattle.std.specs.Global.{Vec}
+use Rattle.std.specs.Map.{lookup, remove_entry}
+use Rattle.std.specs.BTreeMap.{insert_entry, is_at}
+use Rattle.std.specs.Ordering.{nat_cmp, match_ordering, is_eq}
+use Rattle.std.specs.declared.cmp.Ordering.{Ordering}
+use Rattle.std.specs.declared.cmp.Ordering.TheVariants.{Less, Equal, Greater}
+use Rattle.std.specs.Prelude.{◌==◌}
+use Rattle.rq_model.specs.States.{Note, put}
+use Rattle.rq_state.specs.Orders.{place_before}
+use Rattle.rq_model.proofs.Lists.{by_cases}
+use Rattle.rq_queue.specs.Noted.{by_place, notes_in, IsOfUnit, Stowed, Among, Rises}
+use Rattle.rq_queue.proofs.NotesInOrder.{Apart, PutInAnyOrder, sorted_from, sorted_swapped, apart_swapped, apart_into, each_swapped}
+
+abbrev pub Lists : Type 0
+Lists = List (ℕ × Vec Note)
+
+behind_more : (list whole others more : List Note) → Among list whole others → Among list (more ++ whole) (more ++ others)
+behind_more list whole others more a = record {
+  front = more ++ a.front;
+  back = a.back;
+  whole_is = ap (λ (x : List Note). more ++ x) a.whole_is ∙ sym (append_assoc more a.front (list ++ a.back));
+  others_are = ap (λ (x : List Note). more ++ x) a.others_are ∙ sym (append_assoc more a.front a.back);
+}
+
+value_is : {X : Type 0} (a b : X) → Some a ≡ Some b → a ≡ b
+value_is a b h = cc
+
+pub taken_out : (t : ℕ → Bool) (es : Lists) (v : Vec Note) → lookup t es ≡ Some v → Among v.items (notes_in es) (notes_in (remove_entry t es))
+taken_out t [] v h = absurd (cc)
+taken_out t (x ∷ es) v h = by_cases (t x.0) (λ b. cond b (Some x.1) (lookup t es) ≡ Some v → Among v.items (x.1.items ++ notes_in es) (notes_in (cond b es (x ∷ remove_entry t es))))
+    (λ _ k. record { front = []; back = notes_in es; whole_is = ap (λ (w : Vec Note). w.items ++ notes_in es) (value_is x.1 v k); others_are = refl })
+    (λ _ k. behind_more v.items (notes_in es) (notes_in (remove_entry t es)) x.1.items (taken_out t es v k)) h
+
+pub not_there : (t : ℕ → Bool) (es : Lists) → lookup t es ≡ None → remove_entry t es ≡ es
+not_there t [] h = refl
+not_there t (x ∷ es) h = by_cases (t x.0) (λ b. cond b (Some x.1) (lookup t es) ≡ None → cond b es (x ∷ remove_entry t es) ≡ x ∷ es) (λ _ k. absurd (cc)) (λ _ k. ap (λ (r : Lists). x ∷ r) (not_there t es k)) h
+
+pub put_in : (k : ℕ) (es : Lists) (w : Vec Note) → lookup (is_at (nat_cmp k)) es ≡ None → Among w.items (notes_in (insert_entry nat_cmp es k w)) (notes_in es)
+put_in k [] w h = record { front = []; back = []; whole_is = refl; others_are = refl }
+put_in k (x ∷ es) w h = at (put_in k es w) (nat_cmp k x.0) h
+  where
+    at : (lookup (is_at (nat_cmp k)) es ≡ None → Among w.items (notes_in (insert_entry nat_cmp es k w)) (notes_in es)) → (o : Ordering) → cond (is_eq o) (Some x.1) (lookup (is_at (nat_cmp k)) es) ≡ None → Among w.items (notes_in (match_ordering o ((k, w) ∷ x ∷ es) ((x.0, w) ∷ es) (x ∷ insert_entry nat_cmp es k w))) (notes_in (x ∷ es))
+    at later Less h = record { front = []; back = notes_in (x ∷ es); whole_is = refl; others_are = refl }
+    at later Equal h = absurd (cc)
+    at later Greater h = behind_more w.items (notes_in (insert_entry nat_cmp es k w)) (notes_in es) x.1.items (later h)
+
+pub each_left : (P : ℕ × Vec Note → Type 0) (t : ℕ → Bool) (es : Lists) → AllByRecursion P es → AllByRecursion P (remove_entry t es)
+each_left P t [] h = tt
+each_left P t (x ∷ es) h = by_cases (t x.0) (λ b. AllByRecursion P (cond b es (x ∷ remove_entry t es))) (λ _. h.1) (λ _. (h.0, each_left P t es h.1))
+
+pub each_in : (P : ℕ × Vec Note → Type 0) (k : ℕ) (es : Lists) (w : Vec Note) → lookup (is_at (nat_cmp k)) es ≡ None → P (k, w) → AllByRecursion P es → AllByRecursion P (insert_entry nat_cmp es k w)
+each_in P k [] w h p a = (p, tt)
+each_in P k (x ∷ es) w h p a = at (λ n. each_in P k es w n p a.1) (nat_cmp k x.0) h
+  where
+    at : (lookup (is_at (nat_cmp k)) es ≡ None → AllByRecursion P (insert_entry nat_cmp es k w)) → (o : Ordering) → cond (is_eq o) (Some x.1) (lookup (is_at (nat_cmp k)) es) ≡ None → AllByRecursion P (match_ordering o ((k, w) ∷ x ∷ es) ((x.0, w) ∷ es) (x ∷ insert_entry nat_cmp es k w))
+    at later Less h = (p, a)
+    at later Equal h = absurd (cc)
+    at later Greater h = (a.0, later h)
+
+same_key : (k n : ℕ) → is_eq (nat_cmp k n) ≡ true → k ≡ n
+same_key k n h = grind (arith)
+
+pub found_of : (k : ℕ) (es : Lists) (v : Vec Note) → lookup (is_at (nat_cmp k)) es ≡ Some v → AllByRecursion IsOfUnit es → AllByRecursion (λ x. (x.unit == k) ≡ true) v.items
+found_of k [] v h a = absurd (cc)
+found_of k (x ∷ es) v h a = by_cases (is_eq (nat_cmp k x.0)) (λ b. is_eq (nat_cmp k x.0) ≡ b → cond b (Some x.1) (lookup (is_at (nat_cmp k)) es) ≡ Some v → AllByRecursion (λ x. (x.unit == k) ≡ true) v.items)
+    (λ _ t e. subst (λ (w : Vec Note). AllByRecursion (λ x. (x.unit == k) ≡ true) w.items) (value_is x.1 v e) (subst (λ (n : ℕ). AllByRecursion (λ x. (x.unit == n) ≡ true) x.1.items) (sym (same_key k x.0 t)) a.0))
+    (λ _ t e. found_of k es v e a.1) refl h
+
+pub found_rises : (t : ℕ → Bool) (es : Lists) (v : Vec Note) → lookup t es ≡ Some v → AllByRecursion (λ e. Rises e.1.items) es → Rises v.items
+found_rises t [] v h a = absurd (cc)
+found_rises t (x ∷ es) v h a = by_cases (t x.0) (λ b. cond b (Some x.1) (lookup t es) ≡ Some v → Rises v.items)
+    (λ _ e. subst (λ (w : Vec Note). Rises w.items) (value_is x.1 v e) a.0) (λ _ e. found_rises t es v e a.1) h
+
+pub stowed_of : (k : ℕ) (old es : Lists) (list : List Note) (w : Vec Note) (e : Note) → Among list (notes_in old) (notes_in es) → lookup (is_at (nat_cmp k)) es ≡ None → w.items ≡ list ++ e ∷ []
+    → Stowed e old (insert_entry nat_cmp es k w)
+stowed_of k old es list w e out n i =
+    let in_again = put_in k es w n in
+    record {
+      list = list;
+      front = out.front;
+      back = out.back;
+      left = in_again.front;
+      right = in_again.back;
+      before = out.whole_is;
+      after = in_again.whole_is ∙ ap (λ (x : List Note). in_again.front ++ (x ++ in_again.back)) i;
+      rest = sym out.others_are ∙ in_again.others_are;
+    }
+
+-- what stowing does to the elements by number: `free` are the others
+module _ (law : PutInAnyOrder) (e : Note) (free : List Note) (old new : Lists) (s : Stowed e old new) (apart : Apart (e ∷ free ++ notes_in old)) where
+  -- the old ones with the unit's list in front
+  old_front : Apart (s.list ++ (free ++ (s.front ++ s.back)))
+  old_front = subst Apart (ap (λ (x : List Note). s.list ++ x) (append_assoc free s.front s.back))
+      (apart_swapped (free ++ s.front) s.list s.back (subst Apart (ap (λ (x : List Note). free ++ x) s.before ∙ sym (append_assoc free s.front (s.list ++ s.back))) apart.1))
+
+  old_sorted : by_place (free ++ notes_in old) ≡ by_place (s.list ++ (free ++ (s.front ++ s.back)))
+  old_sorted = ap (λ (x : List Note). by_place (free ++ x)) s.before ∙ (ap by_place (sym (append_assoc free s.front (s.list ++ s.back)))
+      ∙ (sorted_swapped law (free ++ s.front) s.list s.back (subst Apart (ap (λ (x : List Note). free ++ x) s.before ∙ sym (append_assoc free s.front (s.list ++ s.back))) apart.1)
+      ∙ ap (λ (x : List Note). by_place (s.list ++ x)) (append_assoc free s.front s.back)))
+
+  -- e differs from all of them
+  other : AllByRecursion (λ z. e.last.place ≢ z.last.place) (s.list ++ (free ++ (s.front ++ s.back)))
+  other = subst (AllByRecursion (λ (z : Note). e.last.place ≢ z.last.place)) (ap (λ (x : List Note). s.list ++ x) (append_assoc free s.front s.back))
+      (each_swapped (λ (z : Note). e.last.place ≢ z.last.place) (free ++ s.front) s.list s.back (subst (AllByRecursion (λ (z : Note). e.last.place ≢ z.last.place)) (ap (λ (x : List Note). free ++ x) s.before ∙ sym (append_assoc free s.front (s.list ++ s.back))) apart.0))
+
+  -- with e at the end of the list
+  new_front : Apart (s.list ++ e ∷ (free ++ (s.front ++ s.back)))
+  new_front = apart_into s.list e (free ++ (s.front ++ s.back)) other old_front
+
+  as_new : s.list ++ e ∷ (free ++ (s.front ++ s.back)) ≡ (s.list ++ e ∷ []) ++ ((free ++ s.left) ++ s.right)
+  as_new = ap (λ (x : List Note). s.list ++ e ∷ (free ++ x)) s.rest ∙ (ap (λ (x : List Note). s.list ++ e ∷ x) (sym (append_assoc free s.left s.right)) ∙ sym (append_assoc s.list (e ∷ []) ((free ++ s.left) ++ s.right)))
+
+  new_is : (free ++ s.left) ++ ((s.list ++ e ∷ []) ++ s.right) ≡ free ++ notes_in new
+  new_is = append_assoc free s.left ((s.list ++ e ∷ []) ++ s.right) ∙ ap (λ (x : List Note). free ++ x) (sym s.after)
+
+  pub stowed_apart : Apart (free ++ notes_in new)
+  stowed_apart = subst Apart new_is (apart_swapped (s.list ++ e ∷ []) (free ++ s.left) s.right (subst Apart as_new new_front))
+
+  pub stowed_sorted : by_place (free ++ notes_in new) ≡ put place_before e (by_place (free ++ notes_in old))
+  stowed_sorted = ap by_place (sym new_is) ∙ (sym (sorted_swapped law (s.list ++ e ∷ []) (free ++ s.left) s.right (subst Apart as_new new_front))
+      ∙ (ap by_place (sym as_new) ∙ (sorted_from law s.list e (free ++ (s.front ++ s.back)) new_front ∙ ap (put place_before e) (sym old_sorted))))

@@ -1,0 +1,20 @@
+use Rattle.std.proofs.Common.{sym, ap, ◌∙◌, subst, None}
+use Rattle.rq_model.specs.Machine.{registered}
+use Rattle.rq_state.proofs.InOrder.{key_cmp, key_total}
+use Rattle.rq_queue.specs.Roll.{registrant_of, IsRoll}
+use Rattle.rq_queue.proofs.Roll.{up_inserted}
+use Rattle.rq_queue.proofs.Registered.{still_registered, newly_registered}
+use Rattle.std.proofs.Common.{map}
+use Rattle.rq_queue.proofs.registrants.Registrants.register.Goals as goal
+
+pub returns-then-contains_key-clause-done : goal.returns-then-contains_key-clause-done
+returns-then-contains_key-clause-done c =
+    sym c.self.view_is ∙ (still_registered (c.args.queue.0, c.args.name.now) c.self.inside.lasts.entries (sym c.contains_key.ensures ∙ c.if-contains_key.true) ∙ ap (registered c.args.queue.0 c.args.name.now) c.self.view_is)
+
+pub invariant_of-result : goal.invariant_of-result
+invariant_of-result c = subst IsRoll (sym c.in_ok-insert.ensures.entries) (up_inserted key_cmp key_total (c.args.queue.0, c.args.name.now) None c.self.inside.lasts.entries c.self.invariant)
+
+pub returns-clause-done : goal.returns-clause-done
+returns-clause-done c =
+    ap (map registrant_of) c.in_ok-insert.ensures.entries
+    ∙ (newly_registered (c.args.queue.0, c.args.name.now) c.self.inside.lasts.entries c.self.invariant (sym c.contains_key.ensures ∙ c.if-contains_key.false) ∙ ap (registered c.args.queue.0 c.args.name.now) c.self.view_is)

@@ -1,0 +1,28 @@
+use Rattle.std.proofs.Common.{rules, ◌≡◌, ◌∷◌, [], List, sym, ◌∙◌, subst, append_assoc}
+use Rattle.std.proofs.lemmas.Iterator.Consumers.{YieldsList-end}
+use Rattle.std.proofs.lemmas.Iterator.Adapters.{YieldsList-from_vec}
+use Rattle.std.proofs.lemmas.List.{append-nil}
+use Rattle.rq_model.specs.States.{Element}
+use Rattle.rq_queue.specs.Kept.{Frees, unheld}
+use Rattle.rq_queue.proofs.Doing.{as_they_are, freed_step, unheld_more, unheld_less}
+use Rattle.rq_queue.proofs.shelves.all_freed.Goals as goal
+
+pub loop-e-preserved-then-not-is_held : goal.loop-e-preserved-then-not-is_held
+loop-e-preserved-then-not-is_held c = λ rest others s.
+    let e = c.in-Some.e in
+    freed_step c.any_order.ensures.order c.unmarked.result (unheld c.args.unit.0 rest) others c.args.free.entries c.loop-e.free.entries c.in_ok-free.free.entries (unheld c.args.unit.0 c.args.list.items) c.in_ok-free.ensures.among c.in_ok-free.ensures.keyed
+    (subst (λ (xs : List Element). Frees others c.args.free.entries (unheld c.args.unit.0 c.args.list.items) c.loop-e.free.entries xs)
+    (unheld_more c.args.unit.0 e c.unmarked.result rest c.unmarked.ensures (sym c.is_held.ensures ∙ c.if-not-is_held.true))
+    (c.loop-e.invariant (e ∷ rest) others (s ∙ append_assoc c.loop-e.yielded (e ∷ []) rest)))
+
+pub loop-e-preserved : goal.loop-e-preserved
+loop-e-preserved c = λ rest others s.
+    let e = c.in-Some.e in
+    subst (λ (xs : List Element). Frees others c.args.free.entries (unheld c.args.unit.0 c.args.list.items) c.loop-e.free.entries xs)
+    (unheld_less c.args.unit.0 e rest (sym c.is_held.ensures ∙ c.if-not-is_held.false))
+    (c.loop-e.invariant (e ∷ rest) others (s ∙ append_assoc c.loop-e.yielded (e ∷ []) rest))
+
+pub returns-clause-freed : goal.returns-clause-freed
+returns-clause-freed c =
+    let all : c.loop-e.yielded ≡ c.args.list.items = sym (as_they_are c.loop-e.yielded) ∙ (YieldsList-end (YieldsList-from_vec c.args.list.items (search rules) (search rules)) c.loop-e.yielded _ c.loop-e.yielded_by _ c.next.new.self c.in-None.is c.next.ensures.steps).0 in
+    λ others. c.loop-e.invariant [] others (sym all ∙ sym (append-nil c.loop-e.yielded))

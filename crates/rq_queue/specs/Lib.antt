@@ -1,0 +1,7 @@
+pub mod Case
+pub mod Pouring
+pub mod Sorted
+pub mod Kept
+pub mod Listed
+pub mod Roll
+pub mod Noted

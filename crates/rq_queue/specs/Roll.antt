@@ -1,0 +1,22 @@
+-- The registrants of a queue, as they are kept and in order.
+use Rattle.std.specs.Prelude.{◌≡◌, ℕ, List, Option, if◌then◌else◌, ◌==◌, ◌&&◌}
+use Rattle.std.specs.declared.cmp.Ordering.TheVariants.{Less}
+use Rattle.rq_model.specs.States.{Last, Note, Registrant, is_note_of}
+use Rattle.rq_model.specs.Machine.{later}
+use Rattle.rq_model.specs.WellFormed.{Ordered}
+use Rattle.rq_state.proofs.InOrder.{key_cmp}
+
+-- a queue and name, with the last operation
+abbrev pub Line : Type 0
+Line = (ℕ × List ℕ) × Option Last
+
+abbrev pub registrant_of : Line → Registrant
+registrant_of e = record { queue = e.0.0; name = e.0.1; last = e.1 }
+
+-- by queue and name
+abbrev pub IsRoll : List Line → Type 0
+IsRoll es = Ordered (λ (a b : Line). key_cmp a.0 b.0 ≡ Less) es
+
+-- the registrant after a note, if that is one of the unit and its own
+abbrev pub heard : ℕ → Note → Registrant → Registrant
+heard unit n r = if (n.unit == unit) && is_note_of r.queue r.name n then record r { last = later r.last n.last } else r

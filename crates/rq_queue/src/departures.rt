@@ -1,0 +1,41 @@
+//! Elements that leave a queue.
+
+ghost use Rattle.std.specs.Prelude.{◌≡◌, ◌<◌, ◌++◌, IfErr, OnOk};
+ghost use Rattle.rq_model.specs.States as model;
+ghost use Rattle.rq_model.specs.WellFormed.{Ordered};
+ghost use Rattle.rq_queue.specs.Kept.{sent_from};
+ghost use Rattle.rq_queue.specs.Sorted.{sorted};
+ghost use Rattle.rq_record.specs.declared.fault.Fault.TheVariants.{Resources};
+
+use crate::moves::Move;
+use rq_record::Fault;
+use rq_state::{Definition, Element};
+
+/// Elements of distinct ids, by id.
+pub fn in_order(elements: Vec<Element>) -> Vec<Element>
+    requires { Ordered (λ (e f : model.Element). e.id < f.id) (sorted elements.items) }
+    ensures { result.items ≡ sorted elements.items }
+{
+    let mut elements = elements;
+    elements.sort_unstable_by_key(|e| e.number());
+    elements
+}
+
+/// Adds the elements to the moves, as they arrive in the error queue.
+pub fn send(
+    leaving: Vec<Element>,
+    place: u64,
+    home: &Definition,
+    sent: &mut Vec<Move>,
+) -> Result<(), Fault>
+    ensures sent { OnOk result (sent.new.items ≡ sent.old.items ++ sent_from place home.now leaving.items) }
+    ensures refused { IfErr result (λ e. e ≡ Resources) }
+{
+    for e in leaving {
+        sent.push(Move {
+            place,
+            element: e.moved(home),
+        })?;
+    }
+    Ok(())
+}

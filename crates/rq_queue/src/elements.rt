@@ -1,0 +1,197 @@
+//! The elements of a queue.
+
+ghost use Rattle.std.specs.Prelude.{◌≡◌, ◌≢◌, ◌+◌, ◌<◌, ◌&&◌, ◌^◌, ◌∷◌, ◌++◌, [], not, map, filter, option_map, IfOk, IfErr, OnOk};
+ghost use Rattle.std.specs.List.{AllByRecursion};
+ghost use Rattle.std.specs.List.Sorted.{IsPermutation};
+ghost use Rattle.rq_model.specs.Machine as machine;
+ghost use Rattle.rq_model.specs.States as model;
+ghost use Rattle.rq_model.specs.WellFormed.{Ordered};
+ghost use Rattle.rq_queue.specs.Kept.{sent_from};
+ghost use Rattle.rq_record.specs.declared.fault.Fault.TheVariants.{Resources};
+ghost use Rattle.rq_state.specs.Views.{id_of};
+
+use crate::departures::{in_order, send};
+use crate::moves::Move;
+use crate::shelves::{all_freed, all_returned, free_list, freed, stow, taken, with_marked};
+use rq_record::{ElemId, Fault, Payload, QueueNo, UnitNo};
+use rq_state::{Definition, Element, Mark};
+use std::alloc::Global;
+use std::cmp::Reverse;
+use std::collections::BTreeMap;
+use std::marker::Model;
+
+/// The elements of a queue, by id. Free ones stand by priority and id, so that the best one is the first; the others
+/// stand with the unit that marks them. So an operation costs the logarithm of their number for each element that it
+/// changes.
+#[derive(Drop)]
+pub struct Elements {
+    free: BTreeMap<(Reverse<u8>, u64), Element>,
+    marked: BTreeMap<u64, Vec<Element>>,
+}
+
+impl Model for Elements {
+    ghost use Rattle.std.specs.Prelude.{List};
+    ghost use Rattle.rq_model.specs.States as model;
+
+    ghost Value = { List model.Element };
+
+    ghost use Rattle.rq_queue.specs.Listed.{listed, IsKept};
+
+    ghost view = { listed };
+
+    ghost invariant = { IsKept };
+}
+
+impl Elements {
+    /// No element.
+    pub fn none(alloc: Global) -> Elements
+        ensures { result ≡ [] }
+    {
+        Elements {
+            free: BTreeMap::new(alloc),
+            marked: BTreeMap::new(alloc),
+        }
+    }
+
+    /// These elements, whose ids rise.
+    pub fn of(alloc: Global, items: Vec<Element>) -> Result<Elements, Fault>
+        requires { Ordered (λ (e f : model.Element). e.id < f.id) items.items }
+        ensures done { IfOk result (λ v. v ≡ items.items) }
+        ensures refused { IfErr result (λ e. e ≡ Resources) }
+    {
+        let mut coming = items;
+        coming.reverse();
+        let mut all = Elements::none(alloc);
+        while let Some(e) = coming.pop() {
+            all = all.push(alloc, e)?;
+        }
+        Ok(all)
+    }
+
+    /// All of them, in some order.
+    pub fn list(self, alloc: Global) -> Result<Vec<Element>, Fault>
+        ensures listed { IfOk result (λ v. IsPermutation self v.items) }
+        ensures refused { IfErr result (λ e. e ≡ Resources) }
+    {
+        let free = free_list(alloc, self.free)?;
+        let all = with_marked(free, self.marked)?;
+        Ok(all)
+    }
+
+    /// Puts in an element of a new id.
+    pub fn put(self, alloc: Global, e: Element) -> Result<Elements, Fault>
+        requires { AllByRecursion (λ (x : model.Element). x.id ≢ e.id) self }
+        ensures done { IfOk result (λ v. v ≡ model.put model.id_before e self) }
+        ensures refused { IfErr result (λ e. e ≡ Resources) }
+    {
+        rq_model::any_order();
+        match e.unit() {
+            None => {
+                let free = freed(self.free, e)?;
+                Ok(Elements {
+                    free,
+                    marked: self.marked,
+                })
+            }
+            Some(unit) => {
+                let marked = stow(alloc, self.marked, unit, e)?;
+                Ok(Elements {
+                    free: self.free,
+                    marked,
+                })
+            }
+        }
+    }
+
+    /// Adds an element whose id is greater than those of the others.
+    fn push(self, alloc: Global, e: Element) -> Result<Elements, Fault>
+        requires { AllByRecursion (λ (x : model.Element). x.id < e.id) self }
+        ensures done { IfOk result (λ v. v ≡ self ++ e ∷ []) }
+        ensures refused { IfErr result (λ e. e ≡ Resources) }
+    {
+        let all = self.put(alloc, e)?;
+        Ok(all)
+    }
+
+    /// Adds a new element of a unit. The payload is copied.
+    pub fn add(
+        self,
+        alloc: Global,
+        place: u64,
+        unit: UnitNo,
+        queue: QueueNo,
+        priority: u8,
+        payload: &Payload,
+    ) -> Result<Elements, Fault>
+        requires { AllByRecursion (λ (x : model.Element). x.id < place) self }
+        ensures done { IfOk result (λ v. v ≡ self ++ machine.new_element place unit.0 queue.0 priority payload.now ∷ []) }
+        ensures refused { IfErr result (λ e. e ≡ Resources) }
+    {
+        let e = Element::fresh(place, unit, queue, priority, payload.copied(alloc)?);
+        let all = self.push(alloc, e)?;
+        Ok(all)
+    }
+
+    /// The best element becomes Held; all are in the queue. Its id, if there is one.
+    pub fn hold_best(
+        self,
+        alloc: Global,
+        unit: UnitNo,
+        queue: QueueNo,
+    ) -> Result<(Elements, Option<ElemId>), Fault>
+        requires { AllByRecursion (λ (x : model.Element). x.home ≡ queue.0) self }
+        ensures held { IfOk result (λ v. v.0 ≡ machine.best_held unit.0 queue.0 self) }
+        ensures best { IfOk result (λ v. id_of v.1 ≡ option_map (λ e. e.id) (machine.best queue.0 self)) }
+        ensures refused { IfErr result (λ e. e ≡ Resources) }
+    {
+        rq_model::any_order();
+        let mut free = self.free;
+        match free.pop_first() {
+            None => Ok((
+                Elements {
+                    free,
+                    marked: self.marked,
+                },
+                None,
+            )),
+            Some((_, mut e)) => {
+                let id = e.id();
+                e.set_mark(Mark::Held(unit));
+                let marked = stow(alloc, self.marked, unit, e)?;
+                Ok((Elements { free, marked }, Some(id)))
+            }
+        }
+    }
+
+    /// Fresh ones of the unit become Free, Held ones go.
+    pub fn commit(self, alloc: Global, unit: UnitNo) -> Result<Elements, Fault>
+        ensures done { IfOk result (λ v. v ≡ machine.committed_elements unit.0 self) }
+        ensures refused { IfErr result (λ e. e ≡ Resources) }
+    {
+        rq_model::any_order();
+        let (marked, list) = taken(alloc, self.marked, unit);
+        let free = all_freed(self.free, list, unit)?;
+        Ok(Elements { free, marked })
+    }
+
+    /// Fresh ones of the unit go. Held ones become Free with one attempt more, or leave.
+    pub fn abort(
+        self,
+        alloc: Global,
+        place: u64,
+        unit: UnitNo,
+        home: &Definition,
+        sent: &mut Vec<Move>,
+    ) -> Result<Elements, Fault>
+        requires { AllByRecursion (λ (e : model.Element). e.attempts + 1 < 2 ^ 64) self }
+        ensures kept { IfOk result (λ v. v ≡ map (machine.returned unit.0) (filter (λ e. not (model.is_fresh unit.0 e.mark) && not (machine.leaves home.now unit.0 e)) self)) }
+        ensures sent { OnOk result (sent.new.items ≡ sent.old.items ++ sent_from place home.now (filter (machine.leaves home.now unit.0) self)) }
+        ensures refused { IfErr result (λ e. e ≡ Resources) }
+    {
+        rq_model::any_order();
+        let (marked, list) = taken(alloc, self.marked, unit);
+        let (free, leaving) = all_returned(alloc, self.free, list, unit, home)?;
+        send(in_order(leaving), place, home, sent)?;
+        Ok(Elements { free, marked })
+    }
+}

@@ -1,0 +1,16 @@
+//! Redo of one queue: its part of the state, the operations that touch it and what arrives from other queues give its
+//! part after the run and what left it for its error queue.
+#![tactic(auto)]
+
+mod departures;
+mod elements;
+mod moves;
+mod notes;
+mod part;
+mod redoing;
+mod registrants;
+mod shelves;
+
+pub use moves::{Move, Op};
+pub use part::Part;
+pub use redoing::redo;

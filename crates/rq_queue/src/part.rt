@@ -1,0 +1,251 @@
+//! What belongs to one queue.
+
+ghost use Rattle.std.specs.Prelude.{◌≡◌, ◌≢◌, ◌+◌, ◌<◌, ◌^◌, ◌++◌, ◌∷◌, [], length, IfOk, IfErr, OnOk};
+ghost use Rattle.std.specs.List.{AllByRecursion};
+ghost use Rattle.rq_model.specs.Queues as queues;
+ghost use Rattle.rq_model.specs.Records as records;
+ghost use Rattle.rq_model.specs.Ready.{IsReady};
+ghost use Rattle.rq_model.specs.Redo as redo_words;
+ghost use Rattle.rq_model.specs.States as states;
+ghost use Rattle.rq_queue.specs.Pouring.{Grows};
+ghost use Rattle.rq_record.specs.Views.{record_of};
+ghost use Rattle.rq_record.specs.declared.fault.Fault.TheVariants.{Resources};
+
+use crate::elements::Elements;
+use crate::moves::{Move, Op};
+use crate::notes::Notes;
+use crate::registrants::Registrants;
+use rq_record::{By, ElemId, Fault, Name, Payload, QueueNo, Record, UnitNo};
+use rq_state::{Definition, Fields, OpKind, State};
+use std::alloc::Global;
+use std::marker::Model;
+
+/// What belongs to one queue: its definition, elements, registrants, and notes of open units.
+#[derive(Drop)]
+pub struct Part {
+    queue: QueueNo,
+    definition: Definition,
+    elements: Elements,
+    registrants: Registrants,
+    notes: Notes,
+}
+
+impl Model for Part {
+    ghost use Rattle.rq_model.specs.Queues as queues;
+
+    ghost Value = { queues.Part };
+
+    ghost view = { λ p. record { queue = p.queue.0; definition = p.definition; elements = p.elements; registrants = p.registrants; notes = p.notes } };
+}
+
+impl Part {
+    /// The part of a queue of the state, copied. Refused with Resources.
+    pub fn of(alloc: Global, state: &State, queue: QueueNo) -> Result<Part, Fault>
+        requires { queue.0 < length state.now.definitions }
+        ensures part { IfOk result (λ p. p ≡ queues.part_of state.now queue.0) }
+        ensures refused { IfErr result (λ e. e ≡ Resources) }
+    {
+        state.is_well_formed();
+        let definition = state.definition(queue.0 as usize).copied();
+        let elements = state.copied_elements_of(alloc, queue)?;
+        let registrants = state.copied_registrants_of(alloc, queue)?;
+        let notes = state.copied_notes_of(alloc, queue)?;
+        Ok(Part {
+            queue,
+            definition,
+            elements: Elements::of(alloc, elements)?,
+            registrants: Registrants::of(alloc, registrants)?,
+            notes: Notes::of(alloc, notes)?,
+        })
+    }
+
+    /// The part of a queue that the records themselves define: nothing is in it yet.
+    pub fn new(alloc: Global, queue: QueueNo, definition: Definition) -> Part
+        ensures { result ≡ record { queue = queue.0; definition = definition; elements = []; registrants = []; notes = [] } }
+    {
+        Part {
+            queue,
+            definition,
+            elements: Elements::none(alloc),
+            registrants: Registrants::none(alloc),
+            notes: Notes::none(alloc),
+        }
+    }
+
+    /// Its queue.
+    pub fn queue(&self) -> QueueNo
+        ensures { result.0 ≡ self.now.queue }
+    {
+        self.queue
+    }
+
+    /// Adds its elements, registrants and notes to the lists. Refused with Resources: the fields are then as before.
+    pub fn pour(self, fields: &mut Fields) -> Result<(), Fault>
+        ensures elements { Grows fields.old.elements.items self.elements fields.new.elements.items result }
+        ensures registrants { Grows fields.old.registrants.items self.registrants fields.new.registrants.items result }
+        ensures notes { Grows fields.old.notes.items self.notes fields.new.notes.items result }
+        ensures next { fields.new.next ≡ fields.old.next }
+        ensures greatest { fields.new.greatest ≡ fields.old.greatest }
+        ensures committed { fields.new.committed ≡ fields.old.committed }
+        ensures aborted { fields.new.aborted ≡ fields.old.aborted }
+        ensures definitions { fields.new.definitions ≡ fields.old.definitions }
+        ensures units { fields.new.units ≡ fields.old.units }
+        ensures refused { IfErr result (λ e. e ≡ Resources) }
+    {
+        let alloc = *fields.elements.allocator();
+        let mut elements = self.elements.list(alloc)?;
+        let mut registrants = self.registrants.list(alloc)?;
+        let mut notes = self.notes.list(alloc)?;
+        fields.elements.reserve(elements.len())?;
+        fields.registrants.reserve(registrants.len())?;
+        fields.notes.reserve(notes.len())?;
+        fields.elements.append(&mut elements)?;
+        fields.registrants.append(&mut registrants)?;
+        fields.notes.append(&mut notes)?;
+        Ok(())
+    }
+
+    /// Puts in what arrives.
+    pub(crate) fn receive(mut self, alloc: Global, arrival: Move) -> Result<Part, Fault>
+        requires new { AllByRecursion (λ (e : states.Element). e.id ≢ arrival.element.id) self.elements }
+        ensures part { IfOk result (λ p. p ≡ redo_words.receive (arrival ∷ []) self) }
+        ensures refused { IfErr result (λ e. e ≡ Resources) }
+    {
+        self.elements = self.elements.put(alloc, arrival.element)?;
+        Ok(self)
+    }
+
+    fn enqueue(
+        mut self,
+        alloc: Global,
+        place: u64,
+        unit: UnitNo,
+        queue: QueueNo,
+        priority: u8,
+        by: &Option<By>,
+        payload: &Payload,
+    ) -> Result<Part, Fault>
+        requires older { AllByRecursion (λ (e : states.Element). e.id < place) self.elements }
+        requires notes { AllByRecursion (λ (n : states.Note). n.last.place < place) self.notes }
+        ensures done { IfOk result (λ p. p ≡ redo_words.act place (records.Enqueue unit.0 queue.0 priority by.now payload.now) self) }
+        ensures refused { IfErr result (λ e. e ≡ Resources) }
+    {
+        let id = Some(ElemId(place));
+        self.elements = self
+            .elements
+            .add(alloc, place, unit, queue, priority, payload)?;
+        self.notes = self
+            .notes
+            .note(alloc, place, unit, queue, by, OpKind::Enqueue, id)?;
+        Ok(self)
+    }
+
+    fn dequeue(
+        mut self,
+        alloc: Global,
+        place: u64,
+        unit: UnitNo,
+        queue: QueueNo,
+        by: &Option<By>,
+    ) -> Result<Part, Fault>
+        requires homes { AllByRecursion (λ (e : states.Element). e.home ≡ queue.0) self.elements }
+        requires notes { AllByRecursion (λ (n : states.Note). n.last.place < place) self.notes }
+        ensures done { IfOk result (λ p. p ≡ redo_words.act place (records.Dequeue unit.0 queue.0 by.now) self) }
+        ensures refused { IfErr result (λ e. e ≡ Resources) }
+    {
+        let (elements, id) = self.elements.hold_best(alloc, unit, queue)?;
+        self.elements = elements;
+        self.notes = self
+            .notes
+            .note(alloc, place, unit, queue, by, OpKind::Dequeue, id)?;
+        Ok(self)
+    }
+
+    fn commit(mut self, alloc: Global, unit: UnitNo) -> Result<Part, Fault>
+        ensures done { IfOk result (λ p. p ≡ redo_words.act 0 (records.Commit unit.0) self) }
+        ensures refused { IfErr result (λ e. e ≡ Resources) }
+    {
+        let (notes, heard) = self.notes.take(alloc, unit);
+        self.notes = notes;
+        self.registrants = self.registrants.hear(unit, &heard)?;
+        self.elements = self.elements.commit(alloc, unit)?;
+        Ok(self)
+    }
+
+    fn abort(
+        mut self,
+        alloc: Global,
+        place: u64,
+        unit: UnitNo,
+        sent: &mut Vec<Move>,
+    ) -> Result<Part, Fault>
+        requires room { AllByRecursion (λ (e : states.Element). e.attempts + 1 < 2 ^ 64) self.elements }
+        ensures part { IfOk result (λ p. p ≡ redo_words.act place (records.Abort unit.0) self) }
+        ensures sent { OnOk result (sent.new.items ≡ sent.old.items ++ redo_words.sent place (records.Abort unit.0) self) }
+        ensures refused { IfErr result (λ e. e ≡ Resources) }
+    {
+        self.elements = self
+            .elements
+            .abort(alloc, place, unit, &self.definition, sent)?;
+        let (notes, _) = self.notes.take(alloc, unit);
+        self.notes = notes;
+        Ok(self)
+    }
+
+    fn register(mut self, queue: QueueNo, name: &Name) -> Result<Part, Fault>
+        ensures done { IfOk result (λ p. p ≡ redo_words.act 0 (records.Register queue.0 name.now) self) }
+        ensures refused { IfErr result (λ e. e ≡ Resources) }
+    {
+        self.registrants = self.registrants.register(queue, name)?;
+        Ok(self)
+    }
+
+    fn deregister(mut self, alloc: Global, queue: QueueNo, name: &Name) -> Result<Part, Fault>
+        ensures done { IfOk result (λ p. p ≡ redo_words.act 0 (records.Deregister queue.0 name.now) self) }
+        ensures refused { IfErr result (λ e. e ≡ Resources) }
+    {
+        self.registrants = self.registrants.deregister(queue, name);
+        self.notes = self.notes.forget(alloc, queue, name)?;
+        Ok(self)
+    }
+
+    /// Does one operation of the queue.
+    pub(crate) fn act(self, alloc: Global, op: &Op, sent: &mut Vec<Move>) -> Result<Part, Fault>
+        requires ready { IsReady op.now.place op.now.does self }
+        ensures part { IfOk result (λ p. p ≡ redo_words.act op.now.place op.now.does self) }
+        ensures sent { OnOk result (sent.new.items ≡ sent.old.items ++ redo_words.sent op.now.place op.now.does self) }
+        ensures refused { IfErr result (λ e. e ≡ Resources) }
+    {
+        self.follow(alloc, op.place(), op.record(), sent)
+    }
+
+    /// Does what a record says, at a place.
+    fn follow(
+        self,
+        alloc: Global,
+        place: u64,
+        rec: &Record,
+        sent: &mut Vec<Move>,
+    ) -> Result<Part, Fault>
+        requires ready { IsReady place (record_of rec.now) self }
+        ensures part { IfOk result (λ p. p ≡ redo_words.act place (record_of rec.now) self) }
+        ensures sent { OnOk result (sent.new.items ≡ sent.old.items ++ redo_words.sent place (record_of rec.now) self) }
+        ensures refused { IfErr result (λ e. e ≡ Resources) }
+    {
+        match rec {
+            Record::Define { .. } | Record::Begin { .. } | Record::Checkpoint { .. } => Ok(self),
+            Record::Register { queue, name } => self.register(*queue, name),
+            Record::Deregister { queue, name } => self.deregister(alloc, *queue, name),
+            Record::Enqueue {
+                unit,
+                queue,
+                priority,
+                by,
+                payload,
+            } => self.enqueue(alloc, place, *unit, *queue, *priority, by, payload),
+            Record::Dequeue { unit, queue, by } => self.dequeue(alloc, place, *unit, *queue, by),
+            Record::Commit { unit } => self.commit(alloc, *unit),
+            Record::Abort { unit } => self.abort(alloc, place, *unit, sent),
+        }
+    }
+}

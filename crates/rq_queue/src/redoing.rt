@@ -1,0 +1,104 @@
+//! Redo of one queue.
+
+ghost use Rattle.std.specs.Prelude.{◌≡◌, ◌≤◌, ◌<◌, ◌-◌, ◌^◌, ◌++◌, ◌∷◌, [], List, length, drop, IfOk, IfErr};
+ghost use Rattle.std.specs.List.{AllByRecursion};
+ghost use Rattle.rq_model.specs.Queues as queues;
+ghost use Rattle.rq_model.specs.Redo as redo_words;
+ghost use Rattle.rq_model.specs.Machine as machine;
+ghost use Rattle.rq_model.specs.Records as records;
+ghost use Rattle.rq_model.specs.States as states;
+ghost use Rattle.rq_queue.specs.Case.{IsCase};
+ghost use Rattle.rq_model.specs.Ready.{GoesWell};
+ghost use Rattle.rq_queue.specs.Case.{AreRising};
+ghost use Rattle.rq_record.specs.declared.fault.Fault.TheVariants.{Resources};
+
+use crate::moves::{Move, Op};
+use crate::part::Part;
+use rq_record::Fault;
+use std::alloc::Global;
+
+/// Does the operations from a place in the list on, as far as they stand at `until` or before. How many are done then.
+fn catch_up(
+    alloc: Global,
+    part: Part,
+    ops: &[Op],
+    from: usize,
+    until: u64,
+    sent: &mut Vec<Move>,
+) -> Result<(Part, usize), Fault>
+    requires bound { from ≤ length ops.now }
+    requires well { (ms : List queues.Move) × AllByRecursion (λ m. until ≤ m.place) ms × GoesWell part (drop from ops.now) ms }
+    ensures bound { IfOk result (λ r. r.1 ≤ length ops.now) }
+    ensures well { IfOk result (λ r. (ms : List queues.Move) → AllByRecursion (λ m. until ≤ m.place) ms
+        → GoesWell part (drop from ops.now) ms → GoesWell r.0 (drop r.1 ops.now) ms) }
+    ensures redone { IfOk result (λ r. (ms : List queues.Move) → AllByRecursion (λ m. until ≤ m.place) ms
+        → redo_words.redone part (drop from ops.now) ms ≡ redo_words.redone r.0 (drop r.1 ops.now) ms) }
+    ensures sent { IfOk result (λ r. (ms : List queues.Move) → AllByRecursion (λ m. until ≤ m.place) ms
+        → sent.old.items ++ redo_words.all_sent part (drop from ops.now) ms ≡ sent.new.items ++ redo_words.all_sent r.0 (drop r.1 ops.now) ms) }
+    ensures stops { IfOk result (λ r. (op : queues.Op) (rest : List queues.Op) → drop r.1 ops.now ≡ op ∷ rest → until < op.place) }
+    ensures refused { IfErr result (λ e. e ≡ Resources) }
+    ensures all { IfOk result (λ r. until ≡ 2 ^ 64 - 1 → r.1 ≡ length ops.now) }
+{
+    rq_model::redo_steps();
+    rq_model::redo_goes_well();
+    let mut part = part;
+    let mut done = from;
+    while done < ops.len() {
+        let op = &ops[done];
+        if op.place() > until {
+            return Ok((part, done));
+        }
+        part = part.act(alloc, op, sent)?;
+        done += 1;
+    }
+    Ok((part, done))
+}
+
+/// The part after the operations and the arrivals, and what left it.
+fn redo_in_order(
+    alloc: Global,
+    part: Part,
+    ops: &[Op],
+    arrivals: Vec<Move>,
+) -> Result<(Part, Vec<Move>), Fault>
+    requires well { GoesWell part ops.now arrivals.items }
+    requires rising { AreRising arrivals.items }
+    ensures part { IfOk result (λ r. r.0 ≡ redo_words.redone part ops.now arrivals.items) }
+    ensures sent { IfOk result (λ r. r.1.items ≡ redo_words.all_sent part ops.now arrivals.items) }
+    ensures refused { IfErr result (λ e. e ≡ Resources) }
+{
+    rq_model::redo_steps();
+    rq_model::redo_goes_well();
+    let mut sent = Vec::new(alloc);
+    let mut part = part;
+    let mut done = 0;
+    let mut coming = arrivals;
+    coming.reverse();
+    while let Some(arrival) = coming.pop() {
+        let (caught, next) = catch_up(alloc, part, ops, done, arrival.place(), &mut sent)?;
+        part = caught.receive(alloc, arrival)?;
+        done = next;
+    }
+    let (part, _) = catch_up(alloc, part, ops, done, u64::MAX, &mut sent)?;
+    Ok((part, sent))
+}
+
+/// The part after the operations and the arrivals, and the elements that left for the error queue.
+pub fn redo(
+    alloc: Global,
+    part: Part,
+    ops: &[Op],
+    arrivals: Vec<Move>,
+) -> Result<(Part, Vec<Move>), Fault>
+    requires { (version : records.Version) × (s : states.State) × (rs : List records.Record) × IsCase version s rs part ops.now arrivals.items }
+    ensures part { IfOk result (λ r. (version : records.Version) (s : states.State) (rs : List records.Record) → IsCase version s rs part ops.now arrivals.items
+        → r.0 ≡ queues.part_of (machine.run s rs) part.queue) }
+    ensures moves { IfOk result (λ r. (version : records.Version) (s : states.State) (rs : List records.Record) → IsCase version s rs part ops.now arrivals.items
+        → r.1.items ≡ queues.moves s rs part.queue) }
+    ensures refused { IfErr result (λ e. e ≡ Resources) }
+{
+    rq_model::projection();
+    rq_model::redo_goes_well();
+    let (redone, moves) = redo_in_order(alloc, part, ops, arrivals)?;
+    Ok((redone, moves))
+}

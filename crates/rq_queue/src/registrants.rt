@@ -1,0 +1,163 @@
+//! The registrants of a queue.
+
+ghost use Rattle.std.specs.Prelude.{◌≡◌, ◌++◌, ◌∷◌, [], true, map, IfOk, IfErr};
+ghost use Rattle.std.specs.List.{AllByRecursion};
+ghost use Rattle.rq_model.specs.Machine as machine;
+ghost use Rattle.rq_model.specs.States as model;
+ghost use Rattle.rq_model.specs.WellFormed.{Ordered};
+ghost use Rattle.rq_queue.specs.Roll.{registrant_of, heard};
+ghost use Rattle.rq_record.specs.declared.fault.Fault.TheVariants.{Resources};
+
+use rq_record::{Fault, Name, QueueNo, UnitNo};
+use rq_state::{Last, Note, Registrant};
+use std::alloc::Global;
+use std::collections::BTreeMap;
+use std::marker::Model;
+
+/// The registrants of a queue, by name: the last operation of each.
+#[derive(Drop)]
+pub struct Registrants {
+    lasts: BTreeMap<(u32, Name), Option<Last>>,
+}
+
+impl Model for Registrants {
+    ghost use Rattle.std.specs.Prelude.{List, map};
+    ghost use Rattle.rq_model.specs.States as model;
+    ghost use Rattle.rq_queue.specs.Roll.{registrant_of, IsRoll};
+
+    ghost Value = { List model.Registrant };
+
+    ghost view = { λ r. map registrant_of r.lasts.entries };
+
+    ghost invariant = { λ r. IsRoll r.lasts.entries };
+}
+
+impl Registrants {
+    /// No registrant.
+    pub fn none(alloc: Global) -> Registrants
+        ensures { result ≡ [] }
+    {
+        Registrants {
+            lasts: BTreeMap::new(alloc),
+        }
+    }
+
+    /// These registrants, which are in order.
+    pub fn of(alloc: Global, items: Vec<Registrant>) -> Result<Registrants, Fault>
+        requires { Ordered (λ r t. model.registrant_before r t ≡ true) items.items }
+        ensures done { IfOk result (λ v. v ≡ items.items) }
+        ensures refused { IfErr result (λ e. e ≡ Resources) }
+    {
+        let mut coming = items;
+        coming.reverse();
+        let mut all = Registrants::none(alloc);
+        while let Some(r) = coming.pop() {
+            all = all.push(r)?;
+        }
+        Ok(all)
+    }
+
+    /// Adds a registrant that stands behind all others.
+    fn push(self, r: Registrant) -> Result<Registrants, Fault>
+        requires { AllByRecursion (λ x. model.registrant_before x r ≡ true) self }
+        ensures done { IfOk result (λ v. v ≡ self ++ r ∷ []) }
+        ensures refused { IfErr result (λ e. e ≡ Resources) }
+    {
+        let key = r.key();
+        let mut lasts = self.lasts;
+        lasts.insert(key, r.into_last())?;
+        Ok(Registrants { lasts })
+    }
+
+    /// All of them, in order.
+    pub fn list(self, alloc: Global) -> Result<Vec<Registrant>, Fault>
+        ensures listed { IfOk result (λ v. v.items ≡ self) }
+        ensures refused { IfErr result (λ e. e ≡ Resources) }
+    {
+        let all = listed(alloc, self.lasts)?;
+        Ok(all)
+    }
+
+    /// Registers a name, unless it is registered.
+    pub fn register(self, queue: QueueNo, name: &Name) -> Result<Registrants, Fault>
+        ensures done { IfOk result (λ v. v ≡ machine.registered queue.0 name.now self) }
+        ensures refused { IfErr result (λ e. e ≡ Resources) }
+    {
+        let key = (queue.0, *name);
+        if self.lasts.contains_key(&key) {
+            return Ok(self);
+        }
+        let mut lasts = self.lasts;
+        lasts.insert(key, None)?;
+        Ok(Registrants { lasts })
+    }
+
+    /// The name is registered no longer.
+    pub fn deregister(self, queue: QueueNo, name: &Name) -> Registrants
+        ensures { result ≡ machine.deregistered queue.0 name.now self }
+    {
+        let mut lasts = self.lasts;
+        lasts.remove(&(queue.0, *name));
+        Registrants { lasts }
+    }
+
+    /// A note reaches its registrant, if it is one of the unit.
+    fn hear_one(self, unit: UnitNo, note: &Note) -> Result<Registrants, Fault>
+        ensures done { IfOk result (λ v. v ≡ map (heard unit.0 note.now) self) }
+        ensures refused { IfErr result (λ e. e ≡ Resources) }
+    {
+        if !note.is_by(unit) {
+            return Ok(self);
+        }
+        let key = note.key();
+        match self.lasts.get(&key) {
+            None => Ok(self),
+            Some(last) => {
+                let last = Last::later(last, note.last());
+                let mut lasts = self.lasts;
+                lasts.insert(key, last)?;
+                Ok(Registrants { lasts })
+            }
+        }
+    }
+
+    /// The notes of the unit among these reach the registrants.
+    pub fn hear(self, unit: UnitNo, notes: &[Note]) -> Result<Registrants, Fault>
+        ensures done { IfOk result (λ v. v ≡ map (machine.told unit.0 notes.now) self) }
+        ensures refused { IfErr result (λ e. e ≡ Resources) }
+    {
+        let all = hear_all(self, unit, notes)?;
+        Ok(all)
+    }
+}
+
+/// The notes of the unit, one after another, reach the registrants.
+fn hear_all(all: Registrants, unit: UnitNo, notes: &[Note]) -> Result<Registrants, Fault>
+    ensures done { IfOk result (λ v. v ≡ map (machine.told unit.0 notes.now) all) }
+    ensures refused { IfErr result (λ e. e ≡ Resources) }
+{
+    let mut now = all;
+    for n in notes {
+        now = now.hear_one(unit, n)?;
+    }
+    Ok(now)
+}
+
+/// The registrants, in order.
+fn listed(
+    alloc: Global,
+    lasts: BTreeMap<(u32, Name), Option<Last>>,
+) -> Result<Vec<Registrant>, Fault>
+    ensures listed { IfOk result (λ v. v.items ≡ map registrant_of lasts.entries) }
+    ensures refused { IfErr result (λ e. e ≡ Resources) }
+{
+    let mut all = Vec::new(alloc);
+    for (key, last) in lasts {
+        all.push(Registrant {
+            queue: QueueNo(key.0),
+            name: key.1,
+            last,
+        })?;
+    }
+    Ok(all)
+}

@@ -1,0 +1,148 @@
+//! Where the elements of a queue stand: Free ones under their keys, the others with their units.
+
+ghost use Rattle.std.specs.Prelude.{◌≡◌, ◌≢◌, ◌+◌, ◌<◌, ◌^◌, ◌∷◌, ◌++◌, [], true, List, filter, None, IfOk, IfErr};
+ghost use Rattle.std.specs.BTreeMap.{is_at};
+ghost use Rattle.std.specs.List.{AllByRecursion};
+ghost use Rattle.std.specs.Map.{lookup, values_of};
+ghost use Rattle.std.specs.Ordering.{nat_cmp};
+ghost use Rattle.rq_model.specs.Machine as machine;
+ghost use Rattle.rq_model.specs.Queues as queues;
+ghost use Rattle.rq_model.specs.States as model;
+ghost use Rattle.rq_queue.specs.Kept.{items_of, IsKeyed, IsOfUnit, Stowed, Among, Frees, unheld, staying};
+ghost use Rattle.rq_record.specs.declared.fault.Fault.TheVariants.{Resources};
+
+use rq_record::{Fault, UnitNo};
+use rq_state::{Definition, Element, Mark};
+use std::alloc::Global;
+use std::cmp::Reverse;
+use std::collections::BTreeMap;
+
+/// Takes the list of a unit out.
+pub fn taken(
+    alloc: Global,
+    marked: BTreeMap<u64, Vec<Element>>,
+    unit: UnitNo,
+) -> (BTreeMap<u64, Vec<Element>>, Vec<Element>)
+    requires of_units { AllByRecursion IsOfUnit marked.entries }
+    ensures absent { lookup (is_at (nat_cmp unit.0)) result.0.entries ≡ None }
+    ensures among { Among result.1.items (items_of marked.entries) (items_of result.0.entries) }
+    ensures of_units { AllByRecursion IsOfUnit result.0.entries }
+    ensures of_unit { AllByRecursion (λ x. queues.is_marked unit.0 x.mark ≡ true) result.1.items }
+{
+    let mut marked = marked;
+    match marked.remove(&unit.0) {
+        Some(list) => (marked, list),
+        None => (marked, Vec::new(alloc)),
+    }
+}
+
+/// Puts an element at the end of the list of its unit.
+pub fn stow(
+    alloc: Global,
+    marked: BTreeMap<u64, Vec<Element>>,
+    unit: UnitNo,
+    e: Element,
+) -> Result<BTreeMap<u64, Vec<Element>>, Fault>
+    requires mark { queues.is_marked unit.0 e.mark ≡ true }
+    requires of_units { AllByRecursion IsOfUnit marked.entries }
+    ensures stowed { IfOk result (λ m. Stowed e marked.entries m.entries) }
+    ensures of_units { IfOk result (λ m. AllByRecursion IsOfUnit m.entries) }
+    ensures refused { IfErr result (λ e. e ≡ Resources) }
+{
+    let (mut others, mut list) = taken(alloc, marked, unit);
+    list.push(e)?;
+    others.insert(unit.0, list)?;
+    Ok(others)
+}
+
+/// Puts a Free element under its key.
+pub fn freed(
+    free: BTreeMap<(Reverse<u8>, u64), Element>,
+    e: Element,
+) -> Result<BTreeMap<(Reverse<u8>, u64), Element>, Fault>
+    requires mark { model.is_free e.mark ≡ true }
+    ensures among { IfOk result (λ m. AllByRecursion IsKeyed free.entries → AllByRecursion (λ x. e.id ≢ x.id) (values_of free.entries) → Among (e ∷ []) (values_of m.entries) (values_of free.entries)) }
+    ensures keyed { IfOk result (λ m. AllByRecursion IsKeyed free.entries → AllByRecursion (λ x. e.id ≢ x.id) (values_of free.entries) → AllByRecursion IsKeyed m.entries) }
+    ensures refused { IfErr result (λ e. e ≡ Resources) }
+{
+    let mut free = free;
+    let key = e.key();
+    free.insert((Reverse(key.0), key.1), e)?;
+    Ok(free)
+}
+
+/// Puts what a COMMIT of the unit leaves of its elements under their keys.
+pub fn all_freed(
+    free: BTreeMap<(Reverse<u8>, u64), Element>,
+    list: Vec<Element>,
+    unit: UnitNo,
+) -> Result<BTreeMap<(Reverse<u8>, u64), Element>, Fault>
+    ensures freed { IfOk result (λ m. (others : List model.Element) → Frees others free.entries (unheld unit.0 list.items) m.entries []) }
+    ensures refused { IfErr result (λ e. e ≡ Resources) }
+{
+    rq_model::any_order();
+    let mut free = free;
+    for e in list {
+        if !e.is_held(unit) {
+            free = freed(free, e.unmarked())?;
+        }
+    }
+    Ok(free)
+}
+
+/// Puts what an ABORT of the unit leaves of its elements under their keys. Those that leave the queue.
+pub fn all_returned(
+    alloc: Global,
+    free: BTreeMap<(Reverse<u8>, u64), Element>,
+    list: Vec<Element>,
+    unit: UnitNo,
+    home: &Definition,
+) -> Result<(BTreeMap<(Reverse<u8>, u64), Element>, Vec<Element>), Fault>
+    requires room { AllByRecursion (λ (e : model.Element). e.attempts + 1 < 2 ^ 64) list.items }
+    requires of_unit { AllByRecursion (λ (e : model.Element). queues.is_marked unit.0 e.mark ≡ true) list.items }
+    ensures freed { IfOk result (λ r. (others : List model.Element) → Frees others free.entries (staying home.now unit.0 list.items) r.0.entries []) }
+    ensures leaving { IfOk result (λ r. r.1.items ≡ filter (machine.leaves home.now unit.0) list.items) }
+    ensures refused { IfErr result (λ e. e ≡ Resources) }
+{
+    rq_model::any_order();
+    let mut free = free;
+    let mut leaving = Vec::new(alloc);
+    for e in list {
+        if e.leaves(home, unit) {
+            leaving.push(e)?;
+        } else if !e.is_fresh(unit) {
+            free = freed(free, e.returned(unit))?;
+        }
+    }
+    Ok((free, leaving))
+}
+
+/// The Free elements, best first.
+pub fn free_list(
+    alloc: Global,
+    free: BTreeMap<(Reverse<u8>, u64), Element>,
+) -> Result<Vec<Element>, Fault>
+    ensures listed { IfOk result (λ v. v.items ≡ values_of free.entries) }
+    ensures refused { IfErr result (λ e. e ≡ Resources) }
+{
+    let mut all = Vec::new(alloc);
+    for e in free.into_values() {
+        all.push(e)?;
+    }
+    Ok(all)
+}
+
+/// Adds the elements of all units.
+pub fn with_marked(
+    elements: Vec<Element>,
+    marked: BTreeMap<u64, Vec<Element>>,
+) -> Result<Vec<Element>, Fault>
+    ensures listed { IfOk result (λ v. v.items ≡ elements.items ++ items_of marked.entries) }
+    ensures refused { IfErr result (λ e. e ≡ Resources) }
+{
+    let mut all = elements;
+    for (_, mut list) in marked {
+        all.append(&mut list)?;
+    }
+    Ok(all)
+}
