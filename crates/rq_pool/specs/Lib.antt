@@ -1,0 +1,10 @@
+pub mod Plans
+pub mod Ledger
+pub mod Shares
+pub mod Rules
+pub mod Holdings
+pub mod Passes
+pub mod Decks
+pub mod Sources
+pub mod Vaults
+pub mod Rooms

@@ -1,0 +1,161 @@
+//! One seat's deque, under its rule.
+ghost use Rattle.std.specs.Prelude.{◌≡◌, ℕ, ◌≤◌, ◌<◌, ◌+◌, ◌^◌, [], ◌∷◌, ◌++◌, length, IfOk, IfSome, IfNone, sum_by, MatchOption, vec_len, vec_capacity};
+ghost use Rattle.crossbeam_deque.specs.Handles.{view, IsPassOf, worker_deque, worker_flavor, worker_view, stealer_deque, stealer_flavor};
+ghost use Rattle.rq_pool.specs.Shares.{share};
+ghost use Rattle.rq_pool.specs.Rules.{Taken};
+
+use crossbeam_deque::protocol::{Join, Lesson, Outcome, Protocol, Split};
+use crossbeam_deque::{Pass, Steal, Stealer, Worker};
+use std::alloc::{AllocError, Global};
+use std::collections::LinkedList;
+
+// A pass's parts of the right to know the whole, what was dealt, and what it took. No value of it is made.
+pub struct Share {
+    pub parts: u64,
+    pub dealt: LinkedList<u32>,
+    pub taken: LinkedList<u32>,
+}
+
+pub struct DealRule;
+
+impl Protocol<u32, Share> for DealRule {
+    ghost use Rattle.rq_pool.specs.Rules.{Balanced};
+
+    ghost holds = { Balanced };
+
+    ghost first = { share 256 [] [] };
+
+    ghost guest = { share 0 [] [] };
+}
+
+pub struct Puts;
+
+impl Outcome<u32, Share> for Puts {
+    ghost use Rattle.rq_pool.specs.Rules.{Pushed};
+
+    ghost then = { Pushed };
+}
+
+pub struct Gets;
+
+impl Outcome<u32, Share> for Gets {
+    ghost use Rattle.rq_pool.specs.Rules.{Taken, Emptied};
+
+    ghost then = { Taken };
+
+    ghost empty = { Emptied };
+}
+
+pub struct Steals;
+
+impl Outcome<u32, Share> for Steals {
+    ghost use Rattle.rq_pool.specs.Rules.{Taken};
+
+    ghost then = { Taken };
+}
+
+pub struct Parts;
+
+impl Split<Share> for Parts {
+    ghost use Rattle.std.specs.Prelude.{◌-◌};
+
+    ghost left = { λ v. share (v.parts - 1) v.dealt v.taken };
+
+    ghost right = { λ v. share 1 v.dealt [] };
+}
+
+impl Join<Share> for Parts {
+    ghost both = { λ v w. share (v.parts + w.parts) v.dealt (v.taken ++ w.taken) };
+
+    ghost spent = { share 0 [] [] };
+}
+
+// All of a view goes to the new pass.
+pub struct Whole;
+
+impl Split<Share> for Whole {
+    ghost left = { λ v. share 0 [] [] };
+
+    ghost right = { λ v. v };
+}
+
+pub struct Over;
+
+impl Lesson<u32, Share> for Over {
+    ghost fact = { λ v items. v.parts ≤ 256 };
+}
+
+pub type Owner = Worker<u32, Global, Share, DealRule>;
+
+pub type Thief = Stealer<u32, Global, Share, DealRule>;
+
+pub type DequePass = Pass<u32, Share>;
+
+// A deque that holds the list. It has room for it from the start.
+pub fn dealt(alloc: Global, list: &[u32]) -> Result<Owner, AllocError>
+    requires { length list.now < 2 ^ 32 }
+    ensures { IfOk result (λ w. (worker_flavor w ≡ 0) × (worker_view w ≡ share 256 list.now [])) }
+{
+    let mut owner = Owner::fifo_as(alloc, list.len())?;
+    for &x in list {
+        match owner.push_as::<Puts>(x) {
+            Ok(()) => {}
+            Err(_) => unreachable!(),
+        }
+    }
+    Ok(owner)
+}
+
+// A pass with one part.
+pub fn cut(owner: &mut Owner) -> DequePass
+    requires { 1 < (worker_view owner.old).parts }
+    ensures same { (worker_deque owner.new ≡ worker_deque owner.old) × (worker_flavor owner.new ≡ worker_flavor owner.old) }
+    ensures view { ((worker_view owner.new).parts + 1 ≡ (worker_view owner.old).parts) × ((worker_view owner.new).dealt ≡ (worker_view owner.old).dealt) × ((worker_view owner.new).taken ≡ (worker_view owner.old).taken) }
+    ensures one { IsPassOf (worker_deque owner.new) result × (view result ≡ share 1 (worker_view owner.old).dealt []) }
+{
+    owner.another::<Parts>()
+}
+
+// The owner's pop.
+pub fn pop(owner: &mut Owner) -> Option<u32>
+    requires { (worker_flavor owner.old ≡ 0) × (0 < (worker_view owner.old).parts) }
+    ensures same { (worker_deque owner.new ≡ worker_deque owner.old) × (worker_flavor owner.new ≡ 0) }
+    ensures taken { IfSome result (λ x. Taken (worker_view owner.old) (x ∷ []) (worker_view owner.new)) }
+    ensures none { IfNone result (worker_view owner.new ≡ worker_view owner.old) }
+    ensures emptied { IfNone result ((worker_view owner.old).parts ≡ 256 → (h : ℕ → ℕ) → sum_by h (worker_view owner.old).taken ≡ sum_by h (worker_view owner.old).dealt) }
+{
+    owner.pop_as::<Gets>()
+}
+
+// One steal. One that must be tried again counts as none.
+pub fn steal_one(thief: &Thief, pass: &mut DequePass) -> Option<u32>
+    requires { IsPassOf (stealer_deque thief.now) pass.old × (0 < (view pass.old).parts) }
+    ensures same { IsPassOf (stealer_deque thief.now) pass.new }
+    ensures taken { IfSome result (λ x. Taken (view pass.old) (x ∷ []) (view pass.new)) }
+    ensures none { IfNone result (view pass.new ≡ view pass.old) }
+{
+    match thief.steal_as::<Steals>(pass) {
+        Steal::Success(x) => Some(x),
+        Steal::Empty => None,
+        Steal::Retry => None,
+    }
+}
+
+// Takes in a pass with all that it took.
+pub fn gather(owner: &mut Owner, pass: DequePass)
+    requires { IsPassOf (worker_deque owner.old) pass × (0 < (worker_view owner.old).parts) }
+    ensures same { (worker_deque owner.new ≡ worker_deque owner.old) × (worker_flavor owner.new ≡ worker_flavor owner.old) }
+    ensures view { worker_view owner.new ≡ share ((worker_view owner.old).parts + (view pass).parts) (worker_view owner.old).dealt ((worker_view owner.old).taken ++ (view pass).taken) }
+{
+    owner.absorb::<Parts>(pass);
+}
+
+/// Two owners of one deque have no more than all parts together. So there are no two whose parts are more.
+pub fn together(one: &mut Owner, mut two: Owner)
+    requires { (worker_deque two ≡ worker_deque one.old) × (0 < (worker_view one.old).parts) }
+    ensures { (worker_view one.old).parts + (worker_view two).parts ≤ 256 }
+{
+    let pass = two.another::<Whole>();
+    one.absorb::<Parts>(pass);
+    one.len_as::<Over>();
+}

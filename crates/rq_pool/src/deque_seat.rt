@@ -1,0 +1,104 @@
+//! A seat of a room of several.
+ghost use Rattle.std.specs.Prelude.{◌≡◌, ℕ, ◌≤◌, ◌<◌, ◌+◌, [], ◌∷◌, ◌++◌, length, IfSome, IfNone, map};
+ghost use Rattle.crossbeam_deque.specs.Handles.{worker_deque, worker_flavor, worker_view};
+
+use crate::deck::Deck;
+use crate::deque::{Owner, pop};
+use crate::deque_room::DequeRoom;
+use crate::source::Source;
+
+/// The seat's own deque, a source for each deque of the room, and what the seat has taken.
+#[derive(Drop)]
+pub struct DequeSeat {
+    pub number: usize,
+    pub owner: Owner,
+    pub sources: Vec<Source>,
+    pub taken: Vec<u32>,
+    ghost fifo: { worker_flavor owner ≡ 0 },
+}
+
+impl DequeSeat {
+    ghost use Rattle.rq_pool.specs.Ledger.{times_in, size};
+    ghost use Rattle.rq_pool.specs.Rooms.{IsDequeSeat, ids_of, lists_of};
+    ghost use Rattle.rq_pool.specs.Sources.{source_id, stolen};
+    ghost use Rattle.rq_pool.specs.Holdings.{Holds};
+
+    /// A number of its own deque, or else one that it steals.
+    pub fn take(&mut self, room: &DequeRoom) -> Option<u32>
+        requires seat { IsDequeSeat (ids_of room.now) self.old }
+        ensures seat { IsDequeSeat (ids_of room.now) self.new }
+        ensures some { IfSome result (λ x. self.new.taken.items ≡ self.old.taken.items ++ x ∷ []) }
+        ensures none { IfNone result (self.new.taken.items ≡ self.old.taken.items) }
+        ensures dealt { IfSome result (λ x. 0 < times_in x (lists_of room.now)) }
+        ensures fewer { IfSome result (λ _. length self.old.taken.items < size (lists_of room.now)) }
+    {
+        let Some(x) = self.next(room) else {
+            return None;
+        };
+        self.taken.push_reserved(x);
+        Some(x)
+    }
+
+    // The next number, before it is written down.
+    fn next(&mut self, room: &DequeRoom) -> Option<u32>
+        requires seat { IsDequeSeat (ids_of room.now) self.old }
+        ensures same { (self.new.taken ≡ self.old.taken) × (self.new.number ≡ self.old.number) }
+        ensures own { (worker_deque self.new.owner ≡ worker_deque self.old.owner) × ((worker_view self.new.owner).dealt ≡ (worker_view self.old.owner).dealt) }
+        ensures sources { map source_id self.new.sources.items ≡ map source_id self.old.sources.items }
+        ensures some { IfSome result (λ x. Holds (lists_of room.now) self.new.number (worker_view self.new.owner) (map stolen self.new.sources.items) (self.old.taken.items ++ x ∷ [])) }
+        ensures none { IfNone result (Holds (lists_of room.now) self.new.number (worker_view self.new.owner) (map stolen self.new.sources.items) self.old.taken.items) }
+    {
+        if let Some(x) = pop(&mut self.owner) {
+            return Some(x);
+        }
+        self.steal(room)
+    }
+
+    // One steal at each other seat in turn.
+    fn steal(&mut self, room: &DequeRoom) -> Option<u32>
+        requires sources { map source_id self.old.sources.items ≡ ids_of room.now }
+        requires holds { Holds (lists_of room.now) self.old.number (worker_view self.old.owner) (map stolen self.old.sources.items) self.old.taken.items }
+        ensures same { (self.new.taken ≡ self.old.taken) × (self.new.number ≡ self.old.number) × (self.new.owner ≡ self.old.owner) }
+        ensures sources { map source_id self.new.sources.items ≡ map source_id self.old.sources.items }
+        ensures some { IfSome result (λ x. Holds (lists_of room.now) self.new.number (worker_view self.new.owner) (map stolen self.new.sources.items) (self.old.taken.items ++ x ∷ [])) }
+        ensures none { IfNone result (Holds (lists_of room.now) self.new.number (worker_view self.new.owner) (map stolen self.new.sources.items) self.old.taken.items) }
+    {
+        for j in 0..self.sources.len() {
+            if j == self.number {
+                continue;
+            }
+            if let Some(x) = self.sources[j].steal() {
+                return Some(x);
+            }
+        }
+        None
+    }
+}
+
+impl DequeSeat {
+    ghost use Rattle.std.specs.Prelude.{All, sum_by};
+    ghost use Rattle.rq_pool.specs.Rooms.{IsDequeSeat};
+    ghost use Rattle.rq_pool.specs.Decks.{IsOpen, deck_id, filled, taken_weight};
+
+    /// Hands its deque and its passes in, and answers what it took. Of n seats, m did so before.
+    pub fn hand_in(self, decks: &mut [Deck], n: usize, m: usize) -> Vec<u32>
+        requires few { (n ≤ 64) × (m < n) }
+        requires seat { IsDequeSeat (map deck_id decks.old) self }
+        requires decks { All (IsOpen n m) decks.old × (length decks.old ≡ n) }
+        ensures taken { result ≡ self.taken }
+        ensures same { map deck_id decks.new ≡ map deck_id decks.old }
+        ensures decks { All (IsOpen n (m + 1)) decks.new }
+        ensures filled { sum_by filled decks.new ≡ sum_by filled decks.old + 1 }
+        ensures weight { (h : ℕ → ℕ) → sum_by (taken_weight h) decks.new ≡ sum_by (taken_weight h) decks.old + sum_by h self.taken.items }
+    {
+        let DequeSeat {
+            number,
+            owner,
+            sources,
+            taken,
+        } = self;
+        Deck::lay_all(decks, sources, n, m);
+        Deck::seat_at(decks, number, owner, n, m + 1);
+        taken
+    }
+}

@@ -1,0 +1,81 @@
+//! The room of one seat: a plain list, and no atomic step.
+ghost use Rattle.std.specs.Prelude.{◌≡◌, ◌≤◌, ◌<◌, ◌+◌, [], ◌∷◌, ◌++◌, length, IfOk, IfSome, IfNone, All, map, vec_len, vec_capacity};
+
+use crate::left::Left;
+use crate::seat::{Place, Seat};
+use std::alloc::{AllocError, Global};
+
+/// The list, and room for what its seat took.
+#[derive(Drop)]
+pub struct ListRoom {
+    pub list: Vec<u32>,
+    pub takens: Vec<Vec<u32>>,
+    ghost reserved: { (takens.items ≡ []) × (1 ≤ vec_capacity takens) },
+}
+
+/// What the seat has taken, which is the list so far.
+#[derive(Drop)]
+pub struct ListSeat {
+    pub taken: Vec<u32>,
+}
+
+impl ListSeat {
+    ghost use Rattle.rq_pool.specs.Ledger.{times};
+    ghost use Rattle.rq_pool.specs.Rooms.{IsListSeat};
+
+    /// The next number of the list.
+    pub fn take(&mut self, list: &[u32]) -> Option<u32>
+        requires seat { IsListSeat list.now self.old }
+        ensures seat { IsListSeat list.now self.new }
+        ensures some { IfSome result (λ x. self.new.taken.items ≡ self.old.taken.items ++ x ∷ []) }
+        ensures none { IfNone result (self.new.taken.items ≡ self.old.taken.items) }
+        ensures dealt { IfSome result (λ x. 0 < times x list.now) }
+        ensures fewer { IfSome result (λ _. length self.old.taken.items < length list.now) }
+        ensures alone { IfNone result (self.new.taken.items ≡ list.now) }
+    {
+        let place = self.taken.len();
+        if place < list.len() {
+            let x = list[place];
+            self.taken.push_reserved(x);
+            return Some(x);
+        }
+        None
+    }
+}
+
+impl ListRoom {
+    ghost use Rattle.rq_pool.specs.Ledger.{Ledger};
+    ghost use Rattle.rq_pool.specs.Rooms.{IsSeatAlone, taken_of, left_of, takens_of};
+
+    /// The room of this list, and its seat.
+    pub fn open(alloc: Global, list: Vec<u32>) -> Result<(ListRoom, Seat), AllocError>
+        ensures list { IfOk result (λ r. r.0.list.items ≡ list.items) }
+        ensures seat { IfOk result (λ r. IsSeatAlone list.items r.1 × (taken_of r.1 ≡ [])) }
+    {
+        let takens = Vec::with_capacity(alloc, 1)?;
+        let taken = Vec::with_capacity(alloc, list.len())?;
+        let seat = Seat {
+            place: Place::Alone(ListSeat { taken }),
+        };
+        Ok((ListRoom { list, takens }, seat))
+    }
+
+    /// What the seat has taken, and the rest of the list.
+    pub fn close(self, mut seats: Vec<Seat>) -> Left
+        requires seats { All (IsSeatAlone self.list.items) seats.items }
+        requires one { vec_len seats ≡ 1 }
+        ensures takens { takens_of result ≡ map taken_of seats.items }
+        ensures ledger { Ledger (self.list.items ∷ []) (takens_of result) (left_of result) }
+    {
+        let ListRoom { list, mut takens } = self;
+        let seat = seats.take_last();
+        let taken = seat.list_taken(list.as_slice());
+        let from = taken.len();
+        takens.push_reserved(taken);
+        Left {
+            numbers: list,
+            from,
+            takens,
+        }
+    }
+}

@@ -1,0 +1,90 @@
+//! The room, of one seat or of several.
+ghost use Rattle.std.specs.Prelude.{◌≡◌, ◌≤◌, ◌∷◌, [], length, IfOk, IfErr, All, map, vec_len, vec_items};
+ghost use Rattle.rq_record.specs.declared.fault.Fault.TheVariants.{Resources};
+
+use crate::deque_room::DequeRoom;
+use crate::left::Left;
+use crate::list_room::ListRoom;
+use crate::seat::Seat;
+use rq_record::Fault;
+use std::alloc::{AllocError, Global};
+
+/// Numbers for its seats to take. A room may be lent to threads, and each of its seats moved to one.
+#[derive(Drop)]
+pub struct Room {
+    pub(crate) body: Body,
+}
+
+/// Whether it has one seat: a plain list, without an atomic step, or a stealing deque for each seat.
+#[derive(Drop)]
+pub enum Body {
+    Single(ListRoom),
+    Several(DequeRoom),
+}
+
+impl Room {
+    ghost use Rattle.rq_pool.specs.Ledger.{size};
+    ghost use Rattle.rq_pool.specs.Rooms.{IsSeatOf, taken_of, deal_of, seats_of};
+
+    /// A room with a seat for each list, 1 to 64 of them, with at most 65,536 numbers in all. The same
+    /// number may stand more than once. All memory of the room and of its seats is taken here;
+    /// `Resources` where the host refuses it, and then the lists are dropped.
+    pub fn open(alloc: Global, mut lists: Vec<Vec<u32>>) -> Result<(Room, Vec<Seat>), Fault>
+        requires seats { (1 ≤ vec_len lists) × (vec_len lists ≤ 64) }
+        requires short { size (map vec_items lists.items) ≤ 65536 }
+        ensures deal { IfOk result (λ r. deal_of r.0 ≡ map vec_items lists.items) }
+        ensures count { IfOk result (λ r. (seats_of r.0 ≡ vec_len lists) × (vec_len r.1 ≡ vec_len lists)) }
+        ensures seats { IfOk result (λ r. All (IsSeatOf r.0) r.1.items) }
+        ensures fresh { IfOk result (λ r. All (λ s. taken_of s ≡ []) r.1.items) }
+        ensures refused { IfErr result (λ e. e ≡ Resources) }
+    {
+        if lists.len() == 1 {
+            return Ok(Room::single(alloc, lists.take_last())?);
+        }
+        let (room, seats) = DequeRoom::open(alloc, lists)?;
+        Ok((
+            Room {
+                body: Body::Several(room),
+            },
+            seats,
+        ))
+    }
+
+    // The room of one seat.
+    fn single(alloc: Global, list: Vec<u32>) -> Result<(Room, Vec<Seat>), AllocError>
+        ensures deal { IfOk result (λ r. deal_of r.0 ≡ list.items ∷ []) }
+        ensures count { IfOk result (λ r. (seats_of r.0 ≡ 1) × (vec_len r.1 ≡ 1)) }
+        ensures seats { IfOk result (λ r. All (IsSeatOf r.0) r.1.items) }
+        ensures fresh { IfOk result (λ r. All (λ s. taken_of s ≡ []) r.1.items) }
+    {
+        let mut seats = Vec::with_capacity(alloc, 1)?;
+        let (room, seat) = ListRoom::open(alloc, list)?;
+        seats.push_reserved(seat);
+        Ok((
+            Room {
+                body: Body::Single(room),
+            },
+            seats,
+        ))
+    }
+}
+
+impl Room {
+    ghost use Rattle.rq_pool.specs.Ledger.{Ledger};
+    ghost use Rattle.rq_pool.specs.Rooms.{IsSeatOf, taken_of, deal_of, seats_of, left_of, takens_of};
+
+    /// What the seats have taken, in the order in which they are handed in, and what is left. Together
+    /// these hold each number as often as the deal does. The seats are those of this room, all of them,
+    /// in any order. It takes no memory and waits for nobody.
+    pub fn close(self, seats: Vec<Seat>) -> Left
+        requires seats { All (IsSeatOf self) seats.items }
+        requires all { vec_len seats ≡ seats_of self }
+        ensures takens { takens_of result ≡ map taken_of seats.items }
+        ensures ledger { Ledger (deal_of self) (takens_of result) (left_of result) }
+    {
+        match self.body {
+            Body::Single(room) => room.close(seats),
+            Body::Several(room) => room.close(seats),
+        }
+    }
+}
