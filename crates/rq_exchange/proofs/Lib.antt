@@ -1,0 +1,10 @@
+pub mod Arriving
+pub mod Boards
+pub mod Cases
+pub mod Counting
+pub mod Errors
+pub mod Merging
+pub mod Pouring
+pub mod Replays
+pub mod Sources
+pub mod Working

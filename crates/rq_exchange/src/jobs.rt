@@ -1,0 +1,94 @@
+//! What the redo of each queue is made from.
+
+ghost use Rattle.std.specs.Prelude.{◌≡◌, ◌<◌, ℕ, List, length, map, All, IfOk, IfErr};
+ghost use Rattle.rq_model.specs.Records.{Record as ModelRecord};
+ghost use Rattle.rq_model.specs.Queues as queues;
+ghost use Rattle.rq_record.specs.Views.{record_of};
+ghost use Rattle.rq_record.specs.declared.fault.Fault.TheVariants.{Resources};
+ghost use Rattle.rq_state.specs.Orders.{listed};
+ghost use Rattle.rq_catalog.specs.Analyses.{op_again};
+ghost use Rattle.rq_exchange.specs.Boards.{IsDone};
+ghost use Rattle.rq_exchange.specs.Jobs.{IsJob, IsKnown, records_of};
+
+use crate::arrivals::arrivals_of;
+use crate::board::Done;
+use crate::definitions::copied;
+use rq_catalog::Analysis;
+use rq_queue::{Move, Op, Part, redo};
+use rq_record::{Fault, QueueNo, Record};
+use rq_state::{Definition, State};
+use std::alloc::Global;
+
+/// The state, the lawful records behind it, and what these say of each queue.
+#[derive(Drop)]
+pub(crate) struct Job<'a> {
+    pub state: &'a State,
+    pub records: &'a [Record],
+    pub analysis: &'a Analysis,
+    pub definitions: &'a [Definition],
+    pub sources: &'a [Vec<u32>],
+}
+
+/// The operations at these places and indices.
+fn ops_of<'a>(
+    alloc: Global,
+    records: &'a [Record],
+    touching: &[(u64, usize)],
+) -> Result<Vec<Op<'a>>, Fault>
+    requires { All (λ p. p.1 < length records.now) touching.now }
+    ensures ops { IfOk result (λ v. (d : ModelRecord) → v.items ≡ map (op_again (map record_of records.now) d) touching.now) }
+    ensures refused { IfErr result (λ e. e ≡ Resources) }
+{
+    let mut ops = Vec::with_capacity(alloc, touching.len())?;
+    for (place, index) in touching {
+        ops.push(Op {
+            place: *place,
+            rec: &records[*index],
+        })?;
+    }
+    Ok(ops)
+}
+
+impl Job<'_> {
+    /// The queues whose error queue this is.
+    pub(crate) fn sources_of(&self, queue: u32) -> &[u32]
+        ensures { result.now ≡ listed self.now.sources.now queue }
+    {
+        match self.sources.get(queue as usize) {
+            Some(sources) => sources,
+            None => &[],
+        }
+    }
+
+    /// The part of the queue before the records; that of a queue which they define is empty.
+    fn part_before(&self, alloc: Global, queue: u32) -> Result<Part, Fault>
+        requires job { IsJob self.now }
+        requires defined { queue < length self.now.definitions.now }
+        ensures part { IfOk result (λ p. p ≡ queues.part_of (queues.with_definitions self.now.state.now (records_of self.now)) queue) }
+        ensures refused { IfErr result (λ e. e ≡ Resources) }
+    {
+        if (queue as usize) < self.state.definition_count() {
+            return Part::of(alloc, self.state, QueueNo(queue));
+        }
+        let definition = copied(&self.definitions[queue as usize]);
+        Ok(Part::new(alloc, QueueNo(queue), definition))
+    }
+
+    /// Redoes the queue, with what has left its sources.
+    pub(crate) fn redo(&self, alloc: Global, moves: &[Vec<Move>], queue: u32) -> Result<Done, Fault>
+        requires job { IsJob self.now }
+        requires known { IsKnown self.now moves.now queue }
+        ensures queue { IfOk result (λ d. d.queue ≡ queue) }
+        ensures done { IfOk result (IsDone self.now.state.now (records_of self.now) (length self.now.definitions.now)) }
+        ensures refused { IfErr result (λ e. e ≡ Resources) }
+    {
+        rq_catalog::indices();
+        rq_model::arrivals_are_merged();
+        rq_model::moves_rise();
+        let arrivals = arrivals_of(alloc, self.sources_of(queue), moves)?;
+        let ops = ops_of(alloc, self.records, self.analysis.touching(QueueNo(queue)))?;
+        let before = self.part_before(alloc, queue)?;
+        let (part, moves) = redo(alloc, before, &ops, arrivals)?;
+        Ok(Done { queue, part, moves })
+    }
+}
