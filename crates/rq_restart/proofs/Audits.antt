@@ -1,0 +1,210 @@
+-- What is found on the way through the front is its audit.
+use Rattle.std.proofs.Common.{◌≡◌, ℕ, ◌+◌, ◌<◌, ◌≤◌, Bool, true, false, List, [], ◌∷◌, ◌++◌, length, refl, sym, ap, subst, ◌∙◌, arith, inl, inr}
+use Rattle.std.specs.Prelude.{◌↔◌}
+use Rattle.std.specs.Str.{bytes_eq}
+use Rattle.std.specs.List.{AllByRecursion}
+use Rattle.std.proofs.lemmas.List.{length-append}
+use Rattle.std.proofs.lemmas.Slice.Eq.{bytes_eq-Decides}
+use Rattle.rq_model.specs.Records.{Record, Define, Register, Deregister, Begin, Enqueue, Dequeue, Commit, Abort, Checkpoint, Kill, Version, One}
+use Rattle.rq_model.specs.Spelling.{body_of, IsRecord}
+use Rattle.rq_model.specs.Frames.{IsBodyLength, frame, digest, frames_of, log_of, magic, start, header}
+use Rattle.rq_model.specs.States.{State, empty}
+use Rattle.rq_model.specs.Machine.{step, run}
+use Rattle.rq_model.specs.WellFormed.{IsIn, Ordered}
+use Rattle.rq_model.specs.StateSpelling.{state_bytes}
+use Rattle.rq_model.specs.Fronts.{IsFront}
+use Rattle.rq_model.specs.Checkpoints.{Audited, HasCheckpoint, TrueAt, IsAudit}
+use Rattle.rq_model.specs.LogLaws.{OneFront, LogEnds, FrameIsRight, RecordHasOneBody}
+use Rattle.rq_restart.specs.Audits.{audit_of, audits, past}
+use Rattle.rq_restart.proofs.Chains.{frame_long}
+
+abbrev audit_at : State → ℕ → List Record → List ℕ → Audited
+audit_at s at rs kept = record { offset = past at rs; truth = bytes_eq kept (state_bytes (run s rs)) }
+
+past_grows : (at : ℕ) (rs : List Record) → at ≤ past at rs
+past_grows at [] = omega arith
+past_grows at (r ∷ rs) = let more = past_grows (at + 36 + length (body_of r)) rs in omega (arith, more)
+
+-- one of those found is a checkpoint among the records
+record IsFound (s : State) (at : ℕ) (rs : List Record) (x : Audited) : Type 0 where
+  pub before : List Record
+  pub kept : List ℕ
+  pub after : List Record
+  pub whole : rs ≡ before ++ Checkpoint kept ∷ after
+  pub is : x ≡ audit_at s at before kept
+
+later : (s : State) (at : ℕ) (r : Record) (rs : List Record) (x : Audited) → IsFound (step s r) (at + 36 + length (body_of r)) rs x → IsFound s at (r ∷ rs) x
+later s at r rs x f = record { before = r ∷ f.before; kept = f.kept; after = f.after; whole = ap (λ (qs : List Record). r ∷ qs) f.whole; is = f.is }
+
+found : (s : State) (at : ℕ) (rs : List Record) (x : Audited) → IsIn x (audits s at rs) → IsFound s at rs x
+found s at [] x h = absurd h
+found s at (Checkpoint kept ∷ rs) x h = elim h [
+  | inl is ↦ record { before = []; kept = kept; after = rs; whole = refl; is = is }
+  | inr more ↦ later s at (Checkpoint kept) rs x (found (step s (Checkpoint kept)) (at + 36 + length (body_of (Checkpoint kept))) rs x more)
+]
+found s at (Define limit error name ∷ rs) x h = later s at (Define limit error name) rs x (found _ _ rs x h)
+found s at (Register queue name ∷ rs) x h = later s at (Register queue name) rs x (found _ _ rs x h)
+found s at (Deregister queue name ∷ rs) x h = later s at (Deregister queue name) rs x (found _ _ rs x h)
+found s at (Begin unit ∷ rs) x h = later s at (Begin unit) rs x (found _ _ rs x h)
+found s at (Enqueue unit queue priority by payload ∷ rs) x h = later s at (Enqueue unit queue priority by payload) rs x (found _ _ rs x h)
+found s at (Dequeue unit queue by ∷ rs) x h = later s at (Dequeue unit queue by) rs x (found _ _ rs x h)
+found s at (Commit unit ∷ rs) x h = later s at (Commit unit) rs x (found _ _ rs x h)
+found s at (Abort unit ∷ rs) x h = later s at (Abort unit) rs x (found _ _ rs x h)
+found s at (Kill queue element ∷ rs) x h = later s at (Kill queue element) rs x (found _ _ rs x h)
+
+in_behind : (x : Audited) (xs ys : List Audited) → IsIn x ys → IsIn x (xs ++ ys)
+in_behind x [] ys h = h
+in_behind x (y ∷ xs) ys h = inr (in_behind x xs ys h)
+
+-- each checkpoint among the records is found
+pub audits_have : (s : State) (at : ℕ) (before : List Record) (kept : List ℕ) (after : List Record) → IsIn (audit_at s at before kept) (audits s at (before ++ Checkpoint kept ∷ after))
+audits_have s at [] kept after = inl refl
+audits_have s at (r ∷ before) kept after = in_behind _ (audit_of s at r) _ (audits_have (step s r) (at + 36 + length (body_of r)) before kept after)
+
+-- they rise
+from_place : (s : State) (at low : ℕ) (rs : List Record) → low < at → AllByRecursion (λ x. low < x.offset) (audits s at rs)
+from_place s at low [] h = tt
+from_place s at low (Checkpoint kept ∷ rs) h = (h, from_place (step s (Checkpoint kept)) (at + 36 + length (body_of (Checkpoint kept))) low rs (omega (arith, h)))
+from_place s at low (Define limit error name ∷ rs) h = from_place _ _ low rs (omega (arith, h))
+from_place s at low (Register queue name ∷ rs) h = from_place _ _ low rs (omega (arith, h))
+from_place s at low (Deregister queue name ∷ rs) h = from_place _ _ low rs (omega (arith, h))
+from_place s at low (Begin unit ∷ rs) h = from_place _ _ low rs (omega (arith, h))
+from_place s at low (Enqueue unit queue priority by payload ∷ rs) h = from_place _ _ low rs (omega (arith, h))
+from_place s at low (Dequeue unit queue by ∷ rs) h = from_place _ _ low rs (omega (arith, h))
+from_place s at low (Commit unit ∷ rs) h = from_place _ _ low rs (omega (arith, h))
+from_place s at low (Abort unit ∷ rs) h = from_place _ _ low rs (omega (arith, h))
+from_place s at low (Kill queue element ∷ rs) h = from_place _ _ low rs (omega (arith, h))
+
+rises : (s : State) (at : ℕ) (rs : List Record) → Ordered (λ x y. x.offset < y.offset) (audits s at rs)
+rises s at [] = tt
+rises s at (Checkpoint kept ∷ rs) =
+    (from_place (step s (Checkpoint kept)) (at + 36 + length (body_of (Checkpoint kept))) at rs (omega arith), rises (step s (Checkpoint kept)) (at + 36 + length (body_of (Checkpoint kept))) rs)
+rises s at (Define limit error name ∷ rs) = rises _ _ rs
+rises s at (Register queue name ∷ rs) = rises _ _ rs
+rises s at (Deregister queue name ∷ rs) = rises _ _ rs
+rises s at (Begin unit ∷ rs) = rises _ _ rs
+rises s at (Enqueue unit queue priority by payload ∷ rs) = rises _ _ rs
+rises s at (Dequeue unit queue by ∷ rs) = rises _ _ rs
+rises s at (Commit unit ∷ rs) = rises _ _ rs
+rises s at (Abort unit ∷ rs) = rises _ _ rs
+rises s at (Kill queue element ∷ rs) = rises _ _ rs
+
+-- a record at a place of the records is the only one
+same_split : (at : ℕ) (xs ys as' bs : List Record) (r q : Record) → xs ++ r ∷ as' ≡ ys ++ q ∷ bs → past at xs ≡ past at ys → (xs ≡ ys) × (r ≡ q)
+same_split at [] [] as' bs r q e p = (refl, ap (head_or r) e)
+  where
+    head_or : Record → List Record → Record
+    head_or d [] = d
+    head_or d (x ∷ xs) = x
+same_split at [] (y ∷ ys) as' bs r q e p = absurd (let more = past_grows (at + 36 + length (body_of y)) ys in omega (arith, p, more))
+same_split at (x ∷ xs) [] as' bs r q e p = absurd (let more = past_grows (at + 36 + length (body_of x)) xs in omega (arith, p, more))
+same_split at (x ∷ xs) (y ∷ ys) as' bs r q e p =
+    let first : x ≡ y = ap (head_or x) e in
+    let rest : xs ++ r ∷ as' ≡ ys ++ q ∷ bs = ap tail_of e in
+    let place : past (at + 36 + length (body_of x)) xs ≡ past (at + 36 + length (body_of x)) ys = p ∙ ap (λ (z : Record). past (at + 36 + length (body_of z)) ys) (sym first) in
+    let more = same_split (at + 36 + length (body_of x)) xs ys as' bs r q rest place in
+    (λ i. first i ∷ more.0 i, more.1)
+  where
+    head_or : Record → List Record → Record
+    head_or d [] = d
+    head_or d (x ∷ xs) = x
+
+    tail_of : List Record → List Record
+    tail_of [] = []
+    tail_of (x ∷ xs) = xs
+
+-- The place of a record is the length of the log before it.
+
+frames_size : FrameIsRight → RecordHasOneBody → (p : List ℕ) (at : ℕ) (rs : List Record) → AllByRecursion (IsRecord One) rs → length (frames_of p rs) + at ≡ past at rs
+frames_size right one p at [] h = omega arith
+frames_size right one p at (r ∷ rs) h =
+    let body = body_of r in
+    let fits : IsBodyLength (length body) = (one One r body body (h.0, refl) (h.0, refl)).1 in
+    let more = frames_size right one (digest p body) (at + 36 + length body) rs h.1 in
+    omega (arith, more, frame_long right p body fits, length-append (frame p body) (frames_of (digest p body) rs))
+
+log_size : FrameIsRight → RecordHasOneBody → LogEnds → (rs : List Record) → AllByRecursion (IsRecord One) rs → length (log_of One rs) ≡ past 40 rs
+log_size right one ends rs h =
+    let size : length (start One) ≡ 32 = (ends One []).2 in
+    omega (arith, size, length-append (magic One) (start One), length-append (header One) (frames_of (start One) rs), frames_size right one (start One) 40 rs h)
+
+each_front : (xs ys : List Record) → AllByRecursion (IsRecord One) (xs ++ ys) → AllByRecursion (IsRecord One) xs
+each_front [] ys h = tt
+each_front (x ∷ xs) ys h = (h.0, each_front xs ys h.1)
+
+-- what the audit rests on
+pub record AuditLaws : Type 0 where
+  pub right : FrameIsRight
+  pub body : RecordHasOneBody
+  pub ends : LogEnds
+  pub front : OneFront
+
+-- a checkpoint of the front stands where it is found
+stands : AuditLaws → (b : List ℕ) (rs : List Record) (rest : List ℕ) (before : List Record) (kept : List ℕ) (after : List Record) → IsFront b One rs rest → rs ≡ before ++ Checkpoint kept ∷ after → HasCheckpoint b (past 40 before) before kept
+stands laws b rs rest before kept after front is =
+    let here : IsFront b One (before ++ Checkpoint kept ∷ after) rest = subst (λ (qs : List Record). IsFront b One qs rest) is front in
+    record {
+      version = One;
+      after = after;
+      rest = rest;
+      front = here;
+      there = sym (log_size laws.right laws.body laws.ends before (each_front before (Checkpoint kept ∷ after) here.longest.begins.records));
+    }
+
+-- and is the only one that stands there
+only : AuditLaws → (b : List ℕ) (rs : List Record) (rest : List ℕ) (before : List Record) (kept : List ℕ) (after : List Record) (offset : ℕ) (records : List Record) (other : List ℕ) → IsFront b One rs rest
+    → rs ≡ before ++ Checkpoint kept ∷ after → offset ≡ past 40 before → HasCheckpoint b offset records other → (records ≡ before) × (other ≡ kept)
+only laws b rs rest before kept after offset records other front is place h =
+    let one = laws.front b h.version One (records ++ Checkpoint other ∷ h.after) rs h.rest rest h.front front in
+    let again : IsFront b One (records ++ Checkpoint other ∷ h.after) h.rest = subst (λ (v : Version). IsFront b v (records ++ Checkpoint other ∷ h.after) h.rest) one.0 h.front in
+    let size : length (log_of One records) ≡ past 40 records = log_size laws.right laws.body laws.ends records (each_front records (Checkpoint other ∷ h.after) again.longest.begins.records) in
+    let same : past 40 records ≡ past 40 before = sym size ∙ ap (λ (v : Version). length (log_of v records)) (sym one.0) ∙ sym h.there ∙ place in
+    let both = same_split 40 records before h.after after (Checkpoint other) (Checkpoint kept) (one.1 ∙ is) same in
+    (both.0, ap kept_or both.1)
+  where
+    kept_or : Record → List ℕ
+    kept_or (Checkpoint bytes) = bytes
+    kept_or r = []
+
+-- the test of a checkpoint tells whether it is true
+tells : AuditLaws → (b : List ℕ) (rs : List Record) (rest : List ℕ) (before : List Record) (kept : List ℕ) (after : List Record) (offset : ℕ) → IsFront b One rs rest → rs ≡ before ++ Checkpoint kept ∷ after → offset ≡ past 40 before
+    → (bytes_eq kept (state_bytes (run empty before)) ≡ true) ↔ TrueAt b offset
+tells laws b rs rest before kept after offset front is place = (
+  λ t. (before, kept, subst (λ (n : ℕ). HasCheckpoint b n before kept) (sym place) (stands laws b rs rest before kept after front is), (bytes_eq-Decides kept (state_bytes (run empty before))).0 t),
+  λ t. (let same = only laws b rs rest before kept after offset t.0 t.1 front is place t.2 in
+      let spelled : kept ≡ state_bytes (run empty before) = sym same.1 ∙ t.3 ∙ ap (λ (qs : List Record). state_bytes (run empty qs)) same.0 in
+      (bytes_eq-Decides kept (state_bytes (run empty before))).1 spelled),
+)
+
+same_truth : (a c : Bool) (P : Type 0) → (a ≡ true) ↔ P → (c ≡ true) ↔ P → a ≡ c
+same_truth true true P x y = refl
+same_truth true false P x y = sym (y.1 (x.0 refl))
+same_truth false true P x y = x.1 (y.0 refl)
+same_truth false false P x y = refl
+
+pub is_audit : AuditLaws → (b : List ℕ) (rs : List Record) (rest : List ℕ) → IsFront b One rs rest → IsAudit b (audits empty 40 rs)
+is_audit laws b rs rest front = record {
+  rising = rises empty 40 rs;
+  exact = λ x. (to x, from x);
+}
+  where
+    to : (x : Audited) → IsIn x (audits empty 40 rs) → (records : List Record) × (kept : List ℕ) × HasCheckpoint b x.offset records kept × ((x.truth ≡ true) ↔ TrueAt b x.offset)
+    to x h =
+        let f = found empty 40 rs x h in
+        let place : x.offset ≡ past 40 f.before = ap (λ (a : Audited). a.offset) f.is in
+        let truth : x.truth ≡ bytes_eq f.kept (state_bytes (run empty f.before)) = ap (λ (a : Audited). a.truth) f.is in (
+          f.before,
+          f.kept,
+          subst (λ (n : ℕ). HasCheckpoint b n f.before f.kept) (sym place) (stands laws b rs rest f.before f.kept f.after front f.whole),
+          subst (λ (t : Bool). (t ≡ true) ↔ TrueAt b x.offset) (sym truth) (tells laws b rs rest f.before f.kept f.after x.offset front f.whole place),
+        )
+
+    from : (x : Audited) → (records : List Record) × (kept : List ℕ) × HasCheckpoint b x.offset records kept × ((x.truth ≡ true) ↔ TrueAt b x.offset) → IsIn x (audits empty 40 rs)
+    from x h =
+        let one = laws.front b h.2.version One (h.0 ++ Checkpoint h.1 ∷ h.2.after) rs h.2.rest rest h.2.front front in
+        let again : IsFront b One (h.0 ++ Checkpoint h.1 ∷ h.2.after) h.2.rest = subst (λ (v : Version). IsFront b v (h.0 ++ Checkpoint h.1 ∷ h.2.after) h.2.rest) one.0 h.2.front in
+        let size : length (log_of One h.0) ≡ past 40 h.0 = log_size laws.right laws.body laws.ends h.0 (each_front h.0 (Checkpoint h.1 ∷ h.2.after) again.longest.begins.records) in
+        let place : x.offset ≡ past 40 h.0 = h.2.there ∙ ap (λ (v : Version). length (log_of v h.0)) one.0 ∙ size in
+        let truth : x.truth ≡ bytes_eq h.1 (state_bytes (run empty h.0)) = same_truth x.truth (bytes_eq h.1 (state_bytes (run empty h.0))) (TrueAt b x.offset) h.3 (tells laws b rs rest h.0 h.1 h.2.after x.offset front (sym one.1) place) in
+        let same : audit_at empty 40 h.0 h.1 ≡ x = λ i. record { offset = sym place i; truth = sym truth i } in
+        subst (λ (a : Audited). IsIn a (audits empty 40 rs)) same (subst (λ (qs : List Record). IsIn (audit_at empty 40 h.0 h.1) (audits empty 40 qs)) one.1 (audits_have empty 40 h.0 h.1 h.2.after))

@@ -1,0 +1,67 @@
+use Rattle.std.proofs.Common.{◌≡◌, ℕ, ◌-◌, ◌≤◌, ◌<◌, List, length, map, take, drop, ap, ◌∙◌, arith}
+use Rattle.std.specs.Prelude.{slice_index_or}
+use Rattle.std.specs.Str.{bytes_eq}
+use Rattle.std.proofs.lemmas.List.{length-map, length-take, length-drop}
+use Rattle.rq_model.specs.States.{empty}
+use Rattle.rq_model.specs.Machine.{run}
+use Rattle.rq_model.specs.StateSpelling.{state_bytes}
+use Rattle.rq_record.specs.Views.{record_of}
+use Rattle.rq_front.specs.declared.spans.Span.{Span}
+use Rattle.rq_restart.specs.Audits.{audited_of}
+use Rattle.rq_restart.proofs.Walks.{next_at, lawful_between, run_between, walk_past, found_next}
+use Rattle.rq_restart.proofs.auditing.visit.Goals as goal
+
+pub returns-in_default : goal.returns-in_default
+returns-in_default g c = record {
+  walk = walk_past c.args.records.now c.args.place c.index-records-place.result c.args.walk c.requires.there c.index-records-place.is c.in_default.not-Checkpoint c.requires.walk;
+  refused = tt;
+}
+
+pub replay-requires-clause-lawful : goal.replay-requires-clause-lawful
+replay-requires-clause-lawful g c κs within = lawful_between c.args.records.now c.args.walk.from c.args.place c.args.walk.state c.requires.walk.within c.requires.walk.state c.requires.lawful
+
+pub replay-requires-clause-fits : goal.replay-requires-clause-fits
+replay-requires-clause-fits g c κs within =
+    let records = c.args.records.now in
+    let w = c.args.walk in
+    let few : w.from ≤ length (map record_of records) = omega (arith, c.requires.there, c.requires.walk.within, length-map records record_of) in
+    let next : w.state.next ≡ w.from = next_at (map record_of records) w.from w.state few c.requires.walk.state in
+    omega (arith, next, c.requires.there, c.requires.walk.within, c.requires.few, length-take (c.args.place - w.from) (drop w.from records), length-drop w.from records)
+
+pub is_spelled-requires-clause-next : goal.is_spelled-requires-clause-next
+is_spelled-requires-clause-next g c =
+    let records = c.args.records.now in
+    let few : c.args.place ≤ length (map record_of records) = omega (arith, c.requires.there, length-map records record_of) in
+    let state : c.in_ok-state.state ≡ run empty (take c.args.place (map record_of records)) =
+    c.in_ok-state.ensures.state ∙ run_between records c.args.walk.from c.args.place c.args.walk.state c.requires.walk.within c.requires.walk.state in
+    let next : c.in_ok-state.state.next ≡ c.args.place = next_at (map record_of records) c.args.place c.in_ok-state.state few state in
+    omega (arith, next, c.requires.there, c.requires.few)
+
+pub bounds-spans-place : goal.bounds-spans-place
+bounds-spans-place g c =
+    let few : c.args.place < length (map record_of c.args.records.now) = omega (arith, c.requires.there, length-map c.args.records.now record_of) in
+    (c.requires.spans c.args.place few).0
+
+pub overflow_sub-spans : goal.overflow_sub-spans
+overflow_sub-spans g c =
+    let few : c.args.place < length (map record_of c.args.records.now) = omega (arith, c.requires.there, length-map c.args.records.now record_of) in
+    let none : Span = record { start = 0; len = 0 } in
+    let start = (c.requires.spans c.args.place few).1 none in
+    omega (arith, start)
+
+pub returns-clause-walk : goal.returns-clause-walk
+returns-clause-walk g c =
+    let records = c.args.records.now in
+    let few : c.args.place < length (map record_of records) = omega (arith, c.requires.there, length-map records record_of) in
+    let none : Span = record { start = 0; len = 0 } in
+    let state : c.in_ok-state.state ≡ run empty (take c.args.place (map record_of records)) =
+    c.in_ok-state.ensures.state ∙ run_between records c.args.walk.from c.args.place c.args.walk.state c.requires.walk.within c.requires.walk.state in
+    let test : c.in_ok-truth.truth ≡ bytes_eq c.in-Checkpoint.bytes (state_bytes c.in_ok-state.state) =
+    c.in_ok-truth.ensures.truth ∙ ap (λ (z : List ℕ). bytes_eq z (state_bytes c.in_ok-state.state)) c.bytes.ensures.bytes in
+    record {
+      within = omega arith;
+      state = state;
+      found = ap (map audited_of) c.in_ok-push.ensures.items
+          ∙ found_next records c.args.place c.index-records-place.result c.in-Checkpoint.bytes c.args.walk.found.items (slice_index_or c.args.spans.now c.args.place none).start c.in_ok-truth.truth c.in_ok-state.state
+          c.requires.there c.index-records-place.is c.in-Checkpoint.is c.requires.walk.found ((c.requires.spans c.args.place few).1 none) state test;
+    }

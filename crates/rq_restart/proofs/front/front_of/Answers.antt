@@ -1,0 +1,63 @@
+use Rattle.std.proofs.Common.{◌≡◌, ℕ, List, ◌++◌, length, map, ap, sym, subst, ◌∙◌, arith}
+use Rattle.std.proofs.lemmas.List.{length-map}
+use Rattle.rq_model.specs.Records.{One}
+use Rattle.rq_model.specs.Records as model
+use Rattle.rq_model.specs.Frames.{bodies_of}
+use Rattle.rq_model.specs.Machine.{run, lawful_front}
+use Rattle.rq_record.specs.declared.record.Record.{Record}
+use Rattle.rq_record.specs.Views.{record_of}
+use Rattle.rq_front.specs.declared.spans.Span.{Span}
+use Rattle.rq_front.specs.Chains.{bodies_at, rest_of}
+use Rattle.rq_catalog.specs.Analyses.{IsAnalysis}
+use Rattle.rq_restart.specs.Readings.{AreRead}
+use Rattle.rq_restart.specs.Ends.{IsFrontFrom, end_at}
+use Rattle.rq_restart.specs.Views.{why_of}
+use Rattle.rq_restart.proofs.Fronts.{front_from, bodies_kept}
+use Rattle.rq_restart.proofs.Parts.{kept_is}
+use Rattle.rq_restart.proofs.front.front_of.Goals as goal
+
+pub returns-clause-front : goal.returns-clause-front
+returns-clause-front c = λ place chain.
+    let b = c.args.bytes.now in
+    let s = c.args.state.now in
+    let found = c.args.found.now in
+    let all = c.in_ok-records.records.items in
+    let rs = map record_of all in
+    let analysis : IsAnalysis s rs c.in_ok-analysis.analysis = subst (λ (xs : List Record). IsAnalysis s (map record_of xs) c.in_ok-analysis.analysis) c.deref-2.ensures.value c.in_ok-analysis.ensures.analysis in
+    let count : c.lawful-kept.result ≡ length (lawful_front One s rs) = c.lawful-kept.ensures ∙ analysis.lawful in
+    let kept : map record_of c.truncate.new.self.items ≡ lawful_front One s rs = kept_is s all c.truncate.new.self.items c.lawful-kept.result c.truncate.ensures.items count in
+    let read : AreRead (bodies_at b found.spans.items) rs = subst (λ (ss : List Span). AreRead (bodies_at b ss) rs) c.deref.ensures.value c.in_ok-records.ensures.records in
+    let many : c.len.result ≡ length rs = omega (arith, c.len.ensures, c.in_ok-records.records.ok.0, length-map all record_of) in
+    let end : (c.end_of-end.result.0, why_of c.end_of-end.result.1) ≡ end_at found.spans.items found.end (rest_of found.rest) (length rs) (length (lawful_front One s rs)) =
+    c.end_of-end.ensures ∙ ap (λ (n : ℕ). end_at found.spans.items found.end (rest_of found.rest) n c.lawful-kept.result) many ∙ ap (end_at found.spans.items found.end (rest_of found.rest) (length rs)) count in
+    subst (λ (xs : List model.Record). IsFrontFrom s b place xs c.end_of-end.result.0 (why_of c.end_of-end.result.1)) (sym kept)
+    (front_from c.frames_are_right.ensures.right c.frames_join.ensures.frames c.one_front.ensures.from_run s b place found rs chain read (c.end_of-end.result.0, why_of c.end_of-end.result.1) end)
+
+pub returns-clause-bodies : goal.returns-clause-bodies
+returns-clause-bodies c =
+    let s = c.args.state.now in
+    let all = c.in_ok-records.records.items in
+    let rs = map record_of all in
+    let bodies = bodies_at c.args.bytes.now c.args.found.now.spans.items in
+    let analysis : IsAnalysis s rs c.in_ok-analysis.analysis = subst (λ (xs : List Record). IsAnalysis s (map record_of xs) c.in_ok-analysis.analysis) c.deref-2.ensures.value c.in_ok-analysis.ensures.analysis in
+    let kept = kept_is s all c.truncate.new.self.items c.lawful-kept.result c.truncate.ensures.items (c.lawful-kept.ensures ∙ analysis.lawful) in
+    let read : AreRead bodies rs = subst (λ (ss : List Span). AreRead (bodies_at c.args.bytes.now ss) rs) c.deref.ensures.value c.in_ok-records.ensures.records in
+    subst (λ (xs : List model.Record). (left : List (List ℕ)) × (bodies ≡ bodies_of xs ++ left)) (sym kept) (bodies_kept s bodies rs read)
+
+pub returns-clause-units : goal.returns-clause-units
+returns-clause-units c =
+    let s = c.args.state.now in
+    let all = c.in_ok-records.records.items in
+    let analysis : IsAnalysis s (map record_of all) c.in_ok-analysis.analysis = subst (λ (xs : List Record). IsAnalysis s (map record_of xs) c.in_ok-analysis.analysis) c.deref-2.ensures.value c.in_ok-analysis.ensures.analysis in
+    let kept = kept_is s all c.truncate.new.self.items c.lawful-kept.result c.truncate.ensures.items (c.lawful-kept.ensures ∙ analysis.lawful) in
+    c.in_ok-units.ensures.units ∙ analysis.units ∙ ap (λ (xs : List model.Record). (run s xs).units) (sym kept)
+
+pub returns-clause-counts : goal.returns-clause-counts
+returns-clause-counts c =
+    let s = c.args.state.now in
+    let all = c.in_ok-records.records.items in
+    let analysis : IsAnalysis s (map record_of all) c.in_ok-analysis.analysis = subst (λ (xs : List Record). IsAnalysis s (map record_of xs) c.in_ok-analysis.analysis) c.deref-2.ensures.value c.in_ok-analysis.ensures.analysis in
+    let kept = kept_is s all c.truncate.new.self.items c.lawful-kept.result c.truncate.ensures.items (c.lawful-kept.ensures ∙ analysis.lawful) in (
+      c.committed.ensures ∙ analysis.committed ∙ ap (λ (xs : List model.Record). (run s xs).committed) (sym kept),
+      c.aborted.ensures ∙ analysis.aborted ∙ ap (λ (xs : List model.Record). (run s xs).aborted) (sym kept),
+    )

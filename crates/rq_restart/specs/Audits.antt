@@ -1,0 +1,47 @@
+-- Which checkpoints are true, found on the way through the records.
+use Rattle.std.specs.Prelude.{◌≡◌, ℕ, ◌+◌, ◌≤◌, ◌<◌, Bool, List, [], ◌∷◌, ◌++◌, length, map, take, slice_index_or, Result, Ok, Err}
+use Rattle.std.specs.Str.{bytes_eq}
+use Rattle.std.specs.Global.{Vec}
+use Rattle.rq_model.specs.Records.{Record, Checkpoint}
+use Rattle.rq_model.specs.Spelling.{body_of}
+use Rattle.rq_model.specs.States.{State, empty}
+use Rattle.rq_model.specs.Machine.{step, run}
+use Rattle.rq_model.specs.StateSpelling.{state_bytes}
+use Rattle.rq_model.specs.Checkpoints.{Audited, IsAudit}
+use Rattle.rq_record.specs.declared.fault.Fault.{Fault}
+use Rattle.rq_front.specs.declared.spans.Span.{Span}
+use Rattle.rq_front.specs.Chains.{Refused}
+use Rattle.rq_restart.specs.declared.auditing.Walk.{Walk}
+
+-- a record whose frame stands at a place, in the state before it
+abbrev pub audit_of : State → ℕ → Record → List Audited
+audit_of s at (Checkpoint kept) = record { offset = at; truth = bytes_eq kept (state_bytes s) } ∷ []
+audit_of s at r = []
+
+-- records whose frames stand from a place on
+abbrev pub audits : State → ℕ → List Record → List Audited
+audits s at [] = []
+audits s at (r ∷ rs) = audit_of s at r ++ audits (step s r) (at + 36 + length (body_of r)) rs
+
+-- the place behind records whose frames stand from a place on
+abbrev pub past : ℕ → List Record → ℕ
+past at [] = at
+past at (r ∷ rs) = past (at + 36 + length (body_of r)) rs
+
+abbrev pub audited_of : ℕ × Bool → Audited
+audited_of x = record { offset = x.0; truth = x.1 }
+
+-- the spans of a chain behind the header, of which the first are those of the records
+abbrev pub StandAt : List Record → List Span → Type 0
+StandAt rs spans = (i : ℕ) → i < length rs → (i < length spans) × ((d : Span) → (slice_index_or spans i d).start ≡ past 40 (take i rs) + 4)
+
+-- how far an audit has come
+pub record IsWalk (rs : List Record) (i : ℕ) (w : Walk) : Type 0 where
+  pub within : w.from ≤ i
+  pub state : w.state ≡ run empty (take w.from rs)
+  pub found : map audited_of w.found.items ≡ audits empty 40 (take i rs)
+
+-- the audit of b, or why b is refused
+abbrev pub Audits : List ℕ → Result (Vec (ℕ × Bool)) Fault → Type 0
+Audits b (Ok v) = IsAudit b (map audited_of v.items)
+Audits b (Err e) = Refused b e

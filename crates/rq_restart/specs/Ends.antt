@@ -1,0 +1,35 @@
+-- Where lawful records end, and why, counted from a place of the log and a state.
+use Rattle.std.specs.Prelude.{◌≡◌, ℕ, ◌+◌, ◌-◌, ◌≤◌, nat_lt, Bool, if◌then◌else◌, All, List, length, drop, Option, Some, None, slice_get}
+use Rattle.rq_model.specs.Records.{Record, One}
+use Rattle.rq_model.specs.Frames as frames
+use Rattle.rq_model.specs.Frames.{log_limit, before, last_of, IsFrameRun}
+use Rattle.rq_model.specs.States.{State}
+use Rattle.rq_model.specs.Machine.{run}
+use Rattle.rq_model.specs.Fronts.{IsLongest, IsWhy, Why, Ends, Form, Law}
+use Rattle.rq_front.specs.declared.spans.Chain.{Chain}
+use Rattle.rq_front.specs.declared.spans.Span.{Span}
+use Rattle.rq_front.specs.Chains.{bodies_at, rest_of, spans_from}
+
+-- the chain of a log of lawful length, from a place on
+pub record IsChain (b : List ℕ) (place : ℕ) (c : Chain) : Type 0 where
+  pub short : length b ≤ log_limit
+  pub after : 40 ≤ place
+  pub within : place ≤ length b
+  pub run : IsFrameRun b place (bodies_at b c.spans.items) c.end (rest_of c.rest)
+  pub spans : c.spans.items ≡ spans_from place (bodies_at b c.spans.items)
+  pub inside : All (λ s. s.start + s.len ≤ length b) c.spans.items
+
+abbrev pub end_from : Option Span → ℕ → frames.Rest → Bool → ℕ × Why
+end_from None end rest more = (end, Ends rest)
+end_from (Some span) end rest more = (span.start - 4, if more then Law else Form)
+
+-- where the front ends, and why: behind so many frames of a chain, of which so many were read
+abbrev pub end_at : List Span → ℕ → frames.Rest → ℕ → ℕ → ℕ × Why
+end_at spans end rest read kept = end_from (slice_get spans kept) end rest (nat_lt kept read)
+
+-- the longest list of lawful records from a place of b and a state, where it ends, and why
+pub record IsFrontFrom (s : State) (b : List ℕ) (place : ℕ) (rs : List Record) (end : ℕ) (why : Why) : Type 0 where
+  pub within : end ≤ length b
+  pub few : place + length rs ≤ end
+  pub longest : IsLongest One s (before place b) (drop place b) rs (drop end b)
+  pub ends : IsWhy One (run s rs) (last_of (before place b) rs) (drop end b) why

@@ -1,0 +1,6 @@
+pub mod Views
+pub mod Readings
+pub mod Ends
+pub mod Restarts
+pub mod Checkpoints
+pub mod Audits

@@ -1,0 +1,18 @@
+-- How far the bodies of a chain are read.
+use Rattle.std.specs.Prelude.{◌≡◌, ℕ, ⊤, List, [], ◌∷◌, ◌++◌}
+use Rattle.std.specs.List.{AllByRecursion}
+use Rattle.rq_model.specs.Records.{Record, One}
+use Rattle.rq_model.specs.Spelling.{IsRecord, Spells}
+use Rattle.rq_model.specs.Frames.{bodies_of}
+
+-- no body, or a first one that spells no record
+abbrev pub SpellsNone : List (List ℕ) → Type 0
+SpellsNone [] = ⊤
+SpellsNone (body ∷ left) = (r : Record) → Spells One r body → ⊥
+
+-- the records that the bodies spell, one after the other, up to the first body that spells none
+pub record AreRead (bodies : List (List ℕ)) (rs : List Record) : Type 0 where
+  pub left : List (List ℕ)
+  pub records : AllByRecursion (IsRecord One) rs
+  pub spelled : bodies ≡ bodies_of rs ++ left
+  pub stops : SpellsNone left

@@ -1,0 +1,64 @@
+//! Where a restart begins that does not begin at the log's start.
+
+ghost use Rattle.std.specs.Prelude.{◌≡◌, ◌≤◌, ◌+◌, length, option_map, All};
+ghost use Rattle.rq_front.specs.Chains.{bodies_at};
+ghost use Rattle.rq_restart.specs.Checkpoints.{BeginsAt, kept_in, place_of};
+
+use rq_front::{Chain, Span, chain};
+use rq_pool::Plan;
+use rq_record::Fault;
+use rq_state::State;
+use std::alloc::Global;
+use std::marker::Sync;
+use std::thread::Threads;
+
+/// The chain from a checkpoint on, and the state that the checkpoint spells.
+#[derive(Drop)]
+pub(crate) struct Begun {
+    pub(crate) found: Chain,
+    pub(crate) state: State,
+}
+
+// What stands behind the kind of the first body, where that is a checkpoint's.
+fn kept_in<'a>(bytes: &'a [u8], spans: &[Span]) -> Option<&'a [u8]>
+    requires { All (λ s. s.start + s.len ≤ length bytes.now) spans.now }
+    ensures { option_map (λ kept. kept.now) result ≡ kept_in (bodies_at bytes.now spans.now) }
+{
+    let span = spans.first()?;
+    match &bytes[span.start..span.start + span.len] {
+        [9, kept @ ..] => Some(kept),
+        _ => None,
+    }
+}
+
+// The offset, where a frame may stand there; else the end of the bytes, where none stands.
+fn place_of(offset: u64, len: usize) -> usize
+    ensures { result ≡ place_of offset len }
+{
+    if 40 <= offset && offset <= len as u64 {
+        offset as usize
+    } else {
+        len.max(40)
+    }
+}
+
+/// The chain from an offset on, and the state that the checkpoint there spells.
+pub(crate) fn begin_at<R: Threads + Sync>(
+    rt: &R,
+    alloc: Global,
+    bytes: &[u8],
+    offset: u64,
+    plan: &Plan,
+) -> Result<Begun, Fault>
+    ensures { BeginsAt bytes.now offset result }
+{
+    rq_model::frames_are_right();
+    rq_model::frames_join();
+    let place = place_of(offset, bytes.len());
+    let found = chain(rt, alloc, bytes, place, plan.grain())?;
+    let Some(kept) = kept_in(bytes, &found.spans) else {
+        return Err(Fault::NoCheckpoint);
+    };
+    let state = rq_state::read(alloc, kept)?;
+    Ok(Begun { found, state })
+}

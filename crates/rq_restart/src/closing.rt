@@ -1,0 +1,77 @@
+//! The end of a restart: open units are aborted, and all is redone.
+
+ghost use Rattle.std.specs.Prelude.{◌≡◌, ◌≤◌, ◌-◌, ◌++◌, true, length, map, IfOk, IfErr, OnOk};
+ghost use Rattle.rq_model.specs.Records as model;
+ghost use Rattle.rq_model.specs.Records.{One};
+ghost use Rattle.rq_model.specs.Machine.{all_lawful, run};
+ghost use Rattle.rq_model.specs.WellFormed.{IsWellFormed};
+ghost use Rattle.rq_model.specs.Fronts.{restarted};
+ghost use Rattle.rq_record.specs.Views.{record_of};
+ghost use Rattle.rq_record.specs.declared.fault.Fault.TheVariants.{Resources};
+ghost use Rattle.rq_state.specs.Views.{unit_of};
+ghost use Rattle.rq_restart.specs.Views.{why_of};
+
+use crate::front::Front;
+use crate::restarted::Restarted;
+use rq_exchange::replay;
+use rq_pool::{Gate, Plan};
+use rq_record::{Fault, Record, UnitNo};
+use rq_state::State;
+use std::alloc::Global;
+use std::marker::Sync;
+use std::thread::Threads;
+
+// Puts the ABORT of each unit behind the records.
+fn append_aborts(records: &mut Vec<Record>, units: &[UnitNo]) -> Result<(), Fault>
+    ensures records { OnOk result (map record_of records.new.items ≡ map record_of records.old.items ++ map model.Abort (map unit_of units.now)) }
+    ensures refused { IfErr result (λ e. e ≡ Resources) }
+{
+    records.reserve(units.len())?;
+    for unit in units {
+        records.push(Record::Abort { unit: *unit })?;
+    }
+    Ok(())
+}
+
+/// What a restart answers of a front that begins in the state and ends at a place of `total` bytes: its open
+/// units are aborted, rising, and records and aborts are redone together. The counts are those before these aborts.
+pub(crate) fn close<R, G>(
+    rt: &R,
+    alloc: Global,
+    state: &State,
+    mut front: Front,
+    total: usize,
+    plan: &Plan,
+    gate: &G,
+) -> Result<Restarted, Fault>
+where
+    R: Threads + Sync,
+    G: Gate + Sync,
+    requires well { IsWellFormed state.now }
+    requires next { state.now.next ≤ 4294967295 }
+    requires few { length front.records.items ≤ 4294967295 }
+    requires within { front.end ≤ total }
+    requires lawful { all_lawful One state.now (map record_of front.records.items) ≡ true }
+    requires units { map unit_of front.units.items ≡ (run state.now (map record_of front.records.items)).units }
+    requires counts { (front.committed ≡ (run state.now (map record_of front.records.items)).committed) × (front.aborted ≡ (run state.now (map record_of front.records.items)).aborted) }
+    ensures answer { IfOk result (λ r. r ≡ restarted (run state.now (map record_of front.records.items)) (total - front.end) total (why_of front.why)) }
+    ensures refused { IfErr result (λ e. e ≡ Resources) }
+{
+    rq_model::runs_are_well_formed();
+    rq_model::numbers_after();
+    rq_model::crash_is_harmless();
+    let records = state.next() + front.records.len() as u64;
+    let cut_off = front.units.len() as u64;
+    append_aborts(&mut front.records, &front.units)?;
+    let state = replay(rt, alloc, state, &front.records, plan, gate)?;
+    Ok(Restarted {
+        state,
+        records,
+        used: front.end as u64,
+        total: total as u64,
+        why: front.why,
+        committed: front.committed,
+        aborted: front.aborted,
+        cut_off,
+    })
+}

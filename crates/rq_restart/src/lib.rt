@@ -1,0 +1,18 @@
+//! Restart of a recoverable queue manager's log: the front of the log, and the state behind it.
+#![tactic(auto)]
+
+mod auditing;
+mod checkpoint;
+mod closing;
+mod front;
+mod reading;
+mod restarted;
+mod restarting;
+mod restarting_at;
+
+pub use auditing::audit;
+pub use restarted::{Restarted, Why};
+pub use restarting::{front_state, restart};
+pub use restarting_at::restart_at;
+pub use rq_pool::{Gate, Open, Plan};
+pub use rq_record::Fault;

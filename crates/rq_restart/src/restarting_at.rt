@@ -1,0 +1,36 @@
+//! The restart of a log from a checkpoint.
+
+ghost use Rattle.rq_restart.specs.Restarts.{RestartsAt};
+
+use crate::checkpoint::begin_at;
+use crate::closing::close;
+use crate::front::front_of;
+use crate::restarted::Restarted;
+use rq_pool::{Gate, Plan};
+use rq_record::Fault;
+use std::alloc::Global;
+use std::marker::Sync;
+use std::thread::Threads;
+
+/// The restart of a log that begins with the checkpoint at an offset, in the state that it spells, and goes on with the
+/// longest run of lawful records from there. From a true checkpoint it is the restart of the log.
+///
+/// Refuses with `NoCheckpoint` where the offset is below 40 or no frame with the right digest and kind 9 starts there, with
+/// `BadCheckpoint` where the checkpoint spells no well-formed state, and else as `restart` does.
+pub fn restart_at<R, G>(
+    rt: &R,
+    alloc: Global,
+    bytes: &[u8],
+    offset: u64,
+    plan: &Plan,
+    gate: &G,
+) -> Result<Restarted, Fault>
+where
+    R: Threads + Sync,
+    G: Gate + Sync,
+    ensures { RestartsAt bytes.now offset result }
+{
+    let begun = begin_at(rt, alloc, bytes, offset, plan)?;
+    let front = front_of(alloc, bytes, &begun.found, &begun.state)?;
+    close(rt, alloc, &begun.state, front, bytes.len(), plan, gate)
+}
