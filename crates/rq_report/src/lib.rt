@@ -1,0 +1,12 @@
+//! The report of a restart, and the readers and writers that count their faults.
+#![tactic(auto)]
+
+mod hexes;
+mod lines;
+mod listing;
+mod report;
+mod stream;
+mod writing;
+
+pub use stream::{Input, Output, OverRead, OverWrite};
+pub use writing::{write_all, write_report};

@@ -1,0 +1,141 @@
+//! The lines of a report.
+
+ghost use Rattle.std.specs.Prelude.{◌≡◌, ◌++◌, OnOk, string_bytes, codes};
+ghost use Rattle.std.specs.Fmt.{decimal};
+ghost use Rattle.rq_model.specs.Reports.{element_line, element_text, error_text, front_line, kind_text, last_text, queue_line, registrant_line, units_line, why_text};
+ghost use Rattle.rq_restart.specs.Views.{why_of};
+ghost use Rattle.rq_state.specs.Views.{kind_of, id_of};
+
+use crate::hexes::put_payload;
+use rq_record::{ElemId, QueueNo};
+use rq_restart::{Restarted, Why};
+use rq_state::{Definition, Element, Last, OpKind, Registrant};
+use std::alloc::AllocError;
+use std::fmt::Write;
+
+fn why_word(why: Why) -> &'static str
+    ensures { result.now ≡ why_text (why_of why) }
+{
+    match why {
+        Why::Whole => "whole",
+        Why::Cut => "cut",
+        Why::Length => "length",
+        Why::Chain => "chain",
+        Why::Form => "form",
+        Why::Law => "law",
+    }
+}
+
+/// Puts the line of the front: its records, its bytes, and why it ends.
+pub(crate) fn put_front(text: &mut String, r: &Restarted) -> Result<(), AllocError>
+    ensures { OnOk result (string_bytes text.new ≡ string_bytes text.old ++ front_line r.now) }
+{
+    let (records, used, total) = (r.records(), r.used(), r.total());
+    let why = why_word(r.why());
+    write!(
+        text,
+        "front {records} records, {used} of {total} bytes, {why}\n"
+    )?;
+    Ok(())
+}
+
+/// Puts the line of the units: how many the front committed and aborted, and how many it left open.
+pub(crate) fn put_units(text: &mut String, r: &Restarted) -> Result<(), AllocError>
+    ensures { OnOk result (string_bytes text.new ≡ string_bytes text.old ++ units_line r.now) }
+{
+    let (committed, aborted, cut_off) = (r.committed(), r.aborted(), r.cut_off());
+    write!(
+        text,
+        "units {committed} committed, {aborted} aborted, {cut_off} cut off\n"
+    )?;
+    Ok(())
+}
+
+fn put_error(text: &mut String, error: QueueNo) -> Result<(), AllocError>
+    ensures { OnOk result (string_bytes text.new ≡ string_bytes text.old ++ error_text error.0) }
+{
+    let number = error.0;
+    if number == 4294967295 {
+        text.push_str("-")
+    } else {
+        write!(text, "{number}")
+    }
+}
+
+/// Puts the line of a queue.
+pub(crate) fn put_queue_line(
+    text: &mut String,
+    queue: QueueNo,
+    d: &Definition,
+) -> Result<(), AllocError>
+    ensures { OnOk result (string_bytes text.new ≡ string_bytes text.old ++ queue_line queue.0 d.now) }
+{
+    let (number, limit) = (queue.0, d.limit);
+    write!(text, "queue {number} ")?;
+    text.push_str(d.name.text())?;
+    write!(text, " limit {limit} error ")?;
+    put_error(text, d.error)?;
+    text.push_str("\n")
+}
+
+/// Puts the line of an element.
+pub(crate) fn put_element(text: &mut String, e: &Element) -> Result<(), AllocError>
+    ensures { OnOk result (string_bytes text.new ≡ string_bytes text.old ++ element_line e.now) }
+{
+    let (id, origin, priority, attempts) = (e.id.0, e.origin.0, e.priority, e.attempts);
+    write!(
+        text,
+        "e {id} from {origin} priority {priority} attempts {attempts} "
+    )?;
+    put_payload(text, e.payload.bytes())?;
+    text.push_str("\n")
+}
+
+fn put_optional(text: &mut String, element: Option<ElemId>) -> Result<(), AllocError>
+    ensures { OnOk result (string_bytes text.new ≡ string_bytes text.old ++ element_text (id_of element)) }
+{
+    match element {
+        Some(id) => {
+            let number = id.0;
+            write!(text, "{number}")
+        }
+        None => text.push_str("-"),
+    }
+}
+
+fn kind_word(kind: OpKind) -> &'static str
+    ensures { result.now ≡ kind_text (kind_of kind) }
+{
+    match kind {
+        OpKind::Enqueue => "enqueue",
+        OpKind::Dequeue => "dequeue",
+    }
+}
+
+fn put_operation(text: &mut String, l: &Last) -> Result<(), AllocError>
+    ensures { OnOk result (string_bytes text.new ≡ string_bytes text.old ++ (kind_text l.now.kind ++ (codes " tag " ++ (decimal l.now.tag ++ (codes " element " ++ element_text l.now.element))))) }
+{
+    let (kind, tag) = (kind_word(l.kind), l.tag);
+    write!(text, "{kind} tag {tag} element ")?;
+    put_optional(text, l.element)
+}
+
+fn put_last(text: &mut String, r: &Registrant) -> Result<(), AllocError>
+    ensures { OnOk result (string_bytes text.new ≡ string_bytes text.old ++ last_text r.now.last) }
+{
+    match &r.last {
+        Some(l) => put_operation(text, l),
+        None => text.push_str("none"),
+    }
+}
+
+/// Puts the line of a registrant: its last operation, or none.
+pub(crate) fn put_registrant(text: &mut String, r: &Registrant) -> Result<(), AllocError>
+    ensures { OnOk result (string_bytes text.new ≡ string_bytes text.old ++ registrant_line r.now) }
+{
+    text.push_str("r ")?;
+    text.push_str(r.name.text())?;
+    text.push_str(" ")?;
+    put_last(text, r)?;
+    text.push_str("\n")
+}

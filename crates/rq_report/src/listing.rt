@@ -1,0 +1,78 @@
+//! A queue's free elements in the order of the queue.
+
+ghost use Rattle.std.specs.Prelude.{◌≡◌, ◌++◌, ◌∷◌, [], IfOk, OnOk, map, filter, IsPermutation};
+ghost use Rattle.std.specs.List.Sorted.{IsSortedBy};
+ghost use Rattle.rq_model.specs.Machine.{is_free_at};
+ghost use Rattle.rq_model.specs.States as model;
+ghost use Rattle.rq_model.specs.Reports.{IsListing};
+ghost use Rattle.rq_model.specs.WellFormed.{IsWellFormed};
+ghost use Rattle.rq_report.specs.Order.{is_ahead};
+
+use rq_record::QueueNo;
+use rq_state::{Element, Mark, State};
+use std::alloc::{AllocError, Global};
+use std::cmp::Reverse;
+
+fn is_free(e: &Element) -> bool
+    ensures { result ≡ model.is_free e.now.mark }
+{
+    match e.mark {
+        Mark::Free => true,
+        Mark::Fresh(_) | Mark::Held(_) => false,
+    }
+}
+
+/// Adds an element where it is free.
+fn list<'a>(found: &mut Vec<&'a Element>, e: &'a Element) -> Result<(), AllocError>
+    ensures { OnOk result (map (λ e. e.now) found.new.items ≡ map (λ e. e.now) found.old.items ++ filter (λ e. model.is_free e.mark) (e.now ∷ [])) }
+{
+    if is_free(e) {
+        found.push(e)?;
+    }
+    Ok(())
+}
+
+/// The queue's free elements, in the order of their numbers.
+fn free_elements<'a>(
+    alloc: Global,
+    queue: QueueNo,
+    state: &'a State,
+) -> Result<Vec<&'a Element>, AllocError>
+    ensures { IfOk result (λ v. map (λ e. e.now) v.items ≡ filter (is_free_at queue.0) state.now.elements) }
+{
+    let places = state.elements_of(queue);
+    let mut found = Vec::new(alloc);
+    found.reserve(places.len())?;
+    for place in places {
+        list(&mut found, state.element(*place))?;
+    }
+    Ok(found)
+}
+
+/// By what elements are put in order.
+fn rank(e: &Element) -> (Reverse<u8>, u64)
+    ensures { result ≡ (record { 0 = e.now.priority }, e.now.id) }
+{
+    (Reverse(e.priority), e.id.0)
+}
+
+fn sort(found: &mut [&Element])
+    ensures permutation { IsPermutation found.old found.new }
+    ensures sorted { IsSortedBy (λ x y. is_ahead x.now y.now) found.new }
+{
+    found.sort_unstable_by_key(|e| rank(e));
+}
+
+/// The queue's free elements, in the order of the queue.
+pub(crate) fn listing<'a>(
+    alloc: Global,
+    queue: QueueNo,
+    state: &'a State,
+) -> Result<Vec<&'a Element>, AllocError>
+    requires { IsWellFormed state.now }
+    ensures { IfOk result (λ v. IsListing queue.0 state.now.elements (map (λ e. e.now) v.items)) }
+{
+    let mut found = free_elements(alloc, queue, state)?;
+    sort(&mut found);
+    Ok(found)
+}

@@ -1,0 +1,158 @@
+//! Readers and writers that count their faults.
+
+ghost use Rattle.std.specs.Prelude.{◌≡◌, ℕ, ◌+◌, ◌<◌, ◌≤◌, List, Option, None, length, IfOk, OnOk, IfErr};
+ghost use Rattle.std.specs.Io.KnownBytes.{WriteAppends, ReadConsumes};
+ghost use Rattle.rq_record.specs.declared.fault.Fault.TheVariants.{ReadFailed, WriteFailed};
+
+use rq_record::Fault;
+use std::io::{ErrorKind, Read, Write};
+
+/// A source of bytes that counts its faults.
+pub trait Input {
+    // How many of its reads failed.
+    ghost faults: { Self → ℕ };
+
+    // The bytes that it still has to give, where they are known.
+    ghost remaining: { Self → Option (List ℕ) } = { λ _. None };
+
+    /// Reads into the front of the piece, and answers how many bytes. It answers 0 for a piece that is
+    /// not empty only at the end. Refused with `ReadFailed` where the read failed, which adds one to
+    /// the count of faults and takes no byte.
+    fn read(&mut self, piece: &mut [u8]) -> Result<usize, Fault>
+        requires { faults self.old < 18446744073709551615 }
+        ensures bound { IfOk result (λ n. n ≤ length piece.new) }
+        ensures bytes { ReadConsumes (remaining self.old) (remaining self.new) result piece.new }
+        ensures ok { OnOk result (faults self.new ≡ faults self.old) }
+        ensures err { IfErr result (λ e. (e ≡ ReadFailed) × (faults self.new ≡ faults self.old + 1)) };
+}
+
+/// A sink of bytes that counts its faults.
+pub trait Output {
+    // How many of its writes failed.
+    ghost faults: { Self → ℕ };
+
+    // The bytes that it holds, where they are known.
+    ghost contents: { Self → Option (List ℕ) } = { λ _. None };
+
+    /// Writes bytes from the front of the piece, and answers how many: at least one of a piece that is
+    /// not empty. Refused with `WriteFailed` where the write failed, which adds one to the count of
+    /// faults and writes no byte.
+    fn write(&mut self, piece: &[u8]) -> Result<usize, Fault>
+        requires { faults self.old < 18446744073709551615 }
+        ensures bound { IfOk result (λ n. n ≤ length piece.now) }
+        ensures some { IfOk result (λ n. 0 < length piece.now → 0 < n) }
+        ensures bytes { WriteAppends (contents self.old) (contents self.new) result piece.now }
+        ensures ok { OnOk result (faults self.new ≡ faults self.old) }
+        ensures err { IfErr result (λ e. (e ≡ WriteFailed) × (faults self.new ≡ faults self.old + 1)) };
+}
+
+/// One read of a reader of std, tried again where it was interrupted.
+fn read_some<R: Read>(inner: &mut R, piece: &mut [u8]) -> Result<usize, Fault>
+    ensures bound { IfOk result (λ n. n ≤ length piece.new) }
+    ensures bytes { ReadConsumes (R.remaining inner.old) (R.remaining inner.new) result piece.new }
+    ensures err { IfErr result (λ e. e ≡ ReadFailed) }
+{
+    for _ in 0..u64::MAX {
+        match inner.read(piece) {
+            Ok(n) => return Ok(n),
+            Err(e) if e.kind() == ErrorKind::Interrupted => {}
+            Err(_) => return Err(Fault::ReadFailed),
+        }
+    }
+    Err(Fault::ReadFailed)
+}
+
+/// One write to a writer of std, tried again where it was interrupted. One that takes none of some
+/// bytes has failed.
+fn write_some<W: Write>(inner: &mut W, piece: &[u8]) -> Result<usize, Fault>
+    ensures bound { IfOk result (λ n. n ≤ length piece.now) }
+    ensures some { IfOk result (λ n. 0 < length piece.now → 0 < n) }
+    ensures bytes { WriteAppends (W.contents inner.old) (W.contents inner.new) result piece.now }
+    ensures err { IfErr result (λ e. e ≡ WriteFailed) }
+{
+    for _ in 0..u64::MAX {
+        match inner.write(piece) {
+            Ok(n) if n > 0 || piece.is_empty() => return Ok(n),
+            Err(e) if e.kind() == ErrorKind::Interrupted => {}
+            _ => return Err(Fault::WriteFailed),
+        }
+    }
+    Err(Fault::WriteFailed)
+}
+
+/// Reads from any reader of std. A read that was interrupted is tried again, and is no fault.
+#[derive(Drop)]
+pub struct OverRead<R: Read> {
+    inner: R,
+    faults: u64,
+}
+
+impl<R: Read> OverRead<R> {
+    /// Over this reader, with no faults so far.
+    pub fn new(inner: R) -> Self
+        ensures faults { result.faults ≡ 0 }
+        ensures inner { result.inner ≡ inner }
+    {
+        OverRead { inner, faults: 0 }
+    }
+
+    /// The reader.
+    pub fn into_inner(self) -> R
+        ensures { result ≡ self.inner }
+    {
+        self.inner
+    }
+}
+
+impl<R: Read> Input for OverRead<R> {
+    ghost faults = { λ it. it.faults };
+
+    ghost remaining = { λ it. R.remaining it.inner };
+
+    fn read(&mut self, piece: &mut [u8]) -> Result<usize, Fault> {
+        let read = read_some(&mut self.inner, piece);
+        if read.is_err() {
+            self.faults += 1;
+        }
+        read
+    }
+}
+
+/// Writes to any writer of std. A write that was interrupted is tried again, and is no fault; one that
+/// takes none of some bytes is one.
+#[derive(Drop)]
+pub struct OverWrite<W: Write> {
+    inner: W,
+    faults: u64,
+}
+
+impl<W: Write> OverWrite<W> {
+    /// Over this writer, with no faults so far.
+    pub fn new(inner: W) -> Self
+        ensures faults { result.faults ≡ 0 }
+        ensures inner { result.inner ≡ inner }
+    {
+        OverWrite { inner, faults: 0 }
+    }
+
+    /// The writer.
+    pub fn into_inner(self) -> W
+        ensures { result ≡ self.inner }
+    {
+        self.inner
+    }
+}
+
+impl<W: Write> Output for OverWrite<W> {
+    ghost faults = { λ it. it.faults };
+
+    ghost contents = { λ it. W.contents it.inner };
+
+    fn write(&mut self, piece: &[u8]) -> Result<usize, Fault> {
+        let written = write_some(&mut self.inner, piece);
+        if written.is_err() {
+            self.faults += 1;
+        }
+        written
+    }
+}

@@ -1,0 +1,37 @@
+//! Writing the report.
+
+ghost use Rattle.std.specs.Prelude.{◌<◌};
+ghost use Rattle.rq_report.specs.Streams.{Delivers, Reports};
+
+use crate::report::report;
+use crate::stream::Output;
+use rq_record::Fault;
+use rq_restart::Restarted;
+use std::alloc::Global;
+
+/// Writes all of the text, however few bytes a call takes. With `WriteFailed` a beginning of it is written.
+pub fn write_all<W: Output>(output: &mut W, text: &[u8]) -> Result<(), Fault>
+    requires { W.faults output.old < 18446744073709551615 }
+    ensures { Delivers (W.faults output.old) (W.faults output.new) (W.contents output.old) (W.contents output.new) text.now result }
+{
+    let mut rest = text;
+    while !rest.is_empty() {
+        let written = output.write(rest)?;
+        rest = rest.split_at(written).1;
+    }
+    Ok(())
+}
+
+/// Writes the report of what a restart answered: the front, the units, then each queue with its free
+/// elements in order and its registrants by name. The whole text is made first. Refused with
+/// `Resources` where the host refuses memory, and then nothing is written; with `WriteFailed` where
+/// the writer failed, and then a beginning of the text is written.
+pub fn write_report<W: Output>(alloc: Global, r: &Restarted, output: &mut W) -> Result<(), Fault>
+    requires { W.faults output.old < 18446744073709551615 }
+    ensures { Reports r.now (W.faults output.old) (W.faults output.new) (W.contents output.old) (W.contents output.new) result }
+{
+    match report(alloc, r) {
+        Ok(text) => write_all(output, text.as_bytes()),
+        Err(_) => Err(Fault::Resources),
+    }
+}
