@@ -1,0 +1,9 @@
+pub mod Cuts
+pub mod Numbers
+pub mod Hex
+pub mod Parts
+pub mod Lines
+pub mod Splitting
+pub mod Fronting
+pub mod Ends
+pub mod Steps

@@ -1,0 +1,39 @@
+-- The front of the log that is being made.
+use Rattle.std.specs.Prelude.{◌≡◌, ◌<◌, ◌≤◌, Bool, true, false, ⊤, List, ◌∷◌, ◌++◌, length, map, Result, Ok, Err}
+use Rattle.std.specs.List.{AllByRecursion}
+use Rattle.rq_model.specs.Records.{Record, One}
+use Rattle.rq_model.specs.Spelling.{IsRecord}
+use Rattle.rq_model.specs.Frames.{log_limit, log_of}
+use Rattle.rq_model.specs.States.{State, empty}
+use Rattle.rq_model.specs.Machine.{is_lawful, all_lawful, run}
+use Rattle.rq_model.specs.StateSpelling.{state_bytes}
+use Rattle.rq_record.specs.Views.{record_of}
+use Rattle.rq_record.specs.declared.fault.Fault.{Fault}
+use Rattle.rq_record.specs.declared.fault.Fault.TheVariants as faults
+use Rattle.rq_record.specs.declared.record.Record as code
+use Rattle.rq_writer.specs.Made.{IsStateOf, Adds, spelling_limit}
+use Rattle.rq_writer.specs.Script.{Spelled}
+use Rattle.rq_writer.specs.declared.front.Front.{Front}
+
+-- the state is that after the first records, and the others stand behind; or the first of the others is unlawful
+abbrev pub Splits : State → List Record → Bool → List Record → Type 0
+Splits s since false rs = (done : List Record) × (rs ≡ done ++ since) × (all_lawful One empty done ≡ true) × (s ≡ run empty done)
+Splits s since true rs =
+    (done : List Record) × (first : Record) × (more : List Record) × (rs ≡ done ++ first ∷ more) × (all_lawful One empty done ≡ true)
+    × (is_lawful One s first ≡ false) × (s ≡ run empty done)
+
+-- the front of the log of the records
+abbrev pub Follows : Front → List Record → Type 0
+Follows front rs = Splits front.state (map record_of front.since.items) front.ended rs
+
+-- records that have a log
+pub record AreLogged (rs : List Record) : Type 0 where
+  pub records : AllByRecursion (IsRecord One) rs
+  pub fits : length (log_of One rs) ≤ log_limit
+
+-- a checkpoint of the state after the front
+abbrev pub SpellsFront : Front → Front → Result code.Record Fault → Type 0
+SpellsFront old new (Ok r) = (rs : List Record) → Follows old rs → AreLogged rs → Follows new rs × Adds rs Spelled (record_of r)
+SpellsFront old new (Err faults.TooLarge) = (rs : List Record) → Follows old rs → AreLogged rs → (s : State) × IsStateOf rs s × (spelling_limit < length (state_bytes s))
+SpellsFront old new (Err faults.Resources) = ⊤
+SpellsFront old new (Err _) = ⊥

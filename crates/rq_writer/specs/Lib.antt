@@ -1,0 +1,6 @@
+pub mod Script
+pub mod Views
+pub mod Reading
+pub mod Made
+pub mod Fronts
+pub mod Making

@@ -1,0 +1,171 @@
+-- Reading a line from left to right.
+use Rattle.std.specs.Prelude.{ℕ, ◌+◌, ◌*◌, ◌-◌, Bool, false, ◌&&◌, ◌||◌, ◌==◌, if◌then◌else◌, nat_le, nat_lt, List, [], ◌∷◌, length, codes, Option, Some, None, Result, Ok, Err, ⊤}
+use Rattle.std.specs.List.{list_all}
+use Rattle.std.specs.Str.{bytes_eq}
+use Rattle.std.specs.Str.Parse.{digits_value}
+use Rattle.rq_model.specs.Spelling.{is_name}
+use Rattle.rq_record.specs.Reading.{◌>>=◌, name_of}
+use Rattle.rq_record.specs.declared.fault.Fault.{Fault}
+use Rattle.rq_record.specs.declared.fault.Fault.TheVariants as faults
+use Rattle.rq_model.specs.Records.{By}
+use Rattle.rq_model.specs.Records.{Record}
+use Rattle.rq_model.specs.Records.{Define, Register, Deregister, Begin, Enqueue, Dequeue, Commit, Abort, Checkpoint}
+use Rattle.rq_writer.specs.Script.{Line, Told, Spelled, Tells}
+use Rattle.rq_writer.specs.Views.{line_of}
+use Rattle.rq_writer.specs.declared.line.Line as code
+
+-- what stands before the first such byte, and what behind it
+abbrev pub cut_at : ℕ → List ℕ → Option (List ℕ × List ℕ)
+cut_at byte [] = None
+cut_at byte (b ∷ bytes) = if b == byte then Some ([], bytes) else (cut_at byte bytes >>= λ x. Some (b ∷ x.0, x.1))
+
+-- a field, and what stands behind its space
+abbrev pub field_at : List ℕ → Option (List ℕ × List ℕ)
+field_at bytes = cut_at 32 bytes
+
+abbrev pub is_digit : ℕ → Bool
+is_digit b = nat_le 48 b && nat_le b 57
+
+-- digits, and no leading zero
+abbrev pub is_decimal : List ℕ → Bool
+is_decimal [] = false
+is_decimal (b ∷ bytes) = list_all is_digit (b ∷ bytes) && (length bytes == 0 || nat_lt 48 b)
+
+-- a number of at most `most`
+abbrev pub number_of : ℕ → List ℕ → Option ℕ
+number_of most bytes = if is_decimal bytes && nat_le (digits_value 10 bytes) most then Some (digits_value 10 bytes) else None
+
+unfoldable pub number_at : ℕ → List ℕ → Option (ℕ × List ℕ)
+number_at most bytes = do
+  field ← field_at bytes
+  n ← number_of most field.0
+  Some (n, field.1)
+
+-- the number of an error queue, or none
+abbrev pub error_of : List ℕ → Option ℕ
+error_of bytes = if bytes_eq bytes (codes "-") then Some 4294967295 else number_of 4294967294 bytes
+
+-- the registrant that a name and a tag give
+abbrev pub told : List ℕ → ℕ → Option (Option By)
+told name tag =
+    if bytes_eq name (codes "-")
+    then (if tag == 0 then Some None else None)
+    else (if is_name name then Some (Some (record { name = name; tag = tag })) else None)
+
+abbrev pub digit_of : ℕ → Option ℕ
+digit_of b = if nat_le 48 b && nat_le b 57 then Some (b - 48) else if nat_le 97 b && nat_le b 102 then Some (b - 87) else None
+
+-- the byte of two digits
+abbrev pub pair_of : ℕ → ℕ → Option ℕ
+pair_of high low = digit_of high >>= λ h. digit_of low >>= λ l. Some (h * 16 + l)
+
+-- two digits a byte
+abbrev pub pairs_of : List ℕ → Option (List ℕ)
+pairs_of [] = Some []
+pairs_of (high ∷ []) = None
+pairs_of (high ∷ low ∷ rest) = pair_of high low >>= λ b. pairs_of rest >>= λ bytes. Some (b ∷ bytes)
+
+-- at most `limit` bytes in hexadecimal, or `-` for none
+abbrev pub hex_of : ℕ → List ℕ → Option (List ℕ)
+hex_of limit text =
+    if bytes_eq text (codes "-") then Some []
+    else if length text == 0 then None
+    else if nat_le (length text) (2 * limit) then pairs_of text
+    else None
+
+unfoldable pub define_of : List ℕ → Option Record
+define_of bytes = do
+  word ← field_at bytes
+  name ← name_of word.0
+  limit ← number_at 65535 word.1
+  error ← error_of limit.1
+  Some (Define limit.0 error name)
+
+unfoldable pub register_of : List ℕ → Option Record
+register_of bytes = do
+  queue ← number_at 4294967295 bytes
+  name ← name_of queue.1
+  Some (Register queue.0 name)
+
+unfoldable pub deregister_of : List ℕ → Option Record
+deregister_of bytes = do
+  queue ← number_at 4294967295 bytes
+  name ← name_of queue.1
+  Some (Deregister queue.0 name)
+
+abbrev pub unit_of : List ℕ → Option ℕ
+unit_of bytes = number_of 18446744073709551615 bytes
+
+unfoldable pub begin_of : List ℕ → Option Record
+begin_of bytes = do
+  unit ← unit_of bytes
+  Some (Begin unit)
+
+unfoldable pub commit_of : List ℕ → Option Record
+commit_of bytes = do
+  unit ← unit_of bytes
+  Some (Commit unit)
+
+unfoldable pub abort_of : List ℕ → Option Record
+abort_of bytes = do
+  unit ← unit_of bytes
+  Some (Abort unit)
+
+unfoldable pub enqueue_of : List ℕ → Option Record
+enqueue_of bytes = do
+  unit ← number_at 18446744073709551615 bytes
+  queue ← number_at 4294967295 unit.1
+  priority ← number_at 255 queue.1
+  name ← field_at priority.1
+  tag ← number_at 18446744073709551615 name.1
+  by ← told name.0 tag.0
+  payload ← hex_of 65535 tag.1
+  Some (Enqueue unit.0 queue.0 priority.0 by payload)
+
+unfoldable pub dequeue_of : List ℕ → Option Record
+dequeue_of bytes = do
+  unit ← number_at 18446744073709551615 bytes
+  queue ← number_at 4294967295 unit.1
+  name ← field_at queue.1
+  tag ← number_of 18446744073709551615 name.1
+  by ← told name.0 tag
+  Some (Dequeue unit.0 queue.0 by)
+
+unfoldable pub checkpoint_of : List ℕ → Option Record
+checkpoint_of bytes = do
+  kept ← hex_of 268435455 bytes
+  Some (Checkpoint kept)
+
+-- the record that a first word and what stands behind it tell
+unfoldable pub told_by : List ℕ → List ℕ → Option Record
+told_by word bytes =
+    if bytes_eq word (codes "define") then define_of bytes
+    else if bytes_eq word (codes "register") then register_of bytes
+    else if bytes_eq word (codes "deregister") then deregister_of bytes
+    else if bytes_eq word (codes "begin") then begin_of bytes
+    else if bytes_eq word (codes "enqueue") then enqueue_of bytes
+    else if bytes_eq word (codes "dequeue") then dequeue_of bytes
+    else if bytes_eq word (codes "commit") then commit_of bytes
+    else if bytes_eq word (codes "abort") then abort_of bytes
+    else if bytes_eq word (codes "checkpoint-hex") then checkpoint_of bytes
+    else None
+
+unfoldable pub record_at : List ℕ → Option Record
+record_at text = do
+  word ← field_at text
+  told_by word.0 word.1
+
+unfoldable pub told_line : List ℕ → Option Line
+told_line text = do
+  r ← record_at text
+  Some (Told r)
+
+abbrev pub line_at : List ℕ → Option Line
+line_at text = if bytes_eq text (codes "checkpoint") then Some Spelled else told_line text
+
+-- a line that the text tells, or Form where no line has this text
+abbrev pub Reads : List ℕ → Result code.Line Fault → Type 0
+Reads text (Ok l) = Tells (line_of l) text
+Reads text (Err faults.Form) = (l : Line) → Tells l text → ⊥
+Reads text (Err faults.Resources) = ⊤
+Reads text (Err _) = ⊥

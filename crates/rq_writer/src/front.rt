@@ -1,0 +1,121 @@
+//! The front of the log that is being made.
+
+ghost use Rattle.std.specs.Prelude.{◌≡◌, ◌+◌, ◌^◌, ◌<◌, ◌∷◌, ◌++◌, List, [], length, map, IfOk, IfErr, OnOk};
+ghost use Rattle.rq_model.specs.Machine.{lawful_front, run};
+ghost use Rattle.rq_model.specs.Records as model;
+ghost use Rattle.rq_model.specs.Records.{One};
+ghost use Rattle.rq_record.specs.declared.fault.Fault.TheVariants.{Resources};
+ghost use Rattle.rq_record.specs.Views.{record_of};
+ghost use Rattle.rq_writer.specs.Fronts.{Follows, AreLogged, SpellsFront};
+ghost use Rattle.rq_writer.specs.Made.{IsStateOf};
+
+use rq_catalog::analyse;
+use rq_exchange::replay;
+use rq_pool::{Open, Plan};
+use rq_record::{CheckBytes, Fault, Record};
+use rq_state::{State, spell};
+use std::alloc::Global;
+use std::thread::Threads;
+
+/// How many of the records are lawful, each after those before it.
+fn lawful_count(alloc: Global, state: &State, records: &[Record]) -> Result<usize, Fault>
+    requires { state.now.next + length records.now < 2 ^ 64 }
+    ensures count { IfOk result (λ n. n ≡ length (lawful_front One state.now (map record_of records.now))) }
+    ensures refused { IfErr result (λ e. e ≡ Resources) }
+{
+    Ok(analyse(alloc, state, records)?.lawful())
+}
+
+/// The state after the records that are lawful.
+fn run_first<R: Threads + Sync>(
+    rt: &R,
+    alloc: Global,
+    plan: &Plan,
+    state: &State,
+    records: &[Record],
+    count: usize,
+) -> Result<State, Fault>
+    requires count { count ≡ length (lawful_front One state.now (map record_of records.now)) }
+    requires fits { state.now.next + length records.now < 2 ^ 64 }
+    ensures state { IfOk result (λ t. t ≡ run state.now (lawful_front One state.now (map record_of records.now))) }
+    ensures refused { IfErr result (λ e. e ≡ Resources) }
+{
+    replay(rt, alloc, state, &records[..count], plan, &Open)
+}
+
+/// The state after the first records of the log, and the records behind these, until one of them is
+/// found to be unlawful. So a checkpoint costs the records since the one before it, not the whole log.
+#[derive(Drop)]
+pub(crate) struct Front {
+    state: State,
+    since: Vec<Record>,
+    ended: bool,
+}
+
+impl Front {
+    /// That of a log without records.
+    pub(crate) fn start(alloc: Global) -> Front
+        ensures { Follows result [] }
+    {
+        Front {
+            state: State::empty(alloc),
+            since: Vec::new(alloc),
+            ended: false,
+        }
+    }
+
+    /// Takes the next record of the log.
+    pub(crate) fn keep(&mut self, r: Record) -> Result<(), Fault>
+        ensures kept { OnOk result ((rs : List model.Record) → Follows self.old rs → Follows self.new (rs ++ record_of r ∷ [])) }
+        ensures refused { IfErr result (λ e. e ≡ Resources) }
+    {
+        if !self.ended {
+            self.since.push(r)?;
+        }
+        Ok(())
+    }
+
+    /// Runs the records behind the state, as far as they are lawful.
+    fn catch_up<R: Threads + Sync>(
+        &mut self,
+        rt: &R,
+        alloc: Global,
+        plan: &Plan,
+    ) -> Result<(), Fault>
+        requires { (rs : List model.Record) × Follows self.old rs × AreLogged rs }
+        ensures state { OnOk result ((rs : List model.Record) → Follows self.old rs → AreLogged rs → Follows self.new rs × IsStateOf rs self.new.state) }
+        ensures refused { IfErr result (λ e. e ≡ Resources) }
+    {
+        rq_model::one_front();
+        rq_model::one_run();
+        rq_model::one_spelling();
+        if self.ended {
+            return Ok(());
+        }
+        let since = self.since.as_slice();
+        let count = lawful_count(alloc, &self.state, since)?;
+        let state = run_first(rt, alloc, plan, &self.state, since, count)?;
+        self.ended = count < since.len();
+        self.state = state;
+        self.since.clear();
+        Ok(())
+    }
+
+    /// A checkpoint of the state after the front of the log. `TooLarge` where its spelling is too long
+    /// for a record.
+    pub(crate) fn spelled<R: Threads + Sync>(
+        &mut self,
+        rt: &R,
+        alloc: Global,
+        plan: &Plan,
+    ) -> Result<Record, Fault>
+        requires { (rs : List model.Record) × Follows self.old rs × AreLogged rs }
+        ensures { SpellsFront self.old self.new result }
+    {
+        self.catch_up(rt, alloc, plan)?;
+        match CheckBytes::new(spell(alloc, &self.state)?) {
+            Some(bytes) => Ok(Record::Checkpoint { bytes }),
+            None => Err(Fault::TooLarge),
+        }
+    }
+}

@@ -1,0 +1,115 @@
+//! The log that is being made.
+
+ghost use Rattle.std.specs.Prelude.{◌≡◌, ◌+◌, ◌≤◌, ◌-◌, List, length, drop};
+ghost use Rattle.rq_model.specs.Records as model;
+ghost use Rattle.rq_record.specs.Views.{record_of};
+ghost use Rattle.rq_writer.specs.Fronts.{Follows, AreLogged};
+ghost use Rattle.rq_writer.specs.Making.{Holds, RecordOf, Framed, LineMade, Starts};
+
+use crate::front::Front;
+use crate::line::Line;
+use crate::reading::read_line;
+use rq_front::{frame, header};
+use rq_pool::Plan;
+use rq_record::{Fault, Record, encode};
+use std::alloc::Global;
+use std::thread::Threads;
+
+/// The log of the lines so far, its last 32 bytes, and its front.
+#[derive(Drop)]
+pub(crate) struct Log {
+    out: Vec<u8>,
+    last: [u8; 32],
+    front: Front,
+}
+
+/// The record that a line adds. `Script` where the text is no line.
+fn record_at<R: Threads + Sync>(
+    rt: &R,
+    alloc: Global,
+    plan: &Plan,
+    number: u64,
+    text: &[u8],
+    front: &mut Front,
+) -> Result<Record, Fault>
+    requires { (rs : List model.Record) × Follows front.old rs × AreLogged rs }
+    ensures { RecordOf number text.now front.old front.new result }
+{
+    match read_line(alloc, text) {
+        Ok(Line::Told(r)) => Ok(r),
+        Ok(Line::Spelled) => front.spelled(rt, alloc, plan),
+        Err(Fault::Form) => Err(Fault::Script(number)),
+        Err(fault) => Err(fault),
+    }
+}
+
+fn last_32(bytes: &[u8]) -> [u8; 32]
+    requires { 32 ≤ length bytes.now }
+    ensures { result ≡ drop (length bytes.now - 32) bytes.now }
+{
+    let mut kept = [0; 32];
+    kept.copy_from_slice(&bytes[bytes.len() - 32..]);
+    kept
+}
+
+fn framed_len(out: &[u8], body: &[u8]) -> usize
+    requires out { length out.now ≤ 4294967295 }
+    requires body { length body.now ≤ 268435456 }
+    ensures { result ≡ length out.now + length body.now + 36 }
+{
+    out.len() + body.len() + 36
+}
+
+/// Appends the frame of a record. `TooLong` where the log would pass 4,294,967,295 bytes.
+fn append(alloc: Global, out: &mut Vec<u8>, last: &[u8; 32], r: &Record) -> Result<(), Fault>
+    requires { length out.old.items ≤ 4294967295 }
+    ensures { Framed out.old.items out.new.items last.now (record_of r.now) result }
+{
+    rq_model::one_spelling();
+    let mut body = Vec::new(alloc);
+    encode(r, &mut body)?;
+    if framed_len(out, &body) > 4_294_967_295 {
+        return Err(Fault::TooLong);
+    }
+    frame(last, &body, out)
+}
+
+impl Log {
+    /// The log without records: a header.
+    pub(crate) fn start(alloc: Global) -> Result<Log, Fault>
+        ensures { Starts result }
+    {
+        rq_model::frames_join();
+        let mut out = Vec::new(alloc);
+        header(&mut out)?;
+        let last = last_32(&out);
+        let front = Front::start(alloc);
+        Ok(Log { out, last, front })
+    }
+
+    /// Adds the record of the next line.
+    pub(crate) fn add_line<R: Threads + Sync>(
+        &mut self,
+        rt: &R,
+        alloc: Global,
+        plan: &Plan,
+        number: u64,
+        text: &[u8],
+    ) -> Result<(), Fault>
+        requires { (rs : List model.Record) × Holds self.old rs }
+        ensures { LineMade number text.now self.old self.new result }
+    {
+        rq_model::frames_join();
+        let r = record_at(rt, alloc, plan, number, text, &mut self.front)?;
+        append(alloc, &mut self.out, &self.last, &r)?;
+        self.last = last_32(&self.out);
+        self.front.keep(r)
+    }
+
+    /// Its bytes.
+    pub(crate) fn bytes(self) -> Vec<u8>
+        ensures { result ≡ self.out }
+    {
+        self.out
+    }
+}

@@ -1,0 +1,47 @@
+//! From a script to a log.
+
+ghost use Rattle.rq_writer.specs.Made.{Made};
+ghost use Rattle.rq_writer.specs.Making.{NextLine};
+
+use crate::fields::cut;
+use crate::log::Log;
+use rq_pool::Plan;
+use rq_record::Fault;
+use std::alloc::Global;
+use std::thread::Threads;
+
+fn line_at(number: u64, rest: &[u8]) -> Result<(&[u8], &[u8]), Fault>
+    ensures { NextLine (λ x. (x.0.now, x.1.now)) number rest.now result }
+{
+    match cut(b'\n', rest) {
+        Some((text, after)) => Ok((text, after)),
+        None => Err(Fault::Script(number)),
+    }
+}
+
+/// The log of a script: the header, then one frame for each line. Records are written as told, also
+/// unlawful ones; a line `checkpoint` is told the state after the front of the log so far.
+///
+/// The fault of the earliest line that has one: `Script` with its number, counted from 1, where it is
+/// no line; `TooLarge` for a `checkpoint` whose spelling has more than 268,435,455 bytes; `TooLong`
+/// where the log would pass 4,294,967,295 bytes. `Resources` where the host refuses memory or a
+/// thread.
+pub fn make<R: Threads + Sync>(
+    rt: &R,
+    alloc: Global,
+    script: &[u8],
+    plan: &Plan,
+) -> Result<Vec<u8>, Fault>
+    ensures { Made (λ v. v.items) script.now result }
+{
+    let mut log = Log::start(alloc)?;
+    let mut rest = script;
+    let mut n = 0;
+    while !rest.is_empty() {
+        let (text, after) = line_at(n + 1, rest)?;
+        log.add_line(rt, alloc, plan, n + 1, text)?;
+        rest = after;
+        n += 1;
+    }
+    Ok(log.bytes())
+}

@@ -1,0 +1,186 @@
+//! From a text to a line.
+
+ghost use Rattle.rq_record.specs.Reading.{Gives};
+ghost use Rattle.rq_record.specs.Views.{record_of};
+ghost use Rattle.rq_writer.specs.Reading as spec;
+ghost use Rattle.rq_writer.specs.Reading.{Reads};
+ghost use Rattle.rq_writer.specs.Views.{line_of};
+
+use crate::fields::{by, error, field, name, number, number_field, u32_field};
+use crate::hexes::{kept, payload};
+use crate::line::Line;
+use rq_record::{Fault, QueueNo, Record, UnitNo};
+use std::alloc::Global;
+
+#[tactic(auto, unfolding(crate::specs::Reading::define_of))]
+fn define(bytes: &[u8]) -> Result<Record, Fault>
+    ensures { Gives record_of result (spec.define_of bytes.now) }
+{
+    let (word, rest) = field(bytes)?;
+    let name = name(word)?;
+    let (limit, rest) = number_field(65535, rest)?;
+    let error = error(rest)?;
+    Ok(Record::Define {
+        limit: limit as u16,
+        error: QueueNo(error),
+        name,
+    })
+}
+
+#[tactic(auto, unfolding(crate::specs::Reading::register_of))]
+fn register(bytes: &[u8]) -> Result<Record, Fault>
+    ensures { Gives record_of result (spec.register_of bytes.now) }
+{
+    let (queue, rest) = u32_field(bytes)?;
+    let name = name(rest)?;
+    Ok(Record::Register {
+        queue: QueueNo(queue),
+        name,
+    })
+}
+
+#[tactic(auto, unfolding(crate::specs::Reading::deregister_of))]
+fn deregister(bytes: &[u8]) -> Result<Record, Fault>
+    ensures { Gives record_of result (spec.deregister_of bytes.now) }
+{
+    let (queue, rest) = u32_field(bytes)?;
+    let name = name(rest)?;
+    Ok(Record::Deregister {
+        queue: QueueNo(queue),
+        name,
+    })
+}
+
+fn unit(bytes: &[u8]) -> Result<UnitNo, Fault>
+    ensures { Gives (λ x. x.0) result (spec.unit_of bytes.now) }
+{
+    let unit = number(u64::MAX, bytes)?;
+    Ok(UnitNo(unit))
+}
+
+#[tactic(auto, unfolding(crate::specs::Reading::begin_of))]
+fn begin(bytes: &[u8]) -> Result<Record, Fault>
+    ensures { Gives record_of result (spec.begin_of bytes.now) }
+{
+    let unit = unit(bytes)?;
+    Ok(Record::Begin { unit })
+}
+
+#[tactic(auto, unfolding(crate::specs::Reading::commit_of))]
+fn commit(bytes: &[u8]) -> Result<Record, Fault>
+    ensures { Gives record_of result (spec.commit_of bytes.now) }
+{
+    let unit = unit(bytes)?;
+    Ok(Record::Commit { unit })
+}
+
+#[tactic(auto, unfolding(crate::specs::Reading::abort_of))]
+fn abort(bytes: &[u8]) -> Result<Record, Fault>
+    ensures { Gives record_of result (spec.abort_of bytes.now) }
+{
+    let unit = unit(bytes)?;
+    Ok(Record::Abort { unit })
+}
+
+#[tactic(auto, unfolding(crate::specs::Reading::enqueue_of))]
+fn enqueue(alloc: Global, bytes: &[u8]) -> Result<Record, Fault>
+    ensures { Gives record_of result (spec.enqueue_of bytes.now) }
+{
+    let (unit, rest) = number_field(u64::MAX, bytes)?;
+    let (queue, rest) = u32_field(rest)?;
+    let (priority, rest) = number_field(255, rest)?;
+    let (name, rest) = field(rest)?;
+    let (tag, rest) = number_field(u64::MAX, rest)?;
+    let by = by(name, tag)?;
+    let payload = payload(alloc, rest)?;
+    Ok(Record::Enqueue {
+        unit: UnitNo(unit),
+        queue: QueueNo(queue),
+        priority: priority as u8,
+        by,
+        payload,
+    })
+}
+
+#[tactic(auto, unfolding(crate::specs::Reading::dequeue_of))]
+fn dequeue(bytes: &[u8]) -> Result<Record, Fault>
+    ensures { Gives record_of result (spec.dequeue_of bytes.now) }
+{
+    let (unit, rest) = number_field(u64::MAX, bytes)?;
+    let (queue, rest) = u32_field(rest)?;
+    let (name, rest) = field(rest)?;
+    let tag = number(u64::MAX, rest)?;
+    let by = by(name, tag)?;
+    Ok(Record::Dequeue {
+        unit: UnitNo(unit),
+        queue: QueueNo(queue),
+        by,
+    })
+}
+
+#[tactic(auto, unfolding(crate::specs::Reading::checkpoint_of))]
+fn checkpoint(alloc: Global, bytes: &[u8]) -> Result<Record, Fault>
+    ensures { Gives record_of result (spec.checkpoint_of bytes.now) }
+{
+    let bytes = kept(alloc, bytes)?;
+    Ok(Record::Checkpoint { bytes })
+}
+
+#[tactic(auto, unfolding(crate::specs::Reading::told_by))]
+fn told_by(alloc: Global, word: &[u8], rest: &[u8]) -> Result<Record, Fault>
+    ensures { Gives record_of result (spec.told_by word.now rest.now) }
+{
+    if word == b"define".as_slice() {
+        define(rest)
+    } else if word == b"register".as_slice() {
+        register(rest)
+    } else if word == b"deregister".as_slice() {
+        deregister(rest)
+    } else if word == b"begin".as_slice() {
+        begin(rest)
+    } else if word == b"enqueue".as_slice() {
+        enqueue(alloc, rest)
+    } else if word == b"dequeue".as_slice() {
+        dequeue(rest)
+    } else if word == b"commit".as_slice() {
+        commit(rest)
+    } else if word == b"abort".as_slice() {
+        abort(rest)
+    } else if word == b"checkpoint-hex".as_slice() {
+        checkpoint(alloc, rest)
+    } else {
+        Err(Fault::Form)
+    }
+}
+
+#[tactic(auto, unfolding(crate::specs::Reading::record_at))]
+fn record(alloc: Global, text: &[u8]) -> Result<Record, Fault>
+    ensures { Gives record_of result (spec.record_at text.now) }
+{
+    let (word, rest) = field(text)?;
+    told_by(alloc, word, rest)
+}
+
+#[tactic(auto, unfolding(crate::specs::Reading::told_line))]
+fn told_line(alloc: Global, text: &[u8]) -> Result<Line, Fault>
+    ensures { Gives line_of result (spec.told_line text.now) }
+{
+    let record = record(alloc, text)?;
+    Ok(Line::Told(record))
+}
+
+fn line(alloc: Global, text: &[u8]) -> Result<Line, Fault>
+    ensures { Gives line_of result (spec.line_at text.now) }
+{
+    if text == b"checkpoint".as_slice() {
+        return Ok(Line::Spelled);
+    }
+    told_line(alloc, text)
+}
+
+/// The line that the text tells. `Form` where no line has this text.
+pub(crate) fn read_line(alloc: Global, text: &[u8]) -> Result<Line, Fault>
+    ensures { Reads text.now result }
+{
+    line(alloc, text)
+}
