@@ -1,0 +1,112 @@
+-- From the bytes that were read to those that the reader had.
+use Rattle.std.proofs.Common.{◌≡◌, ℕ, ◌<◌, List, [], ◌++◌, length, refl, sym, ap, subst, ◌∙◌, append_assoc, arith, inl, inr}
+use Rattle.std.specs.Prelude.{◌⊎◌, Option, Some, None, Result, Ok, Err}
+use Rattle.std.specs.Io.KnownBytes.{Consumes, IsAtEnd}
+use Rattle.std.proofs.lemmas.List.{append-nil, length-append}
+use Rattle.rq_model.specs.Frames.{log_limit}
+use Rattle.rq_model.specs.Fronts.{Restarted, IsRestart}
+use Rattle.rq_record.specs.declared.fault.Fault.{Fault}
+use Rattle.rq_record.specs.declared.fault.Fault.TheVariants as faults
+use Rattle.rq_front.specs.Chains.{Refused}
+use Rattle.rq_report.specs.Streams.{Reports}
+use Rattle.rq_restart.specs.Restarts.{Restarts}
+use Rattle.rq_tool.specs.Streams.{ReadsAll}
+use Rattle.rq_tool.specs.Headline.{RestartsRead, Runs, WritesOnly}
+
+pub consumes_nothing : (known : Option (List ℕ)) → Consumes known known []
+consumes_nothing None = tt
+consumes_nothing (Some xs) = refl
+
+pub consumes_more : (old mid new : Option (List ℕ)) (a b : List ℕ) → Consumes old mid a → Consumes mid new b → Consumes old new (a ++ b)
+consumes_more None mid new a b p q = tt
+consumes_more (Some xs) None new a b p q = absurd p
+consumes_more (Some xs) (Some ys) None a b p q = absurd q
+consumes_more (Some xs) (Some ys) (Some zs) a b p q = p ∙ ap (λ (x : List ℕ). a ++ x) q ∙ sym (append_assoc a b zs)
+
+-- at the end nothing more is taken
+pub ended : (old new : Option (List ℕ)) → Consumes old new [] → IsAtEnd new → IsAtEnd old
+ended None new p h = tt
+ended (Some xs) None p h = absurd p
+ended (Some xs) (Some ys) p h = p ∙ h
+
+-- the bytes are those that the reader had, or both are too long
+abbrev pub IsSame : List ℕ → List ℕ → Type 0
+IsSame b bytes = (bytes ≡ b) ⊎ ((log_limit < length b) × (log_limit < length bytes))
+
+same_bytes : (b bytes : List ℕ) (new : Option (List ℕ)) → ReadsAll (Some b) new bytes → IsSame b bytes
+same_bytes b bytes None h = absurd h.0
+same_bytes b bytes (Some ys) h = elim (h.1) [
+  | inl none ↦ inl (sym (append-nil bytes) ∙ ap (λ (z : List ℕ). bytes ++ z) (sym none) ∙ sym h.0)
+  | inr long ↦ inr (omega (arith, long, ap length h.0, length-append bytes ys), long)
+]
+
+pub same_read : (b bytes : List ℕ) (old new : Option (List ℕ)) → old ≡ Some b → ReadsAll old new bytes → IsSame b bytes
+same_read b bytes old new is h = same_bytes b bytes new (subst (λ (o : Option (List ℕ)). ReadsAll o new bytes) is h)
+
+same_refused : (b : List ℕ) (e : Fault) → Refused b e → RestartsRead b (Err e)
+same_refused b faults.TooLong h = h
+same_refused b faults.NotALog h = h
+same_refused b faults.Resources h = tt
+same_refused b faults.Form h = absurd h
+same_refused b faults.TooLarge h = absurd h
+same_refused b faults.BadCheckpoint h = absurd h
+same_refused b faults.NoCheckpoint h = absurd h
+same_refused b (faults.Script n) h = absurd h
+same_refused b faults.ReadFailed h = absurd h
+same_refused b faults.WriteFailed h = absurd h
+
+long_refused : (b bytes : List ℕ) (e : Fault) → log_limit < length b → log_limit < length bytes → Refused bytes e → RestartsRead b (Err e)
+long_refused b bytes faults.TooLong long more h = long
+long_refused b bytes faults.NotALog long more h = absurd (omega (arith, h.0, more))
+long_refused b bytes faults.Resources long more h = tt
+long_refused b bytes faults.Form long more h = absurd h
+long_refused b bytes faults.TooLarge long more h = absurd h
+long_refused b bytes faults.BadCheckpoint long more h = absurd h
+long_refused b bytes faults.NoCheckpoint long more h = absurd h
+long_refused b bytes (faults.Script n) long more h = absurd h
+long_refused b bytes faults.ReadFailed long more h = absurd h
+long_refused b bytes faults.WriteFailed long more h = absurd h
+
+-- what a restart of the bytes says, it says of those that the reader had
+refused_read : (b bytes : List ℕ) (e : Fault) → IsSame b bytes → Refused bytes e → RestartsRead b (Err e)
+refused_read b bytes e same h = elim same [
+  | inl is ↦ same_refused b e (subst (λ (z : List ℕ). Refused z e) is h)
+  | inr long ↦ long_refused b bytes e long.0 long.1 h
+]
+
+restarted_read : (b bytes : List ℕ) (r : Restarted) → IsSame b bytes → Restarts bytes (Ok r) → RestartsRead b (Ok r)
+restarted_read b bytes r same h = elim same [
+  | inl is ↦ subst (λ (z : List ℕ). RestartsRead z (Ok r)) is ((h.0, h.1), h.2)
+  | inr long ↦ absurd (omega (arith, h.0, long.1))
+]
+
+pub result_read : (b bytes : List ℕ) (result : Result Restarted Fault) → IsSame b bytes → Restarts bytes result → RestartsRead b result
+result_read b bytes (Ok r) same h = restarted_read b bytes r same h
+result_read b bytes (Err e) same h = refused_read b bytes e same h
+
+-- what is written of a restart is written of its bytes
+pub written_runs : (b : List ℕ) (r : Restarted) (before after : ℕ) (old new : Option (List ℕ)) (result : Result (Unit {0}) Fault) → RestartsRead b (Ok r) → Reports r before after old new result → Runs b old new result
+written_runs b r before after old new (Ok done) read w = (read.0, w.0, (r, read.1, w.1), w.3)
+written_runs b r before after old new (Err faults.WriteFailed) read w = (read.0, w.0, (r, read.1, w.1), w.3)
+written_runs b r before after old new (Err faults.Resources) read w = w.1
+written_runs b r before after old new (Err faults.Form) read w = absurd w
+written_runs b r before after old new (Err faults.NotALog) read w = absurd w
+written_runs b r before after old new (Err faults.TooLong) read w = absurd w
+written_runs b r before after old new (Err faults.TooLarge) read w = absurd w
+written_runs b r before after old new (Err faults.BadCheckpoint) read w = absurd w
+written_runs b r before after old new (Err faults.NoCheckpoint) read w = absurd w
+written_runs b r before after old new (Err (faults.Script n)) read w = absurd w
+written_runs b r before after old new (Err faults.ReadFailed) read w = absurd w
+
+pub written_only : (b : List ℕ) (r : Restarted) (before after : ℕ) (old new : Option (List ℕ)) (result : Result (Unit {0}) Fault) → IsRestart b r → Reports r before after old new result → WritesOnly old new result
+written_only b r before after old new (Ok done) is w = (b, w.0, (r, is, w.1), w.3)
+written_only b r before after old new (Err faults.WriteFailed) is w = (b, w.0, (r, is, w.1), w.3)
+written_only b r before after old new (Err faults.Resources) is w = w.1
+written_only b r before after old new (Err faults.Form) is w = absurd w
+written_only b r before after old new (Err faults.NotALog) is w = absurd w
+written_only b r before after old new (Err faults.TooLong) is w = absurd w
+written_only b r before after old new (Err faults.TooLarge) is w = absurd w
+written_only b r before after old new (Err faults.BadCheckpoint) is w = absurd w
+written_only b r before after old new (Err faults.NoCheckpoint) is w = absurd w
+written_only b r before after old new (Err (faults.Script n)) is w = absurd w
+written_only b r before after old new (Err faults.ReadFailed) is w = absurd w

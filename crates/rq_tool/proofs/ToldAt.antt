@@ -1,0 +1,125 @@
+-- From the bytes that were read to those that the reader had, for a run from a checkpoint.
+use Rattle.std.proofs.Common.{◌≡◌, ℕ, ◌<◌, ◌≤◌, List, length, refl, sym, ap, subst, ◌∙◌, arith, inl, inr}
+use Rattle.std.specs.Prelude.{◌⊎◌, Option, Some, None, Result, Ok, Err}
+use Rattle.std.specs.Io.KnownBytes.{Appends}
+use Rattle.rq_model.specs.Frames.{log_limit}
+use Rattle.rq_model.specs.Fronts.{Restarted}
+use Rattle.rq_model.specs.Reports.{IsReport, IsText}
+use Rattle.rq_model.specs.Checkpoints.{IsReportAt, IsRestartAt, TrueAt}
+use Rattle.rq_model.specs.LogLaws.{OneRestartAt, OneText, TrueIsSame}
+use Rattle.rq_record.specs.declared.fault.Fault.{Fault}
+use Rattle.rq_record.specs.declared.fault.Fault.TheVariants as faults
+use Rattle.rq_report.specs.Streams.{AppendsFront, Reports}
+use Rattle.rq_restart.specs.Restarts.{RestartsAt}
+use Rattle.rq_tool.proofs.Told.{IsSame}
+use Rattle.rq_tool.specs.Streams.{ReadFaults, WriteFaults}
+use Rattle.rq_tool.specs.Headline.{RestartsAtRead, RunsAt, WritesOnlyAt, WritesReport}
+
+same_result : (b : List ℕ) (offset : ℕ) (result : Result Restarted Fault) → RestartsAt b offset result → RestartsAtRead b offset result
+same_result b offset (Ok r) h = ((h.0, h.1), h.2)
+same_result b offset (Err faults.TooLong) h = h
+same_result b offset (Err faults.NotALog) h = h
+same_result b offset (Err faults.Resources) h = tt
+same_result b offset (Err faults.NoCheckpoint) h = h
+same_result b offset (Err faults.BadCheckpoint) h = h
+same_result b offset (Err faults.Form) h = absurd h
+same_result b offset (Err faults.TooLarge) h = absurd h
+same_result b offset (Err (faults.Script n)) h = absurd h
+same_result b offset (Err faults.ReadFailed) h = absurd h
+same_result b offset (Err faults.WriteFailed) h = absurd h
+
+long_result : (b bytes : List ℕ) (offset : ℕ) (result : Result Restarted Fault) → log_limit < length b → log_limit < length bytes → RestartsAt bytes offset result → RestartsAtRead b offset result
+long_result b bytes offset (Ok r) long more h = absurd (omega (arith, h.0, more))
+long_result b bytes offset (Err faults.TooLong) long more h = long
+long_result b bytes offset (Err faults.NotALog) long more h = absurd (omega (arith, h.0, more))
+long_result b bytes offset (Err faults.Resources) long more h = tt
+long_result b bytes offset (Err faults.NoCheckpoint) long more h = absurd (omega (arith, h.0, more))
+long_result b bytes offset (Err faults.BadCheckpoint) long more h = absurd (omega (arith, h.0, more))
+long_result b bytes offset (Err faults.Form) long more h = absurd h
+long_result b bytes offset (Err faults.TooLarge) long more h = absurd h
+long_result b bytes offset (Err (faults.Script n)) long more h = absurd h
+long_result b bytes offset (Err faults.ReadFailed) long more h = absurd h
+long_result b bytes offset (Err faults.WriteFailed) long more h = absurd h
+
+-- what a restart of the bytes says, it says of those that the reader had
+pub result_read_at : (b bytes : List ℕ) (offset : ℕ) (result : Result Restarted Fault) → IsSame b bytes → RestartsAt bytes offset result → RestartsAtRead b offset result
+result_read_at b bytes offset result same h = elim same [
+  | inl is ↦ same_result b offset result (subst (λ (z : List ℕ). RestartsAt z offset result) is h)
+  | inr long ↦ long_result b bytes offset result long.0 long.1 h
+]
+
+-- what is written of a restart is written of its bytes
+pub written_runs_at : (b : List ℕ) (offset : ℕ) (r : Restarted) (before after : ℕ) (old new : Option (List ℕ)) (result : Result (Unit {0}) Fault) → RestartsAtRead b offset (Ok r) → Reports r before after old new result
+    → RunsAt b offset old new result
+written_runs_at b offset r before after old new (Ok done) read w = (read.0, w.0, (r, read.1, w.1), w.3)
+written_runs_at b offset r before after old new (Err faults.WriteFailed) read w = (read.0, w.0, (r, read.1, w.1), w.3)
+written_runs_at b offset r before after old new (Err faults.Resources) read w = w.1
+written_runs_at b offset r before after old new (Err faults.Form) read w = absurd w
+written_runs_at b offset r before after old new (Err faults.NotALog) read w = absurd w
+written_runs_at b offset r before after old new (Err faults.TooLong) read w = absurd w
+written_runs_at b offset r before after old new (Err faults.TooLarge) read w = absurd w
+written_runs_at b offset r before after old new (Err faults.BadCheckpoint) read w = absurd w
+written_runs_at b offset r before after old new (Err faults.NoCheckpoint) read w = absurd w
+written_runs_at b offset r before after old new (Err (faults.Script n)) read w = absurd w
+written_runs_at b offset r before after old new (Err faults.ReadFailed) read w = absurd w
+
+pub written_only_at : (b : List ℕ) (offset : ℕ) (r : Restarted) (before after : ℕ) (old new : Option (List ℕ)) (result : Result (Unit {0}) Fault) → IsRestartAt b offset r → Reports r before after old new result
+    → WritesOnlyAt offset old new result
+written_only_at b offset r before after old new (Ok done) is w = (b, w.0, (r, is, w.1), w.3)
+written_only_at b offset r before after old new (Err faults.WriteFailed) is w = (b, w.0, (r, is, w.1), w.3)
+written_only_at b offset r before after old new (Err faults.Resources) is w = w.1
+written_only_at b offset r before after old new (Err faults.Form) is w = absurd w
+written_only_at b offset r before after old new (Err faults.NotALog) is w = absurd w
+written_only_at b offset r before after old new (Err faults.TooLong) is w = absurd w
+written_only_at b offset r before after old new (Err faults.TooLarge) is w = absurd w
+written_only_at b offset r before after old new (Err faults.BadCheckpoint) is w = absurd w
+written_only_at b offset r before after old new (Err faults.NoCheckpoint) is w = absurd w
+written_only_at b offset r before after old new (Err (faults.Script n)) is w = absurd w
+written_only_at b offset r before after old new (Err faults.ReadFailed) is w = absurd w
+
+-- from a true checkpoint there is no other report
+one_text : TrueIsSame → OneRestartAt → OneText → (b : List ℕ) (offset : ℕ) (x y : List ℕ) → TrueAt b offset → IsReportAt b offset x → IsReport b y → x ≡ y
+one_text same one one_of b offset x y true_at at whole =
+    let is : at.0 ≡ whole.0 = one b offset at.0 whole.0 at.1 (same b offset whole.0 true_at whole.1) in
+    one_of whole.0 x y (subst (λ (r : Restarted). IsText r x) is at.2) whole.2
+
+pub writes_report : TrueIsSame → OneRestartAt → OneText → (b : List ℕ) (offset : ℕ) (old new : Option (List ℕ)) (result : Result (Unit {0}) Fault) → TrueAt b offset → RunsAt b offset old new result → WritesReport b old new result
+writes_report same one one_of b offset old new (Ok done) true_at h = λ text is. subst (Appends old new) (one_text same one one_of b offset h.1 text true_at h.2 is) h.3
+writes_report same one one_of b offset old new (Err faults.WriteFailed) true_at h = λ text is. subst (AppendsFront old new) (one_text same one one_of b offset h.1 text true_at h.2 is) h.3
+writes_report same one one_of b offset old new (Err faults.Form) true_at h = tt
+writes_report same one one_of b offset old new (Err faults.NotALog) true_at h = tt
+writes_report same one one_of b offset old new (Err faults.TooLong) true_at h = tt
+writes_report same one one_of b offset old new (Err faults.TooLarge) true_at h = tt
+writes_report same one one_of b offset old new (Err faults.BadCheckpoint) true_at h = tt
+writes_report same one one_of b offset old new (Err faults.NoCheckpoint) true_at h = tt
+writes_report same one one_of b offset old new (Err (faults.Script n)) true_at h = tt
+writes_report same one one_of b offset old new (Err faults.ReadFailed) true_at h = tt
+writes_report same one one_of b offset old new (Err faults.Resources) true_at h = tt
+
+-- where a report is written, or not, no read failed
+pub no_read_failed : (r : Restarted) (before after from to : ℕ) (old new : Option (List ℕ)) (result : Result (Unit {0}) Fault) → Reports r before after old new result → to ≡ from → ReadFaults from to result
+no_read_failed r before after from to old new (Ok done) w same = same
+no_read_failed r before after from to old new (Err faults.WriteFailed) w same = same
+no_read_failed r before after from to old new (Err faults.Resources) w same = same
+no_read_failed r before after from to old new (Err faults.Form) w same = absurd w
+no_read_failed r before after from to old new (Err faults.NotALog) w same = absurd w
+no_read_failed r before after from to old new (Err faults.TooLong) w same = absurd w
+no_read_failed r before after from to old new (Err faults.TooLarge) w same = absurd w
+no_read_failed r before after from to old new (Err faults.BadCheckpoint) w same = absurd w
+no_read_failed r before after from to old new (Err faults.NoCheckpoint) w same = absurd w
+no_read_failed r before after from to old new (Err (faults.Script n)) w same = absurd w
+no_read_failed r before after from to old new (Err faults.ReadFailed) w same = absurd w
+
+-- a write failed exactly where that is told
+pub write_failed : (r : Restarted) (before after : ℕ) (old new : Option (List ℕ)) (result : Result (Unit {0}) Fault) → Reports r before after old new result → WriteFaults before after result
+write_failed r before after old new (Ok done) w = w.2
+write_failed r before after old new (Err faults.WriteFailed) w = w.2
+write_failed r before after old new (Err faults.Resources) w = w.0
+write_failed r before after old new (Err faults.Form) w = absurd w
+write_failed r before after old new (Err faults.NotALog) w = absurd w
+write_failed r before after old new (Err faults.TooLong) w = absurd w
+write_failed r before after old new (Err faults.TooLarge) w = absurd w
+write_failed r before after old new (Err faults.BadCheckpoint) w = absurd w
+write_failed r before after old new (Err faults.NoCheckpoint) w = absurd w
+write_failed r before after old new (Err (faults.Script n)) w = absurd w
+write_failed r before after old new (Err faults.ReadFailed) w = absurd w

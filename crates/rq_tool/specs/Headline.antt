@@ -1,0 +1,86 @@
+-- What a run of the engine does.
+use Rattle.std.specs.Prelude.{ℕ, ◌<◌, ◌≤◌, List, length, Option, Result, Ok, Err, ⊤}
+use Rattle.std.specs.Io.KnownBytes.{Keeps, Appends}
+use Rattle.rq_model.specs.Records.{One}
+use Rattle.rq_model.specs.Frames.{log_limit, HasHeader}
+use Rattle.rq_model.specs.Fronts.{Restarted, IsRestart}
+use Rattle.rq_model.specs.Reports.{IsReport}
+use Rattle.rq_model.specs.Checkpoints.{IsReportAt, IsRestartAt}
+use Rattle.rq_restart.specs.Restarts.{HasNoCheckpoint, HasBadCheckpoint}
+use Rattle.rq_record.specs.declared.fault.Fault.{Fault}
+use Rattle.rq_record.specs.declared.fault.Fault.TheVariants.{TooLong, NotALog, NoCheckpoint, BadCheckpoint, Resources, ReadFailed, WriteFailed}
+use Rattle.rq_report.specs.Streams.{AppendsFront}
+
+-- the bytes are a log that may be run
+abbrev pub IsRunnable : List ℕ → Type 0
+IsRunnable b = (length b ≤ log_limit) × HasHeader One b
+
+-- a run over the bytes b, where the writer held the bytes `old` before and holds `new` afterwards: the report of b is written, and nothing else;
+-- or nothing is, since b is too long or no log, memory is refused or a read failed; or a beginning of the report is, and then a write failed
+abbrev pub Runs : List ℕ → Option (List ℕ) → Option (List ℕ) → Result (Unit {0}) Fault → Type 0
+Runs b old new (Ok done) = IsRunnable b × (text : List ℕ) × IsReport b text × Appends old new text
+Runs b old new (Err TooLong) = (log_limit < length b) × Keeps old new
+Runs b old new (Err NotALog) = (length b ≤ log_limit) × (HasHeader One b → ⊥) × Keeps old new
+Runs b old new (Err Resources) = Keeps old new
+Runs b old new (Err ReadFailed) = Keeps old new
+Runs b old new (Err WriteFailed) = IsRunnable b × (text : List ℕ) × IsReport b text × AppendsFront old new text
+Runs b old new (Err e) = ⊥
+
+-- also where the reader tells no bytes: nothing is written but a report or, where a write fails, a beginning of one
+abbrev pub WritesOnly : Option (List ℕ) → Option (List ℕ) → Result (Unit {0}) Fault → Type 0
+WritesOnly old new (Ok done) = (b text : List ℕ) × IsReport b text × Appends old new text
+WritesOnly old new (Err WriteFailed) = (b text : List ℕ) × IsReport b text × AppendsFront old new text
+WritesOnly old new (Err e) = Keeps old new
+
+-- the restart of the bytes b that a reader gives, or why there is none
+abbrev pub RestartsRead : List ℕ → Result Restarted Fault → Type 0
+RestartsRead b (Ok r) = IsRunnable b × IsRestart b r
+RestartsRead b (Err TooLong) = log_limit < length b
+RestartsRead b (Err NotALog) = (length b ≤ log_limit) × (HasHeader One b → ⊥)
+RestartsRead b (Err Resources) = ⊤
+RestartsRead b (Err ReadFailed) = ⊤
+RestartsRead b (Err e) = ⊥
+
+-- a refusal that comes before anything is written
+abbrev pub IsBeforeWriting : Fault → Type 0
+IsBeforeWriting TooLong = ⊤
+IsBeforeWriting NotALog = ⊤
+IsBeforeWriting Resources = ⊤
+IsBeforeWriting ReadFailed = ⊤
+IsBeforeWriting e = ⊥
+
+-- A run from the checkpoint at an offset.
+
+-- over the bytes b: the report from there is written, and nothing else; or nothing is, since no checkpoint begins there or it spells no state,
+-- or for what refuses a run; or a beginning of the report is, and then a write failed
+abbrev pub RunsAt : List ℕ → ℕ → Option (List ℕ) → Option (List ℕ) → Result (Unit {0}) Fault → Type 0
+RunsAt b offset old new (Ok done) = IsRunnable b × (text : List ℕ) × IsReportAt b offset text × Appends old new text
+RunsAt b offset old new (Err NoCheckpoint) = HasNoCheckpoint b offset × Keeps old new
+RunsAt b offset old new (Err BadCheckpoint) = HasBadCheckpoint b offset × Keeps old new
+RunsAt b offset old new (Err WriteFailed) = IsRunnable b × (text : List ℕ) × IsReportAt b offset text × AppendsFront old new text
+RunsAt b offset old new (Err e) = Runs b old new (Err e)
+
+-- also where the reader tells no bytes
+abbrev pub WritesOnlyAt : ℕ → Option (List ℕ) → Option (List ℕ) → Result (Unit {0}) Fault → Type 0
+WritesOnlyAt offset old new (Ok done) = (b text : List ℕ) × IsReportAt b offset text × Appends old new text
+WritesOnlyAt offset old new (Err WriteFailed) = (b text : List ℕ) × IsReportAt b offset text × AppendsFront old new text
+WritesOnlyAt offset old new (Err e) = Keeps old new
+
+-- the report of b is what is written, or what a beginning is written of
+abbrev pub WritesReport : List ℕ → Option (List ℕ) → Option (List ℕ) → Result (Unit {0}) Fault → Type 0
+WritesReport b old new (Ok done) = (text : List ℕ) → IsReport b text → Appends old new text
+WritesReport b old new (Err WriteFailed) = (text : List ℕ) → IsReport b text → AppendsFront old new text
+WritesReport b old new (Err e) = ⊤
+
+-- the restart of the bytes b that a reader gives, from the checkpoint at an offset, or why there is none
+abbrev pub RestartsAtRead : List ℕ → ℕ → Result Restarted Fault → Type 0
+RestartsAtRead b offset (Ok r) = IsRunnable b × IsRestartAt b offset r
+RestartsAtRead b offset (Err NoCheckpoint) = HasNoCheckpoint b offset
+RestartsAtRead b offset (Err BadCheckpoint) = HasBadCheckpoint b offset
+RestartsAtRead b offset (Err e) = RestartsRead b (Err e)
+
+-- a refusal that comes before anything is written
+abbrev pub IsBeforeWritingAt : Fault → Type 0
+IsBeforeWritingAt NoCheckpoint = ⊤
+IsBeforeWritingAt BadCheckpoint = ⊤
+IsBeforeWritingAt e = IsBeforeWriting e

@@ -1,0 +1,69 @@
+//! The engine of the program, from a checkpoint.
+
+ghost use Rattle.std.specs.Prelude.{◌≡◌, ℕ, ◌<◌, List, Some, IfOk, IfErr};
+ghost use Rattle.rq_model.specs.Checkpoints.{IsRestartAt, TrueAt};
+ghost use Rattle.rq_tool.specs.Streams.{ReadFaults, WriteFaults};
+ghost use Rattle.rq_tool.specs.Headline.{IsBeforeWritingAt, RestartsAtRead, RunsAt, WritesOnlyAt, WritesReport};
+
+use crate::input::read_all;
+use rq_report::{Input, Output, write_report};
+use rq_restart::{Fault, Gate, Plan, Restarted, restart_at};
+use std::alloc::Global;
+use std::marker::Sync;
+use std::thread::Threads;
+
+// The restart of what the input gives, from the checkpoint at an offset; the bytes are let go.
+fn read_and_restart_at<R, I, G>(
+    rt: &R,
+    alloc: Global,
+    input: &mut I,
+    offset: u64,
+    plan: &Plan,
+    gate: &G,
+) -> Result<Restarted, Fault>
+where
+    R: Threads + Sync,
+    I: Input,
+    G: Gate + Sync,
+    requires { I.faults input.old < 18446744073709551615 }
+    ensures told { (b : List ℕ) → I.remaining input.old ≡ Some b → RestartsAtRead b offset result }
+    ensures some { IfOk result (λ r. (b : List ℕ) × IsRestartAt b offset r) }
+    ensures refused { IfErr result IsBeforeWritingAt }
+    ensures faults { ReadFaults (I.faults input.old) (I.faults input.new) result }
+{
+    let bytes = read_all(alloc, input)?;
+    restart_at(rt, alloc, &bytes, offset, plan, gate)
+}
+
+/// Reads the input to its end, but at most 4,294,967,296 bytes, restarts from the checkpoint at an offset, and writes the
+/// report. From a true checkpoint it is the report of the log.
+///
+/// Nothing else is written. Refuses with `NoCheckpoint` where no checkpoint begins at the offset, with `BadCheckpoint`
+/// where it spells no well-formed state, and else as `run` does.
+pub fn run_at<R, I, O, G>(
+    rt: &R,
+    alloc: Global,
+    input: &mut I,
+    output: &mut O,
+    offset: u64,
+    plan: &Plan,
+    gate: &G,
+) -> Result<(), Fault>
+where
+    R: Threads + Sync,
+    I: Input,
+    O: Output,
+    G: Gate + Sync,
+    requires reads { I.faults input.old < 18446744073709551615 }
+    requires writes { O.faults output.old < 18446744073709551615 }
+    ensures runs { (b : List ℕ) → I.remaining input.old ≡ Some b → RunsAt b offset (O.contents output.old) (O.contents output.new) result }
+    ensures same { (b : List ℕ) → I.remaining input.old ≡ Some b → TrueAt b offset → WritesReport b (O.contents output.old) (O.contents output.new) result }
+    ensures quiet { WritesOnlyAt offset (O.contents output.old) (O.contents output.new) result }
+    ensures read_faults { ReadFaults (I.faults input.old) (I.faults input.new) result }
+    ensures write_faults { WriteFaults (O.faults output.old) (O.faults output.new) result }
+{
+    rq_model::true_checkpoints_say_the_same();
+    rq_model::one_report();
+    let restarted = read_and_restart_at(rt, alloc, input, offset, plan, gate)?;
+    write_report(alloc, &restarted, output)
+}

@@ -1,0 +1,17 @@
+//! The engine of the program, over readers and writers.
+#![tactic(auto)]
+
+mod acting;
+mod engine;
+mod engine_at;
+mod input;
+mod line;
+mod words;
+
+pub use acting::act;
+pub use engine::run;
+pub use engine_at::run_at;
+pub use line::Command;
+pub use rq_report::{Input, Output, OverRead, OverWrite};
+pub use rq_restart::{Fault, Gate, Open, Plan};
+pub use words::command;

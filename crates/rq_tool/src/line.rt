@@ -1,0 +1,29 @@
+//! The lines of the program.
+
+use rq_restart::Plan;
+
+/// A line of the program, by its words.
+#[derive(Clone, Copy, Debug)]
+pub enum Command<'a> {
+    /// Write the log of a script.
+    Make {
+        script: &'a str,
+        log: &'a str,
+    },
+    /// Print the report of a log.
+    Restart {
+        log: &'a str,
+        plan: Plan,
+    },
+    /// Print the report of a log from the checkpoint at an offset.
+    RestartAt {
+        log: &'a str,
+        offset: u64,
+        plan: Plan,
+    },
+    /// Print which checkpoints of a log are true.
+    Audit {
+        log: &'a str,
+        plan: Plan,
+    },
+}
