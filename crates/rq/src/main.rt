@@ -1,0 +1,112 @@
+//! The program `rq`: restarts a recoverable queue manager from its log.
+#![tactic(auto)]
+
+ghost use Rattle.std.specs.Prelude.{◌≡◌, IfOk};
+
+use rq_tool::{Command, Fault, Open, OverRead, OverWrite};
+use std::fs::File;
+use std::io::ErrorKind;
+use std::process::ExitCode;
+use std::rt::{Env, Files};
+use std::thread::Threads;
+use std::{env, fs, io};
+
+/// The exit status of a line that is no command.
+const USAGE: u8 = 2;
+
+/// Why the program ends before it is done.
+#[derive(Clone, Copy, Debug, PartialEq, Eq)]
+enum Stop {
+    Usage,
+    By(Fault),
+}
+
+fn main(rt: HostRuntime) -> ExitCode {
+    match start(&rt) {
+        Ok(()) => ExitCode::SUCCESS,
+        Err(Stop::By(fault)) => {
+            let _ = eprintln!(rt; "rq: {fault}");
+            ExitCode::from(fault.exit())
+        }
+        Err(Stop::Usage) => {
+            let _ = eprintln!(rt; "rq: usage");
+            ExitCode::from(USAGE)
+        }
+    }
+}
+
+/// Does the command of the arguments.
+fn start<R>(rt: &R) -> Result<(), Stop>
+where
+    R: Files + Env + Print + AllocGlobal + Threads + Sync,
+{
+    let alloc = rt.alloc();
+    let all: Vec<String> = env::args(rt)
+        .map_err(|error| unread(&error))?
+        .collect(alloc)
+        .map_err(|_| Stop::By(Fault::Resources))?;
+    let words: Vec<&str> = all
+        .iter()
+        .skip(1)
+        .map(|word| word.as_str())
+        .collect(alloc)
+        .map_err(|_| Stop::By(Fault::Resources))?;
+    match rq_tool::command(words.as_slice()) {
+        Some(command) => perform(rt, &command).map_err(Stop::By),
+        None => Err(Stop::Usage),
+    }
+}
+
+/// Arguments that are no text are no command; where memory ran out nothing is known of them.
+fn unread(error: &io::Error) -> Stop {
+    if error.kind() == ErrorKind::OutOfMemory {
+        Stop::By(Fault::Resources)
+    } else {
+        Stop::Usage
+    }
+}
+
+/// Does the command on its files.
+fn perform<R>(rt: &R, command: &Command<'_>) -> Result<(), Fault>
+where
+    R: Files + Print + AllocGlobal + Threads + Sync,
+{
+    match command {
+        Command::Make { script, log } => make_file(rt, command, script, log),
+        Command::Restart { log, .. } => print(rt, command, log),
+        Command::RestartAt { log, .. } => print(rt, command, log),
+        Command::Audit { log, .. } => print(rt, command, log),
+    }
+}
+
+/// Writes what the command answers to standard output.
+fn print<R>(rt: &R, command: &Command<'_>, from: &str) -> Result<(), Fault>
+where
+    R: Files + Print + AllocGlobal + Threads + Sync,
+{
+    let mut input = open(rt, from)?;
+    let mut output = OverWrite::new(io::writer(rt));
+    rq_tool::act(rt, rt.alloc(), command, &mut input, &mut output, &Open)
+}
+
+/// Makes a file of what the command answers, once all of it is there.
+fn make_file<R>(rt: &R, command: &Command<'_>, from: &str, to: &str) -> Result<(), Fault>
+where
+    R: Files + Print + AllocGlobal + Threads + Sync,
+{
+    let mut input = open(rt, from)?;
+    let mut made = OverWrite::new(Vec::new(rt.alloc()));
+    rq_tool::act(rt, rt.alloc(), command, &mut input, &mut made, &Open)?;
+    let bytes = made.into_inner();
+    fs::write(rt, to, bytes.as_slice()).map_err(|_| Fault::WriteFailed)
+}
+
+/// Opens a file for reading.
+fn open<R: Files>(rt: &R, path: &str) -> Result<OverRead<R::File>, Fault>
+    ensures { IfOk result (λ it. it.faults ≡ 0) }
+{
+    match File::open(rt, path) {
+        Ok(file) => Ok(OverRead::new(file)),
+        Err(_) => Err(Fault::ReadFailed),
+    }
+}
