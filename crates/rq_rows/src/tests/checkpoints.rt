@@ -1,0 +1,176 @@
+//! Restarts from checkpoints, and their audit.
+
+use super::scripts::CHECKPOINT;
+use super::{PLANS, answer, lines, log_of, reports};
+use rq_state::read;
+use rq_tool::{Command, Fault, Plan};
+use std::test::Fail;
+use std::thread::Threads;
+
+const JOBS: &str = "queue 0 jobs limit 0 error -";
+
+const NO_UNIT: &str = "units 0 committed, 0 aborted, 0 cut off";
+
+const AFTER: [&str; 4] = [
+    "units 2 committed, 0 aborted, 0 cut off",
+    JOBS,
+    "e 7 from 0 priority 8 attempts 0 62",
+    "r ann dequeue tag 10 element 3",
+];
+
+/// Whether the log has this report from the checkpoint at the offset, under every plan.
+fn reports_at<R: Threads + Sync + AllocGlobal>(
+    rt: &R,
+    log: &[u8],
+    offset: u64,
+    report: &[&str],
+) -> Result<bool, Fail> {
+    let want = lines(rt.alloc(), report)?;
+    let mut same = true;
+    for (workers, grain) in PLANS {
+        let plan = Plan::new(workers, grain).ok_or("plan")?;
+        let command = Command::RestartAt {
+            log: "log",
+            offset,
+            plan,
+        };
+        same = same && answer(rt, &command, log)? == want;
+    }
+    Ok(same)
+}
+
+/// Whether the audit of the log has these lines.
+fn audits<R: Threads + Sync + AllocGlobal>(
+    rt: &R,
+    log: &[u8],
+    found: &[&str],
+) -> Result<bool, Fail> {
+    let want = lines(rt.alloc(), found)?;
+    let plan = Plan::new(2, 1000).ok_or("plan")?;
+    Ok(answer(rt, &Command::Audit { log: "log", plan }, log)? == want)
+}
+
+fn refusal_at<R: Threads + Sync + AllocGlobal>(
+    rt: &R,
+    log: &[u8],
+    offset: u64,
+) -> Result<Option<Fault>, Fail> {
+    let plan = Plan::new(1, 1).ok_or("plan")?;
+    let command = Command::RestartAt {
+        log: "log",
+        offset,
+        plan,
+    };
+    Ok(answer(rt, &command, log).err())
+}
+
+/// The script with another line in place of `checkpoint`.
+fn with_line<R: Threads + Sync + AllocGlobal>(rt: &R, line: &str) -> Result<Vec<u8>, Fail> {
+    let mut script = CHECKPOINT;
+    script[8] = line;
+    log_of(rt, &script)
+}
+
+#[test]
+fn a_true_checkpoint_says_the_same(rt: HostRuntime) -> Result<(), Fail> {
+    let log = log_of(&rt, &CHECKPOINT)?;
+    assert_eq!(rt; log.len(), 724);
+    let report = [
+        "front 10 records, 724 of 724 bytes, whole",
+        AFTER[0],
+        AFTER[1],
+        AFTER[2],
+        AFTER[3],
+    ];
+    assert!(rt; reports(&rt, &log, &report)?, "restart");
+    assert!(rt; reports_at(&rt, &log, 447, &report)?, "from the checkpoint");
+    assert!(rt; audits(&rt, &log, &["checkpoint 447 true"])?, "audit");
+    assert_eq!(rt; refusal_at(&rt, &log, 448)?, Some(Fault::NoCheckpoint));
+    assert_eq!(rt; refusal_at(&rt, &log, 387)?, Some(Fault::NoCheckpoint));
+    assert_eq!(rt; refusal_at(&rt, &log, 39)?, Some(Fault::NoCheckpoint));
+    Ok(())
+}
+
+#[test]
+fn a_unit_is_cut_off_behind_a_checkpoint(rt: HostRuntime) -> Result<(), Fail> {
+    let log = log_of(&rt, &CHECKPOINT[..9])?;
+    assert_eq!(rt; log.len(), 679);
+    let report = [
+        "front 9 records, 679 of 679 bytes, whole",
+        "units 1 committed, 0 aborted, 1 cut off",
+        JOBS,
+        "e 3 from 0 priority 5 attempts 1 61",
+        "r ann none",
+    ];
+    assert!(rt; reports(&rt, &log, &report)?, "restart");
+    assert!(rt; reports_at(&rt, &log, 447, &report)?, "from the checkpoint");
+    Ok(())
+}
+
+#[test]
+fn a_false_checkpoint_is_told(rt: HostRuntime) -> Result<(), Fail> {
+    let zeroes =
+        "checkpoint-hex 00000000000000000000000000000000000000000000000000000000000000000000000000000000000000000000000000000000";
+    let log = with_line(&rt, zeroes)?;
+    let report = [
+        "front 10 records, 581 of 581 bytes, whole",
+        AFTER[0],
+        AFTER[1],
+        AFTER[2],
+        AFTER[3],
+    ];
+    assert!(rt; reports(&rt, &log, &report)?, "restart");
+    assert!(rt; audits(&rt, &log, &["checkpoint 447 false"])?, "audit");
+    let from = ["front 1 records, 536 of 581 bytes, law", NO_UNIT];
+    assert!(rt; reports_at(&rt, &log, 447, &from)?, "from the checkpoint");
+    let bad = with_line(&rt, "checkpoint-hex 00")?;
+    assert_eq!(rt; refusal_at(&rt, &bad, 447)?, Some(Fault::BadCheckpoint));
+    Ok(())
+}
+
+#[test]
+fn the_greatest_record_number(rt: HostRuntime) -> Result<(), Fail> {
+    let line =
+        "checkpoint-hex 00000000ffffffff0000000000000000000000000000000000000000000000000000000000000000000000000000000000000000";
+    let log = log_of(&rt, &[line])?;
+    assert_eq!(rt; log.len(), 129);
+    let from = ["front 4294967296 records, 129 of 129 bytes, whole", NO_UNIT];
+    assert!(rt; reports_at(&rt, &log, 40, &from)?, "from the checkpoint");
+    let whole = ["front 1 records, 129 of 129 bytes, whole", NO_UNIT];
+    assert!(rt; reports(&rt, &log, &whole)?, "restart");
+    assert!(rt; audits(&rt, &log, &["checkpoint 40 false"])?, "audit");
+    let two = log_of(&rt, &["checkpoint", "checkpoint"])?;
+    assert_eq!(rt; two.len(), 218);
+    assert!(rt;
+        audits(&rt, &two, &["checkpoint 40 true", "checkpoint 129 true"])?,
+        "two"
+    );
+    let second = two.get(134..186).ok_or("body")?;
+    assert_eq!(rt; second.iter().position(|byte| *byte != 0), Some(7));
+    assert_eq!(rt; second.get(7).copied(), Some(1));
+    Ok(())
+}
+
+#[test]
+fn a_state_is_read_whole_or_not_at_all(rt: HostRuntime) -> Result<(), Fail> {
+    let zeroes = [0u8; 53];
+    let empty = read(rt.alloc(), &zeroes[..52])?;
+    assert_eq!(rt; empty.next(), 0);
+    assert_eq!(rt; empty.definition_count(), 0);
+    assert_eq!(rt; empty.element_count(), 0);
+    assert_eq!(rt;
+        read(rt.alloc(), &zeroes[..51]).err(),
+        Some(Fault::BadCheckpoint)
+    );
+    assert_eq!(rt; read(rt.alloc(), &zeroes).err(), Some(Fault::BadCheckpoint));
+    let mut past = [0u8; 52];
+    past[3] = 1;
+    assert_eq!(rt; read(rt.alloc(), &past).err(), Some(Fault::BadCheckpoint));
+    let mut count = [0u8; 52];
+    count[44] = 0xff;
+    count[45] = 0xff;
+    count[46] = 0xff;
+    count[47] = 0xff;
+    assert_eq!(rt; read(rt.alloc(), &count).err(), Some(Fault::BadCheckpoint));
+    Ok(())
+}

@@ -1,0 +1,161 @@
+//! Damaged logs, and logs whose records are not lawful.
+
+use super::scripts::ONE_ELEMENT;
+use super::{log_of, refusal, reports, says};
+use rq_front::{Chain, Rest, chain, frame};
+use rq_tool::Fault;
+use sha2::{Digest, Sha256};
+use std::alloc::{AllocError, Global};
+use std::test::Fail;
+use std::thread::Threads;
+
+const JOBS: &str = "queue 0 jobs limit 0 error -";
+
+const NO_UNIT: &str = "units 0 committed, 0 aborted, 0 cut off";
+
+const ONE_CUT_OFF: &str = "units 0 committed, 0 aborted, 1 cut off";
+
+/// The log with these bytes in place of those at the offset.
+fn changed(mut log: Vec<u8>, offset: usize, bytes: &[u8]) -> Vec<u8> {
+    let places = log.iter_mut().skip(offset);
+    for (place, byte) in places.zip(bytes) {
+        *place = *byte;
+    }
+    log
+}
+
+#[test]
+fn a_header_with_any_byte_changed_is_no_log(rt: HostRuntime) -> Result<(), Fail> {
+    for offset in 0..40 {
+        let log = log_of(&rt, &[])?;
+        let byte = log.get(offset).ok_or("byte")? ^ 0x41;
+        let refused = refusal(&rt, &changed(log, offset, &[byte]))?;
+        assert_eq!(rt; refused, Some(Fault::NotALog), "at {offset}");
+    }
+    Ok(())
+}
+
+#[test]
+fn damage_ends_the_front(rt: HostRuntime) -> Result<(), Fail> {
+    let mut cut = log_of(&rt, &ONE_ELEMENT)?;
+    cut.truncate(236);
+    let cut = reports(
+        &rt,
+        &cut,
+        &["front 3 records, 192 of 236 bytes, cut", ONE_CUT_OFF, JOBS],
+    )?;
+    assert!(rt; cut, "cut");
+    let payload = changed(log_of(&rt, &ONE_ELEMENT)?, 159, &[0x62]);
+    let chained = reports(
+        &rt,
+        &payload,
+        &[
+            "front 2 records, 132 of 237 bytes, chain",
+            ONE_CUT_OFF,
+            JOBS,
+        ],
+    )?;
+    assert!(rt; chained, "changed byte");
+    let length = changed(log_of(&rt, &ONE_ELEMENT)?, 192, &[0, 0, 0, 0]);
+    let bad = reports(
+        &rt,
+        &length,
+        &[
+            "front 3 records, 192 of 237 bytes, length",
+            ONE_CUT_OFF,
+            JOBS,
+        ],
+    )?;
+    assert!(rt; bad, "bad length");
+    Ok(())
+}
+
+#[test]
+fn an_unchained_digest_ends_the_front(rt: HostRuntime) -> Result<(), Fail> {
+    let log = log_of(&rt, &ONE_ELEMENT)?;
+    let digest = Sha256::digest(log.get(40..55).ok_or("frame")?);
+    let log = changed(log, 55, digest.as_slice());
+    let ends = reports(
+        &rt,
+        &log,
+        &["front 0 records, 40 of 237 bytes, chain", NO_UNIT],
+    )?;
+    assert!(rt; ends);
+    Ok(())
+}
+
+#[test]
+fn records_that_are_none_or_not_lawful_end_the_front(rt: HostRuntime) -> Result<(), Fail> {
+    let unlawful = says(
+        &rt,
+        &["define jobs 0 -", "commit 7", "begin 1"],
+        177,
+        &["front 1 records, 87 of 177 bytes, law", NO_UNIT, JOBS],
+    )?;
+    assert!(rt; unlawful, "unlawful");
+    let zero = says(
+        &rt,
+        &["begin 0"],
+        85,
+        &["front 0 records, 40 of 85 bytes, law", NO_UNIT],
+    )?;
+    assert!(rt; zero, "unit 0");
+    let undefined = says(
+        &rt,
+        &["define a 1 0"],
+        84,
+        &["front 0 records, 40 of 84 bytes, law", NO_UNIT],
+    )?;
+    assert!(rt; undefined, "error queue undefined");
+    let mut log = log_of(&rt, &[])?;
+    let mut last = [0u8; 32];
+    last.copy_from_slice(log.get(8..40).ok_or("header")?);
+    frame(&last, &[0x0a], &mut log)?;
+    let no_record = reports(
+        &rt,
+        &log,
+        &["front 0 records, 40 of 77 bytes, form", NO_UNIT],
+    )?;
+    assert!(rt; no_record, "no record");
+    Ok(())
+}
+
+/// The chain from a place of the log, where there may be one.
+fn chain_from<R: Threads + Sync + AllocGlobal>(
+    rt: &R,
+    log: &[u8],
+    from: usize,
+    grain: u32,
+) -> Result<Option<Chain>, Fault> {
+    if from < 40 || log.len() < from || grain < 1 {
+        return Ok(None);
+    }
+    let found = chain(rt, rt.alloc(), log, from, grain)?;
+    Ok(Some(found))
+}
+
+/// Where the bodies of a chain stand.
+fn places(alloc: Global, found: &Chain) -> Result<Vec<(usize, usize)>, AllocError> {
+    let mut places = Vec::new(alloc);
+    for span in &found.spans {
+        places.push((span.start, span.len))?;
+    }
+    Ok(places)
+}
+
+#[test]
+fn the_chain_tells_its_spans(rt: HostRuntime) -> Result<(), Fail> {
+    let log = log_of(&rt, &ONE_ELEMENT)?;
+    for grain in [1, 1000] {
+        let found = chain_from(&rt, &log, 87, grain)?.ok_or("chain")?;
+        let spans = places(rt.alloc(), &found)?;
+        assert_eq!(rt; spans.as_slice(), [(91, 9), (136, 24), (196, 9)].as_slice());
+        assert_eq!(rt; found.end, 237);
+        assert!(rt; found.rest == Rest::Whole);
+        let none = chain_from(&rt, &log, 88, grain)?.ok_or("chain")?;
+        assert_eq!(rt; none.spans.len(), 0);
+        assert_eq!(rt; none.end, 88);
+        assert!(rt; none.rest == Rest::Cut);
+    }
+    Ok(())
+}

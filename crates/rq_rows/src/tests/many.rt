@@ -1,0 +1,183 @@
+//! A log with two hundred queues, twenty of them error queues.
+
+use super::{answer, lines, log_of};
+use rq_tool::{Command, Gate, OverRead, OverWrite, Plan, run};
+use std::alloc::Global;
+use std::io::Cursor;
+use std::sync::atomic::{AtomicU64, Ordering};
+use std::test::Fail;
+use std::thread::Threads;
+
+/// The script's lines: queues `d0` to `d19`, then `q20` to `q199` whose elements go to them at their first abort.
+fn script(alloc: Global) -> Result<Vec<String>, Fail> {
+    let mut lines = Vec::new(alloc);
+    for d in 0..20u32 {
+        lines.push(format!(in alloc; "define d{d} 0 -")?)?;
+    }
+    for q in 20..200u32 {
+        let error = q % 20;
+        lines.push(format!(in alloc; "define q{q} 1 {error}")?)?;
+    }
+    for q in 20..200u32 {
+        let unit = q - 19;
+        let priority = q % 7;
+        let payload = payload(alloc, q)?;
+        lines.push(format!(in alloc; "begin {unit}")?)?;
+        lines.push(format!(in alloc; "enqueue {unit} {q} {priority} - 0 {payload}")?)?;
+        lines.push(format!(in alloc; "commit {unit}")?)?;
+    }
+    for q in 20..200u32 {
+        let unit = q + 161;
+        lines.push(format!(in alloc; "begin {unit}")?)?;
+        lines.push(format!(in alloc; "dequeue {unit} {q} - 0")?)?;
+        match q % 3 {
+            0 => lines.push(format!(in alloc; "abort {unit}")?)?,
+            2 => lines.push(format!(in alloc; "commit {unit}")?)?,
+            _ => {}
+        }
+    }
+    Ok(lines)
+}
+
+/// 65,535 bytes for each tenth queue, nothing for the others.
+fn payload(alloc: Global, queue: u32) -> Result<String, Fail> {
+    let mut text = String::new(alloc);
+    if queue % 10 != 0 {
+        text.push('-')?;
+        return Ok(text);
+    }
+    let byte = format!(in alloc; "{queue:02x}")?;
+    for _ in 0..65_535 {
+        text.push_str(&byte)?;
+    }
+    Ok(text)
+}
+
+fn log<R: Threads + Sync + AllocGlobal>(rt: &R) -> Result<Vec<u8>, Fail> {
+    let made = script(rt.alloc())?;
+    let words: Vec<&str> = made.iter().map(|line| line.as_str()).collect(rt.alloc())?;
+    log_of(rt, &words)
+}
+
+fn report_lines(alloc: Global, report: &[u8]) -> Result<Vec<Vec<u8>>, Fail> {
+    let mut lines = Vec::new(alloc);
+    let mut line = Vec::new(alloc);
+    for byte in report {
+        if *byte == b'\n' {
+            lines.push(line)?;
+            line = Vec::new(alloc);
+        } else {
+            line.push(*byte)?;
+        }
+    }
+    Ok(lines)
+}
+
+#[test]
+fn two_hundred_queues(rt: HostRuntime) -> Result<(), Fail> {
+    let log = log(&rt)?;
+    assert_eq!(rt; log.len(), 1_239_720);
+    let mut first: Option<Vec<u8>> = None;
+    for (workers, grain) in [(1, 1000), (2, 1), (7, 1000), (64, 1)] {
+        let plan = Plan::new(workers, grain).ok_or("plan")?;
+        let report = answer(&rt, &Command::Restart { log: "log", plan }, &log)?;
+        let lines = report_lines(rt.alloc(), &report)?;
+        assert_eq!(rt; lines.len(), 322);
+        let told = lines.get(0).ok_or("line")?;
+        assert_eq!(rt;
+            told.as_slice(),
+            b"front 1220 records, 1239720 of 1239720 bytes, whole".as_slice()
+        );
+        let units = lines.get(1).ok_or("line")?;
+        assert_eq!(rt;
+            units.as_slice(),
+            b"units 240 committed, 60 aborted, 60 cut off".as_slice()
+        );
+        for (place, id) in [
+            (3, "621"),
+            (4, "261"),
+            (5, "681"),
+            (6, "321"),
+            (7, "441"),
+            (8, "501"),
+        ] {
+            let start = format!(in rt.alloc(); "e {id} from")?;
+            let line: &Vec<u8> = lines.get(place).ok_or("line")?;
+            assert!(rt; line.starts_with(start.as_bytes()), "{id}");
+        }
+        let elements = lines.iter().filter(|line| line.starts_with(b"e ")).count();
+        assert_eq!(rt; elements, 120);
+        match &first {
+            Some(other) => assert!(rt; *other == report, "{workers} workers"),
+            None => first = Some(report),
+        }
+    }
+    Ok(())
+}
+
+/// How many times queues entered, and the sum of their numbers.
+#[derive(Drop)]
+struct Entries {
+    count: AtomicU64,
+    sum: AtomicU64,
+}
+
+impl Gate for Entries {
+    fn enter(&self, task: u32) {
+        self.count.fetch_add(1, Ordering::SeqCst);
+        self.sum.fetch_add(u64::from(task), Ordering::SeqCst);
+    }
+}
+
+#[test]
+fn every_queue_enters_the_gate(rt: HostRuntime) -> Result<(), Fail> {
+    let log = log(&rt)?;
+    for workers in [1, 2, 7] {
+        let plan = Plan::new(workers, 1000).ok_or("plan")?;
+        let gate = Entries {
+            count: AtomicU64::new(0),
+            sum: AtomicU64::new(0),
+        };
+        let mut input = OverRead::new(Cursor::new(log.as_slice()));
+        let mut output = OverWrite::new(Vec::new(rt.alloc()));
+        run(&rt, rt.alloc(), &mut input, &mut output, &plan, &gate)?;
+        assert_eq!(rt; gate.count.load(Ordering::SeqCst), 200);
+        assert_eq!(rt; gate.sum.load(Ordering::SeqCst), 19_900);
+    }
+    Ok(())
+}
+
+#[test]
+fn damage_in_grains(rt: HostRuntime) -> Result<(), Fail> {
+    let report = [
+        "front 9 records, 445 of 1239720 bytes, chain",
+        "units 0 committed, 0 aborted, 0 cut off",
+        "queue 0 d0 limit 0 error -",
+        "queue 1 d1 limit 0 error -",
+        "queue 2 d2 limit 0 error -",
+        "queue 3 d3 limit 0 error -",
+        "queue 4 d4 limit 0 error -",
+        "queue 5 d5 limit 0 error -",
+        "queue 6 d6 limit 0 error -",
+        "queue 7 d7 limit 0 error -",
+        "queue 8 d8 limit 0 error -",
+    ];
+    let want = lines(rt.alloc(), &report)?;
+    let mut log = log(&rt)?;
+    for also in [false, true] {
+        if let Some(byte) = log.get_mut(489) {
+            *byte = if also { *byte } else { *byte ^ 1 };
+        }
+        if also {
+            for byte in log.iter_mut().skip(582).take(4) {
+                *byte = 0;
+            }
+        }
+        for grain in [1, 2, 9, 10, 11, 1_000, 1_000_000] {
+            let plan = Plan::new(2, grain).ok_or("plan")?;
+            let got = answer(&rt, &Command::Restart { log: "log", plan }, &log)?;
+            assert!(rt; got == want, "{grain}");
+        }
+    }
+    Ok(())
+}
