@@ -1,6 +1,6 @@
 -- How far bodies are read.
-use Rattle.std.proofs.Common.{◌≡◌, ℕ, ◌<◌, suc, List, [], ◌∷◌, ◌++◌, length, take, drop, get_or, sym, ap, subst, ◌∙◌}
-use Rattle.std.proofs.lemmas.List.{map-append, take-append-drop}
+use Rattle.std.proofs.Common.{◌≡◌, ℕ, ◌+◌, ◌<◌, suc, List, [], ◌∷◌, ◌++◌, length, take, drop, get_or, sym, ap, subst, ◌∙◌, arith}
+use Rattle.std.proofs.lemmas.List.{append_assoc, append-nil, length-append, length-map, map-append, nil_from_length, take-append-drop}
 use Rattle.std.proofs.Math.Seq.{take-suc, drop-cons, drop-length}
 use Rattle.std.specs.List.{AllByRecursion}
 use Rattle.rq_model.specs.Records.{Record, One}
@@ -21,11 +21,15 @@ read_more b spans i d rs r lt e h =
     ap (bodies_at b) (take-suc spans i d lt) ∙ map-append (body_at b) (take i spans) (get_or spans i d ∷ [])
     ∙ ap (λ (xs : List (List ℕ)). xs ++ body_at b (get_or spans i d) ∷ []) e ∙ ap (λ (x : List ℕ). bodies_of rs ++ x ∷ []) h.1 ∙ sym (map-append _ rs (r ∷ []))
 
+-- bodies in two parts
+pub two_parts : (b : List ℕ) (spans : List Span) (n : ℕ) → bodies_at b spans ≡ bodies_at b (take n spans) ++ bodies_at b (drop n spans)
+two_parts b spans n = ap (bodies_at b) (sym (take-append-drop n spans)) ∙ map-append (body_at b) (take n spans) (drop n spans)
+
 read_to : (b : List ℕ) (spans : List Span) (i : ℕ) (rs : List Record) → AllByRecursion (IsRecord One) rs → bodies_at b (take i spans) ≡ bodies_of rs → SpellsNone (bodies_at b (drop i spans)) → AreRead (bodies_at b spans) rs
 read_to b spans i rs are e none = record {
   left = bodies_at b (drop i spans);
   records = are;
-  spelled = ap (bodies_at b) (sym (take-append-drop i spans)) ∙ map-append (body_at b) (take i spans) (drop i spans) ∙ ap (λ (xs : List (List ℕ)). xs ++ bodies_at b (drop i spans)) e;
+  spelled = two_parts b spans i ∙ ap (λ (xs : List (List ℕ)). xs ++ bodies_at b (drop i spans)) e;
   stops = none;
 }
 
@@ -42,3 +46,39 @@ pub read_all : (b : List ℕ) (spans : List Span) (i : ℕ) (rs : List Record) �
 read_all b spans i rs end are e =
     let none : drop i spans ≡ [] = ap (λ (n : ℕ). drop n spans) end ∙ drop-length spans in
     read_to b spans i rs are e (subst (λ (ss : List Span). SpellsNone (bodies_at b ss)) (sym none) tt)
+
+-- what is left of bodies of which so many are read
+left_of : (bodies : List (List ℕ)) (rs : List Record) (are : AreRead bodies rs) → length bodies ≡ length rs + length are.left
+left_of bodies rs are = ap length are.spelled ∙ length-append (bodies_of rs) are.left ∙ ap (λ (n : ℕ). n + length are.left) (length-map rs _)
+
+each_both : (rs qs : List Record) → AllByRecursion (IsRecord One) rs → AllByRecursion (IsRecord One) qs → AllByRecursion (IsRecord One) (rs ++ qs)
+each_both [] qs are more = more
+each_both (r ∷ rs) qs are more = (are.0, each_both rs qs are.1 more)
+
+stops_there : (left more : List (List ℕ)) → 0 < length left → SpellsNone left → SpellsNone (left ++ more)
+stops_there [] more lt none = let no : ⊥ = omega (arith, lt) in absurd no
+stops_there (body ∷ left) more lt none = none
+
+-- all of the first bodies are read, and so are those behind them
+pub read_both : (xs ys : List (List ℕ)) (rs qs : List Record) → AreRead xs rs → length rs ≡ length xs → AreRead ys qs → AreRead (xs ++ ys) (rs ++ qs)
+read_both xs ys rs qs are all more =
+    let none : are.left ≡ [] = nil_from_length are.left (omega (arith, left_of xs rs are, all)) in
+    let spelled : xs ≡ bodies_of rs = are.spelled ∙ ap (λ (left : List (List ℕ)). bodies_of rs ++ left) none ∙ append-nil (bodies_of rs) in
+    record {
+      left = more.left;
+      records = each_both rs qs are.records more.records;
+      spelled = ap (λ (bodies : List (List ℕ)). bodies ++ ys) spelled ∙ ap (λ (bodies : List (List ℕ)). bodies_of rs ++ bodies) more.spelled
+        ∙ sym (append_assoc (bodies_of rs) (bodies_of qs) more.left) ∙ ap (λ (bodies : List (List ℕ)). bodies ++ more.left) (sym (map-append _ rs qs));
+      stops = more.stops;
+    }
+
+-- the first bodies are not all read, so nothing behind them is
+pub read_first : (xs ys : List (List ℕ)) (rs : List Record) → AreRead xs rs → (length rs ≡ length xs → ⊥) → AreRead (xs ++ ys) rs
+read_first xs ys rs are fewer =
+    let some : 0 < length are.left = omega (arith, left_of xs rs are, fewer) in
+    record {
+      left = are.left ++ ys;
+      records = are.records;
+      spelled = ap (λ (bodies : List (List ℕ)). bodies ++ ys) are.spelled ∙ append_assoc (bodies_of rs) are.left ys;
+      stops = stops_there are.left ys some are.stops;
+    }

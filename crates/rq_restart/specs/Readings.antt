@@ -1,9 +1,14 @@
 -- How far the bodies of a chain are read.
-use Rattle.std.specs.Prelude.{◌≡◌, ℕ, ⊤, List, [], ◌∷◌, ◌++◌}
+use Rattle.std.specs.Prelude.{◌≡◌, ℕ, ⊤, List, [], ◌∷◌, ◌++◌, map, Result, Ok, Err}
+use Rattle.std.specs.Global.{Vec}
 use Rattle.std.specs.List.{AllByRecursion}
 use Rattle.rq_model.specs.Records.{Record, One}
 use Rattle.rq_model.specs.Spelling.{IsRecord, Spells}
 use Rattle.rq_model.specs.Frames.{bodies_of}
+use Rattle.rq_record.specs.declared.fault.Fault.{Fault}
+use Rattle.rq_record.specs.declared.fault.Fault.TheVariants.{Resources}
+use Rattle.rq_record.specs.declared.record.Record as rt
+use Rattle.rq_record.specs.Views.{record_of}
 
 -- no body, or a first one that spells no record
 abbrev pub SpellsNone : List (List ℕ) → Type 0
@@ -16,3 +21,8 @@ pub record AreRead (bodies : List (List ℕ)) (rs : List Record) : Type 0 where
   pub records : AllByRecursion (IsRecord One) rs
   pub spelled : bodies ≡ bodies_of rs ++ left
   pub stops : SpellsNone left
+
+-- these, or no memory
+abbrev pub Reads : List (List ℕ) → Result (Vec rt.Record) Fault → Type 0
+Reads bodies (Ok v) = AreRead bodies (map record_of v.items)
+Reads bodies (Err e) = e ≡ Resources

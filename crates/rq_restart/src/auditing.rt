@@ -11,6 +11,7 @@ ghost use Rattle.rq_record.specs.declared.fault.Fault.TheVariants.{Resources};
 ghost use Rattle.rq_restart.specs.Audits.{Audits, IsWalk, StandAt};
 
 use crate::front::front_of;
+use crate::grain::grain_of;
 use rq_exchange::replay;
 use rq_front::{Span, chain};
 use rq_pool::{Open, Plan};
@@ -98,8 +99,8 @@ pub fn audit<R: Threads + Sync>(
     rq_model::one_spelling();
     rq_model::frames_join();
     rq_model::one_front();
-    let found = chain(rt, alloc, bytes, 40, plan.grain())?;
-    let front = front_of(alloc, bytes, &found, &State::empty(alloc))?;
+    let found = chain(rt, alloc, bytes, 40, grain_of(plan))?;
+    let front = front_of(rt, alloc, bytes, &found, &State::empty(alloc), plan)?;
     let mut walk = Walk {
         state: State::empty(alloc),
         from: 0,

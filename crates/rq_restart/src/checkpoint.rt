@@ -4,6 +4,7 @@ ghost use Rattle.std.specs.Prelude.{◌≡◌, ◌≤◌, ◌+◌, length, optio
 ghost use Rattle.rq_front.specs.Chains.{bodies_at};
 ghost use Rattle.rq_restart.specs.Checkpoints.{BeginsAt, kept_in, place_of};
 
+use crate::grain::grain_of;
 use rq_front::{Chain, Span, chain};
 use rq_pool::Plan;
 use rq_record::Fault;
@@ -55,7 +56,7 @@ pub(crate) fn begin_at<R: Threads + Sync>(
     rq_model::frames_are_right();
     rq_model::frames_join();
     let place = place_of(offset, bytes.len());
-    let found = chain(rt, alloc, bytes, place, plan.grain())?;
+    let found = chain(rt, alloc, bytes, place, grain_of(plan))?;
     let Some(kept) = kept_in(bytes, &found.spans) else {
         return Err(Fault::NoCheckpoint);
     };

@@ -15,9 +15,12 @@ use crate::reading::read;
 use crate::restarted::Why;
 use rq_catalog::analyse;
 use rq_front::{Chain, Rest};
+use rq_pool::Plan;
 use rq_record::{Fault, Record, UnitNo};
 use rq_state::State;
 use std::alloc::Global;
+use std::marker::Sync;
+use std::thread::Threads;
 
 /// The lawful records, where they end and why, and after them: the units that are open, rising, and the counts.
 #[derive(Drop)]
@@ -55,11 +58,13 @@ fn end_of(found: &Chain, read: usize, kept: usize) -> (usize, Why)
 }
 
 /// The front of the log, in the frames of a chain, from a state on.
-pub(crate) fn front_of(
+pub(crate) fn front_of<R: Threads + Sync>(
+    rt: &R,
     alloc: Global,
     bytes: &[u8],
     found: &Chain,
     state: &State,
+    plan: &Plan,
 ) -> Result<Front, Fault>
     requires chain { (place : ℕ) × IsChain bytes.now place found.now }
     requires next { state.now.next ≤ 4294967295 }
@@ -72,7 +77,7 @@ pub(crate) fn front_of(
     rq_model::frames_are_right();
     rq_model::frames_join();
     rq_model::one_front();
-    let mut records = read(alloc, bytes, &found.spans)?;
+    let mut records = read(rt, alloc, bytes, &found.spans, plan.workers())?;
     let analysis = analyse(alloc, state, &records)?;
     let kept = analysis.lawful();
     let (end, why) = end_of(found, records.len(), kept);

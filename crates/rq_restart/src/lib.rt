@@ -5,6 +5,7 @@ mod auditing;
 mod checkpoint;
 mod closing;
 mod front;
+mod grain;
 mod reading;
 mod restarted;
 mod restarting;

@@ -14,6 +14,7 @@ ghost use Rattle.rq_restart.specs.Views.{why_of};
 
 use crate::closing::close;
 use crate::front::{Front, front_of};
+use crate::grain::grain_of;
 use crate::restarted::Restarted;
 use rq_exchange::replay;
 use rq_front::chain;
@@ -38,8 +39,8 @@ fn whole_front<R: Threads + Sync>(
     ensures refused { IfErr result (Refused bytes.now) }
 {
     rq_model::frames_join();
-    let found = chain(rt, alloc, bytes, 40, plan.grain())?;
-    let front = front_of(alloc, bytes, &found, &State::empty(alloc))?;
+    let found = chain(rt, alloc, bytes, 40, grain_of(plan))?;
+    let front = front_of(rt, alloc, bytes, &found, &State::empty(alloc), plan)?;
     Ok(front)
 }
 

@@ -31,6 +31,6 @@ where
     ensures { RestartsAt bytes.now offset result }
 {
     let begun = begin_at(rt, alloc, bytes, offset, plan)?;
-    let front = front_of(alloc, bytes, &begun.found, &begun.state)?;
+    let front = front_of(rt, alloc, bytes, &begun.found, &begun.state, plan)?;
     close(rt, alloc, &begun.state, front, bytes.len(), plan, gate)
 }

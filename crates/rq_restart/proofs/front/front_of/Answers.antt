@@ -17,7 +17,7 @@ use Rattle.rq_restart.proofs.Parts.{kept_is}
 use Rattle.rq_restart.proofs.front.front_of.Goals as goal
 
 pub returns-clause-front : goal.returns-clause-front
-returns-clause-front c = λ place chain.
+returns-clause-front g c = λ place chain.
     let b = c.args.bytes.now in
     let s = c.args.state.now in
     let found = c.args.found.now in
@@ -34,7 +34,7 @@ returns-clause-front c = λ place chain.
     (front_from c.frames_are_right.ensures.right c.frames_join.ensures.frames c.one_front.ensures.from_run s b place found rs chain read (c.end_of-end.result.0, why_of c.end_of-end.result.1) end)
 
 pub returns-clause-bodies : goal.returns-clause-bodies
-returns-clause-bodies c =
+returns-clause-bodies g c =
     let s = c.args.state.now in
     let all = c.in_ok-records.records.items in
     let rs = map record_of all in
@@ -45,7 +45,7 @@ returns-clause-bodies c =
     subst (λ (xs : List model.Record). (left : List (List ℕ)) × (bodies ≡ bodies_of xs ++ left)) (sym kept) (bodies_kept s bodies rs read)
 
 pub returns-clause-units : goal.returns-clause-units
-returns-clause-units c =
+returns-clause-units g c =
     let s = c.args.state.now in
     let all = c.in_ok-records.records.items in
     let analysis : IsAnalysis s (map record_of all) c.in_ok-analysis.analysis = subst (λ (xs : List Record). IsAnalysis s (map record_of xs) c.in_ok-analysis.analysis) c.deref-2.ensures.value c.in_ok-analysis.ensures.analysis in
@@ -53,7 +53,7 @@ returns-clause-units c =
     c.in_ok-units.ensures.units ∙ analysis.units ∙ ap (λ (xs : List model.Record). (run s xs).units) (sym kept)
 
 pub returns-clause-counts : goal.returns-clause-counts
-returns-clause-counts c =
+returns-clause-counts g c =
     let s = c.args.state.now in
     let all = c.in_ok-records.records.items in
     let analysis : IsAnalysis s (map record_of all) c.in_ok-analysis.analysis = subst (λ (xs : List Record). IsAnalysis s (map record_of xs) c.in_ok-analysis.analysis) c.deref-2.ensures.value c.in_ok-analysis.ensures.analysis in

@@ -7,7 +7,7 @@ use Rattle.rq_restart.proofs.Starts.{log_chain}
 use Rattle.rq_restart.proofs.restarting.whole_front.Goals as goal
 
 pub front_of-requires-clause-chain : goal.front_of-requires-clause-chain
-front_of-requires-clause-chain g c =
+front_of-requires-clause-chain g c = λ lives outlived.
     let is = c.in_ok-found.ensures in
     (40, log_chain c.frames_join.ensures.end c.args.bytes.now c.in_ok-found.found is.log.0 is.log.1 is.run is.spans is.inside)
 

@@ -5,7 +5,7 @@ use Rattle.rq_model.specs.Spelling.{IsRecord}
 use Rattle.rq_model.specs.Frames.{bodies_of}
 use Rattle.rq_record.specs.Views.{record_of}
 use Rattle.rq_front.specs.Chains.{bodies_at}
-use Rattle.rq_restart.proofs.reading.read.Given as goal
+use Rattle.rq_restart.proofs.reading.read_in_order.Given as goal
 
 abbrev pub invariant-loop-span : goal.invariant-loop-span
 invariant-loop-span l = record {

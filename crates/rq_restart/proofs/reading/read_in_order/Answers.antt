@@ -5,7 +5,7 @@ use Rattle.rq_record.specs.Reading.{Decodes}
 use Rattle.rq_front.specs.Chains.{body_at}
 use Rattle.rq_front.specs.declared.spans.Span.{Span}
 use Rattle.rq_restart.proofs.Readings.{read_stop}
-use Rattle.rq_restart.proofs.reading.read.Goals as goal
+use Rattle.rq_restart.proofs.reading.read_in_order.Goals as goal
 
 pub returns-in-Err-Form-clause-records : goal.returns-in-Err-Form-clause-records
 returns-in-Err-Form-clause-records c =
