@@ -68,7 +68,7 @@ read_both xs ys rs qs are all more =
       left = more.left;
       records = each_both rs qs are.records more.records;
       spelled = ap (λ (bodies : List (List ℕ)). bodies ++ ys) spelled ∙ ap (λ (bodies : List (List ℕ)). bodies_of rs ++ bodies) more.spelled
-        ∙ sym (append_assoc (bodies_of rs) (bodies_of qs) more.left) ∙ ap (λ (bodies : List (List ℕ)). bodies ++ more.left) (sym (map-append _ rs qs));
+          ∙ sym (append_assoc (bodies_of rs) (bodies_of qs) more.left) ∙ ap (λ (bodies : List (List ℕ)). bodies ++ more.left) (sym (map-append _ rs qs));
       stops = more.stops;
     }
 
