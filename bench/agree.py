@@ -4,8 +4,8 @@
 usage: agree.py RQ [--seeds N] [--mib 1,4] [--folder DIR]
 """
 from __future__ import annotations
-import argparse, os, subprocess
-from measure import built_peer, log_of
+import subprocess
+from common import built_peer, log_of, parsed, parser
 
 PLANS = [("1", "1000"), ("2", "1"), ("3", "1000"), ("7", "1000"), ("64", "1000")]
 
@@ -15,13 +15,10 @@ def report(words: list[str]) -> bytes:
 
 
 def main() -> None:
-    parser = argparse.ArgumentParser()
-    parser.add_argument("program")
-    parser.add_argument("--seeds", type=int, default=5)
-    parser.add_argument("--mib", default="1,4")
-    parser.add_argument("--folder", default="/tmp/rq-bench")
-    options = parser.parse_args()
-    os.makedirs(options.folder, exist_ok=True)
+    words = parser()
+    words.add_argument("--seeds", type=int, default=5)
+    words.add_argument("--mib", default="1,4")
+    options = parsed(words)
     peer = built_peer(options.folder)
     compared = differing = 0
     for shape in ["errors", "wide", "small", "names", "hot", "kib"]:

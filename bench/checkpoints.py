@@ -6,7 +6,8 @@ Makes two logs of the same work with `rq make`: one with 8 checkpoints, one with
 whole, the restart from the last of 8 checkpoints, the audit of 100.
 """
 from __future__ import annotations
-import argparse, os, random, subprocess, time
+import os, random, subprocess, time
+from common import parsed, parser
 
 
 def script(path: str, mib: int, checkpoints: int) -> None:
@@ -39,12 +40,9 @@ def timed(words: list[str]) -> tuple[float, bytes]:
 
 
 def main() -> None:
-    parser = argparse.ArgumentParser()
-    parser.add_argument("program")
-    parser.add_argument("--mib", type=int, default=128)
-    parser.add_argument("--folder", default="/tmp/rq-bench")
-    options = parser.parse_args()
-    os.makedirs(options.folder, exist_ok=True)
+    words = parser()
+    words.add_argument("--mib", type=int, default=128)
+    options = parsed(words)
     program = options.program
     for checkpoints in (8, 100):
         text = os.path.join(options.folder, f"script.{checkpoints}")

@@ -8,8 +8,8 @@ and then has nothing to redo. The differences of the three times are the digests
 redo of the queues, the report. Each time is the best of the runs, taken in turn; the ratios are to one worker.
 """
 from __future__ import annotations
-import argparse, hashlib, os
-from measure import built_peer, log_of, seconds
+import hashlib, os
+from common import built_peer, log_of, parsed, parser, seconds
 
 HEADER = 40
 
@@ -45,16 +45,13 @@ def without_records(log: str) -> str:
 
 
 def main() -> None:
-    parser = argparse.ArgumentParser()
-    parser.add_argument("program")
-    parser.add_argument("shapes", nargs="*", default=["small", "kib", "big", "even"])
-    parser.add_argument("--mib", type=int, default=128)
-    parser.add_argument("--runs", type=int, default=5)
-    parser.add_argument("--workers", default="1,2,4")
-    parser.add_argument("--grain", default="10")
-    parser.add_argument("--folder", default="/tmp/rq-bench")
-    options = parser.parse_args()
-    os.makedirs(options.folder, exist_ok=True)
+    words = parser()
+    words.add_argument("shapes", nargs="*", default=["small", "kib", "big", "even"])
+    words.add_argument("--mib", type=int, default=128)
+    words.add_argument("--runs", type=int, default=5)
+    words.add_argument("--workers", default="1,2,4")
+    words.add_argument("--grain", default="10")
+    options = parsed(words)
     peer = built_peer(options.folder)
     workers = options.workers.split(",")
     print(f"{options.mib} MiB, best of {options.runs}, grain {options.grain}; seconds (times faster than with {workers[0]})\n")

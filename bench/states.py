@@ -8,7 +8,8 @@ the same digests; the difference is the time of all that lies between. Spelling 
 more: the difference to `make` without it is the state spelled once more, framed, digested and written to the log.
 """
 from __future__ import annotations
-import argparse, hashlib, os, subprocess, time
+import hashlib, os
+from common import parsed, parser, seconds
 
 # What stands before the number of definitions in the bytes of a state: four numbers of 8 bytes.
 BEFORE_LISTS = 32
@@ -45,33 +46,26 @@ def spoilt(log: str, data: bytes, frame: int, place: int) -> str:
     return path
 
 
-def seconds(words: list[str], runs: int = 3) -> float:
-    best = float("inf")
-    for _ in range(runs):
-        begun = time.perf_counter()
-        subprocess.run(words, stdout=subprocess.DEVNULL, stderr=subprocess.DEVNULL)
-        best = min(best, time.perf_counter() - begun)
-    return best
+def best(words: list[str], wanted: int = 0) -> float:
+    """The best wall seconds of three runs."""
+    return min(seconds(words, wanted)[0] for _ in range(3))
 
 
 def main() -> None:
-    parser = argparse.ArgumentParser()
-    parser.add_argument("program")
-    parser.add_argument("--mb", type=int, default=100)
-    parser.add_argument("--folder", default="/tmp/rq-bench")
-    options = parser.parse_args()
-    os.makedirs(options.folder, exist_ok=True)
+    words = parser()
+    words.add_argument("--mb", type=int, default=100)
+    options = parsed(words)
     print("| payloads | state | read | spelled and framed |\n|---|---|---|---|")
     for payload in (16, 256, 4096):
         log = os.path.join(options.folder, f"state.{payload}")
         scripts = [script(f"{log}.script{count}", payload, options.mb * 1_000_000, count) for count in (1, 2)]
-        once, twice = (seconds([options.program, "make", path, out]) for path, out in zip(scripts, (log, log + ".twice")))
+        once, twice = (best([options.program, "make", path, out]) for path, out in zip(scripts, (log, log + ".twice")))
         with open(log, "rb") as source:
             data = source.read()
         frame = last_frame(data)
         size = (len(data) - frame - 37) / 1e6
         files = [spoilt(log, data, frame, 1 + BEFORE_LISTS), spoilt(log, data, frame, len(data) - frame - 37)]
-        early, late = (seconds([options.program, "restart-at", path, str(frame), "1", "1000"]) for path in files)
+        early, late = (best([options.program, "restart-at", path, str(frame), "1", "1000"], 1) for path in files)
         read, spelled = late - early, twice - once
         print(f"| {payload} bytes | {size:.0f} MB | {read:.2f} s, {size / read:.0f} MB/s | {spelled:.2f} s, {size / spelled:.0f} MB/s |")
 
