@@ -5,7 +5,7 @@ use Rattle.rq_model.specs.Records.{Record}
 use Rattle.rq_model.specs.States.{State}
 use Rattle.rq_model.specs.Queues.{touches, touching_from, touching}
 use Rattle.rq_model.proofs.Lists.{by_cases}
-use Rattle.rq_catalog.specs.Analyses.{place_and_index, numbered, op_again}
+use Rattle.rq_catalog.specs.Lists.{place_and_index, numbered, op_again}
 
 middle : (before : List Record) (r : Record) (rs : List Record) (d : Record) → slice_index_or (before ++ r ∷ rs) (length before) d ≡ r
 middle [] r rs d = refl

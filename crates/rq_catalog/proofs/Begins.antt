@@ -19,7 +19,7 @@ use Rattle.rq_state.specs.Views.{unit_of}
 use Rattle.rq_catalog.specs.declared.outcome.Outcome.TheVariants.{Open}
 use Rattle.rq_catalog.specs.declared.catalogue.Catalogue.{Catalogue}
 use Rattle.rq_catalog.specs.Lists.{is_engaged_in, listed}
-use Rattle.rq_catalog.specs.Analyses.{outcome_of}
+use Rattle.rq_catalog.specs.Outcomes.{outcome_of}
 use Rattle.rq_catalog.specs.Catalogues.{key_eq, Follows}
 use Rattle.rq_catalog.specs.Members.{all_open, has_name, has_key, is_marked_at, is_noted_at}
 

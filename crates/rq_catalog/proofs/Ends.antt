@@ -12,20 +12,19 @@ use Rattle.rq_record.specs.declared.record.Record.{Record}
 use Rattle.rq_record.specs.Views.{record_of}
 use Rattle.rq_catalog.specs.declared.catalogue.Catalogue.{Catalogue}
 use Rattle.rq_catalog.specs.declared.analysis.Analysis.{Analysis}
-use Rattle.rq_catalog.specs.Lists.{listed}
-use Rattle.std.specs.Prelude.{option_map, nat_eq}
+use Rattle.rq_catalog.specs.Lists.{listed, numbered}
+use Rattle.std.specs.Prelude.{nat_eq}
 use Rattle.indexmap.specs.IndexMap.{get, keys}
-use Rattle.rq_catalog.specs.Analyses.{numbered, outcome_of}
 use Rattle.rq_catalog.specs.Catalogues.{Follows, HasRoom, Takes, may_take}
 use Rattle.rq_catalog.specs.Analyses.{IsAnalysis}
-use Rattle.rq_catalog.proofs.Runs.{lawful_push, front_stops, front_whole}
+use Rattle.rq_catalog.proofs.Runs.{lawful_push, front_stops, front_whole, lawful_throughout}
 use Rattle.rq_catalog.proofs.Lawfulness.{lawful_here, open_here}
 use Rattle.rq_catalog.proofs.Seen.{open_again}
 use Rattle.rq_model.proofs.Lists.{filter_same, each_of}
 use Rattle.rq_model.proofs.Kept.{runs_are_well_formed}
 use Rattle.rq_model.proofs.Numbers.{numbers_after}
 use Rattle.std.specs.Prelude.{◌^◌}
-use Rattle.rq_catalog.specs.Analyses.{is_open_in}
+use Rattle.rq_catalog.specs.Outcomes.{is_open_in}
 use Rattle.std.specs.List.{filter}
 use Rattle.rq_catalog.proofs.Keep.{follows_step, places_below}
 
@@ -66,18 +65,19 @@ module _ (c : Catalogue) (s : State) (rs : List Record) (n : ℕ) (well : IsWell
       (each_of (λ u. is_open_in (get nat_eq c.outcomes u) ≡ is_open (run s (upto n rs)) u) (open_here c s (upto n rs) f well lawful) (keys c.outcomes))
       ∙ ap (filter (λ u. is_open (run s (upto n rs)) u)) f.units ∙ open_again s (upto n rs) well lawful
 
-  front_here : lawful_front One s (map record_of rs) ≡ upto n rs → (a : Analysis) → a.lawful ≡ n → a.outcomes ≡ c.outcomes → a.touching ≡ c.touching → a.committed ≡ c.committed → a.aborted ≡ c.aborted → IsAnalysis s (map record_of rs) a
-  front_here e a l o t m b = record {
-    lawful = l ∙ sym (ap length e ∙ length-upto n rs inside);
-    outcomes = λ u. ap (λ m. option_map outcome_of (get nat_eq m u)) o ∙ f.outcomes u ∙ ap (λ k. outcome s k u) (sym e);
-    committed = m ∙ f.committed ∙ ap (λ k. (run s k).committed) (sym e);
-    aborted = b ∙ f.aborted ∙ ap (λ k. (run s k).aborted) (sym e);
-    units = ap (λ m. filter (λ u. is_open_in (get nat_eq m u)) (keys m)) o ∙ open_units ∙ ap (λ k. (run s k).units) (sym e);
-    touching = λ q. ap (λ v. listed v.items q) t ∙ f.touching q ∙ ap (λ k. numbered s k q) (sym e);
+  front_here : lawful_front One s (map record_of rs) ≡ upto n rs → IsAnalysis s (map record_of rs) (record { lawful = n; catalogue = c })
+  front_here e = record {
+    lawful = sym (ap length e ∙ length-upto n rs inside);
+    outcomes = λ u. f.outcomes u ∙ ap (λ k. outcome s k u) (sym e);
+    committed = f.committed ∙ ap (λ k. (run s k).committed) (sym e);
+    aborted = f.aborted ∙ ap (λ k. (run s k).aborted) (sym e);
+    units = open_units ∙ ap (λ k. (run s k).units) (sym e);
+    touching = λ q. f.touching q ∙ ap (λ k. numbered s k q) (sym e);
+    catalogue = subst (Follows c s) (sym e) f;
   }
 
-  pub ends_whole : (length rs ≤ n) → IsAnalysis s (map record_of rs) (record { lawful = n; outcomes = c.outcomes; touching = c.touching; committed = c.committed; aborted = c.aborted })
-  ends_whole h = front_here (ap (lawful_front One s) (sym whole) ∙ front_whole One s (upto n rs) lawful) (record { lawful = n; outcomes = c.outcomes; touching = c.touching; committed = c.committed; aborted = c.aborted }) refl refl refl refl refl
+  pub ends_whole : (length rs ≤ n) → IsAnalysis s (map record_of rs) (record { lawful = n; catalogue = c })
+  ends_whole h = front_here (ap (lawful_front One s) (sym whole) ∙ front_whole One s (upto n rs) lawful)
     where
       all : (rs : List Record) (n : ℕ) → length rs ≤ n → take n rs ≡ rs
       all [] zero h = refl
@@ -88,8 +88,8 @@ module _ (c : Catalogue) (s : State) (rs : List Record) (n : ℕ) (well : IsWell
       whole : upto n rs ≡ map record_of rs
       whole = ap (map record_of) (all rs n h)
 
-  pub ends_unlawful : (x : Record) → n < length rs → may_take c (get_or rs n x) ≡ false → IsAnalysis s (map record_of rs) (record { lawful = n; outcomes = c.outcomes; touching = c.touching; committed = c.committed; aborted = c.aborted })
-  ends_unlawful x h may = front_here (ap (lawful_front One s) (sym whole) ∙ front_stops One s (upto n rs) (record_of (get_or rs n x)) (map record_of (drop (suc n) rs)) lawful (sym (lawful_here c s (upto n rs) f well lawful (get_or rs n x)) ∙ may)) (record { lawful = n; outcomes = c.outcomes; touching = c.touching; committed = c.committed; aborted = c.aborted }) refl refl refl refl refl
+  pub ends_unlawful : (x : Record) → n < length rs → may_take c (get_or rs n x) ≡ false → IsAnalysis s (map record_of rs) (record { lawful = n; catalogue = c })
+  ends_unlawful x h may = front_here (ap (lawful_front One s) (sym whole) ∙ front_stops One s (upto n rs) (record_of (get_or rs n x)) (map record_of (drop (suc n) rs)) lawful (sym (lawful_here c s (upto n rs) f well lawful (get_or rs n x)) ∙ may))
     where
       parts : (rs : List Record) (n : ℕ) → n < length rs → take n rs ++ get_or rs n x ∷ drop (suc n) rs ≡ rs
       parts [] n h = let no : ⊥ = omega (arith, h) in absurd no
@@ -102,5 +102,11 @@ module _ (c : Catalogue) (s : State) (rs : List Record) (n : ℕ) (well : IsWell
   pub one_on : (d : Catalogue) (r : Record) → r ≡ get_or rs n r → n < length rs → may_take c r ≡ true → Takes c d (s.next + n, n) r → (all_lawful One s (upto (n + 1) rs) ≡ true) × Follows d s (upto (n + 1) rs)
   one_on d r e h may t = one_further d r h (sym (ap (may_take c) e) ∙ may) (subst (Takes c d (s.next + n, n)) e t)
 
-  pub ends_at_one : (r : Record) → r ≡ get_or rs n r → n < length rs → may_take c r ≡ false → IsAnalysis s (map record_of rs) (record { lawful = n; outcomes = c.outcomes; touching = c.touching; committed = c.committed; aborted = c.aborted })
+  pub ends_at_one : (r : Record) → r ≡ get_or rs n r → n < length rs → may_take c r ≡ false → IsAnalysis s (map record_of rs) (record { lawful = n; catalogue = c })
   ends_at_one r e h may = ends_unlawful r h (sym (ap (may_take c) e) ∙ may)
+
+-- where an analysis goes on
+pub goes_on : (c : Catalogue) (s : State) (rs : List Record) (n : ℕ) → n ≤ length rs → IsAnalysis s (upto n rs) (record { lawful = n; catalogue = c }) → (all_lawful One s (upto n rs) ≡ true) × Follows c s (upto n rs)
+goes_on c s rs n inside a =
+    let all = lawful_throughout One s (upto n rs) (sym a.lawful ∙ sym (length-upto n rs inside)) in
+    (all.0, subst (Follows c s) all.1 a.catalogue)

@@ -18,7 +18,7 @@ use Rattle.rq_record.specs.Views.{record_of}
 use Rattle.rq_catalog.specs.declared.outcome.Outcome.{Outcome}
 use Rattle.rq_catalog.specs.declared.outcome.Outcome.TheVariants.{Committed, Aborted, Open}
 use Rattle.rq_catalog.specs.declared.catalogue.Catalogue.{Catalogue}
-use Rattle.rq_catalog.specs.Analyses.{is_open_in, outcome_of}
+use Rattle.rq_catalog.specs.Outcomes.{is_open_in, outcome_of}
 use Rattle.rq_catalog.specs.Catalogues.{is_known_in, is_limit_in, may_take, Follows}
 use Rattle.rq_catalog.proofs.Runs.{is_open_outcome, open_by_outcome}
 

@@ -37,6 +37,16 @@ front_whole version s (x ∷ xs) h =
     let parts = and_parts (is_lawful version s x) (all_lawful version (step s x) xs) h in
     ap (λ b. if b then x ∷ lawful_front version (step s x) xs else []) parts.0 ∙ ap (λ l. x ∷ l) (front_whole version (step s x) xs parts.1)
 
+-- a lawful beginning that is as long as the list is the list
+pub lawful_throughout : (version : Version) (s : State) (xs : List Record) → length (lawful_front version s xs) ≡ length xs → (all_lawful version s xs ≡ true) × (lawful_front version s xs ≡ xs)
+lawful_throughout version s [] h = (refl, refl)
+lawful_throughout version s (x ∷ xs) h =
+    by_cases (is_lawful version s x)
+    (λ b. length (if b then x ∷ lawful_front version (step s x) xs else []) ≡ suc (length xs) → ((b && all_lawful version (step s x) xs) ≡ true) × ((if b then x ∷ lawful_front version (step s x) xs else []) ≡ x ∷ xs))
+    (λ _ l. let rest = lawful_throughout version (step s x) xs (omega (arith, l)) in (rest.0, ap (λ k. x ∷ k) rest.1))
+    (λ _ l. let no : ⊥ = omega (arith, l) in absurd no)
+    h
+
 pub any_push : {X : Type 0} (p : X → Bool) (xs : List X) (x : X) → list_any p (xs ++ x ∷ []) ≡ (list_any p xs || p x)
 any_push p [] x = by_cases (p x) (λ b. (b || false) ≡ b) (λ _. refl) (λ _. refl)
 any_push p (y ∷ xs) x = by_cases (p y) (λ b. (b || list_any p (xs ++ x ∷ [])) ≡ ((b || list_any p xs) || p x)) (λ _. refl) (λ _. any_push p xs x)

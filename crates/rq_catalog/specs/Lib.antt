@@ -1,4 +1,5 @@
-pub mod Analyses
+pub mod Outcomes
 pub mod Lists
 pub mod Members
 pub mod Catalogues
+pub mod Analyses

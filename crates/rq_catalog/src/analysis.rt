@@ -1,6 +1,6 @@
 //! The lawful front of a list of records.
 
-ghost use Rattle.std.specs.Prelude.{◌≡◌, ◌^◌, ◌+◌, ◌<◌, ℕ, List, length, map, IfOk, IfErr, OnOk, ◌++◌, ◌∷◌, [], Some, None, option_map, if◌then◌else◌};
+ghost use Rattle.std.specs.Prelude.{◌≡◌, ◌≤◌, ◌^◌, ◌+◌, ◌<◌, ℕ, List, length, map, take, IfOk, IfErr, OnOk, ◌++◌, ◌∷◌, [], Some, None, option_map, if◌then◌else◌};
 ghost use Rattle.indexmap.specs.IndexMap.{keys};
 ghost use Rattle.rq_model.specs.Records.{Record as ModelRecord};
 ghost use Rattle.rq_model.specs.States.{State};
@@ -8,7 +8,9 @@ ghost use Rattle.rq_model.specs.Queues.{touching};
 ghost use Rattle.rq_record.specs.Views.{record_of};
 ghost use Rattle.rq_state.specs.Views.{unit_of};
 ghost use Rattle.rq_record.specs.declared.fault.Fault.TheVariants.{Resources};
-ghost use Rattle.rq_catalog.specs.Analyses.{IsAnalysis, outcome_of, outcome_in, open_in, is_open_at, unit_at, touched, numbered, op_again};
+ghost use Rattle.rq_catalog.specs.Outcomes.{outcome_of};
+ghost use Rattle.rq_catalog.specs.Lists.{numbered, op_again};
+ghost use Rattle.rq_catalog.specs.Analyses.{IsAnalysis, outcome_in, open_in, is_open_at, unit_at, touched};
 
 use crate::catalogue::Catalogue;
 use crate::outcome::Outcome;
@@ -23,10 +25,7 @@ use std::alloc::Global;
 #[derive(Drop)]
 pub struct Analysis {
     lawful: usize,
-    outcomes: IndexMap<u64, Outcome>,
-    touching: Vec<Vec<(u64, usize)>>,
-    committed: u64,
-    aborted: u64,
+    catalogue: Catalogue,
 }
 
 /// Analyses the records that follow the state. A record is lawful where it may come after those before it; the first that
@@ -36,27 +35,38 @@ pub fn analyse(alloc: Global, state: &State, records: &[Record]) -> Result<Analy
     ensures analysis { IfOk result (IsAnalysis state.now (map record_of records.now)) }
     ensures refused { IfErr result (λ e. e ≡ Resources) }
 {
-    let start = state.next();
-    let mut catalogue = catalogue_of(alloc, state)?;
-    let mut lawful = 0;
-    while lawful < records.len() {
-        let record = &records[lawful];
-        if !catalogue.may_take(record) {
-            break;
-        }
-        catalogue.take(alloc, record, (start + lawful as u64, lawful))?;
-        lawful += 1;
-    }
-    Ok(Analysis {
-        lawful,
-        outcomes: catalogue.outcomes,
-        touching: catalogue.touching,
-        committed: catalogue.committed,
-        aborted: catalogue.aborted,
-    })
+    state.is_well_formed();
+    let none = Analysis {
+        lawful: 0,
+        catalogue: catalogue_of(alloc, state)?,
+    };
+    none.go_on(alloc, state, records)
 }
 
 impl Analysis {
+    /// Goes on behind the records that were analysed, which are lawful and with which these begin: so the analysis of
+    /// them all costs no more than what is new. Refused with `Resources` alone.
+    pub fn go_on(self, alloc: Global, state: &State, records: &[Record]) -> Result<Analysis, Fault>
+        requires fits { state.now.next + length records.now < 2 ^ 64 }
+        requires within { self.lawful ≤ length records.now }
+        requires analysed { IsAnalysis state.now (map record_of (take self.lawful records.now)) self }
+        ensures analysis { IfOk result (IsAnalysis state.now (map record_of records.now)) }
+        ensures refused { IfErr result (λ e. e ≡ Resources) }
+    {
+        let start = state.next();
+        let mut catalogue = self.catalogue;
+        let mut lawful = self.lawful;
+        while lawful < records.len() {
+            let record = &records[lawful];
+            if !catalogue.may_take(record) {
+                break;
+            }
+            catalogue.take(alloc, record, (start + lawful as u64, lawful))?;
+            lawful += 1;
+        }
+        Ok(Analysis { lawful, catalogue })
+    }
+
     /// How many records are lawful: the length of the longest lawful beginning.
     pub fn lawful(&self) -> usize
         ensures { result ≡ self.now.lawful }
@@ -68,7 +78,7 @@ impl Analysis {
     pub fn outcome(&self, unit: UnitNo) -> Option<Outcome>
         ensures { option_map outcome_of result ≡ outcome_in self.now unit.0 }
     {
-        self.outcomes.get(&unit.0).copied()
+        self.catalogue.outcomes.get(&unit.0).copied()
     }
 
     /// The lawful records that touch the queue, rising: the place of each in the log, and its index in the list that was
@@ -76,7 +86,7 @@ impl Analysis {
     pub fn touching(&self, queue: QueueNo) -> &[(u64, usize)]
         ensures { result.now ≡ touched self.now queue.0 }
     {
-        match self.touching.get(queue.0 as usize) {
+        match self.catalogue.touching.get(queue.0 as usize) {
             Some(ops) => ops,
             None => &[],
         }
@@ -84,16 +94,16 @@ impl Analysis {
 
     /// How many units are committed after the lawful records, those of the state included.
     pub fn committed(&self) -> u64
-        ensures { result ≡ self.now.committed }
+        ensures { result ≡ self.now.catalogue.committed }
     {
-        self.committed
+        self.catalogue.committed
     }
 
     /// How many units are aborted after the lawful records, those of the state included.
     pub fn aborted(&self) -> u64
-        ensures { result ≡ self.now.aborted }
+        ensures { result ≡ self.now.catalogue.aborted }
     {
-        self.aborted
+        self.catalogue.aborted
     }
 
     /// The units that are open after the lawful records, rising. Refused with `Resources` alone.
@@ -103,7 +113,7 @@ impl Analysis {
     {
         let mut units = Vec::new(alloc);
         let mut place = 0;
-        while place < self.outcomes.len() {
+        while place < self.catalogue.outcomes.len() {
             self.push_open(place, &mut units)?;
             place += 1;
         }
@@ -112,7 +122,7 @@ impl Analysis {
 
     /// Adds the unit at a place of their list, where it is open.
     fn push_open(&self, place: usize, units: &mut Vec<UnitNo>) -> Result<(), Fault>
-        requires { place < length (keys self.now.outcomes) }
+        requires { place < length (keys self.now.catalogue.outcomes) }
         ensures opened { OnOk result (map unit_of units.new.items ≡ (if is_open_at self.now place then map unit_of units.old.items ++ unit_at self.now place ∷ [] else map unit_of units.old.items)) }
         ensures refused { IfErr result (λ e. e ≡ Resources) }
     {
@@ -124,10 +134,10 @@ impl Analysis {
 
     /// The unit at a place of their list, where it is open.
     fn open_at(&self, place: usize) -> Option<UnitNo>
-        requires { place < length (keys self.now.outcomes) }
+        requires { place < length (keys self.now.catalogue.outcomes) }
         ensures { option_map unit_of result ≡ (if is_open_at self.now place then Some (unit_at self.now place) else None) }
     {
-        match self.outcomes.get_index(place) {
+        match self.catalogue.outcomes.get_index(place) {
             Some((unit, Outcome::Open)) => Some(UnitNo(*unit)),
             _ => None,
         }

@@ -6,7 +6,7 @@ ghost use Rattle.rq_model.specs.Queues as queues;
 ghost use Rattle.rq_record.specs.Views.{record_of};
 ghost use Rattle.rq_record.specs.declared.fault.Fault.TheVariants.{Resources};
 ghost use Rattle.rq_state.specs.Orders.{listed};
-ghost use Rattle.rq_catalog.specs.Analyses.{op_again};
+ghost use Rattle.rq_catalog.specs.Lists.{op_again};
 ghost use Rattle.rq_exchange.specs.Boards.{IsDone};
 ghost use Rattle.rq_exchange.specs.Jobs.{IsJob, IsKnown, records_of};
 

@@ -10,4 +10,4 @@ mod levels;
 mod replaying;
 mod rounds;
 
-pub use replaying::replay;
+pub use replaying::{replay, replay_analysed};

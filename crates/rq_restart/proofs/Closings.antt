@@ -1,6 +1,7 @@
 -- Open units are aborted behind lawful records.
-use Rattle.std.proofs.Common.{◌≡◌, ℕ, ◌+◌, ◌-◌, true, List, [], ◌∷◌, ◌++◌, length, map, take, refl, sym, ap, subst, ◌∙◌}
-use Rattle.std.proofs.Math.Seq.{take-length}
+use Rattle.std.proofs.Common.{◌≡◌, ℕ, ◌+◌, ◌-◌, true, List, [], ◌∷◌, ◌++◌, ◌≤◌, length, map, take, refl, sym, ap, subst, ◌∙◌, arith, length-append}
+use Rattle.std.proofs.Math.Seq.{take-length, take-append_seam}
+use Rattle.std.proofs.lemmas.List.{length-map, take-map}
 use Rattle.std.proofs.lemmas.Bool.{and_from, and_parts}
 use Rattle.rq_model.specs.Records.{Record, Abort, One}
 use Rattle.rq_model.specs.States.{State}
@@ -8,6 +9,11 @@ use Rattle.rq_model.specs.Machine.{step, run, is_lawful, all_lawful, aborts, fin
 use Rattle.rq_model.specs.WellFormed.{IsWellFormed}
 use Rattle.rq_model.specs.Laws.{CrashIsHarmless, RunsAreWellFormed, NumbersAfter}
 use Rattle.rq_model.specs.Fronts.{Why, restarted}
+use Rattle.rq_record.specs.declared.record.Record.{Record as Own}
+use Rattle.rq_record.specs.Views.{record_of}
+use Rattle.rq_catalog.specs.declared.analysis.Analysis.{Analysis}
+use Rattle.rq_catalog.specs.Analyses.{IsAnalysis}
+use Rattle.rq_catalog.proofs.Runs.{front_whole}
 
 pub run_join : (s : State) (xs ys : List Record) → run s (xs ++ ys) ≡ run (run s xs) ys
 run_join s [] ys = refl
@@ -46,3 +52,10 @@ answered law s t rs all rest total used next committed aborted cut_off units why
     let records : next ≡ (run s rs).next = next_is ∙ sym after.next in
     let cut : cut_off ≡ length (run s rs).units = cut_is ∙ ap length units_are in
     λ i. record { state = state i; records = records i; used = used_is i; total = total; why = why; committed = committed_is i; aborted = aborted_is i; cut_off = cut i }
+
+-- the analysis of lawful records goes on to a list that begins with them
+pub goes_on : (s : State) (rs more : List Record) (all : List Own) (a : Analysis) → all_lawful One s rs ≡ true → IsAnalysis s rs a → map record_of all ≡ rs ++ more → (a.lawful ≤ length all) × IsAnalysis s (map record_of (take a.lawful all)) a
+goes_on s rs more all a lawful is whole =
+    let count : a.lawful ≡ length rs = is.lawful ∙ ap length (front_whole One s rs lawful) in
+    let first : map record_of (take a.lawful all) ≡ rs = sym (take-map record_of a.lawful all) ∙ ap (take a.lawful) whole ∙ ap (λ n. take n (rs ++ more)) count ∙ take-append_seam rs more in
+    (omega (arith, count, ap length whole, length-append rs more, length-map all record_of), subst (λ (xs : List Record). IsAnalysis s xs a) (sym first) is)

@@ -7,7 +7,12 @@ use Rattle.rq_model.specs.Records.{Record, One}
 use Rattle.rq_record.specs.declared.record.Record.{Record as Own}
 use Rattle.rq_record.specs.Views.{record_of}
 use Rattle.rq_model.specs.States.{State}
-use Rattle.rq_model.specs.Machine.{step, run, is_lawful, all_lawful, lawful_front}
+use Rattle.rq_model.specs.Machine.{step, run, is_lawful, all_lawful, lawful_front, outcome}
+use Rattle.rq_catalog.specs.declared.analysis.Analysis.{Analysis}
+use Rattle.rq_catalog.specs.Lists.{numbered}
+use Rattle.rq_catalog.specs.Catalogues.{Follows}
+use Rattle.rq_catalog.specs.Analyses.{IsAnalysis}
+use Rattle.rq_catalog.proofs.Runs.{front_whole}
 
 -- no record, or a first one that is not lawful
 abbrev pub Stops : State → List Record → Type 0
@@ -58,3 +63,17 @@ pub kept_is : (s : State) (all kept : List Own) (n : ℕ) → kept ≡ take n al
 kept_is s all kept n is count =
     let rs = map record_of all in
     ap (map record_of) is ∙ sym (take-map record_of n all) ∙ ap (λ (k : ℕ). take k rs) count ∙ taken s rs
+
+-- what is said of a list is said of its lawful beginning
+pub analysis_of_front : (s : State) (rs : List Record) (a : Analysis) → IsAnalysis s rs a → IsAnalysis s (lawful_front One s rs) a
+analysis_of_front s rs a is =
+    let same : lawful_front One s rs ≡ lawful_front One s (lawful_front One s rs) = sym (front_whole One s (lawful_front One s rs) (parted s rs).lawful) in
+    record {
+      lawful = is.lawful ∙ ap length same;
+      outcomes = λ u. is.outcomes u ∙ ap (λ (xs : List Record). outcome s xs u) same;
+      touching = λ q. is.touching q ∙ ap (λ (xs : List Record). numbered s xs q) same;
+      committed = is.committed ∙ ap (λ (xs : List Record). (run s xs).committed) same;
+      aborted = is.aborted ∙ ap (λ (xs : List Record). (run s xs).aborted) same;
+      units = is.units ∙ ap (λ (xs : List Record). (run s xs).units) same;
+      catalogue = subst (λ (xs : List Record). Follows a.catalogue s xs) same is.catalogue;
+    }

@@ -9,11 +9,12 @@ ghost use Rattle.rq_model.specs.Fronts.{restarted};
 ghost use Rattle.rq_record.specs.Views.{record_of};
 ghost use Rattle.rq_record.specs.declared.fault.Fault.TheVariants.{Resources};
 ghost use Rattle.rq_state.specs.Views.{unit_of};
+ghost use Rattle.rq_catalog.specs.Analyses.{IsAnalysis};
 ghost use Rattle.rq_restart.specs.Views.{why_of};
 
 use crate::front::Front;
 use crate::restarted::Restarted;
-use rq_exchange::replay;
+use rq_exchange::replay_analysed;
 use rq_pool::{Gate, Plan};
 use rq_record::{Fault, Record, UnitNo};
 use rq_state::State;
@@ -39,7 +40,7 @@ pub(crate) fn close<R, G>(
     rt: &R,
     alloc: Global,
     state: &State,
-    mut front: Front,
+    front: Front,
     total: usize,
     plan: &Plan,
     gate: &G,
@@ -52,26 +53,33 @@ where
     requires few { length front.records.items ≤ 4294967295 }
     requires within { front.end ≤ total }
     requires lawful { all_lawful One state.now (map record_of front.records.items) ≡ true }
-    requires units { map unit_of front.units.items ≡ (run state.now (map record_of front.records.items)).units }
-    requires counts { (front.committed ≡ (run state.now (map record_of front.records.items)).committed) × (front.aborted ≡ (run state.now (map record_of front.records.items)).aborted) }
+    requires analysis { IsAnalysis state.now (map record_of front.records.items) front.analysis }
     ensures answer { IfOk result (λ r. r ≡ restarted (run state.now (map record_of front.records.items)) (total - front.end) total (why_of front.why)) }
     ensures refused { IfErr result (λ e. e ≡ Resources) }
 {
     rq_model::runs_are_well_formed();
     rq_model::numbers_after();
     rq_model::crash_is_harmless();
-    let records = state.next() + front.records.len() as u64;
-    let cut_off = front.units.len() as u64;
-    append_aborts(&mut front.records, &front.units)?;
-    let state = replay(rt, alloc, state, &front.records, plan, gate)?;
+    let Front {
+        mut records,
+        analysis,
+        end,
+        why,
+    } = front;
+    let next = state.next() + records.len() as u64;
+    let (committed, aborted) = (analysis.committed(), analysis.aborted());
+    let units = analysis.open_units(alloc)?;
+    append_aborts(&mut records, &units)?;
+    let analysis = analysis.go_on(alloc, state, &records)?;
+    let state = replay_analysed(rt, alloc, state, &records, &analysis, plan, gate)?;
     Ok(Restarted {
         state,
-        records,
-        used: front.end as u64,
+        records: next,
+        used: end as u64,
         total: total as u64,
-        why: front.why,
-        committed: front.committed,
-        aborted: front.aborted,
-        cut_off,
+        why,
+        committed,
+        aborted,
+        cut_off: units.len() as u64,
     })
 }

@@ -3,34 +3,31 @@
 ghost use Rattle.std.specs.Prelude.{◌≡◌, ◌≤◌, ◌++◌, ℕ, List, length, map, IfOk, IfErr};
 ghost use Rattle.rq_model.specs.Frames.{bodies_of};
 ghost use Rattle.rq_model.specs.Fronts.{Ends};
-ghost use Rattle.rq_model.specs.Machine.{run};
 ghost use Rattle.rq_record.specs.Views.{record_of};
 ghost use Rattle.rq_record.specs.declared.fault.Fault.TheVariants.{Resources};
-ghost use Rattle.rq_state.specs.Views.{unit_of};
+ghost use Rattle.rq_catalog.specs.Analyses.{IsAnalysis};
 ghost use Rattle.rq_front.specs.Chains.{bodies_at, rest_of};
 ghost use Rattle.rq_restart.specs.Views.{why_of};
 ghost use Rattle.rq_restart.specs.Ends.{IsChain, IsFrontFrom, end_at};
 
 use crate::reading::read;
 use crate::restarted::Why;
-use rq_catalog::analyse;
+use rq_catalog::{Analysis, analyse};
 use rq_front::{Chain, Rest};
 use rq_pool::Plan;
-use rq_record::{Fault, Record, UnitNo};
+use rq_record::{Fault, Record};
 use rq_state::State;
 use std::alloc::Global;
 use std::marker::Sync;
 use std::thread::Threads;
 
-/// The lawful records, where they end and why, and after them: the units that are open, rising, and the counts.
+/// The lawful records, what one pass over them found, where they end, and why.
 #[derive(Drop)]
 pub(crate) struct Front {
     pub(crate) records: Vec<Record>,
+    pub(crate) analysis: Analysis,
     pub(crate) end: usize,
     pub(crate) why: Why,
-    pub(crate) units: Vec<UnitNo>,
-    pub(crate) committed: u64,
-    pub(crate) aborted: u64,
 }
 
 fn why_of(rest: Rest) -> Why
@@ -70,8 +67,7 @@ pub(crate) fn front_of<R: Threads + Sync>(
     requires next { state.now.next ≤ 4294967295 }
     ensures front { IfOk result (λ f. (place : ℕ) → IsChain bytes.now place found.now → IsFrontFrom state.now bytes.now place (map record_of f.records.items) f.end (why_of f.why)) }
     ensures bodies { IfOk result (λ f. (left : List (List ℕ)) × (bodies_at bytes.now found.now.spans.items ≡ bodies_of (map record_of f.records.items) ++ left)) }
-    ensures units { IfOk result (λ f. map unit_of f.units.items ≡ (run state.now (map record_of f.records.items)).units) }
-    ensures counts { IfOk result (λ f. (f.committed ≡ (run state.now (map record_of f.records.items)).committed) × (f.aborted ≡ (run state.now (map record_of f.records.items)).aborted)) }
+    ensures analysis { IfOk result (λ f. IsAnalysis state.now (map record_of f.records.items) f.analysis) }
     ensures refused { IfErr result (λ e. e ≡ Resources) }
 {
     rq_model::frames_are_right();
@@ -82,13 +78,10 @@ pub(crate) fn front_of<R: Threads + Sync>(
     let kept = analysis.lawful();
     let (end, why) = end_of(found, records.len(), kept);
     records.truncate(kept);
-    let units = analysis.open_units(alloc)?;
     Ok(Front {
         records,
+        analysis,
         end,
         why,
-        units,
-        committed: analysis.committed(),
-        aborted: analysis.aborted(),
     })
 }

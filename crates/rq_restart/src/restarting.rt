@@ -2,11 +2,10 @@
 
 ghost use Rattle.std.specs.Prelude.{◌≡◌, ◌≤◌, length, map, IfOk, IfErr, OnOk};
 ghost use Rattle.rq_model.specs.Frames.{log_limit, HasHeader};
-ghost use Rattle.rq_model.specs.Machine.{run};
 ghost use Rattle.rq_model.specs.Records.{One};
 ghost use Rattle.rq_model.specs.States.{empty};
 ghost use Rattle.rq_record.specs.Views.{record_of};
-ghost use Rattle.rq_state.specs.Views.{unit_of};
+ghost use Rattle.rq_catalog.specs.Analyses.{IsAnalysis};
 ghost use Rattle.rq_front.specs.Chains.{Refused};
 ghost use Rattle.rq_restart.specs.Ends.{IsFrontFrom};
 ghost use Rattle.rq_restart.specs.Restarts.{FindsState, Restarts};
@@ -16,7 +15,7 @@ use crate::closing::close;
 use crate::front::{Front, front_of};
 use crate::grain::grain_of;
 use crate::restarted::Restarted;
-use rq_exchange::replay;
+use rq_exchange::replay_analysed;
 use rq_front::chain;
 use rq_pool::{Gate, Open, Plan};
 use rq_record::Fault;
@@ -33,8 +32,7 @@ fn whole_front<R: Threads + Sync>(
     plan: &Plan,
 ) -> Result<Front, Fault>
     ensures front { IfOk result (λ f. IsFrontFrom empty bytes.now 40 (map record_of f.records.items) f.end (why_of f.why)) }
-    ensures units { IfOk result (λ f. map unit_of f.units.items ≡ (run empty (map record_of f.records.items)).units) }
-    ensures counts { IfOk result (λ f. (f.committed ≡ (run empty (map record_of f.records.items)).committed) × (f.aborted ≡ (run empty (map record_of f.records.items)).aborted)) }
+    ensures analysis { IfOk result (λ f. IsAnalysis empty (map record_of f.records.items) f.analysis) }
     ensures log { OnOk result ((length bytes.now ≤ log_limit) × HasHeader One bytes.now) }
     ensures refused { IfErr result (Refused bytes.now) }
 {
@@ -89,5 +87,13 @@ pub fn front_state<R: Threads + Sync>(
 {
     rq_model::frames_join();
     let front = whole_front(rt, alloc, bytes, plan)?;
-    replay(rt, alloc, &State::empty(alloc), &front.records, plan, &Open)
+    replay_analysed(
+        rt,
+        alloc,
+        &State::empty(alloc),
+        &front.records,
+        &front.analysis,
+        plan,
+        &Open,
+    )
 }

@@ -1,15 +1,7 @@
-use Rattle.std.proofs.Common.{arith, ◌∙◌, sym}
-use Rattle.rq_catalog.proofs.Ends.{room_here, one_on, ends_whole, ends_at_one}
+use Rattle.std.proofs.Common.{[], refl, arith}
+use Rattle.rq_catalog.proofs.Ends.{ends_whole}
 use Rattle.rq_catalog.proofs.analysis.analyse.Goals as goal
-use Rattle.rq_catalog.proofs.analysis.analyse.Goals.{else-loop-lawful-test, then-loop-lawful-test+then-not-may_take}
 
-pub take-requires : goal.take-requires
-take-requires c = rw c.next-start.ensures.next (room_here _ _ _ _ c.next-start.ensures.well_formed c.loop-lawful.invariant.0 c.loop-lawful.invariant.1 c.loop-lawful.invariant.2 c.requires (omega (arith, c.loop-lawful-test.true)))
-
-pub loop-lawful-preserved : goal.loop-lawful-preserved
-loop-lawful-preserved c =
-    let next = one_on _ _ _ _ c.next-start.ensures.well_formed c.loop-lawful.invariant.0 c.loop-lawful.invariant.1 c.loop-lawful.invariant.2 _ _ c.index-records-lawful.is (omega (arith, c.loop-lawful-test.true)) (sym c.may_take.ensures ∙ c.if-not-may_take.false) (rw (← c.next-start.ensures.next) c.in_ok-take.ensures.takes) in
-    (omega (arith, c.loop-lawful-test.true), next.0, next.1)
-
-pub returns-clause-analysis : goal.returns-clause-analysis
-returns-clause-analysis c = elim c.loop-lawful-test.branch [ else-loop-lawful-test w ↦ ends_whole _ _ _ _ c.next-start.ensures.well_formed c.loop-lawful.invariant.0 c.loop-lawful.invariant.1 c.loop-lawful.invariant.2 (omega (arith, w.loop-lawful-test.false)) | then-loop-lawful-test+then-not-may_take w ↦ ends_at_one _ _ _ _ c.next-start.ensures.well_formed c.loop-lawful.invariant.0 c.loop-lawful.invariant.1 c.loop-lawful.invariant.2 _ w.index-records-lawful.is (omega (arith, w.loop-lawful-test.true)) (sym w.may_take.ensures ∙ w.if-not-may_take.true) ]
+-- a state and no records: nothing is lawful yet
+pub go_on-requires-clause-analysed : goal.go_on-requires-clause-analysed
+go_on-requires-clause-analysed c = ends_whole c.in_ok-catalogue_of.field-0 c.args.state.now [] 0 c.is_well_formed.ensures (omega arith) refl c.in_ok-catalogue_of.ensures.follows (omega arith)

@@ -1,4 +1,4 @@
-use Rattle.std.proofs.Common.{◌≡◌, ◌≤◌, ◌+◌, List, length, map, drop, ap, sym, subst, ◌∙◌, arith}
+use Rattle.std.proofs.Common.{◌≡◌, ◌≤◌, ◌+◌, List, length, map, drop, ap, sym, subst, ◌∙◌, arith, rules}
 use Rattle.std.proofs.lemmas.List.{length-map, take_all}
 use Rattle.rq_model.specs.States.{State, empty}
 use Rattle.rq_model.specs.Checkpoints.{IsAudit}
@@ -32,6 +32,9 @@ visit-requires-clause-walk g c κs within = subst (λ (rs : List Record). IsWalk
 
 pub loop-place-preserved : goal.loop-place-preserved
 loop-place-preserved g c = subst (λ (rs : List Record). IsWalk (map record_of rs) (c.loop-place.place + 1) c.in_ok-walk.walk) c.deref.ensures.value c.in_ok-walk.ensures.walk
+
+pub returns-in_err-walk : goal.returns-in_err-walk
+returns-in_err-walk g c = search (rules, c.in_err-walk.ensures.refused, c.from_residual-in_err-walk.ensures)
 
 pub returns : goal.returns
 returns g c =

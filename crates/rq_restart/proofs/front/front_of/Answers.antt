@@ -3,7 +3,7 @@ use Rattle.std.proofs.lemmas.List.{length-map}
 use Rattle.rq_model.specs.Records.{One}
 use Rattle.rq_model.specs.Records as model
 use Rattle.rq_model.specs.Frames.{bodies_of}
-use Rattle.rq_model.specs.Machine.{run, lawful_front}
+use Rattle.rq_model.specs.Machine.{lawful_front}
 use Rattle.rq_record.specs.declared.record.Record.{Record}
 use Rattle.rq_record.specs.Views.{record_of}
 use Rattle.rq_front.specs.declared.spans.Span.{Span}
@@ -13,7 +13,7 @@ use Rattle.rq_restart.specs.Readings.{AreRead}
 use Rattle.rq_restart.specs.Ends.{IsFrontFrom, end_at}
 use Rattle.rq_restart.specs.Views.{why_of}
 use Rattle.rq_restart.proofs.Fronts.{front_from, bodies_kept}
-use Rattle.rq_restart.proofs.Parts.{kept_is}
+use Rattle.rq_restart.proofs.Parts.{kept_is, analysis_of_front}
 use Rattle.rq_restart.proofs.front.front_of.Goals as goal
 
 pub returns-clause-front : goal.returns-clause-front
@@ -44,20 +44,10 @@ returns-clause-bodies g c =
     let read : AreRead bodies rs = subst (λ (ss : List Span). AreRead (bodies_at c.args.bytes.now ss) rs) c.deref.ensures.value c.in_ok-records.ensures.records in
     subst (λ (xs : List model.Record). (left : List (List ℕ)) × (bodies ≡ bodies_of xs ++ left)) (sym kept) (bodies_kept s bodies rs read)
 
-pub returns-clause-units : goal.returns-clause-units
-returns-clause-units g c =
+pub returns-clause-analysis : goal.returns-clause-analysis
+returns-clause-analysis g c =
     let s = c.args.state.now in
     let all = c.in_ok-records.records.items in
     let analysis : IsAnalysis s (map record_of all) c.in_ok-analysis.analysis = subst (λ (xs : List Record). IsAnalysis s (map record_of xs) c.in_ok-analysis.analysis) c.deref-2.ensures.value c.in_ok-analysis.ensures.analysis in
     let kept = kept_is s all c.truncate.new.self.items c.lawful-kept.result c.truncate.ensures.items (c.lawful-kept.ensures ∙ analysis.lawful) in
-    c.in_ok-units.ensures.units ∙ analysis.units ∙ ap (λ (xs : List model.Record). (run s xs).units) (sym kept)
-
-pub returns-clause-counts : goal.returns-clause-counts
-returns-clause-counts g c =
-    let s = c.args.state.now in
-    let all = c.in_ok-records.records.items in
-    let analysis : IsAnalysis s (map record_of all) c.in_ok-analysis.analysis = subst (λ (xs : List Record). IsAnalysis s (map record_of xs) c.in_ok-analysis.analysis) c.deref-2.ensures.value c.in_ok-analysis.ensures.analysis in
-    let kept = kept_is s all c.truncate.new.self.items c.lawful-kept.result c.truncate.ensures.items (c.lawful-kept.ensures ∙ analysis.lawful) in (
-      c.committed.ensures ∙ analysis.committed ∙ ap (λ (xs : List model.Record). (run s xs).committed) (sym kept),
-      c.aborted.ensures ∙ analysis.aborted ∙ ap (λ (xs : List model.Record). (run s xs).aborted) (sym kept),
-    )
+    subst (λ (xs : List model.Record). IsAnalysis s xs c.in_ok-analysis.analysis) (sym kept) (analysis_of_front s (map record_of all) c.in_ok-analysis.analysis analysis)

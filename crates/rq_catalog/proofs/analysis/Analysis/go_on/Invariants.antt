@@ -3,7 +3,7 @@ use Rattle.rq_model.specs.Records.{One}
 use Rattle.rq_model.specs.Machine.{all_lawful}
 use Rattle.rq_record.specs.Views.{record_of}
 use Rattle.rq_catalog.specs.Catalogues.{Follows}
-use Rattle.rq_catalog.proofs.analysis.analyse.Given as goal
+use Rattle.rq_catalog.proofs.analysis.Analysis.go_on.Given as goal
 
 abbrev pub invariant-loop-lawful : goal.invariant-loop-lawful
 invariant-loop-lawful l =

@@ -8,11 +8,11 @@ use Rattle.rq_model.specs.Machine.{run, lawful_front}
 use Rattle.rq_record.specs.Views.{record_of}
 use Rattle.std.specs.Global.{Vec}
 use Rattle.rq_state.specs.Orders.{places_of, listed}
-use Rattle.rq_catalog.specs.Analyses.{numbered}
+use Rattle.rq_catalog.specs.Lists.{numbered}
 use Rattle.rq_exchange.proofs.Errors.{places_map, errors_fall}
 use Rattle.rq_exchange.proofs.Pouring.{whole_front}
-use Rattle.rq_exchange.proofs.replaying.replay.Goals as goal
-use Rattle.rq_exchange.proofs.replaying.replay.Goals.{In_ok-definitions}
+use Rattle.rq_exchange.proofs.replaying.replay_analysed.Goals as goal
+use Rattle.rq_exchange.proofs.replaying.replay_analysed.Goals.{In_ok-definitions}
 
 abbrev records : (g : _) → In_ok-definitions g → List Record
 records g c = map record_of c.args.records.now
@@ -45,7 +45,7 @@ redo_all-requires-clause-job g c κs within =
       well = c.is_well_formed.ensures;
       lawful = c.requires.lawful;
       fits = c.requires.fits;
-      touching = λ q. c.in_ok-analysis.ensures.analysis.touching q ∙ ap (λ xs. numbered c.args.state.now xs q) front;
+      touching = λ q. c.requires.analysis.touching q ∙ ap (λ xs. numbered c.args.state.now xs q) front;
       definitions = c.deref-4.ensures.value ∙ c.in_ok-definitions.ensures.definitions;
       few = subst (λ (ds : List Definition). length ds ≤ 4096) (sym c.deref-4.ensures.value) (few g d);
       tables = ap length c.deref-5.ensures.value ∙ c.in_ok-sources.ensures.len ∙ count ∙ sym (ap length c.deref-4.ensures.value);
