@@ -27,19 +27,24 @@ def layer_of(stack: list[str]) -> str:
     return "memory and files"
 
 
-def stacks(data: str) -> list[list[str]]:
-    told = subprocess.run(["perf", "script", "-i", data, "-F", "ip,sym"], capture_output=True, text=True, check=True).stdout
-    blocks = (block.splitlines() for block in told.split("\n\n"))
-    return [[line.strip().split(" ", 1)[-1] for line in block if line.strip()] for block in blocks if any(block)]
+def record(data: str, words: list[str]) -> None:
+    subprocess.run(["perf", "record", "-e", "cpu-clock", "-F", str(PER_SECOND), "-g", "-o", data, *words],
+                   stdout=subprocess.DEVNULL, stderr=subprocess.DEVNULL, check=False)
+
+
+def timed_stacks(data: str) -> list[tuple[float, list[str]]]:
+    """The second of each sample and its stack, the innermost function first."""
+    told = subprocess.run(["perf", "script", "-i", data, "-F", "time,ip,sym"], capture_output=True, text=True, check=True).stdout
+    blocks = [[line.strip() for line in block.splitlines() if line.strip()] for block in told.split("\n\n")]
+    return [(float(block[0].rstrip(":")), [line.split(" ", 1)[-1] for line in block[1:]]) for block in blocks if block]
 
 
 def seconds_by_layer(words: list[str]) -> dict[str, float]:
     """Seconds of processor time of a command by layer, the most first."""
     with tempfile.TemporaryDirectory() as folder:
         data = os.path.join(folder, "perf.data")
-        subprocess.run(["perf", "record", "-e", "cpu-clock", "-F", str(PER_SECOND), "-g", "-o", data, *words],
-                       stdout=subprocess.DEVNULL, stderr=subprocess.DEVNULL, check=False)
-        counts = collections.Counter(layer_of(stack) for stack in stacks(data))
+        record(data, words)
+        counts = collections.Counter(layer_of(stack) for _, stack in timed_stacks(data))
     return {layer: count / PER_SECOND for layer, count in counts.most_common()}
 
 

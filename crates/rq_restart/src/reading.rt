@@ -13,7 +13,7 @@ use std::alloc::Global;
 use std::marker::Sync;
 use std::thread::{Threads, join};
 
-// So many bodies are read sooner than a thread starts.
+// As many bodies are read by one thread, so that the restart of a small log starts none.
 const FEW: usize = 1024;
 
 // The records that the bodies spell, read by one thread, with room for as many as are to stand with them.

@@ -2,8 +2,7 @@ use Rattle.std.proofs.Common.{◌≡◌, ◌≤◌, ℕ, ◌+◌, ◌++◌, List
 use Rattle.std.proofs.lemmas.List.{length-map}
 use Rattle.rq_model.specs.Records as model
 use Rattle.rq_model.specs.Records.{One}
-use Rattle.rq_model.specs.States.{State}
-use Rattle.rq_model.specs.Machine.{all_lawful, run, lawful_front}
+use Rattle.rq_model.specs.Machine.{all_lawful, run}
 use Rattle.rq_record.specs.declared.record.Record.{Record}
 use Rattle.rq_record.specs.declared.record.UnitNo.{UnitNo}
 use Rattle.rq_record.specs.Views.{record_of}

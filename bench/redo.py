@@ -1,0 +1,47 @@
+#!/usr/bin/env python3
+"""How long the redo of the queues takes: the wall seconds from its first sample to its last, whatever threads do it.
+
+usage: redo.py RQ [--mib N] [--rounds N]
+Over `skew` with one worker and with four, and over `lone` with four, in turn: `lone` is `skew` with a record that touches no
+queue in place of each operation on another queue than the first, so its redo is that of this queue alone, its records
+lying where they lie in `skew`. Told by `perf record`. RQ is the built program itself, not the root script.
+"""
+from __future__ import annotations
+import os, statistics, subprocess, tempfile
+
+import common, layers
+
+RUNS = [("skew", 1), ("skew", 4), ("lone", 4)]
+
+
+def is_redo(stack: list[str]) -> bool:
+    return layers.layer_of(stack) == "redo" or any("jobs::" in symbol or "rounds::" in symbol for symbol in stack)
+
+
+def redo_seconds(words: list[str]) -> float:
+    """From the first sample of the redo to the last."""
+    with tempfile.TemporaryDirectory() as folder:
+        data = os.path.join(folder, "perf.data")
+        layers.record(data, words)
+        times = [time for time, stack in layers.timed_stacks(data) if is_redo(stack)]
+    return max(times) - min(times)
+
+
+def main() -> None:
+    words = common.parser()
+    words.add_argument("--mib", type=int, default=128)
+    words.add_argument("--rounds", type=int, default=5)
+    options = common.parsed(words)
+    peer = common.built_peer(options.folder)
+    found: dict[tuple[str, int], list[float]] = {run: [] for run in RUNS}
+    for _ in range(options.rounds):
+        for shape, workers in RUNS:
+            log = common.log_of(peer, options.folder, shape, options.mib)
+            found[shape, workers].append(redo_seconds([options.program, "restart", log, str(workers), "100"]))
+    print("| log | workers | best | median |\n|---|---|---|---|")
+    for (shape, workers), took in found.items():
+        print(f"| {shape} | {workers} | {min(took):.3f} | {statistics.median(took):.3f} |")
+
+
+if __name__ == "__main__":
+    main()
