@@ -1,6 +1,7 @@
 pub mod Tables
 pub mod Once
 pub mod Runs
+pub mod Fronts
 pub mod Lawfulness
 pub mod Seen
 pub mod Keep

@@ -15,6 +15,7 @@ use Rattle.rq_model.specs.StateSpelling.{state_bytes}
 use Rattle.rq_model.specs.Fronts.{IsFront}
 use Rattle.rq_model.specs.Checkpoints.{Audited, HasCheckpoint, TrueAt, IsAudit}
 use Rattle.rq_model.specs.LogLaws.{OneFront, LogEnds, FrameIsRight, RecordHasOneBody}
+use Rattle.rq_model.proofs.Restarts.{each_cut}
 use Rattle.rq_restart.specs.Audits.{audit_of, audits, past}
 use Rattle.rq_restart.proofs.Chains.{frame_long}
 
@@ -128,10 +129,6 @@ log_size right one ends rs h =
     let size : length (start One) ≡ 32 = (ends One []).2 in
     omega (arith, size, length-append (magic One) (start One), length-append (header One) (frames_of (start One) rs), frames_size right one (start One) 40 rs h)
 
-each_front : (xs ys : List Record) → AllByRecursion (IsRecord One) (xs ++ ys) → AllByRecursion (IsRecord One) xs
-each_front [] ys h = tt
-each_front (x ∷ xs) ys h = (h.0, each_front xs ys h.1)
-
 -- what the audit rests on
 pub record AuditLaws : Type 0 where
   pub right : FrameIsRight
@@ -148,7 +145,7 @@ stands laws b rs rest before kept after front is =
       after = after;
       rest = rest;
       front = here;
-      there = sym (log_size laws.right laws.body laws.ends before (each_front before (Checkpoint kept ∷ after) here.longest.begins.records));
+      there = sym (log_size laws.right laws.body laws.ends before (each_cut (IsRecord One) before (Checkpoint kept ∷ after) here.longest.begins.records).0);
     }
 
 -- and is the only one that stands there
@@ -157,7 +154,7 @@ only : AuditLaws → (b : List ℕ) (rs : List Record) (rest : List ℕ) (before
 only laws b rs rest before kept after offset records other front is place h =
     let one = laws.front b h.version One (records ++ Checkpoint other ∷ h.after) rs h.rest rest h.front front in
     let again : IsFront b One (records ++ Checkpoint other ∷ h.after) h.rest = subst (λ (v : Version). IsFront b v (records ++ Checkpoint other ∷ h.after) h.rest) one.0 h.front in
-    let size : length (log_of One records) ≡ past 40 records = log_size laws.right laws.body laws.ends records (each_front records (Checkpoint other ∷ h.after) again.longest.begins.records) in
+    let size : length (log_of One records) ≡ past 40 records = log_size laws.right laws.body laws.ends records (each_cut (IsRecord One) records (Checkpoint other ∷ h.after) again.longest.begins.records).0 in
     let same : past 40 records ≡ past 40 before = sym size ∙ ap (λ (v : Version). length (log_of v records)) (sym one.0) ∙ sym h.there ∙ place in
     let both = same_split 40 records before h.after after (Checkpoint other) (Checkpoint kept) (one.1 ∙ is) same in
     (both.0, ap kept_or both.1)
@@ -203,7 +200,7 @@ is_audit laws b rs rest front = record {
     from x h =
         let one = laws.front b h.2.version One (h.0 ++ Checkpoint h.1 ∷ h.2.after) rs h.2.rest rest h.2.front front in
         let again : IsFront b One (h.0 ++ Checkpoint h.1 ∷ h.2.after) h.2.rest = subst (λ (v : Version). IsFront b v (h.0 ++ Checkpoint h.1 ∷ h.2.after) h.2.rest) one.0 h.2.front in
-        let size : length (log_of One h.0) ≡ past 40 h.0 = log_size laws.right laws.body laws.ends h.0 (each_front h.0 (Checkpoint h.1 ∷ h.2.after) again.longest.begins.records) in
+        let size : length (log_of One h.0) ≡ past 40 h.0 = log_size laws.right laws.body laws.ends h.0 (each_cut (IsRecord One) h.0 (Checkpoint h.1 ∷ h.2.after) again.longest.begins.records).0 in
         let place : x.offset ≡ past 40 h.0 = h.2.there ∙ ap (λ (v : Version). length (log_of v h.0)) one.0 ∙ size in
         let truth : x.truth ≡ bytes_eq h.1 (state_bytes (run empty h.0)) = same_truth x.truth (bytes_eq h.1 (state_bytes (run empty h.0))) (TrueAt b x.offset) h.3 (tells laws b rs rest h.0 h.1 h.2.after x.offset front (sym one.1) place) in
         let same : audit_at empty 40 h.0 h.1 ≡ x = λ i. record { offset = sym place i; truth = sym truth i } in

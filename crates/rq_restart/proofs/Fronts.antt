@@ -11,13 +11,14 @@ use Rattle.rq_model.specs.States.{State}
 use Rattle.rq_model.specs.Machine.{run, all_lawful, lawful_front}
 use Rattle.rq_model.specs.Fronts.{IsLongest, IsWhy, Why, Ends, Form, Law}
 use Rattle.rq_model.specs.LogLaws.{FrameIsRight, FramesJoin, RunGivesFront}
+use Rattle.rq_model.proofs.Restarts.{each_cut}
 use Rattle.rq_front.specs.declared.spans.Chain.{Chain}
 use Rattle.rq_front.specs.declared.spans.Span.{Span}
 use Rattle.rq_front.specs.Chains.{bodies_at, rest_of, spans_from}
+use Rattle.rq_catalog.proofs.Fronts.{Stops, parted, is_more, more_is}
 use Rattle.rq_restart.specs.Readings.{AreRead, SpellsNone}
 use Rattle.rq_restart.specs.Ends.{IsChain, IsFrontFrom, end_from, end_at}
 use Rattle.rq_restart.proofs.Chains.{behind, are_behind, AreBehind, span_at, no_span}
-use Rattle.rq_restart.proofs.Parts.{Stops, parted, is_more, more_is}
 
 -- a body of the chain stands behind so many others
 record IsStopped (b : List ℕ) (place : ℕ) (c : Chain) (bodies : List (List ℕ)) (body : List ℕ) (more : List (List ℕ)) : Type 0 where
@@ -94,17 +95,13 @@ ended right join law s b place c kept (r ∷ more) left h are others lawful stop
     let found = law.law One s (before place b) (drop place b) (drop c.end b) kept (body_of r) (bodies_of more ++ left) r here.run are lawful (others.0, refl) stop in
     subst (λ (f : ℕ × Why). IsFrontFrom s b place kept f.0 f.1) (sym end) (placed s b place kept _ Law here.stands found)
 
-each_part : (P : Record → Type 0) (xs ys : List Record) → AllByRecursion P (xs ++ ys) → AllByRecursion P xs × AllByRecursion P ys
-each_part P [] ys h = (tt, h)
-each_part P (x ∷ xs) ys h = let rest = each_part P xs ys h.1 in ((h.0, rest.0), rest.1)
-
 -- the lawful ones of the records that were read of a chain are its front
 pub front_from : FrameIsRight → FramesJoin → RunGivesFront → (s : State) (b : List ℕ) (place : ℕ) (c : Chain) (rs : List Record) → IsChain b place c → AreRead (bodies_at b c.spans.items) rs
     → (e : ℕ × Why) → e ≡ end_at c.spans.items c.end (rest_of c.rest) (length rs) (length (lawful_front One s rs)) → IsFrontFrom s b place (lawful_front One s rs) e.0 e.1
 front_from right join law s b place c rs h read e e_is =
     let kept = lawful_front One s rs in
     let p = parted s rs in
-    let are = each_part (IsRecord One) kept p.more (subst (λ (qs : List Record). AllByRecursion (IsRecord One) qs) p.whole read.records) in
+    let are = each_cut (IsRecord One) kept p.more (subst (λ (qs : List Record). AllByRecursion (IsRecord One) qs) p.whole read.records) in
     let bodies : bodies_at b c.spans.items ≡ bodies_of kept ++ (bodies_of p.more ++ read.left) =
     read.spelled ∙ ap (λ (qs : List Record). bodies_of qs ++ read.left) p.whole ∙ ap (λ (z : List (List ℕ)). z ++ read.left) (map-append body_of kept p.more) ∙ append_assoc (bodies_of kept) (bodies_of p.more) read.left in
     let below : nat_lt (length kept) (length rs) ≡ is_more p.more = ap (λ (qs : List Record). nat_lt (length kept) (length qs)) p.whole ∙ more_is kept p.more in

@@ -1,6 +1,5 @@
 pub mod Readings
 pub mod Chains
-pub mod Parts
 pub mod Fronts
 pub mod Closings
 pub mod Starts

@@ -4,15 +4,15 @@ use Rattle.std.specs.Prelude.{slice_index_or}
 use Rattle.std.specs.Str.{bytes_eq}
 use Rattle.std.proofs.Math.Seq.{take-suc}
 use Rattle.std.proofs.Math.Numerals.{suc-eq-add-one}
-use Rattle.std.proofs.lemmas.Bool.{and_from, and_parts}
 use Rattle.std.proofs.lemmas.List.{append-nil, map-append, length-map, length-take, take-take, drop-take, take-map, drop-map, take-append-drop, get_or-map}
 use Rattle.rq_model.specs.Records.{Record, One}
 use Rattle.rq_model.specs.Spelling.{body_of}
 use Rattle.rq_model.specs.Frames.{bodies_of}
 use Rattle.rq_model.specs.States.{State, empty}
-use Rattle.rq_model.specs.Machine.{step, run, is_lawful, all_lawful}
+use Rattle.rq_model.specs.Machine.{step, run, all_lawful}
 use Rattle.rq_model.specs.StateSpelling.{state_bytes}
 use Rattle.rq_model.specs.Checkpoints.{Audited}
+use Rattle.rq_model.proofs.Restarts.{run_join, lawful_cut, next_run}
 use Rattle.rq_record.specs.declared.record.Record.{Record as Own}
 use Rattle.rq_record.specs.declared.record.Record.TheVariants as own
 use Rattle.rq_record.specs.Views.{record_of}
@@ -22,7 +22,6 @@ use Rattle.rq_front.specs.Chains.{bodies_at, spans_from}
 use Rattle.rq_restart.specs.declared.auditing.Walk.{Walk}
 use Rattle.rq_restart.specs.Ends.{IsChain}
 use Rattle.rq_restart.specs.Audits.{audit_of, audits, audited_of, past, StandAt, IsWalk}
-use Rattle.rq_restart.proofs.Closings.{run_join}
 
 -- where the frames of the records stand
 stand_from : (at : ℕ) (rs : List Record) (left : List (List ℕ)) (i : ℕ) → i < length rs
@@ -35,20 +34,9 @@ pub stand_at : (b : List ℕ) (c : Chain) (rs : List Record) (left : List (List 
 stand_at b c rs left chain is = subst (λ (ss : List Span). StandAt rs ss) (sym (chain.spans ∙ ap (spans_from 40) is)) (stand_from 40 rs left)
 
 -- the state before each record
-lawful_part : (s : State) (xs ys : List Record) → all_lawful One s (xs ++ ys) ≡ true → (all_lawful One s xs ≡ true) × (all_lawful One (run s xs) ys ≡ true)
-lawful_part s [] ys h = (refl, h)
-lawful_part s (x ∷ xs) ys h =
-    let both = and_parts (is_lawful One s x) (all_lawful One (step s x) (xs ++ ys)) h in
-    let more = lawful_part (step s x) xs ys both.1 in
-    (and_from (is_lawful One s x) (all_lawful One (step s x) xs) both.0 more.0, more.1)
-
-next_is : (s : State) (rs : List Record) → (run s rs).next ≡ s.next + length rs
-next_is s [] = omega arith
-next_is s (r ∷ rs) = let later : (run (step s r) rs).next ≡ s.next + 1 + length rs = next_is (step s r) rs in omega (arith, later)
-
 pub next_at : (rs : List Record) (i : ℕ) (s : State) → i ≤ length rs → s ≡ run empty (take i rs) → s.next ≡ i
 next_at rs i s h is =
-    let next : s.next ≡ 0 + length (take i rs) = ap (λ (t : State). t.next) is ∙ next_is empty (take i rs) in
+    let next : s.next ≡ 0 + length (take i rs) = ap (λ (t : State). t.next) is ∙ next_run empty (take i rs) in
     omega (arith, h, next, length-take i rs)
 
 -- the records from one place to another
@@ -67,9 +55,9 @@ lawful_between all from i s h is lawful =
     let rs = map record_of all in
     let mid = take (i - from) (drop from rs) in
     let whole : all_lawful One empty (take i rs ++ drop i rs) ≡ true = ap (all_lawful One empty) (take-append-drop i rs) ∙ lawful in
-    let front : all_lawful One empty (take from rs ++ mid) ≡ true = ap (all_lawful One empty) (sym (between rs from i h)) ∙ (lawful_part empty (take i rs) (drop i rs) whole).0 in
+    let front : all_lawful One empty (take from rs ++ mid) ≡ true = ap (all_lawful One empty) (sym (between rs from i h)) ∙ (lawful_cut One empty (take i rs) (drop i rs) whole).0 in
     ap (λ (t : State). all_lawful One t (map record_of (take (i - from) (drop from all)))) is
-    ∙ ap (all_lawful One (run empty (take from rs))) (own_between all from (i - from)) ∙ (lawful_part empty (take from rs) mid front).1
+    ∙ ap (all_lawful One (run empty (take from rs))) (own_between all from (i - from)) ∙ (lawful_cut One empty (take from rs) mid front).1
 
 pub run_between : (all : List Own) (from i : ℕ) (s : State) → from ≤ i → s ≡ run empty (take from (map record_of all))
     → run s (map record_of (take (i - from) (drop from all))) ≡ run empty (take i (map record_of all))

@@ -1,6 +1,6 @@
 //! The end of a restart: open units are aborted, and all is redone.
 
-ghost use Rattle.std.specs.Prelude.{◌≡◌, ◌≤◌, ◌-◌, ◌++◌, true, length, map, IfOk, IfErr, OnOk};
+ghost use Rattle.std.specs.Prelude.{◌≡◌, ◌≤◌, ◌<◌, ◌^◌, ◌+◌, ◌-◌, ◌++◌, true, length, map, take, IfOk, IfErr, OnOk};
 ghost use Rattle.rq_model.specs.Records as model;
 ghost use Rattle.rq_model.specs.Records.{One};
 ghost use Rattle.rq_model.specs.Machine.{all_lawful, run};
@@ -9,11 +9,12 @@ ghost use Rattle.rq_model.specs.Fronts.{restarted};
 ghost use Rattle.rq_record.specs.Views.{record_of};
 ghost use Rattle.rq_record.specs.declared.fault.Fault.TheVariants.{Resources};
 ghost use Rattle.rq_state.specs.Views.{unit_of};
-ghost use Rattle.rq_catalog.specs.Analyses.{IsAnalysis};
+ghost use Rattle.rq_catalog.specs.Analyses.{IsAnalysis, open_in};
 ghost use Rattle.rq_restart.specs.Views.{why_of};
 
 use crate::front::Front;
 use crate::restarted::Restarted;
+use rq_catalog::Analysis;
 use rq_exchange::replay_analysed;
 use rq_pool::{Gate, Plan};
 use rq_record::{Fault, Record, UnitNo};
@@ -32,6 +33,46 @@ fn append_aborts(records: &mut Vec<Record>, units: &[UnitNo]) -> Result<(), Faul
         records.push(Record::Abort { unit: *unit })?;
     }
     Ok(())
+}
+
+// The records and, behind them, the ABORT of each unit that is open after them, rising; and how many these are.
+fn with_aborts(
+    alloc: Global,
+    mut records: Vec<Record>,
+    analysis: &Analysis,
+) -> Result<(Vec<Record>, u64), Fault>
+    ensures records { IfOk result (λ all. map record_of all.0.items ≡ map record_of records.items ++ map model.Abort (open_in analysis.now)) }
+    ensures count { IfOk result (λ all. all.1 ≡ length (open_in analysis.now)) }
+    ensures refused { IfErr result (λ e. e ≡ Resources) }
+{
+    let units = analysis.open_units(alloc)?;
+    append_aborts(&mut records, &units)?;
+    Ok((records, units.len() as u64))
+}
+
+// The state behind the records, for whose beginning the analysis stands. It lets go of both, so that a caller that is
+// refused has neither to drop.
+fn redone<R, G>(
+    rt: &R,
+    alloc: Global,
+    state: &State,
+    records: Vec<Record>,
+    analysis: Analysis,
+    plan: &Plan,
+    gate: &G,
+) -> Result<State, Fault>
+where
+    R: Threads + Sync,
+    G: Gate + Sync,
+    requires lawful { all_lawful One state.now (map record_of records.items) ≡ true }
+    requires fits { state.now.next + length records.items < 2 ^ 64 }
+    requires within { analysis.lawful ≤ length records.items }
+    requires analysed { IsAnalysis state.now (map record_of (take analysis.lawful records.items)) analysis }
+    ensures state { IfOk result (λ t. t ≡ run state.now (map record_of records.items)) }
+    ensures refused { IfErr result (λ e. e ≡ Resources) }
+{
+    let analysis = analysis.go_on(alloc, state, &records)?;
+    replay_analysed(rt, alloc, state, &records, &analysis, plan, gate)
 }
 
 /// What a restart answers of a front that begins in the state and ends at a place of `total` bytes: its open
@@ -61,17 +102,15 @@ where
     rq_model::numbers_after();
     rq_model::crash_is_harmless();
     let Front {
-        mut records,
+        records,
         analysis,
         end,
         why,
     } = front;
     let next = state.next() + records.len() as u64;
     let (committed, aborted) = (analysis.committed(), analysis.aborted());
-    let units = analysis.open_units(alloc)?;
-    append_aborts(&mut records, &units)?;
-    let analysis = analysis.go_on(alloc, state, &records)?;
-    let state = replay_analysed(rt, alloc, state, &records, &analysis, plan, gate)?;
+    let (records, cut_off) = with_aborts(alloc, records, &analysis)?;
+    let state = redone(rt, alloc, state, records, analysis, plan, gate)?;
     Ok(Restarted {
         state,
         records: next,
@@ -80,6 +119,6 @@ where
         why,
         committed,
         aborted,
-        cut_off: units.len() as u64,
+        cut_off,
     })
 }

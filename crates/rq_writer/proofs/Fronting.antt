@@ -1,7 +1,6 @@
 -- The front as the code has it.
-use Rattle.std.proofs.Common.{◌≡◌, ℕ, ◌+◌, ◌≤◌, Bool, true, false, List, [], ◌∷◌, ◌++◌, length, map, take, sym, ap, subst, ◌∙◌, arith}
+use Rattle.std.proofs.Common.{◌≡◌, ◌+◌, ◌≤◌, Bool, true, false, List, [], ◌∷◌, ◌++◌, length, map, sym, ap, subst, ◌∙◌, arith}
 use Rattle.std.specs.Prelude.{nat_lt}
-use Rattle.std.specs.List.{take-map}
 use Rattle.std.proofs.lemmas.List.{length-map, map-append}
 use Rattle.rq_model.specs.Records as model
 use Rattle.rq_model.specs.Records.{One}
@@ -12,14 +11,7 @@ use Rattle.rq_record.specs.Views.{record_of}
 use Rattle.rq_record.specs.declared.record.Record.{Record}
 use Rattle.rq_writer.specs.Made.{IsStateOf}
 use Rattle.rq_writer.specs.Fronts.{Splits, AreLogged}
-use Rattle.rq_writer.proofs.Splitting.{front_is, open_keeps, ended_keeps, caught_up, open_fits, split_is_state}
-
--- the first of the records, as many as are lawful
-pub first_are : (s : State) (records : List Record) (count : ℕ) → count ≡ length (lawful_front One s (map record_of records)) → map record_of (take count records) ≡ lawful_front One s (map record_of records)
-first_are s records count e = sym (take-map record_of count records) ∙ ap (λ n. take n (map record_of records)) e ∙ (front_is s (map record_of records)).taken
-
-pub count_within : (s : State) (records : List Record) (count : ℕ) → count ≡ length (lawful_front One s (map record_of records)) → count ≤ length records
-count_within s records count e = omega (arith, e, (front_is s (map record_of records)).short, length-map records record_of)
+use Rattle.rq_writer.proofs.Splitting.{open_keeps, ended_keeps, caught_up, open_fits, split_is_state}
 
 pub pushed : (s : State) (old new : List Record) (r : Record) (ended : Bool) (rs : List model.Record) → ended ≡ false → new ≡ old ++ r ∷ [] → Splits s (map record_of old) ended rs → Splits s (map record_of new) ended (rs ++ record_of r ∷ [])
 pushed s old new r true rs isnt e h = absurd cc

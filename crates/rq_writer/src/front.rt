@@ -10,37 +10,31 @@ ghost use Rattle.rq_writer.specs.Fronts.{Follows, AreLogged, SpellsFront};
 ghost use Rattle.rq_writer.specs.Made.{IsStateOf};
 
 use rq_catalog::analyse;
-use rq_exchange::replay;
+use rq_exchange::replay_analysed;
 use rq_pool::{Open, Plan};
 use rq_record::{CheckBytes, Fault, Record};
 use rq_state::{State, spell};
 use std::alloc::Global;
 use std::thread::Threads;
 
-/// How many of the records are lawful, each after those before it.
-fn lawful_count(alloc: Global, state: &State, records: &[Record]) -> Result<usize, Fault>
-    requires { state.now.next + length records.now < 2 ^ 64 }
-    ensures count { IfOk result (λ n. n ≡ length (lawful_front One state.now (map record_of records.now))) }
-    ensures refused { IfErr result (λ e. e ≡ Resources) }
-{
-    Ok(analyse(alloc, state, records)?.lawful())
-}
-
-/// The state after the records that are lawful.
-fn run_first<R: Threads + Sync>(
+/// The state behind those of the records that are lawful, each after those before it, and how many these are.
+fn run_lawful<R: Threads + Sync>(
     rt: &R,
     alloc: Global,
     plan: &Plan,
     state: &State,
     records: &[Record],
-    count: usize,
-) -> Result<State, Fault>
-    requires count { count ≡ length (lawful_front One state.now (map record_of records.now)) }
+) -> Result<(State, usize), Fault>
     requires fits { state.now.next + length records.now < 2 ^ 64 }
-    ensures state { IfOk result (λ t. t ≡ run state.now (lawful_front One state.now (map record_of records.now))) }
+    ensures state { IfOk result (λ found. found.0 ≡ run state.now (lawful_front One state.now (map record_of records.now))) }
+    ensures count { IfOk result (λ found. found.1 ≡ length (lawful_front One state.now (map record_of records.now))) }
     ensures refused { IfErr result (λ e. e ≡ Resources) }
 {
-    replay(rt, alloc, state, &records[..count], plan, &Open)
+    let analysis = analyse(alloc, state, records)?;
+    let count = analysis.lawful();
+    let lawful = &records[..count];
+    let state = replay_analysed(rt, alloc, state, lawful, &analysis, plan, &Open)?;
+    Ok((state, count))
 }
 
 /// The state after the first records of the log, and the records behind these, until one of them is
@@ -93,8 +87,7 @@ impl Front {
             return Ok(());
         }
         let since = self.since.as_slice();
-        let count = lawful_count(alloc, &self.state, since)?;
-        let state = run_first(rt, alloc, plan, &self.state, since, count)?;
+        let (state, count) = run_lawful(rt, alloc, plan, &self.state, since)?;
         self.ended = count < since.len();
         self.state = state;
         self.since.clear();

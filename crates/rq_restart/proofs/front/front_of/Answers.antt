@@ -9,11 +9,11 @@ use Rattle.rq_record.specs.Views.{record_of}
 use Rattle.rq_front.specs.declared.spans.Span.{Span}
 use Rattle.rq_front.specs.Chains.{bodies_at, rest_of}
 use Rattle.rq_catalog.specs.Analyses.{IsAnalysis}
+use Rattle.rq_catalog.proofs.Fronts.{kept_is, analysis_of_front}
 use Rattle.rq_restart.specs.Readings.{AreRead}
 use Rattle.rq_restart.specs.Ends.{IsFrontFrom, end_at}
 use Rattle.rq_restart.specs.Views.{why_of}
 use Rattle.rq_restart.proofs.Fronts.{front_from, bodies_kept}
-use Rattle.rq_restart.proofs.Parts.{kept_is, analysis_of_front}
 use Rattle.rq_restart.proofs.front.front_of.Goals as goal
 
 pub returns-clause-front : goal.returns-clause-front

@@ -1,8 +1,9 @@
--- Lawful records and what is left of a list behind them.
-use Rattle.std.proofs.Common.{◌≡◌, ℕ, Bool, true, false, cond, List, [], ◌∷◌, ◌++◌, length, map, take, refl, sym, ap, subst, ◌∙◌, arith, length-append}
+-- The lawful beginning of a list, and what an analysis of the list says of it.
+use Rattle.std.proofs.Common.{◌≡◌, ◌≤◌, ℕ, Bool, true, false, cond, List, [], ◌∷◌, ◌++◌, length, map, take, refl, sym, ap, subst, ◌∙◌, arith, length-append}
 use Rattle.std.specs.Prelude.{nat_lt, ⊤}
 use Rattle.std.proofs.lemmas.Bool.{and_from, lt-ltb, le-ltb}
-use Rattle.std.proofs.lemmas.List.{take_at, take-map}
+use Rattle.std.proofs.Math.Seq.{take-append_seam}
+use Rattle.std.proofs.lemmas.List.{length-map, take_at, take-map}
 use Rattle.rq_model.specs.Records.{Record, One}
 use Rattle.rq_record.specs.declared.record.Record.{Record as Own}
 use Rattle.rq_record.specs.Views.{record_of}
@@ -77,3 +78,10 @@ analysis_of_front s rs a is =
       units = is.units ∙ ap (λ (xs : List Record). (run s xs).units) same;
       catalogue = subst (λ (xs : List Record). Follows a.catalogue s xs) same is.catalogue;
     }
+
+-- what is said of lawful records is said of the beginning of a list that begins with them
+pub analysis_of_beginning : (s : State) (rs more : List Record) (all : List Own) (a : Analysis) → all_lawful One s rs ≡ true → IsAnalysis s rs a → map record_of all ≡ rs ++ more → (a.lawful ≤ length all) × IsAnalysis s (map record_of (take a.lawful all)) a
+analysis_of_beginning s rs more all a lawful is whole =
+    let count : a.lawful ≡ length rs = is.lawful ∙ ap length (front_whole One s rs lawful) in
+    let first : map record_of (take a.lawful all) ≡ rs = sym (take-map record_of a.lawful all) ∙ ap (take a.lawful) whole ∙ ap (λ n. take n (rs ++ more)) count ∙ take-append_seam rs more in
+    (omega (arith, count, ap length whole, length-append rs more, length-map all record_of), subst (λ (xs : List Record). IsAnalysis s xs a) (sym first) is)
