@@ -7,6 +7,7 @@ from __future__ import annotations
 import subprocess
 from common import built_peer, log_of, parsed, parser
 
+SHAPES = ["errors", "wide", "small", "names", "hot", "kib"]
 PLANS = [("1", "1000"), ("2", "1"), ("3", "1000"), ("7", "1000"), ("64", "1000")]
 
 
@@ -21,7 +22,7 @@ def main() -> None:
     options = parsed(words)
     peer = built_peer(options.folder)
     compared = differing = 0
-    for shape in ["errors", "wide", "small", "names", "hot", "kib"]:
+    for shape in SHAPES:
         for seed in range(2, 2 + options.seeds):
             for mib in options.mib.split(","):
                 log = log_of(peer, options.folder, shape, int(mib), seed)

@@ -96,9 +96,17 @@ where
 {
     let mut input = open(rt, from)?;
     let mut made = OverWrite::new(Vec::new(rt.alloc()));
-    rq_tool::act(rt, rt.alloc(), command, &mut input, &mut made, &Open)?;
+    rq_tool::act(rt, rt.alloc(), command, &mut input, &mut made, &Open).map_err(in_memory)?;
     let bytes = made.into_inner();
     fs::write(rt, to, bytes.as_slice()).map_err(|_| Fault::WriteFailed)
+}
+
+/// The fault of a command that writes into memory: there a write fails only where memory is refused.
+fn in_memory(fault: Fault) -> Fault {
+    match fault {
+        Fault::WriteFailed => Fault::Resources,
+        other => other,
+    }
 }
 
 /// Opens a file for reading.

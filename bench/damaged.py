@@ -1,0 +1,89 @@
+#!/usr/bin/env python3
+"""Damages logs of the peer, restarts each with the program at several plans and with the peer, and counts reports that differ.
+
+usage: damaged.py RQ [--damages N] [--mib N] [--folder DIR]
+Each log is cut, has one bit turned, or gets a body that is no record, one that is not lawful, or both, at places drawn
+evenly; behind a changed body all digests are made anew, so that the chain holds and the body itself ends the front.
+"""
+from __future__ import annotations
+import hashlib, os, random
+
+from agree import PLANS, SHAPES, report
+from common import built_peer, log_of, parsed, parser
+
+HEADER = 40
+NO_RECORD = b"\0" * 9
+UNLAWFUL = b"\7" + b"\xff" * 8  # the COMMIT of a unit that was never begun
+
+
+def bodies_of(log: bytes) -> list[bytes]:
+    bodies, at = [], HEADER
+    while at < len(log):
+        size = int.from_bytes(log[at:at + 4], "big")
+        bodies.append(log[at + 4:at + 4 + size])
+        at += 36 + size
+    return bodies
+
+
+def chained(header: bytes, bodies: list[bytes]) -> bytes:
+    """The log of the bodies, each with its length and its digest."""
+    parts, digest = [header], header[8:]
+    for body in bodies:
+        framed = len(body).to_bytes(4, "big") + body
+        digest = hashlib.sha256(digest + framed).digest()
+        parts += [framed, digest]
+    return b"".join(parts)
+
+
+def with_bodies(log: bytes, draw: random.Random, *others: bytes) -> bytes:
+    """The log with other bodies in place of as many of its own."""
+    bodies = bodies_of(log)
+    for place, other in zip(draw.sample(range(len(bodies)), len(others)), others):
+        bodies[place] = other
+    return chained(log[:HEADER], bodies)
+
+
+def turned(log: bytes, draw: random.Random) -> bytes:
+    place = draw.randrange(HEADER, len(log))
+    return log[:place] + bytes([log[place] ^ 1 << draw.randrange(8)]) + log[place + 1:]
+
+
+DAMAGES = {
+    "cut": lambda log, draw: log[:draw.randrange(HEADER, len(log))],
+    "turned": turned,
+    "no record": lambda log, draw: with_bodies(log, draw, NO_RECORD),
+    "not lawful": lambda log, draw: with_bodies(log, draw, UNLAWFUL),
+    "both": lambda log, draw: with_bodies(log, draw, NO_RECORD, UNLAWFUL),
+}
+
+
+def main() -> None:
+    words = parser()
+    words.add_argument("--damages", type=int, default=4, help="how often each damage is done to each log")
+    words.add_argument("--mib", type=int, default=1)
+    options = parsed(words)
+    peer = built_peer(options.folder)
+    path = os.path.join(options.folder, "damaged")
+    draw = random.Random(1)
+    compared = differing = 0
+    ends: dict[str, int] = {}
+    for shape in SHAPES:
+        with open(log_of(peer, options.folder, shape, options.mib), "rb") as file:
+            log = file.read()
+        for name, damage in DAMAGES.items():
+            for time in range(options.damages):
+                with open(path, "wb") as file:
+                    file.write(damage(log, draw))
+                want = report([peer, "restart", path])
+                end = want.split(b"\n")[0].decode().rsplit(" ", 1)[1]
+                ends[end] = ends.get(end, 0) + 1
+                for workers, grain in PLANS:
+                    compared += 1
+                    if report([options.program, "restart", path, workers, grain]) != want:
+                        differing += 1
+                        print(f"{shape}, {name} for the {time}th time, with {workers} workers and grain {grain} differs")
+    print(f"{compared} reports compared, {differing} differ; fronts that end by", ends)
+
+
+if __name__ == "__main__":
+    main()
