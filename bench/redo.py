@@ -2,16 +2,17 @@
 """How long the redo of the queues takes: the wall seconds from its first sample to its last, whatever threads do it.
 
 usage: redo.py RQ [--mib N] [--rounds N]
-Over `skew` with one worker and with four, and over `lone` with four, in turn: `lone` is `skew` with a record that touches no
-queue in place of each operation on another queue than the first, so its redo is that of this queue alone, its records
-lying where they lie in `skew`. Told by `perf record`. RQ is the built program itself, not the root script.
+Over `skew` with one worker and with four, and over `lone` and `own` with four, in turn: both have the operations of `skew` on
+its first queue alone, so their redo is that of this queue. In `lone` a record that touches no queue stands in place of each
+other operation, so that those of the queue lie where they lie in `skew`; in `own` nothing does. Told by `perf record`. RQ is
+the built program itself, not the root script.
 """
 from __future__ import annotations
 import os, statistics, subprocess, tempfile
 
 import common, layers
 
-RUNS = [("skew", 1), ("skew", 4), ("lone", 4)]
+RUNS = [("skew", 1), ("skew", 4), ("lone", 4), ("own", 4)]
 
 
 def is_redo(stack: list[str]) -> bool:
