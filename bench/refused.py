@@ -2,16 +2,19 @@
 """Refuses the program each of its allocations in turn, and counts the runs that end otherwise than they must.
 
 usage: refused.py RQ [--workers 1,2,4] [--folder DIR] [COMMAND ..]
-A run that is refused memory must end with status 4, say so, and write nothing; one that could do without, as where a
-thread is refused, must write what it writes with ample memory. With no COMMAND, restarts the log of
-`examples/error-queue.script` on each number of workers, in grains of one frame. RQ is the built program itself.
+A run that is refused memory must end with status 4, say so, and write nothing, no file either; one that could do without,
+as where a thread is refused, must write what it writes with ample memory. With no COMMAND, makes the logs of the scripts in
+`examples/`, and restarts one of them, audits the other and restarts it at its checkpoint, on each number of workers, in
+grains of one frame. RQ is the built program itself.
 """
 from __future__ import annotations
 import os, subprocess
 
 from common import HERE, parsed, parser
 
-REFUSED = (4, b"", b"rq: resources\n")
+# Status, standard output, standard error, and the file that was made.
+Outcome = tuple[int, bytes, bytes, bytes | None]
+REFUSED: Outcome = (4, b"", b"rq: resources\n", None)
 
 
 def built_shim(folder: str) -> str:
@@ -20,22 +23,31 @@ def built_shim(folder: str) -> str:
     return shim
 
 
-def outcome(done: subprocess.CompletedProcess[bytes]) -> tuple[int, bytes, bytes]:
-    return done.returncode, done.stdout, done.stderr
+def outcome(words: list[str], **options: object) -> Outcome:
+    """How the program ends; a file that it made is read and taken away."""
+    log = words[3] if words[1] == "make" else None
+    if log and os.path.exists(log):
+        os.remove(log)
+    done = subprocess.run(words, capture_output=True, **options)
+    made = None
+    if log and os.path.exists(log):
+        with open(log, "rb") as file:
+            made = file.read()
+    return done.returncode, done.stdout, done.stderr, made
 
 
-def refused_at(shim: str, words: list[str], number: int) -> tuple[bool, tuple[int, bytes, bytes]]:
+def refused_at(shim: str, words: list[str], number: int) -> tuple[bool, Outcome]:
     """Whether the run came to the allocation of that number, and how it ended."""
     seen, told = os.pipe()
     environment = os.environ | {"LD_PRELOAD": shim, "REFUSE": str(number), "REFUSE_TOLD": str(told)}
-    done = subprocess.run(words, capture_output=True, env=environment, pass_fds=[told])
+    ended = outcome(words, env=environment, pass_fds=[told])
     os.close(told)
     with os.fdopen(seen, "rb") as file:
-        return file.read() != b"", outcome(done)
+        return file.read() != b"", ended
 
 
 def try_all(shim: str, words: list[str]) -> None:
-    ample = outcome(subprocess.run(words, capture_output=True))
+    ample = outcome(words)
     number = wrong = without = 0
     while True:
         came, ended = refused_at(shim, words, number + 1)
@@ -58,11 +70,17 @@ def main() -> None:
     if options.command:
         try_all(shim, [options.program, *options.command])
         return
-    log = os.path.join(options.folder, "error-queue.log")
-    script = os.path.join(HERE, "..", "examples", "error-queue.script")
-    subprocess.run([options.program, "make", script, log], check=True)
+    logs = {name: os.path.join(options.folder, name + ".log") for name in ("error-queue", "checkpoint")}
+    for name, log in logs.items():
+        script = os.path.join(HERE, "..", "examples", name + ".script")
+        try_all(shim, [options.program, "make", script, log + ".tried"])
+        subprocess.run([options.program, "make", script, log], check=True)
+    audit = subprocess.run([options.program, "audit", logs["checkpoint"], "1"], check=True, capture_output=True).stdout
+    offset = audit.split()[1].decode()
     for workers in options.workers.split(","):
-        try_all(shim, [options.program, "restart", log, workers, "1"])
+        try_all(shim, [options.program, "restart", logs["error-queue"], workers, "1"])
+        try_all(shim, [options.program, "audit", logs["checkpoint"], workers])
+        try_all(shim, [options.program, "restart-at", logs["checkpoint"], offset, workers, "1"])
 
 
 if __name__ == "__main__":
