@@ -1,7 +1,9 @@
 -- Writing piece after piece.
-use Rattle.std.proofs.Common.{◌≡◌, ℕ, List, [], ◌++◌, take, drop, Option, Some, None, sym, ap, ◌∙◌, append_assoc}
+use Rattle.std.proofs.Common.{◌≡◌, ℕ, suc, ◌+◌, ◌<◌, List, [], ◌∷◌, ◌++◌, length, take, drop, get_or, Option, Some, None, sym, ap, subst, ◌∙◌, append_assoc, arith}
 use Rattle.std.proofs.lemmas.List.{take-append-drop, append-nil}
+use Rattle.std.proofs.Math.Seq.{drop-cons}
 use Rattle.std.specs.Prelude.{Result, Ok, Err}
+use Rattle.std.specs.List.{flat_map}
 use Rattle.std.specs.Io.KnownBytes.{Appends}
 use Rattle.rq_model.specs.Fronts.{Restarted}
 use Rattle.rq_model.specs.Reports.{IsText}
@@ -36,3 +38,35 @@ reports_of r before after old new text (Err faults.Resources) is d = absurd d
 reports_of r before after old new text (Err faults.NoCheckpoint) is d = absurd d
 reports_of r before after old new text (Err (faults.Script n)) is d = absurd d
 reports_of r before after old new text (Err faults.ReadFailed) is d = absurd d
+
+-- what is left of the pieces begins with the next one
+pub piece_next : {X : Type 0} (f : X → List ℕ) (pieces : List X) (i : ℕ) (x : X) (text front : List ℕ) → i < length pieces → x ≡ get_or pieces i x → text ≡ front ++ flat_map f (drop i pieces)
+    → text ≡ (front ++ f x) ++ flat_map f (drop (i + 1) pieces)
+piece_next f pieces i x text front lt is e =
+    let number : suc i ≡ i + 1 = omega arith in
+    let next : drop i pieces ≡ x ∷ drop (i + 1) pieces = drop-cons pieces i x lt ∙ ap (λ y. y ∷ drop (suc i) pieces) (sym is) ∙ ap (λ (n : ℕ). x ∷ drop n pieces) number in
+    e ∙ ap (λ xs. front ++ flat_map f xs) next ∙ sym (append_assoc front (f x) (flat_map f (drop (i + 1) pieces)))
+
+piece_fails_by : (A : Type 0) (before mid after : ℕ) (old held new : Option (List ℕ)) (text front piece rest : List ℕ) (x : Fault) → text ≡ (front ++ piece) ++ rest → mid ≡ before → Appends old held front
+    → Delivers {A = A} mid after held new piece (Err x) → Delivers {A = A} before after old new text (Err x)
+piece_fails_by A before mid after old held new text front piece rest faults.WriteFailed e same h d =
+    let written : List ℕ = d.1.0 in
+    let left : List ℕ = d.1.1 in
+    let whole : text ≡ (front ++ written) ++ (left ++ rest) =
+    e ∙ ap (λ (x : List ℕ). (front ++ x) ++ rest) d.1.2 ∙ append_assoc front (written ++ left) rest ∙ ap (λ (x : List ℕ). front ++ x) (append_assoc written left rest) ∙ sym (append_assoc front written (left ++ rest)) in
+    (d.0 ∙ ap (λ (n : ℕ). n + 1) same, (front ++ written, left ++ rest, whole, appends_more old held new front written h d.1.3))
+piece_fails_by A before mid after old held new text front piece rest faults.Form e same h d = absurd d
+piece_fails_by A before mid after old held new text front piece rest faults.NotALog e same h d = absurd d
+piece_fails_by A before mid after old held new text front piece rest faults.TooLong e same h d = absurd d
+piece_fails_by A before mid after old held new text front piece rest faults.TooLarge e same h d = absurd d
+piece_fails_by A before mid after old held new text front piece rest faults.BadCheckpoint e same h d = absurd d
+piece_fails_by A before mid after old held new text front piece rest faults.Resources e same h d = absurd d
+piece_fails_by A before mid after old held new text front piece rest faults.NoCheckpoint e same h d = absurd d
+piece_fails_by A before mid after old held new text front piece rest (faults.Script n) e same h d = absurd d
+piece_fails_by A before mid after old held new text front piece rest faults.ReadFailed e same h d = absurd d
+
+-- where a piece is not all written, neither is the text
+pub piece_fails : {A : Type 0} (before mid after : ℕ) (old held new : Option (List ℕ)) (text front piece rest : List ℕ) (result : Result A Fault) (x : Fault) → result ≡ Err x → text ≡ (front ++ piece) ++ rest → mid ≡ before
+    → Appends old held front → Delivers mid after held new piece result → Delivers before after old new text result
+piece_fails {A = A} before mid after old held new text front piece rest result x is e same h d =
+    subst (Delivers before after old new text) (sym is) (piece_fails_by A before mid after old held new text front piece rest x e same h (subst (Delivers mid after held new piece) is d))

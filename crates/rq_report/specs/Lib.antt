@@ -1,2 +1,3 @@
 pub mod Order
 pub mod Streams
+pub mod Pieces

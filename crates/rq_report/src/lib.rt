@@ -4,9 +4,10 @@
 mod hexes;
 mod lines;
 mod listing;
+mod pieces;
 mod report;
 mod stream;
 mod writing;
 
 pub use stream::{Input, Output, OverRead, OverWrite};
-pub use writing::{write_all, write_report};
+pub use writing::{write_all, write_report, write_report_by};

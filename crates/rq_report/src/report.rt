@@ -1,10 +1,11 @@
 //! The text of a report.
 
-ghost use Rattle.std.specs.Prelude.{◌≡◌, ◌<◌, ◌++◌, ◌==◌, ℕ, List, IfOk, OnOk, length, map, filter, slice_index_or, string_bytes};
+ghost use Rattle.std.specs.Prelude.{◌≡◌, ◌<◌, ◌≤◌, ◌++◌, ◌==◌, ℕ, List, IfOk, OnOk, length, map, filter, slice_index_or, string_bytes};
 ghost use Rattle.std.specs.List.{flat_map};
 ghost use Rattle.rq_model.specs.States as model;
-ghost use Rattle.rq_model.specs.Reports.{element_line, registrant_line, queue_text, IsListing, IsQueueText, IsText};
+ghost use Rattle.rq_model.specs.Reports.{element_line, front_line, registrant_line, queue_text, units_line, IsListing, IsText};
 ghost use Rattle.rq_model.specs.WellFormed.{IsWellFormed};
+ghost use Rattle.rq_report.specs.Pieces.{AreLinesOf};
 
 use crate::lines::{put_element, put_front, put_queue_line, put_registrant, put_units};
 use crate::listing::listing;
@@ -48,15 +49,33 @@ fn put_queue(
     put_registrants(text, queue, state)
 }
 
-/// Puts all queues, by number.
-fn put_queues(alloc: Global, text: &mut String, state: &State) -> Result<(), AllocError>
-    requires { IsWellFormed state.now }
-    ensures { OnOk result ((lines : List ℕ) × IsQueueText state.now lines × (string_bytes text.new ≡ string_bytes text.old ++ lines)) }
+/// Puts the queues from one of them up to another, by number.
+pub(crate) fn put_queues(
+    alloc: Global,
+    text: &mut String,
+    state: &State,
+    from: usize,
+    to: usize,
+) -> Result<(), AllocError>
+    requires well { IsWellFormed state.now }
+    requires order { from ≤ to }
+    requires within { to ≤ length state.now.definitions }
+    ensures { OnOk result ((lines : List ℕ) × AreLinesOf state.now from to lines × (string_bytes text.new ≡ string_bytes text.old ++ lines)) }
 {
-    for number in 0..state.definition_count() {
+    for number in from..to {
         put_queue(alloc, text, QueueNo(number as u32), state)?;
     }
     Ok(())
+}
+
+/// The lines of the front and of the units.
+pub(crate) fn counts(alloc: Global, r: &Restarted) -> Result<String, AllocError>
+    ensures { IfOk result (λ text. string_bytes text ≡ front_line r.now ++ units_line r.now) }
+{
+    let mut text = String::new(alloc);
+    put_front(&mut text, r)?;
+    put_units(&mut text, r)?;
+    Ok(text)
 }
 
 /// The report's text.
@@ -66,9 +85,7 @@ pub(crate) fn report(alloc: Global, r: &Restarted) -> Result<String, AllocError>
     let state = r.state();
     // This look says that the state is well formed, so that its elements differ in their numbers.
     let _ = state.next();
-    let mut text = String::new(alloc);
-    put_front(&mut text, r)?;
-    put_units(&mut text, r)?;
-    put_queues(alloc, &mut text, state)?;
+    let mut text = counts(alloc, r)?;
+    put_queues(alloc, &mut text, state, 0, state.definition_count())?;
     Ok(text)
 }

@@ -1,13 +1,17 @@
 //! Writing the report.
 
-ghost use Rattle.std.specs.Prelude.{◌<◌};
+ghost use Rattle.std.specs.Prelude.{◌<◌, string_bytes};
+ghost use Rattle.std.specs.List.{flat_map};
 ghost use Rattle.rq_report.specs.Streams.{Delivers, Reports};
 
+use crate::pieces::report_in_pieces;
 use crate::report::report;
 use crate::stream::Output;
 use rq_record::Fault;
-use rq_restart::Restarted;
+use rq_restart::{Plan, Restarted};
 use std::alloc::Global;
+use std::marker::Sync;
+use std::thread::Threads;
 
 /// Writes all of the text, however few bytes a call takes. With `WriteFailed` a beginning of it is written.
 pub fn write_all<W: Output>(output: &mut W, text: &[u8]) -> Result<(), Fault>
@@ -22,6 +26,17 @@ pub fn write_all<W: Output>(output: &mut W, text: &[u8]) -> Result<(), Fault>
     Ok(())
 }
 
+// Writes all of the pieces, one after the other.
+fn write_pieces<W: Output>(output: &mut W, pieces: &[String]) -> Result<(), Fault>
+    requires { W.faults output.old < 18446744073709551615 }
+    ensures { Delivers (W.faults output.old) (W.faults output.new) (W.contents output.old) (W.contents output.new) (flat_map string_bytes pieces.now) result }
+{
+    for piece in pieces {
+        write_all(output, piece.as_bytes())?;
+    }
+    Ok(())
+}
+
 /// Writes the report of what a restart answered: the front, the units, then each queue with its free
 /// elements in order and its registrants by name. The whole text is made first. Refused with
 /// `Resources` where the host refuses memory, and then nothing is written; with `WriteFailed` where
@@ -32,6 +47,26 @@ pub fn write_report<W: Output>(alloc: Global, r: &Restarted, output: &mut W) -> 
 {
     match report(alloc, r) {
         Ok(text) => write_all(output, text.as_bytes()),
+        Err(_) => Err(Fault::Resources),
+    }
+}
+
+/// What `write_report` does, its text made by the plan's workers.
+pub fn write_report_by<R, W>(
+    rt: &R,
+    alloc: Global,
+    r: &Restarted,
+    plan: &Plan,
+    output: &mut W,
+) -> Result<(), Fault>
+where
+    R: Threads + Sync,
+    W: Output,
+    requires { W.faults output.old < 18446744073709551615 }
+    ensures { Reports r.now (W.faults output.old) (W.faults output.new) (W.contents output.old) (W.contents output.new) result }
+{
+    match report_in_pieces(rt, alloc, r, plan) {
+        Ok(pieces) => write_pieces(output, &pieces),
         Err(_) => Err(Fault::Resources),
     }
 }

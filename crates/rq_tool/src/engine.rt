@@ -6,7 +6,7 @@ ghost use Rattle.rq_tool.specs.Streams.{ReadFaults, WriteFaults};
 ghost use Rattle.rq_tool.specs.Headline.{IsBeforeWriting, RestartsRead, Runs, WritesOnly};
 
 use crate::input::read_all;
-use rq_report::{Input, Output, write_report};
+use rq_report::{Input, Output, write_report_by};
 use rq_restart::{Fault, Gate, Plan, Restarted, restart};
 use std::alloc::Global;
 use std::marker::Sync;
@@ -59,5 +59,5 @@ where
     ensures write_faults { WriteFaults (O.faults output.old) (O.faults output.new) result }
 {
     let restarted = read_and_restart(rt, alloc, input, plan, gate)?;
-    write_report(alloc, &restarted, output)
+    write_report_by(rt, alloc, &restarted, plan, output)
 }

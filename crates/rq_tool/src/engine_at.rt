@@ -6,7 +6,7 @@ ghost use Rattle.rq_tool.specs.Streams.{ReadFaults, WriteFaults};
 ghost use Rattle.rq_tool.specs.Headline.{IsBeforeWritingAt, RestartsAtRead, RunsAt, WritesOnlyAt, WritesReport};
 
 use crate::input::read_all;
-use rq_report::{Input, Output, write_report};
+use rq_report::{Input, Output, write_report_by};
 use rq_restart::{Fault, Gate, Plan, Restarted, restart_at};
 use std::alloc::Global;
 use std::marker::Sync;
@@ -65,5 +65,5 @@ where
     rq_model::true_checkpoints_say_the_same();
     rq_model::one_report();
     let restarted = read_and_restart_at(rt, alloc, input, offset, plan, gate)?;
-    write_report(alloc, &restarted, output)
+    write_report_by(rt, alloc, &restarted, plan, output)
 }

@@ -1,0 +1,8 @@
+-- Some of the queues of a report.
+use Rattle.std.specs.Prelude.{ℕ, List, slice_range}
+use Rattle.rq_model.specs.States.{State}
+use Rattle.rq_model.specs.Reports.{AreQueueLines}
+
+-- the lines of the queues from one of them up to another
+abbrev pub AreLinesOf : State → ℕ → ℕ → List ℕ → Type 0
+AreLinesOf s from to text = AreQueueLines from (slice_range s.definitions from to) s text

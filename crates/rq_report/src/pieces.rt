@@ -1,0 +1,98 @@
+//! The text of a report in pieces, made by several workers.
+
+ghost use Rattle.std.specs.Prelude.{◌≡◌, ◌≤◌, IfOk, length, string_bytes};
+ghost use Rattle.std.specs.List.{flat_map};
+ghost use Rattle.std.specs.Thread.{IsSync};
+ghost use Rattle.rq_model.specs.Reports.{IsText};
+ghost use Rattle.rq_model.specs.WellFormed.{IsWellFormed};
+ghost use Rattle.rq_report.specs.Pieces.{AreLinesOf};
+
+use crate::report::{counts, put_queues};
+use rq_restart::{Plan, Restarted};
+use rq_state::State;
+use std::alloc::{AllocError, Global};
+use std::marker::Sync;
+use std::thread::{Threads, join};
+
+// The lines of as many elements are put by one thread, so that a short report starts none.
+const FEW: usize = 1024;
+
+// The lines of the queues from one of them up to another, as one piece.
+fn one_piece(
+    alloc: Global,
+    state: &State,
+    from: usize,
+    to: usize,
+) -> Result<Vec<String>, AllocError>
+    requires well { IsWellFormed state.now }
+    requires order { from ≤ to }
+    requires within { to ≤ length state.now.definitions }
+    ensures { IfOk result (λ pieces. AreLinesOf state.now from to (flat_map string_bytes pieces.items)) }
+{
+    let mut text = String::new(alloc);
+    put_queues(alloc, &mut text, state, from, to)?;
+    Ok(vec![in alloc; text]?)
+}
+
+// The lines of the queues from one of them up to another, in about as many pieces: each half of the queues by itself.
+#[cycle(halves)]
+fn queue_pieces<R: Threads + Sync>(
+    rt: &R,
+    alloc: Global,
+    state: &State,
+    from: usize,
+    to: usize,
+    count: u32,
+) -> Result<Vec<String>, AllocError>
+    requires well { IsWellFormed state.now }
+    requires order { from ≤ to }
+    requires within { to ≤ length state.now.definitions }
+    ensures { IfOk result (λ pieces. AreLinesOf state.now from to (flat_map string_bytes pieces.items)) }
+{
+    if count < 2 || to - from < 2 {
+        return one_piece(alloc, state, from, to);
+    }
+    let middle = from + (to - from) / 2;
+    let (fewer, others) = (count / 2, count - count / 2);
+    let (left, right) = join(
+        rt,
+        || -> Result<Vec<String>, AllocError>
+            requires { IsSync R.row × IsWellFormed state.now × (from ≤ middle) × (middle ≤ length state.now.definitions) }
+            ensures { IfOk result (λ pieces. AreLinesOf state.entry.now from middle (flat_map string_bytes pieces.items)) }
+        { queue_pieces(rt, alloc, state, from, middle, fewer) },
+        || -> Result<Vec<String>, AllocError>
+            requires { IsSync R.row × IsWellFormed state.now × (middle ≤ to) × (to ≤ length state.now.definitions) }
+            ensures { IfOk result (λ pieces. AreLinesOf state.entry.now middle to (flat_map string_bytes pieces.items)) }
+        { queue_pieces(rt, alloc, state, middle, to, others) },
+    );
+    let mut pieces = left?;
+    pieces.append(&mut right?)?;
+    Ok(pieces)
+}
+
+// How many pieces a report gets: one for each worker.
+fn count_of(state: &State, plan: &Plan) -> u32 {
+    if plan.workers() < 2 || state.element_count() <= FEW {
+        1
+    } else {
+        plan.workers()
+    }
+}
+
+/// The report's text in pieces, made by the plan's workers.
+pub(crate) fn report_in_pieces<R: Threads + Sync>(
+    rt: &R,
+    alloc: Global,
+    r: &Restarted,
+    plan: &Plan,
+) -> Result<Vec<String>, AllocError>
+    ensures { IfOk result (λ pieces. IsText r.now (flat_map string_bytes pieces.items)) }
+{
+    let state = r.state();
+    // This look says that the state is well formed, so that its elements differ in their numbers.
+    let _ = state.next();
+    let mut pieces = vec![in alloc; counts(alloc, r)?]?;
+    let count = count_of(state, plan);
+    pieces.append(&mut queue_pieces(rt, alloc, state, 0, state.definition_count(), count)?)?;
+    Ok(pieces)
+}
