@@ -14,8 +14,8 @@ use std::alloc::{AllocError, Global};
 use std::marker::Sync;
 use std::thread::{Threads, join};
 
-// The lines of as many elements are put by one thread, so that a short report starts none.
-const FEW: usize = 1024;
+// One thread makes the report of a log of at most as many bytes, so that the restart of a short log starts none for it.
+const SHORT: u64 = 1_048_576;
 
 // The lines of the queues from one of them up to another, as one piece.
 fn one_piece(
@@ -71,8 +71,8 @@ fn queue_pieces<R: Threads + Sync>(
 }
 
 // How many pieces a report gets: one for each worker.
-fn count_of(state: &State, plan: &Plan) -> u32 {
-    if plan.workers() < 2 || state.element_count() <= FEW {
+fn count_of(r: &Restarted, plan: &Plan) -> u32 {
+    if r.total() <= SHORT {
         1
     } else {
         plan.workers()
@@ -92,7 +92,7 @@ pub(crate) fn report_in_pieces<R: Threads + Sync>(
     // This look says that the state is well formed, so that its elements differ in their numbers.
     let _ = state.next();
     let mut pieces = vec![in alloc; counts(alloc, r)?]?;
-    let count = count_of(state, plan);
+    let count = count_of(r, plan);
     pieces.append(&mut queue_pieces(rt, alloc, state, 0, state.definition_count(), count)?)?;
     Ok(pieces)
 }
