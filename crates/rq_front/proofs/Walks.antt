@@ -23,6 +23,15 @@ walk_more b at (t ∷ ts) end s h start size room = (h.0, h.1, h.2, walk_more b 
 abbrev pub IsInside : List ℕ → Span → Type 0
 IsInside b s = s.start + s.len ≤ length b
 
+inside_each : (b : List ℕ) (at : ℕ) (spans : List Span) (end : ℕ) → at ≤ length b → IsWalk b at spans end → AllByRecursion (IsInside b) spans
+inside_each b at [] end le h = tt
+inside_each b at (s ∷ ss) end le h =
+    let room : at + 36 + s.len ≤ length b = omega (arith, h.1, h.2.room, length-drop at b, le) in
+    (omega (arith, h.0, room), inside_each b (at + 36 + s.len) ss end room h.3)
+
+pub walk_inside : (b : List ℕ) (at : ℕ) (spans : List Span) (end : ℕ) → at ≤ length b → IsWalk b at spans end → All (IsInside b) spans
+walk_inside b at spans end le h = All-from_recursion (IsInside b) spans (inside_each b at spans end le h)
+
 -- what a walk with right digests gives
 pub record Walked (b : List ℕ) (at : ℕ) (spans : List Span) (end : ℕ) : Type 0 where
   pub within : end ≤ length b
@@ -30,7 +39,6 @@ pub record Walked (b : List ℕ) (at : ℕ) (spans : List Span) (end : ℕ) : Ty
   pub whole : drop at b ≡ frames (before at b) (bodies_at b spans) ++ drop end b
   pub last_is : last (before at b) (bodies_at b spans) ≡ before end b
   pub are : spans ≡ spans_from at (bodies_at b spans)
-  pub inside : AllByRecursion (IsInside b) spans
   pub few : at + 37 * length spans ≤ end
 
 -- the first frame of a walk, and what is behind it
@@ -70,7 +78,6 @@ walked law b at [] end bytes le h right = record {
   whole = ap (λ k. drop k b) (sym h);
   last_is = ap (λ k. before k b) (sym h);
   are = refl;
-  inside = tt;
   few = omega (arith, h);
 }
 walked law b at (s ∷ ss) end bytes le h right =
@@ -94,7 +101,6 @@ walked law b at (s ∷ ss) end bytes le h right =
       are = ap (λ (t : Span). t ∷ ss) span
           ∙ ap (λ (ts : List Span). record { start = at + 4; len = length body } ∷ ts) more.are
           ∙ ap (λ n. record { start = at + 4; len = length body } ∷ spans_from (at + 36 + n) (bodies_at b ss)) (sym one.size);
-      inside = (omega (arith, h.0, room), more.inside);
       few = omega (arith, more.few, some);
     }
 
@@ -113,7 +119,7 @@ found law stops b at spans end rest bytes le walk right follows =
     record {
       run = record { within = w.within; run = stops (before at b) (drop at b) (drop end b) (bodies_at b spans) rest w.fit w.whole here; follows = here };
       are = w.are;
-      inside = All-from_recursion (IsInside b) spans w.inside;
+      inside = walk_inside b at spans end le walk;
       few = omega (arith, w.few, w.within);
     }
 

@@ -1,8 +1,11 @@
 -- A walk along the lengths of a log, before any digest is looked at.
-use Rattle.std.specs.Prelude.{◌≡◌, ℕ, ◌+◌, ◌-◌, ◌≤◌, ◌<◌, List, [], ◌∷◌, length, take, drop, All}
+use Rattle.std.specs.Prelude.{◌≡◌, ℕ, ◌+◌, ◌*◌, ◌-◌, ◌≤◌, ◌<◌, List, [], ◌∷◌, length, take, drop, All}
 use Rattle.std.specs.List.{HoldsAt}
-use Rattle.rq_model.specs.Frames.{HasFrame, HasRightFrame, stated, before}
+use Rattle.rq_model.specs.Frames.{HasFrame, HasRightFrame, IsFrameRun, IsRest, stated, before}
 use Rattle.rq_front.specs.declared.spans.Span.{Span}
+use Rattle.rq_front.specs.declared.spans.Chain.{Chain}
+use Rattle.rq_front.specs.declared.spans.Walk.{Walk}
+use Rattle.rq_front.specs.Chains.{bodies_at, rest_of, spans_from}
 
 -- frames stand one after the other from a place to an end, their digests aside, with bodies at these spans
 abbrev pub IsWalk : List ℕ → ℕ → List Span → ℕ → Type 0
@@ -27,3 +30,22 @@ pub record IsFirstWrong (b : List ℕ) (spans : List Span) (place : ℕ) : Type 
 
 abbrev pub HasFirstWrong : List ℕ → List Span → Type 0
 HasFirstWrong b spans = (place : ℕ) × IsFirstWrong b spans place
+
+-- the spans of a walk
+abbrev pub spans_of : Walk → List Span
+spans_of w = w.found.spans.items
+
+-- the walk along all lengths of b from a place on, and what follows it
+pub record Walks (b : List ℕ) (from : ℕ) (w : Walk) : Type 0 where
+  pub after : 40 ≤ from
+  pub within : from ≤ length b
+  pub walk : IsWalk b from w.found.spans.items w.found.end
+  pub rest : (p : List ℕ) → IsRest p (drop w.found.end b) (rest_of w.found.rest)
+
+-- the longest run of right frames from a place on, which is the front of a walk
+pub record IsChecked (b : List ℕ) (from : ℕ) (w : Walk) (c : Chain) : Type 0 where
+  pub run : IsFrameRun b from (bodies_at b c.spans.items) c.end (rest_of c.rest)
+  pub spans : c.spans.items ≡ spans_from from (bodies_at b c.spans.items)
+  pub inside : All (λ s. s.start + s.len ≤ length b) c.spans.items
+  pub few : from + 37 * length c.spans.items ≤ length b
+  pub front : c.spans.items ≡ take (length c.spans.items) (spans_of w)

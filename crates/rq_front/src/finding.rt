@@ -1,13 +1,13 @@
 //! The longest run of right frames in a log.
 
-ghost use Rattle.std.specs.Prelude.{◌≡◌, ◌≤◌, ◌+◌, ◌*◌, ◌↔◌, length, IsTrue, IfOk, IfErr, OnOk, All};
+ghost use Rattle.std.specs.Prelude.{◌≡◌, ◌≤◌, ◌+◌, ◌*◌, ◌↔◌, ℕ, length, IsTrue, IfOk, IfErr, OnOk, All};
 ghost use Rattle.rq_model.specs.Records.{One};
 ghost use Rattle.rq_model.specs.Frames.{HasHeader, IsFrameRun, log_limit};
 ghost use Rattle.rq_front.specs.Chains.{Refused, bodies_at, rest_of, spans_from};
+ghost use Rattle.rq_front.specs.Walks.{IsChecked, Walks, spans_of};
 
 use crate::digests::first_wrong;
-use crate::lengths::walk;
-use crate::{Chain, HEADER_LEN, LOG_LIMIT, MAGIC, Rest};
+use crate::{Chain, HEADER_LEN, LOG_LIMIT, MAGIC, Rest, Walk, lengths};
 use rq_model::{frames_are_right, one_run};
 use rq_record::Fault;
 use sha2::{Digest, Sha256};
@@ -24,6 +24,50 @@ fn is_log(bytes: &[u8]) -> bool
     }
     let digest = Sha256::digest(MAGIC);
     &bytes[..8] == MAGIC.as_slice() && &bytes[8..HEADER_LEN] == digest.as_slice()
+}
+
+/// The frames of a log from the place `from` on by their lengths alone, and what follows them. Whoever has work for the
+/// bodies that needs no digest does it while `Walk::checked` runs.
+///
+/// `TooLong` answers more than 4,294,967,295 bytes, and otherwise `NotALog` bytes that do not begin with the header of
+/// version 1; `Resources` where memory runs out.
+pub fn walk(alloc: Global, bytes: &[u8], from: usize) -> Result<Walk, Fault>
+    requires after { 40 ≤ from }
+    requires within { 40 ≤ length bytes.now → from ≤ length bytes.now }
+    ensures walk { IfOk result (Walks bytes.now from) }
+    ensures inside { IfOk result (λ w. All (λ s. s.start + s.len ≤ length bytes.now) (spans_of w)) }
+    ensures log { OnOk result ((length bytes.now ≤ log_limit) × HasHeader One bytes.now) }
+    ensures refused { IfErr result (Refused bytes.now) }
+{
+    if bytes.len() > LOG_LIMIT {
+        return Err(Fault::TooLong);
+    }
+    if !is_log(bytes) {
+        return Err(Fault::NotALog);
+    }
+    let found = lengths::walk(alloc, bytes, from)?;
+    Ok(Walk { found })
+}
+
+impl Walk {
+    /// The longest run of right frames, which is the walk up to its first wrong digest. Where the runtime gives threads,
+    /// they check the digests in pieces of `grain` frames; the answer is the same for any number of them. `bytes` are
+    /// those of the walk.
+    pub fn checked<R: Threads + Sync>(self, rt: &R, bytes: &[u8], grain: u32) -> Chain
+        requires grain { 1 ≤ grain }
+        requires walk { (from : ℕ) × Walks bytes.now from self }
+        ensures { (from : ℕ) → Walks bytes.now from self → IsChecked bytes.now from self result }
+    {
+        frames_are_right();
+        one_run();
+        let mut found = self.found;
+        if let Some(place) = first_wrong(rt, bytes, &found.spans, grain as usize) {
+            found.end = found.spans[place].start - 4;
+            found.rest = Rest::Digest;
+            found.spans.truncate(place);
+        }
+        found
+    }
 }
 
 /// The longest run of right frames in a log from the place `from` on, and what follows it. Where the runtime gives
@@ -49,19 +93,6 @@ pub fn chain<R: Threads + Sync>(
     ensures log { OnOk result ((length bytes.now ≤ log_limit) × HasHeader One bytes.now) }
     ensures refused { IfErr result (Refused bytes.now) }
 {
-    if bytes.len() > LOG_LIMIT {
-        return Err(Fault::TooLong);
-    }
-    if !is_log(bytes) {
-        return Err(Fault::NotALog);
-    }
-    frames_are_right();
-    one_run();
-    let mut found = walk(alloc, bytes, from)?;
-    if let Some(place) = first_wrong(rt, bytes, &found.spans, grain as usize) {
-        found.end = found.spans[place].start - 4;
-        found.rest = Rest::Digest;
-        found.spans.truncate(place);
-    }
-    Ok(found)
+    let walk = walk(alloc, bytes, from)?;
+    Ok(walk.checked(rt, bytes, grain))
 }

@@ -7,8 +7,8 @@ mod lengths;
 mod spans;
 mod writing;
 
-pub use finding::chain;
-pub use spans::{Chain, Rest, Span};
+pub use finding::{chain, walk};
+pub use spans::{Chain, Rest, Span, Walk};
 pub use writing::{frame, header};
 
 // The name of the format, and its version.

@@ -1,5 +1,8 @@
 //! A run of frames, and what follows it.
 
+ghost use Rattle.std.specs.Prelude.{◌≡◌};
+ghost use Rattle.rq_front.specs.Walks.{spans_of};
+
 /// Where the body of a frame stands in a log, in bytes. Its frame begins 4 bytes before it.
 #[derive(Clone, Copy, Debug, PartialEq, Eq)]
 pub struct Span {
@@ -31,4 +34,19 @@ pub struct Chain {
     pub end: usize,
     /// What follows there.
     pub rest: Rest,
+}
+
+/// The frames from a place on by their lengths alone: their digests are still to be looked at.
+#[derive(Debug, Drop)]
+pub struct Walk {
+    pub(crate) found: Chain,
+}
+
+impl Walk {
+    /// Where the bodies stand, in the order of the log.
+    pub fn spans(&self) -> &[Span]
+        ensures { result.now ≡ spans_of self.now }
+    {
+        &self.found.spans
+    }
 }
