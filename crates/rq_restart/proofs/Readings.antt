@@ -1,10 +1,10 @@
 -- How far bodies are read.
-use Rattle.std.proofs.Common.{◌≡◌, ℕ, ◌+◌, ◌<◌, suc, List, [], ◌∷◌, ◌++◌, length, take, drop, get_or, sym, ap, subst, ◌∙◌, arith}
+use Rattle.std.proofs.Common.{◌≡◌, ℕ, ◌+◌, ◌<◌, zero, suc, refl, List, [], ◌∷◌, ◌++◌, length, take, drop, get_or, sym, ap, subst, ◌∙◌, arith}
 use Rattle.std.proofs.lemmas.List.{append_assoc, append-nil, length-append, length-map, map-append, nil_from_length, take-append-drop}
 use Rattle.std.proofs.Math.Seq.{take-suc, drop-cons, drop-length}
 use Rattle.std.specs.List.{AllByRecursion}
 use Rattle.rq_model.specs.Records.{Record, One}
-use Rattle.rq_model.specs.Spelling.{IsRecord, Spells}
+use Rattle.rq_model.specs.Spelling.{IsRecord, Spells, body_of}
 use Rattle.rq_model.specs.Frames.{bodies_of}
 use Rattle.rq_front.specs.declared.spans.Span.{Span}
 use Rattle.rq_front.specs.Chains.{body_at, bodies_at}
@@ -82,3 +82,19 @@ read_first xs ys rs are fewer =
       spelled = ap (λ (bodies : List (List ℕ)). bodies ++ ys) are.spelled ∙ append_assoc (bodies_of rs) are.left ys;
       stops = stops_there are.left ys some are.stops;
     }
+
+some_stop : (n : ℕ) (left : List (List ℕ)) → SpellsNone left → SpellsNone (take n left)
+some_stop zero left none = tt
+some_stop (suc n) [] none = tt
+some_stop (suc n) (body ∷ left) none = none
+
+-- the first bodies are read as far as their records go
+front_read : (n : ℕ) (rs : List Record) (left : List (List ℕ)) → AllByRecursion (IsRecord One) rs → SpellsNone left → AreRead (take n (bodies_of rs ++ left)) (take n rs)
+front_read zero rs left are none = record { left = []; records = tt; spelled = refl; stops = tt }
+front_read (suc n) [] left are none = record { left = take (suc n) left; records = tt; spelled = refl; stops = some_stop (suc n) left none }
+front_read (suc n) (r ∷ rs) left are none =
+    let more = front_read n rs left are.1 none in
+    record { left = more.left; records = (are.0, more.records); spelled = ap (λ (xs : List (List ℕ)). body_of r ∷ xs) more.spelled; stops = more.stops }
+
+pub read_fewer : (n : ℕ) (bodies : List (List ℕ)) (rs : List Record) → AreRead bodies rs → AreRead (take n bodies) (take n rs)
+read_fewer n bodies rs are = subst (λ (xs : List (List ℕ)). AreRead (take n xs) (take n rs)) (sym are.spelled) (front_read n rs are.left are.records are.stops)

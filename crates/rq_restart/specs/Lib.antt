@@ -1,5 +1,6 @@
 pub mod Views
 pub mod Readings
+pub mod Known
 pub mod Ends
 pub mod Restarts
 pub mod Checkpoints

@@ -1,5 +1,5 @@
 -- How far the bodies of a chain are read.
-use Rattle.std.specs.Prelude.{◌≡◌, ℕ, ⊤, List, [], ◌∷◌, ◌++◌, map, Result, Ok, Err}
+use Rattle.std.specs.Prelude.{◌≡◌, ◌≤◌, ℕ, ⊤, List, [], ◌∷◌, ◌++◌, length, map, take, drop, Result, Ok, Err}
 use Rattle.std.specs.Global.{Vec}
 use Rattle.std.specs.List.{AllByRecursion}
 use Rattle.rq_model.specs.Records.{Record, One}
@@ -9,6 +9,7 @@ use Rattle.rq_record.specs.declared.fault.Fault.{Fault}
 use Rattle.rq_record.specs.declared.fault.Fault.TheVariants.{Resources}
 use Rattle.rq_record.specs.declared.record.Record as rt
 use Rattle.rq_record.specs.Views.{record_of}
+use Rattle.rq_restart.specs.declared.reading.Parts.{Parts}
 
 -- no body, or a first one that spells no record
 abbrev pub SpellsNone : List (List ℕ) → Type 0
@@ -26,3 +27,9 @@ pub record AreRead (bodies : List (List ℕ)) (rs : List Record) : Type 0 where
 abbrev pub Reads : List (List ℕ) → Result (Vec rt.Record) Fault → Type 0
 Reads bodies (Ok v) = AreRead bodies (map record_of v.items)
 Reads bodies (Err e) = e ≡ Resources
+
+-- the records of the first bodies and those of the others, apart from one another
+pub record AreApart (bodies : List (List ℕ)) (p : Parts) : Type 0 where
+  pub within : p.count ≤ length bodies
+  pub front : AreRead (take p.count bodies) (map record_of p.front.items)
+  pub back : AreRead (drop p.count bodies) (map record_of p.back.items)

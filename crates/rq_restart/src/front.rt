@@ -1,25 +1,38 @@
 //! The front of a log, from any state and place on.
 
-ghost use Rattle.std.specs.Prelude.{◌≡◌, ◌≤◌, ◌++◌, ℕ, List, length, map, IfOk, IfErr};
-ghost use Rattle.rq_model.specs.Frames.{bodies_of};
+ghost use Rattle.std.specs.Prelude.{◌≡◌, ◌≤◌, ◌+◌, ◌++◌, ℕ, List, length, map, take, All, IfOk, IfErr};
+ghost use Rattle.std.specs.Thread.{IsSync};
+ghost use Rattle.rq_model.specs.Frames.{bodies_of, log_limit};
+ghost use Rattle.rq_model.specs.States as model;
 ghost use Rattle.rq_model.specs.Fronts.{Ends};
 ghost use Rattle.rq_record.specs.Views.{record_of};
 ghost use Rattle.rq_record.specs.declared.fault.Fault.TheVariants.{Resources};
 ghost use Rattle.rq_catalog.specs.Analyses.{IsAnalysis};
 ghost use Rattle.rq_front.specs.Chains.{bodies_at, rest_of};
+ghost use Rattle.rq_front.specs.Walks.{IsChecked, Walks, spans_of};
 ghost use Rattle.rq_restart.specs.Views.{why_of};
 ghost use Rattle.rq_restart.specs.Ends.{IsChain, IsFrontFrom, end_at};
+ghost use Rattle.rq_restart.specs.Readings.{AreRead};
+ghost use Rattle.rq_restart.specs.Known.{IsKnown, Knows};
 
-use crate::reading::read;
+use crate::grain::grain_of;
+use crate::reading::{FEW, Parts, put_together, read};
 use crate::restarted::Why;
 use rq_catalog::{Analysis, analyse};
-use rq_front::{Chain, Rest};
+use rq_front::{Chain, Rest, Walk};
 use rq_pool::Plan;
 use rq_record::{Fault, Record};
 use rq_state::State;
 use std::alloc::Global;
 use std::marker::Sync;
-use std::thread::Threads;
+use std::thread::{Threads, join};
+
+/// The records that were read, and what one pass over them found.
+#[derive(Drop)]
+pub(crate) struct Known {
+    records: Vec<Record>,
+    analysis: Analysis,
+}
 
 /// The lawful records, what one pass over them found, where they end, and why.
 #[derive(Drop)]
@@ -54,6 +67,55 @@ fn end_of(found: &Chain, read: usize, kept: usize) -> (usize, Why)
     }
 }
 
+// All records of the two parts, and what one pass over them found.
+fn known_of(alloc: Global, parts: Parts, state: &State) -> Result<Known, Fault>
+    requires next { state.now.next ≤ 4294967295 }
+    ensures { Knows state.now parts result }
+{
+    let records = put_together(parts)?;
+    let analysis = analyse(alloc, state, &records)?;
+    Ok(Known { records, analysis })
+}
+
+// What is known of the first bodies alone.
+fn known_of_first(alloc: Global, known: Known, count: usize, state: &State) -> Result<Known, Fault>
+    requires next { state.now.next ≤ 4294967295 }
+    ensures known { IfOk result (λ k. (bodies : List (List ℕ)) → IsKnown state.now bodies known → IsKnown state.now (take count bodies) k) }
+    ensures refused { IfErr result (λ e. e ≡ Resources) }
+{
+    if known.records.len() <= count {
+        return Ok(known);
+    }
+    let mut records = known.records;
+    records.truncate(count);
+    let analysis = analyse(alloc, state, &records)?;
+    Ok(Known { records, analysis })
+}
+
+// The front among the records that were read of a chain.
+fn settled(found: &Chain, known: Known) -> Front
+    ensures front { (s : model.State) (b : List ℕ) (place : ℕ) → IsChain b place found.now → IsKnown s (bodies_at b found.now.spans.items) known → IsFrontFrom s b place (map record_of result.records.items) result.end (why_of result.why) }
+    ensures bodies { (s : model.State) (bodies : List (List ℕ)) → IsKnown s bodies known → (left : List (List ℕ)) × (bodies ≡ bodies_of (map record_of result.records.items) ++ left) }
+    ensures analysis { (s : model.State) (bodies : List (List ℕ)) → IsKnown s bodies known → IsAnalysis s (map record_of result.records.items) result.analysis }
+{
+    rq_model::frames_are_right();
+    rq_model::frames_join();
+    rq_model::one_front();
+    let Known {
+        mut records,
+        analysis,
+    } = known;
+    let kept = analysis.lawful();
+    let (end, why) = end_of(found, records.len(), kept);
+    records.truncate(kept);
+    Front {
+        records,
+        analysis,
+        end,
+        why,
+    }
+}
+
 /// The front of the log, in the frames of a chain, from a state on.
 pub(crate) fn front_of<R: Threads + Sync>(
     rt: &R,
@@ -70,18 +132,67 @@ pub(crate) fn front_of<R: Threads + Sync>(
     ensures analysis { IfOk result (λ f. IsAnalysis state.now (map record_of f.records.items) f.analysis) }
     ensures refused { IfErr result (λ e. e ≡ Resources) }
 {
-    rq_model::frames_are_right();
-    rq_model::frames_join();
-    rq_model::one_front();
-    let mut records = read(rt, alloc, bytes, &found.spans, plan.workers())?;
-    let analysis = analyse(alloc, state, &records)?;
-    let kept = analysis.lawful();
-    let (end, why) = end_of(found, records.len(), kept);
-    records.truncate(kept);
-    Ok(Front {
-        records,
-        analysis,
-        end,
-        why,
-    })
+    let parts = read(rt, alloc, bytes, &found.spans, plan.workers())?;
+    let known = known_of(alloc, parts, state)?;
+    Ok(settled(found, known))
+}
+
+// Checks the digests of a walk, while another thread puts the records of its bodies together and goes through them.
+fn check_meanwhile<R: Threads + Sync>(
+    rt: &R,
+    alloc: Global,
+    bytes: &[u8],
+    walk: Walk,
+    parts: Parts,
+    state: &State,
+    grain: u32,
+) -> (Chain, Result<Known, Fault>)
+    requires walk { (from : ℕ) × Walks bytes.now from walk }
+    requires next { state.now.next ≤ 4294967295 }
+    requires grain { 1 ≤ grain }
+    ensures chain { (from : ℕ) → Walks bytes.now from walk → IsChecked bytes.now from walk result.0 }
+    ensures known { Knows state.now parts result.1 }
+{
+    join(
+        rt,
+        move || -> Chain
+            requires { IsSync R.row × (1 ≤ grain) × (from : ℕ) × Walks bytes.now from walk }
+            ensures { (from : ℕ) → Walks bytes.entry.now from walk → IsChecked bytes.entry.now from walk result }
+        { walk.checked(rt, bytes, grain) },
+        move || -> Result<Known, Fault>
+            requires { state.now.next ≤ 4294967295 }
+            ensures { Knows state.entry.now parts result }
+        { known_of(alloc, parts, state) },
+    )
+}
+
+/// The front of the log, in the frames of a walk, from a state on.
+///
+/// Where threads are to be had, the records are read before any digest is known to be right, and those behind the first
+/// wrong one are dropped again: so the one pass over them, which is one thread's work, runs beside the digests.
+pub(crate) fn front_of_walk<R: Threads + Sync>(
+    rt: &R,
+    alloc: Global,
+    bytes: &[u8],
+    walk: Walk,
+    state: &State,
+    plan: &Plan,
+) -> Result<Front, Fault>
+    requires walk { (place : ℕ) × Walks bytes.now place walk }
+    requires inside { All (λ s. s.start + s.len ≤ length bytes.now) (spans_of walk) }
+    requires short { length bytes.now ≤ log_limit }
+    requires next { state.now.next ≤ 4294967295 }
+    ensures front { IfOk result (λ f. (place : ℕ) → Walks bytes.now place walk → IsFrontFrom state.now bytes.now place (map record_of f.records.items) f.end (why_of f.why)) }
+    ensures analysis { IfOk result (λ f. IsAnalysis state.now (map record_of f.records.items) f.analysis) }
+    ensures refused { IfErr result (λ e. e ≡ Resources) }
+{
+    let grain = grain_of(plan);
+    if plan.workers() < 2 || walk.spans().len() <= FEW {
+        let found = walk.checked(rt, bytes, grain);
+        return front_of(rt, alloc, bytes, &found, state, plan);
+    }
+    let parts = read(rt, alloc, bytes, walk.spans(), plan.workers())?;
+    let (found, known) = check_meanwhile(rt, alloc, bytes, walk, parts, state, grain);
+    let known = known_of_first(alloc, known?, found.spans.len(), state)?;
+    Ok(settled(&found, known))
 }

@@ -1,11 +1,11 @@
 //! The records of a chain.
 
-ghost use Rattle.std.specs.Prelude.{◌≡◌, ◌≤◌, ◌+◌, length, map, All, IfOk, IfErr};
+ghost use Rattle.std.specs.Prelude.{◌≡◌, ◌≤◌, ◌+◌, ℕ, List, length, map, All, IfOk, IfErr};
 ghost use Rattle.std.specs.Thread.{IsSync};
 ghost use Rattle.rq_record.specs.Views.{record_of};
 ghost use Rattle.rq_record.specs.declared.fault.Fault.TheVariants.{Resources};
 ghost use Rattle.rq_front.specs.Chains.{bodies_at};
-ghost use Rattle.rq_restart.specs.Readings.{AreRead, Reads};
+ghost use Rattle.rq_restart.specs.Readings.{AreApart, AreRead, Reads};
 
 use rq_front::Span;
 use rq_record::{Fault, Record, decode};
@@ -14,7 +14,15 @@ use std::marker::Sync;
 use std::thread::{Threads, join};
 
 // As many bodies are read by one thread, so that the restart of a small log starts none.
-const FEW: usize = 1024;
+pub(crate) const FEW: usize = 1024;
+
+/// The records that the bodies of a chain spell, in two parts: the front one has those of the first `count` bodies.
+#[derive(Drop)]
+pub(crate) struct Parts {
+    front: Vec<Record>,
+    back: Vec<Record>,
+    count: usize,
+}
 
 // The records that the bodies spell, read by one thread, with room for as many as are to stand with them.
 fn read_in_order(
@@ -38,10 +46,9 @@ fn read_in_order(
     Ok(records)
 }
 
-// The records that the bodies spell, up to the first body that spells none, read by as many workers: each half of the
-// bodies by half of them. What the back half spells finds its room behind the front half.
+// The records that the bodies spell, up to the first body that spells none, read by as many workers.
 #[cycle(halves)]
-fn read_halves<R: Threads + Sync>(
+fn read_whole<R: Threads + Sync>(
     rt: &R,
     alloc: Global,
     bytes: &[u8],
@@ -53,43 +60,82 @@ fn read_halves<R: Threads + Sync>(
     ensures records { IfOk result (λ rs. AreRead (bodies_at bytes.now spans.now) (map record_of rs.items)) }
     ensures refused { IfErr result (λ e. e ≡ Resources) }
 {
+    let parts = read_apart(rt, alloc, bytes, spans, workers, room)?;
+    put_together(parts)
+}
+
+// The same in two parts: half of the workers read each. What the back half spells finds its room behind the front half.
+// One worker, or few bodies, leave the back part empty.
+#[cycle(halves)]
+fn read_apart<R: Threads + Sync>(
+    rt: &R,
+    alloc: Global,
+    bytes: &[u8],
+    spans: &[Span],
+    workers: u32,
+    room: usize,
+) -> Result<Parts, Fault>
+    requires { All (λ s. s.start + s.len ≤ length bytes.now) spans.now }
+    ensures parts { IfOk result (AreApart (bodies_at bytes.now spans.now)) }
+    ensures refused { IfErr result (λ e. e ≡ Resources) }
+{
     if workers < 2 || spans.len() <= FEW {
-        return read_in_order(alloc, bytes, spans, room);
+        return Ok(Parts {
+            front: read_in_order(alloc, bytes, spans, room)?,
+            back: Vec::new(alloc),
+            count: spans.len(),
+        });
     }
-    let (front, back) = spans.split_at(spans.len() / 2);
+    let count = spans.len() / 2;
+    let (front, back) = spans.split_at(count);
     let (fewer, others) = (workers / 2, workers - workers / 2);
     let (left, right) = join(
         rt,
         || -> Result<Vec<Record>, Fault>
             requires { IsSync R.row × All (λ s. s.start + s.len ≤ length bytes.now) front.now }
             ensures { Reads (bodies_at bytes.entry.now front.entry.now) result }
-        { read_halves(rt, alloc, bytes, front, fewer, room) },
+        { read_whole(rt, alloc, bytes, front, fewer, room) },
         || -> Result<Vec<Record>, Fault>
             requires { IsSync R.row × All (λ s. s.start + s.len ≤ length bytes.now) back.now }
             ensures { Reads (bodies_at bytes.entry.now back.entry.now) result }
-        { read_halves(rt, alloc, bytes, back, others, back.len()) },
+        { read_whole(rt, alloc, bytes, back, others, back.len()) },
     );
-    let mut records = left?;
-    // Where the front half ends before its last body, nothing behind it counts.
-    if records.len() == front.len() {
-        records.append(&mut right?)?;
-    }
-    Ok(records)
+    Ok(Parts {
+        front: left?,
+        back: right?,
+        count,
+    })
 }
 
-/// The records that the bodies spell, up to the first body that spells none, read by as many workers.
+/// All records of the two parts. Where the front one ends before its last body, nothing behind it counts.
+pub(crate) fn put_together(parts: Parts) -> Result<Vec<Record>, Fault>
+    ensures records { IfOk result (λ rs. (bodies : List (List ℕ)) → AreApart bodies parts → AreRead bodies (map record_of rs.items)) }
+    ensures refused { IfErr result (λ e. e ≡ Resources) }
+{
+    let Parts {
+        mut front,
+        mut back,
+        count,
+    } = parts;
+    if front.len() == count {
+        front.append(&mut back)?;
+    }
+    Ok(front)
+}
+
+/// The records that the bodies spell, up to the first body that spells none, read by as many workers, in two parts.
 pub(crate) fn read<R: Threads + Sync>(
     rt: &R,
     alloc: Global,
     bytes: &[u8],
     spans: &[Span],
     workers: u32,
-) -> Result<Vec<Record>, Fault>
+) -> Result<Parts, Fault>
     requires { All (λ s. s.start + s.len ≤ length bytes.now) spans.now }
-    ensures records { IfOk result (λ rs. AreRead (bodies_at bytes.now spans.now) (map record_of rs.items)) }
+    ensures parts { IfOk result (AreApart (bodies_at bytes.now spans.now)) }
     ensures refused { IfErr result (λ e. e ≡ Resources) }
 {
     // An eighth more, for the aborts of the units that are still open.
     let room = spans.len().saturating_add(spans.len() / 8);
-    read_halves(rt, alloc, bytes, spans, workers, room)
+    read_apart(rt, alloc, bytes, spans, workers, room)
 }

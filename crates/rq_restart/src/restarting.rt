@@ -12,11 +12,10 @@ ghost use Rattle.rq_restart.specs.Restarts.{FindsState, Restarts};
 ghost use Rattle.rq_restart.specs.Views.{why_of};
 
 use crate::closing::close;
-use crate::front::{Front, front_of};
-use crate::grain::grain_of;
+use crate::front::{Front, front_of_walk};
 use crate::restarted::Restarted;
 use rq_exchange::replay_analysed;
-use rq_front::chain;
+use rq_front::walk;
 use rq_pool::{Gate, Open, Plan};
 use rq_record::Fault;
 use rq_state::State;
@@ -37,8 +36,8 @@ fn whole_front<R: Threads + Sync>(
     ensures refused { IfErr result (Refused bytes.now) }
 {
     rq_model::frames_join();
-    let found = chain(rt, alloc, bytes, 40, grain_of(plan))?;
-    let front = front_of(rt, alloc, bytes, &found, &State::empty(alloc), plan)?;
+    let walk = walk(alloc, bytes, 40)?;
+    let front = front_of_walk(rt, alloc, bytes, walk, &State::empty(alloc), plan)?;
     Ok(front)
 }
 

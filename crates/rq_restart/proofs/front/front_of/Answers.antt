@@ -1,53 +1,21 @@
-use Rattle.std.proofs.Common.{◌≡◌, ℕ, List, ◌++◌, length, map, ap, sym, subst, ◌∙◌, arith}
-use Rattle.std.proofs.lemmas.List.{length-map}
-use Rattle.rq_model.specs.Records.{One}
-use Rattle.rq_model.specs.Records as model
-use Rattle.rq_model.specs.Frames.{bodies_of}
-use Rattle.rq_model.specs.Machine.{lawful_front}
-use Rattle.rq_record.specs.declared.record.Record.{Record}
-use Rattle.rq_record.specs.Views.{record_of}
+use Rattle.std.proofs.Common.{List, subst}
+use Rattle.rq_front.specs.Chains.{bodies_at}
 use Rattle.rq_front.specs.declared.spans.Span.{Span}
-use Rattle.rq_front.specs.Chains.{bodies_at, rest_of}
-use Rattle.rq_catalog.specs.Analyses.{IsAnalysis}
-use Rattle.rq_catalog.proofs.Fronts.{kept_is, analysis_of_front}
-use Rattle.rq_restart.specs.Readings.{AreRead}
-use Rattle.rq_restart.specs.Ends.{IsFrontFrom, end_at}
-use Rattle.rq_restart.specs.Views.{why_of}
-use Rattle.rq_restart.proofs.Fronts.{front_from, bodies_kept}
+use Rattle.rq_restart.specs.Known.{IsKnown}
+use Rattle.rq_restart.specs.Readings.{AreApart}
 use Rattle.rq_restart.proofs.front.front_of.Goals as goal
 
+-- what is known of the chain's bodies
+known : (g : _) (c : goal.After-settled g) → IsKnown c.args.state.now (bodies_at c.args.bytes.now c.args.found.now.spans.items) c.in_ok-known.known
+known g c =
+    let apart = subst (λ (ss : List Span). AreApart (bodies_at c.args.bytes.now ss) c.in_ok-parts.parts) c.deref.ensures.value c.in_ok-parts.ensures.parts in
+    c.in_ok-known.ensures (bodies_at c.args.bytes.now c.args.found.now.spans.items) apart
+
 pub returns-clause-front : goal.returns-clause-front
-returns-clause-front g c = λ place chain.
-    let b = c.args.bytes.now in
-    let s = c.args.state.now in
-    let found = c.args.found.now in
-    let all = c.in_ok-records.records.items in
-    let rs = map record_of all in
-    let analysis : IsAnalysis s rs c.in_ok-analysis.analysis = subst (λ (xs : List Record). IsAnalysis s (map record_of xs) c.in_ok-analysis.analysis) c.deref-2.ensures.value c.in_ok-analysis.ensures.analysis in
-    let count : c.lawful-kept.result ≡ length (lawful_front One s rs) = c.lawful-kept.ensures ∙ analysis.lawful in
-    let kept : map record_of c.truncate.new.self.items ≡ lawful_front One s rs = kept_is s all c.truncate.new.self.items c.lawful-kept.result c.truncate.ensures.items count in
-    let read : AreRead (bodies_at b found.spans.items) rs = subst (λ (ss : List Span). AreRead (bodies_at b ss) rs) c.deref.ensures.value c.in_ok-records.ensures.records in
-    let many : c.len.result ≡ length rs = omega (arith, c.len.ensures, c.in_ok-records.records.ok.0, length-map all record_of) in
-    let end : (c.end_of-end.result.0, why_of c.end_of-end.result.1) ≡ end_at found.spans.items found.end (rest_of found.rest) (length rs) (length (lawful_front One s rs)) =
-    c.end_of-end.ensures ∙ ap (λ (n : ℕ). end_at found.spans.items found.end (rest_of found.rest) n c.lawful-kept.result) many ∙ ap (end_at found.spans.items found.end (rest_of found.rest) (length rs)) count in
-    subst (λ (xs : List model.Record). IsFrontFrom s b place xs c.end_of-end.result.0 (why_of c.end_of-end.result.1)) (sym kept)
-    (front_from c.frames_are_right.ensures.right c.frames_join.ensures.frames c.one_front.ensures.from_run s b place found rs chain read (c.end_of-end.result.0, why_of c.end_of-end.result.1) end)
+returns-clause-front g c = λ place chain. c.settled.ensures.front c.args.state.now c.args.bytes.now place chain (known g c)
 
 pub returns-clause-bodies : goal.returns-clause-bodies
-returns-clause-bodies g c =
-    let s = c.args.state.now in
-    let all = c.in_ok-records.records.items in
-    let rs = map record_of all in
-    let bodies = bodies_at c.args.bytes.now c.args.found.now.spans.items in
-    let analysis : IsAnalysis s rs c.in_ok-analysis.analysis = subst (λ (xs : List Record). IsAnalysis s (map record_of xs) c.in_ok-analysis.analysis) c.deref-2.ensures.value c.in_ok-analysis.ensures.analysis in
-    let kept = kept_is s all c.truncate.new.self.items c.lawful-kept.result c.truncate.ensures.items (c.lawful-kept.ensures ∙ analysis.lawful) in
-    let read : AreRead bodies rs = subst (λ (ss : List Span). AreRead (bodies_at c.args.bytes.now ss) rs) c.deref.ensures.value c.in_ok-records.ensures.records in
-    subst (λ (xs : List model.Record). (left : List (List ℕ)) × (bodies ≡ bodies_of xs ++ left)) (sym kept) (bodies_kept s bodies rs read)
+returns-clause-bodies g c = c.settled.ensures.bodies c.args.state.now (bodies_at c.args.bytes.now c.args.found.now.spans.items) (known g c)
 
 pub returns-clause-analysis : goal.returns-clause-analysis
-returns-clause-analysis g c =
-    let s = c.args.state.now in
-    let all = c.in_ok-records.records.items in
-    let analysis : IsAnalysis s (map record_of all) c.in_ok-analysis.analysis = subst (λ (xs : List Record). IsAnalysis s (map record_of xs) c.in_ok-analysis.analysis) c.deref-2.ensures.value c.in_ok-analysis.ensures.analysis in
-    let kept = kept_is s all c.truncate.new.self.items c.lawful-kept.result c.truncate.ensures.items (c.lawful-kept.ensures ∙ analysis.lawful) in
-    subst (λ (xs : List model.Record). IsAnalysis s xs c.in_ok-analysis.analysis) (sym kept) (analysis_of_front s (map record_of all) c.in_ok-analysis.analysis analysis)
+returns-clause-analysis g c = c.settled.ensures.analysis c.args.state.now (bodies_at c.args.bytes.now c.args.found.now.spans.items) (known g c)

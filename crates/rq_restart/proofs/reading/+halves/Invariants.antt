@@ -2,11 +2,14 @@ use Rattle.std.proofs.Common.{◌+◌, ◌*◌}
 use Rattle.rq_restart.proofs.reading.+halves.Given as goal
 
 -- a half is read by fewer workers
-abbrev pub decreases-read_halves : goal.decreases-read_halves
-decreases-read_halves g l = 2 * l.workers
+abbrev pub decreases-read_apart : goal.decreases-read_apart
+decreases-read_apart g l = 3 * l.workers
 
-abbrev pub decreases-join+arg2 : goal.decreases-join+arg2
-decreases-join+arg2 g l = 2 * l.fewer + 1
+abbrev pub decreases-read_whole : goal.decreases-read_whole
+decreases-read_whole g l = 3 * l.workers + 1
 
-abbrev pub decreases-join+arg3 : goal.decreases-join+arg3
-decreases-join+arg3 g l = 2 * l.others + 1
+abbrev pub decreases-read_apart-join+arg2 : goal.decreases-read_apart-join+arg2
+decreases-read_apart-join+arg2 g l = 3 * l.fewer + 2
+
+abbrev pub decreases-read_apart-join+arg3 : goal.decreases-read_apart-join+arg3
+decreases-read_apart-join+arg3 g l = 3 * l.others + 2

@@ -1,0 +1,20 @@
+-- What is known of the bodies of a chain.
+use Rattle.std.specs.Prelude.{◌≡◌, ℕ, List, map, Result, Ok, Err}
+use Rattle.rq_model.specs.States.{State}
+use Rattle.rq_record.specs.declared.fault.Fault.{Fault}
+use Rattle.rq_record.specs.declared.fault.Fault.TheVariants.{Resources}
+use Rattle.rq_record.specs.Views.{record_of}
+use Rattle.rq_catalog.specs.Analyses.{IsAnalysis}
+use Rattle.rq_restart.specs.declared.reading.Parts.{Parts}
+use Rattle.rq_restart.specs.declared.front.Known.{Known}
+use Rattle.rq_restart.specs.Readings.{AreApart, AreRead}
+
+-- the records that the bodies spell, and what one pass over them from a state on found
+pub record IsKnown (s : State) (bodies : List (List ℕ)) (k : Known) : Type 0 where
+  pub read : AreRead bodies (map record_of k.records.items)
+  pub analysis : IsAnalysis s (map record_of k.records.items) k.analysis
+
+-- that of the bodies whose records stand apart, or no memory
+abbrev pub Knows : State → Parts → Result Known Fault → Type 0
+Knows s parts (Ok k) = (bodies : List (List ℕ)) → AreApart bodies parts → IsKnown s bodies k
+Knows s parts (Err e) = e ≡ Resources
