@@ -45,7 +45,7 @@ parted s (r ∷ rs) = at (is_lawful One s r) refl (parted (step s r) rs)
         subst (λ (b : Bool). IsParted s (r ∷ rs) (cond b (r ∷ lawful_front One (step s r) rs) [])) (sym e) it
 
 -- so many records from the front are the lawful ones
-pub taken : (s : State) (rs : List Record) → take (length (lawful_front One s rs)) rs ≡ lawful_front One s rs
+taken : (s : State) (rs : List Record) → take (length (lawful_front One s rs)) rs ≡ lawful_front One s rs
 taken s rs =
     let kept = lawful_front One s rs in
     let p = parted s rs in
