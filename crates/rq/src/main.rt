@@ -72,7 +72,7 @@ where
     R: Files + Print + AllocGlobal + Threads + Sync,
 {
     match command {
-        Command::Make { script, log } => make_file(rt, command, script, log),
+        Command::Make { script, log } => make_file(rt, script, log),
         Command::Restart { log, .. } => print(rt, command, log),
         Command::RestartAt { log, .. } => print(rt, command, log),
         Command::Audit { log, .. } => print(rt, command, log),
@@ -89,24 +89,14 @@ where
     rq_tool::act(rt, rt.alloc(), command, &mut input, &mut output, &Open)
 }
 
-/// Makes a file of what the command answers, once all of it is there.
-fn make_file<R>(rt: &R, command: &Command<'_>, from: &str, to: &str) -> Result<(), Fault>
+/// Makes a file of the log of a script, once all of it is there.
+fn make_file<R>(rt: &R, script: &str, log: &str) -> Result<(), Fault>
 where
-    R: Files + Print + AllocGlobal + Threads + Sync,
+    R: Files + AllocGlobal + Threads + Sync,
 {
-    let mut input = open(rt, from)?;
-    let mut made = OverWrite::new(Vec::new(rt.alloc()));
-    rq_tool::act(rt, rt.alloc(), command, &mut input, &mut made, &Open).map_err(in_memory)?;
-    let bytes = made.into_inner();
-    fs::write(rt, to, bytes.as_slice()).map_err(|_| Fault::WriteFailed)
-}
-
-/// The fault of a command that writes into memory: there a write fails only where memory is refused.
-fn in_memory(fault: Fault) -> Fault {
-    match fault {
-        Fault::WriteFailed => Fault::Resources,
-        other => other,
-    }
+    let mut input = open(rt, script)?;
+    let bytes = rq_tool::make_log(rt, rt.alloc(), &mut input)?;
+    fs::write(rt, log, bytes.as_slice()).map_err(|_| Fault::WriteFailed)
 }
 
 /// Opens a file for reading.

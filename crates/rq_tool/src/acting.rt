@@ -6,15 +6,12 @@ use crate::engine::run;
 use crate::engine_at::run_at;
 use crate::input::read_all;
 use crate::line::Command;
+use crate::making::make_log;
 use rq_report::{Input, Output, write_all};
 use rq_restart::{Fault, Gate, Plan, audit};
-use rq_writer::make;
 use std::alloc::Global;
 use std::marker::Sync;
 use std::thread::Threads;
-
-// The most bytes that a script has.
-const SCRIPT_LIMIT: usize = 4_294_967_295;
 
 /// Reads the command's first file from `input` and writes to `output` what the command prints or puts
 /// into its second file. Faults are those of the call that does the work; a script or log of more than
@@ -83,17 +80,6 @@ where
     requires reads { I.faults input.old < 18446744073709551615 }
     requires writes { O.faults output.old < 18446744073709551615 }
 {
-    let script = read_all(alloc, input)?;
-    if script.len() > SCRIPT_LIMIT {
-        return Err(Fault::TooLong);
-    }
-    let log = make(rt, alloc, &script, &one_worker())?;
+    let log = make_log(rt, alloc, input)?;
     write_all(output, &log)
-}
-
-fn one_worker() -> Plan {
-    match Plan::new(1, 1000) {
-        Some(plan) => plan,
-        None => unreachable!(),
-    }
 }

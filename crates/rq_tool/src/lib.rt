@@ -6,12 +6,14 @@ mod engine;
 mod engine_at;
 mod input;
 mod line;
+mod making;
 mod words;
 
 pub use acting::act;
 pub use engine::run;
 pub use engine_at::run_at;
 pub use line::Command;
+pub use making::make_log;
 pub use rq_report::{Input, Output, OverRead, OverWrite};
 pub use rq_restart::{Fault, Gate, Open, Plan};
 pub use words::command;
