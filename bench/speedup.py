@@ -32,10 +32,11 @@ def line(shape: str, which: str, rounds: list[tuple[float, float, float]]) -> st
     if not rounds:
         return f"| {shape} | {which} | 0 | | | | | |"
     ones, fours = [one for one, _, _ in rounds], [four for _, four, _ in rounds]
-    best, median = min(ones) / min(fours), statistics.median(ones) / statistics.median(fours)
+    best, ratios = min(ones) / min(fours), [one / four for one, four, _ in rounds]
     kept = statistics.median(kept for _, _, kept in rounds)
     return (f"| {shape} | {which} | {len(rounds)} | {100 * kept:.0f} % | {min(ones):.3f} ({statistics.median(ones):.3f}) "
-            f"| {min(fours):.3f} ({statistics.median(fours):.3f}) | {best:.2f} | {median:.2f} |")
+            f"| {min(fours):.3f} ({statistics.median(fours):.3f}) | {best:.2f} "
+            f"| {statistics.median(ratios):.2f} ({min(ratios):.2f} to {max(ratios):.2f}) |")
 
 
 def main() -> None:
@@ -46,7 +47,7 @@ def main() -> None:
     words.add_argument("shapes", nargs="*", default=["kib", "big"])
     options = common.parsed(words)
     peer = common.built_peer(options.folder)
-    print("| log | rounds | count | stolen | 1 worker: best (median) | 4 workers | best / best | median / median |\n|---|---|---|---|---|---|---|---|")
+    print("| log | rounds | count | stolen | 1 worker: best (median) | 4 workers | best / best | in a round: median (least to most) |\n|---|---|---|---|---|---|---|---|")
     for shape in options.shapes:
         log = common.log_of(peer, options.folder, shape, options.mib)
         rounds = []
