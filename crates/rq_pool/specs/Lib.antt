@@ -8,3 +8,4 @@ pub mod Decks
 pub mod Sources
 pub mod Vaults
 pub mod Rooms
+pub mod Countdowns

@@ -4,7 +4,7 @@ use Rattle.rq_pool.specs.Decks.{IsComplete, deck_id, deck_list, list_in, taken_w
 use Rattle.rq_pool.specs.Rooms.{lists_of}
 use Rattle.rq_pool.proofs.Lists.{sum_by-map}
 use Rattle.rq_pool.proofs.Dealing.{dealt_total, same_lists, as_lent}
-use Rattle.rq_pool.proofs.Closing.{ledger_of, settled_all}
+use Rattle.rq_pool.proofs.Ledgers.{ledger_of, settled_all}
 use Rattle.rq_pool.proofs.deque_room.DequeRoom.close.Goals as goal
 
 pub emptied-requires-clause-all : goal.emptied-requires-clause-all

@@ -1,0 +1,16 @@
+pub mod Totals
+pub mod Views
+pub mod Claims
+pub mod Takes
+pub mod Counts
+pub mod Gathers
+pub mod Arrives
+pub mod Histories
+pub mod Settling
+pub mod Lasts
+pub mod Joins
+pub mod Returns
+pub mod Settles
+pub mod Closes
+pub mod Endings
+pub mod Opens

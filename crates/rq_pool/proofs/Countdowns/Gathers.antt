@@ -1,0 +1,68 @@
+-- The slots of the last, while it empties one after the other.
+use Rattle.std.proofs.Common.{◌≡◌, ℕ, zero, suc, ◌+◌, ◌<◌, ◌≤◌, List, [], ◌∷◌, ◌++◌, map, length, drop, take, replicate, sym, refl, ap, ◌∙◌, subst, arith, Option, Some, None, append_assoc}
+use Rattle.atomic_table.specs.Table.{rest}
+use Rattle.rq_pool.specs.Countdowns.Phases.{numbered, contents}
+use Rattle.rq_pool.proofs.Countdowns.Takes.{append_none}
+
+numbered_snoc : {S : Type 0} (xs : List S) (k n : ℕ) (x : S) → k + length xs ≡ n → numbered k (xs ++ x ∷ []) ≡ numbered k xs ++ (n, x) ∷ []
+numbered_snoc [] k n x e = let q : k ≡ n = omega arith in λ j. (q j, x) ∷ []
+numbered_snoc (y ∷ xs) k n x e = ap (λ l. (k, y) ∷ l) (numbered_snoc xs (suc k) n x (omega arith))
+
+replicate_snoc : {S : Type 0} (n : ℕ) (x : S) → replicate (suc n) x ≡ replicate n x ++ x ∷ []
+replicate_snoc zero x = refl
+replicate_snoc (suc n) x = ap (λ l. x ∷ l) (replicate_snoc n x)
+
+replicate_long : {S : Type 0} (n : ℕ) (x : S) → length (replicate n x) ≡ n
+replicate_long zero x = refl
+replicate_long (suc n) x = ap suc (replicate_long n x)
+
+module _ {T : Type 0} where
+  abbrev pub left : List T → ℕ → List (ℕ × Option T)
+  left ys i = numbered i (map Some (drop i ys)) ++ numbered 0 (replicate i None)
+
+  next_at : (ys : List T) (i : ℕ) → i < length ys → (y : T) × (drop i ys ≡ y ∷ drop (suc i) ys) × (take (suc i) ys ≡ take i ys ++ y ∷ [])
+  next_at [] i h = absurd (omega arith)
+  next_at (y ∷ ys) zero h = (y, refl, refl)
+  next_at (y ∷ ys) (suc i) h = let q = next_at ys i (omega arith) in (q.0, q.1, ap (λ l. y ∷ l) q.2)
+
+  abbrev Next : List T → ℕ → List (ℕ × Option T) → ℕ → Type 0
+  Next ys i c j = (y : T) × (c ≡ (i, Some y) ∷ rest c) × (rest c ++ (i, None) ∷ [] ≡ left ys j) × (take j ys ≡ take i ys ++ y ∷ [])
+
+  pub after_one : (ys : List T) (i j : ℕ) → suc i ≡ j → i < length ys → (c : List (ℕ × Option T)) → c ≡ left ys i → Next ys i c j
+  after_one ys i j e near c is = subst (Next ys i c) e (let at = next_at ys i near in let y : T = at.0 in let nones : List (ℕ × Option T) = numbered 0 (replicate i None) in let more : List (ℕ × Option T) = numbered (suc i) (map Some (drop (suc i) ys)) in
+      let whole : c ≡ (i, Some y) ∷ (more ++ nones) = is ∙ ap (λ (l : List T). numbered i (map Some l) ++ nones) at.1 in let tail : rest c ≡ more ++ nones = ap rest whole in (
+        y,
+        whole ∙ (λ k. (i, Some y) ∷ sym tail k),
+        ap (λ l. l ++ (i, None) ∷ []) tail ∙ append_assoc more nones ((i, None) ∷ []) ∙ ap (λ l. more ++ l) (sym (numbered_snoc (replicate i None) 0 i None (let q = replicate_long {S = Option T} i None in omega arith)) ∙ ap (numbered 0) (sym (replicate_snoc i None))),
+        at.2,
+      ))
+
+  abbrev or_else : T → Option T → T
+  or_else d None = d
+  or_else d (Some y) = y
+
+  abbrev first_in : T → List (ℕ × Option T) → T
+  first_in d [] = d
+  first_in d (z ∷ zs) = or_else d z.1
+
+  -- the slot that was taken last had one value
+  pub one_value : (c r s : List (ℕ × Option T)) (i : ℕ) (x y : T) → c ≡ (i, Some x) ∷ r → c ≡ (i, Some y) ∷ s → x ≡ y
+  one_value c r s i x y a b = ap (first_in x) (sym a ∙ b)
+
+  drop_all : (ys : List T) → drop (length ys) ys ≡ []
+  drop_all [] = refl
+  drop_all (y ∷ ys) = drop_all ys
+
+  pub take_whole : (ys : List T) → take (length ys) ys ≡ ys
+  take_whole [] = refl
+  take_whole (y ∷ ys) = ap (λ l. y ∷ l) (take_whole ys)
+
+  pub none_left : (ys : List T) (n : ℕ) → length ys ≡ n → left ys n ≡ numbered 0 (replicate n None)
+  none_left ys n e = subst (λ n. left ys n ≡ numbered 0 (replicate n None)) e (ap (λ (l : List T). numbered (length ys) (map Some l) ++ numbered 0 (replicate (length ys) None)) (drop_all ys))
+
+  pub all_left : (ys : List T) → left ys 0 ≡ numbered 0 (map Some ys)
+  all_left ys = append_none (numbered 0 (map Some ys))
+
+  pub contents_numbered : (ys : List T) (k : ℕ) → contents (numbered k (map Some ys)) ≡ ys
+  contents_numbered [] k = refl
+  contents_numbered (y ∷ ys) k = ap (λ l. y ∷ l) (contents_numbered ys (suc k))
