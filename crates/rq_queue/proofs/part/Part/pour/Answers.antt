@@ -12,9 +12,11 @@ returns-clause-elements c =
 
 pub returns-clause-registrants : goal.returns-clause-registrants
 returns-clause-registrants c =
-    let list = c.in_ok-registrants.registrants.items in
-    (list, c.in_ok-append-2.ensures.items ∙ ap (λ (xs : List Registrant). xs ++ list) c.in_ok-reserve-2.ensures.items,
-      subst (λ (p : Part). IsPermutation p.registrants list) c.self.view_is (subst (λ (xs : List Registrant). IsPermutation xs list) c.in_ok-registrants.ensures.listed (IsPermutation-refl list)))
+    let list = c.in_ok-registrants.registrants.items in (
+      list,
+      c.in_ok-append-2.ensures.items ∙ ap (λ (xs : List Registrant). xs ++ list) c.in_ok-reserve-2.ensures.items,
+      subst (λ (p : Part). IsPermutation p.registrants list) c.self.view_is (subst (λ (xs : List Registrant). IsPermutation xs list) c.in_ok-registrants.ensures.listed (IsPermutation-refl list)),
+    )
 
 pub returns-clause-notes : goal.returns-clause-notes
 returns-clause-notes c =
