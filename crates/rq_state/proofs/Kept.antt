@@ -1,17 +1,18 @@
 -- What is read and keeps what it must is the state that the bytes spell, and no bytes of a state break it.
-use Rattle.std.proofs.Common.{◌≡◌, ℕ, ◌<◌, ◌^◌, List, Option, Some, None, Err, ap, subst, sym, ◌∙◌, arith}
+use Rattle.std.proofs.Common.{◌≡◌, ℕ, ◌<◌, ◌^◌, List, [], Option, Some, None, Err, refl, ap, subst, sym, ◌∙◌, arith}
 use Rattle.std.specs.Prelude.{IfSome}
 use Rattle.rq_model.specs.Records.{One}
 use Rattle.rq_model.specs.States.{Last, Registrant, State}
 use Rattle.rq_model.specs.WellFormed.{IsWellFormed}
-use Rattle.rq_model.specs.StateSpelling.{FitsDefinition, FitsRegistrant, FitsElement, FitsNote, Fits, SpellsState}
+use Rattle.rq_model.specs.StateSpelling.{state_bytes, FitsDefinition, FitsRegistrant, FitsElement, FitsNote, Fits, SpellsState}
 use Rattle.rq_model.proofs.Lists.{each_weaker, each_both}
 use Rattle.rq_model.proofs.StateCodes.{IsWideDefinition, IsWideLast, IsWideRegistrant, IsWide, IsWideNote, are_wide}
 use Rattle.rq_record.specs.declared.fault.Fault.{Fault}
 use Rattle.rq_record.specs.declared.fault.Fault.TheVariants as faults
 use Rattle.rq_state.specs.Keeping.{Tells, Keeps}
 use Rattle.rq_state.specs.Spelling.{ReadsState}
-use Rattle.rq_state.specs.Reading.{Fails, whole_state}
+use Rattle.rq_state.specs.Reading.{◌>>=◌, Fails, Refuses, whole_state, form_from}
+use Rattle.rq_state.proofs.Passing.{nothing_left, form_is}
 use Rattle.rq_state.proofs.Readers.{IsBytes}
 use Rattle.rq_state.proofs.MemberReaders.{IsDefinitionSpelled, IsRegistrantSpelled}
 use Rattle.rq_state.proofs.ElementReaders.{IsElementSpelled, IsNoteSpelled}
@@ -81,20 +82,46 @@ spells_keeps s bytes h =
       notes = record { notes = w.notes; notes_rise = w.notes_rise };
     }
 
--- bytes that are not read spell no state
-pub not_read : (bytes : List ℕ) (e : Fault) → Fails e (whole_state bytes) → ReadsState bytes (Err e)
-not_read bytes faults.BadCheckpoint nothing = λ s h. let clash : None ≡ Some s = sym nothing ∙ read_again s bytes h in absurd cc
-not_read bytes faults.Resources nothing = tt
-not_read bytes e nothing = absurd nothing
+no_state : (bytes : List ℕ) → whole_state bytes ≡ None → (s : State) → SpellsState One s bytes → ⊥
+no_state bytes nothing s h = let clash : None ≡ Some s = sym nothing ∙ read_again s bytes h in absurd cc
+
+-- bytes without the form spell no state
+pub not_formed : (bytes : List ℕ) (e : Fault) → Refuses e (form_from bytes) → ReadsState bytes (Err e)
+not_formed bytes faults.BadCheckpoint nothing = no_state bytes (none (whole_state bytes) (sym (form_is bytes) ∙ nothing))
+  where
+    none : (o : Option State) → (o >>= λ (s : State). nothing_left) ≡ None → o ≡ None
+    none (Some s) e = absurd cc
+    none None e = refl
+not_formed bytes e nothing = absurd nothing
+
+spelled_by : (bytes : List ℕ) (s : State) → IsBytes bytes → whole_state bytes ≡ Some s → (t : State) × Fits t × (bytes ≡ state_bytes t)
+spelled_by bytes s byte is = let taken = whole_takes bytes s byte is in (s, fits s taken.0, taken.1)
+
+formed : (bytes : List ℕ) → IsBytes bytes → form_from bytes ≡ Some [] → (s : State) × Fits s × (bytes ≡ state_bytes s)
+formed bytes byte is = from (whole_state bytes) refl
+  where
+    from : (o : Option State) → whole_state bytes ≡ o → (s : State) × Fits s × (bytes ≡ state_bytes s)
+    from (Some s) e = spelled_by bytes s byte e
+    from None e = let clash : None ≡ Some [] = sym (form_is bytes ∙ ap (λ (o : Option State). o >>= λ (s : State). nothing_left) e) ∙ is in absurd cc
+
+-- nor do those that are not read
+pub not_read : (bytes : List ℕ) (e : Fault) → IsBytes bytes → form_from bytes ≡ Some [] → Fails e (whole_state bytes) → ReadsState bytes (Err e)
+not_read bytes faults.BadCheckpoint byte form nothing = no_state bytes nothing
+not_read bytes faults.Resources byte form nothing = formed bytes byte form
+not_read bytes e byte form nothing = absurd nothing
 
 -- nor do bytes of which something else is read
-pub not_kept : (bytes : List ℕ) (t : State) (e : Fault) → whole_state bytes ≡ Some t → Tells {A = Unit {0}} (Keeps t) (Err e) → ReadsState bytes (Err e)
-not_kept bytes t faults.BadCheckpoint is told = λ s h. let same : s ≡ t = some_same s t (sym (read_again s bytes h) ∙ is) in told (subst Keeps same (spells_keeps s bytes h))
+pub not_kept : (bytes : List ℕ) (t : State) (e : Fault) → IsBytes bytes → whole_state bytes ≡ Some t → Tells {A = Unit {0}} (Keeps t) (Err e) → ReadsState bytes (Err e)
+not_kept bytes t faults.BadCheckpoint byte is told = λ s h. let same : s ≡ t = some_same s t (sym (read_again s bytes h) ∙ is) in told (subst Keeps same (spells_keeps s bytes h))
   where
     some_same : (x y : State) → Some x ≡ Some y → x ≡ y
     some_same x y e = cc
-not_kept bytes t faults.Resources is told = tt
-not_kept bytes t e is told = absurd told
+not_kept bytes t faults.Resources byte is told = spelled_by bytes t byte is
+not_kept bytes t e byte is told = absurd told
+
+-- where there is no room for what is read and keeps it all
+pub not_built : (bytes : List ℕ) (t : State) (e : Fault) → IsBytes bytes → whole_state bytes ≡ Some t → e ≡ faults.Resources → ReadsState bytes (Err e)
+not_built bytes t e byte is refused = subst (λ (f : Fault). ReadsState bytes (Err f)) (sym refused) (spelled_by bytes t byte is)
 
 -- what is read and keeps it all is spelled by the bytes
 pub is_read : (bytes : List ℕ) (t : State) → IsBytes bytes → whole_state bytes ≡ Some t → Keeps t → SpellsState One t bytes

@@ -12,6 +12,7 @@ pub mod Loop
 pub mod Measured
 pub mod MemberReaders
 pub mod Neighbours
+pub mod Passing
 pub mod Places
 pub mod Readers
 pub mod Rises

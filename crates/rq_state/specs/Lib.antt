@@ -1,4 +1,3 @@
-pub mod Gathering
 pub mod Inside
 pub mod Keeping
 pub mod Laws

@@ -3,7 +3,7 @@ use Rattle.std.specs.Prelude.{◌≡◌, ◌≤◌, ◌<◌, ⊤, ℕ, List, len
 use Rattle.std.specs.Global.{Vec}
 use Rattle.rq_model.specs.Records.{One}
 use Rattle.rq_model.specs.States.{State}
-use Rattle.rq_model.specs.StateSpelling.{state_bytes, SpellsState}
+use Rattle.rq_model.specs.StateSpelling.{state_bytes, Fits, SpellsState}
 use Rattle.rq_record.specs.declared.fault.Fault.{Fault}
 use Rattle.rq_record.specs.declared.fault.Fault.TheVariants.{Resources, TooLarge, BadCheckpoint}
 
@@ -14,9 +14,10 @@ Spelled s (Err TooLarge) = 268435455 < length (state_bytes s)
 Spelled s (Err Resources) = ⊤
 Spelled s (Err e) = ⊥
 
--- The state that the bytes spell, or that they spell none, or that memory ran out
+-- The state that the bytes spell, or that they spell none. Memory is asked for only where all bytes have the form of a state: they spell
+-- numbers and members in their widths, whether or not these are a state's
 abbrev pub ReadsState : List ℕ → Result State Fault → Type 0
 ReadsState bytes (Ok s) = SpellsState One s bytes
 ReadsState bytes (Err BadCheckpoint) = (s : State) → SpellsState One s bytes → ⊥
-ReadsState bytes (Err Resources) = ⊤
+ReadsState bytes (Err Resources) = (s : State) × Fits s × (bytes ≡ state_bytes s)
 ReadsState bytes (Err e) = ⊥

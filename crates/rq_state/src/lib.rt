@@ -3,7 +3,6 @@
 #![tactic(auto)]
 
 mod copies;
-mod gathering;
 mod hearing;
 mod keeping;
 mod laws;
@@ -17,7 +16,6 @@ mod tables;
 mod wholeness;
 mod writing;
 
-pub use gathering::gather;
 pub use laws::{any_order_makes_the_state, parts_make_the_state};
 pub use members::{Definition, Element, Last, Mark, Note, OpKind, Registrant};
 pub use reading::read;

@@ -3,10 +3,12 @@
 ghost use Rattle.rq_state.specs.Spelling.{ReadsState};
 
 mod cursor;
+mod form;
 mod lists;
 mod members;
 
 use crate::keeping::check;
+use crate::reading::form::check_form;
 use crate::reading::lists::all_fields;
 use crate::state::State;
 use rq_record::Fault;
@@ -18,6 +20,7 @@ use std::alloc::Global;
 pub fn read(alloc: Global, bytes: &[u8]) -> Result<State, Fault>
     ensures { ReadsState bytes.now result }
 {
+    check_form(bytes)?;
     let fields = all_fields(alloc, bytes)?;
     check(alloc, &fields)?;
     let state = State::of_ordered(alloc, fields)?;

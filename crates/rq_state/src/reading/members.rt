@@ -2,7 +2,7 @@
 
 ghost use Rattle.std.specs.Prelude.{◌≡◌, ◌≤◌, length, Some};
 ghost use Rattle.rq_state.specs.Views.{mark_of, kind_of, id_of, unit_of};
-ghost use Rattle.rq_state.specs.Reading.{Gives, number_from, definition_from, known_kind, kind_from, element_of, id_from, operation_from, last_of_kind, last_from, registrant_from, mark_of_kind, mark_from, payload_from, element_from, note_from};
+ghost use Rattle.rq_state.specs.Reading.{Gives, Reads, after_of, number_from, definition_from, known_kind, kind_from, element_of, id_from, operation_from, last_of_kind, last_from, registrant_from, mark_of_kind, mark_from, payload_from, element_from, note_from};
 
 use crate::members::{Definition, Element, Last, Mark, Note, OpKind, Registrant};
 use crate::reading::cursor::{piece_of, take_name, take_u8, take_u16, take_u32, take_u64};
@@ -11,7 +11,7 @@ use std::alloc::Global;
 
 #[tactic(auto, unfolding(crate::specs::Reading::definition_from))]
 pub(crate) fn take_definition(rest: &mut &[u8]) -> Result<Definition, Fault>
-    ensures { Gives (λ x. (x, rest.new.now)) result (definition_from rest.old.now) }
+    ensures { Reads (λ x. (x, rest.new.now)) result (definition_from rest.old.now) }
 {
     let limit = take_u16(rest)?;
     let error = take_u32(rest)?;
@@ -24,14 +24,14 @@ pub(crate) fn take_definition(rest: &mut &[u8]) -> Result<Definition, Fault>
 }
 
 pub(crate) fn take_unit(rest: &mut &[u8]) -> Result<UnitNo, Fault>
-    ensures { Gives (λ x. (unit_of x, rest.new.now)) result (number_from 8 rest.old.now) }
+    ensures { Reads (λ x. (unit_of x, rest.new.now)) result (number_from 8 rest.old.now) }
 {
     let unit = take_u64(rest)?;
     Ok(UnitNo(unit))
 }
 
 fn known_kind(n: u8) -> Result<OpKind, Fault>
-    ensures { Gives kind_of result (known_kind n) }
+    ensures { Reads kind_of result (known_kind n) }
 {
     match n {
         1 => Ok(OpKind::Enqueue),
@@ -48,7 +48,7 @@ fn element_of(n: u64) -> Option<ElemId>
 
 #[tactic(auto, unfolding(crate::specs::Reading::kind_from))]
 fn take_kind(rest: &mut &[u8]) -> Result<OpKind, Fault>
-    ensures { Gives (λ x. (kind_of x, rest.new.now)) result (kind_from rest.old.now) }
+    ensures { Reads (λ x. (kind_of x, rest.new.now)) result (kind_from rest.old.now) }
 {
     let n = take_u8(rest)?;
     known_kind(n)
@@ -56,7 +56,7 @@ fn take_kind(rest: &mut &[u8]) -> Result<OpKind, Fault>
 
 #[tactic(auto, unfolding(crate::specs::Reading::id_from))]
 fn take_id(rest: &mut &[u8]) -> Result<Option<ElemId>, Fault>
-    ensures { Gives (λ x. (id_of x, rest.new.now)) result (id_from rest.old.now) }
+    ensures { Reads (λ x. (id_of x, rest.new.now)) result (id_from rest.old.now) }
 {
     let n = take_u64(rest)?;
     Ok(element_of(n))
@@ -64,7 +64,7 @@ fn take_id(rest: &mut &[u8]) -> Result<Option<ElemId>, Fault>
 
 #[tactic(auto, unfolding(crate::specs::Reading::operation_from))]
 fn take_operation(kind: OpKind, rest: &mut &[u8]) -> Result<Last, Fault>
-    ensures { Gives (λ x. (x, rest.new.now)) result (operation_from (kind_of kind) rest.old.now) }
+    ensures { Reads (λ x. (x, rest.new.now)) result (operation_from (kind_of kind) rest.old.now) }
 {
     let place = take_u64(rest)?;
     let tag = take_u64(rest)?;
@@ -79,7 +79,7 @@ fn take_operation(kind: OpKind, rest: &mut &[u8]) -> Result<Last, Fault>
 
 #[tactic(auto, unfolding(crate::specs::Reading::last_of_kind))]
 fn take_last_of(n: u8, rest: &mut &[u8]) -> Result<Option<Last>, Fault>
-    ensures { Gives (λ x. (x, rest.new.now)) result (last_of_kind n rest.old.now) }
+    ensures { Reads (λ x. (x, rest.new.now)) result (last_of_kind n rest.old.now) }
 {
     if n == 0 {
         return Ok(None);
@@ -91,7 +91,7 @@ fn take_last_of(n: u8, rest: &mut &[u8]) -> Result<Option<Last>, Fault>
 
 #[tactic(auto, unfolding(crate::specs::Reading::last_from))]
 fn take_last(rest: &mut &[u8]) -> Result<Option<Last>, Fault>
-    ensures { Gives (λ x. (x, rest.new.now)) result (last_from rest.old.now) }
+    ensures { Reads (λ x. (x, rest.new.now)) result (last_from rest.old.now) }
 {
     let n = take_u8(rest)?;
     take_last_of(n, rest)
@@ -99,7 +99,7 @@ fn take_last(rest: &mut &[u8]) -> Result<Option<Last>, Fault>
 
 #[tactic(auto, unfolding(crate::specs::Reading::registrant_from))]
 pub(crate) fn take_registrant(rest: &mut &[u8]) -> Result<Registrant, Fault>
-    ensures { Gives (λ x. (x, rest.new.now)) result (registrant_from rest.old.now) }
+    ensures { Reads (λ x. (x, rest.new.now)) result (registrant_from rest.old.now) }
 {
     let queue = take_u32(rest)?;
     let name = take_name(rest)?;
@@ -113,7 +113,7 @@ pub(crate) fn take_registrant(rest: &mut &[u8]) -> Result<Registrant, Fault>
 
 #[tactic(auto, unfolding(crate::specs::Reading::mark_of_kind))]
 fn take_mark_of(n: u8, rest: &mut &[u8]) -> Result<Mark, Fault>
-    ensures { Gives (λ x. (mark_of x, rest.new.now)) result (mark_of_kind n rest.old.now) }
+    ensures { Reads (λ x. (mark_of x, rest.new.now)) result (mark_of_kind n rest.old.now) }
 {
     match n {
         0 => Ok(Mark::Free),
@@ -131,7 +131,7 @@ fn take_mark_of(n: u8, rest: &mut &[u8]) -> Result<Mark, Fault>
 
 #[tactic(auto, unfolding(crate::specs::Reading::mark_from))]
 fn take_mark(rest: &mut &[u8]) -> Result<Mark, Fault>
-    ensures { Gives (λ x. (mark_of x, rest.new.now)) result (mark_from rest.old.now) }
+    ensures { Reads (λ x. (mark_of x, rest.new.now)) result (mark_from rest.old.now) }
 {
     let n = take_u8(rest)?;
     take_mark_of(n, rest)
@@ -158,6 +158,30 @@ fn take_payload(alloc: Global, rest: &mut &[u8]) -> Result<Payload, Fault>
     kept_payload(alloc, piece)
 }
 
+#[tactic(auto, unfolding(crate::specs::Reading::payload_from))]
+fn pass_payload(rest: &mut &[u8]) -> Result<(), Fault>
+    ensures { Reads (λ x. rest.new.now) result (after_of (payload_from rest.old.now)) }
+{
+    let size = take_u16(rest)?;
+    let (_payload, after) = piece_of(size as usize, rest)?;
+    *rest = after;
+    Ok(())
+}
+
+/// Goes past an element, whose payload is not copied.
+#[tactic(auto, unfolding(crate::specs::Reading::element_from))]
+pub(crate) fn pass_element(rest: &mut &[u8]) -> Result<(), Fault>
+    ensures { Reads (λ x. rest.new.now) result (after_of (element_from rest.old.now)) }
+{
+    let _id = take_u64(rest)?;
+    let _home = take_u32(rest)?;
+    let _origin = take_u32(rest)?;
+    let _priority = take_u8(rest)?;
+    let _attempts = take_u64(rest)?;
+    let _mark = take_mark(rest)?;
+    pass_payload(rest)
+}
+
 #[tactic(auto, unfolding(crate::specs::Reading::element_from))]
 pub(crate) fn take_element(alloc: Global, rest: &mut &[u8]) -> Result<Element, Fault>
     ensures { Gives (λ x. (x, rest.new.now)) result (element_from rest.old.now) }
@@ -182,7 +206,7 @@ pub(crate) fn take_element(alloc: Global, rest: &mut &[u8]) -> Result<Element, F
 
 #[tactic(auto, unfolding(crate::specs::Reading::note_from))]
 pub(crate) fn take_note(rest: &mut &[u8]) -> Result<Note, Fault>
-    ensures { Gives (λ x. (x, rest.new.now)) result (note_from rest.old.now) }
+    ensures { Reads (λ x. (x, rest.new.now)) result (note_from rest.old.now) }
 {
     let place = take_u64(rest)?;
     let unit = take_u64(rest)?;

@@ -2,12 +2,13 @@ use Rattle.std.proofs.Common.{◌≡◌, ◌++◌, ◌∷◌, []}
 use Rattle.std.proofs.lemmas.Result.{err_from_is_err_and}
 use Rattle.rq_state.specs.Reading.{note_from, members_from}
 use Rattle.rq_state.proofs.Loop.{goes_on, ends, is_done}
+use Rattle.rq_state.proofs.Passing.{refused}
 use Rattle.rq_state.proofs.reading.lists.take_notes.Goals as goal
 
 pub returns-in_err-member : goal.returns-in_err-member
 returns-in_err-member c =
     let p = err_from_is_err_and c.from_residual.result c.from_residual.ensures.1 in
-    rw (p.1, p.2) (ends note_from c.in_err-member.field-0.0 c.loop.members.items c.args.count c.loop.counter c.loop.rest.now (members_from note_from c.args.count c.args.rest.now.now) c.loop-test.true c.in_err-member.ensures c.loop.invariant)
+    rw (p.1, p.2) (ends note_from c.in_err-member.field-0.0 c.loop.members.items c.args.count c.loop.counter c.loop.rest.now (members_from note_from c.args.count c.args.rest.now.now) c.loop-test.true (refused c.in_err-member.field-0.0 (note_from c.loop.rest.now) c.in_err-member.ensures) c.loop.invariant)
 
 pub loop-preserved : goal.loop-preserved
 loop-preserved c =
