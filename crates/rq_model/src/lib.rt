@@ -2,7 +2,7 @@
 //! on a function below that does nothing.
 #![tactic(auto)]
 
-ghost use Rattle.rq_model.specs.LogLaws.{BodySpellsOne, RecordHasOneBody, BytesSpellOneState, RunsFit, FrameIsRight, RightIsFrame, RunStops, OneRun, OneRest, OneFrameRun, RunGivesFront, FramesJoin, LogJoins, LogEnds, FrontStops, OneLongest, OneWhy, OneFront, OneRestart, OneText, OneReport, FrontHasReport, OneRestartAt, TrueIsSame, OneAudit, CrashInTheTail, UpgradeIsSame};
+ghost use Rattle.rq_model.specs.LogLaws.{BodySpellsOne, RecordHasOneBody, BytesSpellOneState, RunsFit, FrameIsRight, RightIsFrame, RunStops, OneRun, OneRest, OneFrameRun, RunGivesFront, FramesJoin, LogJoins, LogEnds, FrontStops, OneLongest, OneWhy, OneFront, OneRestart, OneText, OneReport, FrontHasReport, EveryLogHasReport, OneRestartAt, TrueIsSame, OneAudit, CrashInTheTail, UpgradeIsSame};
 ghost use Rattle.rq_model.specs.WorkedLogs.{WorkedBytes, WorkedLogs, UnlawfulLogs, WorkedCheckpoint};
 ghost use Rattle.rq_model.specs.Ready.{RedoGoesWell, GoesOn};
 ghost use Rattle.rq_model.specs.Laws.{Projection, ArrivalsAreMerged, LawfulnessLooksAt, PartsDecide, IdsDiffer, PutInAnyOrder, RunsAreWellFormed, EmptyIsWellFormed, PartsGather, MembersDecide, NumbersAfter, VersionOneIsOneDeep, VersionTwoIsWider, RedoSteps, CrashIsHarmless};
@@ -70,6 +70,11 @@ pub fn one_front()
     ensures why { OneWhy }
     ensures front { OneFront }
     ensures from_run { RunGivesFront }
+{}
+
+/// Every string of bytes with a header, and no longer than a log may be, has a report.
+pub fn every_log_has_report()
+    ensures { EveryLogHasReport }
 {}
 
 /// There is one restart, one text, one report; one restart from each checkpoint; one audit.
