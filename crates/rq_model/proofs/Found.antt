@@ -11,15 +11,20 @@ use Rattle.byteorder.specs.Numbers.{big_number-reads_back, length-bytes_high_fir
 use Rattle.sha2.specs.Sha256.{sha256}
 use Rattle.rq_model.specs.Records.{By, Record, Define, Register, Deregister, Begin, Enqueue, Dequeue, Commit, Abort, Checkpoint, Kill, Version, One, Two}
 use Rattle.rq_model.specs.Spelling.{is_name, who, IsWho, body_of, IsRecord, Spells}
-use Rattle.rq_model.specs.Frames.{log_limit, digest, frame, magic, HasHeader, AreBytes, last_of, stated, body_in, digest_in, HasRightFrame, Rest, Whole, Cut, Length, Digest, IsRest, bodies_of}
+use Rattle.rq_model.specs.Frames.{log_limit, digest, frame, magic, HasHeader, AreBytes, last_of, stated, body_in, digest_in, HasRightFrame, Rest, Whole, Cut, Length, Digest, IsRest, bodies_of, header, log_of}
 use Rattle.rq_model.specs.States.{State, empty}
 use Rattle.rq_model.specs.Machine.{is_lawful, all_lawful, step, run}
-use Rattle.rq_model.specs.Fronts.{Begins, Why, Ends, Form, Law, IsWhy, IsFront}
-use Rattle.rq_model.specs.LogLaws.{EveryLogHasReport}
+use Rattle.rq_model.specs.Fronts.{Begins, Why, Ends, Form, Law, IsWhy, IsFront, Restarted, restarted, IsRestart}
+use Rattle.rq_model.specs.LogLaws.{EveryLogHasReport, HasReport, CrashSaysTheSame}
 use Rattle.rq_model.proofs.Codes.{name_long}
 use Rattle.rq_model.proofs.Runs.{frame_at, frame_long, frames_assoc}
 use Rattle.rq_model.proofs.Longest.{front_stops}
-use Rattle.rq_model.proofs.WorkedReports.{is_who, is_record, passes, front_has_report}
+use Rattle.rq_model.proofs.WorkedReports.{is_who, is_record, passes, front_has_report, final_kept}
+use Rattle.rq_model.specs.Reports.{IsQueueText}
+use Rattle.rq_model.specs.WellFormed.{IsWellFormed}
+use Rattle.rq_model.proofs.Restarts.{header_long, crash_in_the_tail}
+use Rattle.rq_model.proofs.Kept.{runs_are_well_formed, empty_is_well_formed}
+use Rattle.rq_model.proofs.Listed.{is_text}
 
 -- The record that a body spells, if it spells one: each field is read, and not yet looked at.
 
@@ -262,3 +267,27 @@ pub every_log_has_report : EveryLogHasReport
 every_log_has_report version b fits short head =
     let f = has_front version b fits short head in
     front_has_report b version f.records f.rest f.why f.front f.ends
+
+pub front_restart : (b : List ℕ) (version : Version) (records : List Record) (rest : List ℕ) → AreBytes b → IsFront b version records rest → (r : Restarted) × IsRestart b r
+front_restart b version records rest fits front =
+    let head : HasHeader version b = ap (take 40) front.whole ∙ take_at (header version) front.bytes 40 (header_long version) in
+    let f = has_front version b fits front.short head in
+    (restarted (run empty f.records) (length f.rest) (length b) f.why, record { version = version; records = f.records; rest = f.rest; why = f.why; front = f.front; ends = f.ends; answer = refl })
+
+pub lines_report : (b : List ℕ) (r : Restarted) (queues : List ℕ) → IsRestart b r → IsQueueText r.state queues → HasReport b r queues
+lines_report b r queues restart lines = record { restart = restart; lines = lines; report = (r, restart, (queues, lines, refl)) }
+
+-- what a restart answers has queue lines
+pub restart_lines : (b : List ℕ) (r : Restarted) → IsRestart b r → (queues : List ℕ) × HasReport b r queues
+restart_lines b r restart =
+    let keeps = runs_are_well_formed restart.version empty restart.records empty_is_well_formed restart.front.longest.begins.lawful in
+    let ended : IsWellFormed r.state = subst IsWellFormed (sym (ap (λ (z : Restarted). z.state) restart.answer)) (final_kept restart.version (run empty restart.records) keeps) in
+    let (queues, lines, made) = is_text r ended in
+    (queues, lines_report b r queues restart lines)
+
+pub crash_says_the_same : CrashSaysTheSame
+crash_says_the_same b tail part missing version records rest fits front tailed parts short =
+    let (r, restart) = front_restart b version records rest fits front in
+    let (queues, told) = restart_lines b r restart in
+    let closed = crash_in_the_tail b tail part missing version records rest r front tailed parts short restart in
+    (r, closed.again, queues, told, lines_report (log_of version records ++ part) closed.again queues closed.restart ((closed.lines queues).1 told.lines))

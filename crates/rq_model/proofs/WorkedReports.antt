@@ -29,7 +29,7 @@ pub worked_bytes : WorkedBytes
 worked_bytes = record { define = refl; enqueue = refl; dequeue = refl; nothing = refl; inside = refl; count = refl }
 
 -- the state that a restart ends in is well formed
-final_kept : (version : Version) (s : State) → IsWellFormed s → IsWellFormed (final s)
+pub final_kept : (version : Version) (s : State) → IsWellFormed s → IsWellFormed (final s)
 final_kept version s h =
     let all : take (length (aborts s)) (aborts s) ≡ aborts s = take_all (length (aborts s)) (aborts s) (omega arith) in
     runs_are_well_formed version s (aborts s) h (subst (λ (rs : List Record). all_lawful version s rs ≡ true) all (crash_is_harmless version s (length (aborts s)) h).0)
