@@ -23,6 +23,7 @@ pub mod Texts
 pub mod Widths
 pub mod StateCodes
 pub mod Restarts
+pub mod Found
 pub mod Upgraded
 pub mod Listed
 pub mod Rising

@@ -18,7 +18,7 @@ use Rattle.rq_model.specs.Reports.{IsReport}
 use Rattle.rq_model.specs.Checkpoints.{TrueAt}
 use Rattle.rq_model.specs.WorkedLogs.{text_made, ann, jobs, unlawful_log, UnlawfulLogs, one_element_log, best_first_log, second_abort_log, arrival_log, return_and_arrival_log, own_fresh_log, place_not_commit_log, deregister_log, before_the_checkpoint, checkpoint_log, checkpoint_cut_log, error_of_error_log, kill_log, WorkedLogs, WorkedBytes, WorkedCheckpoint}
 use Rattle.rq_model.proofs.Runs.{frame_long, frame_reads, right_at}
-use Rattle.rq_model.proofs.Bodies.{body_fits, one_record}
+use Rattle.rq_model.proofs.Bodies.{body_fits}
 use Rattle.rq_model.proofs.Longest.{front_stops, frames_of_join}
 use Rattle.rq_model.proofs.Restarts.{each_cut, header_long, true_is_same}
 use Rattle.rq_model.proofs.Kept.{runs_are_well_formed, empty_is_well_formed}
@@ -29,7 +29,7 @@ pub worked_bytes : WorkedBytes
 worked_bytes = record { define = refl; enqueue = refl; dequeue = refl; nothing = refl; inside = refl; count = refl }
 
 -- the state that a restart ends in is well formed
-final_kept : (version : Version) (s : State) → IsWellFormed s → IsWellFormed (final s)
+pub final_kept : (version : Version) (s : State) → IsWellFormed s → IsWellFormed (final s)
 final_kept version s h =
     let all : take (length (aborts s)) (aborts s) ≡ aborts s = take_all (length (aborts s)) (aborts s) (omega arith) in
     runs_are_well_formed version s (aborts s) h (subst (λ (rs : List Record). all_lawful version s rs ≡ true) all (crash_is_harmless version s (length (aborts s)) h).0)
@@ -66,11 +66,11 @@ whole_front version rs are lawful short =
     }
 
 -- a test for records
-is_who : Option By → Bool
+unfoldable pub is_who : Option By → Bool
 is_who None = true
 is_who (Some by) = is_name by.name && nat_lt by.tag (2 ^ 64)
 
-is_record : Version → Record → Bool
+unfoldable pub is_record : Version → Record → Bool
 is_record version (Define limit error name) = nat_lt limit (2 ^ 16) && (nat_lt error (2 ^ 32) && is_name name)
 is_record version (Register queue name) = nat_lt queue (2 ^ 32) && is_name name
 is_record version (Deregister queue name) = nat_lt queue (2 ^ 32) && is_name name
@@ -88,7 +88,7 @@ unfolding is_who
 who_passes None h = tt
 who_passes (Some by) h = let both = and_parts (is_name by.name) (nat_lt by.tag (2 ^ 64)) h in (both.0, ltb-true by.tag (2 ^ 64) both.1)
 
-passes : (version : Version) (r : Record) → is_record version r ≡ true → IsRecord version r
+pub passes : (version : Version) (r : Record) → is_record version r ≡ true → IsRecord version r
 unfolding is_record
 passes version (Define limit error name) h =
     let a = and_parts (nat_lt limit (2 ^ 16)) (nat_lt error (2 ^ 32) && is_name name) h in
@@ -160,7 +160,7 @@ unlawful_says version rs r after text are lawful not_lawful short made =
     let more = frames_of (digest p (body_of r)) after in
     let fit = body_fits version r all.1.0 in
     let body_is : body_in rest ≡ body_of r = (frame_reads p (body_of r) more fit).body_is in
-    let ends : IsWhy version (run empty rs) p rest Law = (right_at p (body_of r) more fit, (λ o spelled its. no_true (sym its ∙ ap (is_lawful version (run empty rs)) (one_record version o r (body_in rest) spelled (all.1.0, body_is)) ∙ not_lawful)), r, (all.1.0, body_is)) in
+    let ends : IsWhy version (run empty rs) p rest Law = (right_at p (body_of r) more fit, r, (all.1.0, body_is), not_lawful) in
     let front : IsFront b version rs rest = record {
       short = omega (arith, log_size version (rs ++ r ∷ after), leb-true (40 + size (rs ++ r ∷ after)) log_limit short);
       bytes = bytes;
@@ -169,9 +169,6 @@ unlawful_says version rs r after text are lawful not_lawful short made =
     } in
     let made_of : text_made (restarted (run empty rs) (length rest) (length b) Law) ≡ text = (λ i. text_made (restarted (run empty rs) (frames_size p (r ∷ after) i) (log_size version (rs ++ r ∷ after) i) Law)) ∙ made in
     subst (IsReport b) made_of (front_says b version rs rest Law front ends)
-  where
-    no_true : true ≡ false → ⊥
-    no_true e = cc
 
 pub unlawful_logs : UnlawfulLogs
 unfolding size is_who is_record digits

@@ -2,7 +2,7 @@
 //! on a function below that does nothing.
 #![tactic(auto)]
 
-ghost use Rattle.rq_model.specs.LogLaws.{BodySpellsOne, RecordHasOneBody, BytesSpellOneState, RunsFit, FrameIsRight, RightIsFrame, RunStops, OneRun, OneRest, OneFrameRun, RunGivesFront, FramesJoin, LogJoins, LogEnds, FrontStops, OneLongest, OneWhy, OneFront, OneRestart, OneText, OneReport, FrontHasReport, OneRestartAt, TrueIsSame, OneAudit, CrashInTheTail, UpgradeIsSame};
+ghost use Rattle.rq_model.specs.LogLaws.{BodySpellsOne, RecordHasOneBody, BytesSpellOneState, RunsFit, FrameIsRight, RightIsFrame, RunStops, OneRun, OneRest, OneFrameRun, RunGivesFront, FramesJoin, LogJoins, LogEnds, FrontStops, OneLongest, OneWhy, OneFront, OneRestart, OneText, OneReport, FrontHasReport, EveryLogHasReport, OneVersion, RecordIsWider, UsedIsFront, FrontsAreSpelt, OneRestartAt, TrueIsSame, TrueSaysTheSame, OneAudit, CrashInTheTail, CrashSaysTheSame, UpgradeIsSame};
 ghost use Rattle.rq_model.specs.WorkedLogs.{WorkedBytes, WorkedLogs, UnlawfulLogs, WorkedCheckpoint};
 ghost use Rattle.rq_model.specs.Ready.{RedoGoesWell, GoesOn};
 ghost use Rattle.rq_model.specs.Laws.{Projection, ArrivalsAreMerged, LawfulnessLooksAt, PartsDecide, IdsDiffer, PutInAnyOrder, RunsAreWellFormed, EmptyIsWellFormed, PartsGather, MembersDecide, NumbersAfter, VersionOneIsOneDeep, VersionTwoIsWider, RedoSteps, CrashIsHarmless};
@@ -52,8 +52,10 @@ pub fn runs_fit()
     ensures { RunsFit }
 {}
 
-/// Version 1 makes no chains of error queues, and version 2 takes all that version 1 takes.
+/// Bytes have one version's header; version 1 makes no chains of error queues, and version 2 takes all that version 1 takes.
 pub fn versions()
+    ensures header { OneVersion }
+    ensures wider { RecordIsWider }
     ensures one { VersionOneIsOneDeep }
     ensures two { VersionTwoIsWider }
 {}
@@ -72,6 +74,11 @@ pub fn one_front()
     ensures from_run { RunGivesFront }
 {}
 
+/// Every string of bytes with a header, and no longer than a log may be, has a report.
+pub fn every_log_has_report()
+    ensures { EveryLogHasReport }
+{}
+
 /// There is one restart, one text, one report; one restart from each checkpoint; one audit.
 pub fn one_report()
     ensures restart { OneRestart }
@@ -82,9 +89,20 @@ pub fn one_report()
     ensures audit { OneAudit }
 {}
 
-/// From a true checkpoint the restart is the same.
+/// The first `used` bytes of a log are its front's, and the rest stands behind them.
+pub fn used_is_the_front()
+    ensures { UsedIsFront }
+{}
+
+/// The state after each beginning of a front is well formed and has a spelling, also by its first point.
+pub fn fronts_are_spelt()
+    ensures { FrontsAreSpelt }
+{}
+
+/// From a true checkpoint the restart is the same, and a text is the report from there exactly where it is the report.
 pub fn true_checkpoints_say_the_same()
-    ensures { TrueIsSame }
+    ensures restart { TrueIsSame }
+    ensures report { TrueSaysTheSame }
 {}
 
 /// Whatever beginning of the final aborts stands in the log, the final state is the same.
@@ -92,9 +110,10 @@ pub fn crash_is_harmless()
     ensures { CrashIsHarmless }
 {}
 
-/// Whatever beginning of the tail stands behind the front, the state after restart is the same.
+/// Whatever beginning of the tail stands behind the front, there is a restart, its state is the same, and so are the queue lines.
 pub fn crash_in_the_tail()
-    ensures { CrashInTheTail }
+    ensures state { CrashInTheTail }
+    ensures report { CrashSaysTheSame }
 {}
 
 /// A log in version 2 has the front, the restart and the audit of the log it was made of.
