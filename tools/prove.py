@@ -1,0 +1,181 @@
+#!/usr/bin/env python3
+"""Proves the libraries that a program stands on, those that do not stand on one another side by side.
+
+usage: prove.py PROGRAM LOG
+Run at the top of the clone. Tells on standard error how far it is; what rt says goes to the file LOG.
+
+rt lets one run work in a crate and in all crates below it. So each crate is proved in a folder of its own, in which the
+crates below it stand with what was built of them. Its work comes back to its own folder when it has ended.
+"""
+from __future__ import annotations
+import os, shutil, subprocess, sys, time
+
+# What a check takes for each job, in KiB, as far as was seen.
+MEMORY = 2_000_000
+BUILD = os.path.join("crates", "rq", "out", "build")
+
+
+def listed() -> dict[str, list[str]]:
+    """The crates of this repository, each with those of them that it names."""
+    found = {}
+    with open("crates.txt", encoding="utf-8") as lines:
+        for line in lines:
+            head, colon, names = line.partition("#")[0].partition(":")
+            if colon:
+                found[head.split()[0]] = names.split()
+    return {name: [it for it in names if it in found] for name, names in found.items()}
+
+
+def below(crates: dict[str, list[str]], name: str) -> list[str]:
+    """All crates that the crate stands on, each behind those that it stands on."""
+    found: list[str] = []
+    for it in crates[name]:
+        found += [lower for lower in [*below(crates, it), it] if lower not in found]
+    return found
+
+
+def lines_of(name: str) -> int:
+    """The lines of a crate's code, definitions and proofs: more lines take longer."""
+    count = 0
+    for at, folders, files in os.walk(os.path.join("crates", name)):
+        folders[:] = [it for it in folders if it != "out"]
+        for file in files:
+            if file.endswith((".rt", ".antt")):
+                with open(os.path.join(at, file), "rb") as text:
+                    count += sum(1 for _ in text)
+    return count
+
+
+def processors() -> int:
+    """The jobs that the processors and the free memory hold."""
+    free = next(int(line.split()[1]) for line in open("/proc/meminfo", encoding="utf-8") if line.startswith("MemAvailable"))
+    return max(1, min(len(os.sched_getaffinity(0)), free // MEMORY))
+
+
+def linked(file: str, to: str):
+    """A second name for the file, or a copy where the file system has none."""
+    try:
+        os.link(file, to)
+    except OSError:
+        shutil.copy2(file, to)
+
+
+class Proof:
+    """The run of rt on one crate."""
+
+    def __init__(self, crates: dict[str, list[str]], name: str, jobs: int):
+        self.name, self.jobs = name, jobs
+        self.kept = os.path.join("crates", name, "out")
+        self.place = os.path.join(BUILD, name)
+        self.said = os.path.join(BUILD, name + ".log")
+        shutil.rmtree(self.place, ignore_errors=True)
+        os.makedirs(os.path.join(self.place, "crates"))
+        shutil.copy("crates.txt", self.place)
+        for lower in below(crates, name):
+            self.copy_crate(lower)
+            shutil.copytree(os.path.join("crates", lower, "out", "rlib"), self.inside(lower, "out", "rlib"), copy_function=linked)
+        self.copy_crate(name)
+        if os.path.isdir(self.kept):
+            os.rename(self.kept, self.inside(name, "out"))
+        with open(self.said, "wb") as out:
+            self.run = subprocess.Popen(["rt", "lib", "--jobs", str(jobs)], cwd=self.inside(name), stdin=subprocess.DEVNULL, stdout=out, stderr=out)
+
+    def inside(self, *names: str) -> str:
+        return os.path.join(self.place, "crates", *names)
+
+    def copy_crate(self, name: str):
+        shutil.copytree(os.path.join("crates", name), self.inside(name), ignore=shutil.ignore_patterns("out", "must-fail"))
+
+    def put_back(self, log: str):
+        """What was made goes back to the crate's folder, what was said to the log."""
+        with open(log, "ab") as to, open(self.said, "rb") as said:
+            to.write(f"== {self.name}\n".encode())
+            shutil.copyfileobj(said, to)
+        if os.path.isdir(self.inside(self.name, "out")):
+            os.rename(self.inside(self.name, "out"), self.kept)
+        shutil.rmtree(self.place, ignore_errors=True)
+
+
+class Telling:
+    """How far the proofs are, on standard error: one line that changes on a terminal, else a line for each crate."""
+
+    def __init__(self, names: list[str]):
+        self.begun, self.names = time.monotonic(), names
+        self.lines = {name: lines_of(name) for name in names}
+        self.is_terminal = sys.stderr.isatty()
+
+    def left(self, done: set[str]) -> str:
+        seen, all_lines = sum(self.lines[it] for it in done), sum(self.lines.values())
+        if not seen:
+            return ""
+        minutes = (time.monotonic() - self.begun) * (all_lines - seen) / seen / 60
+        return f", about {minutes:.0f} min more" if minutes >= 1 else ", less than a minute more"
+
+    def tell(self, done: set[str], now: list[str], ended: str = ""):
+        seconds = int(time.monotonic() - self.begun)
+        words = f"{len(done)} of {len(self.names)} crates proved, {seconds} s{self.left(done)}"
+        if self.is_terminal:
+            sys.stderr.write(f"\r\033[Krq: {words}; now {', '.join(now)}")
+        elif ended:
+            sys.stderr.write(f"rq: {ended}: {words}\n")
+        sys.stderr.flush()
+
+    def end(self):
+        if self.is_terminal:
+            sys.stderr.write("\r\033[K")
+
+
+def next_proofs(crates, waiting: list[str], done: set[str], running: list[Proof], cores: int) -> list[Proof]:
+    """Begins the crates of which all lower ones are proved, those first that most others stand on, and shares the free cores among them."""
+    above = {name: sum(name in below(crates, it) for it in crates) for name in waiting}
+    ready = sorted((it for it in waiting if done.issuperset(below(crates, it))), key=lambda it: -above[it])
+    begun = []
+    for at, name in enumerate(ready):
+        free = cores - sum(it.jobs for it in [*running, *begun])
+        if free > 0:
+            begun.append(Proof(crates, name, -(-free // (len(ready) - at))))
+            waiting.remove(name)
+    return begun
+
+
+def prove(crates: dict[str, list[str]], names: list[str], log: str) -> bool:
+    """Whether all of the crates were proved."""
+    cores, waiting, running, done, fine = processors(), [*names], [], set(), True
+    telling = Telling(names)
+    try:
+        while running or (fine and waiting):
+            if fine:
+                running += next_proofs(crates, waiting, done, running, cores)
+            time.sleep(0.5)
+            for proof in [it for it in running if it.run.poll() is not None]:
+                running.remove(proof)
+                proof.put_back(log)
+                if proof.run.returncode == 0:
+                    done.add(proof.name)
+                    telling.tell(done, [it.name for it in running], f"{proof.name} proved")
+                else:
+                    fine = False
+            telling.tell(done, [it.name for it in running])
+    finally:
+        for proof in running:
+            proof.run.terminate()
+            proof.run.wait()
+            proof.put_back(log)
+        telling.end()
+    return fine
+
+
+def main() -> int:
+    program, log = sys.argv[1:]
+    crates = listed()
+    os.makedirs(BUILD, exist_ok=True)
+    try:
+        return 0 if prove(crates, below(crates, program), log) else 1
+    except KeyboardInterrupt:
+        return 130
+    finally:
+        shutil.rmtree(BUILD, ignore_errors=True)
+
+
+if __name__ == "__main__":
+    sys.exit(main())
