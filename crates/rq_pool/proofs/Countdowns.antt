@@ -6,6 +6,7 @@ pub mod Counts
 pub mod Gathers
 pub mod Arrives
 pub mod Histories
+pub mod Settled
 pub mod Settling
 pub mod Lasts
 pub mod Joins

@@ -1,7 +1,7 @@
-pub mod Phases
-pub mod Rule
 pub mod History
 pub mod Arrivals
-pub mod Passes
-pub mod Settled
 pub mod Words
+pub mod Closings
+pub mod Phases
+pub mod Rule
+pub mod Views

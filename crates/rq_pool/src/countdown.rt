@@ -82,7 +82,7 @@ impl<T: Fits> Countdown<T> {
 
 impl<T: Fits> Countdown<T> {
     ghost use Rattle.rq_pool.specs.Countdowns.Words.{IsPassOf, key_of, sources_of, history_of};
-    ghost use Rattle.rq_pool.specs.Countdowns.Passes.{Answered};
+    ghost use Rattle.rq_pool.specs.Countdowns.History.{Answered};
     ghost use Rattle.rq_pool.specs.Countdowns.History.{entry};
 
     /// The arrival of a source with its outbox, answered as `Arrival` tells. It takes no memory and waits
@@ -115,6 +115,7 @@ impl<T: Fits> Countdown<T> {
 
 impl<T: Fits> Countdown<T> {
     ghost use Rattle.rq_pool.specs.Countdowns.Words.{IsPassOf, sources_of, passes_of, history_in, TellsLast};
+    ghost use Rattle.rq_pool.specs.Countdowns.Closings.{arrived_of, last_of, home_of};
     ghost use Rattle.rq_pool.specs.Countdowns.Arrivals.{Settled};
 
     /// What the arrivals came to. The passes are those of this countdown, all of them, in any order. It
@@ -122,8 +123,8 @@ impl<T: Fits> Countdown<T> {
     pub fn close(self, passes: Vec<Pass<T>>) -> Closing<T>
         requires own { All (IsPassOf self) passes.items }
         requires all { length passes.items ≡ passes_of self }
-        ensures settled { Settled (sources_of self) (history_in passes.items) result.arrived result.home.items }
-        ensures last { TellsLast passes.items result.last }
+        ensures settled { Settled (sources_of self) (history_in passes.items) (arrived_of result) (home_of result) }
+        ensures last { TellsLast passes.items (last_of result) }
     {
         let last = find_last(&passes);
         let Countdown {
@@ -133,7 +134,8 @@ impl<T: Fits> Countdown<T> {
         } = self;
         let seat = join_all(&table.shared, passes);
         let closed = table.close_with(seat);
-        let arrived = u64::from(sources) - closed.word(0);
+        let waiting = closed.word(0) as u32;
+        let arrived = sources - waiting;
         match last {
             None => empty(closed, sources, &mut home),
             Some(_) => discard(closed, sources),

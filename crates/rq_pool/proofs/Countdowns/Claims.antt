@@ -1,17 +1,14 @@
 -- The swap on a source's flag keeps the rule.
-use Rattle.std.proofs.Common.{◌≡◌, ◌≢◌, ◌⊎◌, ℕ, zero, suc, ◌+◌, ◌-◌, ◌<◌, ◌≤◌, eqb, eq-eqb, ne_eqb, Bool, true, false, List, [], ◌∷◌, ◌++◌, map, length, get_or, set, sym, refl, ap, ◌∙◌, subst, ⊎_elim, inl, inr, arith, Option, Some, None}
+use Rattle.std.proofs.Common.{◌≡◌, ◌≢◌, ◌⊎◌, ℕ, zero, suc, ◌-◌, ◌<◌, eq-eqb, ne_eqb, List, [], ◌∷◌, ◌++◌, map, length, get_or, set, sym, refl, ap, ◌∙◌, subst, ⊎_elim, inl, inr, arith, Option, Some, None}
 use mathlib.Core.Option.{some, none, some-injective, some-ne-none}
-use mathlib.Core.Logic.{dite}
-use native.Mathlib.Decide.{ℕ_discrete}
 use lib.ListN.{get_elem?}
 use lib.Seq.{map-set}
-use Rattle.atomic_table.specs.Table.{State, Me, step, Act, keeps, takes, gives, chain, stepped, Valid, Allows, carried_after}
-use Rattle.atomic_table.proofs.Lists.{at_set, at_snoc, set_here, set_else, set_again, at_map}
-use Rattle.rq_pool.specs.declared.countdown.view.Made.{Made}
+use Rattle.atomic_table.specs.Table.{State, Me, step, Act, keeps, takes, stepped, Valid, Allows, carried_after}
+use Rattle.atomic_table.proofs.Lists.{at_set, at_snoc, at_map}
 use Rattle.rq_pool.specs.declared.countdown.view.View.{View}
 use Rattle.rq_pool.specs.declared.countdown.view.Terms.{Terms}
-use Rattle.rq_pool.specs.Countdowns.Phases.{total, Phase, clear, away, home, gone, back, flag, waits, is_away, is_done, is_shut, outbox_of, place, count}
-use Rattle.rq_pool.specs.Countdowns.Rule.{one_if, here, parts, stands_at, made_for, lasts, view, HasMade, HasLast, SomeView, AtSource, IsSet, Knows, IsOpen, IsShut, Held, claimed}
+use Rattle.rq_pool.specs.Countdowns.Phases.{Phase, clear, away, home, gone, back, flag, waits, is_shut, place, count}
+use Rattle.rq_pool.specs.Countdowns.Rule.{one_if, here, parts, stands_at, made_for, lasts, view, HasLast, AtSource, IsSet, IsOpen, IsShut, Held, claimed}
 use Rattle.rq_pool.proofs.Countdowns.Totals.{total_set, at_most, inside, there, map_long, get_map, set_get}
 use Rattle.rq_pool.proofs.Countdowns.Views.{some_set, same_total, source_else, set_still, passes_set}
 

@@ -1,10 +1,9 @@
 -- The histories of several passes, taken from the end.
 use Rattle.std.proofs.Common.{◌≡◌, ℕ, zero, suc, ◌+◌, ◌<◌, List, [], ◌∷◌, ◌++◌, map, length, length-append, get_or, sym, refl, ap, ◌∙◌, subst, arith, append_assoc, All}
-use Rattle.rq_pool.specs.declared.countdown.view.Made.{Made}
 use Rattle.rq_pool.specs.declared.countdown.view.View.{View}
 use Rattle.rq_pool.specs.Countdowns.Phases.{total}
 use Rattle.rq_pool.specs.Countdowns.Rule.{parts}
-use Rattle.rq_pool.specs.Countdowns.Passes.{all_made, all_refused}
+use Rattle.rq_pool.specs.Countdowns.Views.{all_made, all_refused}
 use Rattle.rq_pool.proofs.Countdowns.Takes.{append_none}
 
 module _ {A : Type 0} where

@@ -1,22 +1,22 @@
 -- The fetch_sub on the count keeps the rule.
-use Rattle.std.proofs.Common.{◌≡◌, ◌≢◌, ◌⊎◌, ℕ, zero, suc, ◌+◌, ◌-◌, ◌%◌, ◌^◌, ◌<◌, ◌≤◌, eqb, eq-eqb, ne_eqb, Bool, true, false, List, [], ◌∷◌, ◌++◌, map, length, get_or, set, sym, refl, ap, ◌∙◌, subst, ⊎_elim, inl, inr, arith, Option, Some, None, length-set}
+use Rattle.std.proofs.Common.{◌≡◌, ◌≢◌, ℕ, zero, suc, ◌+◌, ◌-◌, ◌%◌, ◌^◌, ◌<◌, eqb, eq-eqb, ne_eqb, List, [], ◌∷◌, map, length, get_or, set, sym, refl, ap, ◌∙◌, subst, ⊎_elim, inl, inr, arith, Option, Some, None, length-set}
 use mathlib.Core.Option.{some, none, some-injective, some-ne-none}
 use mathlib.Core.Option as maybe
 use mathlib.Core.Logic.{dite}
 use native.Mathlib.Decide.{ℕ_discrete}
 use lib.ListN.{get_elem?}
 use lib.Seq.{map-set}
-use Rattle.atomic_table.specs.Table.{State, Me, step, Act, keeps, takes, gives, chain, stepped, Valid, Allows, carried_after, homes_after, rest}
-use Rattle.atomic_table.proofs.Lists.{at_set, set_here, set_else, at_map, at_longer, at_last}
-use Rattle.rq_pool.specs.declared.countdown.view.Made.{Made}
+use Rattle.atomic_table.specs.Table.{State, Me, step, Act, gives, chain, stepped, Valid, Allows, carried_after, homes_after, rest}
+use Rattle.atomic_table.proofs.Lists.{at_set, set_here, at_map, at_longer, at_last}
 use Rattle.rq_pool.specs.declared.countdown.view.View.{View}
 use Rattle.rq_pool.specs.declared.countdown.view.Terms.{Terms}
-use Rattle.rq_pool.specs.Countdowns.Phases.{total, Phase, clear, away, home, gone, back, flag, waits, is_away, is_done, is_shut, outbox_of, place, count, numbered}
-use Rattle.rq_pool.specs.Countdowns.Rule.{one_if, here, told_of, parts, stands_at, names, made_for, told, lasts, view, made_of, after, HasMade, HasLast, SomeView, AtSource, IsSet, Knows, IsOpen, IsShut, Held, counted, Fit}
+use Rattle.rq_pool.specs.Countdowns.Phases.{total, Phase, clear, away, home, gone, back, flag, waits, is_away, is_shut, place, count, numbered}
+use Rattle.rq_pool.specs.Countdowns.Rule.{one_if, here, told_of, parts, stands_at, names, made_for, told, lasts, made_of, after, HasMade, SomeView, AtSource, IsSet, Knows, IsOpen, Held, counted}
+use Rattle.rq_pool.specs.Countdowns.History.{Fit}
 use Rattle.rq_pool.proofs.Countdowns.Totals.{total_set, total_append, at_most, inside, there, map_long, get_map, set_get}
-use Rattle.rq_pool.proofs.Countdowns.Views.{some_set, same_total, source_else, set_still, passes_set}
+use Rattle.rq_pool.proofs.Countdowns.Views.{same_total, source_else, set_still, passes_set}
 use Rattle.rq_pool.proofs.Countdowns.Claims.{still_open}
-use Rattle.rq_pool.proofs.Countdowns.Takes.{take_all, out_from, taking, all_out, append_none}
+use Rattle.rq_pool.proofs.Countdowns.Takes.{take_all, taking, all_out, append_none}
 
 abbrev key_or : {K : Type 0} → K → Option K → K
 key_or d None = d

@@ -1,16 +1,16 @@
 -- What a closed table and the joined history say.
-use Rattle.std.proofs.Common.{◌≡◌, ◌≢◌, ℕ, zero, suc, ◌+◌, ◌-◌, ◌<◌, ◌≤◌, List, [], ◌∷◌, ◌++◌, map, length, get_or, take, sym, refl, ap, ◌∙◌, subst, arith, Option, Some, None, option_to_list, All, append_assoc, length-append}
+use Rattle.std.proofs.Common.{◌≡◌, ℕ, zero, suc, ◌+◌, ◌-◌, ◌<◌, ◌≤◌, List, [], ◌∷◌, ◌++◌, map, length, get_or, take, sym, refl, ap, ◌∙◌, subst, arith, Option, Some, None, option_to_list, All, length-append}
 use mathlib.Core.Option.{some, some-injective, some-ne-none}
 use lib.ListN.{get_elem?}
 use Rattle.atomic_table.specs.Table.{State, Final, Seen}
 use Rattle.rq_pool.specs.declared.countdown.view.Made.{Made}
 use Rattle.rq_pool.specs.declared.countdown.view.View.{View}
 use Rattle.rq_pool.specs.declared.countdown.view.Terms.{Terms}
-use Rattle.rq_pool.specs.Countdowns.Phases.{total, Phase, clear, away, home, gone, back, flag, place, count}
+use Rattle.rq_pool.specs.Countdowns.Phases.{total, Phase, clear, away, home, gone, back, place, count}
 use Rattle.rq_pool.specs.Countdowns.Rule.{told, lasts, Held}
-use Rattle.rq_pool.specs.Countdowns.Passes.{all_made, all_refused}
-use Rattle.rq_pool.specs.Countdowns.Settled.{add_some, somes, SettledViews}
-use Rattle.rq_pool.proofs.Countdowns.Takes.{append_none}
+use Rattle.rq_pool.specs.Countdowns.Views.{all_made}
+use Rattle.rq_pool.specs.Countdowns.Phases.{add_some, somes}
+use Rattle.rq_pool.proofs.Countdowns.Settled.{SettledViews}
 use Rattle.rq_pool.proofs.Countdowns.Totals.{map_long, total_append}
 use Rattle.rq_pool.proofs.Countdowns.Settles.{settles_open, settles_shut}
 

@@ -1,5 +1,5 @@
 -- The slots of the last, while it empties one after the other.
-use Rattle.std.proofs.Common.{◌≡◌, ℕ, zero, suc, ◌+◌, ◌<◌, ◌≤◌, List, [], ◌∷◌, ◌++◌, map, length, drop, take, replicate, sym, refl, ap, ◌∙◌, subst, arith, Option, Some, None, append_assoc}
+use Rattle.std.proofs.Common.{◌≡◌, ℕ, zero, suc, ◌+◌, ◌<◌, List, [], ◌∷◌, ◌++◌, map, length, drop, take, replicate, sym, refl, ap, ◌∙◌, subst, arith, Option, Some, None, append_assoc}
 use Rattle.atomic_table.specs.Table.{rest}
 use Rattle.rq_pool.specs.Countdowns.Phases.{numbered, contents}
 use Rattle.rq_pool.proofs.Countdowns.Takes.{append_none}

@@ -1,11 +1,12 @@
 -- What one more arrival adds to a history, and the histories of several passes.
-use Rattle.std.proofs.Common.{◌≡◌, ℕ, List, [], ◌∷◌, ◌++◌, map, sym, refl, ap, ap₂, ◌∙◌, append_assoc}
+use Rattle.std.proofs.Common.{◌≡◌, ℕ, List, [], ◌∷◌, ◌++◌, map, sym, refl, ap, ◌∙◌, append_assoc}
 use Rattle.rq_pool.specs.declared.countdown.view.Made.{Made}
 use Rattle.rq_pool.specs.declared.countdown.view.View.{View}
 use Rattle.rq_pool.specs.declared.countdown.arrival.Entry.{Entry}
 use Rattle.rq_pool.specs.declared.countdown.arrival.Arrival.{Arrival}
-use Rattle.rq_pool.specs.Countdowns.History.{flat_map, if_twice, entry, made_by, back_by, made_in, refused_in, refused_outboxes, back_in}
-use Rattle.rq_pool.specs.Countdowns.Passes.{all_made, all_refused}
+use Rattle.rq_pool.specs.Countdowns.History.{flat_map, if_twice, entry, back_by, refused_outboxes, back_in}
+use Rattle.rq_pool.specs.Countdowns.Views.{made_by, made_in, refused_in}
+use Rattle.rq_pool.specs.Countdowns.Views.{all_made, all_refused}
 use Rattle.rq_pool.proofs.Countdowns.Takes.{append_none}
 
 module _ {A B : Type 0} (f : A → List B) where

@@ -1,16 +1,16 @@
 -- A view is cut in two, and two views are made one.
-use Rattle.std.proofs.Common.{◌≡◌, ◌≢◌, ◌⊎◌, ℕ, zero, suc, ◌+◌, ◌-◌, ◌<◌, ◌≤◌, List, [], ◌∷◌, ◌++◌, map, length, set, sym, refl, ap, ◌∙◌, subst, ⊎_elim, inl, inr, arith, Option, Some, None}
+use Rattle.std.proofs.Common.{◌≡◌, ◌≢◌, ◌⊎◌, ℕ, zero, suc, ◌+◌, ◌<◌, List, [], ◌∷◌, ◌++◌, set, sym, refl, ap, ◌∙◌, subst, ⊎_elim, inl, inr, arith, Option, None}
 use mathlib.Core.Option.{some, some-injective, some-ne-none}
 use mathlib.Core.Logic.{dite}
 use native.Mathlib.Decide.{ℕ_discrete}
 use lib.ListN.{get_elem?}
 use Rattle.atomic_table.specs.Table.{State, Splits, Joins}
-use Rattle.atomic_table.proofs.Lists.{at_set, at_snoc, set_here, set_else, at_longer, at_last}
+use Rattle.atomic_table.proofs.Lists.{at_set, at_snoc, set_here, set_else, at_longer}
 use Rattle.rq_pool.specs.declared.countdown.view.Made.{Made}
 use Rattle.rq_pool.specs.declared.countdown.view.View.{View}
 use Rattle.rq_pool.specs.declared.countdown.view.Terms.{Terms}
-use Rattle.rq_pool.specs.Countdowns.Phases.{total, Phase, outbox_of}
-use Rattle.rq_pool.specs.Countdowns.Rule.{here, parts, stands_at, names, made_for, told, lasts, view, HasMade, HasLast, SomeView, AtSource, IsSet, Knows, IsOpen, IsShut, Held, left_of, right_of, both_of, spent_view}
+use Rattle.rq_pool.specs.Countdowns.Phases.{total, Phase}
+use Rattle.rq_pool.specs.Countdowns.Rule.{here, parts, stands_at, names, made_for, told, lasts, HasMade, HasLast, SomeView, Knows, IsOpen, IsShut, Held, left_of, right_of, both_of, spent_view}
 use Rattle.rq_pool.proofs.Countdowns.Totals.{total_set, total_append, inside}
 use Rattle.rq_pool.proofs.Countdowns.Views.{some_set}
 

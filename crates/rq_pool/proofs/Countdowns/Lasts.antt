@@ -1,5 +1,5 @@
 -- From what the views have of the arrivals answered Last to what the histories have.
-use Rattle.std.proofs.Common.{◌≡◌, ℕ, ◌<◌, ◌+◌, List, [], ◌∷◌, ◌++◌, All, length, length-append, Option, Some, None, slice_index_or, sym, refl, ap, ◌∙◌, subst, arith}
+use Rattle.std.proofs.Common.{◌≡◌, ℕ, ◌<◌, List, [], ◌∷◌, All, length, length-append, Option, Some, None, slice_index_or, sym, refl, ap, ◌∙◌, arith}
 use Rattle.std.specs.Option.{ForSome, ForNone}
 use Rattle.rq_pool.specs.declared.countdown.fits.Fits.{Ghosts}
 use Rattle.rq_pool.specs.declared.countdown.arrival.Entry.{Entry}
@@ -8,7 +8,7 @@ use Rattle.rq_pool.specs.declared.countdown.arrival.Arrival.TheVariants.{Twice, 
 use Rattle.rq_pool.specs.declared.countdown.pass.Pass.{Pass}
 use Rattle.rq_pool.specs.Countdowns.Phases.{total}
 use Rattle.rq_pool.specs.Countdowns.Rule.{told, lasts}
-use Rattle.rq_pool.specs.Countdowns.History.{made_by, made_in}
+use Rattle.rq_pool.specs.Countdowns.Views.{made_by, made_in}
 use Rattle.rq_pool.specs.Countdowns.Arrivals.{if_last, last_lists}
 use Rattle.rq_pool.specs.Countdowns.Words.{TellsLast}
 use Rattle.rq_pool.proofs.Countdowns.Totals.{total_append}

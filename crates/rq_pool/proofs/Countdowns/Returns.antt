@@ -1,5 +1,5 @@
 -- The last gives all slots back, empty.
-use Rattle.std.proofs.Common.{◌≡◌, ◌≢◌, ◌⊎◌, ℕ, zero, suc, ◌+◌, ◌<◌, ◌≤◌, List, [], ◌∷◌, map, length, get_or, set, replicate, sym, refl, ap, ◌∙◌, subst, ⊎_elim, inl, inr, arith, Option, Some, None}
+use Rattle.std.proofs.Common.{◌≡◌, ◌⊎◌, ℕ, zero, suc, ◌+◌, ◌<◌, List, [], ◌∷◌, map, length, get_or, set, replicate, sym, refl, ap, ◌∙◌, subst, ⊎_elim, inl, inr, arith, Option, None}
 use mathlib.Core.Option.{some, none, some-injective, some-ne-none}
 use mathlib.Core.Option as maybe
 use lib.ListN.{get_elem?}
@@ -8,7 +8,7 @@ use Rattle.atomic_table.proofs.Lists.{set_again}
 use Rattle.rq_pool.specs.declared.countdown.view.View.{View}
 use Rattle.rq_pool.specs.declared.countdown.view.Terms.{Terms}
 use Rattle.rq_pool.specs.Countdowns.Phases.{total, Phase, gone, back, flag, place, count, numbered}
-use Rattle.rq_pool.specs.Countdowns.Rule.{lasts, parts, HasLast, SomeView, AtSource, IsSet, Knows, IsOpen, IsShut, Held, returned}
+use Rattle.rq_pool.specs.Countdowns.Rule.{lasts, parts, HasLast, SomeView, AtSource, IsSet, IsOpen, IsShut, Held, returned}
 use Rattle.rq_pool.proofs.Countdowns.Totals.{at_most, map_long, set_get}
 
 module _ {S : Type 0} where

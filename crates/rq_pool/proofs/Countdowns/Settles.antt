@@ -1,5 +1,5 @@
 -- The rule, and one pass with all parts, settle the arrivals.
-use Rattle.std.proofs.Common.{◌≡◌, ◌≢◌, ◌⊎◌, ℕ, zero, suc, ◌+◌, ◌-◌, ◌<◌, ◌≤◌, eqb, eq-eqb, eqb-true, Bool, true, false, List, [], ◌∷◌, ◌++◌, map, length, length-append, get_or, sym, refl, ap, ◌∙◌, subst, ⊎_elim, inl, inr, arith, Option, Some, None}
+use Rattle.std.proofs.Common.{◌≡◌, ◌≢◌, ◌⊎◌, ℕ, zero, suc, ◌+◌, ◌-◌, ◌<◌, ◌≤◌, eqb, eq-eqb, Bool, true, false, List, [], ◌∷◌, ◌++◌, map, length, get_or, sym, refl, ap, ◌∙◌, subst, ⊎_elim, inl, inr, arith, Option, Some, None}
 use mathlib.Core.Option.{some, none, some-injective, some-ne-none}
 use mathlib.Core.Option as maybe
 use mathlib.Core.Logic.{dite}
@@ -10,10 +10,11 @@ use Rattle.atomic_table.proofs.Lists.{at_map}
 use Rattle.rq_pool.specs.declared.countdown.view.Made.{Made}
 use Rattle.rq_pool.specs.declared.countdown.view.View.{View}
 use Rattle.rq_pool.specs.declared.countdown.view.Terms.{Terms}
-use Rattle.rq_pool.specs.Countdowns.Phases.{total, Phase, clear, away, home, gone, back, flag, waits, is_away, is_done, is_shut, outbox_of, place, count}
-use Rattle.rq_pool.specs.Countdowns.Rule.{one_if, here, told_of, parts, stands_at, names, made_for, told, lasts, HasMade, HasLast, SomeView, AtSource, IsSet, Knows, IsOpen, IsShut, Held}
-use Rattle.rq_pool.specs.Countdowns.Settled.{add_if, add_some, somes, kept_for, kept_from, told_lists, SettledViews}
-use Rattle.rq_pool.proofs.Countdowns.Totals.{at_most, inside, there, map_long}
+use Rattle.rq_pool.specs.Countdowns.Phases.{total, Phase, clear, away, home, gone, back, flag, is_away, is_done, is_shut, outbox_of, place, count}
+use Rattle.rq_pool.specs.Countdowns.Rule.{one_if, here, told_of, parts, stands_at, names, made_for, told, lasts, HasMade, HasLast, SomeView, IsOpen, IsShut, Held}
+use Rattle.rq_pool.proofs.Countdowns.Settled.{add_if, kept_for, kept_from, told_lists, SettledViews}
+use Rattle.rq_pool.specs.Countdowns.Phases.{add_some, somes}
+use Rattle.rq_pool.proofs.Countdowns.Totals.{at_most, there, map_long}
 
 module _ {A : Type 0} where
   two : (f : A → ℕ) (xs : List A) (i j : ℕ) (a b : A) → ¬ (i ≡ j) → get_elem? xs i ≡ some a → get_elem? xs j ≡ some b → f a + f b ≤ total f xs

@@ -1,14 +1,15 @@
 -- From the passes' views to their histories.
 use Rattle.std.proofs.Common.{◌≡◌, ◌≢◌, ◌⊎◌, ℕ, zero, suc, ◌+◌, ◌<◌, ◌≤◌, eqb, eqb-true, Bool, true, false, List, [], ◌∷◌, ◌++◌, length, length-append, sym, refl, ap, ◌∙◌, subst, ⊎_elim, inl, inr, arith}
-use mathlib.Core.Option.{some, some-injective, some-ne-none}
+use mathlib.Core.Option.{some}
 use lib.ListN.{get_elem?}
 use Rattle.rq_pool.specs.declared.countdown.view.Made.{Made}
 use Rattle.rq_pool.specs.declared.countdown.arrival.Entry.{Entry}
 use Rattle.rq_pool.specs.declared.countdown.arrival.Arrival.{Arrival}
 use Rattle.rq_pool.specs.declared.countdown.arrival.Arrival.TheVariants.{Twice, NotLast, Last}
-use Rattle.rq_pool.specs.Countdowns.History.{flat_map, if_twice, made_by, made_in, refused_in, refused_outboxes, back_in}
-use Rattle.rq_pool.specs.Countdowns.Settled as old
-use Rattle.rq_pool.specs.Countdowns.Arrivals.{only, if_kept, if_last, arrivals_for, kept_for, kept_from, last_lists, Settled}
+use Rattle.rq_pool.specs.Countdowns.History.{if_twice, refused_outboxes, back_in}
+use Rattle.rq_pool.specs.Countdowns.Views.{made_by, made_in, refused_in}
+use Rattle.rq_pool.proofs.Countdowns.Settled as old
+use Rattle.rq_pool.specs.Countdowns.Arrivals.{only, if_kept, if_last, arrivals_for, kept_for, kept_from, last_lists, SomeMissing, Settled}
 
 module _ {T : Type 0} where
   add_only : (b : Bool) (x : T) (xs : List T) → old.add_if b x xs ≡ only b (x ∷ []) ++ xs
@@ -85,15 +86,53 @@ module _ {T : Type 0} where
           at full (suc i) near k e = let l = long in let z = ap length one.1 in let r = rec.1 (omega arith) i (omega arith) k (omega arith) in
               (r.0, ap (λ l. get_elem? (l ++ kept_from (suc j) n es) (suc i)) one.1 ∙ r.1, r.2)
 
+  -- a source without arrivals has no kept outbox
+  none_kept : (i : ℕ) (es : List (Entry T)) → arrivals_for i es ≡ [] → kept_for i es ≡ []
+  none_kept i [] none = refl
+  none_kept i (e ∷ es) none = go (eqb e.source i) none (none_kept i es)
+    where
+      go : (b : Bool) → only b (e ∷ []) ++ arrivals_for i es ≡ [] → (arrivals_for i es ≡ [] → kept_for i es ≡ []) → only b (if_kept e.outbox e.answer) ++ kept_for i es ≡ []
+      go true none rec = absurd (let q = ap length none in omega arith)
+      go false none rec = rec none
+
+  -- where one of the n sources from j on has no kept outbox, fewer than n are kept
+  fewer : (es : List (Entry T)) (j n : ℕ) → ((i : ℕ) → i < n → (k : ℕ) → j + i ≡ k → One k es) → (i : ℕ) → i < n → (k : ℕ) → j + i ≡ k → kept_for k es ≡ [] → length (kept_from j n es) < n
+  fewer es j zero each i near k e none = absurd (omega arith)
+  fewer es j (suc n) each zero near k e none =
+      let long = length-append (kept_for j es) (kept_from (suc j) n es) in let here : kept_for j es ≡ [] = subst (λ k. kept_for k es ≡ []) (let q : k ≡ j = omega arith in q) none in let z = ap length here in
+      let rest = (places es (suc j) n (λ i near k e. each (suc i) (omega arith) k (omega arith))).0 in omega arith
+  fewer es j (suc n) each (suc i) near k e none =
+      let long = length-append (kept_for j es) (kept_from (suc j) n es) in let rest = fewer es (suc j) n (λ i near k e. each (suc i) (omega arith) k (omega arith)) i (omega arith) k (omega arith) none in
+      ⊎_elim (λ nothing. let z = ap length nothing in omega arith) (λ one. let z = ap length one.1 in omega arith) (each 0 (omega arith) j (omega arith))
+
+  -- where fewer than n are kept, one of the sources has no arrival
+  found : (es : List (Entry T)) (j n : ℕ) → ((i : ℕ) → i < n → (k : ℕ) → j + i ≡ k → (arrivals_for k es ≡ []) ⊎ ((x : T) × (kept_for k es ≡ x ∷ []))) → length (kept_from j n es) < n → (i : ℕ) × (i < n) × (arrivals_for (j + i) es ≡ [])
+  found es j zero each few = absurd (omega arith)
+  found es j (suc n) each few = ⊎_elim (λ none. (0, omega arith, subst (λ k. arrivals_for k es ≡ []) (let q : j ≡ j + 0 = omega arith in q) none)) (further (found es (suc j) n (λ i near k e. each (suc i) (omega arith) k (omega arith)))) (each 0 (omega arith) j (omega arith))
+    where
+      further : (length (kept_from (suc j) n es) < n → (i : ℕ) × (i < n) × (arrivals_for (suc j + i) es ≡ [])) → (x : T) × (kept_for j es ≡ x ∷ []) → (i : ℕ) × (i < suc n) × (arrivals_for (j + i) es ≡ [])
+      further rec one = let long = length-append (kept_for j es) (kept_from (suc j) n es) in let z = ap length one.1 in let r = rec (omega arith) in let near = r.1 in
+          (suc r.0, omega arith, subst (λ k. arrivals_for k es ≡ []) (let q : suc j + r.0 ≡ j + suc r.0 = omega arith in q) r.2)
+
   pub settles : (n : ℕ) (es : List (Entry T)) (arrived : ℕ) (home : List T) → back_in es ≡ refused_outboxes es → old.SettledViews n (made_in es) (refused_in es) arrived home → Settled n es arrived home
   settles n es arrived home back s = let same = same_from 0 n es in record {
-    once = λ i near. ⊎_elim (λ none. inl (no_arrival i es (sym (same_kept i es) ∙ none.0) none.1)) (λ one. inr (one.0, sym (same_kept i es) ∙ one.1)) (s.once i near);
+    once = λ i near. once_of i near i (omega arith);
     gave_back = back;
     arrivals = s.arrivals ∙ ap length same;
+    missing = (
+      (λ few. from_first (found es 0 n once_of (let long = s.arrivals ∙ ap length same in omega arith))),
+      (λ m. let long = s.arrivals ∙ ap length same in let less = fewer es 0 n (λ i near k e. ⊎_elim (λ none. inl (none_kept k es none)) inr (once_of i near k e)) m.0 m.1 m.0 (omega arith) (none_kept m.0 es m.2) in omega arith),
+    );
     outcome = ⊎_elim (λ o. inl (o.0, sym (same_lasts es) ∙ o.1, o.2 ∙ same)) (λ o. inr (o.0, sym (same_lasts es) ∙ o.1 ∙ ap (λ l. l ∷ []) same, o.2)) s.outcome;
-    placed = λ full i near. (places es 0 n (λ i near k e. ⊎_elim (λ none. inl (sym (same_kept k es) ∙ none.0)) (λ one. inr (one.0, sym (same_kept k es) ∙ one.1)) (s.once k (omega arith)))).1
+    placed = λ full i near. (places es 0 n (λ i near k e. ⊎_elim (λ none. inl (none_kept k es none)) inr (once_of i near k e))).1
         (sym (s.arrivals ∙ ap length same) ∙ full) i near i (omega arith);
   }
+    where
+      from_first : (i : ℕ) × (i < n) × (arrivals_for (0 + i) es ≡ []) → SomeMissing n es
+      from_first r = (r.0, r.1, subst (λ k. arrivals_for k es ≡ []) (let q : 0 + r.0 ≡ r.0 = omega arith in q) r.2)
+
+      once_of : (i : ℕ) → i < n → (k : ℕ) → 0 + i ≡ k → (arrivals_for k es ≡ []) ⊎ ((x : T) × (kept_for k es ≡ x ∷ []))
+      once_of i near k e = ⊎_elim (λ none. inl (no_arrival k es (sym (same_kept k es) ∙ none.0) none.1)) (λ one. inr (one.0, sym (same_kept k es) ∙ one.1)) (s.once k (omega arith))
 
   pub settles_by : (n : ℕ) (es : List (Entry T)) (arrived : ℕ) (home : List T) → back_in es ≡ refused_outboxes es → (made : List (Made T)) (refused : List ℕ) → made_in es ≡ made → refused_in es ≡ refused
       → old.SettledViews n made refused arrived home → Settled n es arrived home

@@ -1,14 +1,14 @@
 -- What a step of one pass does to the facts about all passes.
-use Rattle.std.proofs.Common.{◌≡◌, ◌≢◌, ℕ, zero, suc, ◌+◌, ◌<◌, ◌≤◌, eqb, eq-eqb, ne_eqb, Bool, true, false, List, [], ◌∷◌, ◌++◌, map, length, set, sym, refl, ap, ◌∙◌, subst, ⊎_elim, inl, inr, arith, Option, Some, None}
-use mathlib.Core.Option.{some, some-injective, some-ne-none}
+use Rattle.std.proofs.Common.{◌≡◌, ◌≢◌, ℕ, ◌<◌, List, length, set, sym, ap, ◌∙◌, subst, ⊎_elim, arith}
+use mathlib.Core.Option.{some, some-injective}
 use mathlib.Core.Logic.{dite}
 use native.Mathlib.Decide.{ℕ_discrete}
 use lib.ListN.{get_elem?}
-use Rattle.atomic_table.proofs.Lists.{at_set, set_here, set_else, at_longer, at_last}
+use Rattle.atomic_table.proofs.Lists.{at_set, set_here, set_else}
 use Rattle.rq_pool.specs.declared.countdown.view.Made.{Made}
 use Rattle.rq_pool.specs.declared.countdown.view.View.{View}
-use Rattle.rq_pool.specs.Countdowns.Phases.{total, Phase, outbox_of, flag, is_away, is_done}
-use Rattle.rq_pool.specs.Countdowns.Rule.{one_if, here, parts, stands_at, made_for, lasts, HasMade, SomeView, AtSource, IsSet, Knows}
+use Rattle.rq_pool.specs.Countdowns.Phases.{total, Phase, flag}
+use Rattle.rq_pool.specs.Countdowns.Rule.{stands_at, made_for, HasMade, SomeView, AtSource, IsSet, Knows}
 use Rattle.rq_pool.proofs.Countdowns.Totals.{total_set, inside}
 
 module _ {T : Type 0} where

@@ -1,13 +1,14 @@
 -- The rule of a countdown, and what each of its steps tells.
 -- Word 0 is the number of sources that were not counted, word 1 + i the flag of the source i, and slot i its outbox.
-use Rattle.std.specs.Prelude.{◌≡◌, ℕ, suc, zero, ◌+◌, ◌-◌, ◌<◌, ◌^◌, ◌⊎◌, ◌≢◌, eqb, cond, Bool, true, false, List, [], ◌∷◌, ◌++◌, map, length, Option, Some, None}
+use Rattle.std.specs.Prelude.{◌≡◌, ℕ, ◌+◌, ◌-◌, ◌<◌, ◌⊎◌, ◌≢◌, eqb, Bool, true, false, List, [], ◌∷◌, ◌++◌, map, length, Option, Some, None}
 use mathlib.Core.Option.{some}
 use lib.ListN.{get_elem?}
 use Rattle.atomic_table.specs.Table.{State, Me, Step}
 use Rattle.rq_pool.specs.declared.countdown.view.Made.{Made}
 use Rattle.rq_pool.specs.declared.countdown.view.View.{View}
 use Rattle.rq_pool.specs.declared.countdown.view.Terms.{Terms}
-use Rattle.rq_pool.specs.Countdowns.Phases.{total, Phase, home, gone, back, flag, waits, is_away, is_done, is_shut, outbox_of, place, count, numbered}
+use Rattle.rq_pool.specs.Countdowns.History.{Fit}
+use Rattle.rq_pool.specs.Countdowns.Phases.{total, Phase, gone, back, flag, is_away, is_done, is_shut, outbox_of, place, count, numbered}
 
 abbrev pub one_if : Bool → ℕ
 one_if true = 1
@@ -36,9 +37,6 @@ module _ {T : Type 0} where
 
   abbrev pub HasLast : List T → List (Made T) → Type 0
   HasLast ys ms = (k : ℕ) × (m : Made T) × (get_elem? ms k ≡ some m) × (m.told ≡ Some ys)
-
-  abbrev pub Fit : (ℕ → T → Type 0) → List T → Type 0
-  Fit fit ys = (i : ℕ) (y : T) → get_elem? ys i ≡ some y → fit i y
 
   -- the source's flag is set
   abbrev pub IsSet : List (Phase T) → ℕ → Type 0

@@ -4,30 +4,39 @@ ghost use Rattle.std.specs.Prelude.{◌≡◌};
 /// How many sources arrived, who was last, and the outboxes that nobody was given.
 #[derive(Drop)]
 pub struct Closing<T> {
-    pub(crate) arrived: u64,
+    pub(crate) arrived: u32,
     pub(crate) last: Option<usize>,
     pub(crate) home: Vec<T>,
 }
 
 impl<T> Closing<T> {
+    ghost use Rattle.rq_pool.specs.Countdowns.Closings.{arrived_of, last_of, home_of};
+
     /// How many sources had an arrival.
-    pub fn arrived(&self) -> u64
-        ensures { result ≡ self.now.arrived }
+    pub fn arrived(&self) -> u32
+        ensures arrived { result ≡ arrived_of self.now }
     {
         self.arrived
     }
 
     /// The index, in the list handed in, of the pass that was answered `Last`. None where some source
-    /// has no arrival.
+    /// had no arrival.
     pub fn last(&self) -> Option<usize>
-        ensures { result ≡ self.now.last }
+        ensures last { result ≡ last_of self.now }
     {
         self.last
     }
 
     /// The outboxes that nobody was given, in the order of their sources.
-    pub fn home(self) -> Vec<T>
-        ensures { result.items ≡ self.home.items }
+    pub fn home(&self) -> &[T]
+        ensures home { result.now ≡ home_of self.now }
+    {
+        &self.home
+    }
+
+    /// The same outboxes, to keep.
+    pub fn into_home(self) -> Vec<T>
+        ensures home { result.items ≡ home_of self }
     {
         self.home
     }

@@ -1,7 +1,7 @@
 //! The slots of a countdown that was closed.
 ghost use Rattle.std.specs.Prelude.{◌≡◌, ◌<◌, ◌≤◌, [], ◌++◌, length, vec_capacity, option_to_list};
 ghost use Rattle.std.specs.Slots.{slots_items, slots_len, IsFull};
-ghost use Rattle.rq_pool.specs.Countdowns.Settled.{somes};
+ghost use Rattle.rq_pool.specs.Countdowns.Phases.{somes};
 
 use atomic_table::Closed;
 use std::alloc::Global;

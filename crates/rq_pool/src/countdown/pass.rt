@@ -3,7 +3,8 @@ ghost use Rattle.std.specs.Prelude.{◌≡◌, ◌≤◌, [], replicate, None, v
 ghost use Rattle.std.specs.Option.{ForSome, ForNone};
 ghost use Rattle.rq_pool.specs.Countdowns.Phases.{numbered};
 ghost use Rattle.rq_pool.specs.Countdowns.Rule.{lasts};
-ghost use Rattle.rq_pool.specs.Countdowns.History.{made_in, refused_in, back_in, refused_outboxes};
+ghost use Rattle.rq_pool.specs.Countdowns.Views.{made_in, refused_in};
+ghost use Rattle.rq_pool.specs.Countdowns.History.{back_in, refused_outboxes};
 
 use crate::countdown::arrival::Entry;
 use crate::countdown::fits::Fits;

@@ -1,6 +1,7 @@
 //! The two steps of an arrival.
 ghost use Rattle.std.specs.Prelude.{◌≡◌, ◌≢◌, ℕ, ◌+◌, ◌<◌, ◌≤◌, [], ◌∷◌, ◌++◌, List, length, IsTrue, IsFalse, ◌^◌, map, replicate, Some, None};
-ghost use Rattle.rq_pool.specs.Countdowns.Rule.{view, after, lasts, Fit};
+ghost use Rattle.rq_pool.specs.Countdowns.Rule.{view, after, lasts};
+ghost use Rattle.rq_pool.specs.Countdowns.History.{Fit};
 ghost use Rattle.rq_pool.specs.Countdowns.Phases.{numbered};
 
 use crate::countdown::fits::Fits;

@@ -1,11 +1,12 @@
-use Rattle.std.proofs.Common.{rules, arith, ap, sym, ◌∙◌, subst, ◌≡◌, ◌<◌, ◌+◌, ℕ, List, [], ◌∷◌, ◌++◌, refl, length, map, replicate, Some, None}
+use Rattle.std.proofs.Common.{arith, ap, sym, ◌∙◌, subst, [], ◌∷◌, ◌++◌, refl, length, map, replicate, Some, None}
 use Rattle.rq_pool.specs.Countdowns.Phases.{numbered, contents}
-use Rattle.rq_pool.specs.Countdowns.Rule.{lasts, after, told_of, made_of, Fit}
+use Rattle.rq_pool.specs.Countdowns.Rule.{lasts, after, told_of, made_of}
+use Rattle.rq_pool.specs.Countdowns.History.{Fit}
 use Rattle.rq_pool.proofs.Countdowns.Arrives.{lasts_after}
 use Rattle.rq_pool.proofs.Countdowns.Histories.{tells, gives}
 use Rattle.rq_pool.proofs.Countdowns.Takes.{append_none}
 use Rattle.rq_pool.specs.Countdowns.History.{entry}
-use Rattle.rq_pool.specs.Countdowns.Passes.{Answered}
+use Rattle.rq_pool.specs.Countdowns.History.{Answered}
 use Rattle.rq_pool.specs.declared.countdown.arrival.Arrival.TheVariants.{Twice, NotLast, Last}
 use Rattle.rq_pool.proofs.Countdowns.Gathers.{contents_numbered}
 use Rattle.rq_pool.proofs.countdown.Countdown.arrive.Goals as goal

@@ -1,7 +1,8 @@
-use Rattle.std.proofs.Common.{rules, arith, ap, sym, ◌∙◌, subst, ◌≡◌, ◌<◌, ◌+◌, ◌-◌, ◌≤◌, ◌++◌, ◌∷◌, ℕ, [], Some, None, length, length-append, option_to_list, vec_capacity, All}
+use Rattle.std.proofs.Common.{rules, arith, ap, sym, ◌∙◌, subst, ◌≡◌, ◌+◌, ◌-◌, ◌≤◌, ◌++◌, ◌∷◌, [], Some, None, length, length-append, option_to_list, vec_capacity, All}
 use Rattle.std.proofs.lemmas.List.Elements.{All-append}
 use Rattle.rq_pool.specs.Countdowns.Rule.{view, lasts, told_of, left_of}
-use Rattle.rq_pool.specs.Countdowns.History.{made_in, refused_in, back_in, refused_outboxes}
+use Rattle.rq_pool.specs.Countdowns.Views.{made_in, refused_in}
+use Rattle.rq_pool.specs.Countdowns.History.{back_in, refused_outboxes}
 use Rattle.rq_pool.proofs.Countdowns.Closes.{all_front, all_end}
 use Rattle.rq_pool.proofs.Countdowns.Joins.{splits}
 use Rattle.rq_pool.proofs.Countdowns.Opens.{some_same, all_one}

@@ -1,4 +1,4 @@
-use Rattle.std.proofs.Common.{rules, arith, ap, ap₂, sym, ◌+◌, ◌∙◌, ◌∷◌, ◌++◌, []}
+use Rattle.std.proofs.Common.{rules, arith, ap₂, sym, ◌+◌, ◌∙◌, ◌∷◌, ◌++◌, []}
 use Rattle.rq_pool.specs.Countdowns.Phases.{contents}
 use Rattle.rq_pool.proofs.Countdowns.Gathers.{after_one, one_value}
 use Rattle.rq_pool.proofs.countdown.gather.gather.Goals as goal

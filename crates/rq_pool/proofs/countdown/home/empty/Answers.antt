@@ -1,4 +1,4 @@
-use Rattle.std.proofs.Common.{rules, arith, ap, sym, ◌∙◌, ◌≡◌, ◌+◌, length, length-append, option_to_list, Option, Some, None, ◌≤◌}
+use Rattle.std.proofs.Common.{arith, ap, sym, ◌∙◌, ◌+◌}
 use Rattle.std.proofs.lemmas.Grind.{common_steps}
 use lib.ListN.{get_elem?}
 use Rattle.std.specs.Slots.{slots_items}

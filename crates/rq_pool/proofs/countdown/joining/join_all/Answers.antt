@@ -1,4 +1,4 @@
-use Rattle.std.proofs.Common.{rules, arith, ap, sym, ◌∙◌, subst, ◌≡◌, ◌<◌, ◌+◌, ◌++◌, option_to_list}
+use Rattle.std.proofs.Common.{arith, ap, ◌∙◌, ◌≡◌, ◌+◌, ◌++◌, option_to_list}
 use Rattle.rq_pool.proofs.Countdowns.Closes.{all_front, all_end, begins, goes_on, ends}
 use Rattle.rq_pool.proofs.Countdowns.Joins.{joins}
 use Rattle.rq_pool.proofs.countdown.joining.join_all.Goals as goal

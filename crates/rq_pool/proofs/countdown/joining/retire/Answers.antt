@@ -1,4 +1,4 @@
-use Rattle.std.proofs.Common.{rules, arith, ap, ◌∙◌, replicate, None}
+use Rattle.std.proofs.Common.{rules, ap, ◌∙◌, replicate, None}
 use Rattle.rq_pool.specs.Countdowns.Phases.{numbered}
 use Rattle.rq_pool.proofs.Countdowns.Returns.{gives_back}
 use Rattle.rq_pool.proofs.countdown.joining.retire.Goals as goal

@@ -1,6 +1,6 @@
-use Rattle.std.proofs.Common.{rules, arith, eqb-true, sym, ap, ◌∙◌, subst, List, length, map, Some, ◌≡◌, ◌<◌}
+use Rattle.std.proofs.Common.{rules, arith, eqb-true, sym, ap, ◌∙◌, subst, map, Some, ◌<◌}
 use Rattle.rq_pool.proofs.Countdowns.Counts.{counts}
-use Rattle.rq_pool.specs.Countdowns.Rule.{Fit, lasts, after}
+use Rattle.rq_pool.specs.Countdowns.Rule.{lasts, after}
 use Rattle.rq_pool.specs.Countdowns.Phases.{numbered}
 use Rattle.rq_pool.proofs.countdown.steps.hand_in.Goals as goal
 

@@ -1,21 +1,13 @@
--- What holds of all arrivals once the countdown is closed.
-use Rattle.std.specs.Prelude.{◌≡◌, ◌≢◌, ℕ, suc, zero, ◌<◌, ◌⊎◌, eqb, Bool, true, false, List, [], ◌∷◌, ◌++◌, length, Option, Some, None}
+-- The arrivals of all passes as their views have them, once the countdown is closed.
+use Rattle.std.proofs.Common.{◌≡◌, ◌≢◌, ℕ, suc, zero, ◌<◌, ◌⊎◌, eqb, Bool, true, false, List, [], ◌∷◌, ◌++◌, length}
 use mathlib.Core.Option.{some}
 use lib.ListN.{get_elem?}
 use Rattle.rq_pool.specs.declared.countdown.view.Made.{Made}
+use Rattle.rq_pool.specs.Countdowns.Phases.{add_some}
 
 abbrev pub add_if : {A : Type 0} → Bool → A → List A → List A
 add_if true x xs = x ∷ xs
 add_if false x xs = xs
-
-abbrev pub add_some : {A : Type 0} → Option A → List A → List A
-add_some None xs = xs
-add_some (Some x) xs = x ∷ xs
-
--- the values that are there
-abbrev pub somes : {A : Type 0} → List (Option A) → List A
-somes [] = []
-somes (o ∷ os) = add_some o (somes os)
 
 -- the outboxes that were handed in for the source i and not given back
 abbrev pub kept_for : {T : Type 0} → ℕ → List (Made T) → List T
