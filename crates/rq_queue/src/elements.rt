@@ -145,19 +145,14 @@ impl Elements {
         ensures refused { IfErr result (λ e. e ≡ Resources) }
     {
         rq_model::any_order();
+        let marked = self.marked;
         let mut free = self.free;
         match free.pop_first() {
-            None => Ok((
-                Elements {
-                    free,
-                    marked: self.marked,
-                },
-                None,
-            )),
+            None => Ok((Elements { free, marked }, None)),
             Some((_, mut e)) => {
                 let id = e.id();
                 e.set_mark(Mark::Held(unit));
-                let marked = stow(alloc, self.marked, unit, e)?;
+                let marked = stow(alloc, marked, unit, e)?;
                 Ok((Elements { free, marked }, Some(id)))
             }
         }

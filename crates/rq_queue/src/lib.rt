@@ -6,11 +6,13 @@ mod departures;
 mod elements;
 mod moves;
 mod notes;
+mod operations;
 mod part;
 mod redoing;
 mod registrants;
 mod shelves;
 
-pub use moves::{Move, Op};
+pub use moves::Move;
+pub use operations::Op;
 pub use part::Part;
 pub use redoing::redo;

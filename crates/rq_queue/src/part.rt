@@ -12,8 +12,9 @@ ghost use Rattle.rq_record.specs.Views.{record_of};
 ghost use Rattle.rq_record.specs.declared.fault.Fault.TheVariants.{Resources};
 
 use crate::elements::Elements;
-use crate::moves::{Move, Op};
+use crate::moves::Move;
 use crate::notes::Notes;
+use crate::operations::Op;
 use crate::registrants::Registrants;
 use rq_record::{By, ElemId, Fault, Name, Payload, QueueNo, Record, UnitNo};
 use rq_state::{Definition, Fields, OpKind, State};

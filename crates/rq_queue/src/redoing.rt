@@ -12,7 +12,8 @@ ghost use Rattle.rq_model.specs.Ready.{GoesWell};
 ghost use Rattle.rq_queue.specs.Case.{AreRising};
 ghost use Rattle.rq_record.specs.declared.fault.Fault.TheVariants.{Resources};
 
-use crate::moves::{Move, Op};
+use crate::moves::Move;
+use crate::operations::Op;
 use crate::part::Part;
 use rq_record::Fault;
 use std::alloc::Global;

@@ -47,13 +47,6 @@ impl Note {
         self.queue.0 == queue.0 && self.name == *name
     }
 
-    /// The unit of its operation.
-    pub fn unit(&self) -> UnitNo
-        ensures { result.0 ≡ self.now.unit }
-    {
-        self.unit
-    }
-
     /// Whether it is of the unit.
     pub fn is_by(&self, unit: UnitNo) -> bool
         ensures { result ≡ (self.now.unit == unit.0) }

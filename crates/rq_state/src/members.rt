@@ -152,8 +152,15 @@ impl Note {
         self.last.place()
     }
 
+    /// The unit of its operation.
+    pub fn unit(&self) -> UnitNo
+        ensures { result.0 ≡ self.now.unit }
+    {
+        self.unit
+    }
+
     /// The queue of its operation.
-    pub fn queue(&self) -> QueueNo
+    pub(crate) fn queue(&self) -> QueueNo
         ensures { result.0 ≡ self.now.queue }
     {
         self.queue
@@ -236,7 +243,7 @@ impl Registrant {
     }
 
     /// The queue that it is registered with.
-    pub fn queue(&self) -> QueueNo
+    pub(crate) fn queue(&self) -> QueueNo
         ensures { result.0 ≡ self.now.queue }
     {
         self.queue
