@@ -4,6 +4,7 @@
 
 ghost use Rattle.rq_model.specs.LogLaws.{BodySpellsOne, RecordHasOneBody, BytesSpellOneState, RunsFit, FrameIsRight, RightIsFrame, RunStops, OneRun, OneRest, OneFrameRun, RunGivesFront, FramesJoin, LogJoins, LogEnds, FrontStops, OneLongest, OneWhy, OneFront, OneRestart, OneText, OneReport, FrontHasReport, EveryLogHasReport, OneVersion, RecordIsWider, UsedIsFront, FrontsAreSpelt, OneRestartAt, TrueIsSame, TrueSaysTheSame, OneAudit, CrashInTheTail, CrashSaysTheSame, UpgradeIsSame};
 ghost use Rattle.rq_model.specs.WorkedLogs.{WorkedBytes, WorkedLogs, UnlawfulLogs, WorkedCheckpoint};
+ghost use Rattle.rq_model.specs.WorkedMachine.{WorkedLaw, WorkedSteps, WorkedOrders, WorkedQueues, WorkedRedo};
 ghost use Rattle.rq_model.specs.Ready.{RedoGoesWell, GoesOn};
 ghost use Rattle.rq_model.specs.Laws.{Projection, ArrivalsAreMerged, LawfulnessLooksAt, PartsDecide, IdsDiffer, PutInAnyOrder, AnyOrder, QueueIsDecided, LawfulFrontIsLongest, WellFormedIsSound, RunsAreWellFormed, EmptyIsWellFormed, NumbersAfter, VersionOneIsOneDeep, VersionTwoIsWider, RedoSteps, CrashIsHarmless};
 ghost use Rattle.rq_model.specs.MoveLaws.{MovesRise, ArrivalsRise};
@@ -193,4 +194,13 @@ pub fn worked_logs()
     ensures whole { WorkedLogs }
     ensures unlawful { UnlawfulLogs }
     ensures checkpoint { WorkedCheckpoint }
+{}
+
+/// In one state with open units: what is lawful, what each record does, and what each queue makes of it.
+pub fn worked_machine()
+    ensures law { WorkedLaw }
+    ensures steps { WorkedSteps }
+    ensures orders { WorkedOrders }
+    ensures queues { WorkedQueues }
+    ensures redo { WorkedRedo }
 {}
