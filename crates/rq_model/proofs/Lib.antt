@@ -10,7 +10,8 @@ pub mod AnyOrder
 pub mod WellFormedRuns
 pub mod Merged
 pub mod Kept
-pub mod Gathered
+pub mod Shuffled
+pub mod LawfulFronts
 pub mod Numbers
 pub mod Depth
 pub mod Cursor

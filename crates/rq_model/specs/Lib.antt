@@ -16,3 +16,4 @@ pub mod Ready
 pub mod LogLaws
 pub mod MoveLaws
 pub mod WorkedLogs
+pub mod WorkedMachine

@@ -4,8 +4,9 @@
 
 ghost use Rattle.rq_model.specs.LogLaws.{BodySpellsOne, RecordHasOneBody, BytesSpellOneState, RunsFit, FrameIsRight, RightIsFrame, RunStops, OneRun, OneRest, OneFrameRun, RunGivesFront, FramesJoin, LogJoins, LogEnds, FrontStops, OneLongest, OneWhy, OneFront, OneRestart, OneText, OneReport, FrontHasReport, EveryLogHasReport, OneVersion, RecordIsWider, UsedIsFront, FrontsAreSpelt, OneRestartAt, TrueIsSame, TrueSaysTheSame, OneAudit, CrashInTheTail, CrashSaysTheSame, UpgradeIsSame};
 ghost use Rattle.rq_model.specs.WorkedLogs.{WorkedBytes, WorkedLogs, UnlawfulLogs, WorkedCheckpoint};
+ghost use Rattle.rq_model.specs.WorkedMachine.{WorkedLaw, WorkedSteps, WorkedOrders, WorkedQueues, WorkedRedo};
 ghost use Rattle.rq_model.specs.Ready.{RedoGoesWell, GoesOn};
-ghost use Rattle.rq_model.specs.Laws.{Projection, ArrivalsAreMerged, LawfulnessLooksAt, PartsDecide, IdsDiffer, PutInAnyOrder, RunsAreWellFormed, EmptyIsWellFormed, PartsGather, MembersDecide, NumbersAfter, VersionOneIsOneDeep, VersionTwoIsWider, RedoSteps, CrashIsHarmless};
+ghost use Rattle.rq_model.specs.Laws.{Projection, ArrivalsAreMerged, LawfulnessLooksAt, PartsDecide, IdsDiffer, PutInAnyOrder, AnyOrder, QueueIsDecided, LawfulFrontIsLongest, WellFormedIsSound, RunsAreWellFormed, EmptyIsWellFormed, NumbersAfter, VersionOneIsOneDeep, VersionTwoIsWider, RedoSteps, CrashIsHarmless};
 ghost use Rattle.rq_model.specs.MoveLaws.{MovesRise, ArrivalsRise};
 
 /// A body spells at most one record, a record has one body, and the bytes of a state spell no other state.
@@ -39,6 +40,16 @@ pub fn frames_join()
 /// Lawfulness is decided without elements and notes.
 pub fn lawfulness_looks_at()
     ensures { LawfulnessLooksAt }
+{}
+
+/// The longest lawful beginning of records is lawful, a beginning, and no shorter than another.
+pub fn lawful_front_is_longest()
+    ensures { LawfulFrontIsLongest }
+{}
+
+/// A well-formed state is sound: it keeps what the projection by queue needs.
+pub fn well_formed_is_sound()
+    ensures { WellFormedIsSound }
 {}
 
 /// Every state of a lawful run from a well-formed state is well formed, and the empty state is.
@@ -99,10 +110,14 @@ pub fn fronts_are_spelt()
     ensures { FrontsAreSpelt }
 {}
 
-/// From a true checkpoint the restart is the same, and a text is the report from there exactly where it is the report.
+/// From a true checkpoint the restart is the same.
 pub fn true_checkpoints_say_the_same()
-    ensures restart { TrueIsSame }
-    ensures report { TrueSaysTheSame }
+    ensures { TrueIsSame }
+{}
+
+/// A text is the report from a true checkpoint exactly where it is the report.
+pub fn true_checkpoints_report_the_same()
+    ensures { TrueSaysTheSame }
 {}
 
 /// Whatever beginning of the final aborts stands in the log, the final state is the same.
@@ -127,20 +142,24 @@ pub fn any_order()
     ensures order { PutInAnyOrder }
 {}
 
+/// In whatever order what returns to a queue at an abort and what arrives there is put in, it holds the same elements.
+pub fn any_list_in_any_order()
+    ensures { AnyOrder }
+{}
+
 /// A well-formed state is decided by its numbers, units, definitions and parts.
 pub fn parts_decide()
     ensures { PartsDecide }
 {}
 
-/// A well-formed state is made of its parts, and is the only one with their members, its numbers, definitions and units.
-pub fn parts_gather()
-    ensures gather { PartsGather }
-    ensures decide { MembersDecide }
-{}
-
 /// A queue's part after a run, and what left it meanwhile, are decided by its part before, the operations that touch it and what arrives.
 pub fn projection()
     ensures { Projection }
+{}
+
+/// Equal parts before, equal records that touch a queue and equal arrivals give equal parts and equal moves.
+pub fn queue_is_decided()
+    ensures { QueueIsDecided }
 {}
 
 /// The redo of one queue goes one arrival or one operation at a time.
@@ -175,4 +194,13 @@ pub fn worked_logs()
     ensures whole { WorkedLogs }
     ensures unlawful { UnlawfulLogs }
     ensures checkpoint { WorkedCheckpoint }
+{}
+
+/// In one state with open units: what is lawful, what each record does, and what each queue makes of it.
+pub fn worked_machine()
+    ensures law { WorkedLaw }
+    ensures steps { WorkedSteps }
+    ensures orders { WorkedOrders }
+    ensures queues { WorkedQueues }
+    ensures redo { WorkedRedo }
 {}
