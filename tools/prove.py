@@ -8,22 +8,23 @@ rt lets one run work in a crate and in all crates below it. So each crate is pro
 crates below it stand with what was built of them. Its work comes back to its own folder when it has ended.
 """
 from __future__ import annotations
-import os, shutil, subprocess, sys, time
+import os, resource, shutil, signal, subprocess, sys, time
 
 # What a check takes for each job, in KiB, as far as was seen.
 MEMORY = 2_000_000
 BUILD = os.path.join("crates", "rq", "out", "build")
 
 
+def lines_by_crate() -> dict[str, str]:
+    """The line of crates.txt of each crate."""
+    with open("crates.txt", encoding="utf-8") as lines:
+        return {line.split()[0].rstrip(":"): line for line in lines if ":" in line.partition("#")[0]}
+
+
 def listed() -> dict[str, list[str]]:
     """The crates of this repository, each with those of them that it names."""
-    found = {}
-    with open("crates.txt", encoding="utf-8") as lines:
-        for line in lines:
-            head, colon, names = line.partition("#")[0].partition(":")
-            if colon:
-                found[head.split()[0]] = names.split()
-    return {name: [it for it in names if it in found] for name, names in found.items()}
+    lines = lines_by_crate()
+    return {name: [it for it in line.partition("#")[0].partition(":")[2].split() if it in lines] for name, line in lines.items()}
 
 
 def below(crates: dict[str, list[str]], name: str) -> list[str]:
@@ -64,13 +65,13 @@ class Proof:
     """The run of rt on one crate."""
 
     def __init__(self, crates: dict[str, list[str]], name: str, jobs: int):
-        self.name, self.jobs = name, jobs
+        self.name, self.jobs, self.begun, self.work = name, jobs, time.monotonic(), 0.0
         self.kept = os.path.join("crates", name, "out")
         self.place = os.path.join(BUILD, name)
         self.said = os.path.join(BUILD, name + ".log")
         shutil.rmtree(self.place, ignore_errors=True)
         os.makedirs(os.path.join(self.place, "crates"))
-        shutil.copy("crates.txt", self.place)
+        self.list_crates([*below(crates, name), name])
         for lower in below(crates, name):
             self.copy_crate(lower)
             shutil.copytree(os.path.join("crates", lower, "out", "rlib"), self.inside(lower, "out", "rlib"), copy_function=linked)
@@ -83,13 +84,26 @@ class Proof:
     def inside(self, *names: str) -> str:
         return os.path.join(self.place, "crates", *names)
 
+    def list_crates(self, names: list[str]):
+        lines = lines_by_crate()
+        with open(os.path.join(self.place, "crates.txt"), "w", encoding="utf-8") as to:
+            to.writelines(lines[it] for it in names)
+
     def copy_crate(self, name: str):
         shutil.copytree(os.path.join("crates", name), self.inside(name), ignore=shutil.ignore_patterns("out", "must-fail"))
+
+    def has_ended(self) -> bool:
+        before = resource.getrusage(resource.RUSAGE_CHILDREN)
+        ended = self.run.poll() is not None
+        after = resource.getrusage(resource.RUSAGE_CHILDREN)
+        self.work = after.ru_utime + after.ru_stime - before.ru_utime - before.ru_stime
+        return ended
 
     def put_back(self, log: str):
         """What was made goes back to the crate's folder, what was said to the log."""
         with open(log, "ab") as to, open(self.said, "rb") as said:
-            to.write(f"== {self.name}\n".encode())
+            seconds = time.monotonic() - self.begun
+            to.write(f"== {self.name}: {seconds:.0f} s with {self.jobs} jobs, {self.work:.0f} s of processor time\n".encode())
             shutil.copyfileobj(said, to)
         if os.path.isdir(self.inside(self.name, "out")):
             os.rename(self.inside(self.name, "out"), self.kept)
@@ -147,7 +161,7 @@ def prove(crates: dict[str, list[str]], names: list[str], log: str) -> bool:
             if fine:
                 running += next_proofs(crates, waiting, done, running, cores)
             time.sleep(0.5)
-            for proof in [it for it in running if it.run.poll() is not None]:
+            for proof in [it for it in running if it.has_ended()]:
                 running.remove(proof)
                 proof.put_back(log)
                 if proof.run.returncode == 0:
@@ -168,6 +182,8 @@ def prove(crates: dict[str, list[str]], names: list[str], log: str) -> bool:
 def main() -> int:
     program, log = sys.argv[1:]
     crates = listed()
+    for it in (signal.SIGTERM, signal.SIGHUP):
+        signal.signal(it, lambda number, _: sys.exit(128 + number))
     os.makedirs(BUILD, exist_ok=True)
     try:
         return 0 if prove(crates, below(crates, program), log) else 1
