@@ -35,16 +35,24 @@ def below(crates: dict[str, list[str]], name: str) -> list[str]:
     return found
 
 
-def lines_of(name: str) -> int:
-    """The lines of a crate's code, definitions and proofs: more lines take longer."""
-    count = 0
+def weight(name: str) -> float:
+    """How long a crate takes beside others, about: a line of code takes as long as six lines of definitions and proofs."""
+    count = 0.0
     for at, folders, files in os.walk(os.path.join("crates", name)):
         folders[:] = [it for it in folders if it != "out"]
         for file in files:
             if file.endswith((".rt", ".antt")):
                 with open(os.path.join(at, file), "rb") as text:
-                    count += sum(1 for _ in text)
+                    count += sum(1 for _ in text) / (1 if file.endswith(".rt") else 6)
     return count
+
+
+def longest(crates: dict[str, list[str]], weights: dict[str, float], names: list[str]) -> float:
+    """The weight of the heaviest chain of these crates, each of which stands on the one before it. Lower ones come first."""
+    chains: dict[str, float] = {}
+    for name in names:
+        chains[name] = weights[name] + max((chains[it] for it in crates[name] if it in chains), default=0.0)
+    return max(chains.values(), default=0.0)
 
 
 def processors() -> int:
@@ -113,16 +121,18 @@ class Proof:
 class Telling:
     """How far the proofs are, on standard error: one line that changes on a terminal, else a line for each crate."""
 
-    def __init__(self, names: list[str]):
-        self.begun, self.names = time.monotonic(), names
-        self.lines = {name: lines_of(name) for name in names}
+    def __init__(self, crates: dict[str, list[str]], names: list[str]):
+        self.begun, self.crates, self.names = time.monotonic(), crates, names
+        self.weights = {name: weight(name) for name in names}
         self.is_terminal = sys.stderr.isatty()
 
     def left(self, done: set[str]) -> str:
-        seen, all_lines = sum(self.lines[it] for it in done), sum(self.lines.values())
-        if not seen:
+        """About how long the rest takes, by the heaviest chain that is left of the crates and the whole one."""
+        whole = longest(self.crates, self.weights, self.names)
+        rest = longest(self.crates, self.weights, [it for it in self.names if it not in done])
+        if rest == whole:
             return ""
-        minutes = (time.monotonic() - self.begun) * (all_lines - seen) / seen / 60
+        minutes = (time.monotonic() - self.begun) * rest / (whole - rest) / 60
         return f", about {minutes:.0f} min more" if minutes >= 1 else ", less than a minute more"
 
     def tell(self, done: set[str], now: list[str], ended: str = ""):
@@ -155,7 +165,7 @@ def next_proofs(crates, waiting: list[str], done: set[str], running: list[Proof]
 def prove(crates: dict[str, list[str]], names: list[str], log: str) -> bool:
     """Whether all of the crates were proved."""
     cores, waiting, running, done, fine = processors(), [*names], [], set(), True
-    telling = Telling(names)
+    telling = Telling(crates, names)
     try:
         while running or (fine and waiting):
             if fine:
