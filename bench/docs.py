@@ -30,14 +30,15 @@ def blocks(path: str) -> list[tuple[int, str, list[str]]]:
     found, inside = [], None
     with open(path, encoding="utf-8") as lines:
         for number, line in enumerate(lines, 1):
-            if not line.startswith("```"):
+            fence = line.strip()
+            if not fence.startswith("```"):
                 if inside:
                     inside[2].append(line)
             elif inside:
                 found.append(inside)
                 inside = None
             else:
-                inside = (number, line[3:].strip(), [])
+                inside = (number, fence[3:].strip(), [])
     return found
 
 

@@ -8,22 +8,23 @@ rt lets one run work in a crate and in all crates below it. So each crate is pro
 crates below it stand with what was built of them. Its work comes back to its own folder when it has ended.
 """
 from __future__ import annotations
-import os, shutil, subprocess, sys, time
+import os, resource, shutil, signal, subprocess, sys, time
 
 # What a check takes for each job, in KiB, as far as was seen.
 MEMORY = 2_000_000
 BUILD = os.path.join("crates", "rq", "out", "build")
 
 
+def lines_by_crate() -> dict[str, str]:
+    """The line of crates.txt of each crate."""
+    with open("crates.txt", encoding="utf-8") as lines:
+        return {line.split()[0].rstrip(":"): line for line in lines if ":" in line.partition("#")[0]}
+
+
 def listed() -> dict[str, list[str]]:
     """The crates of this repository, each with those of them that it names."""
-    found = {}
-    with open("crates.txt", encoding="utf-8") as lines:
-        for line in lines:
-            head, colon, names = line.partition("#")[0].partition(":")
-            if colon:
-                found[head.split()[0]] = names.split()
-    return {name: [it for it in names if it in found] for name, names in found.items()}
+    lines = lines_by_crate()
+    return {name: [it for it in line.partition("#")[0].partition(":")[2].split() if it in lines] for name, line in lines.items()}
 
 
 def below(crates: dict[str, list[str]], name: str) -> list[str]:
@@ -34,16 +35,24 @@ def below(crates: dict[str, list[str]], name: str) -> list[str]:
     return found
 
 
-def lines_of(name: str) -> int:
-    """The lines of a crate's code, definitions and proofs: more lines take longer."""
-    count = 0
+def weight(name: str) -> float:
+    """How long a crate takes beside others, about: a line of code takes as long as six lines of definitions and proofs."""
+    count = 0.0
     for at, folders, files in os.walk(os.path.join("crates", name)):
         folders[:] = [it for it in folders if it != "out"]
         for file in files:
             if file.endswith((".rt", ".antt")):
                 with open(os.path.join(at, file), "rb") as text:
-                    count += sum(1 for _ in text)
+                    count += sum(1 for _ in text) / (1 if file.endswith(".rt") else 6)
     return count
+
+
+def longest(crates: dict[str, list[str]], weights: dict[str, float], names: list[str]) -> float:
+    """The weight of the heaviest chain of these crates, each of which stands on the one before it. Lower ones come first."""
+    chains: dict[str, float] = {}
+    for name in names:
+        chains[name] = weights[name] + max((chains[it] for it in crates[name] if it in chains), default=0.0)
+    return max(chains.values(), default=0.0)
 
 
 def processors() -> int:
@@ -64,13 +73,13 @@ class Proof:
     """The run of rt on one crate."""
 
     def __init__(self, crates: dict[str, list[str]], name: str, jobs: int):
-        self.name, self.jobs = name, jobs
+        self.name, self.jobs, self.begun, self.work = name, jobs, time.monotonic(), 0.0
         self.kept = os.path.join("crates", name, "out")
         self.place = os.path.join(BUILD, name)
         self.said = os.path.join(BUILD, name + ".log")
         shutil.rmtree(self.place, ignore_errors=True)
         os.makedirs(os.path.join(self.place, "crates"))
-        shutil.copy("crates.txt", self.place)
+        self.list_crates([*below(crates, name), name])
         for lower in below(crates, name):
             self.copy_crate(lower)
             shutil.copytree(os.path.join("crates", lower, "out", "rlib"), self.inside(lower, "out", "rlib"), copy_function=linked)
@@ -83,13 +92,26 @@ class Proof:
     def inside(self, *names: str) -> str:
         return os.path.join(self.place, "crates", *names)
 
+    def list_crates(self, names: list[str]):
+        lines = lines_by_crate()
+        with open(os.path.join(self.place, "crates.txt"), "w", encoding="utf-8") as to:
+            to.writelines(lines[it] for it in names)
+
     def copy_crate(self, name: str):
         shutil.copytree(os.path.join("crates", name), self.inside(name), ignore=shutil.ignore_patterns("out", "must-fail"))
+
+    def has_ended(self) -> bool:
+        before = resource.getrusage(resource.RUSAGE_CHILDREN)
+        ended = self.run.poll() is not None
+        after = resource.getrusage(resource.RUSAGE_CHILDREN)
+        self.work = after.ru_utime + after.ru_stime - before.ru_utime - before.ru_stime
+        return ended
 
     def put_back(self, log: str):
         """What was made goes back to the crate's folder, what was said to the log."""
         with open(log, "ab") as to, open(self.said, "rb") as said:
-            to.write(f"== {self.name}\n".encode())
+            seconds = time.monotonic() - self.begun
+            to.write(f"== {self.name}: {seconds:.0f} s with {self.jobs} jobs, {self.work:.0f} s of processor time\n".encode())
             shutil.copyfileobj(said, to)
         if os.path.isdir(self.inside(self.name, "out")):
             os.rename(self.inside(self.name, "out"), self.kept)
@@ -99,16 +121,18 @@ class Proof:
 class Telling:
     """How far the proofs are, on standard error: one line that changes on a terminal, else a line for each crate."""
 
-    def __init__(self, names: list[str]):
-        self.begun, self.names = time.monotonic(), names
-        self.lines = {name: lines_of(name) for name in names}
+    def __init__(self, crates: dict[str, list[str]], names: list[str]):
+        self.begun, self.crates, self.names = time.monotonic(), crates, names
+        self.weights = {name: weight(name) for name in names}
         self.is_terminal = sys.stderr.isatty()
 
     def left(self, done: set[str]) -> str:
-        seen, all_lines = sum(self.lines[it] for it in done), sum(self.lines.values())
-        if not seen:
+        """About how long the rest takes, by the heaviest chain that is left of the crates and the whole one."""
+        whole = longest(self.crates, self.weights, self.names)
+        rest = longest(self.crates, self.weights, [it for it in self.names if it not in done])
+        if rest == whole:
             return ""
-        minutes = (time.monotonic() - self.begun) * (all_lines - seen) / seen / 60
+        minutes = (time.monotonic() - self.begun) * rest / (whole - rest) / 60
         return f", about {minutes:.0f} min more" if minutes >= 1 else ", less than a minute more"
 
     def tell(self, done: set[str], now: list[str], ended: str = ""):
@@ -141,13 +165,13 @@ def next_proofs(crates, waiting: list[str], done: set[str], running: list[Proof]
 def prove(crates: dict[str, list[str]], names: list[str], log: str) -> bool:
     """Whether all of the crates were proved."""
     cores, waiting, running, done, fine = processors(), [*names], [], set(), True
-    telling = Telling(names)
+    telling = Telling(crates, names)
     try:
         while running or (fine and waiting):
             if fine:
                 running += next_proofs(crates, waiting, done, running, cores)
             time.sleep(0.5)
-            for proof in [it for it in running if it.run.poll() is not None]:
+            for proof in [it for it in running if it.has_ended()]:
                 running.remove(proof)
                 proof.put_back(log)
                 if proof.run.returncode == 0:
@@ -168,6 +192,8 @@ def prove(crates: dict[str, list[str]], names: list[str], log: str) -> bool:
 def main() -> int:
     program, log = sys.argv[1:]
     crates = listed()
+    for it in (signal.SIGTERM, signal.SIGHUP):
+        signal.signal(it, lambda number, _: sys.exit(128 + number))
     os.makedirs(BUILD, exist_ok=True)
     try:
         return 0 if prove(crates, below(crates, program), log) else 1
