@@ -1,5 +1,6 @@
 mod analysis;
 mod checkpoints;
+mod countdowns;
 mod damage;
 mod many;
 mod program;
