@@ -1,13 +1,15 @@
 -- The worked facts about formats, by computing.
 use Rattle.std.proofs.Common.{◌≡◌, inl, inr, ⊎_elim, ℕ, zero, suc, ◌+◌, ◌<◌, ◌≤◌, List, [], ◌∷◌, ◌++◌, length, refl, subst, arith}
-use Rattle.std.specs.Prelude.{replicate}
+use Rattle.std.specs.Prelude.{replicate, Some, None}
 use Rattle.std.specs.Fmt.{digits}
 use Rattle.std.proofs.lemmas.Bool.{false≢true}
 use Rattle.std.proofs.lemmas.List.{take_at, length-append, append-nil}
 use Rattle.sha2.specs.Sha256.{sha256}
 use Rattle.rq_model.specs.Frames.{magic, header, frame, digest, digest_in, body_in, AreBytes, IsBodyLength, stated, HasFrame, IsRest, Cut, Length, Digest}
 use Rattle.rq_model.specs.Records.{One}
-use Rattle.rq_model.specs.WorkedFormats.{WorkedNames, WorkedBodies, WorkedWidths, WorkedFrames, AllRests, WorkedStates, WorkedLines, one_body, two_framed}
+use Rattle.rq_model.specs.States.{definition_at}
+use Rattle.rq_model.specs.WorkedMachine.{busy}
+use Rattle.rq_model.specs.WorkedFormats.{WorkedNames, WorkedBodies, WorkedWidths, WorkedFrames, AllRests, WorkedStates, WorkedMembers, WorkedLines, one_body, two_framed}
 use Rattle.rq_model.proofs.Runs.{length-sha256, right_at}
 
 pub names : WorkedNames
@@ -169,6 +171,50 @@ states = record {
   held = refl;
   notes = refl;
 }
+
+two_queues : length busy.definitions ≡ 2
+two_queues = refl
+
+limit_two : (definition_at busy.definitions 1).limit ≡ 2
+limit_two = refl
+
+pub members : WorkedMembers
+members = record {
+  an_element = record { id = omega arith; home = omega (arith, two_queues); origin = omega (arith, two_queues); attempts = omega arith; limit = inl refl; unit = refl };
+  limited = record { id = omega arith; home = omega (arith, two_queues); origin = omega (arith, two_queues); attempts = omega arith; limit = inr (omega (arith, limit_two)); unit = refl };
+  element_id = λ h. omega (arith, h.id);
+  element_home = λ h. omega (arith, h.home, two_queues);
+  element_origin = λ h. omega (arith, h.origin, two_queues);
+  element_attempts = λ h. omega (arith, h.attempts);
+  element_limit = λ h. ⊎_elim (λ a. omega (arith, a, limit_two)) (λ b. omega (arith, b, limit_two)) h.limit;
+  element_fresh = λ h. false≢true h.unit;
+  element_held = λ h. false≢true h.unit;
+  a_last = record { place = omega arith; element = refl };
+  last_place = λ h. omega (arith, h.place);
+  last_element = λ h. none_some h.element;
+  a_registrant = record { queue = omega (arith, two_queues); last = tt };
+  registrant_queue = λ h. omega (arith, h.queue, two_queues);
+  registrant_last = λ h. omega (arith, h.last.place);
+  a_note = record { unit = refl; registrant = refl; last = record { place = omega arith; element = tt } };
+  note_unit = λ h. false≢true h.unit;
+  note_registrant = λ h. false≢true h.registrant;
+  note_last = λ h. omega (arith, h.last.place);
+  queues = λ s h. h.few;
+  greatest_next = record {
+    next = omega arith;
+    keeps = record { few = omega arith; names = tt; definitions = tt; units = tt; units_rise = tt; counts = omega arith; registrants = tt; registrants_rise = tt; registrants_few = omega arith; elements = tt; elements_rise = tt; notes = tt; notes_rise = tt };
+    fits = record { greatest = omega arith; definitions = tt; registrants = tt; elements = tt; notes = tt };
+    deep = tt;
+    spelling = refl;
+  };
+  next_too_great = λ version s bytes h. h.next;
+}
+  where
+    id : ℕ
+    id = 19
+
+    none_some : None ≡ Some id → ⊥
+    none_some e = cc
 
 pub lines : WorkedLines
 unfolding digits

@@ -1,17 +1,17 @@
 -- Names, records, frames, states and lines of a report, byte by byte, and each limit at its edge on both sides.
-use Rattle.std.specs.Prelude.{◌≡◌, ℕ, true, false, List, [], ◌∷◌, ◌++◌, length, map, filter, Some, None, replicate, codes}
+use Rattle.std.specs.Prelude.{◌≡◌, ◌≤◌, ℕ, true, false, List, [], ◌∷◌, ◌++◌, length, map, filter, Some, None, replicate, codes}
 use Rattle.std.specs.List.{range_with_len}
 use Rattle.sha2.specs.Sha256.{sha256}
-use Rattle.rq_model.specs.Records.{Define, Register, Deregister, Begin, Enqueue, Dequeue, Commit, Abort, Checkpoint, Kill, One, Two, no_queue}
+use Rattle.rq_model.specs.Records.{Define, Register, Deregister, Begin, Enqueue, Dequeue, Commit, Abort, Checkpoint, Kill, Version, One, Two, no_queue}
 use Rattle.rq_model.specs.Spelling.{is_name_byte, is_name, body_of, IsRecord, Spells}
 use Rattle.rq_model.specs.Frames.{IsBodyLength, log_limit, digest, frame, frames, last, magic, start, header, HasHeader, AreBytes, last_of, log_of, stated, body_in, digest_in, HasFrame, Whole, Cut, Length, Digest, IsRest, AreBodies, before}
-use Rattle.rq_model.specs.States.{Free, Fresh, Held, Enqueued, Dequeued}
-use Rattle.rq_model.specs.WellFormed.{IsDefinition, AreDefinitions, IsBelowLimit, IsElementOf, IsOneDeep}
-use Rattle.rq_model.specs.StateSpelling.{element_number, definition_bytes, registrant_bytes, element_bytes, note_bytes, FitsElement, IsDeepFor}
+use Rattle.rq_model.specs.States.{Free, Fresh, Held, Enqueued, Dequeued, State, empty}
+use Rattle.rq_model.specs.WellFormed.{IsElement, IsLast, IsRegistrant, IsNote, IsWellFormed, IsDefinition, AreDefinitions, IsBelowLimit, IsElementOf, IsOneDeep}
+use Rattle.rq_model.specs.StateSpelling.{element_number, definition_bytes, registrant_bytes, element_bytes, note_bytes, FitsElement, IsDeepFor, SpellsState}
 use Rattle.rq_model.specs.Fronts.{Ends, Form, Law, Restarted}
 use Rattle.rq_model.specs.Reports.{hex_of, payload_text, error_text, element_text, why_text, front_line, units_line, queue_line, element_line, registrant_line}
 use Rattle.rq_model.specs.WorkedLogs.{jobs, ann, nobody, by_ann}
-use Rattle.rq_model.specs.WorkedMachine.{element, last as last_one, note, registrant, definition, busy, dead_queue, jobs_queue}
+use Rattle.rq_model.specs.WorkedMachine.{element, last as last_one, note, registrant, definition, bob, busy, dead_queue, jobs_queue}
 
 -- seven zero bytes, then one
 abbrev pub eight : ℕ → List ℕ
@@ -173,6 +173,31 @@ pub record WorkedStates : Type 0 where
   pub fresh : element_bytes (element 1 2 3 4 5 [] (Fresh 6)) ≡ eight 1 ++ (0 ∷ 0 ∷ 0 ∷ 2 ∷ 0 ∷ 0 ∷ 0 ∷ 3 ∷ 4 ∷ (eight 5 ++ (1 ∷ (eight 6 ++ (0 ∷ 0 ∷ [])))))
   pub held : element_bytes (element 1 2 3 4 5 [] (Held 6)) ≡ eight 1 ++ (0 ∷ 0 ∷ 0 ∷ 2 ∷ 0 ∷ 0 ∷ 0 ∷ 3 ∷ 4 ∷ (eight 5 ++ (2 ∷ (eight 6 ++ (0 ∷ 0 ∷ [])))))
   pub notes : note_bytes (note 1 2 ann (last_one 3 Enqueued 4 (Some 3))) ≡ eight 3 ++ (eight 1 ++ (0 ∷ 0 ∷ 0 ∷ 2 ∷ 3 ∷ 0x61 ∷ 0x6e ∷ 0x6e ∷ 1 ∷ (eight 4 ++ eight 3)))
+
+-- What a member of the state in the middle of things may be, and what it may not.
+pub record WorkedMembers : Type 0 where
+  pub an_element : IsElement busy (element 19 0 1 0 20 [] (Held 9))
+  pub limited : IsElement busy (element 19 1 1 0 1 [] (Fresh 7))
+  pub element_id : IsElement busy (element 20 0 0 0 0 [] Free) → ⊥
+  pub element_home : IsElement busy (element 19 2 0 0 0 [] Free) → ⊥
+  pub element_origin : IsElement busy (element 19 0 2 0 0 [] Free) → ⊥
+  pub element_attempts : IsElement busy (element 19 0 0 0 21 [] Free) → ⊥
+  pub element_limit : IsElement busy (element 19 1 0 0 2 [] Free) → ⊥
+  pub element_fresh : IsElement busy (element 19 0 0 0 0 [] (Fresh 8)) → ⊥
+  pub element_held : IsElement busy (element 19 0 0 0 0 [] (Held 8)) → ⊥
+  pub a_last : IsLast busy (last_one 19 Enqueued 0 (Some 19))
+  pub last_place : IsLast busy (last_one 20 Enqueued 0 (Some 20)) → ⊥
+  pub last_element : IsLast busy (last_one 19 Enqueued 0 None) → ⊥
+  pub a_registrant : IsRegistrant busy (registrant 1 jobs None)
+  pub registrant_queue : IsRegistrant busy (registrant 2 ann None) → ⊥
+  pub registrant_last : IsRegistrant busy (registrant 1 ann (Some (last_one 20 Enqueued 0 (Some 20)))) → ⊥
+  pub a_note : IsNote busy (note 9 1 bob (last_one 19 Dequeued 0 None))
+  pub note_unit : IsNote busy (note 8 1 bob (last_one 19 Dequeued 0 None)) → ⊥
+  pub note_registrant : IsNote busy (note 9 0 bob (last_one 19 Dequeued 0 None)) → ⊥
+  pub note_last : IsNote busy (note 9 1 bob (last_one 20 Dequeued 0 None)) → ⊥
+  pub queues : (s : State) → IsWellFormed s → length s.definitions ≤ 4096
+  pub greatest_next : SpellsState One (record empty { next = 4294967295 }) ((0 ∷ 0 ∷ 0 ∷ 0 ∷ replicate 4 255) ++ replicate 44 0)
+  pub next_too_great : (version : Version) (s : State) (bytes : List ℕ) → SpellsState version s bytes → s.next ≤ 4294967295
 
 abbrev pub answer : Restarted
 answer = record { state = busy; records = 1; used = 2; total = 3; why = Law; committed = 4; aborted = 5; cut_off = 6 }

@@ -5,7 +5,7 @@
 ghost use Rattle.rq_model.specs.LogLaws.{BodySpellsOne, RecordHasOneBody, BytesSpellOneState, RunsFit, FrameIsRight, RightIsFrame, RunStops, OneRun, OneRest, OneFrameRun, RunGivesFront, FramesJoin, LogJoins, LogEnds, FrontStops, OneLongest, OneWhy, OneFront, OneRestart, OneText, OneReport, FrontHasReport, EveryLogHasReport, OneVersion, RecordIsWider, UsedIsFront, FrontsAreSpelt, OneRestartAt, TrueIsSame, TrueSaysTheSame, OneAudit, CrashInTheTail, CrashSaysTheSame, UpgradeIsSame};
 ghost use Rattle.rq_model.specs.WorkedLogs.{WorkedBytes, WorkedLogs, UnlawfulLogs, WorkedCheckpoint};
 ghost use Rattle.rq_model.specs.WorkedMachine.{WorkedLaw, WorkedSteps, WorkedOrders, WorkedQueues, WorkedRedo};
-ghost use Rattle.rq_model.specs.WorkedFormats.{WorkedNames, WorkedBodies, WorkedWidths, WorkedFrames, AllRests, WorkedStates, WorkedLines};
+ghost use Rattle.rq_model.specs.WorkedFormats.{WorkedNames, WorkedBodies, WorkedWidths, WorkedFrames, AllRests, WorkedStates, WorkedMembers, WorkedLines};
 ghost use Rattle.rq_model.specs.WorkedEnds.{WorkedEnds};
 ghost use Rattle.rq_model.specs.Ready.{RedoGoesWell, GoesOn};
 ghost use Rattle.rq_model.specs.Laws.{Projection, ArrivalsAreMerged, LawfulnessLooksAt, PartsDecide, IdsDiffer, PutInAnyOrder, AnyOrder, QueueIsDecided, TouchingIsExact, LawfulFrontIsLongest, WellFormedIsSound, RunsAreWellFormed, EmptyIsWellFormed, NumbersAfter, VersionOneIsOneDeep, VersionTwoIsWider, RedoSteps, CrashIsHarmless};
@@ -220,6 +220,7 @@ pub fn worked_formats()
     ensures frames { WorkedFrames }
     ensures rests { AllRests }
     ensures states { WorkedStates }
+    ensures members { WorkedMembers }
     ensures lines { WorkedLines }
 {}
 
