@@ -1,4 +1,6 @@
 pub mod WorkedReports
+pub mod WorkedEdges
+pub mod WorkedEnding
 pub mod Lists
 pub mod Parts
 pub mod Split
@@ -12,6 +14,7 @@ pub mod Merged
 pub mod Kept
 pub mod Shuffled
 pub mod LawfulFronts
+pub mod Touching
 pub mod Numbers
 pub mod Depth
 pub mod Cursor

@@ -43,7 +43,7 @@ front_says b version rs rest why front ends =
     (r, record { version = version; records = rs; rest = rest; why = why; front = front; ends = ends; answer = refl }, is_text r (final_kept version (run empty rs) keeps))
 
 -- the bytes of a log are the header's and each frame's
-size : List Record → ℕ
+unfoldable pub size : List Record → ℕ
 size [] = 0
 size (r ∷ rs) = 36 + length (body_of r) + size rs
 
@@ -52,10 +52,10 @@ unfolding size
 frames_size p [] = refl
 frames_size p (r ∷ rs) = omega (arith, length-append (frame p (body_of r)) (frames_of (digest p (body_of r)) rs), frame_long p (body_of r), frames_size (digest p (body_of r)) rs)
 
-log_size : (version : Version) (rs : List Record) → length (log_of version rs) ≡ 40 + size rs
+pub log_size : (version : Version) (rs : List Record) → length (log_of version rs) ≡ 40 + size rs
 log_size version rs = omega (arith, length-append (header version) (frames_of (sha256 (magic version)) rs), header_long version, frames_size (sha256 (magic version)) rs)
 
-whole_front : (version : Version) (rs : List Record) → AllByRecursion (IsRecord version) rs → all_lawful version empty rs ≡ true → 40 + size rs ≤ log_limit → IsFront (log_of version rs) version rs []
+pub whole_front : (version : Version) (rs : List Record) → AllByRecursion (IsRecord version) rs → all_lawful version empty rs ≡ true → 40 + size rs ≤ log_limit → IsFront (log_of version rs) version rs []
 whole_front version rs are lawful short =
     let bytes = frames_of (sha256 (magic version)) rs in
     record {
@@ -113,11 +113,11 @@ passes version (Checkpoint bytes) h = leb-true (length bytes) 268435455 h
 passes One (Kill queue element) h = absurd cc
 passes Two (Kill queue element) h = let a = and_parts (nat_lt queue (2 ^ 32)) (nat_lt element (2 ^ 64)) h in (ltb-true queue (2 ^ 32) a.0, ltb-true element (2 ^ 64) a.1)
 
-all_pass : (version : Version) (rs : List Record) → list_all (is_record version) rs ≡ true → AllByRecursion (IsRecord version) rs
+pub all_pass : (version : Version) (rs : List Record) → list_all (is_record version) rs ≡ true → AllByRecursion (IsRecord version) rs
 all_pass version [] h = tt
 all_pass version (r ∷ rs) h = let both = and_parts (is_record version r) (list_all (is_record version) rs) h in (passes version r both.0, all_pass version rs both.1)
 
-log_says : (version : Version) (rs : List Record) (text : List ℕ) → list_all (is_record version) rs ≡ true → all_lawful version empty rs ≡ true → nat_le (40 + size rs) log_limit ≡ true
+pub log_says : (version : Version) (rs : List Record) (text : List ℕ) → list_all (is_record version) rs ≡ true → all_lawful version empty rs ≡ true → nat_le (40 + size rs) log_limit ≡ true
     → text_made (restarted (run empty rs) 0 (40 + size rs) (Ends Whole)) ≡ text → IsReport (log_of version rs) text
 log_says version rs text are lawful short made =
     let made_of : text_made (restarted (run empty rs) 0 (length (log_of version rs)) (Ends Whole)) ≡ text = ap (λ (n : ℕ). text_made (restarted (run empty rs) 0 n (Ends Whole))) (log_size version rs) ∙ made in
@@ -181,7 +181,7 @@ unlawful_logs = record {
 }
 
 -- the checkpoint inside a unit is true
-true_log : (after : List Record) → list_all (is_record One) (before_the_checkpoint ++ Checkpoint (state_bytes (run empty before_the_checkpoint)) ∷ after) ≡ true → all_lawful One empty (before_the_checkpoint ++ Checkpoint (state_bytes (run empty before_the_checkpoint)) ∷ after) ≡ true
+pub true_log : (after : List Record) → list_all (is_record One) (before_the_checkpoint ++ Checkpoint (state_bytes (run empty before_the_checkpoint)) ∷ after) ≡ true → all_lawful One empty (before_the_checkpoint ++ Checkpoint (state_bytes (run empty before_the_checkpoint)) ∷ after) ≡ true
     → nat_le (40 + size (before_the_checkpoint ++ Checkpoint (state_bytes (run empty before_the_checkpoint)) ∷ after)) log_limit ≡ true → TrueAt (log_of One (before_the_checkpoint ++ Checkpoint (state_bytes (run empty before_the_checkpoint)) ∷ after)) 447
 unfolding size
 true_log after are lawful short =

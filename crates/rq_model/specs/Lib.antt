@@ -17,3 +17,5 @@ pub mod LogLaws
 pub mod MoveLaws
 pub mod WorkedLogs
 pub mod WorkedMachine
+pub mod WorkedFormats
+pub mod WorkedEnds

@@ -3,10 +3,10 @@ use Rattle.std.specs.Prelude.{◌≡◌, ℕ, true, false, List, [], ◌∷◌, 
 use Rattle.std.specs.List.{list_all, list_any}
 use Rattle.rq_model.specs.Records.{By, Record, Define, Register, Deregister, Begin, Enqueue, Dequeue, Commit, Abort, Checkpoint, Kill, One, Two}
 use Rattle.rq_model.specs.States.{Mark, Free, Fresh, Held, Kind, Enqueued, Dequeued, Element, Last, Note, Definition, Registrant, State, empty, definition_at, put, id_before, name_before, registrant_before}
-use Rattle.rq_model.specs.Machine.{is_lawful, best, later, latest, lawful_front, aborts, final, step, Committed, Aborted, Open, outcome}
-use Rattle.rq_model.specs.Queues.{Part, Op, Move, Transfer, part_of, defined_by, with_definitions, touches, touching, transfers, moves, arrivals}
+use Rattle.rq_model.specs.Machine.{is_lawful, best, later, lawful_front, aborts, final, step, Committed, Aborted, Open, outcome}
+use Rattle.rq_model.specs.Queues.{Op, Move, part_of, defined_by, with_definitions, touches, touching, transfers, moves, arrivals}
 use Rattle.rq_model.specs.Redo.{act, sent, before, from, redone, all_sent}
-use Rattle.rq_model.specs.Fronts.{Form, Restarted, restarted}
+use Rattle.rq_model.specs.Fronts.{Form, restarted}
 use Rattle.rq_model.specs.WorkedLogs.{jobs, ann, nobody, by_ann, arrival_log, one_element_log, unlawful_log}
 
 abbrev pub bob : List ℕ

@@ -5,8 +5,10 @@
 ghost use Rattle.rq_model.specs.LogLaws.{BodySpellsOne, RecordHasOneBody, BytesSpellOneState, RunsFit, FrameIsRight, RightIsFrame, RunStops, OneRun, OneRest, OneFrameRun, RunGivesFront, FramesJoin, LogJoins, LogEnds, FrontStops, OneLongest, OneWhy, OneFront, OneRestart, OneText, OneReport, FrontHasReport, EveryLogHasReport, OneVersion, RecordIsWider, UsedIsFront, FrontsAreSpelt, OneRestartAt, TrueIsSame, TrueSaysTheSame, OneAudit, CrashInTheTail, CrashSaysTheSame, UpgradeIsSame};
 ghost use Rattle.rq_model.specs.WorkedLogs.{WorkedBytes, WorkedLogs, UnlawfulLogs, WorkedCheckpoint};
 ghost use Rattle.rq_model.specs.WorkedMachine.{WorkedLaw, WorkedSteps, WorkedOrders, WorkedQueues, WorkedRedo};
+ghost use Rattle.rq_model.specs.WorkedFormats.{WorkedNames, WorkedBodies, WorkedWidths, WorkedFrames, AllRests, WorkedStates, WorkedMembers, WorkedLines};
+ghost use Rattle.rq_model.specs.WorkedEnds.{WorkedEnds};
 ghost use Rattle.rq_model.specs.Ready.{RedoGoesWell, GoesOn};
-ghost use Rattle.rq_model.specs.Laws.{Projection, ArrivalsAreMerged, LawfulnessLooksAt, PartsDecide, IdsDiffer, PutInAnyOrder, AnyOrder, QueueIsDecided, LawfulFrontIsLongest, WellFormedIsSound, RunsAreWellFormed, EmptyIsWellFormed, NumbersAfter, VersionOneIsOneDeep, VersionTwoIsWider, RedoSteps, CrashIsHarmless};
+ghost use Rattle.rq_model.specs.Laws.{Projection, ArrivalsAreMerged, LawfulnessLooksAt, PartsDecide, IdsDiffer, PutInAnyOrder, AnyOrder, QueueIsDecided, TouchingIsExact, LawfulFrontIsLongest, WellFormedIsSound, RunsAreWellFormed, EmptyIsWellFormed, NumbersAfter, VersionOneIsOneDeep, VersionTwoIsWider, RedoSteps, CrashIsHarmless};
 ghost use Rattle.rq_model.specs.MoveLaws.{MovesRise, ArrivalsRise};
 
 /// A body spells at most one record, a record has one body, and the bytes of a state spell no other state.
@@ -157,6 +159,11 @@ pub fn projection()
     ensures { Projection }
 {}
 
+/// The records that touch a queue are those that do after the records before them, each once, rising.
+pub fn touching_is_exact()
+    ensures { TouchingIsExact }
+{}
+
 /// Equal parts before, equal records that touch a queue and equal arrivals give equal parts and equal moves.
 pub fn queue_is_decided()
     ensures { QueueIsDecided }
@@ -203,4 +210,21 @@ pub fn worked_machine()
     ensures orders { WorkedOrders }
     ensures queues { WorkedQueues }
     ensures redo { WorkedRedo }
+{}
+
+/// Names, records, frames, states and the lines of a report, byte by byte, and each limit at its edge on both sides.
+pub fn worked_formats()
+    ensures names { WorkedNames }
+    ensures bodies { WorkedBodies }
+    ensures widths { WorkedWidths }
+    ensures frames { WorkedFrames }
+    ensures rests { AllRests }
+    ensures states { WorkedStates }
+    ensures members { WorkedMembers }
+    ensures lines { WorkedLines }
+{}
+
+/// Logs that end in each other way, a true and a false checkpoint, a tail and an upgraded log.
+pub fn worked_ends()
+    ensures { WorkedEnds }
 {}
