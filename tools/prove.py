@@ -133,7 +133,7 @@ class Telling:
         if rest == whole:
             return ""
         minutes = (time.monotonic() - self.begun) * rest / (whole - rest) / 60
-        return f", about {minutes:.0f} min more" if minutes >= 1 else ", less than a minute more"
+        return f", about {max(1, round(minutes))} min more for the libraries" if rest else ""
 
     def tell(self, done: set[str], now: list[str], ended: str = ""):
         seconds = int(time.monotonic() - self.begun)
