@@ -1,0 +1,106 @@
+-- The blocks of a padded message, from where its bytes stand.
+use Rattle.std.proofs.Common.{◌≡◌, ◌≢◌, ℕ, zero, suc, ◌+◌, ◌-◌, ◌*◌, ◌/◌, ◌%◌, ◌≤◌, ◌<◌, List, [], ◌++◌, length, take, drop, refl, sym, ap, ◌∙◌, arith, slice_index, slice_index_or, slice_set, inl, inr}
+use Rattle.std.specs.Prelude.{slice_range}
+use Rattle.std.proofs.lemmas.List.{length-take, length-drop, drop-take, drop-drop, take-take, take_all, get_or-set_same, get_or-set_other, length-set}
+use Rattle.std.proofs.lemmas.Bool.{cases_lt}
+use Rattle.sha2.specs.Sha256.{hash_after, compress, initial_hash_256, padded_message, padding}
+use Rattle.sha2.proofs.Absorbing256.{hash_after_next}
+use Rattle.rq_lanes.specs.Columns.{word_in, lane}
+use Rattle.rq_lanes.specs.Messages.{Fills, Runs, block_at, text}
+use Rattle.rq_lanes.specs.declared.lanes.Message.{Message}
+use Rattle.rq_lanes.specs.declared.lanes.Lane.{Lane}
+use Rattle.rq_lanes.proofs.Tails.{block_whole, block_tail, padded_blocks}
+
+pub length-text : (b : List ℕ) (m : Message) → m.start + m.len ≤ length b → length (text b m) ≡ m.len
+length-text b m le = omega (arith, length-take (m.start + m.len - m.start) (drop m.start b), length-drop m.start b)
+
+-- a block that is whole in the message
+pub block_of_text : (b : List ℕ) (m : Message) (k from : ℕ) (x : List ℕ) → m.start + m.len ≤ length b → k * 64 + 64 ≤ m.len → from ≡ m.start + k * 64
+    → x ≡ take (from + 64 - from) (drop from b) → x ≡ take 64 (drop (k * 64) (padded_message (text b m)))
+block_of_text b m k from x le fits at e =
+    let long = length-text b m le in
+    let width : from + 64 - from ≡ 64 = omega arith in
+    let span : m.start + m.len - m.start ≡ k * 64 + (m.len - k * 64) = omega arith in
+    let inner : drop (k * 64) (text b m) ≡ take (m.len - k * 64) (drop (k * 64) (drop m.start b)) =
+    ap (λ (n : ℕ). drop (k * 64) (take n (drop m.start b))) span ∙ drop-take (k * 64) (m.len - k * 64) (drop m.start b) in
+    let there : drop (k * 64) (drop m.start b) ≡ drop from b = drop-drop (k * 64) m.start b ∙ ap (λ (n : ℕ). drop n b) (sym at) in
+    let cut = take-take 64 (m.len - k * 64) (drop from b) (omega arith) in
+    e ∙ ap (λ (n : ℕ). take n (drop from b)) width
+    ∙ sym (block_whole (text b m) k (omega (arith, long)) ∙ ap (take 64) (inner ∙ ap (take (m.len - k * 64)) there) ∙ cut)
+
+-- how many blocks a lane's message has
+pub blocks_of_lane : (b : List ℕ) (l : Lane) → Fills b l → l.due - l.born ≡ l.message.len / 64 + (l.message.len % 64 + 72) / 64
+blocks_of_lane b l f =
+    let long = length-text b l.message (omega (arith, f.within)) in
+    omega (arith, f.count, padded_blocks (text b l.message), long)
+
+-- the block that the tail begins with
+pub block_first_tail : (b : List ℕ) (l : Lane) (k : ℕ) → Fills b l → k ≡ l.message.len / 64
+    → take 64 l.tail ≡ take 64 (drop (k * 64) (padded_message (text b l.message)))
+block_first_tail b l k f at =
+    let long = length-text b l.message (omega (arith, f.within)) in
+    let n = l.message.len in
+    let t = block_tail (text b l.message) l.tail (n / 64) 0 (n % 64 + (119 - n % 64) % 64 + 9) (omega (arith, long)) f.tail (omega arith) in
+    let place : (n / 64 + 0) * 64 ≡ k * 64 = omega arith in
+    sym (ap (λ (i : ℕ). take 64 (drop i (padded_message (text b l.message)))) (sym place) ∙ t)
+
+-- the block behind it
+pub block_second_tail : (b : List ℕ) (l : Lane) (k : ℕ) → Fills b l → l.message.len / 64 < k → k < l.due - l.born
+    → take 64 (drop 64 l.tail) ≡ take 64 (drop (k * 64) (padded_message (text b l.message)))
+block_second_tail b l k f above below =
+    let long = length-text b l.message (omega (arith, f.within)) in
+    let count = blocks_of_lane b l f in
+    let n = l.message.len in
+    let t = block_tail (text b l.message) l.tail (n / 64) 1 (n % 64 + (119 - n % 64) % 64 + 9) (omega (arith, long)) f.tail (omega (arith, count)) in
+    let place : (n / 64 + 1) * 64 ≡ k * 64 = omega (arith, count) in
+    sym (ap (λ (i : ℕ). take 64 (drop i (padded_message (text b l.message)))) (sym place) ∙ t)
+
+-- one more block
+pub runs_on : (b : List ℕ) (l : Lane) (clock : ℕ) (words block next : List ℕ) → Runs b l clock words → clock < l.due
+    → block ≡ block_at b l clock → next ≡ compress words block → Runs b l (clock + 1) next
+runs_on b l clock words block next r lt at e =
+    let p = padded_message (text b l.message) in
+    let count : clock + 1 - l.born ≡ clock - l.born + 1 = omega (arith, r.begun) in
+    record {
+      fills = r.fills;
+      begun = omega (arith, r.begun);
+      ending = omega arith;
+      hash = e ∙ ap (λ (w : List ℕ). compress w block) r.hash ∙ ap (compress (hash_after initial_hash_256 p (clock - l.born))) at
+          ∙ sym (hash_after_next initial_hash_256 p (clock - l.born)) ∙ ap (hash_after initial_hash_256 p) (sym count);
+    }
+
+-- what holds below eight
+pub below_eight : (P : ℕ → Type 0) → P 0 → P 1 → P 2 → P 3 → P 4 → P 5 → P 6 → P 7 → (j : ℕ) → j < 8 → P j
+below_eight P p0 p1 p2 p3 p4 p5 p6 p7 zero h = p0
+below_eight P p0 p1 p2 p3 p4 p5 p6 p7 (suc zero) h = p1
+below_eight P p0 p1 p2 p3 p4 p5 p6 p7 (suc (suc zero)) h = p2
+below_eight P p0 p1 p2 p3 p4 p5 p6 p7 (suc (suc (suc zero))) h = p3
+below_eight P p0 p1 p2 p3 p4 p5 p6 p7 (suc (suc (suc (suc zero)))) h = p4
+below_eight P p0 p1 p2 p3 p4 p5 p6 p7 (suc (suc (suc (suc (suc zero))))) h = p5
+below_eight P p0 p1 p2 p3 p4 p5 p6 p7 (suc (suc (suc (suc (suc (suc zero)))))) h = p6
+below_eight P p0 p1 p2 p3 p4 p5 p6 p7 (suc (suc (suc (suc (suc (suc (suc zero))))))) h = p7
+below_eight P p0 p1 p2 p3 p4 p5 p6 p7 (suc (suc (suc (suc (suc (suc (suc (suc n)))))))) h = absurd (omega arith)
+
+-- word i of a lane stands in row i
+pub word_of_lane : (hash : List (List ℕ)) (j i : ℕ) → i < 8 → slice_index (lane j hash) i ≡ word_in hash i j
+word_of_lane hash j = below_eight (λ i. slice_index (lane j hash) i ≡ word_in hash i j) refl refl refl refl refl refl refl refl
+
+-- a row that was set, and the others
+pub row-set_same : (hash : List (List ℕ)) (i k : ℕ) (row : List ℕ) → i < length hash → word_in (slice_set hash i row) i k ≡ slice_index row k
+row-set_same hash i k row low = ap (λ (x : List ℕ). slice_index x k) (get_or-set_same hash i row [] low)
+
+pub row-set_other : (hash : List (List ℕ)) (i r k : ℕ) (row : List ℕ) → r ≢ i → word_in (slice_set hash i row) r k ≡ word_in hash r k
+row-set_other hash i r k row ne = ap (λ (x : List ℕ). slice_index x k) (get_or-set_other hash i r row [] ne)
+
+-- the words of another lane, where a row keeps its own
+pub other_words : (hash : List (List ℕ)) (i r k : ℕ) (row : List ℕ) → i < length hash → slice_index row k ≡ word_in hash i k → word_in (slice_set hash i row) r k ≡ word_in hash r k
+other_words hash i r k row low same =
+    elim (cases_lt r i) [
+      | inl a ↦ row-set_other hash i r k row (omega arith)
+      | inr b ↦ elim (cases_lt i r) [
+        | inl a ↦ row-set_other hash i r k row (omega arith)
+        | inr e ↦
+            let at : i ≡ r = omega arith in
+            rw (← at) (row-set_same hash i k row low ∙ same)
+      ]
+    ]

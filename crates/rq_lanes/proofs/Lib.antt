@@ -1,0 +1,5 @@
+mod ChMaj
+pub mod Columns
+mod Tails
+pub mod Blocks
+pub mod Holding

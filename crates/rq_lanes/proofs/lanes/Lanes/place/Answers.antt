@@ -1,0 +1,17 @@
+use Rattle.std.proofs.Common.{rules, arith, ◌≡◌, ◌≤◌, ◌+◌, length}
+use Rattle.rq_lanes.specs.Messages.{text}
+use Rattle.rq_lanes.proofs.Blocks.{length-text}
+use Rattle.rq_lanes.proofs.Holding.{placed, starts}
+use Rattle.rq_lanes.proofs.lanes.Lanes.place.Goals as goal
+
+pub returns : goal.returns
+returns g c = λ ms h free.
+    let b = c.args.bytes.now in
+    let s = c.args.self.now in
+    let m = c.args.message in
+    let l = c.of.result in
+    let within : m.start + m.len + 32 ≤ length b = search rules in
+    let count = c.blocks_of-count.ensures (text b m) (length-text b m (omega (arith, within))) in
+    let fills = c.of.ensures.fills (omega (arith, count)) in
+    let run = starts b l s.clock _ fills c.of.ensures.born (omega (arith, c.of.ensures.due)) c.restart.ensures.lane in
+    placed b s ms c.restart.new.hash c.args.j l m (omega arith) free c.of.ensures.busy c.of.ensures.message run c.restart.ensures.others h

@@ -1,0 +1,34 @@
+//! The padded end of a message (FIPS 180-4, 5.1.1).
+
+ghost use Rattle.std.specs.Prelude.{◌≡◌, ℕ, ◌+◌, ◌-◌, ◌%◌, ◌<◌, ◌++◌, ◌∷◌, length, replicate, take};
+ghost use Rattle.sha2.specs.Sha256.{padding};
+
+// The padding's first bytes: a bit 1, then zeros.
+const PADDING: [u8; 64] = [
+    0x80, 0, 0, 0, 0, 0, 0, 0, 0, 0, 0, 0, 0, 0, 0, 0, 0, 0, 0, 0, 0, 0, 0, 0, 0, 0, 0, 0, 0, 0, 0,
+    0, 0, 0, 0, 0, 0, 0, 0, 0, 0, 0, 0, 0, 0, 0, 0, 0, 0, 0, 0, 0, 0, 0, 0, 0, 0, 0, 0, 0, 0, 0, 0,
+    0,
+];
+
+// The padding's bytes before the length field.
+fn front(zeros: usize) -> &'static [u8]
+    requires { zeros < 64 }
+    ensures { result.now ≡ 0x80 ∷ replicate zeros 0 }
+{
+    &PADDING[..zeros + 1]
+}
+
+/// The last block or two of a message of `len` bytes, of which `rest` are the bytes after its last whole block.
+pub(crate) fn tail(rest: &[u8], len: u64) -> [u8; 128]
+    requires { length rest.now ≡ len % 64 }
+    ensures { take (len % 64 + (119 - len % 64) % 64 + 9) result ≡ rest.now ++ padding len }
+{
+    let used = rest.len();
+    let zeros = (119 - used) % 64;
+    let end = used + (zeros + 1);
+    let mut out = [0u8; 128];
+    out[..used].copy_from_slice(rest);
+    out[used..end].copy_from_slice(front(zeros));
+    out[end..end + 8].copy_from_slice(&len.wrapping_mul(8).to_be_bytes());
+    out
+}
