@@ -1,3 +1,4 @@
 pub mod Told
 pub mod ToldAt
 pub mod Scripts
+pub mod Plans

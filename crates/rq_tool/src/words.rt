@@ -1,44 +1,96 @@
 //! From the words of a command line to a command.
 
+ghost use Rattle.std.specs.Prelude.{◌∷◌, map, codes};
+ghost use Rattle.rq_tool.specs.Commands.{IsCommand};
+ghost use Rattle.rq_tool.specs.Words.{IsAuditPlanOf, IsPlanOf};
+ghost use Rattle.rq_writer.specs.Decimals.{IsNumber};
+
 use crate::line::Command;
 use rq_restart::Plan;
+use rq_writer::decimal_number;
 
-/// The grain of the commands that name none, in frames.
+/// The grain of an audit, which names none, in frames.
 const GRAIN: u32 = 1000;
 
-/// The command that the words after the program's name give; none where they are no line of the program.
-/// Numbers are decimal without leading zeros; workers, grain and offset are in their ranges.
-/// It takes no memory.
-pub fn command<'a>(words: &[&'a str]) -> Option<Command<'a>> {
+fn small(word: &str) -> Option<u32>
+    ensures { IsNumber 4294967295 word.now result }
+{
+    let number = decimal_number(4_294_967_295, word.as_bytes())?;
+    Some(number as u32)
+}
+
+fn plan(workers: &str, grain: &str) -> Option<Plan>
+    ensures { IsPlanOf workers.now grain.now result }
+{
+    let workers = small(workers)?;
+    let grain = small(grain)?;
+    Plan::new(workers, grain)
+}
+
+fn audit_plan(workers: &str) -> Option<Plan>
+    ensures { IsAuditPlanOf workers.now result }
+{
+    let workers = small(workers)?;
+    Plan::new(workers, GRAIN)
+}
+
+fn make<'a>(words: &[&'a str]) -> Option<Command<'a>>
+    ensures { IsCommand (codes "make" ∷ map (λ w. w.now) words.now) result }
+{
     match words {
-        ["make", script, log] => Some(Command::Make { script, log }),
-        ["restart", log, workers, grain] => {
+        [script, log] => Some(Command::Make { script, log }),
+        _ => None,
+    }
+}
+
+fn restart<'a>(words: &[&'a str]) -> Option<Command<'a>>
+    ensures { IsCommand (codes "restart" ∷ map (λ w. w.now) words.now) result }
+{
+    match words {
+        [log, workers, grain] => {
             let plan = plan(workers, grain)?;
             Some(Command::Restart { log, plan })
         }
-        ["restart-at", log, offset, workers, grain] => {
-            let offset = number(offset)?;
+        _ => None,
+    }
+}
+
+fn restart_at<'a>(words: &[&'a str]) -> Option<Command<'a>>
+    ensures { IsCommand (codes "restart-at" ∷ map (λ w. w.now) words.now) result }
+{
+    match words {
+        [log, offset, workers, grain] => {
+            let offset = decimal_number(u64::MAX, offset.as_bytes())?;
             let plan = plan(workers, grain)?;
             Some(Command::RestartAt { log, offset, plan })
         }
-        ["audit", log, workers] => {
-            let plan = Plan::new(small(workers)?, GRAIN)?;
+        _ => None,
+    }
+}
+
+fn audit<'a>(words: &[&'a str]) -> Option<Command<'a>>
+    ensures { IsCommand (codes "audit" ∷ map (λ w. w.now) words.now) result }
+{
+    match words {
+        [log, workers] => {
+            let plan = audit_plan(workers)?;
             Some(Command::Audit { log, plan })
         }
         _ => None,
     }
 }
 
-fn plan(workers: &str, grain: &str) -> Option<Plan> {
-    Plan::new(small(workers)?, small(grain)?)
-}
-
-fn small(word: &str) -> Option<u32> {
-    u32::try_from(number(word)?).ok()
-}
-
-/// A number in decimal without sign and leading zeros.
-fn number(word: &str) -> Option<u64> {
-    let is_plain = word == "0" || !word.starts_with('0') && !word.starts_with('+');
-    if is_plain { word.parse().ok() } else { None }
+/// The command whose line has these words after the program's name; none where they are of no line. Numbers are decimal
+/// without leading zeros; workers, grain and offset are in their ranges. It takes no memory.
+pub fn command<'a>(words: &[&'a str]) -> Option<Command<'a>>
+    ensures { IsCommand (map (λ w. w.now) words.now) result }
+{
+    let (first, rest) = words.split_first()?;
+    match *first {
+        "make" => make(rest),
+        "restart" => restart(rest),
+        "restart-at" => restart_at(rest),
+        "audit" => audit(rest),
+        _ => None,
+    }
 }

@@ -1,5 +1,5 @@
 -- Numbers in decimal.
-use Rattle.std.proofs.Common.{◌≡◌, inl, inr, ℕ, zero, suc, ◌^◌, ◌<◌, ◌≤◌, true, false, ltb, leb, eqb, ◌&&◌, ◌||◌, List, [], ◌∷◌, length, get_or, Some, None, Result, Err, refl, sym, ap, subst, ◌∙◌, arith, rules}
+use Rattle.std.proofs.Common.{◌≡◌, inl, inr, ℕ, zero, suc, ◌^◌, ◌<◌, ◌≤◌, true, false, ltb, leb, eqb, ◌&&◌, ◌||◌, List, [], ◌∷◌, length, get_or, Option, Some, None, Result, Err, refl, sym, ap, subst, ◌∙◌, arith, rules}
 use Rattle.std.specs.List.{list_all}
 use Rattle.std.specs.Fmt.{decimal}
 use Rattle.std.specs.Str.Parse.{ParsesUnsigned, digits_value}
@@ -7,6 +7,7 @@ use Rattle.std.proofs.lemmas.Bool.{eqb-true, ltb-true, lt-ltb, leb-true, le-leb,
 use Rattle.std.proofs.lemmas.Str.Parse.{IsNumeralModel, numerals_by_value, parse_digits}
 use Rattle.std.proofs.lemmas.Fmt.{decimal-digits_value, decimal_is_IsNumeral, decimal_digit, first_decimal}
 use Rattle.rq_record.proofs.Fields.{guard_some}
+use Rattle.rq_writer.specs.Decimals.{IsNumber}
 use Rattle.rq_writer.specs.Reading.{is_digit, is_decimal, number_of}
 
 pub own : IsNumeralModel (λ ds. list_all is_digit ds ≡ true) (digits_value 10)
@@ -71,3 +72,23 @@ pub ascii_digits : (bytes : List ℕ) → list_all is_digit bytes ≡ true → (
 ascii_digits [] all i = omega arith
 ascii_digits (b ∷ bs) all zero = let p = and_parts (leb 48 b) (leb b 57) (and_parts (is_digit b) (list_all is_digit bs) all).0 in let top : b ≤ 57 = leb-true b 57 p.1 in omega arith
 ascii_digits (b ∷ bs) all (suc i) = ascii_digits bs (and_parts (is_digit b) (list_all is_digit bs) all).1 i
+
+-- the number of a text, as it is read
+pub some_number : (most : ℕ) (text : List ℕ) (n : ℕ) → most < 2 ^ 64 → n ≤ most → Some n ≡ number_of 18446744073709551615 text → IsNumber most text (Some n)
+some_number most text n small le is = (le, (number_takes 18446744073709551615 text n (omega arith) (sym is)).0)
+
+pub no_number : (most : ℕ) (text : List ℕ) → most < 2 ^ 64 → number_of 18446744073709551615 text ≡ None → IsNumber most text None
+no_number most text small none = λ n le same.
+    let read : number_of 18446744073709551615 text ≡ Some n = subst (λ (t : List ℕ). number_of 18446744073709551615 t ≡ Some n) (sym same) (number_again 18446744073709551615 n (omega arith) (omega (arith, le, small))) in
+    let no : None ≡ Some n = sym none ∙ read in
+    absurd (cc)
+
+pub other_number : (most : ℕ) (text : List ℕ) (v : ℕ) → most < 2 ^ 64 → most < v → number_of 18446744073709551615 text ≡ Some v → IsNumber most text None
+other_number most text v small more is = λ n le same.
+    let read : number_of 18446744073709551615 text ≡ Some n = subst (λ (t : List ℕ). number_of 18446744073709551615 t ≡ Some n) (sym same) (number_again 18446744073709551615 n (omega arith) (omega (arith, le, small))) in
+    let both : Some v ≡ Some n = sym is ∙ read in
+    let one : v ≡ n = cc in
+    absurd (omega (arith, one, le, more))
+
+pub not_decimal : (most : ℕ) (text : List ℕ) → most < 2 ^ 64 → is_decimal text ≡ false → IsNumber most text None
+not_decimal most text small h = no_number most text small (rw h refl)

@@ -1,4 +1,5 @@
 pub mod Script
+pub mod Decimals
 pub mod Views
 pub mod Reading
 pub mod Made

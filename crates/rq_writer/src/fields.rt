@@ -43,7 +43,7 @@ fn are_digits(bytes: &[u8]) -> bool
     bytes.iter().all(|b| is_digit(*b))
 }
 
-fn is_decimal(bytes: &[u8]) -> bool
+pub(crate) fn is_decimal(bytes: &[u8]) -> bool
     ensures { result ≡ spec.is_decimal bytes.now }
 {
     match bytes {
@@ -52,7 +52,7 @@ fn is_decimal(bytes: &[u8]) -> bool
     }
 }
 
-fn parsed(bytes: &[u8]) -> Option<u64>
+pub(crate) fn parsed(bytes: &[u8]) -> Option<u64>
     requires { IsTrue (spec.is_decimal bytes.now) }
     ensures { result ≡ spec.number_of 18446744073709551615 bytes.now }
 {

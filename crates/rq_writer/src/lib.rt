@@ -1,6 +1,7 @@
 //! From a script to a log.
 #![tactic(auto)]
 
+mod decimals;
 mod fields;
 mod front;
 mod hexes;
@@ -9,4 +10,5 @@ mod log;
 mod making;
 mod reading;
 
+pub use decimals::decimal_number;
 pub use making::make;

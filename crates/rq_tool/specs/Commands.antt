@@ -1,0 +1,43 @@
+-- The lines of the program.
+use Rattle.std.specs.Prelude.{◌≡◌, ℕ, ◌<◌, ◌≤◌, ◌^◌, ⊤, List, [], ◌∷◌, Option, Some, None, codes}
+use Rattle.std.specs.Fmt.{decimal}
+use Rattle.rq_pool.specs.Plans.{workers_of, grain_of}
+use Rattle.rq_tool.specs.declared.line.Command.{Command}
+use Rattle.rq_tool.specs.declared.line.Command.TheVariants as code
+
+-- what a line of the program tells
+pub data Line : Type 0 where
+  Make : (script log : List ℕ) → Line
+  Restart : (log : List ℕ) (workers grain : ℕ) → Line
+  RestartAt : (log : List ℕ) (offset workers grain : ℕ) → Line
+  Audit : (log : List ℕ) (workers grain : ℕ) → Line
+
+-- its words, after the program's name
+abbrev pub words_of : Line → List (List ℕ)
+words_of (Make script log) = codes "make" ∷ (script ∷ (log ∷ []))
+words_of (Restart log workers grain) = codes "restart" ∷ (log ∷ (decimal workers ∷ (decimal grain ∷ [])))
+words_of (RestartAt log offset workers grain) = codes "restart-at" ∷ (log ∷ (decimal offset ∷ (decimal workers ∷ (decimal grain ∷ []))))
+words_of (Audit log workers grain) = codes "audit" ∷ (log ∷ (decimal workers ∷ []))
+
+-- how many workers there may be, and how many frames a grain has
+abbrev pub IsPlan : ℕ → ℕ → Type 0
+IsPlan workers grain = (1 ≤ workers) × (workers ≤ 64) × (1 ≤ grain) × (grain ≤ 1000000)
+
+-- the numbers of a line are in their ranges; an audit names no grain, and has one of 1,000
+abbrev pub IsLine : Line → Type 0
+IsLine (Make script log) = ⊤
+IsLine (Restart log workers grain) = IsPlan workers grain
+IsLine (RestartAt log offset workers grain) = (offset < 2 ^ 64) × IsPlan workers grain
+IsLine (Audit log workers grain) = IsPlan workers grain × (grain ≡ 1000)
+
+-- the line of a command
+abbrev pub line_of : Command → Line
+line_of (code.Make script log) = Make script.now log.now
+line_of (code.Restart log plan) = Restart log.now (workers_of plan) (grain_of plan)
+line_of (code.RestartAt log offset plan) = RestartAt log.now offset (workers_of plan) (grain_of plan)
+line_of (code.Audit log plan) = Audit log.now (workers_of plan) (grain_of plan)
+
+-- the words are those of the command's line, or of no line
+abbrev pub IsCommand : List (List ℕ) → Option Command → Type 0
+IsCommand words (Some command) = IsLine (line_of command) × (words ≡ words_of (line_of command))
+IsCommand words None = (l : Line) → IsLine l → words ≡ words_of l → ⊥
