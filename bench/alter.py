@@ -5,10 +5,11 @@ copy of the crate, and says which alterations the prover accepts.
     bench/alter.py [--copy DIR] [--results FILE] [--only WORD] [--every N] [--seconds S] [--list] [--accepted]
 
 Each alteration is first held against the worked facts alone (`rt check --only`, some 5 to 10 seconds on an idle core),
-and against the whole crate (some 40 seconds) only where the facts let it through. There are about 1,000 alterations, so
-the whole takes about 3 hours on one idle core. What is known is kept in FILE (one JSON object a line) and is not
-tried again, so a run can be broken off and taken up. `--only` takes those whose place has the word, `--every N` each
-Nth, `--seconds` ends after so many, `--list` tries nothing, `--accepted` prints what was accepted so far.
+and against the whole crate (some 40 seconds) only where the facts let it through. There are about 840 alterations, a
+third of them of statements of laws, so the whole takes 3 to 5 hours on one idle core. What is known is kept in FILE
+(one JSON object a line) and is not tried again, so a run can be broken off and taken up. `no definition` means that the
+altered chapter itself is ill typed. `--only` takes those whose place has the word, `--every N` each Nth, `--seconds`
+ends after so many, `--list` tries nothing, `--accepted` prints what was accepted so far.
 
 The chapters of worked facts are left alone, and so are `use` lines, comments and the names of what is declared.
 """
@@ -36,6 +37,12 @@ WORDS = {
 SIGNS = {"+": "-", "-": "+", "/": "%", "%": "/", "<": "≤", "≤": "<", "≡": "≢", "≢": "≡", "&&": "||", "||": "&&", "×": "⊎", "⊎": "×", "↔": "×"}
 TOKEN = re.compile(r'"(?:[^"\\]|\\.)*"|0x[0-9a-f]+|[A-Za-z_][A-Za-z0-9_\'-]*|\d+|&&|\|\||==|\+\+|[-+/%<≤≡≢×⊎↔]')
 LAWS = ("Laws", "LogLaws", "MoveLaws", "Ready")
+HOMES = {
+    "Rattle.std.specs.List": ("list_any", "list_all"), "Rattle.std.specs.Int": ("w16", "w32", "w64"),
+    "Rattle.rq_model.specs.Records": ("One", "Two", "Commit", "Abort", "Register", "Deregister"),
+    "Rattle.rq_model.specs.States": ("Fresh", "Held", "Enqueued", "Dequeued"), "Rattle.rq_model.specs.Frames": ("Whole", "Cut", "Length", "Digest"),
+    "Rattle.rq_model.specs.Machine": ("Committed", "Aborted"), "Rattle.rq_model.specs.Fronts": ("Form", "Law"),
+}
 
 
 def other(token):
@@ -48,6 +55,20 @@ def other(token):
     return WORDS.get(token) or SIGNS.get(token)
 
 
+def altered(text, name, start, stop, new):
+    """The chapter with the alteration, and with what it has to import for it."""
+    text = text[:start] + new + text[stop:]
+    if new[0] in '"0123456789':
+        return text
+    word = new if new[0].isalpha() else f"◌{new}◌"
+    home = next((home for home, words in HOMES.items() if new in words), "Rattle.std.specs.Prelude")
+    uses = "\n".join(line for line in text.split("\n") if line.startswith("use "))
+    if home.endswith(f".{name.split('.')[0]}") or new == "×" or re.search(rf"[{{ ]{re.escape(word)}[,}}]", uses):
+        return text
+    first, rest = text.split("\n", 1)
+    return f"{first}\nuse {home}.{{{word}}}\n{rest}"
+
+
 def alterations():
     """(place, file, start, end, new) of each alteration, in the order of the chapters."""
     for line in (SPECS / "Lib.antt").read_text().split("\n"):
@@ -58,8 +79,9 @@ def alterations():
         for number, line in enumerate(path.read_text().split("\n"), 1):
             code = line.split("--")[0] if not line.startswith("use ") else ""
             for match in TOKEN.finditer(code):
-                # a name that is declared, or a field
-                if code[: match.start()].strip() in ("pub", "pub data", "data", "abbrev pub", "pub record"):
+                # a name that is declared, a field, or a universe
+                before = code[: match.start()].strip()
+                if before in ("pub", "pub data", "data", "abbrev pub", "pub record") or before.endswith("Type"):
                     continue
                 new = other(match.group())
                 if new is not None and match.group() != "==":
@@ -84,8 +106,13 @@ def prepare(copy):
 
 def proves(crate, only=None):
     command = ["rt", "check"] + (["--only", only] if only else [])
-    answer = subprocess.run(command, cwd=crate, capture_output=True, text=True)
+    answer = subprocess.run(command, cwd=crate, capture_output=True, text=True, check=False)
     return answer.returncode == 0, answer.stdout + answer.stderr
+
+
+def is_no_definition(text, name):
+    """The chapter itself is refused: what it says is ill typed."""
+    return f"./specs/{name}:" in text
 
 
 def refused_by(crate, name):
@@ -95,13 +122,16 @@ def refused_by(crate, name):
         first.reverse()
     if name.split(".")[0] not in LAWS:
         for facts in first:
-            if not proves(crate, facts)[0]:
-                return facts
+            proved, text = proves(crate, facts)
+            if not proved:
+                return "no definition" if is_no_definition(text, name) else facts
     proved, text = proves(crate)
     if proved:
         return None
+    if is_no_definition(text, name):
+        return "no definition"
     lost = re.findall(r"^fn \w+::(\w+): not proved", text, re.M)
-    return "laws: " + (" ".join(lost[:3]) or "does not read")
+    return "laws: " + " ".join(lost[:3])
 
 
 def main():
@@ -131,7 +161,7 @@ def main():
         if place in known or time.time() > end:
             continue
         text = (SPECS / name).read_text()
-        (crate / "specs" / name).write_text(text[:start] + new + text[stop:])
+        (crate / "specs" / name).write_text(altered(text, name, start, stop, new))
         began = time.time()
         by = refused_by(crate, name)
         (crate / "specs" / name).write_text(text)
