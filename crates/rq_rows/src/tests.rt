@@ -7,6 +7,7 @@ mod program;
 mod queues;
 mod rooms;
 mod scripts;
+mod texts;
 mod threads;
 
 use rq_tool::{Command, Fault, Open, OverRead, OverWrite, Plan, act};
