@@ -1,3 +1,4 @@
 pub mod Framing
 pub mod Walks
 pub mod InPieces
+pub mod Sides

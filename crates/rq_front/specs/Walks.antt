@@ -2,6 +2,7 @@
 use Rattle.std.specs.Prelude.{◌≡◌, ℕ, ◌+◌, ◌*◌, ◌-◌, ◌≤◌, ◌<◌, List, [], ◌∷◌, length, take, drop, All}
 use Rattle.std.specs.List.{HoldsAt}
 use Rattle.rq_model.specs.Frames.{HasFrame, HasRightFrame, IsFrameRun, IsRest, stated, before}
+use Rattle.rq_lanes.specs.declared.lanes.Message.{Message}
 use Rattle.rq_front.specs.declared.spans.Span.{Span}
 use Rattle.rq_front.specs.declared.spans.Chain.{Chain}
 use Rattle.rq_front.specs.declared.spans.Walk.{Walk}
@@ -21,6 +22,10 @@ pub record IsSpanOf (b : List ℕ) (s : Span) : Type 0 where
 -- the digest of its frame is right
 abbrev pub IsRight : List ℕ → Span → Type 0
 IsRight b s = HasRightFrame (before (s.start - 4) b) (drop (s.start - 4) b)
+
+-- what the digest of the frame at a place is of: the 32 bytes before it, its length and its body
+abbrev pub message_at : ℕ → ℕ → Message
+message_at at len = record { start = at - 32; len = 36 + len }
 
 -- the span at this place is the first whose digest is wrong
 pub record IsFirstWrong (b : List ℕ) (spans : List Span) (place : ℕ) : Type 0 where

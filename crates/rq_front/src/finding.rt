@@ -51,7 +51,7 @@ pub fn walk(alloc: Global, bytes: &[u8], from: usize) -> Result<Walk, Fault>
 
 impl Walk {
     /// The longest run of right frames, which is the walk up to its first wrong digest. Where the runtime gives threads,
-    /// they check the digests in pieces of `grain` frames; the answer is the same for any number of them. `bytes` are
+    /// they check the digests in pieces of `grain` frames or more; the answer is the same for any number of them. `bytes` are
     /// those of the walk.
     pub fn checked<R: Threads + Sync>(self, rt: &R, bytes: &[u8], grain: u32) -> Chain
         requires grain { 1 ≤ grain }
@@ -71,7 +71,7 @@ impl Walk {
 }
 
 /// The longest run of right frames in a log from the place `from` on, and what follows it. Where the runtime gives
-/// threads, they check the digests in pieces of `grain` frames; the answer is the same for any number of them.
+/// threads, they check the digests in pieces of `grain` frames or more; the answer is the same for any number of them.
 ///
 /// `TooLong` answers more than 4,294,967,295 bytes, and otherwise `NotALog` bytes that do not begin with the header of
 /// version 1; `Resources` where memory runs out.

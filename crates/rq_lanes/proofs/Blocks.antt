@@ -1,9 +1,8 @@
 -- The blocks of a padded message, from where its bytes stand.
-use Rattle.std.proofs.Common.{◌≡◌, ◌≢◌, ℕ, zero, suc, ◌+◌, ◌-◌, ◌*◌, ◌/◌, ◌%◌, ◌≤◌, ◌<◌, List, [], ◌++◌, length, take, drop, refl, sym, ap, ◌∙◌, arith, slice_index, slice_index_or, slice_set, inl, inr}
-use Rattle.std.specs.Prelude.{slice_range}
-use Rattle.std.proofs.lemmas.List.{length-take, length-drop, drop-take, drop-drop, take-take, take_all, get_or-set_same, get_or-set_other, length-set}
+use Rattle.std.proofs.Common.{◌≡◌, ◌≢◌, ℕ, zero, suc, ◌+◌, ◌-◌, ◌*◌, ◌/◌, ◌%◌, ◌≤◌, ◌<◌, List, [], length, take, drop, refl, sym, ap, ◌∙◌, arith, slice_index, slice_set, inl, inr}
+use Rattle.std.proofs.lemmas.List.{length-take, length-drop, drop-take, drop-drop, take-take, get_or-set_same, get_or-set_other}
 use Rattle.std.proofs.lemmas.Bool.{cases_lt}
-use Rattle.sha2.specs.Sha256.{hash_after, compress, initial_hash_256, padded_message, padding}
+use Rattle.sha2.specs.Sha256.{hash_after, compress, initial_hash_256, padded_message}
 use Rattle.sha2.proofs.Absorbing256.{hash_after_next}
 use Rattle.rq_lanes.specs.Columns.{word_in, lane}
 use Rattle.rq_lanes.specs.Messages.{Fills, Runs, block_at, text}

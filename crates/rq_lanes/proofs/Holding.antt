@@ -1,6 +1,6 @@
 -- Messages in lanes.
-use Rattle.std.proofs.Common.{◌≡◌, ◌≢◌, ℕ, ◌+◌, ◌-◌, ◌*◌, ◌/◌, ◌%◌, ◌≤◌, ◌<◌, Bool, true, false, List, [], ◌∷◌, ◌++◌, length, take, drop, get_or, refl, sym, ap, subst, ◌∙◌, arith, slice_set, slice_index_or, inl, inr}
-use Rattle.std.specs.Prelude.{All, ◌⊎◌, slice_range}
+use Rattle.std.proofs.Common.{◌≡◌, ◌≢◌, ℕ, ◌+◌, ◌-◌, ◌*◌, ◌/◌, ◌%◌, ◌≤◌, ◌<◌, true, false, List, [], ◌∷◌, ◌++◌, length, take, drop, sym, ap, subst, ◌∙◌, arith, slice_set, slice_index_or, inl, inr}
+use Rattle.std.specs.Prelude.{All, ◌⊎◌}
 use Rattle.std.proofs.lemmas.List.{get_or-set_same, get_or-set_other, length-set, drop-drop, drop-take}
 use Rattle.std.proofs.lemmas.List.Elements.{All-append, All-cons, All-nil}
 use Rattle.std.proofs.lemmas.Bool.{cases_lt, cases_eq}
@@ -10,7 +10,6 @@ use Rattle.rq_lanes.specs.Messages.{Fills, Holds, IsIn, IsRight, Runs, block_at,
 use Rattle.rq_lanes.specs.declared.lanes.Message.{Message}
 use Rattle.rq_lanes.specs.declared.lanes.Lane.{Lane}
 use Rattle.rq_lanes.specs.declared.lanes.Lanes.{Lanes}
-use Rattle.rq_lanes.proofs.Blocks.{length-text}
 
 -- one more lane's block
 pub more_blocks : (b : List ℕ) (lanes : List Lane) (clock : ℕ) (blocks : List (List ℕ)) (j : ℕ) (x : List ℕ) (k : ℕ) (words : List ℕ) → j < length blocks

@@ -1,5 +1,5 @@
 -- Messages in some bytes, each with its digest behind it, and the lanes that take them in.
-use Rattle.std.specs.Prelude.{◌≡◌, ◌⊎◌, ℕ, ◌+◌, ◌-◌, ◌*◌, ◌/◌, ◌%◌, ◌≤◌, ◌<◌, ◌++◌, Bool, true, false, List, [], length, take, drop, get_or, slice_range, All}
+use Rattle.std.specs.Prelude.{◌≡◌, ◌⊎◌, ℕ, ◌+◌, ◌-◌, ◌*◌, ◌/◌, ◌%◌, ◌≤◌, ◌<◌, ◌++◌, true, false, List, [], length, take, drop, get_or, slice_range, All}
 use Rattle.sha2.specs.Sha256.{hash_after, initial_hash_256, padded_message, padding, sha256}
 use Rattle.rq_lanes.specs.Columns.{lane}
 use Rattle.rq_lanes.specs.declared.lanes.Message.{Message}

@@ -1,4 +1,4 @@
-use Rattle.std.proofs.Common.{rules, ◌≡◌, ℕ, List, [], length, slice_index, slice_index_or, refl, inl, inr, ap, ◌*◌, ◌∙◌, arith}
+use Rattle.std.proofs.Common.{rules, ◌≡◌, [], slice_index_or, refl, inl, inr, ap, ◌*◌, ◌∙◌, arith}
 use Rattle.std.proofs.lemmas.List.{length-map}
 use Rattle.std.proofs.lemmas.Bool.{cases_lt}
 use Rattle.sha2.specs.Sha256.{add_state, compress, rounds}

@@ -1,7 +1,5 @@
-use Rattle.std.proofs.Common.{rules, ◌≡◌, ◌≢◌, ℕ, List, [], ap, ◌∙◌, sym, arith, inl, inr, slice_index, slice_index_or, length, refl}
+use Rattle.std.proofs.Common.{rules, ◌≡◌, ◌∙◌, arith, inl, inr, refl}
 use Rattle.std.proofs.lemmas.Bool.{cases_lt}
-use Rattle.sha2.specs.Sha256.{initial_hash_256}
-use Rattle.rq_lanes.specs.Columns.{word_in}
 use Rattle.rq_lanes.proofs.Blocks.{row-set_same, row-set_other, other_words}
 use Rattle.rq_lanes.proofs.lanes.restart.Goals as goal
 

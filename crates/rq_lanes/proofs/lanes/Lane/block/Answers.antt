@@ -1,7 +1,5 @@
-use Rattle.std.proofs.Common.{◌≡◌, ◌≤◌, ◌-◌, ◌*◌, ap, ◌∙◌, arith, take, drop, ℕ}
-use Rattle.sha2.specs.Sha256.{padded_message}
-use Rattle.rq_lanes.specs.Messages.{text}
-use Rattle.rq_lanes.proofs.Blocks.{block_of_text, block_first_tail, block_second_tail, blocks_of_lane}
+use Rattle.std.proofs.Common.{◌-◌, ◌∙◌, arith}
+use Rattle.rq_lanes.proofs.Blocks.{block_of_text, block_first_tail, block_second_tail}
 use Rattle.rq_lanes.proofs.lanes.Lane.block.Goals as goal
 
 pub returns-then-from-bytes : goal.returns-then-from-bytes

@@ -1,4 +1,4 @@
-use Rattle.std.proofs.Common.{◌≡◌, ◌*◌, ◌/◌, ◌++◌, ℕ, List, drop, ap, sym, ◌∙◌, arith}
+use Rattle.std.proofs.Common.{◌*◌, ◌/◌, ◌++◌, ℕ, List, drop, ap, sym, ◌∙◌, arith}
 use Rattle.sha2.specs.Sha256.{padding}
 use Rattle.rq_lanes.specs.Messages.{text}
 use Rattle.rq_lanes.proofs.Blocks.{length-text}

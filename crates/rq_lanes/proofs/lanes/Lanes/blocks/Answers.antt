@@ -1,4 +1,4 @@
-use Rattle.std.proofs.Common.{rules, ℕ, arith}
+use Rattle.std.proofs.Common.{rules, arith}
 use Rattle.rq_lanes.proofs.Holding.{more_blocks}
 use Rattle.rq_lanes.proofs.lanes.Lanes.blocks.Goals as goal
 

@@ -1,4 +1,4 @@
-use Rattle.std.proofs.Common.{rules, arith, ◌≡◌, true}
+use Rattle.std.proofs.Common.{rules, ◌≡◌, true}
 use Rattle.rq_lanes.proofs.Holding.{all_right}
 use Rattle.rq_lanes.proofs.lanes.Lanes.finish.Goals as goal
 

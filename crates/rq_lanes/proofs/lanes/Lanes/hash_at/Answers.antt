@@ -1,4 +1,4 @@
-use Rattle.std.proofs.Common.{◌≡◌, ◌<◌, slice_index_or, [], arith}
+use Rattle.std.proofs.Common.{◌<◌, slice_index_or, [], arith}
 use Rattle.rq_lanes.specs.Columns.{lane}
 use Rattle.rq_lanes.specs.Messages.{held}
 use Rattle.rq_lanes.proofs.Blocks.{runs_on}

@@ -1,4 +1,4 @@
-use Rattle.std.proofs.Common.{rules, arith, ◌≡◌, ◌≤◌, ◌+◌, length}
+use Rattle.std.proofs.Common.{rules, arith, ◌≤◌, ◌+◌, length}
 use Rattle.rq_lanes.specs.Messages.{text}
 use Rattle.rq_lanes.proofs.Blocks.{length-text}
 use Rattle.rq_lanes.proofs.Holding.{placed, starts}

@@ -1,4 +1,4 @@
-use Rattle.std.proofs.Common.{◌≡◌, ℕ, ◌≤◌, ◌<◌, ap, arith, inl, inr, refl}
+use Rattle.std.proofs.Common.{◌≡◌, ℕ, ap, arith, inl, inr}
 use Rattle.std.proofs.lemmas.Bool.{cases_lt}
 use Rattle.rq_lanes.specs.Messages.{held}
 use Rattle.rq_lanes.proofs.lanes.Lanes.soonest.Goals as goal
