@@ -13,7 +13,7 @@ times_plus : (x : ℕ) (xs ys : List ℕ) → times x (xs ++ ys) ≡ times x xs 
 times_plus x xs ys = sum_by-append (λ z. cond (eqb z x) 1 0) xs ys
 
 -- what the calling thread took over is added to what the first worker took
-started : (x : ℕ) (first left : List ℕ) (others : List (List ℕ)) (deal : List (List ℕ)) → Ledger deal (first ∷ others) left → times_in x ((first ++ left) ∷ others) ≡ times_in x deal
+pub started : (x : ℕ) (first left : List ℕ) (others : List (List ℕ)) (deal : List (List ℕ)) → Ledger deal (first ∷ others) left → times_in x ((first ++ left) ∷ others) ≡ times_in x deal
 started x first left others deal ledger = omega (
   arith,
   ledger x,

@@ -79,10 +79,10 @@ module _ {T : Type 0} (w : Web) where
       let s = c.settled x near some in
       let es = flat_map (λ (h : Hand T). told_at h.diaries (w.slot x)) hs in
       let each = λ (i : ℕ) (lt : i < length (w.sources x)).
-          let up = c.web.exact x i near lt in
-          let down : w.error (source_at w.sources x i) < source_at w.sources x i = c.web.fall (source_at w.sources x i) up.0 (omega (arith, up.1, near)) in
-          let long : length (arrivals_for i es) ≡ 1 = flat_long _ (λ (h : Hand T). told_at h.diaries (w.slot x)) hs ∙ all_arrived x i near lt hs c.follow ∙ above (source_at w.sources x i) (omega (arith, down, up.1)) up.0 in
-          one_is long in
+      let up = c.web.exact x i near lt in
+      let down : w.error (source_at w.sources x i) < source_at w.sources x i = c.web.fall (source_at w.sources x i) up.0 (omega (arith, up.1, near)) in
+      let long : length (arrivals_for i es) ≡ 1 = flat_long _ (λ (h : Hand T). told_at h.diaries (w.slot x)) hs ∙ all_arrived x i near lt hs c.follow ∙ above (source_at w.sources x i) (omega (arith, down, up.1)) up.0 in
+      one_is long in
       let last : sum_by (λ (h : Hand T). lasts_at h.diaries (w.slot x)) hs ≡ 1 = sym (flat_long _ (λ (h : Hand T). told_at h.diaries (w.slot x)) hs) ∙ told_last (length (w.sources x)) es s.0 s.1 some s.2 each in
       all_redid x near hs c.follow ∙ omega (arith, c.fed x near some, last)
     where

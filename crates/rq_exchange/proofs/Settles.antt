@@ -35,8 +35,8 @@ module _ {g : Ghosts Outbox Target} {K : Type 0} (row : K → Vec (Pass Outbox T
       ap (λ (r : Vec (Pass Outbox Target g) Global). length r.items) from ∙ (are i one inside).each ∙ sym e
 
   module _ (chain : Chain) (kept : List K) (are : All (λ k. ArePasses chain (row k).items) kept) (has : HasPasses chain (length kept)) (some : 0 < length kept) (rows columns : List (Vec (Pass Outbox Target g) Global)) (is : rows ≡ map row kept)
-    (long : (k : ℕ) (d : Vec (Pass Outbox Target g) Global) → k < length chain.countdowns.items → length (slice_index_or columns k d).items ≡ length rows)
-    (turns : (k : ℕ) (d : Vec (Pass Outbox Target g) Global) (x : Pass Outbox Target g) → k < length chain.countdowns.items → (slice_index_or columns k d).items ≡ map (λ r. slice_index_or r.items k x) rows) where
+      (long : (k : ℕ) (d : Vec (Pass Outbox Target g) Global) → k < length chain.countdowns.items → length (slice_index_or columns k d).items ≡ length rows)
+      (turns : (k : ℕ) (d : Vec (Pass Outbox Target g) Global) (x : Pass Outbox Target g) → k < length chain.countdowns.items → (slice_index_or columns k d).items ≡ map (λ r. slice_index_or r.items k x) rows) where
     many : length rows ≡ length kept
     many = ap length is ∙ length-map kept row
 

@@ -50,3 +50,7 @@ module _ (sources : List (Vec ℕ Global)) where
             let same : times x (tasks ++ m ∷ []) ≡ times x tasks + 0 = times_more x m tasks ∙ ap (λ b. times x tasks + cond b 1 0) (ne_eqb m x apart) in
             let old = are.no_other x (omega (arith, same, stands)) in
             (omega (arith, old.0), old.1)
+
+pub nothing_in : (xs : List ℕ) → length xs ≡ 0 → xs ≡ []
+nothing_in [] e = refl
+nothing_in (x ∷ xs) e = absurd (omega (arith, e))

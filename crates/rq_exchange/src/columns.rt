@@ -36,7 +36,11 @@ fn spread<T: Drop>(columns: &mut Vec<Vec<T>>, row: Vec<T>) -> Result<(), Fault>
 }
 
 /// The columns of rows that are equally long.
-pub(crate) fn columns<T: Drop>(alloc: Global, rows: Vec<Vec<T>>, count: usize) -> Result<Vec<Vec<T>>, Fault>
+pub(crate) fn columns<T: Drop>(
+    alloc: Global,
+    rows: Vec<Vec<T>>,
+    count: usize,
+) -> Result<Vec<Vec<T>>, Fault>
     requires { All (λ r. length r.items ≡ count) rows.items }
     ensures len { IfOk result (λ cs. length cs.items ≡ count) }
     ensures long { IfOk result (λ cs. (k : ℕ) (d : _) → k < count → length (slice_index_or cs.items k d).items ≡ length rows.items) }

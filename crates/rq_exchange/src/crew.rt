@@ -68,7 +68,15 @@ fn work<G: Gate>(
     let mut passes = passes;
     let mut done = Vec::new(alloc);
     while let Some(queue) = seat.take(room) {
-        follow(alloc, job, chain, gate, queue, passes.as_mut_slice(), &mut done)?;
+        follow(
+            alloc,
+            job,
+            chain,
+            gate,
+            queue,
+            passes.as_mut_slice(),
+            &mut done,
+        )?;
     }
     Ok(Ended {
         seat,
@@ -118,10 +126,14 @@ fn run_seats<R: Threads + Sync, G: Gate + Sync>(
     requires bare { (x : ℕ) → 0 < times_in x (deal_of room.now) → IsBare job.now x }
     ensures { IfOk result (λ v. (length v.items ≡ length workers.items) × All (Works job.now chain.now room.now) v.items) }
 {
-    thread::map_vec(rt, workers, &|worker| {
-        let Worker { seat, passes } = worker;
-        work(alloc, job, chain, room, gate, seat, passes)
-    })
+    thread::map_vec(
+        rt,
+        workers,
+        &|worker| {
+            let Worker { seat, passes } = worker;
+            work(alloc, job, chain, room, gate, seat, passes)
+        },
+    )
 }
 
 /// A row of passes for each seat.

@@ -2,8 +2,8 @@
 
 ghost use Rattle.std.specs.Prelude.{◌≡◌, [], slice_index_or};
 
-use rq_pool::Fits;
 use diary::Diary;
+use rq_pool::Fits;
 use rq_queue::{Move, Part};
 use std::collections::LinkedList;
 

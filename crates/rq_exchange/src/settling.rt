@@ -61,7 +61,10 @@ pub(crate) fn settled(
     ensures settled { IfOk result (λ _. AreSettled chain kept.items) }
     ensures refused { IfErr result (λ e. e ≡ Resources) }
 {
-    let Chain { countdowns, slots: _ } = chain;
+    let Chain {
+        countdowns,
+        slots: _,
+    } = chain;
     let (rows, all) = apart(alloc, kept)?;
     let columns = columns(alloc, rows, countdowns.len())?;
     close_all(countdowns, columns);

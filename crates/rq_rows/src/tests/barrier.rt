@@ -35,10 +35,7 @@ impl Gate for Looking {
 
 #[test]
 fn no_barrier(rt: HostRuntime) -> Result<(), Fail> {
-    let log = log_of(
-        &rt,
-        &["define dead 0 -", "define a 1 0", "define b 0 -"],
-    )?;
+    let log = log_of(&rt, &["define dead 0 -", "define a 1 0", "define b 0 -"])?;
     assert_eq!(rt; log.len(), 175);
     let want = lines(
         rt.alloc(),

@@ -44,3 +44,50 @@ first g c k some is =
     let h = back g c in
     let one = each_keeps c.args.job.now c.args.chain.now (map taken_of c.in_ok-seats.seats.items) c.in_ok-seats.kept.items h.keep 0 k some in
     (one.0, subst (Keeps c.args.job.now c.args.chain.now one.0) (sym is) one.1)
+
+-- as many threads as rows of passes
+threads : (g : _) (c : In_ok-seats g) → length c.in_ok-seats.kept.items ≡ length c.args.rows.items
+threads g c = omega (arith, (back g c).many, c.in_ok-ended.ensures.0, c.in_ok-workers.ensures.count, c.in_ok-room.ensures.count.1, c.in_ok-room.seats.ok.0, c.in_ok-lists.ensures.count, c.len.ensures, c.args.rows.ok.0)
+
+pub open-requires-clause-short : goal.open-requires-clause-short
+open-requires-clause-short g c = omega (arith, c.in_ok-lists.ensures.size, c.requires.tasks.few, c.requires.job.tables, c.requires.job.few)
+
+pub paired-requires : goal.paired-requires
+paired-requires g c = omega (arith, c.in_ok-room.ensures.count.1, c.in_ok-room.seats.ok.0, c.in_ok-lists.ensures.count, c.len.ensures, c.args.rows.ok.0)
+
+pub index_mut-requires : goal.index_mut-requires
+index_mut-requires g c = omega (arith, threads g (goal.at.index_mut-requires g c).In_ok-seats, c.requires.count.0, c.in_ok-seats.kept.ok.0)
+
+pub finish-requires-clause-passes : goal.finish-requires-clause-passes
+finish-requires-clause-passes g c =
+    let d = (goal.at.finish-requires-clause-passes g c).In_ok-seats in
+    (first g d c.index_mut.result.now (omega (arith, threads g d, c.requires.count.0)) c.index_mut.ensures.value).1.passes
+
+pub finish-requires-clause-done : goal.finish-requires-clause-done
+finish-requires-clause-done g c =
+    let d = (goal.at.finish-requires-clause-done g c).In_ok-seats in
+    (first g d c.index_mut.result.now (omega (arith, threads g d, c.requires.count.0)) c.index_mut.ensures.value).1.done
+
+pub finish-requires-clause-bare : goal.finish-requires-clause-bare
+finish-requires-clause-bare g c = λ x h.
+    let at = goal.at.finish-requires-clause-bare g c in
+    let ledger = c.close-left.ensures.ledger x in
+    let left : times x c.left.result.now ≡ times x (left_of c.close-left.result) = ap (times x) c.left.ensures.left in
+    let deal = dealt g at.In_ok-room x in
+    waits_for_nobody c.args.job.now c.args.tasks.now x c.requires.job c.requires.tasks (omega (arith, ledger, left, deal, h))
+
+pub returns-clause-kept : goal.returns-clause-kept
+returns-clause-kept g c =
+    let at = goal.at.returns-clause-kept g c in
+    let d = at.In_ok-seats in
+    let left = c.left.result.now in
+    let deal = deal_of c.in_ok-room.room in
+    taken_over c.args.job.now c.args.chain.now (map taken_of c.in_ok-seats.seats.items) c.in_ok-seats.kept.items left c.args.tasks.now deal c.index_mut.result.now c.finish.new.kept (back g d).keep (omega (arith, threads g d, c.requires.count.0)) c.index_mut.ensures.value
+    (λ s keeps. record { passes = c.in_ok-finish.ensures.passes; done = c.in_ok-finish.ensures.done; follows = c.in_ok-finish.ensures.follows s keeps.follows })
+    (subst (λ (z : List (List ℕ) × List ℕ). Ledger deal z.0 z.1) (λ i. (c.close-left.ensures.takens i, sym c.left.ensures.left i)) c.close-left.ensures.ledger)
+    (dealt g at.In_ok-room)
+
+pub returns-clause-count : goal.returns-clause-count
+returns-clause-count g c =
+    let d = (goal.at.returns-clause-count g c).In_ok-seats in
+    length-set c.in_ok-seats.kept.items 0 c.finish.new.kept ∙ threads g d

@@ -4,12 +4,12 @@ use Rattle.rq_exchange.proofs.Ranks.{list_few, listed_more, ranks_more}
 use Rattle.rq_exchange.proofs.links.sources_of.Goals as goal
 
 pub list-requires : goal.list-requires
-list-requires c = λ within.
+list-requires c =
     let xs = c.args.errors.now in
     let k = c.loop-place.place in
     let e = get_or xs k 0 in
     let i = c.loop-place.invariant in
-    omega (arith, list_few xs k e (listed c.loop-place.lists.items e) (i.1 e (subst (λ n. e < n) i.0 within)), c.requires)
+    record { few = λ within. omega (arith, list_few xs k e (listed c.loop-place.lists.items e) (i.1 e (subst (λ n. e < n) i.0 within)), c.requires) }
 
 pub loop-place-preserved : goal.loop-place-preserved
 loop-place-preserved c =
