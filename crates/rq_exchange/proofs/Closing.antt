@@ -21,8 +21,3 @@ started x first left others deal ledger = omega (
   sum_by-cons (times x) first others,
   times_plus x first left,
 )
-
--- The thread that redid an error queue is the one whose arrival was the last: its passes were told Last there as often as it redid the queue
-module _ {T : Type 0} (w : Web) where
-  pub redone_by_last : (h : Hand T) → Follows w h → (x : ℕ) → x < w.n → times x h.starts ≡ 0 → times x h.redone ≡ length (last_lists (told_at h.diaries (w.slot x)))
-  redone_by_last h f x near none = f.redid x near ∙ ap (λ n. n + length (last_lists (told_at h.diaries (w.slot x)))) none ∙ omega arith

@@ -1,4 +1,3 @@
-pub mod Alone
 pub mod Arriving
 pub mod Backwards
 pub mod Boards

@@ -6,7 +6,7 @@ use Rattle.rq_pool.specs.Ledger.{times}
 use Rattle.rq_exchange.specs.Tasks.{AreBare}
 use Rattle.rq_exchange.proofs.Steps.{times_more, same_or}
 
-zero_or : (n : ℕ) → (0 < n → ⊥) → n ≡ 0
+pub zero_or : (n : ℕ) → (0 < n → ⊥) → n ≡ 0
 zero_or zero none = refl
 zero_or (suc n) none = absurd (none (omega arith))
 

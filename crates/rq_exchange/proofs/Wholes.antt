@@ -19,16 +19,14 @@ use Rattle.rq_exchange.specs.Links.{at}
 use Rattle.rq_exchange.specs.Workers.{Keeps, AllKeep, AreKept, AreSettled}
 use Rattle.rq_exchange.specs.Tasks.{AreBare}
 use Rattle.rq_exchange.proofs.Covering.{each_once}
+use Rattle.rq_exchange.proofs.Openings.{some_of}
+use Rattle.rq_exchange.proofs.Tasks.{zero_or}
 
 -- what the threads have to show, each of what it was given
 abbrev hands : List (List ℕ) → List Kept → List (Hand Outbox)
 hands [] ks = []
 hands (s ∷ ss) [] = []
 hands (s ∷ ss) (k ∷ ks) = hand_of s k.done.items k.passes.items ∷ hands ss ks
-
-some_of : {A : Type 0} (xs : List A) (k : ℕ) → k < length xs → A
-some_of [] k lt = absurd (omega (arith, lt))
-some_of (x ∷ xs) k lt = x
 
 module _ (job : Job) (chain : Chain) where
   follow_all : (ss : List (List ℕ)) (ks : List Kept) → AllKeep job chain ss ks → AllByRecursion (Follows (web_of job chain)) (hands ss ks)
@@ -67,10 +65,6 @@ module _ (job : Job) (chain : Chain) where
         settled = ends;
       }) x near
     where
-      zero_or : (n : ℕ) → (0 < n → ⊥) → n ≡ 0
-      zero_or zero none = refl
-      zero_or (suc n) none = absurd (none (omega arith))
-
       nowhere : (y : ℕ) → 0 < length (listed job.sources.now y) → times y tasks ≡ 0
       nowhere y some = zero_or (times y tasks) (λ stands. let none = ap length (are.no_other y stands).1 in omega (arith, some, none))
 
