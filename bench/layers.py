@@ -10,7 +10,7 @@ from __future__ import annotations
 import collections, os, subprocess, sys, tempfile
 
 LAYERS = [
-    ("sha2::", "digests"), ("rq_front::", "walk along the lengths"), ("rq_record::", "decoding"),
+    ("sha2::", "digests"), ("rq_lanes::", "digests"), ("rq_front::", "walk along the lengths"), ("rq_record::", "decoding"),
     ("rq_restart::reading", "decoding"), ("rq_catalog::", "analysis"), ("indexmap::", "analysis"),
     ("rq_queue::", "redo"), ("std_collections::btree", "redo"), ("rq_state::reading", "state read"),
     ("rq_state::writing", "state spelled"), ("rq_state::", "state built"), ("rq_exchange::", "replay"),

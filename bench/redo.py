@@ -16,7 +16,7 @@ RUNS = [("skew", 1), ("skew", 4), ("lone", 4), ("own", 4)]
 
 
 def is_redo(stack: list[str]) -> bool:
-    return layers.layer_of(stack) == "redo" or any("jobs::" in symbol or "rounds::" in symbol for symbol in stack)
+    return layers.layer_of(stack) == "redo" or any("following::" in symbol for symbol in stack)
 
 
 def redo_seconds(words: list[str]) -> float:
