@@ -1,6 +1,10 @@
 pub mod Boards
+pub mod Chains
+pub mod Coverage
 pub mod Gathering
+pub mod Halves
 pub mod Jobs
-pub mod Levels
-pub mod Replays
-pub mod Rounds
+pub mod Links
+pub mod Openings
+pub mod Tasks
+pub mod Workers

@@ -1,12 +1,11 @@
 //! What arrives in a queue: the moves of its sources, merged by place and id.
 
-ghost use Rattle.std.specs.Prelude.{◌≡◌, ◌<◌, ⊤, ℕ, List, length, map, flat_map, All, IfOk, IfErr, IsPermutation};
+ghost use Rattle.std.specs.Prelude.{◌≡◌, ⊤, map, flat_map, All, IfOk, IfErr, IsPermutation};
 ghost use Rattle.std.specs.List.Sorted.{IsSortedBy};
-ghost use Rattle.rq_model.specs.Queues as queues;
-ghost use Rattle.rq_state.specs.Orders.{listed};
 ghost use Rattle.rq_record.specs.declared.fault.Fault.TheVariants.{Resources};
 ghost use Rattle.rq_model.specs.MoveLaws.{earlier};
 
+use crate::outboxes::Outbox;
 use itertools::{Itertools, MergePredicate};
 use rq_queue::Move;
 use rq_record::Fault;
@@ -28,7 +27,7 @@ impl MergePredicate<Move> for Earlier {
 }
 
 /// The moves of all lists, each in order, in one order.
-fn merged(alloc: Global, lists: Vec<Vec<Move>>) -> Result<Vec<Move>, Fault>
+pub(crate) fn merged(alloc: Global, lists: Vec<Vec<Move>>) -> Result<Vec<Move>, Fault>
     requires { All (λ l. IsSortedBy earlier l.items) lists.items }
     ensures permutation { IfOk result (λ v. IsPermutation (flat_map (λ l. l.items) lists.items) v.items) }
     ensures order { IfOk result (λ v. IsSortedBy earlier v.items) }
@@ -38,55 +37,14 @@ fn merged(alloc: Global, lists: Vec<Vec<Move>>) -> Result<Vec<Move>, Fault>
     Ok(all)
 }
 
-/// A move of an element with a payload of the same bytes.
-fn copied(alloc: Global, one: &Move) -> Result<Move, Fault>
-    ensures copied { IfOk result (λ m. m ≡ one.now) }
+/// What was handed in, without its boxes.
+pub(crate) fn opened(alloc: Global, boxes: Vec<Outbox>) -> Result<Vec<Vec<Move>>, Fault>
+    ensures lists { IfOk result (λ v. map (λ l. l.items) v.items ≡ map (λ b. b.moves.items) boxes.items) }
     ensures refused { IfErr result (λ e. e ≡ Resources) }
 {
-    Ok(Move {
-        place: one.place,
-        element: one.element.copied(alloc)?,
-    })
-}
-
-/// The same moves once more.
-fn all_copied(alloc: Global, moves: &[Move]) -> Result<Vec<Move>, Fault>
-    ensures copied { IfOk result (λ v. v.items ≡ moves.now) }
-    ensures refused { IfErr result (λ e. e ≡ Resources) }
-{
-    let mut copies = Vec::with_capacity(alloc, moves.len())?;
-    for one in moves {
-        copies.push(copied(alloc, one)?)?;
-    }
-    Ok(copies)
-}
-
-/// What left each of these queues.
-fn lists_of(alloc: Global, sources: &[u32], moves: &[Vec<Move>]) -> Result<Vec<Vec<Move>>, Fault>
-    requires { All (λ k. k < length moves.now) sources.now }
-    ensures lists { IfOk result (λ v. map (λ l. l.items) v.items ≡ map (listed moves.now) sources.now) }
-    ensures refused { IfErr result (λ e. e ≡ Resources) }
-{
-    let mut lists = Vec::with_capacity(alloc, sources.len())?;
-    for source in sources {
-        lists.push(all_copied(alloc, &moves[*source as usize])?)?;
+    let mut lists = Vec::with_capacity(alloc, boxes.len())?;
+    for one in boxes {
+        lists.push(one.moves)?;
     }
     Ok(lists)
-}
-
-/// What left these queues, by place and id. Each list of moves is in that order.
-pub(crate) fn arrivals_of(
-    alloc: Global,
-    sources: &[u32],
-    moves: &[Vec<Move>],
-) -> Result<Vec<Move>, Fault>
-    requires within { All (λ k. k < length moves.now) sources.now }
-    requires order { All (λ k. IsSortedBy earlier (listed moves.now k)) sources.now }
-    ensures permutation { IfOk result (λ v. IsPermutation (flat_map (listed moves.now) sources.now) v.items) }
-    ensures order { IfOk result (λ v. IsSortedBy earlier v.items) }
-    ensures refused { IfErr result (λ e. e ≡ Resources) }
-{
-    let lists = lists_of(alloc, sources, moves)?;
-    let all = merged(alloc, lists)?;
-    Ok(all)
 }

@@ -7,12 +7,13 @@ ghost use Rattle.rq_record.specs.Views.{record_of};
 ghost use Rattle.rq_record.specs.declared.fault.Fault.TheVariants.{Resources};
 ghost use Rattle.rq_state.specs.Orders.{listed};
 ghost use Rattle.rq_catalog.specs.Lists.{op_again};
-ghost use Rattle.rq_exchange.specs.Boards.{IsDone};
-ghost use Rattle.rq_exchange.specs.Jobs.{IsJob, IsKnown, records_of};
+ghost use Rattle.rq_exchange.specs.Jobs.{IsJob, records_of, errors_in};
+ghost use Rattle.rq_exchange.specs.Links.{at};
+ghost use Rattle.rq_exchange.specs.Chains.{AreBoxes, IsRedone};
 
-use crate::arrivals::arrivals_of;
-use crate::board::Done;
+use crate::arrivals::{merged, opened};
 use crate::definitions::copied;
+use crate::outboxes::{Outbox, Redone};
 use rq_catalog::Analysis;
 use rq_queue::{Move, Op, Part, redo};
 use rq_record::{Fault, QueueNo, Record};
@@ -27,6 +28,7 @@ pub(crate) struct Job<'a> {
     pub analysis: &'a Analysis,
     pub definitions: &'a [Definition],
     pub sources: &'a [Vec<u32>],
+    pub ranks: &'a [u32],
 }
 
 /// The operations at these places and indices.
@@ -73,22 +75,41 @@ impl Job<'_> {
         let definition = copied(&self.definitions[queue as usize]);
         Ok(Part::new(alloc, QueueNo(queue), definition))
     }
+}
 
-    /// Redoes the queue, with what has left its sources.
-    pub(crate) fn redo(&self, alloc: Global, moves: &[Vec<Move>], queue: u32) -> Result<Done, Fault>
+impl Job<'_> {
+    /// The error queue of a queue.
+    pub(crate) fn error_of(&self, queue: u32) -> u32
+        requires { queue < length self.now.definitions.now }
+        ensures { result ≡ at (errors_in self.now) queue }
+    {
+        let definition = &self.definitions[queue as usize];
+        definition.error.0
+    }
+
+    /// Redoes the queue, with what its sources handed in.
+    pub(crate) fn redo(
+        &self,
+        alloc: Global,
+        boxes: Vec<Outbox>,
+        queue: u32,
+    ) -> Result<(Redone, Vec<Move>), Fault>
         requires job { IsJob self.now }
-        requires known { IsKnown self.now moves.now queue }
-        ensures queue { IfOk result (λ d. d.queue ≡ queue) }
-        ensures done { IfOk result (IsDone self.now.state.now (records_of self.now) (length self.now.definitions.now)) }
+        requires defined { queue < length self.now.definitions.now }
+        requires boxes { AreBoxes self.now queue boxes.items }
+        ensures queue { IfOk result (λ r. r.0.queue ≡ queue) }
+        ensures redone { IfOk result (λ r. IsRedone self.now r.0) }
+        ensures moves { IfOk result (λ r. r.1.items ≡ queues.moves self.now.state.now (records_of self.now) queue) }
         ensures refused { IfErr result (λ e. e ≡ Resources) }
     {
         rq_catalog::indices();
         rq_model::arrivals_are_merged();
         rq_model::moves_rise();
-        let arrivals = arrivals_of(alloc, self.sources_of(queue), moves)?;
+        let lists = opened(alloc, boxes)?;
+        let arrivals = merged(alloc, lists)?;
         let ops = ops_of(alloc, self.records, self.analysis.touching(QueueNo(queue)))?;
         let before = self.part_before(alloc, queue)?;
         let (part, moves) = redo(alloc, before, &ops, arrivals)?;
-        Ok(Done { queue, part, moves })
+        Ok((Redone { queue, part }, moves))
     }
 }

@@ -1,13 +1,20 @@
-//! Replay: the state after the records, redone by queue on workers that take from a room.
+//! Replay: the state after the records, redone by queue on workers that take from a room. No queue waits for another but its
+//! error queue for it: who hands on the last of what leaves the sources of an error queue redoes that one next.
 #![tactic(auto)]
 
 mod arrivals;
 mod board;
+mod chain;
+mod columns;
+mod crew;
+mod dealing;
 mod definitions;
+mod following;
 mod gathering;
 mod jobs;
-mod levels;
+mod links;
+mod outboxes;
 mod replaying;
-mod rounds;
+mod settling;
 
 pub use replaying::{replay, replay_analysed};

@@ -1,4 +1,5 @@
 mod analysis;
+mod barrier;
 mod checkpoints;
 mod countdowns;
 mod damage;

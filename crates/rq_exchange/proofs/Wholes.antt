@@ -1,0 +1,79 @@
+-- From what the threads hand back and what the closed countdowns tell: each queue is redone once.
+use Rattle.std.proofs.Common.{◌≡◌, ℕ, zero, suc, ◌+◌, ◌<◌, ◌≤◌, List, [], ◌∷◌, ◌++◌, All, map, length, get_or, refl, ap, sym, ◌∙◌, subst, arith, Vec, Global}
+use Rattle.std.specs.Prelude.{slice_index_or, ⊤}
+use Rattle.std.specs.List.{AllByRecursion}
+use Rattle.rq_pool.specs.declared.countdown.Countdown.{Countdown}
+use Rattle.rq_pool.specs.declared.countdown.arrival.Entry.{Entry}
+use Rattle.rq_pool.specs.Countdowns.History.{flat_map}
+use Rattle.rq_pool.specs.Countdowns.Arrivals.{Settled}
+use Rattle.rq_pool.specs.Ledger.{times, times_in}
+use Rattle.rq_state.specs.Orders.{listed}
+use Rattle.rq_exchange.specs.declared.chain.Chain.{Chain}
+use Rattle.rq_exchange.specs.declared.crew.Kept.{Kept}
+use Rattle.rq_exchange.specs.declared.outboxes.Outbox.{Outbox}
+use Rattle.rq_exchange.specs.declared.outboxes.Target.{Target}
+use Rattle.rq_exchange.specs.declared.jobs.Job.{Job}
+use Rattle.rq_exchange.specs.Chains.{web_of, IsChain, hand_of, diaries_of, redone_in}
+use Rattle.rq_exchange.specs.Coverage.{Hand, Web, Follows, told_at}
+use Rattle.rq_exchange.specs.Links.{at}
+use Rattle.rq_exchange.specs.Workers.{Keeps, AllKeep, AreKept, AreSettled}
+use Rattle.rq_exchange.specs.Tasks.{AreBare}
+use Rattle.rq_exchange.proofs.Covering.{each_once}
+use Rattle.rq_exchange.proofs.Openings.{some_of}
+use Rattle.rq_exchange.proofs.Tasks.{zero_or}
+
+-- what the threads have to show, each of what it was given
+abbrev hands : List (List ℕ) → List Kept → List (Hand Outbox)
+hands [] ks = []
+hands (s ∷ ss) [] = []
+hands (s ∷ ss) (k ∷ ks) = hand_of s k.done.items k.passes.items ∷ hands ss ks
+
+module _ (job : Job) (chain : Chain) where
+  follow_all : (ss : List (List ℕ)) (ks : List Kept) → AllKeep job chain ss ks → AllByRecursion (Follows (web_of job chain)) (hands ss ks)
+  follow_all [] ks h = tt
+  follow_all (s ∷ ss) [] h = tt
+  follow_all (s ∷ ss) (k ∷ ks) h = (h.0.follows, follow_all ss ks h.1)
+
+  starts_are : (ss : List (List ℕ)) (ks : List Kept) → AllKeep job chain ss ks → map (λ (h : Hand Outbox). h.starts) (hands ss ks) ≡ ss
+  starts_are [] ks h = refl
+  starts_are (s ∷ ss) [] h = absurd h
+  starts_are (s ∷ ss) (k ∷ ks) h = ap (λ l. s ∷ l) (starts_are ss ks h.1)
+
+  redone_are : (ss : List (List ℕ)) (ks : List Kept) → AllKeep job chain ss ks → map (λ (h : Hand Outbox). h.redone) (hands ss ks) ≡ map (λ (k : Kept). redone_in k.done.items) ks
+  redone_are [] [] h = refl
+  redone_are [] (k ∷ ks) h = absurd h
+  redone_are (s ∷ ss) [] h = absurd h
+  redone_are (s ∷ ss) (k ∷ ks) h = ap (λ l. redone_in k.done.items ∷ l) (redone_are ss ks h.1)
+
+  told_are : (c : ℕ) (ss : List (List ℕ)) (ks : List Kept) → AllKeep job chain ss ks → flat_map (λ (h : Hand Outbox). told_at h.diaries c) (hands ss ks) ≡ flat_map (λ (k : Kept). told_at (diaries_of k.passes.items) c) ks
+  told_are c [] [] h = refl
+  told_are c [] (k ∷ ks) h = absurd h
+  told_are c (s ∷ ss) [] h = absurd h
+  told_are c (s ∷ ss) (k ∷ ks) h = ap (λ l. told_at (diaries_of k.passes.items) c ++ l) (told_are c ss ks h.1)
+
+  -- all threads together have redone each queue once
+  pub whole : IsChain job chain → (tasks : List ℕ) → AreBare job.sources.now (length job.definitions.now) tasks → (kept : List Kept) → AreKept job chain tasks kept → AreSettled chain kept
+      → (x : ℕ) → x < length job.definitions.now → times_in x (map (λ (k : Kept). redone_in k.done.items) kept) ≡ 1
+  whole is tasks are kept keep settled x near =
+      let ss = keep.starts in
+      sym (ap (times_in x) (redone_are ss kept keep.keep))
+      ∙ each_once (web_of job chain) (hands ss kept) (record {
+        web = is.web;
+        bare = λ y within none. ap (times_in y) (starts_are ss kept keep.keep) ∙ keep.dealt y ∙ are.once y within none;
+        fed = λ y within some. ap (times_in y) (starts_are ss kept keep.keep) ∙ keep.dealt y ∙ nowhere y some;
+        follow = follow_all ss kept keep.keep;
+        settled = ends;
+      }) x near
+    where
+      nowhere : (y : ℕ) → 0 < length (listed job.sources.now y) → times y tasks ≡ 0
+      nowhere y some = zero_or (times y tasks) (λ stands. let none = ap length (are.no_other y stands).1 in omega (arith, some, none))
+
+      ends : (e : ℕ) → e < length job.definitions.now → 0 < length (listed job.sources.now e) → (arrived : ℕ) × (home : List Outbox) × Settled (length (listed job.sources.now e)) (flat_map (λ (h : Hand Outbox). told_at h.diaries (at chain.slots.items e)) (hands keep.starts kept)) arrived home
+      ends e within some =
+          let there = is.web.fed e within some in
+          let c = at chain.slots.items e in
+          let d = some_of chain.countdowns.items c there in
+          let s = settled c d there in
+          let size = (is.keyed e d within some).0 in
+          let same = sym (told_are c keep.starts kept keep.keep) in
+          (s.0, s.1, subst (λ (z : ℕ × List (Entry Outbox)). Settled z.0 z.1 s.0 s.1) (λ i. (size i, same i)) s.2)

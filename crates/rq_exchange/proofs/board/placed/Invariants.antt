@@ -1,0 +1,13 @@
+use Rattle.std.proofs.Common.{◌≡◌, ◌<◌, ℕ, All, map, length}
+use Rattle.rq_model.specs.States.{State}
+use Rattle.rq_pool.specs.Ledger.{times_in}
+use Rattle.rq_exchange.specs.Boards.{IsPart, HasPart, queue_of}
+use Rattle.rq_exchange.proofs.board.placed.Given as goal
+
+abbrev pub invariant-loop : goal.invariant-loop
+invariant-loop l = length l.parts.items ≡ l.counter
+
+abbrev pub invariant-loop-done : goal.invariant-loop-done
+invariant-loop-done l =
+    (length l.parts.items ≡ l.count)
+    × ((t : State) → All (λ done. All (IsPart t) done.items) l.fn.all.items → (x : ℕ) → 0 < times_in x (map (λ done. map queue_of done.items) l.yielded) → HasPart t l.parts.items x)

@@ -1,0 +1,27 @@
+use Rattle.std.proofs.Common.{◌≡◌, ◌<◌, ◌≤◌, ℕ, length, ap, sym, ◌∙◌, subst, arith, refl, rules, inl, inr}
+use Rattle.rq_exchange.specs.declared.outboxes.Target.{Target}
+use Rattle.rq_exchange.proofs.Sources.{sources_few}
+use Rattle.rq_exchange.proofs.chain.open_one.Goals as goal
+
+pub overflow_cast-sources : goal.overflow_cast-sources
+overflow_cast-sources c = omega (arith, ap length c.sources_of-sources.ensures, sources_few c.args.job.now c.args.queue c.requires.job c.requires.queue)
+
+pub open-requires-clause-sources : goal.open-requires-clause-sources
+open-requires-clause-sources c =
+    let some : 0 < length c.sources_of-sources.result.now = search rules in
+    (some, omega (arith, ap length c.sources_of-sources.ensures, sources_few c.args.job.now c.args.queue c.requires.job c.requires.queue))
+
+pub returns-clause-opened : goal.returns-clause-opened
+returns-clause-opened c =
+    let opened = c.in_ok-countdown.ensures in
+    let some : 0 < length c.sources_of-sources.result.now = search rules in
+    inr (record {
+      countdown = c.in_ok-countdown.countdown;
+      column = c.in_ok-countdown.passes;
+      after_is = c.in_ok-push.ensures.items;
+      more_is = c.in_ok-push-2.ensures.items;
+      slot_is = search rules;
+      fed = omega (arith, some, ap length c.sources_of-sources.ensures);
+      keyed = (opened.countdown.0 ∙ ap length c.sources_of-sources.ensures, ap (λ (k : Target). k.due) opened.countdown.1 ∙ c.target_of-target.ensures);
+      fresh = record { own = opened.own; count = opened.count; passes = opened.countdown.2; blank = opened.fresh };
+    })

@@ -1,0 +1,10 @@
+use Rattle.std.proofs.Common.{length}
+use Rattle.rq_exchange.specs.Chains.{IsSettled}
+use Rattle.rq_exchange.specs.Halves.{Halfway}
+use Rattle.rq_exchange.proofs.settling.close_all.Given as goal
+
+abbrev pub invariant-loop-countdown : goal.invariant-loop-countdown
+invariant-loop-countdown l = Halfway IsSettled l.fn.countdowns.items l.fn.columns.items l.countdowns.items l.columns.items
+
+abbrev pub decreases-loop-countdown : goal.decreases-loop-countdown
+decreases-loop-countdown l = length l.countdowns.items

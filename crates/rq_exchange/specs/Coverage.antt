@@ -1,0 +1,79 @@
+-- What a thread has to show once it has ended, and what it is to follow its arrivals.
+use Rattle.std.specs.Prelude.{◌≡◌, ℕ, ◌+◌, ◌<◌, ◌≤◌, List, [], length, slice_index_or, map, ◌∷◌, Option, Some, None}
+use Rattle.std.specs.List.{AllByRecursion}
+use Rattle.rq_pool.specs.declared.countdown.arrival.Entry.{Entry}
+use Rattle.rq_pool.specs.Countdowns.Arrivals.{arrivals_for, last_lists, Settled}
+use Rattle.rq_pool.specs.Countdowns.History.{flat_map}
+use Rattle.rq_pool.specs.Ledger.{times, times_in}
+
+-- The queues that a thread was given to begin with, those that it redid, and what its passes tell, a pass for each countdown
+pub record Hand (T : Type 0) : Type 0 where
+  pub starts : List ℕ
+  pub redone : List ℕ
+  pub diaries : List (List (Entry T))
+
+module _ {T : Type 0} where
+  -- the arrivals at the countdown that stands at this place; none where there is none
+  abbrev pub told_at : List (List (Entry T)) → ℕ → List (Entry T)
+  told_at diaries slot = slice_index_or diaries slot []
+
+  -- how often it was told Last there
+  abbrev pub lasts_at : List (List (Entry T)) → ℕ → ℕ
+  lasts_at diaries slot = length (last_lists (told_at diaries slot))
+
+  -- how often it arrived there for the ith source
+  abbrev pub arrived_at : ℕ → List (List (Entry T)) → ℕ → ℕ
+  arrived_at i diaries slot = length (arrivals_for i (told_at diaries slot))
+
+-- the queue to begin next: the error queue, where its outboxes were given out
+abbrev pub asked : {B : Type 0} → ℕ → Option B → List ℕ
+asked e None = []
+asked e (Some b) = e ∷ []
+
+-- the ith queue whose error queue is this one
+abbrev pub source_at : (ℕ → List ℕ) → ℕ → ℕ → ℕ
+source_at sources e i = slice_index_or (sources e) i 0
+
+-- How n queues stand to each other: the error queue of each, the queues whose error queue it is, the place of its countdown among so many, and its place among the sources of its error queue
+pub record Web : Type 0 where
+  pub n : ℕ
+  pub error : ℕ → ℕ
+  pub sources : ℕ → List ℕ
+  pub slot : ℕ → ℕ
+  pub count : ℕ
+  pub rank : ℕ → ℕ
+
+-- there is a countdown for each queue that has sources, and for no other; error queues have smaller numbers
+pub record IsWeb (w : Web) : Type 0 where
+  pub fall : (q : ℕ) → q < w.n → w.error q < w.n → w.error q < q
+  pub apart : (x y : ℕ) → x < w.n → y < w.n → w.slot x < w.count → w.slot y ≡ w.slot x → y ≡ x
+  pub fed : (x : ℕ) → x < w.n → 0 < length (w.sources x) → w.slot x < w.count
+  pub bare : (x : ℕ) → x < w.n → length (w.sources x) ≡ 0 → w.count ≤ w.slot x
+  pub ranked : (q : ℕ) → q < w.n → w.error q < w.n → (w.rank q < length (w.sources (w.error q))) × (source_at w.sources (w.error q) (w.rank q) ≡ q)
+  pub exact : (e i : ℕ) → e < w.n → i < length (w.sources e) → (source_at w.sources e i < w.n) × (w.error (source_at w.sources e i) ≡ e) × (w.rank (source_at w.sources e i) ≡ i)
+
+module _ {T : Type 0} where
+  -- What a thread began to redo is what it was given and the queues whose countdown told it Last. For each queue that it redid it arrived, once for each time, where that queue is a source.
+  pub record Tells (w : Web) (starts begun redone : List ℕ) (diaries : List (List (Entry T))) : Type 0 where
+    pub long : length diaries ≡ w.count
+    pub redid : (x : ℕ) → x < w.n → times x begun ≡ times x starts + lasts_at diaries (w.slot x)
+    pub arrived : (e i : ℕ) → e < w.n → i < length (w.sources e) → arrived_at i diaries (w.slot e) ≡ times (source_at w.sources e i) redone
+
+  -- the same of a thread that has redone all that it began
+  abbrev pub Follows : Web → Hand T → Type 0
+  Follows w h = Tells w h.starts h.redone h.redone h.diaries
+
+  -- how often all threads redid the queue
+  abbrev pub Once : List (Hand T) → ℕ → Type 0
+  Once hs x = times_in x (map (λ h. h.redone) hs) ≡ 1
+
+  -- what is known once the room and all countdowns are closed
+  pub record IsClosed (w : Web) (hs : List (Hand T)) : Type 0 where
+    pub web : IsWeb w
+    -- of the room: a queue without sources was given out once, no other was
+    pub bare : (x : ℕ) → x < w.n → length (w.sources x) ≡ 0 → times_in x (map (λ h. h.starts) hs) ≡ 1
+    pub fed : (x : ℕ) → x < w.n → 0 < length (w.sources x) → times_in x (map (λ h. h.starts) hs) ≡ 0
+    -- of each thread
+    pub follow : AllByRecursion (Follows w) hs
+    -- of each countdown
+    pub settled : (e : ℕ) → e < w.n → 0 < length (w.sources e) → (arrived : ℕ) × (home : List T) × Settled (length (w.sources e)) (flat_map (λ h. told_at h.diaries (w.slot e)) hs) arrived home

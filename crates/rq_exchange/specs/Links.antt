@@ -1,0 +1,20 @@
+-- The error queue of each queue, and the queues whose error queue it is.
+use Rattle.std.specs.Prelude.{ℕ, ◌≡◌, ◌<◌, ◌==◌, List, length, slice_index_or}
+use Rattle.rq_state.specs.Orders.{places_of}
+
+-- the number at a place
+abbrev pub at : List ℕ → ℕ → ℕ
+at xs k = slice_index_or xs k 0
+
+-- each error queue that there is has a smaller number
+abbrev pub Fall : List ℕ → Type 0
+Fall errors = (k : ℕ) → k < length errors → at errors k < length errors → at errors k < k
+
+-- the queues whose error queue is this one, in their order
+abbrev pub naming : List ℕ → ℕ → List ℕ
+naming errors queue = places_of (λ e. e == queue) 0 errors
+
+-- of the first m queues, each stands at its rank among the sources of its error queue, where that is one of count queues
+pub record AreRanks (errors : List ℕ) (count m : ℕ) (ranks : List ℕ) : Type 0 where
+  pub long : length ranks ≡ m
+  pub ranked : (q : ℕ) → q < m → at errors q < count → (at ranks q < length (naming errors (at errors q))) × (at (naming errors (at errors q)) (at ranks q) ≡ q)

@@ -1,0 +1,59 @@
+-- What the workers hand back.
+use Rattle.std.specs.Prelude.{◌≡◌, ◌<◌, ℕ, List, [], ◌∷◌, length, map, All, ⊤, slice_index_or, Result, Ok, Err}
+use Rattle.rq_record.specs.declared.fault.Fault.{Fault}
+use Rattle.rq_record.specs.declared.fault.Fault.TheVariants.{Resources}
+use Rattle.rq_pool.specs.declared.room.Room.{Room}
+use Rattle.rq_pool.specs.declared.seat.Seat.{Seat}
+use Rattle.rq_pool.specs.Ledger.{times, times_in}
+use Rattle.rq_pool.specs.declared.countdown.Countdown.{Countdown}
+use Rattle.rq_pool.specs.Countdowns.Words.{sources_of}
+use Rattle.rq_pool.specs.Countdowns.Arrivals.{Settled}
+use Rattle.rq_pool.specs.Countdowns.History.{flat_map}
+use Rattle.rq_exchange.specs.declared.outboxes.Outbox.{Outbox}
+use Rattle.rq_exchange.specs.declared.outboxes.Target.{Target}
+use Rattle.rq_pool.specs.Rooms.{IsSeatOf, taken_of}
+use Rattle.rq_exchange.specs.declared.chain.Chain.{Chain}
+use Rattle.rq_exchange.specs.declared.jobs.Job.{Job}
+use Rattle.rq_exchange.specs.declared.crew.Kept.{Kept}
+use Rattle.rq_exchange.specs.declared.crew.Ended.{Ended}
+use Rattle.rq_exchange.specs.Chains.{web_of, ArePasses, IsRedone, hand_of, diaries_of}
+use Rattle.rq_exchange.specs.Coverage.{Follows, told_at}
+
+-- the thread has a pass of each countdown, its parts are right, and its passes tell of the queues that it began with, these
+pub record Keeps (job : Job) (chain : Chain) (starts : List ℕ) (k : Kept) : Type 0 where
+  pub passes : ArePasses chain k.passes.items
+  pub done : All (IsRedone job) k.done.items
+  pub follows : Follows (web_of job chain) (hand_of starts k.done.items k.passes.items)
+
+pub record HasEnded (job : Job) (chain : Chain) (room : Room) (w : Ended) : Type 0 where
+  pub seat : IsSeatOf room w.seat
+  pub keeps : Keeps job chain (taken_of w.seat) w.kept
+
+-- or it was refused memory
+abbrev pub Works : Job → Chain → Room → Result Ended Fault → Type 0
+Works job chain room (Ok w) = HasEnded job chain room w
+Works job chain room (Err e) = e ≡ Resources
+
+-- each thread keeps its own
+abbrev pub AllKeep : Job → Chain → List (List ℕ) → List Kept → Type 0
+AllKeep job chain [] [] = ⊤
+AllKeep job chain [] (k ∷ ks) = ⊥
+AllKeep job chain (s ∷ ss) [] = ⊥
+AllKeep job chain (s ∷ ss) (k ∷ ks) = Keeps job chain s k × AllKeep job chain ss ks
+
+-- all seats, and beside each what its thread keeps of what the seat took
+pub record AreHandedBack (job : Job) (chain : Chain) (room : Room) (count : ℕ) (back : List Seat) (all : List Kept) : Type 0 where
+  pub each : length back ≡ count
+  pub many : length all ≡ count
+  pub seats : All (IsSeatOf room) back
+  pub keep : AllKeep job chain (map taken_of back) all
+
+-- the threads began with the tasks, each with its own
+pub record AreKept (job : Job) (chain : Chain) (tasks : List ℕ) (all : List Kept) : Type 0 where
+  pub starts : List (List ℕ)
+  pub keep : AllKeep job chain starts all
+  pub dealt : (x : ℕ) → times_in x starts ≡ times x tasks
+
+-- each countdown is closed with what all threads' passes tell of it
+abbrev pub AreSettled : Chain → List Kept → Type 0
+AreSettled chain all = (c : ℕ) (d : Countdown Outbox Target) → c < length chain.countdowns.items → (arrived : ℕ) × (home : List Outbox) × Settled (sources_of (slice_index_or chain.countdowns.items c d)) (flat_map (λ k. told_at (diaries_of k.passes.items) c) all) arrived home

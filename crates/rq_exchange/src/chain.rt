@@ -1,0 +1,149 @@
+//! The countdowns of the error queues.
+
+ghost use Rattle.std.specs.Prelude.{◌≡◌, ◌<◌, ◌≤◌, ◌++◌, ◌∷◌, [], ℕ, List, length, All, IfSome, IfOk, IfErr};
+ghost use Rattle.rq_record.specs.declared.fault.Fault.TheVariants.{Resources};
+ghost use Rattle.rq_model.specs.Queues as queues;
+ghost use Rattle.rq_pool.specs.Countdowns.Words.{history_of};
+ghost use Rattle.rq_pool.specs.declared.countdown.arrival.Arrival.{Arrival as GhostArrival};
+ghost use Rattle.rq_exchange.specs.Chains.{web_of, due, AreBoxes, IsChain, ArePasses, HasPasses, diaries_of};
+ghost use Rattle.rq_exchange.specs.Openings.{Opened};
+ghost use Rattle.rq_exchange.specs.Coverage.{Tells, asked};
+ghost use Rattle.rq_exchange.specs.Jobs.{IsJob, records_of, errors_in};
+ghost use Rattle.rq_exchange.specs.Links.{at};
+
+use crate::columns::columns;
+use crate::jobs::Job;
+use crate::outboxes::{Outbox, Target};
+use diary::{Diary, Listing};
+use rq_pool::{Arrival, Countdown, Pass};
+use rq_queue::Move;
+use rq_record::{Fault, Record};
+use rq_state::State;
+use std::alloc::Global;
+use std::collections::LinkedList;
+
+/// A countdown for each queue that has sources, and where each queue's countdown stands: past the last where it has none.
+#[derive(Drop)]
+pub(crate) struct Chain {
+    pub countdowns: Vec<Countdown<Outbox>>,
+    pub slots: Vec<u32>,
+}
+
+impl Chain {
+    /// Hands what left a queue to its error queue. Who is the last to do so is given what left all its sources.
+    pub(crate) fn hand_on(
+        &self,
+        job: &Job,
+        passes: &mut [Pass<Outbox>],
+        queue: u32,
+        error: u32,
+        moves: Vec<Move>,
+    ) -> Option<Vec<Outbox>>
+        requires job { IsJob job.now }
+        requires chain { IsChain job.now self.now }
+        requires passes { ArePasses self.now passes.old }
+        requires queue { (queue < length job.now.definitions.now) × (error ≡ at (errors_in job.now) queue) × (error < length job.now.definitions.now) }
+        requires moves { moves.items ≡ queues.moves job.now.state.now (records_of job.now) queue }
+        ensures passes { ArePasses self.now passes.new }
+        ensures boxes { IfSome result (λ b. AreBoxes job.now error b.items) }
+        ensures tells { (starts begun redone : List ℕ) → Tells (web_of job.now self.now) starts begun redone (diaries_of passes.old) → Tells (web_of job.now self.now) starts (begun ++ asked error result) (redone ++ queue ∷ []) (diaries_of passes.new) }
+    {
+        let slot = self.slots[error as usize] as usize;
+        let rank = job.ranks[queue as usize];
+        match self.countdowns[slot].arrive(&mut passes[slot], rank, Outbox { moves }) {
+            Arrival::Last(boxes) => Some(boxes),
+            Arrival::NotLast => None,
+            Arrival::Twice(back) => {
+                drop(back);
+                None
+            }
+        }
+    }
+}
+
+// What the key of a countdown is made of.
+#[derive(Drop)]
+struct Aim<'a> {
+    state: &'a State,
+    records: &'a [Record],
+    sources: &'a [u32],
+}
+
+struct Due;
+
+impl<'a> Listing<Aim<'a>, LinkedList<Move>> for Due {
+    ghost use Rattle.std.specs.Prelude.{map};
+    ghost use Rattle.rq_model.specs.Queues as queues;
+    ghost use Rattle.rq_record.specs.Views.{record_of};
+
+    ghost list = { λ a. map (queues.moves a.state.now (map record_of a.records.now)) a.sources.now };
+}
+
+/// The key of the countdown of a queue.
+fn target_of(job: &Job, queue: u32) -> Target
+    ensures { result.due ≡ due job.now queue }
+{
+    let aim = Aim {
+        state: job.state,
+        records: job.records,
+        sources: job.sources_of(queue),
+    };
+    Target {
+        due: Diary::of::<Aim, Due>(&aim),
+    }
+}
+
+/// Opens the countdown of a queue that has sources, and answers where it stands; past the last where the queue has none.
+fn open_one(
+    alloc: Global,
+    job: &Job,
+    workers: u32,
+    queue: u32,
+    countdowns: &mut Vec<Countdown<Outbox>>,
+    columns: &mut Vec<Vec<Pass<Outbox>>>,
+) -> Result<u32, Fault>
+    requires job { IsJob job.now }
+    requires workers { (0 < workers) × (workers ≤ 64) }
+    requires queue { queue < length job.now.definitions.now }
+    requires few { length countdowns.old.items ≤ 4096 }
+    ensures opened { IfOk result (λ slot. Opened job.now workers queue countdowns.old.items columns.old.items slot countdowns.new.items columns.new.items) }
+    ensures refused { IfErr result (λ e. e ≡ Resources) }
+{
+    let sources = job.sources_of(queue).len();
+    if sources == 0 {
+        return Ok(job.definitions.len() as u32);
+    }
+    let target = target_of(job, queue);
+    let (countdown, passes) = Countdown::open(alloc, target, sources as u32, workers)?;
+    let slot = countdowns.len();
+    countdowns.push(countdown)?;
+    columns.push(passes)?;
+    Ok(slot as u32)
+}
+
+impl Chain {
+    /// Opens a countdown for each queue that has sources, and a pass of each for each worker.
+    pub(crate) fn open(
+        alloc: Global,
+        job: &Job,
+        workers: u32,
+    ) -> Result<(Chain, Vec<Vec<Pass<Outbox>>>), Fault>
+        requires job { IsJob job.now }
+        requires workers { (0 < workers) × (workers ≤ 64) }
+        ensures chain { IfOk result (λ r. IsChain job.now r.0) }
+        ensures passes { IfOk result (λ r. HasPasses r.0 workers) }
+        ensures count { IfOk result (λ r. length r.1.items ≡ workers) }
+        ensures rows { IfOk result (λ r. All (λ ps. ArePasses r.0 ps.items × All (λ p. history_of p ≡ []) ps.items) r.1.items) }
+        ensures refused { IfErr result (λ e. e ≡ Resources) }
+    {
+        let mut countdowns = Vec::new(alloc);
+        let mut all = Vec::new(alloc);
+        let mut slots = Vec::with_capacity(alloc, job.definitions.len())?;
+        for queue in 0..job.definitions.len() {
+            let slot = open_one(alloc, job, workers, queue as u32, &mut countdowns, &mut all)?;
+            slots.push(slot)?;
+        }
+        let rows = columns(alloc, all, workers as usize)?;
+        Ok((Chain { countdowns, slots }, rows))
+    }
+}

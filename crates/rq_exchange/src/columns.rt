@@ -1,0 +1,55 @@
+//! Rows turned into columns.
+
+ghost use Rattle.std.specs.Prelude.{◌≡◌, ◌<◌, ◌++◌, ◌∷◌, [], ℕ, List, length, map, All, IfOk, IfErr, OnOk, slice_index_or, vec_items};
+ghost use Rattle.rq_state.specs.Orders.{listed};
+ghost use Rattle.rq_record.specs.declared.fault.Fault.TheVariants.{Resources};
+
+use rq_record::Fault;
+use std::alloc::Global;
+
+/// As many lists, each empty.
+pub(crate) fn bare<T: Drop>(alloc: Global, count: usize) -> Result<Vec<Vec<T>>, Fault>
+    ensures len { IfOk result (λ lists. length lists.items ≡ count) }
+    ensures listed { IfOk result (λ lists. (x : ℕ) → listed lists.items x ≡ []) }
+    ensures refused { IfErr result (λ e. e ≡ Resources) }
+{
+    let mut lists = Vec::with_capacity(alloc, count)?;
+    while lists.len() < count {
+        lists.push(Vec::new(alloc))?;
+    }
+    Ok(lists)
+}
+
+/// Puts each thing of a row at the end of its column.
+fn spread<T: Drop>(columns: &mut Vec<Vec<T>>, row: Vec<T>) -> Result<(), Fault>
+    requires { length row.items ≡ length columns.old.items }
+    ensures len { length columns.new.items ≡ length columns.old.items }
+    ensures spread { OnOk result ((k : ℕ) (d e : _) (x : T) → k < length columns.old.items → (slice_index_or columns.new.items k d).items ≡ (slice_index_or columns.old.items k e).items ++ slice_index_or row.items k x ∷ []) }
+    ensures refused { IfErr result (λ e. e ≡ Resources) }
+{
+    let mut row = row;
+    while let Some(one) = row.pop() {
+        let place = row.len();
+        columns[place].push(one)?;
+    }
+    Ok(())
+}
+
+/// The columns of rows that are equally long.
+pub(crate) fn columns<T: Drop>(
+    alloc: Global,
+    rows: Vec<Vec<T>>,
+    count: usize,
+) -> Result<Vec<Vec<T>>, Fault>
+    requires { All (λ r. length r.items ≡ count) rows.items }
+    ensures len { IfOk result (λ cs. length cs.items ≡ count) }
+    ensures long { IfOk result (λ cs. (k : ℕ) (d : _) → k < count → length (slice_index_or cs.items k d).items ≡ length rows.items) }
+    ensures columns { IfOk result (λ cs. (k : ℕ) (d : _) (x : T) → k < count → (slice_index_or cs.items k d).items ≡ map (λ r. slice_index_or r.items k x) rows.items) }
+    ensures refused { IfErr result (λ e. e ≡ Resources) }
+{
+    let mut columns = bare(alloc, count)?;
+    for row in rows {
+        spread(&mut columns, row)?;
+    }
+    Ok(columns)
+}

@@ -1,0 +1,208 @@
+//! The workers: each takes queues without sources from the room, and follows each as far as it leads.
+
+ghost use Rattle.std.specs.Prelude.{◌≡◌, ◌<◌, ◌≤◌, ◌++◌, [], ℕ, List, length, All, IfOk, IfErr};
+ghost use Rattle.rq_pool.specs.declared.room.Room.{Room as PoolRoom};
+ghost use Rattle.rq_pool.specs.Ledger.{times, times_in};
+ghost use Rattle.rq_pool.specs.Countdowns.Words.{history_of};
+ghost use Rattle.rq_pool.specs.Rooms.{IsSeatOf, taken_of, deal_of};
+ghost use Rattle.rq_record.specs.declared.fault.Fault.TheVariants.{Resources};
+ghost use Rattle.rq_exchange.specs.Chains.{web_of, IsChain, ArePasses, IsRedone, IsBare, hand_of};
+ghost use Rattle.rq_exchange.specs.Coverage.{Follows};
+ghost use Rattle.rq_exchange.specs.Jobs.{IsJob};
+ghost use Rattle.rq_exchange.specs.Tasks.{AreBare};
+ghost use Rattle.rq_exchange.specs.declared.chain.Chain.{Chain as GhostChain};
+ghost use Rattle.rq_exchange.specs.declared.jobs.Job.{Job as GhostJob};
+ghost use Rattle.rq_exchange.specs.Workers.{Works, AreHandedBack, AreKept};
+
+use crate::chain::Chain;
+use crate::dealing::deal;
+use crate::following::follow;
+use crate::jobs::Job;
+use crate::outboxes::{Outbox, Redone};
+use rq_pool::{Gate, Pass, Room, Seat};
+use rq_record::Fault;
+use std::alloc::{AllocError, Global};
+use std::thread;
+use std::thread::Threads;
+
+/// What a thread has when it has ended: a pass of each countdown, and the queues that it redid.
+#[derive(Drop)]
+pub(crate) struct Kept {
+    pub passes: Vec<Pass<Outbox>>,
+    pub done: Vec<Redone>,
+}
+
+/// A seat, and a pass of each countdown.
+#[derive(Drop)]
+pub(crate) struct Worker {
+    pub seat: Seat,
+    pub passes: Vec<Pass<Outbox>>,
+}
+
+/// What a worker hands back.
+#[derive(Drop)]
+pub(crate) struct Ended {
+    pub seat: Seat,
+    pub kept: Kept,
+}
+
+/// Takes until there is nothing to take, and follows what it takes.
+fn work<G: Gate>(
+    alloc: Global,
+    job: &Job,
+    chain: &Chain,
+    room: &Room,
+    gate: &G,
+    seat: Seat,
+    passes: Vec<Pass<Outbox>>,
+) -> Result<Ended, Fault>
+    requires job { IsJob job.now }
+    requires chain { IsChain job.now chain.now }
+    requires seat { IsSeatOf room.now seat × (taken_of seat ≡ []) }
+    requires passes { ArePasses chain.now passes.items }
+    requires fresh { All (λ p. history_of p ≡ []) passes.items }
+    requires bare { (x : ℕ) → 0 < times_in x (deal_of room.now) → IsBare job.now x }
+    ensures { Works job.now chain.now room.now result }
+{
+    let mut seat = seat;
+    let mut passes = passes;
+    let mut done = Vec::new(alloc);
+    while let Some(queue) = seat.take(room) {
+        follow(
+            alloc,
+            job,
+            chain,
+            gate,
+            queue,
+            passes.as_mut_slice(),
+            &mut done,
+        )?;
+    }
+    Ok(Ended {
+        seat,
+        kept: Kept { passes, done },
+    })
+}
+
+/// Follows what the workers left.
+fn finish<G: Gate>(
+    alloc: Global,
+    job: &Job,
+    chain: &Chain,
+    gate: &G,
+    left: &[u32],
+    kept: &mut Kept,
+) -> Result<(), Fault>
+    requires job { IsJob job.now }
+    requires chain { IsChain job.now chain.now }
+    requires passes { ArePasses chain.now kept.old.passes.items }
+    requires done { All (IsRedone job.now) kept.old.done.items }
+    requires bare { (x : ℕ) → 0 < times x left.now → IsBare job.now x }
+    ensures passes { IfOk result (λ _. ArePasses chain.now kept.new.passes.items) }
+    ensures done { IfOk result (λ _. All (IsRedone job.now) kept.new.done.items) }
+    ensures follows { IfOk result (λ _. (starts : List ℕ) → Follows (web_of job.now chain.now) (hand_of starts kept.old.done.items kept.old.passes.items) → Follows (web_of job.now chain.now) (hand_of (starts ++ left.now) kept.new.done.items kept.new.passes.items)) }
+    ensures refused { IfErr result (λ e. e ≡ Resources) }
+{
+    let Kept { passes, done } = kept;
+    for queue in left {
+        follow(alloc, job, chain, gate, *queue, passes.as_mut_slice(), done)?;
+    }
+    Ok(())
+}
+
+/// A worker for each seat.
+fn run_seats<R: Threads + Sync, G: Gate + Sync>(
+    rt: &R,
+    alloc: Global,
+    job: &Job,
+    chain: &Chain,
+    room: &Room,
+    gate: &G,
+    workers: Vec<Worker>,
+) -> Result<Vec<Result<Ended, Fault>>, AllocError>
+    requires job { IsJob job.now }
+    requires chain { IsChain job.now chain.now }
+    requires workers { All (λ w. IsSeatOf room.now w.seat × (taken_of w.seat ≡ []) × ArePasses chain.now w.passes.items × All (λ p. history_of p ≡ []) w.passes.items) workers.items }
+    requires bare { (x : ℕ) → 0 < times_in x (deal_of room.now) → IsBare job.now x }
+    ensures { IfOk result (λ v. (length v.items ≡ length workers.items) × All (Works job.now chain.now room.now) v.items) }
+{
+    thread::map_vec(
+        rt,
+        workers,
+        &|worker| {
+            let Worker { seat, passes } = worker;
+            work(alloc, job, chain, room, gate, seat, passes)
+        },
+    )
+}
+
+/// A row of passes for each seat.
+fn paired(
+    alloc: Global,
+    seats: Vec<Seat>,
+    rows: Vec<Vec<Pass<Outbox>>>,
+) -> Result<Vec<Worker>, Fault>
+    requires { length rows.items ≡ length seats.items }
+    ensures workers { IfOk result (λ v. (chain : GhostChain) (room : PoolRoom) → All (λ s. IsSeatOf room s × (taken_of s ≡ [])) seats.items → All (λ r. ArePasses chain r.items × All (λ p. history_of p ≡ []) r.items) rows.items
+        → All (λ w. IsSeatOf room w.seat × (taken_of w.seat ≡ []) × ArePasses chain w.passes.items × All (λ p. history_of p ≡ []) w.passes.items) v.items) }
+    ensures count { IfOk result (λ v. length v.items ≡ length seats.items) }
+    ensures refused { IfErr result (λ e. e ≡ Resources) }
+{
+    let mut seats = seats;
+    let mut rows = rows;
+    let mut workers = Vec::with_capacity(alloc, seats.len())?;
+    while let Some(seat) = seats.pop() {
+        let Some(passes) = rows.pop() else {
+            unreachable!()
+        };
+        workers.push(Worker { seat, passes })?;
+    }
+    Ok(workers)
+}
+
+/// The seats of workers that all ended well, and what they have.
+fn handed_back(
+    alloc: Global,
+    ended: Vec<Result<Ended, Fault>>,
+) -> Result<(Vec<Seat>, Vec<Kept>), Fault>
+    ensures back { IfOk result (λ r. (job : GhostJob) (chain : GhostChain) (room : PoolRoom) → All (Works job chain room) ended.items → AreHandedBack job chain room (length ended.items) r.0.items r.1.items) }
+    ensures refused { (job : GhostJob) (chain : GhostChain) (room : PoolRoom) → All (Works job chain room) ended.items → IfErr result (λ e. e ≡ Resources) }
+{
+    let mut seats = Vec::new(alloc);
+    let mut all = Vec::new(alloc);
+    for one in ended {
+        let Ended { seat, kept } = one?;
+        seats.push(seat)?;
+        all.push(kept)?;
+    }
+    Ok((seats, all))
+}
+
+/// What all threads have once each task is redone, and each error queue that this led to.
+pub(crate) fn all_kept<R: Threads + Sync, G: Gate + Sync>(
+    rt: &R,
+    alloc: Global,
+    job: &Job,
+    chain: &Chain,
+    gate: &G,
+    tasks: &[u32],
+    rows: Vec<Vec<Pass<Outbox>>>,
+) -> Result<Vec<Kept>, Fault>
+    requires job { IsJob job.now }
+    requires chain { IsChain job.now chain.now }
+    requires count { (0 < length rows.items) × (length rows.items ≤ 64) }
+    requires rows { All (λ r. ArePasses chain.now r.items × All (λ p. history_of p ≡ []) r.items) rows.items }
+    requires tasks { AreBare job.now.sources.now (length job.now.sources.now) tasks.now }
+    ensures kept { IfOk result (λ v. AreKept job.now chain.now tasks.now v.items) }
+    ensures count { IfOk result (λ v. length v.items ≡ length rows.items) }
+    ensures refused { IfErr result (λ e. e ≡ Resources) }
+{
+    let lists = deal(alloc, rows.len(), tasks)?;
+    let (room, seats) = Room::open(alloc, lists)?;
+    let workers = paired(alloc, seats, rows)?;
+    let ended = run_seats(rt, alloc, job, chain, &room, gate, workers)?;
+    let (seats, mut kept) = handed_back(alloc, ended)?;
+    let left = room.close(seats);
+    finish(alloc, job, chain, gate, left.left(), &mut kept[0])?;
+    Ok(kept)
+}

@@ -1,0 +1,43 @@
+//! What the room deals: the queues that wait for nobody.
+
+ghost use Rattle.std.specs.Prelude.{◌≡◌, ◌≤◌, ◌<◌, ℕ, length, map, IfOk, IfErr, vec_len, vec_items};
+ghost use Rattle.rq_pool.specs.Ledger.{times, times_in, size};
+ghost use Rattle.rq_record.specs.declared.fault.Fault.TheVariants.{Resources};
+ghost use Rattle.rq_exchange.specs.Tasks.{AreBare};
+
+use rq_record::Fault;
+use std::alloc::Global;
+
+/// The queues that are no queue's error queue.
+pub(crate) fn tasks_of(alloc: Global, sources: &[Vec<u32>]) -> Result<Vec<u32>, Fault>
+    requires { length sources.now ≤ 4096 }
+    ensures tasks { IfOk result (λ v. AreBare sources.now (length sources.now) v.items) }
+    ensures refused { IfErr result (λ e. e ≡ Resources) }
+{
+    let mut tasks = Vec::new(alloc);
+    for queue in 0..sources.len() {
+        if !sources[queue].is_empty() {
+            continue;
+        }
+        tasks.push(queue as u32)?;
+    }
+    Ok(tasks)
+}
+
+/// Task i goes to list i modulo the workers.
+pub(crate) fn deal(alloc: Global, workers: usize, tasks: &[u32]) -> Result<Vec<Vec<u32>>, Fault>
+    requires { 0 < workers }
+    ensures count { IfOk result (λ v. vec_len v ≡ workers) }
+    ensures deal { IfOk result (λ v. (x : ℕ) → times_in x (map vec_items v.items) ≡ times x tasks.now) }
+    ensures size { IfOk result (λ v. size (map vec_items v.items) ≡ length tasks.now) }
+    ensures refused { IfErr result (λ e. e ≡ Resources) }
+{
+    let mut lists = Vec::new(alloc);
+    for _ in 0..workers {
+        lists.push(Vec::new(alloc))?;
+    }
+    for (i, queue) in tasks.iter().enumerate() {
+        lists[i % workers].push(*queue)?;
+    }
+    Ok(lists)
+}
