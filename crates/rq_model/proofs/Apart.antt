@@ -1,5 +1,5 @@
 -- Elements of distinct ids, and one more put in.
-use Rattle.std.proofs.Common.{◌≡◌, ◌≢◌, Bool, true, false, cond, not, List, [], ◌∷◌, ◌++◌, sym, arith}
+use Rattle.std.proofs.Common.{◌≢◌, Bool, cond, not, List, [], ◌∷◌, ◌++◌, sym}
 use Rattle.std.specs.List.{filter, AllByRecursion}
 use Rattle.rq_model.specs.States.{Element, put, id_before}
 use Rattle.rq_model.specs.WellFormed.{Ordered}

@@ -1,17 +1,16 @@
 -- The redo of each queue goes well.
 use Rattle.std.proofs.Common.{◌≡◌, ◌≢◌, ℕ, ◌+◌, ◌<◌, ◌≤◌, ◌^◌, Bool, true, false, cond, List, [], ◌∷◌, ◌++◌, length, refl, sym, ap, ◌∙◌, subst, arith}
 use Rattle.std.specs.Prelude.{◌==◌}
-use Rattle.std.specs.List.{filter, AllByRecursion}
+use Rattle.std.specs.List.{AllByRecursion}
 use Rattle.std.proofs.lemmas.Bool.{and_parts, and_from, eqb-true, lt-ltb, lt-leb}
 use Rattle.rq_model.specs.Records.{Record, Define, Register, Deregister, Begin, Enqueue, Dequeue, Commit, Abort, Checkpoint, Kill, Version}
-use Rattle.rq_model.specs.States.{Element, Note, Definition, State, definition_at}
+use Rattle.rq_model.specs.States.{Element, Definition, State, definition_at}
 use Rattle.rq_model.specs.WellFormed.{Ordered, IsWellFormed, IsElement, IsNote}
 use Rattle.rq_model.specs.Machine.{is_lawful, all_lawful, step}
 use Rattle.rq_model.specs.Queues.{Part, defined_by, Op, touches, touching_from, Move, transfers_at, transfers, arrivals_of, arrivals, elements_at}
-use Rattle.rq_model.specs.Redo.{act, receive, put_all, before as before_place, from as from_place}
-use Rattle.rq_model.specs.Laws.{IsSound, RunsAreWellFormed}
+use Rattle.rq_model.specs.Redo.{act, receive, before as before_place, from as from_place}
 use Rattle.rq_model.specs.Ready.{IsOf, IsReady, AreNew, GoesWell, RedoGoesWell, GoesOn}
-use Rattle.rq_model.proofs.Lists.{by_cases, each_weaker, each_passes, each_filter}
+use Rattle.rq_model.proofs.Lists.{each_weaker, each_passes, each_filter}
 use Rattle.rq_model.proofs.Merged.{ordered_filter, ordered_weaker}
 use Rattle.rq_model.proofs.Steps.{core, Knows, known_by, step_part}
 use Rattle.rq_model.proofs.Sound.{agree_from, same_definitions, knows_step, knows_start}

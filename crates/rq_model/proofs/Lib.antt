@@ -1,4 +1,6 @@
 pub mod WorkedReports
+pub mod WorkedEdges
+pub mod WorkedEnding
 pub mod Lists
 pub mod Parts
 pub mod Split
@@ -10,7 +12,9 @@ pub mod AnyOrder
 pub mod WellFormedRuns
 pub mod Merged
 pub mod Kept
-pub mod Gathered
+pub mod Shuffled
+pub mod LawfulFronts
+pub mod Touching
 pub mod Numbers
 pub mod Depth
 pub mod Cursor
@@ -23,6 +27,7 @@ pub mod Texts
 pub mod Widths
 pub mod StateCodes
 pub mod Restarts
+pub mod Found
 pub mod Upgraded
 pub mod Listed
 pub mod Rising

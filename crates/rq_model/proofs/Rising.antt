@@ -1,5 +1,5 @@
 -- Moves stand in the order of places and ids.
-use Rattle.std.proofs.Common.{◌≡◌, ℕ, Bool, true, List, map, arith, inl, inr}
+use Rattle.std.proofs.Common.{◌≡◌, Bool, true, List, map, arith, inl, inr}
 use Rattle.std.specs.Prelude.{◌==◌, nat_lt}
 use Rattle.std.specs.List.{filter}
 use Rattle.std.proofs.lemmas.Bool.{cases_Bool, lt-ltb, eq-eqb}
@@ -7,7 +7,7 @@ use Rattle.rq_model.specs.Records.{Record, Version}
 use Rattle.rq_model.specs.States.{State}
 use Rattle.rq_model.specs.Machine.{all_lawful}
 use Rattle.rq_model.specs.Queues.{Move, Transfer, transfers}
-use Rattle.rq_model.specs.WellFormed.{Ordered, IsWellFormed}
+use Rattle.rq_model.specs.WellFormed.{IsWellFormed}
 use Rattle.rq_model.specs.MoveLaws.{earlier, Rise, MovesRise, ArrivalsRise}
 use Rattle.rq_model.proofs.Merged.{Precedes, order, ordered_map, ordered_filter}
 use Rattle.rq_model.proofs.WellFormedRuns.{sound}

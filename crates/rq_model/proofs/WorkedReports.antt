@@ -18,7 +18,7 @@ use Rattle.rq_model.specs.Reports.{IsReport}
 use Rattle.rq_model.specs.Checkpoints.{TrueAt}
 use Rattle.rq_model.specs.WorkedLogs.{text_made, ann, jobs, unlawful_log, UnlawfulLogs, one_element_log, best_first_log, second_abort_log, arrival_log, return_and_arrival_log, own_fresh_log, place_not_commit_log, deregister_log, before_the_checkpoint, checkpoint_log, checkpoint_cut_log, error_of_error_log, kill_log, WorkedLogs, WorkedBytes, WorkedCheckpoint}
 use Rattle.rq_model.proofs.Runs.{frame_long, frame_reads, right_at}
-use Rattle.rq_model.proofs.Bodies.{body_fits, one_record}
+use Rattle.rq_model.proofs.Bodies.{body_fits}
 use Rattle.rq_model.proofs.Longest.{front_stops, frames_of_join}
 use Rattle.rq_model.proofs.Restarts.{each_cut, header_long, true_is_same}
 use Rattle.rq_model.proofs.Kept.{runs_are_well_formed, empty_is_well_formed}
@@ -29,7 +29,7 @@ pub worked_bytes : WorkedBytes
 worked_bytes = record { define = refl; enqueue = refl; dequeue = refl; nothing = refl; inside = refl; count = refl }
 
 -- the state that a restart ends in is well formed
-final_kept : (version : Version) (s : State) → IsWellFormed s → IsWellFormed (final s)
+pub final_kept : (version : Version) (s : State) → IsWellFormed s → IsWellFormed (final s)
 final_kept version s h =
     let all : take (length (aborts s)) (aborts s) ≡ aborts s = take_all (length (aborts s)) (aborts s) (omega arith) in
     runs_are_well_formed version s (aborts s) h (subst (λ (rs : List Record). all_lawful version s rs ≡ true) all (crash_is_harmless version s (length (aborts s)) h).0)
@@ -43,7 +43,7 @@ front_says b version rs rest why front ends =
     (r, record { version = version; records = rs; rest = rest; why = why; front = front; ends = ends; answer = refl }, is_text r (final_kept version (run empty rs) keeps))
 
 -- the bytes of a log are the header's and each frame's
-size : List Record → ℕ
+unfoldable pub size : List Record → ℕ
 size [] = 0
 size (r ∷ rs) = 36 + length (body_of r) + size rs
 
@@ -52,10 +52,10 @@ unfolding size
 frames_size p [] = refl
 frames_size p (r ∷ rs) = omega (arith, length-append (frame p (body_of r)) (frames_of (digest p (body_of r)) rs), frame_long p (body_of r), frames_size (digest p (body_of r)) rs)
 
-log_size : (version : Version) (rs : List Record) → length (log_of version rs) ≡ 40 + size rs
+pub log_size : (version : Version) (rs : List Record) → length (log_of version rs) ≡ 40 + size rs
 log_size version rs = omega (arith, length-append (header version) (frames_of (sha256 (magic version)) rs), header_long version, frames_size (sha256 (magic version)) rs)
 
-whole_front : (version : Version) (rs : List Record) → AllByRecursion (IsRecord version) rs → all_lawful version empty rs ≡ true → 40 + size rs ≤ log_limit → IsFront (log_of version rs) version rs []
+pub whole_front : (version : Version) (rs : List Record) → AllByRecursion (IsRecord version) rs → all_lawful version empty rs ≡ true → 40 + size rs ≤ log_limit → IsFront (log_of version rs) version rs []
 whole_front version rs are lawful short =
     let bytes = frames_of (sha256 (magic version)) rs in
     record {
@@ -66,11 +66,11 @@ whole_front version rs are lawful short =
     }
 
 -- a test for records
-is_who : Option By → Bool
+unfoldable pub is_who : Option By → Bool
 is_who None = true
 is_who (Some by) = is_name by.name && nat_lt by.tag (2 ^ 64)
 
-is_record : Version → Record → Bool
+unfoldable pub is_record : Version → Record → Bool
 is_record version (Define limit error name) = nat_lt limit (2 ^ 16) && (nat_lt error (2 ^ 32) && is_name name)
 is_record version (Register queue name) = nat_lt queue (2 ^ 32) && is_name name
 is_record version (Deregister queue name) = nat_lt queue (2 ^ 32) && is_name name
@@ -88,7 +88,7 @@ unfolding is_who
 who_passes None h = tt
 who_passes (Some by) h = let both = and_parts (is_name by.name) (nat_lt by.tag (2 ^ 64)) h in (both.0, ltb-true by.tag (2 ^ 64) both.1)
 
-passes : (version : Version) (r : Record) → is_record version r ≡ true → IsRecord version r
+pub passes : (version : Version) (r : Record) → is_record version r ≡ true → IsRecord version r
 unfolding is_record
 passes version (Define limit error name) h =
     let a = and_parts (nat_lt limit (2 ^ 16)) (nat_lt error (2 ^ 32) && is_name name) h in
@@ -113,11 +113,11 @@ passes version (Checkpoint bytes) h = leb-true (length bytes) 268435455 h
 passes One (Kill queue element) h = absurd cc
 passes Two (Kill queue element) h = let a = and_parts (nat_lt queue (2 ^ 32)) (nat_lt element (2 ^ 64)) h in (ltb-true queue (2 ^ 32) a.0, ltb-true element (2 ^ 64) a.1)
 
-all_pass : (version : Version) (rs : List Record) → list_all (is_record version) rs ≡ true → AllByRecursion (IsRecord version) rs
+pub all_pass : (version : Version) (rs : List Record) → list_all (is_record version) rs ≡ true → AllByRecursion (IsRecord version) rs
 all_pass version [] h = tt
 all_pass version (r ∷ rs) h = let both = and_parts (is_record version r) (list_all (is_record version) rs) h in (passes version r both.0, all_pass version rs both.1)
 
-log_says : (version : Version) (rs : List Record) (text : List ℕ) → list_all (is_record version) rs ≡ true → all_lawful version empty rs ≡ true → nat_le (40 + size rs) log_limit ≡ true
+pub log_says : (version : Version) (rs : List Record) (text : List ℕ) → list_all (is_record version) rs ≡ true → all_lawful version empty rs ≡ true → nat_le (40 + size rs) log_limit ≡ true
     → text_made (restarted (run empty rs) 0 (40 + size rs) (Ends Whole)) ≡ text → IsReport (log_of version rs) text
 log_says version rs text are lawful short made =
     let made_of : text_made (restarted (run empty rs) 0 (length (log_of version rs)) (Ends Whole)) ≡ text = ap (λ (n : ℕ). text_made (restarted (run empty rs) 0 n (Ends Whole))) (log_size version rs) ∙ made in
@@ -160,7 +160,7 @@ unlawful_says version rs r after text are lawful not_lawful short made =
     let more = frames_of (digest p (body_of r)) after in
     let fit = body_fits version r all.1.0 in
     let body_is : body_in rest ≡ body_of r = (frame_reads p (body_of r) more fit).body_is in
-    let ends : IsWhy version (run empty rs) p rest Law = (right_at p (body_of r) more fit, (λ o spelled its. no_true (sym its ∙ ap (is_lawful version (run empty rs)) (one_record version o r (body_in rest) spelled (all.1.0, body_is)) ∙ not_lawful)), r, (all.1.0, body_is)) in
+    let ends : IsWhy version (run empty rs) p rest Law = (right_at p (body_of r) more fit, r, (all.1.0, body_is), not_lawful) in
     let front : IsFront b version rs rest = record {
       short = omega (arith, log_size version (rs ++ r ∷ after), leb-true (40 + size (rs ++ r ∷ after)) log_limit short);
       bytes = bytes;
@@ -169,9 +169,6 @@ unlawful_says version rs r after text are lawful not_lawful short made =
     } in
     let made_of : text_made (restarted (run empty rs) (length rest) (length b) Law) ≡ text = (λ i. text_made (restarted (run empty rs) (frames_size p (r ∷ after) i) (log_size version (rs ++ r ∷ after) i) Law)) ∙ made in
     subst (IsReport b) made_of (front_says b version rs rest Law front ends)
-  where
-    no_true : true ≡ false → ⊥
-    no_true e = cc
 
 pub unlawful_logs : UnlawfulLogs
 unfolding size is_who is_record digits
@@ -184,7 +181,7 @@ unlawful_logs = record {
 }
 
 -- the checkpoint inside a unit is true
-true_log : (after : List Record) → list_all (is_record One) (before_the_checkpoint ++ Checkpoint (state_bytes (run empty before_the_checkpoint)) ∷ after) ≡ true → all_lawful One empty (before_the_checkpoint ++ Checkpoint (state_bytes (run empty before_the_checkpoint)) ∷ after) ≡ true
+pub true_log : (after : List Record) → list_all (is_record One) (before_the_checkpoint ++ Checkpoint (state_bytes (run empty before_the_checkpoint)) ∷ after) ≡ true → all_lawful One empty (before_the_checkpoint ++ Checkpoint (state_bytes (run empty before_the_checkpoint)) ∷ after) ≡ true
     → nat_le (40 + size (before_the_checkpoint ++ Checkpoint (state_bytes (run empty before_the_checkpoint)) ∷ after)) log_limit ≡ true → TrueAt (log_of One (before_the_checkpoint ++ Checkpoint (state_bytes (run empty before_the_checkpoint)) ∷ after)) 447
 unfolding size
 true_log after are lawful short =

@@ -16,3 +16,6 @@ pub mod Ready
 pub mod LogLaws
 pub mod MoveLaws
 pub mod WorkedLogs
+pub mod WorkedMachine
+pub mod WorkedFormats
+pub mod WorkedEnds

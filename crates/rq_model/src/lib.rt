@@ -2,10 +2,13 @@
 //! on a function below that does nothing.
 #![tactic(auto)]
 
-ghost use Rattle.rq_model.specs.LogLaws.{BodySpellsOne, RecordHasOneBody, BytesSpellOneState, RunsFit, FrameIsRight, RightIsFrame, RunStops, OneRun, OneRest, OneFrameRun, RunGivesFront, FramesJoin, LogJoins, LogEnds, FrontStops, OneLongest, OneWhy, OneFront, OneRestart, OneText, OneReport, FrontHasReport, OneRestartAt, TrueIsSame, OneAudit, CrashInTheTail, UpgradeIsSame};
+ghost use Rattle.rq_model.specs.LogLaws.{BodySpellsOne, RecordHasOneBody, BytesSpellOneState, RunsFit, FrameIsRight, RightIsFrame, RunStops, OneRun, OneRest, OneFrameRun, RunGivesFront, FramesJoin, LogJoins, LogEnds, FrontStops, OneLongest, OneWhy, OneFront, OneRestart, OneText, OneReport, FrontHasReport, EveryLogHasReport, OneVersion, RecordIsWider, UsedIsFront, FrontsAreSpelt, OneRestartAt, TrueIsSame, TrueSaysTheSame, OneAudit, CrashInTheTail, CrashSaysTheSame, UpgradeIsSame};
 ghost use Rattle.rq_model.specs.WorkedLogs.{WorkedBytes, WorkedLogs, UnlawfulLogs, WorkedCheckpoint};
+ghost use Rattle.rq_model.specs.WorkedMachine.{WorkedLaw, WorkedSteps, WorkedOrders, WorkedQueues, WorkedRedo};
+ghost use Rattle.rq_model.specs.WorkedFormats.{WorkedNames, WorkedBodies, WorkedWidths, WorkedFrames, AllRests, WorkedStates, WorkedMembers, WorkedLines};
+ghost use Rattle.rq_model.specs.WorkedEnds.{WorkedEnds};
 ghost use Rattle.rq_model.specs.Ready.{RedoGoesWell, GoesOn};
-ghost use Rattle.rq_model.specs.Laws.{Projection, ArrivalsAreMerged, LawfulnessLooksAt, PartsDecide, IdsDiffer, PutInAnyOrder, RunsAreWellFormed, EmptyIsWellFormed, PartsGather, MembersDecide, NumbersAfter, VersionOneIsOneDeep, VersionTwoIsWider, RedoSteps, CrashIsHarmless};
+ghost use Rattle.rq_model.specs.Laws.{Projection, ArrivalsAreMerged, LawfulnessLooksAt, PartsDecide, IdsDiffer, PutInAnyOrder, AnyOrder, QueueIsDecided, TouchingIsExact, LawfulFrontIsLongest, WellFormedIsSound, RunsAreWellFormed, EmptyIsWellFormed, NumbersAfter, VersionOneIsOneDeep, VersionTwoIsWider, RedoSteps, CrashIsHarmless};
 ghost use Rattle.rq_model.specs.MoveLaws.{MovesRise, ArrivalsRise};
 
 /// A body spells at most one record, a record has one body, and the bytes of a state spell no other state.
@@ -41,6 +44,16 @@ pub fn lawfulness_looks_at()
     ensures { LawfulnessLooksAt }
 {}
 
+/// The longest lawful beginning of records is lawful, a beginning, and no shorter than another.
+pub fn lawful_front_is_longest()
+    ensures { LawfulFrontIsLongest }
+{}
+
+/// A well-formed state is sound: it keeps what the projection by queue needs.
+pub fn well_formed_is_sound()
+    ensures { WellFormedIsSound }
+{}
+
 /// Every state of a lawful run from a well-formed state is well formed, and the empty state is.
 pub fn runs_are_well_formed()
     ensures start { EmptyIsWellFormed }
@@ -52,8 +65,10 @@ pub fn runs_fit()
     ensures { RunsFit }
 {}
 
-/// Version 1 makes no chains of error queues, and version 2 takes all that version 1 takes.
+/// Bytes have one version's header; version 1 makes no chains of error queues, and version 2 takes all that version 1 takes.
 pub fn versions()
+    ensures header { OneVersion }
+    ensures wider { RecordIsWider }
     ensures one { VersionOneIsOneDeep }
     ensures two { VersionTwoIsWider }
 {}
@@ -72,6 +87,11 @@ pub fn one_front()
     ensures from_run { RunGivesFront }
 {}
 
+/// Every string of bytes with a header, and no longer than a log may be, has a report.
+pub fn every_log_has_report()
+    ensures { EveryLogHasReport }
+{}
+
 /// There is one restart, one text, one report; one restart from each checkpoint; one audit.
 pub fn one_report()
     ensures restart { OneRestart }
@@ -82,9 +102,24 @@ pub fn one_report()
     ensures audit { OneAudit }
 {}
 
+/// The first `used` bytes of a log are its front's, and the rest stands behind them.
+pub fn used_is_the_front()
+    ensures { UsedIsFront }
+{}
+
+/// The state after each beginning of a front is well formed and has a spelling, also by its first point.
+pub fn fronts_are_spelt()
+    ensures { FrontsAreSpelt }
+{}
+
 /// From a true checkpoint the restart is the same.
 pub fn true_checkpoints_say_the_same()
     ensures { TrueIsSame }
+{}
+
+/// A text is the report from a true checkpoint exactly where it is the report.
+pub fn true_checkpoints_report_the_same()
+    ensures { TrueSaysTheSame }
 {}
 
 /// Whatever beginning of the final aborts stands in the log, the final state is the same.
@@ -92,9 +127,10 @@ pub fn crash_is_harmless()
     ensures { CrashIsHarmless }
 {}
 
-/// Whatever beginning of the tail stands behind the front, the state after restart is the same.
+/// Whatever beginning of the tail stands behind the front, there is a restart, its state is the same, and so are the queue lines.
 pub fn crash_in_the_tail()
-    ensures { CrashInTheTail }
+    ensures state { CrashInTheTail }
+    ensures report { CrashSaysTheSame }
 {}
 
 /// A log in version 2 has the front, the restart and the audit of the log it was made of.
@@ -108,20 +144,29 @@ pub fn any_order()
     ensures order { PutInAnyOrder }
 {}
 
+/// In whatever order what returns to a queue at an abort and what arrives there is put in, it holds the same elements.
+pub fn any_list_in_any_order()
+    ensures { AnyOrder }
+{}
+
 /// A well-formed state is decided by its numbers, units, definitions and parts.
 pub fn parts_decide()
     ensures { PartsDecide }
 {}
 
-/// A well-formed state is made of its parts, and is the only one with their members, its numbers, definitions and units.
-pub fn parts_gather()
-    ensures gather { PartsGather }
-    ensures decide { MembersDecide }
-{}
-
 /// A queue's part after a run, and what left it meanwhile, are decided by its part before, the operations that touch it and what arrives.
 pub fn projection()
     ensures { Projection }
+{}
+
+/// The records that touch a queue are those that do after the records before them, each once, rising.
+pub fn touching_is_exact()
+    ensures { TouchingIsExact }
+{}
+
+/// Equal parts before, equal records that touch a queue and equal arrivals give equal parts and equal moves.
+pub fn queue_is_decided()
+    ensures { QueueIsDecided }
 {}
 
 /// The redo of one queue goes one arrival or one operation at a time.
@@ -156,4 +201,30 @@ pub fn worked_logs()
     ensures whole { WorkedLogs }
     ensures unlawful { UnlawfulLogs }
     ensures checkpoint { WorkedCheckpoint }
+{}
+
+/// In one state with open units: what is lawful, what each record does, and what each queue makes of it.
+pub fn worked_machine()
+    ensures law { WorkedLaw }
+    ensures steps { WorkedSteps }
+    ensures orders { WorkedOrders }
+    ensures queues { WorkedQueues }
+    ensures redo { WorkedRedo }
+{}
+
+/// Names, records, frames, states and the lines of a report, byte by byte, and each limit at its edge on both sides.
+pub fn worked_formats()
+    ensures names { WorkedNames }
+    ensures bodies { WorkedBodies }
+    ensures widths { WorkedWidths }
+    ensures frames { WorkedFrames }
+    ensures rests { AllRests }
+    ensures states { WorkedStates }
+    ensures members { WorkedMembers }
+    ensures lines { WorkedLines }
+{}
+
+/// Logs that end in each other way, a true and a false checkpoint, a tail and an upgraded log.
+pub fn worked_ends()
+    ensures { WorkedEnds }
 {}

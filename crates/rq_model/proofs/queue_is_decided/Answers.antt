@@ -1,0 +1,5 @@
+use Rattle.rq_model.proofs.LawfulFronts.{queue_is_decided as proved}
+use Rattle.rq_model.proofs.queue_is_decided.Goals as goal
+
+pub returns : goal.returns
+returns c = proved

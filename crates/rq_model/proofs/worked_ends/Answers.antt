@@ -1,0 +1,5 @@
+use Rattle.rq_model.proofs.WorkedEnding.{ended}
+use Rattle.rq_model.proofs.worked_ends.Goals as goal
+
+pub returns : goal.returns
+returns c = ended
