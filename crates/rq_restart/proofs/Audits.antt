@@ -1,13 +1,14 @@
 -- What is found on the way through the front is its audit.
 use Rattle.std.proofs.Common.{◌≡◌, ℕ, ◌+◌, ◌<◌, ◌≤◌, Bool, true, false, List, [], ◌∷◌, ◌++◌, length, refl, sym, ap, subst, ◌∙◌, arith, inl, inr}
-use Rattle.std.specs.Prelude.{◌↔◌}
+use Rattle.std.specs.Prelude.{◌↔◌, map, Result, Ok, Err, IfOk, IfErr}
+use Rattle.std.specs.Global.{Vec}
 use Rattle.std.specs.Str.{bytes_eq}
 use Rattle.std.specs.List.{AllByRecursion}
 use Rattle.std.proofs.lemmas.List.{length-append}
 use Rattle.std.proofs.lemmas.Slice.Eq.{bytes_eq-Decides}
 use Rattle.rq_model.specs.Records.{Record, Define, Register, Deregister, Begin, Enqueue, Dequeue, Commit, Abort, Checkpoint, Kill, Version, One}
 use Rattle.rq_model.specs.Spelling.{body_of, IsRecord}
-use Rattle.rq_model.specs.Frames.{IsBodyLength, frame, digest, frames_of, log_of, magic, start, header}
+use Rattle.rq_model.specs.Frames.{IsBodyLength, frame, digest, frames_of, log_of, magic, start, header, log_limit, HasHeader}
 use Rattle.rq_model.specs.States.{State, empty}
 use Rattle.rq_model.specs.Machine.{step, run}
 use Rattle.rq_model.specs.WellFormed.{IsIn, Ordered}
@@ -16,7 +17,10 @@ use Rattle.rq_model.specs.Fronts.{IsFront}
 use Rattle.rq_model.specs.Checkpoints.{Audited, HasCheckpoint, TrueAt, IsAudit}
 use Rattle.rq_model.specs.LogLaws.{OneFront, LogEnds, FrameIsRight, RecordHasOneBody}
 use Rattle.rq_model.proofs.Restarts.{each_cut}
-use Rattle.rq_restart.specs.Audits.{audit_of, audits, past}
+use Rattle.rq_record.specs.declared.fault.Fault.{Fault}
+use Rattle.rq_record.specs.declared.fault.Fault.TheVariants.{Resources}
+use Rattle.rq_front.specs.Chains.{Refused}
+use Rattle.rq_restart.specs.Audits.{Audits, audit_of, audited_of, audits, past}
 use Rattle.rq_restart.proofs.Chains.{frame_long}
 
 abbrev audit_at : State → ℕ → List Record → List ℕ → Audited
@@ -173,35 +177,39 @@ tells laws b rs rest before kept after offset front is place = (
       (bytes_eq-Decides kept (state_bytes (run empty before))).1 spelled),
 )
 
-same_truth : (a c : Bool) (P : Type 0) → (a ≡ true) ↔ P → (c ≡ true) ↔ P → a ≡ c
-same_truth true true P x y = refl
-same_truth true false P x y = sym (y.1 (x.0 refl))
-same_truth false true P x y = x.1 (y.0 refl)
-same_truth false false P x y = refl
-
 pub is_audit : AuditLaws → (b : List ℕ) (rs : List Record) (rest : List ℕ) → IsFront b One rs rest → IsAudit b (audits empty 40 rs)
 is_audit laws b rs rest front = record {
+  version = One;
+  records = rs;
+  rest = rest;
+  front = front;
   rising = rises empty 40 rs;
-  exact = λ x. (to x, from x);
+  offsets = λ n. (to n, from n);
+  truths = truths;
 }
   where
-    to : (x : Audited) → IsIn x (audits empty 40 rs) → (records : List Record) × (kept : List ℕ) × HasCheckpoint b x.offset records kept × ((x.truth ≡ true) ↔ TrueAt b x.offset)
-    to x h =
+    to : (n : ℕ) → (x : Audited) × IsIn x (audits empty 40 rs) × (x.offset ≡ n) → (earlier : List Record) × (kept : List ℕ) × HasCheckpoint b n earlier kept
+    to n (x, h, e) =
+        let f = found empty 40 rs x h in
+        let place : past 40 f.before ≡ n = sym (ap (λ (a : Audited). a.offset) f.is) ∙ e in
+        (f.before, f.kept, subst (λ (m : ℕ). HasCheckpoint b m f.before f.kept) place (stands laws b rs rest f.before f.kept f.after front f.whole))
+
+    from : (n : ℕ) → (earlier : List Record) × (kept : List ℕ) × HasCheckpoint b n earlier kept → (x : Audited) × IsIn x (audits empty 40 rs) × (x.offset ≡ n)
+    from n (earlier, kept, c) =
+        let one = laws.front b c.version One (earlier ++ Checkpoint kept ∷ c.after) rs c.rest rest c.front front in
+        let again : IsFront b One (earlier ++ Checkpoint kept ∷ c.after) c.rest = subst (λ (v : Version). IsFront b v (earlier ++ Checkpoint kept ∷ c.after) c.rest) one.0 c.front in
+        let size : length (log_of One earlier) ≡ past 40 earlier = log_size laws.right laws.body laws.ends earlier (each_cut (IsRecord One) earlier (Checkpoint kept ∷ c.after) again.longest.begins.records).0 in
+        let place : n ≡ past 40 earlier = c.there ∙ ap (λ (v : Version). length (log_of v earlier)) one.0 ∙ size in
+        (audit_at empty 40 earlier kept, subst (λ (qs : List Record). IsIn (audit_at empty 40 earlier kept) (audits empty 40 qs)) one.1 (audits_have empty 40 earlier kept c.after), sym place)
+
+    truths : (x : Audited) → IsIn x (audits empty 40 rs) → (x.truth ≡ true) ↔ TrueAt b x.offset
+    truths x h =
         let f = found empty 40 rs x h in
         let place : x.offset ≡ past 40 f.before = ap (λ (a : Audited). a.offset) f.is in
-        let truth : x.truth ≡ bytes_eq f.kept (state_bytes (run empty f.before)) = ap (λ (a : Audited). a.truth) f.is in (
-          f.before,
-          f.kept,
-          subst (λ (n : ℕ). HasCheckpoint b n f.before f.kept) (sym place) (stands laws b rs rest f.before f.kept f.after front f.whole),
-          subst (λ (t : Bool). (t ≡ true) ↔ TrueAt b x.offset) (sym truth) (tells laws b rs rest f.before f.kept f.after x.offset front f.whole place),
-        )
+        let truth : x.truth ≡ bytes_eq f.kept (state_bytes (run empty f.before)) = ap (λ (a : Audited). a.truth) f.is in
+        subst (λ (t : Bool). (t ≡ true) ↔ TrueAt b x.offset) (sym truth) (tells laws b rs rest f.before f.kept f.after x.offset front f.whole place)
 
-    from : (x : Audited) → (records : List Record) × (kept : List ℕ) × HasCheckpoint b x.offset records kept × ((x.truth ≡ true) ↔ TrueAt b x.offset) → IsIn x (audits empty 40 rs)
-    from x h =
-        let one = laws.front b h.2.version One (h.0 ++ Checkpoint h.1 ∷ h.2.after) rs h.2.rest rest h.2.front front in
-        let again : IsFront b One (h.0 ++ Checkpoint h.1 ∷ h.2.after) h.2.rest = subst (λ (v : Version). IsFront b v (h.0 ++ Checkpoint h.1 ∷ h.2.after) h.2.rest) one.0 h.2.front in
-        let size : length (log_of One h.0) ≡ past 40 h.0 = log_size laws.right laws.body laws.ends h.0 (each_cut (IsRecord One) h.0 (Checkpoint h.1 ∷ h.2.after) again.longest.begins.records).0 in
-        let place : x.offset ≡ past 40 h.0 = h.2.there ∙ ap (λ (v : Version). length (log_of v h.0)) one.0 ∙ size in
-        let truth : x.truth ≡ bytes_eq h.1 (state_bytes (run empty h.0)) = same_truth x.truth (bytes_eq h.1 (state_bytes (run empty h.0))) (TrueAt b x.offset) h.3 (tells laws b rs rest h.0 h.1 h.2.after x.offset front (sym one.1) place) in
-        let same : audit_at empty 40 h.0 h.1 ≡ x = λ i. record { offset = sym place i; truth = sym truth i } in
-        subst (λ (a : Audited). IsIn a (audits empty 40 rs)) same (subst (λ (qs : List Record). IsIn (audit_at empty 40 h.0 h.1) (audits empty 40 qs)) one.1 (audits_have empty 40 h.0 h.1 h.2.after))
+-- what is found in the front of a log, or no memory
+pub audits_are : (b : List ℕ) → length b ≤ log_limit → HasHeader One b → (result : Result (Vec (ℕ × Bool)) Fault) → IfOk result (λ v. IsAudit b (map audited_of v.items)) → IfErr result (λ e. e ≡ Resources) → Audits b result
+audits_are b short head (Ok v) is refused = (short, head, is)
+audits_are b short head (Err e) is refused = subst (λ (f : Fault). Refused b f) (sym refused) tt

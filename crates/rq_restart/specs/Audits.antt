@@ -2,8 +2,9 @@
 use Rattle.std.specs.Prelude.{◌≡◌, ℕ, ◌+◌, ◌≤◌, ◌<◌, Bool, List, [], ◌∷◌, ◌++◌, length, map, take, slice_index_or, Result, Ok, Err}
 use Rattle.std.specs.Str.{bytes_eq}
 use Rattle.std.specs.Global.{Vec}
-use Rattle.rq_model.specs.Records.{Record, Checkpoint}
+use Rattle.rq_model.specs.Records.{Record, Checkpoint, One}
 use Rattle.rq_model.specs.Spelling.{body_of}
+use Rattle.rq_model.specs.Frames.{log_limit, HasHeader}
 use Rattle.rq_model.specs.States.{State, empty}
 use Rattle.rq_model.specs.Machine.{step, run}
 use Rattle.rq_model.specs.StateSpelling.{state_bytes}
@@ -41,7 +42,7 @@ pub record IsWalk (rs : List Record) (i : ℕ) (w : Walk) : Type 0 where
   pub state : w.state ≡ run empty (take w.from rs)
   pub found : map audited_of w.found.items ≡ audits empty 40 (take i rs)
 
--- the audit of b, or why b is refused
+-- the audit of b, or why b is refused: it is too long, or no log
 abbrev pub Audits : List ℕ → Result (Vec (ℕ × Bool)) Fault → Type 0
-Audits b (Ok v) = IsAudit b (map audited_of v.items)
+Audits b (Ok v) = (length b ≤ log_limit) × HasHeader One b × IsAudit b (map audited_of v.items)
 Audits b (Err e) = Refused b e

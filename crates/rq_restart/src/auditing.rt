@@ -4,16 +4,19 @@ ghost use Rattle.std.specs.Prelude.{◌≡◌, ◌≤◌, ◌<◌, ◌+◌, true
 ghost use Rattle.std.specs.Str.{bytes_eq};
 ghost use Rattle.rq_model.specs.Records.{One};
 ghost use Rattle.rq_model.specs.States.{empty};
+ghost use Rattle.rq_model.specs.Frames.{HasHeader};
 ghost use Rattle.rq_model.specs.Machine.{all_lawful};
+ghost use Rattle.rq_model.specs.Checkpoints.{IsAudit};
 ghost use Rattle.rq_model.specs.StateSpelling.{state_bytes};
 ghost use Rattle.rq_record.specs.Views.{record_of};
 ghost use Rattle.rq_record.specs.declared.fault.Fault.TheVariants.{Resources};
-ghost use Rattle.rq_restart.specs.Audits.{Audits, IsWalk, StandAt};
+ghost use Rattle.rq_restart.specs.Audits.{Audits, IsWalk, StandAt, audited_of};
+ghost use Rattle.rq_restart.specs.Ends.{IsChain};
 
 use crate::front::front_of;
 use crate::grain::grain_of;
 use rq_exchange::replay;
-use rq_front::{Span, chain};
+use rq_front::{Chain, Span, chain};
 use rq_pool::{Open, Plan};
 use rq_record::{Fault, Record};
 use rq_state::{State, spell};
@@ -82,6 +85,35 @@ fn visit<R: Threads + Sync>(
     })
 }
 
+// The checkpoints among the front's records, in the frames of the chain behind the header.
+fn checkpoints_of<R: Threads + Sync>(
+    rt: &R,
+    alloc: Global,
+    bytes: &[u8],
+    found: &Chain,
+    plan: &Plan,
+) -> Result<Vec<(u64, bool)>, Fault>
+    requires chain { IsChain bytes.now 40 found.now }
+    requires header { HasHeader One bytes.now }
+    ensures audit { IfOk result (λ v. IsAudit bytes.now (map audited_of v.items)) }
+    ensures refused { IfErr result (λ e. e ≡ Resources) }
+{
+    rq_model::frames_are_right();
+    rq_model::one_spelling();
+    rq_model::frames_join();
+    rq_model::one_front();
+    let front = front_of(rt, alloc, bytes, found, &State::empty(alloc), plan)?;
+    let mut walk = Walk {
+        state: State::empty(alloc),
+        from: 0,
+        found: Vec::new(alloc),
+    };
+    for place in 0..front.records.len() {
+        walk = visit(rt, alloc, &front.records, &found.spans, place, walk, plan)?;
+    }
+    Ok(walk.found)
+}
+
 /// The checkpoints of the front of a log, rising: the offset of each, and whether it is true, which is to say that it spells
 /// the state before it.
 ///
@@ -95,19 +127,7 @@ pub fn audit<R: Threads + Sync>(
 ) -> Result<Vec<(u64, bool)>, Fault>
     ensures { Audits bytes.now result }
 {
-    rq_model::frames_are_right();
-    rq_model::one_spelling();
     rq_model::frames_join();
-    rq_model::one_front();
     let found = chain(rt, alloc, bytes, 40, grain_of(plan))?;
-    let front = front_of(rt, alloc, bytes, &found, &State::empty(alloc), plan)?;
-    let mut walk = Walk {
-        state: State::empty(alloc),
-        from: 0,
-        found: Vec::new(alloc),
-    };
-    for place in 0..front.records.len() {
-        walk = visit(rt, alloc, &front.records, &found.spans, place, walk, plan)?;
-    }
-    Ok(walk.found)
+    checkpoints_of(rt, alloc, bytes, &found, plan)
 }

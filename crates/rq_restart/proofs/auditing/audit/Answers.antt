@@ -1,51 +1,13 @@
-use Rattle.std.proofs.Common.{◌≡◌, ◌≤◌, ◌+◌, List, length, map, drop, ap, sym, subst, ◌∙◌, arith, rules}
-use Rattle.std.proofs.lemmas.List.{length-map, take_all}
-use Rattle.rq_model.specs.States.{State, empty}
-use Rattle.rq_model.specs.Checkpoints.{IsAudit}
-use Rattle.rq_record.specs.declared.record.Record.{Record}
-use Rattle.rq_record.specs.Views.{record_of}
-use Rattle.rq_front.specs.declared.spans.Span.{Span}
-use Rattle.rq_restart.specs.Ends.{IsFrontFrom}
-use Rattle.rq_restart.specs.Views.{why_of}
-use Rattle.rq_restart.specs.Audits.{IsWalk, StandAt, audited_of, audits}
-use Rattle.rq_restart.proofs.Starts.{log_chain, started, whole_front}
-use Rattle.rq_restart.proofs.Audits.{AuditLaws, is_audit}
-use Rattle.rq_restart.proofs.Walks.{stand_at}
+use Rattle.rq_restart.proofs.Starts.{log_chain}
+use Rattle.rq_restart.proofs.Audits.{audits_are}
 use Rattle.rq_restart.proofs.auditing.audit.Goals as goal
 
-pub loop-place-init : goal.loop-place-init
-loop-place-init g c = record { within = omega arith; state = c.empty-2.ensures; found = ap (map audited_of) c.new.ensures.items }
-
-pub visit-requires-clause-spans : goal.visit-requires-clause-spans
-visit-requires-clause-spans g c κs within =
-    let b = c.args.bytes.now in
-    let records = c.in_ok-front.front.records.items in
+pub checkpoints_of-requires-clause-chain : goal.checkpoints_of-requires-clause-chain
+checkpoints_of-requires-clause-chain g c κs within =
     let is = c.in_ok-found.ensures in
-    let chain = log_chain c.frames_join.ensures.end b c.in_ok-found.found is.log.0 is.log.1 is.run is.spans is.inside in
-    let bodies = c.in_ok-front.ensures.bodies in
-    let stand : StandAt (map record_of records) c.in_ok-found.found.spans.items = stand_at b c.in_ok-found.found (map record_of records) bodies.0 chain bodies.1 in
-    subst (λ (rs : List Record). StandAt (map record_of rs) c.deref-in-loop-place.result.now) (sym c.deref.ensures.value)
-    (subst (λ (ss : List Span). StandAt (map record_of records) ss) (sym c.deref-in-loop-place.ensures.value) stand)
-
-pub visit-requires-clause-walk : goal.visit-requires-clause-walk
-visit-requires-clause-walk g c κs within = subst (λ (rs : List Record). IsWalk (map record_of rs) c.loop-place.place c.loop-place.walk) (sym c.deref.ensures.value) c.loop-place.invariant
-
-pub loop-place-preserved : goal.loop-place-preserved
-loop-place-preserved g c = subst (λ (rs : List Record). IsWalk (map record_of rs) (c.loop-place.place + 1) c.in_ok-walk.walk) c.deref.ensures.value c.in_ok-walk.ensures.walk
-
-pub returns-in_err-walk : goal.returns-in_err-walk
-returns-in_err-walk g c = search (rules, c.in_err-walk.ensures.refused, c.from_residual-in_err-walk.ensures)
+    log_chain c.frames_join.ensures.end c.args.bytes.now c.in_ok-found.found is.log.0 is.log.1 is.run is.spans is.inside
 
 pub returns : goal.returns
 returns g c =
-    let b = c.args.bytes.now in
-    let front = c.in_ok-front.front in
-    let rs = map record_of front.records.items in
     let is = c.in_ok-found.ensures in
-    let end = c.frames_join.ensures.end in
-    let chain = log_chain end b c.in_ok-found.found is.log.0 is.log.1 is.run is.spans is.inside in
-    let from : IsFrontFrom empty b 40 rs front.end (why_of front.why) = subst (λ (s : State). IsFrontFrom s b 40 rs front.end (why_of front.why)) c.empty.ensures (c.in_ok-front.ensures.front 40 chain) in
-    let laws : AuditLaws = record { right = c.frames_are_right.ensures.right; body = c.one_spelling.ensures.body; ends = end; front = c.one_front.ensures.front } in
-    let all : length rs ≤ c.loop-place.place = omega (arith, c.loop-place-test.false, c.len-place-end.ensures, front.records.ok.0, length-map front.records.items record_of) in
-    let found : map audited_of c.loop-place.walk.found.items ≡ audits empty 40 rs = c.loop-place.invariant.found ∙ ap (audits empty 40) (take_all c.loop-place.place rs all) in
-    subst (IsAudit b) (sym found) (is_audit laws b rs (drop front.end b) (whole_front b rs front.end (why_of front.why) (started end b is.log.1) is.log.0 from))
+    audits_are c.args.bytes.now is.log.0 is.log.1 c.checkpoints_of.result c.checkpoints_of.ensures.audit c.checkpoints_of.ensures.refused
