@@ -3,6 +3,7 @@ mod barrier;
 mod checkpoints;
 mod countdowns;
 mod damage;
+mod lanes;
 mod many;
 mod program;
 mod queues;
