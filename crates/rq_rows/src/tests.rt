@@ -1,11 +1,13 @@
 mod analysis;
 mod checkpoints;
 mod damage;
+mod hostile;
 mod many;
 mod program;
 mod queues;
 mod rooms;
 mod scripts;
+mod streams;
 mod threads;
 
 use rq_tool::{Command, Fault, Open, OverRead, OverWrite, Plan, act};
