@@ -1,6 +1,7 @@
 mod analysis;
 mod checkpoints;
 mod damage;
+mod fronts;
 mod many;
 mod program;
 mod queues;
