@@ -30,7 +30,7 @@ fn append(alloc: Global, framed: &mut Framed, len: usize, byte: u8) -> Result<()
 }
 
 /// A log with a frame for each of these lengths.
-fn framed(alloc: Global, lens: &[usize]) -> Result<Framed, Fail> {
+fn log_of_lengths(alloc: Global, lens: &[usize]) -> Result<Framed, Fail> {
     let mut framed = Framed {
         log: Vec::new(alloc),
         ends: Vec::new(alloc),
@@ -74,7 +74,7 @@ fn finds_each<R: Threads + Sync + AllocGlobal>(
     lens: &[usize],
     grain: u32,
 ) -> Result<bool, Fail> {
-    let Framed { mut log, ends } = framed(rt.alloc(), lens)?;
+    let Framed { mut log, ends } = log_of_lengths(rt.alloc(), lens)?;
     if right_before(rt, &log, grain)?.is_some() || ends.len() != lens.len() {
         return Ok(false);
     }
@@ -137,7 +137,7 @@ fn lengths_about_the_ends_of_blocks(rt: HostRuntime) -> Result<(), Fail> {
 #[test]
 fn the_first_of_two_wrong_digests_is_found(rt: HostRuntime) -> Result<(), Fail> {
     let lens = Vec::from_elem(rt.alloc(), 30usize, 24)?;
-    let Framed { mut log, ends } = framed(rt.alloc(), &lens)?;
+    let Framed { mut log, ends } = log_of_lengths(rt.alloc(), &lens)?;
     for (first, second) in [(0, 7), (8, 9), (9, 15), (16, 23), (3, 20)] {
         for place in [first, second] {
             flip(&mut log, *ends.get(place).ok_or("frame")?);
@@ -154,7 +154,7 @@ fn the_first_of_two_wrong_digests_is_found(rt: HostRuntime) -> Result<(), Fail> 
 #[test]
 fn wrong_digests_at_the_ends_of_pieces(rt: HostRuntime) -> Result<(), Fail> {
     let lens = Vec::from_elem(rt.alloc(), 100usize, 2100)?;
-    let Framed { mut log, ends } = framed(rt.alloc(), &lens)?;
+    let Framed { mut log, ends } = log_of_lengths(rt.alloc(), &lens)?;
     for (place, grain) in [
         (0, 1),
         (1023, 1),
