@@ -10,7 +10,7 @@ use Rattle.rq_record.specs.declared.fault.Fault.TheVariants as faults
 use Rattle.rq_front.specs.Chains.{Refused}
 use Rattle.rq_report.specs.Streams.{Reports}
 use Rattle.rq_restart.specs.Restarts.{Restarts}
-use Rattle.rq_tool.specs.Streams.{ReadsAll}
+use Rattle.rq_tool.specs.Streams.{IsOneOf, ReadsAll, Takes, TakesSome}
 use Rattle.rq_tool.specs.Headline.{RestartsRead, Runs, WritesOnly}
 
 pub consumes_nothing : (known : Option (List ℕ)) → Consumes known known []
@@ -29,15 +29,36 @@ ended None new p h = tt
 ended (Some xs) None p h = absurd p
 ended (Some xs) (Some ys) p h = p ∙ h
 
+-- what was taken up to the end, or as far as a log may go and one byte more
+pub all_taken : {A : Type 0} (old new : Option (List ℕ)) (bytes : List ℕ) (result : Result A Fault) → ReadsAll old new bytes → Takes old new result
+all_taken old new bytes (Ok x) h = (bytes, h)
+all_taken old new bytes (Err faults.ReadFailed) h = (bytes, h.0)
+all_taken old new bytes (Err faults.Resources) h = (bytes, h.0)
+all_taken old new bytes (Err faults.TooLong) h = (bytes, h)
+all_taken old new bytes (Err faults.NotALog) h = (bytes, h)
+all_taken old new bytes (Err faults.Form) h = (bytes, h)
+all_taken old new bytes (Err faults.TooLarge) h = (bytes, h)
+all_taken old new bytes (Err faults.BadCheckpoint) h = (bytes, h)
+all_taken old new bytes (Err faults.NoCheckpoint) h = (bytes, h)
+all_taken old new bytes (Err (faults.Script n)) h = (bytes, h)
+all_taken old new bytes (Err faults.WriteFailed) h = (bytes, h)
+
+-- some bytes were taken where a read or memory was refused
+pub some_taken : (A : Type 0) (old new : Option (List ℕ)) (e : Fault) → IsOneOf faults.ReadFailed faults.Resources e → TakesSome old new → Takes {A = A} old new (Err e)
+some_taken A old new e which h = elim which [
+  | inl is ↦ subst (λ (f : Fault). Takes {A = A} old new (Err f)) (sym is) h
+  | inr is ↦ subst (λ (f : Fault). Takes {A = A} old new (Err f)) (sym is) h
+]
+
 -- the bytes are those that the reader had, or both are too long
 abbrev pub IsSame : List ℕ → List ℕ → Type 0
 IsSame b bytes = (bytes ≡ b) ⊎ ((log_limit < length b) × (log_limit < length bytes))
 
 same_bytes : (b bytes : List ℕ) (new : Option (List ℕ)) → ReadsAll (Some b) new bytes → IsSame b bytes
 same_bytes b bytes None h = absurd h.0
-same_bytes b bytes (Some ys) h = elim (h.1) [
+same_bytes b bytes (Some ys) h = elim (h.2) [
   | inl none ↦ inl (sym (append-nil bytes) ∙ ap (λ (z : List ℕ). bytes ++ z) (sym none) ∙ sym h.0)
-  | inr long ↦ inr (omega (arith, long, ap length h.0, length-append bytes ys), long)
+  | inr long ↦ inr (omega (arith, long, ap length h.0, length-append bytes ys), omega (arith, long))
 ]
 
 pub same_read : (b bytes : List ℕ) (old new : Option (List ℕ)) → old ≡ Some b → ReadsAll old new bytes → IsSame b bytes
@@ -68,7 +89,7 @@ long_refused b bytes faults.ReadFailed long more h = absurd h
 long_refused b bytes faults.WriteFailed long more h = absurd h
 
 -- what a restart of the bytes says, it says of those that the reader had
-refused_read : (b bytes : List ℕ) (e : Fault) → IsSame b bytes → Refused bytes e → RestartsRead b (Err e)
+pub refused_read : (b bytes : List ℕ) (e : Fault) → IsSame b bytes → Refused bytes e → RestartsRead b (Err e)
 refused_read b bytes e same h = elim same [
   | inl is ↦ same_refused b e (subst (λ (z : List ℕ). Refused z e) is h)
   | inr long ↦ long_refused b bytes e long.0 long.1 h

@@ -1,5 +1,7 @@
 pub mod Streams
 pub mod Headline
 pub mod Scripts
+pub mod AuditTexts
 pub mod Commands
 pub mod Words
+pub mod Acts

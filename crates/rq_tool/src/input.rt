@@ -2,8 +2,9 @@
 
 ghost use Rattle.std.specs.Prelude.{◌≡◌, ℕ, ◌<◌, ◌≤◌, ◌++◌, List, length, IfOk, IfErr, OnOk};
 ghost use Rattle.std.specs.Io.KnownBytes.{Consumes, IsAtEnd};
+ghost use Rattle.rq_model.specs.Frames.{AreBytes};
 ghost use Rattle.rq_record.specs.declared.fault.Fault.TheVariants.{ReadFailed, Resources};
-ghost use Rattle.rq_tool.specs.Streams.{ReadFaults, ReadsAll, IsOneOf};
+ghost use Rattle.rq_tool.specs.Streams.{ReadFaults, ReadsAll, Takes, TakesSome, IsOneOf};
 
 use rq_report::Input;
 use rq_restart::Fault;
@@ -20,6 +21,13 @@ fn room(alloc: Global) -> Result<Vec<u8>, Fault>
     Ok(vec![in alloc; 0u8; 65_536]?)
 }
 
+/// The members of a slice of bytes are bytes of 8 bits.
+pub(crate) fn are_bytes(bytes: &[u8])
+    ensures { AreBytes bytes.now }
+{
+    let _ = bytes;
+}
+
 // One read, put behind the bytes, of no more than makes them too long for a log.
 fn read_more<I: Input>(input: &mut I, piece: &mut [u8], bytes: &mut Vec<u8>) -> Result<usize, Fault>
     requires faults { I.faults input.old < 18446744073709551615 }
@@ -29,6 +37,7 @@ fn read_more<I: Input>(input: &mut I, piece: &mut [u8], bytes: &mut Vec<u8>) -> 
     ensures limit { OnOk result (length bytes.new.items ≤ 4294967296) }
     ensures end { IfOk result (λ n. n ≡ 0 → IsAtEnd (I.remaining input.new)) }
     ensures refused { IfErr result (IsOneOf ReadFailed Resources) }
+    ensures partly { IfErr result (λ _. TakesSome (I.remaining input.old) (I.remaining input.new)) }
     ensures count { ReadFaults (I.faults input.old) (I.faults input.new) result }
 {
     let want = piece.len().min(READ_LIMIT - bytes.len());
@@ -41,8 +50,8 @@ fn read_more<I: Input>(input: &mut I, piece: &mut [u8], bytes: &mut Vec<u8>) -> 
 pub(crate) fn read_all<I: Input>(alloc: Global, input: &mut I) -> Result<Vec<u8>, Fault>
     requires { I.faults input.old < 18446744073709551615 }
     ensures bytes { IfOk result (λ bytes. ReadsAll (I.remaining input.old) (I.remaining input.new) bytes.items) }
-    ensures limit { IfOk result (λ bytes. length bytes.items ≤ 4294967296) }
     ensures refused { IfErr result (IsOneOf ReadFailed Resources) }
+    ensures takes { Takes (I.remaining input.old) (I.remaining input.new) result }
     ensures count { ReadFaults (I.faults input.old) (I.faults input.new) result }
 {
     let mut bytes = Vec::new(alloc);

@@ -2,6 +2,7 @@
 #![tactic(auto)]
 
 mod acting;
+mod auditing;
 mod engine;
 mod engine_at;
 mod input;
@@ -10,6 +11,7 @@ mod making;
 mod words;
 
 pub use acting::act;
+pub use auditing::audit_log;
 pub use engine::run;
 pub use engine_at::run_at;
 pub use line::Command;
