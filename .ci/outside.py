@@ -5,7 +5,7 @@ usage: outside.py RQ
 Prints a line for each thing that is not as it must be, and at last `N passed, M failed`.
 """
 from __future__ import annotations
-import os, resource, shutil, stat, subprocess, sys, tempfile, threading
+import os, resource, shutil, signal, stat, subprocess, sys, tempfile, threading
 
 RQ = os.path.abspath(sys.argv[1])
 HERE = os.path.dirname(os.path.abspath(__file__))
@@ -165,7 +165,7 @@ def outputs() -> None:
 
 
 def files() -> None:
-    """A file is made once its bytes are there, and beside it nothing is left."""
+    """A file is made whole or not at all, and beside it nothing is left."""
     os.mkdir("made")
     one, two = content("one.log"), content("two.log")
     check("make a file", (run("make", "one.script", "made/log"), content("made/log")), (DONE, one))
@@ -186,6 +186,14 @@ def files() -> None:
     reader.join(10)
     check("what went into a pipe", taken, [one])
     check("what stands beside the files that were made", sorted(os.listdir("made")), ["both", "link", "log", "pipe"])
+
+    def small_files() -> None:
+        signal.signal(signal.SIGXFSZ, signal.SIG_IGN)
+        resource.setrlimit(resource.RLIMIT_FSIZE, (100, 100))
+
+    check("make on a full disk", (run("make", "two.script", "made/log", preexec_fn=small_files), content("made/log")), (WRITE_FAULT, one))
+    check("make a new file on a full disk", (run("make", "two.script", "made/new", preexec_fn=small_files), content("made/new")), (WRITE_FAULT, None))
+    check("what stands beside the files that were not made", sorted(os.listdir("made")), ["both", "link", "log", "pipe"])
 
 
 def many_queues() -> tuple[bytes, bytes]:

@@ -3,12 +3,15 @@ mod barrier;
 mod checkpoints;
 mod countdowns;
 mod damage;
+mod fronts;
+mod hostile;
 mod lanes;
 mod many;
 mod program;
 mod queues;
 mod rooms;
 mod scripts;
+mod streams;
 mod texts;
 mod threads;
 

@@ -145,9 +145,11 @@ fn the_greatest_record_number(rt: HostRuntime) -> Result<(), Fail> {
         audits(&rt, &two, &["checkpoint 40 true", "checkpoint 129 true"])?,
         "two"
     );
-    let second = two.get(134..186).ok_or("body")?;
-    assert_eq!(rt; second.iter().position(|byte| *byte != 0), Some(7));
-    assert_eq!(rt; second.get(7).copied(), Some(1));
+    let mut body = [0u8; 53];
+    body[0] = 9;
+    body[8] = 1;
+    assert_eq!(rt; two.get(129..133), Some([0u8, 0, 0, 53].as_slice()));
+    assert_eq!(rt; two.get(133..186), Some(body.as_slice()));
     Ok(())
 }
 

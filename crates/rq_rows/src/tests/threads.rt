@@ -36,6 +36,7 @@ struct Meeting {
     second_there: AtomicBool,
     first_saw: AtomicBool,
     second_saw: AtomicBool,
+    third_saw: AtomicBool,
 }
 
 /// Looks for a flag, up to 100,000,000 times.
@@ -59,7 +60,8 @@ impl Gate for Meeting {
             self.second_saw
                 .store(look(&self.first_there), Ordering::SeqCst);
         } else if self.third_looks {
-            let _ = look(&self.first_there);
+            self.third_saw
+                .store(look(&self.first_there), Ordering::SeqCst);
         }
     }
 }
@@ -79,6 +81,7 @@ fn two_threads_meet(rt: HostRuntime) -> Result<(), Fail> {
             second_there: AtomicBool::new(false),
             first_saw: AtomicBool::new(false),
             second_saw: AtomicBool::new(false),
+            third_saw: AtomicBool::new(false),
         };
         let mut input = OverRead::new(Cursor::new(log.as_slice()));
         let mut output = OverWrite::new(Vec::new(rt.alloc()));
@@ -86,6 +89,8 @@ fn two_threads_meet(rt: HostRuntime) -> Result<(), Fail> {
         assert!(rt; output.into_inner() == want, "{first} and {second}");
         let met = gate.first_saw.load(Ordering::SeqCst) && gate.second_saw.load(Ordering::SeqCst);
         assert!(rt; met, "{first} and {second}");
+        let third = gate.third_saw.load(Ordering::SeqCst);
+        assert_eq!(rt; third, gate.third_looks, "{first} and {second}");
     }
     Ok(())
 }
