@@ -1,6 +1,8 @@
 //! Which checkpoints of a log are true.
 
-ghost use Rattle.std.specs.Prelude.{◌≡◌, ◌≤◌, ◌<◌, ◌+◌, true, length, map, IfOk, IfErr};
+ghost use Rattle.std.specs.Prelude.{◌≡◌, ◌≤◌, ◌<◌, ◌+◌, true, length, map, nat_eq, IfOk, IfErr};
+ghost use Rattle.std.specs.Int.{w64, to_be_bytes};
+ghost use Rattle.std.specs.List.{starts_with};
 ghost use Rattle.std.specs.Str.{bytes_eq};
 ghost use Rattle.rq_model.specs.Records.{One};
 ghost use Rattle.rq_model.specs.States.{empty};
@@ -38,7 +40,14 @@ fn is_spelled(alloc: Global, state: &State, kept: &[u8]) -> Result<bool, Fault>
     }
 }
 
-// How far an audit has come: the state before the last checkpoint, the place of that among the records, and what was found.
+// Whether the bytes begin as those of each state with this next record number.
+fn begins_with(kept: &[u8], next: u64) -> bool
+    ensures { result ≡ starts_with nat_eq kept.now (to_be_bytes w64 next) }
+{
+    kept.starts_with(&next.to_be_bytes())
+}
+
+// How far an audit has come: a state, the place of the record that it stands before, and what was found.
 #[derive(Drop)]
 struct Walk {
     state: State,
@@ -46,14 +55,15 @@ struct Walk {
     found: Vec<(u64, bool)>,
 }
 
-// One record further. The state before a checkpoint is made of the one before the last.
+// One record further. The state before a checkpoint is made of the last one that was made, and only where the checkpoint
+// begins with its own number: so junk costs its bytes.
 fn visit<R: Threads + Sync>(
     rt: &R,
     alloc: Global,
     records: &[Record],
     spans: &[Span],
     place: usize,
-    walk: Walk,
+    mut walk: Walk,
     plan: &Plan,
 ) -> Result<Walk, Fault>
     requires there { place < length records.now }
@@ -67,6 +77,12 @@ fn visit<R: Threads + Sync>(
     let Record::Checkpoint { bytes } = &records[place] else {
         return Ok(walk);
     };
+    let kept = bytes.bytes();
+    let offset = spans[place].start as u64 - 4;
+    if !begins_with(kept, place as u64) {
+        walk.found.push((offset, false))?;
+        return Ok(walk);
+    }
     let state = replay(
         rt,
         alloc,
@@ -75,9 +91,9 @@ fn visit<R: Threads + Sync>(
         plan,
         &Open,
     )?;
-    let truth = is_spelled(alloc, &state, bytes.bytes())?;
+    let truth = is_spelled(alloc, &state, kept)?;
     let mut found = walk.found;
-    found.push((spans[place].start as u64 - 4, truth))?;
+    found.push((offset, truth))?;
     Ok(Walk {
         state,
         from: place,

@@ -1,5 +1,7 @@
-use Rattle.std.proofs.Common.{◌≡◌, ℕ, ◌-◌, ◌≤◌, ◌<◌, List, length, map, take, drop, ap, ◌∙◌, arith}
-use Rattle.std.specs.Prelude.{slice_index_or}
+use Rattle.std.proofs.Common.{◌≡◌, ℕ, ◌-◌, ◌≤◌, ◌<◌, List, length, map, take, drop, false, refl, ap, ◌∙◌, arith}
+use Rattle.std.specs.Prelude.{slice_index_or, nat_eq}
+use Rattle.std.specs.Int.{w64, to_be_bytes}
+use Rattle.std.specs.List.{starts_with}
 use Rattle.std.specs.Str.{bytes_eq}
 use Rattle.std.proofs.lemmas.List.{length-map, length-take, length-drop}
 use Rattle.rq_model.specs.States.{empty}
@@ -8,7 +10,7 @@ use Rattle.rq_model.specs.StateSpelling.{state_bytes}
 use Rattle.rq_record.specs.Views.{record_of}
 use Rattle.rq_front.specs.declared.spans.Span.{Span}
 use Rattle.rq_restart.specs.Audits.{audited_of}
-use Rattle.rq_restart.proofs.Walks.{next_at, lawful_between, run_between, walk_past, found_next}
+use Rattle.rq_restart.proofs.Walks.{next_at, lawful_between, run_between, walk_past, other_number, found_next}
 use Rattle.rq_restart.proofs.auditing.visit.Goals as goal
 
 pub returns-in_default : goal.returns-in_default
@@ -42,12 +44,28 @@ bounds-spans-place g c =
     let few : c.args.place < length (map record_of c.args.records.now) = omega (arith, c.requires.there, length-map c.args.records.now record_of) in
     (c.requires.spans c.args.place few).0
 
-pub overflow_sub-spans : goal.overflow_sub-spans
-overflow_sub-spans g c =
+pub overflow_sub-offset : goal.overflow_sub-offset
+overflow_sub-offset g c =
     let few : c.args.place < length (map record_of c.args.records.now) = omega (arith, c.requires.there, length-map c.args.records.now record_of) in
     let none : Span = record { start = 0; len = 0 } in
     let start = (c.requires.spans c.args.place few).1 none in
     omega (arith, start)
+
+pub returns-then-not-begins_with-clause-walk : goal.returns-then-not-begins_with-clause-walk
+returns-then-not-begins_with-clause-walk g c =
+    let records = c.args.records.now in
+    let few : c.args.place < length (map record_of records) = omega (arith, c.requires.there, length-map records record_of) in
+    let none : Span = record { start = 0; len = 0 } in
+    let begins : c.begins_with.result ≡ starts_with nat_eq c.in-Checkpoint.bytes (to_be_bytes w64 c.args.place) =
+    c.begins_with.ensures ∙ ap (λ (z : List ℕ). starts_with nat_eq z (to_be_bytes w64 c.args.place)) c.bytes-kept.ensures.bytes in
+    record {
+      within = omega (arith, c.requires.walk.within);
+      state = c.requires.walk.state;
+      found = ap (map audited_of) c.in_ok-push.ensures.items
+          ∙ found_next records c.args.place c.index-records-place.result c.in-Checkpoint.bytes c.args.walk.found.items (slice_index_or c.args.spans.now c.args.place none).start false (run empty (take c.args.place (map record_of records)))
+          c.requires.there c.index-records-place.is c.in-Checkpoint.is c.requires.walk.found ((c.requires.spans c.args.place few).1 none) refl
+          (other_number records c.args.place c.in-Checkpoint.bytes c.begins_with.result c.requires.there begins c.if-not-begins_with.true);
+    }
 
 pub returns-clause-walk : goal.returns-clause-walk
 returns-clause-walk g c =
@@ -57,11 +75,11 @@ returns-clause-walk g c =
     let state : c.in_ok-state.state ≡ run empty (take c.args.place (map record_of records)) =
     c.in_ok-state.ensures.state ∙ run_between records c.args.walk.from c.args.place c.args.walk.state c.requires.walk.within c.requires.walk.state in
     let test : c.in_ok-truth.truth ≡ bytes_eq c.in-Checkpoint.bytes (state_bytes c.in_ok-state.state) =
-    c.in_ok-truth.ensures.truth ∙ ap (λ (z : List ℕ). bytes_eq z (state_bytes c.in_ok-state.state)) c.bytes.ensures.bytes in
+    c.in_ok-truth.ensures.truth ∙ ap (λ (z : List ℕ). bytes_eq z (state_bytes c.in_ok-state.state)) c.bytes-kept.ensures.bytes in
     record {
       within = omega arith;
       state = state;
-      found = ap (map audited_of) c.in_ok-push.ensures.items
+      found = ap (map audited_of) c.in_ok-push-2.ensures.items
           ∙ found_next records c.args.place c.index-records-place.result c.in-Checkpoint.bytes c.args.walk.found.items (slice_index_or c.args.spans.now c.args.place none).start c.in_ok-truth.truth c.in_ok-state.state
           c.requires.there c.index-records-place.is c.in-Checkpoint.is c.requires.walk.found ((c.requires.spans c.args.place few).1 none) state test;
     }
