@@ -1,13 +1,7 @@
 -- From the room's ledger and the countdowns' ends to what is known once all are closed.
-use Rattle.std.proofs.Common.{◌≡◌, ℕ, zero, suc, ◌+◌, ◌<◌, ◌≤◌, List, [], ◌∷◌, ◌++◌, map, length, refl, ap, sym, ◌∙◌, subst, arith, sum_by, cond, eqb, true, false}
-use Rattle.std.specs.List.{AllByRecursion}
+use Rattle.std.proofs.Common.{◌≡◌, ℕ, ◌+◌, List, ◌∷◌, ◌++◌, arith, cond, eqb}
 use Rattle.std.proofs.lemmas.List.Sums.{sum_by-cons, sum_by-append}
-use Rattle.rq_pool.specs.declared.countdown.arrival.Entry.{Entry}
-use Rattle.rq_pool.specs.Countdowns.History.{flat_map}
-use Rattle.rq_pool.specs.Countdowns.Arrivals.{last_lists, Settled}
 use Rattle.rq_pool.specs.Ledger.{times, times_in, Ledger}
-use Rattle.rq_exchange.specs.Coverage.{Hand, Web, IsWeb, Follows, IsClosed, Once, told_at}
-use Rattle.rq_exchange.proofs.Covering.{each_once}
 
 times_plus : (x : ℕ) (xs ys : List ℕ) → times x (xs ++ ys) ≡ times x xs + times x ys
 times_plus x xs ys = sum_by-append (λ z. cond (eqb z x) 1 0) xs ys
