@@ -6,3 +6,5 @@ pub mod Starts
 pub mod Checkpoints
 pub mod Audits
 pub mod Walks
+pub mod Worth
+pub mod Tallies

@@ -24,9 +24,8 @@ use Rattle.rq_record.specs.Views.{record_of}
 use Rattle.rq_front.specs.declared.spans.Chain.{Chain}
 use Rattle.rq_front.specs.declared.spans.Span.{Span}
 use Rattle.rq_front.specs.Chains.{bodies_at, spans_from}
-use Rattle.rq_restart.specs.declared.auditing.Walk.{Walk}
 use Rattle.rq_restart.specs.Ends.{IsChain}
-use Rattle.rq_restart.specs.Audits.{audit_of, audits, audited_of, past, StandAt, IsWalk}
+use Rattle.rq_restart.specs.Audits.{audit_of, audits, audited_of, past, StandAt}
 
 -- where the frames of the records stand
 stand_from : (at : ℕ) (rs : List Record) (left : List (List ℕ)) (i : ℕ) → i < length rs
@@ -100,16 +99,12 @@ none_here s at (own.Dequeue unit queue by) h = refl
 none_here s at (own.Commit unit) h = refl
 none_here s at (own.Abort unit) h = refl
 
-pub walk_past : (all : List Own) (i : ℕ) (r : Own) (w : Walk) → i < length all → r ≡ slice_index_or all i r → ((kept : List ℕ) → r ≡ own.Checkpoint kept → ⊥)
-    → IsWalk (map record_of all) i w → IsWalk (map record_of all) (i + 1) w
-walk_past all i r w lt is other walk =
+pub found_past : (all : List Own) (i : ℕ) (r : Own) (found : List (ℕ × Bool)) → i < length all → r ≡ slice_index_or all i r → ((kept : List ℕ) → r ≡ own.Checkpoint kept → ⊥)
+    → map audited_of found ≡ audits empty 40 (take i (map record_of all)) → map audited_of found ≡ audits empty 40 (take (i + 1) (map record_of all))
+found_past all i r found lt is other so_far =
     let rs = map record_of all in
     let before : List Audited = audits empty 40 (take i rs) in
-    record {
-      within = omega (arith, walk.within);
-      state = walk.state;
-      found = walk.found ∙ sym (audits_more all i r lt is ∙ ap (λ (z : List Audited). before ++ z) (none_here (run empty (take i rs)) (past 40 (take i rs)) r other) ∙ append-nil before);
-    }
+    so_far ∙ sym (audits_more all i r lt is ∙ ap (λ (z : List Audited). before ++ z) (none_here (run empty (take i rs)) (past 40 (take i rs)) r other) ∙ append-nil before)
 
 -- a checkpoint that does not begin with its own number is false
 pub other_number : (all : List Own) (i : ℕ) (kept : List ℕ) (begins : Bool) → i < length all → begins ≡ starts_with nat_eq kept (to_be_bytes w64 i) → begins ≡ false → false ≡ bytes_eq kept (state_bytes (run empty (take i (map record_of all))))

@@ -5,3 +5,4 @@ pub mod Ends
 pub mod Restarts
 pub mod Checkpoints
 pub mod Audits
+pub mod Worth

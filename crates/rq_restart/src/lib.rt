@@ -10,6 +10,7 @@ mod reading;
 mod restarted;
 mod restarting;
 mod restarting_at;
+mod tally;
 
 pub use auditing::audit;
 pub use restarted::{Restarted, Why};
