@@ -18,9 +18,6 @@ place_next errors place e lt is =
 pub list_few : (errors : List ℕ) (place x : ℕ) (list : List ℕ) → list ++ places_of (λ n. n == x) place (drop place errors) ≡ naming errors x → length list ≤ length errors
 list_few errors place x list e = omega (arith, few_from (λ n. n == x) 0 errors, ap length e, length-append list (places_of (λ n. n == x) place (drop place errors)))
 
-pub none_ranked : (errors : List ℕ) (count : ℕ) (ranks : List ℕ) → ranks ≡ [] → AreRanks errors count 0 ranks
-none_ranked errors count ranks e = record { long = ap length e; ranked = λ q lt. absurd (omega (arith, lt)) }
-
 pub ranks_more : (errors : List ℕ) (count place r : ℕ) (ranks after list : List ℕ) → AreRanks errors count place ranks → place < length errors → (at errors place < count → list ++ places_of (λ n. n == at errors place) place (drop place errors) ≡ naming errors (at errors place))
     → (at errors place < count → r ≡ length list) → after ≡ ranks ++ r ∷ [] → AreRanks errors count (place + 1) after
 ranks_more errors count place r ranks after list h lt whole is e = subst (AreRanks errors count (place + 1)) (sym e) (record {

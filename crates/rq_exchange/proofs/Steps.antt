@@ -30,7 +30,7 @@ apart_times q y xs after more apart =
     let z : times y xs + cond (eqb q y) 1 0 ≡ times y xs + 0 = ap (λ b. times y xs + cond b 1 0) (ne_eqb q y apart) in
     sym (ap (times y) more ∙ times_more y q xs ∙ z ∙ add-zero (times y xs))
 
-times_append : (x : ℕ) (xs ys : List ℕ) → times x (xs ++ ys) ≡ times x xs + times x ys
+pub times_append : (x : ℕ) (xs ys : List ℕ) → times x (xs ++ ys) ≡ times x xs + times x ys
 times_append x xs ys = sum_by-append (λ z. cond (eqb z x) 1 0) xs ys
 
 module _ {T : Type 0} where
