@@ -313,8 +313,7 @@ class Tried:
 
     def __init__(self, options, peer: str, name: str, records: int):
         log = os.path.join(options.folder, f"{name}.{records}")
-        if not os.path.exists(log):
-            write_log(log, SHAPES[name](records))
+        write_log(log, SHAPES[name](records))
         self.bytes = os.path.getsize(log)
         workers = str(options.workers)
         self.peer = Timed([peer, "restart", log], options.limit)
@@ -323,6 +322,7 @@ class Tried:
         for _ in range(options.runs):
             for it in filter(None, (self.peer, self.restart, self.audit)):
                 it.run()
+        os.remove(log)
 
     def memory(self) -> float:
         return max(it.memory for it in (self.restart, self.audit) if it) / self.bytes
@@ -350,7 +350,7 @@ def missed(name: str, small: Tried, large: Tried) -> list[str]:
 def main() -> int:
     words = parser()
     words.add_argument("shapes", nargs="*", default=list(SHAPES))
-    words.add_argument("--records", type=int, default=200000)
+    words.add_argument("--records", type=int, default=1000000)
     words.add_argument("--runs", type=int, default=3)
     words.add_argument("--workers", type=int, default=4)
     words.add_argument("--limit", type=float, default=60)
