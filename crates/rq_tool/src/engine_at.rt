@@ -34,7 +34,7 @@ where
     ensures faults { ReadFaults (I.faults input.old) (I.faults input.new) result }
 {
     rq_model::every_log_has_report();
-    rq_model::true_checkpoints_say_the_same();
+    rq_model::true_checkpoints_report_the_same();
     rq_model::versions();
     let bytes = read_all(alloc, input)?;
     are_bytes(&bytes);
@@ -70,7 +70,7 @@ where
     ensures read_faults { ReadFaults (I.faults input.old) (I.faults input.new) result }
     ensures write_faults { WriteFaults (O.faults output.old) (O.faults output.new) result }
 {
-    rq_model::true_checkpoints_say_the_same();
+    rq_model::true_checkpoints_report_the_same();
     let restarted = read_and_restart_at(rt, alloc, input, offset, plan, gate)?;
     write_report_by(rt, alloc, &restarted, plan, output)
 }

@@ -17,7 +17,7 @@ returns-clause-excluded g c = λ b is true_at.
     let bytes = c.in_ok-bytes.bytes.items in
     let same = same_read b bytes (g.I.Input.remaining c.args.input.now) (g.I.Input.remaining c.read_all.new.input) is c.in_ok-bytes.ensures.bytes in
     let told = subst (λ (xs : List ℕ). RestartsAt xs c.args.offset c.restart_at.result) c.deref-2.ensures.value c.restart_at.ensures in
-    told_true c.every_log_has_report.ensures c.true_checkpoints_say_the_same.ensures.report c.versions.ensures.header b bytes c.args.offset c.restart_at.result same (subst AreBytes c.deref.ensures.value c.are_bytes.ensures) true_at
+    told_true c.every_log_has_report.ensures c.true_checkpoints_report_the_same.ensures c.versions.ensures.header b bytes c.args.offset c.restart_at.result same (subst AreBytes c.deref.ensures.value c.are_bytes.ensures) true_at
     (result_read_at b bytes c.args.offset c.restart_at.result same told)
 
 pub returns-clause-takes : goal.returns-clause-takes

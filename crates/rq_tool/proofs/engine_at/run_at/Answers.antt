@@ -13,7 +13,7 @@ pub returns-clause-same : goal.returns-clause-same
 returns-clause-same g c = λ b is true_at.
     let contents = g.O.Output.contents in
     let faults = g.O.Output.faults in
-    written_true c.true_checkpoints_say_the_same.ensures.report b c.args.offset c.in_ok-restarted.restarted (faults c.args.output.now) (faults c.write_report_by.new.output) (contents c.args.output.now) (contents c.write_report_by.new.output)
+    written_true c.true_checkpoints_report_the_same.ensures b c.args.offset c.in_ok-restarted.restarted (faults c.args.output.now) (faults c.write_report_by.new.output) (contents c.args.output.now) (contents c.write_report_by.new.output)
     c.write_report_by.result true_at (c.in_ok-restarted.ensures.told b is).1 c.write_report_by.ensures
 
 pub returns-clause-quiet : goal.returns-clause-quiet
