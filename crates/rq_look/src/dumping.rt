@@ -5,7 +5,7 @@ use crate::frames::Walk;
 use crate::json::{closing_of, record_shown};
 use crate::lines::put_record;
 use crate::numbered::{Numbered, queues_behind};
-use crate::sheet::Sheet;
+use crate::sheet::{finish, relieve};
 use crate::trouble::Trouble;
 use crate::wanted::Wanted;
 use rq_restart::Plan;
@@ -23,10 +23,10 @@ fn put_shown(
     if wanted.json {
         let line = record_shown(alloc, it)?;
         text.push_str(serde_json::to_string(alloc, &line)?.as_str())?;
-        text.push('\n')?;
     } else {
         put_record(alloc, text, it, wanted.full)?;
     }
+    text.push('\n')?;
     Ok(())
 }
 
@@ -52,7 +52,8 @@ fn put_records<W: Write>(
     bytes: &[u8],
     used: u64,
     wanted: &Wanted<'_>,
-    sheet: &mut Sheet<'_, W>,
+    text: &mut String,
+    output: &mut W,
 ) -> Result<(), Trouble> {
     let mut queues = 0;
     let mut left = wanted.limit;
@@ -63,8 +64,8 @@ fn put_records<W: Write>(
         if placed.offset >= wanted.from {
             let it = Numbered::of(alloc, placed, queues)?;
             if wanted.wants(&it) {
-                put_shown(alloc, &mut sheet.text, &it, wanted)?;
-                sheet.relieve()?;
+                put_shown(alloc, text, &it, wanted)?;
+                relieve(text, output)?;
                 left -= 1;
             }
         }
@@ -91,9 +92,9 @@ where
     W: Write,
 {
     let end = end_of(rt, alloc, bytes, plan)?;
-    let mut sheet = Sheet::new(alloc, output);
-    put_records(alloc, bytes, end.used, wanted, &mut sheet)?;
-    put_closing(alloc, &mut sheet.text, &end, wanted)?;
-    sheet.finish()?;
+    let mut text = String::new(alloc);
+    put_records(alloc, bytes, end.used, wanted, &mut text, output)?;
+    put_closing(alloc, &mut text, &end, wanted)?;
+    finish(&mut text, output)?;
     Ok(())
 }

@@ -83,7 +83,7 @@ fn put_fields(
     }
 }
 
-/// Puts the line of a record: its offset, its number, its kind and its fields.
+/// Puts the line of a record without its end: its offset, its number, its kind and its fields.
 pub(crate) fn put_record(
     alloc: Global,
     text: &mut String,
@@ -95,6 +95,5 @@ pub(crate) fn put_record(
     write!(text, "{offset} {number} {kind}")?;
     put_unit(text, &it.record)?;
     put_queue(text, it)?;
-    put_fields(alloc, text, &it.record, full)?;
-    text.push('\n')
+    put_fields(alloc, text, &it.record, full)
 }

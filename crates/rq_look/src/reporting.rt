@@ -2,7 +2,6 @@
 
 use crate::ends::{End, end_after};
 use crate::json::{Bytes, Front, front_of, queue_number};
-use crate::sheet::Sheet;
 use crate::trouble::Trouble;
 use rq_record::QueueNo;
 use rq_report::{OverWrite, write_report_by};
@@ -210,10 +209,9 @@ where
     let restarted = restarted_with(rt, alloc, bytes, plan, wanted)?;
     let end = end_after(rt, alloc, bytes, &restarted, plan)?;
     let report = report_shown(alloc, &restarted, &end, wanted)?;
-    let mut sheet = Sheet::new(alloc, output);
-    sheet.text = serde_json::to_string_pretty(alloc, &report)?;
-    sheet.text.push('\n')?;
-    sheet.finish()?;
+    let mut text = serde_json::to_string_pretty(alloc, &report)?;
+    text.push('\n')?;
+    output.write_all(text.as_bytes())?;
     Ok(())
 }
 

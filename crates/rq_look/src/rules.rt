@@ -49,7 +49,7 @@ impl fmt::Display for Rule {
             Rule::NotAbove(unit, greatest) => {
                 write!(
                     f,
-                    "unit {} is not above unit {greatest}, which began",
+                    "unit {} is not above unit {greatest}, the greatest so far",
                     unit.0
                 )
             }

@@ -3,7 +3,7 @@
 use crate::ends::end_of;
 use crate::frames::Walk;
 use crate::numbered::{Numbered, by_of, kind_of};
-use crate::sheet::Sheet;
+use crate::sheet::{finish, relieve};
 use crate::trouble::Trouble;
 use rq_record::{QueueNo, Record};
 use rq_restart::{Plan, Why};
@@ -113,13 +113,15 @@ fn put_records<W: io::Write>(
     alloc: Global,
     bytes: &[u8],
     used: u64,
-    sheet: &mut Sheet<'_, W>,
+    output: &mut W,
 ) -> Result<(), Trouble> {
+    let mut text = String::new(alloc);
     for placed in Walk::of(bytes, used) {
         let it = Numbered::of(alloc, placed, 0)?;
-        put_line(alloc, &mut sheet.text, &it)?;
-        sheet.relieve()?;
+        put_line(alloc, &mut text, &it)?;
+        relieve(&mut text, output)?;
     }
+    finish(&mut text, output)?;
     Ok(())
 }
 
@@ -139,8 +141,6 @@ where
     W: io::Write,
 {
     let end = end_of(rt, alloc, bytes, plan)?;
-    let mut sheet = Sheet::new(alloc, output);
-    put_records(alloc, bytes, end.used, &mut sheet)?;
-    sheet.finish()?;
+    put_records(alloc, bytes, end.used, output)?;
     Ok(end.why == Why::Whole)
 }

@@ -1,5 +1,6 @@
 //! Why nothing more is shown.
 
+use crate::telling::Subject;
 use rq_record::Fault;
 use std::alloc::AllocError;
 use std::io;
@@ -20,6 +21,9 @@ pub enum Trouble {
     /// There is no queue of this number.
     #[error("no queue {0}")]
     NoQueue(u32),
+    /// The front has no such element, or no such unit.
+    #[error("no {0}")]
+    Nothing(Subject),
 }
 
 impl From<Fault> for Trouble {

@@ -2,7 +2,7 @@
 
 use crate::failing::Failure;
 use crate::reading::log_in;
-use crate::words::records_asked;
+use crate::words::{records_asked, subject_asked};
 use clap::ArgMatches;
 use rq_look::{Plan, Trouble};
 use std::io;
@@ -51,6 +51,15 @@ where
     Ok(true)
 }
 
+fn story<R>(rt: &R, bytes: &[u8], plan: &Plan, words: &ArgMatches<'_>) -> Result<bool, Trouble>
+where
+    R: Print + AllocGlobal + Threads + Sync,
+{
+    let subject = subject_asked(words);
+    rq_look::story(rt, rt.alloc(), bytes, plan, subject, &mut io::writer(rt))?;
+    Ok(true)
+}
+
 fn perform<R>(
     rt: &R,
     name: &str,
@@ -65,6 +74,7 @@ where
         "dump" => dump(rt, bytes, plan, words),
         "check" => check(rt, bytes, plan, words.get_flag("quiet")),
         "report" => report(rt, bytes, plan, words),
+        "story" | "unit" => story(rt, bytes, plan, words),
         _ => rq_look::script(rt, rt.alloc(), bytes, plan, &mut io::writer(rt)),
     }
 }

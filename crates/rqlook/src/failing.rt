@@ -52,7 +52,7 @@ fn status(trouble: &Trouble) -> u8 {
     match trouble {
         Trouble::Log(fault) => fault.exit(),
         Trouble::Output(_) => STREAM,
-        Trouble::Untold(_) | Trouble::NoQueue(_) => 1,
+        Trouble::Untold(_) | Trouble::NoQueue(_) | Trouble::Nothing(_) => 1,
     }
 }
 

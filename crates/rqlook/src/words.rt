@@ -1,7 +1,7 @@
 //! The words of the program.
 
 use clap::{Arg, ArgAction, ArgMatches, Command, Error, value_parser};
-use rq_look::Wanted;
+use rq_look::{Subject, Wanted};
 use std::alloc::Global;
 
 /// The kinds of record.
@@ -123,6 +123,33 @@ fn script<'a>(alloc: Global) -> Result<Command<'a>, Error> {
     )
 }
 
+fn number<'a>(alloc: Global, name: &'a str, help: &'a str) -> Arg<'a> {
+    Arg::new(alloc, name)
+        .required(true)
+        .value_parser(value_parser!(u64))
+        .help(help)
+}
+
+fn story<'a>(alloc: Global) -> Result<Command<'a>, Error> {
+    Ok(
+        Command::new(alloc, "story")
+            .about("Shows what became of one element")
+            .arg(log(alloc))?
+            .arg(number(alloc, "ELEMENT", "The number of the record that put it in"))?
+            .arg(workers(alloc))?,
+    )
+}
+
+fn unit<'a>(alloc: Global) -> Result<Command<'a>, Error> {
+    Ok(
+        Command::new(alloc, "unit")
+            .about("Shows what one unit did, and what became of it")
+            .arg(log(alloc))?
+            .arg(number(alloc, "UNIT", "The number of the unit"))?
+            .arg(workers(alloc))?,
+    )
+}
+
 /// The program's command.
 pub(crate) fn program<'a>(alloc: Global) -> Result<Command<'a>, Error> {
     Ok(
@@ -133,8 +160,18 @@ pub(crate) fn program<'a>(alloc: Global) -> Result<Command<'a>, Error> {
             .subcommand(dump(alloc)?)?
             .subcommand(check(alloc)?)?
             .subcommand(report(alloc)?)?
-            .subcommand(script(alloc)?)?,
+            .subcommand(script(alloc)?)?
+            .subcommand(story(alloc)?)?
+            .subcommand(unit(alloc)?)?,
     )
+}
+
+/// Which element or unit the words of a story name.
+pub(crate) fn subject_asked(words: &ArgMatches<'_>) -> Subject {
+    match words.get_one::<u64>("UNIT") {
+        Some(unit) => Subject::Unit(unit),
+        None => Subject::Element(words.get_one::<u64>("ELEMENT").unwrap_or(0)),
+    }
 }
 
 /// Which records the words of a dump ask for.
