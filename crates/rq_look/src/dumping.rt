@@ -1,5 +1,9 @@
 //! A line for each record of a log.
 
+ghost use Rattle.std.specs.Prelude.{OnOk};
+ghost use Rattle.rq_model.specs.Records.{One};
+ghost use Rattle.rq_model.specs.Frames.{HasHeader};
+
 use crate::ends::{End, end_of, put_end};
 use crate::frames::Walk;
 use crate::json::{closing_of, record_shown};
@@ -90,6 +94,7 @@ pub fn dump<R, W>(
 where
     R: Threads + Sync,
     W: Write,
+    ensures { OnOk result (HasHeader One bytes.now) }
 {
     let end = end_of(rt, alloc, bytes, plan)?;
     let mut text = String::new(alloc);

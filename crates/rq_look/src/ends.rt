@@ -1,6 +1,12 @@
 //! Where the front of a log ends, and why.
 
-ghost use Rattle.std.specs.Prelude.{◌≡◌};
+ghost use Rattle.std.specs.Prelude.{◌≡◌, IfOk, OnOk};
+ghost use Rattle.rq_model.specs.Records.{One};
+ghost use Rattle.rq_model.specs.Frames.{HasHeader};
+ghost use Rattle.rq_model.specs.Fronts as fronts;
+ghost use Rattle.rq_model.specs.Fronts.{IsRestart};
+ghost use Rattle.rq_restart.specs.Views.{why_of};
+ghost use Rattle.rq_look.specs.Looks as looks;
 
 use crate::frames::{first_frame, stated_length};
 use crate::misfits::misfit_of;
@@ -23,6 +29,16 @@ pub(crate) struct End {
     pub(crate) total: u64,
     pub(crate) why: Why,
     pub(crate) reason: String,
+}
+
+/// Whether nothing follows the front.
+pub(crate) fn is_whole(why: Why) -> bool
+    ensures { result ≡ looks.is_whole (why_of why) }
+{
+    match why {
+        Why::Whole => true,
+        Why::Cut | Why::Length | Why::Chain | Why::Form | Why::Law => false,
+    }
 }
 
 /// The word for why a front ends.
@@ -120,7 +136,9 @@ pub(crate) fn end_after<R: Threads + Sync>(
     bytes: &[u8],
     r: &Restarted,
     plan: &Plan,
-) -> Result<End, Fault> {
+) -> Result<End, Fault>
+    ensures { IfOk result (λ end. why_of end.why ≡ r.now.why) }
+{
     Ok(End {
         records: r.records(),
         used: r.used(),
@@ -136,7 +154,10 @@ pub(crate) fn end_of<R: Threads + Sync>(
     alloc: Global,
     bytes: &[u8],
     plan: &Plan,
-) -> Result<End, Fault> {
+) -> Result<End, Fault>
+    ensures log { OnOk result (HasHeader One bytes.now) }
+    ensures end { IfOk result (λ end. (r : fronts.Restarted) × IsRestart bytes.now r × (why_of end.why ≡ r.why)) }
+{
     let restarted = restart(rt, alloc, bytes, plan, &Open)?;
     end_after(rt, alloc, bytes, &restarted, plan)
 }

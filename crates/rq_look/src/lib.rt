@@ -19,7 +19,7 @@ mod telling;
 mod trouble;
 mod wanted;
 
-pub use checking::check;
+pub use checking::{Findings, check};
 pub use dumping::dump;
 pub use reporting::{report, report_json};
 pub use rq_restart::{Fault, Plan};

@@ -1,5 +1,9 @@
 //! The report of a log, as text and as JSON.
 
+ghost use Rattle.std.specs.Prelude.{OnOk};
+ghost use Rattle.rq_model.specs.Records.{One};
+ghost use Rattle.rq_model.specs.Frames.{HasHeader};
+
 use crate::ends::{End, end_after};
 use crate::json::{Bytes, Front, front_of, queue_number};
 use crate::trouble::Trouble;
@@ -181,7 +185,9 @@ fn restarted_with<R: Threads + Sync>(
     bytes: &[u8],
     plan: &Plan,
     wanted: Option<u32>,
-) -> Result<Restarted, Trouble> {
+) -> Result<Restarted, Trouble>
+    ensures { OnOk result (HasHeader One bytes.now) }
+{
     let restarted = restart(rt, alloc, bytes, plan, &Open)?;
     match wanted {
         Some(queue) if queue as usize >= restarted.state().definitions().len() => {
@@ -205,6 +211,7 @@ pub fn report_json<R, W>(
 where
     R: Threads + Sync,
     W: Write,
+    ensures { OnOk result (HasHeader One bytes.now) }
 {
     let restarted = restarted_with(rt, alloc, bytes, plan, wanted)?;
     let end = end_after(rt, alloc, bytes, &restarted, plan)?;
@@ -264,6 +271,7 @@ pub fn report<R, W>(
 where
     R: Threads + Sync,
     W: Write,
+    ensures { OnOk result (HasHeader One bytes.now) }
 {
     let restarted = restarted_with(rt, alloc, bytes, plan, wanted)?;
     let text = text_of(rt, alloc, &restarted, plan)?;

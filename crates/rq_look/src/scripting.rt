@@ -1,12 +1,15 @@
 //! The script of a log.
 
-use crate::ends::end_of;
+ghost use Rattle.std.specs.Prelude.{IfOk};
+ghost use Rattle.rq_look.specs.Looks.{IsKnownWhole};
+
+use crate::ends::{end_of, is_whole};
 use crate::frames::Walk;
 use crate::numbered::{Numbered, by_of, kind_of};
 use crate::sheet::{finish, relieve};
 use crate::trouble::Trouble;
 use rq_record::{QueueNo, Record};
-use rq_restart::{Plan, Why};
+use rq_restart::Plan;
 use std::alloc::{AllocError, Global};
 use std::thread::Threads;
 use std::{fmt, io};
@@ -139,8 +142,9 @@ pub fn script<R, W>(
 where
     R: Threads + Sync,
     W: io::Write,
+    ensures { IfOk result (IsKnownWhole bytes.now) }
 {
     let end = end_of(rt, alloc, bytes, plan)?;
     put_records(alloc, bytes, end.used, output)?;
-    Ok(end.why == Why::Whole)
+    Ok(is_whole(end.why))
 }

@@ -1,5 +1,9 @@
 //! What became of one element, and what one unit did.
 
+ghost use Rattle.std.specs.Prelude.{OnOk};
+ghost use Rattle.rq_model.specs.Records.{One};
+ghost use Rattle.rq_model.specs.Frames.{HasHeader};
+
 use crate::ends::{End, end_of, put_end};
 use crate::following::{Effect, Event, Queues};
 use crate::frames::Walk;
@@ -174,6 +178,7 @@ pub fn story<R, W>(
 where
     R: Threads + Sync,
     W: io::Write,
+    ensures { OnOk result (HasHeader One bytes.now) }
 {
     let end = end_of(rt, alloc, bytes, plan)?;
     tell(alloc, bytes, &end, subject, output)

@@ -23,9 +23,9 @@ where
 {
     let found = rq_look::check(rt, rt.alloc(), bytes, plan)?;
     if !quiet {
-        print!(rt; "{found}")?;
+        rt.write_all(found.text.as_bytes())?;
     }
-    Ok(found.is_empty())
+    Ok(found.fine)
 }
 
 fn report<R>(rt: &R, bytes: &[u8], plan: &Plan, words: &ArgMatches<'_>) -> Result<bool, Trouble>

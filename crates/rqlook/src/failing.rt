@@ -4,6 +4,9 @@ use rq_look::Trouble;
 use std::alloc::AllocError;
 use std::io::{self, ErrorKind};
 
+/// The exit status where there is no such thing in the log.
+const REFUSED: u8 = 1;
+
 /// The exit status of words that are no command.
 const USAGE: u8 = 2;
 
@@ -48,17 +51,29 @@ impl From<io::Error> for Failure {
     }
 }
 
-fn status(trouble: &Trouble) -> u8 {
+// Says that the output fails. One that was closed is no news.
+fn output_failed(rt: &HostRuntime, error: &io::Error) -> u8 {
+    if error.kind() == ErrorKind::BrokenPipe {
+        return 0;
+    }
+    let _ = eprintln!(rt; "rqlook: {error}");
+    STREAM
+}
+
+fn refused(rt: &HostRuntime, file: &str, trouble: &Trouble) -> u8 {
+    if let Trouble::Output(error) = trouble {
+        return output_failed(rt, error);
+    }
+    let _ = eprintln!(rt; "rqlook: {file}: {trouble}");
     match trouble {
         Trouble::Log(fault) => fault.exit(),
-        Trouble::Output(_) => STREAM,
-        Trouble::Untold(_) | Trouble::NoQueue(_) | Trouble::Nothing(_) => 1,
+        _ => REFUSED,
     }
 }
 
 impl Failure {
-    /// Says on standard error why the program ends, and answers its exit status. An output that was closed is no news.
-    pub(crate) fn tell(self, rt: &HostRuntime) -> u8 {
+    /// Says on standard error why the program ends, and answers its exit status.
+    pub(crate) fn tell(&self, rt: &HostRuntime) -> u8 {
         match self {
             Failure::Words(error) => {
                 let _ = eprint!(rt; "{error}");
@@ -72,17 +87,8 @@ impl Failure {
                 let _ = eprintln!(rt; "rqlook: {file}: {error}");
                 STREAM
             }
-            Failure::Refused(_, Trouble::Output(error)) | Failure::Output(error) => {
-                if error.kind() == ErrorKind::BrokenPipe {
-                    return 0;
-                }
-                let _ = eprintln!(rt; "rqlook: {error}");
-                STREAM
-            }
-            Failure::Refused(file, trouble) => {
-                let _ = eprintln!(rt; "rqlook: {file}: {trouble}");
-                status(&trouble)
-            }
+            Failure::Refused(file, trouble) => refused(rt, file.as_str(), trouble),
+            Failure::Output(error) => output_failed(rt, error),
             Failure::Memory => {
                 let _ = eprintln!(rt; "rqlook: resources");
                 MEMORY
