@@ -1,7 +1,6 @@
 //! Whether a log is whole, and each of its checkpoints true.
 
-ghost use Rattle.std.specs.Prelude.{◌≡◌, map, IfOk};
-ghost use Rattle.rq_restart.specs.Audits.{audited_of};
+ghost use Rattle.std.specs.Prelude.{◌≡◌, IfOk};
 ghost use Rattle.rq_look.specs.Looks.{IsChecked, all_true};
 
 use crate::ends::{End, end_of, is_whole, put_end};
@@ -21,7 +20,7 @@ pub struct Findings {
 }
 
 fn are_true(found: &[(u64, bool)]) -> bool
-    ensures { result ≡ all_true (map audited_of found.now) }
+    ensures { result ≡ all_true found.now }
 {
     found.iter().all(|checkpoint| checkpoint.1)
 }

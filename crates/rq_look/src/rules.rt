@@ -1,6 +1,6 @@
 //! Which rule of the machine a record breaks.
 
-ghost use Rattle.std.specs.Prelude.{◌≡◌, ◌&&◌, not, nat_lt, is_some, length};
+ghost use Rattle.std.specs.Prelude.{◌≡◌, ◌==◌, ◌&&◌, not, nat_lt, is_some, length};
 ghost use Rattle.std.specs.List.{list_any};
 ghost use Rattle.std.specs.Str.{bytes_eq};
 ghost use Rattle.rq_model.specs.Records.{One};
@@ -74,10 +74,16 @@ impl fmt::Display for Rule {
     }
 }
 
+fn has_unit(units: &[UnitNo], unit: UnitNo) -> bool
+    ensures { result ≡ list_any (λ v. v.0 == unit.0) units.now }
+{
+    units.iter().any(|open| open.0 == unit.0)
+}
+
 fn is_open(state: &State, unit: UnitNo) -> bool
     ensures { result ≡ machine.is_open state.now unit.0 }
 {
-    state.units().contains(&unit)
+    has_unit(state.units(), unit)
 }
 
 fn is_defined(state: &State, queue: QueueNo) -> bool
@@ -223,10 +229,10 @@ fn operation(state: &State, unit: UnitNo, queue: QueueNo, by: &Option<By>) -> Op
 }
 
 /// The rule that the record breaks in the state; none where it is lawful there.
-pub(crate) fn broken(state: &State, record: &Record) -> Option<Rule>
-    ensures { is_some result ≡ not (machine.is_lawful One state.now (record_of record.now)) }
+pub(crate) fn broken(state: &State, next: &Record) -> Option<Rule>
+    ensures { is_some result ≡ not (machine.is_lawful One state.now (record_of next.now)) }
 {
-    match record {
+    match next {
         Record::Define { limit, error, name } => wrong_definition(state, *limit, *error, *name),
         Record::Register { queue, .. } => undefined(state, *queue),
         Record::Deregister { queue, name } => unregistered(state, *queue, *name),
