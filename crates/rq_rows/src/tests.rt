@@ -6,6 +6,7 @@ mod damage;
 mod fronts;
 mod hostile;
 mod lanes;
+mod looking;
 mod many;
 mod program;
 mod queues;

@@ -56,7 +56,7 @@ fn a_front_of_nothing_has_the_empty_state(rt: HostRuntime) -> Result<(), Fail> {
     let log = log_of(&rt, &[])?;
     let plan = Plan::new(2, 1).ok_or("plan")?;
     let spelled = spell(rt.alloc(), &front_state(&rt, rt.alloc(), &log, &plan)?)?;
-    assert!(rt; spelled.as_slice() == [0u8; 52]);
+    assert!(rt; spelled.as_slice() == [0u8; 52].as_slice());
     let short = front_state(&rt, rt.alloc(), &log[..39], &plan);
     assert_eq!(rt; short.err(), Some(Fault::NotALog));
     Ok(())

@@ -100,18 +100,6 @@ fn two_hundred_queues(rt: HostRuntime) -> Result<(), Fail> {
     Ok(())
 }
 
-#[test]
-fn every_number_of_workers_reports_the_same(rt: HostRuntime) -> Result<(), Fail> {
-    let log = log(&rt)?;
-    let want = report(rt.alloc())?;
-    for workers in 1..=64 {
-        let plan = Plan::new(workers, 10).ok_or("plan")?;
-        let got = answer(&rt, &Command::Restart { log: "log", plan }, &log)?;
-        assert!(rt; got.as_slice() == want.as_bytes(), "{workers} workers");
-    }
-    Ok(())
-}
-
 /// How many times each queue entered.
 #[derive(Drop)]
 struct Entries {

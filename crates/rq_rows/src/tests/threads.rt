@@ -1,7 +1,7 @@
 //! What workers do at the same time.
 
-use super::{lines, log_of};
-use rq_tool::{Gate, OverRead, OverWrite, Plan, run};
+use super::{answer, lines, log_of};
+use rq_tool::{Command, Gate, OverRead, OverWrite, Plan, run};
 use std::io::Cursor;
 use std::sync::atomic::{AtomicBool, AtomicU64, Ordering};
 use std::test::Fail;
@@ -96,6 +96,18 @@ fn two_threads_meet(rt: HostRuntime) -> Result<(), Fail> {
     Ok(())
 }
 
+#[test]
+fn every_number_of_workers_reports_the_same(rt: HostRuntime) -> Result<(), Fail> {
+    let log = log_of(&rt, &THREE)?;
+    let want = lines(rt.alloc(), &THREE_REPORT)?;
+    for workers in 1..=64 {
+        let plan = Plan::new(workers, 1).ok_or("plan")?;
+        let got = answer(&rt, &Command::Restart { log: "log", plan }, &log)?;
+        assert!(rt; got == want, "{workers} workers");
+    }
+    Ok(())
+}
+
 /// When each of three queues entered, in nanoseconds.
 #[derive(Drop)]
 struct Entered<'a, R: Clock> {
@@ -114,13 +126,13 @@ impl<'a, R: Clock + Sync> Gate for Entered<'a, R> {
     }
 }
 
-/// Three queues, of which the second has 20,000 elements.
+/// Three queues, of which the second has 2,000 elements.
 const ONE_IS_LONG: [&str; 4] = ["define a 0 -", "define b 0 -", "define c 0 -", "begin 1"];
 
 #[test]
 fn a_queue_enters_the_gate_before_its_redo(rt: HostRuntime) -> Result<(), Fail> {
     let mut script = Vec::from_slice(rt.alloc(), ONE_IS_LONG.as_slice())?;
-    for _ in 0..20_000 {
+    for _ in 0..2_000 {
         script.push("enqueue 1 1 0 - 0 -")?;
     }
     script.push("commit 1")?;
