@@ -1,5 +1,5 @@
 -- From the bytes that were audited to those that the reader had, and to what is written.
-use Rattle.std.proofs.Common.{◌≡◌, ℕ, ◌<◌, Bool, List, length, map, subst, arith, inl, inr}
+use Rattle.std.proofs.Common.{◌≡◌, ℕ, Bool, List, map, subst, arith, inl, inr}
 use Rattle.std.specs.Prelude.{Option, Result, Ok, Err, IfErr, IfOk}
 use Rattle.std.specs.Global.{Vec}
 use Rattle.std.specs.List.{flat_map}

@@ -1,5 +1,5 @@
 -- From the script that was read to the one that the reader had, and from its log to what is written.
-use Rattle.std.proofs.Common.{◌≡◌, ℕ, ◌<◌, ◌≤◌, List, length, subst, arith, inl, inr}
+use Rattle.std.proofs.Common.{ℕ, ◌<◌, ◌≤◌, List, length, subst, arith, inl, inr}
 use Rattle.std.specs.Prelude.{Option, Result, Ok, Err, IfErr, IfOk}
 use Rattle.std.specs.Global.{Vec}
 use Rattle.rq_model.specs.Frames.{log_limit}

@@ -1,18 +1,16 @@
 -- From the bytes that were read to those that the reader had, for a run from a checkpoint.
 use Rattle.std.proofs.Common.{◌≡◌, ℕ, ◌<◌, ◌≤◌, List, ◌∷◌, length, sym, subst, ◌∙◌, arith, inl, inr}
 use Rattle.std.specs.Prelude.{Option, Result, Ok, Err}
-use Rattle.std.specs.Io.KnownBytes.{Appends}
 use Rattle.rq_model.specs.Frames.{AreBytes, HasHeader, log_limit}
 use Rattle.rq_model.specs.Records.{One, Version}
 use Rattle.rq_model.specs.States.{State}
 use Rattle.rq_model.specs.StateSpelling.{SpellsState}
 use Rattle.rq_model.specs.Fronts.{Restarted}
-use Rattle.rq_model.specs.Reports.{IsReport, IsText}
-use Rattle.rq_model.specs.Checkpoints.{IsCheckpointAt, IsReportAt, IsRestartAt, TrueAt}
+use Rattle.rq_model.specs.Checkpoints.{IsCheckpointAt, IsRestartAt, TrueAt}
 use Rattle.rq_model.specs.LogLaws.{EveryLogHasReport, OneVersion, TrueSaysTheSame}
 use Rattle.rq_record.specs.declared.fault.Fault.{Fault}
 use Rattle.rq_record.specs.declared.fault.Fault.TheVariants as faults
-use Rattle.rq_report.specs.Streams.{AppendsFront, Reports}
+use Rattle.rq_report.specs.Streams.{Reports}
 use Rattle.rq_restart.specs.Restarts.{RestartsAt}
 use Rattle.rq_tool.proofs.Told.{IsSame}
 use Rattle.rq_tool.specs.Streams.{ReadFaults, WriteFaults}

@@ -1,4 +1,4 @@
-use Rattle.std.proofs.Common.{◌≡◌, ℕ, List, map, ap, ◌∙◌}
+use Rattle.std.proofs.Common.{◌≡◌, map, ap, ◌∙◌}
 use Rattle.std.specs.List.{flat_map}
 use Rattle.rq_restart.specs.Audits.{audited_of}
 use Rattle.rq_tool.specs.AuditTexts.{audit_line}
