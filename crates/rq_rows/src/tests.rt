@@ -12,6 +12,7 @@ mod queues;
 mod rooms;
 mod scripts;
 mod streams;
+mod tails;
 mod texts;
 mod threads;
 
