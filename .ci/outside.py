@@ -224,7 +224,7 @@ def many_queues() -> tuple[bytes, bytes]:
 
 
 def plans() -> None:
-    """One log at every number of workers, and with little memory."""
+    """One log at every number of workers, and with little memory, which what is no log does not need."""
     script, report = many_queues()
     log = log_of(script, "many")
     for workers in range(1, 65):
@@ -237,6 +237,9 @@ def plans() -> None:
     for line in [["restart", big, 1, 1000], ["restart-at", big, 40, 1, 1000], ["audit", big, 1], ["make", big, "made/big"], ["close", big, "made/big", 1]]:
         check(f"{line[0]} with little memory", run(*line, preexec_fn=little_memory), RESOURCES)
     check("a file made with little memory", os.path.exists("made/big"), False)
+    none = put("none.log", bytes(16 << 20))
+    for line in [["restart", none, 1, 1000], ["restart-at", none, 40, 1, 1000], ["audit", none, 1]]:
+        check(f"{line[0]} of what is no log, with little memory", run(*line, preexec_fn=little_memory), refused("not a log"))
 
 
 THREADS = rb"""

@@ -1,4 +1,5 @@
 pub mod Told
+pub mod Unread
 pub mod ToldAt
 pub mod Scripts
 pub mod AuditTexts

@@ -1,7 +1,8 @@
 -- From the bytes that were read to those that the reader had.
-use Rattle.std.proofs.Common.{◌≡◌, ℕ, ◌<◌, List, [], ◌++◌, length, refl, sym, ap, subst, ◌∙◌, append_assoc, arith, inl, inr}
+use Rattle.std.proofs.Common.{◌≡◌, ℕ, ◌<◌, List, ◌++◌, length, sym, ap, subst, ◌∙◌, arith, inl, inr}
 use Rattle.std.specs.Prelude.{◌⊎◌, Option, Some, None, Result, Ok, Err}
-use Rattle.std.specs.Io.KnownBytes.{Consumes, IsAtEnd}
+use Rattle.std.specs.Io.KnownBytes.{Consumes}
+use Rattle.std.proofs.KnownBytes.{Consumes-trans}
 use Rattle.std.proofs.lemmas.List.{append-nil, length-append}
 use Rattle.rq_model.specs.Frames.{log_limit}
 use Rattle.rq_model.specs.Fronts.{Restarted, IsRestart}
@@ -10,24 +11,15 @@ use Rattle.rq_record.specs.declared.fault.Fault.TheVariants as faults
 use Rattle.rq_front.specs.Chains.{Refused}
 use Rattle.rq_report.specs.Streams.{Reports}
 use Rattle.rq_restart.specs.Restarts.{Restarts}
-use Rattle.rq_tool.specs.Streams.{IsOneOf, ReadsAll, Takes, TakesSome}
+use Rattle.rq_tool.specs.Streams.{IsOneOf, ReadsAll, ReadsOn, Takes, TakesSome}
 use Rattle.rq_tool.specs.Headline.{RestartsRead, Runs, WritesOnly}
 
-pub consumes_nothing : (known : Option (List ℕ)) → Consumes known known []
-consumes_nothing None = tt
-consumes_nothing (Some xs) = refl
+-- what a reader gave, and what it gives next
+pub reads_on : (old mid new : Option (List ℕ)) (before bytes after more : List ℕ) → ReadsOn old before mid bytes → after ≡ bytes ++ more → Consumes mid new more → ReadsOn old before new after
+reads_on old mid new before bytes after more h is more_taken = λ first taken. subst (Consumes first new) (sym is) (Consumes-trans first mid new bytes more (h first taken) more_taken)
 
-pub consumes_more : (old mid new : Option (List ℕ)) (a b : List ℕ) → Consumes old mid a → Consumes mid new b → Consumes old new (a ++ b)
-consumes_more None mid new a b p q = tt
-consumes_more (Some xs) None new a b p q = absurd p
-consumes_more (Some xs) (Some ys) None a b p q = absurd q
-consumes_more (Some xs) (Some ys) (Some zs) a b p q = p ∙ ap (λ (x : List ℕ). a ++ x) q ∙ sym (append_assoc a b zs)
-
--- at the end nothing more is taken
-pub ended : (old new : Option (List ℕ)) → Consumes old new [] → IsAtEnd new → IsAtEnd old
-ended None new p h = tt
-ended (Some xs) None p h = absurd p
-ended (Some xs) (Some ys) p h = p ∙ h
+pub takes_on : (old mid new : Option (List ℕ)) → TakesSome old mid → TakesSome mid new → TakesSome old new
+takes_on old mid new h more = (h.0 ++ more.0, Consumes-trans old mid new h.0 more.0 h.1 more.1)
 
 -- what was taken up to the end, or as far as a log may go and one byte more
 pub all_taken : {A : Type 0} (old new : Option (List ℕ)) (bytes : List ℕ) (result : Result A Fault) → ReadsAll old new bytes → Takes old new result

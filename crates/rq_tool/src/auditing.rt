@@ -8,7 +8,7 @@ ghost use Rattle.rq_tool.specs.AuditTexts.{audit_line, AuditsLog, AuditsOnly, Au
 ghost use Rattle.rq_tool.specs.Headline.{IsBeforeWriting};
 ghost use Rattle.rq_tool.specs.Streams.{ReadFaults, Takes, WriteFaults};
 
-use crate::input::read_all;
+use crate::input::read_log;
 use rq_report::{Input, Output, write_all};
 use rq_restart::{Fault, Plan, audit};
 use std::alloc::{AllocError, Global};
@@ -51,7 +51,7 @@ where
     ensures takes { Takes (I.remaining input.old) (I.remaining input.new) result }
     ensures faults { ReadFaults (I.faults input.old) (I.faults input.new) result }
 {
-    let bytes = read_all(alloc, input)?;
+    let bytes = read_log(alloc, input)?;
     audit(rt, alloc, &bytes, plan)
 }
 

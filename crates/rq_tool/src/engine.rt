@@ -5,7 +5,7 @@ ghost use Rattle.rq_model.specs.Fronts.{IsRestart};
 ghost use Rattle.rq_tool.specs.Streams.{ReadFaults, Takes, WriteFaults};
 ghost use Rattle.rq_tool.specs.Headline.{IsBeforeWriting, RestartsRead, Runs, WritesOnly};
 
-use crate::input::read_all;
+use crate::input::read_log;
 use rq_report::{Input, Output, write_report_by};
 use rq_restart::{Fault, Gate, Plan, Restarted, restart};
 use std::alloc::Global;
@@ -31,7 +31,7 @@ where
     ensures takes { Takes (I.remaining input.old) (I.remaining input.new) result }
     ensures faults { ReadFaults (I.faults input.old) (I.faults input.new) result }
 {
-    let bytes = read_all(alloc, input)?;
+    let bytes = read_log(alloc, input)?;
     restart(rt, alloc, &bytes, plan, gate)
 }
 

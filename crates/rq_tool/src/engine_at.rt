@@ -5,7 +5,7 @@ ghost use Rattle.rq_model.specs.Checkpoints.{IsRestartAt, TrueAt};
 ghost use Rattle.rq_tool.specs.Streams.{ReadFaults, Takes, WriteFaults};
 ghost use Rattle.rq_tool.specs.Headline.{IsBeforeWritingAt, IsTold, RestartsAtRead, RunsAt, WritesOnlyAt, WritesReport};
 
-use crate::input::{are_bytes, read_all};
+use crate::input::{are_bytes, read_log};
 use rq_report::{Input, Output, write_report_by};
 use rq_restart::{Fault, Gate, Plan, Restarted, restart_at};
 use std::alloc::Global;
@@ -36,7 +36,7 @@ where
     rq_model::every_log_has_report();
     rq_model::true_checkpoints_report_the_same();
     rq_model::versions();
-    let bytes = read_all(alloc, input)?;
+    let bytes = read_log(alloc, input)?;
     are_bytes(&bytes);
     restart_at(rt, alloc, &bytes, offset, plan, gate)
 }
