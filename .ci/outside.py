@@ -108,13 +108,30 @@ def commands() -> None:
     check("audit of two", run("audit", log_of(b"checkpoint\ncheckpoint\n", "twice"), 1), (0, b"checkpoint 40 true\ncheckpoint 129 true\n", b""))
 
 
+def closing() -> None:
+    """Logs that are closed, by logs whose last lines abort what is open."""
+    open_ = CHECKPOINT.removesuffix(b"commit 2\n")
+    log = log_of(open_, "open")
+    want = content(log_of(open_ + b"abort 2\n", "shut"))
+    for workers in [1, 2, 64]:
+        check(f"close with {workers} workers", (run("close", log, "closed.log", workers), content("closed.log")), (DONE, want))
+    check("close again", (run("close", "closed.log", "closed.again", 2), content("closed.again")), (DONE, want))
+    check("close a log in its own place", (run("close", log, log, 2), content(log)), (DONE, want))
+    for name, more in [("cut", b"\0\0"), ("length", bytes(9)), ("chain", b"\0\0\0\x01" + bytes(33))]:
+        path = put("damaged.log", (content(log_of(open_, "open")) or b"") + more)
+        check(f"close before {name}", (run("close", path, "closed.log", 2), content("closed.log")), (DONE, want))
+    for path in ["missing/made", "folder", "/dev/full"]:
+        check(f"close into {path}", run("close", log, path, 1), WRITE_FAULT)
+    check("close into /dev/stdout", run("close", log, "/dev/stdout", 2), (0, want, b""))
+
+
 def usage() -> None:
     """Lines that are none: nothing is opened, and nothing is made."""
     lines = [[], ["make"], ["make", "one.script"], ["make", "one.script", "made", "1"], ["restart"], ["restart", "one.log", 1]]
-    lines += [["restart", "one.log", 1, 1, 1], ["restart-at", "two.log", 447, 1], ["audit", "two.log"], ["audit", "two.log", 1, 1], ["restarts", "one.log", 1, 1]]
-    lines += [["Restart", "one.log", 1, 1], ["", "one.log", 1, 1], ["close", "one.log", "out", 1], ["restart", "one.log", b"\xff", 1]]
+    lines += [["restart", "one.log", 1, 1, 1], ["restart-at", "two.log", 447, 1], ["audit", "two.log"], ["audit", "two.log", 1, 1], ["close", "two.log", 1], ["close", "two.log", "made", 1, 1], ["restarts", "one.log", 1, 1]]
+    lines += [["Restart", "one.log", 1, 1], ["", "one.log", 1, 1], ["restart", "one.log", b"\xff", 1]]
     for number in ["0", "65", "00", "01", "+1", "-1", " 1", "1 ", "", "1.0", "0x1", "4294967297", "4294967360", "18446744073709551617", "one"]:
-        lines += [["restart", "one.log", number, 1], ["restart-at", "two.log", 447, number, 1], ["audit", "two.log", number]]
+        lines += [["restart", "one.log", number, 1], ["restart-at", "two.log", 447, number, 1], ["audit", "two.log", number], ["close", "two.log", "made", number]]
     for number in ["0", "1000001", "01", "+1", "", "4294967297", "18446744073709551617"]:
         lines += [["restart", "one.log", 1, number], ["restart-at", "two.log", 447, 1, number]]
     for number in ["0447", "+447", "", "-1", "18446744073709551616", "18446744073709552063", "4e2"]:
@@ -131,7 +148,7 @@ def faults() -> None:
     other = log[:7] + b"\x02" + log[8:]
     for name, bytes_ in [("no byte", b""), ("39 bytes", log[:39]), ("another version", other), ("a text", b"no log at all, but longer than forty bytes\n")]:
         path = put("no.log", bytes_)
-        for line in [["restart", path, 2, 1], ["restart-at", path, 40, 2, 1], ["audit", path, 2]]:
+        for line in [["restart", path, 2, 1], ["restart-at", path, 40, 2, 1], ["audit", path, 2], ["close", path, "made", 2]]:
             check(f"{line[0]} of {name}", run(*line), refused("not a log"))
     for offset in [0, 39, 40, 387, 446, 448, 724, 447 + 2**32, 2**64 - 1]:
         check(f"restart-at {offset}", run("restart-at", "two.log", offset, 2, 1), refused("no checkpoint"))
@@ -140,10 +157,10 @@ def faults() -> None:
     for script, line in [(b"begin 01\n", 1), (b"begin 1\nbegin 2", 2), (b"\n", 1), (b"begin 1\n\nbegin 2\n", 2), (b"kill 0 0\n", 1)]:
         check(f"the script {script!r}", run("make", put("bad.script", script), "bad.made"), refused(f"script line {line}"))
     check("a log of a bad script", os.path.exists("bad.made"), False)
-    for line in [["make", "missing", "made"], ["restart", "missing", 1, 1], ["restart-at", "missing", 40, 1, 1], ["audit", "missing", 1]]:
+    for line in [["make", "missing", "made"], ["restart", "missing", 1, 1], ["restart-at", "missing", 40, 1, 1], ["audit", "missing", 1], ["close", "missing", "made", 1]]:
         check(f"{line[0]} of a missing file", run(*line), READ_FAULT)
     os.mkdir("folder")
-    for line in [["make", "folder", "made"], ["restart", "folder", 1, 1], ["restart-at", "folder", 40, 1, 1], ["audit", "folder", 1]]:
+    for line in [["make", "folder", "made"], ["restart", "folder", 1, 1], ["restart-at", "folder", 40, 1, 1], ["audit", "folder", 1], ["close", "folder", "made", 1]]:
         check(f"{line[0]} of a folder", run(*line), READ_FAULT)
     check("a file made of no script", os.path.exists("made"), False)
 
@@ -217,7 +234,7 @@ def plans() -> None:
         resource.setrlimit(resource.RLIMIT_AS, (12 << 20, 12 << 20))
 
     big = put("big.log", (content(log) or b"") + bytes(16 << 20))
-    for line in [["restart", big, 1, 1000], ["restart-at", big, 40, 1, 1000], ["audit", big, 1], ["make", big, "made/big"]]:
+    for line in [["restart", big, 1, 1000], ["restart-at", big, 40, 1, 1000], ["audit", big, 1], ["make", big, "made/big"], ["close", big, "made/big", 1]]:
         check(f"{line[0]} with little memory", run(*line, preexec_fn=little_memory), RESOURCES)
     check("a file made with little memory", os.path.exists("made/big"), False)
     none = put("none.log", bytes(16 << 20))
@@ -256,7 +273,7 @@ def threads() -> None:
         return
     shim = os.path.abspath("threads.so")
     subprocess.run([compiler, "-O1", "-shared", "-fPIC", put("threads.c", THREADS), "-o", shim, "-ldl", "-lpthread"], check=True)
-    for line in [["make", "many.script", "many.again"], ["restart", "many.log", 1, 1], ["restart-at", "two.log", 447, 1, 1], ["audit", "two.log", 1]]:
+    for line in [["make", "many.script", "many.again"], ["restart", "many.log", 1, 1], ["restart-at", "two.log", 447, 1, 1], ["audit", "two.log", 1], ["close", "many.log", "many.closed", 1]]:
         check(f"threads of {line[0]} with one worker", started_by(shim, *line), 0)
     for workers in [2, 3, 4, 5, 8, 16, 64]:
         started = started_by(shim, "restart", "many.log", workers, 1000000)
@@ -267,7 +284,7 @@ def main() -> None:
     folder = tempfile.mkdtemp()
     os.chdir(folder)
     try:
-        for part in [commands, usage, faults, outputs, files, plans, threads]:
+        for part in [commands, usage, faults, closing, outputs, files, plans, threads]:
             try:
                 part()
             except Exception as fault:

@@ -4,8 +4,8 @@
 usage: refused.py RQ [--workers 1,2,4] [--folder DIR] [COMMAND ..]
 A run that is refused memory must end with status 4, say so, and write nothing, no file either; one that could do without,
 as where a thread is refused, must write what it writes with ample memory. With no COMMAND, makes the logs of the scripts in
-`examples/`, and restarts one of them, audits the other and restarts it at its checkpoint, on each number of workers, in
-grains of one frame. RQ is the built program itself.
+`examples/`, and restarts one of them, audits the other, restarts it at its checkpoint and closes it without its last record, on
+each number of workers, in grains of one frame. RQ is the built program itself.
 """
 from __future__ import annotations
 import os, subprocess
@@ -25,7 +25,7 @@ def built_shim(folder: str) -> str:
 
 def outcome(words: list[str], **options: object) -> Outcome:
     """How the program ends; a file that it made is read and taken away."""
-    log = words[3] if words[1] == "make" else None
+    log = words[3] if words[1] in ("make", "close") else None
     if log and os.path.exists(log):
         os.remove(log)
     done = subprocess.run(words, capture_output=True, **options)
@@ -75,12 +75,15 @@ def main() -> None:
         script = os.path.join(HERE, "..", "examples", name + ".script")
         try_all(shim, [options.program, "make", script, log + ".tried"])
         subprocess.run([options.program, "make", script, log], check=True)
+    with open(logs["checkpoint"], "rb") as whole, open(os.path.join(options.folder, "open.log"), "wb") as open_:
+        open_.write(whole.read()[:-45])
     audit = subprocess.run([options.program, "audit", logs["checkpoint"], "1"], check=True, capture_output=True).stdout
     offset = audit.split()[1].decode()
     for workers in options.workers.split(","):
         try_all(shim, [options.program, "restart", logs["error-queue"], workers, "1"])
         try_all(shim, [options.program, "audit", logs["checkpoint"], workers])
         try_all(shim, [options.program, "restart-at", logs["checkpoint"], offset, workers, "1"])
+        try_all(shim, [options.program, "close", open_.name, open_.name + ".closed", workers])
 
 
 if __name__ == "__main__":

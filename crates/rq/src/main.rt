@@ -79,6 +79,7 @@ where
         Command::Restart { log, .. } => print(rt, command, log),
         Command::RestartAt { log, .. } => print(rt, command, log),
         Command::Audit { log, .. } => print(rt, command, log),
+        Command::Close { log, out, .. } => make_file(rt, command, log, out),
     }
 }
 

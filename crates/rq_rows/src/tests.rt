@@ -13,6 +13,7 @@ mod queues;
 mod rooms;
 mod scripts;
 mod streams;
+mod tails;
 mod texts;
 mod threads;
 

@@ -4,3 +4,4 @@ pub mod ToldAt
 pub mod Scripts
 pub mod AuditTexts
 pub mod Plans
+pub mod Closings

@@ -6,6 +6,7 @@ ghost use Rattle.rq_tool.specs.Commands.{line_of};
 ghost use Rattle.rq_tool.specs.Streams.{ReadFaults, Takes, WriteFaults};
 
 use crate::auditing::audit_log;
+use crate::closing::close_log;
 use crate::engine::run;
 use crate::engine_at::run_at;
 use crate::line::Command;
@@ -17,7 +18,7 @@ use std::marker::Sync;
 use std::thread::Threads;
 
 /// Reads the command's first file from `input` and writes to `output` what the command prints or puts into its second file:
-/// what `make_log`, `run`, `run_at` or `audit_log` writes, with their faults. Nothing is written before all bytes are there.
+/// what `make_log`, `run`, `run_at`, `audit_log` or `close_log` writes, with their faults. Nothing is written before all bytes are there.
 pub fn act<R, I, O, G>(
     rt: &R,
     alloc: Global,
@@ -46,5 +47,6 @@ where
             run_at(rt, alloc, input, output, *offset, plan, gate)
         }
         Command::Audit { plan, .. } => audit_log(rt, alloc, input, output, plan),
+        Command::Close { plan, .. } => close_log(rt, alloc, input, output, plan),
     }
 }

@@ -3,6 +3,7 @@
 
 mod acting;
 mod auditing;
+mod closing;
 mod engine;
 mod engine_at;
 mod input;
@@ -12,6 +13,7 @@ mod words;
 
 pub use acting::act;
 pub use auditing::audit_log;
+pub use closing::close_log;
 pub use engine::run;
 pub use engine_at::run_at;
 pub use line::Command;

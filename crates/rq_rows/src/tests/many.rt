@@ -54,7 +54,7 @@ fn payload(alloc: Global, queue: u32) -> Result<String, Fail> {
     Ok(text)
 }
 
-fn log<R: Threads + Sync + AllocGlobal>(rt: &R) -> Result<Vec<u8>, Fail> {
+pub fn log<R: Threads + Sync + AllocGlobal>(rt: &R) -> Result<Vec<u8>, Fail> {
     let made = script(rt.alloc())?;
     let words: Vec<&str> = made.iter().map(|line| line.as_str()).collect(rt.alloc())?;
     log_of(rt, &words)
