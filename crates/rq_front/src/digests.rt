@@ -1,8 +1,9 @@
 //! The first frame whose digest is wrong.
 
-ghost use Rattle.std.specs.Prelude.{◌≡◌, ◌≤◌, ◌↔◌, drop, length, IsTrue, IfOk, IfNone, IfSome, All, MatchBool};
+ghost use Rattle.std.specs.Prelude.{◌≡◌, ◌≤◌, ◌↔◌, List, ◌++◌, drop, filter, length, map, IsTrue, IfOk, IfNone, IfSome, All, MatchBool};
 ghost use Rattle.rq_model.specs.Frames.{HasFrame, HasRightFrame, before, stated};
-ghost use Rattle.rq_front.specs.Walks.{HasFirstWrong, IsFirstWrong, IsRight, IsSpanOf, message_at};
+ghost use Rattle.rq_front.specs.Walks.{HasFirstWrong, IsFirstWrong, IsRight, IsSpanOf, has_turn, message_at, message_of};
+ghost use Rattle.rq_lanes.specs.Messages.{Holds};
 ghost use Rattle.rq_front.specs.Pieces.{AreSideBySide, spans_in};
 
 use crate::{FRAME_LEN, Span};
@@ -17,7 +18,7 @@ use std::thread::Threads;
 const LANES: usize = 8;
 
 // The pieces of a log that are shared among threads: about as many, each of so many bytes.
-const PIECES: usize = 32;
+const PIECES: usize = 16;
 
 const PIECE_LEAST: usize = 1_048_576;
 
@@ -25,6 +26,9 @@ const PIECE_MOST: usize = 4_194_304;
 
 // The body of a frame that is a piece of its own: among others its lane would run on alone, slower than `sha2`.
 const LONG: usize = 1_048_576;
+
+// The body of a frame that the lanes take before shorter ones.
+const LONG_AMONG_OTHERS: usize = 16_384;
 
 // Some of the spans, side by side: where they begin among all, and where they end.
 #[derive(Clone, Copy, Debug)]
@@ -72,18 +76,39 @@ fn message_at(bytes: &[u8], at: usize, len: usize) -> Message
     }
 }
 
+// Whether a frame has its turn: long ones come first, since behind all others their lanes would run on alone.
+fn has_turn(first: bool, span: Span) -> bool
+    ensures { result ≡ has_turn first span }
+{
+    let is_long = LONG_AMONG_OTHERS <= span.len;
+    if first { is_long } else { !is_long }
+}
+
+// Gives the lanes the frames that have the first turn, or the second.
+fn taken(given: Lanes<LANES>, bytes: &[u8], spans: &[Span], first: bool) -> Lanes<LANES>
+    requires { All (IsSpanOf bytes.now) spans.now }
+    ensures { (ms : List Message) → Holds bytes.now given ms → Holds bytes.now result (ms ++ map message_of (filter (has_turn first) spans.now)) }
+{
+    let mut lanes = given;
+    'frames: for i in 0..spans.len() {
+        let span = spans[i];
+        if has_turn(first, span) {
+            let message = message_at(bytes, span.start - 4, span.len);
+            lanes.take(bytes, message);
+        }
+    }
+    lanes
+}
+
 // Whether the lanes find every digest right. They are sound: on `false` nothing is known.
 fn are_right(bytes: &[u8], spans: &[Span]) -> bool
     requires { All (IsSpanOf bytes.now) spans.now }
     ensures { IsTrue result → All (IsRight bytes.now) spans.now }
 {
-    let mut lanes: Lanes<LANES> = Lanes::new();
-    'frames: for i in 0..spans.len() {
-        let span = spans[i];
-        let message = message_at(bytes, span.start - 4, span.len);
-        lanes.take(bytes, message);
-    }
-    lanes.finish(bytes)
+    let none: Lanes<LANES> = Lanes::new();
+    let some = taken(none, bytes, spans, true);
+    let all = taken(some, bytes, spans, false);
+    all.finish(bytes)
 }
 
 // The first span of a part whose frame has a wrong digest.

@@ -16,7 +16,7 @@ struct Framed {
 /// Appends the frame of a body of `len` bytes, all of them `byte`.
 fn append(alloc: Global, framed: &mut Framed, len: usize, byte: u8) -> Result<(), Fail> {
     let body = Vec::from_elem(alloc, byte, len)?;
-    if body.is_empty() || 1_000_000 < body.len() {
+    if body.is_empty() || 2_000_000 < body.len() {
         return Ok(());
     }
     let from = framed.log.len().saturating_sub(32);
@@ -168,6 +168,19 @@ fn wrong_digests_at_the_ends_of_pieces(rt: HostRuntime) -> Result<(), Fail> {
         let right = right_before(&rt, &log, grain)?;
         assert!(rt; right == Some(place), "{place} at {grain}");
         flip(&mut log, end);
+    }
+    Ok(())
+}
+
+#[test]
+fn long_frames_among_short_ones(rt: HostRuntime) -> Result<(), Fail> {
+    // The lanes take a body of 16 KiB before shorter ones, and one of 1 MiB is checked alone.
+    let lens = [
+        20, 16_383, 16_384, 30, 1_048_575, 1_048_576, 40, 60_000, 1_100_000, 1_100_000, 20,
+    ];
+    for grain in [1, 4, 1000] {
+        let found = finds_each(&rt, &lens, grain)?;
+        assert!(rt; found, "{grain}");
     }
     Ok(())
 }
