@@ -1,6 +1,5 @@
 -- What is done to the notes of a queue.
 use Rattle.std.proofs.Common.{◌≡◌, ◌≢◌, ℕ, ◌<◌, ◌==◌, Bool, true, false, cond, not, ◌&&◌, ◌||◌, if◌then◌else◌, List, [], ◌∷◌, ◌++◌, Option, Some, None, map, refl, sym, ap, ◌∙◌, subst, arith, append_assoc}
-use Rattle.std.specs.Prelude.{MatchOption}
 use Rattle.std.specs.Cmp.{IsTotalOrder}
 use Rattle.std.specs.List.{filter, list_any, AllByRecursion}
 use Rattle.std.specs.Global.{Vec}
@@ -22,7 +21,7 @@ use Rattle.rq_model.proofs.Lists.{by_cases, each_weaker, each_of, each_both, eac
 use Rattle.rq_model.proofs.Merged.{ordered_append, ordered_filter}
 use Rattle.rq_state.proofs.InOrder.{ordered_weaker, ordered_map}
 use Rattle.rq_state.specs.Orders.{place_before}
-use Rattle.rq_queue.specs.Noted.{by_place, Apart, Rises, Line, AreByPlace, has_place, list_of, filed, is_own, has_own, left, Among}
+use Rattle.rq_queue.specs.Noted.{by_place, Apart, Rises, Line, AreByPlace, has_place, list_of, filed, is_own, has_own, left, Among, Drawn}
 use Rattle.rq_queue.specs.declared.whose.Whose.{Whose}
 use Rattle.rq_queue.proofs.NotesInOrder.{put_in_any_order, each_back, each_front, each_filtered, filter_sorted, sorted_from, apart_from, apart_into}
 use Rattle.rq_queue.proofs.Registered.{number_same}
@@ -171,9 +170,9 @@ not_there : (t : ℕ → Bool) (es : List Line) → lookup t es ≡ None → rem
 not_there t [] h = refl
 not_there t (x ∷ es) h = by_cases (t x.0) (λ b. cond b (Some x.1) (lookup t es) ≡ None → cond b es (x ∷ remove_entry t es) ≡ x ∷ es) (λ _ k. absurd (cc)) (λ _ k. ap (λ (r : List Line). x ∷ r) (not_there t es k)) h
 
-pub drawn_among : (t : ℕ → Bool) (es : List Line) (o : Option Note) → o ≡ lookup t es → MatchOption o (remove_entry t es ≡ es) (λ (n : Note). Among n (values_of es) (values_of (remove_entry t es)))
-drawn_among t es None h = not_there t es (sym h)
-drawn_among t es (Some n) h = taken_out t es n (sym h)
+pub drawn_one : (whose : Whose) (t : ℕ → Bool) (es : List Line) (o : Option Note) → o ≡ lookup t es → has_own whose (lookup t es) ≡ true → Drawn whose o es (remove_entry t es)
+drawn_one whose t es None h own = not_there t es (sym h)
+drawn_one whose t es (Some n) h own = (ap (has_own whose) h ∙ own, taken_out t es n (sym h))
 
 -- One place after another.
 

@@ -3,7 +3,7 @@ use Rattle.std.specs.Prelude.{◌≡◌, ◌≢◌, ◌<◌, ◌==◌, ℕ, Bool
 use Rattle.std.specs.BTreeMap.{is_at}
 use Rattle.std.specs.List.{AllByRecursion, list_any}
 use Rattle.std.specs.Global.{Vec}
-use Rattle.std.specs.Map.{lookup}
+use Rattle.std.specs.Map.{lookup, values_of}
 use Rattle.std.specs.Ordering.{nat_cmp}
 use Rattle.std.specs.declared.cmp.Ordering.{Ordering}
 use Rattle.rq_model.specs.States.{Note, is_note_of}
@@ -71,3 +71,8 @@ pub record Among (n : Note) (whole others : List Note) : Type 0 where
   pub back : List Note
   pub whole_is : whole ≡ front ++ n ∷ back
   pub others_are : others ≡ front ++ back
+
+-- a note of theirs was taken out of the lines, or nothing was
+abbrev pub Drawn : Whose → Option Note → List Line → List Line → Type 0
+Drawn whose None old new = new ≡ old
+Drawn whose (Some n) old new = (is_own whose n ≡ true) × Among n (values_of old) (values_of new)

@@ -1,11 +1,11 @@
 //! Notes that are taken out of their map, place by place.
 
-ghost use Rattle.std.specs.Prelude.{◌≡◌, ◌∷◌, ◌++◌, [], true, IfOk, IfErr, MatchOption};
+ghost use Rattle.std.specs.Prelude.{◌≡◌, ◌∷◌, ◌++◌, [], true, IfOk, IfErr};
 ghost use Rattle.std.specs.BTreeMap.{is_at};
 ghost use Rattle.std.specs.List.{AllByRecursion};
 ghost use Rattle.std.specs.Map.{lookup, values_of};
 ghost use Rattle.std.specs.Ordering.{nat_cmp};
-ghost use Rattle.rq_queue.specs.Noted.{by_place, is_own, has_own, left, AreByPlace, Apart, Among, Rises};
+ghost use Rattle.rq_queue.specs.Noted.{by_place, is_own, has_own, left, AreByPlace, Apart, Drawn, Rises};
 ghost use Rattle.rq_record.specs.declared.fault.Fault.TheVariants.{Resources};
 
 use crate::whose::Whose;
@@ -28,8 +28,7 @@ fn stands(all: &BTreeMap<u64, Note>, place: u64, whose: &Whose) -> bool
 fn draw(all: &mut BTreeMap<u64, Note>, place: u64, whose: &Whose) -> Option<Note>
     requires { AreByPlace all.old.entries }
     ensures left { all.new.entries ≡ left whose.now (place ∷ []) all.old.entries }
-    ensures own { MatchOption result (all.new.entries ≡ all.old.entries) (λ n. is_own whose.now n ≡ true) }
-    ensures among { MatchOption result (all.new.entries ≡ all.old.entries) (λ n. Among n (values_of all.old.entries) (values_of all.new.entries)) }
+    ensures drawn { Drawn whose.now result all.old.entries all.new.entries }
 {
     if !stands(all, place, whose) {
         return None;

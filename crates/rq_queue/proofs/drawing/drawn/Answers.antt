@@ -28,7 +28,7 @@ loop-place-preserved-in_default c =
     let new = c.draw.new.all.entries in
     let drawn = c.loop-place.drawn.items in
     let here : i < length places = omega (arith, c.loop-place-test.true) in
-    let same : new ≡ es = c.in_default.ensures.own in
+    let same : new ≡ es = c.in_default.ensures.drawn in
     record {
       in_order = left_by_place whose (get_or places i 0) es new c.draw.ensures.left c.loop-place.invariant.in_order;
       rest = ap (left whose (drop (i + 1) places)) c.draw.ensures.left ∙ (left_more whose (get_or places i 0) (drop (i + 1) places) es ∙ (ap (λ (ps : List ℕ). left whose ps es) (sym (drop_more places i 0 here)) ∙ c.loop-place.invariant.rest));
@@ -50,9 +50,9 @@ loop-place-preserved c =
     record {
       in_order = left_by_place whose (get_or places i 0) es new c.draw.ensures.left c.loop-place.invariant.in_order;
       rest = ap (left whose (drop (i + 1) places)) c.draw.ensures.left ∙ (left_more whose (get_or places i 0) (drop (i + 1) places) es ∙ (ap (λ (ps : List ℕ). left whose ps es) (sym (drop_more places i 0 here)) ∙ c.loop-place.invariant.rest));
-      own = subst (AllByRecursion (λ (m : Note). is_own whose m ≡ true)) (sym c.in_ok-push.ensures.items) (each_append (λ (m : Note). is_own whose m ≡ true) drawn (n ∷ []) c.loop-place.invariant.own (c.in-Some.ensures.own, tt));
-      apart = subst (λ (ns : List Note). Apart (ns ++ values_of new)) (sym c.in_ok-push.ensures.items) (drawn_apart n drawn (values_of es) (values_of new) c.in-Some.ensures.among c.loop-place.invariant.apart);
-      together = ap (λ (ns : List Note). by_place (ns ++ values_of new)) c.in_ok-push.ensures.items ∙ (drawn_together n drawn (values_of es) (values_of new) c.in-Some.ensures.among c.loop-place.invariant.apart ∙ c.loop-place.invariant.together);
+      own = subst (AllByRecursion (λ (m : Note). is_own whose m ≡ true)) (sym c.in_ok-push.ensures.items) (each_append (λ (m : Note). is_own whose m ≡ true) drawn (n ∷ []) c.loop-place.invariant.own (c.in-Some.ensures.drawn.0, tt));
+      apart = subst (λ (ns : List Note). Apart (ns ++ values_of new)) (sym c.in_ok-push.ensures.items) (drawn_apart n drawn (values_of es) (values_of new) c.in-Some.ensures.drawn.1 c.loop-place.invariant.apart);
+      together = ap (λ (ns : List Note). by_place (ns ++ values_of new)) c.in_ok-push.ensures.items ∙ (drawn_together n drawn (values_of es) (values_of new) c.in-Some.ensures.drawn.1 c.loop-place.invariant.apart ∙ c.loop-place.invariant.together);
     }
 
 pub returns-clause-left : goal.returns-clause-left
