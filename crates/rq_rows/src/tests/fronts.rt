@@ -16,7 +16,6 @@ const INSIDE_A_UNIT: &str =
 
 /// Where the checkpoint's frame begins, and where the bytes stand that it has behind its kind.
 const FRAME: usize = 447;
-
 const SPELLED: usize = 452;
 
 /// How the audit of the bytes is refused, if it is.
@@ -83,21 +82,14 @@ fn a_checkpoint_with_any_byte_changed_is_false(rt: HostRuntime) -> Result<(), Fa
     let command = Command::Audit { log: "log", plan };
     let told = lines(rt.alloc(), &["checkpoint 447 true"])?;
     let false_one = lines(rt.alloc(), &["checkpoint 447 false"])?;
-    assert_eq!(rt;
-        answer(&rt, &command, &behind_eight(&rt, INSIDE_A_UNIT)?)?,
-        told
-    );
+    assert_eq!(rt; answer(&rt, &command, &behind_eight(&rt, INSIDE_A_UNIT)?)?, told);
     let hex = INSIDE_A_UNIT.as_bytes();
     for place in (15..405).step_by(6) {
         let mut line = Vec::new(rt.alloc());
         line.extend_from_slice(hex)?;
         line[place] = if line[place] == b'0' { b'1' } else { b'0' };
         let line = str::from_utf8(&line).map_err(|_| "line")?;
-        assert_eq!(rt;
-            answer(&rt, &command, &behind_eight(&rt, line)?)?,
-            false_one,
-            "digit {place}"
-        );
+        assert_eq!(rt; answer(&rt, &command, &behind_eight(&rt, line)?)?, false_one, "digit {place}");
     }
     Ok(())
 }
