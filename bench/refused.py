@@ -80,7 +80,7 @@ class Sweep:
         memory = self.counted(words, ample, step, False)
         threads = self.counted(words, ample, 1, True)
         wrong = memory.wrong + threads.wrong
-        which = "each" if step == 1 else f"each {step}th"
+        which = "each" if step == 1 else f"1 in {step}"
         print(f"| {name} | {which} | {memory.refused} | {memory.same} | {memory.resources} "
               f"| {threads.refused} | {threads.same} | {threads.resources} | {wrong} |", flush=True)
         return wrong

@@ -8,10 +8,9 @@ use rq_queue::Part;
 use rq_record::{CheckBytes, Name, QueueNo, Record, UnitNo, decode};
 use rq_restart::{Why, audit, front_state, restart_at};
 use rq_state::{Fields, State};
-use rq_tool::{Fault, OverRead, Plan, make_log};
+use rq_tool::{Fault, Open, Plan};
 use rq_writer::{decimal_number, make};
 use std::alloc::Global;
-use std::io::Cursor;
 use std::test::Fail;
 use std::thread::Threads;
 
@@ -126,7 +125,7 @@ fn an_analysis_has_counts_and_open_units(rt: HostRuntime) -> Result<(), Fail> {
 fn a_restart_from_a_checkpoint_has_the_numbers_of_the_log(rt: HostRuntime) -> Result<(), Fail> {
     let log = log_of(&rt, &CHECKPOINT[..9])?;
     let plan = Plan::new(1, 1).ok_or("plan")?;
-    let restarted = restart_at(&rt, rt.alloc(), &log, 447, &plan, &rq_tool::Open)?;
+    let restarted = restart_at(&rt, rt.alloc(), &log, 447, &plan, &Open)?;
     let places = [restarted.records(), restarted.used(), restarted.total()];
     assert_eq!(rt; places, [9, 679, 679]);
     let units = [
@@ -148,9 +147,7 @@ fn a_script_is_made_from_bytes_and_from_a_reader(rt: HostRuntime) -> Result<(), 
     let plan = Plan::new(1, 1).ok_or("plan")?;
     let log = make(&rt, rt.alloc(), &script, &plan)?;
     assert_eq!(rt; log.len(), 724);
-    let mut input = OverRead::new(Cursor::new(script.as_slice()));
-    let same = make_log(&rt, rt.alloc(), &mut input)?;
-    assert!(rt; same == log);
+    assert!(rt; log_of(&rt, &CHECKPOINT)? == log);
     Ok(())
 }
 

@@ -1,6 +1,6 @@
 //! What appends to a vector: all of it, or the vector is as before.
 
-use super::sweeping::{Call, sweep};
+use super::sweeping::{Call, is_right};
 use rq_front::{frame, header};
 use rq_record::{Payload, QueueNo, Record, UnitNo, encode};
 use rq_tool::Fault;
@@ -10,7 +10,7 @@ use std::thread::Threads;
 
 /// What is appended.
 #[derive(Drop)]
-enum What {
+pub enum What {
     Header,
     Frame,
     Body,
@@ -21,7 +21,7 @@ const BEFORE: [u8; 3] = *b"RQL";
 
 /// What is appended to a vector that is full, and what it has then with ample memory.
 #[derive(Drop)]
-struct Appending {
+pub struct Appending {
     what: What,
     record: Record,
     body: [u8; 600],
@@ -30,30 +30,24 @@ struct Appending {
 }
 
 impl Appending {
-    fn append(&mut self) -> Result<(), Fault> {
+    pub fn call(&mut self) -> Result<(), Fault> {
         match self.what {
             What::Header => header(&mut self.out),
             What::Frame => frame(&[7; 32], &self.body, &mut self.out),
             What::Body => encode(&self.record, &mut self.out),
         }
     }
-}
 
-impl Call for Appending {
-    fn prepare(&mut self, alloc: Global) -> Result<(), Fail> {
+    pub fn prepare(&mut self, alloc: Global) -> Result<(), Fail> {
         self.out = Vec::from_slice(alloc, &BEFORE)?;
         Ok(())
     }
 
-    fn call<R: Threads + Sync + AllocGlobal>(&mut self, _rt: &R) -> Result<(), Fault> {
-        self.append()
+    pub fn is_whole(&self) -> bool {
+        self.out == self.want
     }
 
-    fn is_whole(&self, _alloc: Global) -> Result<bool, Fail> {
-        Ok(self.out == self.want)
-    }
-
-    fn is_untouched(&self) -> bool {
+    pub fn is_untouched(&self) -> bool {
         self.out.as_slice() == BEFORE.as_slice()
     }
 }
@@ -79,11 +73,11 @@ fn appends<R: Threads + Sync + AllocGlobal>(
         out: Vec::from_slice(alloc, &BEFORE)?,
         want: Vec::new(alloc),
     };
-    appending.append()?;
+    appending.call()?;
     let want = Vec::from_slice(alloc, &appending.out)?;
     let more = want.len().saturating_sub(BEFORE.len());
     appending.want = want;
-    Ok(more == bytes && sweep(rt, &mut appending)?.is_right())
+    Ok(more == bytes && is_right(rt, Call::Append(appending))?)
 }
 
 #[test]

@@ -1,6 +1,6 @@
 //! The commands: a report, a log or an audit is whole, or nothing is written.
 
-use super::sweeping::{Call, sweep};
+use super::sweeping::{Call, is_right};
 use super::{ARRIVAL, CHECKPOINT, MAKE, answer, lines, log_of};
 use rq_tool::{Command, Fault, Plan};
 use std::alloc::Global;
@@ -10,31 +10,31 @@ use std::thread::Threads;
 
 /// A command, the bytes that it reads, what it writes with ample memory, and what it wrote.
 #[derive(Drop)]
-struct Acting<'a> {
+pub struct Acting<'a> {
     command: Command<'a>,
     bytes: Vec<u8>,
     want: Vec<u8>,
     written: Vec<u8>,
 }
 
-impl Call for Acting<'_> {
-    fn prepare(&mut self, alloc: Global) -> Result<(), Fail> {
+impl Acting<'_> {
+    pub fn prepare(&mut self, alloc: Global) -> Result<(), Fail> {
         self.written = Vec::with_capacity(alloc, self.want.len())?;
         Ok(())
     }
 
-    fn call<R: Threads + Sync + AllocGlobal>(&mut self, rt: &R) -> Result<(), Fault> {
+    pub fn call<R: Threads + Sync + AllocGlobal>(&mut self, rt: &R) -> Result<(), Fault> {
         let room = mem::replace(&mut self.written, Vec::new(rt.alloc()));
         let (done, written) = answer(rt, &self.command, &self.bytes, room);
         self.written = written;
         done
     }
 
-    fn is_whole(&self, _alloc: Global) -> Result<bool, Fail> {
-        Ok(self.written == self.want)
+    pub fn is_whole(&self) -> bool {
+        self.written == self.want
     }
 
-    fn is_untouched(&self) -> bool {
+    pub fn is_untouched(&self) -> bool {
         self.written.is_empty()
     }
 }
@@ -47,13 +47,13 @@ fn acts<R: Threads + Sync + AllocGlobal>(
     want: Vec<u8>,
 ) -> Result<bool, Fail> {
     let written = Vec::new(rt.alloc());
-    let mut acting = Acting {
+    let acting = Acting {
         command,
         bytes,
         want,
         written,
     };
-    Ok(sweep(rt, &mut acting)?.is_right())
+    is_right(rt, Call::Act(acting))
 }
 
 const ARRIVAL_REPORT: [&str; 5] = [

@@ -2,33 +2,31 @@
 ghost use Rattle.std.specs.Prelude.{◌≡◌};
 
 use super::host::Scarce;
-use super::sweeping::{Call, sweep};
+use super::sweeping::{Call, is_right};
 use rq_pool::{Arrival, Countdown, Fits, Room};
 use rq_tool::Fault;
 use std::alloc::Global;
 use std::test::Fail;
-use std::thread::Threads;
 
 /// How many numbers each of two seats took, and how many were left.
-type Counts = (usize, usize, usize);
+pub type Counts = (usize, usize, usize);
 
 /// The last seen of a room of `[[0, 1], [2]]`.
 #[derive(Drop)]
-struct Opening {
+pub struct Opening {
     seen: Option<Counts>,
 }
 
-impl Call for Opening {
-    fn prepare(&mut self, _alloc: Global) -> Result<(), Fail> {
+impl Opening {
+    pub fn prepare(&mut self) {
         self.seen = None;
-        Ok(())
     }
 
-    fn call<R: Threads + Sync + AllocGlobal>(&mut self, rt: &R) -> Result<(), Fault> {
-        let mut lists = Vec::new(rt.alloc());
-        lists.push([0u32, 1].to_vec(rt.alloc())?)?;
-        lists.push([2u32].to_vec(rt.alloc())?)?;
-        let (room, mut seats) = Room::open(rt.alloc(), lists)?;
+    pub fn call(&mut self, alloc: Global) -> Result<(), Fault> {
+        let mut lists = Vec::new(alloc);
+        lists.push([0u32, 1].to_vec(alloc)?)?;
+        lists.push([2u32].to_vec(alloc)?)?;
+        let (room, mut seats) = Room::open(alloc, lists)?;
         let _ = seats[1].take(&room);
         let left = room.close(seats);
         if left.seats() == 2 {
@@ -37,19 +35,18 @@ impl Call for Opening {
         Ok(())
     }
 
-    fn is_whole(&self, _alloc: Global) -> Result<bool, Fail> {
-        Ok(self.seen == Some((0, 1, 2)))
+    pub fn is_whole(&self) -> bool {
+        self.seen == Some((0, 1, 2))
     }
 
-    fn is_untouched(&self) -> bool {
+    pub fn is_untouched(&self) -> bool {
         self.seen.is_none()
     }
 }
 
 #[test]
 fn a_room_is_opened_or_refused(rt: HostRuntime) -> Result<(), Fail> {
-    let mut opening = Opening { seen: None };
-    assert!(rt; sweep(&rt, &mut opening)?.is_right());
+    assert!(rt; is_right(&rt, Call::Open(Opening { seen: None }))?);
     Ok(())
 }
 
@@ -67,18 +64,17 @@ impl Fits for Parcel {
 
 /// How many arrivals of two a countdown counted, and whether the second was told that it is the last.
 #[derive(Drop)]
-struct Arriving {
+pub struct Arriving {
     seen: Option<(u32, bool)>,
 }
 
-impl Call for Arriving {
-    fn prepare(&mut self, _alloc: Global) -> Result<(), Fail> {
+impl Arriving {
+    pub fn prepare(&mut self) {
         self.seen = None;
-        Ok(())
     }
 
-    fn call<R: Threads + Sync + AllocGlobal>(&mut self, rt: &R) -> Result<(), Fault> {
-        let (countdown, mut passes) = Countdown::<Parcel>::open(rt.alloc(), (), 2, 2)?;
+    pub fn call(&mut self, alloc: Global) -> Result<(), Fault> {
+        let (countdown, mut passes) = Countdown::<Parcel>::open(alloc, (), 2, 2)?;
         let _ = countdown.arrive(&mut passes[1], 1, Parcel { number: 1 });
         let second = countdown.arrive(&mut passes[0], 0, Parcel { number: 0 });
         let is_last = matches!(&second, Arrival::Last(parcels) if parcels.len() == 2);
@@ -87,19 +83,18 @@ impl Call for Arriving {
         Ok(())
     }
 
-    fn is_whole(&self, _alloc: Global) -> Result<bool, Fail> {
-        Ok(self.seen == Some((2, true)))
+    pub fn is_whole(&self) -> bool {
+        self.seen == Some((2, true))
     }
 
-    fn is_untouched(&self) -> bool {
+    pub fn is_untouched(&self) -> bool {
         self.seen.is_none()
     }
 }
 
 #[test]
 fn a_countdown_is_opened_or_refused(rt: HostRuntime) -> Result<(), Fail> {
-    let mut arriving = Arriving { seen: None };
-    assert!(rt; sweep(&rt, &mut arriving)?.is_right());
+    assert!(rt; is_right(&rt, Call::Arrive(Arriving { seen: None }))?);
     Ok(())
 }
 
