@@ -120,7 +120,7 @@ def main() -> None:
     missing = [call for call in public if call not in seen]
     for call in missing:
         print(call.title())
-    print(f"{len(public)} public calls, {len(missing)} that no test reaches")
+    print(f"{len(public)} public calls, {len(missing)} that no test {'names' if options.direct else 'reaches'}")
     sys.exit(bool(missing))
 
 
