@@ -1,5 +1,6 @@
 mod analysis;
 mod barrier;
+mod calls;
 mod checkpoints;
 mod countdowns;
 mod damage;
