@@ -55,9 +55,11 @@ fn the_state_after_a_front_has_its_open_units(rt: HostRuntime) -> Result<(), Fai
 fn a_front_of_nothing_has_the_empty_state(rt: HostRuntime) -> Result<(), Fail> {
     let log = log_of(&rt, &[])?;
     let plan = Plan::new(2, 1).ok_or("plan")?;
-    let spelled = spell(rt.alloc(), &front_state(&rt, rt.alloc(), &log, &plan)?)?;
+    let state = front_state(&rt, rt.alloc(), &log, &plan)?;
+    assert_eq!(rt; state.next(), 0);
+    let spelled = spell(rt.alloc(), &state)?;
     assert!(rt; spelled.as_slice() == [0u8; 52].as_slice());
-    let short = front_state(&rt, rt.alloc(), &log[..39], &plan);
+    let short = front_state(&rt, rt.alloc(), log.get(..39).ok_or("log")?, &plan);
     assert_eq!(rt; short.err(), Some(Fault::NotALog));
     Ok(())
 }
@@ -66,8 +68,9 @@ fn a_front_of_nothing_has_the_empty_state(rt: HostRuntime) -> Result<(), Fail> {
 fn what_is_no_log_has_no_audit(rt: HostRuntime) -> Result<(), Fail> {
     let log = log_of(&rt, &ONE_ELEMENT)?;
     assert_eq!(rt; audit_refusal(&rt, &[])?, Some(Fault::NotALog));
-    assert_eq!(rt; audit_refusal(&rt, &log[..39])?, Some(Fault::NotALog));
-    assert_eq!(rt; audit_refusal(&rt, &log[..40])?, None);
+    let (short, empty) = (log.get(..39).ok_or("log")?, log.get(..40).ok_or("log")?);
+    assert_eq!(rt; audit_refusal(&rt, short)?, Some(Fault::NotALog));
+    assert_eq!(rt; audit_refusal(&rt, empty)?, None);
     let mut other = *b"RQLOG\0\0\x01";
     other[7] = 3;
     let mut version = vec![in rt.alloc(); 0u8; 40]?;

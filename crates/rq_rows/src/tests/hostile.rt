@@ -67,7 +67,7 @@ fn every_beginning_has_the_front_of_its_whole_frames(rt: HostRuntime) -> Result<
     for length in 0..745 {
         let bytes = log.get(..length).ok_or("beginning")?;
         if length < 40 {
-            none += 1;
+            none = none.saturating_add(1);
             assert_eq!(rt;
                 refusal(&rt, bytes)?,
                 Some(Fault::NotALog),
@@ -78,9 +78,9 @@ fn every_beginning_has_the_front_of_its_whole_frames(rt: HostRuntime) -> Result<
         let frames = frames_before(length);
         let is_whole = end_of(frames) == length;
         if is_whole {
-            whole += 1;
+            whole = whole.saturating_add(1);
         } else {
-            cut += 1;
+            cut = cut.saturating_add(1);
         }
         let why = if is_whole { "whole" } else { "cut" };
         for (workers, grain) in [(2, 1000), (1, 1)] {

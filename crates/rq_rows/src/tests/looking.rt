@@ -87,10 +87,15 @@ fn a_dump_says_why_the_front_ends(rt: HostRuntime) -> Result<(), Fail> {
 fn a_check_finds_what_is_wrong(rt: HostRuntime) -> Result<(), Fail> {
     let plan = plan().ok_or("plan")?;
     let fine = log_of(&rt, &["define jobs 0 -", "checkpoint"])?;
-    assert!(rt; check(&rt, rt.alloc(), &fine, &plan).is_ok_and(|found| found.fine && found.text.is_empty()));
+    assert!(rt;
+        check(&rt, rt.alloc(), &fine, &plan).is_ok_and(|found| found.fine && found.text.is_empty())
+    );
     let wrong = log_of(&rt, &["define jobs 0 -", "checkpoint-hex 00"])?;
     let want = "the checkpoint at 87 does not spell the state before it\n";
-    assert!(rt; check(&rt, rt.alloc(), &wrong, &plan).is_ok_and(|found| !found.fine && found.text.as_str() == want));
+    assert!(rt;
+        check(&rt, rt.alloc(), &wrong, &plan).is_ok_and(|found| !found.fine
+            && found.text.as_str() == want)
+    );
     Ok(())
 }
 

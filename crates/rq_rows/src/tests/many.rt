@@ -70,7 +70,7 @@ fn report(alloc: Global) -> Result<String, Fail> {
         write!(text, "queue {d} d{d} limit 0 error -\n")?;
         for priority in (0..7u32).rev() {
             for q in (20..200u32).filter(|q| *q % 20 == d && *q % 7 == priority && *q % 3 != 2) {
-                let id = 201 + 3 * (q - 20);
+                let id = 141 + 3 * q;
                 let payload = payload(alloc, q)?;
                 write!(
                     text,

@@ -121,7 +121,7 @@ fn a_write_that_fails_is_told_and_leaves_a_beginning(rt: HostRuntime) -> Result<
     let plan = Plan::new(2, 1000).ok_or("plan")?;
     let report = answer(&rt, &Command::Restart { log: "log", plan }, &log)?;
     assert!(rt; report.len() < 600, "a short report");
-    let mut whole = 0u64;
+    let mut is_whole_once = false;
     for interrupts in [false, true] {
         for fails_at in 1..210u64 {
             let mut input = OverRead::new(Cursor::new(log.as_slice()));
@@ -133,7 +133,7 @@ fn a_write_that_fails_is_told_and_leaves_a_beginning(rt: HostRuntime) -> Result<
             let done = run(&rt, rt.alloc(), &mut input, &mut output, &plan, &Open);
             let narrow = output.into_inner();
             if done.is_ok() {
-                whole += 1;
+                is_whole_once = true;
                 assert!(rt; narrow.taken == report, "call {fails_at}");
                 assert!(rt; narrow.calls < fails_at, "call {fails_at}");
             } else {
@@ -144,6 +144,6 @@ fn a_write_that_fails_is_told_and_leaves_a_beginning(rt: HostRuntime) -> Result<
             }
         }
     }
-    assert!(rt; 0 < whole, "no run that does not fail");
+    assert!(rt; is_whole_once, "no run that does not fail");
     Ok(())
 }
