@@ -24,7 +24,7 @@ use Rattle.rq_record.specs.declared.record.Record.TheVariants as own
 use Rattle.rq_record.specs.Views.{record_of}
 use Rattle.rq_restart.specs.declared.auditing.Walk.{Walk}
 use Rattle.rq_restart.specs.declared.tally.Tally.{Tally}
-use Rattle.rq_restart.specs.Worth.{bones, payloads, HangOnUnit, HangOnRegistrant, KeepsAllBut, of_unit, of_registrant, IsTallied, IsWithin, unit_after, named_after, registrant_after, lost_by, Counts}
+use Rattle.rq_restart.specs.Worth.{member_bytes, payload_bytes, HangOnUnit, HangOnRegistrant, KeepsAllBut, of_unit, of_registrant, IsTallied, IsWithin, unit_after, named_after, registrant_after, lost_by, Counts}
 use Rattle.rq_restart.specs.Audits.{IsWalk, Passes, audits, audited_of, least}
 use Rattle.rq_restart.proofs.Worth.{tallied, lost, both_lost, not_not, too_short}
 use Rattle.rq_restart.proofs.Walks.{other_number}
@@ -136,7 +136,7 @@ passed all i r w v lt few is fit walk p found =
     record {
       within = omega (arith, walk.within, from);
       state = state ∙ walk.state ∙ ap (λ (n : ℕ). run empty (take n rs)) (sym from);
-      carried = ap (λ (x : Walk). x.payloads) p.others ∙ walk.carried ∙ ap payloads (sym state);
+      carried = ap (λ (x : Walk). x.payload_bytes) p.others ∙ walk.carried ∙ ap payload_bytes (sym state);
       tally = subst (λ (t : State). IsTallied t v.tally) (sym more) (tallied s w.tally v.tally r fit.rise p.tally walk.tally);
       counts = within_next w.tally v.tally i r p.tally walk.counts;
       few = omega (arith, p.lost, walk.few, lost_within w.tally i r walk.counts, lt, few);

@@ -24,7 +24,7 @@ use Rattle.rq_record.specs.declared.record.Record.{Record as Own}
 use Rattle.rq_record.specs.declared.record.Record.TheVariants as own
 use Rattle.rq_record.specs.Views.{record_of}
 use Rattle.rq_restart.specs.declared.tally.Tally.{Tally}
-use Rattle.rq_restart.specs.Worth.{bones, payloads, HangOnUnit, HangOnRegistrant, KeepsAllBut, of_unit, of_registrant, IsTallied, unit_after, named_after, registrant_after, lost_by, Counts}
+use Rattle.rq_restart.specs.Worth.{member_bytes, payload_bytes, HangOnUnit, HangOnRegistrant, KeepsAllBut, of_unit, of_registrant, IsTallied, unit_after, named_after, registrant_after, lost_by, Counts}
 
 -- Lists: how many pass a test.
 
@@ -495,7 +495,7 @@ elements_long : (es : List Element) → 28 * length es + length (flat_map (λ e.
 elements_long [] = omega arith
 elements_long (e ∷ es) = omega (arith, elements_long es, element_long e, length-append (element_bytes e) (flat_map element_bytes es), length-append e.payload (flat_map (λ (x : Element). x.payload) es), mul-suc 28 (length es))
 
-pub state_long : (s : State) → bones s + payloads s ≤ length (state_bytes s)
+pub state_long : (s : State) → member_bytes s + payload_bytes s ≤ length (state_bytes s)
 state_long s =
     let notes = counted note_bytes s.notes in
     let elements = counted element_bytes s.elements in
@@ -519,7 +519,7 @@ state_long s =
     )
 
 -- what is shorter is not the spelling
-pub too_short : (s : State) (kept : List ℕ) → length kept < bones s + payloads s → false ≡ bytes_eq kept (state_bytes s)
+pub too_short : (s : State) (kept : List ℕ) → length kept < member_bytes s + payload_bytes s → false ≡ bytes_eq kept (state_bytes s)
 too_short s kept short = by_cases (bytes_eq kept (state_bytes s)) (λ b. false ≡ b)
     (λ e. absurd (omega (arith, ap length ((bytes_eq-Decides kept (state_bytes s)).0 e), state_long s, short)))
     (λ _. refl)

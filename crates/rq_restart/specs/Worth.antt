@@ -11,12 +11,12 @@ use Rattle.rq_record.specs.declared.record.Record.TheVariants.{Define, Register,
 use Rattle.rq_restart.specs.declared.tally.Tally.{Tally}
 
 -- the bytes of a state's members, each in its shortest form
-abbrev pub bones : State → ℕ
-bones s = 7 * length s.definitions + 8 * length s.units + 6 * length s.registrants + 28 * length s.elements + 38 * length s.notes
+abbrev pub member_bytes : State → ℕ
+member_bytes s = 7 * length s.definitions + 8 * length s.units + 6 * length s.registrants + 28 * length s.elements + 38 * length s.notes
 
--- and those of the payloads
-abbrev pub payloads : State → ℕ
-payloads s = length (flat_map (λ e. e.payload) s.elements)
+-- and those of its payloads
+abbrev pub payload_bytes : State → ℕ
+payload_bytes s = length (flat_map (λ e. e.payload) s.elements)
 
 -- of each list at most n members are the unit's
 pub record HangOnUnit (s : State) (unit n : ℕ) : Type 0 where
@@ -31,8 +31,8 @@ pub record HangOnRegistrant (s : State) (key : ℕ × List ℕ) (n : ℕ) : Type
 
 -- t has what s has, but for at most n members of each list: a unit, an element with its payload and a note for each
 pub record KeepsAllBut (n : ℕ) (s t : State) : Type 0 where
-  pub members : bones s ≤ bones t + 74 * n
-  pub bytes : payloads s ≤ payloads t + 65535 * n
+  pub members : member_bytes s ≤ member_bytes t + 74 * n
+  pub bytes : payload_bytes s ≤ payload_bytes t + 65535 * n
 
 -- What a tally has.
 

@@ -17,7 +17,7 @@ ghost use Rattle.rq_record.specs.Views.{record_of};
 ghost use Rattle.rq_record.specs.declared.fault.Fault.TheVariants.{Resources};
 ghost use Rattle.rq_restart.specs.Audits.{Audits, IsWalk, Passes, StandAt, audited_of, least};
 ghost use Rattle.rq_restart.specs.Ends.{IsChain};
-ghost use Rattle.rq_restart.specs.Worth.{IsWithin, bones, lost_by};
+ghost use Rattle.rq_restart.specs.Worth.{IsWithin, member_bytes, lost_by};
 
 use crate::front::front_of;
 use crate::grain::{grain_of, plan_for};
@@ -61,7 +61,7 @@ fn begins_with(kept: &[u8], next: u64) -> bool
 #[derive(Drop)]
 struct Walk {
     state: State,
-    payloads: u128,
+    payload_bytes: u128,
     from: usize,
     tally: Tally,
     lost: u64,
@@ -77,7 +77,7 @@ impl Walk {
         let found = Vec::new(alloc);
         Walk {
             state: State::empty(alloc),
-            payloads: 0,
+            payload_bytes: 0,
             from: 0,
             tally,
             lost: 0,
@@ -87,7 +87,7 @@ impl Walk {
 }
 
 // The bytes of the payloads of all these elements.
-fn payloads_of(elements: &[Element]) -> u128
+fn payload_bytes_of(elements: &[Element]) -> u128
     ensures { result ≡ length (flat_map (λ (e : states.Element). e.payload) elements.now) }
 {
     let mut sum = 0;
@@ -98,8 +98,8 @@ fn payloads_of(elements: &[Element]) -> u128
 }
 
 // The bytes of a state's members, each in its shortest form.
-fn bones_of(state: &State) -> u128
-    ensures { result ≡ bones state.now }
+fn member_bytes_of(state: &State) -> u128
+    ensures { result ≡ member_bytes state.now }
 {
     7 * state.definition_count() as u128
         + 8 * state.unit_count() as u128
@@ -114,8 +114,8 @@ fn is_too_short(walk: &Walk, len: usize) -> bool
 {
     let len = len as u128;
     let lost = walk.lost as u128;
-    let members = bones_of(&walk.state).saturating_sub(74 * lost);
-    len < members || len - members < walk.payloads.saturating_sub(65535 * lost)
+    let members = member_bytes_of(&walk.state).saturating_sub(74 * lost);
+    len < members || len - members < walk.payload_bytes.saturating_sub(65535 * lost)
 }
 
 // Whether the bytes may spell the state before the next record: they begin with its number, and are enough.
@@ -136,7 +136,7 @@ fn pass(walk: Walk, rec: &Record) -> Result<Walk, Fault>
     let lost = tally.take(rec)?;
     Ok(Walk {
         state: walk.state,
-        payloads: walk.payloads,
+        payload_bytes: walk.payload_bytes,
         from: walk.from,
         tally,
         lost: walk.lost + lost,
@@ -189,7 +189,7 @@ fn visit<R: Threads + Sync>(
     let mut found = walk.found;
     found.push((offset, truth))?;
     Ok(Walk {
-        payloads: payloads_of(state.elements()),
+        payload_bytes: payload_bytes_of(state.elements()),
         state,
         from: place,
         tally: walk.tally,

@@ -9,6 +9,7 @@ use Rattle.rq_record.specs.declared.fault.Fault.TheVariants as faults
 use Rattle.rq_report.specs.Streams.{Delivers}
 use Rattle.rq_restart.specs.Tails.{Closes}
 use Rattle.rq_tool.specs.Closings.{IsBeforeClosing, IsClosedLog, IsTooLargeToClose, ClosesLog, ClosesOnly, ClosesRead}
+use Rattle.rq_tool.specs.Headline.{IsBeforeWriting, RestartsRead}
 use Rattle.rq_tool.proofs.Told.{IsSame, refused_read}
 
 abbrev Found : Type 0
@@ -56,6 +57,31 @@ closed_fault bytes (Err faults.NoCheckpoint) h = absurd h
 closed_fault bytes (Err (faults.Script n)) h = absurd h
 closed_fault bytes (Err faults.ReadFailed) h = absurd h
 closed_fault bytes (Err faults.WriteFailed) h = absurd h
+
+-- what is refused before it is read is refused to be closed
+pub refused_first : (b : List ℕ) (e : Fault) → RestartsRead b (Err e) → ClosesRead b (Err e)
+refused_first b faults.TooLarge h = absurd h
+refused_first b faults.TooLong h = h
+refused_first b faults.NotALog h = h
+refused_first b faults.Resources h = h
+refused_first b faults.ReadFailed h = h
+refused_first b faults.Form h = h
+refused_first b faults.BadCheckpoint h = h
+refused_first b faults.NoCheckpoint h = h
+refused_first b (faults.Script n) h = h
+refused_first b faults.WriteFailed h = h
+
+pub refused_early : (e : Fault) → IsBeforeWriting e → IsBeforeClosing e
+refused_early faults.TooLarge h = tt
+refused_early faults.TooLong h = h
+refused_early faults.NotALog h = h
+refused_early faults.Resources h = h
+refused_early faults.ReadFailed h = h
+refused_early faults.Form h = h
+refused_early faults.BadCheckpoint h = h
+refused_early faults.NoCheckpoint h = h
+refused_early (faults.Script n) h = h
+refused_early faults.WriteFailed h = h
 
 -- what is written of a closed log is written of its bytes
 pub written_closed : (b log : List ℕ) (before after : ℕ) (old new : Option (List ℕ)) (result : Result (Unit {0}) Fault) → IsClosedLog b log → Delivers before after old new log result → ClosesLog b old new result

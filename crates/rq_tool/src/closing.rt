@@ -4,7 +4,7 @@ ghost use Rattle.std.specs.Prelude.{◌≡◌, ℕ, ◌<◌, List, Some, IfOk, I
 ghost use Rattle.rq_tool.specs.Closings.{IsBeforeClosing, IsClosedLog, ClosesLog, ClosesOnly, ClosesRead};
 ghost use Rattle.rq_tool.specs.Streams.{ReadFaults, Takes, WriteFaults};
 
-use crate::input::{are_bytes, read_all};
+use crate::input::{are_bytes, read_log};
 use rq_report::{Input, Output, write_all};
 use rq_restart::{Fault, Plan, closed};
 use std::alloc::Global;
@@ -24,7 +24,7 @@ where
     ensures faults { ReadFaults (I.faults input.old) (I.faults input.new) result }
 {
     rq_model::closed_logs();
-    let bytes = read_all(alloc, input)?;
+    let bytes = read_log(alloc, input)?;
     are_bytes(&bytes);
     closed(rt, alloc, bytes, plan)
 }

@@ -153,15 +153,16 @@ fn the_first_of_two_wrong_digests_is_found(rt: HostRuntime) -> Result<(), Fail> 
 
 #[test]
 fn wrong_digests_at_the_ends_of_pieces(rt: HostRuntime) -> Result<(), Fail> {
-    let lens = Vec::from_elem(rt.alloc(), 100usize, 2100)?;
+    // Frames of 1,036 bytes: 1,013 of them are a piece of 1 MiB, and 4,049 one of 4 MiB, as one thread takes them.
+    let lens = Vec::from_elem(rt.alloc(), 1000usize, 4100)?;
     let Framed { mut log, ends } = log_of_lengths(rt.alloc(), &lens)?;
     for (place, grain) in [
         (0, 1),
-        (1023, 1),
-        (1024, 1_000_000),
-        (1912, 1),
-        (1913, 1),
-        (2099, 1_000_000),
+        (1012, 1),
+        (1013, 1),
+        (4048, 1_000_000),
+        (4049, 1_000_000),
+        (4099, 1),
     ] {
         let end = *ends.get(place).ok_or("frame")?;
         flip(&mut log, end);

@@ -98,7 +98,7 @@ fn a_crash_at_any_byte_of_the_tail_is_harmless(rt: HostRuntime) -> Result<(), Fa
     let plan = Plan::new(2, 1).ok_or("plan")?;
     for length in 443..534 {
         let report = answer(&rt, &Command::Restart { log: "log", plan }, &want[..length])?;
-        assert!(rt; report.ends_with(&queues), "{length} bytes");
+        assert!(rt; report.ends_with(queues.as_slice()), "{length} bytes");
     }
     Ok(())
 }
@@ -129,7 +129,7 @@ fn what_stands_behind_the_front_is_dropped(rt: HostRuntime) -> Result<(), Fail> 
 #[test]
 fn a_log_without_open_units_is_closed(rt: HostRuntime) -> Result<(), Fail> {
     let plan = Plan::new(2, 1000).ok_or("plan")?;
-    for script in [&CHECKPOINT[..], &ONE_ELEMENT[..], &[]] {
+    for script in [&CHECKPOINT[..], &ONE_ELEMENT[..], &ONE_ELEMENT[..0]] {
         let log = log_of(&rt, script)?;
         assert_eq!(rt; tail(&rt, rt.alloc(), &log, &plan)?.len(), 0);
         assert!(rt; close(&rt, &log, 2)? == log, "{} bytes", log.len());
@@ -143,7 +143,7 @@ fn many_units_are_closed_once(rt: HostRuntime) -> Result<(), Fail> {
     let log = many::log(&rt)?;
     let shut = close(&rt, &log, 2)?;
     assert_eq!(rt; shut.len(), 1_242_420);
-    assert!(rt; shut[..1_239_720] == log[..], "the front");
+    assert!(rt; &shut[..1_239_720] == log.as_slice(), "the front");
     let plan = Plan::new(7, 10).ok_or("plan")?;
     let command = Command::Restart { log: "log", plan };
     let (before, after) = (answer(&rt, &command, &log)?, answer(&rt, &command, &shut)?);
@@ -154,9 +154,9 @@ fn many_units_are_closed_once(rt: HostRuntime) -> Result<(), Fail> {
             "units 240 committed, 120 aborted, 0 cut off",
         ],
     )?;
-    assert!(rt; after.starts_with(&first), "first lines");
+    assert!(rt; after.starts_with(first.as_slice()), "first lines");
     let queues = before.len() - after.len() + first.len();
-    assert!(rt; after[first.len()..] == before[queues..], "queue lines");
+    assert!(rt; &after[first.len()..] == &before[queues..], "queue lines");
     assert!(rt; close(&rt, &shut, 2)? == shut, "closed again");
     Ok(())
 }

@@ -11,7 +11,7 @@ use Rattle.rq_record.specs.Views.{record_of}
 use Rattle.rq_front.specs.declared.spans.Span.{Span}
 use Rattle.rq_restart.specs.Audits.{IsWalk, Passes, audited_of, least}
 use Rattle.std.proofs.lemmas.Result.{IfOk-weaker}
-use Rattle.rq_restart.specs.Worth.{KeepsAllBut, payloads}
+use Rattle.rq_restart.specs.Worth.{KeepsAllBut, payload_bytes}
 use Rattle.rq_restart.proofs.Walks.{next_at, lawful_between, run_between, found_past, found_next}
 use Rattle.rq_restart.proofs.Worth.{nothing_lost}
 use Rattle.rq_restart.proofs.Tallies.{IsFit, fit_at, lost_within, loss_kept, passed, tally_kept, no_spelling, within_more}
@@ -99,7 +99,7 @@ returns-clause-walk g c =
     let test : c.in_ok-truth.truth ≡ bytes_eq c.in-Checkpoint.bytes (state_bytes c.in_ok-state.state) =
     c.in_ok-truth.ensures.truth ∙ ap (λ (z : List ℕ). bytes_eq z (state_bytes c.in_ok-state.state)) c.bytes-kept.ensures.bytes in
     let r = c.index-records-place.result in
-    let carried : c.payloads_of.result ≡ payloads c.in_ok-state.state = c.payloads_of.ensures ∙ ap (λ (es : List Element). length (flat_map (λ e. e.payload) es)) c.elements.ensures in
+    let carried : c.payload_bytes_of.result ≡ payload_bytes c.in_ok-state.state = c.payload_bytes_of.ensures ∙ ap (λ (es : List Element). length (flat_map (λ e. e.payload) es)) c.elements.ensures in
     record {
       within = omega arith;
       state = state;
