@@ -2,11 +2,11 @@
 """Restarts and audits logs that try to make them take the square of the log's length, each at n and at 2n records.
 
 usage: hostile.py RQ [--records N] [--runs N] [--workers N] [--limit SECONDS] [--folder DIR] [SHAPE ..]
-RQ is the built program. Each time is the best of the runs, taken in turn with the peer (peer.rs). The bounds: from n to 2n a
-restart and an audit grow at most 2.6 times; a restart takes at most 4 times as long as the peer; an audit at most 3 times as
-long as a restart of the same log; neither holds more than 6 times the log in memory; the report is the peer's. Prints a table
-and each bound that is missed, and exits with 1 if any is. A run that takes longer than the limit is stopped, and counts as
-the limit.
+RQ is the built program. Each time is the best of the runs, taken in turn at both lengths and with the peer (peer.rs). The bounds:
+from n to 2n a restart and an audit grow at most 2.6 times; a restart takes at most 4 times as long as the peer; an audit at most
+3 times as long as a restart of the same log; neither holds more than 6 times the log in memory; the report is the peer's. Prints
+a table and each bound that is missed, and exits with 1 if any is. A run that takes longer than the limit is stopped, and counts
+as the limit.
 """
 from __future__ import annotations
 import hashlib, itertools, os, struct, subprocess, sys, time
@@ -266,7 +266,8 @@ def wide_checkpoints(n: int) -> Records:
     yield from itertools.repeat(checkpoint(b"j"), n)
 
 
-RESTARTED = [open_units, one_unit, units_in_turn, one_registrant, strangers_go, noted_and_gone, last_go_first, retried, all_retried, moved, all_moved, all_queues, spread]
+RESTARTED = [open_units, one_unit, units_in_turn, one_registrant, strangers_go, noted_and_gone, last_go_first]
+RESTARTED += [retried, all_retried, moved, all_moved, all_queues, spread]
 AUDITED = [true_checkpoints, false_checkpoints, junk_checkpoints, empty_checkpoints, counting_checkpoints, one_told, wide_checkpoints]
 SHAPES = {shape.__name__: shape for shape in RESTARTED + AUDITED}
 
@@ -312,20 +313,31 @@ class Tried:
     """A shape at one length: the peer's restart, the program's, and its audit, where the shape is for audits."""
 
     def __init__(self, options, peer: str, name: str, records: int):
-        log = os.path.join(options.folder, f"{name}.{records}")
+        self.log = log = os.path.join(options.folder, f"{name}.{records}")
         write_log(log, SHAPES[name](records))
         self.bytes = os.path.getsize(log)
         workers = str(options.workers)
         self.peer = Timed([peer, "restart", log], options.limit)
         self.restart = Timed([options.program, "restart", log, workers, "1000"], options.limit)
         self.audit = Timed([options.program, "audit", log, workers], options.limit) if SHAPES[name] in AUDITED else None
-        for _ in range(options.runs):
-            for it in filter(None, (self.peer, self.restart, self.audit)):
-                it.run()
-        os.remove(log)
+
+    def run(self):
+        for it in filter(None, (self.peer, self.restart, self.audit)):
+            it.run()
 
     def memory(self) -> float:
         return max(it.memory for it in (self.restart, self.audit) if it) / self.bytes
+
+
+def tried(options, peer: str, name: str) -> tuple[Tried, Tried]:
+    """The shape at n and at 2n, run in turn, so that both meet the same load."""
+    small, large = Tried(options, peer, name, options.records), Tried(options, peer, name, 2 * options.records)
+    for _ in range(options.runs):
+        small.run()
+        large.run()
+    os.remove(small.log)
+    os.remove(large.log)
+    return small, large
 
 
 def missed(name: str, small: Tried, large: Tried) -> list[str]:
@@ -347,6 +359,11 @@ def missed(name: str, small: Tried, large: Tried) -> list[str]:
     return found
 
 
+def cells_of(small: Timed, large: Timed, beside: Timed) -> list[str]:
+    """Both times, how they grow, and how the greater one stands to another's."""
+    return [f"{small.best:.2f}", f"{large.best:.2f}", f"{large.best / small.best:.1f}", f"{large.best / beside.best:.1f}"]
+
+
 def main() -> int:
     words = parser()
     words.add_argument("shapes", nargs="*", default=list(SHAPES))
@@ -361,13 +378,10 @@ def main() -> int:
     print("|---" * 13 + "|")
     told = []
     for name in options.shapes:
-        small, large = (Tried(options, peer, name, records) for records in (options.records, 2 * options.records))
+        small, large = tried(options, peer, name)
         cells = [name, f"{large.bytes / (1 << 20):.1f}", f"{small.peer.best:.2f}", f"{large.peer.best:.2f}"]
-        cells += [f"{small.restart.best:.2f}", f"{large.restart.best:.2f}", f"{large.restart.best / small.restart.best:.1f}", f"{large.restart.best / large.peer.best:.1f}"]
-        if large.audit:
-            cells += [f"{small.audit.best:.2f}", f"{large.audit.best:.2f}", f"{large.audit.best / small.audit.best:.1f}", f"{large.audit.best / large.restart.best:.1f}"]
-        else:
-            cells += ["", "", "", ""]
+        cells += cells_of(small.restart, large.restart, large.peer)
+        cells += cells_of(small.audit, large.audit, large.restart) if large.audit else [""] * 4
         print("| " + " | ".join([*cells, f"{large.memory():.1f}"]) + " |", flush=True)
         told += missed(name, small, large)
     print("\n" + "\n".join(told or ["every bound is kept"]))
