@@ -5,12 +5,16 @@ use std::alloc::{AllocError, Global};
 /// How many bytes a block of the store has: so few that the host does not take it from elsewhere.
 const BLOCK: usize = 100_000;
 
+/// How many of them: what rounds leave behind in pieces must not use them up.
+const BLOCKS: usize = 64;
+
 /// The host's memory, all of it taken but a store of which a round leaves a part.
 #[derive(Drop)]
 pub struct Scarce {
     alloc: Global,
     taken: Vec<Vec<u8>>,
     rest: Vec<Vec<u8>>,
+    last: Vec<Vec<u8>>,
     spare: Vec<Vec<u8>>,
 }
 
@@ -21,9 +25,10 @@ impl Scarce {
             alloc,
             taken: room(alloc)?,
             rest: room(alloc)?,
+            last: room(alloc)?,
             spare: Vec::with_capacity(alloc, 1)?,
         };
-        let mut store = Vec::with_capacity(alloc, 8)?;
+        let mut store = Vec::with_capacity(alloc, BLOCKS)?;
         take_size(alloc, &mut store, BLOCK);
         take_all(alloc, &mut scarce.taken);
         drop(store);
@@ -38,9 +43,12 @@ impl Scarce {
         Ok(())
     }
 
-    /// Gives the store back.
+    /// Gives the store back. Small blocks that the call freed are kept apart by the host for the next ones of their size:
+    /// they are taken again and freed last, so that they join what is free around them, and the store stays in one piece.
     pub fn relieve(&mut self) {
+        take_all(self.alloc, &mut self.last);
         self.rest.clear();
+        self.last.clear();
     }
 }
 

@@ -127,6 +127,6 @@ fn a_countdown_ends_where_no_memory_is_left(rt: HostRuntime) -> Result<(), Fail>
     drop(scarce);
     assert!(rt; matches!(&first, Arrival::NotLast) && matches!(&again, Arrival::Twice(_)));
     assert!(rt; matches!(&second, Arrival::Last(parcels) if parcels.len() == 2));
-    assert!(rt; closing.arrived() == 2 && closing.last() == Some(0) && closing.home().is_empty());
+    assert!(rt; closing.arrived() == 2 && closing.last() == Some(1) && closing.home().is_empty());
     Ok(())
 }
