@@ -10,8 +10,8 @@ mod reading;
 mod restarted;
 mod restarting;
 mod restarting_at;
-mod tally;
 mod tails;
+mod tally;
 
 pub use auditing::audit;
 pub use restarted::{Restarted, Why};
