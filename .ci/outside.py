@@ -197,7 +197,7 @@ def files() -> None:
     check("make into /dev/stdout", run("make", "one.script", "/dev/stdout"), (0, one, b""))
     os.mkfifo("made/pipe")
     taken: list[bytes | None] = []
-    reader = threading.Thread(target=lambda: taken.append(content("made/pipe")))
+    reader = threading.Thread(target=lambda: taken.append(content("made/pipe")), daemon=True)
     reader.start()
     check("make into a pipe", run("make", "one.script", "made/pipe"), DONE)
     reader.join(10)

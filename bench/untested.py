@@ -15,8 +15,8 @@ from typing import NamedTuple
 from common import HERE
 
 CRATES = os.path.join(HERE, "..", "crates")
-# Tests alone, and the program.
-NO_LIBRARIES = {"rq_rows", "rq_scarce", "rq"}
+# Tests alone, and the programs.
+NO_LIBRARIES = {"rq_rows", "rq_scarce", "rq", "rqlook"}
 
 HEAD = re.compile(r"^( *)(pub(?:\([a-z]+\))? )?(?:const )?fn (\w+)", re.M)
 BLOCK = re.compile(r"^impl(?:<[^{]*?>)? (?:[\w:<>, ]+ for )?&?(\w+)", re.M)
