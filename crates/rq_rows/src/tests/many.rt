@@ -69,7 +69,10 @@ fn report(alloc: Global) -> Result<String, Fail> {
     for d in 0..20u32 {
         write!(text, "queue {d} d{d} limit 0 error -\n")?;
         for priority in (0..7u32).rev() {
-            for q in (20..200u32).filter(|q| *q % 20 == d && *q % 7 == priority && *q % 3 != 2) {
+            for q in 20..200u32 {
+                if q % 20 != d || q % 7 != priority || q % 3 == 2 {
+                    continue;
+                }
                 let id = 141 + 3 * q;
                 let payload = payload(alloc, q)?;
                 write!(

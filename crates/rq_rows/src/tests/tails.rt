@@ -32,12 +32,12 @@ fn close<R: Threads + Sync + AllocGlobal>(
 }
 
 /// The log of some lines of a script and others behind them.
-fn log_with<R: Threads + Sync + AllocGlobal>(
+fn log_with<'a, R: Threads + Sync + AllocGlobal>(
     rt: &R,
-    script: &[&str],
-    more: &[&str],
+    script: &[&'a str],
+    more: &[&'a str],
 ) -> Result<Vec<u8>, Fail> {
-    let mut all: Vec<&str> = script.iter().copied().collect(rt.alloc())?;
+    let mut all: Vec<&'a str> = script.iter().copied().collect(rt.alloc())?;
     all.extend_from_slice(more)?;
     log_of(rt, &all)
 }
@@ -66,7 +66,7 @@ fn a_closed_log_aborts_what_is_open(rt: HostRuntime) -> Result<(), Fail> {
     assert!(rt; whole, "closed");
     let short = reports(
         &rt,
-        &want[..504],
+        want.get(..504).ok_or("short")?,
         &[
             "front 8 records, 460 of 504 bytes, cut",
             "units 1 committed, 0 aborted, 1 cut off",
@@ -85,11 +85,12 @@ fn a_crash_at_any_byte_of_the_tail_is_harmless(rt: HostRuntime) -> Result<(), Fa
     let log = log_of(&rt, &NONE_LEFT[..8])?;
     assert_eq!(rt; log.len(), 443);
     let want = log_with(&rt, &NONE_LEFT[..8], &["abort 2", "abort 3"])?;
+    let aborts = want.get(443..).ok_or("tail")?;
     for (workers, grain) in PLANS {
         let plan = Plan::new(workers, grain).ok_or("plan")?;
         let made = tail(&rt, rt.alloc(), &log, &plan)?;
         assert!(rt;
-            made.as_slice() == &want[443..],
+            made.as_slice() == aborts,
             "{workers} workers, grain {grain}"
         );
     }
@@ -97,7 +98,8 @@ fn a_crash_at_any_byte_of_the_tail_is_harmless(rt: HostRuntime) -> Result<(), Fa
     let queues = lines(rt.alloc(), &[JOBS, "e 2 from 0 priority 5 attempts 1 61"])?;
     let plan = Plan::new(2, 1).ok_or("plan")?;
     for length in 443..534 {
-        let report = answer(&rt, &Command::Restart { log: "log", plan }, &want[..length])?;
+        let bytes = want.get(..length).ok_or("beginning")?;
+        let report = answer(&rt, &Command::Restart { log: "log", plan }, bytes)?;
         assert!(rt; report.ends_with(queues.as_slice()), "{length} bytes");
     }
     Ok(())
@@ -143,7 +145,7 @@ fn many_units_are_closed_once(rt: HostRuntime) -> Result<(), Fail> {
     let log = many::log(&rt)?;
     let shut = close(&rt, &log, 2)?;
     assert_eq!(rt; shut.len(), 1_242_420);
-    assert!(rt; &shut[..1_239_720] == log.as_slice(), "the front");
+    assert!(rt; shut.starts_with(log.as_slice()), "the front");
     let plan = Plan::new(7, 10).ok_or("plan")?;
     let command = Command::Restart { log: "log", plan };
     let (before, after) = (answer(&rt, &command, &log)?, answer(&rt, &command, &shut)?);
@@ -155,8 +157,11 @@ fn many_units_are_closed_once(rt: HostRuntime) -> Result<(), Fail> {
         ],
     )?;
     assert!(rt; after.starts_with(first.as_slice()), "first lines");
-    let queues = before.len() - after.len() + first.len();
-    assert!(rt; &after[first.len()..] == &before[queues..], "queue lines");
+    let queues = after.get(first.len()..).ok_or("queue lines")?;
+    assert!(rt;
+        queues.starts_with(b"queue 0".as_slice()) && before.ends_with(queues),
+        "queue lines"
+    );
     assert!(rt; close(&rt, &shut, 2)? == shut, "closed again");
     Ok(())
 }
