@@ -16,7 +16,7 @@ from common import HERE
 
 CRATES = os.path.join(HERE, "..", "crates")
 # Tests alone, and the programs.
-NO_LIBRARIES = {"rq_rows", "rq_scarce", "rq", "rqlook"}
+NO_LIBRARIES = {"rq_rows", "rq", "rqlook"}
 
 HEAD = re.compile(r"^( *)(pub(?:\([a-z]+\))? )?(?:const )?fn (\w+)", re.M)
 BLOCK = re.compile(r"^impl(?:<[^{]*?>)? (?:[\w:<>, ]+ for )?&?(\w+)", re.M)
@@ -106,7 +106,7 @@ def main() -> None:
     crates = sorted(os.path.basename(os.path.dirname(path)) for path in glob.glob(os.path.join(CRATES, "*", "src")))
     libraries = [crate for crate in crates if crate not in NO_LIBRARIES]
     functions = [function for crate in libraries for function in functions_of(crate)]
-    tests = [function.body for crate in ("rq_rows", "rq_scarce") for function in functions_of(crate)]
+    tests = [function.body for function in functions_of("rq_rows")]
     if options.direct:
         seen = {function.call for function in named(functions, tests)}
     else:
