@@ -2,22 +2,25 @@
 """Alters every numeral, operator, constructor and text of the definitions in crates/rq_model/specs, one at a time, in a
 copy of the crate, and says which alterations the prover accepts.
 
-    bench/alter.py [--copy DIR] [--results FILE] [--only WORD] [--every N] [--seconds S] [--list] [--accepted]
+    bench/alter.py [--copy DIR] [--results FILE] [--only WORD] [--share K/N] [--seconds S] [--list] [--accepted]
 
-Each alteration is first held against the worked facts alone (`rt check --only`, some 5 to 10 seconds on an idle core),
-and against the whole crate (some 40 seconds) only where the facts let it through. There are about 840 alterations, a
-third of them of statements of laws, so the whole takes 3 to 5 hours on one idle core. What is known is kept in FILE
-(one JSON object a line) and is not tried again, so a run can be broken off and taken up. `no definition` means that the
-altered chapter itself is ill typed. `--only` takes those whose place has the word, `--every N` each Nth, `--seconds`
-ends after so many, `--list` tries nothing, `--accepted` prints what was accepted so far.
+Each alteration is first held against the worked facts, or, in a chapter of laws, against the function that has the law
+(`rt check --only`, some 4 seconds), and against the whole crate (some 9 seconds) only where these let it through. There
+are about 840 alterations, a third of them of statements of laws. What is known is kept in FILE (one JSON object a line)
+and is not tried again, so a run can be broken off and taken up. `no definition` means that the altered chapter itself is
+ill typed, `no answer` that the prover came to no end. `--only` takes those whose place has the word, `--share K/N` the
+Kth of N shares (each process wants a DIR of its own; FILE may be the same), `--seconds` ends after so many, `--list`
+tries nothing, `--accepted` prints what was accepted so far.
 
 The chapters of worked facts are left alone, and so are `use` lines, comments and the names of what is declared.
 """
 import argparse
 import json
+import os
 import pathlib
 import re
 import shutil
+import signal
 import subprocess
 import sys
 import time
@@ -25,6 +28,10 @@ import time
 ROOT = pathlib.Path(__file__).resolve().parent.parent
 CRATE = "rq_model"
 SPECS = ROOT / "crates" / CRATE / "specs"
+LIB = ROOT / "crates" / CRATE / "src" / "lib.rt"
+
+# A check that takes more seconds has come to no end.
+PATIENCE = 120
 
 # what stands in place of what; a numeral is made one greater, and a text begins with another letter
 WORDS = {
@@ -105,9 +112,22 @@ def prepare(copy):
 
 
 def proves(crate, only=None):
-    command = ["rt", "check"] + (["--only", only] if only else [])
-    answer = subprocess.run(command, cwd=crate, capture_output=True, text=True, check=False)
-    return answer.returncode == 0, answer.stdout + answer.stderr
+    """Whether the crate is proved, or one function of it, and what the prover said; None where it came to no end."""
+    command = ["rt", "check", "--jobs", "1"] + (["--only", only] if only else [])
+    run = subprocess.Popen(command, cwd=crate, stdout=subprocess.PIPE, stderr=subprocess.STDOUT, text=True, start_new_session=True)
+    try:
+        text = run.communicate(timeout=PATIENCE)[0]
+    except subprocess.TimeoutExpired:
+        os.killpg(run.pid, signal.SIGKILL)
+        return None, run.communicate()[0]
+    return {0: True, 1: False}.get(run.returncode), text
+
+
+def function_of(name, line):
+    """The function whose contract has the law that is declared above this line, if one has."""
+    declared = re.findall(r"^(?:pub (?:data|record)|abbrev pub) (\w+)", "\n".join((SPECS / name).read_text().split("\n")[:line]), re.M)
+    found = re.search(rf"^pub fn (\w+)\(\)(?:(?!\n{{}}).)*\b{declared[-1]}\b", LIB.read_text(), re.M | re.S) if declared else None
+    return found and found.group(1)
 
 
 def is_no_definition(text, name):
@@ -115,19 +135,22 @@ def is_no_definition(text, name):
     return f"./specs/{name}:" in text
 
 
-def refused_by(crate, name):
+def refused_by(crate, name, line):
     """What refuses the crate as it stands, or None."""
     first = ["worked_machine", "worked_formats"]
     if name.split(".")[0] in ("Records", "Spelling", "Frames", "WellFormed", "StateSpelling", "Fronts", "Reports"):
         first.reverse()
-    if name.split(".")[0] not in LAWS:
-        for facts in first:
-            proved, text = proves(crate, facts)
-            if not proved:
-                return "no definition" if is_no_definition(text, name) else facts
+    if name.split(".")[0] in LAWS:
+        first = [law for law in [function_of(name, line)] if law]
+    for function in first:
+        proved, text = proves(crate, function)
+        if proved is False:
+            return "no definition" if is_no_definition(text, name) else function
     proved, text = proves(crate)
     if proved:
         return None
+    if proved is None:
+        return "no answer"
     if is_no_definition(text, name):
         return "no definition"
     lost = re.findall(r"^fn \w+::(\w+): not proved", text, re.M)
@@ -139,7 +162,7 @@ def main():
     parser.add_argument("--copy", type=pathlib.Path, default=pathlib.Path("/tmp/alter"))
     parser.add_argument("--results", type=pathlib.Path, default=pathlib.Path("/tmp/alter.jsonl"))
     parser.add_argument("--only", default="")
-    parser.add_argument("--every", type=int, default=1)
+    parser.add_argument("--share", default="1/1")
     parser.add_argument("--seconds", type=int, default=10**9)
     parser.add_argument("--list", action="store_true")
     parser.add_argument("--accepted", action="store_true")
@@ -150,7 +173,8 @@ def main():
     if args.accepted:
         print("\n".join(place for place, by in known.items() if by is None))
         return 0
-    wanted = [item for item in alterations() if args.only in item[0]][:: args.every]
+    share, shares = map(int, args.share.split("/"))
+    wanted = [item for item in alterations() if args.only in item[0]][share - 1 :: shares]
     if args.list:
         print("\n".join(item[0] for item in wanted))
         return 0
@@ -163,7 +187,7 @@ def main():
         text = (SPECS / name).read_text()
         (crate / "specs" / name).write_text(altered(text, name, start, stop, new))
         began = time.time()
-        by = refused_by(crate, name)
+        by = refused_by(crate, name, int(place.split(":")[1]))
         (crate / "specs" / name).write_text(text)
         with args.results.open("a") as out:
             out.write(json.dumps({"place": place, "by": by, "seconds": round(time.time() - began)}) + "\n")

@@ -15,7 +15,7 @@ def parser() -> argparse.ArgumentParser:
 
 def parsed(words: argparse.ArgumentParser) -> argparse.Namespace:
     """The options, with their folder made."""
-    options = words.parse_args()
+    options = words.parse_intermixed_args()
     os.makedirs(options.folder, exist_ok=True)
     return options
 

@@ -285,9 +285,9 @@ fn generate(path: &str, shape: &str, seed: u64, mib: u64) {
     let (queues, payload, names, abort) = match shape {
         "small" => (64, 0, 0, 10), "kib" => (64, 1024, 4, 10), "big" => (64, 60_000, 0, 10), "wide" => (4096, 64, 1, 10),
         "hot" => (1, 64, 0, 10), "errors" => (256, 64, 0, 60), "names" => (64, 16, 500, 10),
-        "even" | "skew" | "lone" | "own" => (256, 64, 0, 10), other => panic!("shape {other}"),
+        "even" | "skew" | "lone" | "own" => (256, 64, 0, 10), "tree" | "path" => (512, 64, 0, 60), other => panic!("shape {other}"),
     };
-    let dead = if shape == "wide" || shape == "errors" { queues / 16 } else { 0 };
+    let dead = match shape { "wide" | "errors" => queues / 16, "tree" | "path" => queues / 2, _ => 0 };
     for d in 0..dead { g.define(0, u32::MAX, &format!("dead{d}")); }
     for q in dead..queues { if dead == 0 { g.define(0, u32::MAX, &format!("work{q}")) } else { g.define(3, q % dead, &format!("work{q}")) } }
     for q in 0..queues { for n in 0..names { g.register(q, &format!("client-{n}")); } }
@@ -299,15 +299,16 @@ fn generate(path: &str, shape: &str, seed: u64, mib: u64) {
         let at = g.below(open.len() as u64) as usize;
         let u = open[at];
         for _ in 0..3 {
-            let q = if matches!(shape, "skew" | "lone" | "own") { skewed(&mut g, queues) } else { g.below(queues as u64) as u32 };
+            let uneven = matches!(shape, "skew" | "lone" | "own" | "tree" | "path");
+            let q = if uneven { dead + skewed(&mut g, queues - dead) } else { g.below(queues as u64) as u32 };
             let name = if names > 0 && g.below(2) == 0 { format!("client-{}", g.below(names as u64)) } else { String::new() };
             let tag = if name.is_empty() { 0 } else { g.count };
             let priority = g.below(8) as u8;
             let enqueues = g.below(100) < 52;
             // In place of each operation on another queue, a record as long, or none.
             let len = if enqueues { 23 + payload } else { 22 };
-            if shape == "lone" && q != 0 { g.checkpoint(len); continue; }
-            if shape == "own" && q != 0 { g.bytes += 36 + len as u64; continue; }
+            if matches!(shape, "lone" | "path") && q != dead { g.checkpoint(len); continue; }
+            if shape == "own" && q != dead { g.bytes += 36 + len as u64; continue; }
             if enqueues { g.operation(5, u, q, priority, &name, tag, &body) } else { g.operation(6, u, q, 0, &name, tag, &[]) }
         }
         if g.below(2) == 0 {

@@ -1,11 +1,13 @@
 #!/usr/bin/env python3
 """How long the redo of the queues takes: the wall seconds from its first sample to its last, whatever threads do it.
 
-usage: redo.py RQ [--mib N] [--rounds N]
+usage: redo.py RQ [--tree] [--mib N] [--rounds N]
 Over `skew` with one worker and with four, and over `lone` and `own` with four, in turn: both have the operations of `skew` on
 its first queue alone, so their redo is that of this queue. In `lone` a record that touches no queue stands in place of each
-other operation, so that those of the queue lie where they lie in `skew`; in `own` nothing does. Told by `perf record`. RQ is
-the built program itself, not the root script.
+other operation, so that those of the queue lie where they lie in `skew`; in `own` nothing does. With --tree over `tree`, where
+each queue has an error queue of its own, with one worker and with four, and over `path`, which is to `tree` what `lone` is to
+`skew`: its redo is that of the first queue and then of its error queue, the longest path. Told by `perf record`. RQ is the
+built program itself, not the root script.
 """
 from __future__ import annotations
 import os, statistics, subprocess, tempfile
@@ -13,6 +15,7 @@ import os, statistics, subprocess, tempfile
 import common, layers
 
 RUNS = [("skew", 1), ("skew", 4), ("lone", 4), ("own", 4)]
+TREE_RUNS = [("tree", 1), ("tree", 4), ("path", 4)]
 
 
 def is_redo(stack: list[str]) -> bool:
@@ -32,11 +35,13 @@ def main() -> None:
     words = common.parser()
     words.add_argument("--mib", type=int, default=128)
     words.add_argument("--rounds", type=int, default=5)
+    words.add_argument("--tree", action="store_true")
     options = common.parsed(words)
     peer = common.built_peer(options.folder)
-    found: dict[tuple[str, int], list[float]] = {run: [] for run in RUNS}
+    runs = TREE_RUNS if options.tree else RUNS
+    found: dict[tuple[str, int], list[float]] = {run: [] for run in runs}
     for _ in range(options.rounds):
-        for shape, workers in RUNS:
+        for shape, workers in runs:
             log = common.log_of(peer, options.folder, shape, options.mib)
             found[shape, workers].append(redo_seconds([options.program, "restart", log, str(workers), "100"]))
     print("| log | workers | best | median |\n|---|---|---|---|")

@@ -1,86 +1,141 @@
 #!/usr/bin/env python3
-"""Refuses the program each of its allocations in turn, and counts the runs that end otherwise than they must.
+"""Refuses the program each of its allocations in turn, and each of its threads, and counts how the runs end.
 
-usage: refused.py RQ [--workers 1,2,4] [--folder DIR] [COMMAND ..]
-A run that is refused memory must end with status 4, say so, and write nothing, no file either; one that could do without,
-as where a thread is refused, must write what it writes with ample memory. With no COMMAND, makes the logs of the scripts in
-`examples/`, and restarts one of them, audits the other and restarts it at its checkpoint, on each number of workers, in
-grains of one frame. RQ is the built program itself.
+usage: refused.py RQ [--step N] [--folder DIR] [COMMAND ..]
+A run that is refused must write what it writes with ample memory, or end with status 4, say `resources`, and write nothing,
+no file either. With no COMMAND, sweeps each command over the logs of two scripts in `examples/`, and restarts and audits logs
+that are large enough for what runs on large logs alone: records decoded by halves, digests checked beside the analysis and in
+lanes, a report made in pieces. Of these each Nth allocation is refused, for a prime N. A COMMAND that writes a file names it
+`{made}/NAME`. RQ is the built program itself. Ends with status 1 where a run ended otherwise.
 """
 from __future__ import annotations
-import os, subprocess
+import os, subprocess, sys, time
+from typing import NamedTuple
 
-from common import HERE, parsed, parser
+from common import HERE, built_peer, log_of, parsed, parser
 
-# Status, standard output, standard error, and the file that was made.
-Outcome = tuple[int, bytes, bytes, bytes | None]
-REFUSED: Outcome = (4, b"", b"rq: resources\n", None)
-
-
-def built_shim(folder: str) -> str:
-    shim = os.path.join(folder, "refuse.so")
-    subprocess.run(["cc", "-O2", "-shared", "-fPIC", os.path.join(HERE, "refuse.c"), "-o", shim, "-ldl"], check=True)
-    return shim
+# Status, standard output, standard error, and the files that were made.
+Outcome = tuple[int, bytes, bytes, dict[str, bytes]]
+# The bytes of the last frame of that log, a COMMIT.
+COMMIT_FRAME = 45
+REFUSED: Outcome = (4, b"", b"rq: resources\n", {})
 
 
-def outcome(words: list[str], **options: object) -> Outcome:
-    """How the program ends; a file that it made is read and taken away."""
-    log = words[3] if words[1] == "make" else None
-    if log and os.path.exists(log):
-        os.remove(log)
-    done = subprocess.run(words, capture_output=True, **options)
-    made = None
-    if log and os.path.exists(log):
-        with open(log, "rb") as file:
-            made = file.read()
-    return done.returncode, done.stdout, done.stderr, made
+class Counts(NamedTuple):
+    """How many runs were refused, and of these, how many ended the same, with `resources`, and otherwise."""
+    refused: int
+    same: int
+    resources: int
+    wrong: int
 
 
-def refused_at(shim: str, words: list[str], number: int) -> tuple[bool, Outcome]:
-    """Whether the run came to the allocation of that number, and how it ended."""
-    seen, told = os.pipe()
-    environment = os.environ | {"LD_PRELOAD": shim, "REFUSE": str(number), "REFUSE_TOLD": str(told)}
-    ended = outcome(words, env=environment, pass_fds=[told])
-    os.close(told)
-    with os.fdopen(seen, "rb") as file:
-        return file.read() != b"", ended
+class Sweep:
+    """Runs of the program that are refused something."""
+
+    def __init__(self, program: str, folder: str) -> None:
+        self.program = program
+        self.shim = os.path.join(folder, "refuse.so")
+        self.made = os.path.join(folder, "made")
+        os.makedirs(self.made, exist_ok=True)
+        source = os.path.join(HERE, "refuse.c")
+        subprocess.run(["cc", "-O2", "-shared", "-fPIC", source, "-o", self.shim, "-ldl"], check=True)
+
+    def outcome(self, words: list[str], **options: object) -> Outcome:
+        """How the program ends; files that it made are read and taken away."""
+        done = subprocess.run([self.program, *words], capture_output=True, **options)
+        files = {}
+        for name in os.listdir(self.made):
+            path = os.path.join(self.made, name)
+            with open(path, "rb") as file:
+                files[name] = file.read()
+            os.remove(path)
+        return done.returncode, done.stdout, done.stderr, files
+
+    def refused_at(self, words: list[str], memory: int, thread: int) -> tuple[bool, Outcome]:
+        """Whether the run came to the allocation or the thread of that number, and how it ended."""
+        seen, told = os.pipe()
+        asked = {"LD_PRELOAD": self.shim, "REFUSE_TOLD": str(told), "REFUSE_MEMORY": str(memory), "REFUSE_THREAD": str(thread)}
+        ended = self.outcome(words, env=os.environ | asked, pass_fds=[told])
+        os.close(told)
+        with os.fdopen(seen, "rb") as file:
+            return file.read() != b"", ended
+
+    def counted(self, words: list[str], ample: Outcome, step: int, is_thread: bool) -> Counts:
+        """Refuses each of a kind, or each `step`th, until a run meets no refusal."""
+        ends = {"same": 0, "resources": 0, "wrong": 0}
+        number = step
+        while True:
+            came, ended = self.refused_at(words, 0 if is_thread else number, number if is_thread else 0)
+            if not came:
+                return Counts(sum(ends.values()), **ends)
+            end = "same" if ended == ample else "resources" if ended == REFUSED else "wrong"
+            ends[end] += 1
+            if end == "wrong":
+                what = "thread" if is_thread else "allocation"
+                print(f"`{' '.join(words)}`, {what} {number} refused, ends with", *ended, file=sys.stderr)
+            number += step
+
+    def row(self, name: str, words: list[str], step: int = 1) -> int:
+        """Prints a line of the table, and tells how many runs ended otherwise than they must."""
+        words = [word.replace("{made}", self.made) for word in words]
+        ample = self.outcome(words)
+        memory = self.counted(words, ample, step, False)
+        threads = self.counted(words, ample, 1, True)
+        wrong = memory.wrong + threads.wrong
+        which = "each" if step == 1 else f"1 in {step}"
+        print(f"| {name} | {which} | {memory.refused} | {memory.same} | {memory.resources} "
+              f"| {threads.refused} | {threads.same} | {threads.resources} | {wrong} |", flush=True)
+        return wrong
 
 
-def try_all(shim: str, words: list[str]) -> None:
-    ample = outcome(words)
-    number = wrong = without = 0
-    while True:
-        came, ended = refused_at(shim, words, number + 1)
-        if not came:
-            break
-        number += 1
-        without += ended == ample
-        if ended not in (REFUSED, ample):
-            wrong += 1
-            print(f"refused allocation {number}, `{' '.join(words)}` ends with", *ended)
-    print(f"`{' '.join(words[1:])}`: {number} allocations refused in turn, {without} times without loss, {wrong} wrong")
+def of_scripts(sweep: Sweep, folder: str) -> int:
+    """Sweeps each command over the logs of two scripts."""
+    logs = {}
+    wrong = 0
+    for name in ("error-queue", "checkpoint"):
+        script = os.path.join(HERE, "..", "examples", name + ".script")
+        logs[name] = os.path.join(folder, name + ".log")
+        subprocess.run([sweep.program, "make", script, logs[name]], check=True)
+        wrong += sweep.row(f"`make` {name}", ["make", script, "{made}/log"])
+    audit = subprocess.run([sweep.program, "audit", logs["checkpoint"], "1"], check=True, capture_output=True).stdout
+    offset = audit.split()[1].decode()
+    with_open_unit = os.path.join(folder, "open.log")
+    with open(logs["checkpoint"], "rb") as whole, open(with_open_unit, "wb") as cut:
+        cut.write(whole.read()[:-COMMIT_FRAME])
+    for workers in ("1", "2", "4"):
+        for name, log in logs.items():
+            wrong += sweep.row(f"`restart` {name}, {workers}", ["restart", log, workers, "1"])
+        wrong += sweep.row(f"`restart-at` {offset}, {workers}", ["restart-at", logs["checkpoint"], offset, workers, "1"])
+        wrong += sweep.row(f"`audit` checkpoint, {workers}", ["audit", logs["checkpoint"], workers])
+        wrong += sweep.row(f"`close` with an open unit, {workers}", ["close", with_open_unit, "{made}/log", workers])
+    return wrong
+
+
+def of_large_logs(sweep: Sweep, folder: str) -> int:
+    """Sweeps restarts of logs in which the bodies for large logs run."""
+    peer = built_peer(folder)
+    wrong = 0
+    for shape, mib, workers, step in (("kib", 2, "4", 11), ("small", 1, "2", 97), ("errors", 2, "4", 53), ("wide", 2, "4", 101)):
+        log = log_of(peer, folder, shape, mib)
+        wrong += sweep.row(f"`restart` {shape} of {mib} MiB, {workers}", ["restart", log, workers, "10"], step)
+    return wrong
 
 
 def main() -> None:
     words = parser()
-    words.add_argument("--workers", default="1,2,4")
+    words.add_argument("--step", type=int, default=1)
     words.add_argument("command", nargs="*")
     options = parsed(words)
-    shim = built_shim(options.folder)
+    sweep = Sweep(options.program, options.folder)
+    print("| command | allocations | refused | the same | resources | threads refused | the same | resources | anything else |")
+    print("|---|---|---|---|---|---|---|---|---|")
+    begun = time.perf_counter()
     if options.command:
-        try_all(shim, [options.program, *options.command])
-        return
-    logs = {name: os.path.join(options.folder, name + ".log") for name in ("error-queue", "checkpoint")}
-    for name, log in logs.items():
-        script = os.path.join(HERE, "..", "examples", name + ".script")
-        try_all(shim, [options.program, "make", script, log + ".tried"])
-        subprocess.run([options.program, "make", script, log], check=True)
-    audit = subprocess.run([options.program, "audit", logs["checkpoint"], "1"], check=True, capture_output=True).stdout
-    offset = audit.split()[1].decode()
-    for workers in options.workers.split(","):
-        try_all(shim, [options.program, "restart", logs["error-queue"], workers, "1"])
-        try_all(shim, [options.program, "audit", logs["checkpoint"], workers])
-        try_all(shim, [options.program, "restart-at", logs["checkpoint"], offset, workers, "1"])
+        wrong = sweep.row(" ".join(options.command[:1]), options.command, options.step)
+    else:
+        wrong = of_scripts(sweep, options.folder) + of_large_logs(sweep, options.folder)
+    print(f"{time.perf_counter() - begun:.0f} s, {wrong} wrong")
+    sys.exit(wrong != 0)
 
 
 if __name__ == "__main__":

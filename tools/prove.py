@@ -12,6 +12,7 @@ import os, resource, shutil, signal, subprocess, sys, time
 
 # What a check takes for each job, in KiB, as far as was seen.
 MEMORY = 2_000_000
+# One place for all programs, of which one is built at a time.
 BUILD = os.path.join("crates", "rq", "out", "build")
 
 
@@ -121,8 +122,8 @@ class Proof:
 class Telling:
     """How far the proofs are, on standard error: one line that changes on a terminal, else a line for each crate."""
 
-    def __init__(self, crates: dict[str, list[str]], names: list[str]):
-        self.begun, self.crates, self.names = time.monotonic(), crates, names
+    def __init__(self, crates: dict[str, list[str]], names: list[str], program: str):
+        self.begun, self.crates, self.names, self.program = time.monotonic(), crates, names, program
         self.weights = {name: weight(name) for name in names}
         self.is_terminal = sys.stderr.isatty()
 
@@ -139,9 +140,9 @@ class Telling:
         seconds = int(time.monotonic() - self.begun)
         words = f"{len(done)} of {len(self.names)} crates proved, {seconds} s{self.left(done)}"
         if self.is_terminal:
-            sys.stderr.write(f"\r\033[Krq: {words}; now {', '.join(now)}")
+            sys.stderr.write(f"\r\033[K{self.program}: {words}; now {', '.join(now)}")
         elif ended:
-            sys.stderr.write(f"rq: {ended}: {words}\n")
+            sys.stderr.write(f"{self.program}: {ended}: {words}\n")
         sys.stderr.flush()
 
     def end(self):
@@ -162,10 +163,11 @@ def next_proofs(crates, waiting: list[str], done: set[str], running: list[Proof]
     return begun
 
 
-def prove(crates: dict[str, list[str]], names: list[str], log: str) -> bool:
-    """Whether all of the crates were proved."""
+def prove(crates: dict[str, list[str]], program: str, log: str) -> bool:
+    """Whether all crates below the program were proved."""
+    names = below(crates, program)
     cores, waiting, running, done, fine = processors(), [*names], [], set(), True
-    telling = Telling(crates, names)
+    telling = Telling(crates, names, program)
     try:
         while running or (fine and waiting):
             if fine:
@@ -196,7 +198,7 @@ def main() -> int:
         signal.signal(it, lambda number, _: sys.exit(128 + number))
     os.makedirs(BUILD, exist_ok=True)
     try:
-        return 0 if prove(crates, below(crates, program), log) else 1
+        return 0 if prove(crates, program, log) else 1
     except KeyboardInterrupt:
         return 130
     finally:

@@ -3,13 +3,16 @@
 
 ghost use Rattle.std.specs.Prelude.{◌≡◌, IfOk};
 
+mod target;
+
+use crate::target::{Late, Names, is_written_in_place};
 use rq_tool::{Command, Fault, Open, OverRead, OverWrite};
 use std::fs::File;
 use std::io::ErrorKind;
 use std::process::ExitCode;
 use std::rt::{Env, Files};
 use std::thread::Threads;
-use std::{env, fs, io};
+use std::{env, io};
 
 /// The exit status of a line that is no command.
 const USAGE: u8 = 2;
@@ -72,10 +75,11 @@ where
     R: Files + Print + AllocGlobal + Threads + Sync,
 {
     match command {
-        Command::Make { script, log } => make_file(rt, script, log),
+        Command::Make { script, log } => make_file(rt, command, script, log),
         Command::Restart { log, .. } => print(rt, command, log),
         Command::RestartAt { log, .. } => print(rt, command, log),
         Command::Audit { log, .. } => print(rt, command, log),
+        Command::Close { log, out, .. } => make_file(rt, command, log, out),
     }
 }
 
@@ -89,14 +93,40 @@ where
     rq_tool::act(rt, rt.alloc(), command, &mut input, &mut output, &Open)
 }
 
-/// Makes a file of the log of a script, once all of it is there.
-fn make_file<R>(rt: &R, script: &str, log: &str) -> Result<(), Fault>
+/// Writes what the command answers to a file, which is made once all of it is there.
+fn make_file<R>(rt: &R, command: &Command<'_>, from: &str, to: &str) -> Result<(), Fault>
 where
     R: Files + AllocGlobal + Threads + Sync,
 {
-    let mut input = open(rt, script)?;
-    let bytes = rq_tool::make_log(rt, rt.alloc(), &mut input)?;
-    fs::write(rt, log, bytes.as_slice()).map_err(|_| Fault::WriteFailed)
+    let mut input = open(rt, from)?;
+    if is_written_in_place(rt, to) {
+        let mut output = OverWrite::new(Late::new(rt, to, false));
+        return rq_tool::act(rt, rt.alloc(), command, &mut input, &mut output, &Open);
+    }
+    let names = Names::of(rt, to)?;
+    let mut output = OverWrite::new(Late::new(rt, names.new_name(), true));
+    let done = rq_tool::act(rt, rt.alloc(), command, &mut input, &mut output, &Open);
+    settle(rt, &names, output.into_inner().into_file(), done)
+}
+
+/// Puts the file that was made in its place, where all went well, and else takes it away.
+fn settle<R: Files>(
+    rt: &R,
+    names: &Names,
+    made: Option<R::File>,
+    done: Result<(), Fault>,
+) -> Result<(), Fault> {
+    let Some(file) = made else {
+        return done;
+    };
+    let kept = match done {
+        Ok(()) => names.keep(rt, &file).map_err(|_| Fault::WriteFailed),
+        Err(fault) => Err(fault),
+    };
+    if kept.is_err() {
+        names.discard(rt);
+    }
+    kept
 }
 
 /// Opens a file for reading.

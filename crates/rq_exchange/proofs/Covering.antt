@@ -1,5 +1,5 @@
 -- Each queue is redone once, by one thread.
-use Rattle.std.proofs.Common.{◌≡◌, ◌⊎◌, ℕ, zero, suc, ◌+◌, ◌<◌, ◌≤◌, List, [], ◌∷◌, ◌++◌, All, map, length, length-append, refl, ap, sym, ◌∙◌, subst, arith, inl, inr, sum_by, append_assoc}
+use Rattle.std.proofs.Common.{◌≡◌, ◌⊎◌, ℕ, zero, suc, ◌+◌, ◌<◌, ◌≤◌, List, [], ◌∷◌, ◌++◌, map, length, length-append, refl, ap, sym, ◌∙◌, arith, inl, inr, sum_by, append_assoc}
 use Rattle.std.proofs.lemmas.List.{get_or_past}
 use Rattle.std.specs.List.{AllByRecursion}
 use Rattle.std.proofs.lemmas.List.Sums.{sum_by-cons}
@@ -7,7 +7,7 @@ use Rattle.rq_pool.specs.declared.countdown.arrival.Entry.{Entry}
 use Rattle.rq_pool.specs.Countdowns.History.{flat_map}
 use Rattle.rq_pool.specs.Countdowns.Arrivals.{arrivals_for, kept_for, kept_from, last_lists, Settled}
 use Rattle.rq_pool.specs.Ledger.{times, times_in}
-use Rattle.rq_exchange.specs.Coverage.{Hand, Web, IsWeb, Follows, IsClosed, Once, told_at, lasts_at, arrived_at, source_at}
+use Rattle.rq_exchange.specs.Coverage.{Hand, Web, Follows, IsClosed, Once, told_at, lasts_at, arrived_at, source_at}
 
 module _ {A B : Type 0} (f : A → List B) where
   pub flat_append : (xs ys : List A) → flat_map f (xs ++ ys) ≡ flat_map f xs ++ flat_map f ys
@@ -15,7 +15,7 @@ module _ {A B : Type 0} (f : A → List B) where
   flat_append (x ∷ xs) ys = ap (λ l. f x ++ l) (flat_append xs ys) ∙ sym (append_assoc (f x) (flat_map f xs) (flat_map f ys))
 
 -- a list of lists, each of some length, is as long as these together
-flat_long : {A B C : Type 0} (f : B → List C) (d : A → List B) (xs : List A) → length (flat_map f (flat_map d xs)) ≡ sum_by (λ x. length (flat_map f (d x))) xs
+pub flat_long : {A B C : Type 0} (f : B → List C) (d : A → List B) (xs : List A) → length (flat_map f (flat_map d xs)) ≡ sum_by (λ x. length (flat_map f (d x))) xs
 flat_long f d [] = refl
 flat_long f d (x ∷ xs) = ap length (flat_append f (d x) (flat_map d xs)) ∙ length-append (flat_map f (d x)) (flat_map f (flat_map d xs)) ∙ ap (λ n. length (flat_map f (d x)) + n) (flat_long f d xs) ∙ sym (sum_by-cons (λ y. length (flat_map f (d y))) x xs)
 
@@ -44,7 +44,7 @@ module _ {T : Type 0} where
 
 -- over all threads
 module _ {T : Type 0} (w : Web) where
-  all_redid : (x : ℕ) → x < w.n → (hs : List (Hand T)) → AllByRecursion (Follows w) hs → times_in x (map (λ h. h.redone) hs) ≡ times_in x (map (λ h. h.starts) hs) + sum_by (λ h. lasts_at h.diaries (w.slot x)) hs
+  pub all_redid : (x : ℕ) → x < w.n → (hs : List (Hand T)) → AllByRecursion (Follows w) hs → times_in x (map (λ h. h.redone) hs) ≡ times_in x (map (λ h. h.starts) hs) + sum_by (λ h. lasts_at h.diaries (w.slot x)) hs
   all_redid x near [] f = refl
   all_redid x near (h ∷ hs) f = omega (
     arith,

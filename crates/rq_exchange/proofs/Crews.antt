@@ -1,8 +1,7 @@
 -- What a thread has, from the start to its end.
-use Rattle.std.proofs.Common.{◌≡◌, ℕ, zero, suc, ◌+◌, ◌<◌, ◌≤◌, List, [], ◌∷◌, ◌++◌, All, length, map, get_or, refl, ap, sym, ◌∙◌, subst, arith, take, drop, append_assoc, ◌⊎◌, inl, inr}
-use Rattle.std.specs.Prelude.{slice_index_or}
+use Rattle.std.proofs.Common.{◌≡◌, ℕ, ◌+◌, ◌<◌, ◌≤◌, List, [], ◌∷◌, ◌++◌, All, length, get_or, ap, sym, ◌∙◌, subst, arith, take, drop, append_assoc, inl, inr}
 use Rattle.std.proofs.Math.Seq.{take-append_seam}
-use Rattle.std.proofs.lemmas.List.{get_or_past, get_or_default, length-map, take_more, take_all}
+use Rattle.std.proofs.lemmas.List.{get_or_past, length-map, take_more, take_all}
 use Rattle.std.proofs.lemmas.List.Elements.{All-map}
 use Rattle.rq_pool.specs.declared.countdown.arrival.Entry.{Entry}
 use Rattle.rq_pool.specs.declared.countdown.pass.Pass.{Pass}

@@ -1,5 +1,5 @@
 -- What an arrival at a countdown tells.
-use Rattle.std.proofs.Common.{◌≡◌, ℕ, zero, suc, ◌+◌, ◌<◌, ◌≤◌, List, [], ◌∷◌, ◌++◌, length, map, get_or, set, refl, ap, sym, ◌∙◌, subst, arith, slice_set}
+use Rattle.std.proofs.Common.{◌≡◌, ℕ, suc, ◌<◌, List, [], ◌∷◌, ◌++◌, length, map, get_or, set, refl, ap, sym, ◌∙◌, subst, arith, slice_set}
 use Rattle.std.specs.Prelude.{slice_index_or}
 use Rattle.std.proofs.lemmas.List.{map-set, length-map, get_or-map, get_or_default}
 use mathlib.Core.Option.{some}
@@ -9,7 +9,6 @@ use Rattle.rq_state.specs.Orders.{listed}
 use Rattle.rq_pool.specs.declared.countdown.pass.Pass.{Pass}
 use Rattle.rq_pool.specs.declared.countdown.Countdown.{Countdown}
 use Rattle.rq_pool.specs.declared.countdown.fits.Fits.{Ghosts}
-use Rattle.rq_pool.specs.declared.countdown.arrival.Entry.{Entry}
 use Rattle.rq_pool.specs.declared.countdown.arrival.Arrival.{Arrival}
 use Rattle.rq_pool.specs.Countdowns.History.{entry}
 use Rattle.rq_pool.specs.Countdowns.Words.{key_of, sources_of, history_of}
@@ -20,7 +19,7 @@ use Rattle.rq_exchange.specs.declared.jobs.Job.{Job}
 use Rattle.rq_exchange.specs.Jobs.{records_of, errors_in}
 use Rattle.rq_exchange.specs.Links.{at}
 use Rattle.rq_exchange.specs.Chains.{web_of, due, AreBoxes, IsCountdownOf, IsChain, diaries_of}
-use Rattle.rq_exchange.specs.Coverage.{Web, IsWeb, Tells}
+use Rattle.rq_exchange.specs.Coverage.{Tells}
 use Rattle.rq_exchange.proofs.Steps.{arrives, next}
 
 pub placed : (xs : List ℕ) (i y n : ℕ) → y ≡ slice_index_or xs i y → length xs ≡ n → i < n → y ≡ at xs i

@@ -1,9 +1,11 @@
+pub mod Alone
 pub mod Arriving
 pub mod Backwards
 pub mod Boards
 pub mod Cases
 pub mod Closing
 pub mod Counting
+pub mod Courses
 pub mod Covering
 pub mod Crews
 pub mod Errors

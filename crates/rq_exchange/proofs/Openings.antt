@@ -1,5 +1,5 @@
 -- The countdowns, one queue more.
-use Rattle.std.proofs.Common.{◌≡◌, ◌⊎◌, ℕ, zero, suc, ◌+◌, ◌<◌, ◌≤◌, List, [], ◌∷◌, ◌++◌, All, length, length-append, map, refl, sym, ap, ◌∙◌, subst, arith, inl, inr, Vec, Global}
+use Rattle.std.proofs.Common.{◌≡◌, ◌⊎◌, ℕ, ◌+◌, ◌<◌, List, [], ◌∷◌, ◌++◌, All, length, length-append, map, refl, sym, ap, ◌∙◌, subst, arith, inl, inr, Vec, Global}
 use Rattle.std.specs.Prelude.{slice_index_or}
 use Rattle.std.proofs.lemmas.List.{get_or_append_left, get_or-map}
 use Rattle.std.proofs.Math.Seq.{get_or-append_seam}
@@ -14,7 +14,7 @@ use Rattle.rq_exchange.specs.declared.outboxes.Target.{Target}
 use Rattle.rq_exchange.specs.declared.jobs.Job.{Job}
 use Rattle.rq_exchange.specs.Chains.{IsCountdownOf, ArePasses, HasPasses}
 use Rattle.rq_exchange.specs.Links.{at}
-use Rattle.rq_exchange.specs.Openings.{IsFresh, Adds, Stays, Opened, AreOpened}
+use Rattle.rq_exchange.specs.Openings.{IsFresh, Stays, Opened, AreOpened}
 use Rattle.rq_exchange.proofs.Steps.{same_or}
 
 pub some_of : {A : Type 0} (xs : List A) (k : ℕ) → k < length xs → A

@@ -1,5 +1,5 @@
 -- What the threads redid, as it is put in its places.
-use Rattle.std.proofs.Common.{◌≡◌, ℕ, zero, suc, ◌+◌, ◌<◌, ◌≤◌, List, [], ◌∷◌, All, length, map, refl, sym, ap, ◌∙◌, subst, arith, Vec, Global}
+use Rattle.std.proofs.Common.{◌≡◌, ℕ, ◌<◌, List, [], ◌∷◌, All, length, map, refl, sym, ap, ◌∙◌, subst, arith, Vec, Global}
 use Rattle.std.specs.Prelude.{slice_index_or}
 use Rattle.std.proofs.lemmas.List.{get_or-map, length-map}
 use Rattle.rq_model.specs.Machine.{run}
@@ -17,6 +17,11 @@ use Rattle.rq_exchange.proofs.Openings.{some_of}
 use Rattle.rq_exchange.proofs.Wholes.{whole}
 use Rattle.rq_exchange.proofs.Working.{each_keeps}
 
+-- the queues of all threads
+pub queues_are : (ks : List Kept) → map (λ (done : Vec Redone Global). map queue_of done.items) (map (λ (k : Kept). k.done) ks) ≡ map (λ (k : Kept). redone_in k.done.items) ks
+queues_are [] = refl
+queues_are (k ∷ ks) = ap (λ l. redone_in k.done.items ∷ l) (queues_are ks)
+
 module _ (job : Job) (chain : Chain) (tasks : List ℕ) (kept : List Kept) (keep : AreKept job chain tasks kept) (all : List (Vec Redone Global)) (is : all ≡ map (λ k. k.done) kept) where
   many : length all ≡ length kept
   many = ap length is ∙ length-map kept (λ (k : Kept). k.done)
@@ -33,10 +38,6 @@ module _ (job : Job) (chain : Chain) (tasks : List ℕ) (kept : List Kept) (keep
 
   pub all_parts : All (λ done. All (IsPart (run job.state.now (records_of job))) done.items) all
   all_parts i v lt j d l = (all_done i v lt j d l).1
-
-  queues_are : (ks : List Kept) → map (λ (done : Vec Redone Global). map queue_of done.items) (map (λ (k : Kept). k.done) ks) ≡ map (λ (k : Kept). redone_in k.done.items) ks
-  queues_are [] = refl
-  queues_are (k ∷ ks) = ap (λ l. redone_in k.done.items ∷ l) (queues_are ks)
 
   pub all_there : IsChain job chain → AreBare job.sources.now (length job.definitions.now) tasks → AreSettled chain kept → (x : ℕ) → x < length job.definitions.now → 0 < times_in x (map (λ (done : Vec Redone Global). map queue_of done.items) all)
   all_there web are settled x near =

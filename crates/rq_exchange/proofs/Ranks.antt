@@ -1,6 +1,6 @@
 -- The rank of each queue among the sources of its error queue.
-use Rattle.std.proofs.Common.{◌≡◌, ◌⊎◌, ℕ, zero, suc, ◌+◌, ◌<◌, ◌≤◌, Bool, true, cond, List, [], ◌∷◌, ◌++◌, length, length-append, drop, refl, sym, ap, ◌∙◌, subst, arith, inl, inr, eq-eqb, append_assoc, false}
-use Rattle.std.specs.Prelude.{slice_index_or, ◌==◌, if◌then◌else◌}
+use Rattle.std.proofs.Common.{◌≡◌, ◌⊎◌, ℕ, suc, ◌+◌, ◌<◌, ◌≤◌, Bool, true, cond, List, [], ◌∷◌, ◌++◌, length, length-append, drop, refl, sym, ap, ◌∙◌, subst, arith, inl, inr, eq-eqb, append_assoc, false}
+use Rattle.std.specs.Prelude.{◌==◌, if◌then◌else◌}
 use Rattle.std.proofs.lemmas.List.{get_or_append_left}
 use Rattle.std.proofs.Math.Seq.{get_or-append_seam, drop-cons}
 use Rattle.rq_state.specs.Orders.{places_of}
@@ -17,9 +17,6 @@ place_next errors place e lt is =
 -- so far no list is longer than all errors
 pub list_few : (errors : List ℕ) (place x : ℕ) (list : List ℕ) → list ++ places_of (λ n. n == x) place (drop place errors) ≡ naming errors x → length list ≤ length errors
 list_few errors place x list e = omega (arith, few_from (λ n. n == x) 0 errors, ap length e, length-append list (places_of (λ n. n == x) place (drop place errors)))
-
-pub none_ranked : (errors : List ℕ) (count : ℕ) (ranks : List ℕ) → ranks ≡ [] → AreRanks errors count 0 ranks
-none_ranked errors count ranks e = record { long = ap length e; ranked = λ q lt. absurd (omega (arith, lt)) }
 
 pub ranks_more : (errors : List ℕ) (count place r : ℕ) (ranks after list : List ℕ) → AreRanks errors count place ranks → place < length errors → (at errors place < count → list ++ places_of (λ n. n == at errors place) place (drop place errors) ≡ naming errors (at errors place))
     → (at errors place < count → r ≡ length list) → after ≡ ranks ++ r ∷ [] → AreRanks errors count (place + 1) after

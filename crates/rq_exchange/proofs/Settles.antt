@@ -1,5 +1,5 @@
 -- The passes of the threads, by countdown.
-use Rattle.std.proofs.Common.{◌≡◌, ℕ, zero, suc, ◌+◌, ◌<◌, ◌≤◌, List, [], ◌∷◌, ◌++◌, All, length, map, refl, sym, ap, ◌∙◌, subst, arith, Vec, Global}
+use Rattle.std.proofs.Common.{◌≡◌, ℕ, suc, ◌<◌, List, [], ◌∷◌, ◌++◌, All, length, map, refl, sym, ap, ◌∙◌, subst, arith, Vec, Global}
 use Rattle.std.specs.Prelude.{slice_index_or}
 use Rattle.std.proofs.lemmas.List.{get_or-map, length-map}
 use Rattle.rq_pool.specs.declared.countdown.Countdown.{Countdown}
@@ -25,6 +25,15 @@ module _ {g : Ghosts Outbox Target} {K : Type 0} (row : K → Vec (Pass Outbox T
       let first : history_of (slice_index_or (row k).items c x) ≡ told_at (diaries_of (row k).items) c = sym (get_or-map (λ (p : Pass Outbox Target g). history_of p) (row k).items c x [] (h 0 k (omega arith))) in
       let rest = turned c x ks (λ i d l. h (suc i) d (omega (arith, l))) in
       λ i. first i ++ rest i
+
+  -- the same, pass by pass
+  each_turned : (c : ℕ) (x : Pass Outbox Target g) (ks : List K) → ((i : ℕ) (d : K) → i < length ks → c < length (row (slice_index_or ks i d)).items)
+      → map (λ (p : Pass Outbox Target g). history_of p) (map (λ (r : Vec (Pass Outbox Target g) Global). slice_index_or r.items c x) (map row ks)) ≡ map (λ (k : K). told_at (diaries_of (row k).items) c) ks
+  each_turned c x [] h = refl
+  each_turned c x (k ∷ ks) h =
+      let first : history_of (slice_index_or (row k).items c x) ≡ told_at (diaries_of (row k).items) c = sym (get_or-map (λ (p : Pass Outbox Target g). history_of p) (row k).items c x [] (h 0 k (omega arith))) in
+      let rest = each_turned c x ks (λ i d l. h (suc i) d (omega (arith, l))) in
+      λ i. first i ∷ rest i
 
   -- each thread has a pass of each countdown
   pub rows_long : (chain : Chain) (kept : List K) → All (λ k. ArePasses chain (row k).items) kept → (rows : List (Vec (Pass Outbox Target g) Global)) → rows ≡ map row kept → (n : ℕ) → n ≡ length chain.countdowns.items → All (λ r. length r.items ≡ n) rows
@@ -62,3 +71,14 @@ module _ {g : Ghosts Outbox Target} {K : Type 0} (row : K → Vec (Pass Outbox T
         let same : flat_map (λ (p : Pass Outbox Target g). history_of p) (slice_index_or columns c e).items ≡ flat_map (λ (k : K). told_at (diaries_of (row k).items) c) kept =
         ap (flat_map (λ (p : Pass Outbox Target g). history_of p)) (turns c e x lt ∙ ap (map (λ (r : Vec (Pass Outbox Target g) Global). slice_index_or r.items c x)) is) ∙ turned c x kept (λ i k l. omega (arith, lt, (are i k l).each)) in
         (s.0, s.1, subst (λ (es : List (Entry Outbox)). Settled (sources_of (slice_index_or chain.countdowns.items c d)) es s.0 s.1) same s.2)
+
+    -- so the arrivals with the passes of a column are those that the threads' passes tell
+    pub columns_show : length columns ≡ length chain.countdowns.items → (c : ℕ) → c < length chain.countdowns.items
+        → slice_index_or (map (λ (column : Vec (Pass Outbox Target g) Global). map (λ (p : Pass Outbox Target g). history_of p) column.items) columns) c [] ≡ map (λ (k : K). told_at (diaries_of (row k).items) c) kept
+    columns_show all c lt =
+        let e = some_of columns c (omega (arith, lt, all)) in
+        let one = some_of kept 0 some in
+        let x = some_of (row (slice_index_or kept 0 one)).items c (omega (arith, lt, (are 0 one some).each)) in
+        get_or-map (λ (column : Vec (Pass Outbox Target g) Global). map (λ (p : Pass Outbox Target g). history_of p) column.items) columns c e [] (omega (arith, lt, all))
+        ∙ ap (map (λ (p : Pass Outbox Target g). history_of p)) (turns c e x lt ∙ ap (map (λ (r : Vec (Pass Outbox Target g) Global). slice_index_or r.items c x)) is)
+        ∙ each_turned c x kept (λ i k l. omega (arith, lt, (are i k l).each))

@@ -1,5 +1,5 @@
 -- One arrival, or one queue that has no error queue.
-use Rattle.std.proofs.Common.{◌≡◌, ◌≢◌, ◌⊎◌, ℕ, zero, suc, ◌+◌, ◌<◌, ◌≤◌, Bool, true, false, cond, eqb, eqb-true, eq-eqb, List, [], ◌∷◌, ◌++◌, length, length-append, get_or, set, refl, ap, sym, ◌∙◌, subst, arith, inl, inr, sum_by, append_assoc, add-zero}
+use Rattle.std.proofs.Common.{◌≡◌, ◌≢◌, ◌⊎◌, ℕ, zero, suc, ◌+◌, ◌<◌, ◌≤◌, Bool, true, false, cond, eqb, eq-eqb, List, [], ◌∷◌, ◌++◌, length, length-append, get_or, set, refl, ap, sym, ◌∙◌, subst, arith, inl, inr, add-zero}
 use Rattle.std.proofs.lemmas.Bool.{ne_eqb}
 use Rattle.std.proofs.lemmas.List.{get_or-set_same, get_or-set_other, length-set, get_or_default}
 use Rattle.std.proofs.lemmas.List.Sums.{sum_by_push, sum_by-append}
@@ -7,7 +7,7 @@ use Rattle.std.proofs.lemmas.Bool.Decides.{eqb_tells}
 use Rattle.rq_pool.specs.declared.countdown.arrival.Entry.{Entry}
 use Rattle.rq_pool.specs.declared.countdown.arrival.Arrival.{Arrival}
 use Rattle.rq_pool.specs.declared.countdown.arrival.Arrival.TheVariants.{Twice, NotLast, Last}
-use Rattle.rq_pool.specs.Countdowns.History.{flat_map, entry}
+use Rattle.rq_pool.specs.Countdowns.History.{entry}
 use Rattle.rq_pool.specs.Countdowns.Arrivals.{arrivals_for, last_lists, only, if_last}
 use Rattle.rq_pool.specs.Ledger.{times}
 use Rattle.rq_exchange.specs.Coverage.{Web, IsWeb, Tells, told_at, lasts_at, arrived_at, source_at}
@@ -30,7 +30,7 @@ apart_times q y xs after more apart =
     let z : times y xs + cond (eqb q y) 1 0 ≡ times y xs + 0 = ap (λ b. times y xs + cond b 1 0) (ne_eqb q y apart) in
     sym (ap (times y) more ∙ times_more y q xs ∙ z ∙ add-zero (times y xs))
 
-times_append : (x : ℕ) (xs ys : List ℕ) → times x (xs ++ ys) ≡ times x xs + times x ys
+pub times_append : (x : ℕ) (xs ys : List ℕ) → times x (xs ++ ys) ≡ times x xs + times x ys
 times_append x xs ys = sum_by-append (λ z. cond (eqb z x) 1 0) xs ys
 
 module _ {T : Type 0} where

@@ -1,5 +1,5 @@
 -- The queues that wait for nobody, one queue more.
-use Rattle.std.proofs.Common.{◌≡◌, ◌⊎◌, ℕ, zero, suc, ◌+◌, ◌<◌, ◌≤◌, cond, eqb, eqb-true, eq-eqb, List, [], ◌∷◌, ◌++◌, length, length-append, refl, sym, ap, ◌∙◌, subst, arith, inl, inr, Vec, Global}
+use Rattle.std.proofs.Common.{◌≡◌, ◌⊎◌, ℕ, zero, suc, ◌+◌, ◌<◌, cond, eqb, eq-eqb, List, [], ◌∷◌, ◌++◌, length, length-append, refl, sym, ap, ◌∙◌, subst, arith, inl, inr, Vec, Global}
 use Rattle.std.proofs.lemmas.Bool.{ne_eqb}
 use Rattle.rq_state.specs.Orders.{listed}
 use Rattle.rq_pool.specs.Ledger.{times}

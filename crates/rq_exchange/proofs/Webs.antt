@@ -1,5 +1,5 @@
 -- How the queues stand to each other, once the countdowns are opened.
-use Rattle.std.proofs.Common.{◌≡◌, ◌⊎◌, ℕ, zero, suc, ◌+◌, ◌<◌, ◌≤◌, List, length, sym, ap, ◌∙◌, subst, arith, inl, inr, true, Vec, Global}
+use Rattle.std.proofs.Common.{◌≡◌, ◌⊎◌, ℕ, zero, suc, ◌<◌, List, length, sym, ◌∙◌, subst, arith, inl, inr, true, Vec, Global}
 use Rattle.std.specs.Prelude.{slice_index_or, ◌==◌}
 use Rattle.std.proofs.lemmas.Bool.{eqb-true}
 use Rattle.std.proofs.lemmas.List.{get_or-map, length-map}
@@ -11,8 +11,7 @@ use Rattle.rq_exchange.specs.declared.chain.Chain.{Chain}
 use Rattle.rq_exchange.specs.declared.outboxes.Outbox.{Outbox}
 use Rattle.rq_exchange.specs.declared.outboxes.Target.{Target}
 use Rattle.rq_exchange.specs.declared.jobs.Job.{Job}
-use Rattle.rq_exchange.specs.Chains.{web_of, IsChain}
-use Rattle.rq_exchange.specs.Coverage.{IsWeb, source_at}
+use Rattle.rq_exchange.specs.Chains.{IsChain}
 use Rattle.rq_exchange.specs.Jobs.{IsJob, errors_in}
 use Rattle.rq_exchange.specs.Links.{at, naming}
 use Rattle.rq_exchange.specs.Openings.{AreOpened}
@@ -22,11 +21,11 @@ use Rattle.rq_exchange.proofs.Places.{places_hold, same_place}
 use Rattle.rq_exchange.proofs.Sources.{once}
 
 module _ (job : Job) (is : IsJob job) where
-  many : length (errors_in job) ≡ length job.definitions.now
+  pub many : length (errors_in job) ≡ length job.definitions.now
   many = length-map job.definitions.now (λ (d : Definition). d.error)
 
   -- the sources of a queue are those that name it
-  sources_name : (e : ℕ) → e < length job.definitions.now → listed job.sources.now e ≡ naming (errors_in job) e
+  pub sources_name : (e : ℕ) → e < length job.definitions.now → listed job.sources.now e ≡ naming (errors_in job) e
   sources_name e near = is.sources e near ∙ sym (places_map (λ n. n == e) (λ (d : Definition). d.error) 0 job.definitions.now)
 
   ranked : (q : ℕ) → q < length job.definitions.now → at (errors_in job) q < length job.definitions.now

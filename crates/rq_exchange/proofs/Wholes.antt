@@ -1,24 +1,21 @@
 -- From what the threads hand back and what the closed countdowns tell: each queue is redone once.
-use Rattle.std.proofs.Common.{◌≡◌, ℕ, zero, suc, ◌+◌, ◌<◌, ◌≤◌, List, [], ◌∷◌, ◌++◌, All, map, length, get_or, refl, ap, sym, ◌∙◌, subst, arith, Vec, Global}
-use Rattle.std.specs.Prelude.{slice_index_or, ⊤}
+use Rattle.std.proofs.Common.{◌≡◌, ◌⊎◌, inl, inr, ℕ, ◌<◌, List, [], ◌∷◌, ◌++◌, map, length, refl, ap, sym, ◌∙◌, subst, arith}
 use Rattle.std.specs.List.{AllByRecursion}
-use Rattle.rq_pool.specs.declared.countdown.Countdown.{Countdown}
 use Rattle.rq_pool.specs.declared.countdown.arrival.Entry.{Entry}
 use Rattle.rq_pool.specs.Countdowns.History.{flat_map}
-use Rattle.rq_pool.specs.Countdowns.Arrivals.{Settled}
+use Rattle.rq_pool.specs.Countdowns.Arrivals.{Settled, last_lists, kept_from, if_last}
 use Rattle.rq_pool.specs.Ledger.{times, times_in}
 use Rattle.rq_state.specs.Orders.{listed}
 use Rattle.rq_exchange.specs.declared.chain.Chain.{Chain}
 use Rattle.rq_exchange.specs.declared.crew.Kept.{Kept}
 use Rattle.rq_exchange.specs.declared.outboxes.Outbox.{Outbox}
-use Rattle.rq_exchange.specs.declared.outboxes.Target.{Target}
 use Rattle.rq_exchange.specs.declared.jobs.Job.{Job}
 use Rattle.rq_exchange.specs.Chains.{web_of, IsChain, hand_of, diaries_of, redone_in}
-use Rattle.rq_exchange.specs.Coverage.{Hand, Web, Follows, told_at}
+use Rattle.rq_exchange.specs.Coverage.{Hand, Follows, IsClosed, told_at}
 use Rattle.rq_exchange.specs.Links.{at}
-use Rattle.rq_exchange.specs.Workers.{Keeps, AllKeep, AreKept, AreSettled}
+use Rattle.rq_exchange.specs.Workers.{AllKeep, AreKept, AreSettled}
 use Rattle.rq_exchange.specs.Tasks.{AreBare}
-use Rattle.rq_exchange.proofs.Covering.{each_once}
+use Rattle.rq_exchange.proofs.Covering.{each_once, all_redid, flat_long}
 use Rattle.rq_exchange.proofs.Openings.{some_of}
 use Rattle.rq_exchange.proofs.Tasks.{zero_or}
 
@@ -51,29 +48,50 @@ module _ (job : Job) (chain : Chain) where
   told_are c (s ∷ ss) [] h = absurd h
   told_are c (s ∷ ss) (k ∷ ks) h = ap (λ l. told_at (diaries_of k.passes.items) c ++ l) (told_are c ss ks h.1)
 
-  -- all threads together have redone each queue once
-  pub whole : IsChain job chain → (tasks : List ℕ) → AreBare job.sources.now (length job.definitions.now) tasks → (kept : List Kept) → AreKept job chain tasks kept → AreSettled chain kept
-      → (x : ℕ) → x < length job.definitions.now → times_in x (map (λ (k : Kept). redone_in k.done.items) kept) ≡ 1
-  whole is tasks are kept keep settled x near =
-      let ss = keep.starts in
-      sym (ap (times_in x) (redone_are ss kept keep.keep))
-      ∙ each_once (web_of job chain) (hands ss kept) (record {
-        web = is.web;
-        bare = λ y within none. ap (times_in y) (starts_are ss kept keep.keep) ∙ keep.dealt y ∙ are.once y within none;
-        fed = λ y within some. ap (times_in y) (starts_are ss kept keep.keep) ∙ keep.dealt y ∙ nowhere y some;
-        follow = follow_all ss kept keep.keep;
-        settled = ends;
-      }) x near
-    where
-      nowhere : (y : ℕ) → 0 < length (listed job.sources.now y) → times y tasks ≡ 0
-      nowhere y some = zero_or (times y tasks) (λ stands. let none = ap length (are.no_other y stands).1 in omega (arith, some, none))
+  module _ (is : IsChain job chain) (tasks : List ℕ) (are : AreBare job.sources.now (length job.definitions.now) tasks) (kept : List Kept) (keep : AreKept job chain tasks kept) (settled : AreSettled chain kept) where
+    -- no queue with sources is dealt
+    nowhere : (x : ℕ) → 0 < length (listed job.sources.now x) → times_in x (map (λ (h : Hand Outbox). h.starts) (hands keep.starts kept)) ≡ 0
+    nowhere x some = ap (times_in x) (starts_are keep.starts kept keep.keep) ∙ keep.dealt x ∙ zero_or (times x tasks) (λ stands. let none = ap length (are.no_other x stands).1 in omega (arith, some, none))
 
-      ends : (e : ℕ) → e < length job.definitions.now → 0 < length (listed job.sources.now e) → (arrived : ℕ) × (home : List Outbox) × Settled (length (listed job.sources.now e)) (flat_map (λ (h : Hand Outbox). told_at h.diaries (at chain.slots.items e)) (hands keep.starts kept)) arrived home
-      ends e within some =
-          let there = is.web.fed e within some in
-          let c = at chain.slots.items e in
-          let d = some_of chain.countdowns.items c there in
-          let s = settled c d there in
-          let size = (is.keyed e d within some).0 in
-          let same = sym (told_are c keep.starts kept keep.keep) in
-          (s.0, s.1, subst (λ (z : ℕ × List (Entry Outbox)). Settled z.0 z.1 s.0 s.1) (λ i. (size i, same i)) s.2)
+    -- what the closed countdown of a queue says of the threads' arrivals
+    ends : (e : ℕ) → e < length job.definitions.now → 0 < length (listed job.sources.now e) → (arrived : ℕ) × (home : List Outbox) × Settled (length (listed job.sources.now e)) (flat_map (λ (h : Hand Outbox). told_at h.diaries (at chain.slots.items e)) (hands keep.starts kept)) arrived home
+    ends e within some =
+        let there = is.web.fed e within some in
+        let c = at chain.slots.items e in
+        let d = some_of chain.countdowns.items c there in
+        let s = settled c d there in
+        let size = (is.keyed e d within some).0 in
+        let same = sym (told_are c keep.starts kept keep.keep) in
+        (s.0, s.1, subst (λ (z : ℕ × List (Entry Outbox)). Settled z.0 z.1 s.0 s.1) (λ i. (size i, same i)) s.2)
+
+    closed : IsClosed (web_of job chain) (hands keep.starts kept)
+    closed = record {
+      web = is.web;
+      bare = λ y within none. ap (times_in y) (starts_are keep.starts kept keep.keep) ∙ keep.dealt y ∙ are.once y within none;
+      fed = λ y within some. nowhere y some;
+      follow = follow_all keep.starts kept keep.keep;
+      settled = ends;
+    }
+
+    -- all threads together have redone each queue once
+    pub whole : (x : ℕ) → x < length job.definitions.now → times_in x (map (λ (k : Kept). redone_in k.done.items) kept) ≡ 1
+    whole x near = sym (ap (times_in x) (redone_are keep.starts kept keep.keep)) ∙ each_once (web_of job chain) (hands keep.starts kept) closed x near
+
+    -- all sources of a queue arrived, so that the last was given the outboxes of all, and none is left
+    pub all_arrive : (x : ℕ) → x < length job.definitions.now → 0 < length (listed job.sources.now x)
+        → Settled (length (listed job.sources.now x)) (flat_map (λ (k : Kept). told_at (diaries_of k.passes.items) (at chain.slots.items x)) kept) (length (listed job.sources.now x)) []
+    all_arrive x near some =
+        let w = web_of job chain in
+        let hs = hands keep.starts kept in
+        let c = at chain.slots.items x in
+        let s = ends x near some in
+        let one = each_once w hs closed x near in
+        let redid = all_redid w x near hs closed.follow in
+        let lasts : length (last_lists (flat_map (λ (h : Hand Outbox). told_at h.diaries c) hs)) ≡ 1 = flat_long (λ (e : Entry Outbox). if_last e.answer) (λ (h : Hand Outbox). told_at h.diaries c) hs ∙ omega (arith, one, redid, nowhere x some) in
+        let all = full s.0 s.1 (flat_map (λ (h : Hand Outbox). told_at h.diaries c) hs) lasts s.2.outcome in
+        subst (λ (z : ℕ × (List Outbox × List (Entry Outbox))). Settled (length (listed job.sources.now x)) z.1.1 z.0 z.1.0) (λ i. (all.0 i, (all.1 i, told_are c keep.starts kept keep.keep i))) s.2
+      where
+        full : (arrived : ℕ) (home : List Outbox) (es : List (Entry Outbox)) → length (last_lists es) ≡ 1
+            → (((arrived < length (listed job.sources.now x)) × (last_lists es ≡ []) × (home ≡ kept_from 0 (length (listed job.sources.now x)) es)) ⊎ ((arrived ≡ length (listed job.sources.now x)) × (last_lists es ≡ kept_from 0 (length (listed job.sources.now x)) es ∷ []) × (home ≡ []))) → (arrived ≡ length (listed job.sources.now x)) × (home ≡ [])
+        full arrived home es one (inl few) = absurd (omega (arith, one, ap length few.1))
+        full arrived home es one (inr all) = (all.0, all.2)

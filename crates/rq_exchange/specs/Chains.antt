@@ -1,8 +1,6 @@
 -- The countdowns of the error queues, and the passes of a thread.
-use Rattle.std.specs.Prelude.{◌≡◌, ◌<◌, ◌++◌, ℕ, List, [], ◌∷◌, length, map, All, slice_index_or, Option, Some, None}
+use Rattle.std.specs.Prelude.{◌≡◌, ◌<◌, ℕ, List, [], ◌∷◌, length, map, All, slice_index_or, Option, Some, None}
 use Rattle.std.specs.Global.{Vec}
-use Rattle.rq_model.specs.Records.{Record}
-use Rattle.rq_model.specs.States.{State}
 use Rattle.rq_model.specs.Machine.{run}
 use Rattle.rq_model.specs.Queues as queues
 use Rattle.rq_state.specs.Orders.{listed}
@@ -17,8 +15,8 @@ use Rattle.rq_exchange.specs.declared.outboxes.Outbox.{Outbox}
 use Rattle.rq_exchange.specs.declared.outboxes.Target.{Target}
 use Rattle.rq_exchange.specs.declared.outboxes.Redone.{Redone}
 use Rattle.rq_exchange.specs.declared.jobs.Job.{Job}
-use Rattle.rq_exchange.specs.Jobs.{IsJob, records_of, errors_in}
-use Rattle.rq_exchange.specs.Coverage.{Web, IsWeb, Hand, Follows, Tells}
+use Rattle.rq_exchange.specs.Jobs.{records_of, errors_in}
+use Rattle.rq_exchange.specs.Coverage.{Web, IsWeb, Hand}
 use Rattle.rq_exchange.specs.Links.{at}
 
 abbrev pub web_of : Job → Chain → Web

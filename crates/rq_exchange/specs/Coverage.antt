@@ -1,5 +1,5 @@
 -- What a thread has to show once it has ended, and what it is to follow its arrivals.
-use Rattle.std.specs.Prelude.{◌≡◌, ℕ, ◌+◌, ◌<◌, ◌≤◌, List, [], length, slice_index_or, map, ◌∷◌, Option, Some, None}
+use Rattle.std.specs.Prelude.{◌≡◌, ℕ, ◌+◌, ◌<◌, ◌≤◌, ◌++◌, List, [], length, slice_index_or, map, ◌∷◌, Option, Some, None}
 use Rattle.std.specs.List.{AllByRecursion}
 use Rattle.rq_pool.specs.declared.countdown.arrival.Entry.{Entry}
 use Rattle.rq_pool.specs.Countdowns.Arrivals.{arrivals_for, last_lists, Settled}
@@ -58,6 +58,14 @@ module _ {T : Type 0} where
     pub long : length diaries ≡ w.count
     pub redid : (x : ℕ) → x < w.n → times x begun ≡ times x starts + lasts_at diaries (w.slot x)
     pub arrived : (e i : ℕ) → e < w.n → i < length (w.sources e) → arrived_at i diaries (w.slot e) ≡ times (source_at w.sources e i) redone
+
+  -- a queue more was redone, and what left it was handed on: the error queue is to begin next, where its outboxes were given out
+  abbrev pub HandsOn : {B : Type 0} → Web → ℕ → ℕ → Option B → List (List (Entry T)) → List (List (Entry T)) → Type 0
+  HandsOn w queue error given old new = (starts begun redone : List ℕ) → Tells w starts begun redone old → Tells w starts (begun ++ asked error given) (redone ++ queue ∷ []) new
+
+  -- a thread that was to redo this queue has done so, and is to redo what is next
+  abbrev pub StepsOn : Web → ℕ → List ℕ → List (List (Entry T)) → List ℕ → List (List (Entry T)) → List ℕ → Type 0
+  StepsOn w queue done old after new next = (starts : List ℕ) → Tells w starts (done ++ queue ∷ []) done old → Tells w starts (after ++ next) after new
 
   -- the same of a thread that has redone all that it began
   abbrev pub Follows : Web → Hand T → Type 0

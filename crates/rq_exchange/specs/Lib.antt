@@ -1,5 +1,6 @@
 pub mod Boards
 pub mod Chains
+pub mod Courses
 pub mod Coverage
 pub mod Gathering
 pub mod Halves

@@ -6,7 +6,7 @@ use Rattle.rq_pool.specs.declared.room.Room.{Room}
 use Rattle.rq_pool.specs.declared.seat.Seat.{Seat}
 use Rattle.rq_pool.specs.Ledger.{times, times_in}
 use Rattle.rq_pool.specs.declared.countdown.Countdown.{Countdown}
-use Rattle.rq_pool.specs.Countdowns.Words.{sources_of}
+use Rattle.rq_pool.specs.Countdowns.Words.{sources_of, history_of}
 use Rattle.rq_pool.specs.Countdowns.Arrivals.{Settled}
 use Rattle.rq_pool.specs.Countdowns.History.{flat_map}
 use Rattle.rq_exchange.specs.declared.outboxes.Outbox.{Outbox}
@@ -16,6 +16,10 @@ use Rattle.rq_exchange.specs.declared.chain.Chain.{Chain}
 use Rattle.rq_exchange.specs.declared.jobs.Job.{Job}
 use Rattle.rq_exchange.specs.declared.crew.Kept.{Kept}
 use Rattle.rq_exchange.specs.declared.crew.Ended.{Ended}
+use Rattle.rq_exchange.specs.declared.crew.Worker.{Worker}
+use Rattle.std.specs.Global.{Vec}
+use Rattle.rq_pool.specs.declared.countdown.fits.Fits.{Ghosts}
+use Rattle.rq_pool.specs.declared.countdown.pass.Pass.{Pass}
 use Rattle.rq_exchange.specs.Chains.{web_of, ArePasses, IsRedone, hand_of, diaries_of}
 use Rattle.rq_exchange.specs.Coverage.{Follows, told_at}
 
@@ -47,6 +51,26 @@ pub record AreHandedBack (job : Job) (chain : Chain) (room : Room) (count : ℕ)
   pub many : length all ≡ count
   pub seats : All (IsSeatOf room) back
   pub keep : AllKeep job chain (map taken_of back) all
+
+-- where all workers worked so, their seats and what they keep are handed back
+abbrev pub HandsBack : List (Result Ended Fault) → List Seat → List Kept → Type 0
+HandsBack ended back all = (job : Job) (chain : Chain) (room : Room) → All (Works job chain room) ended → AreHandedBack job chain room (length ended) back all
+
+-- a seat that has taken nothing
+abbrev pub IsFreshSeat : Room → Seat → Type 0
+IsFreshSeat room s = IsSeatOf room s × (taken_of s ≡ [])
+
+-- passes with which nobody has arrived
+abbrev pub AreFreshPasses : {g : Ghosts Outbox Target} → Chain → Vec (Pass Outbox Target g) → Type 0
+AreFreshPasses chain ps = ArePasses chain ps.items × All (λ p. history_of p ≡ []) ps.items
+
+-- a worker that has not begun
+abbrev pub IsFreshWorker : Chain → Room → Worker → Type 0
+IsFreshWorker chain room w = IsSeatOf room w.seat × (taken_of w.seat ≡ []) × ArePasses chain w.passes.items × All (λ p. history_of p ≡ []) w.passes.items
+
+-- where the seats and the passes are fresh, the workers that they make are
+abbrev pub Pairs : {g : Ghosts Outbox Target} → List Seat → List (Vec (Pass Outbox Target g)) → List Worker → Type 0
+Pairs seats rows workers = (chain : Chain) (room : Room) → All (IsFreshSeat room) seats → All (AreFreshPasses chain) rows → All (IsFreshWorker chain room) workers
 
 -- the threads began with the tasks, each with its own
 pub record AreKept (job : Job) (chain : Chain) (tasks : List ℕ) (all : List Kept) : Type 0 where

@@ -1,13 +1,12 @@
 //! The countdowns of the error queues.
 
-ghost use Rattle.std.specs.Prelude.{◌≡◌, ◌<◌, ◌≤◌, ◌++◌, ◌∷◌, [], ℕ, List, length, All, IfSome, IfOk, IfErr};
+ghost use Rattle.std.specs.Prelude.{◌≡◌, ◌<◌, ◌≤◌, [], length, All, IfSome, IfOk, IfErr};
 ghost use Rattle.rq_record.specs.declared.fault.Fault.TheVariants.{Resources};
 ghost use Rattle.rq_model.specs.Queues as queues;
 ghost use Rattle.rq_pool.specs.Countdowns.Words.{history_of};
-ghost use Rattle.rq_pool.specs.declared.countdown.arrival.Arrival.{Arrival as GhostArrival};
 ghost use Rattle.rq_exchange.specs.Chains.{web_of, due, AreBoxes, IsChain, ArePasses, HasPasses, diaries_of};
 ghost use Rattle.rq_exchange.specs.Openings.{Opened};
-ghost use Rattle.rq_exchange.specs.Coverage.{Tells, asked};
+ghost use Rattle.rq_exchange.specs.Coverage.{HandsOn};
 ghost use Rattle.rq_exchange.specs.Jobs.{IsJob, records_of, errors_in};
 ghost use Rattle.rq_exchange.specs.Links.{at};
 
@@ -46,7 +45,7 @@ impl Chain {
         requires moves { moves.items ≡ queues.moves job.now.state.now (records_of job.now) queue }
         ensures passes { ArePasses self.now passes.new }
         ensures boxes { IfSome result (λ b. AreBoxes job.now error b.items) }
-        ensures tells { (starts begun redone : List ℕ) → Tells (web_of job.now self.now) starts begun redone (diaries_of passes.old) → Tells (web_of job.now self.now) starts (begun ++ asked error result) (redone ++ queue ∷ []) (diaries_of passes.new) }
+        ensures tells { HandsOn (web_of job.now self.now) queue error result (diaries_of passes.old) (diaries_of passes.new) }
     {
         let slot = self.slots[error as usize] as usize;
         let rank = job.ranks[queue as usize];

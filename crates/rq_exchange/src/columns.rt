@@ -1,6 +1,6 @@
 //! Rows turned into columns.
 
-ghost use Rattle.std.specs.Prelude.{◌≡◌, ◌<◌, ◌++◌, ◌∷◌, [], ℕ, List, length, map, All, IfOk, IfErr, OnOk, slice_index_or, vec_items};
+ghost use Rattle.std.specs.Prelude.{◌≡◌, ◌<◌, ◌++◌, ◌∷◌, [], ℕ, length, map, All, IfOk, IfErr, OnOk, slice_index_or};
 ghost use Rattle.rq_state.specs.Orders.{listed};
 ghost use Rattle.rq_record.specs.declared.fault.Fault.TheVariants.{Resources};
 

@@ -12,7 +12,7 @@ ghost use Rattle.rq_exchange.specs.Jobs.{IsJob};
 ghost use Rattle.rq_exchange.specs.Tasks.{AreBare};
 ghost use Rattle.rq_exchange.specs.declared.chain.Chain.{Chain as GhostChain};
 ghost use Rattle.rq_exchange.specs.declared.jobs.Job.{Job as GhostJob};
-ghost use Rattle.rq_exchange.specs.Workers.{Works, AreHandedBack, AreKept};
+ghost use Rattle.rq_exchange.specs.Workers.{Works, HandsBack, IsFreshWorker, Pairs, AreKept};
 
 use crate::chain::Chain;
 use crate::dealing::deal;
@@ -122,7 +122,7 @@ fn run_seats<R: Threads + Sync, G: Gate + Sync>(
 ) -> Result<Vec<Result<Ended, Fault>>, AllocError>
     requires job { IsJob job.now }
     requires chain { IsChain job.now chain.now }
-    requires workers { All (λ w. IsSeatOf room.now w.seat × (taken_of w.seat ≡ []) × ArePasses chain.now w.passes.items × All (λ p. history_of p ≡ []) w.passes.items) workers.items }
+    requires workers { All (IsFreshWorker chain.now room.now) workers.items }
     requires bare { (x : ℕ) → 0 < times_in x (deal_of room.now) → IsBare job.now x }
     ensures { IfOk result (λ v. (length v.items ≡ length workers.items) × All (Works job.now chain.now room.now) v.items) }
 {
@@ -143,8 +143,7 @@ fn paired(
     rows: Vec<Vec<Pass<Outbox>>>,
 ) -> Result<Vec<Worker>, Fault>
     requires { length rows.items ≡ length seats.items }
-    ensures workers { IfOk result (λ v. (chain : GhostChain) (room : PoolRoom) → All (λ s. IsSeatOf room s × (taken_of s ≡ [])) seats.items → All (λ r. ArePasses chain r.items × All (λ p. history_of p ≡ []) r.items) rows.items
-        → All (λ w. IsSeatOf room w.seat × (taken_of w.seat ≡ []) × ArePasses chain w.passes.items × All (λ p. history_of p ≡ []) w.passes.items) v.items) }
+    ensures workers { IfOk result (λ v. Pairs seats.items rows.items v.items) }
     ensures count { IfOk result (λ v. length v.items ≡ length seats.items) }
     ensures refused { IfErr result (λ e. e ≡ Resources) }
 {
@@ -165,7 +164,7 @@ fn handed_back(
     alloc: Global,
     ended: Vec<Result<Ended, Fault>>,
 ) -> Result<(Vec<Seat>, Vec<Kept>), Fault>
-    ensures back { IfOk result (λ r. (job : GhostJob) (chain : GhostChain) (room : PoolRoom) → All (Works job chain room) ended.items → AreHandedBack job chain room (length ended.items) r.0.items r.1.items) }
+    ensures back { IfOk result (λ r. HandsBack ended.items r.0.items r.1.items) }
     ensures refused { (job : GhostJob) (chain : GhostChain) (room : PoolRoom) → All (Works job chain room) ended.items → IfErr result (λ e. e ≡ Resources) }
 {
     let mut seats = Vec::new(alloc);

@@ -4,7 +4,7 @@ ghost use Rattle.std.specs.Prelude.{◌≡◌, ◌<◌, ◌++◌, ◌∷◌, [],
 ghost use Rattle.rq_record.specs.declared.fault.Fault.TheVariants.{Resources};
 ghost use Rattle.rq_state.specs.Orders.{listed};
 ghost use Rattle.rq_exchange.specs.Chains.{web_of, AreBoxes, IsChain, ArePasses, IsRedone, redone_in, diaries_of, hand_of, next_of};
-ghost use Rattle.rq_exchange.specs.Coverage.{Tells, Follows};
+ghost use Rattle.rq_exchange.specs.Coverage.{StepsOn, Follows};
 ghost use Rattle.rq_exchange.specs.Jobs.{IsJob};
 
 use crate::chain::Chain;
@@ -33,8 +33,7 @@ fn step<G: Gate>(
     ensures passes { IfOk result (λ _. ArePasses chain.now passes.new) }
     ensures done { IfOk result (λ _. All (IsRedone job.now) done.old.items → All (IsRedone job.now) done.new.items) }
     ensures next { IfOk result (λ o. IfSome o (λ r. (r.0 < queue) × AreBoxes job.now r.0 r.1.items)) }
-    ensures tells { IfOk result (λ o. (starts : List ℕ) → Tells (web_of job.now chain.now) starts (redone_in done.old.items ++ queue ∷ []) (redone_in done.old.items) (diaries_of passes.old)
-        → Tells (web_of job.now chain.now) starts (redone_in done.new.items ++ next_of o) (redone_in done.new.items) (diaries_of passes.new)) }
+    ensures tells { IfOk result (λ o. StepsOn (web_of job.now chain.now) queue (redone_in done.old.items) (diaries_of passes.old) (redone_in done.new.items) (diaries_of passes.new) (next_of o)) }
     ensures refused { IfErr result (λ e. e ≡ Resources) }
 {
     gate.enter(queue);

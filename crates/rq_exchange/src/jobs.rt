@@ -1,6 +1,6 @@
 //! What the redo of each queue is made from.
 
-ghost use Rattle.std.specs.Prelude.{◌≡◌, ◌<◌, ℕ, List, length, map, All, IfOk, IfErr};
+ghost use Rattle.std.specs.Prelude.{◌≡◌, ◌<◌, length, map, All, IfOk, IfErr};
 ghost use Rattle.rq_model.specs.Records.{Record as ModelRecord};
 ghost use Rattle.rq_model.specs.Queues as queues;
 ghost use Rattle.rq_record.specs.Views.{record_of};

@@ -6,6 +6,7 @@ mod arrivals;
 mod board;
 mod chain;
 mod columns;
+mod course;
 mod crew;
 mod dealing;
 mod definitions;
@@ -17,4 +18,5 @@ mod outboxes;
 mod replaying;
 mod settling;
 
-pub use replaying::{replay, replay_analysed};
+pub use course::Course;
+pub use replaying::{replay, replay_analysed, replay_traced};

@@ -16,13 +16,13 @@ pub(crate) struct Redone {
 
 /// What left a queue.
 #[derive(Drop)]
-pub(crate) struct Outbox {
+pub struct Outbox {
     pub moves: Vec<Move>,
 }
 
 /// What each source of an error queue is to hand in, for contracts alone.
 #[derive(Drop)]
-pub(crate) struct Target {
+pub struct Target {
     pub due: Diary<LinkedList<Move>>,
 }
 

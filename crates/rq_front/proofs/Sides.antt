@@ -1,17 +1,16 @@
 -- The frames whose digests are checked side by side.
-use Rattle.std.proofs.Common.{◌≡◌, ℕ, ◌+◌, ◌-◌, ◌≤◌, List, map, get_or, sym, ap, subst, ◌∙◌, arith}
-use Rattle.std.specs.Prelude.{All, slice_range}
-use Rattle.std.proofs.lemmas.List.{get_or-map, length-map}
+use Rattle.std.proofs.Common.{◌≡◌, ℕ, ◌+◌, ◌-◌, ◌≤◌, ◌<◌, Bool, true, false, cond, List, [], ◌∷◌, ◌++◌, map, get_or, length, take, sym, ap, subst, ◌∙◌, arith}
+use Rattle.std.specs.Prelude.{All, not, nat_le, slice_range}
+use Rattle.std.specs.List.{AllByRecursion, filter}
+use Rattle.std.proofs.lemmas.List.{append-nil, get_or-map, length-map, map-append, take_more}
+use Rattle.std.proofs.lemmas.List.Elements.{All-append, All-filter, All-from_recursion, filter-append, recursion_from_All}
+use Rattle.rq_model.proofs.Lists.{by_cases}
 use Rattle.sha2.specs.Sha256.{sha256}
 use Rattle.rq_lanes.specs.Messages as lanes
 use Rattle.rq_lanes.specs.declared.lanes.Message.{Message}
-use Rattle.rq_front.specs.Walks.{IsRight, IsSpanOf, message_at}
+use Rattle.rq_front.specs.Walks.{IsRight, IsSpanOf, has_turn, message_of}
 use Rattle.rq_front.specs.declared.spans.Span.{Span}
 use Rattle.rq_front.proofs.Framing.{IsBytes, right_exactly}
-
--- what the digest of a span's frame is of
-abbrev pub message_of : Span → Message
-message_of s = message_at (s.start - 4) s.len
 
 -- where the lanes find the digest right, it is right
 one_right : (b : List ℕ) → IsBytes b → (s : Span) → IsSpanOf b s → lanes.IsRight b (message_of s) → IsRight b s
@@ -30,3 +29,48 @@ pub all_right : (b : List ℕ) → IsBytes b → (spans : List Span) → All (Is
 all_right b bytes spans are right = λ k d lt.
     let here = right k (message_of d) (omega (arith, lt, length-map spans message_of)) in
     one_right b bytes (get_or spans k d) (are k d lt) (subst (lanes.IsRight b) (get_or-map message_of spans k d (message_of d) lt) here)
+
+-- what holds of two lists side by side holds of both
+each_of_both : (P : Span → Type 0) (xs ys : List Span) → AllByRecursion P (xs ++ ys) → AllByRecursion P xs × AllByRecursion P ys
+each_of_both P [] ys h = (tt, h)
+each_of_both P (x ∷ xs) ys h = let rest = each_of_both P xs ys h.1 in ((h.0, rest.0), rest.1)
+
+-- each frame has a turn
+each_turn : (P : Span → Type 0) (spans : List Span) → AllByRecursion P (filter (has_turn true) spans) → AllByRecursion P (filter (has_turn false) spans) → AllByRecursion P spans
+each_turn P [] first second = tt
+each_turn P (s ∷ ss) first second =
+    by_cases (nat_le 16384 s.len)
+    (λ t. AllByRecursion P (cond t (s ∷ filter (has_turn true) ss) (filter (has_turn true) ss)) → AllByRecursion P (cond (not t) (s ∷ filter (has_turn false) ss) (filter (has_turn false) ss)) → AllByRecursion P (s ∷ ss))
+    (λ _ f r. (f.0, each_turn P ss f.1 r)) (λ _ f r. (r.0, each_turn P ss f r.1)) first second
+
+-- so where the lanes find the digests of both turns right, all are
+pub both_turns_right : (b : List ℕ) → IsBytes b → (spans : List Span) → All (IsSpanOf b) spans
+    → All (lanes.IsRight b) (map message_of (filter (has_turn true) spans) ++ map message_of (filter (has_turn false) spans)) → All (IsRight b) spans
+both_turns_right b bytes spans are right =
+    let first : List Span = filter (has_turn true) spans in
+    let second : List Span = filter (has_turn false) spans in
+    let of : All (IsSpanOf b) (first ++ second) = All-append (IsSpanOf b) first second (All-filter (has_turn true) (IsSpanOf b) spans are) (All-filter (has_turn false) (IsSpanOf b) spans are) in
+    let both : All (IsRight b) (first ++ second) = all_right b bytes (first ++ second) of (subst (All (lanes.IsRight b)) (sym (map-append message_of first second)) right) in
+    let each = each_of_both (IsRight b) first second (recursion_from_All (IsRight b) (first ++ second) both) in
+    All-from_recursion (IsRight b) spans (each_turn (IsRight b) spans each.0 each.1)
+
+-- the messages of the frames up to a place that have a turn
+abbrev pub of_turn : Bool → List Span → List Message
+of_turn t spans = map message_of (filter (has_turn t) spans)
+
+turn_more : (t : Bool) (spans : List Span) (i : ℕ) (d : Span) → i < length spans → of_turn t (take (i + 1) spans) ≡ of_turn t (take i spans) ++ of_turn t (get_or spans i d ∷ [])
+turn_more t spans i d lt =
+    ap (of_turn t) (take_more spans i d lt) ∙ ap (map message_of) (filter-append (has_turn t) (take i spans) (get_or spans i d ∷ []))
+    ∙ map-append message_of (filter (has_turn t) (take i spans)) (filter (has_turn t) (get_or spans i d ∷ []))
+
+-- one more of them
+pub turn_taken : (t : Bool) (spans : List Span) (i : ℕ) (d : Span) → i < length spans → has_turn t (get_or spans i d) ≡ true
+    → of_turn t (take (i + 1) spans) ≡ of_turn t (take i spans) ++ message_of (get_or spans i d) ∷ []
+turn_taken t spans i d lt its =
+    turn_more t spans i d lt ∙ ap (λ (c : Bool). of_turn t (take i spans) ++ map message_of (cond c (get_or spans i d ∷ []) [])) its
+
+-- and one that has the other turn
+pub turn_passed : (t : Bool) (spans : List Span) (i : ℕ) (d : Span) → i < length spans → has_turn t (get_or spans i d) ≡ false
+    → of_turn t (take (i + 1) spans) ≡ of_turn t (take i spans)
+turn_passed t spans i d lt its =
+    turn_more t spans i d lt ∙ ap (λ (c : Bool). of_turn t (take i spans) ++ map message_of (cond c (get_or spans i d ∷ []) [])) its ∙ append-nil (of_turn t (take i spans))

@@ -1,5 +1,5 @@
 -- A walk along the lengths of a log, before any digest is looked at.
-use Rattle.std.specs.Prelude.{◌≡◌, ℕ, ◌+◌, ◌*◌, ◌-◌, ◌≤◌, ◌<◌, List, [], ◌∷◌, length, take, drop, All}
+use Rattle.std.specs.Prelude.{◌≡◌, ℕ, ◌+◌, ◌*◌, ◌-◌, ◌≤◌, ◌<◌, Bool, true, false, not, nat_le, List, [], ◌∷◌, length, take, drop, All}
 use Rattle.std.specs.List.{HoldsAt}
 use Rattle.rq_model.specs.Frames.{HasFrame, HasRightFrame, IsFrameRun, IsRest, stated, before}
 use Rattle.rq_lanes.specs.declared.lanes.Message.{Message}
@@ -26,6 +26,15 @@ IsRight b s = HasRightFrame (before (s.start - 4) b) (drop (s.start - 4) b)
 -- what the digest of the frame at a place is of: the 32 bytes before it, its length and its body
 abbrev pub message_at : ℕ → ℕ → Message
 message_at at len = record { start = at - 32; len = 36 + len }
+
+-- and of a span's frame
+abbrev pub message_of : Span → Message
+message_of s = message_at (s.start - 4) s.len
+
+-- whether a frame has the first turn in the lanes, which the long ones have, or the second
+abbrev pub has_turn : Bool → Span → Bool
+has_turn true s = nat_le 16384 s.len
+has_turn false s = not (nat_le 16384 s.len)
 
 -- the span at this place is the first whose digest is wrong
 pub record IsFirstWrong (b : List ℕ) (spans : List Span) (place : ℕ) : Type 0 where

@@ -1,30 +1,41 @@
 //! The first frame whose digest is wrong.
 
-ghost use Rattle.std.specs.Prelude.{◌≡◌, ◌≤◌, ◌↔◌, drop, IsTrue, IfNone, IfSome, All, MatchBool};
+ghost use Rattle.std.specs.Prelude.{◌≡◌, ◌≤◌, ◌↔◌, List, ◌++◌, drop, filter, length, map, IsTrue, IfOk, IfNone, IfSome, All, MatchBool};
 ghost use Rattle.rq_model.specs.Frames.{HasFrame, HasRightFrame, before, stated};
-ghost use Rattle.rq_front.specs.Walks.{HasFirstWrong, IsFirstWrong, IsRight, IsSpanOf, message_at};
+ghost use Rattle.rq_front.specs.Walks.{HasFirstWrong, IsFirstWrong, IsRight, IsSpanOf, has_turn, message_at, message_of};
+ghost use Rattle.rq_lanes.specs.Messages.{Holds};
+ghost use Rattle.rq_front.specs.Pieces.{AreSideBySide, spans_in};
 
 use crate::{FRAME_LEN, Span};
 use rayon::prelude::*;
 use rq_lanes::{Lanes, Message};
 use sha2::{Digest, Sha256};
+use std::alloc::{AllocError, Global};
 use std::marker::Sync;
 use std::thread::Threads;
 
 // How many frames are checked side by side. No answer depends on it.
 const LANES: usize = 8;
 
-// How many frames are gone through again, one by one, where the lanes saw a wrong digest.
-const PART: usize = 1024;
+// The pieces of a log that are shared among threads: about as many, each of so many bytes.
+const PIECES: usize = 16;
 
-// The pieces of a log that are shared among threads: about as many, each of so many bytes, and never fewer frames.
-const PIECES: usize = 32;
-
-const PIECE_LEAST: usize = 262_144;
+const PIECE_LEAST: usize = 1_048_576;
 
 const PIECE_MOST: usize = 4_194_304;
 
-const LEAST: usize = 16;
+// The body of a frame that is a piece of its own: among others its lane would run on alone, slower than `sha2`.
+const LONG: usize = 1_048_576;
+
+// The body of a frame that the lanes take before shorter ones.
+const LONG_AMONG_OTHERS: usize = 16_384;
+
+// Some of the spans, side by side: where they begin among all, and where they end.
+#[derive(Clone, Copy, Debug)]
+struct Piece {
+    from: usize,
+    to: usize,
+}
 
 // Whether the digest of the frame at a place is right. The 32 bytes before it, the length and the body stand side by
 // side.
@@ -65,18 +76,39 @@ fn message_at(bytes: &[u8], at: usize, len: usize) -> Message
     }
 }
 
+// Whether a frame has its turn: long ones come first, since behind all others their lanes would run on alone.
+fn has_turn(first: bool, span: Span) -> bool
+    ensures { result ≡ has_turn first span }
+{
+    let is_long = LONG_AMONG_OTHERS <= span.len;
+    if first { is_long } else { !is_long }
+}
+
+// Gives the lanes the frames that have the first turn, or the second.
+fn taken(given: Lanes<LANES>, bytes: &[u8], spans: &[Span], first: bool) -> Lanes<LANES>
+    requires { All (IsSpanOf bytes.now) spans.now }
+    ensures { (ms : List Message) → Holds bytes.now given ms → Holds bytes.now result (ms ++ map message_of (filter (has_turn first) spans.now)) }
+{
+    let mut lanes = given;
+    'frames: for i in 0..spans.len() {
+        let span = spans[i];
+        if has_turn(first, span) {
+            let message = message_at(bytes, span.start - 4, span.len);
+            lanes.take(bytes, message);
+        }
+    }
+    lanes
+}
+
 // Whether the lanes find every digest right. They are sound: on `false` nothing is known.
 fn are_right(bytes: &[u8], spans: &[Span]) -> bool
     requires { All (IsSpanOf bytes.now) spans.now }
     ensures { IsTrue result → All (IsRight bytes.now) spans.now }
 {
-    let mut lanes: Lanes<LANES> = Lanes::new();
-    'frames: for i in 0..spans.len() {
-        let span = spans[i];
-        let message = message_at(bytes, span.start - 4, span.len);
-        lanes.take(bytes, message);
-    }
-    lanes.finish(bytes)
+    let none: Lanes<LANES> = Lanes::new();
+    let some = taken(none, bytes, spans, true);
+    let all = taken(some, bytes, spans, false);
+    all.finish(bytes)
 }
 
 // The first span of a part whose frame has a wrong digest.
@@ -85,10 +117,25 @@ fn wrong_in_part(bytes: &[u8], spans: &[Span]) -> Option<usize>
     ensures none { IfNone result (All (IsRight bytes.now) spans.now) }
     ensures some { IfSome result (IsFirstWrong bytes.now spans.now) }
 {
-    if are_right(bytes, spans) {
+    if spans.len() > 1 && are_right(bytes, spans) {
         return None;
     }
     wrong_among(bytes, spans)
+}
+
+// How many frames at the front make up a piece: so many bytes, up to a long frame, and no fewer frames than the grain.
+fn piece_of(spans: &[Span], grain: usize, size: usize) -> usize
+    requires some { 1 ≤ length spans.now }
+    requires grain { 1 ≤ grain }
+    ensures low { 1 ≤ result }
+    ensures high { result ≤ length spans.now }
+{
+    let end = spans[0].start.saturating_add(size);
+    let frames = spans
+        .iter()
+        .position(|span: &Span| -> bool { end <= span.start || LONG <= span.len })
+        .unwrap_or(spans.len());
+    frames.max(grain).min(spans.len())
 }
 
 // The first span of a piece whose frame has a wrong digest. No more than a part of the piece is gone through twice.
@@ -99,7 +146,7 @@ fn wrong_in(bytes: &[u8], spans: &[Span]) -> Option<usize>
 {
     let mut done = 0;
     'parts: while done < spans.len() {
-        let end = done + PART.min(spans.len() - done);
+        let end = done + piece_of(&spans[done..], 1, PIECE_MOST);
         if let Some(place) = wrong_in_part(bytes, &spans[done..end]) {
             return Some(done + place);
         }
@@ -108,23 +155,39 @@ fn wrong_in(bytes: &[u8], spans: &[Span]) -> Option<usize>
     None
 }
 
-// How many frames a piece has: the grain, and at least as many as it takes to keep all lanes busy.
-fn frames_of(spans: &[Span], grain: usize) -> usize
-    requires { 1 ≤ grain }
-    ensures { 1 ≤ result }
-{
+// How many bytes a piece has, at least.
+fn size_of(spans: &[Span]) -> usize {
     let [first, .., last] = spans else {
-        return grain;
+        return PIECE_LEAST;
     };
     let bytes = last.start.saturating_sub(first.start);
-    let piece = (bytes / PIECES).clamp(PIECE_LEAST, PIECE_MOST);
-    let average = (bytes / spans.len().max(1)).saturating_add(1);
-    grain.max(piece / average).max(LEAST)
+    (bytes / PIECES).clamp(PIECE_LEAST, PIECE_MOST)
 }
 
-// The first span whose frame has a wrong digest, looked for in pieces by several threads.
+// The spans in pieces for several threads.
+fn cut(alloc: Global, spans: &[Span], grain: usize) -> Result<Vec<Piece>, AllocError>
+    requires { 1 ≤ grain }
+    ensures { IfOk result (λ ps. AreSideBySide 0 ps.items (length spans.now)) }
+{
+    let size = size_of(spans);
+    let mut pieces = Vec::new(alloc);
+    let mut done = 0;
+    'pieces: while done < spans.len() {
+        let end = done + piece_of(&spans[done..], grain, size);
+        pieces.push(Piece {
+            from: done,
+            to: end,
+        })?;
+        done = end;
+    }
+    Ok(pieces)
+}
+
+// The first span whose frame has a wrong digest, looked for in pieces by several threads. Where memory runs out for the
+// pieces, it is one thread's work.
 pub(crate) fn first_wrong<R: Threads + Sync>(
     rt: &R,
+    alloc: Global,
     bytes: &[u8],
     spans: &[Span],
     grain: usize,
@@ -134,18 +197,21 @@ pub(crate) fn first_wrong<R: Threads + Sync>(
     ensures none { IfNone result (All (IsRight bytes.now) spans.now) }
     ensures some { IfSome result (IsFirstWrong bytes.now spans.now) }
 {
-    let size = frames_of(spans, grain);
-    if spans.len() <= size {
+    if spans.len() <= grain {
         return wrong_in(bytes, spans);
     }
-    let piece = spans.par_chunks(size).with_min_len(1).position_first(
+    let Ok(pieces) = cut(alloc, spans, grain) else {
+        return wrong_in(bytes, spans);
+    };
+    let place = pieces.par_iter().with_min_len(1).position_first(
         rt,
-        |piece: &[Span]| -> bool
-            requires { All (IsSpanOf bytes.now) piece.now }
-            ensures { MatchBool result (HasFirstWrong bytes.entry.now piece.now) (All (IsRight bytes.entry.now) piece.now) }
-        { wrong_in(bytes, piece).is_some() },
+        |piece: &Piece| -> bool
+            requires inside { All (IsSpanOf bytes.now) spans.now }
+            requires within { (piece.now.from ≤ piece.now.to) × (piece.now.to ≤ length spans.now) }
+            ensures { MatchBool result (HasFirstWrong bytes.entry.now (spans_in spans.entry.now piece.now)) (All (IsRight bytes.entry.now) (spans_in spans.entry.now piece.now)) }
+        { wrong_in(bytes, &spans[piece.from..piece.to]).is_some() },
     )?;
-    let start = piece * size;
+    let start = pieces[place].from;
     let place = wrong_in(bytes, &spans[start..])?;
     Some(start + place)
 }

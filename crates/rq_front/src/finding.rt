@@ -61,7 +61,8 @@ impl Walk {
         frames_are_right();
         one_run();
         let mut found = self.found;
-        if let Some(place) = first_wrong(rt, bytes, &found.spans, grain as usize) {
+        let alloc = *found.spans.allocator();
+        if let Some(place) = first_wrong(rt, alloc, bytes, &found.spans, grain as usize) {
             found.end = found.spans[place].start - 4;
             found.rest = Rest::Digest;
             found.spans.truncate(place);

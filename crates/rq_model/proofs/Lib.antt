@@ -29,6 +29,7 @@ pub mod StateCodes
 pub mod Restarts
 pub mod Found
 pub mod Upgraded
+pub mod Closed
 pub mod Listed
 pub mod Rising
 pub mod Apart

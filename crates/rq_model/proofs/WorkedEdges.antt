@@ -2,15 +2,16 @@
 use Rattle.std.proofs.Common.{◌≡◌, inl, inr, ⊎_elim, ℕ, zero, suc, ◌+◌, ◌<◌, ◌≤◌, List, [], ◌∷◌, ◌++◌, length, refl, subst, arith}
 use Rattle.std.specs.Prelude.{replicate, Some, None}
 use Rattle.std.specs.Fmt.{digits}
+use Rattle.std.specs.List.{range_with_len}
 use Rattle.std.proofs.lemmas.Bool.{false≢true}
 use Rattle.std.proofs.lemmas.List.{take_at, length-append, append-nil}
 use Rattle.sha2.specs.Sha256.{sha256}
-use Rattle.rq_model.specs.Frames.{magic, header, frame, digest, digest_in, body_in, AreBytes, IsBodyLength, stated, HasFrame, IsRest, Cut, Length, Digest}
+use Rattle.rq_model.specs.Frames.{magic, header, frame, digest, digest_in, body_in, AreBytes, IsBodyLength, stated, HasFrame, IsRest, Whole, Cut, Length, Digest, before}
 use Rattle.rq_model.specs.Records.{One}
 use Rattle.rq_model.specs.States.{definition_at}
 use Rattle.rq_model.specs.WorkedMachine.{busy}
 use Rattle.rq_model.specs.WorkedFormats.{WorkedNames, WorkedBodies, WorkedWidths, WorkedFrames, AllRests, WorkedStates, WorkedMembers, WorkedLines, one_body, two_framed}
-use Rattle.rq_model.proofs.Runs.{length-sha256, right_at}
+use Rattle.rq_model.proofs.Runs.{length-sha256, right_at, stops}
 
 pub names : WorkedNames
 names = record { none = refl; bytes = refl; lengths = refl }
@@ -98,6 +99,7 @@ framed = record {
   empty_frame = λ h. omega (arith, h.in_range.0, nothing_stated);
   bodies = (((omega arith, omega arith), tt), λ h. omega (arith, h.0.0));
   before_34 = refl;
+  no_frame = record { within = omega arith; run = stops (before 40 (range_with_len 0 40)) [] [] [] Whole tt refl refl; follows = refl };
 }
   where
     bytes : AreBytes (255 ∷ [])

@@ -14,6 +14,7 @@ pub mod Redo
 pub mod Laws
 pub mod Ready
 pub mod LogLaws
+pub mod Closing
 pub mod MoveLaws
 pub mod WorkedLogs
 pub mod WorkedMachine

@@ -4,7 +4,7 @@ use Rattle.std.specs.List.{range_with_len}
 use Rattle.sha2.specs.Sha256.{sha256}
 use Rattle.rq_model.specs.Records.{Define, Register, Deregister, Begin, Enqueue, Dequeue, Commit, Abort, Checkpoint, Kill, Version, One, Two, no_queue}
 use Rattle.rq_model.specs.Spelling.{is_name_byte, is_name, body_of, IsRecord, Spells}
-use Rattle.rq_model.specs.Frames.{IsBodyLength, log_limit, digest, frame, frames, last, magic, start, header, HasHeader, AreBytes, last_of, log_of, stated, body_in, digest_in, HasFrame, Whole, Cut, Length, Digest, IsRest, AreBodies, before}
+use Rattle.rq_model.specs.Frames.{IsBodyLength, log_limit, digest, frame, frames, last, magic, start, header, HasHeader, AreBytes, last_of, log_of, stated, body_in, digest_in, HasFrame, Whole, Cut, Length, Digest, IsRest, IsFrameRun, AreBodies, before}
 use Rattle.rq_model.specs.States.{Free, Fresh, Held, Enqueued, Dequeued, State, empty}
 use Rattle.rq_model.specs.WellFormed.{IsElement, IsLast, IsRegistrant, IsNote, IsWellFormed, IsDefinition, AreDefinitions, IsBelowLimit, IsElementOf, IsOneDeep}
 use Rattle.rq_model.specs.StateSpelling.{element_number, definition_bytes, registrant_bytes, element_bytes, note_bytes, FitsElement, IsDeepFor, SpellsState}
@@ -119,6 +119,7 @@ pub record WorkedFrames : Type 0 where
   pub empty_frame : HasFrame (0 ∷ 0 ∷ 0 ∷ 0 ∷ replicate 36 0) → ⊥
   pub bodies : AreBodies (one_body ∷ []) × (AreBodies ([] ∷ []) → ⊥)
   pub before_34 : before 34 (range_with_len 0 40) ≡ range_with_len 2 32
+  pub no_frame : IsFrameRun (range_with_len 0 40) 40 [] 40 Whole
 
 -- What follows a run of frames, behind any 32 bytes.
 pub record WorkedRests (p : List ℕ) : Type 0 where

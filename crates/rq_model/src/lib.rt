@@ -3,6 +3,7 @@
 #![tactic(auto)]
 
 ghost use Rattle.rq_model.specs.LogLaws.{BodySpellsOne, RecordHasOneBody, BytesSpellOneState, RunsFit, FrameIsRight, RightIsFrame, RunStops, OneRun, OneRest, OneFrameRun, RunGivesFront, FramesJoin, LogJoins, LogEnds, FrontStops, OneLongest, OneWhy, OneFront, OneRestart, OneText, OneReport, FrontHasReport, EveryLogHasReport, OneVersion, RecordIsWider, UsedIsFront, FrontsAreSpelt, OneRestartAt, TrueIsSame, TrueSaysTheSame, OneAudit, CrashInTheTail, CrashSaysTheSame, UpgradeIsSame};
+ghost use Rattle.rq_model.specs.Closing.{OneClosed, ClosedFront, ClosedStands};
 ghost use Rattle.rq_model.specs.WorkedLogs.{WorkedBytes, WorkedLogs, UnlawfulLogs, WorkedCheckpoint};
 ghost use Rattle.rq_model.specs.WorkedMachine.{WorkedLaw, WorkedSteps, WorkedOrders, WorkedQueues, WorkedRedo};
 ghost use Rattle.rq_model.specs.WorkedFormats.{WorkedNames, WorkedBodies, WorkedWidths, WorkedFrames, AllRests, WorkedStates, WorkedMembers, WorkedLines};
@@ -131,6 +132,14 @@ pub fn crash_is_harmless()
 pub fn crash_in_the_tail()
     ensures state { CrashInTheTail }
     ensures report { CrashSaysTheSame }
+{}
+
+/// A log is closed in one way; the closed log stands in its place, also while its tail is written, and to close it again
+/// changes nothing.
+pub fn closed_logs()
+    ensures one { OneClosed }
+    ensures front { ClosedFront }
+    ensures stands { ClosedStands }
 {}
 
 /// A log in version 2 has the front, the restart and the audit of the log it was made of.

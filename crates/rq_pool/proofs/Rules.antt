@@ -4,7 +4,7 @@ use mathlib.Core.Option.{some, some-ne-none}
 use lib.ListN.{get_elem?}
 use Rattle.std.proofs.lemmas.List.{nil_from_length}
 use Rattle.std.proofs.lemmas.List.Sums.{sum_by-cons, sum_by-append, sum_by_push}
-use Rattle.crossbeam_deque.specs.Tasks.{Pushes, Takes, Finds, FindsFew, Forks, Merges, Learns}
+use Rattle.crossbeam_deque.specs.Tasks.{Pushes, Takes, Finds, Forks, Merges, Learns}
 use Rattle.crossbeam_deque.proofs.Lists.{at_set, set_else}
 use Rattle.rq_pool.specs.declared.deque.Share.{Share}
 use Rattle.rq_pool.specs.Shares.{share}
@@ -86,9 +86,6 @@ emptied port v items views none r at all h =
 
 pub finds : (port : ℕ) (v : Share) → Finds Balanced port v (Emptied v)
 finds port v views r at = emptied port v [] views (omega arith) r at
-
-pub finds_few : (port : ℕ) (v : Share) → FindsFew Balanced 0 port v (Emptied v)
-finds_few port v items views few r at = emptied port v items views few r at
 
 pub wholes : (port : ℕ) (v : Share) → Forks Balanced port v (share 0 [] []) v
 wholes port v items views r at = let l : Share = share 0 [] [] in record {

@@ -1,5 +1,5 @@
 //! A countdown: sources arrive with an outbox each, and the pass whose arrival is the last takes them all.
-ghost use Rattle.std.specs.Prelude.{◌≡◌, ◌+◌, ◌<◌, ◌≤◌, [], ◌∷◌, ◌++◌, All, length, IfOk, IfErr, vec_capacity};
+ghost use Rattle.std.specs.Prelude.{◌≡◌, ◌+◌, ◌<◌, ◌≤◌, [], ◌∷◌, ◌++◌, All, length, map, IfOk, IfErr, vec_capacity};
 ghost use Rattle.rq_record.specs.declared.fault.Fault.TheVariants.{Resources};
 
 mod arrival;
@@ -17,8 +17,10 @@ mod view;
 use arrival::noted;
 pub use arrival::{Arrival, Entry};
 use atomic_table::Table;
+use closing::Arrivals;
 pub use closing::Closing;
 use deal::{deal, rooms};
+use diary::Diary;
 pub use fits::Fits;
 use gather::gather;
 use home::{discard, empty};
@@ -114,18 +116,20 @@ impl<T: Fits> Countdown<T> {
 }
 
 impl<T: Fits> Countdown<T> {
-    ghost use Rattle.rq_pool.specs.Countdowns.Words.{IsPassOf, sources_of, passes_of, history_in, TellsLast};
-    ghost use Rattle.rq_pool.specs.Countdowns.Closings.{arrived_of, last_of, home_of};
+    ghost use Rattle.rq_pool.specs.Countdowns.Words.{IsPassOf, sources_of, passes_of, history_of, history_in, TellsLast};
+    ghost use Rattle.rq_pool.specs.Countdowns.Closings.{arrived_of, last_of, home_of, histories_of};
     ghost use Rattle.rq_pool.specs.Countdowns.Arrivals.{Settled};
 
-    /// What the arrivals came to. The passes are those of this countdown, all of them, in any order. It
-    /// takes no memory and waits for nobody.
+    /// What the arrivals came to, with the arrivals of each pass in the order in which the passes are handed in. The passes
+    /// are those of this countdown, all of them, in any order. It takes no memory and waits for nobody.
     pub fn close(self, passes: Vec<Pass<T>>) -> Closing<T>
         requires own { All (IsPassOf self) passes.items }
         requires all { length passes.items ≡ passes_of self }
         ensures settled { Settled (sources_of self) (history_in passes.items) (arrived_of result) (home_of result) }
         ensures last { TellsLast passes.items (last_of result) }
+        ensures histories { histories_of result ≡ map history_of passes.items }
     {
+        let histories = Diary::of::<Vec<Pass<T>>, Arrivals>(&passes);
         let last = find_last(&passes);
         let Countdown {
             table,
@@ -144,6 +148,7 @@ impl<T: Fits> Countdown<T> {
             arrived,
             last,
             home,
+            histories,
         }
     }
 }

@@ -7,7 +7,6 @@ pub mod Ending
 pub mod Roll
 pub mod Registered
 pub mod NotesInOrder
-pub mod NotesByUnit
 pub mod Noting
 pub mod Steps
 pub mod Cases

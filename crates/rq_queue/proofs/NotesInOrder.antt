@@ -1,8 +1,6 @@
 -- Notes by place: what is done to them in any order is done to them in that order.
 use Rattle.std.proofs.Common.{◌≡◌, ◌≢◌, ◌<◌, Bool, true, false, cond, not, ◌⊎◌, ⊎_elim, List, [], ◌∷◌, ◌++◌, refl, sym, ap, ◌∙◌, arith, append_assoc}
 use Rattle.std.specs.Prelude.{nat_lt}
-use Rattle.std.specs.List.Sorted.{IsPermutation}
-use Rattle.std.proofs.lemmas.List.Sorted.{IsPermutation-refl, IsPermutation-sym, IsPermutation-trans, IsPermutation-cons, IsPermutation-middle, IsPermutation-filter_both}
 use Rattle.std.specs.List.{filter, AllByRecursion}
 use Rattle.std.proofs.lemmas.Bool.{lt-ltb, le-ltb, ltb-true, ltb-false, not-true, cases_order}
 use Rattle.std.proofs.lemmas.List.{append-nil}
@@ -12,10 +10,7 @@ use Rattle.rq_model.proofs.Lists.{by_cases, each_append, each_filter, each_passe
 use Rattle.rq_model.specs.WellFormed.{Ordered}
 use Rattle.rq_model.proofs.Merged.{ordered_append, ordered_filter}
 use Rattle.rq_state.specs.Orders.{place_before}
-use Rattle.rq_queue.specs.Noted.{by_place}
-
-abbrev pub Apart : List Note → Type 0
-Apart es = Ordered (λ a b. a.last.place ≢ b.last.place) es
+use Rattle.rq_queue.specs.Noted.{by_place, Apart}
 
 none_between : (f g : Note → Bool) → ((e : Note) → g e ≡ true → f e ≡ false) → (es : List Note) → filter f (filter g es) ≡ []
 none_between f g h es = filter_none f (filter g es) (each_passes (λ e. f e ≡ false) g h es)
@@ -76,7 +71,7 @@ PutInAnyOrder = (a b : Note) (es : List Note) → a.last.place ≢ b.last.place 
 pub put_in_any_order : PutInAnyOrder
 put_in_any_order a b es apart = ⊎_elim (λ (e : a.last.place ≡ b.last.place). absurd (apart e)) (λ (x : (a.last.place < b.last.place) ⊎ (b.last.place < a.last.place)). ⊎_elim (λ (l : a.last.place < b.last.place). put_two a b es l) (λ (l : b.last.place < a.last.place). sym (put_two b a es l)) x) (cases_order a.last.place b.last.place)
 
-each_filtered : (P Q : Note → Type 0) (p : Note → Bool) → ((x : Note) → P x → p x ≡ true → Q x) → (xs : List Note) → AllByRecursion P xs → AllByRecursion Q (filter p xs)
+pub each_filtered : {X : Type 0} (P Q : X → Type 0) (p : X → Bool) → ((x : X) → P x → p x ≡ true → Q x) → (xs : List X) → AllByRecursion P xs → AllByRecursion Q (filter p xs)
 each_filtered P Q p f [] h = tt
 each_filtered P Q p f (x ∷ xs) h = by_cases (p x) (λ b. p x ≡ b → AllByRecursion Q (cond b (x ∷ filter p xs) (filter p xs))) (λ _ t. (f x h.0 t, each_filtered P Q p f xs h.1)) (λ _ t. each_filtered P Q p f xs h.1) refl
 
@@ -163,32 +158,6 @@ apart_into (x ∷ xs) y ys h k = (with_one xs y ys (λ z. x.last.place ≢ z.las
     with_one [] y ys P p h = (p, h)
     with_one (x ∷ xs) y ys P p h = (h.0, with_one xs y ys P p h.1)
 
--- two lists in either order
-pub each_swapped : (P : Note → Type 0) (a b c : List Note) → AllByRecursion P (a ++ (b ++ c)) → AllByRecursion P (b ++ (a ++ c))
-each_swapped P a b c h = each_append P b (a ++ c) (each_front P b c (each_back P a (b ++ c) h)) (each_append P a c (each_front P a (b ++ c) h) (each_back P b c (each_back P a (b ++ c) h)))
-  where
-    each_front : (P : Note → Type 0) (xs ys : List Note) → AllByRecursion P (xs ++ ys) → AllByRecursion P xs
-    each_front P [] ys h = tt
-    each_front P (x ∷ xs) ys h = (h.0, each_front P xs ys h.1)
-
-    each_back : (P : Note → Type 0) (xs ys : List Note) → AllByRecursion P (xs ++ ys) → AllByRecursion P ys
-    each_back P [] ys h = h
-    each_back P (x ∷ xs) ys h = each_back P xs ys h.1
-
-pub apart_swapped : (a b c : List Note) → Apart (a ++ (b ++ c)) → Apart (b ++ (a ++ c))
-apart_swapped a [] c h = h
-apart_swapped a (x ∷ b) c h = (each_swapped (λ z. x.last.place ≢ z.last.place) a b c (apart_from a x (b ++ c) h).0, apart_swapped a b c (apart_from a x (b ++ c) h).1)
-
-pub sorted_swapped : PutInAnyOrder → (a b c : List Note) → Apart (a ++ (b ++ c)) → by_place (a ++ (b ++ c)) ≡ by_place (b ++ (a ++ c))
-sorted_swapped law a [] c h = refl
-sorted_swapped law a (x ∷ b) c h = sorted_from law a x (b ++ c) h ∙ ap (put place_before x) (sorted_swapped law a b c (apart_from a x (b ++ c) h).1)
-
--- what holds of all that stand in a by_place list holds of all
-each_half : (P : Note → Type 0) (p : Note → Bool) (xs : List Note) → AllByRecursion P (filter p xs) → AllByRecursion P (filter (λ y. not (p y)) xs) → AllByRecursion P xs
-each_half P p [] h k = tt
-each_half P p (x ∷ xs) h k = by_cases (p x) (λ b. AllByRecursion P (cond b (x ∷ filter p xs) (filter p xs)) → AllByRecursion P (cond (not b) (x ∷ filter (λ y. not (p y)) xs) (filter (λ y. not (p y)) xs)) → AllByRecursion P (x ∷ xs))
-    (λ _ f g. (f.0, each_half P p xs f.1 g)) (λ _ f g. (g.0, each_half P p xs f g.1)) h k
-
 pub each_front : (P : Note → Type 0) (xs ys : List Note) → AllByRecursion P (xs ++ ys) → AllByRecursion P xs
 each_front P [] ys h = tt
 each_front P (x ∷ xs) ys h = (h.0, each_front P xs ys h.1)
@@ -196,26 +165,3 @@ each_front P (x ∷ xs) ys h = (h.0, each_front P xs ys h.1)
 pub each_back : (P : Note → Type 0) (xs ys : List Note) → AllByRecursion P (xs ++ ys) → AllByRecursion P ys
 each_back P [] ys h = h
 each_back P (x ∷ xs) ys h = each_back P xs ys h.1
-
-pub each_unsorted : (P : Note → Type 0) (xs : List Note) → AllByRecursion P (by_place xs) → AllByRecursion P xs
-each_unsorted P [] h = tt
-each_unsorted P (x ∷ xs) h =
-    let front = filter (λ y. place_before y x) (by_place xs) in
-    let back = filter (λ y. not (place_before y x)) (by_place xs) in
-    let here : AllByRecursion P (x ∷ back) = each_back P front (x ∷ back) h in
-    (here.0, each_unsorted P xs (each_half P (λ y. place_before y x) (by_place xs) (each_front P front (x ∷ back) h) here.1))
-
--- a by_place list has the same elements
-pub same_elements : (xs : List Note) → IsPermutation xs (by_place xs)
-same_elements [] = IsPermutation-refl []
-same_elements (x ∷ xs) =
-    let front = filter (λ y. place_before y x) (by_place xs) in
-    let back = filter (λ y. not (place_before y x)) (by_place xs) in
-    IsPermutation-trans (x ∷ xs) (x ∷ by_place xs) (front ++ x ∷ back) (IsPermutation-cons x xs (by_place xs) (same_elements xs))
-    (IsPermutation-trans (x ∷ by_place xs) (x ∷ (front ++ back)) (front ++ x ∷ back) (IsPermutation-cons x (by_place xs) (front ++ back) (IsPermutation-filter_both (λ y. place_before y x) (λ y. not (place_before y x)) (λ y. refl) (by_place xs)))
-    (IsPermutation-sym (front ++ x ∷ back) (x ∷ (front ++ back)) (IsPermutation-middle front x back)))
-
--- what is above all ids goes to the end
-pub put_last : (e : Note) (xs : List Note) → AllByRecursion (λ x. x.last.place < e.last.place) xs → put place_before e xs ≡ xs ++ e ∷ []
-put_last e xs h = λ i. filter_all (λ y. place_before y e) xs (each_weaker (λ y. y.last.place < e.last.place) (λ y. place_before y e ≡ true) (λ y l. lt-ltb y.last.place e.last.place l) xs h) i
-    ++ e ∷ filter_none (λ y. not (place_before y e)) xs (each_weaker (λ y. y.last.place < e.last.place) (λ y. not (place_before y e) ≡ false) (λ y l. ap not (lt-ltb y.last.place e.last.place l)) xs h) i

@@ -23,10 +23,10 @@ use Rattle.rq_queue.proofs.Roll.{none_at, any_at, removed, updated, inserted, ap
 
 -- The tests.
 
-same_number : (a b : ℕ) → is_eq (nat_cmp a b) ≡ (b == a)
+pub same_number : (a b : ℕ) → is_eq (nat_cmp a b) ≡ (b == a)
 same_number a b = grind (arith, nat_tests)
 
-number_same : (a b : ℕ) → is_eq (nat_cmp a b) ≡ (a == b)
+pub number_same : (a b : ℕ) → is_eq (nat_cmp a b) ≡ (a == b)
 number_same a b = grind (arith, nat_tests)
 
 reverse_eq : (o : Ordering) → is_eq (ordering_reverse o) ≡ is_eq o
@@ -42,6 +42,9 @@ registrant_is k r = sym (tied_then (nat_cmp k.0 r.queue) (slice_cmp nat_cmp k.1 
 
 note_is : (n : Note) (r : Registrant) → is_eq (key_cmp (n.queue, n.name) (key_of r)) ≡ is_note_of r.queue r.name n
 note_is n r = sym (tied_then (nat_cmp n.queue r.queue) (slice_cmp nat_cmp n.name r.name)) ∙ (λ i. number_same n.queue r.queue i && is_eq-slice_cmp n.name r.name i)
+
+pub note_at : (k : ℕ × List ℕ) (n : Note) → is_eq (key_cmp k (n.queue, n.name)) ≡ is_note_of k.0 k.1 n
+note_at k n = sym (tied_then (nat_cmp k.0 n.queue) (slice_cmp nat_cmp k.1 n.name)) ∙ (λ i. same_number k.0 n.queue i && same_text k.1 n.name i)
 
 none_of : {X : Type 0} (o : Option X) → is_some o ≡ false → o ≡ None
 none_of None h = refl

@@ -1,48 +1,78 @@
--- How the notes of a queue are kept.
-use Rattle.std.specs.Prelude.{◌≡◌, ◌≢◌, ◌<◌, ◌==◌, ℕ, true, List, [], ◌∷◌, ◌++◌}
-use Rattle.std.specs.List.{AllByRecursion}
+-- How the notes of a queue are kept: by place, and under each unit and registrant the places where its notes stand.
+use Rattle.std.specs.Prelude.{◌≡◌, ◌≢◌, ◌<◌, ◌==◌, ℕ, Bool, true, false, not, ◌&&◌, List, Option, Some, None, [], ◌∷◌, ◌++◌, filter}
+use Rattle.std.specs.BTreeMap.{is_at}
+use Rattle.std.specs.List.{AllByRecursion, list_any}
 use Rattle.std.specs.Global.{Vec}
-use Rattle.rq_model.specs.States.{Note}
+use Rattle.std.specs.Map.{lookup, values_of}
+use Rattle.std.specs.Ordering.{nat_cmp}
+use Rattle.std.specs.declared.cmp.Ordering.{Ordering}
+use Rattle.rq_model.specs.States.{Note, is_note_of}
 use Rattle.rq_model.specs.WellFormed.{Ordered}
+use Rattle.rq_queue.specs.declared.whose.Whose.{Whose}
+use Rattle.rq_queue.specs.declared.whose.Whose.TheVariants.{OfUnit, OfRegistrant}
+use Rattle.rq_state.proofs.InOrder.{key_cmp}
 use Rattle.rq_state.specs.Orders.{put_each, place_before}
 
 -- each put in by its place
 abbrev pub by_place : List Note → List Note
 by_place ns = put_each place_before ns
 
--- the notes in lists by unit
-abbrev pub notes_in : List (ℕ × Vec Note) → List Note
-notes_in [] = []
-notes_in (e ∷ es) = e.1.items ++ notes_in es
-
--- notes of the unit
-abbrev pub IsOfUnit : ℕ × Vec Note → Type 0
-IsOfUnit e = AllByRecursion (λ x. (x.unit == e.0) ≡ true) e.1.items
-
--- n stands at the end of the list of its unit, and the others stay
-pub record Stowed (n : Note) (old new : List (ℕ × Vec Note)) : Type 0 where
-  pub list : List Note
-  pub front : List Note
-  pub back : List Note
-  pub left : List Note
-  pub right : List Note
-  pub before : notes_in old ≡ front ++ (list ++ back)
-  pub after : notes_in new ≡ left ++ ((list ++ n ∷ []) ++ right)
-  pub rest : front ++ back ≡ left ++ right
-
--- the list of a unit among the others
-pub record Among (list whole others : List Note) : Type 0 where
-  pub front : List Note
-  pub back : List Note
-  pub whole_is : whole ≡ front ++ (list ++ back)
-  pub others_are : others ≡ front ++ back
+-- no two of the notes have one place
+abbrev pub Apart : List Note → Type 0
+Apart ns = Ordered (λ a b. a.last.place ≢ b.last.place) ns
 
 -- the places of the notes rise
 abbrev pub Rises : List Note → Type 0
 Rises ns = Ordered (λ a b. a.last.place < b.last.place) ns
 
--- each list is of its unit and by place, and all places differ
-pub record AreKept (es : List (ℕ × Vec Note)) : Type 0 where
-  pub of_units : AllByRecursion IsOfUnit es
-  pub rising : AllByRecursion (λ e. Rises e.1.items) es
-  pub apart : Ordered (λ a b. a.last.place ≢ b.last.place) (notes_in es)
+-- a place, with the note that stands there
+abbrev pub Line : Type 0
+Line = ℕ × Note
+
+-- each note stands at its place, and the places rise
+pub record AreByPlace (es : List Line) : Type 0 where
+  pub placed : AllByRecursion (λ (e : Line). e.0 ≡ e.1.last.place) es
+  pub rising : Ordered (λ (a b : Line). a.0 < b.0) es
+
+-- whether the place is one of these
+abbrev pub has_place : ℕ → List ℕ → Bool
+has_place p ps = list_any (λ q. q == p) ps
+
+abbrev pub list_of : Option (Vec ℕ) → List ℕ
+list_of None = []
+list_of (Some places) = places.items
+
+-- the places that stand under a key
+abbrev pub filed : {K : Type 0} → (K → K → Ordering) → K → List (K × Vec ℕ) → List ℕ
+filed R k es = list_of (lookup (is_at (R k)) es)
+
+-- each place of a note stands under its unit and under its registrant; what else stands there may be out of date
+pub record AreKept (all : List Line) (units : List (ℕ × Vec ℕ)) (names : List ((ℕ × List ℕ) × Vec ℕ)) : Type 0 where
+  pub by_place : AreByPlace all
+  pub by_unit : AllByRecursion (λ (e : Line). has_place e.0 (filed nat_cmp e.1.unit units) ≡ true) all
+  pub by_name : AllByRecursion (λ (e : Line). has_place e.0 (filed key_cmp (e.1.queue, e.1.name) names) ≡ true) all
+
+-- whether the note is one of theirs
+abbrev pub is_own : Whose → Note → Bool
+is_own (OfUnit unit) n = n.unit == unit.0
+is_own (OfRegistrant queue name) n = is_note_of queue.0 name n
+
+abbrev pub has_own : Whose → Option Note → Bool
+has_own whose None = false
+has_own whose (Some n) = is_own whose n
+
+-- what is left without their notes at these places
+abbrev pub left : Whose → List ℕ → List Line → List Line
+left whose places es = filter (λ (e : Line). not (has_place e.0 places && is_own whose e.1)) es
+
+-- a note among the others
+pub record Among (n : Note) (whole others : List Note) : Type 0 where
+  pub front : List Note
+  pub back : List Note
+  pub whole_is : whole ≡ front ++ n ∷ back
+  pub others_are : others ≡ front ++ back
+
+-- a note of theirs was taken out of the lines, or nothing was
+abbrev pub Drawn : Whose → Option Note → List Line → List Line → Type 0
+Drawn whose None old new = new ≡ old
+Drawn whose (Some n) old new = (is_own whose n ≡ true) × Among n (values_of old) (values_of new)

@@ -3,14 +3,17 @@
 #![tactic(auto)]
 
 mod departures;
+mod drawing;
 mod elements;
 mod moves;
 mod notes;
 mod operations;
 mod part;
+mod places;
 mod redoing;
 mod registrants;
 mod shelves;
+mod whose;
 
 pub use moves::Move;
 pub use operations::Op;

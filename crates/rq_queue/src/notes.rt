@@ -1,39 +1,44 @@
 //! The notes of a queue: operations of open units by somebody named.
 
-ghost use Rattle.std.specs.Prelude.{◌≡◌, ◌<◌, ◌==◌, ◌++◌, ◌∷◌, [], filter, true, None, IfOk, IfErr};
-ghost use Rattle.std.specs.BTreeMap.{is_at};
+ghost use Rattle.std.specs.Prelude.{◌≡◌, ◌<◌, ◌==◌, ◌++◌, ◌∷◌, [], filter, IfOk, IfErr};
 ghost use Rattle.std.specs.List.{AllByRecursion};
-ghost use Rattle.std.specs.List.Sorted.{IsPermutation};
-ghost use Rattle.std.specs.Map.{lookup};
-ghost use Rattle.std.specs.Ordering.{nat_cmp};
+ghost use Rattle.std.specs.Map.{values_of};
 ghost use Rattle.rq_model.specs.Machine as machine;
 ghost use Rattle.rq_model.specs.States as model;
-ghost use Rattle.rq_queue.specs.Noted.{by_place, notes_in, IsOfUnit, Stowed, Among, Rises};
+ghost use Rattle.rq_queue.specs.Noted.{Rises};
 ghost use Rattle.rq_record.specs.declared.fault.Fault.TheVariants.{Resources};
 ghost use Rattle.rq_state.specs.Views.{kind_of, id_of};
 
+use crate::drawing::{drawn, in_order, without};
+use crate::places::{file, unfiled};
+use crate::whose::Whose;
 use rq_record::{By, ElemId, Fault, Name, QueueNo, UnitNo};
 use rq_state::{Last, Note, OpKind};
 use std::alloc::Global;
 use std::collections::BTreeMap;
 use std::marker::Model;
 
-/// The notes of a queue, by place. They stand with their units, so that the end of a unit costs its own notes alone.
+/// The notes of a queue, by place. Under each unit and each registrant stand the places of its notes, so that the end
+/// of a unit and a DEREGISTER cost their own notes alone. Such a list may keep the place of a note that has gone: it
+/// is only where to look.
 #[derive(Drop)]
 pub struct Notes {
-    units: BTreeMap<u64, Vec<Note>>,
+    all: BTreeMap<u64, Note>,
+    units: BTreeMap<u64, Vec<u64>>,
+    names: BTreeMap<(u32, Name), Vec<u64>>,
 }
 
 impl Model for Notes {
+    ghost use Rattle.std.specs.Map.{values_of};
     ghost use Rattle.std.specs.Prelude.{List};
     ghost use Rattle.rq_model.specs.States as model;
-    ghost use Rattle.rq_queue.specs.Noted.{by_place, notes_in, AreKept};
+    ghost use Rattle.rq_queue.specs.Noted.{AreKept};
 
     ghost Value = { List model.Note };
 
-    ghost view = { λ n. by_place (notes_in n.units.entries) };
+    ghost view = { λ n. values_of n.all.entries };
 
-    ghost invariant = { λ n. AreKept n.units.entries };
+    ghost invariant = { λ n. AreKept n.all.entries n.units.entries n.names.entries };
 }
 
 impl Notes {
@@ -42,7 +47,9 @@ impl Notes {
         ensures { result ≡ [] }
     {
         Notes {
+            all: BTreeMap::new(alloc),
             units: BTreeMap::new(alloc),
+            names: BTreeMap::new(alloc),
         }
     }
 
@@ -67,16 +74,20 @@ impl Notes {
         ensures done { IfOk result (λ v. v ≡ self ++ n ∷ []) }
         ensures refused { IfErr result (λ e. e ≡ Resources) }
     {
-        let units = stow(alloc, self.units, n)?;
-        Ok(Notes { units })
+        let place = n.place();
+        let units = file(alloc, self.units, n.unit().0, place)?;
+        let names = file(alloc, self.names, n.key(), place)?;
+        let mut all = self.all;
+        all.insert(place, n)?;
+        Ok(Notes { all, units, names })
     }
 
-    /// All of them, in some order.
+    /// All of them, by place.
     pub fn list(self, alloc: Global) -> Result<Vec<Note>, Fault>
-        ensures listed { IfOk result (λ v. IsPermutation self v.items) }
+        ensures listed { IfOk result (λ v. v.items ≡ self) }
         ensures refused { IfErr result (λ e. e ≡ Resources) }
     {
-        let all = listed(alloc, self.units)?;
+        let all = listed(alloc, self.all)?;
         Ok(all)
     }
 
@@ -115,87 +126,43 @@ impl Notes {
     }
 
     /// The notes of the registrant go.
-    pub fn forget(self, alloc: Global, queue: QueueNo, name: &Name) -> Result<Notes, Fault>
-        ensures done { IfOk result (λ v. v ≡ machine.unnoted queue.0 name.now self) }
-        ensures refused { IfErr result (λ e. e ≡ Resources) }
+    pub fn forget(self, alloc: Global, queue: QueueNo, name: &Name) -> Notes
+        ensures { result ≡ machine.unnoted queue.0 name.now self }
     {
-        let mut all = in_order(listed(alloc, self.units)?);
-        all.retain(|n| !n.is_of(queue, name));
-        let notes = Notes::of(alloc, all)?;
-        Ok(notes)
+        let (names, places) = unfiled(alloc, self.names, &(queue.0, *name));
+        let all = without(self.all, &places, &Whose::OfRegistrant(queue, *name));
+        Notes {
+            all,
+            units: self.units,
+            names,
+        }
     }
 
     /// Takes the notes of the unit out. They come by place.
-    pub fn take(self, alloc: Global, unit: UnitNo) -> (Notes, Vec<Note>)
-        ensures others { result.0 ≡ machine.closed_notes unit.0 self }
-        ensures taken { result.1.items ≡ filter (λ n. n.unit == unit.0) self }
+    pub fn take(self, alloc: Global, unit: UnitNo) -> Result<(Notes, Vec<Note>), Fault>
+        ensures others { IfOk result (λ r. r.0 ≡ machine.closed_notes unit.0 self) }
+        ensures taken { IfOk result (λ r. r.1.items ≡ filter (λ n. n.unit == unit.0) self) }
+        ensures refused { IfErr result (λ e. e ≡ Resources) }
     {
-        let (units, list) = taken(alloc, self.units, unit);
-        (Notes { units }, list)
+        let (units, places) = unfiled(alloc, self.units, &unit.0);
+        let (all, own) = drawn(alloc, self.all, &places, &Whose::OfUnit(unit))?;
+        let notes = Notes {
+            all,
+            units,
+            names: self.names,
+        };
+        Ok((notes, in_order(own)))
     }
 }
 
-/// Takes the list of a unit out.
-fn taken(
-    alloc: Global,
-    units: BTreeMap<u64, Vec<Note>>,
-    unit: UnitNo,
-) -> (BTreeMap<u64, Vec<Note>>, Vec<Note>)
-    requires of_units { AllByRecursion IsOfUnit units.entries }
-    requires rising { AllByRecursion (λ e. Rises e.1.items) units.entries }
-    ensures absent { lookup (is_at (nat_cmp unit.0)) result.0.entries ≡ None }
-    ensures among { Among result.1.items (notes_in units.entries) (notes_in result.0.entries) }
-    ensures of_units { AllByRecursion IsOfUnit result.0.entries }
-    ensures rising { AllByRecursion (λ e. Rises e.1.items) result.0.entries }
-    ensures of_unit { AllByRecursion (λ x. (x.unit == unit.0) ≡ true) result.1.items }
-    ensures list_rises { Rises result.1.items }
-{
-    let mut units = units;
-    match units.remove(&unit.0) {
-        Some(list) => (units, list),
-        None => (units, Vec::new(alloc)),
-    }
-}
-
-/// Puts a note at the end of the list of its unit.
-fn stow(
-    alloc: Global,
-    units: BTreeMap<u64, Vec<Note>>,
-    n: Note,
-) -> Result<BTreeMap<u64, Vec<Note>>, Fault>
-    requires of_units { AllByRecursion IsOfUnit units.entries }
-    requires rising { AllByRecursion (λ e. Rises e.1.items) units.entries }
-    requires last { AllByRecursion (λ (m : model.Note). m.last.place < n.last.place) (notes_in units.entries) }
-    ensures stowed { IfOk result (λ m. Stowed n units.entries m.entries) }
-    ensures of_units { IfOk result (λ m. AllByRecursion IsOfUnit m.entries) }
-    ensures rising { IfOk result (λ m. AllByRecursion (λ e. Rises e.1.items) m.entries) }
-    ensures refused { IfErr result (λ e. e ≡ Resources) }
-{
-    let unit = n.unit();
-    let (mut others, mut list) = taken(alloc, units, unit);
-    list.push(n)?;
-    others.insert(unit.0, list)?;
-    Ok(others)
-}
-
-/// The notes of all units.
-fn listed(alloc: Global, units: BTreeMap<u64, Vec<Note>>) -> Result<Vec<Note>, Fault>
-    ensures listed { IfOk result (λ v. v.items ≡ notes_in units.entries) }
+/// The notes, by place.
+fn listed(alloc: Global, notes: BTreeMap<u64, Note>) -> Result<Vec<Note>, Fault>
+    ensures listed { IfOk result (λ v. v.items ≡ values_of notes.entries) }
     ensures refused { IfErr result (λ e. e ≡ Resources) }
 {
     let mut all = Vec::new(alloc);
-    for (_, mut list) in units {
-        all.append(&mut list)?;
+    for n in notes.into_values() {
+        all.push(n)?;
     }
     Ok(all)
-}
-
-/// Notes of distinct places, by place.
-fn in_order(notes: Vec<Note>) -> Vec<Note>
-    requires { Rises (by_place notes.items) }
-    ensures { result.items ≡ by_place notes.items }
-{
-    let mut notes = notes;
-    notes.sort_unstable_by_key(|n| n.place());
-    notes
 }

@@ -166,7 +166,7 @@ impl Part {
         ensures done { IfOk result (λ p. p ≡ redo_words.act 0 (records.Commit unit.0) self) }
         ensures refused { IfErr result (λ e. e ≡ Resources) }
     {
-        let (notes, heard) = self.notes.take(alloc, unit);
+        let (notes, heard) = self.notes.take(alloc, unit)?;
         self.notes = notes;
         self.registrants = self.registrants.hear(unit, &heard)?;
         self.elements = self.elements.commit(alloc, unit)?;
@@ -188,7 +188,7 @@ impl Part {
         self.elements = self
             .elements
             .abort(alloc, place, unit, &self.definition, sent)?;
-        let (notes, _) = self.notes.take(alloc, unit);
+        let (notes, _) = self.notes.take(alloc, unit)?;
         self.notes = notes;
         Ok(self)
     }
@@ -206,7 +206,7 @@ impl Part {
         ensures refused { IfErr result (λ e. e ≡ Resources) }
     {
         self.registrants = self.registrants.deregister(queue, name);
-        self.notes = self.notes.forget(alloc, queue, name)?;
+        self.notes = self.notes.forget(alloc, queue, name);
         Ok(self)
     }
 

@@ -50,6 +50,9 @@ pub fn stow(
     ensures refused { IfErr result (λ e. e ≡ Resources) }
 {
     let (mut others, mut list) = taken(alloc, marked, unit);
+    // Most units mark one element of a queue, and a list that grows by itself begins with room for four.
+    let first = usize::from(list.is_empty());
+    list.reserve_exact(first)?;
     list.push(e)?;
     others.insert(unit.0, list)?;
     Ok(others)

@@ -3,6 +3,9 @@ pub mod Chains
 pub mod Fronts
 pub mod Closings
 pub mod Starts
+pub mod Endings
 pub mod Checkpoints
 pub mod Audits
 pub mod Walks
+pub mod Worth
+pub mod Tallies

@@ -1,7 +1,11 @@
 -- On the way through the records: where their frames stand, the state before each, and what is found.
-use Rattle.std.proofs.Common.{◌≡◌, ℕ, zero, suc, ◌+◌, ◌-◌, ◌<◌, ◌≤◌, Bool, true, List, [], ◌∷◌, ◌++◌, length, map, take, drop, get_or, refl, sym, ap, subst, ◌∙◌, append_assoc, arith}
-use Rattle.std.specs.Prelude.{slice_index_or}
+use Rattle.std.proofs.Common.{◌≡◌, ℕ, zero, suc, ◌+◌, ◌-◌, ◌<◌, ◌≤◌, Bool, true, false, List, [], ◌∷◌, ◌++◌, length, map, take, drop, get_or, refl, sym, ap, subst, ◌∙◌, append_assoc, arith}
+use Rattle.std.specs.Prelude.{slice_index_or, nat_eq}
+use Rattle.std.specs.Int.{w64, to_be_bytes}
+use Rattle.std.specs.List.{starts_with}
 use Rattle.std.specs.Str.{bytes_eq}
+use Rattle.std.proofs.lemmas.Bool.Decides.{Decides-eqb}
+use Rattle.std.proofs.lemmas.Slice.Eq.{bytes_eq-Decides, starts_is}
 use Rattle.std.proofs.Math.Seq.{take-suc}
 use Rattle.std.proofs.Math.Numerals.{suc-eq-add-one}
 use Rattle.std.proofs.lemmas.List.{append-nil, map-append, length-map, length-take, take-take, drop-take, take-map, drop-map, take-append-drop, get_or-map}
@@ -12,6 +16,7 @@ use Rattle.rq_model.specs.States.{State, empty}
 use Rattle.rq_model.specs.Machine.{step, run, all_lawful}
 use Rattle.rq_model.specs.StateSpelling.{state_bytes}
 use Rattle.rq_model.specs.Checkpoints.{Audited}
+use Rattle.rq_model.proofs.Lists.{by_cases}
 use Rattle.rq_model.proofs.Restarts.{run_join, lawful_cut, next_run}
 use Rattle.rq_record.specs.declared.record.Record.{Record as Own}
 use Rattle.rq_record.specs.declared.record.Record.TheVariants as own
@@ -19,9 +24,8 @@ use Rattle.rq_record.specs.Views.{record_of}
 use Rattle.rq_front.specs.declared.spans.Chain.{Chain}
 use Rattle.rq_front.specs.declared.spans.Span.{Span}
 use Rattle.rq_front.specs.Chains.{bodies_at, spans_from}
-use Rattle.rq_restart.specs.declared.auditing.Walk.{Walk}
 use Rattle.rq_restart.specs.Ends.{IsChain}
-use Rattle.rq_restart.specs.Audits.{audit_of, audits, audited_of, past, StandAt, IsWalk}
+use Rattle.rq_restart.specs.Audits.{audit_of, audits, audited_of, past, StandAt}
 
 -- where the frames of the records stand
 stand_from : (at : ℕ) (rs : List Record) (left : List (List ℕ)) (i : ℕ) → i < length rs
@@ -95,16 +99,24 @@ none_here s at (own.Dequeue unit queue by) h = refl
 none_here s at (own.Commit unit) h = refl
 none_here s at (own.Abort unit) h = refl
 
-pub walk_past : (all : List Own) (i : ℕ) (r : Own) (w : Walk) → i < length all → r ≡ slice_index_or all i r → ((kept : List ℕ) → r ≡ own.Checkpoint kept → ⊥)
-    → IsWalk (map record_of all) i w → IsWalk (map record_of all) (i + 1) w
-walk_past all i r w lt is other walk =
+pub found_past : (all : List Own) (i : ℕ) (r : Own) (found : List (ℕ × Bool)) → i < length all → r ≡ slice_index_or all i r → ((kept : List ℕ) → r ≡ own.Checkpoint kept → ⊥)
+    → map audited_of found ≡ audits empty 40 (take i (map record_of all)) → map audited_of found ≡ audits empty 40 (take (i + 1) (map record_of all))
+found_past all i r found lt is other so_far =
     let rs = map record_of all in
     let before : List Audited = audits empty 40 (take i rs) in
-    record {
-      within = omega (arith, walk.within);
-      state = walk.state;
-      found = walk.found ∙ sym (audits_more all i r lt is ∙ ap (λ (z : List Audited). before ++ z) (none_here (run empty (take i rs)) (past 40 (take i rs)) r other) ∙ append-nil before);
-    }
+    so_far ∙ sym (audits_more all i r lt is ∙ ap (λ (z : List Audited). before ++ z) (none_here (run empty (take i rs)) (past 40 (take i rs)) r other) ∙ append-nil before)
+
+-- a checkpoint that does not begin with its own number is false
+pub other_number : (all : List Own) (i : ℕ) (kept : List ℕ) (begins : Bool) → i < length all → begins ≡ starts_with nat_eq kept (to_be_bytes w64 i) → begins ≡ false → false ≡ bytes_eq kept (state_bytes (run empty (take i (map record_of all))))
+other_number all i kept begins lt is not_so =
+    let s = run empty (take i (map record_of all)) in
+    let next : s.next ≡ i = next_at (map record_of all) i s (omega (arith, lt, length-map all record_of)) refl in
+    by_cases (bytes_eq kept (state_bytes s)) (λ b. false ≡ b)
+    (λ e.
+    let head : take 8 kept ≡ to_be_bytes w64 i = ap (take 8) ((bytes_eq-Decides kept (state_bytes s)).0 e) ∙ ap (to_be_bytes w64) next in
+    let whole : kept ≡ to_be_bytes w64 i ++ drop 8 kept = sym (take-append-drop 8 kept) ∙ ap (λ (z : List ℕ). z ++ drop 8 kept) head in
+    sym not_so ∙ (starts_is Decides-eqb kept (to_be_bytes w64 i) begins is).1 (drop 8 kept) whole)
+    (λ _. refl)
 
 pub found_next : (all : List Own) (i : ℕ) (r : Own) (kept : List ℕ) (found : List (ℕ × Bool)) (start : ℕ) (truth : Bool) (s : State) → i < length all → r ≡ slice_index_or all i r → r ≡ own.Checkpoint kept
     → map audited_of found ≡ audits empty 40 (take i (map record_of all)) → start ≡ past 40 (take i (map record_of all)) + 4 → s ≡ run empty (take i (map record_of all)) → truth ≡ bytes_eq kept (state_bytes s)

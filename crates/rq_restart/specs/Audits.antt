@@ -1,5 +1,5 @@
 -- Which checkpoints are true, found on the way through the records.
-use Rattle.std.specs.Prelude.{◌≡◌, ℕ, ◌+◌, ◌≤◌, ◌<◌, Bool, List, [], ◌∷◌, ◌++◌, length, map, take, slice_index_or, Result, Ok, Err}
+use Rattle.std.specs.Prelude.{◌≡◌, ℕ, ◌+◌, ◌-◌, ◌*◌, ◌≤◌, ◌<◌, Bool, List, [], ◌∷◌, ◌++◌, length, map, take, slice_index_or, Result, Ok, Err}
 use Rattle.std.specs.Str.{bytes_eq}
 use Rattle.std.specs.Global.{Vec}
 use Rattle.rq_model.specs.Records.{Record, Checkpoint, One}
@@ -13,6 +13,8 @@ use Rattle.rq_record.specs.declared.fault.Fault.{Fault}
 use Rattle.rq_front.specs.declared.spans.Span.{Span}
 use Rattle.rq_front.specs.Chains.{Refused}
 use Rattle.rq_restart.specs.declared.auditing.Walk.{Walk}
+use Rattle.rq_record.specs.declared.record.Record.{Record as Own}
+use Rattle.rq_restart.specs.Worth.{member_bytes, payload_bytes, IsTallied, IsWithin, KeepsAllBut, Counts, lost_by}
 
 -- a record whose frame stands at a place, in the state before it
 abbrev pub audit_of : State → ℕ → Record → List Audited
@@ -36,11 +38,26 @@ audited_of x = record { offset = x.0; truth = x.1 }
 abbrev pub StandAt : List Record → List Span → Type 0
 StandAt rs spans = (i : ℕ) → i < length rs → (i < length spans) × ((d : Span) → (slice_index_or spans i d).start ≡ past 40 (take i rs) + 4)
 
+-- the bytes that the state before the next record spells at least
+abbrev pub least : Walk → ℕ
+least w = (member_bytes w.state - 74 * w.lost) + (w.payload_bytes - 65535 * w.lost)
+
 -- how far an audit has come
 pub record IsWalk (rs : List Record) (i : ℕ) (w : Walk) : Type 0 where
   pub within : w.from ≤ i
   pub state : w.state ≡ run empty (take w.from rs)
+  pub carried : w.payload_bytes ≡ payload_bytes w.state
+  pub tally : IsTallied (run empty (take i rs)) w.tally
+  pub counts : IsWithin i w.tally
+  pub few : w.lost ≤ i * 4294967296
+  pub lost : KeepsAllBut w.lost w.state (run empty (take i rs))
   pub found : map audited_of w.found.items ≡ audits empty 40 (take i rs)
+
+-- v is w behind a record that is no checkpoint
+pub record Passes (w : Walk) (r : Own) (v : Walk) : Type 0 where
+  pub others : v ≡ record w { tally = v.tally; lost = v.lost }
+  pub tally : Counts w.tally v.tally r
+  pub lost : v.lost ≡ w.lost + lost_by r w.tally
 
 -- the audit of b, or why b is refused: it is too long, or no log
 abbrev pub Audits : List ℕ → Result (Vec (ℕ × Bool)) Fault → Type 0

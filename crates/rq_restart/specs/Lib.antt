@@ -3,5 +3,7 @@ pub mod Readings
 pub mod Known
 pub mod Ends
 pub mod Restarts
+pub mod Tails
 pub mod Checkpoints
 pub mod Audits
+pub mod Worth

@@ -1,28 +1,38 @@
 //! Which checkpoints of a log are true.
 
-ghost use Rattle.std.specs.Prelude.{◌≡◌, ◌≤◌, ◌<◌, ◌+◌, true, length, map, IfOk, IfErr};
+ghost use Rattle.std.specs.Prelude.{◌≡◌, ◌≤◌, ◌<◌, ◌+◌, ◌-◌, ◌^◌, ◌&&◌, not, true, List, length, map, nat_eq, nat_lt, IfOk, IfErr};
+ghost use Rattle.std.specs.Int.{w64, to_be_bytes};
+ghost use Rattle.std.specs.List.{starts_with, flat_map, AllByRecursion};
 ghost use Rattle.std.specs.Str.{bytes_eq};
+ghost use Rattle.rq_model.specs.Records as model;
 ghost use Rattle.rq_model.specs.Records.{One};
+ghost use Rattle.rq_model.specs.States as states;
 ghost use Rattle.rq_model.specs.States.{empty};
+ghost use Rattle.rq_model.specs.Spelling.{IsRecord};
 ghost use Rattle.rq_model.specs.Frames.{HasHeader};
 ghost use Rattle.rq_model.specs.Machine.{all_lawful};
 ghost use Rattle.rq_model.specs.Checkpoints.{IsAudit};
 ghost use Rattle.rq_model.specs.StateSpelling.{state_bytes};
 ghost use Rattle.rq_record.specs.Views.{record_of};
 ghost use Rattle.rq_record.specs.declared.fault.Fault.TheVariants.{Resources};
-ghost use Rattle.rq_restart.specs.Audits.{Audits, IsWalk, StandAt, audited_of};
+ghost use Rattle.rq_restart.specs.Audits.{Audits, IsWalk, Passes, StandAt, audited_of, least};
 ghost use Rattle.rq_restart.specs.Ends.{IsChain};
+ghost use Rattle.rq_restart.specs.Worth.{IsWithin, member_bytes, lost_by};
 
 use crate::front::front_of;
-use crate::grain::grain_of;
+use crate::grain::{grain_of, plan_for};
+use crate::tally::Tally;
 use rq_exchange::replay;
 use rq_front::{Chain, Span, chain};
 use rq_pool::{Open, Plan};
 use rq_record::{Fault, Record};
-use rq_state::{State, spell};
+use rq_state::{Element, State, spell};
 use std::alloc::Global;
 use std::marker::Sync;
 use std::thread::Threads;
+
+// So many bytes of a checkpoint cost about as much as a record.
+const BYTES_OF_A_RECORD: usize = 64;
 
 // Whether these are the bytes that spell the state.
 fn is_spelled(alloc: Global, state: &State, kept: &[u8]) -> Result<bool, Fault>
@@ -38,49 +48,152 @@ fn is_spelled(alloc: Global, state: &State, kept: &[u8]) -> Result<bool, Fault>
     }
 }
 
-// How far an audit has come: the state before the last checkpoint, the place of that among the records, and what was found.
+// Whether the bytes begin as those of each state with this next record number.
+fn begins_with(kept: &[u8], next: u64) -> bool
+    ensures { result ≡ starts_with nat_eq kept.now (to_be_bytes w64 next) }
+{
+    kept.starts_with(&next.to_be_bytes())
+}
+
+// How far an audit has come: the last state that was made, with the bytes of its payloads and the place of the record that it
+// stands before; how often each unit and registrant was spoken of; how many members of each list of that state may be gone
+// since; and what was found.
 #[derive(Drop)]
 struct Walk {
     state: State,
+    payload_bytes: u128,
     from: usize,
+    tally: Tally,
+    lost: u64,
     found: Vec<(u64, bool)>,
 }
 
-// One record further. The state before a checkpoint is made of the one before the last.
+impl Walk {
+    // Before the first record.
+    fn first(alloc: Global) -> Walk
+        ensures { (rs : List model.Record) → IsWalk rs 0 result }
+    {
+        let tally = Tally::new(alloc);
+        let found = Vec::new(alloc);
+        Walk {
+            state: State::empty(alloc),
+            payload_bytes: 0,
+            from: 0,
+            tally,
+            lost: 0,
+            found,
+        }
+    }
+}
+
+// The bytes of the payloads of all these elements.
+fn payload_bytes_of(elements: &[Element]) -> u128
+    ensures { result ≡ length (flat_map (λ (e : states.Element). e.payload) elements.now) }
+{
+    let mut sum = 0;
+    for element in elements {
+        sum += element.payload.bytes().len() as u128;
+    }
+    sum
+}
+
+// The bytes of a state's members, each in its shortest form.
+fn member_bytes_of(state: &State) -> u128
+    ensures { result ≡ member_bytes state.now }
+{
+    7 * state.definition_count() as u128
+        + 8 * state.unit_count() as u128
+        + 6 * state.registrant_count() as u128
+        + 28 * state.element_count() as u128
+        + 38 * state.note_count() as u128
+}
+
+// Whether the state before the next record has more in it than so many bytes can spell.
+fn is_too_short(walk: &Walk, len: usize) -> bool
+    ensures { result ≡ nat_lt len (least walk.now) }
+{
+    let len = len as u128;
+    let lost = walk.lost as u128;
+    let members = member_bytes_of(&walk.state).saturating_sub(74 * lost);
+    len < members || len - members < walk.payload_bytes.saturating_sub(65535 * lost)
+}
+
+// Whether the bytes may spell the state before the next record: they begin with its number, and are enough.
+fn may_spell(walk: &Walk, kept: &[u8], next: u64) -> bool
+    ensures { result ≡ (starts_with nat_eq kept.now (to_be_bytes w64 next) && not (nat_lt (length kept.now) (least walk.now))) }
+{
+    begins_with(kept, next) && !is_too_short(walk, kept.len())
+}
+
+// Behind one record that is no checkpoint.
+fn pass(walk: Walk, rec: &Record) -> Result<Walk, Fault>
+    requires counts { IsWithin (2 ^ 64 - 2) walk.tally }
+    requires room { walk.lost + lost_by rec.now walk.tally < 2 ^ 64 }
+    ensures passed { IfOk result (Passes walk rec.now) }
+    ensures refused { IfErr result (λ e. e ≡ Resources) }
+{
+    let mut tally = walk.tally;
+    let lost = tally.take(rec)?;
+    Ok(Walk {
+        state: walk.state,
+        payload_bytes: walk.payload_bytes,
+        from: walk.from,
+        tally,
+        lost: walk.lost + lost,
+        found: walk.found,
+    })
+}
+
+// One record further. The state before a checkpoint is made of the last one that was made, and only where the checkpoint
+// begins with its own number and is long enough to spell it: so a false one costs its bytes, and what was taken from the state
+// since the last one.
 fn visit<R: Threads + Sync>(
     rt: &R,
     alloc: Global,
     records: &[Record],
     spans: &[Span],
     place: usize,
-    walk: Walk,
+    mut walk: Walk,
     plan: &Plan,
 ) -> Result<Walk, Fault>
     requires there { place < length records.now }
     requires few { length records.now ≤ 4294967295 }
+    requires form { AllByRecursion (IsRecord One) (map record_of records.now) }
     requires lawful { all_lawful One empty (map record_of records.now) ≡ true }
     requires spans { StandAt (map record_of records.now) spans.now }
     requires walk { IsWalk (map record_of records.now) place walk }
     ensures walk { IfOk result (IsWalk (map record_of records.now) (place + 1)) }
     ensures refused { IfErr result (λ e. e ≡ Resources) }
 {
+    rq_model::runs_are_well_formed();
+    rq_model::runs_fit();
     let Record::Checkpoint { bytes } = &records[place] else {
-        return Ok(walk);
+        return pass(walk, &records[place]);
     };
+    let kept = bytes.bytes();
+    let offset = spans[place].start as u64 - 4;
+    if !may_spell(&walk, kept, place as u64) {
+        walk.found.push((offset, false))?;
+        return Ok(walk);
+    }
+    let work = (place - walk.from).saturating_add(kept.len() / BYTES_OF_A_RECORD);
     let state = replay(
         rt,
         alloc,
         &walk.state,
         &records[walk.from..place],
-        plan,
+        &plan_for(plan, work),
         &Open,
     )?;
-    let truth = is_spelled(alloc, &state, bytes.bytes())?;
+    let truth = is_spelled(alloc, &state, kept)?;
     let mut found = walk.found;
-    found.push((spans[place].start as u64 - 4, truth))?;
+    found.push((offset, truth))?;
     Ok(Walk {
+        payload_bytes: payload_bytes_of(state.elements()),
         state,
         from: place,
+        tally: walk.tally,
+        lost: 0,
         found,
     })
 }
@@ -103,11 +216,7 @@ fn checkpoints_of<R: Threads + Sync>(
     rq_model::frames_join();
     rq_model::one_front();
     let front = front_of(rt, alloc, bytes, found, &State::empty(alloc), plan)?;
-    let mut walk = Walk {
-        state: State::empty(alloc),
-        from: 0,
-        found: Vec::new(alloc),
-    };
+    let mut walk = Walk::first(alloc);
     for place in 0..front.records.len() {
         walk = visit(rt, alloc, &front.records, &found.spans, place, walk, plan)?;
     }

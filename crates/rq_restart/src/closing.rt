@@ -28,7 +28,7 @@ fn append_aborts(records: &mut Vec<Record>, units: &[UnitNo]) -> Result<(), Faul
     ensures records { OnOk result (map record_of records.new.items ≡ map record_of records.old.items ++ map model.Abort (map unit_of units.now)) }
     ensures refused { IfErr result (λ e. e ≡ Resources) }
 {
-    records.reserve(units.len())?;
+    records.reserve_exact(units.len())?;
     for unit in units {
         records.push(Record::Abort { unit: *unit })?;
     }

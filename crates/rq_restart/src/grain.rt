@@ -15,3 +15,11 @@ pub(crate) fn grain_of(plan: &Plan) -> u32
         plan.grain()
     }
 }
+
+/// The plan for so little work as this many records are: one worker where they make no grain, so that no thread is started.
+pub(crate) fn plan_for(plan: &Plan, records: usize) -> Plan {
+    match Plan::new(1, plan.grain()) {
+        Some(alone) if records < plan.grain() as usize => alone,
+        _ => *plan,
+    }
+}

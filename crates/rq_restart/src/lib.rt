@@ -10,6 +10,8 @@ mod reading;
 mod restarted;
 mod restarting;
 mod restarting_at;
+mod tails;
+mod tally;
 
 pub use auditing::audit;
 pub use restarted::{Restarted, Why};
@@ -17,3 +19,4 @@ pub use restarting::{front_state, restart};
 pub use restarting_at::restart_at;
 pub use rq_pool::{Gate, Open, Plan};
 pub use rq_record::Fault;
+pub use tails::{closed, tail};

@@ -23,8 +23,8 @@ use std::alloc::Global;
 use std::marker::Sync;
 use std::thread::Threads;
 
-// The front of the whole log.
-fn whole_front<R: Threads + Sync>(
+/// The front of the whole log.
+pub(crate) fn whole_front<R: Threads + Sync>(
     rt: &R,
     alloc: Global,
     bytes: &[u8],

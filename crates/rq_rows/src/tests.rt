@@ -1,14 +1,20 @@
 mod analysis;
 mod barrier;
+mod calls;
 mod checkpoints;
 mod countdowns;
 mod damage;
+mod fronts;
+mod hostile;
 mod lanes;
+mod looking;
 mod many;
 mod program;
 mod queues;
 mod rooms;
 mod scripts;
+mod streams;
+mod tails;
 mod texts;
 mod threads;
 

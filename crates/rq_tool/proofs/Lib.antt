@@ -1,4 +1,7 @@
 pub mod Told
+pub mod Unread
 pub mod ToldAt
 pub mod Scripts
+pub mod AuditTexts
 pub mod Plans
+pub mod Closings

@@ -1,11 +1,11 @@
 -- From the words of a line to its plan.
-use Rattle.std.proofs.Common.{◌≡◌, ℕ, ◌^◌, ◌<◌, ◌≤◌, ◌↔◌, List, Option, Some, None, IsSome, IfSome, refl, sym, ap, ◌∙◌, arith}
+use Rattle.std.proofs.Common.{◌≡◌, ℕ, ◌≤◌, ◌↔◌, List, Option, Some, None, IsSome, IfSome, refl, sym, ap, ◌∙◌, arith}
 use Rattle.std.specs.Fmt.{decimal}
 use Rattle.std.proofs.lemmas.Fmt.{decimal_injective}
 use Rattle.rq_pool.specs.Plans.{workers_of, grain_of}
 use Rattle.rq_pool.specs.declared.plan.Plan.{Plan}
 use Rattle.rq_tool.specs.Commands.{IsPlan}
-use Rattle.rq_tool.specs.Words.{IsAuditPlanOf, IsPlanOf}
+use Rattle.rq_tool.specs.Words.{IsWorkersPlanOf, IsPlanOf}
 
 -- a number of a plan that a word tells is the one that was read
 same_number : (text : List ℕ) (n v : ℕ) → text ≡ decimal n → n ≤ 4294967295 → v ≤ 1000000 → text ≡ decimal v → n ≡ v
@@ -25,14 +25,14 @@ plan_of workers grain w g None ws gs is_w is_g range h = λ x y fits told_w told
     let back : IsSome none = range.1 (omega (arith, fits.0, few), omega (arith, fits.1, few), omega (arith, fits.2, fine), omega (arith, fits.3, fine)) in
     absurd (cc)
 
-pub audit_plan_of : (workers : List ℕ) (w : ℕ) (made : Option Plan) → w ≤ 4294967295 → workers ≡ decimal w
-    → (IsSome made ↔ IsPlan w 1000) → IfSome made (λ p. (workers_of p ≡ w) × (grain_of p ≡ 1000)) → IsAuditPlanOf workers made
-audit_plan_of workers w (Some p) ws is_w range h =
+pub workers_plan_of : (workers : List ℕ) (w : ℕ) (made : Option Plan) → w ≤ 4294967295 → workers ≡ decimal w
+    → (IsSome made ↔ IsPlan w 1000) → IfSome made (λ p. (workers_of p ≡ w) × (grain_of p ≡ 1000)) → IsWorkersPlanOf workers made
+workers_plan_of workers w (Some p) ws is_w range h =
     let fits : IsPlan w 1000 = range.0 refl in
     let few : workers_of p ≡ w = h.0 in
     let fine : grain_of p ≡ 1000 = h.1 in
     ((omega (arith, fits.0, few), omega (arith, fits.1, few), omega (arith, fine), omega (arith, fine)), fine, is_w ∙ ap decimal (sym few))
-audit_plan_of workers w None ws is_w range h = λ x fits told_w.
+workers_plan_of workers w None ws is_w range h = λ x fits told_w.
     let few : w ≡ x = same_number workers w x is_w ws (omega (arith, fits.1)) told_w in
     let none : Option Plan = None in
     let back : IsSome none = range.1 (omega (arith, fits.0, few), omega (arith, fits.1, few), omega arith, omega arith) in

@@ -1,36 +1,47 @@
--- From the script that was read to the one that the reader had.
-use Rattle.std.proofs.Common.{ℕ, ◌≤◌, List, length, subst, arith, inl, inr}
-use Rattle.std.specs.Prelude.{Result, Ok, Err, IfErr}
+-- From the script that was read to the one that the reader had, and from its log to what is written.
+use Rattle.std.proofs.Common.{ℕ, ◌<◌, ◌≤◌, List, length, subst, arith, inl, inr}
+use Rattle.std.specs.Prelude.{Option, Result, Ok, Err, IfErr, IfOk}
 use Rattle.std.specs.Global.{Vec}
 use Rattle.rq_model.specs.Frames.{log_limit}
 use Rattle.rq_record.specs.declared.fault.Fault.{Fault}
 use Rattle.rq_record.specs.declared.fault.Fault.TheVariants as faults
+use Rattle.rq_report.specs.Streams.{Delivers}
 use Rattle.rq_writer.specs.Made.{Made}
-use Rattle.rq_tool.specs.Scripts.{MakesRead, IsMakeFault}
+use Rattle.rq_tool.specs.Scripts.{IsLogOf, IsMakeFault, Makes, MakesOnly, MakesRead}
 use Rattle.rq_tool.proofs.Told.{IsSame}
 
 abbrev MakesLog : List ℕ → Result (Vec ℕ) Fault → Type 0
 MakesLog = Made (λ v. v.items)
 
-same_made : (b : List ℕ) (result : Result (Vec ℕ) Fault) → MakesLog b result → MakesRead b result
-same_made b (Ok log) h = h
-same_made b (Err faults.TooLong) h = inr h
-same_made b (Err faults.TooLarge) h = h
-same_made b (Err faults.Resources) h = tt
-same_made b (Err (faults.Script n)) h = h
-same_made b (Err faults.ReadFailed) h = tt
-same_made b (Err faults.Form) h = absurd h
-same_made b (Err faults.NotALog) h = absurd h
-same_made b (Err faults.BadCheckpoint) h = absurd h
-same_made b (Err faults.NoCheckpoint) h = absurd h
-same_made b (Err faults.WriteFailed) h = absurd h
+made : (script : List ℕ) (result : Result (Vec ℕ) Fault) → length script ≤ log_limit → MakesLog script result → MakesRead script result
+made script (Ok log) short h = (short, h)
+made script (Err faults.TooLong) short h = inr (short, h)
+made script (Err faults.TooLarge) short h = (short, h)
+made script (Err faults.Resources) short h = tt
+made script (Err (faults.Script n)) short h = (short, h)
+made script (Err faults.ReadFailed) short h = tt
+made script (Err faults.Form) short h = absurd h
+made script (Err faults.NotALog) short h = absurd h
+made script (Err faults.BadCheckpoint) short h = absurd h
+made script (Err faults.NoCheckpoint) short h = absurd h
+made script (Err faults.WriteFailed) short h = absurd h
 
 -- a script of lawful length was read whole
-pub made_read : (b bytes : List ℕ) (result : Result (Vec ℕ) Fault) → IsSame b bytes → length bytes ≤ log_limit → MakesLog bytes result → MakesRead b result
-made_read b bytes result same short made = elim same [
-  | inl is ↦ same_made b result (subst (λ (x : List ℕ). MakesLog x result) is made)
+pub made_read : (b script : List ℕ) (result : Result (Vec ℕ) Fault) → IsSame b script → length script ≤ log_limit → MakesLog script result → MakesRead b result
+made_read b script result same short h = elim same [
+  | inl is ↦ subst (λ (x : List ℕ). MakesRead x result) is (made script result short h)
   | inr long ↦ (let no : ⊥ = omega (arith, long.1, short) in absurd no)
 ]
+
+pub long_script : (b script : List ℕ) → IsSame b script → log_limit < length script → MakesRead b (Err faults.TooLong)
+long_script b script same long = elim same [
+  | inl is ↦ inl (subst (λ (x : List ℕ). log_limit < length x) is long)
+  | inr both ↦ inl both.0
+]
+
+pub made_some : (script : List ℕ) (result : Result (Vec ℕ) Fault) → length script ≤ log_limit → MakesLog script result → IfOk result (λ log. (script : List ℕ) × IsLogOf script log.items)
+made_some script (Ok log) short h = (script, (short, h))
+made_some script (Err e) short h = tt
 
 pub made_fault : (script : List ℕ) (result : Result (Vec ℕ) Fault) → MakesLog script result → IfErr result IsMakeFault
 made_fault script (Ok log) h = tt
@@ -44,3 +55,30 @@ made_fault script (Err faults.NotALog) h = absurd h
 made_fault script (Err faults.BadCheckpoint) h = absurd h
 made_fault script (Err faults.NoCheckpoint) h = absurd h
 made_fault script (Err faults.WriteFailed) h = absurd h
+
+-- what is written of a log is written of its script
+pub written_log : (b log : List ℕ) (before after : ℕ) (old new : Option (List ℕ)) (result : Result (Unit {0}) Fault) → IsLogOf b log → Delivers before after old new log result → Makes b old new result
+written_log b log before after old new (Ok done) is w = (log, is, w.1)
+written_log b log before after old new (Err faults.WriteFailed) is w = (log, is, w.1)
+written_log b log before after old new (Err faults.Resources) is w = absurd w
+written_log b log before after old new (Err faults.Form) is w = absurd w
+written_log b log before after old new (Err faults.NotALog) is w = absurd w
+written_log b log before after old new (Err faults.TooLong) is w = absurd w
+written_log b log before after old new (Err faults.TooLarge) is w = absurd w
+written_log b log before after old new (Err faults.BadCheckpoint) is w = absurd w
+written_log b log before after old new (Err faults.NoCheckpoint) is w = absurd w
+written_log b log before after old new (Err (faults.Script n)) is w = absurd w
+written_log b log before after old new (Err faults.ReadFailed) is w = absurd w
+
+pub written_log_only : (b log : List ℕ) (before after : ℕ) (old new : Option (List ℕ)) (result : Result (Unit {0}) Fault) → IsLogOf b log → Delivers before after old new log result → MakesOnly old new result
+written_log_only b log before after old new (Ok done) is w = (b, log, is, w.1)
+written_log_only b log before after old new (Err faults.WriteFailed) is w = (b, log, is, w.1)
+written_log_only b log before after old new (Err faults.Resources) is w = absurd w
+written_log_only b log before after old new (Err faults.Form) is w = absurd w
+written_log_only b log before after old new (Err faults.NotALog) is w = absurd w
+written_log_only b log before after old new (Err faults.TooLong) is w = absurd w
+written_log_only b log before after old new (Err faults.TooLarge) is w = absurd w
+written_log_only b log before after old new (Err faults.BadCheckpoint) is w = absurd w
+written_log_only b log before after old new (Err faults.NoCheckpoint) is w = absurd w
+written_log_only b log before after old new (Err (faults.Script n)) is w = absurd w
+written_log_only b log before after old new (Err faults.ReadFailed) is w = absurd w

@@ -1,7 +1,8 @@
 -- From the bytes that were read to those that the reader had.
-use Rattle.std.proofs.Common.{◌≡◌, ℕ, ◌<◌, List, [], ◌++◌, length, refl, sym, ap, subst, ◌∙◌, append_assoc, arith, inl, inr}
+use Rattle.std.proofs.Common.{◌≡◌, ℕ, ◌<◌, List, ◌++◌, length, sym, ap, subst, ◌∙◌, arith, inl, inr}
 use Rattle.std.specs.Prelude.{◌⊎◌, Option, Some, None, Result, Ok, Err}
-use Rattle.std.specs.Io.KnownBytes.{Consumes, IsAtEnd}
+use Rattle.std.specs.Io.KnownBytes.{Consumes}
+use Rattle.std.proofs.KnownBytes.{Consumes-trans}
 use Rattle.std.proofs.lemmas.List.{append-nil, length-append}
 use Rattle.rq_model.specs.Frames.{log_limit}
 use Rattle.rq_model.specs.Fronts.{Restarted, IsRestart}
@@ -10,24 +11,36 @@ use Rattle.rq_record.specs.declared.fault.Fault.TheVariants as faults
 use Rattle.rq_front.specs.Chains.{Refused}
 use Rattle.rq_report.specs.Streams.{Reports}
 use Rattle.rq_restart.specs.Restarts.{Restarts}
-use Rattle.rq_tool.specs.Streams.{ReadsAll}
+use Rattle.rq_tool.specs.Streams.{IsOneOf, ReadsAll, ReadsOn, Takes, TakesSome}
 use Rattle.rq_tool.specs.Headline.{RestartsRead, Runs, WritesOnly}
 
-pub consumes_nothing : (known : Option (List ℕ)) → Consumes known known []
-consumes_nothing None = tt
-consumes_nothing (Some xs) = refl
+-- what a reader gave, and what it gives next
+pub reads_on : (old mid new : Option (List ℕ)) (before bytes after more : List ℕ) → ReadsOn old before mid bytes → after ≡ bytes ++ more → Consumes mid new more → ReadsOn old before new after
+reads_on old mid new before bytes after more h is more_taken = λ first taken. subst (Consumes first new) (sym is) (Consumes-trans first mid new bytes more (h first taken) more_taken)
 
-pub consumes_more : (old mid new : Option (List ℕ)) (a b : List ℕ) → Consumes old mid a → Consumes mid new b → Consumes old new (a ++ b)
-consumes_more None mid new a b p q = tt
-consumes_more (Some xs) None new a b p q = absurd p
-consumes_more (Some xs) (Some ys) None a b p q = absurd q
-consumes_more (Some xs) (Some ys) (Some zs) a b p q = p ∙ ap (λ (x : List ℕ). a ++ x) q ∙ sym (append_assoc a b zs)
+pub takes_on : (old mid new : Option (List ℕ)) → TakesSome old mid → TakesSome mid new → TakesSome old new
+takes_on old mid new h more = (h.0 ++ more.0, Consumes-trans old mid new h.0 more.0 h.1 more.1)
 
--- at the end nothing more is taken
-pub ended : (old new : Option (List ℕ)) → Consumes old new [] → IsAtEnd new → IsAtEnd old
-ended None new p h = tt
-ended (Some xs) None p h = absurd p
-ended (Some xs) (Some ys) p h = p ∙ h
+-- what was taken up to the end, or as far as a log may go and one byte more
+pub all_taken : {A : Type 0} (old new : Option (List ℕ)) (bytes : List ℕ) (result : Result A Fault) → ReadsAll old new bytes → Takes old new result
+all_taken old new bytes (Ok x) h = (bytes, h)
+all_taken old new bytes (Err faults.ReadFailed) h = (bytes, h.0)
+all_taken old new bytes (Err faults.Resources) h = (bytes, h.0)
+all_taken old new bytes (Err faults.TooLong) h = (bytes, h)
+all_taken old new bytes (Err faults.NotALog) h = (bytes, h)
+all_taken old new bytes (Err faults.Form) h = (bytes, h)
+all_taken old new bytes (Err faults.TooLarge) h = (bytes, h)
+all_taken old new bytes (Err faults.BadCheckpoint) h = (bytes, h)
+all_taken old new bytes (Err faults.NoCheckpoint) h = (bytes, h)
+all_taken old new bytes (Err (faults.Script n)) h = (bytes, h)
+all_taken old new bytes (Err faults.WriteFailed) h = (bytes, h)
+
+-- some bytes were taken where a read or memory was refused
+pub some_taken : (A : Type 0) (old new : Option (List ℕ)) (e : Fault) → IsOneOf faults.ReadFailed faults.Resources e → TakesSome old new → Takes {A = A} old new (Err e)
+some_taken A old new e which h = elim which [
+  | inl is ↦ subst (λ (f : Fault). Takes {A = A} old new (Err f)) (sym is) h
+  | inr is ↦ subst (λ (f : Fault). Takes {A = A} old new (Err f)) (sym is) h
+]
 
 -- the bytes are those that the reader had, or both are too long
 abbrev pub IsSame : List ℕ → List ℕ → Type 0
@@ -35,9 +48,9 @@ IsSame b bytes = (bytes ≡ b) ⊎ ((log_limit < length b) × (log_limit < lengt
 
 same_bytes : (b bytes : List ℕ) (new : Option (List ℕ)) → ReadsAll (Some b) new bytes → IsSame b bytes
 same_bytes b bytes None h = absurd h.0
-same_bytes b bytes (Some ys) h = elim (h.1) [
+same_bytes b bytes (Some ys) h = elim (h.2) [
   | inl none ↦ inl (sym (append-nil bytes) ∙ ap (λ (z : List ℕ). bytes ++ z) (sym none) ∙ sym h.0)
-  | inr long ↦ inr (omega (arith, long, ap length h.0, length-append bytes ys), long)
+  | inr long ↦ inr (omega (arith, long, ap length h.0, length-append bytes ys), omega (arith, long))
 ]
 
 pub same_read : (b bytes : List ℕ) (old new : Option (List ℕ)) → old ≡ Some b → ReadsAll old new bytes → IsSame b bytes
@@ -68,7 +81,7 @@ long_refused b bytes faults.ReadFailed long more h = absurd h
 long_refused b bytes faults.WriteFailed long more h = absurd h
 
 -- what a restart of the bytes says, it says of those that the reader had
-refused_read : (b bytes : List ℕ) (e : Fault) → IsSame b bytes → Refused bytes e → RestartsRead b (Err e)
+pub refused_read : (b bytes : List ℕ) (e : Fault) → IsSame b bytes → Refused bytes e → RestartsRead b (Err e)
 refused_read b bytes e same h = elim same [
   | inl is ↦ same_refused b e (subst (λ (z : List ℕ). Refused z e) is h)
   | inr long ↦ long_refused b bytes e long.0 long.1 h

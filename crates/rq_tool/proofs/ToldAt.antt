@@ -1,19 +1,20 @@
 -- From the bytes that were read to those that the reader had, for a run from a checkpoint.
-use Rattle.std.proofs.Common.{◌≡◌, ℕ, ◌<◌, List, length, subst, arith, inl, inr}
+use Rattle.std.proofs.Common.{◌≡◌, ℕ, ◌<◌, ◌≤◌, List, ◌∷◌, length, sym, subst, ◌∙◌, arith, inl, inr}
 use Rattle.std.specs.Prelude.{Option, Result, Ok, Err}
-use Rattle.std.specs.Io.KnownBytes.{Appends}
-use Rattle.rq_model.specs.Frames.{log_limit}
+use Rattle.rq_model.specs.Frames.{AreBytes, HasHeader, log_limit}
+use Rattle.rq_model.specs.Records.{One, Version}
+use Rattle.rq_model.specs.States.{State}
+use Rattle.rq_model.specs.StateSpelling.{SpellsState}
 use Rattle.rq_model.specs.Fronts.{Restarted}
-use Rattle.rq_model.specs.Reports.{IsReport, IsText}
-use Rattle.rq_model.specs.Checkpoints.{IsReportAt, IsRestartAt, TrueAt}
-use Rattle.rq_model.specs.LogLaws.{OneRestartAt, OneText, TrueIsSame}
+use Rattle.rq_model.specs.Checkpoints.{IsCheckpointAt, IsRestartAt, TrueAt}
+use Rattle.rq_model.specs.LogLaws.{EveryLogHasReport, OneVersion, TrueSaysTheSame}
 use Rattle.rq_record.specs.declared.fault.Fault.{Fault}
 use Rattle.rq_record.specs.declared.fault.Fault.TheVariants as faults
-use Rattle.rq_report.specs.Streams.{AppendsFront, Reports}
+use Rattle.rq_report.specs.Streams.{Reports}
 use Rattle.rq_restart.specs.Restarts.{RestartsAt}
 use Rattle.rq_tool.proofs.Told.{IsSame}
 use Rattle.rq_tool.specs.Streams.{ReadFaults, WriteFaults}
-use Rattle.rq_tool.specs.Headline.{RestartsAtRead, RunsAt, WritesOnlyAt, WritesReport}
+use Rattle.rq_tool.specs.Headline.{IsTold, RestartsAtRead, RunsAt, WritesOnlyAt, WritesReport}
 
 same_result : (b : List ℕ) (offset : ℕ) (result : Result Restarted Fault) → RestartsAt b offset result → RestartsAtRead b offset result
 same_result b offset (Ok r) h = ((h.0, h.1), h.2)
@@ -77,24 +78,59 @@ written_only_at b offset r before after old new (Err faults.NoCheckpoint) is w =
 written_only_at b offset r before after old new (Err (faults.Script n)) is w = absurd w
 written_only_at b offset r before after old new (Err faults.ReadFailed) is w = absurd w
 
--- from a true checkpoint there is no other report
-one_text : TrueIsSame → OneRestartAt → OneText → (b : List ℕ) (offset : ℕ) (x y : List ℕ) → TrueAt b offset → IsReportAt b offset x → IsReport b y → x ≡ y
-one_text same one one_of b offset x y true_at at whole =
-    let is : at.0 ≡ whole.0 = one b offset at.0 whole.0 at.1 (same b offset whole.0 true_at whole.1) in
-    one_of whole.0 x y (subst (λ (r : Restarted). IsText r x) is at.2) whole.2
+-- a true checkpoint stands there, and spells a state
+spelled_at : EveryLogHasReport → TrueSaysTheSame → OneVersion → (b : List ℕ) (offset : ℕ) → AreBytes b → length b ≤ log_limit → HasHeader One b → TrueAt b offset
+    → (kept : List ℕ) × IsCheckpointAt b offset kept × (s : State) × SpellsState One s kept
+spelled_at every same one b offset bytes short header true_at =
+    let report = every One b bytes short header in
+    let whole = (same b offset report.0 true_at).1 report.1 in
+    let at = whole.1 in
+    (at.kept, at.checkpoint, at.state, subst (λ (v : Version). SpellsState v at.state at.kept) (one b at.version One at.header header) at.spells)
 
-pub writes_report : TrueIsSame → OneRestartAt → OneText → (b : List ℕ) (offset : ℕ) (old new : Option (List ℕ)) (result : Result (Unit {0}) Fault) → TrueAt b offset → RunsAt b offset old new result → WritesReport b old new result
-writes_report same one one_of b offset old new (Ok done) true_at h = λ text is. subst (Appends old new) (one_text same one one_of b offset h.1 text true_at h.2 is) h.3
-writes_report same one one_of b offset old new (Err faults.WriteFailed) true_at h = λ text is. subst (AppendsFront old new) (one_text same one one_of b offset h.1 text true_at h.2 is) h.3
-writes_report same one one_of b offset old new (Err faults.Form) true_at h = tt
-writes_report same one one_of b offset old new (Err faults.NotALog) true_at h = tt
-writes_report same one one_of b offset old new (Err faults.TooLong) true_at h = tt
-writes_report same one one_of b offset old new (Err faults.TooLarge) true_at h = tt
-writes_report same one one_of b offset old new (Err faults.BadCheckpoint) true_at h = tt
-writes_report same one one_of b offset old new (Err faults.NoCheckpoint) true_at h = tt
-writes_report same one one_of b offset old new (Err (faults.Script n)) true_at h = tt
-writes_report same one one_of b offset old new (Err faults.ReadFailed) true_at h = tt
-writes_report same one one_of b offset old new (Err faults.Resources) true_at h = tt
+one_kept : (b : List ℕ) (offset : ℕ) (kept other : List ℕ) → IsCheckpointAt b offset kept → IsCheckpointAt b offset other → kept ≡ other
+one_kept b offset kept other x y =
+    let same : 9 ∷ kept ≡ 9 ∷ other = sym x.body ∙ y.body in
+    cc
+
+told_at : EveryLogHasReport → TrueSaysTheSame → OneVersion → (b : List ℕ) (offset : ℕ) (result : Result Restarted Fault) → (length b ≤ log_limit → AreBytes b) → TrueAt b offset → RestartsAtRead b offset result → IsTold b result
+told_at every same one b offset (Ok r) bytes true_at h = tt
+told_at every same one b offset (Err faults.TooLong) bytes true_at h = let short : length b ≤ log_limit = true_at.2.front.short in absurd (omega (arith, h, short))
+told_at every same one b offset (Err faults.NotALog) bytes true_at h = h.1
+told_at every same one b offset (Err faults.NoCheckpoint) bytes true_at h = let found = spelled_at every same one b offset (bytes h.0) h.0 h.1 true_at in h.2 found.0 found.1
+told_at every same one b offset (Err faults.BadCheckpoint) bytes true_at h =
+    let found = spelled_at every same one b offset (bytes h.0) h.0 h.1 true_at in
+    h.4 found.2 (subst (SpellsState One found.2) (one_kept b offset found.0 h.2 found.1 h.3) found.3)
+told_at every same one b offset (Err faults.Resources) bytes true_at h = tt
+told_at every same one b offset (Err faults.ReadFailed) bytes true_at h = tt
+told_at every same one b offset (Err faults.Form) bytes true_at h = absurd h
+told_at every same one b offset (Err faults.TooLarge) bytes true_at h = absurd h
+told_at every same one b offset (Err (faults.Script n)) bytes true_at h = absurd h
+told_at every same one b offset (Err faults.WriteFailed) bytes true_at h = absurd h
+
+-- the bytes that were read are bytes of 8 bits, and so are those that the reader had
+narrow : (b bytes : List ℕ) → IsSame b bytes → AreBytes bytes → length b ≤ log_limit → AreBytes b
+narrow b bytes same are short = elim same [
+  | inl is ↦ subst AreBytes is are
+  | inr long ↦ absurd (omega (arith, long.0, short))
+]
+
+pub told_true : EveryLogHasReport → TrueSaysTheSame → OneVersion → (b bytes : List ℕ) (offset : ℕ) (result : Result Restarted Fault) → IsSame b bytes → AreBytes bytes → TrueAt b offset → RestartsAtRead b offset result → IsTold b result
+told_true every same one b bytes offset result is are true_at h = told_at every same one b offset result (narrow b bytes is are) true_at h
+
+-- what is written of a restart from a true checkpoint is written of the log
+pub written_true : TrueSaysTheSame → (b : List ℕ) (offset : ℕ) (r : Restarted) (before after : ℕ) (old new : Option (List ℕ)) (result : Result (Unit {0}) Fault) → TrueAt b offset → IsRestartAt b offset r → Reports r before after old new result
+    → WritesReport b old new result
+written_true same b offset r before after old new (Ok done) true_at is w = (w.0, (same b offset w.0 true_at).0 (r, is, w.1), w.3)
+written_true same b offset r before after old new (Err faults.WriteFailed) true_at is w = (w.0, (same b offset w.0 true_at).0 (r, is, w.1), w.3)
+written_true same b offset r before after old new (Err faults.Resources) true_at is w = w.1
+written_true same b offset r before after old new (Err faults.Form) true_at is w = absurd w
+written_true same b offset r before after old new (Err faults.NotALog) true_at is w = absurd w
+written_true same b offset r before after old new (Err faults.TooLong) true_at is w = absurd w
+written_true same b offset r before after old new (Err faults.TooLarge) true_at is w = absurd w
+written_true same b offset r before after old new (Err faults.BadCheckpoint) true_at is w = absurd w
+written_true same b offset r before after old new (Err faults.NoCheckpoint) true_at is w = absurd w
+written_true same b offset r before after old new (Err (faults.Script n)) true_at is w = absurd w
+written_true same b offset r before after old new (Err faults.ReadFailed) true_at is w = absurd w
 
 -- where a report is written, or not, no read failed
 pub no_read_failed : (r : Restarted) (before after from to : ℕ) (old new : Option (List ℕ)) (result : Result (Unit {0}) Fault) → Reports r before after old new result → to ≡ from → ReadFaults from to result

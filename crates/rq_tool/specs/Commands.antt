@@ -11,6 +11,7 @@ pub data Line : Type 0 where
   Restart : (log : List ℕ) (workers grain : ℕ) → Line
   RestartAt : (log : List ℕ) (offset workers grain : ℕ) → Line
   Audit : (log : List ℕ) (workers grain : ℕ) → Line
+  Close : (log out : List ℕ) (workers grain : ℕ) → Line
 
 -- its words, after the program's name
 abbrev pub words_of : Line → List (List ℕ)
@@ -18,17 +19,19 @@ words_of (Make script log) = codes "make" ∷ (script ∷ (log ∷ []))
 words_of (Restart log workers grain) = codes "restart" ∷ (log ∷ (decimal workers ∷ (decimal grain ∷ [])))
 words_of (RestartAt log offset workers grain) = codes "restart-at" ∷ (log ∷ (decimal offset ∷ (decimal workers ∷ (decimal grain ∷ []))))
 words_of (Audit log workers grain) = codes "audit" ∷ (log ∷ (decimal workers ∷ []))
+words_of (Close log out workers grain) = codes "close" ∷ (log ∷ (out ∷ (decimal workers ∷ [])))
 
 -- how many workers there may be, and how many frames a grain has
 abbrev pub IsPlan : ℕ → ℕ → Type 0
 IsPlan workers grain = (1 ≤ workers) × (workers ≤ 64) × (1 ≤ grain) × (grain ≤ 1000000)
 
--- the numbers of a line are in their ranges; an audit names no grain, and has one of 1,000
+-- the numbers of a line are in their ranges; where it names no grain, it is 1,000
 abbrev pub IsLine : Line → Type 0
 IsLine (Make script log) = ⊤
 IsLine (Restart log workers grain) = IsPlan workers grain
 IsLine (RestartAt log offset workers grain) = (offset < 2 ^ 64) × IsPlan workers grain
 IsLine (Audit log workers grain) = IsPlan workers grain × (grain ≡ 1000)
+IsLine (Close log out workers grain) = IsPlan workers grain × (grain ≡ 1000)
 
 -- the line of a command
 abbrev pub line_of : Command → Line
@@ -36,6 +39,7 @@ line_of (code.Make script log) = Make script.now log.now
 line_of (code.Restart log plan) = Restart log.now (workers_of plan) (grain_of plan)
 line_of (code.RestartAt log offset plan) = RestartAt log.now offset (workers_of plan) (grain_of plan)
 line_of (code.Audit log plan) = Audit log.now (workers_of plan) (grain_of plan)
+line_of (code.Close log out plan) = Close log.now out.now (workers_of plan) (grain_of plan)
 
 -- the words are those of the command's line, or of no line
 abbrev pub IsCommand : List (List ℕ) → Option Command → Type 0

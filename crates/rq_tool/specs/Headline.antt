@@ -66,11 +66,23 @@ WritesOnlyAt offset old new (Ok done) = (b text : List ℕ) × IsReportAt b offs
 WritesOnlyAt offset old new (Err WriteFailed) = (b text : List ℕ) × IsReportAt b offset text × AppendsFront old new text
 WritesOnlyAt offset old new (Err e) = Keeps old new
 
--- the report of b is what is written, or what a beginning is written of
+-- from a true checkpoint: the report of b is written, and nothing else; or nothing is, since b is a log of another version, memory is refused or a read failed;
+-- or a beginning of the report is, and then a write failed
 abbrev pub WritesReport : List ℕ → Option (List ℕ) → Option (List ℕ) → Result (Unit {0}) Fault → Type 0
-WritesReport b old new (Ok done) = (text : List ℕ) → IsReport b text → Appends old new text
-WritesReport b old new (Err WriteFailed) = (text : List ℕ) → IsReport b text → AppendsFront old new text
-WritesReport b old new (Err e) = ⊤
+WritesReport b old new (Ok done) = (text : List ℕ) × IsReport b text × Appends old new text
+WritesReport b old new (Err WriteFailed) = (text : List ℕ) × IsReport b text × AppendsFront old new text
+WritesReport b old new (Err NotALog) = (HasHeader One b → ⊥) × Keeps old new
+WritesReport b old new (Err Resources) = Keeps old new
+WritesReport b old new (Err ReadFailed) = Keeps old new
+WritesReport b old new (Err e) = ⊥
+
+-- what is told where the checkpoint is true: a restart; or that b is a log of another version, or that a read or memory was refused
+abbrev pub IsTold : List ℕ → Result Restarted Fault → Type 0
+IsTold b (Ok r) = ⊤
+IsTold b (Err NotALog) = HasHeader One b → ⊥
+IsTold b (Err Resources) = ⊤
+IsTold b (Err ReadFailed) = ⊤
+IsTold b (Err e) = ⊥
 
 -- the restart of the bytes b that a reader gives, from the checkpoint at an offset, or why there is none
 abbrev pub RestartsAtRead : List ℕ → ℕ → Result Restarted Fault → Type 0

@@ -2,10 +2,10 @@
 
 ghost use Rattle.std.specs.Prelude.{◌≡◌, ℕ, ◌<◌, List, Some, IfOk, IfErr};
 ghost use Rattle.rq_model.specs.Checkpoints.{IsRestartAt, TrueAt};
-ghost use Rattle.rq_tool.specs.Streams.{ReadFaults, WriteFaults};
-ghost use Rattle.rq_tool.specs.Headline.{IsBeforeWritingAt, RestartsAtRead, RunsAt, WritesOnlyAt, WritesReport};
+ghost use Rattle.rq_tool.specs.Streams.{ReadFaults, Takes, WriteFaults};
+ghost use Rattle.rq_tool.specs.Headline.{IsBeforeWritingAt, IsTold, RestartsAtRead, RunsAt, WritesOnlyAt, WritesReport};
 
-use crate::input::read_all;
+use crate::input::{are_bytes, read_log};
 use rq_report::{Input, Output, write_report_by};
 use rq_restart::{Fault, Gate, Plan, Restarted, restart_at};
 use std::alloc::Global;
@@ -28,15 +28,22 @@ where
     requires { I.faults input.old < 18446744073709551615 }
     ensures told { (b : List ℕ) → I.remaining input.old ≡ Some b → RestartsAtRead b offset result }
     ensures some { IfOk result (λ r. (b : List ℕ) × IsRestartAt b offset r) }
+    ensures excluded { (b : List ℕ) → I.remaining input.old ≡ Some b → TrueAt b offset → IsTold b result }
     ensures refused { IfErr result IsBeforeWritingAt }
+    ensures takes { Takes (I.remaining input.old) (I.remaining input.new) result }
     ensures faults { ReadFaults (I.faults input.old) (I.faults input.new) result }
 {
-    let bytes = read_all(alloc, input)?;
+    rq_model::every_log_has_report();
+    rq_model::true_checkpoints_report_the_same();
+    rq_model::versions();
+    let bytes = read_log(alloc, input)?;
+    are_bytes(&bytes);
     restart_at(rt, alloc, &bytes, offset, plan, gate)
 }
 
 /// Reads the input to its end, but at most 4,294,967,296 bytes, restarts from the checkpoint at an offset, and writes the
-/// report. From a true checkpoint it is the report of the log.
+/// report. From a true checkpoint it is the report of the log, and only memory, the reader, the writer or a log of another
+/// version refuse it.
 ///
 /// Nothing else is written. Refuses with `NoCheckpoint` where no checkpoint begins at the offset, with `BadCheckpoint`
 /// where it spells no well-formed state, and else as `run` does.
@@ -59,11 +66,11 @@ where
     ensures runs { (b : List ℕ) → I.remaining input.old ≡ Some b → RunsAt b offset (O.contents output.old) (O.contents output.new) result }
     ensures same { (b : List ℕ) → I.remaining input.old ≡ Some b → TrueAt b offset → WritesReport b (O.contents output.old) (O.contents output.new) result }
     ensures quiet { WritesOnlyAt offset (O.contents output.old) (O.contents output.new) result }
+    ensures takes { Takes (I.remaining input.old) (I.remaining input.new) result }
     ensures read_faults { ReadFaults (I.faults input.old) (I.faults input.new) result }
     ensures write_faults { WriteFaults (O.faults output.old) (O.faults output.new) result }
 {
-    rq_model::true_checkpoints_say_the_same();
-    rq_model::one_report();
+    rq_model::true_checkpoints_report_the_same();
     let restarted = read_and_restart_at(rt, alloc, input, offset, plan, gate)?;
     write_report_by(rt, alloc, &restarted, plan, output)
 }

@@ -1,16 +1,27 @@
-//! Reading a log.
+//! Reading a log, and a script.
 
-ghost use Rattle.std.specs.Prelude.{◌≡◌, ℕ, ◌<◌, ◌≤◌, ◌++◌, List, length, IfOk, IfErr, OnOk};
+ghost use Rattle.std.specs.Prelude.{◌≡◌, ◌⊎◌, ℕ, ◌+◌, ◌<◌, ◌≤◌, ◌++◌, ◌↔◌, List, Option, Some, length, IsTrue, IfOk, IfErr, OnOk};
 ghost use Rattle.std.specs.Io.KnownBytes.{Consumes, IsAtEnd};
+ghost use Rattle.rq_model.specs.Records.{One};
+ghost use Rattle.rq_model.specs.Frames as frames;
+ghost use Rattle.rq_model.specs.Frames.{AreBytes};
 ghost use Rattle.rq_record.specs.declared.fault.Fault.TheVariants.{ReadFailed, Resources};
-ghost use Rattle.rq_tool.specs.Streams.{ReadFaults, ReadsAll, IsOneOf};
+ghost use Rattle.rq_tool.specs.Headline.{IsBeforeWriting, RestartsRead};
+ghost use Rattle.rq_tool.specs.Streams.{Counts, IsOneOf, IsUnread, ReadFaults, ReadsAll, ReadsOn, Takes, TakesSome};
 
+use rq_front::header;
 use rq_report::Input;
 use rq_restart::Fault;
 use std::alloc::Global;
 
-// One byte more than the longest log has.
-const READ_LIMIT: usize = 4_294_967_296;
+// The most bytes that a log has.
+const LOG_LIMIT: usize = 4_294_967_295;
+
+// One more: so many are read to know that they are too many.
+const READ_LIMIT: usize = LOG_LIMIT + 1;
+
+// The bytes of a header.
+const HEADER_LEN: usize = 40;
 
 // Room for one read.
 fn room(alloc: Global) -> Result<Vec<u8>, Fault>
@@ -20,38 +31,146 @@ fn room(alloc: Global) -> Result<Vec<u8>, Fault>
     Ok(vec![in alloc; 0u8; 65_536]?)
 }
 
-// One read, put behind the bytes, of no more than makes them too long for a log.
-fn read_more<I: Input>(input: &mut I, piece: &mut [u8], bytes: &mut Vec<u8>) -> Result<usize, Fault>
+/// The members of a slice of bytes are bytes of 8 bits.
+pub(crate) fn are_bytes(bytes: &[u8])
+    ensures { AreBytes bytes.now }
+{
+    let _ = bytes;
+}
+
+// One read, put behind the bytes, of no more than makes them `most`.
+fn read_more<I: Input>(
+    input: &mut I,
+    piece: &mut [u8],
+    bytes: &mut Vec<u8>,
+    most: usize,
+) -> Result<usize, Fault>
     requires faults { I.faults input.old < 18446744073709551615 }
     requires piece { 0 < length piece.old }
-    requires room { length bytes.old.items < 4294967296 }
+    requires room { length bytes.old.items < most }
     ensures bytes { IfOk result (λ n. (more : List ℕ) × (bytes.new.items ≡ bytes.old.items ++ more) × (length more ≡ n) × Consumes (I.remaining input.old) (I.remaining input.new) more) }
-    ensures limit { OnOk result (length bytes.new.items ≤ 4294967296) }
+    ensures limit { OnOk result (length bytes.new.items ≤ most) }
     ensures end { IfOk result (λ n. n ≡ 0 → IsAtEnd (I.remaining input.new)) }
     ensures refused { IfErr result (IsOneOf ReadFailed Resources) }
+    ensures partly { IfErr result (λ _. TakesSome (I.remaining input.old) (I.remaining input.new)) }
     ensures count { ReadFaults (I.faults input.old) (I.faults input.new) result }
 {
-    let want = piece.len().min(READ_LIMIT - bytes.len());
+    let want = piece.len().min(most - bytes.len());
     let count = input.read(&mut piece[..want])?;
     bytes.extend_from_slice(&piece[..count])?;
     Ok(count)
 }
 
-/// The input's bytes to its end, but at most 4,294,967,296 of them: so many are too long for a log.
+// Reads on until there are `most` bytes, or the input has no more.
+fn read_up_to<I: Input>(
+    input: &mut I,
+    piece: &mut [u8],
+    bytes: &mut Vec<u8>,
+    most: usize,
+) -> Result<(), Fault>
+    requires faults { I.faults input.old < 18446744073709551615 }
+    requires piece { 0 < length piece.old }
+    requires room { length bytes.old.items ≤ most }
+    ensures bytes { OnOk result (ReadsOn (I.remaining input.old) bytes.old.items (I.remaining input.new) bytes.new.items) }
+    ensures limit { OnOk result (length bytes.new.items ≤ most) }
+    ensures end { OnOk result (length bytes.new.items < most → IsAtEnd (I.remaining input.new)) }
+    ensures refused { IfErr result (IsOneOf ReadFailed Resources) }
+    ensures partly { IfErr result (λ _. TakesSome (I.remaining input.old) (I.remaining input.new)) }
+    ensures count { ReadFaults (I.faults input.old) (I.faults input.new) result }
+{
+    while bytes.len() < most {
+        let count = read_more(input, piece, bytes, most)?;
+        if count == 0 {
+            return Ok(());
+        }
+    }
+    Ok(())
+}
+
+/// The input's bytes to its end, but at most 4,294,967,296 of them: so many are too long for a log, and for a script.
 pub(crate) fn read_all<I: Input>(alloc: Global, input: &mut I) -> Result<Vec<u8>, Fault>
     requires { I.faults input.old < 18446744073709551615 }
     ensures bytes { IfOk result (λ bytes. ReadsAll (I.remaining input.old) (I.remaining input.new) bytes.items) }
-    ensures limit { IfOk result (λ bytes. length bytes.items ≤ 4294967296) }
     ensures refused { IfErr result (IsOneOf ReadFailed Resources) }
+    ensures takes { Takes (I.remaining input.old) (I.remaining input.new) result }
     ensures count { ReadFaults (I.faults input.old) (I.faults input.new) result }
 {
     let mut bytes = Vec::new(alloc);
     let mut piece = room(alloc)?;
-    while bytes.len() < READ_LIMIT {
-        let count = read_more(input, &mut piece, &mut bytes)?;
-        if count == 0 {
-            return Ok(bytes);
+    read_up_to(input, &mut piece, &mut bytes, READ_LIMIT)?;
+    Ok(bytes)
+}
+
+// Whether these are the bytes of a header.
+fn is_header(alloc: Global, bytes: &[u8]) -> Result<bool, Fault>
+    ensures header { IfOk result (λ is. IsTrue is ↔ (bytes.now ≡ frames.header One)) }
+    ensures refused { IfErr result (λ e. e ≡ Resources) }
+{
+    let mut right = Vec::new(alloc);
+    header(&mut right)?;
+    Ok(bytes == right.as_slice())
+}
+
+// How many bytes an input has of which so many were read, but at most 4,294,967,296. None is kept.
+fn counted<I: Input>(input: &mut I, piece: &mut [u8], read: usize) -> Result<usize, Fault>
+    requires faults { I.faults input.old < 18446744073709551615 }
+    requires piece { 0 < length piece.old }
+    requires room { read ≤ 4294967296 }
+    ensures count { IfOk result (Counts (I.remaining input.old) (I.remaining input.new) read) }
+    ensures limit { IfOk result (λ n. n ≤ 4294967296) }
+    ensures end { IfOk result (λ n. n < 4294967296 → IsAtEnd (I.remaining input.new)) }
+    ensures refused { IfErr result (λ e. e ≡ ReadFailed) }
+    ensures partly { IfErr result (λ _. TakesSome (I.remaining input.old) (I.remaining input.new)) }
+    ensures faults { ReadFaults (I.faults input.old) (I.faults input.new) result }
+{
+    let mut total = read;
+    while total < READ_LIMIT {
+        let want = piece.len().min(READ_LIMIT - total);
+        let more = input.read(&mut piece[..want])?;
+        if more == 0 {
+            return Ok(total);
         }
+        total += more;
     }
+    Ok(total)
+}
+
+// Why an input is refused whose first bytes, 40 where it has so many, are no header. What else it has is counted.
+fn refused<I: Input>(input: &mut I, piece: &mut [u8], first: &[u8]) -> Fault
+    requires faults { I.faults input.old < 18446744073709551615 }
+    requires piece { 0 < length piece.old }
+    requires first { length first.now ≤ 40 }
+    requires end { length first.now < 40 → IsAtEnd (I.remaining input.old) }
+    requires none { first.now ≡ frames.header One → ⊥ }
+    ensures told { (origin : Option (List ℕ)) → Consumes origin (I.remaining input.old) first.now → IsUnread origin (I.remaining input.new) result }
+    ensures count { ReadFaults {A = Unit {0}} (I.faults input.old) (I.faults input.new) (Err result) }
+{
+    if first.len() < HEADER_LEN {
+        return Fault::NotALog;
+    }
+    match counted(input, piece, first.len()) {
+        Ok(total) if total > LOG_LIMIT => Fault::TooLong,
+        Ok(_) => Fault::NotALog,
+        Err(fault) => fault,
+    }
+}
+
+/// The bytes of a log, to its end, but at most 4,294,967,296 of them: so many are too long. What does not begin as a log does
+/// is refused without being kept.
+pub(crate) fn read_log<I: Input>(alloc: Global, input: &mut I) -> Result<Vec<u8>, Fault>
+    requires { I.faults input.old < 18446744073709551615 }
+    ensures bytes { IfOk result (λ bytes. ReadsAll (I.remaining input.old) (I.remaining input.new) bytes.items) }
+    ensures told { (b : List ℕ) → I.remaining input.old ≡ Some b → IfErr result (λ e. RestartsRead b (Err e)) }
+    ensures refused { IfErr result IsBeforeWriting }
+    ensures takes { Takes (I.remaining input.old) (I.remaining input.new) result }
+    ensures count { ReadFaults (I.faults input.old) (I.faults input.new) result }
+{
+    let mut bytes = Vec::new(alloc);
+    let mut piece = room(alloc)?;
+    read_up_to(input, &mut piece, &mut bytes, HEADER_LEN)?;
+    if !is_header(alloc, &bytes)? {
+        return Err(refused(input, &mut piece, &bytes));
+    }
+    read_up_to(input, &mut piece, &mut bytes, READ_LIMIT)?;
     Ok(bytes)
 }

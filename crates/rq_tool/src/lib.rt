@@ -2,6 +2,8 @@
 #![tactic(auto)]
 
 mod acting;
+mod auditing;
+mod closing;
 mod engine;
 mod engine_at;
 mod input;
@@ -10,6 +12,8 @@ mod making;
 mod words;
 
 pub use acting::act;
+pub use auditing::audit_log;
+pub use closing::close_log;
 pub use engine::run;
 pub use engine_at::run_at;
 pub use line::Command;

@@ -26,4 +26,10 @@ pub enum Command<'a> {
         log: &'a str,
         plan: Plan,
     },
+    /// Write the closed log.
+    Close {
+        log: &'a str,
+        out: &'a str,
+        plan: Plan,
+    },
 }

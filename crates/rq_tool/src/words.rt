@@ -2,14 +2,14 @@
 
 ghost use Rattle.std.specs.Prelude.{◌∷◌, map, codes};
 ghost use Rattle.rq_tool.specs.Commands.{IsCommand};
-ghost use Rattle.rq_tool.specs.Words.{IsAuditPlanOf, IsPlanOf};
+ghost use Rattle.rq_tool.specs.Words.{IsPlanOf, IsWorkersPlanOf};
 ghost use Rattle.rq_writer.specs.Decimals.{IsNumber};
 
 use crate::line::Command;
 use rq_restart::Plan;
 use rq_writer::decimal_number;
 
-/// The grain of an audit, which names none, in frames.
+/// The grain of a line that names none, in frames.
 const GRAIN: u32 = 1000;
 
 fn small(word: &str) -> Option<u32>
@@ -27,8 +27,8 @@ fn plan(workers: &str, grain: &str) -> Option<Plan>
     Plan::new(workers, grain)
 }
 
-fn audit_plan(workers: &str) -> Option<Plan>
-    ensures { IsAuditPlanOf workers.now result }
+fn workers_plan(workers: &str) -> Option<Plan>
+    ensures { IsWorkersPlanOf workers.now result }
 {
     let workers = small(workers)?;
     Plan::new(workers, GRAIN)
@@ -73,8 +73,20 @@ fn audit<'a>(words: &[&'a str]) -> Option<Command<'a>>
 {
     match words {
         [log, workers] => {
-            let plan = audit_plan(workers)?;
+            let plan = workers_plan(workers)?;
             Some(Command::Audit { log, plan })
+        }
+        _ => None,
+    }
+}
+
+fn close<'a>(words: &[&'a str]) -> Option<Command<'a>>
+    ensures { IsCommand (codes "close" ∷ map (λ w. w.now) words.now) result }
+{
+    match words {
+        [log, out, workers] => {
+            let plan = workers_plan(workers)?;
+            Some(Command::Close { log, out, plan })
         }
         _ => None,
     }
@@ -91,6 +103,7 @@ pub fn command<'a>(words: &[&'a str]) -> Option<Command<'a>>
         "restart" => restart(rest),
         "restart-at" => restart_at(rest),
         "audit" => audit(rest),
+        "close" => close(rest),
         _ => None,
     }
 }

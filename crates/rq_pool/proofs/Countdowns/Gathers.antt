@@ -2,7 +2,6 @@
 use Rattle.std.proofs.Common.{◌≡◌, ℕ, zero, suc, ◌+◌, ◌<◌, List, [], ◌∷◌, ◌++◌, map, length, drop, take, replicate, sym, refl, ap, ◌∙◌, subst, arith, Option, Some, None, append_assoc}
 use Rattle.atomic_table.specs.Table.{rest}
 use Rattle.rq_pool.specs.Countdowns.Phases.{numbered, contents}
-use Rattle.rq_pool.proofs.Countdowns.Takes.{append_none}
 
 numbered_snoc : {S : Type 0} (xs : List S) (k n : ℕ) (x : S) → k + length xs ≡ n → numbered k (xs ++ x ∷ []) ≡ numbered k xs ++ (n, x) ∷ []
 numbered_snoc [] k n x e = let q : k ≡ n = omega arith in λ j. (q j, x) ∷ []
@@ -59,9 +58,6 @@ module _ {T : Type 0} where
 
   pub none_left : (ys : List T) (n : ℕ) → length ys ≡ n → left ys n ≡ numbered 0 (replicate n None)
   none_left ys n e = subst (λ n. left ys n ≡ numbered 0 (replicate n None)) e (ap (λ (l : List T). numbered (length ys) (map Some l) ++ numbered 0 (replicate (length ys) None)) (drop_all ys))
-
-  pub all_left : (ys : List T) → left ys 0 ≡ numbered 0 (map Some ys)
-  all_left ys = append_none (numbered 0 (map Some ys))
 
   pub contents_numbered : (ys : List T) (k : ℕ) → contents (numbered k (map Some ys)) ≡ ys
   contents_numbered [] k = refl

@@ -1,12 +1,30 @@
 //! What is known once a countdown is closed.
 ghost use Rattle.std.specs.Prelude.{◌≡◌};
 
-/// How many sources arrived, who was last, and the outboxes that nobody was given.
+use crate::countdown::arrival::Entry;
+use crate::countdown::fits::Fits;
+use crate::countdown::pass::Pass;
+use diary::{Diary, Listing};
+use std::collections::LinkedList;
+
+/// How many sources arrived, who was last, and the outboxes that nobody was given. Contracts see the arrivals of each
+/// pass too: no value of it is made but by a countdown that closes.
 #[derive(Drop)]
 pub struct Closing<T> {
     pub(crate) arrived: u32,
     pub(crate) last: Option<usize>,
     pub(crate) home: Vec<T>,
+    pub(crate) histories: Diary<LinkedList<Entry<T>>>,
+}
+
+// What the arrivals of a closing are made of: the passes that are handed in.
+pub struct Arrivals;
+
+impl<T: Fits> Listing<Vec<Pass<T>>, LinkedList<Entry<T>>> for Arrivals {
+    ghost use Rattle.std.specs.Prelude.{map};
+    ghost use Rattle.rq_pool.specs.Countdowns.Words.{history_of};
+
+    ghost list = { λ passes. map history_of passes.items };
 }
 
 impl<T> Closing<T> {

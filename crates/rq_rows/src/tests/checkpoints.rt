@@ -145,9 +145,11 @@ fn the_greatest_record_number(rt: HostRuntime) -> Result<(), Fail> {
         audits(&rt, &two, &["checkpoint 40 true", "checkpoint 129 true"])?,
         "two"
     );
-    let second = two.get(134..186).ok_or("body")?;
-    assert_eq!(rt; second.iter().position(|byte| *byte != 0), Some(7));
-    assert_eq!(rt; second.get(7).copied(), Some(1));
+    let mut body = [0u8; 53];
+    body[0] = 9;
+    body[8] = 1;
+    assert_eq!(rt; two.get(129..133), Some([0u8, 0, 0, 53].as_slice()));
+    assert_eq!(rt; two.get(133..186), Some(body.as_slice()));
     Ok(())
 }
 
@@ -172,5 +174,53 @@ fn a_state_is_read_whole_or_not_at_all(rt: HostRuntime) -> Result<(), Fail> {
     count[46] = 0xff;
     count[47] = 0xff;
     assert_eq!(rt; read(rt.alloc(), &count).err(), Some(Fault::BadCheckpoint));
+    Ok(())
+}
+
+/// Records that take members out of a state, with a checkpoint behind each of them.
+const TAKEN_FROM: [&str; 26] = [
+    "define dead 0 -",
+    "define jobs 1 0",
+    "register 1 ann",
+    "begin 1",
+    "enqueue 1 1 5 ann 1 6869",
+    "enqueue 1 1 4 - 0 -",
+    "checkpoint",
+    "commit 1",
+    "checkpoint",
+    "begin 2",
+    "dequeue 2 1 ann 2",
+    "checkpoint",
+    "abort 2",
+    "checkpoint",
+    "begin 3",
+    "enqueue 3 1 0 - 0 616263",
+    "abort 3",
+    "checkpoint",
+    "begin 4",
+    "dequeue 4 0 - 0",
+    "dequeue 4 1 ann 9",
+    "checkpoint",
+    "deregister 1 ann",
+    "checkpoint",
+    "commit 4",
+    "checkpoint",
+];
+
+#[test]
+fn a_checkpoint_is_true_behind_what_takes_members_away(rt: HostRuntime) -> Result<(), Fail> {
+    let log = log_of(&rt, &TAKEN_FROM)?;
+    assert_eq!(rt; log.len(), 2626);
+    let found = [
+        "checkpoint 346 true",
+        "checkpoint 634 true",
+        "checkpoint 942 true",
+        "checkpoint 1246 true",
+        "checkpoint 1600 true",
+        "checkpoint 1966 true",
+        "checkpoint 2277 true",
+        "checkpoint 2515 true",
+    ];
+    assert!(rt; audits(&rt, &log, &found)?, "audit");
     Ok(())
 }

@@ -16,7 +16,7 @@ struct Framed {
 /// Appends the frame of a body of `len` bytes, all of them `byte`.
 fn append(alloc: Global, framed: &mut Framed, len: usize, byte: u8) -> Result<(), Fail> {
     let body = Vec::from_elem(alloc, byte, len)?;
-    if body.is_empty() || 1_000_000 < body.len() {
+    if body.is_empty() || 2_000_000 < body.len() {
         return Ok(());
     }
     let from = framed.log.len().saturating_sub(32);
@@ -153,21 +153,35 @@ fn the_first_of_two_wrong_digests_is_found(rt: HostRuntime) -> Result<(), Fail> 
 
 #[test]
 fn wrong_digests_at_the_ends_of_pieces(rt: HostRuntime) -> Result<(), Fail> {
-    let lens = Vec::from_elem(rt.alloc(), 100usize, 2100)?;
+    // Frames of 1,036 bytes: 1,013 of them are a piece of 1 MiB, and 4,049 one of 4 MiB, as one thread takes them.
+    let lens = Vec::from_elem(rt.alloc(), 1000usize, 4100)?;
     let Framed { mut log, ends } = log_of_lengths(rt.alloc(), &lens)?;
     for (place, grain) in [
         (0, 1),
-        (1023, 1),
-        (1024, 1_000_000),
-        (1912, 1),
-        (1913, 1),
-        (2099, 1_000_000),
+        (1012, 1),
+        (1013, 1),
+        (4048, 1_000_000),
+        (4049, 1_000_000),
+        (4099, 1),
     ] {
         let end = *ends.get(place).ok_or("frame")?;
         flip(&mut log, end);
         let right = right_before(&rt, &log, grain)?;
         assert!(rt; right == Some(place), "{place} at {grain}");
         flip(&mut log, end);
+    }
+    Ok(())
+}
+
+#[test]
+fn long_frames_among_short_ones(rt: HostRuntime) -> Result<(), Fail> {
+    // The lanes take a body of 16 KiB before shorter ones, and one of 1 MiB is checked alone.
+    let lens = [
+        20, 16_383, 16_384, 30, 1_048_575, 1_048_576, 40, 60_000, 1_100_000, 1_100_000, 20,
+    ];
+    for grain in [1, 4, 1000] {
+        let found = finds_each(&rt, &lens, grain)?;
+        assert!(rt; found, "{grain}");
     }
     Ok(())
 }

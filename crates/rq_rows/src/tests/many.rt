@@ -1,8 +1,9 @@
 //! A log with two hundred queues, twenty of them error queues.
 
-use super::{answer, lines, log_of};
+use super::{PLANS, answer, lines, log_of};
 use rq_tool::{Command, Gate, OverRead, OverWrite, Plan, run};
 use std::alloc::Global;
+use std::fmt::Write;
 use std::io::Cursor;
 use std::sync::atomic::{AtomicU64, Ordering};
 use std::test::Fail;
@@ -53,96 +54,91 @@ fn payload(alloc: Global, queue: u32) -> Result<String, Fail> {
     Ok(text)
 }
 
-fn log<R: Threads + Sync + AllocGlobal>(rt: &R) -> Result<Vec<u8>, Fail> {
+pub fn log<R: Threads + Sync + AllocGlobal>(rt: &R) -> Result<Vec<u8>, Fail> {
     let made = script(rt.alloc())?;
     let words: Vec<&str> = made.iter().map(|line| line.as_str()).collect(rt.alloc())?;
     log_of(rt, &words)
 }
 
-fn report_lines(alloc: Global, report: &[u8]) -> Result<Vec<Vec<u8>>, Fail> {
-    let mut lines = Vec::new(alloc);
-    let mut line = Vec::new(alloc);
-    for byte in report {
-        if *byte == b'\n' {
-            lines.push(line)?;
-            line = Vec::new(alloc);
-        } else {
-            line.push(*byte)?;
+/// The lines of the report: each element of a queue that is no multiple of three and two ends in the queue of its number
+/// modulo 20, those of greater priority first.
+fn report(alloc: Global) -> Result<String, Fail> {
+    let mut text = String::new(alloc);
+    text.push_str("front 1220 records, 1239720 of 1239720 bytes, whole\n")?;
+    text.push_str("units 240 committed, 60 aborted, 60 cut off\n")?;
+    for d in 0..20u32 {
+        write!(text, "queue {d} d{d} limit 0 error -\n")?;
+        for priority in (0..7u32).rev() {
+            for q in 20..200u32 {
+                if q % 20 != d || q % 7 != priority || q % 3 == 2 {
+                    continue;
+                }
+                let id = 141 + 3 * q;
+                let payload = payload(alloc, q)?;
+                write!(
+                    text,
+                    "e {id} from {q} priority {priority} attempts 0 {payload}\n"
+                )?;
+            }
         }
     }
-    Ok(lines)
+    for q in 20..200u32 {
+        let error = q % 20;
+        write!(text, "queue {q} q{q} limit 1 error {error}\n")?;
+    }
+    Ok(text)
 }
 
 #[test]
 fn two_hundred_queues(rt: HostRuntime) -> Result<(), Fail> {
     let log = log(&rt)?;
     assert_eq!(rt; log.len(), 1_239_720);
-    let mut first: Option<Vec<u8>> = None;
-    for (workers, grain) in [(1, 1000), (2, 1), (7, 1000), (64, 1)] {
+    let want = report(rt.alloc())?;
+    assert_eq!(rt; want.lines().count(), 322);
+    for (workers, grain) in PLANS {
         let plan = Plan::new(workers, grain).ok_or("plan")?;
-        let report = answer(&rt, &Command::Restart { log: "log", plan }, &log)?;
-        let lines = report_lines(rt.alloc(), &report)?;
-        assert_eq!(rt; lines.len(), 322);
-        let told = lines.get(0).ok_or("line")?;
-        assert_eq!(rt;
-            told.as_slice(),
-            b"front 1220 records, 1239720 of 1239720 bytes, whole".as_slice()
-        );
-        let units = lines.get(1).ok_or("line")?;
-        assert_eq!(rt;
-            units.as_slice(),
-            b"units 240 committed, 60 aborted, 60 cut off".as_slice()
-        );
-        for (place, id) in [
-            (3, "621"),
-            (4, "261"),
-            (5, "681"),
-            (6, "321"),
-            (7, "441"),
-            (8, "501"),
-        ] {
-            let start = format!(in rt.alloc(); "e {id} from")?;
-            let line: &Vec<u8> = lines.get(place).ok_or("line")?;
-            assert!(rt; line.starts_with(start.as_bytes()), "{id}");
-        }
-        let elements = lines.iter().filter(|line| line.starts_with(b"e ")).count();
-        assert_eq!(rt; elements, 120);
-        match &first {
-            Some(other) => assert!(rt; *other == report, "{workers} workers"),
-            None => first = Some(report),
-        }
+        let got = answer(&rt, &Command::Restart { log: "log", plan }, &log)?;
+        assert!(rt; got.as_slice() == want.as_bytes(), "{workers} workers");
     }
     Ok(())
 }
 
-/// How many times queues entered, and the sum of their numbers.
+/// How many times each queue entered.
 #[derive(Drop)]
 struct Entries {
-    count: AtomicU64,
-    sum: AtomicU64,
+    queues: Vec<AtomicU64>,
 }
 
 impl Gate for Entries {
     fn enter(&self, task: u32) {
-        self.count.fetch_add(1, Ordering::SeqCst);
-        self.sum.fetch_add(u64::from(task), Ordering::SeqCst);
+        if let Some(times) = self.queues.get(task as usize) {
+            times.fetch_add(1, Ordering::SeqCst);
+        }
     }
 }
 
 #[test]
 fn every_queue_enters_the_gate(rt: HostRuntime) -> Result<(), Fail> {
     let log = log(&rt)?;
-    for workers in [1, 2, 7] {
+    for workers in [1, 2, 7, 64] {
         let plan = Plan::new(workers, 1000).ok_or("plan")?;
-        let gate = Entries {
-            count: AtomicU64::new(0),
-            sum: AtomicU64::new(0),
+        let mut gate = Entries {
+            queues: Vec::new(rt.alloc()),
         };
+        for _ in 0..201 {
+            gate.queues.push(AtomicU64::new(0))?;
+        }
         let mut input = OverRead::new(Cursor::new(log.as_slice()));
         let mut output = OverWrite::new(Vec::new(rt.alloc()));
         run(&rt, rt.alloc(), &mut input, &mut output, &plan, &gate)?;
-        assert_eq!(rt; gate.count.load(Ordering::SeqCst), 200);
-        assert_eq!(rt; gate.sum.load(Ordering::SeqCst), 19_900);
+        for (queue, times) in gate.queues.iter().enumerate() {
+            let want = if queue < 200 { 1 } else { 0 };
+            assert_eq!(rt;
+                times.load(Ordering::SeqCst),
+                want,
+                "{workers} workers, queue {queue}"
+            );
+        }
     }
     Ok(())
 }

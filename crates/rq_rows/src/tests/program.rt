@@ -32,6 +32,7 @@ fn word_of(command: &Command<'_>) -> &'static str {
         Command::Restart { .. } => "restart",
         Command::RestartAt { .. } => "restart-at",
         Command::Audit { .. } => "audit",
+        Command::Close { .. } => "close",
     }
 }
 
@@ -50,6 +51,8 @@ fn a_line_is_a_command_or_usage(rt: HostRuntime) -> Result<(), Fail> {
     let last = "18446744073709551615";
     assert_eq!(rt; known(&["restart-at", "a", last, "1", "1"]), "restart-at");
     assert_eq!(rt; known(&["audit", "a", "2"]), "audit");
+    assert_eq!(rt; known(&["close", "a", "b", "2"]), "close");
+    assert_eq!(rt; known(&["close", "a", "b", "2", "1"]), "");
     assert_eq!(rt; known(&[]), "");
     assert_eq!(rt;
         known(&["restart-at", "a", "18446744073709551616", "1", "1"]),

@@ -1,10 +1,11 @@
 //! What workers do at the same time.
 
-use super::{lines, log_of};
-use rq_tool::{Gate, OverRead, OverWrite, Plan, run};
+use super::{answer, lines, log_of};
+use rq_tool::{Command, Gate, OverRead, OverWrite, Plan, run};
 use std::io::Cursor;
-use std::sync::atomic::{AtomicBool, Ordering};
+use std::sync::atomic::{AtomicBool, AtomicU64, Ordering};
 use std::test::Fail;
+use std::time::{Clock, Instant};
 
 const THREE: [&str; 7] = [
     "define a 0 -",
@@ -36,6 +37,7 @@ struct Meeting {
     second_there: AtomicBool,
     first_saw: AtomicBool,
     second_saw: AtomicBool,
+    third_saw: AtomicBool,
 }
 
 /// Looks for a flag, up to 100,000,000 times.
@@ -59,7 +61,8 @@ impl Gate for Meeting {
             self.second_saw
                 .store(look(&self.first_there), Ordering::SeqCst);
         } else if self.third_looks {
-            let _ = look(&self.first_there);
+            self.third_saw
+                .store(look(&self.first_there), Ordering::SeqCst);
         }
     }
 }
@@ -79,6 +82,7 @@ fn two_threads_meet(rt: HostRuntime) -> Result<(), Fail> {
             second_there: AtomicBool::new(false),
             first_saw: AtomicBool::new(false),
             second_saw: AtomicBool::new(false),
+            third_saw: AtomicBool::new(false),
         };
         let mut input = OverRead::new(Cursor::new(log.as_slice()));
         let mut output = OverWrite::new(Vec::new(rt.alloc()));
@@ -86,6 +90,71 @@ fn two_threads_meet(rt: HostRuntime) -> Result<(), Fail> {
         assert!(rt; output.into_inner() == want, "{first} and {second}");
         let met = gate.first_saw.load(Ordering::SeqCst) && gate.second_saw.load(Ordering::SeqCst);
         assert!(rt; met, "{first} and {second}");
+        let third = gate.third_saw.load(Ordering::SeqCst);
+        assert_eq!(rt; third, gate.third_looks, "{first} and {second}");
     }
+    Ok(())
+}
+
+#[test]
+fn every_number_of_workers_reports_the_same(rt: HostRuntime) -> Result<(), Fail> {
+    let log = log_of(&rt, &THREE)?;
+    let want = lines(rt.alloc(), &THREE_REPORT)?;
+    for workers in 1..=64 {
+        let plan = Plan::new(workers, 1).ok_or("plan")?;
+        let got = answer(&rt, &Command::Restart { log: "log", plan }, &log)?;
+        assert!(rt; got == want, "{workers} workers");
+    }
+    Ok(())
+}
+
+/// When each of three queues entered, in nanoseconds.
+#[derive(Drop)]
+struct Entered<'a, R: Clock> {
+    rt: &'a R,
+    begun: Instant,
+    times: [AtomicU64; 3],
+}
+
+impl<'a, R: Clock + Sync> Gate for Entered<'a, R> {
+    fn enter(&self, task: u32) {
+        if let Some(time) = self.times.get(task as usize) {
+            if let Ok(now) = self.begun.elapsed(self.rt) {
+                time.store(u64::try_from(now.as_nanos()).unwrap_or(0), Ordering::SeqCst);
+            }
+        }
+    }
+}
+
+/// Three queues, of which the second has 2,000 elements.
+const ONE_IS_LONG: [&str; 4] = ["define a 0 -", "define b 0 -", "define c 0 -", "begin 1"];
+
+#[test]
+fn a_queue_enters_the_gate_before_its_redo(rt: HostRuntime) -> Result<(), Fail> {
+    let mut script = Vec::from_slice(rt.alloc(), ONE_IS_LONG.as_slice())?;
+    for _ in 0..2_000 {
+        script.push("enqueue 1 1 0 - 0 -")?;
+    }
+    script.push("commit 1")?;
+    let log = log_of(&rt, &script)?;
+    let plan = Plan::new(1, 1000).ok_or("plan")?;
+    let mut enters_before = false;
+    for _ in 0..5 {
+        let gate = Entered {
+            rt: &rt,
+            begun: Instant::now(&rt)?,
+            times: [AtomicU64::new(0), AtomicU64::new(0), AtomicU64::new(0)],
+        };
+        let mut input = OverRead::new(Cursor::new(log.as_slice()));
+        let mut output = OverWrite::new(Vec::new(rt.alloc()));
+        run(&rt, rt.alloc(), &mut input, &mut output, &plan, &gate)?;
+        let [first, second, third] = &gate.times;
+        let second = second.load(Ordering::SeqCst);
+        // one thread redoes them in order, so the long redo is between the second entry and the third
+        let short = second.saturating_sub(first.load(Ordering::SeqCst));
+        let long = third.load(Ordering::SeqCst).saturating_sub(second);
+        enters_before = enters_before || short < long / 4;
+    }
+    assert!(rt; enters_before, "the long queue enters after its redo");
     Ok(())
 }

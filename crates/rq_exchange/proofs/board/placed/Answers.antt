@@ -1,7 +1,7 @@
-use Rattle.std.proofs.Common.{◌≡◌, ℕ, ◌<◌, List, length, sym, subst, ◌∙◌, All, map, map-id, ◌++◌, ◌∷◌, [], Vec, Global, inl, inr}
+use Rattle.std.proofs.Common.{◌≡◌, ℕ, ◌<◌, List, length, sym, subst, ◌∙◌, All, map, map-id, Vec, Global, inl, inr}
 use Rattle.std.proofs.lemmas.Iterator.Consumers.{YieldsList-turn, YieldsList-end}
 use Rattle.std.proofs.lemmas.Iterator.Adapters.{YieldsList-from_vec}
-use Rattle.rq_pool.specs.Ledger.{times, times_in}
+use Rattle.rq_pool.specs.Ledger.{times_in}
 use Rattle.rq_exchange.specs.Boards.{IsPart, HasPart, queue_of}
 use Rattle.rq_exchange.specs.declared.outboxes.Redone.{Redone}
 use Rattle.rq_exchange.proofs.Counting.{lists_or, at_item}

@@ -1,4 +1,4 @@
-use Rattle.std.proofs.Common.{◌≡◌, ◌<◌, ◌≤◌, ℕ, length, ap, sym, ◌∙◌, subst, arith, refl, rules, inl, inr}
+use Rattle.std.proofs.Common.{◌<◌, length, ap, ◌∙◌, arith, rules, inr}
 use Rattle.rq_exchange.specs.declared.outboxes.Target.{Target}
 use Rattle.rq_exchange.proofs.Sources.{sources_few}
 use Rattle.rq_exchange.proofs.chain.open_one.Goals as goal

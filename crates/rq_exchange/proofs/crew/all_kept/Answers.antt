@@ -1,12 +1,11 @@
-use Rattle.std.proofs.Common.{◌≡◌, ℕ, ◌<◌, ◌≤◌, ◌+◌, ◌++◌, List, Vec, Global, All, map, length, arith, ap, sym, ◌∙◌, subst, rules}
+use Rattle.std.proofs.Common.{◌≡◌, ℕ, ◌<◌, List, map, length, arith, ap, sym, ◌∙◌, subst, rules}
 use Rattle.std.specs.Prelude.{slice_index_or}
-use Rattle.std.proofs.lemmas.Result.{IfOk-weaker}
 use Rattle.std.proofs.lemmas.List.{length-set}
 use Rattle.rq_record.specs.declared.fault.Fault.TheVariants.{Resources}
 use Rattle.rq_pool.specs.Ledger.{times, times_in, Ledger}
-use Rattle.rq_pool.specs.Rooms.{deal_of, left_of, taken_of, takens_of}
+use Rattle.rq_pool.specs.Rooms.{deal_of, left_of, taken_of}
 use Rattle.rq_exchange.specs.declared.crew.Kept.{Kept}
-use Rattle.rq_exchange.specs.Workers.{AreHandedBack, Keeps, AreKept}
+use Rattle.rq_exchange.specs.Workers.{AreHandedBack, Keeps}
 use Rattle.rq_exchange.proofs.Working.{waits_for_nobody, taken_over, each_keeps}
 use Rattle.rq_exchange.proofs.crew.all_kept.Goals as goal
 use Rattle.rq_exchange.proofs.crew.all_kept.Goals.{In_ok-room, In_ok-seats}

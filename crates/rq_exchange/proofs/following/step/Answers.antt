@@ -1,4 +1,4 @@
-use Rattle.std.proofs.Common.{rules, ◌≡◌, ◌<◌, ◌≤◌, ◌++◌, ◌∷◌, [], ℕ, List, length, ap, sym, ◌∙◌, append-nil, subst, arith, refl}
+use Rattle.std.proofs.Common.{rules, ◌≡◌, ◌≤◌, ◌++◌, ◌∷◌, [], length, ap, sym, ◌∙◌, append-nil, arith, refl}
 use Rattle.std.proofs.lemmas.List.{map-append}
 use Rattle.rq_exchange.specs.declared.outboxes.Redone.{Redone}
 use Rattle.rq_exchange.specs.Chains.{web_of, redone_in, diaries_of}

@@ -1,4 +1,4 @@
-use Rattle.std.proofs.Common.{◌≡◌, ◌<◌, ◌≤◌, ℕ, List, length, get_or, arith, ap, sym, ◌∙◌, subst, rules}
+use Rattle.std.proofs.Common.{◌<◌, length, get_or, arith, sym, ◌∙◌, subst, rules}
 use Rattle.rq_state.specs.Orders.{listed}
 use Rattle.rq_exchange.proofs.Ranks.{list_few, listed_more, ranks_more}
 use Rattle.rq_exchange.proofs.links.sources_of.Goals as goal

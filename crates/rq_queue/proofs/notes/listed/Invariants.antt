@@ -1,6 +1,6 @@
 use Rattle.std.proofs.Common.{◌≡◌, ◌++◌}
-use Rattle.rq_queue.specs.Noted.{notes_in}
+use Rattle.std.specs.Map.{values_of}
 use Rattle.rq_queue.proofs.notes.listed.Given as goal
 
-abbrev pub invariant-loop-list : goal.invariant-loop-list
-invariant-loop-list l = l.all.items ++ notes_in l.list-iterator ≡ notes_in l.fn.units.entries
+abbrev pub invariant-loop-n : goal.invariant-loop-n
+invariant-loop-n l = l.all.items ++ l.n-iterator ≡ values_of l.fn.notes.entries

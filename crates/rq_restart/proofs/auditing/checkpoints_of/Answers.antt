@@ -1,5 +1,8 @@
 use Rattle.std.proofs.Common.{◌≡◌, ◌≤◌, ◌+◌, List, length, map, drop, ap, sym, subst, ◌∙◌, arith, rules}
 use Rattle.std.proofs.lemmas.List.{length-map, take_all}
+use Rattle.std.specs.List.{AllByRecursion}
+use Rattle.rq_model.specs.Records.{One}
+use Rattle.rq_model.specs.Spelling.{IsRecord}
 use Rattle.rq_model.specs.States.{State, empty}
 use Rattle.rq_model.specs.Checkpoints.{IsAudit}
 use Rattle.rq_record.specs.declared.record.Record.{Record}
@@ -14,7 +17,12 @@ use Rattle.rq_restart.proofs.Walks.{stand_at}
 use Rattle.rq_restart.proofs.auditing.checkpoints_of.Goals as goal
 
 pub loop-place-init : goal.loop-place-init
-loop-place-init g c = record { within = omega arith; state = c.empty-2.ensures; found = ap (map audited_of) c.new.ensures.items }
+loop-place-init g c = c.first-walk.ensures (map record_of c.in_ok-front.front.records.items)
+
+pub visit-requires-clause-form : goal.visit-requires-clause-form
+visit-requires-clause-form g c κs within =
+    let from = c.in_ok-front.ensures.front 40 c.requires.chain in
+    subst (λ (rs : List Record). AllByRecursion (IsRecord One) (map record_of rs)) (sym c.deref.ensures.value) from.longest.begins.records
 
 pub visit-requires-clause-spans : goal.visit-requires-clause-spans
 visit-requires-clause-spans g c κs within =

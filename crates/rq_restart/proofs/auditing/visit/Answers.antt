@@ -1,21 +1,39 @@
-use Rattle.std.proofs.Common.{◌≡◌, ℕ, ◌-◌, ◌≤◌, ◌<◌, List, length, map, take, drop, ap, ◌∙◌, arith}
-use Rattle.std.specs.Prelude.{slice_index_or}
+use Rattle.std.proofs.Common.{◌≡◌, ℕ, ◌+◌, ◌-◌, ◌^◌, ◌≤◌, ◌<◌, List, length, map, take, drop, false, refl, ap, subst, ◌∙◌, arith}
+use Rattle.std.specs.Prelude.{slice_index_or, nat_eq, nat_lt, not, ◌&&◌}
+use Rattle.std.specs.Int.{w64, to_be_bytes}
+use Rattle.std.specs.List.{starts_with, flat_map}
 use Rattle.std.specs.Str.{bytes_eq}
 use Rattle.std.proofs.lemmas.List.{length-map, length-take, length-drop}
-use Rattle.rq_model.specs.States.{empty}
+use Rattle.rq_model.specs.States.{State, Element, empty}
 use Rattle.rq_model.specs.Machine.{run}
 use Rattle.rq_model.specs.StateSpelling.{state_bytes}
 use Rattle.rq_record.specs.Views.{record_of}
 use Rattle.rq_front.specs.declared.spans.Span.{Span}
-use Rattle.rq_restart.specs.Audits.{audited_of}
-use Rattle.rq_restart.proofs.Walks.{next_at, lawful_between, run_between, walk_past, found_next}
+use Rattle.rq_restart.specs.Audits.{IsWalk, Passes, audited_of, least}
+use Rattle.std.proofs.lemmas.Result.{IfOk-weaker}
+use Rattle.rq_restart.specs.Worth.{KeepsAllBut, payload_bytes}
+use Rattle.rq_restart.proofs.Walks.{next_at, lawful_between, run_between, found_past, found_next}
+use Rattle.rq_restart.proofs.Worth.{nothing_lost}
+use Rattle.rq_restart.proofs.Tallies.{IsFit, fit_at, lost_within, loss_kept, passed, tally_kept, no_spelling, within_more}
 use Rattle.rq_restart.proofs.auditing.visit.Goals as goal
 
+pub pass-requires-clause-counts : goal.pass-requires-clause-counts
+pass-requires-clause-counts g c = within_more c.args.walk.tally c.args.place (2 ^ 64 - 2) (omega (arith, c.requires.there, c.requires.few)) c.requires.walk.counts
+
+pub pass-requires-clause-room : goal.pass-requires-clause-room
+pass-requires-clause-room g c = omega (arith, c.requires.there, c.requires.few, c.requires.walk.few, lost_within c.args.walk.tally c.args.place c.index-records-place-in_default.result c.requires.walk.counts)
+
 pub returns-in_default : goal.returns-in_default
-returns-in_default g c = record {
-  walk = walk_past c.args.records.now c.args.place c.index-records-place.result c.args.walk c.requires.there c.index-records-place.is c.in_default.not-Checkpoint c.requires.walk;
-  refused = tt;
-}
+returns-in_default g c =
+    let records = c.args.records.now in
+    let r = c.index-records-place-in_default.result in
+    let fit = fit_at (map record_of records) c.args.place c.runs_are_well_formed.ensures.start c.runs_are_well_formed.ensures.runs c.runs_fit.ensures c.requires.form c.requires.lawful in
+    let found = found_past records c.args.place c.index-records-place.result c.args.walk.found.items c.requires.there c.index-records-place.is c.in_default.not-Checkpoint c.requires.walk.found in
+    record {
+      walk = IfOk-weaker c.pass.result (Passes c.args.walk r) (IsWalk (map record_of records) (c.args.place + 1))
+          (λ v p. passed records c.args.place r c.args.walk v c.requires.there c.requires.few c.index-records-place-in_default.is fit c.requires.walk p found) c.pass.ensures.passed;
+      refused = c.pass.ensures.refused;
+    }
 
 pub replay-requires-clause-lawful : goal.replay-requires-clause-lawful
 replay-requires-clause-lawful g c κs within = lawful_between c.args.records.now c.args.walk.from c.args.place c.args.walk.state c.requires.walk.within c.requires.walk.state c.requires.lawful
@@ -42,12 +60,34 @@ bounds-spans-place g c =
     let few : c.args.place < length (map record_of c.args.records.now) = omega (arith, c.requires.there, length-map c.args.records.now record_of) in
     (c.requires.spans c.args.place few).0
 
-pub overflow_sub-spans : goal.overflow_sub-spans
-overflow_sub-spans g c =
+pub overflow_sub-offset : goal.overflow_sub-offset
+overflow_sub-offset g c =
     let few : c.args.place < length (map record_of c.args.records.now) = omega (arith, c.requires.there, length-map c.args.records.now record_of) in
     let none : Span = record { start = 0; len = 0 } in
     let start = (c.requires.spans c.args.place few).1 none in
     omega (arith, start)
+
+pub returns-then-not-may_spell-clause-walk : goal.returns-then-not-may_spell-clause-walk
+returns-then-not-may_spell-clause-walk g c =
+    let records = c.args.records.now in
+    let few : c.args.place < length (map record_of records) = omega (arith, c.requires.there, length-map records record_of) in
+    let none : Span = record { start = 0; len = 0 } in
+    let r = c.index-records-place.result in
+    let may : c.may_spell.result ≡ (starts_with nat_eq c.in-Checkpoint.bytes (to_be_bytes w64 c.args.place) && not (nat_lt (length c.in-Checkpoint.bytes) (least c.args.walk))) =
+    c.may_spell.ensures ∙ ap (λ (z : List ℕ). starts_with nat_eq z (to_be_bytes w64 c.args.place) && not (nat_lt (length z) (least c.args.walk))) c.bytes-kept.ensures.bytes in
+    record {
+      within = omega (arith, c.requires.walk.within);
+      state = c.requires.walk.state;
+      carried = c.requires.walk.carried;
+      tally = tally_kept records c.args.place r c.in-Checkpoint.bytes c.args.walk.tally c.requires.there c.index-records-place.is c.in-Checkpoint.is (fit_at (map record_of records) c.args.place c.runs_are_well_formed.ensures.start c.runs_are_well_formed.ensures.runs c.runs_fit.ensures c.requires.form c.requires.lawful) c.requires.walk.tally;
+      counts = within_more c.args.walk.tally c.args.place (c.args.place + 1) (omega arith) c.requires.walk.counts;
+      few = omega (arith, c.requires.walk.few);
+      lost = loss_kept records c.args.place r c.in-Checkpoint.bytes c.args.walk.lost c.args.walk.state c.requires.there c.index-records-place.is c.in-Checkpoint.is c.requires.walk.lost;
+      found = ap (map audited_of) c.in_ok-push.ensures.items
+          ∙ found_next records c.args.place c.index-records-place.result c.in-Checkpoint.bytes c.args.walk.found.items (slice_index_or c.args.spans.now c.args.place none).start false (run empty (take c.args.place (map record_of records)))
+          c.requires.there c.index-records-place.is c.in-Checkpoint.is c.requires.walk.found ((c.requires.spans c.args.place few).1 none) refl
+          (no_spelling records c.args.place c.args.walk c.in-Checkpoint.bytes c.may_spell.result c.requires.there c.requires.walk may c.if-not-may_spell.true);
+    }
 
 pub returns-clause-walk : goal.returns-clause-walk
 returns-clause-walk g c =
@@ -57,11 +97,19 @@ returns-clause-walk g c =
     let state : c.in_ok-state.state ≡ run empty (take c.args.place (map record_of records)) =
     c.in_ok-state.ensures.state ∙ run_between records c.args.walk.from c.args.place c.args.walk.state c.requires.walk.within c.requires.walk.state in
     let test : c.in_ok-truth.truth ≡ bytes_eq c.in-Checkpoint.bytes (state_bytes c.in_ok-state.state) =
-    c.in_ok-truth.ensures.truth ∙ ap (λ (z : List ℕ). bytes_eq z (state_bytes c.in_ok-state.state)) c.bytes.ensures.bytes in
+    c.in_ok-truth.ensures.truth ∙ ap (λ (z : List ℕ). bytes_eq z (state_bytes c.in_ok-state.state)) c.bytes-kept.ensures.bytes in
+    let r = c.index-records-place.result in
+    let carried : c.payload_bytes_of.result ≡ payload_bytes c.in_ok-state.state = c.payload_bytes_of.ensures ∙ ap (λ (es : List Element). length (flat_map (λ e. e.payload) es)) c.elements.ensures in
     record {
       within = omega arith;
       state = state;
-      found = ap (map audited_of) c.in_ok-push.ensures.items
+      carried = carried;
+      tally = tally_kept records c.args.place r c.in-Checkpoint.bytes c.args.walk.tally c.requires.there c.index-records-place.is c.in-Checkpoint.is
+          (fit_at (map record_of records) c.args.place c.runs_are_well_formed.ensures.start c.runs_are_well_formed.ensures.runs c.runs_fit.ensures c.requires.form c.requires.lawful) c.requires.walk.tally;
+      counts = within_more c.args.walk.tally c.args.place (c.args.place + 1) (omega arith) c.requires.walk.counts;
+      few = omega arith;
+      lost = loss_kept records c.args.place r c.in-Checkpoint.bytes 0 c.in_ok-state.state c.requires.there c.index-records-place.is c.in-Checkpoint.is (subst (λ (t : State). KeepsAllBut 0 c.in_ok-state.state t) state (nothing_lost c.in_ok-state.state));
+      found = ap (map audited_of) c.in_ok-push-2.ensures.items
           ∙ found_next records c.args.place c.index-records-place.result c.in-Checkpoint.bytes c.args.walk.found.items (slice_index_or c.args.spans.now c.args.place none).start c.in_ok-truth.truth c.in_ok-state.state
           c.requires.there c.index-records-place.is c.in-Checkpoint.is c.requires.walk.found ((c.requires.spans c.args.place few).1 none) state test;
     }

@@ -1,4 +1,5 @@
-use Rattle.rq_tool.proofs.ToldAt.{no_read_failed, write_failed, written_runs_at, written_only_at, writes_report}
+use Rattle.rq_tool.proofs.Told.{all_taken}
+use Rattle.rq_tool.proofs.ToldAt.{no_read_failed, write_failed, written_runs_at, written_only_at, written_true}
 use Rattle.rq_tool.proofs.engine_at.run_at.Goals as goal
 
 pub returns-clause-runs : goal.returns-clause-runs
@@ -12,10 +13,8 @@ pub returns-clause-same : goal.returns-clause-same
 returns-clause-same g c = λ b is true_at.
     let contents = g.O.Output.contents in
     let faults = g.O.Output.faults in
-    let runs = written_runs_at b c.args.offset c.in_ok-restarted.restarted (faults c.args.output.now) (faults c.write_report_by.new.output) (contents c.args.output.now) (contents c.write_report_by.new.output) c.write_report_by.result
-    (c.in_ok-restarted.ensures.told b is) c.write_report_by.ensures in
-    let one = c.one_report.ensures in
-    writes_report c.true_checkpoints_say_the_same.ensures one.restart_at one.text b c.args.offset (contents c.args.output.now) (contents c.write_report_by.new.output) c.write_report_by.result true_at runs
+    written_true c.true_checkpoints_report_the_same.ensures b c.args.offset c.in_ok-restarted.restarted (faults c.args.output.now) (faults c.write_report_by.new.output) (contents c.args.output.now) (contents c.write_report_by.new.output)
+    c.write_report_by.result true_at (c.in_ok-restarted.ensures.told b is).1 c.write_report_by.ensures
 
 pub returns-clause-quiet : goal.returns-clause-quiet
 returns-clause-quiet g c =
@@ -31,3 +30,8 @@ returns-clause-read_faults g c =
 pub returns-clause-write_faults : goal.returns-clause-write_faults
 returns-clause-write_faults g c =
     write_failed c.in_ok-restarted.restarted (g.O.Output.faults c.args.output.now) (g.O.Output.faults c.write_report_by.new.output) (g.O.Output.contents c.args.output.now) (g.O.Output.contents c.write_report_by.new.output) c.write_report_by.result c.write_report_by.ensures
+
+pub returns-clause-takes : goal.returns-clause-takes
+returns-clause-takes g c =
+    let taken = c.in_ok-restarted.ensures.takes in
+    all_taken (g.I.Input.remaining c.args.input.now) (g.I.Input.remaining c.read_and_restart_at.new.input) taken.0 c.write_report_by.result taken.1

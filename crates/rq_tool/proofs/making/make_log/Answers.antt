@@ -1,15 +1,29 @@
-use Rattle.std.proofs.Common.{List, ℕ, subst, arith}
-use Rattle.rq_writer.specs.Made.{Made}
-use Rattle.rq_tool.proofs.Told.{same_read}
-use Rattle.rq_tool.proofs.Scripts.{made_read, made_fault}
+use Rattle.std.proofs.Common.{List, ℕ, subst}
+use Rattle.rq_report.specs.Streams.{Delivers}
+use Rattle.rq_tool.proofs.Told.{all_taken}
+use Rattle.rq_tool.proofs.Scripts.{written_log, written_log_only}
 use Rattle.rq_tool.proofs.making.make_log.Goals as goal
 
-pub returns-clause-made : goal.returns-clause-made
-returns-clause-made g c = λ b is.
-    let script = c.in_ok-script.script.items in
-    let same = same_read b script (g.I.Input.remaining c.args.input.now) (g.I.Input.remaining c.read_all.new.input) is c.in_ok-script.ensures.bytes in
-    let made = subst (λ (xs : List ℕ). Made (λ v. v.items) xs c.make.result) c.deref.ensures.value c.make.ensures in
-    made_read b script c.make.result same (omega (arith, c.len.ensures, c.if-len-gt-SCRIPT_LIMIT.false)) made
+pub returns-clause-makes : goal.returns-clause-makes
+returns-clause-makes g c = λ b is.
+    let contents = g.O.Output.contents in
+    let faults = g.O.Output.faults in
+    let old = contents c.args.output.now in
+    let new = contents c.write_all.new.output in
+    let wrote = subst (λ (xs : List ℕ). Delivers (faults c.args.output.now) (faults c.write_all.new.output) old new xs c.write_all.result) c.deref.ensures.value c.write_all.ensures in
+    written_log b c.in_ok-log.log.items (faults c.args.output.now) (faults c.write_all.new.output) old new c.write_all.result (c.in_ok-log.ensures.told b is) wrote
 
-pub returns-clause-refused : goal.returns-clause-refused
-returns-clause-refused g c = made_fault c.deref.result.now c.make.result c.make.ensures
+pub returns-clause-quiet : goal.returns-clause-quiet
+returns-clause-quiet g c =
+    let contents = g.O.Output.contents in
+    let faults = g.O.Output.faults in
+    let old = contents c.args.output.now in
+    let new = contents c.write_all.new.output in
+    let some = c.in_ok-log.ensures.some in
+    let wrote = subst (λ (xs : List ℕ). Delivers (faults c.args.output.now) (faults c.write_all.new.output) old new xs c.write_all.result) c.deref.ensures.value c.write_all.ensures in
+    written_log_only some.0 c.in_ok-log.log.items (faults c.args.output.now) (faults c.write_all.new.output) old new c.write_all.result some.1 wrote
+
+pub returns-clause-takes : goal.returns-clause-takes
+returns-clause-takes g c =
+    let taken = c.in_ok-log.ensures.takes in
+    all_taken (g.I.Input.remaining c.args.input.now) (g.I.Input.remaining c.read_and_make.new.input) taken.0 c.write_all.result taken.1

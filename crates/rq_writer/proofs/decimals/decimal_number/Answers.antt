@@ -1,4 +1,4 @@
-use Rattle.std.proofs.Common.{◌≡◌, Some, None, sym, subst, arith, rules}
+use Rattle.std.proofs.Common.{sym, subst, arith, rules}
 use Rattle.rq_writer.specs.Decimals.{IsNumber}
 use Rattle.rq_writer.proofs.Numbers.{some_number, no_number, other_number, not_decimal}
 use Rattle.rq_writer.proofs.decimals.decimal_number.Goals as goal

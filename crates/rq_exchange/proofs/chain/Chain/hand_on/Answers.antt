@@ -1,9 +1,5 @@
-use Rattle.std.proofs.Common.{rules, ◌≡◌, ◌<◌, ◌++◌, ◌∷◌, [], ℕ, List, length, arith, sym, ap, ◌∙◌, subst, refl, slice_index_or}
+use Rattle.std.proofs.Common.{refl, slice_index_or}
 use Rattle.rq_pool.specs.declared.countdown.arrival.Arrival.TheVariants.{Twice, NotLast, Last}
-use Rattle.rq_exchange.specs.declared.outboxes.Outbox.{Outbox}
-use Rattle.rq_exchange.specs.Chains.{web_of, AreBoxes, IsChain, ArePasses, diaries_of, due}
-use Rattle.rq_exchange.specs.Jobs.{IsJob, records_of, errors_in}
-use Rattle.rq_exchange.specs.Links.{at}
 use Rattle.rq_exchange.proofs.Handing.{handed, given, placed}
 use Rattle.rq_exchange.proofs.chain.Chain.hand_on.Goals as goal
 

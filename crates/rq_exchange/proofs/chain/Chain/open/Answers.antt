@@ -1,4 +1,4 @@
-use Rattle.std.proofs.Common.{◌≡◌, ◌<◌, ◌≤◌, ◌+◌, ℕ, List, length, sym, subst, arith, rules}
+use Rattle.std.proofs.Common.{◌≡◌, ◌<◌, length, subst, arith, rules}
 use Rattle.rq_exchange.specs.declared.chain.Chain.{Chain}
 use Rattle.rq_exchange.specs.Openings.{AreOpened}
 use Rattle.rq_exchange.proofs.Openings.{some_of, none_opened, opened_more, has_passes, rows_are}

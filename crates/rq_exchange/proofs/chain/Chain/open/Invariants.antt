@@ -1,4 +1,3 @@
-use Rattle.std.proofs.Common.{length}
 use Rattle.rq_exchange.specs.Openings.{AreOpened}
 use Rattle.rq_exchange.proofs.chain.Chain.open.Given as goal
 

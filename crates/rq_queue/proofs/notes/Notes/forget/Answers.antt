@@ -1,22 +1,37 @@
-use Rattle.std.proofs.Common.{rules, ◌≡◌, ◌<◌, sym, ap, ◌∙◌, subst, not, filter, List}
-use Rattle.std.proofs.lemmas.Fn.{filter_same}
-use Rattle.rq_model.specs.States.{Note, is_note_of}
+use Rattle.std.proofs.Common.{◌≡◌, ℕ, true, not, filter, sym, ap, ◌∙◌, subst, List}
+use Rattle.std.specs.Map.{values_of}
+use Rattle.std.specs.Ordering.{nat_cmp}
 use Rattle.rq_model.specs.Machine.{unnoted}
-use Rattle.rq_model.proofs.Merged.{ordered_filter}
-use Rattle.rq_queue.specs.Noted.{Rises, by_place, notes_in}
-use Rattle.rq_queue.proofs.NotesInOrder.{rising_sorted}
+use Rattle.rq_model.specs.States.{Note, is_note_of}
+use Rattle.rq_model.proofs.Lists.{each_filter}
+use Rattle.rq_state.proofs.InOrder.{key_cmp, key_total}
+use Rattle.rq_queue.specs.Noted.{Line, AreKept, filed, has_place, left}
+use Rattle.rq_queue.specs.declared.whose.Whose.TheVariants.{OfRegistrant}
+use Rattle.rq_queue.proofs.Noting.{all_filed, others_filed, left_all, values_left, filtered_by_place}
+use Rattle.rq_queue.proofs.Registered.{note_at}
 use Rattle.rq_queue.proofs.notes.Notes.forget.Goals as goal
 
-pub in_order-all-requires : goal.in_order-all-requires
-in_order-all-requires c = subst (λ (ns : List Note). Rises (by_place ns)) (sym c.in_ok-listed.ensures.listed) (rising_sorted (notes_in c.self.inside.units.entries) c.self.invariant.apart)
+pub invariant_of-result : goal.invariant_of-result
+invariant_of-result c =
+    let notes = c.self.inside in
+    let es = notes.all.entries in
+    let k : ℕ × List ℕ = (c.args.queue.0, c.args.name.now) in
+    let own = is_note_of c.args.queue.0 c.args.name.now in
+    let others : c.without-all.result.entries ≡ filter (λ (e : Line). not (own e.1)) es
+    = c.without-all.ensures ∙ (ap (λ (ps : List ℕ). left (OfRegistrant c.args.queue c.args.name.now) ps es) (c.deref.ensures.value ∙ c.unfiled-names.ensures.places)
+    ∙ left_all (OfRegistrant c.args.queue c.args.name.now) (filed key_cmp k notes.names.entries) es (all_filed key_cmp key_total (λ (m : Note). (m.queue, m.name)) k own (note_at k) notes.names.entries es c.self.invariant.by_name)) in
+    subst (λ (xs : List Line). AreKept xs notes.units.entries c.unfiled-names.result.0.entries) (sym others) (record {
+      by_place = filtered_by_place (λ (e : Line). not (own e.1)) es c.self.invariant.by_place;
+      by_unit = each_filter (λ (e : Line). has_place e.0 (filed nat_cmp e.1.unit notes.units.entries) ≡ true) (λ (e : Line). not (own e.1)) es c.self.invariant.by_unit;
+      by_name = others_filed key_cmp key_total (λ (m : Note). (m.queue, m.name)) k own (note_at k) notes.names.entries c.unfiled-names.result.0.entries c.unfiled-names.ensures.others es c.self.invariant.by_name;
+    })
 
-pub of-requires : goal.of-requires
-of-requires c =
-    let kept : c.retain.new.self.items ≡ filter (λ n. not (is_note_of c.args.queue.0 c.args.name.now n)) c.in_order-all.result.items = filter_same _ _ _ (λ x b f' k. search rules) _ _ c.retain.ensures.filtered in
-    subst Rises (sym kept) (ordered_filter (λ (a b : Note). a.last.place < b.last.place) (λ n. not (is_note_of c.args.queue.0 c.args.name.now n)) c.in_order-all.result.items
-    (subst Rises (sym c.in_order-all.ensures) (subst (λ (ns : List Note). Rises (by_place ns)) (sym c.in_ok-listed.ensures.listed) (rising_sorted (notes_in c.self.inside.units.entries) c.self.invariant.apart))))
-
-pub returns-clause-done : goal.returns-clause-done
-returns-clause-done c =
-    let kept : c.retain.new.self.items ≡ filter (λ n. not (is_note_of c.args.queue.0 c.args.name.now n)) c.in_order-all.result.items = filter_same _ _ _ (λ x b f' k. search rules) _ _ c.retain.ensures.filtered in
-    c.in_ok-notes.ensures.done ∙ (kept ∙ ap (unnoted c.args.queue.0 c.args.name.now) (c.in_order-all.ensures ∙ (ap by_place c.in_ok-listed.ensures.listed ∙ c.self.view_is)))
+pub returns : goal.returns
+returns c =
+    let notes = c.self.inside in
+    let es = notes.all.entries in
+    let k : ℕ × List ℕ = (c.args.queue.0, c.args.name.now) in
+    let own = is_note_of c.args.queue.0 c.args.name.now in
+    ap values_of (c.without-all.ensures ∙ ap (λ (ps : List ℕ). left (OfRegistrant c.args.queue c.args.name.now) ps es) (c.deref.ensures.value ∙ c.unfiled-names.ensures.places))
+    ∙ (values_left (OfRegistrant c.args.queue c.args.name.now) (filed key_cmp k notes.names.entries) es (all_filed key_cmp key_total (λ (m : Note). (m.queue, m.name)) k own (note_at k) notes.names.entries es c.self.invariant.by_name)
+    ∙ ap (unnoted c.args.queue.0 c.args.name.now) c.self.view_is)

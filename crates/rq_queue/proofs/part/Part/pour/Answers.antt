@@ -1,4 +1,4 @@
-use Rattle.std.proofs.Common.{◌++◌, sym, ap, ◌∙◌, subst, List}
+use Rattle.std.proofs.Common.{◌++◌, ap, ◌∙◌, subst, List}
 use Rattle.std.specs.List.Sorted.{IsPermutation}
 use Rattle.std.proofs.lemmas.List.Sorted.{IsPermutation-refl}
 use Rattle.rq_model.specs.States.{Element, Note, Registrant}
@@ -21,4 +21,4 @@ returns-clause-registrants c =
 pub returns-clause-notes : goal.returns-clause-notes
 returns-clause-notes c =
     let list = c.in_ok-notes.notes.items in
-    (list, c.in_ok-append-3.ensures.items ∙ ap (λ (xs : List Note). xs ++ list) c.in_ok-reserve-3.ensures.items, subst (λ (p : Part). IsPermutation p.notes list) c.self.view_is c.in_ok-notes.ensures.listed)
+    (list, c.in_ok-append-3.ensures.items ∙ ap (λ (xs : List Note). xs ++ list) c.in_ok-reserve-3.ensures.items, subst (λ (p : Part). IsPermutation p.notes list) c.self.view_is (subst (λ (xs : List Note). IsPermutation xs list) c.in_ok-notes.ensures.listed (IsPermutation-refl list)))

@@ -1,0 +1,300 @@
+#!/usr/bin/env python3
+"""Tries the program from outside: its lines, files, texts and exit statuses, and the threads that it starts.
+
+usage: outside.py RQ
+Prints a line for each thing that is not as it must be, and at last `N passed, M failed`.
+"""
+from __future__ import annotations
+import os, resource, shutil, signal, stat, subprocess, sys, tempfile, threading
+
+RQ = os.path.abspath(sys.argv[1])
+HERE = os.path.dirname(os.path.abspath(__file__))
+EXAMPLES = os.path.join(HERE, "..", "examples")
+
+USAGE = (2, b"", b"rq: usage\n")
+DONE = (0, b"", b"")
+READ_FAULT = (3, b"", b"rq: read fault\n")
+WRITE_FAULT = (3, b"", b"rq: write fault\n")
+RESOURCES = (4, b"", b"rq: resources\n")
+
+ONE_ELEMENT = b"define jobs 0 -\nbegin 1\nenqueue 1 0 5 - 0 61\ncommit 1\n"
+ONE_ELEMENT_REPORT = b"""front 4 records, 237 of 237 bytes, whole
+units 1 committed, 0 aborted, 0 cut off
+queue 0 jobs limit 0 error -
+e 2 from 0 priority 5 attempts 0 61
+"""
+CHECKPOINT = b"""define jobs 0 -
+register 0 ann
+begin 1
+enqueue 1 0 5 - 0 61
+commit 1
+begin 2
+dequeue 2 0 ann 10
+enqueue 2 0 8 - 0 62
+checkpoint
+commit 2
+"""
+CHECKPOINT_REPORT = b"""front 10 records, 724 of 724 bytes, whole
+units 2 committed, 0 aborted, 0 cut off
+queue 0 jobs limit 0 error -
+e 7 from 0 priority 8 attempts 0 62
+r ann dequeue tag 10 element 3
+"""
+
+passed = failed = 0
+
+
+def check(name: str, got: object, want: object) -> None:
+    global passed, failed
+    if got == want:
+        passed += 1
+    else:
+        failed += 1
+        print(f"{name}: {got!r} in place of {want!r}", flush=True)
+
+
+def refused(text: str) -> tuple[int, bytes, bytes]:
+    return 1, b"", f"rq: {text}\n".encode()
+
+
+def run(*words: object, **options: object) -> tuple[int, bytes, bytes]:
+    """How the program ends, and what it prints."""
+    done = subprocess.run([RQ, *(word if isinstance(word, bytes) else str(word) for word in words)], capture_output=True, timeout=60, **options)
+    return done.returncode, done.stdout, done.stderr
+
+
+def run_into(output: object, *words: object, **options: object) -> tuple[int, bytes, bytes]:
+    """The same with another standard output, of which nothing is seen."""
+    done = subprocess.run([RQ, *map(str, words)], stdout=output, stderr=subprocess.PIPE, timeout=60, **options)
+    return done.returncode, b"", done.stderr
+
+
+def put(path: str, content: bytes) -> str:
+    with open(path, "wb") as file:
+        file.write(content)
+    return path
+
+
+def content(path: str) -> bytes | None:
+    try:
+        with open(path, "rb") as file:
+            return file.read()
+    except FileNotFoundError:
+        return None
+
+
+def log_of(script: bytes, name: str) -> str:
+    log = name + ".log"
+    check(f"make {name}", run("make", put(name + ".script", script), log), DONE)
+    return log
+
+
+def commands() -> None:
+    """Every command, where all is well."""
+    one = log_of(ONE_ELEMENT, "one")
+    check("the log of a script", content(one), content(os.path.join(EXAMPLES, "one-element.log")))
+    check("the empty script", len(content(log_of(b"", "empty")) or b""), 40)
+    two = log_of(CHECKPOINT, "two")
+    for workers, grain in [(1, 1), (2, 1), (7, 1000), (64, 1000000)]:
+        check(f"restart {workers} {grain}", run("restart", one, workers, grain), (0, ONE_ELEMENT_REPORT, b""))
+        check(f"restart {workers} {grain}", run("restart", two, workers, grain), (0, CHECKPOINT_REPORT, b""))
+        check(f"restart-at {workers} {grain}", run("restart-at", two, 447, workers, grain), (0, CHECKPOINT_REPORT, b""))
+        check(f"audit {workers}", run("audit", two, workers), (0, b"checkpoint 447 true\n", b""))
+        check(f"audit {workers} of none", run("audit", one, workers), DONE)
+    false = log_of(CHECKPOINT.replace(b"checkpoint\n", b"checkpoint-hex " + b"00" * 52 + b"\n"), "false")
+    check("audit of a false checkpoint", run("audit", false, 2), (0, b"checkpoint 447 false\n", b""))
+    from_there = b"front 1 records, 536 of 581 bytes, law\nunits 0 committed, 0 aborted, 0 cut off\n"
+    check("restart-at a false checkpoint", run("restart-at", false, 447, 2, 1), (0, from_there, b""))
+    check("audit of two", run("audit", log_of(b"checkpoint\ncheckpoint\n", "twice"), 1), (0, b"checkpoint 40 true\ncheckpoint 129 true\n", b""))
+
+
+def closing() -> None:
+    """Logs that are closed, by logs whose last lines abort what is open."""
+    open_ = CHECKPOINT.removesuffix(b"commit 2\n")
+    log = log_of(open_, "open")
+    want = content(log_of(open_ + b"abort 2\n", "shut"))
+    for workers in [1, 2, 64]:
+        check(f"close with {workers} workers", (run("close", log, "closed.log", workers), content("closed.log")), (DONE, want))
+    check("close again", (run("close", "closed.log", "closed.again", 2), content("closed.again")), (DONE, want))
+    check("close a log in its own place", (run("close", log, log, 2), content(log)), (DONE, want))
+    for name, more in [("cut", b"\0\0"), ("length", bytes(9)), ("chain", b"\0\0\0\x01" + bytes(33))]:
+        path = put("damaged.log", (content(log_of(open_, "open")) or b"") + more)
+        check(f"close before {name}", (run("close", path, "closed.log", 2), content("closed.log")), (DONE, want))
+    for path in ["missing/made", "folder", "/dev/full"]:
+        check(f"close into {path}", run("close", log, path, 1), WRITE_FAULT)
+    check("close into /dev/stdout", run("close", log, "/dev/stdout", 2), (0, want, b""))
+
+
+def usage() -> None:
+    """Lines that are none: nothing is opened, and nothing is made."""
+    lines = [[], ["make"], ["make", "one.script"], ["make", "one.script", "made", "1"], ["restart"], ["restart", "one.log", 1]]
+    lines += [["restart", "one.log", 1, 1, 1], ["restart-at", "two.log", 447, 1], ["audit", "two.log"], ["audit", "two.log", 1, 1], ["close", "two.log", 1], ["close", "two.log", "made", 1, 1], ["restarts", "one.log", 1, 1]]
+    lines += [["Restart", "one.log", 1, 1], ["", "one.log", 1, 1], ["restart", "one.log", b"\xff", 1]]
+    for number in ["0", "65", "00", "01", "+1", "-1", " 1", "1 ", "", "1.0", "0x1", "4294967297", "4294967360", "18446744073709551617", "one"]:
+        lines += [["restart", "one.log", number, 1], ["restart-at", "two.log", 447, number, 1], ["audit", "two.log", number], ["close", "two.log", "made", number]]
+    for number in ["0", "1000001", "01", "+1", "", "4294967297", "18446744073709551617"]:
+        lines += [["restart", "one.log", 1, number], ["restart-at", "two.log", 447, 1, number]]
+    for number in ["0447", "+447", "", "-1", "18446744073709551616", "18446744073709552063", "4e2"]:
+        lines += [["restart-at", "two.log", number, 1, 1]]
+    for line in lines:
+        check(f"the line {line}", run(*line), USAGE)
+        check(f"the line {line} of a file that is missing", run(*("missing" if word in ("one.log", "two.log") else word for word in line)), USAGE)
+    check("a file made by no line", os.path.exists("made"), False)
+
+
+def faults() -> None:
+    """Every fault that a small file brings about, with its text and its status."""
+    log = content("one.log") or b""
+    other = log[:7] + b"\x02" + log[8:]
+    for name, bytes_ in [("no byte", b""), ("39 bytes", log[:39]), ("another version", other), ("a text", b"no log at all, but longer than forty bytes\n")]:
+        path = put("no.log", bytes_)
+        for line in [["restart", path, 2, 1], ["restart-at", path, 40, 2, 1], ["audit", path, 2], ["close", path, "made", 2]]:
+            check(f"{line[0]} of {name}", run(*line), refused("not a log"))
+    for offset in [0, 39, 40, 387, 446, 448, 724, 447 + 2**32, 2**64 - 1]:
+        check(f"restart-at {offset}", run("restart-at", "two.log", offset, 2, 1), refused("no checkpoint"))
+    bad = log_of(CHECKPOINT.replace(b"checkpoint\n", b"checkpoint-hex 00\n"), "bad")
+    check("a checkpoint that spells no state", run("restart-at", bad, 447, 2, 1), refused("bad checkpoint"))
+    for script, line in [(b"begin 01\n", 1), (b"begin 1\nbegin 2", 2), (b"\n", 1), (b"begin 1\n\nbegin 2\n", 2), (b"kill 0 0\n", 1)]:
+        check(f"the script {script!r}", run("make", put("bad.script", script), "bad.made"), refused(f"script line {line}"))
+    check("a log of a bad script", os.path.exists("bad.made"), False)
+    for line in [["make", "missing", "made"], ["restart", "missing", 1, 1], ["restart-at", "missing", 40, 1, 1], ["audit", "missing", 1], ["close", "missing", "made", 1]]:
+        check(f"{line[0]} of a missing file", run(*line), READ_FAULT)
+    os.mkdir("folder")
+    for line in [["make", "folder", "made"], ["restart", "folder", 1, 1], ["restart-at", "folder", 40, 1, 1], ["audit", "folder", 1], ["close", "folder", "made", 1]]:
+        check(f"{line[0]} of a folder", run(*line), READ_FAULT)
+    check("a file made of no script", os.path.exists("made"), False)
+
+
+def outputs() -> None:
+    """Outputs that take nothing, or not all."""
+    printing = [["restart", "two.log", 2, 1], ["restart-at", "two.log", 447, 2, 1], ["audit", "two.log", 2]]
+    for line in printing:
+        with open("/dev/full", "wb") as full:
+            check(f"{line[0]} into a full device", run_into(full, *line), WRITE_FAULT)
+        read_end, write_end = os.pipe()
+        os.close(read_end)
+        check(f"{line[0]} into a closed pipe", run_into(write_end, *line), WRITE_FAULT)
+        os.close(write_end)
+        with open("two.log", "rb") as unwritable:
+            check(f"{line[0]} into a file that is open for reading", run_into(unwritable, *line), WRITE_FAULT)
+    for path in ["missing/made", "folder", "/dev/full"]:
+        check(f"make into {path}", run("make", "one.script", path), WRITE_FAULT)
+
+
+def files() -> None:
+    """A file is made whole or not at all, and beside it nothing is left."""
+    os.mkdir("made")
+    one, two = content("one.log"), content("two.log")
+    check("make a file", (run("make", "one.script", "made/log"), content("made/log")), (DONE, one))
+    os.chmod("made/log", 0o640)
+    check("make a file again", (run("make", "two.script", "made/log"), content("made/log")), (DONE, two))
+    check("the mode of a file that is made again", stat.S_IMODE(os.stat("made/log").st_mode), 0o640)
+    check("a bad script over a file", (run("make", "bad.script", "made/log"), content("made/log")), (refused("script line 1"), two))
+    shutil.copy("one.script", "made/both")
+    check("make a script its own log", (run("make", "made/both", "made/both"), content("made/both")), (DONE, one))
+    os.symlink("log", "made/link")
+    check("make by a symbolic link", (run("make", "one.script", "made/link"), os.readlink("made/link"), content("made/log")), (DONE, "log", one))
+    check("make into /dev/stdout", run("make", "one.script", "/dev/stdout"), (0, one, b""))
+    os.mkfifo("made/pipe")
+    taken: list[bytes | None] = []
+    reader = threading.Thread(target=lambda: taken.append(content("made/pipe")), daemon=True)
+    reader.start()
+    check("make into a pipe", run("make", "one.script", "made/pipe"), DONE)
+    reader.join(10)
+    check("what went into a pipe", taken, [one])
+    check("what stands beside the files that were made", sorted(os.listdir("made")), ["both", "link", "log", "pipe"])
+
+    def small_files() -> None:
+        signal.signal(signal.SIGXFSZ, signal.SIG_IGN)
+        resource.setrlimit(resource.RLIMIT_FSIZE, (100, 100))
+
+    check("make on a full disk", (run("make", "two.script", "made/log", preexec_fn=small_files), content("made/log")), (WRITE_FAULT, one))
+    check("make a new file on a full disk", (run("make", "two.script", "made/new", preexec_fn=small_files), content("made/new")), (WRITE_FAULT, None))
+    check("what stands beside the files that were not made", sorted(os.listdir("made")), ["both", "link", "log", "pipe"])
+
+
+def many_queues() -> tuple[bytes, bytes]:
+    """A script of 96 queues with an element each, and its report."""
+    script = b"".join(b"define q%d 0 -\n" % q for q in range(96))
+    script += b"".join(b"begin %d\nenqueue %d %d 1 - 0 %s\ncommit %d\n" % (q + 1, q + 1, q, b"5a" * 4000, q + 1) for q in range(96))
+    length = 40 + sum(43 + len(b"q%d" % q) + 45 + 59 + 4000 + 45 for q in range(96))
+    report = b"front 384 records, %d of %d bytes, whole\nunits 96 committed, 0 aborted, 0 cut off\n" % (length, length)
+    report += b"".join(b"queue %d q%d limit 0 error -\ne %d from %d priority 1 attempts 0 %s\n" % (q, q, 96 + 3 * q + 1, q, b"5a" * 4000) for q in range(96))
+    return script, report
+
+
+def plans() -> None:
+    """One log at every number of workers, and with little memory, which what is no log does not need."""
+    script, report = many_queues()
+    log = log_of(script, "many")
+    for workers in range(1, 65):
+        check(f"restart with {workers} workers", run("restart", log, workers, 10) == (0, report, b""), True)
+
+    def little_memory() -> None:
+        resource.setrlimit(resource.RLIMIT_AS, (12 << 20, 12 << 20))
+
+    big = put("big.log", (content(log) or b"") + bytes(16 << 20))
+    for line in [["restart", big, 1, 1000], ["restart-at", big, 40, 1, 1000], ["audit", big, 1], ["make", big, "made/big"], ["close", big, "made/big", 1]]:
+        check(f"{line[0]} with little memory", run(*line, preexec_fn=little_memory), RESOURCES)
+    check("a file made with little memory", os.path.exists("made/big"), False)
+    none = put("none.log", bytes(16 << 20))
+    for line in [["restart", none, 1, 1000], ["restart-at", none, 40, 1, 1000], ["audit", none, 1]]:
+        check(f"{line[0]} of what is no log, with little memory", run(*line, preexec_fn=little_memory), refused("not a log"))
+
+
+THREADS = rb"""
+#define _GNU_SOURCE
+#include <dlfcn.h>
+#include <pthread.h>
+#include <stdlib.h>
+#include <unistd.h>
+
+int pthread_create(pthread_t *thread, const pthread_attr_t *attributes, void *(*body)(void *), void *argument) {
+    int (*next)(pthread_t *, const pthread_attr_t *, void *(*)(void *), void *) = dlsym(RTLD_NEXT, "pthread_create");
+    return write(atoi(getenv("STARTED")), "t", 1) == 1 ? next(thread, attributes, body, argument) : 11;
+}
+"""
+
+
+def started_by(shim: str, *words: object) -> int:
+    """How many threads the program starts."""
+    seen, told = os.pipe()
+    run(*words, env=os.environ | {"LD_PRELOAD": shim, "STARTED": str(told)}, pass_fds=[told])
+    os.close(told)
+    with os.fdopen(seen, "rb") as file:
+        return len(file.read())
+
+
+def threads() -> None:
+    """How many threads a plan starts: none for one worker, and for more so many that each has its own."""
+    compiler = shutil.which("cc") or shutil.which("gcc") or shutil.which("clang")
+    if compiler is None:
+        print("no C compiler: threads are not counted")
+        return
+    shim = os.path.abspath("threads.so")
+    subprocess.run([compiler, "-O1", "-shared", "-fPIC", put("threads.c", THREADS), "-o", shim, "-ldl", "-lpthread"], check=True)
+    for line in [["make", "many.script", "many.again"], ["restart", "many.log", 1, 1], ["restart-at", "two.log", 447, 1, 1], ["audit", "two.log", 1], ["close", "many.log", "many.closed", 1]]:
+        check(f"threads of {line[0]} with one worker", started_by(shim, *line), 0)
+    for workers in [2, 3, 4, 5, 8, 16, 64]:
+        started = started_by(shim, "restart", "many.log", workers, 1000000)
+        check(f"threads of a restart with {workers} workers: {started}", workers - 1 <= started, True)
+
+
+def main() -> None:
+    folder = tempfile.mkdtemp()
+    os.chdir(folder)
+    try:
+        for part in [commands, usage, faults, closing, outputs, files, plans, threads]:
+            try:
+                part()
+            except Exception as fault:
+                check(f"{part.__name__}", repr(fault), "")
+    finally:
+        os.chdir("/")
+        shutil.rmtree(folder)
+    print(f"{passed} passed, {failed} failed")
+    sys.exit(failed != 0)
+
+
+if __name__ == "__main__":
+    main()

@@ -1,0 +1,392 @@
+#!/usr/bin/env python3
+"""Restarts and audits logs that try to make them take the square of the log's length, each at n and at 2n records.
+
+usage: hostile.py RQ [--records N] [--runs N] [--workers N] [--limit SECONDS] [--folder DIR] [SHAPE ..]
+RQ is the built program. Each time is the best of the runs, taken in turn at both lengths and with the peer (peer.rs). The bounds:
+from n to 2n a restart and an audit grow at most 2.6 times; a restart takes at most 4 times as long as the peer; an audit at most
+3 times as long as a restart of the same log; neither holds more than 6 times the log in memory; the report is the peer's. Prints
+a table and each bound that is missed, and exits with 1 if any is. A run that takes longer than the limit is stopped, and counts
+as the limit.
+"""
+from __future__ import annotations
+import hashlib, itertools, os, struct, subprocess, sys, time
+from collections.abc import Callable, Iterator
+from common import built_peer, parsed, parser
+
+GROWTH, TO_PEER, TO_RESTART, MEMORY = 2.6, 4.0, 3.0, 6.0
+# What is shorter tells more of the host than of the program.
+SHORT = 0.05
+NO_QUEUE = 0xFFFFFFFF
+
+
+def define(name: bytes, limit: int = 0, error: int = NO_QUEUE) -> bytes:
+    return b"\x01" + struct.pack(">HI", limit, error) + name
+
+
+def register(queue: int, name: bytes) -> bytes:
+    return b"\x02" + struct.pack(">I", queue) + name
+
+
+def deregister(queue: int, name: bytes) -> bytes:
+    return b"\x03" + struct.pack(">I", queue) + name
+
+
+def begin(unit: int) -> bytes:
+    return b"\x04" + struct.pack(">Q", unit)
+
+
+def enqueue(unit: int, queue: int, name: bytes = b"", tag: int = 0, payload: bytes = b"a") -> bytes:
+    return b"\x05" + struct.pack(">QIBB", unit, queue, 5, len(name)) + name + struct.pack(">Q", tag) + payload
+
+
+def dequeue(unit: int, queue: int, name: bytes = b"", tag: int = 0) -> bytes:
+    return b"\x06" + struct.pack(">QIB", unit, queue, len(name)) + name + struct.pack(">Q", tag)
+
+
+def commit(unit: int) -> bytes:
+    return b"\x07" + struct.pack(">Q", unit)
+
+
+def abort(unit: int) -> bytes:
+    return b"\x08" + struct.pack(">Q", unit)
+
+
+def checkpoint(told: bytes) -> bytes:
+    return b"\x09" + told
+
+
+def spelled(counts: tuple[int, int, int, int], queues: list[bytes], elements: list[tuple[int, bytes]]) -> bytes:
+    """A state whose elements are Free in queue 0, with priority 5 and no attempt."""
+    definitions = b"".join(struct.pack(">HIB", 0, NO_QUEUE, len(name)) + name for name in queues)
+    members = b"".join(struct.pack(">QIIBQBH", id, 0, 0, 5, 0, 0, len(payload)) + payload for id, payload in elements)
+    lists = [struct.pack(">I", len(queues)), definitions, bytes(8), struct.pack(">I", len(elements)), members, bytes(4)]
+    return struct.pack(">QQQQ", *counts) + b"".join(lists)
+
+
+Records = Iterator[bytes]
+
+
+def open_units(n: int) -> Records:
+    """Units that are never ended."""
+    yield define(b"jobs")
+    for unit in range(1, n // 2):
+        yield begin(unit)
+        yield enqueue(unit, 0)
+
+
+def one_unit(n: int) -> Records:
+    """A unit enqueues all, a second one takes all and aborts, a third one takes all and commits."""
+    yield define(b"jobs")
+    for unit, operation, end in ((1, enqueue, commit), (2, dequeue, abort), (3, dequeue, commit)):
+        yield begin(unit)
+        yield from itertools.repeat(operation(unit, 0), n // 3)
+        yield end(unit)
+
+
+def units_in_turn(n: int) -> Records:
+    """A thousand open units, and every operation is another one's than the last."""
+    yield define(b"jobs")
+    yield from (begin(unit) for unit in range(1, 1001))
+    yield from (enqueue(1 + at % 1000, 0) for at in range(n // 2))
+    yield from (commit(unit) for unit in range(1, 1001))
+    yield from (begin(unit) for unit in range(1001, 2001))
+    yield from (dequeue(1001 + at % 1000, 0) for at in range(n // 2))
+    yield from (abort(unit) for unit in range(1001, 2001))
+
+
+def one_registrant(n: int) -> Records:
+    """A unit for each operation of one registrant, who never goes."""
+    yield define(b"jobs")
+    yield register(0, b"ann")
+    for unit in range(1, n // 4):
+        yield begin(unit)
+        yield enqueue(unit, 0, b"ann", unit)
+        yield dequeue(unit, 0, b"ann", unit)
+        yield commit(unit)
+
+
+def strangers_go(n: int) -> Records:
+    """All notes are one registrant's, and it is another one that comes and goes."""
+    yield define(b"jobs")
+    yield register(0, b"ann")
+    yield begin(1)
+    yield from (dequeue(1, 0, b"ann", tag) for tag in range(n // 3))
+    yield from itertools.chain.from_iterable(itertools.repeat((register(0, b"bob"), deregister(0, b"bob")), n // 3))
+
+
+def noted_and_gone(n: int) -> Records:
+    """A registrant comes, makes a note in the same unit, and goes, again and again."""
+    yield define(b"jobs")
+    yield begin(1)
+    yield from itertools.chain.from_iterable(itertools.repeat((register(0, b"ann"), enqueue(1, 0, b"ann", 1), deregister(0, b"ann")), n // 3))
+    yield commit(1)
+
+
+def last_go_first(n: int) -> Records:
+    """Many registrants with notes in one unit; they go, the last one first."""
+    names = [b"n%d" % number for number in range(n // 4)]
+    yield define(b"jobs")
+    yield begin(1)
+    yield from (register(0, name) for name in names)
+    yield from (enqueue(1, 0, name, 1) for name in names)
+    yield from (dequeue(1, 0, name, 1) for name in names)
+    yield from (deregister(0, name) for name in reversed(names))
+    yield commit(1)
+
+
+def retried(n: int) -> Records:
+    """One element of 60,000 bytes is taken and comes back, unit by unit."""
+    yield define(b"jobs")
+    yield begin(1)
+    yield enqueue(1, 0, payload=bytes(60000))
+    yield commit(1)
+    for unit in range(2, n // 3):
+        yield begin(unit)
+        yield dequeue(unit, 0)
+        yield abort(unit)
+
+
+def all_retried(n: int) -> Records:
+    """Each unit takes one of many elements and aborts, so that the best one is always the same."""
+    yield define(b"jobs")
+    yield begin(1)
+    yield from itertools.repeat(enqueue(1, 0), n // 2)
+    yield commit(1)
+    for unit in range(2, n // 6):
+        yield begin(unit)
+        yield dequeue(unit, 0)
+        yield abort(unit)
+
+
+def moved(n: int) -> Records:
+    """Elements of one queue leave it one by one for an error queue, where others take them meanwhile."""
+    yield define(b"errors")
+    yield define(b"jobs", 1, 0)
+    yield begin(1)
+    yield from itertools.repeat(enqueue(1, 1), n // 7)
+    yield commit(1)
+    for unit in range(2, 2 * (n // 7), 2):
+        yield begin(unit)
+        yield dequeue(unit, 1)
+        yield abort(unit)
+        yield begin(unit + 1)
+        yield dequeue(unit + 1, 0)
+        yield abort(unit + 1)
+
+
+def all_moved(n: int) -> Records:
+    """Units over 4,095 queues abort, and all elements go to the one error queue of all."""
+    yield define(b"errors")
+    yield from (define(b"q%d" % queue, 1, 0) for queue in range(1, 4096))
+    for unit in range(1, n // 2048, 2):
+        yield begin(unit)
+        yield from (enqueue(unit, 1 + (unit * 512 + at) % 4095) for at in range(2048))
+        yield commit(unit)
+        yield begin(unit + 1)
+        yield from (dequeue(unit + 1, 1 + (unit * 512 + at) % 4095) for at in range(2048))
+        yield abort(unit + 1)
+
+
+def all_queues(n: int) -> Records:
+    """4,096 queues, each with an open unit of its own, and units that touch all of them."""
+    yield from (define(b"q%d" % queue) for queue in range(4096))
+    yield from (begin(1 + queue) for queue in range(4096))
+    yield from (enqueue(1 + queue, queue) for queue in range(4096))
+    for unit in range(5000, 5000 + n // 4096):
+        yield begin(unit)
+        yield from (enqueue(unit, queue) if unit % 2 else dequeue(unit, queue) for queue in range(4096))
+        yield commit(unit)
+
+
+def spread(n: int) -> Records:
+    """One unit's elements over 4,096 queues, which stay."""
+    yield from (define(b"q%d" % queue) for queue in range(4096))
+    yield begin(1)
+    yield from (enqueue(1, at % 4096) for at in range(n))
+    yield commit(1)
+
+
+def few_elements(n: int, told: Callable[[int, int, list[tuple[int, bytes]]], bytes]) -> Records:
+    """64 elements and n / 32 checkpoints, with a unit between any two of them."""
+    elements = [(2 + at, b"payload %08d" % at) for at in range(64)]
+    yield define(b"jobs")
+    yield begin(1)
+    yield from (enqueue(1, 0, payload=payload) for _, payload in elements)
+    yield commit(1)
+    place = 67
+    for unit in range(2, n // 32):
+        yield begin(unit)
+        yield commit(unit)
+        yield checkpoint(told(place + 2, unit, elements))
+        place += 3
+
+
+def true_checkpoints(n: int) -> Records:
+    """Checkpoints that spell their state."""
+    return few_elements(n, lambda place, unit, elements: spelled((place, unit, unit, 0), [b"jobs"], elements))
+
+
+def false_checkpoints(n: int) -> Records:
+    """Checkpoints that are right but for the last byte of the last payload."""
+    return few_elements(n, lambda place, unit, elements: spelled((place, unit, unit, 0), [b"jobs"], [*elements[:-1], (65, b"payload 00000000")]))
+
+
+def many_elements(n: int, told: Callable[[int], bytes]) -> Records:
+    """n / 2 elements, and then n / 2 checkpoints."""
+    yield define(b"jobs")
+    yield begin(1)
+    yield from itertools.repeat(enqueue(1, 0), n // 2)
+    yield commit(1)
+    yield from (checkpoint(told(n // 2 + 3 + at)) for at in range(n // 2))
+
+
+def junk_checkpoints(n: int) -> Records:
+    """Many elements, and checkpoints of four bytes."""
+    return many_elements(n, lambda place: b"junk")
+
+
+def empty_checkpoints(n: int) -> Records:
+    """Many elements, and checkpoints that spell the empty state."""
+    return many_elements(n, lambda place: bytes(52))
+
+
+def counting_checkpoints(n: int) -> Records:
+    """Many elements, and checkpoints that have all but these right."""
+    return many_elements(n, lambda place: spelled((place, 1, 1, 0), [b"jobs"], []))
+
+
+def one_told(n: int) -> Records:
+    """Many elements, and checkpoints that have all right but tell of the first one only."""
+    return many_elements(n, lambda place: spelled((place, 1, 1, 0), [b"jobs"], [(2, b"a")]))
+
+
+def wide_checkpoints(n: int) -> Records:
+    """4,000 queues, and checkpoints of one byte."""
+    yield from (define(b"q%d" % queue) for queue in range(4000))
+    yield from itertools.repeat(checkpoint(b"j"), n)
+
+
+RESTARTED = [open_units, one_unit, units_in_turn, one_registrant, strangers_go, noted_and_gone, last_go_first]
+RESTARTED += [retried, all_retried, moved, all_moved, all_queues, spread]
+AUDITED = [true_checkpoints, false_checkpoints, junk_checkpoints, empty_checkpoints, counting_checkpoints, one_told, wide_checkpoints]
+SHAPES = {shape.__name__: shape for shape in RESTARTED + AUDITED}
+
+
+def write_log(path: str, records: Records):
+    """The header, and a frame for each record."""
+    head = b"RQLOG\0\0\x01"
+    before = hashlib.sha256(head).digest()
+    with open(path, "wb") as log:
+        log.write(head + before)
+        for body in records:
+            framed = struct.pack(">I", len(body)) + body
+            before = hashlib.sha256(before + framed).digest()
+            log.write(framed + before)
+
+
+class Timed:
+    """A command over one log: its best time, its greatest memory in bytes, and what it wrote."""
+
+    def __init__(self, words: list[str], limit: float):
+        self.words, self.limit = words, limit
+        self.best, self.memory, self.wrote, self.was_stopped = limit, 0, "", False
+
+    def run(self):
+        if self.was_stopped:
+            return
+        begun = time.perf_counter()
+        done = subprocess.Popen(["timeout", str(self.limit), *self.words], stdout=subprocess.PIPE, stderr=subprocess.DEVNULL)
+        digest = hashlib.sha256()
+        while piece := done.stdout.read(1 << 20):
+            digest.update(piece)
+        _, status, usage = os.wait4(done.pid, 0)
+        done.returncode = os.waitstatus_to_exitcode(status)
+        self.was_stopped = done.returncode == 124
+        if done.returncode not in (0, 124):
+            sys.exit(f"{' '.join(self.words)} ended with {done.returncode}")
+        self.best = min(self.best, time.perf_counter() - begun)
+        self.memory = max(self.memory, usage.ru_maxrss * 1024)
+        self.wrote = digest.hexdigest()
+
+
+class Tried:
+    """A shape at one length: the peer's restart, the program's, and its audit, where the shape is for audits."""
+
+    def __init__(self, options, peer: str, name: str, records: int):
+        self.log = log = os.path.join(options.folder, f"{name}.{records}")
+        write_log(log, SHAPES[name](records))
+        self.bytes = os.path.getsize(log)
+        workers = str(options.workers)
+        self.peer = Timed([peer, "restart", log], options.limit)
+        self.restart = Timed([options.program, "restart", log, workers, "1000"], options.limit)
+        self.audit = Timed([options.program, "audit", log, workers], options.limit) if SHAPES[name] in AUDITED else None
+
+    def run(self):
+        for it in filter(None, (self.peer, self.restart, self.audit)):
+            it.run()
+
+    def memory(self) -> float:
+        return max(it.memory for it in (self.restart, self.audit) if it) / self.bytes
+
+
+def tried(options, peer: str, name: str) -> tuple[Tried, Tried]:
+    """The shape at n and at 2n, run in turn, so that both meet the same load."""
+    small, large = Tried(options, peer, name, options.records), Tried(options, peer, name, 2 * options.records)
+    for _ in range(options.runs):
+        small.run()
+        large.run()
+    os.remove(small.log)
+    os.remove(large.log)
+    return small, large
+
+
+def missed(name: str, small: Tried, large: Tried) -> list[str]:
+    """Each bound that the shape misses, in words."""
+    found = []
+    for word, one, two in (("restart", small.restart, large.restart), ("audit", small.audit, large.audit)):
+        if one and two.best > max(SHORT, GROWTH * one.best):
+            found.append(f"{name}: from n to 2n the {word} grows {two.best / one.best:.1f} times")
+        if one and (one.was_stopped or two.was_stopped):
+            found.append(f"{name}: the {word} was stopped at the limit")
+    if large.restart.best > max(SHORT, TO_PEER * large.peer.best):
+        found.append(f"{name}: the restart takes {large.restart.best / large.peer.best:.1f} times as long as the peer")
+    if large.audit and large.audit.best > max(SHORT, TO_RESTART * large.restart.best):
+        found.append(f"{name}: the audit takes {large.audit.best / large.restart.best:.1f} times as long as the restart")
+    if large.memory() > MEMORY:
+        found.append(f"{name}: {large.memory():.1f} times the log in memory")
+    if not large.restart.was_stopped and large.restart.wrote != large.peer.wrote:
+        found.append(f"{name}: another report than the peer's")
+    return found
+
+
+def cells_of(small: Timed, large: Timed, beside: Timed) -> list[str]:
+    """Both times, how they grow, and how the greater one stands to another's."""
+    return [f"{small.best:.2f}", f"{large.best:.2f}", f"{large.best / small.best:.1f}", f"{large.best / beside.best:.1f}"]
+
+
+def main() -> int:
+    words = parser()
+    words.add_argument("shapes", nargs="*", default=list(SHAPES))
+    words.add_argument("--records", type=int, default=1000000)
+    words.add_argument("--runs", type=int, default=3)
+    words.add_argument("--workers", type=int, default=4)
+    words.add_argument("--limit", type=float, default=60)
+    options = parsed(words)
+    peer = built_peer(options.folder)
+    print(f"{options.records} and {2 * options.records} records, {options.workers} workers, best of {options.runs}; seconds\n")
+    print("| log of 2n | MiB | peer n | 2n | restart n | 2n | grows | to the peer | audit n | 2n | grows | to the restart | memory / log |")
+    print("|---" * 13 + "|")
+    told = []
+    for name in options.shapes:
+        small, large = tried(options, peer, name)
+        cells = [name, f"{large.bytes / (1 << 20):.1f}", f"{small.peer.best:.2f}", f"{large.peer.best:.2f}"]
+        cells += cells_of(small.restart, large.restart, large.peer)
+        cells += cells_of(small.audit, large.audit, large.restart) if large.audit else [""] * 4
+        print("| " + " | ".join([*cells, f"{large.memory():.1f}"]) + " |", flush=True)
+        told += missed(name, small, large)
+    print("\n" + "\n".join(told or ["every bound is kept"]))
+    return 1 if told else 0
+
+
+if __name__ == "__main__":
+    sys.exit(main())

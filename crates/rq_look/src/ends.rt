@@ -1,0 +1,174 @@
+//! Where the front of a log ends, and why.
+
+ghost use Rattle.std.specs.Prelude.{◌≡◌, IfOk, OnOk};
+ghost use Rattle.rq_model.specs.Records.{One};
+ghost use Rattle.rq_model.specs.Frames.{HasHeader};
+ghost use Rattle.rq_model.specs.Fronts as fronts;
+ghost use Rattle.rq_model.specs.Fronts.{IsRestart};
+ghost use Rattle.rq_restart.specs.Views.{why_of};
+ghost use Rattle.rq_look.specs.Looks as looks;
+
+use crate::frames::{first_frame, stated_length};
+use crate::misfits::misfit_of;
+use crate::rules::broken;
+use rq_record::{Fault, decode};
+use rq_restart::{Open, Plan, Restarted, Why, front_state, restart};
+use sha2::{Digest, Sha256};
+use std::alloc::{AllocError, Global};
+use std::fmt::Write;
+use std::thread::Threads;
+
+// What a frame has besides its body.
+const FRAME_LEN: usize = 36;
+
+/// Where the front of a log ends, and why, in a sentence.
+#[derive(Debug, Drop)]
+pub(crate) struct End {
+    pub(crate) records: u64,
+    pub(crate) used: u64,
+    pub(crate) total: u64,
+    pub(crate) why: Why,
+    pub(crate) reason: String,
+}
+
+/// Whether nothing follows the front.
+pub(crate) fn is_whole(why: Why) -> bool
+    ensures { result ≡ looks.is_whole (why_of why) }
+{
+    match why {
+        Why::Whole => true,
+        Why::Cut | Why::Length | Why::Chain | Why::Form | Why::Law => false,
+    }
+}
+
+/// The word for why a front ends.
+pub(crate) fn why_word(why: Why) -> &'static str {
+    match why {
+        Why::Whole => "whole",
+        Why::Cut => "cut",
+        Why::Length => "length",
+        Why::Chain => "chain",
+        Why::Form => "form",
+        Why::Law => "law",
+    }
+}
+
+fn cut_reason(alloc: Global, rest: &[u8]) -> Result<String, AllocError> {
+    let count = rest.len();
+    match stated_length(rest) {
+        Some(len) => {
+            let whole = len.saturating_add(FRAME_LEN);
+            format!(in alloc; "{count} bytes follow, and the frame has {whole}")
+        }
+        None => format!(in alloc; "{count} bytes follow, and a length has 4"),
+    }
+}
+
+fn length_reason(alloc: Global, rest: &[u8]) -> Result<String, AllocError> {
+    let len = stated_length(rest).unwrap_or(0);
+    format!(in alloc; "a body of {len} bytes is stated, and one has 1 to 268435456")
+}
+
+fn chain_reason(alloc: Global, before: &[u8], rest: &[u8]) -> Result<String, AllocError> {
+    let Some((frame, _)) = first_frame(rest) else {
+        return cut_reason(alloc, rest);
+    };
+    let mut hasher = Sha256::new();
+    hasher.update(&before[before.len().saturating_sub(32)..]);
+    hasher.update(frame.stated);
+    let stated = hex::encode(alloc, frame.digest)?;
+    let digest = hex::encode(alloc, hasher.finalize().as_slice())?;
+    format!(in alloc; "the digest is {stated}, and that of the bytes {digest}")
+}
+
+fn form_reason(alloc: Global, body: &[u8]) -> Result<String, AllocError> {
+    match misfit_of(body) {
+        Some((at, misfit)) => format!(in alloc; "byte {at} of the body: {misfit}"),
+        None => String::from_str(alloc, "no record has the body"),
+    }
+}
+
+fn law_reason<R: Threads + Sync>(
+    rt: &R,
+    alloc: Global,
+    bytes: &[u8],
+    body: &[u8],
+    plan: &Plan,
+) -> Result<String, Fault> {
+    let state = front_state(rt, alloc, bytes, plan)?;
+    let record = decode(alloc, body)?;
+    match broken(&state, &record) {
+        Some(rule) => Ok(format!(in alloc; "{rule}")?),
+        None => Ok(String::from_str(alloc, "the record is not lawful")?),
+    }
+}
+
+fn body_of(rest: &[u8]) -> &[u8] {
+    match first_frame(rest) {
+        Some((frame, _)) => frame.body,
+        None => &[],
+    }
+}
+
+fn reason_of<R: Threads + Sync>(
+    rt: &R,
+    alloc: Global,
+    bytes: &[u8],
+    end: (u64, Why),
+    plan: &Plan,
+) -> Result<String, Fault> {
+    let (used, why) = end;
+    let (before, rest) = bytes.split_at(bytes.len().min(used as usize));
+    match why {
+        Why::Whole => Ok(String::from_str(alloc, "nothing follows")?),
+        Why::Cut => Ok(cut_reason(alloc, rest)?),
+        Why::Length => Ok(length_reason(alloc, rest)?),
+        Why::Chain => Ok(chain_reason(alloc, before, rest)?),
+        Why::Form => Ok(form_reason(alloc, body_of(rest))?),
+        Why::Law => law_reason(rt, alloc, bytes, body_of(rest), plan),
+    }
+}
+
+/// Where the front ends of which the restart is known.
+pub(crate) fn end_after<R: Threads + Sync>(
+    rt: &R,
+    alloc: Global,
+    bytes: &[u8],
+    r: &Restarted,
+    plan: &Plan,
+) -> Result<End, Fault>
+    ensures { IfOk result (λ end. why_of end.why ≡ r.now.why) }
+{
+    Ok(End {
+        records: r.records(),
+        used: r.used(),
+        total: r.total(),
+        why: r.why(),
+        reason: reason_of(rt, alloc, bytes, (r.used(), r.why()), plan)?,
+    })
+}
+
+/// Where the front of a log ends. What the restart made is let go.
+pub(crate) fn end_of<R: Threads + Sync>(
+    rt: &R,
+    alloc: Global,
+    bytes: &[u8],
+    plan: &Plan,
+) -> Result<End, Fault>
+    ensures log { OnOk result (HasHeader One bytes.now) }
+    ensures end { IfOk result (λ end. (r : fronts.Restarted) × IsRestart bytes.now r × (why_of end.why ≡ r.why)) }
+{
+    let restarted = restart(rt, alloc, bytes, plan, &Open)?;
+    end_after(rt, alloc, bytes, &restarted, plan)
+}
+
+/// Puts where the front ends, as a line.
+pub(crate) fn put_end(text: &mut String, end: &End) -> Result<(), AllocError> {
+    let (records, used, total) = (end.records, end.used, end.total);
+    let (why, reason) = (why_word(end.why), end.reason.as_str());
+    write!(
+        text,
+        "front ends behind {records} records, at {used} of {total} bytes, {why}: {reason}\n"
+    )?;
+    Ok(())
+}

@@ -1,0 +1,102 @@
+//! The frames of a log by their lengths.
+
+ghost use Rattle.std.specs.Prelude.{◌<◌, length, IfSome};
+
+use byteorder::{BigEndian, ByteOrder};
+
+// The header of a log.
+const HEADER_LEN: u64 = 40;
+
+// A length, and the digest behind the body.
+const FRAME_LEN: usize = 36;
+
+/// A frame: its length and body side by side, the body alone, and its digest.
+#[derive(Clone, Copy, Debug)]
+pub(crate) struct Frame<'a> {
+    pub(crate) stated: &'a [u8],
+    pub(crate) body: &'a [u8],
+    pub(crate) digest: &'a [u8],
+}
+
+/// The length that stands at the front of the bytes; none where there are fewer than four.
+pub(crate) fn stated_length(bytes: &[u8]) -> Option<usize> {
+    if bytes.len() < 4 {
+        return None;
+    }
+    Some(BigEndian::read_u32(bytes) as usize)
+}
+
+/// The frame at the front of the bytes by its length alone, and what stands behind it.
+pub(crate) fn first_frame(bytes: &[u8]) -> Option<(Frame<'_>, &[u8])>
+    ensures { IfSome result (λ x. length x.1.now < length bytes.now) }
+{
+    let len = stated_length(bytes)?;
+    if bytes.len() < FRAME_LEN || bytes.len() - FRAME_LEN < len {
+        return None;
+    }
+    let (frame, after) = bytes.split_at(FRAME_LEN + len);
+    let (stated, digest) = frame.split_at(4 + len);
+    let body = &stated[4..];
+    let frame = Frame {
+        stated,
+        body,
+        digest,
+    };
+    Some((frame, after))
+}
+
+/// A body, the offset of its frame and the number of its record.
+#[derive(Clone, Copy, Debug)]
+pub(crate) struct Placed<'a> {
+    pub(crate) offset: u64,
+    pub(crate) number: u64,
+    pub(crate) body: &'a [u8],
+}
+
+/// The frames in the first bytes of a log, one after the other.
+#[derive(Clone, Copy, Debug)]
+pub(crate) struct Walk<'a> {
+    rest: &'a [u8],
+    offset: u64,
+    number: u64,
+}
+
+impl<'a> Walk<'a> {
+    /// Those behind the header, in the first `used` bytes.
+    pub(crate) fn of(bytes: &'a [u8], used: u64) -> Walk<'a> {
+        let rest = match bytes.get(HEADER_LEN as usize..used as usize) {
+            Some(rest) => rest,
+            None => &[],
+        };
+        Walk {
+            rest,
+            offset: HEADER_LEN,
+            number: 0,
+        }
+    }
+}
+
+impl<'a> Iterator for Walk<'a> {
+    type Item = Placed<'a>;
+
+    ghost use Rattle.std.specs.Prelude.{length};
+    ghost use Rattle.std.specs.Iterator.{at_most};
+
+    ghost remaining = { λ s. at_most (length s.rest.now) };
+
+    fn next(&mut self) -> Option<Placed<'a>> {
+        let (frame, after) = first_frame(self.rest)?;
+        let placed = Placed {
+            offset: self.offset,
+            number: self.number,
+            body: frame.body,
+        };
+        self.rest = after;
+        self.offset = self
+            .offset
+            .saturating_add(FRAME_LEN as u64)
+            .saturating_add(frame.body.len() as u64);
+        self.number = self.number.saturating_add(1);
+        Some(placed)
+    }
+}

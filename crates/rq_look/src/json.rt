@@ -1,0 +1,148 @@
+//! What is written as JSON.
+
+use crate::ends::{End, why_word};
+use crate::numbered::{Numbered, by_of, kind_of, registrant_of, unit_of};
+use rq_record::{QueueNo, Record};
+use serde::Serialize;
+use std::alloc::{AllocError, Global};
+use std::str::from_utf8;
+
+/// Bytes: as digits, and as text where they spell one.
+#[derive(Debug, Drop, Serialize)]
+pub(crate) struct Bytes<'a> {
+    hex: String,
+    #[serde(skip_serializing_if = "Option::is_none")]
+    text: Option<&'a str>,
+}
+
+impl<'a> Bytes<'a> {
+    pub(crate) fn of(alloc: Global, bytes: &'a [u8]) -> Result<Bytes<'a>, AllocError> {
+        Ok(Bytes {
+            hex: hex::encode(alloc, bytes)?,
+            text: from_utf8(bytes).ok(),
+        })
+    }
+}
+
+/// A record, with those fields that its kind has.
+#[derive(Debug, Drop, Serialize)]
+pub(crate) struct Shown<'a> {
+    offset: u64,
+    record: u64,
+    kind: &'a str,
+    #[serde(skip_serializing_if = "Option::is_none")]
+    unit: Option<u64>,
+    #[serde(skip_serializing_if = "Option::is_none")]
+    queue: Option<u32>,
+    #[serde(skip_serializing_if = "Option::is_none")]
+    name: Option<&'a str>,
+    #[serde(skip_serializing_if = "Option::is_none")]
+    limit: Option<u16>,
+    #[serde(skip_serializing_if = "Option::is_none")]
+    error: Option<u32>,
+    #[serde(skip_serializing_if = "Option::is_none")]
+    priority: Option<u8>,
+    #[serde(skip_serializing_if = "Option::is_none")]
+    registrant: Option<&'a str>,
+    #[serde(skip_serializing_if = "Option::is_none")]
+    tag: Option<u64>,
+    #[serde(skip_serializing_if = "Option::is_none")]
+    payload: Option<Bytes<'a>>,
+    #[serde(skip_serializing_if = "Option::is_none")]
+    bytes: Option<Bytes<'a>>,
+}
+
+/// The queue of a number, unless the number stands for none.
+pub(crate) fn queue_number(queue: QueueNo) -> Option<u32> {
+    if queue == QueueNo::NONE {
+        None
+    } else {
+        Some(queue.0)
+    }
+}
+
+fn definition_of(record: &Record) -> (Option<&str>, Option<u16>, Option<u32>) {
+    match record {
+        Record::Define { limit, error, name } => {
+            (Some(name.text()), Some(*limit), queue_number(*error))
+        }
+        _ => (None, None, None),
+    }
+}
+
+fn payload_of(
+    alloc: Global,
+    record: &Record,
+) -> Result<(Option<u8>, Option<Bytes<'_>>), AllocError> {
+    match record {
+        Record::Enqueue {
+            priority,
+            payload,
+            ..
+        } => Ok((Some(*priority), Some(Bytes::of(alloc, payload.bytes())?))),
+        _ => Ok((None, None)),
+    }
+}
+
+fn checkpoint_of(alloc: Global, record: &Record) -> Result<Option<Bytes<'_>>, AllocError> {
+    match record {
+        Record::Checkpoint { bytes } => Ok(Some(Bytes::of(alloc, bytes.bytes())?)),
+        _ => Ok(None),
+    }
+}
+
+/// The record with those fields that its kind has.
+pub(crate) fn record_shown(alloc: Global, it: &Numbered) -> Result<Shown<'_>, AllocError> {
+    let record = &it.record;
+    let (name, limit, error) = definition_of(record);
+    let (priority, payload) = payload_of(alloc, record)?;
+    Ok(Shown {
+        offset: it.offset,
+        record: it.number,
+        kind: kind_of(record),
+        unit: unit_of(record).map(|unit| unit.0),
+        queue: it.queue().map(|queue| queue.0),
+        name,
+        limit,
+        error,
+        priority,
+        registrant: registrant_of(record),
+        tag: by_of(record).map(|by| by.tag),
+        payload,
+        bytes: checkpoint_of(alloc, record)?,
+    })
+}
+
+/// Where a front ends.
+#[derive(Clone, Copy, Debug, Serialize)]
+pub(crate) struct Front<'a> {
+    records: u64,
+    used: u64,
+    total: u64,
+    why: &'a str,
+    reason: &'a str,
+}
+
+/// The last line of a dump.
+#[derive(Clone, Copy, Debug, Serialize)]
+pub(crate) struct Closing<'a> {
+    front: Front<'a>,
+}
+
+/// Where the front ends.
+pub(crate) fn front_of(end: &End) -> Front<'_> {
+    Front {
+        records: end.records,
+        used: end.used,
+        total: end.total,
+        why: why_word(end.why),
+        reason: end.reason.as_str(),
+    }
+}
+
+/// The last line of a dump, of where the front ends.
+pub(crate) fn closing_of(end: &End) -> Closing<'_> {
+    Closing {
+        front: front_of(end),
+    }
+}

@@ -1,0 +1,29 @@
+//! What a log holds, shown: its records, its front, its report, its script.
+#![tactic(auto)]
+
+mod bytes;
+mod checking;
+mod dumping;
+mod ends;
+mod following;
+mod frames;
+mod json;
+mod lines;
+mod misfits;
+mod numbered;
+mod reporting;
+mod rules;
+mod scripting;
+mod sheet;
+mod telling;
+mod trouble;
+mod wanted;
+
+pub use checking::{Findings, check};
+pub use dumping::dump;
+pub use reporting::{report, report_json};
+pub use rq_restart::{Fault, Plan};
+pub use scripting::script;
+pub use telling::{Subject, story};
+pub use trouble::Trouble;
+pub use wanted::Wanted;

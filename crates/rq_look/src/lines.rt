@@ -1,0 +1,99 @@
+//! A record as a line.
+
+use crate::bytes::put_bytes;
+use crate::numbered::{Numbered, by_of, kind_of, unit_of};
+use rq_record::{QueueNo, Record};
+use std::alloc::{AllocError, Global};
+use std::fmt::Write;
+
+fn put_unit(text: &mut String, record: &Record) -> Result<(), AllocError> {
+    if let Some(unit) = unit_of(record) {
+        let unit = unit.0;
+        write!(text, " unit {unit}")?;
+    }
+    Ok(())
+}
+
+fn put_queue(text: &mut String, it: &Numbered) -> Result<(), AllocError> {
+    if let Some(queue) = it.queue() {
+        let queue = queue.0;
+        write!(text, " queue {queue}")?;
+    }
+    Ok(())
+}
+
+fn put_by(text: &mut String, record: &Record) -> Result<(), AllocError> {
+    match by_of(record) {
+        Some(by) => {
+            let tag = by.tag;
+            text.push_str(" by ")?;
+            text.push_str(by.name.text())?;
+            write!(text, " tag {tag}")
+        }
+        None => text.push_str(" by -"),
+    }
+}
+
+fn put_definition(
+    text: &mut String,
+    name: &str,
+    limit: u16,
+    error: QueueNo,
+) -> Result<(), AllocError> {
+    text.push_str(" name ")?;
+    text.push_str(name)?;
+    write!(text, " limit {limit} error ")?;
+    if error == QueueNo::NONE {
+        text.push_str("-")
+    } else {
+        let error = error.0;
+        write!(text, "{error}")
+    }
+}
+
+// Puts what no other kind of record has.
+fn put_fields(
+    alloc: Global,
+    text: &mut String,
+    record: &Record,
+    full: bool,
+) -> Result<(), AllocError> {
+    match record {
+        Record::Define { limit, error, name } => put_definition(text, name.text(), *limit, *error),
+        Record::Register { name, .. } | Record::Deregister { name, .. } => {
+            text.push_str(" name ")?;
+            text.push_str(name.text())
+        }
+        Record::Enqueue {
+            priority,
+            payload,
+            ..
+        } => {
+            write!(text, " priority {priority}")?;
+            put_by(text, record)?;
+            text.push_str(" payload ")?;
+            put_bytes(alloc, text, payload.bytes(), full)
+        }
+        Record::Dequeue { .. } => put_by(text, record),
+        Record::Checkpoint { bytes } => {
+            text.push_str(" bytes ")?;
+            put_bytes(alloc, text, bytes.bytes(), full)
+        }
+        _ => Ok(()),
+    }
+}
+
+/// Puts the line of a record without its end: its offset, its number, its kind and its fields.
+pub(crate) fn put_record(
+    alloc: Global,
+    text: &mut String,
+    it: &Numbered,
+    full: bool,
+) -> Result<(), AllocError> {
+    let (offset, number) = (it.offset, it.number);
+    let kind = kind_of(&it.record);
+    write!(text, "{offset} {number} {kind}")?;
+    put_unit(text, &it.record)?;
+    put_queue(text, it)?;
+    put_fields(alloc, text, &it.record, full)
+}

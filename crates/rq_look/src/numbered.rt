@@ -1,0 +1,92 @@
+//! Records with their places and the queues that they are about.
+
+use crate::frames::Placed;
+use rq_record::{By, Fault, QueueNo, Record, UnitNo, decode};
+use std::alloc::Global;
+
+/// A record of the front, with the offset of its frame, its number, and how many queues are defined before it.
+#[derive(Drop)]
+pub(crate) struct Numbered {
+    pub(crate) offset: u64,
+    pub(crate) number: u64,
+    pub(crate) queues: u32,
+    pub(crate) record: Record,
+}
+
+impl Numbered {
+    /// The record that the body spells.
+    pub(crate) fn of(alloc: Global, placed: Placed<'_>, queues: u32) -> Result<Numbered, Fault> {
+        Ok(Numbered {
+            offset: placed.offset,
+            number: placed.number,
+            queues,
+            record: decode(alloc, placed.body)?,
+        })
+    }
+
+    /// The queue that it defines or names.
+    pub(crate) fn queue(&self) -> Option<QueueNo> {
+        match &self.record {
+            Record::Define { .. } => Some(QueueNo(self.queues)),
+            Record::Register { queue, .. }
+            | Record::Deregister { queue, .. }
+            | Record::Enqueue { queue, .. }
+            | Record::Dequeue { queue, .. } => Some(*queue),
+            _ => None,
+        }
+    }
+}
+
+/// How many queues are defined behind a body, of which so many are before it.
+pub(crate) fn queues_behind(queues: u32, body: &[u8]) -> u32 {
+    match body {
+        [1, ..] => queues.saturating_add(1),
+        _ => queues,
+    }
+}
+
+/// The unit that a record names.
+pub(crate) fn unit_of(record: &Record) -> Option<UnitNo> {
+    match record {
+        Record::Begin { unit }
+        | Record::Commit { unit }
+        | Record::Abort { unit }
+        | Record::Enqueue { unit, .. }
+        | Record::Dequeue { unit, .. } => Some(*unit),
+        _ => None,
+    }
+}
+
+/// The registrant that an operation names.
+pub(crate) fn by_of(record: &Record) -> Option<&By> {
+    match record {
+        Record::Enqueue { by, .. } | Record::Dequeue { by, .. } => by.as_ref(),
+        _ => None,
+    }
+}
+
+/// The registrant that a record names.
+pub(crate) fn registrant_of(record: &Record) -> Option<&str> {
+    match record {
+        Record::Register { name, .. } | Record::Deregister { name, .. } => Some(name.text()),
+        _ => match by_of(record) {
+            Some(by) => Some(by.name.text()),
+            None => None,
+        },
+    }
+}
+
+/// The word for a kind of record.
+pub(crate) fn kind_of(record: &Record) -> &'static str {
+    match record {
+        Record::Define { .. } => "define",
+        Record::Register { .. } => "register",
+        Record::Deregister { .. } => "deregister",
+        Record::Begin { .. } => "begin",
+        Record::Enqueue { .. } => "enqueue",
+        Record::Dequeue { .. } => "dequeue",
+        Record::Commit { .. } => "commit",
+        Record::Abort { .. } => "abort",
+        Record::Checkpoint { .. } => "checkpoint",
+    }
+}

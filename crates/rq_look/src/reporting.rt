@@ -1,0 +1,283 @@
+//! The report of a log, as text and as JSON.
+
+ghost use Rattle.std.specs.Prelude.{OnOk};
+ghost use Rattle.rq_model.specs.Records.{One};
+ghost use Rattle.rq_model.specs.Frames.{HasHeader};
+
+use crate::ends::{End, end_after};
+use crate::json::{Bytes, Front, front_of, queue_number};
+use crate::trouble::Trouble;
+use rq_record::QueueNo;
+use rq_report::{OverWrite, write_report_by};
+use rq_restart::{Fault, Open, Plan, Restarted, restart};
+use rq_state::{Definition, Element, Last, Mark, OpKind, Registrant, State};
+use serde::Serialize;
+use std::alloc::{AllocError, Global};
+use std::cmp::Reverse;
+use std::io::Write;
+use std::thread::Threads;
+
+#[derive(Clone, Copy, Debug, Serialize)]
+struct Units {
+    committed: u64,
+    aborted: u64,
+    cut_off: u64,
+}
+
+#[derive(Debug, Drop, Serialize)]
+struct ElementShown<'a> {
+    id: u64,
+    from: u32,
+    priority: u8,
+    attempts: u64,
+    payload: Bytes<'a>,
+}
+
+#[derive(Clone, Copy, Debug, Serialize)]
+struct LastShown<'a> {
+    kind: &'a str,
+    tag: u64,
+    element: Option<u64>,
+}
+
+#[derive(Clone, Copy, Debug, Serialize)]
+struct RegistrantShown<'a> {
+    name: &'a str,
+    last: Option<LastShown<'a>>,
+}
+
+#[derive(Debug, Drop, Serialize)]
+struct QueueShown<'a> {
+    number: u32,
+    name: &'a str,
+    limit: u16,
+    error: Option<u32>,
+    elements: Vec<ElementShown<'a>>,
+    registrants: Vec<RegistrantShown<'a>>,
+}
+
+#[derive(Debug, Drop, Serialize)]
+struct ReportShown<'a> {
+    front: Front<'a>,
+    units: Units,
+    queues: Vec<QueueShown<'a>>,
+}
+
+fn element_shown(alloc: Global, e: &Element) -> Result<ElementShown<'_>, AllocError> {
+    Ok(ElementShown {
+        id: e.id.0,
+        from: e.origin.0,
+        priority: e.priority,
+        attempts: e.attempts,
+        payload: Bytes::of(alloc, e.payload.bytes())?,
+    })
+}
+
+// The queue's free elements, in the order in which they would be taken.
+fn elements_shown(
+    alloc: Global,
+    state: &State,
+    queue: QueueNo,
+) -> Result<Vec<ElementShown<'_>>, AllocError> {
+    let mut found = Vec::new(alloc);
+    for place in state.elements_of(queue) {
+        if let Some(e) = state.elements().get(*place) {
+            if e.mark == Mark::Free {
+                found.push(element_shown(alloc, e)?)?;
+            }
+        }
+    }
+    found.sort_unstable_by_key(|e| (Reverse(e.priority), e.id));
+    Ok(found)
+}
+
+fn last_shown(last: &Last) -> LastShown<'static> {
+    LastShown {
+        kind: match last.kind {
+            OpKind::Enqueue => "enqueue",
+            OpKind::Dequeue => "dequeue",
+        },
+        tag: last.tag,
+        element: last.element.map(|id| id.0),
+    }
+}
+
+fn registrant_shown(r: &Registrant) -> RegistrantShown<'_> {
+    RegistrantShown {
+        name: r.name.text(),
+        last: match &r.last {
+            Some(last) => Some(last_shown(last)),
+            None => None,
+        },
+    }
+}
+
+// The queue's registrants, by name.
+fn registrants_shown(
+    alloc: Global,
+    state: &State,
+    queue: QueueNo,
+) -> Result<Vec<RegistrantShown<'_>>, AllocError> {
+    let mut found = Vec::new(alloc);
+    for place in state.registrants_of(queue) {
+        if let Some(r) = state.registrants().get(*place) {
+            found.push(registrant_shown(r))?;
+        }
+    }
+    Ok(found)
+}
+
+fn queue_shown<'a>(
+    alloc: Global,
+    state: &'a State,
+    number: u32,
+    definition: &'a Definition,
+) -> Result<QueueShown<'a>, AllocError> {
+    let queue = QueueNo(number);
+    Ok(QueueShown {
+        number,
+        name: definition.name.text(),
+        limit: definition.limit,
+        error: queue_number(definition.error),
+        elements: elements_shown(alloc, state, queue)?,
+        registrants: registrants_shown(alloc, state, queue)?,
+    })
+}
+
+// The queue of the number, or all of them.
+fn queues_shown(
+    alloc: Global,
+    state: &State,
+    wanted: Option<u32>,
+) -> Result<Vec<QueueShown<'_>>, AllocError> {
+    let mut found = Vec::new(alloc);
+    let mut number: u32 = 0;
+    for definition in state.definitions() {
+        if wanted.is_none() || wanted == Some(number) {
+            found.push(queue_shown(alloc, state, number, definition)?)?;
+        }
+        number = number.saturating_add(1);
+    }
+    Ok(found)
+}
+
+fn report_shown<'a>(
+    alloc: Global,
+    r: &'a Restarted,
+    end: &'a End,
+    wanted: Option<u32>,
+) -> Result<ReportShown<'a>, AllocError> {
+    Ok(ReportShown {
+        front: front_of(end),
+        units: Units {
+            committed: r.committed(),
+            aborted: r.aborted(),
+            cut_off: r.cut_off(),
+        },
+        queues: queues_shown(alloc, r.state(), wanted)?,
+    })
+}
+
+// The restart of a log that has the queue, if one is wanted.
+fn restarted_with<R: Threads + Sync>(
+    rt: &R,
+    alloc: Global,
+    bytes: &[u8],
+    plan: &Plan,
+    wanted: Option<u32>,
+) -> Result<Restarted, Trouble>
+    ensures { OnOk result (HasHeader One bytes.now) }
+{
+    let restarted = restart(rt, alloc, bytes, plan, &Open)?;
+    match wanted {
+        Some(queue) if queue as usize >= restarted.state().definitions().len() => {
+            Err(Trouble::NoQueue(queue))
+        }
+        _ => Ok(restarted),
+    }
+}
+
+/// Writes the report of a log as one value of JSON, with all of its queues or the one that is wanted.
+///
+/// Refuses with `NoQueue` a queue that is not defined; else as `dump` does.
+pub fn report_json<R, W>(
+    rt: &R,
+    alloc: Global,
+    bytes: &[u8],
+    plan: &Plan,
+    wanted: Option<u32>,
+    output: &mut W,
+) -> Result<(), Trouble>
+where
+    R: Threads + Sync,
+    W: Write,
+    ensures { OnOk result (HasHeader One bytes.now) }
+{
+    let restarted = restarted_with(rt, alloc, bytes, plan, wanted)?;
+    let end = end_after(rt, alloc, bytes, &restarted, plan)?;
+    let report = report_shown(alloc, &restarted, &end, wanted)?;
+    let mut text = serde_json::to_string_pretty(alloc, &report)?;
+    text.push('\n')?;
+    output.write_all(text.as_bytes())?;
+    Ok(())
+}
+
+// The report's text.
+fn text_of<R: Threads + Sync>(
+    rt: &R,
+    alloc: Global,
+    restarted: &Restarted,
+    plan: &Plan,
+) -> Result<Vec<u8>, Fault> {
+    let mut output = OverWrite::new(Vec::new(alloc));
+    write_report_by(rt, alloc, restarted, plan, &mut output)?;
+    Ok(output.into_inner())
+}
+
+// The lines from that of a queue up to that of the next.
+fn lines_of(text: &[u8], queue: u32) -> &[u8] {
+    let mut number: u64 = 0;
+    let mut from = None;
+    let mut at: usize = 0;
+    for line in text.split_inclusive(|b| *b == b'\n') {
+        if line.starts_with(b"queue ") {
+            if number == queue as u64 {
+                from = Some(at);
+            } else if number == queue as u64 + 1 {
+                break;
+            }
+            number = number.saturating_add(1);
+        }
+        at = at.saturating_add(line.len());
+    }
+    match from {
+        Some(from) => text.get(from..at).unwrap_or(&[]),
+        None => &[],
+    }
+}
+
+/// Writes the report of a log as text, or those lines of it that are of the queue that is wanted.
+///
+/// Refuses with `NoQueue` a queue that is not defined; else as `dump` does, and before anything is written but where the
+/// output fails.
+pub fn report<R, W>(
+    rt: &R,
+    alloc: Global,
+    bytes: &[u8],
+    plan: &Plan,
+    wanted: Option<u32>,
+    output: &mut W,
+) -> Result<(), Trouble>
+where
+    R: Threads + Sync,
+    W: Write,
+    ensures { OnOk result (HasHeader One bytes.now) }
+{
+    let restarted = restarted_with(rt, alloc, bytes, plan, wanted)?;
+    let text = text_of(rt, alloc, &restarted, plan)?;
+    match wanted {
+        Some(queue) => output.write_all(lines_of(&text, queue))?,
+        None => output.write_all(&text)?,
+    }
+    Ok(())
+}

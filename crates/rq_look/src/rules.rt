@@ -1,0 +1,250 @@
+//! Which rule of the machine a record breaks.
+
+ghost use Rattle.std.specs.Prelude.{◌≡◌, ◌==◌, ◌&&◌, not, nat_lt, is_some, length};
+ghost use Rattle.std.specs.List.{list_any};
+ghost use Rattle.std.specs.Str.{bytes_eq};
+ghost use Rattle.rq_model.specs.Records.{One};
+ghost use Rattle.rq_model.specs.States as model;
+ghost use Rattle.rq_model.specs.Machine as machine;
+ghost use Rattle.rq_record.specs.Views.{record_of};
+
+use rq_record::{By, Name, QueueNo, Record, UnitNo};
+use rq_state::{Definition, Registrant, State};
+use std::fmt;
+
+// The most queues that there are.
+const QUEUES: usize = 4096;
+
+// The greatest limit of a queue.
+const LIMIT: u16 = 1000;
+
+/// A rule that a record breaks.
+#[derive(Clone, Copy, Debug)]
+pub(crate) enum Rule {
+    /// The unit is not open.
+    NotOpen(UnitNo),
+    /// No queue has the number.
+    NotDefined(QueueNo),
+    /// The name is not registered with the queue.
+    NotRegistered(QueueNo, Name),
+    /// The unit is not above the greatest that began.
+    NotAbove(UnitNo, u64),
+    /// A queue has the name.
+    Taken(Name),
+    /// There are as many queues as there may be.
+    Full,
+    /// A queue without a limit names an error queue.
+    NoLimit(QueueNo),
+    /// The limit is above the greatest.
+    Above(u16),
+    /// The error queue has an error queue.
+    Nested(QueueNo),
+}
+
+impl fmt::Display for Rule {
+    fn fmt<W: fmt::Write>(&self, f: &mut fmt::Formatter<W>) -> fmt::Result {
+        match self {
+            Rule::NotOpen(unit) => write!(f, "unit {} is not open", unit.0),
+            Rule::NotDefined(queue) => write!(f, "queue {} is not defined", queue.0),
+            Rule::NotRegistered(queue, name) => {
+                write!(
+                    f,
+                    "{} is not registered with queue {}",
+                    name.text(),
+                    queue.0
+                )
+            }
+            Rule::NotAbove(unit, greatest) => {
+                write!(
+                    f,
+                    "unit {} is not above unit {greatest}, the greatest so far",
+                    unit.0
+                )
+            }
+            Rule::Taken(name) => write!(f, "a queue is named {} already", name.text()),
+            Rule::Full => write!(f, "4096 queues are defined already"),
+            Rule::NoLimit(error) => write!(
+                f,
+                "limit 0 goes with no error queue, and {} is named",
+                error.0
+            ),
+            Rule::Above(limit) => write!(f, "limit {limit} is above 1000"),
+            Rule::Nested(error) => write!(f, "error queue {} has an error queue", error.0),
+        }
+    }
+}
+
+fn has_unit(units: &[UnitNo], unit: UnitNo) -> bool
+    ensures { result ≡ list_any (λ v. v.0 == unit.0) units.now }
+{
+    units.iter().any(|open| open.0 == unit.0)
+}
+
+fn is_open(state: &State, unit: UnitNo) -> bool
+    ensures { result ≡ machine.is_open state.now unit.0 }
+{
+    has_unit(state.units(), unit)
+}
+
+fn is_defined(state: &State, queue: QueueNo) -> bool
+    ensures { result ≡ machine.is_defined state.now queue.0 }
+{
+    (queue.0 as usize) < state.definitions().len()
+}
+
+fn is_registrant(r: &Registrant, queue: QueueNo, name: Name) -> bool
+    ensures { result ≡ model.is_registrant queue.0 name r.now }
+{
+    r.queue.0 == queue.0 && r.name.bytes() == name.bytes()
+}
+
+fn is_registered(state: &State, queue: QueueNo, name: Name) -> bool
+    ensures { result ≡ machine.is_registered state.now queue.0 name }
+{
+    let mut registrants = state.registrants().iter();
+    registrants.any(|r| is_registrant(r, queue, name))
+}
+
+fn is_named(definition: &Definition, name: Name) -> bool
+    ensures { result ≡ bytes_eq definition.now.name name }
+{
+    definition.name.bytes() == name.bytes()
+}
+
+fn is_taken(state: &State, name: Name) -> bool
+    ensures { result ≡ list_any (λ d. bytes_eq d.name name) state.now.definitions }
+{
+    let mut definitions = state.definitions().iter();
+    definitions.any(|d| is_named(d, name))
+}
+
+fn closed(state: &State, unit: UnitNo) -> Option<Rule>
+    ensures { is_some result ≡ not (machine.is_open state.now unit.0) }
+{
+    if is_open(state, unit) {
+        None
+    } else {
+        Some(Rule::NotOpen(unit))
+    }
+}
+
+fn undefined(state: &State, queue: QueueNo) -> Option<Rule>
+    ensures { is_some result ≡ not (machine.is_defined state.now queue.0) }
+{
+    if is_defined(state, queue) {
+        None
+    } else {
+        Some(Rule::NotDefined(queue))
+    }
+}
+
+fn unregistered(state: &State, queue: QueueNo, name: Name) -> Option<Rule>
+    ensures { is_some result ≡ not (machine.is_registered state.now queue.0 name) }
+{
+    if is_registered(state, queue, name) {
+        None
+    } else {
+        Some(Rule::NotRegistered(queue, name))
+    }
+}
+
+fn unknown(state: &State, queue: QueueNo, by: &Option<By>) -> Option<Rule>
+    ensures { is_some result ≡ not (machine.is_known state.now queue.0 by.now) }
+{
+    match by {
+        Some(by) => unregistered(state, queue, by.name),
+        None => None,
+    }
+}
+
+fn not_above(state: &State, unit: UnitNo) -> Option<Rule>
+    ensures { is_some result ≡ not (nat_lt state.now.greatest unit.0) }
+{
+    let greatest = state.greatest();
+    if greatest < unit.0 {
+        None
+    } else {
+        Some(Rule::NotAbove(unit, greatest))
+    }
+}
+
+fn nested(state: &State, error: QueueNo) -> Option<Rule>
+    ensures { is_some result ≡ not (machine.is_defined state.now error.0 && machine.may_be_error One state.now error.0) }
+{
+    match state.definitions().get(error.0 as usize) {
+        Some(definition) if definition.error.0 == QueueNo::NONE.0 => None,
+        Some(_) => Some(Rule::Nested(error)),
+        None => Some(Rule::NotDefined(error)),
+    }
+}
+
+fn wrong_limit(state: &State, limit: u16, error: QueueNo) -> Option<Rule>
+    ensures { is_some result ≡ not (machine.is_limit One state.now limit error.0) }
+{
+    if limit > LIMIT {
+        return Some(Rule::Above(limit));
+    }
+    if limit > 0 {
+        return nested(state, error);
+    }
+    if error.0 == QueueNo::NONE.0 {
+        None
+    } else {
+        Some(Rule::NoLimit(error))
+    }
+}
+
+fn taken(state: &State, name: Name) -> Option<Rule>
+    ensures { is_some result ≡ not (nat_lt (length state.now.definitions) 4096 && not (list_any (λ d. bytes_eq d.name name) state.now.definitions)) }
+{
+    if state.definitions().len() >= QUEUES {
+        return Some(Rule::Full);
+    }
+    if is_taken(state, name) {
+        Some(Rule::Taken(name))
+    } else {
+        None
+    }
+}
+
+fn wrong_definition(state: &State, limit: u16, error: QueueNo, name: Name) -> Option<Rule>
+    ensures { is_some result ≡ not (machine.is_limit One state.now limit error.0 && (nat_lt (length state.now.definitions) 4096 && not (list_any (λ d. bytes_eq d.name name) state.now.definitions))) }
+{
+    match wrong_limit(state, limit, error) {
+        Some(rule) => Some(rule),
+        None => taken(state, name),
+    }
+}
+
+fn operation(state: &State, unit: UnitNo, queue: QueueNo, by: &Option<By>) -> Option<Rule>
+    ensures { is_some result ≡ not (machine.is_defined state.now queue.0 && (machine.is_open state.now unit.0 && machine.is_known state.now queue.0 by.now)) }
+{
+    if let Some(rule) = undefined(state, queue) {
+        return Some(rule);
+    }
+    if let Some(rule) = closed(state, unit) {
+        return Some(rule);
+    }
+    unknown(state, queue, by)
+}
+
+/// The rule that the record breaks in the state; none where it is lawful there.
+pub(crate) fn broken(state: &State, next: &Record) -> Option<Rule>
+    ensures { is_some result ≡ not (machine.is_lawful One state.now (record_of next.now)) }
+{
+    match next {
+        Record::Define { limit, error, name } => wrong_definition(state, *limit, *error, *name),
+        Record::Register { queue, .. } => undefined(state, *queue),
+        Record::Deregister { queue, name } => unregistered(state, *queue, *name),
+        Record::Begin { unit } => not_above(state, *unit),
+        Record::Enqueue {
+            unit,
+            queue,
+            by,
+            ..
+        } => operation(state, *unit, *queue, by),
+        Record::Dequeue { unit, queue, by } => operation(state, *unit, *queue, by),
+        Record::Commit { unit } | Record::Abort { unit } => closed(state, *unit),
+        Record::Checkpoint { .. } => None,
+    }
+}

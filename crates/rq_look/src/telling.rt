@@ -1,0 +1,185 @@
+//! What became of one element, and what one unit did.
+
+ghost use Rattle.std.specs.Prelude.{OnOk};
+ghost use Rattle.rq_model.specs.Records.{One};
+ghost use Rattle.rq_model.specs.Frames.{HasHeader};
+
+use crate::ends::{End, end_of, put_end};
+use crate::following::{Effect, Event, Queues};
+use crate::frames::Walk;
+use crate::lines::put_record;
+use crate::numbered::{Numbered, queues_behind, unit_of};
+use crate::sheet::{finish, relieve};
+use crate::trouble::Trouble;
+use rq_record::UnitNo;
+use rq_restart::Plan;
+use std::alloc::{AllocError, Global};
+use std::fmt::{self, Write};
+use std::io;
+use std::thread::Threads;
+
+/// What is told of a log.
+#[derive(Clone, Copy, Debug, PartialEq, Eq)]
+pub enum Subject {
+    /// What became of the element of this number.
+    Element(u64),
+    /// What the unit of this number did.
+    Unit(u64),
+}
+
+impl fmt::Display for Subject {
+    fn fmt<W: fmt::Write>(&self, f: &mut fmt::Formatter<W>) -> fmt::Result {
+        match self {
+            Subject::Element(element) => write!(f, "element {element}"),
+            Subject::Unit(unit) => write!(f, "unit {unit}"),
+        }
+    }
+}
+
+// Whether an event is of the subject; each event of a unit's record is.
+fn concerns(subject: Subject, event: &Event) -> bool {
+    match subject {
+        Subject::Element(element) => event.element == element && event.effect != Effect::Nothing,
+        Subject::Unit(_) => true,
+    }
+}
+
+// Puts the record, and what happened, as a line.
+fn put_event(
+    alloc: Global,
+    text: &mut String,
+    it: &Numbered,
+    event: &Event,
+) -> Result<(), AllocError> {
+    put_record(alloc, text, it, false)?;
+    write!(text, ": {event}\n")
+}
+
+// Puts a line for each event of the record that is of the subject, and one for a record of the unit that has none. Answers
+// how many.
+fn put_events(
+    alloc: Global,
+    text: &mut String,
+    it: &Numbered,
+    events: &[Event],
+    subject: Subject,
+) -> Result<u64, AllocError> {
+    if let Subject::Unit(unit) = subject {
+        if unit_of(&it.record) != Some(UnitNo(unit)) {
+            return Ok(0);
+        }
+        if events.is_empty() {
+            put_record(alloc, text, it, false)?;
+            text.push('\n')?;
+            return Ok(1);
+        }
+    }
+    let mut count: u64 = 0;
+    for event in events {
+        if concerns(subject, event) {
+            put_event(alloc, text, it, event)?;
+            count = count.saturating_add(1);
+        }
+    }
+    Ok(count)
+}
+
+// Tells of each record of the front, and answers the queues behind it, if anything was told.
+fn tell_front<W: io::Write>(
+    alloc: Global,
+    bytes: &[u8],
+    used: u64,
+    subject: Subject,
+    text: &mut String,
+    output: &mut W,
+) -> Result<Option<Queues>, Trouble> {
+    let mut machine = Queues::new(alloc);
+    let mut events = Vec::new(alloc);
+    let (mut queues, mut told) = (0, 0u64);
+    for placed in Walk::of(bytes, used) {
+        let it = Numbered::of(alloc, placed, queues)?;
+        events.clear();
+        machine.step(alloc, &it, &mut events)?;
+        told = told.saturating_add(put_events(alloc, text, &it, &events, subject)?);
+        relieve(text, output)?;
+        queues = queues_behind(queues, placed.body);
+    }
+    Ok(if told > 0 { Some(machine) } else { None })
+}
+
+// Puts what the restart does to a unit that is open.
+fn put_restart(
+    text: &mut String,
+    unit: u64,
+    events: &[Event],
+    subject: Subject,
+) -> Result<(), AllocError> {
+    if subject == Subject::Unit(unit) && events.is_empty() {
+        write!(text, "the restart aborts unit {unit}\n")?;
+    }
+    for event in events {
+        let is_told = match subject {
+            Subject::Unit(told) => told == unit,
+            Subject::Element(_) => concerns(subject, event),
+        };
+        if is_told {
+            write!(text, "the restart aborts unit {unit}: {event}\n")?;
+        }
+    }
+    Ok(())
+}
+
+// Tells what the restart does behind the front: it aborts the open units, rising.
+fn tell_restart(
+    alloc: Global,
+    text: &mut String,
+    machine: Queues,
+    subject: Subject,
+) -> Result<(), AllocError> {
+    let mut machine = machine;
+    let mut events = Vec::new(alloc);
+    for unit in machine.open_units(alloc)?.iter().copied() {
+        events.clear();
+        machine.end(unit, false, &mut events)?;
+        put_restart(text, unit, &events, subject)?;
+    }
+    Ok(())
+}
+
+fn tell<W: io::Write>(
+    alloc: Global,
+    bytes: &[u8],
+    end: &End,
+    subject: Subject,
+    output: &mut W,
+) -> Result<(), Trouble> {
+    let mut text = String::new(alloc);
+    let Some(machine) = tell_front(alloc, bytes, end.used, subject, &mut text, output)? else {
+        return Err(Trouble::Nothing(subject));
+    };
+    put_end(&mut text, end)?;
+    tell_restart(alloc, &mut text, machine, subject)?;
+    finish(&mut text, output)?;
+    Ok(())
+}
+
+/// Writes what became of an element, or what a unit did: a line for each record of the front that has to do with it, where
+/// the front ends, and what the restart's aborts do to it.
+///
+/// Refuses with `Nothing` a subject that the front does not have; else as `dump` does.
+pub fn story<R, W>(
+    rt: &R,
+    alloc: Global,
+    bytes: &[u8],
+    plan: &Plan,
+    subject: Subject,
+    output: &mut W,
+) -> Result<(), Trouble>
+where
+    R: Threads + Sync,
+    W: io::Write,
+    ensures { OnOk result (HasHeader One bytes.now) }
+{
+    let end = end_of(rt, alloc, bytes, plan)?;
+    tell(alloc, bytes, &end, subject, output)
+}

@@ -1,0 +1,52 @@
+//! Why nothing more is shown.
+
+use crate::telling::Subject;
+use rq_record::Fault;
+use std::alloc::AllocError;
+use std::io;
+use thiserror::Error;
+
+/// Why a log is not shown, or not to its end.
+#[derive(Debug, Drop, Error)]
+pub enum Trouble {
+    /// The log is refused.
+    #[error("{0}")]
+    Log(Fault),
+    /// The output is refused.
+    #[error("{0}")]
+    Output(io::Error),
+    /// No script tells the record of this number: its operation names the registrant `-`.
+    #[error("no script tells record {0}")]
+    Untold(u64),
+    /// There is no queue of this number.
+    #[error("no queue {0}")]
+    NoQueue(u32),
+    /// The front has no such element, or no such unit.
+    #[error("no {0}")]
+    Nothing(Subject),
+}
+
+impl From<Fault> for Trouble {
+    fn from(fault: Fault) -> Trouble {
+        Trouble::Log(fault)
+    }
+}
+
+impl From<AllocError> for Trouble {
+    fn from(_error: AllocError) -> Trouble {
+        Trouble::Log(Fault::Resources)
+    }
+}
+
+impl From<io::Error> for Trouble {
+    fn from(error: io::Error) -> Trouble {
+        Trouble::Output(error)
+    }
+}
+
+// What is written as JSON here fails for want of memory alone.
+impl From<serde_json::Error> for Trouble {
+    fn from(_error: serde_json::Error) -> Trouble {
+        Trouble::Log(Fault::Resources)
+    }
+}

@@ -1,0 +1,40 @@
+//! Which records are wanted, and how.
+
+use crate::numbered::{Numbered, kind_of, registrant_of, unit_of};
+use rq_record::{QueueNo, UnitNo};
+
+/// Which records of a front are to be shown, and how. What is none asks for nothing.
+#[derive(Clone, Copy, Debug)]
+pub struct Wanted<'a> {
+    /// The offset before which no frame begins.
+    pub from: u64,
+    /// The unit that the record names.
+    pub unit: Option<u64>,
+    /// The queue that the record defines or names.
+    pub queue: Option<u32>,
+    /// The registrant that the record names.
+    pub registrant: Option<&'a str>,
+    /// The kind of the record, in lower case.
+    pub kind: Option<&'a str>,
+    /// The most records that are shown.
+    pub limit: u64,
+    /// Whether payloads are shown whole.
+    pub full: bool,
+    /// Whether each line is an object of JSON.
+    pub json: bool,
+}
+
+// Whether what was found is what was asked for, if anything was.
+fn is_asked<T: PartialEq + Drop>(asked: Option<T>, found: Option<T>) -> bool {
+    asked.is_none() || asked == found
+}
+
+impl Wanted<'_> {
+    /// Whether the record is wanted.
+    pub(crate) fn wants(&self, it: &Numbered) -> bool {
+        is_asked(self.unit.map(UnitNo), unit_of(&it.record))
+            && is_asked(self.queue.map(QueueNo), it.queue())
+            && is_asked(self.registrant, registrant_of(&it.record))
+            && is_asked(self.kind, Some(kind_of(&it.record)))
+    }
+}

@@ -1,0 +1,51 @@
+-- A closed log, and why it stands in the place of the log that was closed.
+use Rattle.std.specs.Prelude.{◌≡◌, ℕ, ◌+◌, ◌≤◌, List, [], ◌++◌, length, take}
+use Rattle.rq_model.specs.Records.{Record, Version}
+use Rattle.rq_model.specs.Frames.{log_limit, log_of, AreBytes, Whole}
+use Rattle.rq_model.specs.States.{empty}
+use Rattle.rq_model.specs.Machine.{run, aborts}
+use Rattle.rq_model.specs.Fronts.{IsFront, Restarted, IsRestart, Ends}
+use Rattle.rq_model.specs.Tails.{IsTail}
+use Rattle.rq_model.specs.LogLaws.{HasReport}
+
+-- The front of b, and the tail of b behind it
+pub record IsClosedBy (b tail closed : List ℕ) : Type 0 where
+  pub version : Version
+  pub records : List Record
+  pub rest : List ℕ
+  pub front : IsFront b version records rest
+  pub aborts : IsTail b tail
+  pub bytes : closed ≡ log_of version records ++ tail
+
+abbrev pub IsClosed : List ℕ → List ℕ → Type 0
+IsClosed b closed = (tail : List ℕ) × IsClosedBy b tail closed
+
+-- A log is closed in one way
+abbrev pub OneClosed : Type 0
+OneClosed = (b x y : List ℕ) → IsClosed b x → IsClosed b y → x ≡ y
+
+-- The front of a closed log is the front of b with the aborts of the open units behind, and nothing stands after it
+abbrev pub ClosedFront : Type 0
+ClosedFront =
+    (b closed : List ℕ) (version : Version) (records : List Record) (rest : List ℕ) → IsClosed b closed → length closed ≤ log_limit → IsFront b version records rest
+    → IsFront closed version (records ++ aborts (run empty records)) []
+
+-- what a restart answers of a closed log of so many bytes: the same state, and all of it is front; the units that were cut off are aborted
+abbrev pub when_closed : Restarted → ℕ → Restarted
+when_closed r total = record { state = r.state; records = r.records + r.cut_off; used = total; total = total; why = Ends Whole; committed = r.committed; aborted = r.aborted + r.cut_off; cut_off = 0 }
+
+-- there are two reports, with the same queue lines
+abbrev pub HaveSameQueues : List ℕ → List ℕ → Type 0
+HaveSameQueues b c = (r t : Restarted) × (queues : List ℕ) × HasReport b r queues × HasReport c t queues
+
+-- A closed log has the restart of b, and is whole; however much of its tail is there, the queue lines are those of b; to close it again changes nothing
+pub record StandsFor (b closed : List ℕ) : Type 0 where
+  pub found : Restarted
+  pub restart : IsRestart b found
+  pub whole : IsRestart closed (when_closed found (length closed))
+  pub crash : (n : ℕ) → found.used ≤ n → HaveSameQueues b (take n closed)
+  pub again : (twice : List ℕ) → IsClosed closed twice → twice ≡ closed
+
+-- so does each that is no longer than a log may be
+abbrev pub ClosedStands : Type 0
+ClosedStands = (b closed : List ℕ) → AreBytes b → IsClosed b closed → length closed ≤ log_limit → StandsFor b closed

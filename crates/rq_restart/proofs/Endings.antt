@@ -1,0 +1,118 @@
+-- The front of a log, and the aborts behind it.
+use Rattle.std.proofs.Common.{◌≡◌, ℕ, ◌+◌, ◌-◌, ◌*◌, ◌/◌, ◌<◌, ◌≤◌, List, get_or, [], ◌∷◌, ◌++◌, length, map, take, drop, refl, sym, ap, subst, ◌∙◌, append_assoc, arith}
+use Rattle.std.specs.Int.{w32, to_be_bytes}
+use Rattle.std.proofs.lemmas.List.{append-nil, drop_more, take_at, drop_at, length-append, length-take, length-drop}
+use Rattle.rq_model.specs.Records.{Record, Abort, One}
+use Rattle.rq_model.specs.Spelling.{body_of}
+use Rattle.rq_model.specs.Frames.{log_limit, start, HasHeader, before, digest, frame, frames_of, last_of, log_of}
+use Rattle.rq_model.specs.LogLaws.{LogEnds}
+use Rattle.rq_model.specs.States.{empty}
+use Rattle.rq_model.specs.Machine.{run, aborts}
+use Rattle.rq_model.specs.Fronts.{IsFront, Why}
+use Rattle.rq_model.specs.Closing.{IsClosedBy}
+use Rattle.rq_model.proofs.Longest.{front_whole}
+use Rattle.rq_model.proofs.Runs.{frame_long, length-sha256}
+use Rattle.rq_record.specs.declared.fault.Fault.{Fault}
+use Rattle.rq_record.specs.declared.fault.Fault.TheVariants as faults
+use Rattle.rq_record.specs.declared.record.UnitNo.{UnitNo}
+use Rattle.rq_state.specs.Views.{unit_of}
+use Rattle.rq_restart.specs.Ends.{IsFrontFrom}
+use Rattle.rq_restart.specs.Tails.{IsEnding, StaysOpen}
+use Rattle.rq_restart.specs.declared.tails.Ending.{Ending}
+use Rattle.rq_restart.proofs.Starts.{started, whole_front}
+
+-- the 32 bytes that end here
+pub before_is : (kept last rest : List ℕ) (place : ℕ) → length last ≡ 32 → place ≡ length kept + 32 → before place (kept ++ (last ++ rest)) ≡ last
+before_is kept last rest place long is = ap (take 32) (drop_at kept (last ++ rest) (place - 32) (omega (arith, is))) ∙ take_at last rest 32 long
+
+-- one frame more, and its last 32 bytes
+pub record IsFramed (old new p body : List ℕ) : Type 0 where
+  pub bytes : new ≡ old ++ frame p body
+  pub long : 32 ≤ length new
+  pub last : before (length new) new ≡ digest p body
+
+pub framed : (old new p body held : List ℕ) → held ≡ body → new ≡ old ++ frame p held → IsFramed old new p body
+framed old new p body held same is =
+    let d = digest p body in
+    let size : List ℕ = to_be_bytes w32 (length body) in
+    let kept : List ℕ = old ++ (size ++ body) in
+    let bytes : new ≡ old ++ frame p body = is ∙ ap (λ (z : List ℕ). old ++ frame p z) same in
+    let apart : new ≡ kept ++ (d ++ []) = bytes ∙ ap (λ (z : List ℕ). old ++ z) (sym (append_assoc size body d)) ∙ sym (append_assoc old (size ++ body) d) ∙ ap (λ (z : List ℕ). kept ++ z) (sym (append-nil d)) in
+    let long : length d ≡ 32 = length-sha256 (p ++ (size ++ body)) in
+    let here : length new ≡ length kept + 32 = omega (arith, ap length apart, length-append kept (d ++ []), length-append d [], long) in
+    record { bytes = bytes; long = omega (arith, here); last = ap (before (length new)) apart ∙ before_is kept d [] (length new) long here }
+
+-- of the aborts of units, one is written, and the others are still to come
+pub one_written : (us : List UnitNo) (i : ℕ) (d : UnitNo) (out new p last whole : List ℕ) → i < length us → out ++ frames_of p (map Abort (map unit_of (drop i us))) ≡ whole
+    → new ≡ out ++ frame p (body_of (Abort (unit_of (get_or us i d)))) → last ≡ digest p (body_of (Abort (unit_of (get_or us i d)))) → new ++ frames_of last (map Abort (map unit_of (drop (i + 1) us))) ≡ whole
+one_written us i d out new p last whole lt so_far wrote end =
+    let body = body_of (Abort (unit_of (get_or us i d))) in
+    let others = frames_of (digest p body) (map Abort (map unit_of (drop (i + 1) us))) in
+    (λ k. wrote k ++ frames_of (end k) (map Abort (map unit_of (drop (i + 1) us)))) ∙ append_assoc out (frame p body) others ∙ ap (λ (vs : List UnitNo). out ++ frames_of p (map Abort (map unit_of vs))) (sym (drop_more us i d lt)) ∙ so_far
+
+-- the frames of aborts have 45 bytes each
+pub aborts_long : (p : List ℕ) (us : List ℕ) → length (frames_of p (map Abort us)) ≡ 45 * length us
+aborts_long p [] = refl
+aborts_long p (u ∷ us) =
+    let body = body_of (Abort u) in
+    let nine : length body ≡ 9 = refl in
+    omega (arith, length-append (frame p body) (frames_of (digest p body) (map Abort us)), frame_long p body, nine, aborts_long (digest p body) us)
+
+-- of a log and where its front ends: the bytes up to there, the last 32 of them, and what closes it
+pub record IsFrontOf (b : List ℕ) (rs : List Record) (end : ℕ) : Type 0 where
+  pub front : IsFront b One rs (drop end b)
+  pub bytes : take end b ≡ log_of One rs
+  pub last : before end b ≡ last_of (start One) rs
+
+pub front_of : LogEnds → (b : List ℕ) (rs : List Record) (end : ℕ) (why : Why) → length b ≤ log_limit → HasHeader One b → IsFrontFrom empty b 40 rs end why → IsFrontOf b rs end
+front_of law b rs end why short head h =
+    let front = whole_front b rs end why (started law b head) short h in
+    let rest : List ℕ = drop end b in
+    let log = log_of One rs in
+    let whole : b ≡ log ++ rest = front_whole b One rs rest front in
+    let long : length log ≡ end = omega (arith, ap length whole, length-append log rest, length-drop end b, h.within) in
+    let ends = law One rs in
+    let apart : b ≡ ends.0 ++ (last_of (start One) rs ++ rest) = whole ∙ ap (λ (z : List ℕ). z ++ rest) ends.1 ∙ append_assoc ends.0 (last_of (start One) rs) rest in
+    let here : end ≡ length ends.0 + 32 = omega (arith, long, ap length ends.1, length-append ends.0 (last_of (start One) rs), ends.2) in
+    record {
+      front = front;
+      bytes = ap (take end) whole ∙ take_at log rest end long;
+      last = ap (before end) apart ∙ before_is ends.0 (last_of (start One) rs) rest end ends.2 here;
+    }
+
+pub closed_by : (b tail : List ℕ) (rs : List Record) (end : ℕ) → IsFrontOf b rs end → tail ≡ frames_of (last_of (start One) rs) (aborts (run empty rs)) → IsClosedBy b tail (take end b ++ tail)
+closed_by b tail rs end h is = record {
+  version = One;
+  records = rs;
+  rest = drop end b;
+  front = h.front;
+  aborts = record { version = One; records = rs; rest = drop end b; front = h.front; bytes = is };
+  bytes = ap (λ (z : List ℕ). z ++ tail) h.bytes;
+}
+
+-- how long it is then
+pub closed_long : (b : List ℕ) (rs : List Record) (end : ℕ) (tail : List ℕ) → end ≤ length b → tail ≡ frames_of (last_of (start One) rs) (aborts (run empty rs)) → length (take end b ++ tail) ≡ end + 45 * length (run empty rs).units
+closed_long b rs end tail within is = omega (arith, within, length-append (take end b) tail, length-take end b, ap length is, aborts_long (last_of (start One) rs) (run empty rs).units)
+
+-- more units are open than there is room for, so the log stays open
+pub too_large : LogEnds → (b : List ℕ) (rs : List Record) (end : ℕ) (why : Why) (units : List ℕ) (count : ℕ) → length b ≤ log_limit → HasHeader One b → IsFrontFrom empty b 40 rs end why
+    → units ≡ (run empty rs).units → count ≡ length units → (4294967295 - end) / 45 < count → StaysOpen b faults.TooLarge
+too_large law b rs end why units count short head h are_open count_is more =
+    let tail = frames_of (last_of (start One) rs) (aborts (run empty rs)) in
+    let long = closed_long b rs end tail h.within refl in
+    let many : count ≡ length (run empty rs).units = count_is ∙ ap length are_open in
+    ((short, head), take end b ++ tail, (tail, closed_by b tail rs end (front_of law b rs end why short head h) refl), omega (arith, long, many, more))
+
+-- no more are, so this closes it
+pub is_ending : LogEnds → (b : List ℕ) (rs : List Record) (e : Ending) (why : Why) (units : List ℕ) (count : ℕ) → length b ≤ log_limit → HasHeader One b → IsFrontFrom empty b 40 rs e.end why
+    → units ≡ (run empty rs).units → count ≡ length units → count ≤ (4294967295 - e.end) / 45 → e.tail.items ≡ frames_of (before e.end b) (map Abort units) → IsEnding b e
+is_ending law b rs e why units count short head h are_open count_is fits wrote =
+    let front = front_of law b rs e.end why short head h in
+    let is : e.tail.items ≡ frames_of (last_of (start One) rs) (aborts (run empty rs)) = wrote ∙ (λ i. frames_of (front.last i) (map Abort (are_open i))) in
+    let long = closed_long b rs e.end e.tail.items h.within is in
+    let many : count ≡ length (run empty rs).units = count_is ∙ ap length are_open in
+    record { log = (short, head); closed = closed_by b e.tail.items rs e.end front is; room = omega (arith, long, many, fits, h.within, short) }
+
+-- refused memory leaves it open
+pub no_memory : (b : List ℕ) (e : Fault) → e ≡ faults.Resources → StaysOpen b e
+no_memory b e is = subst (StaysOpen b) (sym is) tt

@@ -1,0 +1,171 @@
+-- The tally goes along with an audit.
+use Rattle.std.proofs.Common.{◌≡◌, ℕ, zero, suc, ◌+◌, ◌-◌, ◌*◌, ◌<◌, ◌≤◌, Bool, true, false, cond, List, [], ◌∷◌, ◌++◌, length, map, take, drop, get_or, Option, Some, None, refl, sym, ap, subst, ◌∙◌, arith}
+use Rattle.std.specs.Prelude.{slice_index_or, nat_eq, nat_lt, not, ◌&&◌}
+use Rattle.std.specs.List.{AllByRecursion, starts_with}
+use Rattle.std.specs.Int.{w64, to_be_bytes}
+use Rattle.std.specs.Str.{bytes_eq}
+use Rattle.std.proofs.lemmas.Bool.{ltb-true}
+use Rattle.std.proofs.Math.Seq.{take-suc}
+use Rattle.std.proofs.Math.Numerals.{suc-eq-add-one}
+use Rattle.std.proofs.lemmas.List.{length-map, take-append-drop, get_or-map}
+use Rattle.rq_model.specs.Records.{By, Record, One}
+use Rattle.rq_model.specs.Spelling.{IsRecord}
+use Rattle.rq_model.specs.States.{State, Element, empty}
+use Rattle.rq_model.specs.WellFormed.{Ordered, IsWellFormed}
+use Rattle.rq_model.specs.Machine.{step, run, all_lawful}
+use Rattle.rq_model.specs.StateSpelling.{state_bytes, Fits, FitsElement}
+use Rattle.rq_model.specs.Laws.{RunsAreWellFormed}
+use Rattle.rq_model.specs.LogLaws.{RunsFit}
+use Rattle.rq_model.proofs.Lists.{by_cases, each_weaker}
+use Rattle.rq_model.proofs.Restarts.{run_join, lawful_cut}
+use Rattle.rq_catalog.specs.Catalogues.{key_eq}
+use Rattle.rq_record.specs.declared.record.Record.{Record as Own}
+use Rattle.rq_record.specs.declared.record.Record.TheVariants as own
+use Rattle.rq_record.specs.Views.{record_of}
+use Rattle.rq_restart.specs.declared.auditing.Walk.{Walk}
+use Rattle.rq_restart.specs.declared.tally.Tally.{Tally}
+use Rattle.rq_restart.specs.Worth.{member_bytes, payload_bytes, HangOnUnit, HangOnRegistrant, KeepsAllBut, of_unit, of_registrant, IsTallied, IsWithin, unit_after, named_after, registrant_after, lost_by, Counts}
+use Rattle.rq_restart.specs.Audits.{IsWalk, Passes, audits, audited_of, least}
+use Rattle.rq_restart.proofs.Worth.{tallied, lost, both_lost, not_not, too_short}
+use Rattle.rq_restart.proofs.Walks.{other_number}
+
+-- No count is greater than the number of records.
+
+more_or : (b : Bool) (n m i : ℕ) → n ≤ i → m ≤ i → cond b (n + 1) m ≤ i + 1
+more_or true n m i h k = omega (arith, h)
+more_or false n m i h k = omega (arith, k)
+
+none_or : (b : Bool) (m i : ℕ) → m ≤ i → cond b 0 m ≤ i + 1
+none_or true m i k = omega arith
+none_or false m i k = omega (arith, k)
+
+unit_within : (t : Tally) (i : ℕ) (r : Own) (u : ℕ) → IsWithin i t → unit_after r t u ≤ i + 1
+unit_within t i (own.Define limit error name) u h = omega (arith, h.units u)
+unit_within t i (own.Register queue name) u h = omega (arith, h.units u)
+unit_within t i (own.Deregister queue name) u h = omega (arith, h.units u)
+unit_within t i (own.Begin v) u h = more_or (nat_eq v.0 u) (of_unit t v.0) (of_unit t u) i (h.units v.0) (h.units u)
+unit_within t i (own.Enqueue v queue priority by payload) u h = more_or (nat_eq v.0 u) (of_unit t v.0) (of_unit t u) i (h.units v.0) (h.units u)
+unit_within t i (own.Dequeue v queue by) u h = more_or (nat_eq v.0 u) (of_unit t v.0) (of_unit t u) i (h.units v.0) (h.units u)
+unit_within t i (own.Commit v) u h = none_or (nat_eq v.0 u) (of_unit t u) i (h.units u)
+unit_within t i (own.Abort v) u h = none_or (nat_eq v.0 u) (of_unit t u) i (h.units u)
+unit_within t i (own.Checkpoint kept) u h = omega (arith, h.units u)
+
+named_within : (t : Tally) (i queue : ℕ) (by : Option By) (k : ℕ × List ℕ) → IsWithin i t → named_after queue by t k ≤ i + 1
+named_within t i queue None k h = omega (arith, h.registrants k)
+named_within t i queue (Some by) k h = more_or (key_eq (queue, by.name) k) (of_registrant t (queue, by.name)) (of_registrant t k) i (h.registrants (queue, by.name)) (h.registrants k)
+
+registrant_within : (t : Tally) (i : ℕ) (r : Own) (k : ℕ × List ℕ) → IsWithin i t → registrant_after r t k ≤ i + 1
+registrant_within t i (own.Define limit error name) k h = omega (arith, h.registrants k)
+registrant_within t i (own.Register queue name) k h = more_or (key_eq (queue.0, name) k) (of_registrant t (queue.0, name)) (of_registrant t k) i (h.registrants (queue.0, name)) (h.registrants k)
+registrant_within t i (own.Deregister queue name) k h = none_or (key_eq (queue.0, name) k) (of_registrant t k) i (h.registrants k)
+registrant_within t i (own.Begin v) k h = omega (arith, h.registrants k)
+registrant_within t i (own.Enqueue v queue priority by payload) k h = named_within t i queue.0 by k h
+registrant_within t i (own.Dequeue v queue by) k h = named_within t i queue.0 by k h
+registrant_within t i (own.Commit v) k h = omega (arith, h.registrants k)
+registrant_within t i (own.Abort v) k h = omega (arith, h.registrants k)
+registrant_within t i (own.Checkpoint kept) k h = omega (arith, h.registrants k)
+
+within_next : (t u : Tally) (i : ℕ) (r : Own) → Counts t u r → IsWithin i t → IsWithin (i + 1) u
+within_next t u i r c h = record {
+  units = λ v. subst (λ n. n ≤ i + 1) (sym (c.units v)) (unit_within t i r v h);
+  registrants = λ k. subst (λ n. n ≤ i + 1) (sym (c.registrants k)) (registrant_within t i r k h);
+}
+
+pub lost_within : (t : Tally) (i : ℕ) (r : Own) → IsWithin i t → lost_by r t ≤ i
+lost_within t i (own.Define limit error name) h = omega arith
+lost_within t i (own.Register queue name) h = omega arith
+lost_within t i (own.Deregister queue name) h = h.registrants (queue.0, name)
+lost_within t i (own.Begin v) h = omega arith
+lost_within t i (own.Enqueue v queue priority by payload) h = omega arith
+lost_within t i (own.Dequeue v queue by) h = omega arith
+lost_within t i (own.Commit v) h = h.units v.0
+lost_within t i (own.Abort v) h = h.units v.0
+lost_within t i (own.Checkpoint kept) h = omega arith
+
+pub within_more : (t : Tally) (i n : ℕ) → i ≤ n → IsWithin i t → IsWithin n t
+within_more t i n l h = record { units = λ v. omega (arith, l, h.units v); registrants = λ k. omega (arith, l, h.registrants k) }
+
+-- The state before each record.
+
+pub run_more : (all : List Own) (i : ℕ) (r : Own) → i < length all → r ≡ slice_index_or all i r → run empty (take (i + 1) (map record_of all)) ≡ step (run empty (take i (map record_of all))) (record_of r)
+run_more all i r lt is =
+    let rs = map record_of all in
+    let few : i < length rs = omega (arith, lt, length-map all record_of) in
+    let here : get_or rs i (record_of r) ≡ record_of r = get_or-map record_of all i r (record_of r) lt ∙ ap record_of (sym is) in
+    ap (λ (n : ℕ). run empty (take n rs)) (sym (suc-eq-add-one i)) ∙ ap (run empty) (take-suc rs i (record_of r) few) ∙ run_join empty (take i rs) (get_or rs i (record_of r) ∷ [])
+    ∙ ap (step (run empty (take i rs))) here
+
+-- its elements rise, and none has a payload that is too long
+pub record IsFit (s : State) : Type 0 where
+  pub rise : Ordered (λ e f. e.id < f.id) s.elements
+  pub narrow : AllByRecursion (λ e. length e.payload ≤ 65535) s.elements
+
+each_take : (P : Record → Type 0) (k : ℕ) (xs : List Record) → AllByRecursion P xs → AllByRecursion P (take k xs)
+each_take P zero xs h = tt
+each_take P (suc k) [] h = tt
+each_take P (suc k) (x ∷ xs) h = (h.0, each_take P k xs h.1)
+
+pub fit_at : (rs : List Record) (i : ℕ) → IsWellFormed empty → RunsAreWellFormed → RunsFit → AllByRecursion (IsRecord One) rs → all_lawful One empty rs ≡ true → IsFit (run empty (take i rs))
+fit_at rs i start well fit form lawful =
+    let whole : all_lawful One empty (take i rs ++ drop i rs) ≡ true = ap (all_lawful One empty) (take-append-drop i rs) ∙ lawful in
+    let none : Fits empty = record { greatest = omega arith; definitions = tt; registrants = tt; elements = tt; notes = tt } in
+    record {
+      rise = (well One empty (take i rs) start (lawful_cut One empty (take i rs) (drop i rs) whole).0).elements_rise;
+      narrow = each_weaker FitsElement (λ (e : Element). length e.payload ≤ 65535) (λ e h. h.1) (run empty (take i rs)).elements (fit One empty (take i rs) none (each_take (IsRecord One) i rs form)).elements;
+    }
+
+-- One record further.
+
+pub before_first : (t : Tally) → ((u : ℕ) → of_unit t u ≡ 0) → ((k : ℕ × List ℕ) → of_registrant t k ≡ 0) → IsTallied empty t × IsWithin 0 t
+before_first t us ks = (
+  record {
+    units = λ u. record { units = omega arith; elements = omega arith; notes = omega arith };
+    registrants = λ k. record { registrants = omega arith; notes = omega arith };
+  },
+  record { units = λ u. omega (arith, us u); registrants = λ k. omega (arith, ks k) },
+)
+
+pub passed : (all : List Own) (i : ℕ) (r : Own) (w v : Walk) → i < length all → length all ≤ 4294967295 → r ≡ slice_index_or all i r → IsFit (run empty (take i (map record_of all))) → IsWalk (map record_of all) i w → Passes w r v
+    → map audited_of w.found.items ≡ audits empty 40 (take (i + 1) (map record_of all)) → IsWalk (map record_of all) (i + 1) v
+passed all i r w v lt few is fit walk p found =
+    let rs = map record_of all in
+    let s = run empty (take i rs) in
+    let more = run_more all i r lt is in
+    let from : v.from ≡ w.from = ap (λ (x : Walk). x.from) p.others in
+    let state : v.state ≡ w.state = ap (λ (x : Walk). x.state) p.others in
+    record {
+      within = omega (arith, walk.within, from);
+      state = state ∙ walk.state ∙ ap (λ (n : ℕ). run empty (take n rs)) (sym from);
+      carried = ap (λ (x : Walk). x.payload_bytes) p.others ∙ walk.carried ∙ ap payload_bytes (sym state);
+      tally = subst (λ (t : State). IsTallied t v.tally) (sym more) (tallied s w.tally v.tally r fit.rise p.tally walk.tally);
+      counts = within_next w.tally v.tally i r p.tally walk.counts;
+      few = omega (arith, p.lost, walk.few, lost_within w.tally i r walk.counts, lt, few);
+      lost = subst (λ (t : State). KeepsAllBut v.lost v.state t) (sym more) (subst (λ (t : State). KeepsAllBut v.lost t (step s (record_of r))) (sym state)
+          (subst (λ (n : ℕ). KeepsAllBut n w.state (step s (record_of r))) (sym p.lost) (both_lost w.lost (lost_by r w.tally) w.state s (step s (record_of r)) walk.lost (lost s w.tally r walk.tally fit.narrow))));
+      found = ap (λ (x : Walk). map audited_of x.found.items) p.others ∙ found;
+    }
+
+-- a checkpoint changes nothing
+same_counts : (t : Tally) (kept : List ℕ) → Counts t t (own.Checkpoint kept)
+same_counts t kept = record { units = λ u. refl; registrants = λ k. refl }
+
+pub tally_kept : (all : List Own) (i : ℕ) (r : Own) (kept : List ℕ) (t : Tally) → i < length all → r ≡ slice_index_or all i r → r ≡ own.Checkpoint kept → IsFit (run empty (take i (map record_of all)))
+    → IsTallied (run empty (take i (map record_of all))) t → IsTallied (run empty (take (i + 1) (map record_of all))) t
+tally_kept all i r kept t lt is checkpoint fit h =
+    let s = run empty (take i (map record_of all)) in
+    subst (λ (x : State). IsTallied x t) (sym (run_more all i r lt is ∙ ap (λ (q : Own). step s (record_of q)) checkpoint)) (tallied s t t (own.Checkpoint kept) fit.rise (same_counts t kept) h)
+
+pub loss_kept : (all : List Own) (i : ℕ) (r : Own) (kept : List ℕ) (n : ℕ) (t : State) → i < length all → r ≡ slice_index_or all i r → r ≡ own.Checkpoint kept
+    → KeepsAllBut n t (run empty (take i (map record_of all))) → KeepsAllBut n t (run empty (take (i + 1) (map record_of all)))
+loss_kept all i r kept n t lt is checkpoint h =
+    let s = run empty (take i (map record_of all)) in
+    subst (λ (x : State). KeepsAllBut n t x) (sym (run_more all i r lt is ∙ ap (λ (q : Own). step s (record_of q)) checkpoint)) (record { members = h.members; bytes = h.bytes })
+
+-- a checkpoint that begins with another number, or is too short, is false
+pub no_spelling : (all : List Own) (i : ℕ) (w : Walk) (kept : List ℕ) (may : Bool) → i < length all → IsWalk (map record_of all) i w
+    → may ≡ (starts_with nat_eq kept (to_be_bytes w64 i) && not (nat_lt (length kept) (least w))) → may ≡ false → false ≡ bytes_eq kept (state_bytes (run empty (take i (map record_of all))))
+no_spelling all i w kept may lt walk is not_so =
+    by_cases (starts_with nat_eq kept (to_be_bytes w64 i)) (λ b. starts_with nat_eq kept (to_be_bytes w64 i) ≡ b → (b && not (nat_lt (length kept) (least w))) ≡ false → false ≡ bytes_eq kept (state_bytes (run empty (take i (map record_of all)))))
+    (λ _ _ short. too_short (run empty (take i (map record_of all))) kept (let less : length kept < least w = ltb-true (length kept) (least w) (not_not (nat_lt (length kept) (least w)) short) in omega (arith, less, walk.lost.members, walk.lost.bytes, walk.carried)))
+    (λ _ other _. other_number all i kept false lt (sym other) refl)
+    refl (sym is ∙ not_so)

@@ -1,0 +1,22 @@
+use Rattle.std.proofs.Common.{◌≡◌, sym, ap, subst, refl, arith, map}
+use Rattle.rq_model.specs.States.{State, empty}
+use Rattle.rq_restart.specs.Audits.{audited_of}
+use Rattle.rq_restart.specs.Worth.{payload_bytes, KeepsAllBut}
+use Rattle.rq_restart.proofs.Worth.{nothing_lost}
+use Rattle.rq_restart.proofs.Tallies.{before_first}
+use Rattle.rq_restart.proofs.auditing.Walk.first.Goals as goal
+
+pub returns : goal.returns
+returns c = λ rs.
+    let state : c.empty.result ≡ empty = c.empty.ensures in
+    let tally = before_first c.new-tally.result c.new-tally.ensures.units c.new-tally.ensures.registrants in
+    record {
+      within = omega arith;
+      state = state;
+      carried = sym (ap payload_bytes state);
+      tally = tally.0;
+      counts = tally.1;
+      few = omega arith;
+      lost = subst (λ (t : State). KeepsAllBut 0 t empty) (sym state) (nothing_lost empty);
+      found = ap (map audited_of) c.new-found.ensures.items;
+    }

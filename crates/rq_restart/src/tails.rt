@@ -1,0 +1,135 @@
+//! The tail of a log: the aborts that close it.
+
+ghost use Rattle.std.specs.Prelude.{◌≡◌, ◌≤◌, ◌++◌, length, map, IfOk, IfErr, OnOk};
+ghost use Rattle.rq_model.specs.Records as model;
+ghost use Rattle.rq_model.specs.Spelling.{body_of};
+ghost use Rattle.rq_model.specs.Frames.{before, digest, frame, frames_of};
+ghost use Rattle.rq_record.specs.declared.fault.Fault.TheVariants.{Resources};
+ghost use Rattle.rq_state.specs.Views.{unit_of};
+ghost use Rattle.rq_restart.specs.Tails.{Closes, IsEnding, StaysOpen, Tails};
+
+use crate::restarting::whole_front;
+use rq_front::frame;
+use rq_pool::Plan;
+use rq_record::{Fault, Record, UnitNo, encode};
+use std::alloc::Global;
+use std::marker::Sync;
+use std::thread::Threads;
+
+const LOG_LIMIT: usize = 4_294_967_295;
+
+// What the frame of an ABORT has: 36 bytes, and the 9 of its body.
+const ABORT_LEN: usize = 45;
+
+// The 32 bytes before a place.
+fn before(bytes: &[u8], place: usize) -> [u8; 32]
+    requires after { 32 ≤ place }
+    requires within { place ≤ length bytes.now }
+    ensures { result ≡ before place bytes.now }
+{
+    let mut kept = [0; 32];
+    kept.copy_from_slice(&bytes[place - 32..place]);
+    kept
+}
+
+// Appends the frame of the unit's ABORT behind these 32 bytes, and answers its own last 32 bytes.
+fn append_abort(
+    alloc: Global,
+    prev: &[u8; 32],
+    unit: UnitNo,
+    out: &mut Vec<u8>,
+) -> Result<[u8; 32], Fault>
+    ensures bytes { OnOk result (out.new.items ≡ out.old.items ++ frame prev.now (body_of (model.Abort (unit_of unit)))) }
+    ensures last { IfOk result (λ last. last ≡ digest prev.now (body_of (model.Abort (unit_of unit)))) }
+    ensures refused { IfErr result (λ e. e ≡ Resources) }
+{
+    let mut body = Vec::new(alloc);
+    encode(&Record::Abort { unit }, &mut body)?;
+    frame(prev, &body, out)?;
+    Ok(before(out, out.len()))
+}
+
+// Appends the frames of the units' ABORTs, the first behind these 32 bytes.
+fn append_aborts(
+    alloc: Global,
+    prev: [u8; 32],
+    units: &[UnitNo],
+    out: &mut Vec<u8>,
+) -> Result<(), Fault>
+    requires { length units.now ≤ 4294967295 }
+    ensures bytes { OnOk result (out.new.items ≡ out.old.items ++ frames_of prev (map model.Abort (map unit_of units.now))) }
+    ensures refused { IfErr result (λ e. e ≡ Resources) }
+{
+    out.reserve(ABORT_LEN * units.len())?;
+    let mut last = prev;
+    for unit in units {
+        last = append_abort(alloc, &last, *unit, out)?;
+    }
+    Ok(())
+}
+
+// Where the front of a log ends, and the tail behind it.
+#[derive(Drop)]
+struct Ending {
+    end: usize,
+    tail: Vec<u8>,
+}
+
+fn ending_of<R: Threads + Sync>(
+    rt: &R,
+    alloc: Global,
+    bytes: &[u8],
+    plan: &Plan,
+) -> Result<Ending, Fault>
+    ensures ending { IfOk result (IsEnding bytes.now) }
+    ensures refused { IfErr result (StaysOpen bytes.now) }
+{
+    rq_model::frames_join();
+    let front = whole_front(rt, alloc, bytes, plan)?;
+    let units = front.analysis.open_units(alloc)?;
+    if units.len() > (LOG_LIMIT - front.end) / ABORT_LEN {
+        return Err(Fault::TooLarge);
+    }
+    let mut tail = Vec::new(alloc);
+    append_aborts(alloc, before(bytes, front.end), &units, &mut tail)?;
+    Ok(Ending {
+        end: front.end,
+        tail,
+    })
+}
+
+/// The tail of a log: the frames of the ABORT of each unit that is open after its front, rising, chained to the front's
+/// last 32 bytes; empty where no unit is open. No queue is redone for it.
+///
+/// Refuses with `TooLarge` where the front followed by the tail would have more than 4,294,967,295 bytes, and else as
+/// `restart` does.
+pub fn tail<R: Threads + Sync>(
+    rt: &R,
+    alloc: Global,
+    bytes: &[u8],
+    plan: &Plan,
+) -> Result<Vec<u8>, Fault>
+    ensures { Tails bytes.now result }
+{
+    let ending = ending_of(rt, alloc, bytes, plan)?;
+    Ok(ending.tail)
+}
+
+/// The closed log: the bytes up to the end of the front, as many as a restart says are used, and the tail behind them.
+/// What stood behind the front is dropped.
+///
+/// Refused as `tail` is.
+pub fn closed<R: Threads + Sync>(
+    rt: &R,
+    alloc: Global,
+    bytes: Vec<u8>,
+    plan: &Plan,
+) -> Result<Vec<u8>, Fault>
+    ensures { Closes bytes.items result }
+{
+    let mut ending = ending_of(rt, alloc, &bytes, plan)?;
+    let mut bytes = bytes;
+    bytes.truncate(ending.end);
+    bytes.append(&mut ending.tail)?;
+    Ok(bytes)
+}

@@ -1,0 +1,113 @@
+//! How many records speak for each unit and each registrant: no more members of a state go with these.
+
+ghost use Rattle.std.specs.Prelude.{◌≡◌, ◌<◌, ◌+◌, ◌^◌, ◌-◌, ℕ, List, cond, nat_eq, OnOk, IfOk, IfErr};
+ghost use Rattle.indexmap.specs.IndexMap.{get};
+ghost use Rattle.rq_catalog.specs.Catalogues.{key_eq};
+ghost use Rattle.rq_record.specs.declared.fault.Fault.TheVariants.{Resources};
+ghost use Rattle.rq_restart.specs.Worth.{Counts, IsWithin, count_of, lost_by, named_after, of_registrant, of_unit};
+
+use indexmap::IndexMap;
+use rq_record::{By, Fault, Name, Record};
+use std::alloc::Global;
+
+/// How often an open unit, and a registrant, were spoken of since they came.
+#[derive(Drop)]
+pub(crate) struct Tally {
+    units: IndexMap<u64, u64>,
+    registrants: IndexMap<(u32, Name), u64>,
+}
+
+impl Tally {
+    /// Before the first record.
+    pub(crate) fn new(alloc: Global) -> Tally
+        ensures units { (unit : ℕ) → of_unit result unit ≡ 0 }
+        ensures registrants { (key : ℕ × List ℕ) → of_registrant result key ≡ 0 }
+    {
+        Tally {
+            units: IndexMap::new(alloc),
+            registrants: IndexMap::new(alloc),
+        }
+    }
+
+    /// Counts a record. Answers how many members of each list of the state go with it, at most.
+    pub(crate) fn take(&mut self, rec: &Record) -> Result<u64, Fault>
+        requires { IsWithin (2 ^ 64 - 2) self.old }
+        ensures counts { OnOk result (Counts self.old self.new rec.now) }
+        ensures lost { IfOk result (λ n. n ≡ lost_by rec.now self.old) }
+        ensures refused { IfErr result (λ e. e ≡ Resources) }
+    {
+        match rec {
+            Record::Register { queue, name } => self.name(queue.0, *name),
+            Record::Deregister { queue, name } => Ok(self.forget(queue.0, *name)),
+            Record::Begin { unit } => self.speak(unit.0),
+            Record::Enqueue {
+                unit,
+                queue,
+                by,
+                ..
+            } => self.operate(unit.0, queue.0, by),
+            Record::Dequeue { unit, queue, by } => self.operate(unit.0, queue.0, by),
+            Record::Commit { unit } => Ok(self.close(unit.0)),
+            Record::Abort { unit } => Ok(self.close(unit.0)),
+            Record::Define { .. } | Record::Checkpoint { .. } => Ok(0),
+        }
+    }
+
+    // An operation of a unit on a queue.
+    fn operate(&mut self, unit: u64, queue: u32, by: &Option<By>) -> Result<u64, Fault>
+        requires { IsWithin (2 ^ 64 - 2) self.old }
+        ensures units { OnOk result ((u : ℕ) → of_unit self.new u ≡ cond (nat_eq unit u) (of_unit self.old unit + 1) (of_unit self.old u)) }
+        ensures registrants { OnOk result ((k : ℕ × List ℕ) → of_registrant self.new k ≡ named_after queue by.now self.old k) }
+        ensures nothing { IfOk result (λ n. n ≡ 0) }
+        ensures refused { IfErr result (λ e. e ≡ Resources) }
+    {
+        if let Some(by) = by {
+            self.name(queue, by.name)?;
+        }
+        self.speak(unit)
+    }
+
+    // A unit is spoken of.
+    fn speak(&mut self, unit: u64) -> Result<u64, Fault>
+        requires { of_unit self.old unit + 1 < 2 ^ 64 }
+        ensures frame { self.new ≡ record self.old { units = self.new.units } }
+        ensures units { OnOk result ((u : ℕ) → of_unit self.new u ≡ cond (nat_eq unit u) (of_unit self.old unit + 1) (of_unit self.old u)) }
+        ensures nothing { IfOk result (λ n. n ≡ 0) }
+        ensures refused { IfErr result (λ e. e ≡ Resources) }
+    {
+        let count = self.units.get(&unit).copied().unwrap_or(0);
+        self.units.insert(unit, count + 1)?;
+        Ok(0)
+    }
+
+    // A registrant is spoken of.
+    fn name(&mut self, queue: u32, name: Name) -> Result<u64, Fault>
+        requires { of_registrant self.old (queue, name) + 1 < 2 ^ 64 }
+        ensures frame { self.new ≡ record self.old { registrants = self.new.registrants } }
+        ensures registrants { OnOk result ((k : ℕ × List ℕ) → of_registrant self.new k ≡ cond (key_eq (queue, name) k) (of_registrant self.old (queue, name) + 1) (of_registrant self.old k)) }
+        ensures nothing { IfOk result (λ n. n ≡ 0) }
+        ensures refused { IfErr result (λ e. e ≡ Resources) }
+    {
+        let count = self.registrants.get(&(queue, name)).copied().unwrap_or(0);
+        self.registrants.insert((queue, name), count + 1)?;
+        Ok(0)
+    }
+
+    // A unit is closed. How often it was spoken of.
+    fn close(&mut self, unit: u64) -> u64
+        ensures frame { self.new ≡ record self.old { units = self.new.units } }
+        ensures units { (u : ℕ) → of_unit self.new u ≡ cond (nat_eq unit u) 0 (of_unit self.old u) }
+        ensures count { result ≡ of_unit self.old unit }
+    {
+        self.units.swap_remove(&unit).unwrap_or(0)
+    }
+
+    // A registrant goes. How often it was spoken of.
+    fn forget(&mut self, queue: u32, name: Name) -> u64
+        ensures frame { self.new ≡ record self.old { registrants = self.new.registrants } }
+        ensures registrants { (k : ℕ × List ℕ) → of_registrant self.new k ≡ cond (key_eq (queue, name) k) 0 (of_registrant self.old k) }
+        ensures count { result ≡ of_registrant self.old (queue, name) }
+    {
+        self.registrants.swap_remove(&(queue, name)).unwrap_or(0)
+    }
+}

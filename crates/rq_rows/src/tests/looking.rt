@@ -1,0 +1,165 @@
+//! What is shown of a log.
+
+use super::scripts::{ONE_ELEMENT, SECOND_ABORT};
+use super::{lines, log_of};
+use rq_look::{Plan, Subject, Trouble, Wanted, check, dump, report, report_json, script, story};
+use std::test::Fail;
+use std::thread::Threads;
+
+/// All records, a line each.
+const ALL: Wanted<'static> = Wanted {
+    from: 0,
+    unit: None,
+    queue: None,
+    registrant: None,
+    kind: None,
+    limit: 100,
+    full: false,
+    json: false,
+};
+
+fn plan() -> Option<Plan> {
+    Plan::new(2, 1)
+}
+
+/// What a dump shows of the log.
+fn dumped<R: Threads + Sync + AllocGlobal>(
+    rt: &R,
+    log: &[u8],
+    wanted: &Wanted<'_>,
+) -> Result<Vec<u8>, Fail> {
+    let mut shown = Vec::new(rt.alloc());
+    let plan = plan().ok_or("plan")?;
+    match dump(rt, rt.alloc(), log, &plan, wanted, &mut shown) {
+        Ok(()) => Ok(shown),
+        Err(_) => Err("dump".into()),
+    }
+}
+
+#[test]
+fn a_dump_shows_each_record_and_the_end(rt: HostRuntime) -> Result<(), Fail> {
+    let log = log_of(&rt, &ONE_ELEMENT)?;
+    let want = lines(
+        rt.alloc(),
+        &[
+            "40 0 define queue 0 name jobs limit 0 error -",
+            "87 1 begin unit 1",
+            "132 2 enqueue unit 1 queue 0 priority 5 by - payload \"a\"",
+            "192 3 commit unit 1",
+            "front ends behind 4 records, at 237 of 237 bytes, whole: nothing follows",
+        ],
+    )?;
+    assert!(rt; dumped(&rt, &log, &ALL)? == want);
+    let one = Wanted {
+        kind: Some("enqueue"),
+        json: true,
+        ..ALL
+    };
+    let want = lines(
+        rt.alloc(),
+        &[
+            "{\"offset\":132,\"record\":2,\"kind\":\"enqueue\",\"unit\":1,\"queue\":0,\"priority\":5,\"payload\":{\"hex\":\"61\",\"text\":\"a\"}}",
+            "{\"front\":{\"records\":4,\"used\":237,\"total\":237,\"why\":\"whole\",\"reason\":\"nothing follows\"}}",
+        ],
+    )?;
+    assert!(rt; dumped(&rt, &log, &one)? == want);
+    Ok(())
+}
+
+/// The last line of the dump of a log.
+fn ends<R: Threads + Sync + AllocGlobal>(rt: &R, log: &[u8], want: &str) -> Result<bool, Fail> {
+    let none = Wanted { limit: 0, ..ALL };
+    Ok(dumped(rt, log, &none)? == lines(rt.alloc(), &[want])?)
+}
+
+#[test]
+fn a_dump_says_why_the_front_ends(rt: HostRuntime) -> Result<(), Fail> {
+    let log = log_of(&rt, &ONE_ELEMENT)?;
+    let cut =
+        "front ends behind 3 records, at 192 of 236 bytes, cut: 44 bytes follow, and the frame has 45";
+    assert!(rt; ends(&rt, &log[..log.len().saturating_sub(1)], cut)?);
+    let law = "front ends behind 1 records, at 87 of 132 bytes, law: unit 1 is not open";
+    assert!(rt; ends(&rt, &log_of(&rt, &["define jobs 0 -", "commit 1"])?, law)?);
+    Ok(())
+}
+
+#[test]
+fn a_check_finds_what_is_wrong(rt: HostRuntime) -> Result<(), Fail> {
+    let plan = plan().ok_or("plan")?;
+    let fine = log_of(&rt, &["define jobs 0 -", "checkpoint"])?;
+    assert!(rt;
+        check(&rt, rt.alloc(), &fine, &plan).is_ok_and(|found| found.fine && found.text.is_empty())
+    );
+    let wrong = log_of(&rt, &["define jobs 0 -", "checkpoint-hex 00"])?;
+    let want = "the checkpoint at 87 does not spell the state before it\n";
+    assert!(rt;
+        check(&rt, rt.alloc(), &wrong, &plan).is_ok_and(|found| !found.fine
+            && found.text.as_str() == want)
+    );
+    Ok(())
+}
+
+#[test]
+fn a_report_is_shown_by_queue_and_as_json(rt: HostRuntime) -> Result<(), Fail> {
+    let plan = plan().ok_or("plan")?;
+    let log = log_of(&rt, &SECOND_ABORT)?;
+    let mut text = Vec::new(rt.alloc());
+    assert!(rt; report(&rt, rt.alloc(), &log, &plan, Some(0), &mut text).is_ok());
+    let want = [
+        "queue 0 dead limit 0 error -",
+        "e 3 from 1 priority 5 attempts 1 61",
+    ];
+    assert!(rt; text == lines(rt.alloc(), &want)?);
+    let mut json = Vec::new(rt.alloc());
+    assert!(rt; report_json(&rt, rt.alloc(), &log, &plan, Some(1), &mut json).is_ok());
+    let last = [
+        "      \"number\": 1,",
+        "      \"name\": \"jobs\",",
+        "      \"limit\": 2,",
+        "      \"error\": 0,",
+        "      \"elements\": [],",
+        "      \"registrants\": []",
+        "    }",
+        "  ]",
+        "}",
+    ];
+    assert!(rt; json.ends_with(&lines(rt.alloc(), &last)?));
+    let absent = report(&rt, rt.alloc(), &log, &plan, Some(2), &mut text);
+    assert!(rt; matches!(absent, Err(Trouble::NoQueue(2))));
+    Ok(())
+}
+
+#[test]
+fn a_script_makes_the_log_again(rt: HostRuntime) -> Result<(), Fail> {
+    let plan = plan().ok_or("plan")?;
+    let log = log_of(&rt, &SECOND_ABORT)?;
+    let mut text = Vec::new(rt.alloc());
+    let whole = script(&rt, rt.alloc(), &log, &plan, &mut text);
+    assert!(rt; matches!(whole, Ok(true)));
+    assert!(rt; text == lines(rt.alloc(), &SECOND_ABORT)?);
+    Ok(())
+}
+
+#[test]
+fn a_story_follows_an_element(rt: HostRuntime) -> Result<(), Fail> {
+    let plan = plan().ok_or("plan")?;
+    let log = log_of(&rt, &SECOND_ABORT)?;
+    let mut text = Vec::new(rt.alloc());
+    let told = story(&rt, rt.alloc(), &log, &plan, Subject::Element(3), &mut text);
+    assert!(rt; told.is_ok());
+    let want = [
+        "179 3 enqueue unit 1 queue 1 priority 5 by - payload \"a\": puts in element 3",
+        "239 4 commit unit 1: element 3 is free in queue 1",
+        "329 6 dequeue unit 2 queue 1 by -: takes element 3",
+        "387 7 abort unit 2: element 3 is back in queue 1, attempts 1",
+        "477 9 dequeue unit 3 queue 1 by -: takes element 3",
+        "535 10 abort unit 3: element 3 moves to queue 0",
+        "625 12 dequeue unit 4 queue 0 by -: takes element 3",
+        "683 13 abort unit 4: element 3 is back in queue 0, attempts 1",
+        "front ends behind 14 records, at 728 of 728 bytes, whole: nothing follows",
+    ];
+    assert!(rt; text == lines(rt.alloc(), &want)?);
+    let none = story(&rt, rt.alloc(), &log, &plan, Subject::Unit(9), &mut text);
+    assert!(rt; matches!(none, Err(Trouble::Nothing(Subject::Unit(9)))));
+    Ok(())
+}

@@ -1,0 +1,70 @@
+-- From the bytes that were audited to those that the reader had, and to what is written.
+use Rattle.std.proofs.Common.{◌≡◌, ℕ, Bool, List, map, subst, arith, inl, inr}
+use Rattle.std.specs.Prelude.{Option, Result, Ok, Err, IfErr, IfOk}
+use Rattle.std.specs.Global.{Vec}
+use Rattle.std.specs.List.{flat_map}
+use Rattle.rq_model.specs.Checkpoints.{Audited, IsAudit}
+use Rattle.rq_record.specs.declared.fault.Fault.{Fault}
+use Rattle.rq_record.specs.declared.fault.Fault.TheVariants as faults
+use Rattle.rq_report.specs.Streams.{Delivers}
+use Rattle.rq_restart.specs.Audits.{Audits, audited_of}
+use Rattle.rq_tool.specs.AuditTexts.{audit_line, AuditsLog, AuditsOnly, AuditsRead}
+use Rattle.rq_tool.specs.Headline.{IsBeforeWriting, IsRunnable}
+use Rattle.rq_tool.proofs.Told.{IsSame, refused_read}
+
+abbrev Found : Type 0
+Found = Result (Vec (ℕ × Bool)) Fault
+
+-- what an audit of the bytes says, it says of those that the reader had
+pub audit_read : (b bytes : List ℕ) (result : Found) → IsSame b bytes → Audits bytes result → AuditsRead b result
+audit_read b bytes (Ok found) same h = elim same [
+  | inl is ↦ subst (λ (z : List ℕ). AuditsRead z (Ok found)) is ((h.0, h.1), h.2)
+  | inr long ↦ absurd (omega (arith, h.0, long.1))
+]
+audit_read b bytes (Err e) same h = refused_read b bytes e same h
+
+pub audit_some : (bytes : List ℕ) (result : Found) → Audits bytes result → IfOk result (λ found. (b : List ℕ) × IsAudit b (map audited_of found.items))
+audit_some bytes (Ok found) h = (bytes, h.2)
+audit_some bytes (Err e) h = tt
+
+pub audit_fault : (bytes : List ℕ) (result : Found) → Audits bytes result → IfErr result IsBeforeWriting
+audit_fault bytes (Ok found) h = tt
+audit_fault bytes (Err faults.TooLong) h = tt
+audit_fault bytes (Err faults.NotALog) h = tt
+audit_fault bytes (Err faults.Resources) h = tt
+audit_fault bytes (Err faults.Form) h = absurd h
+audit_fault bytes (Err faults.TooLarge) h = absurd h
+audit_fault bytes (Err faults.BadCheckpoint) h = absurd h
+audit_fault bytes (Err faults.NoCheckpoint) h = absurd h
+audit_fault bytes (Err (faults.Script n)) h = absurd h
+audit_fault bytes (Err faults.ReadFailed) h = absurd h
+audit_fault bytes (Err faults.WriteFailed) h = absurd h
+
+-- what is written of an audit is written of its bytes
+pub written_audit : (b text : List ℕ) (found : List Audited) (before after : ℕ) (old new : Option (List ℕ)) (result : Result (Unit {0}) Fault) → IsRunnable b → IsAudit b found → text ≡ flat_map audit_line found
+    → Delivers before after old new text result → AuditsLog b old new result
+written_audit b text found before after old new (Ok done) log is spelled w = (log, text, (found, is, spelled), w.1)
+written_audit b text found before after old new (Err faults.WriteFailed) log is spelled w = (log, text, (found, is, spelled), w.1)
+written_audit b text found before after old new (Err faults.Resources) log is spelled w = absurd w
+written_audit b text found before after old new (Err faults.Form) log is spelled w = absurd w
+written_audit b text found before after old new (Err faults.NotALog) log is spelled w = absurd w
+written_audit b text found before after old new (Err faults.TooLong) log is spelled w = absurd w
+written_audit b text found before after old new (Err faults.TooLarge) log is spelled w = absurd w
+written_audit b text found before after old new (Err faults.BadCheckpoint) log is spelled w = absurd w
+written_audit b text found before after old new (Err faults.NoCheckpoint) log is spelled w = absurd w
+written_audit b text found before after old new (Err (faults.Script n)) log is spelled w = absurd w
+written_audit b text found before after old new (Err faults.ReadFailed) log is spelled w = absurd w
+
+pub written_audit_only : (b text : List ℕ) (found : List Audited) (before after : ℕ) (old new : Option (List ℕ)) (result : Result (Unit {0}) Fault) → IsAudit b found → text ≡ flat_map audit_line found
+    → Delivers before after old new text result → AuditsOnly old new result
+written_audit_only b text found before after old new (Ok done) is spelled w = (b, text, (found, is, spelled), w.1)
+written_audit_only b text found before after old new (Err faults.WriteFailed) is spelled w = (b, text, (found, is, spelled), w.1)
+written_audit_only b text found before after old new (Err faults.Resources) is spelled w = absurd w
+written_audit_only b text found before after old new (Err faults.Form) is spelled w = absurd w
+written_audit_only b text found before after old new (Err faults.NotALog) is spelled w = absurd w
+written_audit_only b text found before after old new (Err faults.TooLong) is spelled w = absurd w
+written_audit_only b text found before after old new (Err faults.TooLarge) is spelled w = absurd w
+written_audit_only b text found before after old new (Err faults.BadCheckpoint) is spelled w = absurd w
+written_audit_only b text found before after old new (Err faults.NoCheckpoint) is spelled w = absurd w
+written_audit_only b text found before after old new (Err (faults.Script n)) is spelled w = absurd w
+written_audit_only b text found before after old new (Err faults.ReadFailed) is spelled w = absurd w

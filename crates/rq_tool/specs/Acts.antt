@@ -1,0 +1,25 @@
+-- What a command does.
+use Rattle.std.specs.Prelude.{ℕ, List, Option, Result}
+use Rattle.rq_model.specs.Checkpoints.{TrueAt}
+use Rattle.rq_record.specs.declared.fault.Fault.{Fault}
+use Rattle.rq_tool.specs.Headline.{Runs, RunsAt, WritesOnly, WritesOnlyAt, WritesReport}
+use Rattle.rq_tool.specs.Scripts.{Makes, MakesOnly}
+use Rattle.rq_tool.specs.AuditTexts.{AuditsLog, AuditsOnly}
+use Rattle.rq_tool.specs.Closings.{ClosesLog, ClosesOnly}
+use Rattle.rq_tool.specs.Commands.{Line, Make, Restart, RestartAt, Audit, Close}
+
+-- with the bytes b of its first file, where the writer held the bytes `old` before and holds `new` afterwards
+abbrev pub Acts : Line → List ℕ → Option (List ℕ) → Option (List ℕ) → Result (Unit {0}) Fault → Type 0
+Acts (Make script log) b old new result = Makes b old new result
+Acts (Restart log workers grain) b old new result = Runs b old new result
+Acts (RestartAt log offset workers grain) b old new result = RunsAt b offset old new result × (TrueAt b offset → WritesReport b old new result)
+Acts (Audit log workers grain) b old new result = AuditsLog b old new result
+Acts (Close log out workers grain) b old new result = ClosesLog b old new result
+
+-- also where the reader tells no bytes
+abbrev pub ActsOnly : Line → Option (List ℕ) → Option (List ℕ) → Result (Unit {0}) Fault → Type 0
+ActsOnly (Make script log) old new result = MakesOnly old new result
+ActsOnly (Restart log workers grain) old new result = WritesOnly old new result
+ActsOnly (RestartAt log offset workers grain) old new result = WritesOnlyAt offset old new result
+ActsOnly (Audit log workers grain) old new result = AuditsOnly old new result
+ActsOnly (Close log out workers grain) old new result = ClosesOnly old new result

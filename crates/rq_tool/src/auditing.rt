@@ -1,0 +1,84 @@
+//! The audit of a log, as it is printed.
+
+ghost use Rattle.std.specs.Prelude.{◌≡◌, ℕ, ◌<◌, ◌++◌, List, Some, IfOk, IfErr, OnOk, map, string_bytes};
+ghost use Rattle.std.specs.List.{flat_map};
+ghost use Rattle.rq_model.specs.Checkpoints.{IsAudit};
+ghost use Rattle.rq_restart.specs.Audits.{audited_of};
+ghost use Rattle.rq_tool.specs.AuditTexts.{audit_line, AuditsLog, AuditsOnly, AuditsRead};
+ghost use Rattle.rq_tool.specs.Headline.{IsBeforeWriting};
+ghost use Rattle.rq_tool.specs.Streams.{ReadFaults, Takes, WriteFaults};
+
+use crate::input::read_log;
+use rq_report::{Input, Output, write_all};
+use rq_restart::{Fault, Plan, audit};
+use std::alloc::{AllocError, Global};
+use std::fmt::Write;
+use std::marker::Sync;
+use std::thread::Threads;
+
+fn put_line(text: &mut String, offset: u64, truth: bool) -> Result<(), AllocError>
+    ensures { OnOk result (string_bytes text.new ≡ string_bytes text.old ++ audit_line (audited_of (offset, truth))) }
+{
+    let word = if truth { "true" } else { "false" };
+    write!(text, "checkpoint {offset} {word}\n")
+}
+
+// A line for each checkpoint that was found.
+fn audit_text(alloc: Global, found: &[(u64, bool)]) -> Result<String, AllocError>
+    ensures { IfOk result (λ text. string_bytes text ≡ flat_map audit_line (map audited_of found.now)) }
+{
+    let mut text = String::new(alloc);
+    for (offset, truth) in found {
+        put_line(&mut text, *offset, *truth)?;
+    }
+    Ok(text)
+}
+
+// The audit of what the input gives; the bytes are let go.
+fn read_and_audit<R, I>(
+    rt: &R,
+    alloc: Global,
+    input: &mut I,
+    plan: &Plan,
+) -> Result<Vec<(u64, bool)>, Fault>
+where
+    R: Threads + Sync,
+    I: Input,
+    requires { I.faults input.old < 18446744073709551615 }
+    ensures told { (b : List ℕ) → I.remaining input.old ≡ Some b → AuditsRead b result }
+    ensures some { IfOk result (λ found. (b : List ℕ) × IsAudit b (map audited_of found.items)) }
+    ensures refused { IfErr result IsBeforeWriting }
+    ensures takes { Takes (I.remaining input.old) (I.remaining input.new) result }
+    ensures faults { ReadFaults (I.faults input.old) (I.faults input.new) result }
+{
+    let bytes = read_log(alloc, input)?;
+    audit(rt, alloc, &bytes, plan)
+}
+
+/// Reads the input to its end, but at most 4,294,967,296 bytes, and writes a line for each checkpoint of the log, rising:
+/// its offset, and whether it is true.
+///
+/// Nothing else is written. Refused as `run` is; with `WriteFailed` a beginning of the lines is written, else nothing.
+pub fn audit_log<R, I, O>(
+    rt: &R,
+    alloc: Global,
+    input: &mut I,
+    output: &mut O,
+    plan: &Plan,
+) -> Result<(), Fault>
+where
+    R: Threads + Sync,
+    I: Input,
+    O: Output,
+    requires reads { I.faults input.old < 18446744073709551615 }
+    requires writes { O.faults output.old < 18446744073709551615 }
+    ensures audits { (b : List ℕ) → I.remaining input.old ≡ Some b → AuditsLog b (O.contents output.old) (O.contents output.new) result }
+    ensures quiet { AuditsOnly (O.contents output.old) (O.contents output.new) result }
+    ensures takes { Takes (I.remaining input.old) (I.remaining input.new) result }
+    ensures read_faults { ReadFaults (I.faults input.old) (I.faults input.new) result }
+    ensures write_faults { WriteFaults (O.faults output.old) (O.faults output.new) result }
+{
+    let found = read_and_audit(rt, alloc, input, plan)?;
+    let text = audit_text(alloc, &found)?;
+    write_all(output, text.as_bytes())
+}

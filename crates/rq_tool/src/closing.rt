@@ -1,0 +1,61 @@
+//! The closed log.
+
+ghost use Rattle.std.specs.Prelude.{◌≡◌, ℕ, ◌<◌, List, Some, IfOk, IfErr};
+ghost use Rattle.rq_tool.specs.Closings.{IsBeforeClosing, IsClosedLog, ClosesLog, ClosesOnly, ClosesRead};
+ghost use Rattle.rq_tool.specs.Streams.{ReadFaults, Takes, WriteFaults};
+
+use crate::input::{are_bytes, read_log};
+use rq_report::{Input, Output, write_all};
+use rq_restart::{Fault, Plan, closed};
+use std::alloc::Global;
+use std::marker::Sync;
+use std::thread::Threads;
+
+// What the input gives, closed.
+fn read_and_close<R, I>(rt: &R, alloc: Global, input: &mut I, plan: &Plan) -> Result<Vec<u8>, Fault>
+where
+    R: Threads + Sync,
+    I: Input,
+    requires { I.faults input.old < 18446744073709551615 }
+    ensures told { (b : List ℕ) → I.remaining input.old ≡ Some b → ClosesRead b result }
+    ensures some { IfOk result (λ log. (b : List ℕ) × IsClosedLog b log.items) }
+    ensures refused { IfErr result IsBeforeClosing }
+    ensures takes { Takes (I.remaining input.old) (I.remaining input.new) result }
+    ensures faults { ReadFaults (I.faults input.old) (I.faults input.new) result }
+{
+    rq_model::closed_logs();
+    let bytes = read_log(alloc, input)?;
+    are_bytes(&bytes);
+    closed(rt, alloc, bytes, plan)
+}
+
+/// Reads the input to its end, but at most 4,294,967,296 bytes, and writes the closed log: its front, and behind it an ABORT
+/// for each unit that is open. No queue is redone for it.
+///
+/// A restart of the closed log answers the state that a restart of the log answers; and so does a restart of as much of it as
+/// a crash leaves, once the front is there. To close it again changes nothing.
+///
+/// Nothing else is written. Refuses with `TooLarge` where the closed log would have more than 4,294,967,295 bytes, and else as
+/// `run` does; with `WriteFailed` a beginning of the closed log is written, else nothing.
+pub fn close_log<R, I, O>(
+    rt: &R,
+    alloc: Global,
+    input: &mut I,
+    output: &mut O,
+    plan: &Plan,
+) -> Result<(), Fault>
+where
+    R: Threads + Sync,
+    I: Input,
+    O: Output,
+    requires reads { I.faults input.old < 18446744073709551615 }
+    requires writes { O.faults output.old < 18446744073709551615 }
+    ensures closes { (b : List ℕ) → I.remaining input.old ≡ Some b → ClosesLog b (O.contents output.old) (O.contents output.new) result }
+    ensures quiet { ClosesOnly (O.contents output.old) (O.contents output.new) result }
+    ensures takes { Takes (I.remaining input.old) (I.remaining input.new) result }
+    ensures read_faults { ReadFaults (I.faults input.old) (I.faults input.new) result }
+    ensures write_faults { WriteFaults (O.faults output.old) (O.faults output.new) result }
+{
+    let log = read_and_close(rt, alloc, input, plan)?;
+    write_all(output, &log)
+}

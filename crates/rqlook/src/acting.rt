@@ -1,0 +1,99 @@
+//! What the program does for each of its commands.
+
+use crate::failing::Failure;
+use crate::reading::log_in;
+use crate::words::{records_asked, subject_asked};
+use clap::ArgMatches;
+use rq_look::{Plan, Trouble};
+use std::io;
+use std::rt::Files;
+use std::thread::Threads;
+
+/// The grain of each plan, in frames.
+const GRAIN: u32 = 1000;
+
+fn plan_of(words: &ArgMatches<'_>) -> Option<Plan> {
+    Plan::new(words.get_one::<u32>("workers")?, GRAIN)
+}
+
+/// Prints what a check finds, unless it is to say nothing. Answers whether it finds nothing.
+fn check<R>(rt: &R, bytes: &[u8], plan: &Plan, quiet: bool) -> Result<bool, Trouble>
+where
+    R: Print + AllocGlobal + Threads + Sync,
+{
+    let found = rq_look::check(rt, rt.alloc(), bytes, plan)?;
+    if !quiet {
+        rt.write_all(found.text.as_bytes())?;
+    }
+    Ok(found.fine)
+}
+
+fn report<R>(rt: &R, bytes: &[u8], plan: &Plan, words: &ArgMatches<'_>) -> Result<bool, Trouble>
+where
+    R: Print + AllocGlobal + Threads + Sync,
+{
+    let queue = words.get_one::<u32>("queue");
+    let mut output = io::writer(rt);
+    if words.get_flag("json") {
+        rq_look::report_json(rt, rt.alloc(), bytes, plan, queue, &mut output)?;
+    } else {
+        rq_look::report(rt, rt.alloc(), bytes, plan, queue, &mut output)?;
+    }
+    Ok(true)
+}
+
+fn dump<R>(rt: &R, bytes: &[u8], plan: &Plan, words: &ArgMatches<'_>) -> Result<bool, Trouble>
+where
+    R: Print + AllocGlobal + Threads + Sync,
+{
+    let wanted = records_asked(words);
+    rq_look::dump(rt, rt.alloc(), bytes, plan, &wanted, &mut io::writer(rt))?;
+    Ok(true)
+}
+
+fn story<R>(rt: &R, bytes: &[u8], plan: &Plan, words: &ArgMatches<'_>) -> Result<bool, Trouble>
+where
+    R: Print + AllocGlobal + Threads + Sync,
+{
+    let subject = subject_asked(words);
+    rq_look::story(rt, rt.alloc(), bytes, plan, subject, &mut io::writer(rt))?;
+    Ok(true)
+}
+
+fn perform<R>(
+    rt: &R,
+    name: &str,
+    words: &ArgMatches<'_>,
+    bytes: &[u8],
+    plan: &Plan,
+) -> Result<bool, Trouble>
+where
+    R: Print + AllocGlobal + Threads + Sync,
+{
+    match name {
+        "dump" => dump(rt, bytes, plan, words),
+        "check" => check(rt, bytes, plan, words.get_flag("quiet")),
+        "report" => report(rt, bytes, plan, words),
+        "story" | "unit" => story(rt, bytes, plan, words),
+        _ => rq_look::script(rt, rt.alloc(), bytes, plan, &mut io::writer(rt)),
+    }
+}
+
+/// Does the command of the words on its log. False answers that something is wrong with the log.
+pub(crate) fn act<R>(rt: &R, matches: &ArgMatches<'_>) -> Result<bool, Failure>
+where
+    R: Files + Input + Print + AllocGlobal + Threads + Sync,
+{
+    let Some((name, words)) = matches.subcommand() else {
+        return Ok(true);
+    };
+    let Some(plan) = plan_of(words) else {
+        return Err(Failure::Workers);
+    };
+    let file = words.get_str("LOG").unwrap_or("-");
+    let bytes = log_in(rt, file)?;
+    match perform(rt, name, words, &bytes, &plan) {
+        Ok(fine) => Ok(fine),
+        Err(trouble) => Err(Failure::Refused(String::from_str(rt.alloc(), file)?, trouble)),
+    }
+}

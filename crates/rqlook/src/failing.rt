@@ -1,0 +1,98 @@
+//! Why the program ends before it is done.
+
+use rq_look::Trouble;
+use std::alloc::AllocError;
+use std::io::{self, ErrorKind};
+
+/// The exit status where there is no such thing in the log.
+const REFUSED: u8 = 1;
+
+/// The exit status of words that are no command.
+const USAGE: u8 = 2;
+
+/// The exit status where reading or writing failed.
+const STREAM: u8 = 3;
+
+/// The exit status where memory was refused.
+const MEMORY: u8 = 4;
+
+/// Why the program ends before it is done.
+#[derive(Debug, Drop)]
+pub(crate) enum Failure {
+    /// The words are no command.
+    Words(clap::Error),
+    /// The number of workers is none.
+    Workers,
+    /// The file cannot be read.
+    Unread(String, io::Error),
+    /// The file was read and is refused.
+    Refused(String, Trouble),
+    /// The output fails.
+    Output(io::Error),
+    /// Memory is refused.
+    Memory,
+}
+
+impl From<AllocError> for Failure {
+    fn from(_error: AllocError) -> Failure {
+        Failure::Memory
+    }
+}
+
+impl From<clap::Error> for Failure {
+    fn from(error: clap::Error) -> Failure {
+        Failure::Words(error)
+    }
+}
+
+impl From<io::Error> for Failure {
+    fn from(error: io::Error) -> Failure {
+        Failure::Output(error)
+    }
+}
+
+// Says that the output fails. One that was closed is no news.
+fn output_failed(rt: &HostRuntime, error: &io::Error) -> u8 {
+    if error.kind() == ErrorKind::BrokenPipe {
+        return 0;
+    }
+    let _ = eprintln!(rt; "rqlook: {error}");
+    STREAM
+}
+
+fn refused(rt: &HostRuntime, file: &str, trouble: &Trouble) -> u8 {
+    if let Trouble::Output(error) = trouble {
+        return output_failed(rt, error);
+    }
+    let _ = eprintln!(rt; "rqlook: {file}: {trouble}");
+    match trouble {
+        Trouble::Log(fault) => fault.exit(),
+        _ => REFUSED,
+    }
+}
+
+impl Failure {
+    /// Says on standard error why the program ends, and answers its exit status.
+    pub(crate) fn tell(&self, rt: &HostRuntime) -> u8 {
+        match self {
+            Failure::Words(error) => {
+                let _ = eprint!(rt; "{error}");
+                USAGE
+            }
+            Failure::Workers => {
+                let _ = eprintln!(rt; "rqlook: workers are 1 to 64");
+                USAGE
+            }
+            Failure::Unread(file, error) => {
+                let _ = eprintln!(rt; "rqlook: {file}: {error}");
+                STREAM
+            }
+            Failure::Refused(file, trouble) => refused(rt, file.as_str(), trouble),
+            Failure::Output(error) => output_failed(rt, error),
+            Failure::Memory => {
+                let _ = eprintln!(rt; "rqlook: resources");
+                MEMORY
+            }
+        }
+    }
+}

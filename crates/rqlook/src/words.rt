@@ -1,0 +1,189 @@
+//! The words of the program.
+
+use clap::{Arg, ArgAction, ArgMatches, Command, Error, value_parser};
+use rq_look::{Subject, Wanted};
+use std::alloc::Global;
+
+/// The kinds of record.
+static KINDS: [&str; 9] = [
+    "define",
+    "register",
+    "deregister",
+    "begin",
+    "enqueue",
+    "dequeue",
+    "commit",
+    "abort",
+    "checkpoint",
+];
+
+fn log<'a>(alloc: Global) -> Arg<'a> {
+    Arg::new(alloc, "LOG")
+        .required(true)
+        .help("The file of the log, or - for standard input")
+}
+
+fn option<'a>(alloc: Global, name: &'a str, value: &'a str, help: &'a str) -> Arg<'a> {
+    Arg::new(alloc, name)
+        .long(name)
+        .value_name(value)
+        .action(ArgAction::Set)
+        .help(help)
+}
+
+fn flag<'a>(alloc: Global, name: &'a str, help: &'a str) -> Arg<'a> {
+    Arg::new(alloc, name)
+        .long(name)
+        .action(ArgAction::SetTrue)
+        .help(help)
+}
+
+fn queue<'a>(alloc: Global, help: &'a str) -> Arg<'a> {
+    option(alloc, "queue", "QUEUE", help).value_parser(value_parser!(u32))
+}
+
+fn workers<'a>(alloc: Global) -> Arg<'a> {
+    option(
+        alloc,
+        "workers",
+        "WORKERS",
+        "How many threads work, 1 to 64",
+    )
+    .value_parser(value_parser!(u32))
+    .default_value("4")
+}
+
+fn selecting<'a>(alloc: Global, command: Command<'a>) -> Result<Command<'a>, Error> {
+    let from = option(
+        alloc,
+        "from",
+        "OFFSET",
+        "Only records at this offset and behind it",
+    );
+    let unit = option(alloc, "unit", "UNIT", "Only records of this unit");
+    let limit = option(alloc, "limit", "COUNT", "At most so many records");
+    let kind = option(alloc, "kind", "KIND", "Only records of this kind");
+    let name = option(
+        alloc,
+        "registrant",
+        "NAME",
+        "Only records that name this registrant",
+    );
+    Ok(
+        command
+            .arg(from.value_parser(value_parser!(u64)))?
+            .arg(unit.value_parser(value_parser!(u64)))?
+            .arg(queue(alloc, "Only records that define or name this queue"))?
+            .arg(name)?
+            .arg(kind.value_parser(KINDS.as_slice()))?
+            .arg(limit.value_parser(value_parser!(u64)))?,
+    )
+}
+
+fn dump<'a>(alloc: Global) -> Result<Command<'a>, Error> {
+    let command = Command::new(alloc, "dump")
+        .about("Shows a line for each record, and where the front ends and why")
+        .arg(log(alloc))?;
+    Ok(
+        selecting(alloc, command)?
+            .arg(flag(alloc, "full", "Shows payloads whole"))?
+            .arg(flag(alloc, "json", "Shows each line as an object of JSON"))?
+            .arg(workers(alloc))?,
+    )
+}
+
+fn check<'a>(alloc: Global) -> Result<Command<'a>, Error> {
+    let quiet = flag(alloc, "quiet", "Says nothing").short('q');
+    Ok(
+        Command::new(alloc, "check")
+            .about("Exits with 0 where the log is whole and each checkpoint true, else with 1")
+            .arg(log(alloc))?
+            .arg(quiet)?
+            .arg(workers(alloc))?,
+    )
+}
+
+fn report<'a>(alloc: Global) -> Result<Command<'a>, Error> {
+    Ok(
+        Command::new(alloc, "report")
+            .about("Shows the report of the log's restart")
+            .arg(log(alloc))?
+            .arg(queue(alloc, "Only this queue"))?
+            .arg(flag(alloc, "json", "Shows the report as JSON"))?
+            .arg(workers(alloc))?,
+    )
+}
+
+fn script<'a>(alloc: Global) -> Result<Command<'a>, Error> {
+    Ok(
+        Command::new(alloc, "script")
+            .about("Shows the script from which rq make makes the log again")
+            .arg(log(alloc))?
+            .arg(workers(alloc))?,
+    )
+}
+
+fn number<'a>(alloc: Global, name: &'a str, help: &'a str) -> Arg<'a> {
+    Arg::new(alloc, name)
+        .required(true)
+        .value_parser(value_parser!(u64))
+        .help(help)
+}
+
+fn story<'a>(alloc: Global) -> Result<Command<'a>, Error> {
+    Ok(
+        Command::new(alloc, "story")
+            .about("Shows what became of one element")
+            .arg(log(alloc))?
+            .arg(number(alloc, "ELEMENT", "The number of the record that put it in"))?
+            .arg(workers(alloc))?,
+    )
+}
+
+fn unit<'a>(alloc: Global) -> Result<Command<'a>, Error> {
+    Ok(
+        Command::new(alloc, "unit")
+            .about("Shows what one unit did, and what became of it")
+            .arg(log(alloc))?
+            .arg(number(alloc, "UNIT", "The number of the unit"))?
+            .arg(workers(alloc))?,
+    )
+}
+
+/// The program's command.
+pub(crate) fn program<'a>(alloc: Global) -> Result<Command<'a>, Error> {
+    Ok(
+        Command::new(alloc, "rqlook")
+            .about("Shows what is in the log of a recoverable queue manager")
+            .version("1.0")
+            .subcommand_required(true)
+            .subcommand(dump(alloc)?)?
+            .subcommand(check(alloc)?)?
+            .subcommand(report(alloc)?)?
+            .subcommand(script(alloc)?)?
+            .subcommand(story(alloc)?)?
+            .subcommand(unit(alloc)?)?,
+    )
+}
+
+/// Which element or unit the words of a story name.
+pub(crate) fn subject_asked(words: &ArgMatches<'_>) -> Subject {
+    match words.get_one::<u64>("UNIT") {
+        Some(unit) => Subject::Unit(unit),
+        None => Subject::Element(words.get_one::<u64>("ELEMENT").unwrap_or(0)),
+    }
+}
+
+/// Which records the words of a dump ask for.
+pub(crate) fn records_asked<'a>(words: &ArgMatches<'a>) -> Wanted<'a> {
+    Wanted {
+        from: words.get_one::<u64>("from").unwrap_or(0),
+        unit: words.get_one::<u64>("unit"),
+        queue: words.get_one::<u32>("queue"),
+        registrant: words.get_str("registrant"),
+        kind: words.get_str("kind"),
+        limit: words.get_one::<u64>("limit").unwrap_or(u64::MAX),
+        full: words.get_flag("full"),
+        json: words.get_flag("json"),
+    }
+}
