@@ -113,14 +113,19 @@ def held_by_one(n: int) -> Script:
     return script
 
 
-def units_between(n: int) -> Script:
-    """Between each two checkpoints a unit takes one element."""
-    script = filled(2 * n)
-    for _ in range(n):
+def take_one_by_one(script: Script, count: int) -> None:
+    """So many units take one element each, with a checkpoint behind each."""
+    for _ in range(count):
         unit = script.begin()
         script.add(f"dequeue {unit} 0 - 0")
         script.commit(unit)
         script.bare()
+
+
+def units_between(n: int) -> Script:
+    """Between each two checkpoints a unit takes one element."""
+    script = filled(2 * n)
+    take_one_by_one(script, n)
     return script
 
 
@@ -178,11 +183,7 @@ def heavy_below_light(n: int) -> Script:
     for _ in range(n):
         script.add(f"enqueue {unit} 0 2 - 0 -")
     script.commit(unit)
-    for _ in range(n):
-        unit = script.begin()
-        script.add(f"dequeue {unit} 0 - 0")
-        script.commit(unit)
-        script.bare()
+    take_one_by_one(script, n)
     return script
 
 
