@@ -194,6 +194,12 @@ def files() -> None:
     check("make a script its own log", (run("make", "made/both", "made/both"), content("made/both")), (DONE, one))
     os.symlink("log", "made/link")
     check("make by a symbolic link", (run("make", "one.script", "made/link"), os.readlink("made/link"), content("made/log")), (DONE, "log", one))
+    os.symlink("later", "made/early")
+    check("make by a symbolic link that names nothing", (run("make", "one.script", "made/early"), os.readlink("made/early"), content("made/later")), (DONE, "later", one))
+    os.symlink("ring", "made/ring")
+    check("make by a ring of symbolic links", (run("make", "one.script", "made/ring"), os.readlink("made/ring")), (WRITE_FAULT, "ring"))
+    for name in ("early", "later", "ring"):
+        os.remove(f"made/{name}")
     check("make into /dev/stdout", run("make", "one.script", "/dev/stdout"), (0, one, b""))
     os.mkfifo("made/pipe")
     taken: list[bytes | None] = []
@@ -223,23 +229,37 @@ def many_queues() -> tuple[bytes, bytes]:
     return script, report
 
 
+def run_within(kibibytes: int, *words: object) -> tuple[int, bytes, bytes]:
+    """How the program ends with so much address space: a shell sets the limit, which Python itself would not outlive."""
+    done = subprocess.run(["sh", "-c", f'ulimit -v {kibibytes}; exec "$@"', "sh", RQ, *map(str, words)], capture_output=True, timeout=60)
+    return done.returncode, done.stdout, done.stderr
+
+
+def least_memory() -> int:
+    """The KiB of address space, to a half MiB, in which a small log is restarted: what the program itself takes here."""
+    for kibibytes in range(1 << 10, 1 << 20, 512):
+        if run_within(kibibytes, "restart", "one.log", 1, 1000) == (0, ONE_ELEMENT_REPORT, b""):
+            return kibibytes
+    raise MemoryError("a small log is not restarted in 1 GiB")
+
+
 def plans() -> None:
     """One log at every number of workers, and with little memory, which what is no log does not need."""
     script, report = many_queues()
     log = log_of(script, "many")
     for workers in range(1, 65):
         check(f"restart with {workers} workers", run("restart", log, workers, 10) == (0, report, b""), True)
-
-    def little_memory() -> None:
-        resource.setrlimit(resource.RLIMIT_AS, (12 << 20, 12 << 20))
-
-    big = put("big.log", (content(log) or b"") + bytes(16 << 20))
+    # room for the program, and for a quarter of the file
+    little = least_memory() + (8 << 10)
+    big = put("big.log", (content(log) or b"") + bytes(32 << 20))
     for line in [["restart", big, 1, 1000], ["restart-at", big, 40, 1, 1000], ["audit", big, 1], ["make", big, "made/big"], ["close", big, "made/big", 1]]:
-        check(f"{line[0]} with little memory", run(*line, preexec_fn=little_memory), RESOURCES)
+        check(f"{line[0]} with little memory", run_within(little, *line), RESOURCES)
     check("a file made with little memory", os.path.exists("made/big"), False)
-    none = put("none.log", bytes(16 << 20))
+    none = put("none.log", bytes(32 << 20))
     for line in [["restart", none, 1, 1000], ["restart-at", none, 40, 1, 1000], ["audit", none, 1]]:
-        check(f"{line[0]} of what is no log, with little memory", run(*line, preexec_fn=little_memory), refused("not a log"))
+        check(f"{line[0]} of what is no log, with little memory", run_within(little, *line), refused("not a log"))
+    for name in (big, none):
+        os.remove(name)
 
 
 THREADS = rb"""
@@ -249,35 +269,82 @@ THREADS = rb"""
 #include <stdlib.h>
 #include <unistd.h>
 
+struct work { void *(*body)(void *); void *argument; };
+
+/* tells that a thread begins (b) or ends (e) */
+static void tell(void *what) {
+    if (write(atoi(getenv("THREADS_TOLD")), what, 1) != 1) abort();
+}
+
+static void *run(void *given) {
+    struct work work = *(struct work *)given;
+    void *result;
+    free(given);
+    pthread_cleanup_push(tell, "e");
+    result = work.body(work.argument);
+    pthread_cleanup_pop(1);
+    return result;
+}
+
 int pthread_create(pthread_t *thread, const pthread_attr_t *attributes, void *(*body)(void *), void *argument) {
     int (*next)(pthread_t *, const pthread_attr_t *, void *(*)(void *), void *) = dlsym(RTLD_NEXT, "pthread_create");
-    return write(atoi(getenv("STARTED")), "t", 1) == 1 ? next(thread, attributes, body, argument) : 11;
+    struct work *work = malloc(sizeof *work);
+    if (work == NULL) return 11;
+    *work = (struct work){body, argument};
+    tell("b");
+    return next(thread, attributes, run, work);
 }
 """
 
 
-def started_by(shim: str, *words: object) -> int:
-    """How many threads the program starts."""
+def threads_of(shim: str, *words: object) -> tuple[int, int]:
+    """How many threads the program starts, and how many of these there are at a time."""
     seen, told = os.pipe()
-    run(*words, env=os.environ | {"LD_PRELOAD": shim, "STARTED": str(told)}, pass_fds=[told])
+    run(*words, env=os.environ | {"LD_PRELOAD": shim, "THREADS_TOLD": str(told)}, pass_fds=[told])
     os.close(told)
     with os.fdopen(seen, "rb") as file:
-        return len(file.read())
+        events = file.read()
+    alive = most = 0
+    for event in events:
+        alive += 1 if event == ord("b") else -1
+        most = max(most, alive)
+    return events.count(b"b"), most
+
+
+def long_log() -> str:
+    """A log of so many bodies, bytes and elements that all that workers share is worth their threads."""
+    script = b"".join(b"define q%d 0 -\n" % q for q in range(96))
+    return log_of(script + b"".join(b"begin %d\nenqueue %d %d 1 - 0 %s\ncommit %d\n" % (u, u, u % 96, b"5a" * 1200, u) for u in range(1, 4001)), "long")
 
 
 def threads() -> None:
-    """How many threads a plan starts: none for one worker, and for more so many that each has its own."""
+    """How many threads a plan starts: none for one worker. For more so many that each has its own, and no more of them at a
+    time; those that check digests, where the grain leaves several pieces, are two for each core at most."""
     compiler = shutil.which("cc") or shutil.which("gcc") or shutil.which("clang")
     if compiler is None:
         print("no C compiler: threads are not counted")
         return
     shim = os.path.abspath("threads.so")
     subprocess.run([compiler, "-O1", "-shared", "-fPIC", put("threads.c", THREADS), "-o", shim, "-ldl", "-lpthread"], check=True)
-    for line in [["make", "many.script", "many.again"], ["restart", "many.log", 1, 1], ["restart-at", "two.log", 447, 1, 1], ["audit", "two.log", 1], ["close", "many.log", "many.closed", 1]]:
-        check(f"threads of {line[0]} with one worker", started_by(shim, *line), 0)
+    long = long_log()
+    for line in [["make", "many.script", "many.again"], ["restart", long, 1, 1], ["restart-at", "two.log", 447, 1, 1], ["audit", "two.log", 1], ["close", long, "long.closed", 1]]:
+        check(f"threads of {line[0]} with one worker", threads_of(shim, *line), (0, 0))
+    pieces = 2 * len(os.sched_getaffinity(0))
     for workers in [2, 3, 4, 5, 8, 16, 64]:
-        started = started_by(shim, "restart", "many.log", workers, 1000000)
-        check(f"threads of a restart with {workers} workers: {started}", workers - 1 <= started, True)
+        others = workers - 1
+        # how many there are at a time the machine's load decides, up to all but the calling one
+        started, most = threads_of(shim, "restart", "many.log", workers, 1000000)
+        check(f"threads of a restart with {workers} workers: {most} at a time", (started, most <= others), (others, True))
+        # decoding, where each part has a thousand bodies; the pass over the records; the redo; the report
+        started, most = threads_of(shim, "restart", long, workers, 1000000)
+        told = f"threads of a long restart with {workers} workers: {most} at a time"
+        check(told, (started, most <= others), (min(others, 15) + 1 + 2 * others, True))
+        more, most = threads_of(shim, "restart", long, workers, 1)
+        told = f"threads of a long restart with {workers} workers and more pieces than one: {more}, {most} at a time"
+        check(told, started + (pieces > 2) <= more < started + pieces and most <= max(others, pieces), True)
+        closing, most = threads_of(shim, "close", long, "long.closed", workers)
+        told = f"threads of a close with {workers} workers: {closing}, {most} at a time"
+        check(told, closing <= min(others, 15) + pieces and most <= max(others, pieces), True)
 
 
 def main() -> None:

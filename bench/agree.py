@@ -8,7 +8,7 @@ from __future__ import annotations
 import os, subprocess
 from common import built_peer, log_of, parsed, parser
 
-SHAPES = ["errors", "wide", "small", "names", "hot", "kib"]
+SHAPES = ["errors", "wide", "small", "names", "hot", "kib", "deep", "kills"]
 PLANS = [("1", "1000"), ("2", "1"), ("3", "1000"), ("7", "1000"), ("64", "1000")]
 
 

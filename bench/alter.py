@@ -2,15 +2,15 @@
 """Alters every numeral, operator, constructor and text of the definitions in crates/rq_model/specs, one at a time, in a
 copy of the crate, and says which alterations the prover accepts.
 
-    bench/alter.py [--copy DIR] [--results FILE] [--only WORD] [--share K/N] [--seconds S] [--list] [--accepted]
+    bench/alter.py [--copy DIR] [--results FILE] [--only WORD] [--share K/N] [--backwards] [--seconds S] [--list] [--accepted]
 
 Each alteration is first held against the worked facts, or, in a chapter of laws, against the function that has the law
 (`rt check --only`, some 4 seconds), and against the whole crate (some 9 seconds) only where these let it through. There
 are about 840 alterations, a third of them of statements of laws. What is known is kept in FILE (one JSON object a line)
 and is not tried again, so a run can be broken off and taken up. `no definition` means that the altered chapter itself is
 ill typed, `no answer` that the prover came to no end. `--only` takes those whose place has the word, `--share K/N` the
-Kth of N shares (each process wants a DIR of its own; FILE may be the same), `--seconds` ends after so many, `--list`
-tries nothing, `--accepted` prints what was accepted so far.
+Kth of N shares (each process wants a DIR of its own; FILE may be the same), `--backwards` begins at the last chapter,
+`--seconds` ends after so many, `--list` tries nothing, `--accepted` prints what was accepted so far.
 
 The chapters of worked facts are left alone, and so are `use` lines, comments and the names of what is declared.
 """
@@ -43,7 +43,7 @@ WORDS = {
 }
 SIGNS = {"+": "-", "-": "+", "/": "%", "%": "/", "<": "≤", "≤": "<", "≡": "≢", "≢": "≡", "&&": "||", "||": "&&", "×": "⊎", "⊎": "×", "↔": "×"}
 TOKEN = re.compile(r'"(?:[^"\\]|\\.)*"|0x[0-9a-f]+|[A-Za-z_][A-Za-z0-9_\'-]*|\d+|&&|\|\||==|\+\+|[-+/%<≤≡≢×⊎↔]')
-LAWS = ("Laws", "LogLaws", "MoveLaws", "Ready")
+LAWS = ("Laws", "LogLaws", "MoveLaws", "Ready", "Closing")
 HOMES = {
     "Rattle.std.specs.List": ("list_any", "list_all"), "Rattle.std.specs.Int": ("w16", "w32", "w64"),
     "Rattle.rq_model.specs.Records": ("One", "Two", "Commit", "Abort", "Register", "Deregister"),
@@ -163,6 +163,7 @@ def main():
     parser.add_argument("--results", type=pathlib.Path, default=pathlib.Path("/tmp/alter.jsonl"))
     parser.add_argument("--only", default="")
     parser.add_argument("--share", default="1/1")
+    parser.add_argument("--backwards", action="store_true")
     parser.add_argument("--seconds", type=int, default=10**9)
     parser.add_argument("--list", action="store_true")
     parser.add_argument("--accepted", action="store_true")
@@ -175,6 +176,8 @@ def main():
         return 0
     share, shares = map(int, args.share.split("/"))
     wanted = [item for item in alterations() if args.only in item[0]][share - 1 :: shares]
+    if args.backwards:
+        wanted.reverse()
     if args.list:
         print("\n".join(item[0] for item in wanted))
         return 0

@@ -1,9 +1,11 @@
 #!/usr/bin/env python3
 """Times closing a log beside restarting it, where 64,000 units are open.
 
-usage: closing.py RQ [--mib N] [--rounds N] [--folder DIR]
+usage: closing.py RQ [--mib N] [--rounds N] [--folder DIR] [--memory DIR]
 Makes two logs, one of long frames and one of short ones, in which no unit ends: so a restart prints no element, and what it takes
-is a restart less its report. Prints the best seconds of each, one after the other in every round, and their ratio.
+is a restart less its report. Each round restarts the log, closes it into the folder that is kept in memory, closes it onto the
+disk of the other folder, and has `dd conv=fsync` write as many bytes there. Prints the best seconds of each, what the two ways to
+close are as multiples of the restart, and last what closing onto the disk is without what `dd` takes: the program's own work.
 """
 from __future__ import annotations
 import hashlib, os, struct
@@ -39,20 +41,43 @@ def log_of(folder: str, mib: int, payload: int) -> str:
     return path
 
 
+class Times:
+    """The best seconds of a restart, of closing into memory and onto the disk, and of writing as many bytes there."""
+
+    def __init__(self) -> None:
+        self.restart = self.memory = self.disk = self.written = float("inf")
+
+    def round(self, program: str, log: str, workers: str, folder: str, memory: str) -> None:
+        on_disk, in_memory = os.path.join(folder, "closed"), os.path.join(memory, "closed")
+        self.restart = min(self.restart, seconds([program, "restart", log, workers, "1000"])[0])
+        self.memory = min(self.memory, seconds([program, "close", log, in_memory, workers])[0])
+        self.disk = min(self.disk, seconds([program, "close", log, on_disk, workers])[0])
+        os.remove(on_disk)
+        self.written = min(self.written, seconds(["dd", f"if={in_memory}", f"of={on_disk}", "bs=1M", "conv=fsync"])[0])
+        os.remove(on_disk)
+        os.remove(in_memory)
+
+    def line(self) -> str:
+        return (f"restart {self.restart:.2f} s, close into memory {self.memory:.2f} s ({self.memory / self.restart:.2f}), "
+                f"onto disk {self.disk:.2f} s ({self.disk / self.restart:.2f}), dd {self.written:.2f} s, "
+                f"onto disk less dd {(self.disk - self.written) / self.restart:.2f}")
+
+
 def main() -> None:
     words = parser()
     words.add_argument("--mib", type=int, default=128)
     words.add_argument("--rounds", type=int, default=5)
+    words.add_argument("--memory", default="/dev/shm/rq-bench")
     options = parsed(words)
-    out = os.path.join(options.folder, "closed")
+    os.makedirs(options.memory, exist_ok=True)
     for payload in (2000, 10):
         log = log_of(options.folder, options.mib, payload)
         for workers in ("1", "2", "4"):
-            restart = close = float("inf")
+            times = Times()
             for _ in range(options.rounds):
-                restart = min(restart, seconds([options.program, "restart", log, workers, "1000"])[0])
-                close = min(close, seconds([options.program, "close", log, out, workers])[0])
-            print(f"{options.mib} MiB, payloads of {payload} bytes, {workers} workers: restart {restart:.2f} s, close {close:.2f} s, ratio {close / restart:.2f}", flush=True)
+                times.round(options.program, log, workers, options.folder, options.memory)
+            print(f"{options.mib} MiB, payloads of {payload} bytes, {workers} workers: {times.line()}", flush=True)
+    os.rmdir(options.memory)
 
 
 if __name__ == "__main__":

@@ -2,8 +2,9 @@
 """Damages logs of the peer, restarts each with the program at several plans and with the peer, and counts reports that differ.
 
 usage: damaged.py RQ [--damages N] [--mib N] [--folder DIR]
-Each log is cut, has one bit turned, or gets a body that is no record, one that is not lawful, or both, at places drawn
-evenly; behind a changed body all digests are made anew, so that the chain holds and the body itself ends the front.
+Each log is cut, has one bit turned, or gets a body that is no record, one that is not lawful, both, or a KILL (no record in
+version 1), at places drawn evenly; behind a changed body all digests are made anew, so that the chain holds and the body
+itself ends the front.
 """
 from __future__ import annotations
 import hashlib, os, random
@@ -14,6 +15,7 @@ from common import built_peer, log_of, parsed, parser
 HEADER = 40
 NO_RECORD = b"\0" * 9
 UNLAWFUL = b"\7" + b"\xff" * 8  # the COMMIT of a unit that was never begun
+KILL = b"\x0a" + bytes(12)
 
 
 def bodies_of(log: bytes) -> list[bytes]:
@@ -54,6 +56,7 @@ DAMAGES = {
     "no record": lambda log, draw: with_bodies(log, draw, NO_RECORD),
     "not lawful": lambda log, draw: with_bodies(log, draw, UNLAWFUL),
     "both": lambda log, draw: with_bodies(log, draw, NO_RECORD, UNLAWFUL),
+    "a kill": lambda log, draw: with_bodies(log, draw, KILL),
 }
 
 

@@ -69,6 +69,18 @@ int fsync(int file) {
   return is_wrong() ? wrong() : next(file);
 }
 
+ssize_t readlink(const char *path, char *out, size_t count) {
+  static ssize_t (*next)(const char *, char *, size_t);
+  if (!next) next = dlsym(RTLD_NEXT, "readlink");
+  return is_wrong() ? wrong() : next(path, out, count);
+}
+
+int chown(const char *path, uid_t owner, gid_t group) {
+  static int (*next)(const char *, uid_t, gid_t);
+  if (!next) next = dlsym(RTLD_NEXT, "chown");
+  return is_wrong() ? wrong() : next(path, owner, group);
+}
+
 int fchmod(int file, mode_t mode) {
   static int (*next)(int, mode_t);
   if (!next) next = dlsym(RTLD_NEXT, "fchmod");

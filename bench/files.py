@@ -1,20 +1,34 @@
 #!/usr/bin/env python3
-"""Ends `rq make` at every place where a file can fail, and counts what it leaves otherwise than it must.
+"""Ends `rq make` and `rq close` at every place where a file can fail, and counts what they leave otherwise than they must.
 
 usage: files.py RQ [--folder DIR]
-The file that is made must be there as it was before, or whole and new; new wherever the program says that all went well, and
-beside it nothing may be left. Only a run that was killed may leave the file that it was writing, `LOG.rq0`, and then the next
-run must do its work all the same. RQ is the built program itself.
+The file that is made must be there as it was before, or whole and new; new wherever the program says that all went well, with
+the mode that it had and, for root, its owner and group, and beside it nothing may be left. Only a run that was killed may leave
+the file that it was writing, `LOG.rq0`, which others may not read who may not read the old one, and then the next run must do
+its work all the same. A symbolic link stays one, also where it named nothing. RQ is the built program itself. Ends with status
+1 where something is wrong, or where no call on a file was met.
 """
 from __future__ import annotations
-import os, resource, shutil, signal, subprocess, sys
+import os, resource, shutil, signal, stat, subprocess, sys
+from typing import NamedTuple
 
 from common import HERE, parsed, parser
 
 NOBODY = 65534
-SCRIPT = os.path.join(HERE, "..", "examples", "error-queue.script")
+EXAMPLES = os.path.join(HERE, "..", "examples")
+# The bytes of the last frame of the log of `checkpoint.script`, a COMMIT.
+COMMIT_FRAME = 45
+OLD_MODE = 0o640
+OWN_MODE = 0o600
 
 wrong = 0
+
+
+class Work(NamedTuple):
+    """A command with `{log}` for the file that it makes, and what it makes."""
+    name: str
+    words: list[str]
+    new: bytes
 
 
 def content(path: str) -> bytes | None:
@@ -34,10 +48,11 @@ def told(case: str, what: str) -> None:
 class Room:
     """A folder with the file that is to be made, or without it, and perhaps a symbolic link to it."""
 
-    def __init__(self, folder: str, old: bytes | None, name: str):
-        self.folder, self.old, self.name = os.path.join(folder, "room"), old, name
+    def __init__(self, program: str, folder: str, work: Work, old: bytes | None, name: str):
+        self.program, self.work, self.old, self.name = program, work, old, name
+        self.folder = os.path.join(folder, "room")
         self.log = os.path.join(self.folder, "log")
-        self.anew()
+        self.case = f"{work.name}, {'a file' if old is not None else 'no file'} before, by {name}"
 
     def anew(self) -> None:
         if os.path.isdir(self.folder):
@@ -47,109 +62,152 @@ class Room:
         if self.old is not None:
             with open(self.log, "wb") as file:
                 file.write(self.old)
+            if os.geteuid() == 0:
+                os.chown(self.log, NOBODY, NOBODY)
+            os.chmod(self.log, OLD_MODE)
         if self.name != "log":
             os.symlink("log", os.path.join(self.folder, self.name))
 
-    def make(self, program: str, **options: object) -> int:
-        words = [program, "make", SCRIPT, os.path.join(self.folder, self.name)]
-        return subprocess.run(words, stdout=subprocess.DEVNULL, stderr=subprocess.DEVNULL, timeout=60, **options).returncode
+    def run(self, **options: object) -> int:
+        words = [word.format(log=os.path.join(self.folder, self.name)) for word in self.work.words]
+        return subprocess.run([self.program, *words], stdout=subprocess.DEVNULL, stderr=subprocess.DEVNULL, timeout=60, **options).returncode
 
-    def look(self, case: str, status: int, new: bytes, left: set[str] = set()) -> None:
+    def look(self, what: str, status: int, left: set[str] = set()) -> None:
         """What stands in the folder after a run that ended with this status."""
-        has = content(self.log)
+        case = f"{self.case}, {what}"
+        has, new = content(self.log), self.work.new
         if has not in (self.old, new):
             told(case, f"the file has {len(has or b'')} bytes, neither the {len(self.old or b'')} old ones nor the {len(new)} new ones")
         if status == 0 and has != new:
             told(case, "status 0, and the file is not the new one")
         if status not in (0, 3, -signal.SIGKILL):
             told(case, f"status {status}")
+        if self.old is not None and has is not None and stat.S_IMODE(os.stat(self.log).st_mode) != OLD_MODE:
+            told(case, "another mode")
         others = set(os.listdir(self.folder)) - {"log", self.name} - left
         if others:
             told(case, f"left in the folder: {sorted(others)}")
+        for name in left & set(os.listdir(self.folder)):
+            self.look_at_left(case, os.path.join(self.folder, name))
         if self.name != "log" and not os.path.islink(os.path.join(self.folder, self.name)):
             told(case, "the symbolic link is gone")
 
+    def look_at_left(self, case: str, path: str) -> None:
+        """A file that a killed run was writing is its owner's alone, until it is given to the owner of the old one."""
+        found = os.stat(path)
+        mode = stat.S_IMODE(found.st_mode)
+        given = os.geteuid() != 0 or (found.st_uid, found.st_gid) == (NOBODY, NOBODY)
+        if self.old is not None and mode != OWN_MODE and not (mode == OLD_MODE and given):
+            told(case, f"{os.path.basename(path)} has the mode {mode:o}")
 
-def rooms(folder: str, old: bytes) -> list[Room]:
-    return [Room(folder, old, "log"), Room(folder, None, "log"), Room(folder, old, "link")]
+    def whole(self) -> None:
+        """A run that nothing disturbs."""
+        self.anew()
+        status = self.run()
+        self.look("undisturbed", status)
+        if status != 0:
+            sys.exit(f"{self.case}: ends with {status}")
+        found = os.stat(self.log)
+        if self.old is not None and os.geteuid() == 0 and (found.st_uid, found.st_gid) != (NOBODY, NOBODY):
+            told(self.case, "another owner or group")
+
+    def short_files(self) -> int:
+        """A limit on the size of files, at every eleventh byte of the log."""
+        for limit in range(0, len(self.work.new) + 11, 11):
+
+            def small() -> None:
+                signal.signal(signal.SIGXFSZ, signal.SIG_IGN)
+                resource.setrlimit(resource.RLIMIT_FSIZE, (limit, limit))
+
+            self.anew()
+            status = self.run(preexec_fn=small)
+            self.look(f"files of {limit} bytes", status)
+            if (status == 0) != (len(self.work.new) <= limit):
+                told(f"{self.case}, files of {limit} bytes", f"status {status}")
+        return len(self.work.new) // 11 + 1
+
+    def faults(self, shim: str, how: str) -> int:
+        """Each call that has to do with files fails in turn, or is the last one before the process is killed."""
+        number = 0
+        while True:
+            self.anew()
+            seen, tells = os.pipe()
+            asked = {"LD_PRELOAD": shim, "FAULT": str(number + 1), "FAULT_HOW": how, "FAULT_TOLD": str(tells)}
+            status = self.run(env=os.environ | asked, pass_fds=[tells])
+            os.close(tells)
+            with os.fdopen(seen, "rb") as file:
+                if not file.read():
+                    return number
+            number += 1
+            what = f"call {number} {how}"
+            self.look(what, status, {"log.rq0"} if how == "kills" else set())
+            if how == "kills":
+                if status != -signal.SIGKILL:
+                    told(f"{self.case}, {what}", f"status {status}")
+                again = self.run()
+                self.look(what + ", and again", again, {"log.rq0"})
+                if again != 0:
+                    told(f"{self.case}, {what}", f"the next run ends with {again}")
+
+    def forbidden(self) -> int:
+        """A folder in which no file may be made."""
+        self.anew()
+
+        def as_nobody() -> None:
+            if os.geteuid() == 0:
+                os.setgroups([])
+                os.setgid(NOBODY)
+                os.setuid(NOBODY)
+
+        os.chmod(self.folder, 0o555)
+        status = self.run(preexec_fn=as_nobody)
+        self.look("a folder without permission", status)
+        if status != 3:
+            told(f"{self.case}, a folder without permission", f"status {status}")
+        os.chmod(self.folder, 0o755)
+        return 1
 
 
-def short_files(program: str, room: Room, new: bytes) -> int:
-    """A limit on the size of files, at every eleventh byte of the log."""
-    for limit in range(0, len(new) + 11, 11):
-
-        def small() -> None:
-            signal.signal(signal.SIGXFSZ, signal.SIG_IGN)
-            resource.setrlimit(resource.RLIMIT_FSIZE, (limit, limit))
-
-        room.anew()
-        status = room.make(program, preexec_fn=small)
-        room.look(f"files of {limit} bytes", status, new)
-        if (status == 0) != (len(new) <= limit):
-            told(f"files of {limit} bytes", f"status {status}")
-    return len(new) // 11 + 1
+def made(program: str, words: list[str], path: str) -> bytes:
+    """What a command puts into a file."""
+    subprocess.run([program, *(word.format(log=path) for word in words)], check=True)
+    with open(path, "rb") as file:
+        return file.read()
 
 
-def faults(program: str, shim: str, room: Room, new: bytes, how: str) -> int:
-    """Each call that has to do with files fails in turn, or is the last one before the process is killed."""
-    number = 0
-    while True:
-        room.anew()
-        seen, tells = os.pipe()
-        status = room.make(program, env=os.environ | {"LD_PRELOAD": shim, "FAULT": str(number + 1), "FAULT_HOW": how, "FAULT_TOLD": str(tells)}, pass_fds=[tells])
-        os.close(tells)
-        with os.fdopen(seen, "rb") as file:
-            if not file.read():
-                return number
-        number += 1
-        case = f"call {number} {how}, {'a file' if room.old else 'no file'} before, by {room.name}"
-        room.look(case, status, new, {"log.rq0"} if how == "kills" else set())
-        if how == "kills":
-            if status != -signal.SIGKILL:
-                told(case, f"status {status}")
-            again = room.make(program)
-            room.look(case + ", and again", again, new, {"log.rq0"})
-            if again != 0:
-                told(case, f"the next run ends with {again}")
-
-
-def forbidden(program: str, room: Room, new: bytes) -> int:
-    """A folder in which no file may be made."""
-    room.anew()
-
-    def as_nobody() -> None:
-        if os.geteuid() == 0:
-            os.setgroups([])
-            os.setgid(NOBODY)
-            os.setuid(NOBODY)
-
-    os.chmod(room.folder, 0o555)
-    status = room.make(program, preexec_fn=as_nobody)
-    room.look("a folder without permission", status, new)
-    if status != 3:
-        told("a folder without permission", f"status {status}")
-    os.chmod(room.folder, 0o755)
-    return 1
+def rooms(program: str, folder: str) -> list[Room]:
+    """Each command, over a file and over none, by its name and by a link."""
+    script = os.path.join(EXAMPLES, "error-queue.script")
+    opened, out = os.path.join(folder, "open.log"), os.path.join(folder, "made.log")
+    log = made(program, ["make", os.path.join(EXAMPLES, "checkpoint.script"), "{log}"], out)[:-COMMIT_FRAME]
+    with open(opened, "wb") as file:
+        file.write(log)
+    make, close = ["make", script, "{log}"], ["close", opened, "{log}", "2"]
+    works = [Work("make", make, made(program, make, out)), Work("close", close, made(program, close, out))]
+    os.remove(out)
+    old = b"the file of before\n" * 200
+    found = [Room(program, folder, work, before, name) for work in works for before in (old, None) for name in ("log", "link")]
+    itself = Work("close over itself", ["close", "{log}", "{log}", "2"], works[1].new)
+    return found + [Room(program, folder, itself, log, name) for name in ("log", "link")]
 
 
 def main() -> None:
     options = parsed(parser())
     program = os.path.abspath(options.program)
+    os.umask(0o022)
     shim = os.path.join(options.folder, "fault.so")
     subprocess.run(["cc", "-O2", "-shared", "-fPIC", os.path.join(HERE, "fault.c"), "-o", shim, "-ldl"], check=True)
-    first = Room(options.folder, None, "log")
-    if first.make(program) != 0:
-        sys.exit("the log is not made")
-    new = content(first.log) or b""
-    old = b"the file of before\n" * 200
-    for room in rooms(options.folder, old):
-        tried = short_files(program, room, new) + forbidden(program, room, new)
-        tried += sum(faults(program, shim, room, new, how) for how in ("fails", "kills"))
-        print(f"{'a file' if room.old else 'no file'} before, by {room.name}: {tried} runs that are refused or killed")
-    full = subprocess.run([program, "make", SCRIPT, "/dev/full"], capture_output=True)
+    for room in rooms(program, options.folder):
+        room.whole()
+        refused = room.short_files() + room.forbidden()
+        fails, kills = room.faults(shim, "fails"), room.faults(shim, "kills")
+        if not fails or not kills:
+            told(room.case, "no call on a file was met: is RQ the built program itself?")
+        print(f"{room.case}: {refused} limits, {fails} calls that fail, {kills} kills", flush=True)
+    full = subprocess.run([program, "make", os.path.join(EXAMPLES, "error-queue.script"), "/dev/full"], capture_output=True)
     if (full.returncode, full.stderr) != (3, b"rq: write fault\n"):
         told("/dev/full", f"status {full.returncode}")
-    shutil.rmtree(first.folder)
+    shutil.rmtree(os.path.join(options.folder, "room"))
     print(f"{wrong} wrong")
     sys.exit(wrong != 0)
 

@@ -55,6 +55,10 @@ def checkpoint(told: bytes) -> bytes:
     return b"\x09" + told
 
 
+def kill(queue: int, element: int) -> bytes:
+    return b"\x0a" + struct.pack(">IQ", queue, element)
+
+
 def spelled(counts: tuple[int, int, int, int], queues: list[bytes], elements: list[tuple[int, bytes]]) -> bytes:
     """A state whose elements are Free in queue 0, with priority 5 and no attempt."""
     definitions = b"".join(struct.pack(">HIB", 0, NO_QUEUE, len(name)) + name for name in queues)
@@ -266,15 +270,64 @@ def wide_checkpoints(n: int) -> Records:
     yield from itertools.repeat(checkpoint(b"j"), n)
 
 
+def chained(n: int) -> Records:
+    """4,096 queues, each the error queue of the next, and elements that fall through all of them, one after the other."""
+    yield define(b"q0")
+    yield from (define(b"q%d" % queue, 1, queue - 1) for queue in range(1, 4096))
+    unit = 0
+    for _ in range(1 + n // (3 * 4096)):
+        yield begin(unit := unit + 1)
+        yield enqueue(unit, 4095)
+        yield commit(unit)
+        for queue in range(4095, 0, -1):
+            yield begin(unit := unit + 1)
+            yield dequeue(unit, queue)
+            yield abort(unit)
+
+
+def all_killed(n: int) -> Records:
+    """Many elements, and a KILL for each, the last one first."""
+    yield define(b"jobs")
+    yield begin(1)
+    yield from itertools.repeat(enqueue(1, 0), n // 2)
+    yield commit(1)
+    yield from (kill(0, 1 + n // 2 - at) for at in range(n // 2))
+
+
+def none_killed(n: int) -> Records:
+    """Many elements, held by one unit, and KILLs of these, of what was never there and of the first record."""
+    yield define(b"jobs")
+    yield begin(1)
+    yield from itertools.repeat(enqueue(1, 0), n // 4)
+    yield commit(1)
+    yield begin(2)
+    yield from itertools.repeat(dequeue(2, 0), n // 4)
+    yield from itertools.chain.from_iterable((kill(0, 2 + at), kill(0, n + at), kill(0, 0)) for at in range(n // 6))
+
+
+def killed_and_new(n: int) -> Records:
+    """Elements that are killed as soon as they are Free, in 4,096 queues in turn."""
+    yield from (define(b"q%d" % queue) for queue in range(4096))
+    place = 4096
+    for unit in range(1, n // 4):
+        queue = unit % 4096
+        yield begin(unit)
+        yield enqueue(unit, queue)
+        yield commit(unit)
+        yield kill(queue, place + 1)
+        place += 4
+
+
 RESTARTED = [open_units, one_unit, units_in_turn, one_registrant, strangers_go, noted_and_gone, last_go_first]
 RESTARTED += [retried, all_retried, moved, all_moved, all_queues, spread]
 AUDITED = [true_checkpoints, false_checkpoints, junk_checkpoints, empty_checkpoints, counting_checkpoints, one_told, wide_checkpoints]
-SHAPES = {shape.__name__: shape for shape in RESTARTED + AUDITED}
+IN_VERSION_TWO = [chained, all_killed, none_killed, killed_and_new]
+SHAPES = {shape.__name__: shape for shape in RESTARTED + IN_VERSION_TWO + AUDITED}
 
 
-def write_log(path: str, records: Records):
+def write_log(path: str, version: int, records: Records):
     """The header, and a frame for each record."""
-    head = b"RQLOG\0\0\x01"
+    head = b"RQLOG\0\0" + bytes([version])
     before = hashlib.sha256(head).digest()
     with open(path, "wb") as log:
         log.write(head + before)
@@ -314,7 +367,7 @@ class Tried:
 
     def __init__(self, options, peer: str, name: str, records: int):
         self.log = log = os.path.join(options.folder, f"{name}.{records}")
-        write_log(log, SHAPES[name](records))
+        write_log(log, 2 if SHAPES[name] in IN_VERSION_TWO else 1, SHAPES[name](records))
         self.bytes = os.path.getsize(log)
         workers = str(options.workers)
         self.peer = Timed([peer, "restart", log], options.limit)

@@ -1,21 +1,24 @@
 #!/usr/bin/env python3
-"""Holds what `rqlook` shows against what `rq` says, over many logs, and counts what differs.
+"""Holds what `rqlook` shows against what `rq` says and what the log's bytes are, over many logs, and counts what differs.
 
-usage: look.py RQ RQLOOK [--seeds N] [--stories N] [--mib N] [--speed MIB] [--folder DIR]
+usage: look.py RQ RQLOOK [--seeds N] [--stories N] [--mib N] [--scripts N] [--speed MIB] [--folder DIR]
 For each shape and seed of the peer's logs: the report as JSON is parsed and written as text again, and compared with `rq restart`;
-the lines of each queue alone with those of the whole; the script is made a log again by `rq make`, and compared byte by byte; the
-dump as JSON is compared with the log's bodies; `check` with `rq audit`; the stories of some elements with the report. Then a small
-log is damaged in each of the six ways, and what the dump says of its end is compared. With --speed, a dump and a check of a log of
-so many MiB are timed beside a restart and an audit.
+the lines of each queue alone with those of the whole; the script is made a log again by `rq make`, and compared byte by byte; each
+line of a dump, whole and by each option, as text and as JSON, with what is made of the log's bytes here (looked.py); so are the
+stories of some elements and units; `check` is compared with `rq audit`, and the page with the report. Then a small log is damaged in
+each of the six ways, and what the dump says of its end is compared; odd payloads are shown; and wrong words, a missing file, a closed
+output and refused memory are tried. With --scripts, so many more logs are made, told as scripts and made again. With --speed, a dump
+and a check of a log of so many MiB are timed beside a restart and an audit.
 """
 from __future__ import annotations
-import json, os, random, subprocess, sys
+import json, os, random, resource, subprocess, sys
+from html.parser import HTMLParser
 
 from agree import SHAPES
 from common import built_peer, log_of, parsed, parser, seconds
 from damaged import HEADER, NO_RECORD, UNLAWFUL, bodies_of, chained
+from looked import Stories, compact, line_of, records_of, shown
 
-KINDS = ["", "define", "register", "deregister", "begin", "enqueue", "dequeue", "commit", "abort", "checkpoint"]
 compared = differing = 0
 
 
@@ -63,7 +66,7 @@ def by_queue(text: str) -> list[str]:
     return queues
 
 
-def same_reports(rq: str, look: str, log: str, draw: random.Random) -> str:
+def same_reports(rq: str, look: str, log: str, draw: random.Random) -> None:
     _, want = told(rq, "restart", log, "4", "1000")
     check(f"{log} as text", told(look, "report", log), (0, want))
     check(f"{log} as JSON", text_of(json.loads(told(look, "report", log, "--json")[1])), want)
@@ -72,31 +75,48 @@ def same_reports(rq: str, look: str, log: str, draw: random.Random) -> str:
         check(f"{log}, queue {number}", told(look, "report", log, "--queue", str(number))[1], queues[number])
         one = json.loads(told(look, "report", log, "--json", "--queue", str(number))[1])
         check(f"{log}, queue {number} as JSON", by_queue(text_of(one)), [queues[number]])
-    return want
 
 
 def same_script(rq: str, look: str, log: str, folder: str) -> None:
     script, made = os.path.join(folder, "look.script"), os.path.join(folder, "look.log")
     with open(script, "wb") as to:
         check(f"{log}'s script", subprocess.run([look, "script", log], stdout=to).returncode, 0)
-    subprocess.run([rq, "make", script, made], check=True)
+    with open(log, "rb") as source:
+        version = source.read(8)[7]
+    subprocess.run([rq, "make2" if version == 2 else "make", script, made], check=True)
     check(f"{log} of its script", subprocess.run(["cmp", "-s", log, made]).returncode, 0)
 
 
-def same_dump(look: str, log: str) -> None:
-    """Compares the place, the kind and the payload of each record, and the number of lines of the dump as text."""
-    with open(log, "rb") as source:
-        bodies = bodies_of(source.read())
-    lines = told(look, "dump", log, "--json")[1].splitlines()
-    check(f"{log}'s lines", len(lines), len(bodies) + 1)
-    check(f"{log}'s lines as text", told(look, "dump", log)[1].count("\n"), len(bodies) + 1)
-    at, wrong = HEADER, 0
-    for number, (line, body) in enumerate(zip(lines, bodies)):
-        it = json.loads(line)
-        shown = bytes.fromhex(it.get("payload", {}).get("hex", ""))
-        wrong += (it["offset"], it["record"], it["kind"]) != (at, number, KINDS[body[0]]) or not body.endswith(shown)
-        at += 36 + len(body)
-    check(f"{log}'s records that are shown wrong", wrong, 0)
+def wanted_by(draw: random.Random, records: list[dict]) -> list[tuple[list[str], list[dict]]]:
+    """Each option of a dump with a value that some record has, two of them together, and the records that fit."""
+    chosen = {field: draw.choice([it for it in records if field in it])[field]
+              for field in ("unit", "queue", "registrant", "kind") if any(field in it for it in records)}
+    found = [([f"--{field}", str(value)], [it for it in records if it.get(field) == value]) for field, value in chosen.items()]
+    start = draw.choice(records)["offset"] - draw.randrange(2)
+    behind = [it for it in records if it["offset"] >= start]
+    found.append((["--from", str(start)], behind))
+    found.append((["--limit", "3"], records[:3]))
+    both = [it for it in behind if it["kind"] == "enqueue"]
+    found.append((["--from", str(start), "--kind", "enqueue", "--limit", "2"], both[:2]))
+    return found
+
+
+def same_lines(look: str, log: str, words: list[str], records: list[dict], closing: tuple[str, dict]) -> None:
+    """A dump with these options as JSON, as text and as text in full."""
+    as_json = [compact(it) for it in records] + [compact(closing[1])]
+    check(f"{log} {words} as JSON", told(look, "dump", log, "--json", *words), (0, "\n".join(as_json) + "\n"))
+    for full in ([], ["--full"]):
+        want = [line_of(it, bool(full)) for it in records] + [closing[0]]
+        check(f"{log} {words} {full}", told(look, "dump", log, *words, *full), (0, "\n".join(want) + "\n"))
+
+
+def same_dump(look: str, log: str, records: list[dict], draw: random.Random) -> None:
+    """Compares each line of the dump, of all records and of those that an option asks for."""
+    size, count = os.path.getsize(log), len(records)
+    line = f"front ends behind {count} records, at {size} of {size} bytes, whole: nothing follows"
+    front = {"records": count, "used": size, "total": size, "why": "whole", "reason": "nothing follows"}
+    for words, wanted in [([], records)] + wanted_by(draw, records):
+        same_lines(look, log, words, wanted, (line, {"front": front}))
 
 
 def same_check(rq: str, look: str, log: str) -> None:
@@ -108,30 +128,72 @@ def same_check(rq: str, look: str, log: str) -> None:
     check(f"{log}'s findings, not said", told(look, "check", log, "-q"), (status, ""))
 
 
-def ending(story: str) -> str:
-    """Where the last line of a story that is of its element leaves it."""
-    last = [line for line in story.splitlines() if not line.startswith("front ends")][-1]
-    words = last.rsplit(": ", 1)[1].split()
-    if "free" in words or "moves" in words:
-        return f"free {words[words.index('queue') + 1]} 0"
-    if "back" in words:
-        return f"free {words[words.index('queue') + 1].rstrip(',')} {words[-1]}"
-    return "gone"
+def same_stories(look: str, log: str, records: list[dict], count: int, draw: random.Random) -> None:
+    """The stories of some elements and some units, among them the last ones, which may be open."""
+    stories = Stories(records, os.path.getsize(log))
+    for subject, word, told_of in (("element", "story", stories.elements), ("unit", "unit", stories.units)):
+        numbers = sorted(told_of)
+        for it in draw.sample(numbers, min(count, len(numbers))) + numbers[-3:]:
+            check(f"{log}, the story of {subject} {it}", told(look, word, log, str(it)), (0, stories.of(subject, it)))
+    check(f"{log}, the story of no element", told(look, "story", log, str(len(records))), (1, ""))
 
 
-def same_stories(look: str, log: str, report: str, count: int, draw: random.Random) -> None:
-    found = {}
-    for number, lines in enumerate(by_queue(report)):
-        for line in lines.splitlines():
-            if line.startswith("e "):
-                words = line.split()
-                found[words[1]] = f"free {number} {words[7]}"
-    with open(log, "rb") as source:
-        elements = [str(number) for number, body in enumerate(bodies_of(source.read())) if body[0] == 5]
-    chosen = draw.sample(elements, min(count, len(elements))) + draw.sample(sorted(found), min(count, len(found)))
-    for element in chosen:
-        status, story = told(look, "story", log, element)
-        check(f"{log}, the story of {element}", (status, ending(story)), (0, found.get(element, "gone")))
+class Page(HTMLParser):
+    """The tags of a page, and the texts of its tables' cells, row by row."""
+
+    def __init__(self) -> None:
+        super().__init__()
+        self.tags: set[str] = set()
+        self.words: set[str] = set()
+        self.rows: list[list[str]] = []
+        self.inside = False
+
+    def handle_starttag(self, tag: str, attrs: list[tuple[str, str | None]]) -> None:
+        self.tags.add(tag)
+        self.words.update(name for name, _ in attrs)
+        if tag == "tr":
+            self.rows.append([])
+        if tag == "td":
+            self.rows[-1].append("")
+        self.inside = tag == "td" or self.inside and tag != "tr"
+
+    def handle_endtag(self, tag: str) -> None:
+        self.inside = self.inside and tag != "td"
+
+    def handle_data(self, data: str) -> None:
+        if self.inside and self.rows and self.rows[-1]:
+            self.rows[-1][-1] += data
+
+
+TAGS = {"html", "head", "meta", "title", "style", "body", "h1", "h2", "p", "bdi", "table", "tr", "th", "td", "svg", "g", "rect", "path",
+        "div", "span", "ul", "li", "details", "summary"}
+WORDS = {"lang", "charset", "http-equiv", "content", "name", "class", "colspan", "viewbox", "preserveaspectratio", "role", "x", "y", "width",
+         "height", "d"}
+
+
+def page_of(look: str, log: str) -> Page:
+    status, text = told(look, "page", log, "-")
+    page = Page()
+    page.feed(text)
+    check(f"{log}'s page has other parts", (status, page.tags - TAGS, page.words - WORDS), (0, set(), set()))
+    return page
+
+
+TURNING = dict.fromkeys([0x200e, 0x200f, 0x61c, *range(0x202a, 0x202f), *range(0x2066, 0x206a)], "\ufffd")
+
+
+def same_page(look: str, log: str) -> None:
+    """The rows of the page's queues, elements and registrants against the report."""
+    report, page = json.loads(told(look, "report", log, "--json")[1]), page_of(look, log)
+    rows = [row for row in page.rows if len(row) in (4, 5, 7)]
+    want = []
+    for queue in report["queues"]:
+        want.append([str(queue["number"]), queue["name"], str(queue["limit"]), or_dash(queue["error"]), str(len(queue["elements"]))])
+        want += [[str(e["id"]), str(e["from"]), str(e["priority"]), str(e["attempts"]), shown(e["payload"], False).translate(TURNING)]
+                 for e in queue["elements"][:1000]]
+        want += [[r["name"]] + ([r["last"]["kind"], str(r["last"]["tag"]), or_dash(r["last"]["element"])] if r["last"] else ["-", "", ""])
+                 for r in queue["registrants"]]
+    check(f"{log}'s page", [row[:5] if len(row) == 7 else row for row in rows], want)
 
 
 def damages(log: bytes) -> list[tuple[str, str, bytes]]:
@@ -166,6 +228,59 @@ def reasons(rq: str, look: str, log: str, folder: str) -> None:
         same_check(rq, look, path)
 
 
+ODD = ["<script>alert(1)</script>", "</td></table>", "&amp; \" ' \\", "\u202egnp.exe", "\u4e2d" * 20, "\u4e2d" * 32, "\u4e2d" * 33, "x" * 32, "x" * 33,
+       "a\tb", "\x7f", ""]
+
+
+def odd_payloads(rq: str, look: str, folder: str) -> None:
+    """Payloads that look like HTML, that have characters of many bytes, or that are no text."""
+    script, log = os.path.join(folder, "odd.script"), os.path.join(folder, "odd.log")
+    payloads = [text.encode() for text in ODD] + [b"\xff" * 32, b"\xff" * 33]
+    lines = ["define jobs 0 -", "begin 1"] + [f"enqueue 1 0 5 - 0 {payload.hex() or '-'}" for payload in payloads] + ["commit 1"]
+    with open(script, "w", encoding="utf-8") as to:
+        to.write("\n".join(lines) + "\n")
+    subprocess.run([rq, "make", script, log], check=True)
+    with open(log, "rb") as source:
+        records = records_of(bodies_of(source.read()))
+    same_dump(look, log, records, random.Random(2))
+    same_stories(look, log, records, 20, random.Random(3))
+    same_page(look, log)
+
+
+def said(*words: str | bytes, **how: object) -> tuple[int, str]:
+    done = subprocess.run(words, stdout=subprocess.DEVNULL, stderr=subprocess.PIPE, **how)
+    return done.returncode, done.stderr.decode(errors="replace")
+
+
+def refusals(look: str, log: str, folder: str) -> None:
+    """What ends the program before it is done: its status, and what it says."""
+    check("words that are no text", said(look, "dump", b"\xff")[0], 2)
+    check("no command", said(look, "show", log)[0], 2)
+    check("65 workers", said(look, "check", log, "--workers", "65"), (2, "rqlook: workers are 1 to 64\n"))
+    check("no file", said(look, "dump", "/no/such"), (3, "rqlook: /no/such: No such file or directory (os error 2)\n"))
+    check("no log", said(look, "dump", look), (1, f"rqlook: {look}: not a log\n"))
+    check("a page nowhere", said(look, "page", log, "/no/such"), (3, "rqlook: /no/such: No such file or directory (os error 2)\n"))
+    check("a page over its log", said(look, "page", log, os.path.join(folder, ".", os.path.basename(log)))[0], 2)
+    check("the version", told(look, "--version")[0], 0)
+    little = lambda: resource.setrlimit(resource.RLIMIT_AS, (48 << 20, 48 << 20))
+    big = os.path.join(folder, "look.big")
+    with open(big, "wb") as to:
+        to.truncate(64 << 20)
+    check("a log that memory does not hold", said(look, "dump", big, preexec_fn=little), (4, f"rqlook: {big}: resources\n"))
+    reader = subprocess.Popen([look, "dump", log], stdout=subprocess.PIPE, stderr=subprocess.PIPE)
+    reader.stdout.readline()
+    reader.stdout.close()
+    check("a closed output", (reader.wait(), reader.stderr.read()), (0, b""))
+
+
+def more_scripts(rq: str, look: str, peer: str, folder: str, count: int) -> None:
+    """So many logs, told as scripts and made again; none is kept."""
+    path = os.path.join(folder, "look.once")
+    for seed in range(1000, 1000 + count):
+        subprocess.run([peer, "gen", path, SHAPES[seed % len(SHAPES)], str(seed), "1"], check=True, stderr=subprocess.DEVNULL)
+        same_script(rq, look, path, folder)
+
+
 def best(*words: str) -> float:
     return min(seconds(list(words))[0] for _ in range(3))
 
@@ -185,6 +300,7 @@ def main() -> int:
     words.add_argument("--seeds", type=int, default=3)
     words.add_argument("--stories", type=int, default=10)
     words.add_argument("--mib", type=int, default=1)
+    words.add_argument("--scripts", type=int, default=0)
     words.add_argument("--speed", type=int, default=0)
     options = parsed(words)
     rq, look, folder = options.program, options.look, options.folder
@@ -193,12 +309,19 @@ def main() -> int:
     for shape in SHAPES:
         for seed in range(2, 2 + options.seeds):
             log = log_of(peer, folder, shape, options.mib, seed)
-            report = same_reports(rq, look, log, draw)
+            with open(log, "rb") as source:
+                records = records_of(bodies_of(source.read()))
+            same_reports(rq, look, log, draw)
             same_script(rq, look, log, folder)
-            same_dump(look, log)
+            same_dump(look, log, records, draw)
             same_check(rq, look, log)
-            same_stories(look, log, report, options.stories, draw)
-    reasons(rq, look, log_of(peer, folder, "small", options.mib, 2), folder)
+            same_stories(look, log, records, options.stories, draw)
+            same_page(look, log)
+    small = log_of(peer, folder, "small", options.mib, 2)
+    reasons(rq, look, small, folder)
+    odd_payloads(rq, look, folder)
+    refusals(look, small, folder)
+    more_scripts(rq, look, peer, folder, options.scripts)
     if options.speed:
         speeds(rq, look, peer, folder, options.speed)
     print(f"{compared} answers compared, {differing} differ")

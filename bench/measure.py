@@ -10,7 +10,7 @@ from __future__ import annotations
 import os
 from common import built_peer, log_of, parsed, parser, seconds
 
-SHAPES = ["small", "kib", "big", "hot", "names", "wide", "errors"]
+SHAPES = ["small", "kib", "big", "hot", "names", "wide", "errors", "deep", "kills"]
 
 
 def main() -> None:

@@ -3,7 +3,8 @@
 //!
 //! usage: peer restart LOG | peer hash LOG | peer gen OUT SHAPE SEED MIB
 //! SHAPE: small (45 to 70 byte frames), kib (1 KiB payloads), big (60 KiB payloads), hot (one queue),
-//!        names (many registrants); with error queues: wide (4,096 queues), errors (many moves);
+//!        names (many registrants); with error queues: wide (4,096 queues), errors (many moves); in version 2: deep (errors,
+//!        with error queues up to eight deep), kills (deep, and a KILL in place of every tenth operation);
 //!        even (256 queues of equal work), skew (256 queues, the first with half of all, the next largest eight apart)
 //! Build: rustc --edition 2024 -O -C target-cpu=native peer.rs -l crypto
 use std::collections::{BTreeMap, BTreeSet, HashMap};
@@ -41,9 +42,10 @@ enum Rec<'a> {
     Commit(u64),
     Abort(u64),
     Checkpoint,
+    Kill(u32, u64),
 }
 
-fn decode(b: &[u8]) -> Option<Rec<'_>> {
+fn decode(version: u8, b: &[u8]) -> Option<Rec<'_>> {
     let name_from = |at: usize| b.get(at..).filter(|n| is_name(n));
     Some(match *b.first()? {
         1 => Rec::Define { name: name_from(7)?, limit: u16_at(b, 1), error: u32_at(b, 3) },
@@ -72,6 +74,7 @@ fn decode(b: &[u8]) -> Option<Rec<'_>> {
             }
         }
         9 => Rec::Checkpoint,
+        10 if version == 2 && b.len() == 13 => Rec::Kill(u32_at(b, 1), u64_at(b, 5)),
         _ => return None,
     })
 }
@@ -92,6 +95,7 @@ struct Unit<'a> {
 struct Queue<'a> { limit: u16, error: u32, name: &'a [u8], free: BTreeSet<Key> }
 
 struct Machine<'a> {
+    version: u8,
     next: u64, greatest: u64, committed: u64, aborted: u64,
     units: BTreeMap<u64, Unit<'a>>,
     queues: Vec<Queue<'a>>,
@@ -107,7 +111,7 @@ impl<'a> Machine<'a> {
         match r {
             Rec::Define { limit, error, name } => {
                 count < 4096 && !self.names.contains_key(name)
-                    && if *limit == 0 { *error == u32::MAX } else { *limit <= 1000 && *error < count && self.queues[*error as usize].error == u32::MAX }
+                    && if *limit == 0 { *error == u32::MAX } else { *limit <= 1000 && *error < count && (self.version == 2 || self.queues[*error as usize].error == u32::MAX) }
             }
             Rec::Register(q, _) => *q < count,
             Rec::Deregister(q, n) => self.registrants.contains_key(&(*q, *n)),
@@ -117,6 +121,7 @@ impl<'a> Machine<'a> {
             }
             Rec::Commit(u) | Rec::Abort(u) => self.units.contains_key(u),
             Rec::Checkpoint => true,
+            Rec::Kill(q, _) => *q < count,
         }
     }
 
@@ -170,21 +175,25 @@ impl<'a> Machine<'a> {
                 self.aborted += 1;
             }
             Rec::Checkpoint => {}
+            Rec::Kill(q, id) => {
+                if let Some(e) = self.elements.get(&id) && self.queues[q as usize].free.remove(&(255 - e.priority, id)) { self.elements.remove(&id); }
+            }
         }
         self.next += 1;
     }
 }
 
-fn header() -> Vec<u8> {
-    let mut h = b"RQLOG\0\0\x01".to_vec();
+fn header(version: u8) -> Vec<u8> {
+    let mut h = b"RQLOG\0\0".to_vec();
+    h.push(version);
     let d = sha256(&h);
     h.extend_from_slice(&d);
     h
 }
 
 fn restart(log: &[u8]) -> Option<String> {
-    if log.len() < 40 || log[..40] != header()[..] { return None; }
-    let mut m = Machine { next: 0, greatest: 0, committed: 0, aborted: 0, units: BTreeMap::new(), queues: Vec::new(),
+    let version = (1..=2).find(|v| log.starts_with(&header(*v)))?;
+    let mut m = Machine { version, next: 0, greatest: 0, committed: 0, aborted: 0, units: BTreeMap::new(), queues: Vec::new(),
         names: HashMap::new(), registrants: BTreeMap::new(), elements: HashMap::new() };
     let mut at = 40;
     let why = loop {
@@ -195,7 +204,7 @@ fn restart(log: &[u8]) -> Option<String> {
         if !(1..=268_435_456).contains(&size) { break "length"; }
         if left < 36 + size { break "cut"; }
         if sha256(&log[at - 32..at + 4 + size]) != log[at + 4 + size..at + 36 + size] { break "chain"; }
-        let Some(r) = decode(&log[at + 4..at + 4 + size]) else { break "form" };
+        let Some(r) = decode(version, &log[at + 4..at + 4 + size]) else { break "form" };
         if !m.lawful(&r) { break "law"; }
         m.step(r);
         at += 36 + size;
@@ -264,6 +273,10 @@ impl<W: Write> Gen<W> {
         b.push(name.len() as u8); b.extend(name.bytes()); b.extend(tag.to_be_bytes()); b.extend(payload);
         self.frame(&b);
     }
+    fn kill(&mut self, queue: u32, id: u64) {
+        let mut b = vec![10]; b.extend(queue.to_be_bytes()); b.extend(id.to_be_bytes());
+        self.frame(&b);
+    }
     /// A record that touches no queue.
     fn checkpoint(&mut self, len: usize) {
         let mut b = vec![0; len]; b[0] = 9;
@@ -279,21 +292,23 @@ fn skewed<W: Write>(g: &mut Gen<W>, queues: u32) -> u32 {
 /// A long-run mix: each unit enqueues and dequeues a few times on its queues, then commits (most) or aborts.
 fn generate(path: &str, shape: &str, seed: u64, mib: u64) {
     let mut g = Gen { out: BufWriter::with_capacity(1 << 20, std::fs::File::create(path).unwrap()), prev: [0; 32], bytes: 40, rng: seed * 2 + 88172645463325252, count: 0 };
-    let h = header();
+    let h = header(if matches!(shape, "deep" | "kills") { 2 } else { 1 });
     g.out.write_all(&h).unwrap();
     g.prev.copy_from_slice(&h[8..]);
     let (queues, payload, names, abort) = match shape {
         "small" => (64, 0, 0, 10), "kib" => (64, 1024, 4, 10), "big" => (64, 60_000, 0, 10), "wide" => (4096, 64, 1, 10),
-        "hot" => (1, 64, 0, 10), "errors" => (256, 64, 0, 60), "names" => (64, 16, 500, 10),
+        "hot" => (1, 64, 0, 10), "errors" | "deep" | "kills" => (256, 64, 0, 60), "names" => (64, 16, 500, 10),
         "even" | "skew" | "lone" | "own" => (256, 64, 0, 10), "tree" | "path" => (512, 64, 0, 60), other => panic!("shape {other}"),
     };
-    let dead = match shape { "wide" | "errors" => queues / 16, "tree" | "path" => queues / 2, _ => 0 };
-    for d in 0..dead { g.define(0, u32::MAX, &format!("dead{d}")); }
+    let dead = match shape { "wide" | "errors" | "deep" | "kills" => queues / 16, "tree" | "path" => queues / 2, _ => 0 };
+    // In version 2 the error queues stand in two chains, of eight each.
+    for d in 0..dead { if d < 2 || matches!(shape, "wide" | "errors" | "tree" | "path") { g.define(0, u32::MAX, &format!("dead{d}")) } else { g.define(3, d - 2, &format!("dead{d}")) } }
     for q in dead..queues { if dead == 0 { g.define(0, u32::MAX, &format!("work{q}")) } else { g.define(3, q % dead, &format!("work{q}")) } }
     for q in 0..queues { for n in 0..names { g.register(q, &format!("client-{n}")); } }
     let body = vec![0xa5u8; payload];
     let mut open: Vec<u64> = Vec::new();
     let mut unit = 0;
+    let mut put: Vec<(u32, u64)> = Vec::new();
     while g.bytes < mib << 20 {
         if open.len() < 16 { unit += 1; g.unit(4, unit); open.push(unit); }
         let at = g.below(open.len() as u64) as usize;
@@ -304,7 +319,13 @@ fn generate(path: &str, shape: &str, seed: u64, mib: u64) {
             let name = if names > 0 && g.below(2) == 0 { format!("client-{}", g.below(names as u64)) } else { String::new() };
             let tag = if name.is_empty() { 0 } else { g.count };
             let priority = g.below(8) as u8;
+            if shape == "kills" && !put.is_empty() && g.below(10) == 0 {
+                let (queue, id) = put.swap_remove(g.below(put.len() as u64) as usize);
+                g.kill(queue, id);
+                continue;
+            }
             let enqueues = g.below(100) < 52;
+            if shape == "kills" && enqueues { put.push((q, g.count)); }
             // In place of each operation on another queue, a record as long, or none.
             let len = if enqueues { 23 + payload } else { 22 };
             if matches!(shape, "lone" | "path") && q != dead { g.checkpoint(len); continue; }

@@ -6,7 +6,8 @@ A run that is refused must write what it writes with ample memory, or end with s
 no file either. With no COMMAND, sweeps each command over the logs of two scripts in `examples/`, and restarts and audits logs
 that are large enough for what runs on large logs alone: records decoded by halves, digests checked beside the analysis and in
 lanes, a report made in pieces. Of these each Nth allocation is refused, for a prime N. A COMMAND that writes a file names it
-`{made}/NAME`. RQ is the built program itself. Ends with status 1 where a run ended otherwise.
+`{made}/NAME`. RQ is the built program itself. Ends with status 1 where a run ended otherwise, or where no allocation of a
+command was met.
 """
 from __future__ import annotations
 import os, subprocess, sys, time
@@ -76,12 +77,15 @@ class Sweep:
             number += step
 
     def row(self, name: str, words: list[str], step: int = 1) -> int:
-        """Prints a line of the table, and tells how many runs ended otherwise than they must."""
+        """Prints a line of the table, and tells how many runs ended otherwise than they must; one more where none was refused."""
         words = [word.replace("{made}", self.made) for word in words]
         ample = self.outcome(words)
         memory = self.counted(words, ample, step, False)
         threads = self.counted(words, ample, 1, True)
         wrong = memory.wrong + threads.wrong
+        if memory.refused == 0:
+            wrong += 1
+            print(f"`{' '.join(words)}`: no allocation was met: is RQ the built program itself?", file=sys.stderr)
         which = "each" if step == 1 else f"1 in {step}"
         print(f"| {name} | {which} | {memory.refused} | {memory.same} | {memory.resources} "
               f"| {threads.refused} | {threads.same} | {threads.resources} | {wrong} |", flush=True)

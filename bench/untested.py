@@ -15,8 +15,8 @@ from typing import NamedTuple
 from common import HERE
 
 CRATES = os.path.join(HERE, "..", "crates")
-# Tests alone, and the programs.
-NO_LIBRARIES = {"rq_rows", "rq", "rqlook"}
+TESTS = {"rq_layer_rows", "rq_rows"}
+PROGRAMS = {"rq", "rqlook"}
 
 HEAD = re.compile(r"^( *)(pub(?:\([a-z]+\))? )?(?:const )?fn (\w+)", re.M)
 BLOCK = re.compile(r"^impl(?:<[^{]*?>)? (?:[\w:<>, ]+ for )?&?(\w+)", re.M)
@@ -104,9 +104,9 @@ def main() -> None:
     words.add_argument("--direct", action="store_true")
     options = words.parse_args()
     crates = sorted(os.path.basename(os.path.dirname(path)) for path in glob.glob(os.path.join(CRATES, "*", "src")))
-    libraries = [crate for crate in crates if crate not in NO_LIBRARIES]
+    libraries = [crate for crate in crates if crate not in TESTS | PROGRAMS]
     functions = [function for crate in libraries for function in functions_of(crate)]
-    tests = [function.body for function in functions_of("rq_rows")]
+    tests = [function.body for crate in sorted(TESTS) for function in functions_of(crate)]
     if options.direct:
         seen = {function.call for function in named(functions, tests)}
     else:

@@ -12,6 +12,8 @@ import os, resource, shutil, signal, subprocess, sys, time
 
 # What a check takes for each job, in KiB, as far as was seen.
 MEMORY = 2_000_000
+# How much those that others need not wait for give way, as nice has it.
+PATIENCE = 10
 # One place for all programs, of which one is built at a time.
 BUILD = os.path.join("crates", "rq", "out", "build")
 
@@ -56,10 +58,22 @@ def longest(crates: dict[str, list[str]], weights: dict[str, float], names: list
     return max(chains.values(), default=0.0)
 
 
+def chains_up(crates: dict[str, list[str]], weights: dict[str, float], names: list[str]) -> dict[str, float]:
+    """Of each crate the weight of the heaviest chain from it to the program. Lower ones come first in the list."""
+    chains: dict[str, float] = {}
+    for name in reversed(names):
+        chains[name] = weights[name] + max((chains[it] for it in chains if name in crates[it]), default=0.0)
+    return chains
+
+
 def processors() -> int:
-    """The jobs that the processors and the free memory hold."""
+    return len(os.sched_getaffinity(0))
+
+
+def jobs_in_memory() -> int:
+    """The jobs that the free memory holds."""
     free = next(int(line.split()[1]) for line in open("/proc/meminfo", encoding="utf-8") if line.startswith("MemAvailable"))
-    return max(1, min(len(os.sched_getaffinity(0)), free // MEMORY))
+    return max(1, free // MEMORY)
 
 
 def linked(file: str, to: str):
@@ -73,7 +87,7 @@ def linked(file: str, to: str):
 class Proof:
     """The run of rt on one crate."""
 
-    def __init__(self, crates: dict[str, list[str]], name: str, jobs: int):
+    def __init__(self, crates: dict[str, list[str]], name: str, jobs: int, patience: int):
         self.name, self.jobs, self.begun, self.work = name, jobs, time.monotonic(), 0.0
         self.kept = os.path.join("crates", name, "out")
         self.place = os.path.join(BUILD, name)
@@ -88,7 +102,13 @@ class Proof:
         if os.path.isdir(self.kept):
             os.rename(self.kept, self.inside(name, "out"))
         with open(self.said, "wb") as out:
-            self.run = subprocess.Popen(["rt", "lib", "--jobs", str(jobs)], cwd=self.inside(name), stdin=subprocess.DEVNULL, stdout=out, stderr=out)
+            self.run = subprocess.Popen(
+                ["nice", "-n", str(patience), "rt", "lib", "--jobs", str(jobs)],
+                cwd=self.inside(name),
+                stdin=subprocess.DEVNULL,
+                stdout=out,
+                stderr=out,
+            )
 
     def inside(self, *names: str) -> str:
         return os.path.join(self.place, "crates", *names)
@@ -150,15 +170,19 @@ class Telling:
             sys.stderr.write("\r\033[K")
 
 
-def next_proofs(crates, waiting: list[str], done: set[str], running: list[Proof], cores: int) -> list[Proof]:
-    """Begins the crates of which all lower ones are proved, those first that most others stand on, and shares the free cores among them."""
-    above = {name: sum(name in below(crates, it) for it in crates) for name in waiting}
-    ready = sorted((it for it in waiting if done.issuperset(below(crates, it))), key=lambda it: -above[it])
-    begun = []
-    for at, name in enumerate(ready):
-        free = cores - sum(it.jobs for it in [*running, *begun])
-        if free > 0:
-            begun.append(Proof(crates, name, -(-free // (len(ready) - at))))
+def next_proofs(crates, chains: dict[str, float], waiting: list[str], done: set[str], running: list[Proof], room: int) -> list[Proof]:
+    """Begins the crates of which all lower ones are proved, those of the heaviest chains first.
+
+    The one whose chain is the heaviest of all that is left gets every processor. The others get what it leaves idle, as far as
+    the memory holds them.
+    """
+    begun: list[Proof] = []
+    for name in sorted((it for it in waiting if done.issuperset(below(crates, it))), key=lambda it: -chains[it]):
+        free = room - sum(it.jobs for it in [*running, *begun])
+        is_first = all(chains[name] >= chains[it] for it in [*waiting, *(run.name for run in running)])
+        if free > 0 or not running + begun:
+            jobs = processors() if is_first else -(-processors() // 2)
+            begun.append(Proof(crates, name, max(1, min(jobs, free)), 0 if is_first else PATIENCE))
             waiting.remove(name)
     return begun
 
@@ -166,12 +190,13 @@ def next_proofs(crates, waiting: list[str], done: set[str], running: list[Proof]
 def prove(crates: dict[str, list[str]], program: str, log: str) -> bool:
     """Whether all crates below the program were proved."""
     names = below(crates, program)
-    cores, waiting, running, done, fine = processors(), [*names], [], set(), True
+    room, waiting, running, done, fine = jobs_in_memory(), [*names], [], set(), True
     telling = Telling(crates, names, program)
+    chains = chains_up(crates, telling.weights, names)
     try:
         while running or (fine and waiting):
             if fine:
-                running += next_proofs(crates, waiting, done, running, cores)
+                running += next_proofs(crates, chains, waiting, done, running, room)
             time.sleep(0.5)
             for proof in [it for it in running if it.has_ended()]:
                 running.remove(proof)

@@ -5,7 +5,7 @@ ghost use Rattle.std.specs.Prelude.{◌≡◌, IfOk};
 
 mod target;
 
-use crate::target::{Late, Names, is_written_in_place};
+use crate::target::{Late, Names, in_place};
 use rq_tool::{Command, Fault, Open, OverRead, OverWrite};
 use std::fs::File;
 use std::io::ErrorKind;
@@ -75,7 +75,7 @@ where
     R: Files + Print + AllocGlobal + Threads + Sync,
 {
     match command {
-        Command::Make { script, log } => make_file(rt, command, script, log),
+        Command::Make { script, log, .. } => make_file(rt, command, script, log),
         Command::Restart { log, .. } => print(rt, command, log),
         Command::RestartAt { log, .. } => print(rt, command, log),
         Command::Audit { log, .. } => print(rt, command, log),
@@ -99,12 +99,12 @@ where
     R: Files + AllocGlobal + Threads + Sync,
 {
     let mut input = open(rt, from)?;
-    if is_written_in_place(rt, to) {
-        let mut output = OverWrite::new(Late::new(rt, to, false));
+    let Some(names) = Names::of(rt, to)? else {
+        let mut output = OverWrite::new(Late::new(rt, to, in_place()));
         return rq_tool::act(rt, rt.alloc(), command, &mut input, &mut output, &Open);
-    }
-    let names = Names::of(rt, to)?;
-    let mut output = OverWrite::new(Late::new(rt, names.new_name(), true));
+    };
+    let options = names.options(rt);
+    let mut output = OverWrite::new(Late::new(rt, names.new_name(), options));
     let done = rq_tool::act(rt, rt.alloc(), command, &mut input, &mut output, &Open);
     settle(rt, &names, output.into_inner().into_file(), done)
 }
@@ -119,14 +119,13 @@ fn settle<R: Files>(
     let Some(file) = made else {
         return done;
     };
-    let kept = match done {
+    match done {
         Ok(()) => names.keep(rt, &file).map_err(|_| Fault::WriteFailed),
-        Err(fault) => Err(fault),
-    };
-    if kept.is_err() {
-        names.discard(rt);
+        Err(fault) => {
+            names.discard(rt);
+            Err(fault)
+        }
     }
-    kept
 }
 
 /// Opens a file for reading.

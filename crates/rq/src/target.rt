@@ -1,19 +1,62 @@
 //! The file that a command makes: whole, or not there.
 
 use rq_tool::Fault;
-use std::fs::{File, Files, OpenFile};
+use std::fs::{File, Files, Metadata, OpenFile, OpenOptions};
 use std::io::{ErrorKind, Write};
+use std::os::unix::fs::{MetadataExt, OpenOptionsExt, chown};
 use std::path::Path;
 use std::{fs, io};
 
 /// How many names are tried for a file: some may be left by runs that were killed.
 const NAMES: u32 = 100;
 
-/// The name under which a file is written before it takes the place of the old one, and what that is.
-#[derive(Drop)]
-pub struct Names {
-    old: String,
-    new: String,
+/// How many symbolic links are followed, one behind the other: as many as the system follows.
+const LINKS: u32 = 40;
+
+/// The mode of a file while it is written that is to take the place of another: nobody else reads it, whoever may read that.
+const OWN_MODE: u32 = 0o600;
+
+/// The folder that a path lies in.
+fn folder_of(path: &str) -> &str {
+    match Path::new(path).parent() {
+        Some(folder) if !folder.as_str().is_empty() => folder.as_str(),
+        _ => ".",
+    }
+}
+
+/// Whether the path names a file that a process has open, as `/dev/stdout` does behind its link.
+fn is_of_process(path: &str) -> bool {
+    path.starts_with("/proc/") || path.starts_with("/dev/fd/")
+}
+
+/// The fault of a path that can't be looked at.
+fn unseen(error: &io::Error) -> Fault {
+    if error.kind() == ErrorKind::OutOfMemory {
+        Fault::Resources
+    } else {
+        Fault::WriteFailed
+    }
+}
+
+/// What a path names behind its symbolic links, whether it is there or not.
+fn followed<R: Files + AllocGlobal>(rt: &R, path: &str) -> Result<String, Fault> {
+    let mut real = format!(in rt.alloc(); "{path}").map_err(|_| Fault::Resources)?;
+    for _ in 0..LINKS {
+        if is_of_process(&real) {
+            return Ok(real);
+        }
+        real = match fs::read_link(rt, real.as_str()) {
+            Ok(next) => Path::new(folder_of(&real))
+                .join(rt.alloc(), next.as_str())
+                .map_err(|_| Fault::Resources)?
+                .into_string(),
+            Err(error) => match error.kind() {
+                ErrorKind::InvalidInput | ErrorKind::NotFound => return Ok(real),
+                _ => return Err(unseen(&error)),
+            },
+        };
+    }
+    Err(Fault::WriteFailed)
 }
 
 /// A name beside a path that no file has.
@@ -27,18 +70,32 @@ fn free_name<R: Files + AllocGlobal>(rt: &R, path: &str) -> Result<String, Fault
     Err(Fault::WriteFailed)
 }
 
+/// Gives the file of this name the owner and the group of the old one, or the group alone, as far as the system lets us.
+fn give_to<R: Files>(rt: &R, name: &str, old: &Metadata) {
+    let (owner, group) = (Some(old.uid()), Some(old.gid()));
+    if chown(rt, name, owner, group).is_err() {
+        let _ = chown(rt, name, None, group);
+    }
+}
+
+/// The name under which a file is written before it takes the place of the old one, and what that is.
+#[derive(Drop)]
+pub struct Names {
+    old: String,
+    new: String,
+}
+
 impl Names {
-    /// The names for a path. A symbolic link stays, and what it names is replaced.
-    pub fn of<R: Files + AllocGlobal>(rt: &R, path: &str) -> Result<Names, Fault> {
-        let old = match fs::canonicalize(rt, path) {
-            Ok(real) => real.into_string(),
-            Err(error) if error.kind() == ErrorKind::OutOfMemory => {
-                return Err(Fault::Resources);
-            }
-            Err(_) => format!(in rt.alloc(); "{path}").map_err(|_| Fault::Resources)?,
-        };
+    /// The names for a path; none where what it names is written as it is: a device, a pipe, or a file that a process has
+    /// open. A symbolic link stays, and what it names is replaced.
+    pub fn of<R: Files + AllocGlobal>(rt: &R, path: &str) -> Result<Option<Names>, Fault> {
+        let old = followed(rt, path)?;
+        let is_file = fs::metadata(rt, old.as_str()).map_or(true, |found| found.is_file());
+        if is_of_process(&old) || !is_file {
+            return Ok(None);
+        }
         let new = free_name(rt, &old)?;
-        Ok(Names { old, new })
+        Ok(Some(Names { old, new }))
     }
 
     /// The name to write under.
@@ -46,18 +103,38 @@ impl Names {
         &self.new
     }
 
-    /// Puts the new file, whose bytes are on the disk, in the place of the old one, with the mode of that.
+    /// How the new file is made. Where there is an old one, others may read the new one no sooner than it has taken its place.
+    pub fn options<R: Files>(&self, rt: &R) -> OpenOptions {
+        let mut options = OpenOptions::new();
+        options.write(true).create_new(true);
+        if fs::metadata(rt, self.old.as_str()).is_ok() {
+            options.mode(OWN_MODE);
+        }
+        options
+    }
+
+    /// Puts the new file in the place of the old one, with its owner, group and mode, once its bytes are on the disk; where that
+    /// fails, takes it away. A fault in telling the disk of the change leaves the new file in its place.
     pub fn keep<R: Files>(&self, rt: &R, file: &R::File) -> io::Result<()> {
+        match self.exchange(rt, file) {
+            Ok(folder) => OpenFile::sync_all(&folder),
+            Err(error) => {
+                self.discard(rt);
+                Err(error)
+            }
+        }
+    }
+
+    /// Puts the new file in the place of the old one, and answers the folder, which was opened before.
+    fn exchange<R: Files>(&self, rt: &R, file: &R::File) -> io::Result<R::File> {
+        let folder = File::open(rt, folder_of(&self.old))?;
         if let Ok(old) = fs::metadata(rt, self.old.as_str()) {
+            give_to(rt, self.new.as_str(), &old);
             OpenFile::set_permissions(file, old.permissions())?;
         }
         OpenFile::sync_all(file)?;
         fs::rename(rt, self.new.as_str(), self.old.as_str())?;
-        let folder = match Path::new(&self.old).parent() {
-            Some(folder) if !folder.as_str().is_empty() => folder.as_str(),
-            _ => ".",
-        };
-        OpenFile::sync_all(&File::open(rt, folder)?)
+        Ok(folder)
     }
 
     /// Takes the new file away.
@@ -66,15 +143,11 @@ impl Names {
     }
 }
 
-/// Whether what the path names is written as it is: a device, a pipe, or a file that the process has open.
-pub fn is_written_in_place<R: Files>(rt: &R, path: &str) -> bool {
-    if path.starts_with("/dev/") || path.starts_with("/proc/") {
-        return true;
-    }
-    match fs::metadata(rt, path) {
-        Ok(found) => !found.is_file(),
-        Err(_) => false,
-    }
+/// How a file is opened that is written as it is.
+pub fn in_place() -> OpenOptions {
+    let mut options = OpenOptions::new();
+    options.write(true).create(true).truncate(true);
+    options
 }
 
 /// A file that is opened at its first write.
@@ -82,17 +155,17 @@ pub fn is_written_in_place<R: Files>(rt: &R, path: &str) -> bool {
 pub struct Late<'a, R: Files> {
     rt: &'a R,
     path: &'a str,
-    is_new: bool,
+    options: OpenOptions,
     file: Option<R::File>,
 }
 
 impl<'a, R: Files> Late<'a, R> {
-    /// Over this path; a new file must not be there before.
-    pub fn new(rt: &'a R, path: &'a str, is_new: bool) -> Self {
+    /// The file of this path, to be opened so.
+    pub fn new(rt: &'a R, path: &'a str, options: OpenOptions) -> Self {
         Late {
             rt,
             path,
-            is_new,
+            options,
             file: None,
         }
     }
@@ -101,14 +174,6 @@ impl<'a, R: Files> Late<'a, R> {
     pub fn into_file(self) -> Option<R::File> {
         self.file
     }
-
-    fn open(&self) -> io::Result<R::File> {
-        if self.is_new {
-            File::create_new(self.rt, self.path)
-        } else {
-            File::create(self.rt, self.path)
-        }
-    }
 }
 
 impl<'a, R: Files> Write for Late<'a, R> {
@@ -116,7 +181,7 @@ impl<'a, R: Files> Write for Late<'a, R> {
         if let Some(file) = &mut self.file {
             return file.write(bytes);
         }
-        let mut file = self.open()?;
+        let mut file = self.options.open(self.rt, self.path)?;
         let written = file.write(bytes);
         self.file = Some(file);
         written

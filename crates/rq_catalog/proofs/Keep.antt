@@ -8,7 +8,7 @@ use Rattle.std.proofs.lemmas.Bool.{cases_Bool, and_parts, and_from, eqb-true, eq
 use Rattle.std.proofs.lemmas.List.{map-append, length-append, append-nil}
 use Rattle.indexmap.specs.IndexMap.{get}
 use Rattle.rq_model.specs.Records as model
-use Rattle.rq_model.specs.Records.{One, no_queue}
+use Rattle.rq_model.specs.Records.{Version, no_queue}
 use Rattle.rq_model.specs.States.{State, Definition, Registrant, Element, Note, is_registrant, put, registrant_before}
 use Rattle.rq_model.specs.Machine as machine
 use Rattle.rq_model.specs.Machine.{is_lawful, all_lawful, lawful_front, is_open, is_registered, is_known, is_limit, step, run, outcome_from, outcome, begins}
@@ -19,7 +19,7 @@ use Rattle.rq_model.proofs.WellFormedRuns.{any_put}
 use Rattle.rq_model.proofs.Decided.{any_map, element_homes, note_queues, registrant_queues}
 use Rattle.rq_model.proofs.Kept.{runs_are_well_formed}
 use Rattle.rq_record.specs.declared.record.Record.{Record}
-use Rattle.rq_record.specs.declared.record.Record.TheVariants.{Define, Register, Deregister, Begin, Enqueue, Dequeue, Commit, Abort, Checkpoint}
+use Rattle.rq_record.specs.declared.record.Record.TheVariants.{Define, Register, Deregister, Begin, Enqueue, Dequeue, Commit, Abort, Checkpoint, Kill}
 use Rattle.rq_record.specs.Views.{record_of}
 use Rattle.rq_catalog.specs.declared.outcome.Outcome.{Outcome}
 use Rattle.rq_catalog.specs.declared.outcome.Outcome.TheVariants.{Committed, Aborted, Open}
@@ -79,6 +79,7 @@ names_step t (Dequeue unit queue by) n = refl
 names_step t (Commit unit) n = refl
 names_step t (Abort unit) n = refl
 names_step t (Checkpoint bytes) n = refl
+names_step t (Kill queue element) n = refl
 
 errors_step : (t : State) (r : Record) → errors_after r (map (λ (d : Definition). d.error) t.definitions) ≡ map (λ (d : Definition). d.error) (step t (record_of r)).definitions
 errors_step t (Define limit error name) = sym (map-append (λ (d : Definition). d.error) t.definitions (record { limit = limit; error = error.0; name = name } ∷ []))
@@ -90,6 +91,7 @@ errors_step t (Dequeue unit queue by) = refl
 errors_step t (Commit unit) = refl
 errors_step t (Abort unit) = refl
 errors_step t (Checkpoint bytes) = refl
+errors_step t (Kill queue element) = refl
 
 module _ (q : ℕ) (n : List ℕ) (k : ℕ × List ℕ) where
   key_parts : key_eq (q, n) k ≡ true → (q ≡ k.0) × (n ≡ k.1)
@@ -135,6 +137,7 @@ registrants_step t (Enqueue unit queue priority by payload) k = refl
 registrants_step t (Dequeue unit queue by) k = refl
 registrants_step t (Abort unit) k = refl
 registrants_step t (Checkpoint bytes) k = refl
+registrants_step t (Kill queue element) k = refl
 
 greatest_step : (t : State) (r : Record) → greatest_by r t.greatest ≡ (step t (record_of r)).greatest
 greatest_step t (Begin unit) = refl
@@ -146,6 +149,7 @@ greatest_step t (Enqueue unit queue priority by payload) = refl
 greatest_step t (Dequeue unit queue by) = refl
 greatest_step t (Abort unit) = refl
 greatest_step t (Checkpoint bytes) = refl
+greatest_step t (Kill queue element) = refl
 
 -- Counts.
 
@@ -159,6 +163,7 @@ committed_step t (Dequeue unit queue by) = refl
 committed_step t (Commit unit) = refl
 committed_step t (Abort unit) = refl
 committed_step t (Checkpoint bytes) = refl
+committed_step t (Kill queue element) = refl
 
 aborted_step : (t : State) (r : Record) → aborted_after r t.aborted ≡ (step t (record_of r)).aborted
 aborted_step t (Define limit error name) = refl
@@ -170,6 +175,7 @@ aborted_step t (Dequeue unit queue by) = refl
 aborted_step t (Commit unit) = refl
 aborted_step t (Abort unit) = refl
 aborted_step t (Checkpoint bytes) = refl
+aborted_step t (Kill queue element) = refl
 
 -- Outcomes.
 
@@ -193,37 +199,38 @@ module _ (s : State) (xs : List model.Record) (u : ℕ) where
   outcome_same m b o = sym (outcome_push m ∙ (λ i. if is_open s u || (list_any (begins u) xs || b i) then Some (first (outcome_from s.next u xs) (o i)) else None)
       ∙ (λ i. if is_open s u || or_false (list_any (begins u) xs) i then Some (first_open (outcome_from s.next u xs) i) else None))
 
-outcomes_step : (s : State) (xs : List model.Record) (r : Record) (u : ℕ) (old : Option Outcome) → IsWellFormed s → all_lawful One s xs ≡ true → is_lawful One (run s xs) (record_of r) ≡ true
+outcomes_step : (version : Version) (s : State) (xs : List model.Record) (r : Record) (u : ℕ) (old : Option Outcome) → IsWellFormed s → all_lawful version s xs ≡ true → is_lawful version (run s xs) (record_of r) ≡ true
     → option_map outcome_of old ≡ outcome s xs u → option_map outcome_of (outcome_after (s.next + length xs) r u old) ≡ outcome s (xs ++ record_of r ∷ []) u
-outcomes_step s xs (Begin unit) u old well lawful ok e =
+outcomes_step version s xs (Begin unit) u old well lawful ok e =
     by_cases (nat_eq unit.0 u) (λ b. nat_eq unit.0 u ≡ b → option_map outcome_of (cond b (Some Open) old) ≡ outcome s (xs ++ model.Begin unit.0 ∷ []) u)
     (λ _ h. sym (outcome_push s xs u (model.Begin unit.0)
-    ∙ (λ i. if is_open s u || (list_any (begins u) xs || h i) then Some (first (unseen One s xs s.next u well lawful (subst (λ v. (run s xs).greatest < v) (eqb-true unit.0 u h) (ltb-true (run s xs).greatest unit.0 ok)) i) machine.Open) else None)
+    ∙ (λ i. if is_open s u || (list_any (begins u) xs || h i) then Some (first (unseen version s xs s.next u well lawful (subst (λ v. (run s xs).greatest < v) (eqb-true unit.0 u h) (ltb-true (run s xs).greatest unit.0 ok)) i) machine.Open) else None)
     ∙ ap (λ b. if b then Some machine.Open else None) (or_true (list_any (begins u) xs) (is_open s u))))
     (λ _ h. e ∙ outcome_same s xs u (model.Begin unit.0) h refl)
     refl
-outcomes_step s xs (Commit unit) u old well lawful ok e =
+outcomes_step version s xs (Commit unit) u old well lawful ok e =
     by_cases (nat_eq unit.0 u) (λ b. nat_eq unit.0 u ≡ b → option_map outcome_of (cond b (Some (Committed (s.next + length xs))) old) ≡ outcome s (xs ++ model.Commit unit.0 ∷ []) u)
-    (λ _ h. let p = opened (is_open s u || list_any (begins u) xs) (outcome_from s.next u xs) (sym (open_by_outcome One s xs u well lawful) ∙ subst (λ v. is_open (run s xs) v ≡ true) (eqb-true unit.0 u h) ok) in
+    (λ _ h. let p = opened (is_open s u || list_any (begins u) xs) (outcome_from s.next u xs) (sym (open_by_outcome version s xs u well lawful) ∙ subst (λ v. is_open (run s xs) v ≡ true) (eqb-true unit.0 u h) ok) in
     sym (outcome_push s xs u (model.Commit unit.0)
     ∙ (λ i. if is_open s u || or_false (list_any (begins u) xs) i then Some (first (p.1 i) (if h i then machine.Committed (s.next + length xs) else machine.Open)) else None)
     ∙ ap (λ b. if b then Some (machine.Committed (s.next + length xs)) else None) p.0))
     (λ _ h. e ∙ outcome_same s xs u (model.Commit unit.0) refl (ap (λ b. if b then machine.Committed (s.next + length xs) else machine.Open) h))
     refl
-outcomes_step s xs (Abort unit) u old well lawful ok e =
+outcomes_step version s xs (Abort unit) u old well lawful ok e =
     by_cases (nat_eq unit.0 u) (λ b. nat_eq unit.0 u ≡ b → option_map outcome_of (cond b (Some (Aborted (s.next + length xs))) old) ≡ outcome s (xs ++ model.Abort unit.0 ∷ []) u)
-    (λ _ h. let p = opened (is_open s u || list_any (begins u) xs) (outcome_from s.next u xs) (sym (open_by_outcome One s xs u well lawful) ∙ subst (λ v. is_open (run s xs) v ≡ true) (eqb-true unit.0 u h) ok) in
+    (λ _ h. let p = opened (is_open s u || list_any (begins u) xs) (outcome_from s.next u xs) (sym (open_by_outcome version s xs u well lawful) ∙ subst (λ v. is_open (run s xs) v ≡ true) (eqb-true unit.0 u h) ok) in
     sym (outcome_push s xs u (model.Abort unit.0)
     ∙ (λ i. if is_open s u || or_false (list_any (begins u) xs) i then Some (first (p.1 i) (if h i then machine.Aborted (s.next + length xs) else machine.Open)) else None)
     ∙ ap (λ b. if b then Some (machine.Aborted (s.next + length xs)) else None) p.0))
     (λ _ h. e ∙ outcome_same s xs u (model.Abort unit.0) refl (ap (λ b. if b then machine.Aborted (s.next + length xs) else machine.Open) h))
     refl
-outcomes_step s xs (Define limit error name) u old well lawful ok e = e ∙ outcome_same s xs u (model.Define limit error.0 name) refl refl
-outcomes_step s xs (Register queue name) u old well lawful ok e = e ∙ outcome_same s xs u (model.Register queue.0 name) refl refl
-outcomes_step s xs (Deregister queue name) u old well lawful ok e = e ∙ outcome_same s xs u (model.Deregister queue.0 name) refl refl
-outcomes_step s xs (Enqueue unit queue priority by payload) u old well lawful ok e = e ∙ outcome_same s xs u (model.Enqueue unit.0 queue.0 priority by payload) refl refl
-outcomes_step s xs (Dequeue unit queue by) u old well lawful ok e = e ∙ outcome_same s xs u (model.Dequeue unit.0 queue.0 by) refl refl
-outcomes_step s xs (Checkpoint bytes) u old well lawful ok e = e ∙ outcome_same s xs u (model.Checkpoint bytes) refl refl
+outcomes_step version s xs (Define limit error name) u old well lawful ok e = e ∙ outcome_same s xs u (model.Define limit error.0 name) refl refl
+outcomes_step version s xs (Register queue name) u old well lawful ok e = e ∙ outcome_same s xs u (model.Register queue.0 name) refl refl
+outcomes_step version s xs (Deregister queue name) u old well lawful ok e = e ∙ outcome_same s xs u (model.Deregister queue.0 name) refl refl
+outcomes_step version s xs (Enqueue unit queue priority by payload) u old well lawful ok e = e ∙ outcome_same s xs u (model.Enqueue unit.0 queue.0 priority by payload) refl refl
+outcomes_step version s xs (Dequeue unit queue by) u old well lawful ok e = e ∙ outcome_same s xs u (model.Dequeue unit.0 queue.0 by) refl refl
+outcomes_step version s xs (Checkpoint bytes) u old well lawful ok e = e ∙ outcome_same s xs u (model.Checkpoint bytes) refl refl
+outcomes_step version s xs (Kill queue element) u old well lawful ok e = e ∙ outcome_same s xs u (model.Kill queue.0 element.0) refl refl
 
 -- Engagement.
 
@@ -243,6 +250,7 @@ engaged_step s xs r u q = at r ∙ ap (λ b. is_engaged s q u || b) (sym (any_pu
     at (Commit unit) = same
     at (Abort unit) = same
     at (Checkpoint bytes) = same
+    at (Kill queue element) = same
 
 any_holds : {X : Type 0} (P : X → Type 0) (Q : Type 0) (p : X → Bool) → ((x : X) → p x ≡ true → P x → Q) → (xs : List X) → AllByRecursion P xs → list_any p xs ≡ true → Q
 any_holds P Q p f [] k o = absurd (false≢true o)
@@ -261,13 +269,13 @@ engaged_at_first s q u well h =
 grow : (s : State) (xs : List model.Record) → length s.definitions ≤ length (run s xs).definitions
 grow s xs = omega (arith, ap length (run_definitions s xs), length-append s.definitions (defined_by xs))
 
-engaged_later : (s : State) (xs : List model.Record) (q u : ℕ) → all_lawful One s xs ≡ true → list_any (engages q u) xs ≡ true → q < length (run s xs).definitions
-engaged_later s [] q u lawful h = absurd (false≢true h)
-engaged_later s (x ∷ xs) q u lawful h =
+engaged_later : (version : Version) (s : State) (xs : List model.Record) (q u : ℕ) → all_lawful version s xs ≡ true → list_any (engages q u) xs ≡ true → q < length (run s xs).definitions
+engaged_later version s [] q u lawful h = absurd (false≢true h)
+engaged_later version s (x ∷ xs) q u lawful h =
     by_cases (engages q u x) (λ b. engages q u x ≡ b → (b || list_any (engages q u) xs) ≡ true → q < length (run (step s x) xs).definitions)
-    (λ _ e _. at x e (and_parts (is_lawful One s x) (all_lawful One (step s x) xs) lawful).0 (grow s (x ∷ xs))) (λ _ _ o. engaged_later (step s x) xs q u (and_parts (is_lawful One s x) (all_lawful One (step s x) xs) lawful).1 o) refl h
+    (λ _ e _. at x e (and_parts (is_lawful version s x) (all_lawful version (step s x) xs) lawful).0 (grow s (x ∷ xs))) (λ _ _ o. engaged_later version (step s x) xs q u (and_parts (is_lawful version s x) (all_lawful version (step s x) xs) lawful).1 o) refl h
   where
-    at : (x : model.Record) → engages q u x ≡ true → is_lawful One s x ≡ true → length s.definitions ≤ length (run s (x ∷ xs)).definitions → q < length (run s (x ∷ xs)).definitions
+    at : (x : model.Record) → engages q u x ≡ true → is_lawful version s x ≡ true → length s.definitions ≤ length (run s (x ∷ xs)).definitions → q < length (run s (x ∷ xs)).definitions
     at (model.Enqueue v k priority by payload) e l g = omega (arith, g, ltb-true k (length s.definitions) (and_parts (machine.is_defined s k) (is_open s v && is_known s k by) l).0, eqb-true k q (and_parts (v == u) (k == q) e).1)
     at (model.Dequeue v k by) e l g = omega (arith, g, ltb-true k (length s.definitions) (and_parts (machine.is_defined s k) (is_open s v && is_known s k by) l).0, eqb-true k q (and_parts (v == u) (k == q) e).1)
     at (model.Define limit error name) e l g = absurd (false≢true e)
@@ -279,10 +287,10 @@ engaged_later s (x ∷ xs) q u lawful h =
     at (model.Checkpoint bytes) e l g = absurd (false≢true e)
     at (model.Kill k i) e l g = absurd (false≢true e)
 
-engaged_defined : (s : State) (xs : List model.Record) (q u : ℕ) → IsWellFormed s → all_lawful One s xs ≡ true → (is_engaged s q u || list_any (engages q u) xs) ≡ true → q < length (run s xs).definitions
-engaged_defined s xs q u well lawful h =
+engaged_defined : (version : Version) (s : State) (xs : List model.Record) (q u : ℕ) → IsWellFormed s → all_lawful version s xs ≡ true → (is_engaged s q u || list_any (engages q u) xs) ≡ true → q < length (run s xs).definitions
+engaged_defined version s xs q u well lawful h =
     by_cases (is_engaged s q u) (λ b. is_engaged s q u ≡ b → (b || list_any (engages q u) xs) ≡ true → q < length (run s xs).definitions)
-    (λ _ e _. omega (arith, grow s xs, engaged_at_first s q u well e)) (λ _ _ o. engaged_later s xs q u lawful o) refl h
+    (λ _ e _. omega (arith, grow s xs, engaged_at_first s q u well e)) (λ _ _ o. engaged_later version s xs q u lawful o) refl h
 
 -- Touch.
 
@@ -299,22 +307,26 @@ numbered_push s xs m q =
 below_more : (k q n : ℕ) → nat_lt k n ≡ true → ((k == q) && nat_lt q n) ≡ (k == q)
 below_more k q n h = by_cases (k == q) (λ b. (k == q) ≡ b → (b && nat_lt q n) ≡ b) (λ _ e. subst (λ v. nat_lt v n ≡ true) (eqb-true k q e) h) (λ _ _. refl) refl
 
-module _ (c : Catalogue) (s : State) (xs : List model.Record) (f : Follows c s xs) (well : IsWellFormed s) (lawful : all_lawful One s xs ≡ true) where
-  touches_step : (r : Record) (q : ℕ) → is_lawful One (run s xs) (record_of r) ≡ true → (touches_in c r q && nat_lt q (length c.touching.items)) ≡ touches s xs q (record_of r)
+module _ (version : Version) (c : Catalogue) (s : State) (xs : List model.Record) (f : Follows c s xs) (well : IsWellFormed s) (lawful : all_lawful version s xs ≡ true) where
+  kill_defined : (v : Version) (k i : ℕ) → is_lawful v (run s xs) (model.Kill k i) ≡ true → nat_lt k (length (run s xs).definitions) ≡ true
+  kill_defined model.One k i h = absurd (false≢true h)
+  kill_defined model.Two k i h = h
+
+  touches_step : (r : Record) (q : ℕ) → is_lawful version (run s xs) (record_of r) ≡ true → (touches_in c r q && nat_lt q (length c.touching.items)) ≡ touches s xs q (record_of r)
   touches_step r q ok = ap (λ n. touches_in c r q && nat_lt q n) (f.queues ∙ count c s xs f) ∙ at r ok
     where
       closing : (u : ℕ) → (is_engaged_in (get nat_eq c.engaged u) q && nat_lt q (length (run s xs).definitions)) ≡ (is_engaged s q u || list_any (engages q u) xs)
       closing u = ap (λ b. b && nat_lt q (length (run s xs).definitions)) (f.engaged u q)
-          ∙ by_cases (is_engaged s q u || list_any (engages q u) xs) (λ b. (is_engaged s q u || list_any (engages q u) xs) ≡ b → (b && nat_lt q (length (run s xs).definitions)) ≡ b) (λ _ e. lt-ltb q (length (run s xs).definitions) (engaged_defined s xs q u well lawful e)) (λ _ _. refl) refl
+          ∙ by_cases (is_engaged s q u || list_any (engages q u) xs) (λ b. (is_engaged s q u || list_any (engages q u) xs) ≡ b → (b && nat_lt q (length (run s xs).definitions)) ≡ b) (λ _ e. lt-ltb q (length (run s xs).definitions) (engaged_defined version s xs q u well lawful e)) (λ _ _. refl) refl
 
-      at : (r : Record) → is_lawful One (run s xs) (record_of r) ≡ true → (touches_in c r q && nat_lt q (length (run s xs).definitions)) ≡ touches s xs q (record_of r)
+      at : (r : Record) → is_lawful version (run s xs) (record_of r) ≡ true → (touches_in c r q && nat_lt q (length (run s xs).definitions)) ≡ touches s xs q (record_of r)
       at (Register queue name) l = below_more queue.0 q (length (run s xs).definitions) l
       at (Deregister queue name) l = below_more queue.0 q (length (run s xs).definitions) (registered_defined queue.0 name l)
         where
           registered_defined : (k : ℕ) (name : List ℕ) → is_registered (run s xs) k name ≡ true → nat_lt k (length (run s xs).definitions) ≡ true
           registered_defined k name h = lt-ltb k (length (run s xs).definitions)
               (any_holds (λ (r : Registrant). r.queue < length (run s xs).definitions) (k < length (run s xs).definitions) (is_registrant k name)
-              (λ r p b. subst (λ v. v < length (run s xs).definitions) (eqb-true r.queue k (and_parts (r.queue == k) (bytes_eq r.name name) p).0) b) (run s xs).registrants (registrant_queues (run s xs) (runs_are_well_formed One s xs well lawful)) h)
+              (λ r p b. subst (λ v. v < length (run s xs).definitions) (eqb-true r.queue k (and_parts (r.queue == k) (bytes_eq r.name name) p).0) b) (run s xs).registrants (registrant_queues (run s xs) (runs_are_well_formed version s xs well lawful)) h)
       at (Enqueue unit queue priority by payload) l = below_more queue.0 q (length (run s xs).definitions) (and_parts (machine.is_defined (run s xs) queue.0) (is_open (run s xs) unit.0 && is_known (run s xs) queue.0 by) l).0
       at (Dequeue unit queue by) l = below_more queue.0 q (length (run s xs).definitions) (and_parts (machine.is_defined (run s xs) queue.0) (is_open (run s xs) unit.0 && is_known (run s xs) queue.0 by) l).0
       at (Commit unit) l = closing unit.0
@@ -322,16 +334,17 @@ module _ (c : Catalogue) (s : State) (xs : List model.Record) (f : Follows c s x
       at (Define limit error name) l = refl
       at (Begin unit) l = refl
       at (Checkpoint bytes) l = refl
+      at (Kill queue element) l = below_more queue.0 q (length (run s xs).definitions) (kill_defined version queue.0 element.0 l)
 
   -- a lawful record keeps the agreement
-  pub follows_step : (d : Catalogue) (r : Record) → is_lawful One (run s xs) (record_of r) ≡ true → Takes c d (s.next + length xs, length xs) r → Follows d s (xs ++ record_of r ∷ [])
+  pub follows_step : (d : Catalogue) (r : Record) → is_lawful version (run s xs) (record_of r) ≡ true → Takes c d (s.next + length xs, length xs) r → Follows d s (xs ++ record_of r ∷ [])
   follows_step d r ok t = record {
     names = λ n. t.names n ∙ ap (names_after r n) (f.names n) ∙ names_step (run s xs) r n ∙ ap (λ (z : State). list_any (λ (d : Definition). bytes_eq d.name n) z.definitions) back;
     errors = t.errors ∙ ap (errors_after r) f.errors ∙ errors_step (run s xs) r ∙ ap (λ (z : State). map (λ (d : Definition). d.error) z.definitions) back;
     registrants = λ k. t.registrants k ∙ ap (registered_after r k) (f.registrants k) ∙ registrants_step (run s xs) r k ∙ ap (λ z. is_registered z k.0 k.1) back;
     greatest = t.greatest ∙ ap (greatest_by r) f.greatest ∙ greatest_step (run s xs) r ∙ ap (λ (z : State). z.greatest) back;
-    outcomes = λ u. ap (option_map outcome_of) (t.outcomes u) ∙ outcomes_step s xs r u (get nat_eq c.outcomes u) well lawful ok (f.outcomes u);
-    units = ap keys_of t.entries ∙ entries_step s xs well lawful (s.next + length xs) r c.outcomes.entries ok f.units;
+    outcomes = λ u. ap (option_map outcome_of) (t.outcomes u) ∙ outcomes_step version s xs r u (get nat_eq c.outcomes u) well lawful ok (f.outcomes u);
+    units = ap keys_of t.entries ∙ entries_step version s xs well lawful (s.next + length xs) r c.outcomes.entries ok f.units;
     committed = t.committed ∙ ap (committed_after r) f.committed ∙ committed_step (run s xs) r ∙ ap (λ (z : State). z.committed) back;
     aborted = t.aborted ∙ ap (aborted_after r) f.aborted ∙ aborted_step (run s xs) r ∙ ap (λ (z : State). z.aborted) back;
     engaged = λ u q. t.engaged u q ∙ ap (engaged_after r u q) (f.engaged u q) ∙ engaged_step s xs r u q;
@@ -354,6 +367,7 @@ module _ (c : Catalogue) (s : State) (xs : List model.Record) (f : Follows c s x
       longer (Commit unit) es = omega arith
       longer (Abort unit) es = omega arith
       longer (Checkpoint bytes) es = omega arith
+      longer (Kill queue element) es = omega arith
 
 -- Places.
 

@@ -5,21 +5,21 @@ use Rattle.std.proofs.lemmas.Bool.{eqb-true, eqb-false, le-leb}
 use Rattle.std.proofs.lemmas.List.{length-map}
 use Rattle.indexmap.specs.IndexMap.{get}
 use Rattle.rq_model.specs.Records as model
-use Rattle.rq_model.specs.Records.{One, no_queue}
+use Rattle.rq_model.specs.Records.{Version, One, Two, no_queue}
 use Rattle.rq_model.specs.States.{State, Definition, definition_at}
 use Rattle.rq_model.specs.Machine as machine
-use Rattle.rq_model.specs.Machine.{is_lawful, all_lawful, lawful_front, is_open, is_registered, is_known, is_limit, step, run, outcome_from, outcome, begins}
+use Rattle.rq_model.specs.Machine.{is_lawful, all_lawful, lawful_front, is_open, is_registered, is_known, may_be_error, is_limit, step, run, outcome_from, outcome, begins}
 use Rattle.rq_model.specs.WellFormed.{IsWellFormed}
 use Rattle.rq_model.proofs.Lists.{by_cases}
 use Rattle.rq_model.specs.Records.{By}
 use Rattle.rq_record.specs.declared.record.Record.{Record}
-use Rattle.rq_record.specs.declared.record.Record.TheVariants.{Define, Register, Deregister, Begin, Enqueue, Dequeue, Commit, Abort, Checkpoint}
+use Rattle.rq_record.specs.declared.record.Record.TheVariants.{Define, Register, Deregister, Begin, Enqueue, Dequeue, Commit, Abort, Checkpoint, Kill}
 use Rattle.rq_record.specs.Views.{record_of}
 use Rattle.rq_catalog.specs.declared.outcome.Outcome.{Outcome}
 use Rattle.rq_catalog.specs.declared.outcome.Outcome.TheVariants.{Committed, Aborted, Open}
 use Rattle.rq_catalog.specs.declared.catalogue.Catalogue.{Catalogue}
 use Rattle.rq_catalog.specs.Outcomes.{is_open_in, outcome_of}
-use Rattle.rq_catalog.specs.Catalogues.{is_known_in, is_limit_in, may_take, Follows}
+use Rattle.rq_catalog.specs.Catalogues.{is_known_in, is_limit_in, may_be_error_in, may_kill_in, may_take, Follows}
 use Rattle.rq_catalog.proofs.Runs.{is_open_outcome, open_by_outcome}
 
 -- Lawfulness.
@@ -57,25 +57,32 @@ limit_as a b c limit =
     positive zero h = absurd (h refl)
     positive (suc n) h = omega arith
 
-module _ (c : Catalogue) (s : State) (xs : List model.Record) (f : Follows c s xs) (well : IsWellFormed s) (lawful : all_lawful One s xs ≡ true) where
+module _ (version : Version) (c : Catalogue) (s : State) (xs : List model.Record) (f : Follows c s xs) (well : IsWellFormed s) (lawful : all_lawful version s xs ≡ true) where
   defined_here : (q : ℕ) → nat_lt q (length c.errors.items) ≡ nat_lt q (length (run s xs).definitions)
   defined_here q = ap (nat_lt q) (count c s xs f)
 
   pub open_here : (u : ℕ) → is_open_in (get nat_eq c.outcomes u) ≡ is_open (run s xs) u
-  open_here u = open_as (get nat_eq c.outcomes u) ∙ ap is_open_outcome (f.outcomes u) ∙ sym (open_by_outcome One s xs u well lawful)
+  open_here u = open_as (get nat_eq c.outcomes u) ∙ ap is_open_outcome (f.outcomes u) ∙ sym (open_by_outcome version s xs u well lawful)
 
-  limit_here : (limit error : ℕ) → is_limit_in c limit error ≡ is_limit One (run s xs) limit error
+  error_here : (v : Version) (error : ℕ) → may_be_error_in v c error ≡ may_be_error v (run s xs) error
+  error_here One error = ap (λ n. n == no_queue) (ap (λ l. slice_index_or l error no_queue) f.errors ∙ error_at (run s xs).definitions error)
+  error_here Two error = refl
+
+  limit_here : (limit error : ℕ) → is_limit_in version c limit error ≡ is_limit version (run s xs) limit error
   limit_here limit error =
-      limit_as (error == no_queue) (nat_lt error (length c.errors.items)) (slice_index_or c.errors.items error no_queue == no_queue) limit
-      ∙ ap (λ b. ((limit == 0) && (error == no_queue)) || (nat_le 1 limit && (nat_le limit 1000 && (b && (slice_index_or c.errors.items error no_queue == no_queue))))) (defined_here error)
-      ∙ ap (λ n. ((limit == 0) && (error == no_queue)) || (nat_le 1 limit && (nat_le limit 1000 && (nat_lt error (length (run s xs).definitions) && (n == no_queue))))) (ap (λ l. slice_index_or l error no_queue) f.errors ∙ error_at (run s xs).definitions error)
+      limit_as (error == no_queue) (nat_lt error (length c.errors.items)) (may_be_error_in version c error) limit
+      ∙ (λ i. ((limit == 0) && (error == no_queue)) || (nat_le 1 limit && (nat_le limit 1000 && (defined_here error i && error_here version error i))))
+
+  kill_here : (v : Version) (queue : ℕ) (element : ℕ) → may_kill_in v c queue ≡ is_lawful v (run s xs) (model.Kill queue element)
+  kill_here One queue element = refl
+  kill_here Two queue element = defined_here queue
 
   operation_here : (u q : ℕ) (by : Option By)
       → (nat_lt q (length c.errors.items) && (is_open_in (get nat_eq c.outcomes u) && is_known_in c q by)) ≡ (machine.is_defined (run s xs) q && (is_open (run s xs) u && is_known (run s xs) q by))
   operation_here u q by = λ i. defined_here q i && (open_here u i && known_as c s xs q by f i)
 
   -- what the catalogue takes is what is lawful
-  pub lawful_here : (r : Record) → may_take c r ≡ is_lawful One (run s xs) (record_of r)
+  pub lawful_here : (r : Record) → may_take version c r ≡ is_lawful version (run s xs) (record_of r)
   lawful_here (Define limit error name) = λ i. limit_here limit error.0 i && (nat_lt (count c s xs f i) 4096 && not (f.names name i))
   lawful_here (Register queue name) = defined_here queue.0
   lawful_here (Deregister queue name) = f.registrants (queue.0, name)
@@ -85,3 +92,4 @@ module _ (c : Catalogue) (s : State) (xs : List model.Record) (f : Follows c s x
   lawful_here (Commit unit) = open_here unit.0
   lawful_here (Abort unit) = open_here unit.0
   lawful_here (Checkpoint bytes) = refl
+  lawful_here (Kill queue element) = kill_here version queue.0 element.0

@@ -9,7 +9,7 @@ use Rattle.std.proofs.lemmas.List.Elements.{filter-append}
 use Rattle.std.proofs.Math.Seq.{take-suc}
 use Rattle.indexmap.specs.IndexMap.{insert_entry}
 use Rattle.rq_model.specs.Records as model
-use Rattle.rq_model.specs.Records.{One}
+use Rattle.rq_model.specs.Records.{Version}
 use Rattle.rq_model.specs.States.{State}
 use Rattle.rq_model.specs.Machine.{is_lawful, all_lawful, is_open, step, run, outcome_from}
 use Rattle.rq_model.specs.WellFormed.{Ordered, IsWellFormed}
@@ -17,7 +17,7 @@ use Rattle.rq_model.specs.Laws.{begun, is_still_open}
 use Rattle.rq_model.proofs.Lists.{by_cases, filter_same, each_weaker, each_append}
 use Rattle.rq_model.proofs.Numbers.{numbers_after}
 use Rattle.rq_record.specs.declared.record.Record.{Record}
-use Rattle.rq_record.specs.declared.record.Record.TheVariants.{Define, Register, Deregister, Begin, Enqueue, Dequeue, Commit, Abort, Checkpoint}
+use Rattle.rq_record.specs.declared.record.Record.TheVariants.{Define, Register, Deregister, Begin, Enqueue, Dequeue, Commit, Abort, Checkpoint, Kill}
 use Rattle.rq_record.specs.declared.record.UnitNo.{UnitNo}
 use Rattle.rq_record.specs.Views.{record_of}
 use Rattle.rq_state.specs.Views.{unit_of}
@@ -111,12 +111,12 @@ begun_push (model.Abort u ∷ xs) r = begun_push xs r
 begun_push (model.Checkpoint bytes ∷ xs) r = begun_push xs r
 begun_push (model.Kill q i ∷ xs) r = begun_push xs r
 
-begun_below : (s : State) (xs : List model.Record) → all_lawful One s xs ≡ true → AllByRecursion (λ v. v ≤ (run s xs).greatest) (begun xs)
-begun_below s [] h = tt
-begun_below s (x ∷ xs) h = at x (and_parts (is_lawful One s x) (all_lawful One (step s x) xs) h).1 (begun_below (step s x) xs (and_parts (is_lawful One s x) (all_lawful One (step s x) xs) h).1)
+begun_below : (version : Version) (s : State) (xs : List model.Record) → all_lawful version s xs ≡ true → AllByRecursion (λ v. v ≤ (run s xs).greatest) (begun xs)
+begun_below version s [] h = tt
+begun_below version s (x ∷ xs) h = at x (and_parts (is_lawful version s x) (all_lawful version (step s x) xs) h).1 (begun_below version (step s x) xs (and_parts (is_lawful version s x) (all_lawful version (step s x) xs) h).1)
   where
-    at : (x : model.Record) → all_lawful One (step s x) xs ≡ true → AllByRecursion (λ v. v ≤ (run (step s x) xs).greatest) (begun xs) → AllByRecursion (λ v. v ≤ (run (step s x) xs).greatest) (begun (x ∷ xs))
-    at (model.Begin u) l k = (greatest_rises One (step s (model.Begin u)) xs l, k)
+    at : (x : model.Record) → all_lawful version (step s x) xs ≡ true → AllByRecursion (λ v. v ≤ (run (step s x) xs).greatest) (begun xs) → AllByRecursion (λ v. v ≤ (run (step s x) xs).greatest) (begun (x ∷ xs))
+    at (model.Begin u) l k = (greatest_rises version (step s (model.Begin u)) xs l, k)
     at (model.Define limit error name) l k = k
     at (model.Register q name) l k = k
     at (model.Deregister q name) l k = k
@@ -127,14 +127,14 @@ begun_below s (x ∷ xs) h = at x (and_parts (is_lawful One s x) (all_lawful One
     at (model.Checkpoint bytes) l k = k
     at (model.Kill q i) l k = k
 
-module _ (s : State) (xs : List model.Record) (well : IsWellFormed s) (lawful : all_lawful One s xs ≡ true) where
+module _ (version : Version) (s : State) (xs : List model.Record) (well : IsWellFormed s) (lawful : all_lawful version s xs ≡ true) where
   seen_below : AllByRecursion (λ v. v ≤ (run s xs).greatest) (s.units ++ begun xs)
   seen_below = each_append (λ v. v ≤ (run s xs).greatest) s.units (begun xs)
-      (each_weaker (λ v. (1 ≤ v) × (v ≤ s.greatest)) (λ v. v ≤ (run s xs).greatest) (λ v k. omega (arith, k.1, greatest_rises One s xs lawful)) s.units well.units) (begun_below s xs lawful)
+      (each_weaker (λ v. (1 ≤ v) × (v ≤ s.greatest)) (λ v. v ≤ (run s xs).greatest) (λ v k. omega (arith, k.1, greatest_rises version s xs lawful)) s.units well.units) (begun_below version s xs lawful)
 
   -- the units that are open after the run are those begun that have no outcome yet
   units_here : (run s xs).units ≡ filter (λ u. is_still_open (outcome_from s.next u xs)) (s.units ++ begun xs)
-  units_here = (numbers_after One s xs well lawful).units
+  units_here = (numbers_after version s xs well lawful).units
 
   -- an open unit was begun
   open_seen : (u : ℕ) → is_open (run s xs) u ≡ true → list_any (λ v. v == u) (s.units ++ begun xs) ≡ true
@@ -158,7 +158,7 @@ module _ (s : State) (xs : List model.Record) (well : IsWellFormed s) (lawful : 
           (each_weaker (λ u. list_any (λ v. v == u) l ≡ true) (λ u. list_any (λ v. v == u) (filter p l) ≡ p u) (λ u h. any_filter p u l ∙ ap (λ b. b && p u) h) l (members l))
 
   -- a lawful record adds the unit that it begins
-  pub entries_step : (place : ℕ) (r : Record) (es : List (ℕ × Outcome)) → is_lawful One (run s xs) (record_of r) ≡ true → keys_of es ≡ s.units ++ begun xs
+  pub entries_step : (place : ℕ) (r : Record) (es : List (ℕ × Outcome)) → is_lawful version (run s xs) (record_of r) ≡ true → keys_of es ≡ s.units ++ begun xs
       → keys_of (entries_after place r es) ≡ s.units ++ begun (xs ++ record_of r ∷ [])
   entries_step place r es ok k = at r ok ∙ ap (λ l. s.units ++ l) (sym (begun_push xs (record_of r)))
     where
@@ -168,7 +168,7 @@ module _ (s : State) (xs : List model.Record) (well : IsWellFormed s) (lawful : 
       closes : (u : ℕ) (o : Outcome) → is_open (run s xs) u ≡ true → keys_of (insert_entry nat_eq es u o) ≡ s.units ++ (begun xs ++ [])
       closes u o h = seen_stays u o es (ap (list_any (λ v. v == u)) k ∙ open_seen u h) ∙ same
 
-      at : (r : Record) → is_lawful One (run s xs) (record_of r) ≡ true → keys_of (entries_after place r es) ≡ s.units ++ (begun xs ++ begun (record_of r ∷ []))
+      at : (r : Record) → is_lawful version (run s xs) (record_of r) ≡ true → keys_of (entries_after place r es) ≡ s.units ++ (begun xs ++ begun (record_of r ∷ []))
       at (Begin unit) l =
           keys_of_last unit.0 Open es (subst (AllByRecursion (λ v. v < unit.0)) (sym k) (each_weaker (λ v. v ≤ (run s xs).greatest) (λ v. v < unit.0) (λ v m. omega (arith, m, ltb-true (run s xs).greatest unit.0 l)) (s.units ++ begun xs) seen_below))
           ∙ ap (λ l. l ++ unit.0 ∷ []) k ∙ append_assoc s.units (begun xs) (unit.0 ∷ [])
@@ -180,3 +180,4 @@ module _ (s : State) (xs : List model.Record) (well : IsWellFormed s) (lawful : 
       at (Enqueue unit queue priority by payload) l = same
       at (Dequeue unit queue by) l = same
       at (Checkpoint bytes) l = same
+      at (Kill queue element) l = same

@@ -1,7 +1,7 @@
 -- What an analysis says.
 use Rattle.std.specs.Prelude.{ℕ, ◌≡◌, Bool, List, length, filter, nat_eq, Option, option_map, slice_index_or}
 use Rattle.indexmap.specs.IndexMap.{get, keys}
-use Rattle.rq_model.specs.Records.{Record, One}
+use Rattle.rq_model.specs.Records.{Record, Version}
 use Rattle.rq_model.specs.States.{State}
 use Rattle.rq_model.specs.Machine as machine
 use Rattle.rq_model.specs.Machine.{lawful_front, run}
@@ -29,13 +29,13 @@ is_open_at a place = is_open_in (get nat_eq a.catalogue.outcomes (unit_at a plac
 abbrev pub touched : Analysis → ℕ → List (ℕ × ℕ)
 touched a queue = listed a.catalogue.touching.items queue
 
--- the length of the longest lawful beginning, each unit's outcome in it, what of it touches each queue, and the counts, the
+-- by the rules of the version: the length of the longest lawful beginning, each unit's outcome in it, what of it touches each queue, and the counts, the
 -- open units and the catalogue after it
-pub record IsAnalysis (s : State) (rs : List Record) (a : Analysis) : Type 0 where
-  pub lawful : a.lawful ≡ length (lawful_front One s rs)
-  pub outcomes : (unit : ℕ) → outcome_in a unit ≡ machine.outcome s (lawful_front One s rs) unit
-  pub touching : (queue : ℕ) → touched a queue ≡ numbered s (lawful_front One s rs) queue
-  pub committed : a.catalogue.committed ≡ (run s (lawful_front One s rs)).committed
-  pub aborted : a.catalogue.aborted ≡ (run s (lawful_front One s rs)).aborted
-  pub units : open_in a ≡ (run s (lawful_front One s rs)).units
-  pub catalogue : Follows a.catalogue s (lawful_front One s rs)
+pub record IsAnalysis (version : Version) (s : State) (rs : List Record) (a : Analysis) : Type 0 where
+  pub lawful : a.lawful ≡ length (lawful_front version s rs)
+  pub outcomes : (unit : ℕ) → outcome_in a unit ≡ machine.outcome s (lawful_front version s rs) unit
+  pub touching : (queue : ℕ) → touched a queue ≡ numbered s (lawful_front version s rs) queue
+  pub committed : a.catalogue.committed ≡ (run s (lawful_front version s rs)).committed
+  pub aborted : a.catalogue.aborted ≡ (run s (lawful_front version s rs)).aborted
+  pub units : open_in a ≡ (run s (lawful_front version s rs)).units
+  pub catalogue : Follows a.catalogue s (lawful_front version s rs)

@@ -3,7 +3,7 @@ use Rattle.std.specs.Prelude.{ℕ, Bool, true, false, not, ◌&&◌, ◌||◌, �
 use Rattle.std.specs.Cmp.Lexicographic.{pointwise}
 use Rattle.indexmap.specs.IndexMap.{get, insert_entry, keys}
 use Rattle.indexmap.specs.IndexSet.{contains}
-use Rattle.rq_model.specs.Records.{no_queue}
+use Rattle.rq_model.specs.Records.{By, Version, One, Two, no_queue}
 use Rattle.rq_model.specs.Records as model
 use Rattle.rq_model.specs.States.{State, Definition}
 use Rattle.rq_model.specs.Machine.{is_registered, run, outcome}
@@ -11,9 +11,8 @@ use Rattle.std.specs.List.{list_any, AllByRecursion}
 use Rattle.std.specs.Str.{bytes_eq}
 use Rattle.rq_model.specs.Laws.{begun}
 use Rattle.rq_model.specs.Queues.{is_engaged, engages}
-use Rattle.rq_model.specs.Records.{By}
 use Rattle.rq_record.specs.declared.record.Record.{Record}
-use Rattle.rq_record.specs.declared.record.Record.TheVariants.{Define, Register, Deregister, Begin, Enqueue, Dequeue, Commit, Abort, Checkpoint}
+use Rattle.rq_record.specs.declared.record.Record.TheVariants.{Define, Register, Deregister, Begin, Enqueue, Dequeue, Commit, Abort, Checkpoint, Kill}
 use Rattle.rq_catalog.specs.Outcomes.{is_open_in, outcome_of}
 use Rattle.rq_catalog.specs.Lists.{is_engaged_in, listed, numbered}
 use Rattle.rq_catalog.specs.declared.outcome.Outcome.{Outcome}
@@ -27,22 +26,33 @@ abbrev pub is_known_in : Catalogue → ℕ → Option By → Bool
 is_known_in c queue None = true
 is_known_in c queue (Some by) = contains key_eq c.registrants (queue, by.name)
 
-abbrev pub is_limit_in : Catalogue → ℕ → ℕ → Bool
-is_limit_in c limit error =
+-- an error queue of version 1 has none itself
+abbrev pub may_be_error_in : Version → Catalogue → ℕ → Bool
+may_be_error_in One c error = slice_index_or c.errors.items error no_queue == no_queue
+may_be_error_in Two c error = true
+
+abbrev pub is_limit_in : Version → Catalogue → ℕ → ℕ → Bool
+is_limit_in version c limit error =
     if limit == 0 then error == no_queue
-    else (nat_le limit 1000 && (nat_lt error (length c.errors.items) && (slice_index_or c.errors.items error no_queue == no_queue)))
+    else (nat_le limit 1000 && (nat_lt error (length c.errors.items) && may_be_error_in version c error))
+
+-- version 1 has no KILL
+abbrev pub may_kill_in : Version → Catalogue → ℕ → Bool
+may_kill_in One c queue = false
+may_kill_in Two c queue = nat_lt queue (length c.errors.items)
 
 -- the record is lawful by the catalogue
-abbrev pub may_take : Catalogue → Record → Bool
-may_take c (Define limit error name) = is_limit_in c limit error.0 && (nat_lt (length c.errors.items) 4096 && not (contains (pointwise nat_eq) c.names name))
-may_take c (Register queue name) = nat_lt queue.0 (length c.errors.items)
-may_take c (Deregister queue name) = contains key_eq c.registrants (queue.0, name)
-may_take c (Begin unit) = nat_lt c.greatest unit.0
-may_take c (Enqueue unit queue priority by payload) = nat_lt queue.0 (length c.errors.items) && (is_open_in (get nat_eq c.outcomes unit.0) && is_known_in c queue.0 by)
-may_take c (Dequeue unit queue by) = nat_lt queue.0 (length c.errors.items) && (is_open_in (get nat_eq c.outcomes unit.0) && is_known_in c queue.0 by)
-may_take c (Commit unit) = is_open_in (get nat_eq c.outcomes unit.0)
-may_take c (Abort unit) = is_open_in (get nat_eq c.outcomes unit.0)
-may_take c (Checkpoint bytes) = true
+abbrev pub may_take : Version → Catalogue → Record → Bool
+may_take version c (Define limit error name) = is_limit_in version c limit error.0 && (nat_lt (length c.errors.items) 4096 && not (contains (pointwise nat_eq) c.names name))
+may_take version c (Register queue name) = nat_lt queue.0 (length c.errors.items)
+may_take version c (Deregister queue name) = contains key_eq c.registrants (queue.0, name)
+may_take version c (Begin unit) = nat_lt c.greatest unit.0
+may_take version c (Enqueue unit queue priority by payload) = nat_lt queue.0 (length c.errors.items) && (is_open_in (get nat_eq c.outcomes unit.0) && is_known_in c queue.0 by)
+may_take version c (Dequeue unit queue by) = nat_lt queue.0 (length c.errors.items) && (is_open_in (get nat_eq c.outcomes unit.0) && is_known_in c queue.0 by)
+may_take version c (Commit unit) = is_open_in (get nat_eq c.outcomes unit.0)
+may_take version c (Abort unit) = is_open_in (get nat_eq c.outcomes unit.0)
+may_take version c (Checkpoint bytes) = true
+may_take version c (Kill queue element) = may_kill_in version c queue.0
 
 -- What a record changes, field by field.
 
@@ -102,6 +112,7 @@ touches_in c (Enqueue unit queue priority by payload) q = queue.0 == q
 touches_in c (Dequeue unit queue by) q = queue.0 == q
 touches_in c (Commit unit) q = is_engaged_in (get nat_eq c.engaged unit.0) q
 touches_in c (Abort unit) q = is_engaged_in (get nat_eq c.engaged unit.0) q
+touches_in c (Kill queue element) q = queue.0 == q
 touches_in c r q = false
 
 -- the place is after those of the table, and leaves room to count one unit more

@@ -2,10 +2,10 @@
 
 ghost use Rattle.std.specs.Prelude.{◌≡◌, ◌≤◌, ◌^◌, ◌+◌, ◌<◌, ℕ, List, length, map, take, IfOk, IfErr, OnOk, ◌++◌, ◌∷◌, [], Some, None, option_map, if◌then◌else◌};
 ghost use Rattle.indexmap.specs.IndexMap.{keys};
-ghost use Rattle.rq_model.specs.Records.{Record as ModelRecord};
+ghost use Rattle.rq_model.specs.Records.{Record as ModelRecord, One};
 ghost use Rattle.rq_model.specs.States.{State};
 ghost use Rattle.rq_model.specs.Queues.{touching};
-ghost use Rattle.rq_record.specs.Views.{record_of};
+ghost use Rattle.rq_record.specs.Views.{record_of, version_of};
 ghost use Rattle.rq_state.specs.Views.{unit_of};
 ghost use Rattle.rq_record.specs.declared.fault.Fault.TheVariants.{Resources};
 ghost use Rattle.rq_catalog.specs.Outcomes.{outcome_of};
@@ -16,7 +16,7 @@ use crate::catalogue::Catalogue;
 use crate::outcome::Outcome;
 use crate::start::catalogue_of;
 use indexmap::IndexMap;
-use rq_record::{Fault, QueueNo, Record, UnitNo};
+use rq_record::{Fault, QueueNo, Record, UnitNo, Version};
 use rq_state::State;
 use std::alloc::Global;
 
@@ -28,11 +28,26 @@ pub struct Analysis {
     catalogue: Catalogue,
 }
 
-/// Analyses the records that follow the state. A record is lawful where it may come after those before it; the first that
-/// is not lawful ends the pass, and nothing is said of it or of those behind it. Refused with `Resources` alone.
+/// Analyses the records of a log of version 1 that follow the state, as `analyse_in` does.
 pub fn analyse(alloc: Global, state: &State, records: &[Record]) -> Result<Analysis, Fault>
     requires { state.now.next + length records.now < 2 ^ 64 }
-    ensures analysis { IfOk result (IsAnalysis state.now (map record_of records.now)) }
+    ensures analysis { IfOk result (IsAnalysis One state.now (map record_of records.now)) }
+    ensures refused { IfErr result (λ e. e ≡ Resources) }
+{
+    analyse_in(alloc, Version::One, state, records)
+}
+
+/// Analyses the records that follow the state, by the rules of the version. A record is lawful where it may come after those
+/// before it; the first that is not lawful ends the pass, and nothing is said of it or of those behind it. Refused with
+/// `Resources` alone.
+pub fn analyse_in(
+    alloc: Global,
+    version: Version,
+    state: &State,
+    records: &[Record],
+) -> Result<Analysis, Fault>
+    requires { state.now.next + length records.now < 2 ^ 64 }
+    ensures analysis { IfOk result (IsAnalysis (version_of version) state.now (map record_of records.now)) }
     ensures refused { IfErr result (λ e. e ≡ Resources) }
 {
     state.is_well_formed();
@@ -40,17 +55,23 @@ pub fn analyse(alloc: Global, state: &State, records: &[Record]) -> Result<Analy
         lawful: 0,
         catalogue: catalogue_of(alloc, state)?,
     };
-    none.go_on(alloc, state, records)
+    none.go_on(alloc, version, state, records)
 }
 
 impl Analysis {
-    /// Goes on behind the records that were analysed, which are lawful and with which these begin: so the analysis of
-    /// them all costs no more than what is new. Refused with `Resources` alone.
-    pub fn go_on(self, alloc: Global, state: &State, records: &[Record]) -> Result<Analysis, Fault>
+    /// Goes on behind the records that were analysed by the rules of the version, which are lawful and with which these
+    /// begin: so the analysis of them all costs no more than what is new. Refused with `Resources` alone.
+    pub fn go_on(
+        self,
+        alloc: Global,
+        version: Version,
+        state: &State,
+        records: &[Record],
+    ) -> Result<Analysis, Fault>
         requires fits { state.now.next + length records.now < 2 ^ 64 }
         requires within { self.lawful ≤ length records.now }
-        requires analysed { IsAnalysis state.now (map record_of (take self.lawful records.now)) self }
-        ensures analysis { IfOk result (IsAnalysis state.now (map record_of records.now)) }
+        requires analysed { IsAnalysis (version_of version) state.now (map record_of (take self.lawful records.now)) self }
+        ensures analysis { IfOk result (IsAnalysis (version_of version) state.now (map record_of records.now)) }
         ensures refused { IfErr result (λ e. e ≡ Resources) }
     {
         let start = state.next();
@@ -58,7 +79,7 @@ impl Analysis {
         let mut lawful = self.lawful;
         while lawful < records.len() {
             let record = &records[lawful];
-            if !catalogue.may_take(record) {
+            if !catalogue.may_take(version, record) {
                 break;
             }
             catalogue.take(alloc, record, (start + lawful as u64, lawful))?;

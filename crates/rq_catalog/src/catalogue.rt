@@ -5,15 +5,16 @@ ghost use Rattle.indexmap.specs.IndexMap.{get, insert_entry};
 ghost use Rattle.indexmap.specs.IndexSet.{contains};
 ghost use Rattle.std.specs.List.{AllByRecursion};
 ghost use Rattle.std.specs.Cmp.Lexicographic.{pointwise};
+ghost use Rattle.rq_record.specs.Views.{version_of};
 ghost use Rattle.rq_record.specs.declared.fault.Fault.TheVariants.{Resources};
 ghost use Rattle.rq_catalog.specs.Lists.{is_engaged_in, listed};
 ghost use Rattle.rq_catalog.specs.Outcomes.{is_open_in};
-ghost use Rattle.rq_catalog.specs.Catalogues.{HasRoom, Takes, may_take, key_eq, is_known_in, is_limit_in};
+ghost use Rattle.rq_catalog.specs.Catalogues.{HasRoom, Takes, may_take, key_eq, is_known_in, is_limit_in, may_be_error_in, may_kill_in};
 
 use crate::lists::{engage, touch, touch_all};
 use crate::outcome::Outcome;
 use indexmap::{IndexMap, IndexSet};
-use rq_record::{By, Fault, Name, QueueNo, Record};
+use rq_record::{By, Fault, Name, QueueNo, Record, Version};
 use std::alloc::Global;
 
 /// What lawfulness looks at, which is queues, registrants and units, and what is noted on the way: the queues that each unit
@@ -59,24 +60,43 @@ impl Catalogue {
         }
     }
 
-    fn is_limit(&self, limit: u16, error: QueueNo) -> bool
-        ensures { result ≡ is_limit_in self.now limit error.0 }
+    // An error queue of version 1 has none itself.
+    fn may_be_error(&self, version: Version, error: u32) -> bool
+        requires { error < length self.now.errors.items }
+        ensures { result ≡ may_be_error_in (version_of version) self.now error }
+    {
+        match version {
+            Version::One => self.errors[error as usize] == QueueNo::NONE.0,
+            Version::Two => true,
+        }
+    }
+
+    fn is_limit(&self, version: Version, limit: u16, error: QueueNo) -> bool
+        ensures { result ≡ is_limit_in (version_of version) self.now limit error.0 }
     {
         if limit == 0 {
             return error.0 == QueueNo::NONE.0;
         }
-        limit <= 1000
-            && self.is_defined(error.0)
-            && self.errors[error.0 as usize] == QueueNo::NONE.0
+        limit <= 1000 && self.is_defined(error.0) && self.may_be_error(version, error.0)
     }
 
-    /// Whether the record is lawful here.
-    pub(crate) fn may_take(&self, next: &Record) -> bool
-        ensures { result ≡ may_take self.now next.now }
+    // Version 1 has no KILL.
+    fn may_kill(&self, version: Version, queue: QueueNo) -> bool
+        ensures { result ≡ may_kill_in (version_of version) self.now queue.0 }
+    {
+        match version {
+            Version::One => false,
+            Version::Two => self.is_defined(queue.0),
+        }
+    }
+
+    /// Whether the record is lawful here, by the rules of the version.
+    pub(crate) fn may_take(&self, version: Version, next: &Record) -> bool
+        ensures { result ≡ may_take (version_of version) self.now next.now }
     {
         match next {
             Record::Define { limit, error, name } => {
-                self.is_limit(*limit, *error)
+                self.is_limit(version, *limit, *error)
                     && self.errors.len() < 4096
                     && !self.names.contains(name)
             }
@@ -95,6 +115,7 @@ impl Catalogue {
             Record::Commit { unit } => self.is_open(unit.0),
             Record::Abort { unit } => self.is_open(unit.0),
             Record::Checkpoint { .. } => true,
+            Record::Kill { queue, .. } => self.may_kill(version, *queue),
         }
     }
 
@@ -135,6 +156,7 @@ impl Catalogue {
                 self.close(unit.0, Outcome::Aborted(op.0), op)
             }
             Record::Checkpoint { .. } => Ok(()),
+            Record::Kill { queue, .. } => touch(&mut self.touching, queue.0, op),
         }
     }
 

@@ -7,5 +7,5 @@ mod lists;
 mod outcome;
 mod start;
 
-pub use analysis::{Analysis, analyse, indices};
+pub use analysis::{Analysis, analyse, analyse_in, indices};
 pub use outcome::Outcome;

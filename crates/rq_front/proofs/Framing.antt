@@ -6,7 +6,7 @@ use Rattle.std.proofs.lemmas.List.{length-take, length-drop, drop-drop, get_or-d
 use Rattle.std.proofs.Math.Seq.{take-add}
 use Rattle.byteorder.specs.Endian.{big_bytes}
 use Rattle.sha2.specs.Sha256.{sha256}
-use Rattle.rq_model.specs.Records.{One}
+use Rattle.rq_model.specs.Records.{Version, One, Two}
 use Rattle.rq_model.specs.Frames.{stated, body_in, digest_in, HasFrame, HasRightFrame, HasHeader, before, magic}
 use Rattle.rq_model.proofs.Runs.{length-sha256}
 use Rattle.rq_record.proofs.Fields.{wide4}
@@ -19,8 +19,9 @@ pub bytes_behind : (at : ℕ) (b : List ℕ) → IsBytes b → IsBytes (drop at 
 bytes_behind at b fits i = rw get_or-drop (fits (at + i))
 
 -- bytes that begin with the header are 40 at least
-pub log_long : (b : List ℕ) → HasHeader One b → 40 ≤ length b
-log_long b e = omega (arith, ap length e, length-take 40 b, length-sha256 (magic One))
+pub log_long : (version : Version) (b : List ℕ) → HasHeader version b → 40 ≤ length b
+log_long One b e = omega (arith, ap length e, length-take 40 b, length-sha256 (magic One))
+log_long Two b e = omega (arith, ap length e, length-take 40 b, length-sha256 (magic Two))
 
 pub body_long : (bytes : List ℕ) → HasFrame bytes → length (body_in bytes) ≡ stated bytes
 body_long bytes frame = omega (arith, length-take (stated bytes) (drop 4 bytes), length-drop 4 bytes, frame.room)

@@ -1,6 +1,6 @@
 -- What `chain` answers.
 use Rattle.std.specs.Prelude.{ℕ, ◌+◌, ◌<◌, ◌≤◌, List, [], ◌∷◌, length, map, slice_range, ⊤}
-use Rattle.rq_model.specs.Records.{One}
+use Rattle.rq_model.specs.Records.{Version}
 use Rattle.rq_model.specs.Frames as model
 use Rattle.rq_model.specs.Frames.{HasHeader, log_limit}
 use Rattle.rq_front.specs.declared.spans.Span.{Span}
@@ -28,9 +28,13 @@ rest_of Cut = model.Cut
 rest_of Length = model.Length
 rest_of Digest = model.Digest
 
+-- the bytes begin with a header
+abbrev pub IsHeaded : List ℕ → Type 0
+IsHeaded b = (version : Version) × HasHeader version b
+
 -- why bytes are refused: they are too long for a log, or begin with no header; or memory ran out
 abbrev pub Refused : List ℕ → Fault → Type 0
 Refused b TooLong = log_limit < length b
-Refused b NotALog = (length b ≤ log_limit) × (HasHeader One b → ⊥)
+Refused b NotALog = (length b ≤ log_limit) × (IsHeaded b → ⊥)
 Refused b Resources = ⊤
 Refused b _ = ⊥

@@ -1,50 +1,36 @@
 //! The longest run of right frames in a log.
 
-ghost use Rattle.std.specs.Prelude.{◌≡◌, ◌≤◌, ◌+◌, ◌*◌, ◌↔◌, ℕ, length, IsTrue, IfOk, IfErr, OnOk, All};
-ghost use Rattle.rq_model.specs.Records.{One};
-ghost use Rattle.rq_model.specs.Frames.{HasHeader, IsFrameRun, log_limit};
-ghost use Rattle.rq_front.specs.Chains.{Refused, bodies_at, rest_of, spans_from};
+ghost use Rattle.std.specs.Prelude.{◌≡◌, ◌≤◌, ◌+◌, ◌*◌, ℕ, length, IfOk, IfErr, OnOk, All};
+ghost use Rattle.rq_model.specs.Frames.{IsFrameRun, log_limit};
+ghost use Rattle.rq_front.specs.Chains.{IsHeaded, Refused, bodies_at, rest_of, spans_from};
 ghost use Rattle.rq_front.specs.Walks.{IsChecked, Walks, spans_of};
 
 use crate::digests::first_wrong;
-use crate::{Chain, HEADER_LEN, LOG_LIMIT, MAGIC, Rest, Walk, lengths};
+use crate::{Chain, LOG_LIMIT, Rest, Walk, lengths, version};
 use rq_model::{frames_are_right, one_run};
 use rq_record::Fault;
-use sha2::{Digest, Sha256};
 use std::alloc::Global;
 use std::marker::Sync;
 use std::thread::Threads;
 
-// Whether the bytes begin with the header.
-fn is_log(bytes: &[u8]) -> bool
-    ensures { IsTrue result ↔ HasHeader One bytes.now }
-{
-    if bytes.len() < HEADER_LEN {
-        return false;
-    }
-    let digest = Sha256::digest(MAGIC);
-    &bytes[..8] == MAGIC.as_slice() && &bytes[8..HEADER_LEN] == digest.as_slice()
-}
-
 /// The frames of a log from the place `from` on by their lengths alone, and what follows them. Whoever has work for the
 /// bodies that needs no digest does it while `Walk::checked` runs.
 ///
-/// `TooLong` answers more than 4,294,967,295 bytes, and otherwise `NotALog` bytes that do not begin with the header of
-/// version 1; `Resources` where memory runs out.
+/// `TooLong` answers more than 4,294,967,295 bytes, and otherwise `NotALog` bytes that begin with no header; `Resources` where memory runs out.
 pub fn walk(alloc: Global, bytes: &[u8], from: usize) -> Result<Walk, Fault>
     requires after { 40 ≤ from }
     requires within { 40 ≤ length bytes.now → from ≤ length bytes.now }
     ensures walk { IfOk result (Walks bytes.now from) }
     ensures inside { IfOk result (λ w. All (λ s. s.start + s.len ≤ length bytes.now) (spans_of w)) }
-    ensures log { OnOk result ((length bytes.now ≤ log_limit) × HasHeader One bytes.now) }
+    ensures log { OnOk result ((length bytes.now ≤ log_limit) × IsHeaded bytes.now) }
     ensures refused { IfErr result (Refused bytes.now) }
 {
     if bytes.len() > LOG_LIMIT {
         return Err(Fault::TooLong);
     }
-    if !is_log(bytes) {
+    let Some(_version) = version(bytes) else {
         return Err(Fault::NotALog);
-    }
+    };
     let found = lengths::walk(alloc, bytes, from)?;
     Ok(Walk { found })
 }
@@ -74,8 +60,7 @@ impl Walk {
 /// The longest run of right frames in a log from the place `from` on, and what follows it. Where the runtime gives
 /// threads, they check the digests in pieces of `grain` frames or more; the answer is the same for any number of them.
 ///
-/// `TooLong` answers more than 4,294,967,295 bytes, and otherwise `NotALog` bytes that do not begin with the header of
-/// version 1; `Resources` where memory runs out.
+/// `TooLong` answers more than 4,294,967,295 bytes, and otherwise `NotALog` bytes that begin with no header; `Resources` where memory runs out.
 pub fn chain<R: Threads + Sync>(
     rt: &R,
     alloc: Global,
@@ -91,7 +76,7 @@ pub fn chain<R: Threads + Sync>(
     ensures inside { IfOk result (λ c. All (λ s. s.start + s.len ≤ length bytes.now) c.spans.items) }
     // A frame has 37 bytes at least.
     ensures few { IfOk result (λ c. from + 37 * length c.spans.items ≤ length bytes.now) }
-    ensures log { OnOk result ((length bytes.now ≤ log_limit) × HasHeader One bytes.now) }
+    ensures log { OnOk result ((length bytes.now ≤ log_limit) × IsHeaded bytes.now) }
     ensures refused { IfErr result (Refused bytes.now) }
 {
     let walk = walk(alloc, bytes, from)?;

@@ -3,16 +3,15 @@
 
 mod digests;
 mod finding;
+mod headers;
 mod lengths;
 mod spans;
 mod writing;
 
 pub use finding::{chain, walk};
+pub use headers::version;
 pub use spans::{Chain, Rest, Span, Walk};
-pub use writing::{frame, header};
-
-// The name of the format, and its version.
-pub(crate) const MAGIC: [u8; 8] = *b"RQLOG\0\0\x01";
+pub use writing::{frame, header, header_of};
 
 // The name, the version and their digest.
 pub(crate) const HEADER_LEN: usize = 40;

@@ -4,25 +4,35 @@ ghost use Rattle.std.specs.Prelude.{length};
 ghost use Rattle.rq_model.specs.Records.{One};
 ghost use Rattle.rq_model.specs.Frames.{IsBodyLength};
 ghost use Rattle.rq_model.specs.Frames as frames;
+ghost use Rattle.rq_record.specs.Views.{version_of};
 ghost use Rattle.rq_record.specs.Writing.{Appends};
 
-use crate::{FRAME_LEN, HEADER_LEN, MAGIC};
+use crate::headers::magic;
+use crate::{FRAME_LEN, HEADER_LEN};
 use byteorder::{BigEndian, ByteOrder};
-use rq_record::Fault;
+use rq_record::{Fault, Version};
 use sha2::{Digest, Sha256};
 
-/// Appends the header of a log of version 1: `RQLOG`, two zero bytes, the version, and the SHA-256 (FIPS 180-4) of these
-/// 8 bytes.
+/// Appends the header of a log of this version: `RQLOG`, two zero bytes, the version, and the SHA-256 (FIPS 180-4) of
+/// these 8 bytes.
 ///
 /// `Resources` answers where memory runs out; `out` is then as before.
+pub fn header_of(version: Version, out: &mut Vec<u8>) -> Result<(), Fault>
+    ensures { Appends out.old.items out.new.items (frames.header (version_of version)) result }
+{
+    out.reserve(HEADER_LEN)?;
+    let magic = magic(version);
+    let digest = Sha256::digest(magic);
+    out.extend_from_slice(&magic).unwrap();
+    out.extend_from_slice(&digest).unwrap();
+    Ok(())
+}
+
+/// Appends the header of a log of version 1: `header_of` of that version.
 pub fn header(out: &mut Vec<u8>) -> Result<(), Fault>
     ensures { Appends out.old.items out.new.items (frames.header One) result }
 {
-    out.reserve(HEADER_LEN)?;
-    let digest = Sha256::digest(MAGIC);
-    out.extend_from_slice(&MAGIC).unwrap();
-    out.extend_from_slice(&digest).unwrap();
-    Ok(())
+    header_of(Version::One, out)
 }
 
 /// Appends the frame of a body that follows the 32 bytes `prev`: the length of the body in 4 bytes, the body, and the

@@ -21,27 +21,36 @@ pub(crate) fn printable(bytes: &[u8]) -> Option<&str> {
     }
 }
 
-// Puts the first characters of a text, between quotation marks.
-fn put_quoted(text: &mut String, word: &str, most: usize) -> Result<(), AllocError> {
+// Puts the first characters of a text, between quotation marks, and answers how many bytes these have.
+fn put_quoted(text: &mut String, word: &str, most: usize) -> Result<usize, AllocError> {
+    let mut shown: usize = 0;
     text.push('"')?;
     for c in word.chars().take(most) {
         if c == '"' || c == '\\' {
             text.push('\\')?;
         }
         text.push(c)?;
+        shown = shown.saturating_add(c.len_utf8());
     }
-    text.push('"')
+    text.push('"')?;
+    Ok(shown)
 }
 
-// Puts the first bytes as digits, two each.
-fn put_hex(alloc: Global, text: &mut String, bytes: &[u8], most: usize) -> Result<(), AllocError> {
+// Puts the first bytes as digits, two each, and answers how many these are.
+fn put_hex(
+    alloc: Global,
+    text: &mut String,
+    bytes: &[u8],
+    most: usize,
+) -> Result<usize, AllocError> {
     let shown = bytes.len().min(most);
     text.push_str("hex ")?;
-    text.push_str(hex::encode(alloc, &bytes[..shown])?.as_str())
+    text.push_str(hex::encode(alloc, &bytes[..shown])?.as_str())?;
+    Ok(shown)
 }
 
 /// Puts bytes as a text where they are printable, else as digits, and `-` for none; the first of them alone where they are
-/// not wanted in full, with their number behind.
+/// not wanted in full, and then their number behind, if these are not all.
 pub(crate) fn put_bytes(
     alloc: Global,
     text: &mut String,
@@ -53,11 +62,11 @@ pub(crate) fn put_bytes(
     }
     let count = bytes.len();
     let most = if full { count } else { SHOWN };
-    match printable(bytes) {
+    let shown = match printable(bytes) {
         Some(word) => put_quoted(text, word, most)?,
         None => put_hex(alloc, text, bytes, most)?,
-    }
-    if count > most {
+    };
+    if count > shown {
         write!(text, ".. {count} bytes")?;
     }
     Ok(())

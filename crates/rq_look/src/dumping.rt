@@ -1,8 +1,7 @@
 //! A line for each record of a log.
 
 ghost use Rattle.std.specs.Prelude.{OnOk};
-ghost use Rattle.rq_model.specs.Records.{One};
-ghost use Rattle.rq_model.specs.Frames.{HasHeader};
+ghost use Rattle.rq_front.specs.Chains.{IsHeaded};
 
 use crate::ends::{End, end_of, put_end};
 use crate::frames::Walk;
@@ -94,7 +93,7 @@ pub fn dump<R, W>(
 where
     R: Threads + Sync,
     W: Write,
-    ensures { OnOk result (HasHeader One bytes.now) }
+    ensures { OnOk result (IsHeaded bytes.now) }
 {
     let end = end_of(rt, alloc, bytes, plan)?;
     let mut text = String::new(alloc);

@@ -1,17 +1,17 @@
 //! Where the front of a log ends, and why.
 
 ghost use Rattle.std.specs.Prelude.{◌≡◌, IfOk, OnOk};
-ghost use Rattle.rq_model.specs.Records.{One};
-ghost use Rattle.rq_model.specs.Frames.{HasHeader};
 ghost use Rattle.rq_model.specs.Fronts as fronts;
 ghost use Rattle.rq_model.specs.Fronts.{IsRestart};
+ghost use Rattle.rq_front.specs.Chains.{IsHeaded};
 ghost use Rattle.rq_restart.specs.Views.{why_of};
 ghost use Rattle.rq_look.specs.Looks as looks;
 
 use crate::frames::{first_frame, stated_length};
 use crate::misfits::misfit_of;
 use crate::rules::broken;
-use rq_record::{Fault, decode};
+use rq_front::version;
+use rq_record::{Fault, Version, decode_in};
 use rq_restart::{Open, Plan, Restarted, Why, front_state, restart};
 use sha2::{Digest, Sha256};
 use std::alloc::{AllocError, Global};
@@ -81,8 +81,8 @@ fn chain_reason(alloc: Global, before: &[u8], rest: &[u8]) -> Result<String, All
     format!(in alloc; "the digest is {stated}, and that of the bytes {digest}")
 }
 
-fn form_reason(alloc: Global, body: &[u8]) -> Result<String, AllocError> {
-    match misfit_of(body) {
+fn form_reason(alloc: Global, version: Version, body: &[u8]) -> Result<String, AllocError> {
+    match misfit_of(version, body) {
         Some((at, misfit)) => format!(in alloc; "byte {at} of the body: {misfit}"),
         None => String::from_str(alloc, "no record has the body"),
     }
@@ -91,13 +91,14 @@ fn form_reason(alloc: Global, body: &[u8]) -> Result<String, AllocError> {
 fn law_reason<R: Threads + Sync>(
     rt: &R,
     alloc: Global,
+    version: Version,
     bytes: &[u8],
     body: &[u8],
     plan: &Plan,
 ) -> Result<String, Fault> {
     let state = front_state(rt, alloc, bytes, plan)?;
-    let record = decode(alloc, body)?;
-    match broken(&state, &record) {
+    let record = decode_in(alloc, version, body)?;
+    match broken(version, &state, &record) {
         Some(rule) => Ok(format!(in alloc; "{rule}")?),
         None => Ok(String::from_str(alloc, "the record is not lawful")?),
     }
@@ -118,14 +119,17 @@ fn reason_of<R: Threads + Sync>(
     plan: &Plan,
 ) -> Result<String, Fault> {
     let (used, why) = end;
+    let Some(version) = version(bytes) else {
+        return Err(Fault::NotALog);
+    };
     let (before, rest) = bytes.split_at(bytes.len().min(used as usize));
     match why {
         Why::Whole => Ok(String::from_str(alloc, "nothing follows")?),
         Why::Cut => Ok(cut_reason(alloc, rest)?),
         Why::Length => Ok(length_reason(alloc, rest)?),
         Why::Chain => Ok(chain_reason(alloc, before, rest)?),
-        Why::Form => Ok(form_reason(alloc, body_of(rest))?),
-        Why::Law => law_reason(rt, alloc, bytes, body_of(rest), plan),
+        Why::Form => Ok(form_reason(alloc, version, body_of(rest))?),
+        Why::Law => law_reason(rt, alloc, version, bytes, body_of(rest), plan),
     }
 }
 
@@ -155,7 +159,7 @@ pub(crate) fn end_of<R: Threads + Sync>(
     bytes: &[u8],
     plan: &Plan,
 ) -> Result<End, Fault>
-    ensures log { OnOk result (HasHeader One bytes.now) }
+    ensures log { OnOk result (IsHeaded bytes.now) }
     ensures end { IfOk result (λ end. (r : fronts.Restarted) × IsRestart bytes.now r × (why_of end.why ≡ r.why)) }
 {
     let restarted = restart(rt, alloc, bytes, plan, &Open)?;

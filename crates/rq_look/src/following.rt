@@ -1,7 +1,7 @@
 //! What becomes of elements, record by record.
 
 use crate::numbered::Numbered;
-use rq_record::{QueueNo, Record, UnitNo};
+use rq_record::{ElemId, QueueNo, Record, UnitNo};
 use std::alloc::{AllocError, Global};
 use std::cmp::Reverse;
 use std::collections::{BTreeMap, BTreeSet};
@@ -14,11 +14,11 @@ pub(crate) enum Effect {
     Put,
     /// A unit takes it.
     Taken,
-    /// There is none to take.
+    /// There is none to take, or to kill.
     Nothing,
     /// It is free in a queue, for the unit that put it in has committed.
     Free(u32),
-    /// It is gone, for the unit that took it has committed.
+    /// It is gone, for the unit that took it has committed, or for it was killed.
     Gone,
     /// It was not put in after all.
     Undone,
@@ -157,6 +157,29 @@ impl Queues {
         })
     }
 
+    // A free element of the queue goes; one that a unit has, or another queue, stays.
+    fn kill(&mut self, queue: QueueNo, element: ElemId) -> Event {
+        let element = element.0;
+        let effect = if self.unshelve(queue, element) {
+            self.kept.remove(&element);
+            Effect::Gone
+        } else {
+            Effect::Nothing
+        };
+        Event { element, effect }
+    }
+
+    // Takes an element from the free ones of the queue, where it is one of them.
+    fn unshelve(&mut self, queue: QueueNo, element: u64) -> bool {
+        let Some(kept) = self.kept.get(&element).copied() else {
+            return false;
+        };
+        match self.shelves.get_mut(queue.0 as usize) {
+            Some(shelf) => shelf.free.remove(&(Reverse(kept.priority), element)),
+            None => false,
+        }
+    }
+
     fn commit_one(&mut self, owned: Owned) -> Result<Effect, AllocError> {
         if !owned.fresh {
             self.kept.remove(&owned.element);
@@ -250,6 +273,7 @@ impl Queues {
             Record::Dequeue { unit, queue, .. } => events.push(self.take(*unit, *queue)?)?,
             Record::Commit { unit } => self.end(unit.0, true, events)?,
             Record::Abort { unit } => self.end(unit.0, false, events)?,
+            Record::Kill { queue, element } => events.push(self.kill(*queue, *element))?,
             _ => {}
         }
         Ok(())

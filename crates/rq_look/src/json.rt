@@ -1,7 +1,7 @@
 //! What is written as JSON.
 
 use crate::ends::{End, why_word};
-use crate::numbered::{Numbered, by_of, kind_of, registrant_of, unit_of};
+use crate::numbered::{Numbered, by_of, element_of, kind_of, registrant_of, unit_of};
 use rq_record::{QueueNo, Record};
 use serde::Serialize;
 use std::alloc::{AllocError, Global};
@@ -34,6 +34,8 @@ pub(crate) struct Shown<'a> {
     unit: Option<u64>,
     #[serde(skip_serializing_if = "Option::is_none")]
     queue: Option<u32>,
+    #[serde(skip_serializing_if = "Option::is_none")]
+    element: Option<u64>,
     #[serde(skip_serializing_if = "Option::is_none")]
     name: Option<&'a str>,
     #[serde(skip_serializing_if = "Option::is_none")]
@@ -102,6 +104,7 @@ pub(crate) fn record_shown(alloc: Global, it: &Numbered) -> Result<Shown<'_>, Al
         kind: kind_of(record),
         unit: unit_of(record).map(|unit| unit.0),
         queue: it.queue().map(|queue| queue.0),
+        element: element_of(record).map(|element| element.0),
         name,
         limit,
         error,

@@ -11,6 +11,7 @@ mod json;
 mod lines;
 mod misfits;
 mod numbered;
+mod paging;
 mod reporting;
 mod rules;
 mod scripting;
@@ -21,6 +22,7 @@ mod wanted;
 
 pub use checking::{Findings, check};
 pub use dumping::dump;
+pub use paging::page;
 pub use reporting::{report, report_json};
 pub use rq_restart::{Fault, Plan};
 pub use scripting::script;

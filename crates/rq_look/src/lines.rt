@@ -75,6 +75,10 @@ fn put_fields(
             put_bytes(alloc, text, payload.bytes(), full)
         }
         Record::Dequeue { .. } => put_by(text, record),
+        Record::Kill { element, .. } => {
+            let element = element.0;
+            write!(text, " element {element}")
+        }
         Record::Checkpoint { bytes } => {
             text.push_str(" bytes ")?;
             put_bytes(alloc, text, bytes.bytes(), full)

@@ -1,5 +1,6 @@
 //! Where a body is none that a record has.
 
+use rq_record::Version;
 use std::fmt;
 
 // The most bytes of a name.
@@ -125,7 +126,7 @@ impl<'a> Rest<'a> {
     }
 }
 
-fn fits(kind: u8, rest: Rest<'_>) -> Result<(), Found> {
+fn fits(version: Version, kind: u8, rest: Rest<'_>) -> Result<(), Found> {
     match kind {
         1 => rest.behind(2, "limit")?.behind(4, "error queue")?.name(),
         2 | 3 => rest.behind(4, "queue")?.name(),
@@ -139,14 +140,18 @@ fn fits(kind: u8, rest: Rest<'_>) -> Result<(), Found> {
             rest.who()?.nothing()
         }
         9 => Ok(()),
+        10 if version == Version::Two => {
+            let rest = rest.behind(4, "queue")?;
+            rest.behind(8, "element")?.nothing()
+        }
         _ => Err((0, Misfit::Kind(kind))),
     }
 }
 
-/// Why the body spells no record, and at which of its bytes that shows; none where it spells one.
-pub(crate) fn misfit_of(body: &[u8]) -> Option<Found> {
+/// Why the body spells no record of the version, and at which of its bytes that shows; none where it spells one.
+pub(crate) fn misfit_of(version: Version, body: &[u8]) -> Option<Found> {
     match body {
         [] => Some((0, Misfit::Cut("kind"))),
-        [kind, bytes @ ..] => fits(*kind, Rest { bytes, at: 1 }).err(),
+        [kind, bytes @ ..] => fits(version, *kind, Rest { bytes, at: 1 }).err(),
     }
 }

@@ -1,7 +1,7 @@
 //! Records with their places and the queues that they are about.
 
 use crate::frames::Placed;
-use rq_record::{By, Fault, QueueNo, Record, UnitNo, decode};
+use rq_record::{By, ElemId, Fault, QueueNo, Record, UnitNo, Version, decode_in};
 use std::alloc::Global;
 
 /// A record of the front, with the offset of its frame, its number, and how many queues are defined before it.
@@ -14,13 +14,13 @@ pub(crate) struct Numbered {
 }
 
 impl Numbered {
-    /// The record that the body spells.
+    /// The record that the body spells. What has a record in version 1 has it in version 2 too.
     pub(crate) fn of(alloc: Global, placed: Placed<'_>, queues: u32) -> Result<Numbered, Fault> {
         Ok(Numbered {
             offset: placed.offset,
             number: placed.number,
             queues,
-            record: decode(alloc, placed.body)?,
+            record: decode_in(alloc, Version::Two, placed.body)?,
         })
     }
 
@@ -31,7 +31,8 @@ impl Numbered {
             Record::Register { queue, .. }
             | Record::Deregister { queue, .. }
             | Record::Enqueue { queue, .. }
-            | Record::Dequeue { queue, .. } => Some(*queue),
+            | Record::Dequeue { queue, .. }
+            | Record::Kill { queue, .. } => Some(*queue),
             _ => None,
         }
     }
@@ -76,6 +77,14 @@ pub(crate) fn registrant_of(record: &Record) -> Option<&str> {
     }
 }
 
+/// The element that a record kills.
+pub(crate) fn element_of(record: &Record) -> Option<ElemId> {
+    match record {
+        Record::Kill { element, .. } => Some(*element),
+        _ => None,
+    }
+}
+
 /// The word for a kind of record.
 pub(crate) fn kind_of(record: &Record) -> &'static str {
     match record {
@@ -88,5 +97,6 @@ pub(crate) fn kind_of(record: &Record) -> &'static str {
         Record::Commit { .. } => "commit",
         Record::Abort { .. } => "abort",
         Record::Checkpoint { .. } => "checkpoint",
+        Record::Kill { .. } => "kill",
     }
 }

@@ -1,8 +1,7 @@
 //! The report of a log, as text and as JSON.
 
 ghost use Rattle.std.specs.Prelude.{OnOk};
-ghost use Rattle.rq_model.specs.Records.{One};
-ghost use Rattle.rq_model.specs.Frames.{HasHeader};
+ghost use Rattle.rq_front.specs.Chains.{IsHeaded};
 
 use crate::ends::{End, end_after};
 use crate::json::{Bytes, Front, front_of, queue_number};
@@ -33,17 +32,19 @@ struct ElementShown<'a> {
     payload: Bytes<'a>,
 }
 
+/// The last operation of a registrant.
 #[derive(Clone, Copy, Debug, Serialize)]
-struct LastShown<'a> {
-    kind: &'a str,
-    tag: u64,
-    element: Option<u64>,
+pub(crate) struct LastShown<'a> {
+    pub(crate) kind: &'a str,
+    pub(crate) tag: u64,
+    pub(crate) element: Option<u64>,
 }
 
+/// A registrant, and what it did last.
 #[derive(Clone, Copy, Debug, Serialize)]
-struct RegistrantShown<'a> {
-    name: &'a str,
-    last: Option<LastShown<'a>>,
+pub(crate) struct RegistrantShown<'a> {
+    pub(crate) name: &'a str,
+    pub(crate) last: Option<LastShown<'a>>,
 }
 
 #[derive(Debug, Drop, Serialize)]
@@ -73,22 +74,35 @@ fn element_shown(alloc: Global, e: &Element) -> Result<ElementShown<'_>, AllocEr
     })
 }
 
-// The queue's free elements, in the order in which they would be taken.
+/// The queue's free elements, in the order in which they would be taken.
+pub(crate) fn free_elements(
+    alloc: Global,
+    state: &State,
+    queue: QueueNo,
+) -> Result<Vec<&Element>, AllocError> {
+    let mut found = Vec::new(alloc);
+    for place in state.elements_of(queue) {
+        if let Some(e) = state.elements().get(*place) {
+            if e.mark == Mark::Free {
+                found.push(e)?;
+            }
+        }
+    }
+    found.sort_unstable_by_key(|e| (Reverse(e.priority), e.id.0));
+    Ok(found)
+}
+
+// The same, shown.
 fn elements_shown(
     alloc: Global,
     state: &State,
     queue: QueueNo,
 ) -> Result<Vec<ElementShown<'_>>, AllocError> {
-    let mut found = Vec::new(alloc);
-    for place in state.elements_of(queue) {
-        if let Some(e) = state.elements().get(*place) {
-            if e.mark == Mark::Free {
-                found.push(element_shown(alloc, e)?)?;
-            }
-        }
+    let mut shown = Vec::new(alloc);
+    for e in free_elements(alloc, state, queue)? {
+        shown.push(element_shown(alloc, e)?)?;
     }
-    found.sort_unstable_by_key(|e| (Reverse(e.priority), e.id));
-    Ok(found)
+    Ok(shown)
 }
 
 fn last_shown(last: &Last) -> LastShown<'static> {
@@ -112,8 +126,8 @@ fn registrant_shown(r: &Registrant) -> RegistrantShown<'_> {
     }
 }
 
-// The queue's registrants, by name.
-fn registrants_shown(
+/// The queue's registrants, by name.
+pub(crate) fn registrants_shown(
     alloc: Global,
     state: &State,
     queue: QueueNo,
@@ -186,7 +200,7 @@ fn restarted_with<R: Threads + Sync>(
     plan: &Plan,
     wanted: Option<u32>,
 ) -> Result<Restarted, Trouble>
-    ensures { OnOk result (HasHeader One bytes.now) }
+    ensures { OnOk result (IsHeaded bytes.now) }
 {
     let restarted = restart(rt, alloc, bytes, plan, &Open)?;
     match wanted {
@@ -211,7 +225,7 @@ pub fn report_json<R, W>(
 where
     R: Threads + Sync,
     W: Write,
-    ensures { OnOk result (HasHeader One bytes.now) }
+    ensures { OnOk result (IsHeaded bytes.now) }
 {
     let restarted = restarted_with(rt, alloc, bytes, plan, wanted)?;
     let end = end_after(rt, alloc, bytes, &restarted, plan)?;
@@ -271,7 +285,7 @@ pub fn report<R, W>(
 where
     R: Threads + Sync,
     W: Write,
-    ensures { OnOk result (HasHeader One bytes.now) }
+    ensures { OnOk result (IsHeaded bytes.now) }
 {
     let restarted = restarted_with(rt, alloc, bytes, plan, wanted)?;
     let text = text_of(rt, alloc, &restarted, plan)?;

@@ -1,14 +1,15 @@
 //! Which rule of the machine a record breaks.
 
-ghost use Rattle.std.specs.Prelude.{◌≡◌, ◌==◌, ◌&&◌, not, nat_lt, is_some, length};
+ghost use Rattle.std.specs.Prelude.{◌≡◌, ℕ, ◌==◌, ◌&&◌, not, nat_lt, is_some, length};
 ghost use Rattle.std.specs.List.{list_any};
 ghost use Rattle.std.specs.Str.{bytes_eq};
-ghost use Rattle.rq_model.specs.Records.{One};
+ghost use Rattle.rq_model.specs.Records.{Kill};
 ghost use Rattle.rq_model.specs.States as model;
 ghost use Rattle.rq_model.specs.Machine as machine;
-ghost use Rattle.rq_record.specs.Views.{record_of};
+ghost use Rattle.rq_record.specs.Views.{record_of, version_of};
+ghost use Rattle.rq_look.specs.Rules.{takes_arrivals};
 
-use rq_record::{By, Name, QueueNo, Record, UnitNo};
+use rq_record::{By, Name, QueueNo, Record, UnitNo, Version};
 use rq_state::{Definition, Registrant, State};
 use std::fmt;
 
@@ -37,8 +38,10 @@ pub(crate) enum Rule {
     NoLimit(QueueNo),
     /// The limit is above the greatest.
     Above(u16),
-    /// The error queue has an error queue.
+    /// The error queue has an error queue, in version 1.
     Nested(QueueNo),
+    /// Version 1 has no KILL.
+    NoKill,
 }
 
 impl fmt::Display for Rule {
@@ -70,6 +73,7 @@ impl fmt::Display for Rule {
             ),
             Rule::Above(limit) => write!(f, "limit {limit} is above 1000"),
             Rule::Nested(error) => write!(f, "error queue {} has an error queue", error.0),
+            Rule::NoKill => write!(f, "version 1 has no kill"),
         }
     }
 }
@@ -168,24 +172,32 @@ fn not_above(state: &State, unit: UnitNo) -> Option<Rule>
     }
 }
 
-fn nested(state: &State, error: QueueNo) -> Option<Rule>
-    ensures { is_some result ≡ not (machine.is_defined state.now error.0 && machine.may_be_error One state.now error.0) }
+fn too_deep(version: Version, definition: &Definition, error: QueueNo) -> Option<Rule>
+    ensures { is_some result ≡ not (takes_arrivals (version_of version) definition.now) }
+{
+    match version {
+        Version::One if definition.error.0 != QueueNo::NONE.0 => Some(Rule::Nested(error)),
+        _ => None,
+    }
+}
+
+fn nested(version: Version, state: &State, error: QueueNo) -> Option<Rule>
+    ensures { is_some result ≡ not (machine.is_defined state.now error.0 && machine.may_be_error (version_of version) state.now error.0) }
 {
     match state.definitions().get(error.0 as usize) {
-        Some(definition) if definition.error.0 == QueueNo::NONE.0 => None,
-        Some(_) => Some(Rule::Nested(error)),
+        Some(definition) => too_deep(version, definition, error),
         None => Some(Rule::NotDefined(error)),
     }
 }
 
-fn wrong_limit(state: &State, limit: u16, error: QueueNo) -> Option<Rule>
-    ensures { is_some result ≡ not (machine.is_limit One state.now limit error.0) }
+fn wrong_limit(version: Version, state: &State, limit: u16, error: QueueNo) -> Option<Rule>
+    ensures { is_some result ≡ not (machine.is_limit (version_of version) state.now limit error.0) }
 {
     if limit > LIMIT {
         return Some(Rule::Above(limit));
     }
     if limit > 0 {
-        return nested(state, error);
+        return nested(version, state, error);
     }
     if error.0 == QueueNo::NONE.0 {
         None
@@ -207,10 +219,16 @@ fn taken(state: &State, name: Name) -> Option<Rule>
     }
 }
 
-fn wrong_definition(state: &State, limit: u16, error: QueueNo, name: Name) -> Option<Rule>
-    ensures { is_some result ≡ not (machine.is_limit One state.now limit error.0 && (nat_lt (length state.now.definitions) 4096 && not (list_any (λ d. bytes_eq d.name name) state.now.definitions))) }
+fn wrong_definition(
+    version: Version,
+    state: &State,
+    limit: u16,
+    error: QueueNo,
+    name: Name,
+) -> Option<Rule>
+    ensures { is_some result ≡ not (machine.is_limit (version_of version) state.now limit error.0 && (nat_lt (length state.now.definitions) 4096 && not (list_any (λ d. bytes_eq d.name name) state.now.definitions))) }
 {
-    match wrong_limit(state, limit, error) {
+    match wrong_limit(version, state, limit, error) {
         Some(rule) => Some(rule),
         None => taken(state, name),
     }
@@ -228,12 +246,23 @@ fn operation(state: &State, unit: UnitNo, queue: QueueNo, by: &Option<By>) -> Op
     unknown(state, queue, by)
 }
 
-/// The rule that the record breaks in the state; none where it is lawful there.
-pub(crate) fn broken(state: &State, next: &Record) -> Option<Rule>
-    ensures { is_some result ≡ not (machine.is_lawful One state.now (record_of next.now)) }
+fn no_kill(version: Version, state: &State, queue: QueueNo) -> Option<Rule>
+    ensures { (element : ℕ) → is_some result ≡ not (machine.is_lawful (version_of version) state.now (Kill queue.0 element)) }
+{
+    match version {
+        Version::One => Some(Rule::NoKill),
+        Version::Two => undefined(state, queue),
+    }
+}
+
+/// The rule of the version that the record breaks in the state; none where it is lawful there.
+pub(crate) fn broken(version: Version, state: &State, next: &Record) -> Option<Rule>
+    ensures { is_some result ≡ not (machine.is_lawful (version_of version) state.now (record_of next.now)) }
 {
     match next {
-        Record::Define { limit, error, name } => wrong_definition(state, *limit, *error, *name),
+        Record::Define { limit, error, name } => {
+            wrong_definition(version, state, *limit, *error, *name)
+        }
         Record::Register { queue, .. } => undefined(state, *queue),
         Record::Deregister { queue, name } => unregistered(state, *queue, *name),
         Record::Begin { unit } => not_above(state, *unit),
@@ -246,5 +275,6 @@ pub(crate) fn broken(state: &State, next: &Record) -> Option<Rule>
         Record::Dequeue { unit, queue, by } => operation(state, *unit, *queue, by),
         Record::Commit { unit } | Record::Abort { unit } => closed(state, *unit),
         Record::Checkpoint { .. } => None,
+        Record::Kill { queue, .. } => no_kill(version, state, *queue),
     }
 }

@@ -88,6 +88,10 @@ fn put_fields(alloc: Global, text: &mut String, record: &Record) -> Result<(), A
             text.push(' ')?;
             put_hex(alloc, text, bytes.bytes())
         }
+        Record::Kill { queue, element } => {
+            put_number(text, queue.0 as u64)?;
+            put_number(text, element.0)
+        }
     }
 }
 

@@ -1,8 +1,7 @@
 //! What became of one element, and what one unit did.
 
 ghost use Rattle.std.specs.Prelude.{OnOk};
-ghost use Rattle.rq_model.specs.Records.{One};
-ghost use Rattle.rq_model.specs.Frames.{HasHeader};
+ghost use Rattle.rq_front.specs.Chains.{IsHeaded};
 
 use crate::ends::{End, end_of, put_end};
 use crate::following::{Effect, Event, Queues};
@@ -178,7 +177,7 @@ pub fn story<R, W>(
 where
     R: Threads + Sync,
     W: io::Write,
-    ensures { OnOk result (HasHeader One bytes.now) }
+    ensures { OnOk result (IsHeaded bytes.now) }
 {
     let end = end_of(rt, alloc, bytes, plan)?;
     tell(alloc, bytes, &end, subject, output)

@@ -7,6 +7,8 @@ use Rattle.rq_model.specs.Machine.{is_lawful, best, later, lawful_front, aborts,
 use Rattle.rq_model.specs.Queues.{Op, Move, part_of, defined_by, with_definitions, touches, touching, transfers, moves, arrivals}
 use Rattle.rq_model.specs.Redo.{act, sent, before, from, redone, all_sent}
 use Rattle.rq_model.specs.Fronts.{Form, restarted}
+use Rattle.rq_model.specs.Laws.{move_before}
+use Rattle.rq_model.specs.MoveLaws.{earlier}
 use Rattle.rq_model.specs.WorkedLogs.{jobs, ann, nobody, by_ann, arrival_log, one_element_log, unlawful_log}
 
 abbrev pub bob : List ℕ
@@ -118,11 +120,21 @@ pub record WorkedSteps : Type 0 where
   pub answer : restarted busy 5 100 Form ≡ record { state = final busy; records = 20; used = 95; total = 100; why = Form; committed = 3; aborted = 2; cut_off = 2 }
 
 -- Orders.
+-- an element that left at a place
+abbrev pub moved : ℕ → ℕ → Move
+moved place id = record { place = place; element = element id 0 1 5 0 [] Free }
+
+-- places that differ both ways; one place and ids that differ both ways; the same twice
+abbrev pub pairs_of_moves : List (Move × Move)
+pairs_of_moves = (moved 13 9, moved 14 4) ∷ (moved 14 4, moved 13 9) ∷ (moved 14 4, moved 14 9) ∷ (moved 14 9, moved 14 4) ∷ (moved 14 4, moved 14 4) ∷ []
+
 pub record WorkedOrders : Type 0 where
   pub names : map (λ (p : List ℕ × List ℕ). name_before p.0 p.1) ((codes "a", codes "ab") ∷ (codes "ab", codes "a") ∷ (codes "a", codes "a") ∷ (codes "a", codes "b") ∷ (codes "b", codes "ab") ∷ []) ≡ true ∷ false ∷ false ∷ true ∷ false ∷ []
   pub registrants : map (λ (p : Registrant × Registrant). registrant_before p.0 p.1)
       ((registrant 0 bob None, registrant 1 ann None) ∷ (registrant 1 ann None, registrant 0 bob None) ∷ (registrant 1 ann None, registrant 1 bob None) ∷ (registrant 1 bob None, registrant 1 ann None) ∷ (registrant 1 ann None, registrant 1 ann None) ∷ [])
       ≡ true ∷ false ∷ true ∷ false ∷ false ∷ []
+  pub moves : map (λ (p : Move × Move). earlier p.0 p.1) pairs_of_moves ≡ true ∷ false ∷ true ∷ false ∷ false ∷ []
+  pub merged : map (λ (p : Move × Move). move_before p.0 p.1) pairs_of_moves ≡ true ∷ false ∷ true ∷ false ∷ true ∷ []
   pub best_of_1 : best 1 busy.elements ≡ Some (element 13 1 1 7 0 (0x66 ∷ []) Free)
   pub best_of_0 : best 0 busy.elements ≡ Some (element 6 0 1 5 0 (0x62 ∷ []) Free)
   pub best_of_2 : best 2 busy.elements ≡ None

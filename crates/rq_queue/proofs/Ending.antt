@@ -18,7 +18,7 @@ use Rattle.rq_model.proofs.Merged.{ordered_filter, ordered_map}
 use Rattle.rq_model.proofs.Apart.{Apart}
 use Rattle.rq_queue.specs.Sorted.{sorted}
 use Rattle.rq_queue.specs.Kept.{items_of, IsKeyed, IsOfUnit, Among, Frees, unheld, staying}
-use Rattle.rq_queue.proofs.Sorting.{each_front, each_back, rising_sorted, sorted_swapped, apart_swapped, filter_sorted, map_sorted}
+use Rattle.rq_queue.proofs.Sorting.{apart_front, each_front, each_back, rising_sorted, sorted_swapped, apart_swapped, filter_sorted, map_sorted}
 use Rattle.rq_queue.proofs.Units.{Lists}
 use Rattle.rq_queue.proofs.Doing.{Entry}
 
@@ -94,11 +94,7 @@ module _ (law : PutInAnyOrder) (free : List Entry) (old others : Lists) (list : 
       ∙ ap sorted (filter-append q list remaining ∙ (ap (λ (x : List Element). filter q list ++ x) (filter_none q remaining h) ∙ append-nil (filter q list))))
 
   pub chosen_rise : (q : Element → Bool) → Ordered (λ e f. e.id < f.id) (sorted (filter q list))
-  chosen_rise q = rising_sorted (filter q list) (ordered_filter (λ (a b : Element). a.id ≢ b.id) q list (ordered_front list remaining apart_list))
-    where
-      ordered_front : (xs ys : List Element) → Apart (xs ++ ys) → Apart xs
-      ordered_front [] ys h = tt
-      ordered_front (x ∷ xs) ys h = (each_front (λ z. x.id ≢ z.id) xs ys h.0, ordered_front xs ys h.1)
+  chosen_rise q = rising_sorted (filter q list) (ordered_filter (λ (a b : Element). a.id ≢ b.id) q list (apart_front list remaining apart_list))
 
   pub changed : (p : Element → Bool) (f : Element → Element) → ((e : Element) → (f e).id ≡ e.id) → (next : List Entry) → AllByRecursion IsKeyed free → AllByRecursion (λ e. (p e ≡ true) × (f e ≡ e)) remaining
       → ((o : List Element) → Frees o free (map f (filter p list)) next [])

@@ -10,3 +10,4 @@ pub mod NotesInOrder
 pub mod Noting
 pub mod Steps
 pub mod Cases
+pub mod Known

@@ -65,7 +65,7 @@ halves x (y ∷ ys) h = by_cases (nat_lt y.id x.id) (λ b. cond b (y ∷ filter 
     ++ y ∷ filter_all (λ z. not (id_before z x)) ys (each_weaker (λ z. y.id < z.id) (λ z. not (id_before z x) ≡ true) (λ z l. ap not (le-ltb z.id x.id (omega (arith, ltb-false y.id x.id n)))) ys h.0) i)
 
 -- what stands in a sorted list stood in the list
-each_put : (P : Element → Type 0) (x : Element) (xs : List Element) → P x → AllByRecursion P xs → AllByRecursion P (put id_before x xs)
+pub each_put : (P : Element → Type 0) (x : Element) (xs : List Element) → P x → AllByRecursion P xs → AllByRecursion P (put id_before x xs)
 each_put P x xs h k = each_append P (filter (λ y. id_before y x) xs) (x ∷ filter (λ y. not (id_before y x)) xs) (each_filter P (λ y. id_before y x) xs k) (h, each_filter P (λ y. not (id_before y x)) xs k)
 
 pub each_sorted : (P : Element → Type 0) (xs : List Element) → AllByRecursion P xs → AllByRecursion P (sorted xs)
@@ -151,6 +151,14 @@ apart_into (x ∷ xs) y ys h k = (with_one xs y ys (λ z. x.id ≢ z.id) (λ e. 
     with_one [] y ys P p h = (p, h)
     with_one (x ∷ xs) y ys P p h = (h.0, with_one xs y ys P p h.1)
 
+pub each_front : (P : Element → Type 0) (xs ys : List Element) → AllByRecursion P (xs ++ ys) → AllByRecursion P xs
+each_front P [] ys h = tt
+each_front P (x ∷ xs) ys h = (h.0, each_front P xs ys h.1)
+
+pub apart_front : (xs ys : List Element) → Apart (xs ++ ys) → Apart xs
+apart_front [] ys h = tt
+apart_front (x ∷ xs) ys h = (each_front (λ z. x.id ≢ z.id) xs ys h.0, apart_front xs ys h.1)
+
 -- two lists in either order
 pub each_swapped : (P : Element → Type 0) (a b c : List Element) → AllByRecursion P (a ++ (b ++ c)) → AllByRecursion P (b ++ (a ++ c))
 each_swapped P a b c h = each_append P b (a ++ c) (each_front P b c (each_back P a (b ++ c) h)) (each_append P a c (each_front P a (b ++ c) h) (each_back P b c (each_back P a (b ++ c) h)))
@@ -180,10 +188,6 @@ each_half : (P : Element → Type 0) (p : Element → Bool) (xs : List Element) 
 each_half P p [] h k = tt
 each_half P p (x ∷ xs) h k = by_cases (p x) (λ b. AllByRecursion P (cond b (x ∷ filter p xs) (filter p xs)) → AllByRecursion P (cond (not b) (x ∷ filter (λ y. not (p y)) xs) (filter (λ y. not (p y)) xs)) → AllByRecursion P (x ∷ xs))
     (λ _ f g. (f.0, each_half P p xs f.1 g)) (λ _ f g. (g.0, each_half P p xs f g.1)) h k
-
-pub each_front : (P : Element → Type 0) (xs ys : List Element) → AllByRecursion P (xs ++ ys) → AllByRecursion P xs
-each_front P [] ys h = tt
-each_front P (x ∷ xs) ys h = (h.0, each_front P xs ys h.1)
 
 pub each_back : (P : Element → Type 0) (xs ys : List Element) → AllByRecursion P (xs ++ ys) → AllByRecursion P ys
 each_back P [] ys h = h

@@ -49,7 +49,7 @@ put_in k (x ∷ es) w h = at (put_in k es w) (nat_cmp k x.0) h
     at later Equal h = absurd (cc)
     at later Greater h = behind_more w.items (items_of (insert_entry nat_cmp es k w)) (items_of es) x.1.items (later h)
 
-pub each_left : (P : ℕ × Vec Element → Type 0) (t : ℕ → Bool) (es : Lists) → AllByRecursion P es → AllByRecursion P (remove_entry t es)
+pub each_left : {K X : Type 0} (P : K × X → Type 0) (t : K → Bool) (es : List (K × X)) → AllByRecursion P es → AllByRecursion P (remove_entry t es)
 each_left P t [] h = tt
 each_left P t (x ∷ es) h = by_cases (t x.0) (λ b. AllByRecursion P (cond b es (x ∷ remove_entry t es))) (λ _. h.1) (λ _. (h.0, each_left P t es h.1))
 
@@ -62,7 +62,7 @@ each_in P k (x ∷ es) w h p a = at (λ n. each_in P k es w n p a.1) (nat_cmp k 
     at later Equal h = absurd (cc)
     at later Greater h = (a.0, later h)
 
-same_key : (k n : ℕ) → is_eq (nat_cmp k n) ≡ true → k ≡ n
+pub same_key : (k n : ℕ) → is_eq (nat_cmp k n) ≡ true → k ≡ n
 same_key k n h = grind (arith)
 
 pub found_of : (k : ℕ) (es : Lists) (v : Vec Element) → lookup (is_at (nat_cmp k)) es ≡ Some v → AllByRecursion IsOfUnit es → AllByRecursion (λ x. is_marked k x.mark ≡ true) v.items

@@ -5,3 +5,4 @@ pub mod Kept
 pub mod Listed
 pub mod Roll
 pub mod Noted
+pub mod Priorities

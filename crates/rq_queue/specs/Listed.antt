@@ -6,6 +6,7 @@ use Rattle.rq_model.specs.States.{Element}
 use Rattle.rq_model.specs.WellFormed.{Ordered}
 use Rattle.rq_queue.specs.Sorted.{sorted}
 use Rattle.rq_queue.specs.Kept.{items_of, IsKeyed, IsOfUnit}
+use Rattle.rq_queue.specs.Priorities.{AreKnown}
 use Rattle.rq_queue.specs.declared.elements.Elements.TheInside.{Inside}
 
 -- in the order of the containers
@@ -15,8 +16,9 @@ contents a = values_of a.free.entries ++ items_of a.marked.entries
 abbrev pub listed : Inside → List Element
 listed a = sorted (contents a)
 
--- each Free element stands under its key, each other one with its unit, and numbers differ
+-- each Free element stands under its key, each other one with its unit, and numbers differ; priorities that are kept are theirs
 pub record IsKept (a : Inside) : Type 0 where
   pub keyed : AllByRecursion IsKeyed a.free.entries
   pub of_units : AllByRecursion IsOfUnit a.marked.entries
   pub apart : Ordered (λ e f. e.id ≢ f.id) (contents a)
+  pub known : AreKnown a.priorities (listed a)

@@ -12,6 +12,7 @@ ghost use Rattle.rq_state.specs.Views.{id_of};
 
 use crate::departures::{in_order, send};
 use crate::moves::Move;
+use crate::priorities::{kept_with, known, without};
 use crate::shelves::{all_freed, all_returned, free_list, freed, stow, taken, with_marked};
 use rq_record::{ElemId, Fault, Payload, QueueNo, UnitNo};
 use rq_state::{Definition, Element, Mark};
@@ -23,10 +24,14 @@ use std::marker::Model;
 /// The elements of a queue, by id. Free ones stand by priority and id, so that the best one is the first; the others
 /// stand with the unit that marks them. So an operation costs the logarithm of their number for each element that it
 /// changes.
+///
+/// From the first KILL on the priority of each element stands under its id, since a KILL names no priority. An entry may
+/// be of an element that has gone: it is only where to look. A queue without a KILL pays nothing for it.
 #[derive(Drop)]
 pub struct Elements {
     free: BTreeMap<(Reverse<u8>, u64), Element>,
     marked: BTreeMap<u64, Vec<Element>>,
+    priorities: Option<BTreeMap<u64, u8>>,
 }
 
 impl Model for Elements {
@@ -50,6 +55,7 @@ impl Elements {
         Elements {
             free: BTreeMap::new(alloc),
             marked: BTreeMap::new(alloc),
+            priorities: None,
         }
     }
 
@@ -85,12 +91,14 @@ impl Elements {
         ensures refused { IfErr result (λ e. e ≡ Resources) }
     {
         rq_model::any_order();
+        let priorities = kept_with(self.priorities, &e)?;
         match e.unit() {
             None => {
                 let free = freed(self.free, e)?;
                 Ok(Elements {
                     free,
                     marked: self.marked,
+                    priorities,
                 })
             }
             Some(unit) => {
@@ -98,6 +106,7 @@ impl Elements {
                 Ok(Elements {
                     free: self.free,
                     marked,
+                    priorities,
                 })
             }
         }
@@ -147,13 +156,26 @@ impl Elements {
         rq_model::any_order();
         let marked = self.marked;
         let mut free = self.free;
+        let priorities = self.priorities;
         match free.pop_first() {
-            None => Ok((Elements { free, marked }, None)),
+            None => {
+                let all = Elements {
+                    free,
+                    marked,
+                    priorities,
+                };
+                Ok((all, None))
+            }
             Some((_, mut e)) => {
                 let id = e.id();
                 e.set_mark(Mark::Held(unit));
                 let marked = stow(alloc, marked, unit, e)?;
-                Ok((Elements { free, marked }, Some(id)))
+                let all = Elements {
+                    free,
+                    marked,
+                    priorities,
+                };
+                Ok((all, Some(id)))
             }
         }
     }
@@ -166,7 +188,11 @@ impl Elements {
         rq_model::any_order();
         let (marked, list) = taken(alloc, self.marked, unit);
         let free = all_freed(self.free, list, unit)?;
-        Ok(Elements { free, marked })
+        Ok(Elements {
+            free,
+            marked,
+            priorities: self.priorities,
+        })
     }
 
     /// Fresh ones of the unit go. Held ones become Free with one attempt more, or leave.
@@ -187,6 +213,25 @@ impl Elements {
         let (marked, list) = taken(alloc, self.marked, unit);
         let (free, leaving) = all_returned(alloc, self.free, list, unit, home)?;
         send(in_order(leaving), place, home, sent)?;
-        Ok(Elements { free, marked })
+        Ok(Elements {
+            free,
+            marked,
+            priorities: self.priorities,
+        })
+    }
+
+    /// The Free element of that id goes, if there is one; all are in the queue.
+    pub fn kill(self, alloc: Global, queue: QueueNo, id: ElemId) -> Result<Elements, Fault>
+        requires { AllByRecursion (λ (x : model.Element). x.home ≡ queue.0) self }
+        ensures done { IfOk result (λ v. v ≡ machine.killed queue.0 id.0 self) }
+        ensures refused { IfErr result (λ e. e ≡ Resources) }
+    {
+        let (free, others) = (self.free, self.marked);
+        let by_id = known(alloc, self.priorities, &free, &others)?;
+        Ok(Elements {
+            free: without(free, &by_id, id),
+            marked: others,
+            priorities: Some(by_id),
+        })
     }
 }

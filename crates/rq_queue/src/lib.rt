@@ -10,6 +10,7 @@ mod notes;
 mod operations;
 mod part;
 mod places;
+mod priorities;
 mod redoing;
 mod registrants;
 mod shelves;

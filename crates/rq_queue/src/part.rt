@@ -210,6 +210,15 @@ impl Part {
         Ok(self)
     }
 
+    fn kill(mut self, alloc: Global, queue: QueueNo, element: ElemId) -> Result<Part, Fault>
+        requires homes { AllByRecursion (λ (e : states.Element). e.home ≡ queue.0) self.elements }
+        ensures done { IfOk result (λ p. p ≡ redo_words.act 0 (records.Kill queue.0 element.0) self) }
+        ensures refused { IfErr result (λ e. e ≡ Resources) }
+    {
+        self.elements = self.elements.kill(alloc, queue, element)?;
+        Ok(self)
+    }
+
     /// Does one operation of the queue.
     pub(crate) fn act(self, alloc: Global, op: &Op, sent: &mut Vec<Move>) -> Result<Part, Fault>
         requires ready { IsReady op.now.place op.now.does self }
@@ -247,6 +256,7 @@ impl Part {
             Record::Dequeue { unit, queue, by } => self.dequeue(alloc, place, *unit, *queue, by),
             Record::Commit { unit } => self.commit(alloc, *unit),
             Record::Abort { unit } => self.abort(alloc, place, *unit, sent),
+            Record::Kill { queue, element } => self.kill(alloc, *queue, *element),
         }
     }
 }

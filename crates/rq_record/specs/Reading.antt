@@ -2,7 +2,7 @@
 use Rattle.std.specs.Prelude.{◌≡◌, ℕ, List, [], ◌∷◌, length, take, drop, Option, Some, None, IsSome, Result, Ok, Err, nat_lt, nat_le, ◌==◌, if◌then◌else◌, ⊤}
 use Rattle.byteorder.specs.Endian.{big_number}
 use Rattle.rq_model.specs.Records as model
-use Rattle.rq_model.specs.Records.{By, Version}
+use Rattle.rq_model.specs.Records.{By, Version, One, Two}
 use Rattle.rq_model.specs.Spelling.{is_name, Spells}
 use Rattle.rq_record.specs.Views.{record_of}
 use Rattle.rq_record.specs.declared.fault.Fault.{Fault}
@@ -138,9 +138,21 @@ checkpoint_of bytes = do
   kept ← bounded 268435455 bytes
   Some (model.Checkpoint kept)
 
+-- in version 2
+unfoldable pub kill_of : List ℕ → Option model.Record
+kill_of bytes = do
+  queue ← number_at 4 bytes
+  element ← number_at 8 queue.1
+  nothing ← nothing_in element.1
+  Some (model.Kill queue.0 element.0)
+
+abbrev pub kill_in : Version → List ℕ → Option model.Record
+kill_in One bytes = None
+kill_in Two bytes = kill_of bytes
+
 -- the record that a kind byte and the bytes behind it spell
-unfoldable pub of_kind : ℕ → List ℕ → Option model.Record
-of_kind kind bytes =
+unfoldable pub of_kind : Version → ℕ → List ℕ → Option model.Record
+of_kind version kind bytes =
     if kind == 1 then define_of bytes
     else if kind == 2 then register_of bytes
     else if kind == 3 then deregister_of bytes
@@ -150,14 +162,15 @@ of_kind kind bytes =
     else if kind == 7 then commit_of bytes
     else if kind == 8 then abort_of bytes
     else if kind == 9 then checkpoint_of bytes
+    else if kind == 10 then kill_in version bytes
     else None
 
-unfoldable pub record_from : List ℕ → Option model.Record
-record_from bytes = do
+unfoldable pub record_from : Version → List ℕ → Option model.Record
+record_from version bytes = do
   kind ← byte_at bytes
-  of_kind kind.0 kind.1
+  of_kind version kind.0 kind.1
 
--- what decode answers: the record that the body spells, or Form where it spells none; memory runs out only where it spells one
+-- what decode_in answers: the record that the body spells, or Form where it spells none; memory runs out only where it spells one
 abbrev pub Decodes : Version → List ℕ → Result Record Fault → Type 0
 Decodes version body (Ok r) = Spells version (record_of r) body
 Decodes version body (Err faults.Form) = (r : model.Record) → Spells version r body → ⊥

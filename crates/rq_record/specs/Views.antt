@@ -1,7 +1,9 @@
--- What a record of the code is among the words of the model.
+-- What a record and a version of the code are among the words of the model.
 use Rattle.rq_model.specs.Records as model
 use Rattle.rq_record.specs.declared.record.Record.{Record}
-use Rattle.rq_record.specs.declared.record.Record.TheVariants.{Define, Register, Deregister, Begin, Enqueue, Dequeue, Commit, Abort, Checkpoint}
+use Rattle.rq_record.specs.declared.record.Record.TheVariants.{Define, Register, Deregister, Begin, Enqueue, Dequeue, Commit, Abort, Checkpoint, Kill}
+use Rattle.rq_record.specs.declared.version.Version.{Version}
+use Rattle.rq_record.specs.declared.version.Version.TheVariants.{One, Two}
 
 -- the same kind with the same fields; a name, a payload, a registrant are already the model's
 abbrev pub record_of : Record → model.Record
@@ -14,3 +16,8 @@ record_of (Dequeue unit queue by) = model.Dequeue unit.0 queue.0 by
 record_of (Commit unit) = model.Commit unit.0
 record_of (Abort unit) = model.Abort unit.0
 record_of (Checkpoint bytes) = model.Checkpoint bytes
+record_of (Kill queue element) = model.Kill queue.0 element.0
+
+abbrev pub version_of : Version → model.Version
+version_of One = model.One
+version_of Two = model.Two

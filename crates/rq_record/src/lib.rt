@@ -7,12 +7,14 @@ mod name;
 mod payload;
 mod reading;
 mod record;
+mod version;
 mod writing;
 
 pub use check_bytes::CheckBytes;
 pub use fault::Fault;
 pub use name::Name;
 pub use payload::Payload;
-pub use reading::decode;
+pub use reading::{decode, decode_in};
 pub use record::{By, ElemId, QueueNo, Record, UnitNo};
+pub use version::Version;
 pub use writing::encode;

@@ -1,14 +1,15 @@
 //! From bytes to a record.
 
 ghost use Rattle.rq_model.specs.Records.{One};
-ghost use Rattle.rq_record.specs.Reading.{Decodes, Reads, Copies, number_at, byte_at, piece_at, name_of, bounded, nothing_in, named, who_at, define_of, register_of, deregister_of, unit_of, begin_of, enqueue_of, dequeue_of, commit_of, abort_of, checkpoint_of, of_kind, record_from};
-ghost use Rattle.rq_record.specs.Views.{record_of};
+ghost use Rattle.rq_record.specs.Reading.{Decodes, Reads, Copies, number_at, byte_at, piece_at, name_of, bounded, nothing_in, named, who_at, define_of, register_of, deregister_of, unit_of, begin_of, enqueue_of, dequeue_of, commit_of, abort_of, checkpoint_of, kill_of, of_kind, record_from};
+ghost use Rattle.rq_record.specs.Views.{record_of, version_of};
 
 use crate::check_bytes::CheckBytes;
 use crate::fault::Fault;
 use crate::name::Name;
 use crate::payload::Payload;
-use crate::record::{By, QueueNo, Record, UnitNo};
+use crate::record::{By, ElemId, QueueNo, Record, UnitNo};
+use crate::version::Version;
 use byteorder::{BigEndian, ByteOrder};
 use std::alloc::Global;
 
@@ -233,9 +234,22 @@ fn checkpoint(alloc: Global, bytes: &[u8]) -> Result<Record, Fault>
     }
 }
 
+#[tactic(auto, unfolding(crate::specs::Reading::kill_of))]
+fn kill(bytes: &[u8]) -> Result<Record, Fault>
+    ensures { Reads record_of result (kill_of bytes.now) }
+{
+    let (queue, rest) = u32_at(bytes)?;
+    let (element, rest) = u64_at(rest)?;
+    at_end(rest)?;
+    Ok(Record::Kill {
+        queue: QueueNo(queue),
+        element: ElemId(element),
+    })
+}
+
 #[tactic(auto, unfolding(crate::specs::Reading::of_kind))]
-fn of_kind(alloc: Global, kind: u8, bytes: &[u8]) -> Result<Record, Fault>
-    ensures { Copies record_of result (of_kind kind bytes.now) }
+fn of_kind(alloc: Global, version: Version, kind: u8, bytes: &[u8]) -> Result<Record, Fault>
+    ensures { Copies record_of result (of_kind (version_of version) kind bytes.now) }
 {
     match kind {
         1 => define(bytes),
@@ -247,24 +261,35 @@ fn of_kind(alloc: Global, kind: u8, bytes: &[u8]) -> Result<Record, Fault>
         7 => commit(bytes),
         8 => abort(bytes),
         9 => checkpoint(alloc, bytes),
+        10 => match version {
+            Version::One => Err(Fault::Form),
+            Version::Two => kill(bytes),
+        },
         _ => Err(Fault::Form),
     }
 }
 
 #[tactic(auto, unfolding(crate::specs::Reading::record_from))]
-fn record(alloc: Global, bytes: &[u8]) -> Result<Record, Fault>
-    ensures { Copies record_of result (record_from bytes.now) }
+fn record(alloc: Global, version: Version, bytes: &[u8]) -> Result<Record, Fault>
+    ensures { Copies record_of result (record_from (version_of version) bytes.now) }
 {
     let (kind, rest) = u8_at(bytes)?;
-    of_kind(alloc, kind, rest)
+    of_kind(alloc, version, kind, rest)
 }
 
-/// The record that a body of version 1 spells.
+/// The record that a body of this version spells.
 ///
 /// `Form` answers exactly a body that spells none, and is found before memory is asked for; `Resources` answers a body
 /// that spells one whose bytes could not be copied.
+pub fn decode_in(alloc: Global, version: Version, body: &[u8]) -> Result<Record, Fault>
+    ensures decodes { Decodes (version_of version) body.now result }
+{
+    record(alloc, version, body)
+}
+
+/// The record that a body of version 1 spells: `decode_in` of that version.
 pub fn decode(alloc: Global, body: &[u8]) -> Result<Record, Fault>
     ensures decodes { Decodes One body.now result }
 {
-    record(alloc, body)
+    decode_in(alloc, Version::One, body)
 }

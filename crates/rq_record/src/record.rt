@@ -1,4 +1,4 @@
-//! The nine kinds of record, and the numbers that they name things by.
+//! The ten kinds of record, and the numbers that they name things by.
 
 use crate::check_bytes::CheckBytes;
 use crate::name::Name;
@@ -44,8 +44,8 @@ impl Model for By {
     ghost inverse_ok = { λ b h. refl };
 }
 
-/// A record of the log, version 1. Whether it is lawful after those before it is no matter of its form: each number may
-/// be any of its width.
+/// A record of the log; version 1 has all but the last. Whether it is lawful after those before it is no matter of its
+/// form: each number may be any of its width.
 #[derive(Drop)]
 pub enum Record {
     /// Defines the next queue: how many failed attempts an element may have, 0 for no limit, and the queue that it goes
@@ -94,5 +94,10 @@ pub enum Record {
     /// Keeps bytes that may spell the state at this place.
     Checkpoint {
         bytes: CheckBytes,
+    },
+    /// Removes an element from a queue where it is free there, at once and outside units. Version 2 alone has it.
+    Kill {
+        queue: QueueNo,
+        element: ElemId,
     },
 }

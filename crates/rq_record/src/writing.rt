@@ -2,10 +2,10 @@
 
 ghost use Rattle.std.specs.Prelude.{◌≡◌, ◌≤◌, ◌++◌, ◌∷◌, [], ℕ, List, length, OnOk};
 ghost use Rattle.std.specs.Int.{w16, w32, w64, to_be_bytes};
-ghost use Rattle.rq_model.specs.Records.{One};
+ghost use Rattle.rq_model.specs.Records.{Version, Two};
 ghost use Rattle.rq_model.specs.Spelling.{who, IsWho, body_of, IsRecord, Spells};
 ghost use Rattle.rq_record.specs.Views.{record_of};
-ghost use Rattle.rq_record.specs.Writing.{Puts, Appends};
+ghost use Rattle.rq_record.specs.Writing.{Puts, Appends, HasKind};
 
 use crate::fault::Fault;
 use crate::record::{By, Record};
@@ -69,7 +69,7 @@ fn put_who(out: &mut Vec<u8>, by: &Option<By>) -> Result<(), Fault>
 
 fn put_body(out: &mut Vec<u8>, r: &Record) -> Result<(), Fault>
     ensures bytes { Puts out.old.items out.new.items (body_of (record_of r.now)) result }
-    ensures fits { OnOk result (IsRecord One (record_of r.now)) }
+    ensures fits { OnOk result (IsRecord Two (record_of r.now)) }
 {
     match r {
         Record::Define { limit, error, name } => {
@@ -124,16 +124,21 @@ fn put_body(out: &mut Vec<u8>, r: &Record) -> Result<(), Fault>
             put_u8(out, 9)?;
             put(out, bytes.bytes())?;
         }
+        Record::Kill { queue, element } => {
+            put_u8(out, 10)?;
+            put_u32(out, queue.0)?;
+            put_u64(out, element.0)?;
+        }
     }
     Ok(())
 }
 
-/// Appends the one body of the record, by the table of kinds of version 1.
+/// Appends the one body of the record, which is its body in every version that has its kind.
 ///
 /// `Resources` answers where memory runs out; `out` is then as before.
 pub fn encode(r: &Record, out: &mut Vec<u8>) -> Result<(), Fault>
     ensures bytes { Appends out.old.items out.new.items (body_of (record_of r.now)) result }
-    ensures spelled { OnOk result (Spells One (record_of r.now) (body_of (record_of r.now))) }
+    ensures spelled { OnOk result ((version : Version) → HasKind version (record_of r.now) → Spells version (record_of r.now) (body_of (record_of r.now))) }
 {
     let before = out.len();
     match put_body(out, r) {

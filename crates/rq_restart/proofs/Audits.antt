@@ -1,25 +1,25 @@
 -- What is found on the way through the front is its audit.
-use Rattle.std.proofs.Common.{◌≡◌, ℕ, ◌+◌, ◌<◌, ◌≤◌, Bool, true, false, List, [], ◌∷◌, ◌++◌, length, refl, sym, ap, subst, ◌∙◌, arith, inl, inr}
+use Rattle.std.proofs.Common.{◌≡◌, ℕ, ◌+◌, ◌<◌, ◌≤◌, Bool, true, List, [], ◌∷◌, ◌++◌, length, refl, sym, ap, subst, ◌∙◌, arith, inl, inr}
 use Rattle.std.specs.Prelude.{◌↔◌, map, Result, Ok, Err, IfOk, IfErr}
 use Rattle.std.specs.Global.{Vec}
 use Rattle.std.specs.Str.{bytes_eq}
 use Rattle.std.specs.List.{AllByRecursion}
 use Rattle.std.proofs.lemmas.List.{length-append}
 use Rattle.std.proofs.lemmas.Slice.Eq.{bytes_eq-Decides}
-use Rattle.rq_model.specs.Records.{Record, Define, Register, Deregister, Begin, Enqueue, Dequeue, Commit, Abort, Checkpoint, Kill, Version, One}
+use Rattle.rq_model.specs.Records.{Record, Define, Register, Deregister, Begin, Enqueue, Dequeue, Commit, Abort, Checkpoint, Kill, Version, One, Two}
 use Rattle.rq_model.specs.Spelling.{body_of, IsRecord}
-use Rattle.rq_model.specs.Frames.{IsBodyLength, frame, digest, frames_of, log_of, magic, start, header, log_limit, HasHeader}
+use Rattle.rq_model.specs.Frames.{IsBodyLength, frame, digest, frames_of, log_of, magic, start, header, log_limit}
 use Rattle.rq_model.specs.States.{State, empty}
 use Rattle.rq_model.specs.Machine.{step, run}
 use Rattle.rq_model.specs.WellFormed.{IsIn, Ordered}
 use Rattle.rq_model.specs.StateSpelling.{state_bytes}
 use Rattle.rq_model.specs.Fronts.{IsFront}
 use Rattle.rq_model.specs.Checkpoints.{Audited, HasCheckpoint, TrueAt, IsAudit}
-use Rattle.rq_model.specs.LogLaws.{OneFront, LogEnds, FrameIsRight, RecordHasOneBody}
+use Rattle.rq_model.specs.LogLaws.{OneFront, LogEnds, FrameIsRight, RecordHasOneBody, RecordIsWider}
 use Rattle.rq_model.proofs.Restarts.{each_cut}
 use Rattle.rq_record.specs.declared.fault.Fault.{Fault}
 use Rattle.rq_record.specs.declared.fault.Fault.TheVariants.{Resources}
-use Rattle.rq_front.specs.Chains.{Refused}
+use Rattle.rq_front.specs.Chains.{IsHeaded, Refused}
 use Rattle.rq_restart.specs.Audits.{Audits, audit_of, audited_of, audits, past}
 use Rattle.rq_restart.proofs.Chains.{frame_long}
 
@@ -120,18 +120,24 @@ same_split at (x ∷ xs) (y ∷ ys) as' bs r q e p =
 
 -- The place of a record is the length of the log before it.
 
-frames_size : FrameIsRight → RecordHasOneBody → (p : List ℕ) (at : ℕ) (rs : List Record) → AllByRecursion (IsRecord One) rs → length (frames_of p rs) + at ≡ past at rs
-frames_size right one p at [] h = omega arith
-frames_size right one p at (r ∷ rs) h =
+frames_size : (version : Version) → FrameIsRight → RecordHasOneBody → (p : List ℕ) (at : ℕ) (rs : List Record) → AllByRecursion (IsRecord version) rs → length (frames_of p rs) + at ≡ past at rs
+frames_size version right one p at [] h = omega arith
+frames_size version right one p at (r ∷ rs) h =
     let body = body_of r in
-    let fits : IsBodyLength (length body) = (one One r body body (h.0, refl) (h.0, refl)).1 in
-    let more = frames_size right one (digest p body) (at + 36 + length body) rs h.1 in
+    let fits : IsBodyLength (length body) = (one version r body body (h.0, refl) (h.0, refl)).1 in
+    let more = frames_size version right one (digest p body) (at + 36 + length body) rs h.1 in
     omega (arith, more, frame_long right p body fits, length-append (frame p body) (frames_of (digest p body) rs))
 
-log_size : FrameIsRight → RecordHasOneBody → LogEnds → (rs : List Record) → AllByRecursion (IsRecord One) rs → length (log_of One rs) ≡ past 40 rs
-log_size right one ends rs h =
-    let size : length (start One) ≡ 32 = (ends One []).2 in
-    omega (arith, size, length-append (magic One) (start One), length-append (header One) (frames_of (start One) rs), frames_size right one (start One) 40 rs h)
+log_size : (version : Version) → FrameIsRight → RecordHasOneBody → LogEnds → (rs : List Record) → AllByRecursion (IsRecord version) rs → length (log_of version rs) ≡ past 40 rs
+log_size version right one ends rs h =
+    let size : length (start version) ≡ 32 = (ends version []).2 in
+    omega (arith, size, length-append (magic version) (start version), length-append (header version) (frames_of (start version) rs), frames_size version right one (start version) 40 rs h)
+
+-- a record of any version is one of version 2
+pub records_in_two : RecordIsWider → (version : Version) (rs : List Record) → AllByRecursion (IsRecord version) rs → AllByRecursion (IsRecord Two) rs
+records_in_two wider Two rs h = h
+records_in_two wider One [] h = tt
+records_in_two wider One (r ∷ rs) h = ((wider r (body_of r) (h.0, refl)).0, records_in_two wider One rs h.1)
 
 -- what the audit rests on
 pub record AuditLaws : Type 0 where
@@ -141,24 +147,24 @@ pub record AuditLaws : Type 0 where
   pub front : OneFront
 
 -- a checkpoint of the front stands where it is found
-stands : AuditLaws → (b : List ℕ) (rs : List Record) (rest : List ℕ) (before : List Record) (kept : List ℕ) (after : List Record) → IsFront b One rs rest → rs ≡ before ++ Checkpoint kept ∷ after → HasCheckpoint b (past 40 before) before kept
-stands laws b rs rest before kept after front is =
-    let here : IsFront b One (before ++ Checkpoint kept ∷ after) rest = subst (λ (qs : List Record). IsFront b One qs rest) is front in
+stands : (version : Version) → AuditLaws → (b : List ℕ) (rs : List Record) (rest : List ℕ) (before : List Record) (kept : List ℕ) (after : List Record) → IsFront b version rs rest → rs ≡ before ++ Checkpoint kept ∷ after → HasCheckpoint b (past 40 before) before kept
+stands version laws b rs rest before kept after front is =
+    let here : IsFront b version (before ++ Checkpoint kept ∷ after) rest = subst (λ (qs : List Record). IsFront b version qs rest) is front in
     record {
-      version = One;
+      version = version;
       after = after;
       rest = rest;
       front = here;
-      there = sym (log_size laws.right laws.body laws.ends before (each_cut (IsRecord One) before (Checkpoint kept ∷ after) here.longest.begins.records).0);
+      there = sym (log_size version laws.right laws.body laws.ends before (each_cut (IsRecord version) before (Checkpoint kept ∷ after) here.longest.begins.records).0);
     }
 
 -- and is the only one that stands there
-only : AuditLaws → (b : List ℕ) (rs : List Record) (rest : List ℕ) (before : List Record) (kept : List ℕ) (after : List Record) (offset : ℕ) (records : List Record) (other : List ℕ) → IsFront b One rs rest
+only : (version : Version) → AuditLaws → (b : List ℕ) (rs : List Record) (rest : List ℕ) (before : List Record) (kept : List ℕ) (after : List Record) (offset : ℕ) (records : List Record) (other : List ℕ) → IsFront b version rs rest
     → rs ≡ before ++ Checkpoint kept ∷ after → offset ≡ past 40 before → HasCheckpoint b offset records other → (records ≡ before) × (other ≡ kept)
-only laws b rs rest before kept after offset records other front is place h =
-    let one = laws.front b h.version One (records ++ Checkpoint other ∷ h.after) rs h.rest rest h.front front in
-    let again : IsFront b One (records ++ Checkpoint other ∷ h.after) h.rest = subst (λ (v : Version). IsFront b v (records ++ Checkpoint other ∷ h.after) h.rest) one.0 h.front in
-    let size : length (log_of One records) ≡ past 40 records = log_size laws.right laws.body laws.ends records (each_cut (IsRecord One) records (Checkpoint other ∷ h.after) again.longest.begins.records).0 in
+only version laws b rs rest before kept after offset records other front is place h =
+    let one = laws.front b h.version version (records ++ Checkpoint other ∷ h.after) rs h.rest rest h.front front in
+    let again : IsFront b version (records ++ Checkpoint other ∷ h.after) h.rest = subst (λ (v : Version). IsFront b v (records ++ Checkpoint other ∷ h.after) h.rest) one.0 h.front in
+    let size : length (log_of version records) ≡ past 40 records = log_size version laws.right laws.body laws.ends records (each_cut (IsRecord version) records (Checkpoint other ∷ h.after) again.longest.begins.records).0 in
     let same : past 40 records ≡ past 40 before = sym size ∙ ap (λ (v : Version). length (log_of v records)) (sym one.0) ∙ sym h.there ∙ place in
     let both = same_split 40 records before h.after after (Checkpoint other) (Checkpoint kept) (one.1 ∙ is) same in
     (both.0, ap kept_or both.1)
@@ -168,18 +174,18 @@ only laws b rs rest before kept after offset records other front is place h =
     kept_or r = []
 
 -- the test of a checkpoint tells whether it is true
-tells : AuditLaws → (b : List ℕ) (rs : List Record) (rest : List ℕ) (before : List Record) (kept : List ℕ) (after : List Record) (offset : ℕ) → IsFront b One rs rest → rs ≡ before ++ Checkpoint kept ∷ after → offset ≡ past 40 before
+tells : (version : Version) → AuditLaws → (b : List ℕ) (rs : List Record) (rest : List ℕ) (before : List Record) (kept : List ℕ) (after : List Record) (offset : ℕ) → IsFront b version rs rest → rs ≡ before ++ Checkpoint kept ∷ after → offset ≡ past 40 before
     → (bytes_eq kept (state_bytes (run empty before)) ≡ true) ↔ TrueAt b offset
-tells laws b rs rest before kept after offset front is place = (
-  λ t. (before, kept, subst (λ (n : ℕ). HasCheckpoint b n before kept) (sym place) (stands laws b rs rest before kept after front is), (bytes_eq-Decides kept (state_bytes (run empty before))).0 t),
-  λ t. (let same = only laws b rs rest before kept after offset t.0 t.1 front is place t.2 in
+tells version laws b rs rest before kept after offset front is place = (
+  λ t. (before, kept, subst (λ (n : ℕ). HasCheckpoint b n before kept) (sym place) (stands version laws b rs rest before kept after front is), (bytes_eq-Decides kept (state_bytes (run empty before))).0 t),
+  λ t. (let same = only version laws b rs rest before kept after offset t.0 t.1 front is place t.2 in
       let spelled : kept ≡ state_bytes (run empty before) = sym same.1 ∙ t.3 ∙ ap (λ (qs : List Record). state_bytes (run empty qs)) same.0 in
       (bytes_eq-Decides kept (state_bytes (run empty before))).1 spelled),
 )
 
-pub is_audit : AuditLaws → (b : List ℕ) (rs : List Record) (rest : List ℕ) → IsFront b One rs rest → IsAudit b (audits empty 40 rs)
-is_audit laws b rs rest front = record {
-  version = One;
+pub is_audit : (version : Version) → AuditLaws → (b : List ℕ) (rs : List Record) (rest : List ℕ) → IsFront b version rs rest → IsAudit b (audits empty 40 rs)
+is_audit version laws b rs rest front = record {
+  version = version;
   records = rs;
   rest = rest;
   front = front;
@@ -192,13 +198,13 @@ is_audit laws b rs rest front = record {
     to n (x, h, e) =
         let f = found empty 40 rs x h in
         let place : past 40 f.before ≡ n = sym (ap (λ (a : Audited). a.offset) f.is) ∙ e in
-        (f.before, f.kept, subst (λ (m : ℕ). HasCheckpoint b m f.before f.kept) place (stands laws b rs rest f.before f.kept f.after front f.whole))
+        (f.before, f.kept, subst (λ (m : ℕ). HasCheckpoint b m f.before f.kept) place (stands version laws b rs rest f.before f.kept f.after front f.whole))
 
     from : (n : ℕ) → (earlier : List Record) × (kept : List ℕ) × HasCheckpoint b n earlier kept → (x : Audited) × IsIn x (audits empty 40 rs) × (x.offset ≡ n)
     from n (earlier, kept, c) =
-        let one = laws.front b c.version One (earlier ++ Checkpoint kept ∷ c.after) rs c.rest rest c.front front in
-        let again : IsFront b One (earlier ++ Checkpoint kept ∷ c.after) c.rest = subst (λ (v : Version). IsFront b v (earlier ++ Checkpoint kept ∷ c.after) c.rest) one.0 c.front in
-        let size : length (log_of One earlier) ≡ past 40 earlier = log_size laws.right laws.body laws.ends earlier (each_cut (IsRecord One) earlier (Checkpoint kept ∷ c.after) again.longest.begins.records).0 in
+        let one = laws.front b c.version version (earlier ++ Checkpoint kept ∷ c.after) rs c.rest rest c.front front in
+        let again : IsFront b version (earlier ++ Checkpoint kept ∷ c.after) c.rest = subst (λ (v : Version). IsFront b v (earlier ++ Checkpoint kept ∷ c.after) c.rest) one.0 c.front in
+        let size : length (log_of version earlier) ≡ past 40 earlier = log_size version laws.right laws.body laws.ends earlier (each_cut (IsRecord version) earlier (Checkpoint kept ∷ c.after) again.longest.begins.records).0 in
         let place : n ≡ past 40 earlier = c.there ∙ ap (λ (v : Version). length (log_of v earlier)) one.0 ∙ size in
         (audit_at empty 40 earlier kept, subst (λ (qs : List Record). IsIn (audit_at empty 40 earlier kept) (audits empty 40 qs)) one.1 (audits_have empty 40 earlier kept c.after), sym place)
 
@@ -207,9 +213,9 @@ is_audit laws b rs rest front = record {
         let f = found empty 40 rs x h in
         let place : x.offset ≡ past 40 f.before = ap (λ (a : Audited). a.offset) f.is in
         let truth : x.truth ≡ bytes_eq f.kept (state_bytes (run empty f.before)) = ap (λ (a : Audited). a.truth) f.is in
-        subst (λ (t : Bool). (t ≡ true) ↔ TrueAt b x.offset) (sym truth) (tells laws b rs rest f.before f.kept f.after x.offset front f.whole place)
+        subst (λ (t : Bool). (t ≡ true) ↔ TrueAt b x.offset) (sym truth) (tells version laws b rs rest f.before f.kept f.after x.offset front f.whole place)
 
 -- what is found in the front of a log, or no memory
-pub audits_are : (b : List ℕ) → length b ≤ log_limit → HasHeader One b → (result : Result (Vec (ℕ × Bool)) Fault) → IfOk result (λ v. IsAudit b (map audited_of v.items)) → IfErr result (λ e. e ≡ Resources) → Audits b result
+pub audits_are : (b : List ℕ) → length b ≤ log_limit → IsHeaded b → (result : Result (Vec (ℕ × Bool)) Fault) → IfOk result (λ v. IsAudit b (map audited_of v.items)) → IfErr result (λ e. e ≡ Resources) → Audits b result
 audits_are b short head (Ok v) is refused = (short, head, is)
 audits_are b short head (Err e) is refused = subst (λ (f : Fault). Refused b f) (sym refused) tt

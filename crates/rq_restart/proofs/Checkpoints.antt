@@ -3,10 +3,11 @@ use Rattle.std.proofs.Common.{◌≡◌, ℕ, ◌+◌, ◌-◌, ◌≤◌, Bool,
 use Rattle.std.specs.Prelude.{◌&&◌, nat_le, max, Result, Ok, Err, All, IfOk, IfErr}
 use Rattle.std.proofs.lemmas.List.{length-drop}
 use Rattle.std.proofs.lemmas.Bool.{and_parts, and_from, le-leb, leb-true, cases_lt}
-use Rattle.rq_model.specs.Records.{One}
+use Rattle.rq_model.specs.Records.{Version}
 use Rattle.rq_model.specs.Frames.{frame, frames, digest, last, before, body_in, HasHeader, HasRightFrame, Rest, Whole, Cut, Length, Digest, IsRest, IsRun, IsFrameRun}
 use Rattle.rq_model.specs.LogLaws.{FrameIsRight, LogEnds}
 use Rattle.rq_model.specs.Checkpoints.{IsCheckpointAt}
+use Rattle.rq_record.specs.Views.{version_of}
 use Rattle.rq_front.specs.declared.spans.Chain.{Chain}
 use Rattle.rq_front.specs.Chains.{bodies_at, rest_of, spans_from, Refused}
 use Rattle.rq_record.specs.declared.fault.Fault.{Fault}
@@ -138,26 +139,26 @@ begins_restarts b offset faults.ReadFailed h = h
 begins_restarts b offset faults.WriteFailed h = h
 
 -- what reading the checkpoint answers
-pub read_begins : (b : List ℕ) (offset : ℕ) (kept : List ℕ) (e : Fault) → length b ≤ log_limit → HasHeader One b → IsCheckpointAt b offset kept → ReadsState kept (Err e) → BeginsAt b offset (Err e)
-read_begins b offset kept faults.BadCheckpoint short head is h = (short, head, kept, is, h)
-read_begins b offset kept faults.Resources short head is h = tt
-read_begins b offset kept faults.TooLong short head is h = absurd h
-read_begins b offset kept faults.NotALog short head is h = absurd h
-read_begins b offset kept faults.Form short head is h = absurd h
-read_begins b offset kept faults.TooLarge short head is h = absurd h
-read_begins b offset kept faults.NoCheckpoint short head is h = absurd h
-read_begins b offset kept (faults.Script n) short head is h = absurd h
-read_begins b offset kept faults.ReadFailed short head is h = absurd h
-read_begins b offset kept faults.WriteFailed short head is h = absurd h
+pub read_begins : (version : Version) (b : List ℕ) (offset : ℕ) (kept : List ℕ) (e : Fault) → length b ≤ log_limit → HasHeader version b → IsCheckpointAt b offset kept → ReadsState version kept (Err e) → BeginsAt b offset (Err e)
+read_begins version b offset kept faults.BadCheckpoint short head is h = (short, version, head, kept, is, h)
+read_begins version b offset kept faults.Resources short head is h = tt
+read_begins version b offset kept faults.TooLong short head is h = absurd h
+read_begins version b offset kept faults.NotALog short head is h = absurd h
+read_begins version b offset kept faults.Form short head is h = absurd h
+read_begins version b offset kept faults.TooLarge short head is h = absurd h
+read_begins version b offset kept faults.NoCheckpoint short head is h = absurd h
+read_begins version b offset kept (faults.Script n) short head is h = absurd h
+read_begins version b offset kept faults.ReadFailed short head is h = absurd h
+read_begins version b offset kept faults.WriteFailed short head is h = absurd h
 
 -- the front from the checkpoint, and what is answered of it, are the restart from there
-pub restarts_at : (b : List ℕ) (offset : ℕ) (x : Begun) (rs : List Record) (end : ℕ) (why : Why) → IsBegun b offset x → IsFrontFrom x.state b offset rs end why
+pub restarts_at : (b : List ℕ) (offset : ℕ) (x : Begun) (rs : List Record) (end : ℕ) (why : Why) → IsBegun b offset x → IsFrontFrom (version_of x.version) x.state b offset rs end why
     → (result : Result Restarted Fault) → IfOk result (λ r. r ≡ restarted (run x.state rs) (length b - end) (length b) why) → IfErr result (λ e. e ≡ faults.Resources) → RestartsAt b offset result
 restarts_at b offset x rs end why begun h (Ok r) is refused = (
   begun.chain.short,
-  begun.header,
+  (version_of x.version, begun.header),
   record {
-    version = One;
+    version = version_of x.version;
     state = x.state;
     kept = begun.kept;
     records = rs;
@@ -175,8 +176,8 @@ restarts_at b offset x rs end why begun h (Ok r) is refused = (
 restarts_at b offset x rs end why begun h (Err e) is refused = subst (λ (f : Fault). RestartsAt b offset (Err f)) (sym refused) tt
 
 -- the chain from that place
-pub chain_at : LogEnds → (b : List ℕ) (offset place : ℕ) (c : Chain) → place ≡ place_of offset (length b) → length b ≤ log_limit → HasHeader One b → IsFrameRun b place (bodies_at b c.spans.items) c.end (rest_of c.rest)
+pub chain_at : (version : Version) → LogEnds → (b : List ℕ) (offset place : ℕ) (c : Chain) → place ≡ place_of offset (length b) → length b ≤ log_limit → HasHeader version b → IsFrameRun b place (bodies_at b c.spans.items) c.end (rest_of c.rest)
     → c.spans.items ≡ spans_from place (bodies_at b c.spans.items) → All (λ s. s.start + s.len ≤ length b) c.spans.items → IsChain b (place_of offset (length b)) c
-chain_at ends b offset place c is short head run spans inside =
-    let bounds = within b offset (started ends b head).long in
+chain_at version ends b offset place c is short head run spans inside =
+    let bounds = within b offset (started version ends b head).long in
     subst (λ (n : ℕ). IsChain b n c) is (record { short = short; after = omega (arith, bounds.0, is); within = omega (arith, bounds.1, is); run = run; spans = spans; inside = inside })

@@ -2,7 +2,7 @@
 use Rattle.std.proofs.Common.{◌≡◌, ℕ, ◌+◌, ◌-◌, ◌*◌, ◌/◌, ◌<◌, ◌≤◌, List, get_or, [], ◌∷◌, ◌++◌, length, map, take, drop, refl, sym, ap, subst, ◌∙◌, append_assoc, arith}
 use Rattle.std.specs.Int.{w32, to_be_bytes}
 use Rattle.std.proofs.lemmas.List.{append-nil, drop_more, take_at, drop_at, length-append, length-take, length-drop}
-use Rattle.rq_model.specs.Records.{Record, Abort, One}
+use Rattle.rq_model.specs.Records.{Record, Abort, Version}
 use Rattle.rq_model.specs.Spelling.{body_of}
 use Rattle.rq_model.specs.Frames.{log_limit, start, HasHeader, before, digest, frame, frames_of, last_of, log_of}
 use Rattle.rq_model.specs.LogLaws.{LogEnds}
@@ -59,59 +59,59 @@ aborts_long p (u ∷ us) =
     omega (arith, length-append (frame p body) (frames_of (digest p body) (map Abort us)), frame_long p body, nine, aborts_long (digest p body) us)
 
 -- of a log and where its front ends: the bytes up to there, the last 32 of them, and what closes it
-pub record IsFrontOf (b : List ℕ) (rs : List Record) (end : ℕ) : Type 0 where
-  pub front : IsFront b One rs (drop end b)
-  pub bytes : take end b ≡ log_of One rs
-  pub last : before end b ≡ last_of (start One) rs
+pub record IsFrontOf (version : Version) (b : List ℕ) (rs : List Record) (end : ℕ) : Type 0 where
+  pub front : IsFront b version rs (drop end b)
+  pub bytes : take end b ≡ log_of version rs
+  pub last : before end b ≡ last_of (start version) rs
 
-pub front_of : LogEnds → (b : List ℕ) (rs : List Record) (end : ℕ) (why : Why) → length b ≤ log_limit → HasHeader One b → IsFrontFrom empty b 40 rs end why → IsFrontOf b rs end
-front_of law b rs end why short head h =
-    let front = whole_front b rs end why (started law b head) short h in
+pub front_of : (version : Version) → LogEnds → (b : List ℕ) (rs : List Record) (end : ℕ) (why : Why) → length b ≤ log_limit → HasHeader version b → IsFrontFrom version empty b 40 rs end why → IsFrontOf version b rs end
+front_of version law b rs end why short head h =
+    let front = whole_front version b rs end why (started version law b head) short h in
     let rest : List ℕ = drop end b in
-    let log = log_of One rs in
-    let whole : b ≡ log ++ rest = front_whole b One rs rest front in
+    let log = log_of version rs in
+    let whole : b ≡ log ++ rest = front_whole b version rs rest front in
     let long : length log ≡ end = omega (arith, ap length whole, length-append log rest, length-drop end b, h.within) in
-    let ends = law One rs in
-    let apart : b ≡ ends.0 ++ (last_of (start One) rs ++ rest) = whole ∙ ap (λ (z : List ℕ). z ++ rest) ends.1 ∙ append_assoc ends.0 (last_of (start One) rs) rest in
-    let here : end ≡ length ends.0 + 32 = omega (arith, long, ap length ends.1, length-append ends.0 (last_of (start One) rs), ends.2) in
+    let ends = law version rs in
+    let apart : b ≡ ends.0 ++ (last_of (start version) rs ++ rest) = whole ∙ ap (λ (z : List ℕ). z ++ rest) ends.1 ∙ append_assoc ends.0 (last_of (start version) rs) rest in
+    let here : end ≡ length ends.0 + 32 = omega (arith, long, ap length ends.1, length-append ends.0 (last_of (start version) rs), ends.2) in
     record {
       front = front;
       bytes = ap (take end) whole ∙ take_at log rest end long;
-      last = ap (before end) apart ∙ before_is ends.0 (last_of (start One) rs) rest end ends.2 here;
+      last = ap (before end) apart ∙ before_is ends.0 (last_of (start version) rs) rest end ends.2 here;
     }
 
-pub closed_by : (b tail : List ℕ) (rs : List Record) (end : ℕ) → IsFrontOf b rs end → tail ≡ frames_of (last_of (start One) rs) (aborts (run empty rs)) → IsClosedBy b tail (take end b ++ tail)
-closed_by b tail rs end h is = record {
-  version = One;
+pub closed_by : (version : Version) (b tail : List ℕ) (rs : List Record) (end : ℕ) → IsFrontOf version b rs end → tail ≡ frames_of (last_of (start version) rs) (aborts (run empty rs)) → IsClosedBy b tail (take end b ++ tail)
+closed_by version b tail rs end h is = record {
+  version = version;
   records = rs;
   rest = drop end b;
   front = h.front;
-  aborts = record { version = One; records = rs; rest = drop end b; front = h.front; bytes = is };
+  aborts = record { version = version; records = rs; rest = drop end b; front = h.front; bytes = is };
   bytes = ap (λ (z : List ℕ). z ++ tail) h.bytes;
 }
 
 -- how long it is then
-pub closed_long : (b : List ℕ) (rs : List Record) (end : ℕ) (tail : List ℕ) → end ≤ length b → tail ≡ frames_of (last_of (start One) rs) (aborts (run empty rs)) → length (take end b ++ tail) ≡ end + 45 * length (run empty rs).units
-closed_long b rs end tail within is = omega (arith, within, length-append (take end b) tail, length-take end b, ap length is, aborts_long (last_of (start One) rs) (run empty rs).units)
+pub closed_long : (version : Version) (b : List ℕ) (rs : List Record) (end : ℕ) (tail : List ℕ) → end ≤ length b → tail ≡ frames_of (last_of (start version) rs) (aborts (run empty rs)) → length (take end b ++ tail) ≡ end + 45 * length (run empty rs).units
+closed_long version b rs end tail within is = omega (arith, within, length-append (take end b) tail, length-take end b, ap length is, aborts_long (last_of (start version) rs) (run empty rs).units)
 
 -- more units are open than there is room for, so the log stays open
-pub too_large : LogEnds → (b : List ℕ) (rs : List Record) (end : ℕ) (why : Why) (units : List ℕ) (count : ℕ) → length b ≤ log_limit → HasHeader One b → IsFrontFrom empty b 40 rs end why
+pub too_large : (version : Version) → LogEnds → (b : List ℕ) (rs : List Record) (end : ℕ) (why : Why) (units : List ℕ) (count : ℕ) → length b ≤ log_limit → HasHeader version b → IsFrontFrom version empty b 40 rs end why
     → units ≡ (run empty rs).units → count ≡ length units → (4294967295 - end) / 45 < count → StaysOpen b faults.TooLarge
-too_large law b rs end why units count short head h are_open count_is more =
-    let tail = frames_of (last_of (start One) rs) (aborts (run empty rs)) in
-    let long = closed_long b rs end tail h.within refl in
+too_large version law b rs end why units count short head h are_open count_is more =
+    let tail = frames_of (last_of (start version) rs) (aborts (run empty rs)) in
+    let long = closed_long version b rs end tail h.within refl in
     let many : count ≡ length (run empty rs).units = count_is ∙ ap length are_open in
-    ((short, head), take end b ++ tail, (tail, closed_by b tail rs end (front_of law b rs end why short head h) refl), omega (arith, long, many, more))
+    ((short, (version, head)), take end b ++ tail, (tail, closed_by version b tail rs end (front_of version law b rs end why short head h) refl), omega (arith, long, many, more))
 
 -- no more are, so this closes it
-pub is_ending : LogEnds → (b : List ℕ) (rs : List Record) (e : Ending) (why : Why) (units : List ℕ) (count : ℕ) → length b ≤ log_limit → HasHeader One b → IsFrontFrom empty b 40 rs e.end why
+pub is_ending : (version : Version) → LogEnds → (b : List ℕ) (rs : List Record) (e : Ending) (why : Why) (units : List ℕ) (count : ℕ) → length b ≤ log_limit → HasHeader version b → IsFrontFrom version empty b 40 rs e.end why
     → units ≡ (run empty rs).units → count ≡ length units → count ≤ (4294967295 - e.end) / 45 → e.tail.items ≡ frames_of (before e.end b) (map Abort units) → IsEnding b e
-is_ending law b rs e why units count short head h are_open count_is fits wrote =
-    let front = front_of law b rs e.end why short head h in
-    let is : e.tail.items ≡ frames_of (last_of (start One) rs) (aborts (run empty rs)) = wrote ∙ (λ i. frames_of (front.last i) (map Abort (are_open i))) in
-    let long = closed_long b rs e.end e.tail.items h.within is in
+is_ending version law b rs e why units count short head h are_open count_is fits wrote =
+    let front = front_of version law b rs e.end why short head h in
+    let is : e.tail.items ≡ frames_of (last_of (start version) rs) (aborts (run empty rs)) = wrote ∙ (λ i. frames_of (front.last i) (map Abort (are_open i))) in
+    let long = closed_long version b rs e.end e.tail.items h.within is in
     let many : count ≡ length (run empty rs).units = count_is ∙ ap length are_open in
-    record { log = (short, head); closed = closed_by b e.tail.items rs e.end front is; room = omega (arith, long, many, fits, h.within, short) }
+    record { log = (short, (version, head)); closed = closed_by version b e.tail.items rs e.end front is; room = omega (arith, long, many, fits, h.within, short) }
 
 -- refused memory leaves it open
 pub no_memory : (b : List ℕ) (e : Fault) → e ≡ faults.Resources → StaysOpen b e

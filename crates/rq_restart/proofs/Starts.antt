@@ -1,7 +1,7 @@
 -- The start of a log, and its restart.
 use Rattle.std.proofs.Common.{◌≡◌, ℕ, ◌+◌, ◌-◌, ◌≤◌, List, [], ◌++◌, length, take, drop, refl, sym, ap, subst, ◌∙◌, append_assoc, arith}
 use Rattle.std.proofs.lemmas.List.{take_at, drop_at, take-append-drop, length-append, length-take, length-drop}
-use Rattle.rq_model.specs.Records.{Record, One}
+use Rattle.rq_model.specs.Records.{Record, Version}
 use Rattle.rq_model.specs.Frames.{log_limit, magic, start, header, HasHeader, before, last_of, IsFrameRun}
 use Rattle.rq_model.specs.LogLaws.{LogEnds}
 use Rattle.rq_model.specs.States.{State, empty}
@@ -16,62 +16,62 @@ use Rattle.rq_restart.specs.Restarts.{FindsState, Restarts}
 use Rattle.rq_restart.specs.Ends.{IsChain, IsFrontFrom}
 
 -- the header has 40 bytes, and its last 32 are what the first frame is chained to
-pub record IsStarted (b : List ℕ) : Type 0 where
+pub record IsStarted (version : Version) (b : List ℕ) : Type 0 where
   pub long : 40 ≤ length b
-  pub whole : b ≡ header One ++ drop 40 b
-  pub chained : before 40 b ≡ start One
+  pub whole : b ≡ header version ++ drop 40 b
+  pub chained : before 40 b ≡ start version
 
-pub started : LogEnds → (b : List ℕ) → HasHeader One b → IsStarted b
-started ends b h =
-    let size : length (start One) ≡ 32 = (ends One []).2 in
+pub started : (version : Version) → LogEnds → (b : List ℕ) → HasHeader version b → IsStarted version b
+started version ends b h =
+    let size : length (start version) ≡ 32 = (ends version []).2 in
     let rest : List ℕ = drop 40 b in
-    let whole : b ≡ header One ++ rest = sym (take-append-drop 40 b) ∙ ap (λ (z : List ℕ). z ++ rest) h in
-    let parts : b ≡ magic One ++ (start One ++ rest) = whole ∙ append_assoc (magic One) (start One) rest in
-    let behind_magic : drop 8 b ≡ start One ++ rest = ap (drop 8) parts ∙ drop_at (magic One) (start One ++ rest) 8 refl in
-    let long : length (take 40 b) ≡ length (header One) = ap length h in
+    let whole : b ≡ header version ++ rest = sym (take-append-drop 40 b) ∙ ap (λ (z : List ℕ). z ++ rest) h in
+    let parts : b ≡ magic version ++ (start version ++ rest) = whole ∙ append_assoc (magic version) (start version) rest in
+    let behind_magic : drop 8 b ≡ start version ++ rest = ap (drop 8) parts ∙ drop_at (magic version) (start version ++ rest) 8 refl in
+    let long : length (take 40 b) ≡ length (header version) = ap length h in
     record {
-      long = omega (arith, long, size, length-take 40 b, length-append (magic One) (start One));
+      long = omega (arith, long, size, length-take 40 b, length-append (magic version) (start version));
       whole = whole;
-      chained = ap (take 32) behind_magic ∙ take_at (start One) rest 32 size;
+      chained = ap (take 32) behind_magic ∙ take_at (start version) rest 32 size;
     }
 
 -- the front behind the header is the front of the log
-pub whole_front : (b : List ℕ) (rs : List Record) (end : ℕ) (why : Why) → IsStarted b → length b ≤ log_limit → IsFrontFrom empty b 40 rs end why → IsFront b One rs (drop end b)
-whole_front b rs end why start_is short h = record {
+pub whole_front : (version : Version) (b : List ℕ) (rs : List Record) (end : ℕ) (why : Why) → IsStarted version b → length b ≤ log_limit → IsFrontFrom version empty b 40 rs end why → IsFront b version rs (drop end b)
+whole_front version b rs end why start_is short h = record {
   short = short;
   bytes = drop 40 b;
   whole = start_is.whole;
-  longest = subst (λ (p : List ℕ). IsLongest One empty p (drop 40 b) rs (drop end b)) start_is.chained h.longest;
+  longest = subst (λ (p : List ℕ). IsLongest version empty p (drop 40 b) rs (drop end b)) start_is.chained h.longest;
 }
 
 -- the chain behind the header
-pub log_chain : LogEnds → (b : List ℕ) (c : Chain) → length b ≤ log_limit → HasHeader One b → IsFrameRun b 40 (bodies_at b c.spans.items) c.end (rest_of c.rest)
+pub log_chain : (version : Version) → LogEnds → (b : List ℕ) (c : Chain) → length b ≤ log_limit → HasHeader version b → IsFrameRun b 40 (bodies_at b c.spans.items) c.end (rest_of c.rest)
     → c.spans.items ≡ spans_from 40 (bodies_at b c.spans.items) → All (λ s. s.start + s.len ≤ length b) c.spans.items → IsChain b 40 c
-log_chain ends b c short head run spans inside = record { short = short; after = omega arith; within = (started ends b head).long; run = run; spans = spans; inside = inside }
+log_chain version ends b c short head run spans inside = record { short = short; after = omega arith; within = (started version ends b head).long; run = run; spans = spans; inside = inside }
 
 -- the front behind the header, and what is answered of it, are the restart
-pub is_restart : LogEnds → (b : List ℕ) (rs : List Record) (end : ℕ) (why : Why) (r : Restarted) → length b ≤ log_limit → HasHeader One b → IsFrontFrom empty b 40 rs end why
+pub is_restart : (version : Version) → LogEnds → (b : List ℕ) (rs : List Record) (end : ℕ) (why : Why) (r : Restarted) → length b ≤ log_limit → HasHeader version b → IsFrontFrom version empty b 40 rs end why
     → r ≡ restarted (run empty rs) (length b - end) (length b) why → IsRestart b r
-is_restart law b rs end why r short head h is =
-    let start_is = started law b head in
+is_restart version law b rs end why r short head h is =
+    let start_is = started version law b head in
     record {
-      version = One;
+      version = version;
       records = rs;
       rest = drop end b;
       why = why;
-      front = whole_front b rs end why start_is short h;
-      ends = subst (λ (p : List ℕ). IsWhy One (run empty rs) (last_of p rs) (drop end b) why) start_is.chained h.ends;
+      front = whole_front version b rs end why start_is short h;
+      ends = subst (λ (p : List ℕ). IsWhy version (run empty rs) (last_of p rs) (drop end b) why) start_is.chained h.ends;
       answer = is ∙ ap (λ (n : ℕ). restarted (run empty rs) n (length b) why) (sym (length-drop end b));
     }
 
 -- so is what closing the front answers
-pub restarts : LogEnds → (b : List ℕ) (rs : List Record) (end : ℕ) (why : Why) → length b ≤ log_limit → HasHeader One b → IsFrontFrom empty b 40 rs end why
+pub restarts : (version : Version) → LogEnds → (b : List ℕ) (rs : List Record) (end : ℕ) (why : Why) → length b ≤ log_limit → HasHeader version b → IsFrontFrom version empty b 40 rs end why
     → (result : Result Restarted Fault) → IfOk result (λ r. r ≡ restarted (run empty rs) (length b - end) (length b) why) → IfErr result (λ e. e ≡ Resources) → Restarts b result
-restarts law b rs end why short head h (Ok r) is refused = (short, head, is_restart law b rs end why r short head h is)
-restarts law b rs end why short head h (Err e) is refused = subst (λ (f : Fault). Refused b f) (sym refused) tt
+restarts version law b rs end why short head h (Ok r) is refused = (short, (version, head), is_restart version law b rs end why r short head h is)
+restarts version law b rs end why short head h (Err e) is refused = subst (λ (f : Fault). Refused b f) (sym refused) tt
 
 -- and the state behind the front is the one that is found
-pub finds : LogEnds → (b : List ℕ) (rs : List Record) (end : ℕ) (why : Why) → length b ≤ log_limit → HasHeader One b → IsFrontFrom empty b 40 rs end why
+pub finds : (version : Version) → LogEnds → (b : List ℕ) (rs : List Record) (end : ℕ) (why : Why) → length b ≤ log_limit → HasHeader version b → IsFrontFrom version empty b 40 rs end why
     → (result : Result State Fault) → IfOk result (λ s. s ≡ run empty rs) → IfErr result (λ e. e ≡ Resources) → FindsState b result
-finds law b rs end why short head h (Ok s) is refused = (rs, drop end b, whole_front b rs end why (started law b head) short h, is)
-finds law b rs end why short head h (Err e) is refused = subst (λ (f : Fault). Refused b f) (sym refused) tt
+finds version law b rs end why short head h (Ok s) is refused = (version, rs, drop end b, whole_front version b rs end why (started version law b head) short h, is)
+finds version law b rs end why short head h (Err e) is refused = subst (λ (f : Fault). Refused b f) (sym refused) tt

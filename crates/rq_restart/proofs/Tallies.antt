@@ -1,5 +1,5 @@
 -- The tally goes along with an audit.
-use Rattle.std.proofs.Common.{◌≡◌, ℕ, zero, suc, ◌+◌, ◌-◌, ◌*◌, ◌<◌, ◌≤◌, Bool, true, false, cond, List, [], ◌∷◌, ◌++◌, length, map, take, drop, get_or, Option, Some, None, refl, sym, ap, subst, ◌∙◌, arith}
+use Rattle.std.proofs.Common.{◌≡◌, ℕ, zero, suc, ◌+◌, ◌<◌, ◌≤◌, Bool, true, false, cond, List, [], ◌∷◌, ◌++◌, length, map, take, drop, get_or, Option, Some, None, refl, sym, ap, subst, ◌∙◌, arith}
 use Rattle.std.specs.Prelude.{slice_index_or, nat_eq, nat_lt, not, ◌&&◌}
 use Rattle.std.specs.List.{AllByRecursion, starts_with}
 use Rattle.std.specs.Int.{w64, to_be_bytes}
@@ -8,7 +8,7 @@ use Rattle.std.proofs.lemmas.Bool.{ltb-true}
 use Rattle.std.proofs.Math.Seq.{take-suc}
 use Rattle.std.proofs.Math.Numerals.{suc-eq-add-one}
 use Rattle.std.proofs.lemmas.List.{length-map, take-append-drop, get_or-map}
-use Rattle.rq_model.specs.Records.{By, Record, One}
+use Rattle.rq_model.specs.Records.{By, Record, Two}
 use Rattle.rq_model.specs.Spelling.{IsRecord}
 use Rattle.rq_model.specs.States.{State, Element, empty}
 use Rattle.rq_model.specs.WellFormed.{Ordered, IsWellFormed}
@@ -24,7 +24,7 @@ use Rattle.rq_record.specs.declared.record.Record.TheVariants as own
 use Rattle.rq_record.specs.Views.{record_of}
 use Rattle.rq_restart.specs.declared.auditing.Walk.{Walk}
 use Rattle.rq_restart.specs.declared.tally.Tally.{Tally}
-use Rattle.rq_restart.specs.Worth.{member_bytes, payload_bytes, HangOnUnit, HangOnRegistrant, KeepsAllBut, of_unit, of_registrant, IsTallied, IsWithin, unit_after, named_after, registrant_after, lost_by, Counts}
+use Rattle.rq_restart.specs.Worth.{payload_bytes, KeepsAllBut, of_unit, of_registrant, IsTallied, IsWithin, unit_after, named_after, registrant_after, lost_by, Counts}
 use Rattle.rq_restart.specs.Audits.{IsWalk, Passes, audits, audited_of, least}
 use Rattle.rq_restart.proofs.Worth.{tallied, lost, both_lost, not_not, too_short}
 use Rattle.rq_restart.proofs.Walks.{other_number}
@@ -49,6 +49,7 @@ unit_within t i (own.Dequeue v queue by) u h = more_or (nat_eq v.0 u) (of_unit t
 unit_within t i (own.Commit v) u h = none_or (nat_eq v.0 u) (of_unit t u) i (h.units u)
 unit_within t i (own.Abort v) u h = none_or (nat_eq v.0 u) (of_unit t u) i (h.units u)
 unit_within t i (own.Checkpoint kept) u h = omega (arith, h.units u)
+unit_within t i (own.Kill queue element) u h = omega (arith, h.units u)
 
 named_within : (t : Tally) (i queue : ℕ) (by : Option By) (k : ℕ × List ℕ) → IsWithin i t → named_after queue by t k ≤ i + 1
 named_within t i queue None k h = omega (arith, h.registrants k)
@@ -64,6 +65,7 @@ registrant_within t i (own.Dequeue v queue by) k h = named_within t i queue.0 by
 registrant_within t i (own.Commit v) k h = omega (arith, h.registrants k)
 registrant_within t i (own.Abort v) k h = omega (arith, h.registrants k)
 registrant_within t i (own.Checkpoint kept) k h = omega (arith, h.registrants k)
+registrant_within t i (own.Kill queue element) k h = omega (arith, h.registrants k)
 
 within_next : (t u : Tally) (i : ℕ) (r : Own) → Counts t u r → IsWithin i t → IsWithin (i + 1) u
 within_next t u i r c h = record {
@@ -71,16 +73,17 @@ within_next t u i r c h = record {
   registrants = λ k. subst (λ n. n ≤ i + 1) (sym (c.registrants k)) (registrant_within t i r k h);
 }
 
-pub lost_within : (t : Tally) (i : ℕ) (r : Own) → IsWithin i t → lost_by r t ≤ i
+pub lost_within : (t : Tally) (i : ℕ) (r : Own) → IsWithin i t → lost_by r t ≤ i + 1
 lost_within t i (own.Define limit error name) h = omega arith
 lost_within t i (own.Register queue name) h = omega arith
-lost_within t i (own.Deregister queue name) h = h.registrants (queue.0, name)
+lost_within t i (own.Deregister queue name) h = omega (arith, h.registrants (queue.0, name))
 lost_within t i (own.Begin v) h = omega arith
 lost_within t i (own.Enqueue v queue priority by payload) h = omega arith
 lost_within t i (own.Dequeue v queue by) h = omega arith
-lost_within t i (own.Commit v) h = h.units v.0
-lost_within t i (own.Abort v) h = h.units v.0
+lost_within t i (own.Commit v) h = omega (arith, h.units v.0)
+lost_within t i (own.Abort v) h = omega (arith, h.units v.0)
 lost_within t i (own.Checkpoint kept) h = omega arith
+lost_within t i (own.Kill queue element) h = omega arith
 
 pub within_more : (t : Tally) (i n : ℕ) → i ≤ n → IsWithin i t → IsWithin n t
 within_more t i n l h = record { units = λ v. omega (arith, l, h.units v); registrants = λ k. omega (arith, l, h.registrants k) }
@@ -105,13 +108,13 @@ each_take P zero xs h = tt
 each_take P (suc k) [] h = tt
 each_take P (suc k) (x ∷ xs) h = (h.0, each_take P k xs h.1)
 
-pub fit_at : (rs : List Record) (i : ℕ) → IsWellFormed empty → RunsAreWellFormed → RunsFit → AllByRecursion (IsRecord One) rs → all_lawful One empty rs ≡ true → IsFit (run empty (take i rs))
+pub fit_at : (rs : List Record) (i : ℕ) → IsWellFormed empty → RunsAreWellFormed → RunsFit → AllByRecursion (IsRecord Two) rs → all_lawful Two empty rs ≡ true → IsFit (run empty (take i rs))
 fit_at rs i start well fit form lawful =
-    let whole : all_lawful One empty (take i rs ++ drop i rs) ≡ true = ap (all_lawful One empty) (take-append-drop i rs) ∙ lawful in
+    let whole : all_lawful Two empty (take i rs ++ drop i rs) ≡ true = ap (all_lawful Two empty) (take-append-drop i rs) ∙ lawful in
     let none : Fits empty = record { greatest = omega arith; definitions = tt; registrants = tt; elements = tt; notes = tt } in
     record {
-      rise = (well One empty (take i rs) start (lawful_cut One empty (take i rs) (drop i rs) whole).0).elements_rise;
-      narrow = each_weaker FitsElement (λ (e : Element). length e.payload ≤ 65535) (λ e h. h.1) (run empty (take i rs)).elements (fit One empty (take i rs) none (each_take (IsRecord One) i rs form)).elements;
+      rise = (well Two empty (take i rs) start (lawful_cut Two empty (take i rs) (drop i rs) whole).0).elements_rise;
+      narrow = each_weaker FitsElement (λ (e : Element). length e.payload ≤ 65535) (λ e h. h.1) (run empty (take i rs)).elements (fit Two empty (take i rs) none (each_take (IsRecord Two) i rs form)).elements;
     }
 
 -- One record further.
@@ -141,7 +144,7 @@ passed all i r w v lt few is fit walk p found =
       counts = within_next w.tally v.tally i r p.tally walk.counts;
       few = omega (arith, p.lost, walk.few, lost_within w.tally i r walk.counts, lt, few);
       lost = subst (λ (t : State). KeepsAllBut v.lost v.state t) (sym more) (subst (λ (t : State). KeepsAllBut v.lost t (step s (record_of r))) (sym state)
-          (subst (λ (n : ℕ). KeepsAllBut n w.state (step s (record_of r))) (sym p.lost) (both_lost w.lost (lost_by r w.tally) w.state s (step s (record_of r)) walk.lost (lost s w.tally r walk.tally fit.narrow))));
+          (subst (λ (n : ℕ). KeepsAllBut n w.state (step s (record_of r))) (sym p.lost) (both_lost w.lost (lost_by r w.tally) w.state s (step s (record_of r)) walk.lost (lost s w.tally r walk.tally fit.rise fit.narrow))));
       found = ap (λ (x : Walk). map audited_of x.found.items) p.others ∙ found;
     }
 

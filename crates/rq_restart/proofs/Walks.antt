@@ -9,7 +9,7 @@ use Rattle.std.proofs.lemmas.Slice.Eq.{bytes_eq-Decides, starts_is}
 use Rattle.std.proofs.Math.Seq.{take-suc}
 use Rattle.std.proofs.Math.Numerals.{suc-eq-add-one}
 use Rattle.std.proofs.lemmas.List.{append-nil, map-append, length-map, length-take, take-take, drop-take, take-map, drop-map, take-append-drop, get_or-map}
-use Rattle.rq_model.specs.Records.{Record, One}
+use Rattle.rq_model.specs.Records.{Record, Two}
 use Rattle.rq_model.specs.Spelling.{body_of}
 use Rattle.rq_model.specs.Frames.{bodies_of}
 use Rattle.rq_model.specs.States.{State, empty}
@@ -53,15 +53,15 @@ between rs from i h =
 own_between : (all : List Own) (from n : ℕ) → map record_of (take n (drop from all)) ≡ take n (drop from (map record_of all))
 own_between all from n = sym (ap (take n) (drop-map record_of from all) ∙ take-map record_of n (drop from all))
 
-pub lawful_between : (all : List Own) (from i : ℕ) (s : State) → from ≤ i → s ≡ run empty (take from (map record_of all)) → all_lawful One empty (map record_of all) ≡ true
-    → all_lawful One s (map record_of (take (i - from) (drop from all))) ≡ true
+pub lawful_between : (all : List Own) (from i : ℕ) (s : State) → from ≤ i → s ≡ run empty (take from (map record_of all)) → all_lawful Two empty (map record_of all) ≡ true
+    → all_lawful Two s (map record_of (take (i - from) (drop from all))) ≡ true
 lawful_between all from i s h is lawful =
     let rs = map record_of all in
     let mid = take (i - from) (drop from rs) in
-    let whole : all_lawful One empty (take i rs ++ drop i rs) ≡ true = ap (all_lawful One empty) (take-append-drop i rs) ∙ lawful in
-    let front : all_lawful One empty (take from rs ++ mid) ≡ true = ap (all_lawful One empty) (sym (between rs from i h)) ∙ (lawful_cut One empty (take i rs) (drop i rs) whole).0 in
-    ap (λ (t : State). all_lawful One t (map record_of (take (i - from) (drop from all)))) is
-    ∙ ap (all_lawful One (run empty (take from rs))) (own_between all from (i - from)) ∙ (lawful_cut One empty (take from rs) mid front).1
+    let whole : all_lawful Two empty (take i rs ++ drop i rs) ≡ true = ap (all_lawful Two empty) (take-append-drop i rs) ∙ lawful in
+    let front : all_lawful Two empty (take from rs ++ mid) ≡ true = ap (all_lawful Two empty) (sym (between rs from i h)) ∙ (lawful_cut Two empty (take i rs) (drop i rs) whole).0 in
+    ap (λ (t : State). all_lawful Two t (map record_of (take (i - from) (drop from all)))) is
+    ∙ ap (all_lawful Two (run empty (take from rs))) (own_between all from (i - from)) ∙ (lawful_cut Two empty (take from rs) mid front).1
 
 pub run_between : (all : List Own) (from i : ℕ) (s : State) → from ≤ i → s ≡ run empty (take from (map record_of all))
     → run s (map record_of (take (i - from) (drop from all))) ≡ run empty (take i (map record_of all))
@@ -98,6 +98,7 @@ none_here s at (own.Enqueue unit queue priority by payload) h = refl
 none_here s at (own.Dequeue unit queue by) h = refl
 none_here s at (own.Commit unit) h = refl
 none_here s at (own.Abort unit) h = refl
+none_here s at (own.Kill queue element) h = refl
 
 pub found_past : (all : List Own) (i : ℕ) (r : Own) (found : List (ℕ × Bool)) → i < length all → r ≡ slice_index_or all i r → ((kept : List ℕ) → r ≡ own.Checkpoint kept → ⊥)
     → map audited_of found ≡ audits empty 40 (take i (map record_of all)) → map audited_of found ≡ audits empty 40 (take (i + 1) (map record_of all))

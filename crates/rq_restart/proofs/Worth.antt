@@ -1,18 +1,18 @@
 -- What records take from a state, and how much a unit or a registrant has of it.
-use Rattle.std.proofs.Common.{◌≡◌, ◌⊎◌, inl, inr, ⊎_elim, ℕ, suc, ◌+◌, ◌*◌, ◌<◌, ◌≤◌, Bool, true, false, cond, not, ◌&&◌, ◌||◌, List, [], ◌∷◌, ◌++◌, length, map, Option, Some, None, refl, sym, ap, subst, ◌∙◌, arith, length-append}
-use Rattle.std.specs.Prelude.{◌==◌, nat_lt, nat_le, nat_eq, if◌then◌else◌, ⊤}
+use Rattle.std.proofs.Common.{◌≡◌, ◌⊎◌, inl, inr, ⊎_elim, ℕ, suc, ◌+◌, ◌*◌, ◌<◌, ◌≤◌, Bool, true, false, cond, not, ◌&&◌, List, [], ◌∷◌, ◌++◌, length, map, Option, Some, None, refl, sym, ap, subst, ◌∙◌, arith, length-append}
+use Rattle.std.specs.Prelude.{◌==◌, nat_lt, nat_le, nat_eq, if◌then◌else◌}
 use Rattle.std.specs.List.{filter, flat_map, list_any, list_all, AllByRecursion}
 use Rattle.std.specs.Str.{bytes_eq}
-use Rattle.std.proofs.lemmas.Bool.{and_parts, and_from, eqb-true, eqb-false, eq-eqb, ne_eqb, true≢false, false≢true, cases_Bool, leb-true, ltb-true, le-leb, lt-ltb, or_cases}
+use Rattle.std.proofs.lemmas.Bool.{and_parts, eqb-true, false≢true, leb-true, ltb-true, or_cases}
 use Rattle.std.proofs.Math.Nat.{mul-suc}
 use Rattle.std.proofs.lemmas.List.{length-map}
 use Rattle.std.proofs.lemmas.List.Elements.{filter-append}
 use Rattle.std.proofs.lemmas.List.Filters.{length-filter_both}
 use Rattle.std.proofs.lemmas.Slice.Eq.{bytes_eq-Decides}
 use Rattle.std.specs.Prelude.{option_map}
-use Rattle.std.specs.Int.{w16, w32, w64, to_be_bytes}
-use Rattle.rq_model.specs.Records.{By, Define, Register, Deregister, Begin, Enqueue, Dequeue, Commit, Abort, Checkpoint}
-use Rattle.rq_model.specs.States.{Mark, Free, Fresh, Held, Kind, Enqueued, Dequeued, Element, Last, Definition, Note, Registrant, State, definition_at, put, registrant_before, is_free, is_fresh, is_held, is_registrant, is_note_of}
+use Rattle.std.specs.Int.{w16, w64, to_be_bytes}
+use Rattle.rq_model.specs.Records.{By, Register, Deregister, Begin, Enqueue, Dequeue, Commit, Abort}
+use Rattle.rq_model.specs.States.{Mark, Free, Fresh, Held, Kind, Enqueued, Dequeued, Element, Last, Definition, Note, Registrant, State, definition_at, put, registrant_before, is_fresh, is_held, is_registrant, is_note_of}
 use Rattle.rq_model.specs.Machine.{is_free_at, comes_first, is_best, best, marked, leaves, moved, returned, new_element, registered, told, noted, step}
 use Rattle.rq_model.specs.Queues.{is_marked}
 use Rattle.rq_model.specs.StateSpelling.{counted, element_number, kind_byte, definition_bytes, last_bytes, registrant_bytes, mark_bytes, element_bytes, note_bytes, state_bytes}
@@ -299,6 +299,7 @@ unit_step s t (own.Abort v) u rise h = closed t s (step s (Abort v.0)) v.0 u
       notes = omega (arith, count_filtered (of_note u) (λ (m : Note). not (m.unit == v.0)) s.notes, (h u).notes);
     })
 unit_step s t (own.Checkpoint kept) u rise h = record { units = (h u).units; elements = (h u).elements; notes = (h u).notes }
+unit_step s t (own.Kill queue element) u rise h = record { units = (h u).units; elements = omega (arith, count_filtered (Of u) (λ (e : Element). not (is_free_at queue.0 e && (e.id == element.0))) s.elements, (h u).elements); notes = (h u).notes }
 
 -- What a registrant has after a record.
 
@@ -384,6 +385,7 @@ registrant_step s t (own.Commit v) k h = record {
 }
 registrant_step s t (own.Abort v) k h = record { registrants = (h k).registrants; notes = omega (arith, count_filtered (is_noted k) (λ (m : Note). not (m.unit == v.0)) s.notes, (h k).notes) }
 registrant_step s t (own.Checkpoint kept) k h = record { registrants = (h k).registrants; notes = (h k).notes }
+registrant_step s t (own.Kill queue element) k h = record { registrants = (h k).registrants; notes = (h k).notes }
 
 pub tallied : (s : State) (t u : Tally) (r : Own) → Rising s.elements → Counts t u r → IsTallied s t → IsTallied (step s (record_of r)) u
 tallied s t u r rise c h = record {
@@ -415,23 +417,39 @@ as_many_or_more : (queue : ℕ) (name : List ℕ) (xs : List Registrant) → len
 as_many_or_more queue name xs = by_cases (list_any (is_registrant queue name) xs) (λ b. length xs ≤ length (cond b xs (put registrant_before (record { queue = queue; name = name; last = None }) xs))) (λ _. omega arith)
     (λ _. omega (arith, length-put registrant_before (record { queue = queue; name = name; last = None }) xs))
 
-pub lost : (s : State) (t : Tally) (r : Own) → IsTallied s t → Narrow s.elements → KeepsAllBut (lost_by r t) s (step s (record_of r))
-lost s t (own.Define limit error name) h narrow = record { members = omega (arith, length-append s.definitions (record { limit = limit; error = error.0; name = name } ∷ [])); bytes = omega arith }
-lost s t (own.Register queue name) h narrow = record { members = omega (arith, as_many_or_more queue.0 name s.registrants); bytes = omega arith }
-lost s t (own.Deregister queue name) h narrow = let k = h.registrants (queue.0, name) in record {
+-- at most one element has the id
+one_of_id : (id : ℕ) (p : Element → Bool) (es : List Element) → Rising es → ((e : Element) → p e ≡ true → e.id ≡ id) → length (filter p es) ≤ 1
+one_of_id id p [] rise h = omega arith
+one_of_id id p (x ∷ es) rise h =
+    by_cases (p x) (λ c. p x ≡ c → length (cond c (x ∷ filter p es) (filter p es)) ≤ 1)
+    (λ _ t. let rest : filter p es ≡ [] = filter_none p es (each_weaker (λ (y : Element). x.id < y.id) (λ y. p y ≡ false) (λ y k. other t y k) es rise.0) in omega (arith, ap length rest))
+    (λ _ _. one_of_id id p es rise.1 h)
+    refl
+  where
+    other : p x ≡ true → (y : Element) → x.id < y.id → p y ≡ false
+    other t y k = by_cases (p y) (λ c. p y ≡ c → c ≡ false) (λ _ u. absurd (omega (arith, k, h x t, h y u))) (λ _ _. refl) refl
+
+same_list : (es : List Element) → map (λ (e : Element). e) es ≡ es
+same_list [] = refl
+same_list (e ∷ es) = ap (λ (fs : List Element). e ∷ fs) (same_list es)
+
+pub lost : (s : State) (t : Tally) (r : Own) → IsTallied s t → Rising s.elements → Narrow s.elements → KeepsAllBut (lost_by r t) s (step s (record_of r))
+lost s t (own.Define limit error name) h rise narrow = record { members = omega (arith, length-append s.definitions (record { limit = limit; error = error.0; name = name } ∷ [])); bytes = omega arith }
+lost s t (own.Register queue name) h rise narrow = record { members = omega (arith, as_many_or_more queue.0 name s.registrants); bytes = omega arith }
+lost s t (own.Deregister queue name) h rise narrow = let k = h.registrants (queue.0, name) in record {
   members = omega (arith, length-filter_both (is_registrant queue.0 name) (λ r. not (is_registrant queue.0 name r)) (λ _. refl) s.registrants, length-filter_both (is_note_of queue.0 name) (λ m. not (is_note_of queue.0 name m)) (λ _. refl) s.notes, k.registrants, k.notes);
   bytes = omega arith;
 }
-lost s t (own.Begin v) h narrow = record { members = omega (arith, length-append s.units (v.0 ∷ [])); bytes = omega arith }
-lost s t (own.Enqueue v queue priority by payload) h narrow = record {
+lost s t (own.Begin v) h rise narrow = record { members = omega (arith, length-append s.units (v.0 ∷ [])); bytes = omega arith }
+lost s t (own.Enqueue v queue priority by payload) h rise narrow = record {
   members = omega (arith, length-append s.elements (new_element s.next v.0 queue.0 priority payload ∷ []), length-append s.notes (noted s.next v.0 queue.0 by Enqueued (Some s.next)));
   bytes = omega (arith, more_payloads s.elements (new_element s.next v.0 queue.0 priority payload ∷ []));
 }
-lost s t (own.Dequeue v queue by) h narrow = record {
+lost s t (own.Dequeue v queue by) h rise narrow = record {
   members = omega (arith, length-map s.elements (taken v.0 queue.0 s.elements), length-append s.notes (noted s.next v.0 queue.0 by Dequeued (option_map (λ (e : Element). e.id) (best queue.0 s.elements))));
   bytes = omega (arith, same_payloads (taken v.0 queue.0 s.elements) (taken_payload v.0 queue.0 s.elements) s.elements);
 }
-lost s t (own.Commit v) h narrow = let k = h.units v.0 in
+lost s t (own.Commit v) h rise narrow = let k = h.units v.0 in
     let heldless = λ (e : Element) (n : not (is_held v.0 e.mark) ≡ false). held_is v.0 e.mark (not_not (is_held v.0 e.mark) n) in
     record {
       members = omega (
@@ -446,7 +464,7 @@ lost s t (own.Commit v) h narrow = let k = h.units v.0 in
       );
       bytes = omega (arith, carried_or (λ (e : Element). e.payload) 65535 (λ (e : Element). not (is_held v.0 e.mark)) (Of v.0) (freed v.0) (freed_payload v.0) heldless s.elements narrow, k.elements);
     }
-lost s t (own.Abort v) h narrow = let k = h.units v.0 in
+lost s t (own.Abort v) h rise narrow = let k = h.units v.0 in
     let stale = λ (e : Element) (n : not (is_fresh v.0 e.mark) ≡ false). fresh_is v.0 e.mark (not_not (is_fresh v.0 e.mark) n) in
     record {
       members = omega (
@@ -460,7 +478,16 @@ lost s t (own.Abort v) h narrow = let k = h.units v.0 in
       );
       bytes = omega (arith, carried_or (λ (e : Element). e.payload) 65535 (λ (e : Element). not (is_fresh v.0 e.mark)) (Of v.0) (back s.definitions v.0) (back_payload s.definitions v.0) stale s.elements narrow, k.elements);
     }
-lost s t (own.Checkpoint kept) h narrow = record { members = omega arith; bytes = omega arith }
+lost s t (own.Checkpoint kept) h rise narrow = record { members = omega arith; bytes = omega arith }
+lost s t (own.Kill queue element) h rise narrow =
+    let gone = λ (e : Element). is_free_at queue.0 e && (e.id == element.0) in
+    let kept = λ (e : Element). not (is_free_at queue.0 e && (e.id == element.0)) in
+    let one = one_of_id element.0 gone s.elements rise (λ e t. eqb-true e.id element.0 (and_parts (is_free_at queue.0 e) (e.id == element.0) t).1) in
+    let same = same_list (filter kept s.elements) in
+    record {
+      members = omega (arith, length-filter_both gone kept (λ _. refl) s.elements, one);
+      bytes = omega (arith, carried_or (λ (e : Element). e.payload) 65535 kept gone (λ (e : Element). e) (λ e. refl) (λ e n. not_not (is_free_at queue.0 e && (e.id == element.0)) n) s.elements narrow, ap (λ (es : List Element). length (flat_map (λ (e : Element). e.payload) es)) same, one);
+    }
 
 -- The spelling of a state is as long as its members.
 

@@ -2,16 +2,16 @@
 use Rattle.std.specs.Prelude.{◌≡◌, ℕ, ◌+◌, ◌-◌, ◌*◌, ◌≤◌, ◌<◌, Bool, List, [], ◌∷◌, ◌++◌, length, map, take, slice_index_or, Result, Ok, Err}
 use Rattle.std.specs.Str.{bytes_eq}
 use Rattle.std.specs.Global.{Vec}
-use Rattle.rq_model.specs.Records.{Record, Checkpoint, One}
+use Rattle.rq_model.specs.Records.{Record, Checkpoint}
 use Rattle.rq_model.specs.Spelling.{body_of}
-use Rattle.rq_model.specs.Frames.{log_limit, HasHeader}
+use Rattle.rq_model.specs.Frames.{log_limit}
 use Rattle.rq_model.specs.States.{State, empty}
 use Rattle.rq_model.specs.Machine.{step, run}
 use Rattle.rq_model.specs.StateSpelling.{state_bytes}
 use Rattle.rq_model.specs.Checkpoints.{Audited, IsAudit}
 use Rattle.rq_record.specs.declared.fault.Fault.{Fault}
 use Rattle.rq_front.specs.declared.spans.Span.{Span}
-use Rattle.rq_front.specs.Chains.{Refused}
+use Rattle.rq_front.specs.Chains.{IsHeaded, Refused}
 use Rattle.rq_restart.specs.declared.auditing.Walk.{Walk}
 use Rattle.rq_record.specs.declared.record.Record.{Record as Own}
 use Rattle.rq_restart.specs.Worth.{member_bytes, payload_bytes, IsTallied, IsWithin, KeepsAllBut, Counts, lost_by}
@@ -61,5 +61,5 @@ pub record Passes (w : Walk) (r : Own) (v : Walk) : Type 0 where
 
 -- the audit of b, or why b is refused: it is too long, or no log
 abbrev pub Audits : List ℕ → Result (Vec (ℕ × Bool)) Fault → Type 0
-Audits b (Ok v) = (length b ≤ log_limit) × HasHeader One b × IsAudit b (map audited_of v.items)
+Audits b (Ok v) = (length b ≤ log_limit) × IsHeaded b × IsAudit b (map audited_of v.items)
 Audits b (Err e) = Refused b e

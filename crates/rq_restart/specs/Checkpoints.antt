@@ -1,11 +1,11 @@
 -- The checkpoint that a chain begins with.
 use Rattle.std.specs.Prelude.{◌==◌, ℕ, List, [], ◌∷◌, Option, Some, None, if◌then◌else◌, ◌&&◌, nat_le, max, Result, Ok, Err}
-use Rattle.rq_model.specs.Records.{One}
 use Rattle.rq_model.specs.Frames.{HasHeader}
 use Rattle.rq_model.specs.StateSpelling.{SpellsState}
 use Rattle.rq_model.specs.Checkpoints.{IsCheckpointAt}
 use Rattle.rq_record.specs.declared.fault.Fault.{Fault}
 use Rattle.rq_record.specs.declared.fault.Fault.TheVariants.{NoCheckpoint, BadCheckpoint}
+use Rattle.rq_record.specs.Views.{version_of}
 use Rattle.rq_front.specs.Chains.{Refused}
 use Rattle.rq_restart.specs.declared.checkpoint.Begun.{Begun}
 use Rattle.rq_restart.specs.Ends.{IsChain}
@@ -21,13 +21,13 @@ abbrev pub kept_in : List (List ℕ) → Option (List ℕ)
 kept_in [] = None
 kept_in (body ∷ bodies) = kept_of body
 
--- the chain from a checkpoint on, and the state that it spells
+-- the version of the log, the chain from a checkpoint on, and the state that it spells
 pub record IsBegun (b : List ℕ) (offset : ℕ) (x : Begun) : Type 0 where
-  pub header : HasHeader One b
+  pub header : HasHeader (version_of x.version) b
   pub chain : IsChain b offset x.found
   pub kept : List ℕ
   pub checkpoint : IsCheckpointAt b offset kept
-  pub spells : SpellsState One x.state kept
+  pub spells : SpellsState (version_of x.version) x.state kept
 
 -- that, or why there is none
 abbrev pub BeginsAt : List ℕ → ℕ → Result Begun Fault → Type 0

@@ -1,5 +1,6 @@
 -- What is known of the bodies of a chain.
 use Rattle.std.specs.Prelude.{◌≡◌, ℕ, List, map, Result, Ok, Err}
+use Rattle.rq_model.specs.Records.{Version}
 use Rattle.rq_model.specs.States.{State}
 use Rattle.rq_record.specs.declared.fault.Fault.{Fault}
 use Rattle.rq_record.specs.declared.fault.Fault.TheVariants.{Resources}
@@ -10,11 +11,11 @@ use Rattle.rq_restart.specs.declared.front.Known.{Known}
 use Rattle.rq_restart.specs.Readings.{AreApart, AreRead}
 
 -- the records that the bodies spell, and what one pass over them from a state on found
-pub record IsKnown (s : State) (bodies : List (List ℕ)) (k : Known) : Type 0 where
-  pub read : AreRead bodies (map record_of k.records.items)
-  pub analysis : IsAnalysis s (map record_of k.records.items) k.analysis
+pub record IsKnown (version : Version) (s : State) (bodies : List (List ℕ)) (k : Known) : Type 0 where
+  pub read : AreRead version bodies (map record_of k.records.items)
+  pub analysis : IsAnalysis version s (map record_of k.records.items) k.analysis
 
 -- that of the bodies whose records stand apart, or no memory
-abbrev pub Knows : State → Parts → Result Known Fault → Type 0
-Knows s parts (Ok k) = (bodies : List (List ℕ)) → AreApart bodies parts → IsKnown s bodies k
-Knows s parts (Err e) = e ≡ Resources
+abbrev pub Knows : Version → State → Parts → Result Known Fault → Type 0
+Knows version s parts (Ok k) = (bodies : List (List ℕ)) → AreApart version bodies parts → IsKnown version s bodies k
+Knows version s parts (Err e) = e ≡ Resources

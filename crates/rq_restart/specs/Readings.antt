@@ -2,7 +2,7 @@
 use Rattle.std.specs.Prelude.{◌≡◌, ◌≤◌, ℕ, ⊤, List, [], ◌∷◌, ◌++◌, length, map, take, drop, Result, Ok, Err}
 use Rattle.std.specs.Global.{Vec}
 use Rattle.std.specs.List.{AllByRecursion}
-use Rattle.rq_model.specs.Records.{Record, One}
+use Rattle.rq_model.specs.Records.{Record, Version}
 use Rattle.rq_model.specs.Spelling.{IsRecord, Spells}
 use Rattle.rq_model.specs.Frames.{bodies_of}
 use Rattle.rq_record.specs.declared.fault.Fault.{Fault}
@@ -11,25 +11,25 @@ use Rattle.rq_record.specs.declared.record.Record as rt
 use Rattle.rq_record.specs.Views.{record_of}
 use Rattle.rq_restart.specs.declared.reading.Parts.{Parts}
 
--- no body, or a first one that spells no record
-abbrev pub SpellsNone : List (List ℕ) → Type 0
-SpellsNone [] = ⊤
-SpellsNone (body ∷ left) = (r : Record) → Spells One r body → ⊥
+-- no body, or a first one that spells no record of the version
+abbrev pub SpellsNone : Version → List (List ℕ) → Type 0
+SpellsNone version [] = ⊤
+SpellsNone version (body ∷ left) = (r : Record) → Spells version r body → ⊥
 
 -- the records that the bodies spell, one after the other, up to the first body that spells none
-pub record AreRead (bodies : List (List ℕ)) (rs : List Record) : Type 0 where
+pub record AreRead (version : Version) (bodies : List (List ℕ)) (rs : List Record) : Type 0 where
   pub left : List (List ℕ)
-  pub records : AllByRecursion (IsRecord One) rs
+  pub records : AllByRecursion (IsRecord version) rs
   pub spelled : bodies ≡ bodies_of rs ++ left
-  pub stops : SpellsNone left
+  pub stops : SpellsNone version left
 
 -- these, or no memory
-abbrev pub Reads : List (List ℕ) → Result (Vec rt.Record) Fault → Type 0
-Reads bodies (Ok v) = AreRead bodies (map record_of v.items)
-Reads bodies (Err e) = e ≡ Resources
+abbrev pub Reads : Version → List (List ℕ) → Result (Vec rt.Record) Fault → Type 0
+Reads version bodies (Ok v) = AreRead version bodies (map record_of v.items)
+Reads version bodies (Err e) = e ≡ Resources
 
 -- the records of the first bodies and those of the others, apart from one another
-pub record AreApart (bodies : List (List ℕ)) (p : Parts) : Type 0 where
+pub record AreApart (version : Version) (bodies : List (List ℕ)) (p : Parts) : Type 0 where
   pub within : p.count ≤ length bodies
-  pub front : AreRead (take p.count bodies) (map record_of p.front.items)
-  pub back : AreRead (drop p.count bodies) (map record_of p.back.items)
+  pub front : AreRead version (take p.count bodies) (map record_of p.front.items)
+  pub back : AreRead version (drop p.count bodies) (map record_of p.back.items)

@@ -1,17 +1,16 @@
 -- The tail of a log, and the log closed.
 use Rattle.std.specs.Prelude.{ℕ, ◌<◌, ◌≤◌, List, ◌++◌, length, take, Result, Ok, Err}
 use Rattle.std.specs.Global.{Vec}
-use Rattle.rq_model.specs.Records.{One}
-use Rattle.rq_model.specs.Frames.{log_limit, HasHeader}
+use Rattle.rq_model.specs.Frames.{log_limit}
 use Rattle.rq_model.specs.Closing.{IsClosedBy, IsClosed}
 use Rattle.rq_record.specs.declared.fault.Fault.{Fault}
 use Rattle.rq_record.specs.declared.fault.Fault.TheVariants.{TooLarge}
-use Rattle.rq_front.specs.Chains.{Refused}
+use Rattle.rq_front.specs.Chains.{IsHeaded, Refused}
 use Rattle.rq_restart.specs.declared.tails.Ending.{Ending}
 
 -- the bytes are a log that is not too long
 abbrev pub IsShortLog : List ℕ → Type 0
-IsShortLog b = (length b ≤ log_limit) × HasHeader One b
+IsShortLog b = (length b ≤ log_limit) × IsHeaded b
 
 -- why b is not closed: its front and its tail together are longer than a log may be, or b is too long, or no log; or memory ran out
 abbrev pub StaysOpen : List ℕ → Fault → Type 0

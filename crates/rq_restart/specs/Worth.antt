@@ -1,5 +1,5 @@
 -- How long the spelling of a state is at least, and how much of that records can take away.
-use Rattle.std.specs.Prelude.{◌≡◌, ◌≤◌, ◌+◌, ◌*◌, ◌==◌, ⊤, ℕ, nat_eq, cond, List, length, filter, Option, Some, None}
+use Rattle.std.specs.Prelude.{◌≡◌, ◌≤◌, ◌+◌, ◌*◌, ◌==◌, ℕ, nat_eq, cond, List, length, filter, Option, Some, None}
 use Rattle.std.specs.List.{flat_map}
 use Rattle.indexmap.specs.IndexMap.{get}
 use Rattle.rq_model.specs.Records.{By}
@@ -7,7 +7,7 @@ use Rattle.rq_model.specs.States.{State, is_registrant, is_note_of}
 use Rattle.rq_model.specs.Queues.{is_marked}
 use Rattle.rq_catalog.specs.Catalogues.{key_eq}
 use Rattle.rq_record.specs.declared.record.Record.{Record}
-use Rattle.rq_record.specs.declared.record.Record.TheVariants.{Define, Register, Deregister, Begin, Enqueue, Dequeue, Commit, Abort, Checkpoint}
+use Rattle.rq_record.specs.declared.record.Record.TheVariants.{Register, Deregister, Begin, Enqueue, Dequeue, Commit, Abort, Kill}
 use Rattle.rq_restart.specs.declared.tally.Tally.{Tally}
 
 -- the bytes of a state's members, each in its shortest form
@@ -83,6 +83,7 @@ abbrev pub lost_by : Record → Tally → ℕ
 lost_by (Deregister queue name) t = of_registrant t (queue.0, name)
 lost_by (Commit unit) t = of_unit t unit.0
 lost_by (Abort unit) t = of_unit t unit.0
+lost_by (Kill queue element) t = 1
 lost_by r t = 0
 
 -- u is t after the record

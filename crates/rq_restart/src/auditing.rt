@@ -5,7 +5,7 @@ ghost use Rattle.std.specs.Int.{w64, to_be_bytes};
 ghost use Rattle.std.specs.List.{starts_with, flat_map, AllByRecursion};
 ghost use Rattle.std.specs.Str.{bytes_eq};
 ghost use Rattle.rq_model.specs.Records as model;
-ghost use Rattle.rq_model.specs.Records.{One};
+ghost use Rattle.rq_model.specs.Records.{Two};
 ghost use Rattle.rq_model.specs.States as states;
 ghost use Rattle.rq_model.specs.States.{empty};
 ghost use Rattle.rq_model.specs.Spelling.{IsRecord};
@@ -13,7 +13,7 @@ ghost use Rattle.rq_model.specs.Frames.{HasHeader};
 ghost use Rattle.rq_model.specs.Machine.{all_lawful};
 ghost use Rattle.rq_model.specs.Checkpoints.{IsAudit};
 ghost use Rattle.rq_model.specs.StateSpelling.{state_bytes};
-ghost use Rattle.rq_record.specs.Views.{record_of};
+ghost use Rattle.rq_record.specs.Views.{record_of, version_of};
 ghost use Rattle.rq_record.specs.declared.fault.Fault.TheVariants.{Resources};
 ghost use Rattle.rq_restart.specs.Audits.{Audits, IsWalk, Passes, StandAt, audited_of, least};
 ghost use Rattle.rq_restart.specs.Ends.{IsChain};
@@ -23,9 +23,9 @@ use crate::front::front_of;
 use crate::grain::{grain_of, plan_for};
 use crate::tally::Tally;
 use rq_exchange::replay;
-use rq_front::{Chain, Span, chain};
+use rq_front::{Chain, Span, chain, version};
 use rq_pool::{Open, Plan};
-use rq_record::{Fault, Record};
+use rq_record::{Fault, Record, Version};
 use rq_state::{Element, State, spell};
 use std::alloc::Global;
 use std::marker::Sync;
@@ -158,8 +158,8 @@ fn visit<R: Threads + Sync>(
 ) -> Result<Walk, Fault>
     requires there { place < length records.now }
     requires few { length records.now ≤ 4294967295 }
-    requires form { AllByRecursion (IsRecord One) (map record_of records.now) }
-    requires lawful { all_lawful One empty (map record_of records.now) ≡ true }
+    requires form { AllByRecursion (IsRecord Two) (map record_of records.now) }
+    requires lawful { all_lawful Two empty (map record_of records.now) ≡ true }
     requires spans { StandAt (map record_of records.now) spans.now }
     requires walk { IsWalk (map record_of records.now) place walk }
     ensures walk { IfOk result (IsWalk (map record_of records.now) (place + 1)) }
@@ -198,16 +198,17 @@ fn visit<R: Threads + Sync>(
     })
 }
 
-// The checkpoints among the front's records, in the frames of the chain behind the header.
+// The checkpoints among the records of the front, in the frames of the chain behind the header.
 fn checkpoints_of<R: Threads + Sync>(
     rt: &R,
     alloc: Global,
+    version: Version,
     bytes: &[u8],
     found: &Chain,
     plan: &Plan,
 ) -> Result<Vec<(u64, bool)>, Fault>
     requires chain { IsChain bytes.now 40 found.now }
-    requires header { HasHeader One bytes.now }
+    requires header { HasHeader (version_of version) bytes.now }
     ensures audit { IfOk result (λ v. IsAudit bytes.now (map audited_of v.items)) }
     ensures refused { IfErr result (λ e. e ≡ Resources) }
 {
@@ -215,7 +216,8 @@ fn checkpoints_of<R: Threads + Sync>(
     rq_model::one_spelling();
     rq_model::frames_join();
     rq_model::one_front();
-    let front = front_of(rt, alloc, bytes, found, &State::empty(alloc), plan)?;
+    rq_model::versions();
+    let front = front_of(rt, alloc, version, bytes, found, &State::empty(alloc), plan)?;
     let mut walk = Walk::first(alloc);
     for place in 0..front.records.len() {
         walk = visit(rt, alloc, &front.records, &found.spans, place, walk, plan)?;
@@ -226,7 +228,7 @@ fn checkpoints_of<R: Threads + Sync>(
 /// The checkpoints of the front of a log, rising: the offset of each, and whether it is true, which is to say that it spells
 /// the state before it.
 ///
-/// Refuses with `TooLong` more than 4,294,967,295 bytes, with `NotALog` bytes that do not begin with the header, and with
+/// Refuses with `TooLong` more than 4,294,967,295 bytes, with `NotALog` bytes that begin with no version's header, and with
 /// `Resources` where memory is refused.
 pub fn audit<R: Threads + Sync>(
     rt: &R,
@@ -238,5 +240,8 @@ pub fn audit<R: Threads + Sync>(
 {
     rq_model::frames_join();
     let found = chain(rt, alloc, bytes, 40, grain_of(plan))?;
-    checkpoints_of(rt, alloc, bytes, &found, plan)
+    let Some(version) = version(bytes) else {
+        return Err(Fault::NotALog);
+    };
+    checkpoints_of(rt, alloc, version, bytes, &found, plan)
 }

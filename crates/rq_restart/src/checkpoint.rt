@@ -5,17 +5,18 @@ ghost use Rattle.rq_front.specs.Chains.{bodies_at};
 ghost use Rattle.rq_restart.specs.Checkpoints.{BeginsAt, kept_in, place_of};
 
 use crate::grain::grain_of;
-use rq_front::{Chain, Span, chain};
+use rq_front::{Chain, Span, chain, version};
 use rq_pool::Plan;
-use rq_record::Fault;
-use rq_state::State;
+use rq_record::{Fault, Version};
+use rq_state::{State, read_in};
 use std::alloc::Global;
 use std::marker::Sync;
 use std::thread::Threads;
 
-/// The chain from a checkpoint on, and the state that the checkpoint spells.
+/// The version of a log, its chain from a checkpoint on, and the state that the checkpoint spells.
 #[derive(Drop)]
 pub(crate) struct Begun {
+    pub(crate) version: Version,
     pub(crate) found: Chain,
     pub(crate) state: State,
 }
@@ -60,6 +61,13 @@ pub(crate) fn begin_at<R: Threads + Sync>(
     let Some(kept) = kept_in(bytes, &found.spans) else {
         return Err(Fault::NoCheckpoint);
     };
-    let state = rq_state::read(alloc, kept)?;
-    Ok(Begun { found, state })
+    let Some(version) = version(bytes) else {
+        return Err(Fault::NotALog);
+    };
+    let state = read_in(alloc, version, kept)?;
+    Ok(Begun {
+        version,
+        found,
+        state,
+    })
 }

@@ -2,11 +2,10 @@
 
 ghost use Rattle.std.specs.Prelude.{◌≡◌, ◌≤◌, ◌<◌, ◌^◌, ◌+◌, ◌-◌, ◌++◌, true, length, map, take, IfOk, IfErr, OnOk};
 ghost use Rattle.rq_model.specs.Records as model;
-ghost use Rattle.rq_model.specs.Records.{One};
 ghost use Rattle.rq_model.specs.Machine.{all_lawful, run};
 ghost use Rattle.rq_model.specs.WellFormed.{IsWellFormed};
 ghost use Rattle.rq_model.specs.Fronts.{restarted};
-ghost use Rattle.rq_record.specs.Views.{record_of};
+ghost use Rattle.rq_record.specs.Views.{record_of, version_of};
 ghost use Rattle.rq_record.specs.declared.fault.Fault.TheVariants.{Resources};
 ghost use Rattle.rq_state.specs.Views.{unit_of};
 ghost use Rattle.rq_catalog.specs.Analyses.{IsAnalysis, open_in};
@@ -17,7 +16,7 @@ use crate::restarted::Restarted;
 use rq_catalog::Analysis;
 use rq_exchange::replay_analysed;
 use rq_pool::{Gate, Plan};
-use rq_record::{Fault, Record, UnitNo};
+use rq_record::{Fault, Record, UnitNo, Version};
 use rq_state::State;
 use std::alloc::Global;
 use std::marker::Sync;
@@ -55,6 +54,7 @@ fn with_aborts(
 fn redone<R, G>(
     rt: &R,
     alloc: Global,
+    version: Version,
     state: &State,
     records: Vec<Record>,
     analysis: Analysis,
@@ -64,22 +64,24 @@ fn redone<R, G>(
 where
     R: Threads + Sync,
     G: Gate + Sync,
-    requires lawful { all_lawful One state.now (map record_of records.items) ≡ true }
+    requires lawful { all_lawful (version_of version) state.now (map record_of records.items) ≡ true }
     requires fits { state.now.next + length records.items < 2 ^ 64 }
     requires within { analysis.lawful ≤ length records.items }
-    requires analysed { IsAnalysis state.now (map record_of (take analysis.lawful records.items)) analysis }
+    requires analysed { IsAnalysis (version_of version) state.now (map record_of (take analysis.lawful records.items)) analysis }
     ensures state { IfOk result (λ t. t ≡ run state.now (map record_of records.items)) }
     ensures refused { IfErr result (λ e. e ≡ Resources) }
 {
-    let analysis = analysis.go_on(alloc, state, &records)?;
+    rq_model::versions();
+    let analysis = analysis.go_on(alloc, version, state, &records)?;
     replay_analysed(rt, alloc, state, &records, &analysis, plan, gate)
 }
 
-/// What a restart answers of a front that begins in the state and ends at a place of `total` bytes: its open
+/// What a restart answers of a front of the version that begins in the state and ends at a place of `total` bytes: its open
 /// units are aborted, rising, and records and aborts are redone together. The counts are those before these aborts.
 pub(crate) fn close<R, G>(
     rt: &R,
     alloc: Global,
+    version: Version,
     state: &State,
     front: Front,
     total: usize,
@@ -93,8 +95,8 @@ where
     requires next { state.now.next ≤ 4294967295 }
     requires few { length front.records.items ≤ 4294967295 }
     requires within { front.end ≤ total }
-    requires lawful { all_lawful One state.now (map record_of front.records.items) ≡ true }
-    requires analysis { IsAnalysis state.now (map record_of front.records.items) front.analysis }
+    requires lawful { all_lawful (version_of version) state.now (map record_of front.records.items) ≡ true }
+    requires analysis { IsAnalysis (version_of version) state.now (map record_of front.records.items) front.analysis }
     ensures answer { IfOk result (λ r. r ≡ restarted (run state.now (map record_of front.records.items)) (total - front.end) total (why_of front.why)) }
     ensures refused { IfErr result (λ e. e ≡ Resources) }
 {
@@ -110,7 +112,7 @@ where
     let next = state.next() + records.len() as u64;
     let (committed, aborted) = (analysis.committed(), analysis.aborted());
     let (records, cut_off) = with_aborts(alloc, records, &analysis)?;
-    let state = redone(rt, alloc, state, records, analysis, plan, gate)?;
+    let state = redone(rt, alloc, version, state, records, analysis, plan, gate)?;
     Ok(Restarted {
         state,
         records: next,

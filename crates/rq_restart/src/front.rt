@@ -2,10 +2,11 @@
 
 ghost use Rattle.std.specs.Prelude.{◌≡◌, ◌≤◌, ◌+◌, ◌++◌, ℕ, List, length, map, take, All, IfOk, IfErr};
 ghost use Rattle.std.specs.Thread.{IsSync};
+ghost use Rattle.rq_model.specs.Records as records;
 ghost use Rattle.rq_model.specs.Frames.{bodies_of, log_limit};
 ghost use Rattle.rq_model.specs.States as model;
 ghost use Rattle.rq_model.specs.Fronts.{Ends};
-ghost use Rattle.rq_record.specs.Views.{record_of};
+ghost use Rattle.rq_record.specs.Views.{record_of, version_of};
 ghost use Rattle.rq_record.specs.declared.fault.Fault.TheVariants.{Resources};
 ghost use Rattle.rq_catalog.specs.Analyses.{IsAnalysis};
 ghost use Rattle.rq_front.specs.Chains.{bodies_at, rest_of};
@@ -18,10 +19,10 @@ ghost use Rattle.rq_restart.specs.Known.{IsKnown, Knows};
 use crate::grain::grain_of;
 use crate::reading::{FEW, Parts, put_together, read};
 use crate::restarted::Why;
-use rq_catalog::{Analysis, analyse};
+use rq_catalog::{Analysis, analyse_in};
 use rq_front::{Chain, Rest, Walk};
 use rq_pool::Plan;
-use rq_record::{Fault, Record};
+use rq_record::{Fault, Record, Version};
 use rq_state::State;
 use std::alloc::Global;
 use std::marker::Sync;
@@ -68,19 +69,25 @@ fn end_of(found: &Chain, read: usize, kept: usize) -> (usize, Why)
 }
 
 // All records of the two parts, and what one pass over them found.
-fn known_of(alloc: Global, parts: Parts, state: &State) -> Result<Known, Fault>
+fn known_of(alloc: Global, version: Version, parts: Parts, state: &State) -> Result<Known, Fault>
     requires next { state.now.next ≤ 4294967295 }
-    ensures { Knows state.now parts result }
+    ensures { Knows (version_of version) state.now parts result }
 {
     let records = put_together(parts)?;
-    let analysis = analyse(alloc, state, &records)?;
+    let analysis = analyse_in(alloc, version, state, &records)?;
     Ok(Known { records, analysis })
 }
 
 // What is known of the first bodies alone.
-fn known_of_first(alloc: Global, known: Known, count: usize, state: &State) -> Result<Known, Fault>
+fn known_of_first(
+    alloc: Global,
+    version: Version,
+    known: Known,
+    count: usize,
+    state: &State,
+) -> Result<Known, Fault>
     requires next { state.now.next ≤ 4294967295 }
-    ensures known { IfOk result (λ k. (bodies : List (List ℕ)) → IsKnown state.now bodies known → IsKnown state.now (take count bodies) k) }
+    ensures known { IfOk result (λ k. (bodies : List (List ℕ)) → IsKnown (version_of version) state.now bodies known → IsKnown (version_of version) state.now (take count bodies) k) }
     ensures refused { IfErr result (λ e. e ≡ Resources) }
 {
     if known.records.len() <= count {
@@ -88,15 +95,15 @@ fn known_of_first(alloc: Global, known: Known, count: usize, state: &State) -> R
     }
     let mut records = known.records;
     records.truncate(count);
-    let analysis = analyse(alloc, state, &records)?;
+    let analysis = analyse_in(alloc, version, state, &records)?;
     Ok(Known { records, analysis })
 }
 
 // The front among the records that were read of a chain.
 fn settled(found: &Chain, known: Known) -> Front
-    ensures front { (s : model.State) (b : List ℕ) (place : ℕ) → IsChain b place found.now → IsKnown s (bodies_at b found.now.spans.items) known → IsFrontFrom s b place (map record_of result.records.items) result.end (why_of result.why) }
-    ensures bodies { (s : model.State) (bodies : List (List ℕ)) → IsKnown s bodies known → (left : List (List ℕ)) × (bodies ≡ bodies_of (map record_of result.records.items) ++ left) }
-    ensures analysis { (s : model.State) (bodies : List (List ℕ)) → IsKnown s bodies known → IsAnalysis s (map record_of result.records.items) result.analysis }
+    ensures front { (version : records.Version) (s : model.State) (b : List ℕ) (place : ℕ) → IsChain b place found.now → IsKnown version s (bodies_at b found.now.spans.items) known → IsFrontFrom version s b place (map record_of result.records.items) result.end (why_of result.why) }
+    ensures bodies { (version : records.Version) (s : model.State) (bodies : List (List ℕ)) → IsKnown version s bodies known → (left : List (List ℕ)) × (bodies ≡ bodies_of (map record_of result.records.items) ++ left) }
+    ensures analysis { (version : records.Version) (s : model.State) (bodies : List (List ℕ)) → IsKnown version s bodies known → IsAnalysis version s (map record_of result.records.items) result.analysis }
 {
     rq_model::frames_are_right();
     rq_model::frames_join();
@@ -116,10 +123,11 @@ fn settled(found: &Chain, known: Known) -> Front
     }
 }
 
-/// The front of the log, in the frames of a chain, from a state on.
+/// The front of the log of the version, in the frames of a chain, from a state on.
 pub(crate) fn front_of<R: Threads + Sync>(
     rt: &R,
     alloc: Global,
+    version: Version,
     bytes: &[u8],
     found: &Chain,
     state: &State,
@@ -127,13 +135,13 @@ pub(crate) fn front_of<R: Threads + Sync>(
 ) -> Result<Front, Fault>
     requires chain { (place : ℕ) × IsChain bytes.now place found.now }
     requires next { state.now.next ≤ 4294967295 }
-    ensures front { IfOk result (λ f. (place : ℕ) → IsChain bytes.now place found.now → IsFrontFrom state.now bytes.now place (map record_of f.records.items) f.end (why_of f.why)) }
+    ensures front { IfOk result (λ f. (place : ℕ) → IsChain bytes.now place found.now → IsFrontFrom (version_of version) state.now bytes.now place (map record_of f.records.items) f.end (why_of f.why)) }
     ensures bodies { IfOk result (λ f. (left : List (List ℕ)) × (bodies_at bytes.now found.now.spans.items ≡ bodies_of (map record_of f.records.items) ++ left)) }
-    ensures analysis { IfOk result (λ f. IsAnalysis state.now (map record_of f.records.items) f.analysis) }
+    ensures analysis { IfOk result (λ f. IsAnalysis (version_of version) state.now (map record_of f.records.items) f.analysis) }
     ensures refused { IfErr result (λ e. e ≡ Resources) }
 {
-    let parts = read(rt, alloc, bytes, &found.spans, plan.workers())?;
-    let known = known_of(alloc, parts, state)?;
+    let parts = read(rt, alloc, version, bytes, &found.spans, plan.workers())?;
+    let known = known_of(alloc, version, parts, state)?;
     Ok(settled(found, known))
 }
 
@@ -141,6 +149,7 @@ pub(crate) fn front_of<R: Threads + Sync>(
 fn check_meanwhile<R: Threads + Sync>(
     rt: &R,
     alloc: Global,
+    version: Version,
     bytes: &[u8],
     walk: Walk,
     parts: Parts,
@@ -151,7 +160,7 @@ fn check_meanwhile<R: Threads + Sync>(
     requires next { state.now.next ≤ 4294967295 }
     requires grain { 1 ≤ grain }
     ensures chain { (from : ℕ) → Walks bytes.now from walk → IsChecked bytes.now from walk result.0 }
-    ensures known { Knows state.now parts result.1 }
+    ensures known { Knows (version_of version) state.now parts result.1 }
 {
     join(
         rt,
@@ -161,18 +170,19 @@ fn check_meanwhile<R: Threads + Sync>(
         { walk.checked(rt, bytes, grain) },
         move || -> Result<Known, Fault>
             requires { state.now.next ≤ 4294967295 }
-            ensures { Knows state.entry.now parts result }
-        { known_of(alloc, parts, state) },
+            ensures { Knows (version_of version) state.entry.now parts result }
+        { known_of(alloc, version, parts, state) },
     )
 }
 
-/// The front of the log, in the frames of a walk, from a state on.
+/// The front of the log of the version, in the frames of a walk, from a state on.
 ///
 /// Where threads are to be had, the records are read before any digest is known to be right, and those behind the first
 /// wrong one are dropped again: so the one pass over them, which is one thread's work, runs beside the digests.
 pub(crate) fn front_of_walk<R: Threads + Sync>(
     rt: &R,
     alloc: Global,
+    version: Version,
     bytes: &[u8],
     walk: Walk,
     state: &State,
@@ -182,17 +192,17 @@ pub(crate) fn front_of_walk<R: Threads + Sync>(
     requires inside { All (λ s. s.start + s.len ≤ length bytes.now) (spans_of walk) }
     requires short { length bytes.now ≤ log_limit }
     requires next { state.now.next ≤ 4294967295 }
-    ensures front { IfOk result (λ f. (place : ℕ) → Walks bytes.now place walk → IsFrontFrom state.now bytes.now place (map record_of f.records.items) f.end (why_of f.why)) }
-    ensures analysis { IfOk result (λ f. IsAnalysis state.now (map record_of f.records.items) f.analysis) }
+    ensures front { IfOk result (λ f. (place : ℕ) → Walks bytes.now place walk → IsFrontFrom (version_of version) state.now bytes.now place (map record_of f.records.items) f.end (why_of f.why)) }
+    ensures analysis { IfOk result (λ f. IsAnalysis (version_of version) state.now (map record_of f.records.items) f.analysis) }
     ensures refused { IfErr result (λ e. e ≡ Resources) }
 {
     let grain = grain_of(plan);
     if plan.workers() < 2 || walk.spans().len() <= FEW {
         let found = walk.checked(rt, bytes, grain);
-        return front_of(rt, alloc, bytes, &found, state, plan);
+        return front_of(rt, alloc, version, bytes, &found, state, plan);
     }
-    let parts = read(rt, alloc, bytes, walk.spans(), plan.workers())?;
-    let (found, known) = check_meanwhile(rt, alloc, bytes, walk, parts, state, grain);
-    let known = known_of_first(alloc, known?, found.spans.len(), state)?;
+    let parts = read(rt, alloc, version, bytes, walk.spans(), plan.workers())?;
+    let (found, known) = check_meanwhile(rt, alloc, version, bytes, walk, parts, state, grain);
+    let known = known_of_first(alloc, version, known?, found.spans.len(), state)?;
     Ok(settled(&found, known))
 }

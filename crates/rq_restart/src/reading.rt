@@ -2,13 +2,14 @@
 
 ghost use Rattle.std.specs.Prelude.{◌≡◌, ◌≤◌, ◌+◌, ℕ, List, length, map, All, IfOk, IfErr};
 ghost use Rattle.std.specs.Thread.{IsSync};
-ghost use Rattle.rq_record.specs.Views.{record_of};
+ghost use Rattle.rq_model.specs.Records as model;
+ghost use Rattle.rq_record.specs.Views.{record_of, version_of};
 ghost use Rattle.rq_record.specs.declared.fault.Fault.TheVariants.{Resources};
 ghost use Rattle.rq_front.specs.Chains.{bodies_at};
 ghost use Rattle.rq_restart.specs.Readings.{AreApart, AreRead, Reads};
 
 use rq_front::Span;
-use rq_record::{Fault, Record, decode};
+use rq_record::{Fault, Record, Version, decode_in};
 use std::alloc::Global;
 use std::marker::Sync;
 use std::thread::{Threads, join};
@@ -24,20 +25,21 @@ pub(crate) struct Parts {
     count: usize,
 }
 
-// The records that the bodies spell, read by one thread, with room for as many as are to stand with them.
+// The records of the version that the bodies spell, read by one thread, with room for as many as are to stand with them.
 fn read_in_order(
     alloc: Global,
+    version: Version,
     bytes: &[u8],
     spans: &[Span],
     room: usize,
 ) -> Result<Vec<Record>, Fault>
     requires { All (λ s. s.start + s.len ≤ length bytes.now) spans.now }
-    ensures records { IfOk result (λ rs. AreRead (bodies_at bytes.now spans.now) (map record_of rs.items)) }
+    ensures records { IfOk result (λ rs. AreRead (version_of version) (bodies_at bytes.now spans.now) (map record_of rs.items)) }
     ensures refused { IfErr result (λ e. e ≡ Resources) }
 {
     let mut records = Vec::with_capacity(alloc, room)?;
     for span in spans.iter() {
-        match decode(alloc, &bytes[span.start..span.start + span.len]) {
+        match decode_in(alloc, version, &bytes[span.start..span.start + span.len]) {
             Ok(record) => records.push(record)?,
             Err(Fault::Form) => return Ok(records),
             Err(fault) => return Err(fault),
@@ -51,16 +53,17 @@ fn read_in_order(
 fn read_whole<R: Threads + Sync>(
     rt: &R,
     alloc: Global,
+    version: Version,
     bytes: &[u8],
     spans: &[Span],
     workers: u32,
     room: usize,
 ) -> Result<Vec<Record>, Fault>
     requires { All (λ s. s.start + s.len ≤ length bytes.now) spans.now }
-    ensures records { IfOk result (λ rs. AreRead (bodies_at bytes.now spans.now) (map record_of rs.items)) }
+    ensures records { IfOk result (λ rs. AreRead (version_of version) (bodies_at bytes.now spans.now) (map record_of rs.items)) }
     ensures refused { IfErr result (λ e. e ≡ Resources) }
 {
-    let parts = read_apart(rt, alloc, bytes, spans, workers, room)?;
+    let parts = read_apart(rt, alloc, version, bytes, spans, workers, room)?;
     put_together(parts)
 }
 
@@ -70,18 +73,19 @@ fn read_whole<R: Threads + Sync>(
 fn read_apart<R: Threads + Sync>(
     rt: &R,
     alloc: Global,
+    version: Version,
     bytes: &[u8],
     spans: &[Span],
     workers: u32,
     room: usize,
 ) -> Result<Parts, Fault>
     requires { All (λ s. s.start + s.len ≤ length bytes.now) spans.now }
-    ensures parts { IfOk result (AreApart (bodies_at bytes.now spans.now)) }
+    ensures parts { IfOk result (AreApart (version_of version) (bodies_at bytes.now spans.now)) }
     ensures refused { IfErr result (λ e. e ≡ Resources) }
 {
     if workers < 2 || spans.len() <= FEW {
         return Ok(Parts {
-            front: read_in_order(alloc, bytes, spans, room)?,
+            front: read_in_order(alloc, version, bytes, spans, room)?,
             back: Vec::new(alloc),
             count: spans.len(),
         });
@@ -93,12 +97,12 @@ fn read_apart<R: Threads + Sync>(
         rt,
         || -> Result<Vec<Record>, Fault>
             requires { IsSync R.row × All (λ s. s.start + s.len ≤ length bytes.now) front.now }
-            ensures { Reads (bodies_at bytes.entry.now front.entry.now) result }
-        { read_whole(rt, alloc, bytes, front, fewer, room) },
+            ensures { Reads (version_of version) (bodies_at bytes.entry.now front.entry.now) result }
+        { read_whole(rt, alloc, version, bytes, front, fewer, room) },
         || -> Result<Vec<Record>, Fault>
             requires { IsSync R.row × All (λ s. s.start + s.len ≤ length bytes.now) back.now }
-            ensures { Reads (bodies_at bytes.entry.now back.entry.now) result }
-        { read_whole(rt, alloc, bytes, back, others, back.len()) },
+            ensures { Reads (version_of version) (bodies_at bytes.entry.now back.entry.now) result }
+        { read_whole(rt, alloc, version, bytes, back, others, back.len()) },
     );
     Ok(Parts {
         front: left?,
@@ -109,7 +113,7 @@ fn read_apart<R: Threads + Sync>(
 
 /// All records of the two parts. Where the front one ends before its last body, nothing behind it counts.
 pub(crate) fn put_together(parts: Parts) -> Result<Vec<Record>, Fault>
-    ensures records { IfOk result (λ rs. (bodies : List (List ℕ)) → AreApart bodies parts → AreRead bodies (map record_of rs.items)) }
+    ensures records { IfOk result (λ rs. (version : model.Version) (bodies : List (List ℕ)) → AreApart version bodies parts → AreRead version bodies (map record_of rs.items)) }
     ensures refused { IfErr result (λ e. e ≡ Resources) }
 {
     let Parts {
@@ -127,15 +131,16 @@ pub(crate) fn put_together(parts: Parts) -> Result<Vec<Record>, Fault>
 pub(crate) fn read<R: Threads + Sync>(
     rt: &R,
     alloc: Global,
+    version: Version,
     bytes: &[u8],
     spans: &[Span],
     workers: u32,
 ) -> Result<Parts, Fault>
     requires { All (λ s. s.start + s.len ≤ length bytes.now) spans.now }
-    ensures parts { IfOk result (AreApart (bodies_at bytes.now spans.now)) }
+    ensures parts { IfOk result (AreApart (version_of version) (bodies_at bytes.now spans.now)) }
     ensures refused { IfErr result (λ e. e ≡ Resources) }
 {
     // An eighth more, for the aborts of the units that are still open.
     let room = spans.len().saturating_add(spans.len() / 8);
-    read_apart(rt, alloc, bytes, spans, workers, room)
+    read_apart(rt, alloc, version, bytes, spans, workers, room)
 }

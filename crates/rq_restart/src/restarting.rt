@@ -2,9 +2,8 @@
 
 ghost use Rattle.std.specs.Prelude.{◌≡◌, ◌≤◌, length, map, IfOk, IfErr, OnOk};
 ghost use Rattle.rq_model.specs.Frames.{log_limit, HasHeader};
-ghost use Rattle.rq_model.specs.Records.{One};
 ghost use Rattle.rq_model.specs.States.{empty};
-ghost use Rattle.rq_record.specs.Views.{record_of};
+ghost use Rattle.rq_record.specs.Views.{record_of, version_of};
 ghost use Rattle.rq_catalog.specs.Analyses.{IsAnalysis};
 ghost use Rattle.rq_front.specs.Chains.{Refused};
 ghost use Rattle.rq_restart.specs.Ends.{IsFrontFrom};
@@ -15,36 +14,40 @@ use crate::closing::close;
 use crate::front::{Front, front_of_walk};
 use crate::restarted::Restarted;
 use rq_exchange::replay_analysed;
-use rq_front::walk;
+use rq_front::{version, walk};
 use rq_pool::{Gate, Open, Plan};
-use rq_record::Fault;
+use rq_record::{Fault, Version};
 use rq_state::State;
 use std::alloc::Global;
 use std::marker::Sync;
 use std::thread::Threads;
 
-/// The front of the whole log.
+/// The version of a log, and the front of all of it.
 pub(crate) fn whole_front<R: Threads + Sync>(
     rt: &R,
     alloc: Global,
     bytes: &[u8],
     plan: &Plan,
-) -> Result<Front, Fault>
-    ensures front { IfOk result (λ f. IsFrontFrom empty bytes.now 40 (map record_of f.records.items) f.end (why_of f.why)) }
-    ensures analysis { IfOk result (λ f. IsAnalysis empty (map record_of f.records.items) f.analysis) }
-    ensures log { OnOk result ((length bytes.now ≤ log_limit) × HasHeader One bytes.now) }
+) -> Result<(Version, Front), Fault>
+    ensures front { IfOk result (λ x. IsFrontFrom (version_of x.0) empty bytes.now 40 (map record_of x.1.records.items) x.1.end (why_of x.1.why)) }
+    ensures analysis { IfOk result (λ x. IsAnalysis (version_of x.0) empty (map record_of x.1.records.items) x.1.analysis) }
+    ensures header { IfOk result (λ x. HasHeader (version_of x.0) bytes.now) }
+    ensures short { OnOk result (length bytes.now ≤ log_limit) }
     ensures refused { IfErr result (Refused bytes.now) }
 {
     rq_model::frames_join();
     let walk = walk(alloc, bytes, 40)?;
-    let front = front_of_walk(rt, alloc, bytes, walk, &State::empty(alloc), plan)?;
-    Ok(front)
+    let Some(version) = version(bytes) else {
+        return Err(Fault::NotALog);
+    };
+    let front = front_of_walk(rt, alloc, version, bytes, walk, &State::empty(alloc), plan)?;
+    Ok((version, front))
 }
 
 /// The front of a log, and the state behind it and the aborts of its open units.
 ///
 /// Every queue is redone by `plan.workers()` workers; each of them enters the gate before it redoes a queue. Refuses
-/// with `TooLong` more than 4,294,967,295 bytes, with `NotALog` bytes that do not begin with the header, and with
+/// with `TooLong` more than 4,294,967,295 bytes, with `NotALog` bytes that begin with no version's header, and with
 /// `Resources` where memory is refused.
 pub fn restart<R, G>(
     rt: &R,
@@ -60,10 +63,11 @@ where
 {
     rq_model::runs_are_well_formed();
     rq_model::frames_join();
-    let front = whole_front(rt, alloc, bytes, plan)?;
+    let (version, front) = whole_front(rt, alloc, bytes, plan)?;
     close(
         rt,
         alloc,
+        version,
         &State::empty(alloc),
         front,
         bytes.len(),
@@ -74,7 +78,7 @@ where
 
 /// The state after the front of a log, before any abort: open units stay open.
 ///
-/// Refuses with `TooLong` more than 4,294,967,295 bytes, with `NotALog` bytes that do not begin with the header, and with
+/// Refuses with `TooLong` more than 4,294,967,295 bytes, with `NotALog` bytes that begin with no version's header, and with
 /// `Resources` where memory is refused.
 pub fn front_state<R: Threads + Sync>(
     rt: &R,
@@ -85,7 +89,8 @@ pub fn front_state<R: Threads + Sync>(
     ensures { FindsState bytes.now result }
 {
     rq_model::frames_join();
-    let front = whole_front(rt, alloc, bytes, plan)?;
+    rq_model::versions();
+    let (_version, front) = whole_front(rt, alloc, bytes, plan)?;
     replay_analysed(
         rt,
         alloc,

@@ -31,6 +31,23 @@ where
     ensures { RestartsAt bytes.now offset result }
 {
     let begun = begin_at(rt, alloc, bytes, offset, plan)?;
-    let front = front_of(rt, alloc, bytes, &begun.found, &begun.state, plan)?;
-    close(rt, alloc, &begun.state, front, bytes.len(), plan, gate)
+    let front = front_of(
+        rt,
+        alloc,
+        begun.version,
+        bytes,
+        &begun.found,
+        &begun.state,
+        plan,
+    )?;
+    close(
+        rt,
+        alloc,
+        begun.version,
+        &begun.state,
+        front,
+        bytes.len(),
+        plan,
+        gate,
+    )
 }

@@ -85,7 +85,7 @@ fn ending_of<R: Threads + Sync>(
     ensures refused { IfErr result (StaysOpen bytes.now) }
 {
     rq_model::frames_join();
-    let front = whole_front(rt, alloc, bytes, plan)?;
+    let (_version, front) = whole_front(rt, alloc, bytes, plan)?;
     let units = front.analysis.open_units(alloc)?;
     if units.len() > (LOG_LIMIT - front.end) / ABORT_LEN {
         return Err(Fault::TooLarge);

@@ -49,6 +49,8 @@ impl Tally {
             Record::Dequeue { unit, queue, by } => self.operate(unit.0, queue.0, by),
             Record::Commit { unit } => Ok(self.close(unit.0)),
             Record::Abort { unit } => Ok(self.close(unit.0)),
+            // Where the element is there and free it goes.
+            Record::Kill { .. } => Ok(1),
             Record::Define { .. } | Record::Checkpoint { .. } => Ok(0),
         }
     }

@@ -1,23 +1,21 @@
-mod analysis;
 mod barrier;
 mod calls;
 mod checkpoints;
-mod countdowns;
 mod damage;
 mod fronts;
 mod hostile;
-mod lanes;
 mod looking;
 mod many;
 mod program;
 mod queues;
-mod rooms;
 mod scripts;
 mod streams;
 mod tails;
 mod texts;
 mod threads;
+mod versions;
 
+use rq_record::Version;
 use rq_tool::{Command, Fault, Open, OverRead, OverWrite, Plan, act};
 use std::alloc::Global;
 use std::io::Cursor;
@@ -58,14 +56,24 @@ fn answer<R: Threads + Sync + AllocGlobal>(
     Ok(output.into_inner())
 }
 
-/// The log of a script.
-fn log_of<R: Threads + Sync + AllocGlobal>(rt: &R, script: &[&str]) -> Result<Vec<u8>, Fail> {
+/// The log of a script, in a version.
+fn log_in<R: Threads + Sync + AllocGlobal>(
+    rt: &R,
+    version: Version,
+    script: &[&str],
+) -> Result<Vec<u8>, Fail> {
     let script = lines(rt.alloc(), script)?;
     let command = Command::Make {
+        version,
         script: "script",
         log: "log",
     };
     Ok(answer(rt, &command, &script)?)
+}
+
+/// The log of a script, in version 1.
+fn log_of<R: Threads + Sync + AllocGlobal>(rt: &R, script: &[&str]) -> Result<Vec<u8>, Fail> {
+    log_in(rt, Version::One, script)
 }
 
 /// Whether the log has this report under every plan.
@@ -84,15 +92,28 @@ fn reports<R: Threads + Sync + AllocGlobal>(
     Ok(same)
 }
 
-/// Whether the script's log has so many bytes and this report.
+/// Whether the script's log has so many bytes and this report, in a version.
+fn says_in<R: Threads + Sync + AllocGlobal>(
+    rt: &R,
+    version: Version,
+    script: &[&str],
+    bytes: usize,
+    report: &[&str],
+) -> Result<bool, Fail> {
+    let log = log_in(rt, version, script)?;
+    Ok(log.len() == bytes && reports(rt, &log, report)?)
+}
+
+/// Whether it is so in both versions.
 fn says<R: Threads + Sync + AllocGlobal>(
     rt: &R,
     script: &[&str],
     bytes: usize,
     report: &[&str],
 ) -> Result<bool, Fail> {
-    let log = log_of(rt, script)?;
-    Ok(log.len() == bytes && reports(rt, &log, report)?)
+    let first = says_in(rt, Version::One, script, bytes, report)?;
+    let second = says_in(rt, Version::Two, script, bytes, report)?;
+    Ok(first && second)
 }
 
 /// How the restart of the bytes is refused, if it is.

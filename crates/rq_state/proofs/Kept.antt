@@ -1,7 +1,7 @@
 -- What is read and keeps what it must is the state that the bytes spell, and no bytes of a state break it.
 use Rattle.std.proofs.Common.{◌≡◌, ℕ, ◌<◌, ◌^◌, List, [], Option, Some, None, Err, refl, ap, subst, sym, ◌∙◌, arith}
 use Rattle.std.specs.Prelude.{IfSome}
-use Rattle.rq_model.specs.Records.{One}
+use Rattle.rq_model.specs.Records.{Version}
 use Rattle.rq_model.specs.States.{Last, Registrant, State}
 use Rattle.rq_model.specs.WellFormed.{IsWellFormed}
 use Rattle.rq_model.specs.StateSpelling.{state_bytes, FitsDefinition, FitsRegistrant, FitsElement, FitsNote, Fits, SpellsState}
@@ -18,9 +18,9 @@ use Rattle.rq_state.proofs.MemberReaders.{IsDefinitionSpelled, IsRegistrantSpell
 use Rattle.rq_state.proofs.ElementReaders.{IsElementSpelled, IsNoteSpelled}
 use Rattle.rq_state.proofs.StateReader.{IsSpelled, whole_takes, whole_again}
 
-spelled : (s : State) (bytes : List ℕ) → SpellsState One s bytes → IsSpelled s
-spelled s bytes h =
-    let w = are_wide One s bytes h in
+spelled : (version : Version) (s : State) (bytes : List ℕ) → SpellsState version s bytes → IsSpelled s
+spelled version s bytes h =
+    let w = are_wide version s bytes h in
     record {
       next = w.next;
       greatest = w.greatest;
@@ -50,11 +50,11 @@ fits s h = record {
   notes = each_weaker IsNoteSpelled FitsNote (λ n x. (x.1, x.0.2.1)) s.notes h.notes.1;
 }
 
-read_again : (s : State) (bytes : List ℕ) → SpellsState One s bytes → whole_state bytes ≡ Some s
-read_again s bytes h = ap whole_state h.spelling ∙ whole_again s (spelled s bytes h)
+read_again : (version : Version) (s : State) (bytes : List ℕ) → SpellsState version s bytes → whole_state bytes ≡ Some s
+read_again version s bytes h = ap whole_state h.spelling ∙ whole_again s (spelled version s bytes h)
 
-pub kept_well : (s : State) → Keeps s → IsWellFormed s
-kept_well s k = record {
+pub kept_well : (version : Version) (s : State) → Keeps version s → IsWellFormed s
+kept_well version s k = record {
   few = k.numbers.few;
   names = k.definitions.names;
   definitions = k.definitions.numbered;
@@ -70,8 +70,8 @@ kept_well s k = record {
   notes_rise = k.notes.notes_rise;
 }
 
-spells_keeps : (s : State) (bytes : List ℕ) → SpellsState One s bytes → Keeps s
-spells_keeps s bytes h =
+spells_keeps : (version : Version) (s : State) (bytes : List ℕ) → SpellsState version s bytes → Keeps version s
+spells_keeps version s bytes h =
     let w = h.keeps in
     record {
       numbers = record { next = h.next; few = w.few; counts = w.counts; registrants_few = w.registrants_few };
@@ -82,17 +82,17 @@ spells_keeps s bytes h =
       notes = record { notes = w.notes; notes_rise = w.notes_rise };
     }
 
-no_state : (bytes : List ℕ) → whole_state bytes ≡ None → (s : State) → SpellsState One s bytes → ⊥
-no_state bytes nothing s h = let clash : None ≡ Some s = sym nothing ∙ read_again s bytes h in absurd cc
+no_state : (version : Version) (bytes : List ℕ) → whole_state bytes ≡ None → (s : State) → SpellsState version s bytes → ⊥
+no_state version bytes nothing s h = let clash : None ≡ Some s = sym nothing ∙ read_again version s bytes h in absurd cc
 
 -- bytes without the form spell no state
-pub not_formed : (bytes : List ℕ) (e : Fault) → Refuses e (form_from bytes) → ReadsState bytes (Err e)
-not_formed bytes faults.BadCheckpoint nothing = no_state bytes (none (whole_state bytes) (sym (form_is bytes) ∙ nothing))
+pub not_formed : (version : Version) (bytes : List ℕ) (e : Fault) → Refuses e (form_from bytes) → ReadsState version bytes (Err e)
+not_formed version bytes faults.BadCheckpoint nothing = no_state version bytes (none (whole_state bytes) (sym (form_is bytes) ∙ nothing))
   where
     none : (o : Option State) → (o >>= λ (s : State). nothing_left) ≡ None → o ≡ None
     none (Some s) e = absurd cc
     none None e = refl
-not_formed bytes e nothing = absurd nothing
+not_formed version bytes e nothing = absurd nothing
 
 spelled_by : (bytes : List ℕ) (s : State) → IsBytes bytes → whole_state bytes ≡ Some s → (t : State) × Fits t × (bytes ≡ state_bytes t)
 spelled_by bytes s byte is = let taken = whole_takes bytes s byte is in (s, fits s taken.0, taken.1)
@@ -105,26 +105,26 @@ formed bytes byte is = from (whole_state bytes) refl
     from None e = let clash : None ≡ Some [] = sym (form_is bytes ∙ ap (λ (o : Option State). o >>= λ (s : State). nothing_left) e) ∙ is in absurd cc
 
 -- nor do those that are not read
-pub not_read : (bytes : List ℕ) (e : Fault) → IsBytes bytes → form_from bytes ≡ Some [] → Fails e (whole_state bytes) → ReadsState bytes (Err e)
-not_read bytes faults.BadCheckpoint byte form nothing = no_state bytes nothing
-not_read bytes faults.Resources byte form nothing = formed bytes byte form
-not_read bytes e byte form nothing = absurd nothing
+pub not_read : (version : Version) (bytes : List ℕ) (e : Fault) → IsBytes bytes → form_from bytes ≡ Some [] → Fails e (whole_state bytes) → ReadsState version bytes (Err e)
+not_read version bytes faults.BadCheckpoint byte form nothing = no_state version bytes nothing
+not_read version bytes faults.Resources byte form nothing = formed bytes byte form
+not_read version bytes e byte form nothing = absurd nothing
 
 -- nor do bytes of which something else is read
-pub not_kept : (bytes : List ℕ) (t : State) (e : Fault) → IsBytes bytes → whole_state bytes ≡ Some t → Tells {A = Unit {0}} (Keeps t) (Err e) → ReadsState bytes (Err e)
-not_kept bytes t faults.BadCheckpoint byte is told = λ s h. let same : s ≡ t = some_same s t (sym (read_again s bytes h) ∙ is) in told (subst Keeps same (spells_keeps s bytes h))
+pub not_kept : (version : Version) (bytes : List ℕ) (t : State) (e : Fault) → IsBytes bytes → whole_state bytes ≡ Some t → Tells {A = Unit {0}} (Keeps version t) (Err e) → ReadsState version bytes (Err e)
+not_kept version bytes t faults.BadCheckpoint byte is told = λ s h. let same : s ≡ t = some_same s t (sym (read_again version s bytes h) ∙ is) in told (subst (Keeps version) same (spells_keeps version s bytes h))
   where
     some_same : (x y : State) → Some x ≡ Some y → x ≡ y
     some_same x y e = cc
-not_kept bytes t faults.Resources byte is told = spelled_by bytes t byte is
-not_kept bytes t e byte is told = absurd told
+not_kept version bytes t faults.Resources byte is told = spelled_by bytes t byte is
+not_kept version bytes t e byte is told = absurd told
 
 -- where there is no room for what is read and keeps it all
-pub not_built : (bytes : List ℕ) (t : State) (e : Fault) → IsBytes bytes → whole_state bytes ≡ Some t → e ≡ faults.Resources → ReadsState bytes (Err e)
-not_built bytes t e byte is refused = subst (λ (f : Fault). ReadsState bytes (Err f)) (sym refused) (spelled_by bytes t byte is)
+pub not_built : (version : Version) (bytes : List ℕ) (t : State) (e : Fault) → IsBytes bytes → whole_state bytes ≡ Some t → e ≡ faults.Resources → ReadsState version bytes (Err e)
+not_built version bytes t e byte is refused = subst (λ (f : Fault). ReadsState version bytes (Err f)) (sym refused) (spelled_by bytes t byte is)
 
 -- what is read and keeps it all is spelled by the bytes
-pub is_read : (bytes : List ℕ) (t : State) → IsBytes bytes → whole_state bytes ≡ Some t → Keeps t → SpellsState One t bytes
-is_read bytes t byte is k =
+pub is_read : (version : Version) (bytes : List ℕ) (t : State) → IsBytes bytes → whole_state bytes ≡ Some t → Keeps version t → SpellsState version t bytes
+is_read version bytes t byte is k =
     let taken = whole_takes bytes t byte is in
-    record { next = k.numbers.next; keeps = kept_well t k; fits = fits t taken.0; deep = k.definitions.deep; spelling = taken.1 }
+    record { next = k.numbers.next; keeps = kept_well version t k; fits = fits t taken.0; deep = k.definitions.deep; spelling = taken.1 }

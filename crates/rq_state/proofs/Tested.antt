@@ -3,12 +3,13 @@ use Rattle.std.proofs.Common.{inl, inr, ◌⊎◌, ◌||◌, ◌≡◌, ℕ, ◌
 use Rattle.std.specs.Prelude.{◌↔◌, ◌==◌, nat_lt, nat_le, IsTrue, IfSome}
 use Rattle.std.specs.List.{list_all, AllByRecursion}
 use Rattle.std.proofs.lemmas.Bool.{and_parts, lt-ltb, ltb-true, le-leb, leb-true, eqb-true, eq-eqb}
-use Rattle.rq_model.specs.Records.{no_queue}
+use Rattle.rq_model.specs.Records.{Version, One, Two, no_queue}
 use Rattle.rq_model.specs.States.{Mark, Free, Fresh, Held, Kind, Enqueued, Dequeued, Element, Last, Note, Definition, Registrant, State, definition_at}
 use Rattle.rq_model.specs.Machine.{is_open, is_registered}
 use Rattle.rq_model.specs.WellFormed.{unit_is_open, IsBelowLimit, IsElement, IsElementOf, IsLast, IsRegistrant, IsNote, IsDefinition, AreDefinitions, IsOneDeep}
+use Rattle.rq_model.specs.StateSpelling.{IsDeepFor}
 use Rattle.rq_model.proofs.Texts.{either}
-use Rattle.rq_state.specs.Tests.{unit_test, definition_test, definitions_test, depth_test, mark_test, limit_test, element_test, operation_test, last_test, optional_test, registrant_test, note_test}
+use Rattle.rq_state.specs.Tests.{unit_test, definition_test, definitions_test, depth_test, deep_test, mark_test, limit_test, element_test, operation_test, last_test, optional_test, registrant_test, note_test}
 
 and_true : (a b : Bool) → a ≡ true → b ≡ true → (a && b) ≡ true
 and_true a b h k = λ i. h i && k i
@@ -72,6 +73,10 @@ depth_tested ds = each_tested (depth_test ds) (λ d. (d.error ≡ no_queue) ⊎ 
     back : (d : Definition) → (d.error ≡ no_queue) ⊎ ((definition_at ds d.error).error ≡ no_queue) → depth_test ds d ≡ true
     back d (inl none) = or_left (d.error == no_queue) ((definition_at ds d.error).error == no_queue) (eq-eqb d.error no_queue none)
     back d (inr one) = or_right (d.error == no_queue) ((definition_at ds d.error).error == no_queue) (eq-eqb (definition_at ds d.error).error no_queue one)
+
+pub deep_tested : (version : Version) (s : State) → IsTrue (deep_test version s.definitions) ↔ IsDeepFor version s
+deep_tested One s = depth_tested s.definitions
+deep_tested Two s = (λ _. tt, λ _. refl)
 
 -- Units.
 

@@ -1,9 +1,11 @@
 -- What a spelled state must keep, piece by piece as it is tested.
-use Rattle.std.specs.Prelude.{◌≡◌, ◌+◌, ◌<◌, ◌≤◌, ⊤, true, false, List, length, Result, Ok, Err}
+use Rattle.std.specs.Prelude.{◌≡◌, ◌+◌, ◌<◌, ◌≤◌, ⊤, true, false, length, Result, Ok, Err}
 use Rattle.std.specs.List.{AllByRecursion}
 use Rattle.std.specs.Str.{bytes_eq}
-use Rattle.rq_model.specs.States.{Definition, State, registrant_before}
-use Rattle.rq_model.specs.WellFormed.{Ordered, AreDefinitions, IsOneDeep, IsElement, IsNote, IsRegistrant}
+use Rattle.rq_model.specs.Records.{Version}
+use Rattle.rq_model.specs.States.{State, registrant_before}
+use Rattle.rq_model.specs.WellFormed.{Ordered, AreDefinitions, IsElement, IsNote, IsRegistrant}
+use Rattle.rq_model.specs.StateSpelling.{IsDeepFor}
 use Rattle.rq_record.specs.declared.fault.Fault.{Fault}
 use Rattle.rq_record.specs.declared.fault.Fault.TheVariants.{Resources, BadCheckpoint}
 
@@ -20,10 +22,10 @@ pub record KeepsNumbers (s : State) : Type 0 where
   pub counts : s.committed + s.aborted + length s.units ≤ s.next
   pub registrants_few : length s.registrants ≤ s.next
 
-pub record KeepsDefinitions (definitions : List Definition) : Type 0 where
-  pub numbered : AreDefinitions 0 definitions
-  pub deep : IsOneDeep definitions
-  pub names : Ordered (λ d e. bytes_eq d.name e.name ≡ false) definitions
+pub record KeepsDefinitions (version : Version) (s : State) : Type 0 where
+  pub numbered : AreDefinitions 0 s.definitions
+  pub deep : IsDeepFor version s
+  pub names : Ordered (λ d e. bytes_eq d.name e.name ≡ false) s.definitions
 
 pub record KeepsUnits (s : State) : Type 0 where
   pub units : AllByRecursion (λ u. (1 ≤ u) × (u ≤ s.greatest)) s.units
@@ -42,9 +44,9 @@ pub record KeepsNotes (s : State) : Type 0 where
   pub notes_rise : Ordered (λ n m. n.last.place < m.last.place) s.notes
 
 -- all of it
-pub record Keeps (s : State) : Type 0 where
+pub record Keeps (version : Version) (s : State) : Type 0 where
   pub numbers : KeepsNumbers s
-  pub definitions : KeepsDefinitions s.definitions
+  pub definitions : KeepsDefinitions version s
   pub units : KeepsUnits s
   pub registrants : KeepsRegistrants s
   pub elements : KeepsElements s

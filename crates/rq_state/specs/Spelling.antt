@@ -1,7 +1,7 @@
 -- What spelling a state and reading its spelling answer.
 use Rattle.std.specs.Prelude.{◌≡◌, ◌≤◌, ◌<◌, ⊤, ℕ, List, length, Result, Ok, Err}
 use Rattle.std.specs.Global.{Vec}
-use Rattle.rq_model.specs.Records.{One}
+use Rattle.rq_model.specs.Records.{Version}
 use Rattle.rq_model.specs.States.{State}
 use Rattle.rq_model.specs.StateSpelling.{state_bytes, Fits, SpellsState}
 use Rattle.rq_record.specs.declared.fault.Fault.{Fault}
@@ -14,10 +14,10 @@ Spelled s (Err TooLarge) = 268435455 < length (state_bytes s)
 Spelled s (Err Resources) = ⊤
 Spelled s (Err e) = ⊥
 
--- The state that the bytes spell, or that they spell none. Memory is asked for only where all bytes have the form of a state: they spell
+-- The state that the bytes spell in a log of the version, or that they spell none. Memory is asked for only where all bytes have the form of a state: they spell
 -- numbers and members in their widths, whether or not these are a state's
-abbrev pub ReadsState : List ℕ → Result State Fault → Type 0
-ReadsState bytes (Ok s) = SpellsState One s bytes
-ReadsState bytes (Err BadCheckpoint) = (s : State) → SpellsState One s bytes → ⊥
-ReadsState bytes (Err Resources) = (s : State) × Fits s × (bytes ≡ state_bytes s)
-ReadsState bytes (Err e) = ⊥
+abbrev pub ReadsState : Version → List ℕ → Result State Fault → Type 0
+ReadsState version bytes (Ok s) = SpellsState version s bytes
+ReadsState version bytes (Err BadCheckpoint) = (s : State) → SpellsState version s bytes → ⊥
+ReadsState version bytes (Err Resources) = (s : State) × Fits s × (bytes ≡ state_bytes s)
+ReadsState version bytes (Err e) = ⊥

@@ -1,6 +1,7 @@
 -- Each member's part of being well formed, as a test.
 use Rattle.std.specs.Prelude.{ℕ, ◌+◌, ◌==◌, nat_lt, nat_le, Bool, true, false, ◌&&◌, ◌||◌, List, [], ◌∷◌, length, Option, Some, None}
-use Rattle.rq_model.specs.Records.{no_queue}
+use Rattle.std.specs.List.{list_all}
+use Rattle.rq_model.specs.Records.{Version, One, Two, no_queue}
 use Rattle.rq_model.specs.States.{Mark, Free, Fresh, Held, Kind, Enqueued, Dequeued, Element, Last, Note, Definition, Registrant, State, definition_at}
 use Rattle.rq_model.specs.Machine.{is_open, is_registered}
 
@@ -18,6 +19,11 @@ definitions_test number (d ∷ ds) = definition_test number d && definitions_tes
 -- its error queue has none itself
 abbrev pub depth_test : List Definition → Definition → Bool
 depth_test definitions d = (d.error == no_queue) || ((definition_at definitions d.error).error == no_queue)
+
+-- in version 1 each has none
+abbrev pub deep_test : Version → List Definition → Bool
+deep_test One definitions = list_all (depth_test definitions) definitions
+deep_test Two definitions = true
 
 abbrev pub mark_test : State → Mark → Bool
 mark_test s Free = true

@@ -4,9 +4,11 @@ ghost use Rattle.std.specs.Prelude.{◌≡◌, ◌<◌, ◌↔◌, IsTrue, false
 ghost use Rattle.std.specs.Str.{bytes_eq};
 ghost use Rattle.rq_model.specs.States as model;
 ghost use Rattle.rq_model.specs.WellFormed.{Ordered};
+ghost use Rattle.rq_record.specs.Views.{version_of};
 ghost use Rattle.rq_record.specs.declared.fault.Fault.TheVariants.{Resources};
 ghost use Rattle.rq_state.specs.Inside.{state_of};
 ghost use Rattle.rq_state.specs.Keeping.{Tells, KeepsNumbers, KeepsDefinitions, KeepsUnits, KeepsRegistrants, KeepsElements, KeepsNotes, Keeps};
+ghost use Rattle.rq_state.specs.Tests.{deep_test};
 ghost use Rattle.rq_state.specs.Views.{unit_of};
 
 mod lists;
@@ -19,7 +21,7 @@ use crate::keeping::lists::{
 };
 use crate::members::Definition;
 use crate::state::Fields;
-use rq_record::{Fault, Name};
+use rq_record::{Fault, Name, Version};
 use std::alloc::Global;
 
 /// The greatest next record number that a spelling may have.
@@ -71,12 +73,22 @@ fn kept(holds: bool) -> Result<(), Fault>
     }
 }
 
-fn check_definitions(alloc: Global, definitions: &[Definition]) -> Result<(), Fault>
-    ensures { Tells (KeepsDefinitions definitions.now) result }
+// In version 1, whether no error queue has an error queue itself.
+fn are_deep_for(version: Version, definitions: &[Definition]) -> bool
+    ensures { result ≡ deep_test (version_of version) definitions.now }
 {
-    kept(are_definitions(definitions))?;
-    kept(are_one_deep(definitions))?;
-    let names = names_of(alloc, definitions)?;
+    match version {
+        Version::One => are_one_deep(definitions),
+        Version::Two => true,
+    }
+}
+
+fn check_definitions(alloc: Global, version: Version, fields: &Fields) -> Result<(), Fault>
+    ensures { Tells (KeepsDefinitions (version_of version) (state_of fields.now)) result }
+{
+    kept(are_definitions(&fields.definitions))?;
+    kept(are_deep_for(version, &fields.definitions))?;
+    let names = names_of(alloc, &fields.definitions)?;
     kept(do_names_differ(names))
 }
 
@@ -111,12 +123,13 @@ fn check_notes(fields: &Fields) -> Result<(), Fault>
     kept(are_notes(fields))
 }
 
-/// That the fields are those of a well-formed state, or BadCheckpoint, or Resources where there is no room to sort names.
-pub(crate) fn check(alloc: Global, fields: &Fields) -> Result<(), Fault>
-    ensures { Tells (Keeps (state_of fields.now)) result }
+/// That the fields are those of a well-formed state of the version, or BadCheckpoint, or Resources where there is no room to
+/// sort names.
+pub(crate) fn check(alloc: Global, version: Version, fields: &Fields) -> Result<(), Fault>
+    ensures { Tells (Keeps (version_of version) (state_of fields.now)) result }
 {
     kept(are_numbers(fields))?;
-    check_definitions(alloc, &fields.definitions)?;
+    check_definitions(alloc, version, fields)?;
     check_units(fields)?;
     check_registrants(fields)?;
     check_elements(fields)?;

@@ -1,5 +1,7 @@
 //! From a canonical spelling to the state.
 
+ghost use Rattle.rq_model.specs.Records.{One};
+ghost use Rattle.rq_record.specs.Views.{version_of};
 ghost use Rattle.rq_state.specs.Spelling.{ReadsState};
 
 mod cursor;
@@ -11,18 +13,25 @@ use crate::keeping::check;
 use crate::reading::form::check_form;
 use crate::reading::lists::all_fields;
 use crate::state::State;
-use rq_record::Fault;
+use rq_record::{Fault, Version};
 use std::alloc::Global;
 
-/// The state that these bytes spell, as a checkpoint record holds them behind its kind. BadCheckpoint where they spell
-/// none: a member out of order or doubled, a count that does not fit, bytes left over, or fields that no state has;
-/// Resources where there is no room for the state.
+/// The state that these bytes spell in a log of version 1, as `read_in` says it.
 pub fn read(alloc: Global, bytes: &[u8]) -> Result<State, Fault>
-    ensures { ReadsState bytes.now result }
+    ensures { ReadsState One bytes.now result }
+{
+    read_in(alloc, Version::One, bytes)
+}
+
+/// The state that these bytes spell in a log of the version, as a checkpoint record holds them behind its kind.
+/// BadCheckpoint where they spell none: a member out of order or doubled, a count that does not fit, bytes left over, or
+/// fields that no state of the version has; Resources where there is no room for the state.
+pub fn read_in(alloc: Global, version: Version, bytes: &[u8]) -> Result<State, Fault>
+    ensures { ReadsState (version_of version) bytes.now result }
 {
     check_form(bytes)?;
     let fields = all_fields(alloc, bytes)?;
-    check(alloc, &fields)?;
+    check(alloc, version, &fields)?;
     let state = State::of_ordered(alloc, fields)?;
     Ok(state)
 }

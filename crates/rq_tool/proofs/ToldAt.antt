@@ -1,13 +1,16 @@
 -- From the bytes that were read to those that the reader had, for a run from a checkpoint.
-use Rattle.std.proofs.Common.{◌≡◌, ℕ, ◌<◌, ◌≤◌, List, ◌∷◌, length, sym, subst, ◌∙◌, arith, inl, inr}
+use Rattle.std.proofs.Common.{◌≡◌, ℕ, ◌<◌, ◌≤◌, List, ◌∷◌, length, take, sym, ap, subst, ◌∙◌, arith, inl, inr}
 use Rattle.std.specs.Prelude.{Option, Result, Ok, Err}
-use Rattle.rq_model.specs.Frames.{AreBytes, HasHeader, log_limit}
-use Rattle.rq_model.specs.Records.{One, Version}
+use Rattle.std.proofs.lemmas.List.{take_at}
+use Rattle.rq_model.specs.Frames.{AreBytes, HasHeader, header, log_limit}
+use Rattle.rq_model.specs.Records.{Version}
 use Rattle.rq_model.specs.States.{State}
 use Rattle.rq_model.specs.StateSpelling.{SpellsState}
 use Rattle.rq_model.specs.Fronts.{Restarted}
 use Rattle.rq_model.specs.Checkpoints.{IsCheckpointAt, IsRestartAt, TrueAt}
 use Rattle.rq_model.specs.LogLaws.{EveryLogHasReport, OneVersion, TrueSaysTheSame}
+use Rattle.rq_model.proofs.Restarts.{header_long}
+use Rattle.rq_front.specs.Chains.{IsHeaded}
 use Rattle.rq_record.specs.declared.fault.Fault.{Fault}
 use Rattle.rq_record.specs.declared.fault.Fault.TheVariants as faults
 use Rattle.rq_report.specs.Streams.{Reports}
@@ -78,14 +81,21 @@ written_only_at b offset r before after old new (Err faults.NoCheckpoint) is w =
 written_only_at b offset r before after old new (Err (faults.Script n)) is w = absurd w
 written_only_at b offset r before after old new (Err faults.ReadFailed) is w = absurd w
 
--- a true checkpoint stands there, and spells a state
-spelled_at : EveryLogHasReport → TrueSaysTheSame → OneVersion → (b : List ℕ) (offset : ℕ) → AreBytes b → length b ≤ log_limit → HasHeader One b → TrueAt b offset
-    → (kept : List ℕ) × IsCheckpointAt b offset kept × (s : State) × SpellsState One s kept
-spelled_at every same one b offset bytes short header true_at =
-    let report = every One b bytes short header in
+-- a log with a true checkpoint begins with a header
+pub headed : (b : List ℕ) (offset : ℕ) → TrueAt b offset → IsHeaded b
+headed b offset true_at =
+    let found = true_at.2 in
+    (found.version, ap (take 40) found.front.whole ∙ take_at (header found.version) found.front.bytes 40 (header_long found.version))
+
+-- a true checkpoint stands there, and spells a state of the log's version
+spelled_at : EveryLogHasReport → TrueSaysTheSame → OneVersion → (b : List ℕ) (offset : ℕ) → AreBytes b → length b ≤ log_limit → TrueAt b offset
+    → (kept : List ℕ) × IsCheckpointAt b offset kept × (s : State) × ((version : Version) → HasHeader version b → SpellsState version s kept)
+spelled_at every same one b offset bytes short true_at =
+    let header = headed b offset true_at in
+    let report = every header.0 b bytes short header.1 in
     let whole = (same b offset report.0 true_at).1 report.1 in
     let at = whole.1 in
-    (at.kept, at.checkpoint, at.state, subst (λ (v : Version). SpellsState v at.state at.kept) (one b at.version One at.header header) at.spells)
+    (at.kept, at.checkpoint, at.state, λ version is. subst (λ (v : Version). SpellsState v at.state at.kept) (one b at.version version at.header is) at.spells)
 
 one_kept : (b : List ℕ) (offset : ℕ) (kept other : List ℕ) → IsCheckpointAt b offset kept → IsCheckpointAt b offset other → kept ≡ other
 one_kept b offset kept other x y =
@@ -95,11 +105,11 @@ one_kept b offset kept other x y =
 told_at : EveryLogHasReport → TrueSaysTheSame → OneVersion → (b : List ℕ) (offset : ℕ) (result : Result Restarted Fault) → (length b ≤ log_limit → AreBytes b) → TrueAt b offset → RestartsAtRead b offset result → IsTold b result
 told_at every same one b offset (Ok r) bytes true_at h = tt
 told_at every same one b offset (Err faults.TooLong) bytes true_at h = let short : length b ≤ log_limit = true_at.2.front.short in absurd (omega (arith, h, short))
-told_at every same one b offset (Err faults.NotALog) bytes true_at h = h.1
-told_at every same one b offset (Err faults.NoCheckpoint) bytes true_at h = let found = spelled_at every same one b offset (bytes h.0) h.0 h.1 true_at in h.2 found.0 found.1
+told_at every same one b offset (Err faults.NotALog) bytes true_at h = absurd (h.1 (headed b offset true_at))
+told_at every same one b offset (Err faults.NoCheckpoint) bytes true_at h = let found = spelled_at every same one b offset (bytes h.0) h.0 true_at in h.2 found.0 found.1
 told_at every same one b offset (Err faults.BadCheckpoint) bytes true_at h =
-    let found = spelled_at every same one b offset (bytes h.0) h.0 h.1 true_at in
-    h.4 found.2 (subst (SpellsState One found.2) (one_kept b offset found.0 h.2 found.1 h.3) found.3)
+    let found = spelled_at every same one b offset (bytes h.0) h.0 true_at in
+    h.5 found.2 (subst (SpellsState h.1 found.2) (one_kept b offset found.0 h.3 found.1 h.4) (found.3 h.1 h.2))
 told_at every same one b offset (Err faults.Resources) bytes true_at h = tt
 told_at every same one b offset (Err faults.ReadFailed) bytes true_at h = tt
 told_at every same one b offset (Err faults.Form) bytes true_at h = absurd h

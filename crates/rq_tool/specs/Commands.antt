@@ -1,21 +1,28 @@
 -- The lines of the program.
 use Rattle.std.specs.Prelude.{◌≡◌, ℕ, ◌<◌, ◌≤◌, ◌^◌, ⊤, List, [], ◌∷◌, Option, Some, None, codes}
 use Rattle.std.specs.Fmt.{decimal}
+use Rattle.rq_model.specs.Records.{Version, One, Two}
+use Rattle.rq_record.specs.Views.{version_of}
 use Rattle.rq_pool.specs.Plans.{workers_of, grain_of}
 use Rattle.rq_tool.specs.declared.line.Command.{Command}
 use Rattle.rq_tool.specs.declared.line.Command.TheVariants as code
 
 -- what a line of the program tells
 pub data Line : Type 0 where
-  Make : (script log : List ℕ) → Line
+  Make : (version : Version) (script log : List ℕ) → Line
   Restart : (log : List ℕ) (workers grain : ℕ) → Line
   RestartAt : (log : List ℕ) (offset workers grain : ℕ) → Line
   Audit : (log : List ℕ) (workers grain : ℕ) → Line
   Close : (log out : List ℕ) (workers grain : ℕ) → Line
 
+-- the word that makes a log of a version
+abbrev pub make_word : Version → List ℕ
+make_word One = codes "make"
+make_word Two = codes "make2"
+
 -- its words, after the program's name
 abbrev pub words_of : Line → List (List ℕ)
-words_of (Make script log) = codes "make" ∷ (script ∷ (log ∷ []))
+words_of (Make version script log) = make_word version ∷ (script ∷ (log ∷ []))
 words_of (Restart log workers grain) = codes "restart" ∷ (log ∷ (decimal workers ∷ (decimal grain ∷ [])))
 words_of (RestartAt log offset workers grain) = codes "restart-at" ∷ (log ∷ (decimal offset ∷ (decimal workers ∷ (decimal grain ∷ []))))
 words_of (Audit log workers grain) = codes "audit" ∷ (log ∷ (decimal workers ∷ []))
@@ -27,7 +34,7 @@ IsPlan workers grain = (1 ≤ workers) × (workers ≤ 64) × (1 ≤ grain) × (
 
 -- the numbers of a line are in their ranges; where it names no grain, it is 1,000
 abbrev pub IsLine : Line → Type 0
-IsLine (Make script log) = ⊤
+IsLine (Make version script log) = ⊤
 IsLine (Restart log workers grain) = IsPlan workers grain
 IsLine (RestartAt log offset workers grain) = (offset < 2 ^ 64) × IsPlan workers grain
 IsLine (Audit log workers grain) = IsPlan workers grain × (grain ≡ 1000)
@@ -35,7 +42,7 @@ IsLine (Close log out workers grain) = IsPlan workers grain × (grain ≡ 1000)
 
 -- the line of a command
 abbrev pub line_of : Command → Line
-line_of (code.Make script log) = Make script.now log.now
+line_of (code.Make version script log) = Make (version_of version) script.now log.now
 line_of (code.Restart log plan) = Restart log.now (workers_of plan) (grain_of plan)
 line_of (code.RestartAt log offset plan) = RestartAt log.now offset (workers_of plan) (grain_of plan)
 line_of (code.Audit log plan) = Audit log.now (workers_of plan) (grain_of plan)

@@ -1,11 +1,11 @@
 -- What a run of the engine does.
 use Rattle.std.specs.Prelude.{ℕ, ◌<◌, ◌≤◌, List, length, Option, Result, Ok, Err, ⊤}
 use Rattle.std.specs.Io.KnownBytes.{Keeps, Appends}
-use Rattle.rq_model.specs.Records.{One}
-use Rattle.rq_model.specs.Frames.{log_limit, HasHeader}
+use Rattle.rq_model.specs.Frames.{log_limit}
 use Rattle.rq_model.specs.Fronts.{Restarted, IsRestart}
 use Rattle.rq_model.specs.Reports.{IsReport}
 use Rattle.rq_model.specs.Checkpoints.{IsReportAt, IsRestartAt}
+use Rattle.rq_front.specs.Chains.{IsHeaded}
 use Rattle.rq_restart.specs.Restarts.{HasNoCheckpoint, HasBadCheckpoint}
 use Rattle.rq_record.specs.declared.fault.Fault.{Fault}
 use Rattle.rq_record.specs.declared.fault.Fault.TheVariants.{TooLong, NotALog, NoCheckpoint, BadCheckpoint, Resources, ReadFailed, WriteFailed}
@@ -13,14 +13,14 @@ use Rattle.rq_report.specs.Streams.{AppendsFront}
 
 -- the bytes are a log that may be run
 abbrev pub IsRunnable : List ℕ → Type 0
-IsRunnable b = (length b ≤ log_limit) × HasHeader One b
+IsRunnable b = (length b ≤ log_limit) × IsHeaded b
 
 -- a run over the bytes b, where the writer held the bytes `old` before and holds `new` afterwards: the report of b is written, and nothing else;
 -- or nothing is, since b is too long or no log, memory is refused or a read failed; or a beginning of the report is, and then a write failed
 abbrev pub Runs : List ℕ → Option (List ℕ) → Option (List ℕ) → Result (Unit {0}) Fault → Type 0
 Runs b old new (Ok done) = IsRunnable b × (text : List ℕ) × IsReport b text × Appends old new text
 Runs b old new (Err TooLong) = (log_limit < length b) × Keeps old new
-Runs b old new (Err NotALog) = (length b ≤ log_limit) × (HasHeader One b → ⊥) × Keeps old new
+Runs b old new (Err NotALog) = (length b ≤ log_limit) × (IsHeaded b → ⊥) × Keeps old new
 Runs b old new (Err Resources) = Keeps old new
 Runs b old new (Err ReadFailed) = Keeps old new
 Runs b old new (Err WriteFailed) = IsRunnable b × (text : List ℕ) × IsReport b text × AppendsFront old new text
@@ -36,7 +36,7 @@ WritesOnly old new (Err e) = Keeps old new
 abbrev pub RestartsRead : List ℕ → Result Restarted Fault → Type 0
 RestartsRead b (Ok r) = IsRunnable b × IsRestart b r
 RestartsRead b (Err TooLong) = log_limit < length b
-RestartsRead b (Err NotALog) = (length b ≤ log_limit) × (HasHeader One b → ⊥)
+RestartsRead b (Err NotALog) = (length b ≤ log_limit) × (IsHeaded b → ⊥)
 RestartsRead b (Err Resources) = ⊤
 RestartsRead b (Err ReadFailed) = ⊤
 RestartsRead b (Err e) = ⊥
@@ -66,20 +66,18 @@ WritesOnlyAt offset old new (Ok done) = (b text : List ℕ) × IsReportAt b offs
 WritesOnlyAt offset old new (Err WriteFailed) = (b text : List ℕ) × IsReportAt b offset text × AppendsFront old new text
 WritesOnlyAt offset old new (Err e) = Keeps old new
 
--- from a true checkpoint: the report of b is written, and nothing else; or nothing is, since b is a log of another version, memory is refused or a read failed;
+-- from a true checkpoint: the report of b is written, and nothing else; or nothing is, since memory is refused or a read failed;
 -- or a beginning of the report is, and then a write failed
 abbrev pub WritesReport : List ℕ → Option (List ℕ) → Option (List ℕ) → Result (Unit {0}) Fault → Type 0
 WritesReport b old new (Ok done) = (text : List ℕ) × IsReport b text × Appends old new text
 WritesReport b old new (Err WriteFailed) = (text : List ℕ) × IsReport b text × AppendsFront old new text
-WritesReport b old new (Err NotALog) = (HasHeader One b → ⊥) × Keeps old new
 WritesReport b old new (Err Resources) = Keeps old new
 WritesReport b old new (Err ReadFailed) = Keeps old new
 WritesReport b old new (Err e) = ⊥
 
--- what is told where the checkpoint is true: a restart; or that b is a log of another version, or that a read or memory was refused
+-- what is told where the checkpoint is true: a restart, or that a read or memory was refused
 abbrev pub IsTold : List ℕ → Result Restarted Fault → Type 0
 IsTold b (Ok r) = ⊤
-IsTold b (Err NotALog) = HasHeader One b → ⊥
 IsTold b (Err Resources) = ⊤
 IsTold b (Err ReadFailed) = ⊤
 IsTold b (Err e) = ⊥

@@ -1,8 +1,8 @@
 -- What a call that reads and writes leaves of its reader and its writer.
 use Rattle.std.specs.Prelude.{◌≡◌, ℕ, ◌+◌, ◌<◌, ◌≤◌, ◌⊎◌, List, length, Option, Result, Ok, Err}
 use Rattle.std.specs.Io.KnownBytes.{Consumes, IsAtEnd}
-use Rattle.rq_model.specs.Records.{One}
-use Rattle.rq_model.specs.Frames.{log_limit, HasHeader}
+use Rattle.rq_model.specs.Frames.{log_limit}
+use Rattle.rq_front.specs.Chains.{IsHeaded}
 use Rattle.rq_record.specs.declared.fault.Fault.{Fault}
 use Rattle.rq_record.specs.declared.fault.Fault.TheVariants.{NotALog, ReadFailed, Resources, TooLong, WriteFailed}
 
@@ -37,7 +37,7 @@ Counts old new before total = (more : List ℕ) × Consumes old new more × (bef
 -- why a reader's bytes are refused unkept: they are too long for a log, or begin with no header; or a read or memory was refused
 abbrev pub IsUnread : Option (List ℕ) → Option (List ℕ) → Fault → Type 0
 IsUnread old new TooLong = (bytes : List ℕ) × ReadsAll old new bytes × (log_limit < length bytes)
-IsUnread old new NotALog = (bytes : List ℕ) × ReadsAll old new bytes × (length bytes ≤ log_limit) × (HasHeader One bytes → ⊥)
+IsUnread old new NotALog = (bytes : List ℕ) × ReadsAll old new bytes × (length bytes ≤ log_limit) × (IsHeaded bytes → ⊥)
 IsUnread old new ReadFailed = TakesSome old new
 IsUnread old new Resources = TakesSome old new
 IsUnread old new e = ⊥

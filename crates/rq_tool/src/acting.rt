@@ -10,7 +10,7 @@ use crate::closing::close_log;
 use crate::engine::run;
 use crate::engine_at::run_at;
 use crate::line::Command;
-use crate::making::make_log;
+use crate::making::make_log_in;
 use rq_report::{Input, Output};
 use rq_restart::{Fault, Gate};
 use std::alloc::Global;
@@ -18,7 +18,7 @@ use std::marker::Sync;
 use std::thread::Threads;
 
 /// Reads the command's first file from `input` and writes to `output` what the command prints or puts into its second file:
-/// what `make_log`, `run`, `run_at`, `audit_log` or `close_log` writes, with their faults. Nothing is written before all bytes are there.
+/// what `make_log_in`, `run`, `run_at`, `audit_log` or `close_log` writes, with their faults. Nothing is written before all bytes are there.
 pub fn act<R, I, O, G>(
     rt: &R,
     alloc: Global,
@@ -41,7 +41,7 @@ where
     ensures write_faults { WriteFaults (O.faults output.old) (O.faults output.new) result }
 {
     match command {
-        Command::Make { .. } => make_log(rt, alloc, input, output),
+        Command::Make { version, .. } => make_log_in(rt, alloc, *version, input, output),
         Command::Restart { plan, .. } => run(rt, alloc, input, output, plan, gate),
         Command::RestartAt { offset, plan, .. } => {
             run_at(rt, alloc, input, output, *offset, plan, gate)

@@ -42,8 +42,7 @@ where
 }
 
 /// Reads the input to its end, but at most 4,294,967,296 bytes, restarts from the checkpoint at an offset, and writes the
-/// report. From a true checkpoint it is the report of the log, and only memory, the reader, the writer or a log of another
-/// version refuse it.
+/// report. From a true checkpoint it is the report of the log, and only memory, the reader or the writer refuse it.
 ///
 /// Nothing else is written. Refuses with `NoCheckpoint` where no checkpoint begins at the offset, with `BadCheckpoint`
 /// where it spells no well-formed state, and else as `run` does.

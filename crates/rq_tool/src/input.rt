@@ -1,15 +1,14 @@
 //! Reading a log, and a script.
 
-ghost use Rattle.std.specs.Prelude.{◌≡◌, ◌⊎◌, ℕ, ◌+◌, ◌<◌, ◌≤◌, ◌++◌, ◌↔◌, List, Option, Some, length, IsTrue, IfOk, IfErr, OnOk};
+ghost use Rattle.std.specs.Prelude.{◌≡◌, ◌⊎◌, ℕ, ◌+◌, ◌<◌, ◌≤◌, ◌++◌, List, Option, Some, length, IfOk, IfErr, OnOk};
 ghost use Rattle.std.specs.Io.KnownBytes.{Consumes, IsAtEnd};
-ghost use Rattle.rq_model.specs.Records.{One};
-ghost use Rattle.rq_model.specs.Frames as frames;
 ghost use Rattle.rq_model.specs.Frames.{AreBytes};
+ghost use Rattle.rq_front.specs.Chains.{IsHeaded};
 ghost use Rattle.rq_record.specs.declared.fault.Fault.TheVariants.{ReadFailed, Resources};
 ghost use Rattle.rq_tool.specs.Headline.{IsBeforeWriting, RestartsRead};
 ghost use Rattle.rq_tool.specs.Streams.{Counts, IsOneOf, IsUnread, ReadFaults, ReadsAll, ReadsOn, Takes, TakesSome};
 
-use rq_front::header;
+use rq_front::version;
 use rq_report::Input;
 use rq_restart::Fault;
 use std::alloc::Global;
@@ -101,16 +100,6 @@ pub(crate) fn read_all<I: Input>(alloc: Global, input: &mut I) -> Result<Vec<u8>
     Ok(bytes)
 }
 
-// Whether these are the bytes of a header.
-fn is_header(alloc: Global, bytes: &[u8]) -> Result<bool, Fault>
-    ensures header { IfOk result (λ is. IsTrue is ↔ (bytes.now ≡ frames.header One)) }
-    ensures refused { IfErr result (λ e. e ≡ Resources) }
-{
-    let mut right = Vec::new(alloc);
-    header(&mut right)?;
-    Ok(bytes == right.as_slice())
-}
-
 // How many bytes an input has of which so many were read, but at most 4,294,967,296. None is kept.
 fn counted<I: Input>(input: &mut I, piece: &mut [u8], read: usize) -> Result<usize, Fault>
     requires faults { I.faults input.old < 18446744073709551615 }
@@ -141,7 +130,7 @@ fn refused<I: Input>(input: &mut I, piece: &mut [u8], first: &[u8]) -> Fault
     requires piece { 0 < length piece.old }
     requires first { length first.now ≤ 40 }
     requires end { length first.now < 40 → IsAtEnd (I.remaining input.old) }
-    requires none { first.now ≡ frames.header One → ⊥ }
+    requires none { IsHeaded first.now → ⊥ }
     ensures told { (origin : Option (List ℕ)) → Consumes origin (I.remaining input.old) first.now → IsUnread origin (I.remaining input.new) result }
     ensures count { ReadFaults {A = Unit {0}} (I.faults input.old) (I.faults input.new) (Err result) }
 {
@@ -168,9 +157,9 @@ pub(crate) fn read_log<I: Input>(alloc: Global, input: &mut I) -> Result<Vec<u8>
     let mut bytes = Vec::new(alloc);
     let mut piece = room(alloc)?;
     read_up_to(input, &mut piece, &mut bytes, HEADER_LEN)?;
-    if !is_header(alloc, &bytes)? {
+    let Some(_version) = version(&bytes) else {
         return Err(refused(input, &mut piece, &bytes));
-    }
+    };
     read_up_to(input, &mut piece, &mut bytes, READ_LIMIT)?;
     Ok(bytes)
 }

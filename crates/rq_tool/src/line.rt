@@ -1,12 +1,14 @@
 //! The lines of the program.
 
+use rq_record::Version;
 use rq_restart::Plan;
 
 /// A line of the program, by its words.
 #[derive(Clone, Copy, Debug)]
 pub enum Command<'a> {
-    /// Write the log of a script.
+    /// Write the log of a script in a version.
     Make {
+        version: Version,
         script: &'a str,
         log: &'a str,
     },

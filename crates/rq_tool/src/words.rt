@@ -1,11 +1,13 @@
 //! From the words of a command line to a command.
 
 ghost use Rattle.std.specs.Prelude.{◌∷◌, map, codes};
-ghost use Rattle.rq_tool.specs.Commands.{IsCommand};
+ghost use Rattle.rq_record.specs.Views.{version_of};
+ghost use Rattle.rq_tool.specs.Commands.{IsCommand, make_word};
 ghost use Rattle.rq_tool.specs.Words.{IsPlanOf, IsWorkersPlanOf};
 ghost use Rattle.rq_writer.specs.Decimals.{IsNumber};
 
 use crate::line::Command;
+use rq_record::Version;
 use rq_restart::Plan;
 use rq_writer::decimal_number;
 
@@ -34,11 +36,15 @@ fn workers_plan(workers: &str) -> Option<Plan>
     Plan::new(workers, GRAIN)
 }
 
-fn make<'a>(words: &[&'a str]) -> Option<Command<'a>>
-    ensures { IsCommand (codes "make" ∷ map (λ w. w.now) words.now) result }
+fn make<'a>(version: Version, words: &[&'a str]) -> Option<Command<'a>>
+    ensures { IsCommand (make_word (version_of version) ∷ map (λ w. w.now) words.now) result }
 {
     match words {
-        [script, log] => Some(Command::Make { script, log }),
+        [script, log] => Some(Command::Make {
+            version,
+            script,
+            log,
+        }),
         _ => None,
     }
 }
@@ -99,7 +105,8 @@ pub fn command<'a>(words: &[&'a str]) -> Option<Command<'a>>
 {
     let (first, rest) = words.split_first()?;
     match *first {
-        "make" => make(rest),
+        "make" => make(Version::One, rest),
+        "make2" => make(Version::Two, rest),
         "restart" => restart(rest),
         "restart-at" => restart_at(rest),
         "audit" => audit(rest),

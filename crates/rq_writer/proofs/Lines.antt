@@ -8,7 +8,7 @@ use Rattle.rq_record.specs.declared.fault.Fault.{Fault}
 use Rattle.rq_record.specs.declared.fault.Fault.TheVariants as faults
 use Rattle.rq_model.specs.Records.{By}
 use Rattle.rq_model.specs.Records.{Record}
-use Rattle.rq_model.specs.Records.{Define, Register, Deregister, Begin, Enqueue, Dequeue, Commit, Abort, Checkpoint, Kill, One}
+use Rattle.rq_model.specs.Records.{Define, Register, Deregister, Begin, Enqueue, Dequeue, Commit, Abort, Checkpoint, Kill, Version, One, Two}
 use Rattle.rq_model.specs.Spelling.{IsRecord, IsWho}
 use Rattle.rq_record.specs.Reading.{◌>>=◌, name_of, Gives}
 use Rattle.rq_record.proofs.Fields.{bind_some, chosen, name_takes, name_again}
@@ -17,15 +17,15 @@ use Rattle.rq_writer.specs.Script.{Line, Told, Spelled}
 use Rattle.rq_writer.specs.Views.{line_of}
 use Rattle.rq_writer.specs.declared.line.Line as code
 use Rattle.rq_writer.specs.Script.{who_name, who_tag, record_text, line_text, IsTellable, IsLine, Tells}
-use Rattle.rq_writer.specs.Reading.{field_at, number_of, number_at, error_of, told, hex_of, unit_of, define_of, register_of, deregister_of, begin_of, commit_of, abort_of, enqueue_of, dequeue_of, checkpoint_of, told_by, record_at, told_line, line_at, Reads}
+use Rattle.rq_writer.specs.Reading.{field_at, number_of, number_at, error_of, told, hex_of, unit_of, define_of, register_of, deregister_of, begin_of, commit_of, abort_of, enqueue_of, dequeue_of, checkpoint_of, kill_of, kill_in, told_by, record_at, told_line, line_at, Reads}
 use Rattle.rq_writer.proofs.Cuts.{cut_takes, cut_again}
 use Rattle.rq_writer.proofs.Numbers.{number_takes, number_again}
 use Rattle.rq_writer.proofs.Hex.{some_is}
 use Rattle.rq_writer.proofs.Parts.{number_at_takes, number_at_again, error_takes, error_again, told_takes, told_again, hex_takes, hex_again, who_lacks, name_lacks}
 
 -- the record is one that a script can tell, and this is its text
-abbrev IsTale : List ℕ → Record → Type 0
-IsTale text r = (IsRecord One r × IsTellable r) × (text ≡ record_text r)
+abbrev IsTale : (version : Version) → List ℕ → Record → Type 0
+IsTale version text r = (IsRecord version r × IsTellable r) × (text ≡ record_text r)
 
 -- a field in front
 behind : (front : List ℕ) (x y : List ℕ) → x ≡ y → front ++ 32 ∷ x ≡ front ++ 32 ∷ y
@@ -34,9 +34,9 @@ behind front x y e = ap (λ (l : List ℕ). front ++ 32 ∷ l) e
 instead : (a b rest : List ℕ) → a ≡ b → a ++ 32 ∷ rest ≡ b ++ 32 ∷ rest
 instead a b rest e = ap (λ (l : List ℕ). l ++ 32 ∷ rest) e
 
-define_takes : (bytes : List ℕ) (r : Record) → define_of bytes ≡ Some r → IsTale (codes "define " ++ bytes) r
+define_takes : (version : Version) (bytes : List ℕ) (r : Record) → define_of bytes ≡ Some r → IsTale version (codes "define " ++ bytes) r
 unfolding define_of
-define_takes bytes r e =
+define_takes version bytes r e =
     let a = bind_some (field_at bytes) (λ word. name_of word.0 >>= λ name. number_at 65535 word.1 >>= λ limit. error_of limit.1 >>= λ error. Some (Define limit.0 error name)) r e in
     let b = bind_some (name_of a.0.0) (λ name. number_at 65535 a.0.1 >>= λ limit. error_of limit.1 >>= λ error. Some (Define limit.0 error name)) r a.2 in
     let c = bind_some (number_at 65535 a.0.1) (λ limit. error_of limit.1 >>= λ error. Some (Define limit.0 error b.0)) r b.2 in
@@ -47,11 +47,11 @@ define_takes bytes r e =
     let t3 = error_takes c.0.1 d.0 d.1 in
     let whole : bytes ≡ b.0 ++ (32 ∷ (decimal c.0.0 ++ (32 ∷ error_text d.0))) =
     t0 ∙ instead a.0.0 b.0 a.0.1 t1.0 ∙ behind b.0 _ _ (t2.0 ∙ behind (decimal c.0.0) _ _ t3.0) in
-    subst (IsTale (codes "define " ++ bytes)) (some_is _ _ d.2) (((omega (arith, t2.1), t3.1, t1.1), tt), ap (λ (l : List ℕ). codes "define " ++ l) whole)
+    subst (IsTale version (codes "define " ++ bytes)) (some_is _ _ d.2) (((omega (arith, t2.1), t3.1, t1.1), tt), ap (λ (l : List ℕ). codes "define " ++ l) whole)
 
-define_again : (limit : ℕ) (error : ℕ) (name : List ℕ) → IsRecord One (Define limit error name) → define_of (name ++ (32 ∷ (decimal limit ++ (32 ∷ error_text error)))) ≡ Some (Define limit error name)
+define_again : (version : Version) (limit : ℕ) (error : ℕ) (name : List ℕ) → IsRecord version (Define limit error name) → define_of (name ++ (32 ∷ (decimal limit ++ (32 ∷ error_text error)))) ≡ Some (Define limit error name)
 unfolding define_of
-define_again limit error name h =
+define_again version limit error name h =
     rw (
       cut_again 32 name (decimal limit ++ (32 ∷ error_text error)) (name_lacks name h.2),
       name_again name h.2,
@@ -59,70 +59,70 @@ define_again limit error name h =
       error_again error h.1,
     ) refl
 
-register_takes : (bytes : List ℕ) (r : Record) → register_of bytes ≡ Some r → IsTale (codes "register " ++ bytes) r
+register_takes : (version : Version) (bytes : List ℕ) (r : Record) → register_of bytes ≡ Some r → IsTale version (codes "register " ++ bytes) r
 unfolding register_of
-register_takes bytes r e =
+register_takes version bytes r e =
     let b = bind_some (number_at 4294967295 bytes) (λ queue. name_of queue.1 >>= λ name. Some (Register queue.0 name)) r e in
     let c = bind_some (name_of b.0.1) (λ name. Some (Register b.0.0 name)) r b.2 in
     let t1 = number_at_takes 4294967295 bytes b.0 (omega arith) b.1 in
     let t2 = name_takes b.0.1 c.0 c.1 in
     let whole : bytes ≡ decimal b.0.0 ++ 32 ∷ c.0 = t1.0 ∙ behind (decimal b.0.0) _ _ t2.0 in
-    subst (IsTale (codes "register " ++ bytes)) (some_is _ _ c.2) (((omega (arith, t1.1), t2.1), tt), ap (λ (l : List ℕ). codes "register " ++ l) whole)
+    subst (IsTale version (codes "register " ++ bytes)) (some_is _ _ c.2) (((omega (arith, t1.1), t2.1), tt), ap (λ (l : List ℕ). codes "register " ++ l) whole)
 
-register_again : (queue : ℕ) (name : List ℕ) → IsRecord One (Register queue name) → register_of (decimal queue ++ 32 ∷ name) ≡ Some (Register queue name)
+register_again : (version : Version) (queue : ℕ) (name : List ℕ) → IsRecord version (Register queue name) → register_of (decimal queue ++ 32 ∷ name) ≡ Some (Register queue name)
 unfolding register_of
-register_again queue name h = rw (number_at_again 4294967295 queue name (omega arith) (omega (arith, h.0)), name_again name h.1) refl
+register_again version queue name h = rw (number_at_again 4294967295 queue name (omega arith) (omega (arith, h.0)), name_again name h.1) refl
 
-deregister_takes : (bytes : List ℕ) (r : Record) → deregister_of bytes ≡ Some r → IsTale (codes "deregister " ++ bytes) r
+deregister_takes : (version : Version) (bytes : List ℕ) (r : Record) → deregister_of bytes ≡ Some r → IsTale version (codes "deregister " ++ bytes) r
 unfolding deregister_of
-deregister_takes bytes r e =
+deregister_takes version bytes r e =
     let b = bind_some (number_at 4294967295 bytes) (λ queue. name_of queue.1 >>= λ name. Some (Deregister queue.0 name)) r e in
     let c = bind_some (name_of b.0.1) (λ name. Some (Deregister b.0.0 name)) r b.2 in
     let t1 = number_at_takes 4294967295 bytes b.0 (omega arith) b.1 in
     let t2 = name_takes b.0.1 c.0 c.1 in
     let whole : bytes ≡ decimal b.0.0 ++ 32 ∷ c.0 = t1.0 ∙ behind (decimal b.0.0) _ _ t2.0 in
-    subst (IsTale (codes "deregister " ++ bytes)) (some_is _ _ c.2) (((omega (arith, t1.1), t2.1), tt), ap (λ (l : List ℕ). codes "deregister " ++ l) whole)
+    subst (IsTale version (codes "deregister " ++ bytes)) (some_is _ _ c.2) (((omega (arith, t1.1), t2.1), tt), ap (λ (l : List ℕ). codes "deregister " ++ l) whole)
 
-deregister_again : (queue : ℕ) (name : List ℕ) → IsRecord One (Deregister queue name) → deregister_of (decimal queue ++ 32 ∷ name) ≡ Some (Deregister queue name)
+deregister_again : (version : Version) (queue : ℕ) (name : List ℕ) → IsRecord version (Deregister queue name) → deregister_of (decimal queue ++ 32 ∷ name) ≡ Some (Deregister queue name)
 unfolding deregister_of
-deregister_again queue name h = rw (number_at_again 4294967295 queue name (omega arith) (omega (arith, h.0)), name_again name h.1) refl
+deregister_again version queue name h = rw (number_at_again 4294967295 queue name (omega arith) (omega (arith, h.0)), name_again name h.1) refl
 
-begin_takes : (bytes : List ℕ) (r : Record) → begin_of bytes ≡ Some r → IsTale (codes "begin " ++ bytes) r
+begin_takes : (version : Version) (bytes : List ℕ) (r : Record) → begin_of bytes ≡ Some r → IsTale version (codes "begin " ++ bytes) r
 unfolding begin_of
-begin_takes bytes r e =
+begin_takes version bytes r e =
     let a = bind_some (unit_of bytes) (λ unit. Some (Begin unit)) r e in
     let t = number_takes 18446744073709551615 bytes a.0 (omega arith) a.1 in
-    subst (IsTale (codes "begin " ++ bytes)) (some_is _ _ a.2) ((omega (arith, t.1), tt), ap (λ (l : List ℕ). codes "begin " ++ l) t.0)
+    subst (IsTale version (codes "begin " ++ bytes)) (some_is _ _ a.2) ((omega (arith, t.1), tt), ap (λ (l : List ℕ). codes "begin " ++ l) t.0)
 
-begin_again : (unit : ℕ) → IsRecord One (Begin unit) → begin_of (decimal unit) ≡ Some (Begin unit)
+begin_again : (version : Version) (unit : ℕ) → IsRecord version (Begin unit) → begin_of (decimal unit) ≡ Some (Begin unit)
 unfolding begin_of
-begin_again unit h = rw (number_again 18446744073709551615 unit (omega arith) (omega (arith, h))) refl
+begin_again version unit h = rw (number_again 18446744073709551615 unit (omega arith) (omega (arith, h))) refl
 
-commit_takes : (bytes : List ℕ) (r : Record) → commit_of bytes ≡ Some r → IsTale (codes "commit " ++ bytes) r
+commit_takes : (version : Version) (bytes : List ℕ) (r : Record) → commit_of bytes ≡ Some r → IsTale version (codes "commit " ++ bytes) r
 unfolding commit_of
-commit_takes bytes r e =
+commit_takes version bytes r e =
     let a = bind_some (unit_of bytes) (λ unit. Some (Commit unit)) r e in
     let t = number_takes 18446744073709551615 bytes a.0 (omega arith) a.1 in
-    subst (IsTale (codes "commit " ++ bytes)) (some_is _ _ a.2) ((omega (arith, t.1), tt), ap (λ (l : List ℕ). codes "commit " ++ l) t.0)
+    subst (IsTale version (codes "commit " ++ bytes)) (some_is _ _ a.2) ((omega (arith, t.1), tt), ap (λ (l : List ℕ). codes "commit " ++ l) t.0)
 
-commit_again : (unit : ℕ) → IsRecord One (Commit unit) → commit_of (decimal unit) ≡ Some (Commit unit)
+commit_again : (version : Version) (unit : ℕ) → IsRecord version (Commit unit) → commit_of (decimal unit) ≡ Some (Commit unit)
 unfolding commit_of
-commit_again unit h = rw (number_again 18446744073709551615 unit (omega arith) (omega (arith, h))) refl
+commit_again version unit h = rw (number_again 18446744073709551615 unit (omega arith) (omega (arith, h))) refl
 
-abort_takes : (bytes : List ℕ) (r : Record) → abort_of bytes ≡ Some r → IsTale (codes "abort " ++ bytes) r
+abort_takes : (version : Version) (bytes : List ℕ) (r : Record) → abort_of bytes ≡ Some r → IsTale version (codes "abort " ++ bytes) r
 unfolding abort_of
-abort_takes bytes r e =
+abort_takes version bytes r e =
     let a = bind_some (unit_of bytes) (λ unit. Some (Abort unit)) r e in
     let t = number_takes 18446744073709551615 bytes a.0 (omega arith) a.1 in
-    subst (IsTale (codes "abort " ++ bytes)) (some_is _ _ a.2) ((omega (arith, t.1), tt), ap (λ (l : List ℕ). codes "abort " ++ l) t.0)
+    subst (IsTale version (codes "abort " ++ bytes)) (some_is _ _ a.2) ((omega (arith, t.1), tt), ap (λ (l : List ℕ). codes "abort " ++ l) t.0)
 
-abort_again : (unit : ℕ) → IsRecord One (Abort unit) → abort_of (decimal unit) ≡ Some (Abort unit)
+abort_again : (version : Version) (unit : ℕ) → IsRecord version (Abort unit) → abort_of (decimal unit) ≡ Some (Abort unit)
 unfolding abort_of
-abort_again unit h = rw (number_again 18446744073709551615 unit (omega arith) (omega (arith, h))) refl
+abort_again version unit h = rw (number_again 18446744073709551615 unit (omega arith) (omega (arith, h))) refl
 
-enqueue_takes : (bytes : List ℕ) (r : Record) → enqueue_of bytes ≡ Some r → IsTale (codes "enqueue " ++ bytes) r
+enqueue_takes : (version : Version) (bytes : List ℕ) (r : Record) → enqueue_of bytes ≡ Some r → IsTale version (codes "enqueue " ++ bytes) r
 unfolding enqueue_of
-enqueue_takes bytes r e =
+enqueue_takes version bytes r e =
     let a = bind_some (number_at 18446744073709551615 bytes) (λ unit. number_at 4294967295 unit.1 >>= λ queue. number_at 255 queue.1 >>= λ priority. field_at priority.1 >>= λ name. number_at 18446744073709551615 name.1 >>= λ tag. told name.0 tag.0 >>= λ by. hex_of 65535 tag.1 >>= λ payload. Some (Enqueue unit.0 queue.0 priority.0 by payload)) r e in
     let b = bind_some (number_at 4294967295 a.0.1) (λ queue. number_at 255 queue.1 >>= λ priority. field_at priority.1 >>= λ name. number_at 18446744073709551615 name.1 >>= λ tag. told name.0 tag.0 >>= λ by. hex_of 65535 tag.1 >>= λ payload. Some (Enqueue a.0.0 queue.0 priority.0 by payload)) r a.2 in
     let c = bind_some (number_at 255 b.0.1) (λ priority. field_at priority.1 >>= λ name. number_at 18446744073709551615 name.1 >>= λ tag. told name.0 tag.0 >>= λ by. hex_of 65535 tag.1 >>= λ payload. Some (Enqueue a.0.0 b.0.0 priority.0 by payload)) r b.2 in
@@ -143,17 +143,17 @@ enqueue_takes bytes r e =
     t3 ∙ instead d.0.0 (who_name g.0) d.0.1 t5.0 ∙ behind (who_name g.0) _ _ (t4.0 ∙ tag) in
     let whole : bytes ≡ decimal a.0.0 ++ (32 ∷ (decimal b.0.0 ++ (32 ∷ (decimal c.0.0 ++ (32 ∷ (who_name g.0 ++ (32 ∷ (decimal (who_tag g.0) ++ (32 ∷ payload_text h.0))))))))) =
     t0.0 ∙ behind (decimal a.0.0) _ _ (t1.0 ∙ behind (decimal b.0.0) _ _ (t2.0 ∙ behind (decimal c.0.0) _ _ name)) in
-    subst (IsTale (codes "enqueue " ++ bytes)) (some_is _ _ h.2)
+    subst (IsTale version (codes "enqueue " ++ bytes)) (some_is _ _ h.2)
     (((omega (arith, t0.1), omega (arith, t1.1), omega (arith, t2.1), t5.2, t6.2), (t5.3, t6.1)), ap (λ (l : List ℕ). codes "enqueue " ++ l) whole)
 
 tag_fits : (by : Option By) → IsWho by → who_tag by ≤ 18446744073709551615
 tag_fits None h = omega arith
 tag_fits (Some by) h = omega (arith, h.1)
 
-enqueue_again : (unit : ℕ) (queue : ℕ) (priority : ℕ) (by : Option By) (payload : List ℕ) → IsRecord One (Enqueue unit queue priority by payload) → IsTellable (Enqueue unit queue priority by payload) →
+enqueue_again : (version : Version) (unit : ℕ) (queue : ℕ) (priority : ℕ) (by : Option By) (payload : List ℕ) → IsRecord version (Enqueue unit queue priority by payload) → IsTellable (Enqueue unit queue priority by payload) →
     enqueue_of (decimal unit ++ (32 ∷ (decimal queue ++ (32 ∷ (decimal priority ++ (32 ∷ (who_name by ++ (32 ∷ (decimal (who_tag by) ++ (32 ∷ payload_text payload)))))))))) ≡ Some (Enqueue unit queue priority by payload)
 unfolding enqueue_of
-enqueue_again unit queue priority by payload h t =
+enqueue_again version unit queue priority by payload h t =
     rw (
       number_at_again 18446744073709551615 unit (decimal queue ++ (32 ∷ (decimal priority ++ (32 ∷ (who_name by ++ (32 ∷ (decimal (who_tag by) ++ (32 ∷ payload_text payload)))))))) (omega arith) (omega (arith, h.0)),
       number_at_again 4294967295 queue (decimal priority ++ (32 ∷ (who_name by ++ (32 ∷ (decimal (who_tag by) ++ (32 ∷ payload_text payload)))))) (omega arith) (omega (arith, h.1)),
@@ -164,9 +164,9 @@ enqueue_again unit queue priority by payload h t =
       hex_again 65535 payload t.1 h.4,
     ) refl
 
-dequeue_takes : (bytes : List ℕ) (r : Record) → dequeue_of bytes ≡ Some r → IsTale (codes "dequeue " ++ bytes) r
+dequeue_takes : (version : Version) (bytes : List ℕ) (r : Record) → dequeue_of bytes ≡ Some r → IsTale version (codes "dequeue " ++ bytes) r
 unfolding dequeue_of
-dequeue_takes bytes r e =
+dequeue_takes version bytes r e =
     let a = bind_some (number_at 18446744073709551615 bytes) (λ unit. number_at 4294967295 unit.1 >>= λ queue. field_at queue.1 >>= λ name. number_of 18446744073709551615 name.1 >>= λ tag. told name.0 tag >>= λ by. Some (Dequeue unit.0 queue.0 by)) r e in
     let b = bind_some (number_at 4294967295 a.0.1) (λ queue. field_at queue.1 >>= λ name. number_of 18446744073709551615 name.1 >>= λ tag. told name.0 tag >>= λ by. Some (Dequeue a.0.0 queue.0 by)) r a.2 in
     let d = bind_some (field_at b.0.1) (λ name. number_of 18446744073709551615 name.1 >>= λ tag. told name.0 tag >>= λ by. Some (Dequeue a.0.0 b.0.0 by)) r b.2 in
@@ -181,13 +181,13 @@ dequeue_takes bytes r e =
     t3 ∙ instead d.0.0 (who_name g.0) d.0.1 t5.0 ∙ behind (who_name g.0) _ _ (t4.0 ∙ ap decimal t5.1) in
     let whole : bytes ≡ decimal a.0.0 ++ (32 ∷ (decimal b.0.0 ++ (32 ∷ (who_name g.0 ++ (32 ∷ decimal (who_tag g.0)))))) =
     t0.0 ∙ behind (decimal a.0.0) _ _ (t1.0 ∙ behind (decimal b.0.0) _ _ name) in
-    subst (IsTale (codes "dequeue " ++ bytes)) (some_is _ _ g.2)
+    subst (IsTale version (codes "dequeue " ++ bytes)) (some_is _ _ g.2)
     (((omega (arith, t0.1), omega (arith, t1.1), t5.2), t5.3), ap (λ (l : List ℕ). codes "dequeue " ++ l) whole)
 
-dequeue_again : (unit : ℕ) (queue : ℕ) (by : Option By) → IsRecord One (Dequeue unit queue by) → IsTellable (Dequeue unit queue by) →
+dequeue_again : (version : Version) (unit : ℕ) (queue : ℕ) (by : Option By) → IsRecord version (Dequeue unit queue by) → IsTellable (Dequeue unit queue by) →
     dequeue_of (decimal unit ++ (32 ∷ (decimal queue ++ (32 ∷ (who_name by ++ (32 ∷ decimal (who_tag by))))))) ≡ Some (Dequeue unit queue by)
 unfolding dequeue_of
-dequeue_again unit queue by h t =
+dequeue_again version unit queue by h t =
     rw (
       number_at_again 18446744073709551615 unit (decimal queue ++ (32 ∷ (who_name by ++ (32 ∷ decimal (who_tag by))))) (omega arith) (omega (arith, h.0)),
       number_at_again 4294967295 queue (who_name by ++ (32 ∷ decimal (who_tag by))) (omega arith) (omega (arith, h.1)),
@@ -196,56 +196,75 @@ dequeue_again unit queue by h t =
       told_again by h.2 t,
     ) refl
 
-checkpoint_takes : (bytes : List ℕ) (r : Record) → checkpoint_of bytes ≡ Some r → IsTale (codes "checkpoint-hex " ++ bytes) r
+checkpoint_takes : (version : Version) (bytes : List ℕ) (r : Record) → checkpoint_of bytes ≡ Some r → IsTale version (codes "checkpoint-hex " ++ bytes) r
 unfolding checkpoint_of
-checkpoint_takes bytes r e =
+checkpoint_takes version bytes r e =
     let a = bind_some (hex_of 268435455 bytes) (λ kept. Some (Checkpoint kept)) r e in
     let t = hex_takes 268435455 bytes a.0 a.1 in
-    subst (IsTale (codes "checkpoint-hex " ++ bytes)) (some_is _ _ a.2) ((t.2, t.1), ap (λ (l : List ℕ). codes "checkpoint-hex " ++ l) t.0)
+    subst (IsTale version (codes "checkpoint-hex " ++ bytes)) (some_is _ _ a.2) ((t.2, t.1), ap (λ (l : List ℕ). codes "checkpoint-hex " ++ l) t.0)
 
-checkpoint_again : (bytes : List ℕ) → IsRecord One (Checkpoint bytes) → IsTellable (Checkpoint bytes) → checkpoint_of (payload_text bytes) ≡ Some (Checkpoint bytes)
+checkpoint_again : (version : Version) (bytes : List ℕ) → IsRecord version (Checkpoint bytes) → IsTellable (Checkpoint bytes) → checkpoint_of (payload_text bytes) ≡ Some (Checkpoint bytes)
 unfolding checkpoint_of
-checkpoint_again bytes h t = rw (hex_again 268435455 bytes t h) refl
+checkpoint_again version bytes h t = rw (hex_again 268435455 bytes t h) refl
 
 -- ---- the word in front
 
-of_word : (word w bytes : List ℕ) (r : Record) → bytes_eq word w ≡ true → IsTale (w ++ 32 ∷ bytes) r → IsTale (word ++ 32 ∷ bytes) r
-of_word word w bytes r same tale = (tale.0, instead word w bytes ((bytes_eq-Decides word w).0 same) ∙ tale.1)
+kill_takes : (bytes : List ℕ) (r : Record) → kill_of bytes ≡ Some r → IsTale Two (codes "kill " ++ bytes) r
+unfolding kill_of
+kill_takes bytes r e =
+    let b = bind_some (number_at 4294967295 bytes) (λ queue. number_of 18446744073709551615 queue.1 >>= λ element. Some (Kill queue.0 element)) r e in
+    let c = bind_some (number_of 18446744073709551615 b.0.1) (λ element. Some (Kill b.0.0 element)) r b.2 in
+    let t1 = number_at_takes 4294967295 bytes b.0 (omega arith) b.1 in
+    let t2 = number_takes 18446744073709551615 b.0.1 c.0 (omega arith) c.1 in
+    let whole : bytes ≡ decimal b.0.0 ++ 32 ∷ decimal c.0 = t1.0 ∙ behind (decimal b.0.0) _ _ t2.0 in
+    subst (IsTale Two (codes "kill " ++ bytes)) (some_is _ _ c.2) (((omega (arith, t1.1), omega (arith, t2.1)), tt), ap (λ (l : List ℕ). codes "kill " ++ l) whole)
+
+kill_in_takes : (version : Version) (bytes : List ℕ) (r : Record) → kill_in version bytes ≡ Some r → IsTale version (codes "kill " ++ bytes) r
+kill_in_takes One bytes r e = absurd cc
+kill_in_takes Two bytes r e = kill_takes bytes r e
+
+kill_again : (queue : ℕ) (element : ℕ) → IsRecord Two (Kill queue element) → kill_of (decimal queue ++ 32 ∷ decimal element) ≡ Some (Kill queue element)
+unfolding kill_of
+kill_again queue element h = rw (number_at_again 4294967295 queue (decimal element) (omega arith) (omega (arith, h.0)), number_again 18446744073709551615 element (omega arith) (omega (arith, h.1))) refl
+
+of_word : (version : Version) (word w bytes : List ℕ) (r : Record) → bytes_eq word w ≡ true → IsTale version (w ++ 32 ∷ bytes) r → IsTale version (word ++ 32 ∷ bytes) r
+of_word version word w bytes r same tale = (tale.0, instead word w bytes ((bytes_eq-Decides word w).0 same) ∙ tale.1)
 
 abbrev next : List ℕ → List ℕ → Option Record → Option Record → Option Record
 next word w here later = cond (bytes_eq word w) here later
 
-choose : (word w bytes : List ℕ) (here later : Option Record) (r : Record) → (here ≡ Some r → IsTale (w ++ 32 ∷ bytes) r) → (later ≡ Some r → IsTale (word ++ 32 ∷ bytes) r) → next word w here later ≡ Some r → IsTale (word ++ 32 ∷ bytes) r
-choose word w bytes here later r takes others e =
+choose : (version : Version) (word w bytes : List ℕ) (here later : Option Record) (r : Record) → (here ≡ Some r → IsTale version (w ++ 32 ∷ bytes) r) → (later ≡ Some r → IsTale version (word ++ 32 ∷ bytes) r) → next word w here later ≡ Some r → IsTale version (word ++ 32 ∷ bytes) r
+choose version word w bytes here later r takes others e =
     elim (chosen (bytes_eq word w) here later (Some r) e) [
-      | inl a ↦ of_word word w bytes r a.0 (takes a.1)
+      | inl a ↦ of_word version word w bytes r a.0 (takes a.1)
       | inr b ↦ others b.1
     ]
 
-told_by_takes : (word bytes : List ℕ) (r : Record) → told_by word bytes ≡ Some r → IsTale (word ++ 32 ∷ bytes) r
+told_by_takes : (version : Version) (word bytes : List ℕ) (r : Record) → told_by version word bytes ≡ Some r → IsTale version (word ++ 32 ∷ bytes) r
 unfolding told_by
-told_by_takes word bytes r e =
-    choose word (codes "define") bytes (define_of bytes) _ r (define_takes bytes r) (λ o. choose word (codes "register") bytes (register_of bytes) _ r (register_takes bytes r) (λ o. choose word (codes "deregister") bytes (deregister_of bytes) _ r (deregister_takes bytes r) (λ o. choose word (codes "begin") bytes (begin_of bytes) _ r (begin_takes bytes r) (λ o. choose word (codes "enqueue") bytes (enqueue_of bytes) _ r (enqueue_takes bytes r) (λ o. choose word (codes "dequeue") bytes (dequeue_of bytes) _ r (dequeue_takes bytes r) (λ o. choose word (codes "commit") bytes (commit_of bytes) _ r (commit_takes bytes r) (λ o. choose word (codes "abort") bytes (abort_of bytes) _ r (abort_takes bytes r) (λ o. choose word (codes "checkpoint-hex") bytes (checkpoint_of bytes) None r (checkpoint_takes bytes r) (λ (none : None ≡ Some r). absurd cc) o) o) o) o) o) o) o) o) e
+told_by_takes version word bytes r e =
+    choose version word (codes "define") bytes (define_of bytes) _ r (define_takes version bytes r) (λ o. choose version word (codes "register") bytes (register_of bytes) _ r (register_takes version bytes r) (λ o. choose version word (codes "deregister") bytes (deregister_of bytes) _ r (deregister_takes version bytes r) (λ o. choose version word (codes "begin") bytes (begin_of bytes) _ r (begin_takes version bytes r) (λ o. choose version word (codes "enqueue") bytes (enqueue_of bytes) _ r (enqueue_takes version bytes r) (λ o. choose version word (codes "dequeue") bytes (dequeue_of bytes) _ r (dequeue_takes version bytes r) (λ o. choose version word (codes "commit") bytes (commit_of bytes) _ r (commit_takes version bytes r) (λ o. choose version word (codes "abort") bytes (abort_of bytes) _ r (abort_takes version bytes r) (λ o. choose version word (codes "checkpoint-hex") bytes (checkpoint_of bytes) _ r (checkpoint_takes version bytes r) (λ o. choose version word (codes "kill") bytes (kill_in version bytes) None r (kill_in_takes version bytes r) (λ (none : None ≡ Some r). absurd cc) o) o) o) o) o) o) o) o) o) e
 
-record_takes : (text : List ℕ) (r : Record) → record_at text ≡ Some r → IsTale text r
+record_takes : (version : Version) (text : List ℕ) (r : Record) → record_at version text ≡ Some r → IsTale version text r
 unfolding record_at
-record_takes text r e =
-    let a = bind_some (field_at text) (λ word. told_by word.0 word.1) r e in
-    let t = told_by_takes a.0.0 a.0.1 r a.2 in
+record_takes version text r e =
+    let a = bind_some (field_at text) (λ word. told_by version word.0 word.1) r e in
+    let t = told_by_takes version a.0.0 a.0.1 r a.2 in
     (t.0, cut_takes 32 text a.0 a.1 ∙ t.1)
 
-record_again : (r : Record) → IsRecord One r → IsTellable r → record_at (record_text r) ≡ Some r
+record_again : (version : Version) (r : Record) → IsRecord version r → IsTellable r → record_at version (record_text r) ≡ Some r
 unfolding record_at told_by
-record_again (Define limit error name) h t = define_again limit error name h
-record_again (Register queue name) h t = register_again queue name h
-record_again (Deregister queue name) h t = deregister_again queue name h
-record_again (Begin unit) h t = begin_again unit h
-record_again (Enqueue unit queue priority by payload) h t = enqueue_again unit queue priority by payload h t
-record_again (Dequeue unit queue by) h t = dequeue_again unit queue by h t
-record_again (Commit unit) h t = commit_again unit h
-record_again (Abort unit) h t = abort_again unit h
-record_again (Checkpoint bytes) h t = checkpoint_again bytes h t
-record_again (Kill queue element) h t = absurd h
+record_again version (Define limit error name) h t = define_again version limit error name h
+record_again version (Register queue name) h t = register_again version queue name h
+record_again version (Deregister queue name) h t = deregister_again version queue name h
+record_again version (Begin unit) h t = begin_again version unit h
+record_again version (Enqueue unit queue priority by payload) h t = enqueue_again version unit queue priority by payload h t
+record_again version (Dequeue unit queue by) h t = dequeue_again version unit queue by h t
+record_again version (Commit unit) h t = commit_again version unit h
+record_again version (Abort unit) h t = abort_again version unit h
+record_again version (Checkpoint bytes) h t = checkpoint_again version bytes h t
+record_again One (Kill queue element) h t = absurd h
+record_again Two (Kill queue element) h t = kill_again queue element h
 
 is_told : (r : Record) → bytes_eq (record_text r) (codes "checkpoint") ≡ false
 is_told (Define limit error name) = refl
@@ -259,35 +278,35 @@ is_told (Abort unit) = refl
 is_told (Checkpoint bytes) = refl
 is_told (Kill queue element) = refl
 
-pub line_takes : (text : List ℕ) (l : Line) → line_at text ≡ Some l → Tells l text
+pub line_takes : (version : Version) (text : List ℕ) (l : Line) → line_at version text ≡ Some l → Tells version l text
 unfolding told_line
-line_takes text l e =
-    elim (chosen (bytes_eq text (codes "checkpoint")) (Some Spelled) (told_line text) (Some l) e) [
-      | inl a ↦ subst (λ (m : Line). Tells m text) (some_is _ _ a.1) (tt, (bytes_eq-Decides text (codes "checkpoint")).0 a.0)
+line_takes version text l e =
+    elim (chosen (bytes_eq text (codes "checkpoint")) (Some Spelled) (told_line version text) (Some l) e) [
+      | inl a ↦ subst (λ (m : Line). Tells version m text) (some_is _ _ a.1) (tt, (bytes_eq-Decides text (codes "checkpoint")).0 a.0)
       | inr b ↦
-          let c = bind_some (record_at text) (λ r. Some (Told r)) l b.1 in
-          subst (λ (m : Line). Tells m text) (some_is _ _ c.2) (record_takes text c.0 c.1)
+          let c = bind_some (record_at version text) (λ r. Some (Told r)) l b.1 in
+          subst (λ (m : Line). Tells version m text) (some_is _ _ c.2) (record_takes version text c.0 c.1)
     ]
 
-pub line_again : (l : Line) → IsLine l → line_at (line_text l) ≡ Some l
+pub line_again : (version : Version) (l : Line) → IsLine version l → line_at version (line_text l) ≡ Some l
 unfolding told_line
-line_again Spelled h = refl
-line_again (Told r) h = rw (is_told r, record_again r h.0 h.1) refl
+line_again version Spelled h = refl
+line_again version (Told r) h = rw (is_told r, record_again version r h.0 h.1) refl
 
 -- what the reader gives is what the relation asks for
-pub reads : (text : List ℕ) (r : Result code.Line Fault) → Gives line_of r (line_at text) → Reads text r
-reads text (Ok l) g = line_takes text (line_of l) g
-reads text (Err faults.Form) g = λ l t. let found : line_at text ≡ Some l = ap line_at t.1 ∙ line_again l t.0 in absurd cc
-reads text (Err faults.Resources) g = tt
-reads text (Err faults.NotALog) g = absurd g
-reads text (Err faults.TooLong) g = absurd g
-reads text (Err faults.TooLarge) g = absurd g
-reads text (Err faults.BadCheckpoint) g = absurd g
-reads text (Err faults.NoCheckpoint) g = absurd g
-reads text (Err (faults.Script n)) g = absurd g
-reads text (Err faults.ReadFailed) g = absurd g
-reads text (Err faults.WriteFailed) g = absurd g
+pub reads : (version : Version) (text : List ℕ) (r : Result code.Line Fault) → Gives line_of r (line_at version text) → Reads version text r
+reads version text (Ok l) g = line_takes version text (line_of l) g
+reads version text (Err faults.Form) g = λ l t. let found : line_at version text ≡ Some l = ap (line_at version) t.1 ∙ line_again version l t.0 in absurd cc
+reads version text (Err faults.Resources) g = tt
+reads version text (Err faults.NotALog) g = absurd g
+reads version text (Err faults.TooLong) g = absurd g
+reads version text (Err faults.TooLarge) g = absurd g
+reads version text (Err faults.BadCheckpoint) g = absurd g
+reads version text (Err faults.NoCheckpoint) g = absurd g
+reads version text (Err (faults.Script n)) g = absurd g
+reads version text (Err faults.ReadFailed) g = absurd g
+reads version text (Err faults.WriteFailed) g = absurd g
 
 -- a text tells at most one line
-pub one_line : (l m : Line) (text : List ℕ) → Tells l text → Tells m text → l ≡ m
-one_line l m text s t = some_is l m (sym (ap line_at s.1 ∙ line_again l s.0) ∙ ap line_at t.1 ∙ line_again m t.0)
+pub one_line : (version : Version) (l m : Line) (text : List ℕ) → Tells version l text → Tells version m text → l ≡ m
+one_line version l m text s t = some_is l m (sym (ap (line_at version) s.1 ∙ line_again version l s.0) ∙ ap (line_at version) t.1 ∙ line_again version m t.0)

@@ -3,7 +3,7 @@ use Rattle.std.proofs.Common.{◌≡◌, ℕ, ◌+◌, ◌-◌, ◌<◌, ◌≤�
 use Rattle.std.specs.Prelude.{⊤, OnOk, IfErr}
 use Rattle.std.specs.List.{AllByRecursion}
 use Rattle.std.proofs.lemmas.List.{nil_from_length, length-append, drop_at, append-nil, flat_map_more}
-use Rattle.rq_model.specs.Records.{Record, One}
+use Rattle.rq_model.specs.Records.{Record, Version}
 use Rattle.rq_model.specs.Spelling.{IsRecord, body_of}
 use Rattle.rq_model.specs.Frames.{log_limit, frame, start, magic, header, log_of, last_of}
 use Rattle.rq_model.specs.LogLaws.{LogJoins, LogEnds}
@@ -14,7 +14,7 @@ use Rattle.rq_record.specs.Writing.{Appends}
 use Rattle.rq_record.specs.declared.fault.Fault.{Fault}
 use Rattle.rq_record.specs.declared.fault.Fault.TheVariants as faults
 use Rattle.rq_record.specs.declared.record.Record as code
-use Rattle.rq_writer.specs.Script.{Line, Spelled, IsLine, Tells, line_text}
+use Rattle.rq_writer.specs.Script.{Line, Told, Spelled, IsLine, Tells, line_text}
 use Rattle.rq_writer.specs.Reading.{cut_at}
 use Rattle.rq_writer.specs.Made.{Adds, AreAdded, Begins, Made, script_of, ended}
 use Rattle.rq_writer.specs.Fronts.{Follows, SpellsFront}
@@ -29,27 +29,27 @@ use Rattle.rq_writer.proofs.Ends.{no_lf, no_tale}
 tail_is : (front d : List ℕ) → length d ≡ 32 → drop (length (front ++ d) - 32) (front ++ d) ≡ d
 tail_is front d len = drop_at front d (length (front ++ d) - 32) (omega (arith, len, length-append front d))
 
-pub log_tail : LogEnds → (rs : List Record) (out : List ℕ) → out ≡ log_of One rs → drop (length out - 32) out ≡ last_of (start One) rs
-log_tail ends rs out e =
-    let end = ends One rs in
-    ap (λ (l : List ℕ). drop (length l - 32) l) (e ∙ end.1) ∙ tail_is end.0 (last_of (start One) rs) end.2
+pub log_tail : (version : Version) → LogEnds → (rs : List Record) (out : List ℕ) → out ≡ log_of version rs → drop (length out - 32) out ≡ last_of (start version) rs
+log_tail version ends rs out e =
+    let end = ends version rs in
+    ap (λ (l : List ℕ). drop (length l - 32) l) (e ∙ end.1) ∙ tail_is end.0 (last_of (start version) rs) end.2
 
 pub log_long : (old p body out : List ℕ) → out ≡ old ++ frame p body → 32 ≤ length out
 log_long old p body out e = omega (arith, ap length e, length-append old (frame p body), frame_long p body)
 
 -- The log without records.
 
-pub header_length : length (header One) ≡ 40
-header_length = omega (arith, length-append (magic One) (start One), length-sha256 (magic One))
+pub header_length : (version : Version) → length (header version) ≡ 40
+header_length version = omega (arith, length-append (magic version) (start version), length-sha256 (magic version))
 
-none_is_header : header One ≡ log_of One []
-none_is_header = sym (append-nil (header One))
+none_is_header : (version : Version) → header version ≡ log_of version []
+none_is_header version = sym (append-nil (header version))
 
-pub starts : LogEnds → (log : Log) → log.out.items ≡ header One → log.last ≡ drop (length log.out.items - 32) log.out.items → Follows log.front [] → Holds log []
-starts ends log out last front = record {
-  made = out ∙ none_is_header;
-  last = last ∙ log_tail ends [] log.out.items (out ∙ none_is_header);
-  logged = record { records = tt; fits = omega (arith, header_length, length-append (header One) []) };
+pub starts : (version : Version) → LogEnds → (log : Log) → log.out.items ≡ header version → log.last ≡ drop (length log.out.items - 32) log.out.items → Follows version log.front [] → Holds version log []
+starts version ends log out last front = record {
+  made = out ∙ none_is_header version;
+  last = last ∙ log_tail version ends [] log.out.items (out ∙ none_is_header version);
+  logged = record { records = tt; fits = omega (arith, header_length version, length-append (header version) []) };
   front = front;
 }
 
@@ -61,119 +61,124 @@ long_log old p body h = omega (arith, h, length-append old (frame p body), frame
 short_log : (old p body : List ℕ) → length old + length body + 36 ≤ 4294967295 → length (old ++ frame p body) ≤ 4294967295
 short_log old p body h = omega (arith, h, length-append old (frame p body), frame_long p body)
 
-pub framed_from : {A : Type 0} (old new p body : List ℕ) (r : Record) (res : Result A Fault) → Appends old new (frame p body) res → body ≡ body_of r → IsRecord One r → length old + length body + 36 ≤ 4294967295 → Framed old new p r res
-framed_from old new p body r (Ok x) a e is short =
+pub framed_from : {A : Type 0} (old new p body : List ℕ) (r : Record) (res : Result A Fault) → Appends old new (frame p body) res → body ≡ body_of r → length old + length body + 36 ≤ 4294967295 → Framed old new p r res
+framed_from old new p body r (Ok x) a e short =
     let grown : new ≡ old ++ frame p (body_of r) = a ∙ ap (λ (b : List ℕ). old ++ frame p b) e in
-    (is, grown, omega (arith, short_log old p body short, ap length a))
-framed_from {A} old new p body r (Err f) a e is short = subst (λ (g : Fault). Framed {A = A} old new p r (Err g)) (sym a.0) tt
+    (grown, omega (arith, short_log old p body short, ap length a))
+framed_from {A} old new p body r (Err f) a e short = subst (λ (g : Fault). Framed {A = A} old new p r (Err g)) (sym a.0) tt
 
-pub log_added : LogJoins → (rs : List Record) (r : Record) → log_of One (rs ++ r ∷ []) ≡ log_of One rs ++ frame (last_of (start One) rs) (body_of r)
-log_added joins rs r = joins One rs (r ∷ []) ∙ ap (λ (l : List ℕ). log_of One rs ++ l) (append-nil (frame (last_of (start One) rs) (body_of r)))
+pub log_added : (version : Version) → LogJoins → (rs : List Record) (r : Record) → log_of version (rs ++ r ∷ []) ≡ log_of version rs ++ frame (last_of (start version) rs) (body_of r)
+log_added version joins rs r = joins version rs (r ∷ []) ∙ ap (λ (l : List ℕ). log_of version rs ++ l) (append-nil (frame (last_of (start version) rs) (body_of r)))
 
-framed_log : LogJoins → (log : Log) (rs : List Record) (r : Record) → Holds log rs → log.out.items ++ frame log.last (body_of r) ≡ log_of One (rs ++ r ∷ [])
-framed_log joins log rs r h = (λ i. h.made i ++ frame (h.last i) (body_of r)) ∙ sym (log_added joins rs r)
+framed_log : (version : Version) → LogJoins → (log : Log) (rs : List Record) (r : Record) → Holds version log rs → log.out.items ++ frame log.last (body_of r) ≡ log_of version (rs ++ r ∷ [])
+framed_log version joins log rs r h = (λ i. h.made i ++ frame (h.last i) (body_of r)) ∙ sym (log_added version joins rs r)
 
 -- One record.
 
-pub spelled_record : (number : ℕ) (text : List ℕ) (old new : Front) (res : Result code.Record Fault) → Tells Spelled text → SpellsFront old new res → RecordOf number text old new res
-spelled_record number text old new (Ok r) is s = (Spelled, is, s)
-spelled_record number text old new (Err faults.TooLarge) is s = (is.1, s)
-spelled_record number text old new (Err faults.Resources) is s = tt
-spelled_record number text old new (Err faults.Form) is s = absurd s
-spelled_record number text old new (Err faults.NotALog) is s = absurd s
-spelled_record number text old new (Err faults.TooLong) is s = absurd s
-spelled_record number text old new (Err faults.BadCheckpoint) is s = absurd s
-spelled_record number text old new (Err faults.NoCheckpoint) is s = absurd s
-spelled_record number text old new (Err (faults.Script n)) is s = absurd s
-spelled_record number text old new (Err faults.ReadFailed) is s = absurd s
-spelled_record number text old new (Err faults.WriteFailed) is s = absurd s
+pub spelled_record : (version : Version) (number : ℕ) (text : List ℕ) (old new : Front) (res : Result code.Record Fault) → Tells version Spelled text → SpellsFront version old new res → RecordOf version number text old new res
+spelled_record version number text old new (Ok r) is s = (Spelled, is, s)
+spelled_record version number text old new (Err faults.TooLarge) is s = (is.1, s)
+spelled_record version number text old new (Err faults.Resources) is s = tt
+spelled_record version number text old new (Err faults.Form) is s = absurd s
+spelled_record version number text old new (Err faults.NotALog) is s = absurd s
+spelled_record version number text old new (Err faults.TooLong) is s = absurd s
+spelled_record version number text old new (Err faults.BadCheckpoint) is s = absurd s
+spelled_record version number text old new (Err faults.NoCheckpoint) is s = absurd s
+spelled_record version number text old new (Err (faults.Script n)) is s = absurd s
+spelled_record version number text old new (Err faults.ReadFailed) is s = absurd s
+spelled_record version number text old new (Err faults.WriteFailed) is s = absurd s
 
-pub no_record : (A : Type 0) (number : ℕ) (text : List ℕ) (old new : Log) (front : Front) (e : Fault) → RecordOf number text old.front front (Err e) → LineMade {A = A} number text old new (Err e)
-no_record A number text old new front (faults.Script n) r = r
-no_record A number text old new front faults.TooLarge r = (r.0, λ rs h. r.1 rs h.front h.logged)
-no_record A number text old new front faults.Resources r = tt
-no_record A number text old new front faults.Form r = absurd r
-no_record A number text old new front faults.NotALog r = absurd r
-no_record A number text old new front faults.TooLong r = absurd r
-no_record A number text old new front faults.BadCheckpoint r = absurd r
-no_record A number text old new front faults.NoCheckpoint r = absurd r
-no_record A number text old new front faults.ReadFailed r = absurd r
-no_record A number text old new front faults.WriteFailed r = absurd r
+pub no_record : (version : Version) (A : Type 0) (number : ℕ) (text : List ℕ) (old new : Log) (front : Front) (e : Fault) → RecordOf version number text old.front front (Err e) → LineMade {A = A} version number text old new (Err e)
+no_record version A number text old new front (faults.Script n) r = r
+no_record version A number text old new front faults.TooLarge r = (r.0, λ rs h. r.1 rs h.front h.logged)
+no_record version A number text old new front faults.Resources r = tt
+no_record version A number text old new front faults.Form r = absurd r
+no_record version A number text old new front faults.NotALog r = absurd r
+no_record version A number text old new front faults.TooLong r = absurd r
+no_record version A number text old new front faults.BadCheckpoint r = absurd r
+no_record version A number text old new front faults.NoCheckpoint r = absurd r
+no_record version A number text old new front faults.ReadFailed r = absurd r
+no_record version A number text old new front faults.WriteFailed r = absurd r
 
-pub no_frame : (A B : Type 0) → LogJoins → (number : ℕ) (text : List ℕ) (old new : Log) (front : Front) (out : List ℕ) (r : code.Record) (e : Fault) → RecordOf number text old.front front (Ok r) → Framed {A = B} old.out.items out old.last (record_of r) (Err e) → LineMade {A = A} number text old new (Err e)
-no_frame A B joins number text old new front out r faults.TooLong line f =
-    (line.0, line.1, λ rs h. (record_of r, (line.2 rs h.front h.logged).1, subst (λ l. log_limit < length l) (framed_log joins old rs (record_of r) h) f))
-no_frame A B joins number text old new front out r faults.Resources line f = tt
-no_frame A B joins number text old new front out r faults.Form line f = absurd f
-no_frame A B joins number text old new front out r faults.NotALog line f = absurd f
-no_frame A B joins number text old new front out r faults.TooLarge line f = absurd f
-no_frame A B joins number text old new front out r faults.BadCheckpoint line f = absurd f
-no_frame A B joins number text old new front out r faults.NoCheckpoint line f = absurd f
-no_frame A B joins number text old new front out r (faults.Script n) line f = absurd f
-no_frame A B joins number text old new front out r faults.ReadFailed line f = absurd f
-no_frame A B joins number text old new front out r faults.WriteFailed line f = absurd f
+pub no_frame : (version : Version) (A B : Type 0) → LogJoins → (number : ℕ) (text : List ℕ) (old new : Log) (front : Front) (out : List ℕ) (r : code.Record) (e : Fault) → RecordOf version number text old.front front (Ok r) → Framed {A = B} old.out.items out old.last (record_of r) (Err e) → LineMade {A = A} version number text old new (Err e)
+no_frame version A B joins number text old new front out r faults.TooLong line f =
+    (line.0, line.1, λ rs h. (record_of r, (line.2 rs h.front h.logged).1, subst (λ l. log_limit < length l) (framed_log version joins old rs (record_of r) h) f))
+no_frame version A B joins number text old new front out r faults.Resources line f = tt
+no_frame version A B joins number text old new front out r faults.Form line f = absurd f
+no_frame version A B joins number text old new front out r faults.NotALog line f = absurd f
+no_frame version A B joins number text old new front out r faults.TooLarge line f = absurd f
+no_frame version A B joins number text old new front out r faults.BadCheckpoint line f = absurd f
+no_frame version A B joins number text old new front out r faults.NoCheckpoint line f = absurd f
+no_frame version A B joins number text old new front out r (faults.Script n) line f = absurd f
+no_frame version A B joins number text old new front out r faults.ReadFailed line f = absurd f
+no_frame version A B joins number text old new front out r faults.WriteFailed line f = absurd f
+
+-- what a line adds is a record of the version
+added_is_record : (version : Version) (rs : List Record) (l : Line) (r : Record) → IsLine version l → Adds version rs l r → IsRecord version r
+added_is_record version rs (Told told) r is same = subst (IsRecord version) (sym same) is.0
+added_is_record version rs Spelled r is adds = subst (IsRecord version) (sym adds.3) adds.2
 
 -- what a frame more makes of the log
-pub record IsNext (old new : Log) (front : Front) (r : Record) : Type 0 where
+pub record IsNext (version : Version) (old new : Log) (front : Front) (r : Record) : Type 0 where
   pub framed : Framed {A = ⊤} old.out.items new.out.items old.last r (Ok tt)
   pub last : new.last ≡ drop (length new.out.items - 32) new.out.items
-  pub front_is : (rs : List Record) → Follows front rs → Follows new.front (rs ++ r ∷ [])
+  pub front_is : (rs : List Record) → Follows version front rs → Follows version new.front (rs ++ r ∷ [])
 
-pub line_more : {A : Type 0} → LogJoins → LogEnds → (number : ℕ) (text : List ℕ) (old new : Log) (front : Front) (r : code.Record) (x : A) → RecordOf number text old.front front (Ok r) → IsNext old new front (record_of r) → LineMade number text old new (Ok x)
-line_more joins ends number text old new front r x line n = (line.0, line.1, λ rs h. next rs h (line.2 rs h.front h.logged))
+pub line_more : {A : Type 0} → (version : Version) → LogJoins → LogEnds → (number : ℕ) (text : List ℕ) (old new : Log) (front : Front) (r : code.Record) (x : A) → RecordOf version number text old.front front (Ok r) → IsNext version old new front (record_of r) → LineMade version number text old new (Ok x)
+line_more version joins ends number text old new front r x line n = (line.0, line.1, λ rs h. next rs h (line.2 rs h.front h.logged))
   where
-    next : (rs : List Record) → Holds old rs → Follows front rs × Adds rs line.0 (record_of r) → (s : Record) × Adds rs line.0 s × Holds new (rs ++ s ∷ [])
+    next : (rs : List Record) → Holds version old rs → Follows version front rs × Adds version rs line.0 (record_of r) → (s : Record) × Adds version rs line.0 s × Holds version new (rs ++ s ∷ [])
     next rs h f =
-        let made : new.out.items ≡ log_of One (rs ++ record_of r ∷ []) = n.framed.1 ∙ framed_log joins old rs (record_of r) h in (
+        let made : new.out.items ≡ log_of version (rs ++ record_of r ∷ []) = n.framed.0 ∙ framed_log version joins old rs (record_of r) h in (
           record_of r,
           f.1,
           record {
             made = made;
-            last = n.last ∙ log_tail ends (rs ++ record_of r ∷ []) new.out.items made;
+            last = n.last ∙ log_tail version ends (rs ++ record_of r ∷ []) new.out.items made;
             logged = record {
-              records = each_append (IsRecord One) rs (record_of r ∷ []) h.logged.records (n.framed.0, tt);
-              fits = subst (λ l. length l ≤ log_limit) made n.framed.2;
+              records = each_append (IsRecord version) rs (record_of r ∷ []) h.logged.records (added_is_record version rs line.0 (record_of r) line.1.0 f.1, tt);
+              fits = subst (λ l. length l ≤ log_limit) made n.framed.1;
             };
             front = n.front_is rs f.0;
           },
         )
 
-pub line_kept : {A : Type 0} → LogJoins → LogEnds → (number : ℕ) (text : List ℕ) (old new : Log) (front : Front) (r : code.Record) (res : Result A Fault) → RecordOf number text old.front front (Ok r) → Framed {A = ⊤} old.out.items new.out.items old.last (record_of r) (Ok tt)
-    → new.last ≡ drop (length new.out.items - 32) new.out.items → OnOk res ((rs : List Record) → Follows front rs → Follows new.front (rs ++ record_of r ∷ [])) → IfErr res (λ e. e ≡ faults.Resources) → LineMade number text old new res
-line_kept joins ends number text old new front r (Ok x) line framed last kept refused = line_more joins ends number text old new front r x line (record { framed = framed; last = last; front_is = kept })
-line_kept {A} joins ends number text old new front r (Err e) line framed last kept refused = subst (λ f. LineMade {A = A} number text old new (Err f)) (sym refused) tt
+pub line_kept : {A : Type 0} → (version : Version) → LogJoins → LogEnds → (number : ℕ) (text : List ℕ) (old new : Log) (front : Front) (r : code.Record) (res : Result A Fault) → RecordOf version number text old.front front (Ok r) → Framed {A = ⊤} old.out.items new.out.items old.last (record_of r) (Ok tt)
+    → new.last ≡ drop (length new.out.items - 32) new.out.items → OnOk res ((every : Version) (rs : List Record) → Follows every front rs → Follows every new.front (rs ++ record_of r ∷ [])) → IfErr res (λ e. e ≡ faults.Resources) → LineMade version number text old new res
+line_kept version joins ends number text old new front r (Ok x) line framed last kept refused = line_more version joins ends number text old new front r x line (record { framed = framed; last = last; front_is = kept version })
+line_kept {A} version joins ends number text old new front r (Err e) line framed last kept refused = subst (λ f. LineMade {A = A} version number text old new (Err f)) (sym refused) tt
 
 -- One line.
 
-added_more : (before : List Record) (ls : List Line) (l : Line) (rs : List Record) (r : Record) → AreAdded before ls rs → Adds rs l r → AreAdded before (ls ++ l ∷ []) (rs ++ r ∷ [])
-added_more before [] l rs r h a = (r, subst (λ x. Adds x l r) h a, ap (λ x. x ++ r ∷ []) h)
-added_more before (m ∷ ls) l rs r h a = (h.0, h.1, added_more (before ++ h.0 ∷ []) ls l rs r h.2 a)
+added_more : (version : Version) (before : List Record) (ls : List Line) (l : Line) (rs : List Record) (r : Record) → AreAdded version before ls rs → Adds version rs l r → AreAdded version before (ls ++ l ∷ []) (rs ++ r ∷ [])
+added_more version before [] l rs r h a = (r, subst (λ x. Adds version x l r) h a, ap (λ x. x ++ r ∷ []) h)
+added_more version before (m ∷ ls) l rs r h a = (h.0, h.1, added_more version (before ++ h.0 ∷ []) ls l rs r h.2 a)
 
-told_more : (ls : List Line) (l : Line) → AllByRecursion IsLine ls → IsLine l → AllByRecursion IsLine (ls ++ l ∷ [])
-told_more [] l all one = (one, tt)
-told_more (m ∷ ls) l all one = (all.0, told_more ls l all.1 one)
+told_more : (version : Version) (ls : List Line) (l : Line) → AllByRecursion (IsLine version) ls → IsLine version l → AllByRecursion (IsLine version) (ls ++ l ∷ [])
+told_more version [] l all one = (one, tt)
+told_more version (m ∷ ls) l all one = (all.0, told_more version ls l all.1 one)
 
 line_is : (rest : List ℕ) (x : List ℕ × List ℕ) (l : Line) → Some x ≡ cut_at 10 rest → x.0 ≡ line_text l → rest ≡ ended l ++ x.1
 line_is rest x l found e = cut_takes 10 rest x (sym found) ∙ ap (λ (t : List ℕ). t ++ 10 ∷ x.1) e ∙ sym (append_assoc (line_text l) (10 ∷ []) x.1)
 
-pub making_starts : (script : List ℕ) (log : Log) → Holds log [] → Making script 0 log script [] []
-making_starts script log h = record {
+pub making_starts : (version : Version) (script : List ℕ) (log : Log) → Holds version log [] → Making version script 0 log script [] []
+making_starts version script log h = record {
   begins = record { lines = tt; whole = refl; added = refl; fits = h.logged.fits };
   number = refl;
   small = omega arith;
   holds = h;
 }
 
-pub making_more : (script : List ℕ) (n : ℕ) (old new : Log) (rest : List ℕ) (x : List ℕ × List ℕ) (ls : List Line) (rs : List Record) (l : Line) (r : Record) → Making script n old rest ls rs → Some x ≡ cut_at 10 rest → Tells l x.0 → Adds rs l r → Holds new (rs ++ r ∷ [])
-    → Making script (n + 1) new x.1 (ls ++ l ∷ []) (rs ++ r ∷ [])
-making_more script n old new rest x ls rs l r m found tells adds h =
+pub making_more : (version : Version) (script : List ℕ) (n : ℕ) (old new : Log) (rest : List ℕ) (x : List ℕ × List ℕ) (ls : List Line) (rs : List Record) (l : Line) (r : Record) → Making version script n old rest ls rs → Some x ≡ cut_at 10 rest → Tells version l x.0 → Adds version rs l r → Holds version new (rs ++ r ∷ [])
+    → Making version script (n + 1) new x.1 (ls ++ l ∷ []) (rs ++ r ∷ [])
+making_more version script n old new rest x ls rs l r m found tells adds h =
     let here : rest ≡ ended l ++ x.1 = line_is rest x l found tells.1 in
     let cut : rest ≡ x.0 ++ 10 ∷ x.1 = cut_takes 10 rest x (sym found) in
     record {
       begins = record {
-        lines = told_more ls l m.begins.lines tells.0;
+        lines = told_more version ls l m.begins.lines tells.0;
         whole = m.begins.whole ∙ ap (λ (t : List ℕ). script_of ls ++ t) here ∙ sym (append_assoc (script_of ls) (ended l) x.1) ∙ ap (λ (t : List ℕ). t ++ x.1) (flat_map_more ended [] ls l);
-        added = added_more [] ls l rs r m.begins.added adds;
+        added = added_more version [] ls l rs r m.begins.added adds;
         fits = h.logged.fits;
       };
       number = omega (arith, m.number, length-append ls (l ∷ []));
@@ -181,39 +186,39 @@ making_more script n old new rest x ls rs l r m found tells adds h =
       holds = h;
     }
 
-pub making_ends : (script : List ℕ) (n : ℕ) (log : Log) (rest : List ℕ) (ls : List Line) (rs : List Record) → Making script n log rest ls rs → length rest ≡ 0 → Begins script ls rs [] × (log.out.items ≡ log_of One rs)
-making_ends script n log rest ls rs m none = (subst (λ (t : List ℕ). Begins script ls rs t) (nil_from_length rest none) m.begins, m.holds.made)
+pub making_ends : (version : Version) (script : List ℕ) (n : ℕ) (log : Log) (rest : List ℕ) (ls : List Line) (rs : List Record) → Making version script n log rest ls rs → length rest ≡ 0 → Begins version script ls rs [] × (log.out.items ≡ log_of version rs)
+making_ends version script n log rest ls rs m none = (subst (λ (t : List ℕ). Begins version script ls rs t) (nil_from_length rest none) m.begins, m.holds.made)
 
-pub no_line_stops : {X : Type 0} (view : X → List ℕ × List ℕ) {Y : Type 0} (bytes : Y → List ℕ) (script : List ℕ) (n : ℕ) (log : Log) (rest : List ℕ) (ls : List Line) (rs : List Record) (e : Fault) → Making script n log rest ls rs → 0 < length rest → NextLine view (n + 1) rest (Err e) → Made bytes script (Err e)
-no_line_stops view bytes script n log rest ls rs (faults.Script k) m some stop =
-    (ls, rs, rest, record { begins = m.begins; some = some; none = no_lf rest stop.1; is = omega (arith, stop.0, m.number) })
-no_line_stops view bytes script n log rest ls rs faults.Form m some stop = absurd stop
-no_line_stops view bytes script n log rest ls rs faults.NotALog m some stop = absurd stop
-no_line_stops view bytes script n log rest ls rs faults.TooLong m some stop = absurd stop
-no_line_stops view bytes script n log rest ls rs faults.TooLarge m some stop = absurd stop
-no_line_stops view bytes script n log rest ls rs faults.BadCheckpoint m some stop = absurd stop
-no_line_stops view bytes script n log rest ls rs faults.Resources m some stop = absurd stop
-no_line_stops view bytes script n log rest ls rs faults.NoCheckpoint m some stop = absurd stop
-no_line_stops view bytes script n log rest ls rs faults.ReadFailed m some stop = absurd stop
-no_line_stops view bytes script n log rest ls rs faults.WriteFailed m some stop = absurd stop
+pub no_line_stops : {X : Type 0} (version : Version) (view : X → List ℕ × List ℕ) {Y : Type 0} (bytes : Y → List ℕ) (script : List ℕ) (n : ℕ) (log : Log) (rest : List ℕ) (ls : List Line) (rs : List Record) (e : Fault) → Making version script n log rest ls rs → 0 < length rest → NextLine view (n + 1) rest (Err e) → Made version bytes script (Err e)
+no_line_stops version view bytes script n log rest ls rs (faults.Script k) m some stop =
+    (ls, rs, rest, record { begins = m.begins; some = some; none = no_lf version rest stop.1; is = omega (arith, stop.0, m.number) })
+no_line_stops version view bytes script n log rest ls rs faults.Form m some stop = absurd stop
+no_line_stops version view bytes script n log rest ls rs faults.NotALog m some stop = absurd stop
+no_line_stops version view bytes script n log rest ls rs faults.TooLong m some stop = absurd stop
+no_line_stops version view bytes script n log rest ls rs faults.TooLarge m some stop = absurd stop
+no_line_stops version view bytes script n log rest ls rs faults.BadCheckpoint m some stop = absurd stop
+no_line_stops version view bytes script n log rest ls rs faults.Resources m some stop = absurd stop
+no_line_stops version view bytes script n log rest ls rs faults.NoCheckpoint m some stop = absurd stop
+no_line_stops version view bytes script n log rest ls rs faults.ReadFailed m some stop = absurd stop
+no_line_stops version view bytes script n log rest ls rs faults.WriteFailed m some stop = absurd stop
 
-pub line_stops : (A : Type 0) {Y : Type 0} (bytes : Y → List ℕ) (script : List ℕ) (n : ℕ) (old new : Log) (rest : List ℕ) (x : List ℕ × List ℕ) (ls : List Line) (rs : List Record) (e : Fault) → Making script n old rest ls rs → 0 < length rest → Some x ≡ cut_at 10 rest → LineMade {A = A} (n + 1) x.0 old new (Err e) → Made bytes script (Err e)
-line_stops A bytes script n old new rest x ls rs (faults.Script k) m some found stop =
-    (ls, rs, rest, record { begins = m.begins; some = some; none = no_tale rest x found stop.1; is = omega (arith, stop.0, m.number) })
-line_stops A bytes script n old new rest x ls rs faults.TooLarge m some found stop =
+pub line_stops : (version : Version) (A : Type 0) {Y : Type 0} (bytes : Y → List ℕ) (script : List ℕ) (n : ℕ) (old new : Log) (rest : List ℕ) (x : List ℕ × List ℕ) (ls : List Line) (rs : List Record) (e : Fault) → Making version script n old rest ls rs → 0 < length rest → Some x ≡ cut_at 10 rest → LineMade {A = A} version (n + 1) x.0 old new (Err e) → Made version bytes script (Err e)
+line_stops version A bytes script n old new rest x ls rs (faults.Script k) m some found stop =
+    (ls, rs, rest, record { begins = m.begins; some = some; none = no_tale version rest x found stop.1; is = omega (arith, stop.0, m.number) })
+line_stops version A bytes script n old new rest x ls rs faults.TooLarge m some found stop =
     let large = stop.1 rs m.holds in
-    (ls, rs, x.1, large.0, record { begins = subst (λ (t : List ℕ). Begins script ls rs t) (line_is rest x Spelled found stop.0) m.begins; state = large.1; long = large.2 })
-line_stops A bytes script n old new rest x ls rs faults.TooLong m some found stop =
+    (ls, rs, x.1, large.0, record { begins = subst (λ (t : List ℕ). Begins version script ls rs t) (line_is rest x Spelled found stop.0) m.begins; state = large.1; long = large.2 })
+line_stops version A bytes script n old new rest x ls rs faults.TooLong m some found stop =
     let l = stop.0 in
     let more = stop.2 rs m.holds in
-    (ls, rs, l, more.0, x.1, record { begins = subst (λ (t : List ℕ). Begins script ls rs t) (line_is rest x l found stop.1.1) m.begins; line = stop.1.0; adds = more.1; long = more.2 })
-line_stops A bytes script n old new rest x ls rs faults.Resources m some found stop = tt
-line_stops A bytes script n old new rest x ls rs faults.Form m some found stop = absurd stop
-line_stops A bytes script n old new rest x ls rs faults.NotALog m some found stop = absurd stop
-line_stops A bytes script n old new rest x ls rs faults.BadCheckpoint m some found stop = absurd stop
-line_stops A bytes script n old new rest x ls rs faults.NoCheckpoint m some found stop = absurd stop
-line_stops A bytes script n old new rest x ls rs faults.ReadFailed m some found stop = absurd stop
-line_stops A bytes script n old new rest x ls rs faults.WriteFailed m some found stop = absurd stop
+    (ls, rs, l, more.0, x.1, record { begins = subst (λ (t : List ℕ). Begins version script ls rs t) (line_is rest x l found stop.1.1) m.begins; line = stop.1.0; adds = more.1; long = more.2 })
+line_stops version A bytes script n old new rest x ls rs faults.Resources m some found stop = tt
+line_stops version A bytes script n old new rest x ls rs faults.Form m some found stop = absurd stop
+line_stops version A bytes script n old new rest x ls rs faults.NotALog m some found stop = absurd stop
+line_stops version A bytes script n old new rest x ls rs faults.BadCheckpoint m some found stop = absurd stop
+line_stops version A bytes script n old new rest x ls rs faults.NoCheckpoint m some found stop = absurd stop
+line_stops version A bytes script n old new rest x ls rs faults.ReadFailed m some found stop = absurd stop
+line_stops version A bytes script n old new rest x ls rs faults.WriteFailed m some found stop = absurd stop
 
 pub nonzero : (l : List ℕ) → (length l ≡ 0 → ⊥) → 0 < length l
 nonzero l h = omega (arith, h)

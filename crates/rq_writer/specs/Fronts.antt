@@ -1,7 +1,7 @@
 -- The front of the log that is being made.
 use Rattle.std.specs.Prelude.{◌≡◌, ◌<◌, ◌≤◌, Bool, true, false, ⊤, List, ◌∷◌, ◌++◌, length, map, Result, Ok, Err}
 use Rattle.std.specs.List.{AllByRecursion}
-use Rattle.rq_model.specs.Records.{Record, One}
+use Rattle.rq_model.specs.Records.{Record, Version}
 use Rattle.rq_model.specs.Spelling.{IsRecord}
 use Rattle.rq_model.specs.Frames.{log_limit, log_of}
 use Rattle.rq_model.specs.States.{State, empty}
@@ -16,24 +16,24 @@ use Rattle.rq_writer.specs.Script.{Spelled}
 use Rattle.rq_writer.specs.declared.front.Front.{Front}
 
 -- the state is that after the first records, and the others stand behind; or the first of the others is unlawful
-abbrev pub Splits : State → List Record → Bool → List Record → Type 0
-Splits s since false rs = (done : List Record) × (rs ≡ done ++ since) × (all_lawful One empty done ≡ true) × (s ≡ run empty done)
-Splits s since true rs =
-    (done : List Record) × (first : Record) × (more : List Record) × (rs ≡ done ++ first ∷ more) × (all_lawful One empty done ≡ true)
-    × (is_lawful One s first ≡ false) × (s ≡ run empty done)
+abbrev pub Splits : Version → State → List Record → Bool → List Record → Type 0
+Splits version s since false rs = (done : List Record) × (rs ≡ done ++ since) × (all_lawful version empty done ≡ true) × (s ≡ run empty done)
+Splits version s since true rs =
+    (done : List Record) × (first : Record) × (more : List Record) × (rs ≡ done ++ first ∷ more) × (all_lawful version empty done ≡ true)
+    × (is_lawful version s first ≡ false) × (s ≡ run empty done)
 
 -- the front of the log of the records
-abbrev pub Follows : Front → List Record → Type 0
-Follows front rs = Splits front.state (map record_of front.since.items) front.ended rs
+abbrev pub Follows : Version → Front → List Record → Type 0
+Follows version front rs = Splits version front.state (map record_of front.since.items) front.ended rs
 
 -- records that have a log
-pub record AreLogged (rs : List Record) : Type 0 where
-  pub records : AllByRecursion (IsRecord One) rs
-  pub fits : length (log_of One rs) ≤ log_limit
+pub record AreLogged (version : Version) (rs : List Record) : Type 0 where
+  pub records : AllByRecursion (IsRecord version) rs
+  pub fits : length (log_of version rs) ≤ log_limit
 
 -- a checkpoint of the state after the front
-abbrev pub SpellsFront : Front → Front → Result code.Record Fault → Type 0
-SpellsFront old new (Ok r) = (rs : List Record) → Follows old rs → AreLogged rs → Follows new rs × Adds rs Spelled (record_of r)
-SpellsFront old new (Err faults.TooLarge) = (rs : List Record) → Follows old rs → AreLogged rs → (s : State) × IsStateOf rs s × (spelling_limit < length (state_bytes s))
-SpellsFront old new (Err faults.Resources) = ⊤
-SpellsFront old new (Err _) = ⊥
+abbrev pub SpellsFront : Version → Front → Front → Result code.Record Fault → Type 0
+SpellsFront version old new (Ok r) = (rs : List Record) → Follows version old rs → AreLogged version rs → Follows version new rs × Adds version rs Spelled (record_of r)
+SpellsFront version old new (Err faults.TooLarge) = (rs : List Record) → Follows version old rs → AreLogged version rs → (s : State) × IsStateOf version rs s × (spelling_limit < length (state_bytes s))
+SpellsFront version old new (Err faults.Resources) = ⊤
+SpellsFront version old new (Err _) = ⊥

@@ -9,7 +9,7 @@ use Rattle.rq_record.specs.declared.fault.Fault.{Fault}
 use Rattle.rq_record.specs.declared.fault.Fault.TheVariants as faults
 use Rattle.rq_model.specs.Records.{By}
 use Rattle.rq_model.specs.Records.{Record}
-use Rattle.rq_model.specs.Records.{Define, Register, Deregister, Begin, Enqueue, Dequeue, Commit, Abort, Checkpoint}
+use Rattle.rq_model.specs.Records.{Define, Register, Deregister, Begin, Enqueue, Dequeue, Commit, Abort, Checkpoint, Kill, Version, One, Two}
 use Rattle.rq_writer.specs.Script.{Line, Told, Spelled, Tells}
 use Rattle.rq_writer.specs.Views.{line_of}
 use Rattle.rq_writer.specs.declared.line.Line as code
@@ -136,9 +136,20 @@ checkpoint_of bytes = do
   kept ← hex_of 268435455 bytes
   Some (Checkpoint kept)
 
+unfoldable pub kill_of : List ℕ → Option Record
+kill_of bytes = do
+  queue ← number_at 4294967295 bytes
+  element ← number_of 18446744073709551615 queue.1
+  Some (Kill queue.0 element)
+
+-- version 1 has no line of it
+abbrev pub kill_in : Version → List ℕ → Option Record
+kill_in One bytes = None
+kill_in Two bytes = kill_of bytes
+
 -- the record that a first word and what stands behind it tell
-unfoldable pub told_by : List ℕ → List ℕ → Option Record
-told_by word bytes =
+unfoldable pub told_by : Version → List ℕ → List ℕ → Option Record
+told_by version word bytes =
     if bytes_eq word (codes "define") then define_of bytes
     else if bytes_eq word (codes "register") then register_of bytes
     else if bytes_eq word (codes "deregister") then deregister_of bytes
@@ -148,24 +159,25 @@ told_by word bytes =
     else if bytes_eq word (codes "commit") then commit_of bytes
     else if bytes_eq word (codes "abort") then abort_of bytes
     else if bytes_eq word (codes "checkpoint-hex") then checkpoint_of bytes
+    else if bytes_eq word (codes "kill") then kill_in version bytes
     else None
 
-unfoldable pub record_at : List ℕ → Option Record
-record_at text = do
+unfoldable pub record_at : Version → List ℕ → Option Record
+record_at version text = do
   word ← field_at text
-  told_by word.0 word.1
+  told_by version word.0 word.1
 
-unfoldable pub told_line : List ℕ → Option Line
-told_line text = do
-  r ← record_at text
+unfoldable pub told_line : Version → List ℕ → Option Line
+told_line version text = do
+  r ← record_at version text
   Some (Told r)
 
-abbrev pub line_at : List ℕ → Option Line
-line_at text = if bytes_eq text (codes "checkpoint") then Some Spelled else told_line text
+abbrev pub line_at : Version → List ℕ → Option Line
+line_at version text = if bytes_eq text (codes "checkpoint") then Some Spelled else told_line version text
 
 -- a line that the text tells, or Form where no line has this text
-abbrev pub Reads : List ℕ → Result code.Line Fault → Type 0
-Reads text (Ok l) = Tells (line_of l) text
-Reads text (Err faults.Form) = (l : Line) → Tells l text → ⊥
-Reads text (Err faults.Resources) = ⊤
-Reads text (Err _) = ⊥
+abbrev pub Reads : Version → List ℕ → Result code.Line Fault → Type 0
+Reads version text (Ok l) = Tells version (line_of l) text
+Reads version text (Err faults.Form) = (l : Line) → Tells version l text → ⊥
+Reads version text (Err faults.Resources) = ⊤
+Reads version text (Err _) = ⊥

@@ -2,7 +2,7 @@
 use Rattle.std.specs.Prelude.{◌≡◌, ℕ, ◌<◌, ⊤, List, ◌∷◌, ◌++◌, codes, Option, Some, None}
 use Rattle.std.specs.List.{AllByRecursion}
 use Rattle.std.specs.Fmt.{decimal}
-use Rattle.rq_model.specs.Records.{By, Record, Define, Register, Deregister, Begin, Enqueue, Dequeue, Commit, Abort, Checkpoint, Kill, One}
+use Rattle.rq_model.specs.Records.{By, Record, Define, Register, Deregister, Begin, Enqueue, Dequeue, Commit, Abort, Checkpoint, Kill, Version}
 use Rattle.rq_model.specs.Spelling.{IsRecord}
 use Rattle.rq_model.specs.Reports.{payload_text, error_text}
 
@@ -50,14 +50,14 @@ IsTellable (Dequeue unit queue by) = IsNamed by
 IsTellable (Checkpoint bytes) = AreBytes bytes
 IsTellable _ = ⊤
 
-abbrev pub IsLine : Line → Type 0
-IsLine (Told r) = IsRecord One r × IsTellable r
-IsLine Spelled = ⊤
+abbrev pub IsLine : Version → Line → Type 0
+IsLine version (Told r) = IsRecord version r × IsTellable r
+IsLine version Spelled = ⊤
 
 abbrev pub line_text : Line → List ℕ
 line_text (Told r) = record_text r
 line_text Spelled = codes "checkpoint"
 
 -- the text is that of the line
-abbrev pub Tells : Line → List ℕ → Type 0
-Tells l text = IsLine l × (text ≡ line_text l)
+abbrev pub Tells : Version → Line → List ℕ → Type 0
+Tells version l text = IsLine version l × (text ≡ line_text l)

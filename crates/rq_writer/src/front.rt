@@ -3,34 +3,36 @@
 ghost use Rattle.std.specs.Prelude.{◌≡◌, ◌+◌, ◌^◌, ◌<◌, ◌∷◌, ◌++◌, List, [], length, map, IfOk, IfErr, OnOk};
 ghost use Rattle.rq_model.specs.Machine.{lawful_front, run};
 ghost use Rattle.rq_model.specs.Records as model;
-ghost use Rattle.rq_model.specs.Records.{One};
 ghost use Rattle.rq_record.specs.declared.fault.Fault.TheVariants.{Resources};
-ghost use Rattle.rq_record.specs.Views.{record_of};
+ghost use Rattle.rq_record.specs.Views.{record_of, version_of};
 ghost use Rattle.rq_writer.specs.Fronts.{Follows, AreLogged, SpellsFront};
 ghost use Rattle.rq_writer.specs.Made.{IsStateOf};
 
-use rq_catalog::analyse;
+use rq_catalog::analyse_in;
 use rq_exchange::replay_analysed;
 use rq_pool::{Open, Plan};
-use rq_record::{CheckBytes, Fault, Record};
+use rq_record::{CheckBytes, Fault, Record, Version};
 use rq_state::{State, spell};
 use std::alloc::Global;
 use std::thread::Threads;
 
-/// The state behind those of the records that are lawful, each after those before it, and how many these are.
+/// The state behind those of the records that are lawful in the version, each after those before it, and how many these
+/// are.
 fn run_lawful<R: Threads + Sync>(
     rt: &R,
     alloc: Global,
+    version: Version,
     plan: &Plan,
     state: &State,
     records: &[Record],
 ) -> Result<(State, usize), Fault>
     requires fits { state.now.next + length records.now < 2 ^ 64 }
-    ensures state { IfOk result (λ found. found.0 ≡ run state.now (lawful_front One state.now (map record_of records.now))) }
-    ensures count { IfOk result (λ found. found.1 ≡ length (lawful_front One state.now (map record_of records.now))) }
+    ensures state { IfOk result (λ found. found.0 ≡ run state.now (lawful_front (version_of version) state.now (map record_of records.now))) }
+    ensures count { IfOk result (λ found. found.1 ≡ length (lawful_front (version_of version) state.now (map record_of records.now))) }
     ensures refused { IfErr result (λ e. e ≡ Resources) }
 {
-    let analysis = analyse(alloc, state, records)?;
+    rq_model::versions();
+    let analysis = analyse_in(alloc, version, state, records)?;
     let count = analysis.lawful();
     let lawful = &records[..count];
     let state = replay_analysed(rt, alloc, state, lawful, &analysis, plan, &Open)?;
@@ -49,7 +51,7 @@ pub(crate) struct Front {
 impl Front {
     /// That of a log without records.
     pub(crate) fn start(alloc: Global) -> Front
-        ensures { Follows result [] }
+        ensures { (version : model.Version) → Follows version result [] }
     {
         Front {
             state: State::empty(alloc),
@@ -60,7 +62,7 @@ impl Front {
 
     /// Takes the next record of the log.
     pub(crate) fn keep(&mut self, r: Record) -> Result<(), Fault>
-        ensures kept { OnOk result ((rs : List model.Record) → Follows self.old rs → Follows self.new (rs ++ record_of r ∷ [])) }
+        ensures kept { OnOk result ((version : model.Version) (rs : List model.Record) → Follows version self.old rs → Follows version self.new (rs ++ record_of r ∷ [])) }
         ensures refused { IfErr result (λ e. e ≡ Resources) }
     {
         if !self.ended {
@@ -74,10 +76,11 @@ impl Front {
         &mut self,
         rt: &R,
         alloc: Global,
+        version: Version,
         plan: &Plan,
     ) -> Result<(), Fault>
-        requires { (rs : List model.Record) × Follows self.old rs × AreLogged rs }
-        ensures state { OnOk result ((rs : List model.Record) → Follows self.old rs → AreLogged rs → Follows self.new rs × IsStateOf rs self.new.state) }
+        requires { (rs : List model.Record) × Follows (version_of version) self.old rs × AreLogged (version_of version) rs }
+        ensures state { OnOk result ((rs : List model.Record) → Follows (version_of version) self.old rs → AreLogged (version_of version) rs → Follows (version_of version) self.new rs × IsStateOf (version_of version) rs self.new.state) }
         ensures refused { IfErr result (λ e. e ≡ Resources) }
     {
         rq_model::one_front();
@@ -87,7 +90,7 @@ impl Front {
             return Ok(());
         }
         let since = self.since.as_slice();
-        let (state, count) = run_lawful(rt, alloc, plan, &self.state, since)?;
+        let (state, count) = run_lawful(rt, alloc, version, plan, &self.state, since)?;
         self.ended = count < since.len();
         self.state = state;
         self.since.clear();
@@ -100,12 +103,13 @@ impl Front {
         &mut self,
         rt: &R,
         alloc: Global,
+        version: Version,
         plan: &Plan,
     ) -> Result<Record, Fault>
-        requires { (rs : List model.Record) × Follows self.old rs × AreLogged rs }
-        ensures { SpellsFront self.old self.new result }
+        requires { (rs : List model.Record) × Follows (version_of version) self.old rs × AreLogged (version_of version) rs }
+        ensures { SpellsFront (version_of version) self.old self.new result }
     {
-        self.catch_up(rt, alloc, plan)?;
+        self.catch_up(rt, alloc, version, plan)?;
         match CheckBytes::new(spell(alloc, &self.state)?) {
             Some(bytes) => Ok(Record::Checkpoint { bytes }),
             None => Err(Fault::TooLarge),

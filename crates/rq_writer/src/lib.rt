@@ -11,4 +11,4 @@ mod making;
 mod reading;
 
 pub use decimals::decimal_number;
-pub use making::make;
+pub use making::{make, make_in};

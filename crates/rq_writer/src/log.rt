@@ -2,16 +2,16 @@
 
 ghost use Rattle.std.specs.Prelude.{◌≡◌, ◌+◌, ◌≤◌, ◌-◌, List, length, drop};
 ghost use Rattle.rq_model.specs.Records as model;
-ghost use Rattle.rq_record.specs.Views.{record_of};
+ghost use Rattle.rq_record.specs.Views.{record_of, version_of};
 ghost use Rattle.rq_writer.specs.Fronts.{Follows, AreLogged};
 ghost use Rattle.rq_writer.specs.Making.{Holds, RecordOf, Framed, LineMade, Starts};
 
 use crate::front::Front;
 use crate::line::Line;
 use crate::reading::read_line;
-use rq_front::{frame, header};
+use rq_front::{frame, header_of};
 use rq_pool::Plan;
-use rq_record::{Fault, Record, encode};
+use rq_record::{Fault, Record, Version, encode};
 use std::alloc::Global;
 use std::thread::Threads;
 
@@ -27,17 +27,18 @@ pub(crate) struct Log {
 fn record_at<R: Threads + Sync>(
     rt: &R,
     alloc: Global,
+    version: Version,
     plan: &Plan,
     number: u64,
     text: &[u8],
     front: &mut Front,
 ) -> Result<Record, Fault>
-    requires { (rs : List model.Record) × Follows front.old rs × AreLogged rs }
-    ensures { RecordOf number text.now front.old front.new result }
+    requires { (rs : List model.Record) × Follows (version_of version) front.old rs × AreLogged (version_of version) rs }
+    ensures { RecordOf (version_of version) number text.now front.old front.new result }
 {
-    match read_line(alloc, text) {
+    match read_line(alloc, version, text) {
         Ok(Line::Told(r)) => Ok(r),
-        Ok(Line::Spelled) => front.spelled(rt, alloc, plan),
+        Ok(Line::Spelled) => front.spelled(rt, alloc, version, plan),
         Err(Fault::Form) => Err(Fault::Script(number)),
         Err(fault) => Err(fault),
     }
@@ -76,12 +77,12 @@ fn append(alloc: Global, out: &mut Vec<u8>, last: &[u8; 32], r: &Record) -> Resu
 
 impl Log {
     /// The log without records: a header.
-    pub(crate) fn start(alloc: Global) -> Result<Log, Fault>
-        ensures { Starts result }
+    pub(crate) fn start(alloc: Global, version: Version) -> Result<Log, Fault>
+        ensures { Starts (version_of version) result }
     {
         rq_model::frames_join();
         let mut out = Vec::new(alloc);
-        header(&mut out)?;
+        header_of(version, &mut out)?;
         let last = last_32(&out);
         let front = Front::start(alloc);
         Ok(Log { out, last, front })
@@ -92,15 +93,16 @@ impl Log {
         &mut self,
         rt: &R,
         alloc: Global,
+        version: Version,
         plan: &Plan,
         number: u64,
         text: &[u8],
     ) -> Result<(), Fault>
-        requires { (rs : List model.Record) × Holds self.old rs }
-        ensures { LineMade number text.now self.old self.new result }
+        requires { (rs : List model.Record) × Holds (version_of version) self.old rs }
+        ensures { LineMade (version_of version) number text.now self.old self.new result }
     {
         rq_model::frames_join();
-        let r = record_at(rt, alloc, plan, number, text, &mut self.front)?;
+        let r = record_at(rt, alloc, version, plan, number, text, &mut self.front)?;
         append(alloc, &mut self.out, &self.last, &r)?;
         self.last = last_32(&self.out);
         self.front.keep(r)

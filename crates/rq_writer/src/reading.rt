@@ -1,7 +1,7 @@
 //! From a text to a line.
 
 ghost use Rattle.rq_record.specs.Reading.{Gives};
-ghost use Rattle.rq_record.specs.Views.{record_of};
+ghost use Rattle.rq_record.specs.Views.{record_of, version_of};
 ghost use Rattle.rq_writer.specs.Reading as spec;
 ghost use Rattle.rq_writer.specs.Reading.{Reads};
 ghost use Rattle.rq_writer.specs.Views.{line_of};
@@ -9,7 +9,7 @@ ghost use Rattle.rq_writer.specs.Views.{line_of};
 use crate::fields::{by, error, field, name, number, number_field, u32_field};
 use crate::hexes::{kept, payload};
 use crate::line::Line;
-use rq_record::{Fault, QueueNo, Record, UnitNo};
+use rq_record::{ElemId, Fault, QueueNo, Record, UnitNo, Version};
 use std::alloc::Global;
 
 #[tactic(auto, unfolding(crate::specs::Reading::define_of))]
@@ -126,9 +126,30 @@ fn checkpoint(alloc: Global, bytes: &[u8]) -> Result<Record, Fault>
     Ok(Record::Checkpoint { bytes })
 }
 
+#[tactic(auto, unfolding(crate::specs::Reading::kill_of))]
+fn kill(bytes: &[u8]) -> Result<Record, Fault>
+    ensures { Gives record_of result (spec.kill_of bytes.now) }
+{
+    let (queue, rest) = u32_field(bytes)?;
+    let element = number(u64::MAX, rest)?;
+    Ok(Record::Kill {
+        queue: QueueNo(queue),
+        element: ElemId(element),
+    })
+}
+
+fn kill_in(version: Version, bytes: &[u8]) -> Result<Record, Fault>
+    ensures { Gives record_of result (spec.kill_in (version_of version) bytes.now) }
+{
+    match version {
+        Version::One => Err(Fault::Form),
+        Version::Two => kill(bytes),
+    }
+}
+
 #[tactic(auto, unfolding(crate::specs::Reading::told_by))]
-fn told_by(alloc: Global, word: &[u8], rest: &[u8]) -> Result<Record, Fault>
-    ensures { Gives record_of result (spec.told_by word.now rest.now) }
+fn told_by(alloc: Global, version: Version, word: &[u8], rest: &[u8]) -> Result<Record, Fault>
+    ensures { Gives record_of result (spec.told_by (version_of version) word.now rest.now) }
 {
     if word == b"define".as_slice() {
         define(rest)
@@ -148,39 +169,41 @@ fn told_by(alloc: Global, word: &[u8], rest: &[u8]) -> Result<Record, Fault>
         abort(rest)
     } else if word == b"checkpoint-hex".as_slice() {
         checkpoint(alloc, rest)
+    } else if word == b"kill".as_slice() {
+        kill_in(version, rest)
     } else {
         Err(Fault::Form)
     }
 }
 
 #[tactic(auto, unfolding(crate::specs::Reading::record_at))]
-fn record(alloc: Global, text: &[u8]) -> Result<Record, Fault>
-    ensures { Gives record_of result (spec.record_at text.now) }
+fn record(alloc: Global, version: Version, text: &[u8]) -> Result<Record, Fault>
+    ensures { Gives record_of result (spec.record_at (version_of version) text.now) }
 {
     let (word, rest) = field(text)?;
-    told_by(alloc, word, rest)
+    told_by(alloc, version, word, rest)
 }
 
 #[tactic(auto, unfolding(crate::specs::Reading::told_line))]
-fn told_line(alloc: Global, text: &[u8]) -> Result<Line, Fault>
-    ensures { Gives line_of result (spec.told_line text.now) }
+fn told_line(alloc: Global, version: Version, text: &[u8]) -> Result<Line, Fault>
+    ensures { Gives line_of result (spec.told_line (version_of version) text.now) }
 {
-    let record = record(alloc, text)?;
+    let record = record(alloc, version, text)?;
     Ok(Line::Told(record))
 }
 
-fn line(alloc: Global, text: &[u8]) -> Result<Line, Fault>
-    ensures { Gives line_of result (spec.line_at text.now) }
+fn line(alloc: Global, version: Version, text: &[u8]) -> Result<Line, Fault>
+    ensures { Gives line_of result (spec.line_at (version_of version) text.now) }
 {
     if text == b"checkpoint".as_slice() {
         return Ok(Line::Spelled);
     }
-    told_line(alloc, text)
+    told_line(alloc, version, text)
 }
 
-/// The line that the text tells. `Form` where no line has this text.
-pub(crate) fn read_line(alloc: Global, text: &[u8]) -> Result<Line, Fault>
-    ensures { Reads text.now result }
+/// The line that the text tells in the version. `Form` where no line has this text.
+pub(crate) fn read_line(alloc: Global, version: Version, text: &[u8]) -> Result<Line, Fault>
+    ensures { Reads (version_of version) text.now result }
 {
-    line(alloc, text)
+    line(alloc, version, text)
 }

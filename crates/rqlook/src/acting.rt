@@ -1,13 +1,15 @@
 //! What the program does for each of its commands.
 
 use crate::failing::Failure;
-use crate::reading::log_in;
+use crate::reading::{is_same_file, log_in};
+use crate::watching::{Watch, Watched};
 use crate::words::{records_asked, subject_asked};
 use clap::ArgMatches;
 use rq_look::{Plan, Trouble};
-use std::io;
-use std::rt::Files;
+use std::io::Printer;
+use std::rt::{Clock, Files};
 use std::thread::Threads;
+use std::{fs, io};
 
 /// The grain of each plan, in frames.
 const GRAIN: u32 = 1000;
@@ -42,12 +44,23 @@ where
     Ok(true)
 }
 
-fn dump<R>(rt: &R, bytes: &[u8], plan: &Plan, words: &ArgMatches<'_>) -> Result<bool, Trouble>
+// Standard output, of which is told how much was written.
+fn output<R: Print + Eprint + Clock>(rt: &R, watch: Watch) -> Watched<'_, R, Printer<'_, R>> {
+    Watched::new(rt, io::writer(rt), watch.of_output(), "written")
+}
+
+fn dump<R>(
+    rt: &R,
+    bytes: &[u8],
+    plan: &Plan,
+    words: &ArgMatches<'_>,
+    watch: Watch,
+) -> Result<bool, Trouble>
 where
-    R: Print + AllocGlobal + Threads + Sync,
+    R: Print + Eprint + Clock + AllocGlobal + Threads + Sync,
 {
     let wanted = records_asked(words);
-    rq_look::dump(rt, rt.alloc(), bytes, plan, &wanted, &mut io::writer(rt))?;
+    rq_look::dump(rt, rt.alloc(), bytes, plan, &wanted, &mut output(rt, watch))?;
     Ok(true)
 }
 
@@ -66,23 +79,46 @@ fn perform<R>(
     words: &ArgMatches<'_>,
     bytes: &[u8],
     plan: &Plan,
+    watch: Watch,
 ) -> Result<bool, Trouble>
 where
-    R: Print + AllocGlobal + Threads + Sync,
+    R: Print + Eprint + Clock + AllocGlobal + Threads + Sync,
 {
     match name {
-        "dump" => dump(rt, bytes, plan, words),
+        "dump" => dump(rt, bytes, plan, words, watch),
         "check" => check(rt, bytes, plan, words.get_flag("quiet")),
         "report" => report(rt, bytes, plan, words),
         "story" | "unit" => story(rt, bytes, plan, words),
-        _ => rq_look::script(rt, rt.alloc(), bytes, plan, &mut io::writer(rt)),
+        _ => rq_look::script(rt, rt.alloc(), bytes, plan, &mut output(rt, watch)),
+    }
+}
+
+/// Makes the page of a log. It is written once all of it is there, and never over the log.
+fn page<R>(rt: &R, bytes: &[u8], plan: &Plan, file: &str, to: &str) -> Result<bool, Failure>
+where
+    R: Files + Print + AllocGlobal + Threads + Sync,
+{
+    if is_same_file(rt, file, to) {
+        return Err(Failure::Same);
+    }
+    let mut made = Vec::new(rt.alloc());
+    if let Err(trouble) = rq_look::page(rt, rt.alloc(), bytes, plan, file, &mut made) {
+        return Err(Failure::Refused(String::from_str(rt.alloc(), file)?, trouble));
+    }
+    if to == "-" {
+        rt.write_all(&made)?;
+        return Ok(true);
+    }
+    match fs::write(rt, to, &made) {
+        Ok(()) => Ok(true),
+        Err(error) => Err(Failure::Unwritten(String::from_str(rt.alloc(), to)?, error)),
     }
 }
 
 /// Does the command of the words on its log. False answers that something is wrong with the log.
-pub(crate) fn act<R>(rt: &R, matches: &ArgMatches<'_>) -> Result<bool, Failure>
+pub(crate) fn act<R>(rt: &R, matches: &ArgMatches<'_>, watch: Watch) -> Result<bool, Failure>
 where
-    R: Files + Input + Print + AllocGlobal + Threads + Sync,
+    R: Files + Input + Print + Eprint + Clock + AllocGlobal + Threads + Sync,
 {
     let Some((name, words)) = matches.subcommand() else {
         return Ok(true);
@@ -91,8 +127,12 @@ where
         return Err(Failure::Workers);
     };
     let file = words.get_str("LOG").unwrap_or("-");
-    let bytes = log_in(rt, file)?;
-    match perform(rt, name, words, &bytes, &plan) {
+    let bytes = log_in(rt, file, watch)?;
+    watch.restarts(rt, &bytes);
+    if let Some(to) = words.get_str("OUT") {
+        return page(rt, &bytes, &plan, file, to);
+    }
+    match perform(rt, name, words, &bytes, &plan, watch) {
         Ok(fine) => Ok(fine),
         Err(trouble) => Err(Failure::Refused(String::from_str(rt.alloc(), file)?, trouble)),
     }

@@ -1,8 +1,9 @@
 //! Why the program ends before it is done.
 
+use clap::error::ErrorKind;
 use rq_look::Trouble;
 use std::alloc::AllocError;
-use std::io::{self, ErrorKind};
+use std::io;
 
 /// The exit status where there is no such thing in the log.
 const REFUSED: u8 = 1;
@@ -21,12 +22,18 @@ const MEMORY: u8 = 4;
 pub(crate) enum Failure {
     /// The words are no command.
     Words(clap::Error),
+    /// The words are no text.
+    NoText,
     /// The number of workers is none.
     Workers,
     /// The file cannot be read.
     Unread(String, io::Error),
     /// The file was read and is refused.
     Refused(String, Trouble),
+    /// The file cannot be written.
+    Unwritten(String, io::Error),
+    /// The page was to be written over its log.
+    Same,
     /// The output fails.
     Output(io::Error),
     /// Memory is refused.
@@ -41,6 +48,9 @@ impl From<AllocError> for Failure {
 
 impl From<clap::Error> for Failure {
     fn from(error: clap::Error) -> Failure {
+        if error.kind() == ErrorKind::OutOfMemory {
+            return Failure::Memory;
+        }
         Failure::Words(error)
     }
 }
@@ -53,7 +63,7 @@ impl From<io::Error> for Failure {
 
 // Says that the output fails. One that was closed is no news.
 fn output_failed(rt: &HostRuntime, error: &io::Error) -> u8 {
-    if error.kind() == ErrorKind::BrokenPipe {
+    if error.kind() == io::ErrorKind::BrokenPipe {
         return 0;
     }
     let _ = eprintln!(rt; "rqlook: {error}");
@@ -79,11 +89,19 @@ impl Failure {
                 let _ = eprint!(rt; "{error}");
                 USAGE
             }
+            Failure::NoText => {
+                let _ = eprintln!(rt; "rqlook: a word is no text");
+                USAGE
+            }
             Failure::Workers => {
                 let _ = eprintln!(rt; "rqlook: workers are 1 to 64");
                 USAGE
             }
-            Failure::Unread(file, error) => {
+            Failure::Same => {
+                let _ = eprintln!(rt; "rqlook: the page is not written over its log");
+                USAGE
+            }
+            Failure::Unread(file, error) | Failure::Unwritten(file, error) => {
                 let _ = eprintln!(rt; "rqlook: {file}: {error}");
                 STREAM
             }

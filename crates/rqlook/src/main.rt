@@ -4,21 +4,25 @@
 mod acting;
 mod failing;
 mod reading;
+mod watching;
 mod words;
 
 use crate::acting::act;
 use crate::failing::Failure;
+use crate::watching::Watch;
 use crate::words::program;
-use std::env;
+use std::io::IsTerminal;
 use std::process::ExitCode;
-use std::rt::{Env, Files};
+use std::rt::{Clock, Env, Files};
 use std::thread::Threads;
+use std::{env, io};
 
 /// The exit status where a finding was made.
 const FOUND: u8 = 1;
 
 fn main(rt: HostRuntime) -> ExitCode {
-    match start(&rt) {
+    let watch = Watch::new(&rt, rt.stderr().is_terminal(), rt.stdout().is_terminal());
+    match start(&rt, watch) {
         Ok(true) => ExitCode::SUCCESS,
         Ok(false) => ExitCode::from(FOUND),
         Err(failure) => ExitCode::from(failure.tell(&rt)),
@@ -26,16 +30,27 @@ fn main(rt: HostRuntime) -> ExitCode {
 }
 
 /// Does what the arguments ask for. False answers that something is wrong with the log.
-fn start<R>(rt: &R) -> Result<bool, Failure>
+fn start<R>(rt: &R, watch: Watch) -> Result<bool, Failure>
 where
-    R: Files + Env + Input + Print + AllocGlobal + Threads + Sync,
+    R: Files + Env + Input + Print + Eprint + Clock + AllocGlobal + Threads + Sync,
 {
     let alloc = rt.alloc();
-    let all: Vec<String> = env::args(rt)?.collect(alloc)?;
+    let all: Vec<String> = env::args(rt)
+        .map_err(|error| unread(error))?
+        .collect(alloc)?;
     let matches = program(alloc)?.try_get_matches_from(all.as_slice());
     match matches {
-        Ok(matches) => act(rt, &matches),
+        Ok(matches) => act(rt, &matches, watch),
         Err(error) => asked(rt, error),
+    }
+}
+
+/// Arguments that are no text are no command; where memory ran out nothing is known of them.
+fn unread(error: io::Error) -> Failure {
+    if error.kind() == io::ErrorKind::OutOfMemory {
+        Failure::Memory
+    } else {
+        Failure::NoText
     }
 }
 
@@ -45,5 +60,5 @@ fn asked<R: Print>(rt: &R, error: clap::Error) -> Result<bool, Failure> {
         print!(rt; "{error}")?;
         return Ok(true);
     }
-    Err(Failure::Words(error))
+    Err(Failure::from(error))
 }

@@ -1,9 +1,12 @@
 //! Reading a log from a file or from standard input.
 
 use crate::failing::Failure;
+use crate::watching::{Watch, Watched};
+use rq_look::{Fault, Trouble};
 use std::fs;
-use std::io::{self, Read};
-use std::rt::Files;
+use std::io::{self, ErrorKind, Read};
+use std::os::unix::fs::MetadataExt;
+use std::rt::{Clock, Files};
 
 // One byte more than the longest log has.
 const LIMIT: u64 = 4_294_967_296;
@@ -14,21 +17,39 @@ fn read_to_limit<R: Read + Drop, A: AllocGlobal>(rt: &A, from: R) -> io::Result<
     Ok(bytes)
 }
 
-fn read<R: Files + Input + AllocGlobal>(rt: &R, file: &str) -> io::Result<Vec<u8>> {
+fn read<R>(rt: &R, file: &str, watch: Watch) -> io::Result<Vec<u8>>
+where
+    R: Files + Input + Eprint + Clock + AllocGlobal,
+{
     if file == "-" {
-        read_to_limit(rt, rt.reader())
+        read_to_limit(rt, Watched::new(rt, rt.reader(), watch, "read"))
     } else {
-        read_to_limit(rt, fs::open(rt, file)?)
+        read_to_limit(rt, Watched::new(rt, fs::open(rt, file)?, watch, "read"))
     }
 }
 
 /// The bytes of the file, or of standard input for `-`; no more than make it too long for a log.
-pub(crate) fn log_in<R: Files + Input + AllocGlobal>(
-    rt: &R,
-    file: &str,
-) -> Result<Vec<u8>, Failure> {
-    match read(rt, file) {
-        Ok(bytes) => Ok(bytes),
-        Err(error) => Err(Failure::Unread(String::from_str(rt.alloc(), file)?, error)),
+pub(crate) fn log_in<R>(rt: &R, file: &str, watch: Watch) -> Result<Vec<u8>, Failure>
+where
+    R: Files + Input + Eprint + Clock + AllocGlobal,
+{
+    let error = match read(rt, file, watch) {
+        Ok(bytes) => return Ok(bytes),
+        Err(error) => error,
+    };
+    let name = String::from_str(rt.alloc(), file)?;
+    if error.kind() == ErrorKind::OutOfMemory {
+        return Err(Failure::Refused(name, Trouble::Log(Fault::Resources)));
+    }
+    Err(Failure::Unread(name, error))
+}
+
+/// Whether the two names are of one file. A name of no file is not.
+pub(crate) fn is_same_file<R: Files>(rt: &R, one: &str, other: &str) -> bool {
+    match (fs::metadata(rt, one), fs::metadata(rt, other)) {
+        (Ok(one), Ok(other)) => one.is_file()
+            && one.dev() == other.dev()
+            && one.ino() == other.ino(),
+        _ => false,
     }
 }

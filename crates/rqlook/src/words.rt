@@ -150,6 +150,19 @@ fn unit<'a>(alloc: Global) -> Result<Command<'a>, Error> {
     )
 }
 
+fn page<'a>(alloc: Global) -> Result<Command<'a>, Error> {
+    let out = Arg::new(alloc, "OUT")
+        .required(true)
+        .help("The file of the page, or - for standard output");
+    Ok(
+        Command::new(alloc, "page")
+            .about("Makes a page of HTML that shows the log, with its queues and their elements")
+            .arg(log(alloc))?
+            .arg(out)?
+            .arg(workers(alloc))?,
+    )
+}
+
 /// The program's command.
 pub(crate) fn program<'a>(alloc: Global) -> Result<Command<'a>, Error> {
     Ok(
@@ -162,7 +175,8 @@ pub(crate) fn program<'a>(alloc: Global) -> Result<Command<'a>, Error> {
             .subcommand(report(alloc)?)?
             .subcommand(script(alloc)?)?
             .subcommand(story(alloc)?)?
-            .subcommand(unit(alloc)?)?,
+            .subcommand(unit(alloc)?)?
+            .subcommand(page(alloc)?)?,
     )
 }
 

@@ -32,7 +32,7 @@ returns-clause-steps c = record {
 }
 
 pub returns-clause-orders : goal.returns-clause-orders
-returns-clause-orders c = record { names = refl; registrants = refl; best_of_1 = refl; best_of_0 = refl; best_of_2 = refl; put_between = refl; no_definition = refl; second_definition = refl }
+returns-clause-orders c = record { names = refl; registrants = refl; moves = refl; merged = refl; best_of_1 = refl; best_of_0 = refl; best_of_2 = refl; put_between = refl; no_definition = refl; second_definition = refl }
 
 pub returns-clause-queues : goal.returns-clause-queues
 returns-clause-queues c = record {

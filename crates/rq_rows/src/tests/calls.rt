@@ -2,13 +2,11 @@
 
 use super::scripts::CHECKPOINT;
 use super::{lines, log_of};
-use rq_catalog::analyse;
-use rq_front::{Rest, walk};
 use rq_queue::Part;
-use rq_record::{CheckBytes, Name, QueueNo, Record, UnitNo, decode};
+use rq_record::{QueueNo, UnitNo};
 use rq_restart::{Why, audit, front_state, restart_at};
 use rq_state::{Fields, State};
-use rq_tool::{Fault, Open, Plan};
+use rq_tool::{Open, Plan};
 use rq_writer::{decimal_number, make};
 use std::alloc::Global;
 use std::test::Fail;
@@ -103,25 +101,6 @@ fn a_part_is_poured_out(rt: HostRuntime) -> Result<(), Fail> {
 }
 
 #[test]
-fn an_analysis_has_counts_and_open_units(rt: HostRuntime) -> Result<(), Fail> {
-    let records = vec![in rt.alloc();
-        Record::Begin { unit: UnitNo(1) },
-        Record::Begin { unit: UnitNo(2) },
-        Record::Begin { unit: UnitNo(4) },
-        Record::Commit { unit: UnitNo(2) },
-        Record::Begin { unit: UnitNo(5) },
-        Record::Abort { unit: UnitNo(1) },
-    ]?;
-    let analysis = analyse(rt.alloc(), &State::empty(rt.alloc()), &records)?;
-    assert_eq!(rt; analysis.lawful(), 6);
-    assert_eq!(rt; analysis.committed(), 1);
-    assert_eq!(rt; analysis.aborted(), 1);
-    let open = analysis.open_units(rt.alloc())?;
-    assert!(rt; open.as_slice() == [UnitNo(4), UnitNo(5)].as_slice());
-    Ok(())
-}
-
-#[test]
 fn a_restart_from_a_checkpoint_has_the_numbers_of_the_log(rt: HostRuntime) -> Result<(), Fail> {
     let log = log_of(&rt, &CHECKPOINT[..9])?;
     let plan = Plan::new(1, 1).ok_or("plan")?;
@@ -152,26 +131,8 @@ fn a_script_is_made_from_bytes_and_from_a_reader(rt: HostRuntime) -> Result<(), 
 }
 
 #[test]
-fn a_walk_does_not_look_at_digests(rt: HostRuntime) -> Result<(), Fail> {
-    let mut log = log_of(&rt, &CHECKPOINT[..2])?;
-    let last = log.pop().ok_or("byte")?;
-    log.push(last ^ 1)?;
-    if log.len() >= 40 {
-        let found = walk(rt.alloc(), &log, 40)?;
-        assert_eq!(rt; found.spans().len(), 2);
-        let found = found.checked(&rt, &log, 1);
-        assert!(rt; found.spans.len() == 1 && found.rest == Rest::Digest);
-    }
-    Ok(())
-}
-
-#[test]
-fn names_numbers_and_checkpoints_are_read(rt: HostRuntime) -> Result<(), Fail> {
-    assert_eq!(rt; Name::new(b"ann").ok_or("name")?.text(), "ann");
+fn numbers_are_read(rt: HostRuntime) -> Result<(), Fail> {
     assert_eq!(rt; decimal_number(255, b"255"), Some(255));
     assert_eq!(rt; decimal_number(255, b"256"), None);
-    let bytes = Vec::from_slice(rt.alloc(), &[0; 52])?;
-    assert_eq!(rt; CheckBytes::new(bytes).ok_or("bytes")?.bytes().len(), 52);
-    assert_eq!(rt; decode(rt.alloc(), &[]).err(), Some(Fault::Form));
     Ok(())
 }

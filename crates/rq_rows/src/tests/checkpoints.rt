@@ -2,7 +2,6 @@
 
 use super::scripts::CHECKPOINT;
 use super::{PLANS, answer, lines, log_of, reports};
-use rq_state::read;
 use rq_tool::{Command, Fault, Plan};
 use std::test::Fail;
 use std::thread::Threads;
@@ -150,30 +149,6 @@ fn the_greatest_record_number(rt: HostRuntime) -> Result<(), Fail> {
     body[8] = 1;
     assert_eq!(rt; two.get(129..133), Some([0u8, 0, 0, 53].as_slice()));
     assert_eq!(rt; two.get(133..186), Some(body.as_slice()));
-    Ok(())
-}
-
-#[test]
-fn a_state_is_read_whole_or_not_at_all(rt: HostRuntime) -> Result<(), Fail> {
-    let zeroes = [0u8; 53];
-    let empty = read(rt.alloc(), &zeroes[..52])?;
-    assert_eq!(rt; empty.next(), 0);
-    assert_eq!(rt; empty.definition_count(), 0);
-    assert_eq!(rt; empty.element_count(), 0);
-    assert_eq!(rt;
-        read(rt.alloc(), &zeroes[..51]).err(),
-        Some(Fault::BadCheckpoint)
-    );
-    assert_eq!(rt; read(rt.alloc(), &zeroes).err(), Some(Fault::BadCheckpoint));
-    let mut past = [0u8; 52];
-    past[3] = 1;
-    assert_eq!(rt; read(rt.alloc(), &past).err(), Some(Fault::BadCheckpoint));
-    let mut count = [0u8; 52];
-    count[44] = 0xff;
-    count[45] = 0xff;
-    count[46] = 0xff;
-    count[47] = 0xff;
-    assert_eq!(rt; read(rt.alloc(), &count).err(), Some(Fault::BadCheckpoint));
     Ok(())
 }
 

@@ -2,12 +2,10 @@
 
 use super::scripts::ONE_ELEMENT;
 use super::{log_of, refusal, reports, says};
-use rq_front::{Chain, Rest, chain, frame};
+use rq_front::frame;
 use rq_tool::Fault;
 use sha2::{Digest, Sha256};
-use std::alloc::{AllocError, Global};
 use std::test::Fail;
-use std::thread::Threads;
 
 const JOBS: &str = "queue 0 jobs limit 0 error -";
 
@@ -117,45 +115,5 @@ fn records_that_are_none_or_not_lawful_end_the_front(rt: HostRuntime) -> Result<
         &["front 0 records, 40 of 77 bytes, form", NO_UNIT],
     )?;
     assert!(rt; no_record, "no record");
-    Ok(())
-}
-
-/// The chain from a place of the log, where there may be one.
-fn chain_from<R: Threads + Sync + AllocGlobal>(
-    rt: &R,
-    log: &[u8],
-    from: usize,
-    grain: u32,
-) -> Result<Option<Chain>, Fault> {
-    if from < 40 || log.len() < from || grain < 1 {
-        return Ok(None);
-    }
-    let found = chain(rt, rt.alloc(), log, from, grain)?;
-    Ok(Some(found))
-}
-
-/// Where the bodies of a chain stand.
-fn places(alloc: Global, found: &Chain) -> Result<Vec<(usize, usize)>, AllocError> {
-    let mut places = Vec::new(alloc);
-    for span in &found.spans {
-        places.push((span.start, span.len))?;
-    }
-    Ok(places)
-}
-
-#[test]
-fn the_chain_tells_its_spans(rt: HostRuntime) -> Result<(), Fail> {
-    let log = log_of(&rt, &ONE_ELEMENT)?;
-    for grain in [1, 1000] {
-        let found = chain_from(&rt, &log, 87, grain)?.ok_or("chain")?;
-        let spans = places(rt.alloc(), &found)?;
-        assert_eq!(rt; spans.as_slice(), [(91, 9), (136, 24), (196, 9)].as_slice());
-        assert_eq!(rt; found.end, 237);
-        assert!(rt; found.rest == Rest::Whole);
-        let none = chain_from(&rt, &log, 88, grain)?.ok_or("chain")?;
-        assert_eq!(rt; none.spans.len(), 0);
-        assert_eq!(rt; none.end, 88);
-        assert!(rt; none.rest == Rest::Cut);
-    }
     Ok(())
 }

@@ -2,7 +2,10 @@
 
 use super::scripts::{ONE_ELEMENT, SECOND_ABORT};
 use super::{lines, log_of};
-use rq_look::{Plan, Subject, Trouble, Wanted, check, dump, report, report_json, script, story};
+use rq_look::{
+    Plan, Subject, Trouble, Wanted, check, dump, page, report, report_json, script, story,
+};
+use std::str::from_utf8;
 use std::test::Fail;
 use std::thread::Threads;
 
@@ -80,6 +83,82 @@ fn a_dump_says_why_the_front_ends(rt: HostRuntime) -> Result<(), Fail> {
     assert!(rt; ends(&rt, &log[..log.len().saturating_sub(1)], cut)?);
     let law = "front ends behind 1 records, at 87 of 132 bytes, law: unit 1 is not open";
     assert!(rt; ends(&rt, &log_of(&rt, &["define jobs 0 -", "commit 1"])?, law)?);
+    Ok(())
+}
+
+/// Two units, of which each puts in an element of a queue of its own.
+const TWO_UNITS: [&str; 9] = [
+    "define mail 0 -",
+    "define jobs 0 -",
+    "register 1 ann",
+    "begin 1",
+    "enqueue 1 0 5 - 0 61",
+    "begin 2",
+    "enqueue 2 1 5 ann 10 62",
+    "commit 1",
+    "commit 2",
+];
+
+/// The lines of the second one.
+const OF_UNIT: [&str; 3] = [
+    "283 5 begin unit 2",
+    "328 6 enqueue unit 2 queue 1 priority 5 by ann tag 10 payload \"b\"",
+    "436 8 commit unit 2",
+];
+
+#[test]
+fn a_dump_shows_what_is_asked_for(rt: HostRuntime) -> Result<(), Fail> {
+    let log = log_of(&rt, &TWO_UNITS)?;
+    let end = "front ends behind 9 records, at 481 of 481 bytes, whole: nothing follows";
+    let [begin, enqueue, commit] = OF_UNIT;
+    let unit = Wanted {
+        unit: Some(2),
+        ..ALL
+    };
+    assert!(rt; dumped(&rt, &log, &unit)? == lines(rt.alloc(), &[begin, enqueue, commit, end])?);
+    let later = Wanted { from: 329, ..unit };
+    assert!(rt; dumped(&rt, &log, &later)? == lines(rt.alloc(), &[commit, end])?);
+    let first = Wanted { limit: 1, ..unit };
+    assert!(rt; dumped(&rt, &log, &first)? == lines(rt.alloc(), &[begin, end])?);
+    let (define, register) = (
+        "87 1 define queue 1 name jobs limit 0 error -",
+        "134 2 register queue 1 name ann",
+    );
+    let queue = Wanted {
+        queue: Some(1),
+        ..ALL
+    };
+    assert!(rt;
+        dumped(&rt, &log, &queue)? == lines(rt.alloc(), &[define, register, enqueue, end])?
+    );
+    let registrant = Wanted {
+        registrant: Some("ann"),
+        ..ALL
+    };
+    assert!(rt; dumped(&rt, &log, &registrant)? == lines(rt.alloc(), &[register, enqueue, end])?);
+    Ok(())
+}
+
+#[test]
+fn a_page_shows_a_payload_as_text(rt: HostRuntime) -> Result<(), Fail> {
+    let plan = plan().ok_or("plan")?;
+    let log = log_of(
+        &rt,
+        &[
+            "define jobs 0 -",
+            "begin 1",
+            "enqueue 1 0 5 - 0 3c623e",
+            "commit 1",
+        ],
+    )?;
+    let mut made = Vec::new(rt.alloc());
+    assert!(rt; page(&rt, rt.alloc(), &log, &plan, "a<b", &mut made).is_ok());
+    let text = from_utf8(&made).map_err(|_| "text")?;
+    assert!(rt; text.starts_with("<!DOCTYPE html>\n") && text.ends_with("</html>\n"));
+    assert!(rt; text.contains("<title>a&lt;b</title>"));
+    assert!(rt; text.contains("<td>4 records, 239 of 239 bytes</td>"));
+    assert!(rt; text.contains("<bdi>&quot;&lt;b&gt;&quot;</bdi>"));
+    assert!(rt; !text.contains("<b>"));
     Ok(())
 }
 

@@ -1,6 +1,7 @@
 //! Lines of the program, texts and exit statuses of faults.
 
 use super::answer;
+use rq_record::Version;
 use rq_tool::{Command, Fault, command};
 use std::test::Fail;
 
@@ -28,7 +29,14 @@ fn faults_have_texts_and_statuses(rt: HostRuntime) -> Result<(), Fail> {
 /// The first word of a command's line.
 fn word_of(command: &Command<'_>) -> &'static str {
     match command {
-        Command::Make { .. } => "make",
+        Command::Make {
+            version: Version::One,
+            ..
+        } => "make",
+        Command::Make {
+            version: Version::Two,
+            ..
+        } => "make2",
         Command::Restart { .. } => "restart",
         Command::RestartAt { .. } => "restart-at",
         Command::Audit { .. } => "audit",
@@ -47,6 +55,7 @@ fn known(words: &[&str]) -> &'static str {
 #[test]
 fn a_line_is_a_command_or_usage(rt: HostRuntime) -> Result<(), Fail> {
     assert_eq!(rt; known(&["make", "a", "b"]), "make");
+    assert_eq!(rt; known(&["make2", "a", "b"]), "make2");
     assert_eq!(rt; known(&["restart", "a", "64", "1000000"]), "restart");
     let last = "18446744073709551615";
     assert_eq!(rt; known(&["restart-at", "a", last, "1", "1"]), "restart-at");
@@ -86,6 +95,7 @@ fn a_number_out_of_its_range_or_form_is_usage(rt: HostRuntime) -> Result<(), Fai
 #[test]
 fn a_line_that_is_none_is_named(rt: HostRuntime) -> Result<(), Fail> {
     let make = Command::Make {
+        version: Version::One,
         script: "script",
         log: "log",
     };
@@ -99,6 +109,7 @@ fn a_line_that_is_none_is_named(rt: HostRuntime) -> Result<(), Fail> {
         (b"begin 18446744073709551616\n".as_slice(), 1),
         (b"begin 1\ndequeue 1 0 - 7\n".as_slice(), 2),
         (b"checkpoint-hex 0A\n".as_slice(), 1),
+        (b"kill 0 0\n".as_slice(), 1),
         (b"define jobs 0 4294967295\n".as_slice(), 1),
     ];
     for (script, line) in scripts {

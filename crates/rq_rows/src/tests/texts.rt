@@ -1,10 +1,9 @@
-//! A spelling that counts members which are not there, and reports whose text one thread makes or several.
+//! Reports whose text one thread makes or several.
 
 use super::scripts::ONE_ELEMENT;
 use super::{PLANS, lines, log_of};
 use rq_report::{OverWrite, write_report, write_report_by};
 use rq_restart::{Restarted, restart};
-use rq_state::read;
 use rq_tool::{Fault, Open, Plan};
 use std::alloc::Global;
 use std::test::Fail;
@@ -127,20 +126,5 @@ fn one_thread_and_several_write_the_same(rt: HostRuntime) -> Result<(), Fail> {
     assert!(rt; log.len() > 1_048_576);
     let want = as_bytes(alloc, &long_report(alloc)?)?;
     assert!(rt; all_write(&rt, &log, &want)?);
-    Ok(())
-}
-
-#[test]
-fn a_count_without_members_is_no_state(rt: HostRuntime) -> Result<(), Fail> {
-    for empty in 0..5u32 {
-        let mut bytes = Vec::new(rt.alloc());
-        bytes.extend_from_slice(&[0; 32])?;
-        for list in 0..5u32 {
-            let count = if list == empty { [0xff; 4] } else { [0; 4] };
-            bytes.extend_from_slice(&count)?;
-        }
-        let refused = read(rt.alloc(), &bytes).err();
-        assert_eq!(rt; refused, Some(Fault::BadCheckpoint), "list {empty}");
-    }
     Ok(())
 }

@@ -1,18 +1,20 @@
-use Rattle.std.proofs.Common.{◌≡◌, ◌≤◌, ◌+◌, List, length, map, drop, ap, sym, subst, ◌∙◌, arith, rules}
+use Rattle.std.proofs.Common.{◌≡◌, ◌≤◌, true, ◌+◌, List, length, map, drop, ap, sym, subst, ◌∙◌, arith, rules}
 use Rattle.std.proofs.lemmas.List.{length-map, take_all}
 use Rattle.std.specs.List.{AllByRecursion}
-use Rattle.rq_model.specs.Records.{One}
+use Rattle.rq_model.specs.Records.{Two}
+use Rattle.rq_model.specs.Machine.{all_lawful}
 use Rattle.rq_model.specs.Spelling.{IsRecord}
 use Rattle.rq_model.specs.States.{State, empty}
 use Rattle.rq_model.specs.Checkpoints.{IsAudit}
 use Rattle.rq_record.specs.declared.record.Record.{Record}
-use Rattle.rq_record.specs.Views.{record_of}
+use Rattle.rq_record.specs.Views.{record_of, version_of}
 use Rattle.rq_front.specs.declared.spans.Span.{Span}
+use Rattle.rq_catalog.proofs.Fronts.{lawful_in_two}
 use Rattle.rq_restart.specs.Ends.{IsFrontFrom}
 use Rattle.rq_restart.specs.Views.{why_of}
 use Rattle.rq_restart.specs.Audits.{IsWalk, StandAt, audited_of, audits}
 use Rattle.rq_restart.proofs.Starts.{started, whole_front}
-use Rattle.rq_restart.proofs.Audits.{AuditLaws, is_audit}
+use Rattle.rq_restart.proofs.Audits.{AuditLaws, is_audit, records_in_two}
 use Rattle.rq_restart.proofs.Walks.{stand_at}
 use Rattle.rq_restart.proofs.auditing.checkpoints_of.Goals as goal
 
@@ -22,7 +24,15 @@ loop-place-init g c = c.first-walk.ensures (map record_of c.in_ok-front.front.re
 pub visit-requires-clause-form : goal.visit-requires-clause-form
 visit-requires-clause-form g c κs within =
     let from = c.in_ok-front.ensures.front 40 c.requires.chain in
-    subst (λ (rs : List Record). AllByRecursion (IsRecord One) (map record_of rs)) (sym c.deref.ensures.value) from.longest.begins.records
+    let rs = map record_of c.in_ok-front.front.records.items in
+    subst (λ (rs : List Record). AllByRecursion (IsRecord Two) (map record_of rs)) (sym c.deref.ensures.value) (records_in_two c.versions.ensures.wider (version_of c.args.version) rs from.longest.begins.records)
+
+pub visit-requires-clause-lawful : goal.visit-requires-clause-lawful
+visit-requires-clause-lawful g c κs within =
+    let from = c.in_ok-front.ensures.front 40 c.requires.chain in
+    let rs = map record_of c.in_ok-front.front.records.items in
+    let lawful = subst (λ (s : State). all_lawful (version_of c.args.version) s rs ≡ true) c.empty.ensures from.longest.begins.lawful in
+    subst (λ (rs : List Record). all_lawful Two empty (map record_of rs) ≡ true) (sym c.deref.ensures.value) (lawful_in_two c.versions.ensures.two (version_of c.args.version) empty rs lawful)
 
 pub visit-requires-clause-spans : goal.visit-requires-clause-spans
 visit-requires-clause-spans g c κs within =
@@ -48,8 +58,8 @@ returns g c =
     let front = c.in_ok-front.front in
     let rs = map record_of front.records.items in
     let end = c.frames_join.ensures.end in
-    let from : IsFrontFrom empty b 40 rs front.end (why_of front.why) = subst (λ (s : State). IsFrontFrom s b 40 rs front.end (why_of front.why)) c.empty.ensures (c.in_ok-front.ensures.front 40 c.requires.chain) in
+    let from : IsFrontFrom (version_of c.args.version) empty b 40 rs front.end (why_of front.why) = subst (λ (s : State). IsFrontFrom (version_of c.args.version) s b 40 rs front.end (why_of front.why)) c.empty.ensures (c.in_ok-front.ensures.front 40 c.requires.chain) in
     let laws : AuditLaws = record { right = c.frames_are_right.ensures.right; body = c.one_spelling.ensures.body; ends = end; front = c.one_front.ensures.front } in
     let all : length rs ≤ c.loop-place.place = omega (arith, c.loop-place-test.false, c.len-place-end.ensures, front.records.ok.0, length-map front.records.items record_of) in
     let found : map audited_of c.loop-place.walk.found.items ≡ audits empty 40 rs = c.loop-place.invariant.found ∙ ap (audits empty 40) (take_all c.loop-place.place rs all) in
-    record { audit = subst (IsAudit b) (sym found) (is_audit laws b rs (drop front.end b) (whole_front b rs front.end (why_of front.why) (started end b c.requires.header) c.requires.chain.short from)); refused = tt }
+    record { audit = subst (IsAudit b) (sym found) (is_audit (version_of c.args.version) laws b rs (drop front.end b) (whole_front (version_of c.args.version) b rs front.end (why_of front.why) (started (version_of c.args.version) end b c.requires.header) c.requires.chain.short from)); refused = tt }

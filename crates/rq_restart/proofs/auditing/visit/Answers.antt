@@ -14,7 +14,7 @@ use Rattle.std.proofs.lemmas.Result.{IfOk-weaker}
 use Rattle.rq_restart.specs.Worth.{KeepsAllBut, payload_bytes}
 use Rattle.rq_restart.proofs.Walks.{next_at, lawful_between, run_between, found_past, found_next}
 use Rattle.rq_restart.proofs.Worth.{nothing_lost}
-use Rattle.rq_restart.proofs.Tallies.{IsFit, fit_at, lost_within, loss_kept, passed, tally_kept, no_spelling, within_more}
+use Rattle.rq_restart.proofs.Tallies.{fit_at, lost_within, loss_kept, passed, tally_kept, no_spelling, within_more}
 use Rattle.rq_restart.proofs.auditing.visit.Goals as goal
 
 pub pass-requires-clause-counts : goal.pass-requires-clause-counts

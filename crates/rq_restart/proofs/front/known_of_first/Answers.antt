@@ -1,7 +1,7 @@
 use Rattle.std.proofs.Common.{◌≡◌, List, map, take, sym, ap, subst, ◌∙◌, arith}
 use Rattle.std.proofs.lemmas.List.{length-map, take-map, take_all}
 use Rattle.rq_record.specs.declared.record.Record.{Record}
-use Rattle.rq_record.specs.Views.{record_of}
+use Rattle.rq_record.specs.Views.{record_of, version_of}
 use Rattle.rq_model.specs.Records as model
 use Rattle.rq_catalog.specs.Analyses.{IsAnalysis}
 use Rattle.rq_restart.specs.Readings.{AreRead}
@@ -13,7 +13,7 @@ returns-then-len-count-clause-known c = λ bodies known.
     let n = c.args.count in
     let rs = map record_of c.args.known.records.items in
     let all : take n rs ≡ rs = take_all n rs (omega (arith, c.len.ensures, c.if-len-count.true, length-map c.args.known.records.items record_of)) in
-    record { read = subst (λ (xs : List model.Record). AreRead (take n bodies) xs) all (read_fewer n bodies rs known.read); analysis = known.analysis }
+    record { read = subst (λ (xs : List model.Record). AreRead (version_of c.args.version) (take n bodies) xs) all (read_fewer (version_of c.args.version) n bodies rs known.read); analysis = known.analysis }
 
 pub returns-clause-known : goal.returns-clause-known
 returns-clause-known c = λ bodies known.
@@ -22,6 +22,6 @@ returns-clause-known c = λ bodies known.
     let all = c.args.known.records.items in
     let first : take n (map record_of all) ≡ map record_of c.truncate.new.self.items = take-map record_of n all ∙ ap (map record_of) (sym c.truncate.ensures.items) in
     record {
-      read = subst (λ (xs : List model.Record). AreRead (take n bodies) xs) first (read_fewer n bodies (map record_of all) known.read);
-      analysis = subst (λ (xs : List Record). IsAnalysis s (map record_of xs) c.in_ok-analysis.analysis) c.deref.ensures.value c.in_ok-analysis.ensures.analysis;
+      read = subst (λ (xs : List model.Record). AreRead (version_of c.args.version) (take n bodies) xs) first (read_fewer (version_of c.args.version) n bodies (map record_of all) known.read);
+      analysis = subst (λ (xs : List Record). IsAnalysis (version_of c.args.version) s (map record_of xs) c.in_ok-analysis.analysis) c.deref.ensures.value c.in_ok-analysis.ensures.analysis;
     }

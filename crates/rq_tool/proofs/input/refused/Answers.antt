@@ -6,7 +6,7 @@ use Rattle.rq_tool.proofs.input.refused.Goals as goal
 pub returns-then-first-lt-HEADER_LEN-clause-told : goal.returns-then-first-lt-HEADER_LEN-clause-told
 returns-then-first-lt-HEADER_LEN-clause-told g c = λ origin taken.
     let short = c.if-first-lt-HEADER_LEN.true in
-    short_unread origin (g.I.Input.remaining c.args.input.now) c.args.first.now short c.requires.none (c.requires.end short) taken
+    short_unread origin (g.I.Input.remaining c.args.input.now) c.args.first.now c.requires.none short (c.requires.end short) taken
 
 pub returns-in-Ok-clause-told : goal.returns-in-Ok-clause-told
 returns-in-Ok-clause-told g c = λ origin taken.

@@ -7,6 +7,9 @@ use Rattle.rq_model.specs.WellFormed.{Ordered}
 use Rattle.rq_queue.specs.Kept.{items_of, staying, sent_from}
 use Rattle.rq_queue.specs.Sorted.{sorted}
 use Rattle.rq_queue.proofs.Sorting.{each_unsorted}
+use Rattle.rq_queue.specs.Listed.{listed}
+use Rattle.rq_queue.specs.Priorities.{AreKnown}
+use Rattle.rq_queue.proofs.Known.{known_staying}
 use Rattle.rq_queue.proofs.Ending.{aborted, departed, each_listed, chosen_rise}
 use Rattle.rq_queue.proofs.elements.Elements.abort.Goals as goal
 
@@ -23,7 +26,12 @@ pub invariant_of-result : goal.invariant_of-result
 invariant_of-result c =
     let done = aborted c.any_order.ensures.order c.args.home.now c.args.unit.0 c.self.inside.free.entries c.in_ok-free.free.entries c.self.inside.marked.entries c.taken-marked.result.0.entries c.taken-marked.result.1.items
     c.self.invariant.keyed c.taken-marked.ensures.among c.taken-marked.ensures.absent c.taken-marked.ensures.of_units c.self.invariant.apart c.in_ok-free.ensures.freed in
-    record { keyed = done.0.0; of_units = c.taken-marked.ensures.of_units; apart = done.0.1 }
+    record {
+      keyed = done.0.0;
+      of_units = c.taken-marked.ensures.of_units;
+      apart = done.0.1;
+      known = subst (AreKnown c.self.inside.priorities) (sym done.1) (known_staying c.self.inside.priorities c.args.home.now c.args.unit.0 (listed c.self.inside) c.self.invariant.known);
+    }
 
 pub returns-clause-kept : goal.returns-clause-kept
 returns-clause-kept c =

@@ -1,5 +1,8 @@
-use Rattle.std.proofs.Common.{◌∙◌, ap}
+use Rattle.std.proofs.Common.{◌∙◌, ap, subst, sym}
 use Rattle.rq_model.specs.Machine.{committed_elements}
+use Rattle.rq_queue.specs.Listed.{listed}
+use Rattle.rq_queue.specs.Priorities.{AreKnown}
+use Rattle.rq_queue.proofs.Known.{known_committed}
 use Rattle.rq_queue.proofs.Ending.{committed}
 use Rattle.rq_queue.proofs.elements.Elements.commit.Goals as goal
 
@@ -7,7 +10,12 @@ pub invariant_of-result : goal.invariant_of-result
 invariant_of-result c =
     let done = committed c.any_order.ensures.order c.args.unit.0 c.self.inside.free.entries c.in_ok-free.free.entries c.self.inside.marked.entries c.taken-marked.result.0.entries c.taken-marked.result.1.items
     c.self.invariant.keyed c.taken-marked.ensures.among c.taken-marked.ensures.absent c.taken-marked.ensures.of_units c.taken-marked.ensures.of_unit c.self.invariant.apart c.in_ok-free.ensures.freed in
-    record { keyed = done.0.0; of_units = c.taken-marked.ensures.of_units; apart = done.0.1 }
+    record {
+      keyed = done.0.0;
+      of_units = c.taken-marked.ensures.of_units;
+      apart = done.0.1;
+      known = subst (AreKnown c.self.inside.priorities) (sym done.1) (known_committed c.self.inside.priorities c.args.unit.0 (listed c.self.inside) c.self.invariant.known);
+    }
 
 pub returns-clause-done : goal.returns-clause-done
 returns-clause-done c =

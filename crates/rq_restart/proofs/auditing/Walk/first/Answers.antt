@@ -1,4 +1,4 @@
-use Rattle.std.proofs.Common.{◌≡◌, sym, ap, subst, refl, arith, map}
+use Rattle.std.proofs.Common.{◌≡◌, sym, ap, subst, arith, map}
 use Rattle.rq_model.specs.States.{State, empty}
 use Rattle.rq_restart.specs.Audits.{audited_of}
 use Rattle.rq_restart.specs.Worth.{payload_bytes, KeepsAllBut}

@@ -1,4 +1,4 @@
-use Rattle.std.proofs.Common.{◌≡◌, ap}
+use Rattle.std.proofs.Common.{ap}
 use Rattle.std.proofs.lemmas.Result.{err_from_is_err_and}
 use Rattle.rq_state.specs.Reading.{number_from, members_from, after_of}
 use Rattle.rq_state.proofs.Passing.{nothing_after, passes_on, stops, passed}

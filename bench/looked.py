@@ -1,0 +1,202 @@
+"""What `rqlook` must show of a log, made of the log's bytes alone: its records, as JSON and as lines, and its stories."""
+from __future__ import annotations
+import bisect, json, unicodedata
+
+HEADER = 40
+NONE = 2**32 - 1
+SHOWN = 32
+KINDS = ["", "define", "register", "deregister", "begin", "enqueue", "dequeue", "commit", "abort", "checkpoint", "kill"]
+
+
+def number(data: bytes) -> int:
+    return int.from_bytes(data, "big")
+
+
+def who(rest: bytes) -> tuple[dict, bytes]:
+    """The registrant and the tag at the front of the bytes, and what follows."""
+    size = rest[0]
+    name, tag, behind = rest[1:1 + size], number(rest[1 + size:9 + size]), rest[9 + size:]
+    return ({"registrant": name.decode(), "tag": tag} if size else {}), behind
+
+
+def bytes_of(data: bytes) -> dict:
+    it = {"hex": data.hex()}
+    try:
+        it["text"] = data.decode()
+    except UnicodeDecodeError:
+        pass
+    return it
+
+
+def fields_of(body: bytes, queues: int) -> dict:
+    """The fields of a record that follows so many queues' definitions."""
+    kind, rest = KINDS[body[0]], body[1:]
+    if kind == "define":
+        error = number(rest[2:6])
+        it = {"queue": queues, "name": rest[6:].decode(), "limit": number(rest[:2])}
+        return it if error == NONE else it | {"error": error}
+    if kind in ("register", "deregister"):
+        return {"queue": number(rest[:4]), "registrant": rest[4:].decode()}
+    if kind == "enqueue":
+        by, payload = who(rest[13:])
+        return {"unit": number(rest[:8]), "queue": number(rest[8:12]), "priority": rest[12]} | by | {"payload": bytes_of(payload)}
+    if kind == "dequeue":
+        return {"unit": number(rest[:8]), "queue": number(rest[8:12])} | who(rest[12:])[0]
+    if kind == "kill":
+        return {"queue": number(rest[:4]), "element": number(rest[4:])}
+    return {"bytes": bytes_of(rest)} if kind == "checkpoint" else {"unit": number(rest)}
+
+
+def records_of(bodies: list[bytes]) -> list[dict]:
+    """The records as a dump shows them as JSON."""
+    records, at, queues = [], HEADER, 0
+    for place, body in enumerate(bodies):
+        records.append({"offset": at, "record": place, "kind": KINDS[body[0]]} | fields_of(body, queues))
+        at += 36 + len(body)
+        queues += body[0] == 1
+    return records
+
+
+def shown(it: dict, full: bool) -> str:
+    """Bytes as a line shows them."""
+    data, text = bytes.fromhex(it["hex"]), it.get("text")
+    if not data:
+        return "-"
+    if text is not None and not any(unicodedata.category(c) == "Cc" for c in text):
+        part = text if full else text[:SHOWN]
+        spelled, size = '"' + part.replace("\\", "\\\\").replace('"', '\\"') + '"', len(part.encode())
+    else:
+        part = data if full else data[:SHOWN]
+        spelled, size = "hex " + part.hex(), len(part)
+    return spelled if size == len(data) else f"{spelled}.. {len(data)} bytes"
+
+
+def by_of(it: dict) -> str:
+    return f"by {it['registrant']} tag {it['tag']}" if "tag" in it else "by -"
+
+
+def line_of(it: dict, full: bool = False) -> str:
+    """The record as a dump shows it as text."""
+    kind = it["kind"]
+    words = [str(it["offset"]), str(it["record"]), kind]
+    words += [f"{field} {it[field]}" for field in ("unit", "queue") if field in it]
+    if kind == "define":
+        words.append(f"name {it['name']} limit {it['limit']} error {it.get('error', '-')}")
+    elif kind in ("register", "deregister"):
+        words.append(f"name {it['registrant']}")
+    elif kind == "enqueue":
+        words.append(f"priority {it['priority']} {by_of(it)} payload {shown(it['payload'], full)}")
+    elif kind == "dequeue":
+        words.append(by_of(it))
+    elif kind == "checkpoint":
+        words.append(f"bytes {shown(it['bytes'], full)}")
+    elif kind == "kill":
+        words.append(f"element {it['element']}")
+    return " ".join(words)
+
+
+def compact(it: dict) -> str:
+    return json.dumps(it, separators=(",", ":"), ensure_ascii=False)
+
+
+class Machine:
+    """What becomes of elements, record by record: a second writing of the rules, for the stories."""
+
+    def __init__(self) -> None:
+        self.queues: list[tuple[int, int | None]] = []
+        self.free: list[list[tuple[int, int]]] = []
+        self.elements: dict[int, list[int]] = {}
+        self.open: dict[int, list[tuple[int, bool]]] = {}
+
+    def release(self, element: int) -> None:
+        home, priority, _ = self.elements[element]
+        bisect.insort(self.free[home], (-priority, element))
+
+    def returned(self, element: int) -> str:
+        home, priority, attempts = self.elements[element]
+        limit, error = self.queues[home]
+        attempts += 1
+        moves = limit == attempts
+        self.elements[element] = [error, priority, 0] if moves else [home, priority, attempts]
+        self.release(element)
+        return f"element {element} moves to queue {error}" if moves else f"element {element} is back in queue {home}, attempts {attempts}"
+
+    def end(self, unit: int, commits: bool) -> list[tuple[int | None, str]]:
+        events = []
+        for element, fresh in self.open.pop(unit):
+            if fresh and commits:
+                self.release(element)
+                events.append((element, f"element {element} is free in queue {self.elements[element][0]}"))
+            elif fresh or commits:
+                del self.elements[element]
+                events.append((element, f"element {element} was not put in" if fresh else f"element {element} is gone"))
+            else:
+                events.append((element, self.returned(element)))
+        return events
+
+    def take(self, it: dict) -> tuple[int | None, str]:
+        free = self.free[it["queue"]]
+        if not free:
+            return None, "finds no element"
+        _, element = free.pop(0)
+        self.open[it["unit"]].append((element, False))
+        return element, f"takes element {element}"
+
+    def kill(self, queue: int, element: int) -> list[tuple[int | None, str]]:
+        home, priority, _ = self.elements.get(element, (None, 0, 0))
+        if home != queue or (-priority, element) not in self.free[queue]:
+            return []
+        self.free[queue].remove((-priority, element))
+        del self.elements[element]
+        return [(element, f"element {element} is gone")]
+
+    def step(self, it: dict) -> list[tuple[int | None, str]]:
+        """What happens at the record: to which element, and in words."""
+        kind = it["kind"]
+        if kind == "define":
+            self.queues.append((it["limit"], it.get("error")))
+            self.free.append([])
+        elif kind == "begin":
+            self.open[it["unit"]] = []
+        elif kind == "enqueue":
+            element = it["record"]
+            self.elements[element] = [it["queue"], it["priority"], 0]
+            self.open[it["unit"]].append((element, True))
+            return [(element, f"puts in element {element}")]
+        elif kind == "dequeue":
+            return [self.take(it)]
+        elif kind == "kill":
+            return self.kill(it["queue"], it["element"])
+        elif kind in ("commit", "abort"):
+            return self.end(it["unit"], kind == "commit")
+        return []
+
+
+class Stories:
+    """The lines of the story of each element and of each unit of a whole log."""
+
+    def __init__(self, records: list[dict], size: int) -> None:
+        self.elements: dict[int, list[str]] = {}
+        self.units: dict[int, list[str]] = {}
+        self.closing = f"front ends behind {len(records)} records, at {size} of {size} bytes, whole: nothing follows"
+        self.last: dict[tuple[str, int], list[str]] = {}
+        machine = Machine()
+        for it in records:
+            events, line = machine.step(it), line_of(it)
+            for element, said in events:
+                if element is not None:
+                    self.elements.setdefault(element, []).append(f"{line}: {said}")
+            if "unit" in it:
+                self.units.setdefault(it["unit"], []).extend([f"{line}: {said}" for _, said in events] or [line])
+        for unit in sorted(machine.open):
+            self.cut_off(unit, machine.end(unit, False))
+
+    def cut_off(self, unit: int, events: list[tuple[int | None, str]]) -> None:
+        aborts = f"the restart aborts unit {unit}"
+        self.last["unit", unit] = [f"{aborts}: {said}" for _, said in events] or [aborts]
+        for element, said in events:
+            self.last.setdefault(("element", element), []).append(f"{aborts}: {said}")
+
+    def of(self, subject: str, number: int) -> str:
+        told = (self.units if subject == "unit" else self.elements)[number]
+        return "\n".join(told + [self.closing] + self.last.get((subject, number), [])) + "\n"

@@ -1,0 +1,66 @@
+//! Where the frames of a log stand.
+
+use super::lanes::{Framed, log_of_lengths};
+use rq_front::{Chain, Rest, chain, walk};
+use rq_record::Fault;
+use std::alloc::{AllocError, Global};
+use std::test::Fail;
+use std::thread::Threads;
+
+/// How long the bodies are of a queue's definition, a unit's begin, an element and the unit's commit.
+const LENGTHS: [usize; 4] = [11, 9, 24, 9];
+
+/// The chain from a place of the log, where there may be one.
+fn chain_from<R: Threads + Sync + AllocGlobal>(
+    rt: &R,
+    log: &[u8],
+    from: usize,
+    grain: u32,
+) -> Result<Option<Chain>, Fault> {
+    if from < 40 || log.len() < from || grain < 1 {
+        return Ok(None);
+    }
+    let found = chain(rt, rt.alloc(), log, from, grain)?;
+    Ok(Some(found))
+}
+
+/// Where the bodies of a chain stand.
+fn places(alloc: Global, found: &Chain) -> Result<Vec<(usize, usize)>, AllocError> {
+    let mut places = Vec::new(alloc);
+    for span in &found.spans {
+        places.push((span.start, span.len))?;
+    }
+    Ok(places)
+}
+
+#[test]
+fn the_chain_tells_its_spans(rt: HostRuntime) -> Result<(), Fail> {
+    let Framed { log, ends } = log_of_lengths(rt.alloc(), &LENGTHS)?;
+    assert_eq!(rt; ends.as_slice(), [87usize, 132, 192, 237].as_slice());
+    for grain in [1, 1000] {
+        let found = chain_from(&rt, &log, 87, grain)?.ok_or("chain")?;
+        let spans = places(rt.alloc(), &found)?;
+        assert_eq!(rt; spans.as_slice(), [(91, 9), (136, 24), (196, 9)].as_slice());
+        assert_eq!(rt; found.end, 237);
+        assert!(rt; found.rest == Rest::Whole);
+        let none = chain_from(&rt, &log, 88, grain)?.ok_or("chain")?;
+        assert_eq!(rt; none.spans.len(), 0);
+        assert_eq!(rt; none.end, 88);
+        assert!(rt; none.rest == Rest::Cut);
+    }
+    Ok(())
+}
+
+#[test]
+fn a_walk_does_not_look_at_digests(rt: HostRuntime) -> Result<(), Fail> {
+    let Framed { mut log, .. } = log_of_lengths(rt.alloc(), &LENGTHS[..2])?;
+    let last = log.pop().ok_or("byte")?;
+    log.push(last ^ 1)?;
+    if log.len() >= 40 {
+        let found = walk(rt.alloc(), &log, 40)?;
+        assert_eq!(rt; found.spans().len(), 2);
+        let found = found.checked(&rt, &log, 1);
+        assert!(rt; found.spans.len() == 1 && found.rest == Rest::Digest);
+    }
+    Ok(())
+}

@@ -1,0 +1,61 @@
+//! A log as one page that a browser shows.
+
+ghost use Rattle.std.specs.Prelude.{OnOk};
+ghost use Rattle.rq_front.specs.Chains.{IsHeaded};
+
+mod courses;
+mod markup;
+mod pictures;
+mod style;
+mod summaries;
+mod surveys;
+mod tables;
+mod units;
+
+use crate::ends::end_after;
+use crate::paging::markup::{put_foot, put_head};
+use crate::paging::pictures::put_picture;
+use crate::paging::summaries::put_summary;
+use crate::paging::surveys::surveyed;
+use crate::paging::tables::put_queues;
+use crate::paging::units::put_units;
+use crate::sheet::finish;
+use crate::trouble::Trouble;
+use rq_restart::{Open, Plan, audit, restart};
+use std::alloc::Global;
+use std::io::Write;
+use std::thread::Threads;
+
+/// Writes a log under a name as one page of HTML: its front, a picture of the log along its length, the units that were open
+/// at the front's end, and each queue with its depth along the log and its elements. The page has no parts outside and no
+/// script. Its pictures have bins: it grows with the queues and their elements, and not with the records.
+///
+/// Refuses what a restart refuses, and before anything is written; else with `Output` where the output fails, and with
+/// `Resources` where memory is refused, and then a beginning is written.
+pub fn page<R, W>(
+    rt: &R,
+    alloc: Global,
+    bytes: &[u8],
+    plan: &Plan,
+    name: &str,
+    output: &mut W,
+) -> Result<(), Trouble>
+where
+    R: Threads + Sync,
+    W: Write,
+    ensures { OnOk result (IsHeaded bytes.now) }
+{
+    let restarted = restart(rt, alloc, bytes, plan, &Open)?;
+    let end = end_after(rt, alloc, bytes, &restarted, plan)?;
+    let checkpoints = audit(rt, alloc, bytes, plan)?;
+    let seen = surveyed(alloc, bytes, &end, restarted.state())?;
+    let mut text = String::new(alloc);
+    put_head(&mut text, name)?;
+    put_summary(&mut text, &restarted, &end, &checkpoints)?;
+    put_picture(alloc, &mut text, &seen, &end, &checkpoints)?;
+    put_units(&mut text, &seen, &end)?;
+    put_queues(alloc, &mut text, &seen, restarted.state(), output)?;
+    put_foot(&mut text)?;
+    finish(&mut text, output)?;
+    Ok(())
+}

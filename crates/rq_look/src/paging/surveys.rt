@@ -1,0 +1,151 @@
+//! What one walk over the front finds for a page.
+
+use crate::ends::End;
+use crate::following::{Effect, Event, Queues};
+use crate::frames::Walk;
+use crate::numbered::{Numbered, kind_of, queues_behind};
+use crate::paging::courses::{BINS, Course, along};
+use crate::trouble::Trouble;
+use rq_record::{QueueNo, Record};
+use rq_state::State;
+use std::alloc::{AllocError, Global};
+use std::collections::BTreeMap;
+
+/// How many records of each kind begin in a bin.
+pub(super) type Bin = BTreeMap<&'static str, u64>;
+
+/// What one walk over the front finds.
+#[derive(Drop)]
+pub(super) struct Survey {
+    /// The records by kind, of each bin.
+    pub(super) bins: Vec<Bin>,
+    /// The free elements of each queue.
+    pub(super) depths: Vec<Course>,
+    /// The open units.
+    pub(super) open: Course,
+    /// The offset of the BEGIN of each unit that is open.
+    pub(super) begun: BTreeMap<u64, u64>,
+}
+
+/// The bin of a place of a log of so many bytes.
+pub(super) fn bin_of(offset: u64, total: u64) -> u64 {
+    along(offset, total, BINS).min(BINS - 1)
+}
+
+// Counts one more record of this kind.
+fn count(bin: &mut Bin, kind: &'static str) -> Result<(), AllocError> {
+    if let Some(count) = bin.get_mut(&kind) {
+        *count = count.saturating_add(1);
+        return Ok(());
+    }
+    bin.insert(kind, 1)?;
+    Ok(())
+}
+
+// The queue that has one free element more, or one fewer.
+fn change_of(it: &Numbered, effect: Effect) -> Option<(u32, bool)> {
+    match effect {
+        Effect::Free(queue) | Effect::Back(queue, _) | Effect::Moved(queue) => Some((queue, true)),
+        Effect::Taken => it.queue().map(|queue| (queue.0, false)),
+        // A commit's elements were taken before; a KILL's was free.
+        Effect::Gone => match &it.record {
+            Record::Kill { queue, .. } => Some((queue.0, false)),
+            _ => None,
+        },
+        Effect::Put | Effect::Nothing | Effect::Undone => None,
+    }
+}
+
+impl Survey {
+    // Before the first record.
+    fn new(alloc: Global) -> Result<Survey, AllocError> {
+        let mut bins = Vec::with_capacity(alloc, BINS as usize)?;
+        for _ in 0..BINS {
+            bins.push(BTreeMap::new(alloc))?;
+        }
+        Ok(Survey {
+            bins,
+            depths: Vec::new(alloc),
+            open: Course::new(alloc),
+            begun: BTreeMap::new(alloc),
+        })
+    }
+
+    // A record that begins or ends a unit, or defines a queue.
+    fn take_record(&mut self, alloc: Global, it: &Numbered, bin: u64) -> Result<(), AllocError> {
+        match &it.record {
+            Record::Define { .. } => self.depths.push(Course::new(alloc))?,
+            Record::Begin { unit } => {
+                self.begun.insert(unit.0, it.offset)?;
+                self.open.change(bin, true)?
+            }
+            Record::Commit { unit } | Record::Abort { unit } => {
+                self.begun.remove(&unit.0);
+                self.open.change(bin, false)?
+            }
+            _ => {}
+        }
+        Ok(())
+    }
+
+    // What happens to elements at a record.
+    fn take_events(&mut self, it: &Numbered, events: &[Event], bin: u64) -> Result<(), AllocError> {
+        for event in events {
+            if let Some((queue, grows)) = change_of(it, event.effect) {
+                if let Some(depth) = self.depths.get_mut(queue as usize) {
+                    depth.change(bin, grows)?;
+                }
+            }
+        }
+        Ok(())
+    }
+
+    // A record, and what happens at it.
+    fn take(
+        &mut self,
+        alloc: Global,
+        it: &Numbered,
+        events: &[Event],
+        total: u64,
+    ) -> Result<(), AllocError> {
+        let bin = bin_of(it.offset, total);
+        if let Some(kinds) = self.bins.get_mut(bin as usize) {
+            count(kinds, kind_of(&it.record))?;
+        }
+        self.take_record(alloc, it, bin)?;
+        self.take_events(it, events, bin)
+    }
+
+    // Behind the front no unit is open, and the depths are those after the restart's aborts.
+    fn close(&mut self, state: &State, bin: u64) -> Result<(), AllocError> {
+        self.open.set(bin, 0)?;
+        let mut number: u32 = 0;
+        for depth in self.depths.iter_mut() {
+            depth.set(bin, state.elements_of(QueueNo(number)).len() as u64)?;
+            number = number.saturating_add(1);
+        }
+        Ok(())
+    }
+}
+
+/// What the front of the log shows, of which the state after its restart is known.
+pub(super) fn surveyed(
+    alloc: Global,
+    bytes: &[u8],
+    end: &End,
+    state: &State,
+) -> Result<Survey, Trouble> {
+    let mut machine = Queues::new(alloc);
+    let mut events = Vec::new(alloc);
+    let mut seen = Survey::new(alloc)?;
+    let mut queues = 0;
+    for placed in Walk::of(bytes, end.used) {
+        let it = Numbered::of(alloc, placed, queues)?;
+        events.clear();
+        machine.step(alloc, &it, &mut events)?;
+        seen.take(alloc, &it, &events, end.total)?;
+        queues = queues_behind(queues, placed.body);
+    }
+    seen.close(state, bin_of(end.used, end.total))?;
+    Ok(seen)
+}

@@ -1,0 +1,117 @@
+//! The priority of each element by its id. A KILL names an id alone, and Free elements stand by priority first.
+
+ghost use Rattle.std.specs.Prelude.{◌≡◌, ◌≢◌, ◌==◌, ◌∷◌, ◌++◌, [], List, not, filter, IfOk, IfErr};
+ghost use Rattle.std.specs.List.{AllByRecursion};
+ghost use Rattle.std.specs.Map.{values_of};
+ghost use Rattle.rq_model.specs.States as model;
+ghost use Rattle.rq_model.specs.WellFormed.{Ordered};
+ghost use Rattle.rq_queue.specs.Kept.{items_of, IsKeyed};
+ghost use Rattle.rq_queue.specs.Priorities.{IsKnown, AreKnown, with_all};
+ghost use Rattle.rq_record.specs.declared.fault.Fault.TheVariants.{Resources};
+
+use rq_record::{ElemId, Fault};
+use rq_state::Element;
+use std::alloc::Global;
+use std::cmp::Reverse;
+use std::collections::BTreeMap;
+
+/// Where priorities are kept, that of an element of a new id is kept too.
+pub fn kept_with(
+    priorities: Option<BTreeMap<u64, u8>>,
+    e: &Element,
+) -> Result<Option<BTreeMap<u64, u8>>, Fault>
+    ensures known { IfOk result (λ o. (es : List model.Element) → AllByRecursion (λ x. e.now.id ≢ x.id) es → AreKnown priorities es → AreKnown o (e.now ∷ es)) }
+    ensures refused { IfErr result (λ e. e ≡ Resources) }
+{
+    let Some(mut by_id) = priorities else {
+        return Ok(None);
+    };
+    let (priority, id) = e.key();
+    by_id.insert(id, priority)?;
+    Ok(Some(by_id))
+}
+
+/// Adds the priorities of the elements of a list.
+fn listed(by_id: BTreeMap<u64, u8>, list: &[Element]) -> Result<BTreeMap<u64, u8>, Fault>
+    ensures added { IfOk result (λ m. m.entries ≡ with_all list.now by_id.entries) }
+    ensures refused { IfErr result (λ e. e ≡ Resources) }
+{
+    let mut by_id = by_id;
+    for e in list {
+        let (priority, id) = e.key();
+        by_id.insert(id, priority)?;
+    }
+    Ok(by_id)
+}
+
+/// The priorities of the Free elements.
+fn of_free(
+    alloc: Global,
+    free: &BTreeMap<(Reverse<u8>, u64), Element>,
+) -> Result<BTreeMap<u64, u8>, Fault>
+    ensures added { IfOk result (λ m. m.entries ≡ with_all (values_of free.now.entries) []) }
+    ensures refused { IfErr result (λ e. e ≡ Resources) }
+{
+    let mut by_id = BTreeMap::new(alloc);
+    for e in free.values() {
+        let (priority, id) = e.key();
+        by_id.insert(id, priority)?;
+    }
+    Ok(by_id)
+}
+
+/// Adds the priorities of the elements that units mark.
+fn with_marked(
+    by_id: BTreeMap<u64, u8>,
+    marked: &BTreeMap<u64, Vec<Element>>,
+) -> Result<BTreeMap<u64, u8>, Fault>
+    ensures added { IfOk result (λ m. m.entries ≡ with_all (items_of marked.now.entries) by_id.entries) }
+    ensures refused { IfErr result (λ e. e ≡ Resources) }
+{
+    let mut by_id = by_id;
+    for (_, list) in marked {
+        by_id = listed(by_id, list)?;
+    }
+    Ok(by_id)
+}
+
+/// The priorities of all elements: those that are kept, or else collected now.
+pub fn known(
+    alloc: Global,
+    priorities: Option<BTreeMap<u64, u8>>,
+    free: &BTreeMap<(Reverse<u8>, u64), Element>,
+    marked: &BTreeMap<u64, Vec<Element>>,
+) -> Result<BTreeMap<u64, u8>, Fault>
+    requires apart { Ordered (λ (e f : model.Element). e.id ≢ f.id) (values_of free.now.entries ++ items_of marked.now.entries) }
+    requires known { AreKnown priorities (values_of free.now.entries ++ items_of marked.now.entries) }
+    ensures known { IfOk result (λ m. AllByRecursion (IsKnown m.entries) (values_of free.now.entries ++ items_of marked.now.entries)) }
+    ensures refused { IfErr result (λ e. e ≡ Resources) }
+{
+    match priorities {
+        Some(by_id) => Ok(by_id),
+        None => {
+            let of_free = of_free(alloc, free)?;
+            let of_all = with_marked(of_free, marked)?;
+            Ok(of_all)
+        }
+    }
+}
+
+/// The Free elements without the one of that id, if there is one: its priority says where it stands.
+pub fn without(
+    free: BTreeMap<(Reverse<u8>, u64), Element>,
+    by_id: &BTreeMap<u64, u8>,
+    id: ElemId,
+) -> BTreeMap<(Reverse<u8>, u64), Element>
+    requires keyed { AllByRecursion IsKeyed free.entries }
+    requires apart { Ordered (λ (e f : model.Element). e.id ≢ f.id) (values_of free.entries) }
+    requires known { AllByRecursion (IsKnown by_id.now.entries) (values_of free.entries) }
+    ensures keyed { AllByRecursion IsKeyed result.entries }
+    ensures others { values_of result.entries ≡ filter (λ (e : model.Element). not (e.id == id.0)) (values_of free.entries) }
+{
+    let mut free = free;
+    if let Some(priority) = by_id.get(&id.0) {
+        free.remove(&(Reverse(*priority), id.0));
+    }
+    free
+}
