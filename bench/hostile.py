@@ -150,12 +150,17 @@ def retried(n: int) -> Records:
         yield abort(unit)
 
 
-def all_retried(n: int) -> Records:
-    """Each unit takes one of many elements and aborts, so that the best one is always the same."""
+def filled(count: int) -> Records:
+    """A queue with so many elements, which one unit put in."""
     yield define(b"jobs")
     yield begin(1)
-    yield from itertools.repeat(enqueue(1, 0), n // 2)
+    yield from itertools.repeat(enqueue(1, 0), count)
     yield commit(1)
+
+
+def all_retried(n: int) -> Records:
+    """Each unit takes one of many elements and aborts, so that the best one is always the same."""
+    yield from filled(n // 2)
     for unit in range(2, n // 6):
         yield begin(unit)
         yield dequeue(unit, 0)
@@ -237,10 +242,7 @@ def false_checkpoints(n: int) -> Records:
 
 def many_elements(n: int, told: Callable[[int], bytes]) -> Records:
     """n / 2 elements, and then n / 2 checkpoints."""
-    yield define(b"jobs")
-    yield begin(1)
-    yield from itertools.repeat(enqueue(1, 0), n // 2)
-    yield commit(1)
+    yield from filled(n // 2)
     yield from (checkpoint(told(n // 2 + 3 + at)) for at in range(n // 2))
 
 
@@ -287,19 +289,13 @@ def chained(n: int) -> Records:
 
 def all_killed(n: int) -> Records:
     """Many elements, and a KILL for each, the last one first."""
-    yield define(b"jobs")
-    yield begin(1)
-    yield from itertools.repeat(enqueue(1, 0), n // 2)
-    yield commit(1)
+    yield from filled(n // 2)
     yield from (kill(0, 1 + n // 2 - at) for at in range(n // 2))
 
 
 def none_killed(n: int) -> Records:
     """Many elements, held by one unit, and KILLs of these, of what was never there and of the first record."""
-    yield define(b"jobs")
-    yield begin(1)
-    yield from itertools.repeat(enqueue(1, 0), n // 4)
-    yield commit(1)
+    yield from filled(n // 4)
     yield begin(2)
     yield from itertools.repeat(dequeue(2, 0), n // 4)
     yield from itertools.chain.from_iterable((kill(0, 2 + at), kill(0, n + at), kill(0, 0)) for at in range(n // 6))

@@ -86,7 +86,7 @@ try_unproved() {
     file=$2
     shift 2
     mkdir -p "$out"
-    echo "$name: not proved: a trial run, which takes about a minute and a half" >&2
+    echo "$name: not proved: a trial run, which takes about half a minute on free cores" >&2
     file=$(readlink -f -- "$file")
     (cd "$here/crates/$name" && exec rt try --data "log=$file" -- "$command" log "$@" < /dev/null 2> "$out/try.log")
 }

@@ -26,7 +26,7 @@ use std::marker::Model;
 /// changes.
 ///
 /// From the first KILL on the priority of each element stands under its id, since a KILL names no priority. An entry may
-/// be of an element that has gone: it is only where to look. A queue without a KILL pays nothing for it.
+/// be of an element that has gone: it is only where to look. A queue without a KILL keeps none.
 #[derive(Drop)]
 pub struct Elements {
     free: BTreeMap<(Reverse<u8>, u64), Element>,
