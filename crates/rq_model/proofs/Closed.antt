@@ -5,12 +5,12 @@ use Rattle.std.proofs.lemmas.List.{append-nil, length-append, length-take, take-
 use Rattle.sha2.specs.Sha256.{sha256}
 use Rattle.rq_model.specs.Records.{Record, Abort, Version}
 use Rattle.rq_model.specs.Spelling.{IsRecord}
-use Rattle.rq_model.specs.Frames.{log_limit, magic, log_of, frames_of, last_of, AreBytes, Whole}
+use Rattle.rq_model.specs.Frames.{log_limit, magic, log_of, frames_of, last_of, Whole}
 use Rattle.rq_model.specs.States.{State, empty}
 use Rattle.rq_model.specs.Machine.{all_lawful, closed_units, step, run, aborts, final}
 use Rattle.rq_model.specs.WellFormed.{Ordered}
-use Rattle.rq_model.specs.Fronts.{Ends, IsFront, Restarted, restarted, IsRestart}
-use Rattle.rq_model.specs.Closing.{IsClosedBy, IsClosed, OneClosed, ClosedFront, when_closed, HaveSameQueues, StandsFor, ClosedStands}
+use Rattle.rq_model.specs.Fronts.{Ends, IsFront, Restarted, IsRestart}
+use Rattle.rq_model.specs.Closing.{IsClosed, OneClosed, ClosedFront, when_closed, HaveSameQueues, ClosedStands}
 use Rattle.rq_model.proofs.Lists.{each_append}
 use Rattle.rq_model.proofs.Crash.{crash_is_harmless, first_closed}
 use Rattle.rq_model.proofs.Kept.{runs_are_well_formed, empty_is_well_formed}

@@ -15,6 +15,7 @@ pub mod Laws
 pub mod Ready
 pub mod LogLaws
 pub mod Closing
+pub mod Upgrading
 pub mod MoveLaws
 pub mod WorkedLogs
 pub mod WorkedMachine

@@ -2,8 +2,9 @@
 //! on a function below that does nothing.
 #![tactic(auto)]
 
-ghost use Rattle.rq_model.specs.LogLaws.{BodySpellsOne, RecordHasOneBody, BytesSpellOneState, RunsFit, FrameIsRight, RightIsFrame, RunStops, OneRun, OneRest, OneFrameRun, RunGivesFront, FramesJoin, LogJoins, LogEnds, FrontStops, OneLongest, OneWhy, OneFront, OneRestart, OneText, OneReport, FrontHasReport, EveryLogHasReport, OneVersion, RecordIsWider, UsedIsFront, FrontsAreSpelt, OneRestartAt, TrueIsSame, TrueSaysTheSame, OneAudit, CrashInTheTail, CrashSaysTheSame, UpgradeIsSame};
+ghost use Rattle.rq_model.specs.LogLaws.{BodySpellsOne, RecordHasOneBody, BytesSpellOneState, RunsFit, FrameIsRight, RightIsFrame, RunStops, OneRun, OneRest, OneFrameRun, RunGivesFront, FramesJoin, LogJoins, LogEnds, FrontStops, OneLongest, OneWhy, OneFront, OneRestart, OneText, OneReport, FrontHasReport, EveryLogHasReport, OneVersion, RecordIsWider, UsedIsFront, FrontsAreSpelt, OneRestartAt, TrueIsSame, TrueSaysTheSame, OneAudit, CrashInTheTail, CrashSaysTheSame};
 ghost use Rattle.rq_model.specs.Closing.{OneClosed, ClosedFront, ClosedStands};
+ghost use Rattle.rq_model.specs.Upgrading.{UpgradeIsSame};
 ghost use Rattle.rq_model.specs.WorkedLogs.{WorkedBytes, WorkedLogs, UnlawfulLogs, WorkedCheckpoint};
 ghost use Rattle.rq_model.specs.WorkedMachine.{WorkedLaw, WorkedSteps, WorkedOrders, WorkedQueues, WorkedRedo};
 ghost use Rattle.rq_model.specs.WorkedFormats.{WorkedNames, WorkedBodies, WorkedWidths, WorkedFrames, AllRests, WorkedStates, WorkedMembers, WorkedLines};
@@ -142,7 +143,8 @@ pub fn closed_logs()
     ensures stands { ClosedStands }
 {}
 
-/// A log in version 2 has the front, the restart and the audit of the log it was made of.
+/// A log in version 2 has the front, the restart, the report, the checkpoints and the audit of the log it was made of, and to
+/// upgrade it again changes nothing.
 pub fn upgrade_is_the_same()
     ensures { UpgradeIsSame }
 {}
