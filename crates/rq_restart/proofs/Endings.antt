@@ -25,22 +25,20 @@ use Rattle.rq_restart.proofs.Starts.{started, whole_front}
 pub before_is : (kept last rest : List ℕ) (place : ℕ) → length last ≡ 32 → place ≡ length kept + 32 → before place (kept ++ (last ++ rest)) ≡ last
 before_is kept last rest place long is = ap (take 32) (drop_at kept (last ++ rest) (place - 32) (omega (arith, is))) ∙ take_at last rest 32 long
 
--- one frame more, and its last 32 bytes
+-- the last 32 bytes of one frame more
 pub record IsFramed (old new p body : List ℕ) : Type 0 where
-  pub bytes : new ≡ old ++ frame p body
   pub long : 32 ≤ length new
   pub last : before (length new) new ≡ digest p body
 
-pub framed : (old new p body held : List ℕ) → held ≡ body → new ≡ old ++ frame p held → IsFramed old new p body
-framed old new p body held same is =
+pub framed : (old new p body : List ℕ) → new ≡ old ++ frame p body → IsFramed old new p body
+framed old new p body is =
     let d = digest p body in
     let size : List ℕ = to_be_bytes w32 (length body) in
     let kept : List ℕ = old ++ (size ++ body) in
-    let bytes : new ≡ old ++ frame p body = is ∙ ap (λ (z : List ℕ). old ++ frame p z) same in
-    let apart : new ≡ kept ++ (d ++ []) = bytes ∙ ap (λ (z : List ℕ). old ++ z) (sym (append_assoc size body d)) ∙ sym (append_assoc old (size ++ body) d) ∙ ap (λ (z : List ℕ). kept ++ z) (sym (append-nil d)) in
+    let apart : new ≡ kept ++ (d ++ []) = is ∙ ap (λ (z : List ℕ). old ++ z) (sym (append_assoc size body d)) ∙ sym (append_assoc old (size ++ body) d) ∙ ap (λ (z : List ℕ). kept ++ z) (sym (append-nil d)) in
     let long : length d ≡ 32 = length-sha256 (p ++ (size ++ body)) in
     let here : length new ≡ length kept + 32 = omega (arith, ap length apart, length-append kept (d ++ []), length-append d [], long) in
-    record { bytes = bytes; long = omega (arith, here); last = ap (before (length new)) apart ∙ before_is kept d [] (length new) long here }
+    record { long = omega (arith, here); last = ap (before (length new)) apart ∙ before_is kept d [] (length new) long here }
 
 -- of the aborts of units, one is written, and the others are still to come
 pub one_written : (us : List UnitNo) (i : ℕ) (d : UnitNo) (out new p last whole : List ℕ) → i < length us → out ++ frames_of p (map Abort (map unit_of (drop i us))) ≡ whole

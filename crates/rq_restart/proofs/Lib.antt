@@ -4,6 +4,7 @@ pub mod Fronts
 pub mod Closings
 pub mod Starts
 pub mod Endings
+pub mod Upgradings
 pub mod Checkpoints
 pub mod Audits
 pub mod Walks

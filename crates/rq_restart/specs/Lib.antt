@@ -4,6 +4,7 @@ pub mod Known
 pub mod Ends
 pub mod Restarts
 pub mod Tails
+pub mod Upgrades
 pub mod Checkpoints
 pub mod Audits
 pub mod Worth

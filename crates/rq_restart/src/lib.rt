@@ -4,6 +4,7 @@
 mod auditing;
 mod checkpoint;
 mod closing;
+mod framing;
 mod front;
 mod grain;
 mod reading;
@@ -12,6 +13,7 @@ mod restarting;
 mod restarting_at;
 mod tails;
 mod tally;
+mod upgrading;
 
 pub use auditing::audit;
 pub use restarted::{Restarted, Why};
@@ -20,3 +22,4 @@ pub use restarting_at::restart_at;
 pub use rq_pool::{Gate, Open, Plan};
 pub use rq_record::Fault;
 pub use tails::{closed, tail};
+pub use upgrading::upgrade;

@@ -3,13 +3,13 @@
 ghost use Rattle.std.specs.Prelude.{◌≡◌, ◌≤◌, ◌++◌, length, map, IfOk, IfErr, OnOk};
 ghost use Rattle.rq_model.specs.Records as model;
 ghost use Rattle.rq_model.specs.Spelling.{body_of};
-ghost use Rattle.rq_model.specs.Frames.{before, digest, frame, frames_of};
+ghost use Rattle.rq_model.specs.Frames.{digest, frame, frames_of};
 ghost use Rattle.rq_record.specs.declared.fault.Fault.TheVariants.{Resources};
 ghost use Rattle.rq_state.specs.Views.{unit_of};
 ghost use Rattle.rq_restart.specs.Tails.{Closes, IsEnding, StaysOpen, Tails};
 
+use crate::framing::{append_frame, before};
 use crate::restarting::whole_front;
-use rq_front::frame;
 use rq_pool::Plan;
 use rq_record::{Fault, Record, UnitNo, encode};
 use std::alloc::Global;
@@ -20,17 +20,6 @@ const LOG_LIMIT: usize = 4_294_967_295;
 
 // What the frame of an ABORT has: 36 bytes, and the 9 of its body.
 const ABORT_LEN: usize = 45;
-
-// The 32 bytes before a place.
-fn before(bytes: &[u8], place: usize) -> [u8; 32]
-    requires after { 32 ≤ place }
-    requires within { place ≤ length bytes.now }
-    ensures { result ≡ before place bytes.now }
-{
-    let mut kept = [0; 32];
-    kept.copy_from_slice(&bytes[place - 32..place]);
-    kept
-}
 
 // Appends the frame of the unit's ABORT behind these 32 bytes, and answers its own last 32 bytes.
 fn append_abort(
@@ -45,8 +34,7 @@ fn append_abort(
 {
     let mut body = Vec::new(alloc);
     encode(&Record::Abort { unit }, &mut body)?;
-    frame(prev, &body, out)?;
-    Ok(before(out, out.len()))
+    append_frame(prev, &body, out)
 }
 
 // Appends the frames of the units' ABORTs, the first behind these 32 bytes.

@@ -1,0 +1,34 @@
+//! One frame more at the end of a log.
+
+ghost use Rattle.std.specs.Prelude.{◌≡◌, ◌≤◌, ◌++◌, length, IfOk, IfErr, OnOk};
+ghost use Rattle.rq_model.specs.Frames.{IsBodyLength, before, digest, frame};
+ghost use Rattle.rq_record.specs.declared.fault.Fault.TheVariants.{Resources};
+
+use rq_front::frame;
+use rq_record::Fault;
+
+/// The 32 bytes before a place.
+pub(crate) fn before(bytes: &[u8], place: usize) -> [u8; 32]
+    requires after { 32 ≤ place }
+    requires within { place ≤ length bytes.now }
+    ensures { result ≡ before place bytes.now }
+{
+    let mut kept = [0; 32];
+    kept.copy_from_slice(&bytes[place - 32..place]);
+    kept
+}
+
+/// Appends the frame of a body behind these 32 bytes, and answers its own last 32 bytes.
+pub(crate) fn append_frame(
+    prev: &[u8; 32],
+    body: &[u8],
+    out: &mut Vec<u8>,
+) -> Result<[u8; 32], Fault>
+    requires { IsBodyLength (length body.now) }
+    ensures bytes { OnOk result (out.new.items ≡ out.old.items ++ frame prev.now body.now) }
+    ensures last { IfOk result (λ last. last ≡ digest prev.now body.now) }
+    ensures refused { IfErr result (λ e. e ≡ Resources) }
+{
+    frame(prev, body, out)?;
+    Ok(before(out, out.len()))
+}
