@@ -80,6 +80,7 @@ where
         Command::RestartAt { log, .. } => print(rt, command, log),
         Command::Audit { log, .. } => print(rt, command, log),
         Command::Close { log, out, .. } => make_file(rt, command, log, out),
+        Command::Upgrade { log, out, .. } => make_file(rt, command, log, out),
     }
 }
 

@@ -5,3 +5,4 @@ pub mod Scripts
 pub mod AuditTexts
 pub mod Plans
 pub mod Closings
+pub mod Upgrades

@@ -6,7 +6,8 @@ use Rattle.rq_tool.specs.Headline.{Runs, RunsAt, WritesOnly, WritesOnlyAt, Write
 use Rattle.rq_tool.specs.Scripts.{Makes, MakesOnly}
 use Rattle.rq_tool.specs.AuditTexts.{AuditsLog, AuditsOnly}
 use Rattle.rq_tool.specs.Closings.{ClosesLog, ClosesOnly}
-use Rattle.rq_tool.specs.Commands.{Line, Make, Restart, RestartAt, Audit, Close}
+use Rattle.rq_tool.specs.Upgrades.{UpgradesLog, UpgradesOnly}
+use Rattle.rq_tool.specs.Commands.{Line, Make, Restart, RestartAt, Audit, Close, Upgrade}
 
 -- with the bytes b of its first file, where the writer held the bytes `old` before and holds `new` afterwards
 abbrev pub Acts : Line → List ℕ → Option (List ℕ) → Option (List ℕ) → Result (Unit {0}) Fault → Type 0
@@ -15,6 +16,7 @@ Acts (Restart log workers grain) b old new result = Runs b old new result
 Acts (RestartAt log offset workers grain) b old new result = RunsAt b offset old new result × (TrueAt b offset → WritesReport b old new result)
 Acts (Audit log workers grain) b old new result = AuditsLog b old new result
 Acts (Close log out workers grain) b old new result = ClosesLog b old new result
+Acts (Upgrade log out workers grain) b old new result = UpgradesLog b old new result
 
 -- also where the reader tells no bytes
 abbrev pub ActsOnly : Line → Option (List ℕ) → Option (List ℕ) → Result (Unit {0}) Fault → Type 0
@@ -23,3 +25,4 @@ ActsOnly (Restart log workers grain) old new result = WritesOnly old new result
 ActsOnly (RestartAt log offset workers grain) old new result = WritesOnlyAt offset old new result
 ActsOnly (Audit log workers grain) old new result = AuditsOnly old new result
 ActsOnly (Close log out workers grain) old new result = ClosesOnly old new result
+ActsOnly (Upgrade log out workers grain) old new result = UpgradesOnly old new result

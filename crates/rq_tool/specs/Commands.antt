@@ -14,6 +14,7 @@ pub data Line : Type 0 where
   RestartAt : (log : List ℕ) (offset workers grain : ℕ) → Line
   Audit : (log : List ℕ) (workers grain : ℕ) → Line
   Close : (log out : List ℕ) (workers grain : ℕ) → Line
+  Upgrade : (log out : List ℕ) (workers grain : ℕ) → Line
 
 -- the word that makes a log of a version
 abbrev pub make_word : Version → List ℕ
@@ -27,6 +28,7 @@ words_of (Restart log workers grain) = codes "restart" ∷ (log ∷ (decimal wor
 words_of (RestartAt log offset workers grain) = codes "restart-at" ∷ (log ∷ (decimal offset ∷ (decimal workers ∷ (decimal grain ∷ []))))
 words_of (Audit log workers grain) = codes "audit" ∷ (log ∷ (decimal workers ∷ []))
 words_of (Close log out workers grain) = codes "close" ∷ (log ∷ (out ∷ (decimal workers ∷ [])))
+words_of (Upgrade log out workers grain) = codes "upgrade" ∷ (log ∷ (out ∷ (decimal workers ∷ [])))
 
 -- how many workers there may be, and how many frames a grain has
 abbrev pub IsPlan : ℕ → ℕ → Type 0
@@ -39,6 +41,7 @@ IsLine (Restart log workers grain) = IsPlan workers grain
 IsLine (RestartAt log offset workers grain) = (offset < 2 ^ 64) × IsPlan workers grain
 IsLine (Audit log workers grain) = IsPlan workers grain × (grain ≡ 1000)
 IsLine (Close log out workers grain) = IsPlan workers grain × (grain ≡ 1000)
+IsLine (Upgrade log out workers grain) = IsPlan workers grain × (grain ≡ 1000)
 
 -- the line of a command
 abbrev pub line_of : Command → Line
@@ -47,6 +50,7 @@ line_of (code.Restart log plan) = Restart log.now (workers_of plan) (grain_of pl
 line_of (code.RestartAt log offset plan) = RestartAt log.now offset (workers_of plan) (grain_of plan)
 line_of (code.Audit log plan) = Audit log.now (workers_of plan) (grain_of plan)
 line_of (code.Close log out plan) = Close log.now out.now (workers_of plan) (grain_of plan)
+line_of (code.Upgrade log out plan) = Upgrade log.now out.now (workers_of plan) (grain_of plan)
 
 -- the words are those of the command's line, or of no line
 abbrev pub IsCommand : List (List ℕ) → Option Command → Type 0

@@ -2,6 +2,7 @@ pub mod Streams
 pub mod Headline
 pub mod Scripts
 pub mod Closings
+pub mod Upgrades
 pub mod AuditTexts
 pub mod Commands
 pub mod Words

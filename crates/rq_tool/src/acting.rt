@@ -11,6 +11,7 @@ use crate::engine::run;
 use crate::engine_at::run_at;
 use crate::line::Command;
 use crate::making::make_log_in;
+use crate::upgrading::upgrade_log;
 use rq_report::{Input, Output};
 use rq_restart::{Fault, Gate};
 use std::alloc::Global;
@@ -18,7 +19,8 @@ use std::marker::Sync;
 use std::thread::Threads;
 
 /// Reads the command's first file from `input` and writes to `output` what the command prints or puts into its second file:
-/// what `make_log_in`, `run`, `run_at`, `audit_log` or `close_log` writes, with their faults. Nothing is written before all bytes are there.
+/// what `make_log_in`, `run`, `run_at`, `audit_log`, `close_log` or `upgrade_log` writes, with their faults. Nothing is written
+/// before all bytes are there.
 pub fn act<R, I, O, G>(
     rt: &R,
     alloc: Global,
@@ -48,5 +50,6 @@ where
         }
         Command::Audit { plan, .. } => audit_log(rt, alloc, input, output, plan),
         Command::Close { plan, .. } => close_log(rt, alloc, input, output, plan),
+        Command::Upgrade { plan, .. } => upgrade_log(rt, alloc, input, output, plan),
     }
 }

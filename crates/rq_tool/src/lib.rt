@@ -9,6 +9,7 @@ mod engine_at;
 mod input;
 mod line;
 mod making;
+mod upgrading;
 mod words;
 
 pub use acting::act;
@@ -21,4 +22,5 @@ pub use making::{make_log, make_log_in};
 pub use rq_record::Version;
 pub use rq_report::{Input, Output, OverRead, OverWrite};
 pub use rq_restart::{Fault, Gate, Open, Plan};
+pub use upgrading::upgrade_log;
 pub use words::command;

@@ -34,4 +34,10 @@ pub enum Command<'a> {
         out: &'a str,
         plan: Plan,
     },
+    /// Write the log in version 2.
+    Upgrade {
+        log: &'a str,
+        out: &'a str,
+        plan: Plan,
+    },
 }

@@ -98,6 +98,18 @@ fn close<'a>(words: &[&'a str]) -> Option<Command<'a>>
     }
 }
 
+fn upgrade<'a>(words: &[&'a str]) -> Option<Command<'a>>
+    ensures { IsCommand (codes "upgrade" ∷ map (λ w. w.now) words.now) result }
+{
+    match words {
+        [log, out, workers] => {
+            let plan = workers_plan(workers)?;
+            Some(Command::Upgrade { log, out, plan })
+        }
+        _ => None,
+    }
+}
+
 /// The command whose line has these words after the program's name; none where they are of no line. Numbers are decimal
 /// without leading zeros; workers, grain and offset are in their ranges. It takes no memory.
 pub fn command<'a>(words: &[&'a str]) -> Option<Command<'a>>
@@ -111,6 +123,7 @@ pub fn command<'a>(words: &[&'a str]) -> Option<Command<'a>>
         "restart-at" => restart_at(rest),
         "audit" => audit(rest),
         "close" => close(rest),
+        "upgrade" => upgrade(rest),
         _ => None,
     }
 }
