@@ -13,6 +13,7 @@ mod streams;
 mod tails;
 mod texts;
 mod threads;
+mod upgrades;
 mod versions;
 
 use rq_record::Version;

@@ -10,7 +10,11 @@ const JOBS: &str = "queue 0 jobs limit 0 error -";
 
 const NO_UNIT: &str = "units 0 committed, 0 aborted, 0 cut off";
 
-const AFTER: [&str; 4] = [
+/// A checkpoint that spells the state before all records.
+pub const ZEROES: &str =
+    "checkpoint-hex 00000000000000000000000000000000000000000000000000000000000000000000000000000000000000000000000000000000";
+
+pub const AFTER: [&str; 4] = [
     "units 2 committed, 0 aborted, 0 cut off",
     JOBS,
     "e 7 from 0 priority 8 attempts 0 62",
@@ -18,7 +22,7 @@ const AFTER: [&str; 4] = [
 ];
 
 /// Whether the log has this report from the checkpoint at the offset, under every plan.
-fn reports_at<R: Threads + Sync + AllocGlobal>(
+pub fn reports_at<R: Threads + Sync + AllocGlobal>(
     rt: &R,
     log: &[u8],
     offset: u64,
@@ -39,7 +43,7 @@ fn reports_at<R: Threads + Sync + AllocGlobal>(
 }
 
 /// Whether the audit of the log has these lines.
-fn audits<R: Threads + Sync + AllocGlobal>(
+pub fn audits<R: Threads + Sync + AllocGlobal>(
     rt: &R,
     log: &[u8],
     found: &[&str],
@@ -64,7 +68,7 @@ fn refusal_at<R: Threads + Sync + AllocGlobal>(
 }
 
 /// The script with another line in place of `checkpoint`.
-fn with_line<R: Threads + Sync + AllocGlobal>(rt: &R, line: &str) -> Result<Vec<u8>, Fail> {
+pub fn with_line<R: Threads + Sync + AllocGlobal>(rt: &R, line: &str) -> Result<Vec<u8>, Fail> {
     let mut script = CHECKPOINT;
     script[8] = line;
     log_of(rt, &script)
@@ -108,9 +112,7 @@ fn a_unit_is_cut_off_behind_a_checkpoint(rt: HostRuntime) -> Result<(), Fail> {
 
 #[test]
 fn a_false_checkpoint_is_told(rt: HostRuntime) -> Result<(), Fail> {
-    let zeroes =
-        "checkpoint-hex 00000000000000000000000000000000000000000000000000000000000000000000000000000000000000000000000000000000";
-    let log = with_line(&rt, zeroes)?;
+    let log = with_line(&rt, ZEROES)?;
     let report = [
         "front 10 records, 581 of 581 bytes, whole",
         AFTER[0],

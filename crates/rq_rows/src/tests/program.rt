@@ -41,6 +41,7 @@ fn word_of(command: &Command<'_>) -> &'static str {
         Command::RestartAt { .. } => "restart-at",
         Command::Audit { .. } => "audit",
         Command::Close { .. } => "close",
+        Command::Upgrade { .. } => "upgrade",
     }
 }
 
@@ -62,6 +63,8 @@ fn a_line_is_a_command_or_usage(rt: HostRuntime) -> Result<(), Fail> {
     assert_eq!(rt; known(&["audit", "a", "2"]), "audit");
     assert_eq!(rt; known(&["close", "a", "b", "2"]), "close");
     assert_eq!(rt; known(&["close", "a", "b", "2", "1"]), "");
+    assert_eq!(rt; known(&["upgrade", "a", "b", "2"]), "upgrade");
+    assert_eq!(rt; known(&["upgrade", "a", "b", "2", "1"]), "");
     assert_eq!(rt; known(&[]), "");
     assert_eq!(rt;
         known(&["restart-at", "a", "18446744073709551616", "1", "1"]),

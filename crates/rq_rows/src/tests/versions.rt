@@ -25,7 +25,7 @@ const ERROR_OF_ERROR: [&str; 12] = [
     "abort 3",
 ];
 
-const KILL: [&str; 10] = [
+pub const KILL: [&str; 10] = [
     "define jobs 0 -",
     "begin 1",
     "enqueue 1 0 5 - 0 61",
