@@ -83,9 +83,9 @@ def content(path: str) -> bytes | None:
         return None
 
 
-def log_of(script: bytes, name: str) -> str:
+def log_of(script: bytes, name: str, word: str = "make") -> str:
     log = name + ".log"
-    check(f"make {name}", run("make", put(name + ".script", script), log), DONE)
+    check(f"{word} {name}", run(word, put(name + ".script", script), log), DONE)
     return log
 
 
@@ -125,13 +125,41 @@ def closing() -> None:
     check("close into /dev/stdout", run("close", log, "/dev/stdout", 2), (0, want, b""))
 
 
+def upgrading() -> None:
+    """Logs in version 2, by those that `make2` makes of the lines whose records are the front."""
+    log = log_of(CHECKPOINT, "older")
+    old, want = content(log) or b"", content(log_of(CHECKPOINT, "newer", "make2"))
+    for workers in [1, 2, 64]:
+        check(f"upgrade with {workers} workers", (run("upgrade", log, "upgraded.log", workers), content("upgraded.log")), (DONE, want))
+    check("restart what is upgraded", run("restart", "upgraded.log", 2, 1), (0, CHECKPOINT_REPORT, b""))
+    check("restart-at what is upgraded", run("restart-at", "upgraded.log", 447, 2, 1), (0, CHECKPOINT_REPORT, b""))
+    check("audit what is upgraded", run("audit", "upgraded.log", 2), (0, b"checkpoint 447 true\n", b""))
+    check("upgrade again", (run("upgrade", "upgraded.log", "upgraded.again", 2), content("upgraded.again")), (DONE, want))
+    check("a log that was upgraded", content(log), old)
+    for name, more in [("cut", b"\0\0"), ("length", bytes(9)), ("chain", b"\0\0\0\x01" + bytes(33))]:
+        path = put("damaged.log", old + more)
+        check(f"upgrade before {name}", (run("upgrade", path, "upgraded.log", 2), content("upgraded.log")), (DONE, want))
+    open_ = CHECKPOINT.removesuffix(b"commit 2\n")
+    units = (run("upgrade", log_of(open_, "open"), "upgraded.log", 2), content("upgraded.log"))
+    check("upgrade with an open unit", units, (DONE, content(log_of(open_, "open2", "make2"))))
+    check("upgrade a log in its own place", (run("upgrade", log, log, 2), content(log)), (DONE, want))
+    false = (run("upgrade", "false.log", "upgraded.log", 2), run("audit", "upgraded.log", 2))
+    check("upgrade a false checkpoint", false, (DONE, (0, b"checkpoint 447 false\n", b"")))
+    killed = content(log_of(ONE_ELEMENT + b"kill 0 2\n", "killed", "make2")) or b""
+    cut = (run("upgrade", put("killed.cut", killed[:-1]), "upgraded.log", 2), content("upgraded.log"))
+    check("upgrade a log of version 2", cut, (DONE, content(log_of(ONE_ELEMENT, "one2", "make2"))))
+    for path in ["missing/made", "folder", "/dev/full"]:
+        check(f"upgrade into {path}", run("upgrade", log, path, 1), WRITE_FAULT)
+    check("upgrade into /dev/stdout", run("upgrade", log, "/dev/stdout", 2), (0, want, b""))
+
+
 def usage() -> None:
     """Lines that are none: nothing is opened, and nothing is made."""
     lines = [[], ["make"], ["make", "one.script"], ["make", "one.script", "made", "1"], ["restart"], ["restart", "one.log", 1]]
-    lines += [["restart", "one.log", 1, 1, 1], ["restart-at", "two.log", 447, 1], ["audit", "two.log"], ["audit", "two.log", 1, 1], ["close", "two.log", 1], ["close", "two.log", "made", 1, 1], ["restarts", "one.log", 1, 1]]
+    lines += [["restart", "one.log", 1, 1, 1], ["restart-at", "two.log", 447, 1], ["audit", "two.log"], ["audit", "two.log", 1, 1], ["close", "two.log", 1], ["close", "two.log", "made", 1, 1], ["upgrade", "two.log", 1], ["upgrade", "two.log", "made", 1, 1], ["restarts", "one.log", 1, 1]]
     lines += [["Restart", "one.log", 1, 1], ["", "one.log", 1, 1], ["restart", "one.log", b"\xff", 1]]
     for number in ["0", "65", "00", "01", "+1", "-1", " 1", "1 ", "", "1.0", "0x1", "4294967297", "4294967360", "18446744073709551617", "one"]:
-        lines += [["restart", "one.log", number, 1], ["restart-at", "two.log", 447, number, 1], ["audit", "two.log", number], ["close", "two.log", "made", number]]
+        lines += [["restart", "one.log", number, 1], ["restart-at", "two.log", 447, number, 1], ["audit", "two.log", number], ["close", "two.log", "made", number], ["upgrade", "two.log", "made", number]]
     for number in ["0", "1000001", "01", "+1", "", "4294967297", "18446744073709551617"]:
         lines += [["restart", "one.log", 1, number], ["restart-at", "two.log", 447, 1, number]]
     for number in ["0447", "+447", "", "-1", "18446744073709551616", "18446744073709552063", "4e2"]:
@@ -148,7 +176,7 @@ def faults() -> None:
     other = log[:7] + b"\x02" + log[8:]
     for name, bytes_ in [("no byte", b""), ("39 bytes", log[:39]), ("another version", other), ("a text", b"no log at all, but longer than forty bytes\n")]:
         path = put("no.log", bytes_)
-        for line in [["restart", path, 2, 1], ["restart-at", path, 40, 2, 1], ["audit", path, 2], ["close", path, "made", 2]]:
+        for line in [["restart", path, 2, 1], ["restart-at", path, 40, 2, 1], ["audit", path, 2], ["close", path, "made", 2], ["upgrade", path, "made", 2]]:
             check(f"{line[0]} of {name}", run(*line), refused("not a log"))
     for offset in [0, 39, 40, 387, 446, 448, 724, 447 + 2**32, 2**64 - 1]:
         check(f"restart-at {offset}", run("restart-at", "two.log", offset, 2, 1), refused("no checkpoint"))
@@ -157,10 +185,10 @@ def faults() -> None:
     for script, line in [(b"begin 01\n", 1), (b"begin 1\nbegin 2", 2), (b"\n", 1), (b"begin 1\n\nbegin 2\n", 2), (b"kill 0 0\n", 1)]:
         check(f"the script {script!r}", run("make", put("bad.script", script), "bad.made"), refused(f"script line {line}"))
     check("a log of a bad script", os.path.exists("bad.made"), False)
-    for line in [["make", "missing", "made"], ["restart", "missing", 1, 1], ["restart-at", "missing", 40, 1, 1], ["audit", "missing", 1], ["close", "missing", "made", 1]]:
+    for line in [["make", "missing", "made"], ["restart", "missing", 1, 1], ["restart-at", "missing", 40, 1, 1], ["audit", "missing", 1], ["close", "missing", "made", 1], ["upgrade", "missing", "made", 1]]:
         check(f"{line[0]} of a missing file", run(*line), READ_FAULT)
     os.mkdir("folder")
-    for line in [["make", "folder", "made"], ["restart", "folder", 1, 1], ["restart-at", "folder", 40, 1, 1], ["audit", "folder", 1], ["close", "folder", "made", 1]]:
+    for line in [["make", "folder", "made"], ["restart", "folder", 1, 1], ["restart-at", "folder", 40, 1, 1], ["audit", "folder", 1], ["close", "folder", "made", 1], ["upgrade", "folder", "made", 1]]:
         check(f"{line[0]} of a folder", run(*line), READ_FAULT)
     check("a file made of no script", os.path.exists("made"), False)
 
@@ -252,7 +280,7 @@ def plans() -> None:
     # room for the program, and for a quarter of the file
     little = least_memory() + (8 << 10)
     big = put("big.log", (content(log) or b"") + bytes(32 << 20))
-    for line in [["restart", big, 1, 1000], ["restart-at", big, 40, 1, 1000], ["audit", big, 1], ["make", big, "made/big"], ["close", big, "made/big", 1]]:
+    for line in [["restart", big, 1, 1000], ["restart-at", big, 40, 1, 1000], ["audit", big, 1], ["make", big, "made/big"], ["close", big, "made/big", 1], ["upgrade", big, "made/big", 1]]:
         check(f"{line[0]} with little memory", run_within(little, *line), RESOURCES)
     check("a file made with little memory", os.path.exists("made/big"), False)
     none = put("none.log", bytes(32 << 20))
@@ -327,7 +355,7 @@ def threads() -> None:
     shim = os.path.abspath("threads.so")
     subprocess.run([compiler, "-O1", "-shared", "-fPIC", put("threads.c", THREADS), "-o", shim, "-ldl", "-lpthread"], check=True)
     long = long_log()
-    for line in [["make", "many.script", "many.again"], ["restart", long, 1, 1], ["restart-at", "two.log", 447, 1, 1], ["audit", "two.log", 1], ["close", long, "long.closed", 1]]:
+    for line in [["make", "many.script", "many.again"], ["restart", long, 1, 1], ["restart-at", "two.log", 447, 1, 1], ["audit", "two.log", 1], ["close", long, "long.closed", 1], ["upgrade", long, "long.upgraded", 1]]:
         check(f"threads of {line[0]} with one worker", threads_of(shim, *line), (0, 0))
     pieces = 2 * len(os.sched_getaffinity(0))
     for workers in [2, 3, 4, 5, 8, 16, 64]:
@@ -342,16 +370,17 @@ def threads() -> None:
         more, most = threads_of(shim, "restart", long, workers, 1)
         told = f"threads of a long restart with {workers} workers and more pieces than one: {more}, {most} at a time"
         check(told, started + (pieces > 2) <= more < started + pieces and most <= max(others, pieces), True)
-        closing, most = threads_of(shim, "close", long, "long.closed", workers)
-        told = f"threads of a close with {workers} workers: {closing}, {most} at a time"
-        check(told, closing <= min(others, 15) + pieces and most <= max(others, pieces), True)
+        for word in ["close", "upgrade"]:
+            started, most = threads_of(shim, word, long, "long.made", workers)
+            told = f"threads of {word} with {workers} workers: {started}, {most} at a time"
+            check(told, started <= min(others, 15) + pieces and most <= max(others, pieces), True)
 
 
 def main() -> None:
     folder = tempfile.mkdtemp()
     os.chdir(folder)
     try:
-        for part in [commands, usage, faults, closing, outputs, files, plans, threads]:
+        for part in [commands, usage, faults, closing, upgrading, outputs, files, plans, threads]:
             try:
                 part()
             except Exception as fault:

@@ -1,15 +1,20 @@
 #!/usr/bin/env python3
 """Restarts many logs with the program, at several plans, and with the peer, and counts reports that differ. Closes each log, too:
-the peer's report of the closed log must be `whole` and have the same queue lines.
+the peer's report of the closed log must be `whole` and have the same queue lines. Upgrades each: what is made must be the bodies
+of the front, chained anew in version 2, with the same report but for its first line, the same audit, and from each true checkpoint
+the same restart. One log more has true checkpoints.
 
 usage: agree.py RQ [--seeds N] [--mib 1,4] [--folder DIR]
 """
 from __future__ import annotations
 import os, subprocess
-from common import built_peer, log_of, parsed, parser
+from checkpoints import script
+from common import bodies_of, built_peer, chained, header_of, log_of, parsed, parser
 
 SHAPES = ["errors", "wide", "small", "names", "hot", "kib", "deep", "kills"]
 PLANS = [("1", "1000"), ("2", "1"), ("3", "1000"), ("7", "1000"), ("64", "1000")]
+# The shape of the log that has true checkpoints.
+CHECKPOINTS = "checkpoints"
 
 
 def report(words: list[str]) -> bytes:
@@ -23,6 +28,52 @@ def closed_report(program: str, peer: str, log: str, out: str) -> tuple[bool, by
     return front.endswith(b", whole"), queues
 
 
+def front_of(log: str, used: int) -> bytes:
+    """The front of a log in version 2, made a second time."""
+    with open(log, "rb") as file:
+        return chained(header_of(2), bodies_of(file.read(used)))
+
+
+def upgraded(program: str, log: str, workers: str) -> tuple[str, bytes]:
+    """Where the upgraded log lies, and its bytes."""
+    out = f"{log}.upgraded"
+    subprocess.run([program, "upgrade", log, out, workers], check=True)
+    with open(out, "rb") as file:
+        return out, file.read()
+
+
+def upgrade_agrees(program: str, peer: str, log: str, want: bytes) -> bool:
+    """Whether the upgraded log is right, where this is the peer's report of the log; what was made is taken away."""
+    first, rest = want.split(b"\n", 1)
+    words = first.decode().split()
+    out, made = upgraded(program, log, "2")
+    again, twice = upgraded(program, out, "7")
+    whole = f"front {words[1]} records, {words[3]} of {words[3]} bytes, whole\n".encode() + rest
+    right = made == front_of(log, int(words[3])) and twice == made
+    right = right and report([peer, "restart", out]) == whole == report([program, "restart", out, "3", "1000"])
+    audit = report([program, "audit", log, "2"])
+    right = right and report([program, "audit", out, "2"]) == audit
+    for line in audit.decode().splitlines():
+        if line.endswith(" true"):
+            offset = line.split()[1]
+            old, new = (report([program, "restart-at", name, offset, "2", "1000"]) for name in (log, out))
+            right = right and new == whole and old.split(b"\n", 1)[1] == rest
+    os.remove(again)
+    os.remove(out)
+    return right
+
+
+def logs_of(program: str, peer: str, folder: str, shape: str, mib: int, seeds: range) -> list[str]:
+    """A log of the shape for each seed; of the one that has true checkpoints, which the program makes itself, one log."""
+    if shape != CHECKPOINTS:
+        return [log_of(peer, folder, shape, mib, seed) for seed in seeds]
+    text, log = os.path.join(folder, "agree.script"), os.path.join(folder, f"{shape}.agree.{mib}")
+    script(text, mib, 5)
+    subprocess.run([program, "make", text, log], check=True)
+    os.remove(text)
+    return [log]
+
+
 def main() -> None:
     words = parser()
     words.add_argument("--seeds", type=int, default=5)
@@ -30,10 +81,9 @@ def main() -> None:
     options = parsed(words)
     peer = built_peer(options.folder)
     compared = differing = 0
-    for shape in SHAPES:
-        for seed in range(2, 2 + options.seeds):
-            for mib in options.mib.split(","):
-                log = log_of(peer, options.folder, shape, int(mib), seed)
+    for shape in [*SHAPES, CHECKPOINTS]:
+        for mib in options.mib.split(","):
+            for log in logs_of(options.program, peer, options.folder, shape, int(mib), range(2, 2 + options.seeds)):
                 want = report([peer, "restart", log])
                 for workers, grain in PLANS:
                     compared += 1
@@ -44,6 +94,10 @@ def main() -> None:
                 if closed_report(options.program, peer, log, os.path.join(options.folder, "closed")) != (True, want.split(b"\n", 2)[2]):
                     differing += 1
                     print(f"{log}, closed, differs")
+                compared += 1
+                if not upgrade_agrees(options.program, peer, log, want):
+                    differing += 1
+                    print(f"{log}, upgraded, differs")
     print(f"{compared} reports compared, {differing} differ")
 
 

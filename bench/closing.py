@@ -8,7 +8,7 @@ disk of the other folder, and has `dd conv=fsync` write as many bytes there. Pri
 close are as multiples of the restart, and last what closing onto the disk is without what `dd` takes: the program's own work.
 """
 from __future__ import annotations
-import hashlib, os, struct
+import argparse, hashlib, os, struct
 from common import parsed, parser, seconds
 
 UNITS = 64_000
@@ -42,38 +42,45 @@ def log_of(folder: str, mib: int, payload: int) -> str:
 
 
 class Times:
-    """The best seconds of a restart, of closing into memory and onto the disk, and of writing as many bytes there."""
+    """The best seconds of a restart, of a command that makes a log of it, into memory and onto the disk, and of writing as many
+    bytes there."""
 
-    def __init__(self) -> None:
+    def __init__(self, word: str) -> None:
+        self.word = word
         self.restart = self.memory = self.disk = self.written = float("inf")
 
     def round(self, program: str, log: str, workers: str, folder: str, memory: str) -> None:
-        on_disk, in_memory = os.path.join(folder, "closed"), os.path.join(memory, "closed")
+        on_disk, in_memory = os.path.join(folder, "made"), os.path.join(memory, "made")
         self.restart = min(self.restart, seconds([program, "restart", log, workers, "1000"])[0])
-        self.memory = min(self.memory, seconds([program, "close", log, in_memory, workers])[0])
-        self.disk = min(self.disk, seconds([program, "close", log, on_disk, workers])[0])
+        self.memory = min(self.memory, seconds([program, self.word, log, in_memory, workers])[0])
+        self.disk = min(self.disk, seconds([program, self.word, log, on_disk, workers])[0])
         os.remove(on_disk)
         self.written = min(self.written, seconds(["dd", f"if={in_memory}", f"of={on_disk}", "bs=1M", "conv=fsync"])[0])
         os.remove(on_disk)
         os.remove(in_memory)
 
     def line(self) -> str:
-        return (f"restart {self.restart:.2f} s, close into memory {self.memory:.2f} s ({self.memory / self.restart:.2f}), "
+        return (f"restart {self.restart:.2f} s, {self.word} into memory {self.memory:.2f} s ({self.memory / self.restart:.2f}), "
                 f"onto disk {self.disk:.2f} s ({self.disk / self.restart:.2f}), dd {self.written:.2f} s, "
                 f"onto disk less dd {(self.disk - self.written) / self.restart:.2f}")
 
 
-def main() -> None:
+def words_of() -> argparse.ArgumentParser:
+    """The words of a line that times a command on these logs."""
     words = parser()
     words.add_argument("--mib", type=int, default=128)
     words.add_argument("--rounds", type=int, default=5)
     words.add_argument("--memory", default="/dev/shm/rq-bench")
-    options = parsed(words)
+    return words
+
+
+def main() -> None:
+    options = parsed(words_of())
     os.makedirs(options.memory, exist_ok=True)
     for payload in (2000, 10):
         log = log_of(options.folder, options.mib, payload)
         for workers in ("1", "2", "4"):
-            times = Times()
+            times = Times("close")
             for _ in range(options.rounds):
                 times.round(options.program, log, workers, options.folder, options.memory)
             print(f"{options.mib} MiB, payloads of {payload} bytes, {workers} workers: {times.line()}", flush=True)

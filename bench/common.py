@@ -1,8 +1,9 @@
-"""What the scripts here share: the peer, its logs, the words of a command line, and times."""
+"""What the scripts here share: the peer, its logs and their frames, the words of a command line, and times."""
 from __future__ import annotations
-import argparse, os, subprocess, sys, time
+import argparse, hashlib, os, subprocess, sys, time
 
 HERE = os.path.dirname(os.path.abspath(__file__))
+HEADER = 40
 
 
 def parser() -> argparse.ArgumentParser:
@@ -34,6 +35,31 @@ def log_of(peer: str, folder: str, shape: str, mib: int, seed: int = 1) -> str:
     if not os.path.exists(path):
         subprocess.run([peer, "gen", path, shape, str(seed), str(mib)], check=True, stderr=subprocess.DEVNULL)
     return path
+
+
+def header_of(version: int) -> bytes:
+    magic = b"RQLOG\0\0" + bytes([version])
+    return magic + hashlib.sha256(magic).digest()
+
+
+def bodies_of(log: bytes) -> list[bytes]:
+    """The bodies of a log that is whole."""
+    bodies, at = [], HEADER
+    while at < len(log):
+        size = int.from_bytes(log[at:at + 4], "big")
+        bodies.append(log[at + 4:at + 4 + size])
+        at += 36 + size
+    return bodies
+
+
+def chained(header: bytes, bodies: list[bytes]) -> bytes:
+    """The log of the bodies, each with its length and its digest."""
+    parts, digest = [header], header[8:]
+    for body in bodies:
+        framed = len(body).to_bytes(4, "big") + body
+        digest = hashlib.sha256(digest + framed).digest()
+        parts += [framed, digest]
+    return b"".join(parts)
 
 
 def seconds(words: list[str], wanted: int = 0) -> tuple[float, int]:

@@ -1,5 +1,6 @@
 #!/usr/bin/env python3
-"""Damages logs of the peer, restarts each with the program at several plans and with the peer, and counts reports that differ.
+"""Damages logs of the peer, restarts each with the program at several plans and with the peer, and counts reports that differ. Upgrades
+each, too: what is made must be the front in version 2, and say the same.
 
 usage: damaged.py RQ [--damages N] [--mib N] [--folder DIR]
 Each log is cut, has one bit turned, or gets a body that is no record, one that is not lawful, both, or a KILL (no record in
@@ -7,34 +8,14 @@ version 1), at places drawn evenly; behind a changed body all digests are made a
 itself ends the front.
 """
 from __future__ import annotations
-import hashlib, os, random
+import os, random
 
-from agree import PLANS, SHAPES, report
-from common import built_peer, log_of, parsed, parser
+from agree import PLANS, SHAPES, report, upgrade_agrees
+from common import HEADER, bodies_of, built_peer, chained, log_of, parsed, parser
 
-HEADER = 40
 NO_RECORD = b"\0" * 9
 UNLAWFUL = b"\7" + b"\xff" * 8  # the COMMIT of a unit that was never begun
 KILL = b"\x0a" + bytes(12)
-
-
-def bodies_of(log: bytes) -> list[bytes]:
-    bodies, at = [], HEADER
-    while at < len(log):
-        size = int.from_bytes(log[at:at + 4], "big")
-        bodies.append(log[at + 4:at + 4 + size])
-        at += 36 + size
-    return bodies
-
-
-def chained(header: bytes, bodies: list[bytes]) -> bytes:
-    """The log of the bodies, each with its length and its digest."""
-    parts, digest = [header], header[8:]
-    for body in bodies:
-        framed = len(body).to_bytes(4, "big") + body
-        digest = hashlib.sha256(digest + framed).digest()
-        parts += [framed, digest]
-    return b"".join(parts)
 
 
 def with_bodies(log: bytes, draw: random.Random, *others: bytes) -> bytes:
@@ -85,6 +66,10 @@ def main() -> None:
                     if report([options.program, "restart", path, workers, grain]) != want:
                         differing += 1
                         print(f"{shape}, {name} for the {time}th time, with {workers} workers and grain {grain} differs")
+                compared += 1
+                if not upgrade_agrees(options.program, peer, path, want):
+                    differing += 1
+                    print(f"{shape}, {name} for the {time}th time, upgraded, differs")
     print(f"{compared} reports compared, {differing} differ; fronts that end by", ends)
 
 

@@ -1,5 +1,5 @@
 #!/usr/bin/env python3
-"""Ends `rq make` and `rq close` at every place where a file can fail, and counts what they leave otherwise than they must.
+"""Ends `rq make`, `rq close` and `rq upgrade` at every place where a file can fail, and counts what they leave otherwise than they must.
 
 usage: files.py RQ [--folder DIR]
 The file that is made must be there as it was before, or whole and new; new wherever the program says that all went well, with
@@ -182,13 +182,13 @@ def rooms(program: str, folder: str) -> list[Room]:
     log = made(program, ["make", os.path.join(EXAMPLES, "checkpoint.script"), "{log}"], out)[:-COMMIT_FRAME]
     with open(opened, "wb") as file:
         file.write(log)
-    make, close = ["make", script, "{log}"], ["close", opened, "{log}", "2"]
-    works = [Work("make", make, made(program, make, out)), Work("close", close, made(program, close, out))]
+    lines = [["make", script, "{log}"], ["close", opened, "{log}", "2"], ["upgrade", opened, "{log}", "2"]]
+    works = [Work(line[0], line, made(program, line, out)) for line in lines]
     os.remove(out)
     old = b"the file of before\n" * 200
     found = [Room(program, folder, work, before, name) for work in works for before in (old, None) for name in ("log", "link")]
-    itself = Work("close over itself", ["close", "{log}", "{log}", "2"], works[1].new)
-    return found + [Room(program, folder, itself, log, name) for name in ("log", "link")]
+    itself = [Work(f"{work.name} over itself", [work.name, "{log}", "{log}", "2"], work.new) for work in works[1:]]
+    return found + [Room(program, folder, work, log, name) for work in itself for name in ("log", "link")]
 
 
 def main() -> None:

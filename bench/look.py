@@ -15,8 +15,8 @@ import json, os, random, resource, subprocess, sys
 from html.parser import HTMLParser
 
 from agree import SHAPES
-from common import built_peer, log_of, parsed, parser, seconds
-from damaged import HEADER, NO_RECORD, UNLAWFUL, bodies_of, chained
+from common import HEADER, bodies_of, built_peer, chained, log_of, parsed, parser, seconds
+from damaged import NO_RECORD, UNLAWFUL
 from looked import Stories, compact, line_of, records_of, shown
 
 compared = differing = 0

@@ -1,7 +1,7 @@
 //! A plain one-thread restart in Rust over OpenSSL's SHA-256: what a user would write by hand.
 //! It is the peer that the product's speed is measured against, and the fast oracle for large logs.
 //!
-//! usage: peer restart LOG | peer hash LOG | peer gen OUT SHAPE SEED MIB
+//! usage: peer restart LOG | peer hash LOG | peer chain LOG | peer gen OUT SHAPE SEED MIB
 //! SHAPE: small (45 to 70 byte frames), kib (1 KiB payloads), big (60 KiB payloads), hot (one queue),
 //!        names (many registrants); with error queues: wide (4,096 queues), errors (many moves); in version 2: deep (errors,
 //!        with error queues up to eight deep), kills (deep, and a KILL in place of every tenth operation);
@@ -238,6 +238,21 @@ fn restart(log: &[u8]) -> Option<String> {
     Some(out)
 }
 
+/// The last digest of a log that is whole, chained anew in version 2.
+fn chained(log: &[u8]) -> [u8; 32] {
+    let mut last: [u8; 32] = header(2)[8..].try_into().unwrap();
+    let (mut message, mut at) = (Vec::new(), 40);
+    while at < log.len() {
+        let end = at + 4 + u32_at(log, at) as usize;
+        message.clear();
+        message.extend_from_slice(&last);
+        message.extend_from_slice(&log[at..end]);
+        last = sha256(&message);
+        at = end + 32;
+    }
+    last
+}
+
 struct Gen<W: Write> { out: W, prev: [u8; 32], bytes: u64, rng: u64, count: u64 }
 
 impl<W: Write> Gen<W> {
@@ -353,7 +368,8 @@ fn main() {
             }
         }
         ["hash", log] => { let log = std::fs::read(log).unwrap(); println!("{:02x?}", &sha256(&log)[..4]) }
+        ["chain", log] => println!("{:02x?}", &chained(&std::fs::read(log).unwrap())[..4]),
         ["gen", out, shape, seed, mib] => generate(out, shape, seed.parse().unwrap(), mib.parse().unwrap()),
-        _ => { eprintln!("usage: peer restart LOG | hash LOG | gen OUT SHAPE SEED MIB"); std::process::exit(2) }
+        _ => { eprintln!("usage: peer restart LOG | hash LOG | chain LOG | gen OUT SHAPE SEED MIB"); std::process::exit(2) }
     }
 }

@@ -3,7 +3,7 @@
 
 usage: refused.py RQ [--step N] [--folder DIR] [COMMAND ..]
 A run that is refused must write what it writes with ample memory, or end with status 4, say `resources`, and write nothing,
-no file either. With no COMMAND, sweeps each command over the logs of two scripts in `examples/`, and restarts and audits logs
+no file either. With no COMMAND, sweeps each command over the logs of two scripts in `examples/`, and restarts and upgrades logs
 that are large enough for what runs on large logs alone: records decoded by halves, digests checked beside the analysis and in
 lanes, a report made in pieces. Of these each Nth allocation is refused, for a prime N. A COMMAND that writes a file names it
 `{made}/NAME`. RQ is the built program itself. Ends with status 1 where a run ended otherwise, or where no allocation of a
@@ -112,6 +112,7 @@ def of_scripts(sweep: Sweep, folder: str) -> int:
         wrong += sweep.row(f"`restart-at` {offset}, {workers}", ["restart-at", logs["checkpoint"], offset, workers, "1"])
         wrong += sweep.row(f"`audit` checkpoint, {workers}", ["audit", logs["checkpoint"], workers])
         wrong += sweep.row(f"`close` with an open unit, {workers}", ["close", with_open_unit, "{made}/log", workers])
+        wrong += sweep.row(f"`upgrade` checkpoint, {workers}", ["upgrade", logs["checkpoint"], "{made}/log", workers])
     return wrong
 
 
@@ -122,7 +123,8 @@ def of_large_logs(sweep: Sweep, folder: str) -> int:
     for shape, mib, workers, step in (("kib", 2, "4", 11), ("small", 1, "2", 97), ("errors", 2, "4", 53), ("wide", 2, "4", 101)):
         log = log_of(peer, folder, shape, mib)
         wrong += sweep.row(f"`restart` {shape} of {mib} MiB, {workers}", ["restart", log, workers, "10"], step)
-    return wrong
+    log = log_of(peer, folder, "kib", 2)
+    return wrong + sweep.row("`upgrade` kib of 2 MiB, 4", ["upgrade", log, "{made}/log", "4"], 11)
 
 
 def main() -> None:
