@@ -50,7 +50,7 @@ class Times:
         self.restart = self.memory = self.disk = self.written = float("inf")
 
     def round(self, program: str, log: str, workers: str, folder: str, memory: str) -> None:
-        on_disk, in_memory = os.path.join(folder, "made"), os.path.join(memory, "made")
+        on_disk, in_memory = os.path.join(folder, "made.log"), os.path.join(memory, "made.log")
         self.restart = min(self.restart, seconds([program, "restart", log, workers, "1000"])[0])
         self.memory = min(self.memory, seconds([program, self.word, log, in_memory, workers])[0])
         self.disk = min(self.disk, seconds([program, self.word, log, on_disk, workers])[0])
