@@ -1,5 +1,6 @@
 //! Bytes as text.
 
+use crate::hidden::is_hidden;
 use std::alloc::{AllocError, Global};
 use std::fmt::Write;
 use std::str::from_utf8;
@@ -7,14 +8,15 @@ use std::str::from_utf8;
 // As many characters or bytes of a payload are shown where it is shortened.
 const SHOWN: usize = 32;
 
-fn is_plain(byte: u8) -> bool {
+/// Whether a byte is a character that anybody sees.
+pub(crate) fn is_plain(byte: u8) -> bool {
     matches!(byte, b' '..=b'~')
 }
 
-/// The text that the bytes spell, where it has no control character.
+/// The text that the bytes spell, where no character of it is hidden.
 pub(crate) fn printable(bytes: &[u8]) -> Option<&str> {
     let text = from_utf8(bytes).ok()?;
-    if bytes.iter().all(|b| is_plain(*b)) || text.chars().all(|c| !c.is_control()) {
+    if bytes.iter().all(|b| is_plain(*b)) || text.chars().all(|c| !is_hidden(c)) {
         Some(text)
     } else {
         None

@@ -5,7 +5,7 @@ ghost use Rattle.rq_front.specs.Chains.{IsHeaded};
 
 use crate::ends::{End, end_of, put_end};
 use crate::frames::Walk;
-use crate::json::{closing_of, record_shown};
+use crate::json::{closing_of, record_shown, spelled_out};
 use crate::lines::put_record;
 use crate::numbered::{Numbered, queues_behind};
 use crate::sheet::{finish, relieve};
@@ -25,7 +25,8 @@ fn put_shown(
 ) -> Result<(), Trouble> {
     if wanted.json {
         let line = record_shown(alloc, it)?;
-        text.push_str(serde_json::to_string(alloc, &line)?.as_str())?;
+        let json = serde_json::to_string(alloc, &line)?;
+        text.push_str(spelled_out(alloc, json)?.as_str())?;
     } else {
         put_record(alloc, text, it, wanted.full)?;
     }

@@ -1,10 +1,13 @@
 //! What is written as JSON.
 
+use crate::bytes::is_plain;
 use crate::ends::{End, why_word};
+use crate::hidden::is_hidden;
 use crate::numbered::{Numbered, by_of, element_of, kind_of, registrant_of, unit_of};
 use rq_record::{QueueNo, Record};
 use serde::Serialize;
 use std::alloc::{AllocError, Global};
+use std::fmt::Write;
 use std::str::from_utf8;
 
 /// Bytes: as digits, and as text where they spell one.
@@ -148,4 +151,29 @@ pub(crate) fn closing_of(end: &End) -> Closing<'_> {
     Closing {
         front: front_of(end),
     }
+}
+
+// Puts a character of JSON; one that is hidden by its numbers.
+fn put_spelled(text: &mut String, c: char) -> Result<(), AllocError> {
+    if c == '\n' || !is_hidden(c) {
+        return text.push(c);
+    }
+    let mut units = [0; 2];
+    for unit in c.encode_utf16(&mut units).iter() {
+        write!(text, "\\u{:04x}", *unit)?;
+    }
+    Ok(())
+}
+
+/// The same value of JSON with each hidden character spelled by its numbers: such ones stand in its strings alone, but for
+/// the ends of its lines.
+pub(crate) fn spelled_out(alloc: Global, json: String) -> Result<String, AllocError> {
+    if json.as_bytes().iter().all(|b| is_plain(*b) || *b == b'\n') {
+        return Ok(json);
+    }
+    let mut text = String::with_capacity(alloc, json.len())?;
+    for c in json.chars() {
+        put_spelled(&mut text, c)?;
+    }
+    Ok(text)
 }

@@ -7,6 +7,7 @@ mod dumping;
 mod ends;
 mod following;
 mod frames;
+mod hidden;
 mod json;
 mod lines;
 mod misfits;
@@ -22,6 +23,7 @@ mod wanted;
 
 pub use checking::{Findings, check};
 pub use dumping::dump;
+pub use hidden::Seen;
 pub use paging::page;
 pub use reporting::{report, report_json};
 pub use rq_restart::{Fault, Plan};

@@ -4,7 +4,7 @@ ghost use Rattle.std.specs.Prelude.{OnOk};
 ghost use Rattle.rq_front.specs.Chains.{IsHeaded};
 
 use crate::ends::{End, end_after};
-use crate::json::{Bytes, Front, front_of, queue_number};
+use crate::json::{Bytes, Front, front_of, queue_number, spelled_out};
 use crate::trouble::Trouble;
 use rq_record::QueueNo;
 use rq_report::{OverWrite, write_report_by};
@@ -230,7 +230,7 @@ where
     let restarted = restarted_with(rt, alloc, bytes, plan, wanted)?;
     let end = end_after(rt, alloc, bytes, &restarted, plan)?;
     let report = report_shown(alloc, &restarted, &end, wanted)?;
-    let mut text = serde_json::to_string_pretty(alloc, &report)?;
+    let mut text = spelled_out(alloc, serde_json::to_string_pretty(alloc, &report)?)?;
     text.push('\n')?;
     output.write_all(text.as_bytes())?;
     Ok(())

@@ -3,23 +3,15 @@
 ghost use Rattle.std.specs.Prelude.{◌≡◌, true, OnOk, string_bytes};
 ghost use Rattle.rq_look.specs.Markup.{AppendsText, is_text};
 
+use crate::hidden::is_hidden;
 use crate::paging::style::STYLE;
 use std::alloc::AllocError;
 
-// Whether a character turns the direction of the text around it.
-fn is_turning(c: char) -> bool {
-    matches!(c, '\u{200e}' | '\u{200f}' | '\u{61c}' | '\u{202a}'..='\u{202e}' | '\u{2066}'..='\u{2069}')
-}
-
-// A character as it is shown: one that is a control, or turns the text, as one that is not known.
+// A character as it is shown: one that is hidden as one that is not known.
 fn visible(c: char) -> char
     ensures { is_text c ≡ true → is_text result ≡ true }
 {
-    if c.is_control() || is_turning(c) {
-        '\u{fffd}'
-    } else {
-        c
-    }
+    if is_hidden(c) { '\u{fffd}' } else { c }
 }
 
 // Puts a character so that HTML shows it.
@@ -36,8 +28,8 @@ fn put_char(text: &mut String, c: char) -> Result<(), AllocError>
     }
 }
 
-/// Puts a text so that HTML shows it: the characters that HTML takes for its own are spelled out, and one that is a control or
-/// turns the text is shown as one that is not known.
+/// Puts a text so that HTML shows it: the characters that HTML takes for its own are spelled out, and one that is hidden
+/// is shown as one that is not known.
 pub(super) fn put_text(text: &mut String, word: &str) -> Result<(), AllocError>
     ensures { OnOk result (AppendsText (string_bytes text.old) (string_bytes text.new)) }
 {
