@@ -107,6 +107,7 @@ def main() -> None:
     libraries = [crate for crate in crates if crate not in TESTS | PROGRAMS]
     functions = [function for crate in libraries for function in functions_of(crate)]
     tests = [function.body for crate in sorted(TESTS) for function in functions_of(crate)]
+    tests += [code_of(path) for path in glob.glob(os.path.join(CRATES, "*", "src", "tests.rt")) if path.split(os.sep)[-3] not in TESTS]
     if options.direct:
         seen = {function.call for function in named(functions, tests)}
     else:

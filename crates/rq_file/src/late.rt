@@ -1,0 +1,63 @@
+//! A file that is opened at its first write.
+
+ghost use Rattle.std.specs.Prelude.{◌≡◌, true, None};
+ghost use Rattle.std.specs.Fs.{new_options, with_create, with_truncate, with_write};
+
+use std::fs::{Files, OpenOptions};
+use std::io::{self, Write};
+
+/// How a file is opened that is written as it is.
+pub fn in_place() -> OpenOptions
+    ensures { result ≡ with_truncate (with_create (with_write new_options true) true) true }
+{
+    let mut options = OpenOptions::new();
+    options.write(true).create(true).truncate(true);
+    options
+}
+
+/// A file that is opened at its first write.
+#[derive(Drop)]
+pub struct Late<'a, R: Files> {
+    rt: &'a R,
+    path: &'a str,
+    options: OpenOptions,
+    file: Option<R::File>,
+}
+
+impl<'a, R: Files> Late<'a, R> {
+    /// The file of this path, to be opened so.
+    pub fn new(rt: &'a R, path: &'a str, options: OpenOptions) -> Self
+        ensures { result.file ≡ None }
+    {
+        Late {
+            rt,
+            path,
+            options,
+            file: None,
+        }
+    }
+
+    /// The file, where there was a write.
+    pub fn into_file(self) -> Option<R::File>
+        ensures { result ≡ self.entry.file }
+    {
+        let Late { file, .. } = self;
+        file
+    }
+}
+
+impl<'a, R: Files> Write for Late<'a, R> {
+    fn write(&mut self, bytes: &[u8]) -> io::Result<usize> {
+        if let Some(file) = &mut self.file {
+            return file.write(bytes);
+        }
+        let mut file = self.options.open(self.rt, self.path)?;
+        let written = file.write(bytes);
+        self.file = Some(file);
+        written
+    }
+
+    fn flush(&mut self) -> io::Result<()> {
+        Ok(())
+    }
+}

@@ -1,0 +1,13 @@
+//! Files that are whole or not there.
+#![tactic(auto)]
+
+mod late;
+mod names;
+mod paths;
+mod putting;
+#[cfg(test)]
+mod tests;
+
+pub use late::{Late, in_place};
+pub use names::Names;
+pub use putting::put;
