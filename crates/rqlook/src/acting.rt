@@ -6,10 +6,9 @@ use crate::watching::{Watch, Watched};
 use crate::words::{records_asked, subject_asked};
 use clap::ArgMatches;
 use rq_look::{Plan, Trouble};
-use std::io::Printer;
+use std::io::{self, ErrorKind, Printer};
 use std::rt::{Clock, Files};
 use std::thread::Threads;
-use std::{fs, io};
 
 /// The grain of each plan, in frames.
 const GRAIN: u32 = 1000;
@@ -93,7 +92,7 @@ where
     }
 }
 
-/// Makes the page of a log. It is written once all of it is there, and never over the log.
+/// Makes the page of a log. Its file is whole or as it was, and never the log.
 fn page<R>(rt: &R, bytes: &[u8], plan: &Plan, file: &str, to: &str) -> Result<bool, Failure>
 where
     R: Files + Print + AllocGlobal + Threads + Sync,
@@ -109,8 +108,9 @@ where
         rt.write_all(&made)?;
         return Ok(true);
     }
-    match fs::write(rt, to, &made) {
+    match rq_file::put(rt, to, &made) {
         Ok(()) => Ok(true),
+        Err(error) if error.kind() == ErrorKind::OutOfMemory => Err(Failure::Memory),
         Err(error) => Err(Failure::Unwritten(String::from_str(rt.alloc(), to)?, error)),
     }
 }

@@ -1,7 +1,7 @@
 //! Why the program ends before it is done.
 
 use clap::error::ErrorKind;
-use rq_look::Trouble;
+use rq_look::{Seen, Trouble};
 use std::alloc::AllocError;
 use std::io;
 
@@ -74,7 +74,7 @@ fn refused(rt: &HostRuntime, file: &str, trouble: &Trouble) -> u8 {
     if let Trouble::Output(error) = trouble {
         return output_failed(rt, error);
     }
-    let _ = eprintln!(rt; "rqlook: {file}: {trouble}");
+    let _ = eprintln!(rt; "rqlook: {}: {trouble}", Seen(file));
     match trouble {
         Trouble::Log(fault) => fault.exit(),
         _ => REFUSED,
@@ -102,7 +102,7 @@ impl Failure {
                 USAGE
             }
             Failure::Unread(file, error) | Failure::Unwritten(file, error) => {
-                let _ = eprintln!(rt; "rqlook: {file}: {error}");
+                let _ = eprintln!(rt; "rqlook: {}: {error}", Seen(file.as_str()));
                 STREAM
             }
             Failure::Refused(file, trouble) => refused(rt, file.as_str(), trouble),

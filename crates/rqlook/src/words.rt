@@ -5,7 +5,7 @@ use rq_look::{Subject, Wanted};
 use std::alloc::Global;
 
 /// The kinds of record.
-static KINDS: [&str; 9] = [
+static KINDS: [&str; 10] = [
     "define",
     "register",
     "deregister",
@@ -15,6 +15,7 @@ static KINDS: [&str; 9] = [
     "commit",
     "abort",
     "checkpoint",
+    "kill",
 ];
 
 fn log<'a>(alloc: Global) -> Arg<'a> {
