@@ -3,6 +3,7 @@ pub mod Chains
 pub mod Fronts
 pub mod Closings
 pub mod Starts
+pub mod FrontEnds
 pub mod Endings
 pub mod Upgradings
 pub mod Checkpoints

@@ -3,6 +3,7 @@ pub mod Readings
 pub mod Known
 pub mod Ends
 pub mod Restarts
+pub mod FrontEnds
 pub mod Tails
 pub mod Upgrades
 pub mod Checkpoints

@@ -4,6 +4,7 @@
 mod auditing;
 mod checkpoint;
 mod closing;
+mod ends;
 mod framing;
 mod front;
 mod grain;
@@ -16,6 +17,7 @@ mod tally;
 mod upgrading;
 
 pub use auditing::audit;
+pub use ends::{FrontEnd, front_end};
 pub use restarted::{Restarted, Why};
 pub use restarting::{front_state, restart};
 pub use restarting_at::restart_at;

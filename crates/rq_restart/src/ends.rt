@@ -1,0 +1,48 @@
+//! Where the front of a log ends.
+
+ghost use Rattle.rq_restart.specs.FrontEnds.{FindsEnd};
+
+use crate::restarted::Why;
+use crate::restarting::whole_front;
+use rq_pool::Plan;
+use rq_record::Fault;
+use std::alloc::Global;
+use std::marker::Sync;
+use std::thread::Threads;
+
+/// Where the front of a log ends, and why: numbers of its restart.
+#[derive(Clone, Copy, PartialEq, Eq, Debug)]
+pub struct FrontEnd {
+    /// The next record number at the end of the front.
+    pub records: u64,
+    /// How many of the log's bytes the front and its header take.
+    pub used: u64,
+    /// How many bytes the log has.
+    pub total: u64,
+    /// Why the front ends.
+    pub why: Why,
+}
+
+/// Where the front of a log ends, and why, as its restart says it; no queue is redone.
+///
+/// Refuses with `TooLong` more than 4,294,967,295 bytes, with `NotALog` bytes that begin with no version's header, and with
+/// `Resources` where memory is refused.
+pub fn front_end<R: Threads + Sync>(
+    rt: &R,
+    alloc: Global,
+    bytes: &[u8],
+    plan: &Plan,
+) -> Result<FrontEnd, Fault>
+    ensures { FindsEnd bytes.now result }
+{
+    rq_model::frames_join();
+    rq_model::numbers_after();
+    rq_model::runs_are_well_formed();
+    let (_version, front) = whole_front(rt, alloc, bytes, plan)?;
+    Ok(FrontEnd {
+        records: front.records.len() as u64,
+        used: front.end as u64,
+        total: bytes.len() as u64,
+        why: front.why,
+    })
+}
