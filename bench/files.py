@@ -1,7 +1,8 @@
 #!/usr/bin/env python3
-"""Ends `rq make`, `rq close` and `rq upgrade` at every place where a file can fail, and counts what they leave otherwise than they must.
+"""Ends `rq make`, `rq close`, `rq upgrade` and `rqlook page` at every place where a file can fail, and counts what they leave otherwise
+than they must.
 
-usage: files.py RQ [--folder DIR]
+usage: files.py RQ [--look RQLOOK] [--folder DIR]
 The file that is made must be there as it was before, or whole and new; new wherever the program says that all went well, with
 the mode that it had and, for root, its owner and group, and beside it nothing may be left. Only a run that was killed may leave
 the file that it was writing, `LOG.rq0`, which others may not read who may not read the old one, and then the next run must do
@@ -175,7 +176,7 @@ def made(program: str, words: list[str], path: str) -> bytes:
         return file.read()
 
 
-def rooms(program: str, folder: str) -> list[Room]:
+def rooms(program: str, look: str | None, folder: str) -> list[Room]:
     """Each command, over a file and over none, by its name and by a link."""
     script = os.path.join(EXAMPLES, "error-queue.script")
     opened, out = os.path.join(folder, "open.log"), os.path.join(folder, "made.log")
@@ -183,21 +184,27 @@ def rooms(program: str, folder: str) -> list[Room]:
     with open(opened, "wb") as file:
         file.write(log)
     lines = [["make", script, "{log}"], ["close", opened, "{log}", "2"], ["upgrade", opened, "{log}", "2"]]
-    works = [Work(line[0], line, made(program, line, out)) for line in lines]
+    works = [(program, Work(line[0], line, made(program, line, out))) for line in lines]
+    again = [Work(f"{work.name} over itself", [work.name, "{log}", "{log}", "2"], work.new) for _, work in works[1:]]
+    if look is not None:
+        page = ["page", opened, "{log}"]
+        works.append((look, Work("page", page, made(look, page, out))))
     os.remove(out)
     old = b"the file of before\n" * 200
-    found = [Room(program, folder, work, before, name) for work in works for before in (old, None) for name in ("log", "link")]
-    itself = [Work(f"{work.name} over itself", [work.name, "{log}", "{log}", "2"], work.new) for work in works[1:]]
-    return found + [Room(program, folder, work, log, name) for work in itself for name in ("log", "link")]
+    found = [Room(its, folder, work, before, name) for its, work in works for before in (old, None) for name in ("log", "link")]
+    return found + [Room(program, folder, work, log, name) for work in again for name in ("log", "link")]
 
 
 def main() -> None:
-    options = parsed(parser())
+    words = parser()
+    words.add_argument("--look")
+    options = parsed(words)
     program = os.path.abspath(options.program)
+    look = options.look and os.path.abspath(options.look)
     os.umask(0o022)
     shim = os.path.join(options.folder, "fault.so")
     subprocess.run(["cc", "-O2", "-shared", "-fPIC", os.path.join(HERE, "fault.c"), "-o", shim, "-ldl"], check=True)
-    for room in rooms(program, options.folder):
+    for room in rooms(program, look, options.folder):
         room.whole()
         refused = room.short_files() + room.forbidden()
         fails, kills = room.faults(shim, "fails"), room.faults(shim, "kills")

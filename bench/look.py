@@ -2,7 +2,7 @@
 """Holds what `rqlook` shows against what `rq` says and what the log's bytes are, over many logs, and counts what differs.
 
 usage: look.py RQ RQLOOK [--seeds N] [--stories N] [--mib N] [--scripts N] [--speed MIB] [--folder DIR]
-For each shape and seed of the peer's logs: the report as JSON is parsed and written as text again, and compared with `rq restart`;
+For each shape and seed of the peer's logs: the report as JSON is held against its schema, told as text again, and compared with `rq restart`;
 the lines of each queue alone with those of the whole; the script is made a log again by `rq make`, and compared byte by byte; each
 line of a dump, whole and by each option, as text and as JSON, with what is made of the log's bytes here (looked.py); so are the
 stories of some elements and units; `check` is compared with `rq audit`, and the page with the report. Then a small log is damaged in
@@ -17,7 +17,8 @@ from html.parser import HTMLParser
 from agree import SHAPES
 from common import HEADER, bodies_of, built_peer, chained, log_of, parsed, parser, seconds
 from damaged import NO_RECORD, UNLAWFUL
-from looked import Stories, compact, line_of, records_of, shown
+from looked import Stories, compact, is_hidden, line_of, records_of, shown
+from schema import report_misfits
 
 compared = differing = 0
 
@@ -69,7 +70,9 @@ def by_queue(text: str) -> list[str]:
 def same_reports(rq: str, look: str, log: str, draw: random.Random) -> None:
     _, want = told(rq, "restart", log, "4", "1000")
     check(f"{log} as text", told(look, "report", log), (0, want))
-    check(f"{log} as JSON", text_of(json.loads(told(look, "report", log, "--json")[1])), want)
+    report = json.loads(told(look, "report", log, "--json")[1])
+    check(f"{log} as JSON", text_of(report), want)
+    check(f"{log} as JSON by its schema", report_misfits(report), [])
     queues = by_queue(want)
     for number in draw.sample(range(len(queues)), min(3, len(queues))):
         check(f"{log}, queue {number}", told(look, "report", log, "--queue", str(number))[1], queues[number])
@@ -179,9 +182,6 @@ def page_of(look: str, log: str) -> Page:
     return page
 
 
-TURNING = dict.fromkeys([0x200e, 0x200f, 0x61c, *range(0x202a, 0x202f), *range(0x2066, 0x206a)], "\ufffd")
-
-
 def same_page(look: str, log: str) -> None:
     """The rows of the page's queues, elements and registrants against the report."""
     report, page = json.loads(told(look, "report", log, "--json")[1]), page_of(look, log)
@@ -189,7 +189,7 @@ def same_page(look: str, log: str) -> None:
     want = []
     for queue in report["queues"]:
         want.append([str(queue["number"]), queue["name"], str(queue["limit"]), or_dash(queue["error"]), str(len(queue["elements"]))])
-        want += [[str(e["id"]), str(e["from"]), str(e["priority"]), str(e["attempts"]), shown(e["payload"], False).translate(TURNING)]
+        want += [[str(e["id"]), str(e["from"]), str(e["priority"]), str(e["attempts"]), shown(e["payload"], False)]
                  for e in queue["elements"][:1000]]
         want += [[r["name"]] + ([r["last"]["kind"], str(r["last"]["tag"]), or_dash(r["last"]["element"])] if r["last"] else ["-", "", ""])
                  for r in queue["registrants"]]
@@ -223,13 +223,24 @@ def reasons(rq: str, look: str, log: str, folder: str) -> None:
         check(f"what ends a log by {why}", said.split(" records, at ", 1)[1], want + "\n")
         front = json.loads(told(look, "dump", path, "--limit", "0", "--json")[1])["front"]
         check(f"the same as JSON, {why}", (front["why"], front["reason"]), (why, want.split(": ", 1)[1]))
+        check(f"a report's end as JSON, {why}", json.loads(told(look, "report", path, "--json")[1])["front"], front)
+        check(f"a page's end, {why}", [f"{why}: {front['reason']}"] in page_of(look, path).rows, True)
         check(f"a report's front by {why}", told(rq, "restart", path, "4", "1000")[1].split("\n", 1)[0],
               f"front {front['records']} records, {front['used']} of {front['total']} bytes, {why}")
         same_check(rq, look, path)
 
 
 ODD = ["<script>alert(1)</script>", "</td></table>", "&amp; \" ' \\", "\u202egnp.exe", "\u4e2d" * 20, "\u4e2d" * 32, "\u4e2d" * 33, "x" * 32, "x" * 33,
-       "a\tb", "\x7f", ""]
+       "a\tb", "a\nb", "\x1b[2J", "\x7f", "\x9b2J", "", "e\u0301", "\u05d0\u05d1", "\U0001f600", *(f"a{c}b" for c in
+       "\u00ad\u061c\u200b\u200c\u200d\u200e\u200f\u2028\u2029\u202a\u202d\u2060\u2066\u2069\u206f\ufeff\ufff9\U0001d173\U000e0041")]
+
+
+def unseen(look: str, log: str) -> None:
+    """No line shows a character that is hidden, and JSON tells each by its number."""
+    for words in (["dump", log], ["dump", log, "--full"], ["dump", log, "--json"], ["report", log], ["report", log, "--json"], ["unit", log, "1"],
+                  ["script", log], ["page", log, "-"]):
+        status, text = told(look, *words)
+        check(f"what {words} shows", (status, [c for c in text if c != "\n" and is_hidden(c)]), (0, []))
 
 
 def odd_payloads(rq: str, look: str, folder: str) -> None:
@@ -243,8 +254,10 @@ def odd_payloads(rq: str, look: str, folder: str) -> None:
     with open(log, "rb") as source:
         records = records_of(bodies_of(source.read()))
     same_dump(look, log, records, random.Random(2))
+    same_reports(rq, look, log, random.Random(2))
     same_stories(look, log, records, 20, random.Random(3))
     same_page(look, log)
+    unseen(look, log)
 
 
 def said(*words: str | bytes, **how: object) -> tuple[int, str]:
@@ -258,6 +271,8 @@ def refusals(look: str, log: str, folder: str) -> None:
     check("no command", said(look, "show", log)[0], 2)
     check("65 workers", said(look, "check", log, "--workers", "65"), (2, "rqlook: workers are 1 to 64\n"))
     check("no file", said(look, "dump", "/no/such"), (3, "rqlook: /no/such: No such file or directory (os error 2)\n"))
+    check("a name that hides", said(look, "dump", "/no/\x1b[2J\u202e"),
+          (3, "rqlook: /no/\\u{1b}[2J\\u{202e}: No such file or directory (os error 2)\n"))
     check("no log", said(look, "dump", look), (1, f"rqlook: {look}: not a log\n"))
     check("a page nowhere", said(look, "page", log, "/no/such"), (3, "rqlook: /no/such: No such file or directory (os error 2)\n"))
     check("a page over its log", said(look, "page", log, os.path.join(folder, ".", os.path.basename(log)))[0], 2)

@@ -5,6 +5,8 @@ import bisect, json, unicodedata
 HEADER = 40
 NONE = 2**32 - 1
 SHOWN = 32
+# What nobody sees, or what changes how the text around it is shown: controls, format characters, separators of lines and paragraphs.
+HIDDEN = {"Cc", "Cf", "Zl", "Zp"}
 KINDS = ["", "define", "register", "deregister", "begin", "enqueue", "dequeue", "commit", "abort", "checkpoint", "kill"]
 
 
@@ -57,12 +59,16 @@ def records_of(bodies: list[bytes]) -> list[dict]:
     return records
 
 
+def is_hidden(c: str) -> bool:
+    return unicodedata.category(c) in HIDDEN
+
+
 def shown(it: dict, full: bool) -> str:
     """Bytes as a line shows them."""
     data, text = bytes.fromhex(it["hex"]), it.get("text")
     if not data:
         return "-"
-    if text is not None and not any(unicodedata.category(c) == "Cc" for c in text):
+    if text is not None and not any(map(is_hidden, text)):
         part = text if full else text[:SHOWN]
         spelled, size = '"' + part.replace("\\", "\\\\").replace('"', '\\"') + '"', len(part.encode())
     else:
@@ -95,8 +101,14 @@ def line_of(it: dict, full: bool = False) -> str:
     return " ".join(words)
 
 
+def spelled(c: str) -> str:
+    """A character as JSON spells it by its units of UTF-16."""
+    return "".join(f"\\u{unit:04x}" for unit in memoryview(c.encode("utf-16-le")).cast("H"))
+
+
 def compact(it: dict) -> str:
-    return json.dumps(it, separators=(",", ":"), ensure_ascii=False)
+    text = json.dumps(it, separators=(",", ":"), ensure_ascii=False)
+    return "".join(spelled(c) if is_hidden(c) else c for c in text) if not text.isascii() or "\x7f" in text else text
 
 
 class Machine:
