@@ -12,7 +12,7 @@ use crate::misfits::misfit_of;
 use crate::rules::broken;
 use rq_front::version;
 use rq_record::{Fault, Version, decode_in};
-use rq_restart::{Open, Plan, Restarted, Why, front_state, restart};
+use rq_restart::{FrontEnd, Plan, Restarted, Why, front_end, front_state};
 use sha2::{Digest, Sha256};
 use std::alloc::{AllocError, Global};
 use std::fmt::Write;
@@ -133,6 +133,31 @@ fn reason_of<R: Threads + Sync>(
     }
 }
 
+// Where the front ends, with the reason.
+fn told<R: Threads + Sync>(
+    rt: &R,
+    alloc: Global,
+    bytes: &[u8],
+    end: FrontEnd,
+    plan: &Plan,
+) -> Result<End, Fault>
+    ensures { IfOk result (λ told. why_of told.why ≡ why_of end.why) }
+{
+    let FrontEnd {
+        records,
+        used,
+        total,
+        why,
+    } = end;
+    Ok(End {
+        records,
+        used,
+        total,
+        why,
+        reason: reason_of(rt, alloc, bytes, (used, why), plan)?,
+    })
+}
+
 /// Where the front ends of which the restart is known.
 pub(crate) fn end_after<R: Threads + Sync>(
     rt: &R,
@@ -143,16 +168,16 @@ pub(crate) fn end_after<R: Threads + Sync>(
 ) -> Result<End, Fault>
     ensures { IfOk result (λ end. why_of end.why ≡ r.now.why) }
 {
-    Ok(End {
+    let end = FrontEnd {
         records: r.records(),
         used: r.used(),
         total: r.total(),
         why: r.why(),
-        reason: reason_of(rt, alloc, bytes, (r.used(), r.why()), plan)?,
-    })
+    };
+    told(rt, alloc, bytes, end, plan)
 }
 
-/// Where the front of a log ends. What the restart made is let go.
+/// Where the front of a log ends. No queue is redone for it, unless a record there breaks a rule.
 pub(crate) fn end_of<R: Threads + Sync>(
     rt: &R,
     alloc: Global,
@@ -162,8 +187,8 @@ pub(crate) fn end_of<R: Threads + Sync>(
     ensures log { OnOk result (IsHeaded bytes.now) }
     ensures end { IfOk result (λ end. (r : fronts.Restarted) × IsRestart bytes.now r × (why_of end.why ≡ r.why)) }
 {
-    let restarted = restart(rt, alloc, bytes, plan, &Open)?;
-    end_after(rt, alloc, bytes, &restarted, plan)
+    let end = front_end(rt, alloc, bytes, plan)?;
+    told(rt, alloc, bytes, end, plan)
 }
 
 /// Puts where the front ends, as a line.
