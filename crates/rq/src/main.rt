@@ -3,9 +3,7 @@
 
 ghost use Rattle.std.specs.Prelude.{◌≡◌, IfOk};
 
-mod target;
-
-use crate::target::{Late, Names, in_place};
+use rq_file::{Late, Names, in_place};
 use rq_tool::{Command, Fault, Open, OverRead, OverWrite};
 use std::fs::File;
 use std::io::ErrorKind;
@@ -69,6 +67,15 @@ fn unread(error: &io::Error) -> Stop {
     }
 }
 
+/// The fault of a file that can't be made.
+fn unmade(error: &io::Error) -> Fault {
+    if error.kind() == ErrorKind::OutOfMemory {
+        Fault::Resources
+    } else {
+        Fault::WriteFailed
+    }
+}
+
 /// Does the command on its files.
 fn perform<R>(rt: &R, command: &Command<'_>) -> Result<(), Fault>
 where
@@ -100,33 +107,16 @@ where
     R: Files + AllocGlobal + Threads + Sync,
 {
     let mut input = open(rt, from)?;
-    let Some(names) = Names::of(rt, to)? else {
+    let Some(names) = Names::of(rt, to).map_err(|error| unmade(&error))? else {
         let mut output = OverWrite::new(Late::new(rt, to, in_place()));
         return rq_tool::act(rt, rt.alloc(), command, &mut input, &mut output, &Open);
     };
     let options = names.options(rt);
     let mut output = OverWrite::new(Late::new(rt, names.new_name(), options));
     let done = rq_tool::act(rt, rt.alloc(), command, &mut input, &mut output, &Open);
-    settle(rt, &names, output.into_inner().into_file(), done)
-}
-
-/// Puts the file that was made in its place, where all went well, and else takes it away.
-fn settle<R: Files>(
-    rt: &R,
-    names: &Names,
-    made: Option<R::File>,
-    done: Result<(), Fault>,
-) -> Result<(), Fault> {
-    let Some(file) = made else {
-        return done;
-    };
-    match done {
-        Ok(()) => names.keep(rt, &file).map_err(|_| Fault::WriteFailed),
-        Err(fault) => {
-            names.discard(rt);
-            Err(fault)
-        }
-    }
+    let settled = names.settle(rt, output.into_inner().into_file(), done.is_ok());
+    done?;
+    settled.map_err(|_| Fault::WriteFailed)
 }
 
 /// Opens a file for reading.
