@@ -1,0 +1,101 @@
+mod appending;
+mod commands;
+mod host;
+mod opening;
+mod redoing;
+mod sweeping;
+mod workers;
+
+use rq_record::Version;
+use rq_tool::{Command, Fault, Open, OverRead, OverWrite, act};
+use std::alloc::Global;
+use std::io::Cursor;
+use std::test::Fail;
+use std::thread::Threads;
+
+/// An element of `jobs` goes to `dead` at its second abort, where `ann` finds it at its second look.
+const ARRIVAL: [&str; 18] = [
+    "define dead 0 -",
+    "define jobs 2 0",
+    "register 0 ann",
+    "begin 1",
+    "enqueue 1 1 5 - 0 61",
+    "commit 1",
+    "begin 2",
+    "dequeue 2 1 - 0",
+    "abort 2",
+    "begin 3",
+    "dequeue 3 1 - 0",
+    "begin 4",
+    "dequeue 4 0 ann 70",
+    "commit 4",
+    "abort 3",
+    "begin 5",
+    "dequeue 5 0 ann 71",
+    "commit 5",
+];
+
+/// A checkpoint with a unit open, which commits behind it.
+const CHECKPOINT: [&str; 10] = [
+    "define jobs 0 -",
+    "register 0 ann",
+    "begin 1",
+    "enqueue 1 0 5 - 0 61",
+    "commit 1",
+    "begin 2",
+    "dequeue 2 0 ann 10",
+    "enqueue 2 0 8 - 0 62",
+    "checkpoint",
+    "commit 2",
+];
+
+/// The same, closed while the unit is open.
+const CLOSED: [&str; 10] = [
+    "define jobs 0 -",
+    "register 0 ann",
+    "begin 1",
+    "enqueue 1 0 5 - 0 61",
+    "commit 1",
+    "begin 2",
+    "dequeue 2 0 ann 10",
+    "enqueue 2 0 8 - 0 62",
+    "checkpoint",
+    "abort 2",
+];
+
+const MAKE: Command<'static> = Command::Make {
+    version: Version::One,
+    script: "script",
+    log: "log",
+};
+
+/// The lines, each ended by LF.
+fn lines(alloc: Global, lines: &[&str]) -> Result<Vec<u8>, Fail> {
+    let mut bytes = Vec::new(alloc);
+    for line in lines {
+        bytes.extend_from_slice(line.as_bytes())?;
+        bytes.push(b'\n')?;
+    }
+    Ok(bytes)
+}
+
+/// Appends what a command answers to these bytes, and how it ends.
+fn answer<R: Threads + Sync + AllocGlobal>(
+    rt: &R,
+    command: &Command<'_>,
+    bytes: &[u8],
+    written: Vec<u8>,
+) -> (Result<(), Fault>, Vec<u8>) {
+    let mut input = OverRead::new(Cursor::new(bytes));
+    let mut output = OverWrite::new(written);
+    let done = act(rt, rt.alloc(), command, &mut input, &mut output, &Open);
+    (done, output.into_inner())
+}
+
+/// The log of a script.
+fn log_of<R: Threads + Sync + AllocGlobal>(rt: &R, script: &[&str]) -> Result<Vec<u8>, Fail> {
+    let script = lines(rt.alloc(), script)?;
+    let (done, log) = answer(rt, &MAKE, &script, Vec::new(rt.alloc()));
+    done?;
+    Ok(log)
+}
