@@ -1,6 +1,7 @@
 mod analysis;
 mod chains;
 mod countdowns;
+mod courses;
 mod lanes;
 mod records;
 mod rooms;

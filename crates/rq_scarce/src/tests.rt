@@ -1,3 +1,5 @@
+ghost use Rattle.std.specs.Prelude.{◌<◌};
+
 mod appending;
 mod commands;
 mod host;
@@ -7,7 +9,7 @@ mod sweeping;
 mod workers;
 
 use rq_record::Version;
-use rq_tool::{Command, Fault, Open, OverRead, OverWrite, act};
+use rq_tool::{Command, Fault, Input, Open, Output, OverRead, OverWrite, act};
 use std::alloc::Global;
 use std::io::Cursor;
 use std::test::Fail;
@@ -79,6 +81,18 @@ fn lines(alloc: Global, lines: &[&str]) -> Result<Vec<u8>, Fail> {
     Ok(bytes)
 }
 
+/// How a command ends, and nothing of what else is known of it.
+fn acted<R, I, O>(rt: &R, command: &Command<'_>, input: &mut I, output: &mut O) -> Result<(), Fault>
+where
+    R: Threads + Sync + AllocGlobal,
+    I: Input,
+    O: Output,
+    requires reads { I.faults input.old < 18446744073709551615 }
+    requires writes { O.faults output.old < 18446744073709551615 }
+{
+    act(rt, rt.alloc(), command, input, output, &Open)
+}
+
 /// Appends what a command answers to these bytes, and how it ends.
 fn answer<R: Threads + Sync + AllocGlobal>(
     rt: &R,
@@ -88,7 +102,7 @@ fn answer<R: Threads + Sync + AllocGlobal>(
 ) -> (Result<(), Fault>, Vec<u8>) {
     let mut input = OverRead::new(Cursor::new(bytes));
     let mut output = OverWrite::new(written);
-    let done = act(rt, rt.alloc(), command, &mut input, &mut output, &Open);
+    let done = acted(rt, command, &mut input, &mut output);
     (done, output.into_inner())
 }
 

@@ -7,30 +7,61 @@ ghost use Rattle.rq_record.specs.Views.{record_of};
 ghost use Rattle.rq_record.specs.declared.fault.Fault.TheVariants.{Resources};
 
 use super::sweeping::{Call, is_right};
-use super::{ARRIVAL, log_of};
 use rq_catalog::analyse_in;
 use rq_exchange::replay;
-use rq_front::chain;
-use rq_record::{Record, Version, decode};
-use rq_restart::front_state;
+use rq_record::{By, Name, Payload, QueueNo, Record, UnitNo, Version};
 use rq_state::{State, spell};
 use rq_tool::{Fault, Open, Plan};
 use std::alloc::Global;
 use std::test::Fail;
 use std::thread::Threads;
 
-/// The records of a log.
-fn records_of<R: Threads + Sync + AllocGlobal>(rt: &R, log: &[u8]) -> Result<Vec<Record>, Fail> {
-    let mut records = Vec::new(rt.alloc());
-    if log.len() < 40 {
-        return Ok(records);
+fn define(limit: u16, error: QueueNo, name: &[u8]) -> Result<Record, Fail> {
+    let name = Name::new(name).ok_or("name")?;
+    Ok(Record::Define { limit, error, name })
+}
+
+fn dequeue(unit: u64, queue: u32, by: Option<By>) -> Record {
+    Record::Dequeue {
+        unit: UnitNo(unit),
+        queue: QueueNo(queue),
+        by,
     }
-    let found = chain(rt, rt.alloc(), log, 40, 1_000)?;
-    for span in &found.spans {
-        let body = log.iter().copied().skip(span.start).take(span.len);
-        let body: Vec<u8> = body.collect(rt.alloc())?;
-        records.push(decode(rt.alloc(), &body)?)?;
-    }
+}
+
+/// An element leaves its queue by an abort, and its error queue by another, for the end of the chain, where a registrant that
+/// is still at work takes it.
+fn chained(alloc: Global) -> Result<Vec<Record>, Fail> {
+    let payload = Payload::new(Vec::from_slice(alloc, b"a")?).ok_or("payload")?;
+    let ann = Name::new(b"ann").ok_or("name")?;
+    let unit = UnitNo(1);
+    let queue = QueueNo(2);
+    let records = vec![in alloc;
+        define(0, QueueNo::NONE, b"dead")?,
+        define(1, QueueNo(0), b"late")?,
+        define(1, QueueNo(1), b"jobs")?,
+        Record::Register {
+            queue: QueueNo(0),
+            name: ann
+        },
+        Record::Begin { unit },
+        Record::Enqueue {
+            unit,
+            queue,
+            priority: 5,
+            by: None,
+            payload
+        },
+        Record::Commit { unit },
+        Record::Begin { unit: UnitNo(2) },
+        dequeue(2, 2, None),
+        Record::Abort { unit: UnitNo(2) },
+        Record::Begin { unit: UnitNo(3) },
+        dequeue(3, 1, None),
+        Record::Abort { unit: UnitNo(3) },
+        Record::Begin { unit: UnitNo(4) },
+        dequeue(4, 0, Some(By { name: ann, tag: 70 })),
+    ]?;
     Ok(records)
 }
 
@@ -113,22 +144,26 @@ impl Replaying {
     }
 }
 
+/// The spelling of the state after the records, as one worker has it with ample memory.
+fn wanted<R: Threads + Sync + AllocGlobal>(rt: &R, lawful: &Lawful) -> Result<Vec<u8>, Fail> {
+    let alone = Plan::new(1, 1).ok_or("plan")?;
+    spelled(rt.alloc(), &replayed(rt, lawful, &alone)?)
+}
+
 /// Whether the replay has the same state, however little memory there is, or none. No thread is started before: where no
 /// memory is left, each is refused.
 fn replays<R: Threads + Sync + AllocGlobal>(rt: &R, workers: u32) -> Result<bool, Fail> {
     let plan = Plan::new(workers, 1).ok_or("plan")?;
-    let alone = Plan::new(1, 1).ok_or("plan")?;
-    let log = log_of(rt, &ARRIVAL)?;
-    let lawful = lawful_of(rt.alloc(), records_of(rt, &log)?)?;
-    let want = spelled(rt.alloc(), &front_state(rt, rt.alloc(), &log, &alone)?)?;
-    let state = None;
+    let lawful = lawful_of(rt.alloc(), chained(rt.alloc())?)?;
+    let all = lawful.records.len() == 15;
+    let want = wanted(rt, &lawful)?;
     let replaying = Replaying {
         plan,
         lawful,
         want,
-        state,
+        state: None,
     };
-    is_right(rt, Call::Replay(replaying))
+    Ok(all && is_right(rt, Call::Replay(replaying))?)
 }
 
 #[test]

@@ -115,21 +115,31 @@ impl Tally {
     }
 }
 
+/// Calls where so many bytes are left.
+fn round<R: Threads + Sync + AllocGlobal>(
+    rt: &R,
+    scarce: &mut Scarce,
+    bytes: usize,
+    call: &mut Call<'_>,
+) -> Result<Result<(), Fault>, Fail> {
+    call.prepare(rt.alloc())?;
+    scarce.leave(bytes)?;
+    let answer = call.call(rt);
+    scarce.relieve();
+    Ok(answer)
+}
+
 /// Whether the call is right however little memory there is: calls with ever more, until that is enough.
 pub fn is_right<R: Threads + Sync + AllocGlobal>(rt: &R, mut call: Call<'_>) -> Result<bool, Fail> {
-    let alloc = rt.alloc();
     let mut tally = Tally {
         refused: 0,
         wrong: 0,
         last: 0,
     };
-    let mut scarce = Scarce::begin(alloc)?;
-    for round in 0..ROUNDS {
-        call.prepare(alloc)?;
-        scarce.leave(STEP * round)?;
-        let answer = call.call(rt);
-        scarce.relieve();
-        tally.count(alloc, &call, answer)?;
+    let mut scarce = Scarce::begin(rt.alloc())?;
+    for place in 0..ROUNDS {
+        let answer = round(rt, &mut scarce, STEP * place, &mut call)?;
+        tally.count(rt.alloc(), &call, answer)?;
         if tally.last >= ENOUGH {
             break;
         }

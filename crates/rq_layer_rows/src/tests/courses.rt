@@ -1,0 +1,191 @@
+//! How a replay goes: each queue is redone by one thread, and an error queue by the one whose arrival was the last.
+ghost use Rattle.std.specs.Prelude.{◌≡◌, ◌<◌, ◌≤◌, ℕ, true, length, map, IfErr, IfOk};
+ghost use Rattle.rq_model.specs.Records.{Two};
+ghost use Rattle.rq_model.specs.States.{empty};
+ghost use Rattle.rq_model.specs.Machine.{all_lawful};
+ghost use Rattle.rq_record.specs.Views.{record_of};
+ghost use Rattle.rq_record.specs.declared.fault.Fault.TheVariants.{Resources};
+ghost use Rattle.rq_pool.specs.Countdowns.Arrivals.{last_lists};
+ghost use Rattle.rq_pool.specs.Ledger.{times};
+ghost use Rattle.rq_exchange.specs.Courses.{IsAlone, all_told, redone_by, redone_of, told_to};
+ghost use Rattle.rq_exchange.specs.Links.{naming};
+
+use rq_catalog::analyse_in;
+use rq_exchange::{Course, replay_traced};
+use rq_pool::{Gate, Plan};
+use rq_record::{Fault, Name, Payload, QueueNo, Record, UnitNo, Version};
+use rq_state::State;
+use std::alloc::Global;
+use std::sync::atomic::{AtomicU32, Ordering};
+use std::test::Fail;
+use std::thread::Threads;
+
+const QUEUES: usize = 5;
+
+fn define(limit: u16, error: QueueNo, name: &[u8]) -> Result<Record, Fail> {
+    let name = Name::new(name).ok_or("name")?;
+    Ok(Record::Define { limit, error, name })
+}
+
+fn dequeue(unit: u64, queue: u32) -> Record {
+    Record::Dequeue {
+        unit: UnitNo(unit),
+        queue: QueueNo(queue),
+        by: None,
+    }
+}
+
+/// Two queues with one error queue, one whose error queue is the first of the two, and one with none. What leaves the last
+/// of the chain by an abort goes on to its end by two more.
+fn chained(alloc: Global) -> Result<Vec<Record>, Fail> {
+    let payload = Payload::new(Vec::from_slice(alloc, b"a")?).ok_or("payload")?;
+    let unit = UnitNo(1);
+    let records = vec![in alloc;
+        define(0, QueueNo::NONE, b"dead")?,
+        define(1, QueueNo(0), b"first")?,
+        define(1, QueueNo(0), b"second")?,
+        define(1, QueueNo(1), b"chained")?,
+        define(0, QueueNo::NONE, b"alone")?,
+        Record::Begin { unit },
+        Record::Enqueue {
+            unit,
+            queue: QueueNo(3),
+            priority: 5,
+            by: None,
+            payload
+        },
+        Record::Commit { unit },
+        Record::Begin { unit: UnitNo(2) },
+        dequeue(2, 3),
+        Record::Abort { unit: UnitNo(2) },
+        Record::Begin { unit: UnitNo(3) },
+        dequeue(3, 1),
+        Record::Abort { unit: UnitNo(3) },
+    ]?;
+    Ok(records)
+}
+
+/// Records that are lawful from the start.
+#[derive(Drop)]
+struct Lawful {
+    records: Vec<Record>,
+    ghost lawful: { all_lawful Two empty (map record_of records.items) ≡ true },
+}
+
+/// The records as far as they are lawful after the state.
+fn lawful_front(
+    alloc: Global,
+    start: &State,
+    mut records: Vec<Record>,
+) -> Result<Vec<Record>, Fault>
+    requires { start.now.next ≤ 4294967295 }
+    ensures lawful { IfOk result (λ v. all_lawful Two start.now (map record_of v.items) ≡ true) }
+    ensures refused { IfErr result (λ e. e ≡ Resources) }
+{
+    let analysis = analyse_in(alloc, Version::Two, start, &records)?;
+    let count = analysis.lawful();
+    records.truncate(count);
+    Ok(records)
+}
+
+/// The records as far as they are lawful from the start.
+fn lawful_of(alloc: Global, records: Vec<Record>) -> Result<Lawful, Fault> {
+    let start = State::empty(alloc);
+    let records = lawful_front(alloc, &start, records)?;
+    Ok(Lawful { records })
+}
+
+/// The state after the records, and how the replay went: one thread redid a queue, once, and no other did; of an error queue
+/// that queues lead to, this is the thread that was told Last, once, and nobody else was told so.
+fn traced<R: Threads + Sync + AllocGlobal, G: Gate + Sync>(
+    rt: &R,
+    lawful: &Lawful,
+    plan: &Plan,
+    gate: &G,
+) -> Result<(State, Course), Fault>
+    ensures once { IfOk result (λ r. (x : ℕ) → x < length r.0.definitions → IsAlone x (redone_of r.1)) }
+    ensures begun { IfOk result (λ r. (x : ℕ) → x < length r.0.definitions → 0 < length (naming (map (λ d. d.error) r.0.definitions) x)
+        → (k : ℕ) × (k < length (redone_of r.1)) × (times x (redone_by r.1 k) ≡ 1) × (length (last_lists (told_to r.1 k x)) ≡ 1)) }
+    ensures nobody_else { IfOk result (λ r. (x : ℕ) → x < length r.0.definitions → 0 < length (naming (map (λ d. d.error) r.0.definitions) x)
+        → length (last_lists (all_told r.1 x)) ≡ 1) }
+{
+    let alloc = rt.alloc();
+    let start = State::empty(alloc);
+    let analysis = analyse_in(alloc, Version::Two, &start, &lawful.records)?;
+    let (state, course) = replay_traced(rt, alloc, &start, &lawful.records, &analysis, plan, gate)?;
+    Ok((state, course))
+}
+
+/// As which each queue entered, counted from 1.
+#[derive(Drop)]
+struct Entries {
+    count: AtomicU32,
+    places: [AtomicU32; QUEUES],
+}
+
+impl Entries {
+    fn none() -> Entries {
+        Entries {
+            count: AtomicU32::new(0),
+            places: [
+                AtomicU32::new(0),
+                AtomicU32::new(0),
+                AtomicU32::new(0),
+                AtomicU32::new(0),
+                AtomicU32::new(0),
+            ],
+        }
+    }
+
+    /// Whether all entered, each once, and an error queue after the queues that lead to it.
+    fn are_in_order(&self) -> bool {
+        let [dead, first, second, chained, alone] = &self.places;
+        let [dead, first, second] = [of(dead), of(first), of(second)];
+        let [chained, alone] = [of(chained), of(alone)];
+        let in_order = chained < first && first < dead && second < dead;
+        in_order && 0 < chained && 0 < second && 0 < alone && of(&self.count) == 5
+    }
+}
+
+fn of(count: &AtomicU32) -> u32 {
+    count.load(Ordering::SeqCst)
+}
+
+impl Gate for Entries {
+    fn enter(&self, task: u32) {
+        let before = self.count.fetch_add(1, Ordering::SeqCst);
+        if let Some(place) = self.places.get(task as usize) {
+            place.fetch_add(before.wrapping_add(1), Ordering::SeqCst);
+        }
+    }
+}
+
+/// Whether these are the error queues, and the element has come to the end of its chain.
+fn is_after(state: &State) -> bool {
+    let mut same = state.definition_count() == QUEUES && state.element_count() == 1;
+    let errors = [u32::MAX, 0, 0, 1, u32::MAX];
+    for place in 0..state.definition_count() {
+        same = same && errors.get(place) == Some(&state.definition(place).error.0);
+    }
+    for place in 0..state.element_count() {
+        same = same && state.element(place).home.0 == 0;
+    }
+    same
+}
+
+#[test]
+fn the_last_arrival_begins_an_error_queue(rt: HostRuntime) -> Result<(), Fail> {
+    let lawful = lawful_of(rt.alloc(), chained(rt.alloc())?)?;
+    assert_eq!(rt; lawful.records.len(), 14);
+    for workers in [1, 2, 4] {
+        let plan = Plan::new(workers, 1).ok_or("plan")?;
+        for _ in 0..50 {
+            let gate = Entries::none();
+            let (state, course) = traced(&rt, &lawful, &plan, &gate)?;
+            assert!(rt; is_after(&state), "{workers} workers");
+            assert!(rt; gate.are_in_order(), "{workers} workers");
+            drop(course);
+        }
+    }
+    Ok(())
+}
