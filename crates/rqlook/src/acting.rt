@@ -128,7 +128,7 @@ where
     };
     let file = words.get_str("LOG").unwrap_or("-");
     let bytes = log_in(rt, file, watch)?;
-    watch.restarts(rt, &bytes);
+    watch.begins(rt, &bytes);
     if let Some(to) = words.get_str("OUT") {
         return page(rt, &bytes, &plan, file, to);
     }

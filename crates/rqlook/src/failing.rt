@@ -66,15 +66,24 @@ fn output_failed(rt: &HostRuntime, error: &io::Error) -> u8 {
     if error.kind() == io::ErrorKind::BrokenPipe {
         return 0;
     }
-    let _ = eprintln!(rt; "rqlook: {error}");
+    let _ = eprintln!(rt; "rqlook: standard output: {error}");
     STREAM
+}
+
+// The name of a file, as it is told.
+fn told(file: &str) -> Seen<'_> {
+    if file == "-" {
+        Seen("standard input")
+    } else {
+        Seen(file)
+    }
 }
 
 fn refused(rt: &HostRuntime, file: &str, trouble: &Trouble) -> u8 {
     if let Trouble::Output(error) = trouble {
         return output_failed(rt, error);
     }
-    let _ = eprintln!(rt; "rqlook: {}: {trouble}", Seen(file));
+    let _ = eprintln!(rt; "rqlook: {}: {trouble}", told(file));
     match trouble {
         Trouble::Log(fault) => fault.exit(),
         _ => REFUSED,
@@ -102,7 +111,7 @@ impl Failure {
                 USAGE
             }
             Failure::Unread(file, error) | Failure::Unwritten(file, error) => {
-                let _ = eprintln!(rt; "rqlook: {}: {error}", Seen(file.as_str()));
+                let _ = eprintln!(rt; "rqlook: {}: {error}", told(file.as_str()));
                 STREAM
             }
             Failure::Refused(file, trouble) => refused(rt, file.as_str(), trouble),

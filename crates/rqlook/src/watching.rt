@@ -6,7 +6,7 @@ use std::time::Instant;
 
 const MIB: u64 = 1_048_576;
 
-// From so many MiB on a restart may take a second.
+// From so many MiB on it may take a second.
 const MUCH: u64 = 64;
 
 /// Since when a person looks on, if one does, and whether the output is before their eyes.
@@ -33,11 +33,11 @@ impl Watch {
         Watch { begun, ..self }
     }
 
-    /// Says that the log is restarted, where it is long.
-    pub(crate) fn restarts<R: Eprint>(self, rt: &R, bytes: &[u8]) {
+    /// Says that the work on the log begins, where it is long.
+    pub(crate) fn begins<R: Eprint>(self, rt: &R, bytes: &[u8]) {
         let mib = bytes.len() as u64 / MIB;
         if self.begun.is_some() && mib >= MUCH {
-            let _ = eprintln!(rt; "rqlook: restarting {mib} MiB");
+            let _ = eprintln!(rt; "rqlook: going over {mib} MiB");
         }
     }
 
