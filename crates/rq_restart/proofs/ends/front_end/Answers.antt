@@ -1,4 +1,4 @@
-use Rattle.std.proofs.Common.{◌≡◌, length, map, refl, ◌∙◌, arith}
+use Rattle.std.proofs.Common.{map, refl, arith}
 use Rattle.std.proofs.lemmas.List.{length-map}
 use Rattle.rq_record.specs.Views.{record_of, version_of}
 use Rattle.rq_restart.specs.Views.{why_of}
