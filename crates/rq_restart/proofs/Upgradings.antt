@@ -1,9 +1,11 @@
 -- The bodies of a log, framed anew, are the log in version 2.
-use Rattle.std.proofs.Common.{◌≡◌, ℕ, suc, ◌+◌, ◌≤◌, List, [], ◌∷◌, ◌++◌, length, take, drop, refl, sym, ap, subst, ◌∙◌, append_assoc, arith}
-use Rattle.std.proofs.lemmas.List.{append-nil, drop-drop, take_at, drop_at, length-append, length-take, length-drop, length-map}
+use Rattle.std.proofs.Common.{◌≡◌, ℕ, suc, ◌+◌, ◌-◌, ◌≤◌, List, [], ◌∷◌, ◌++◌, length, take, drop, refl, sym, ap, subst, ◌∙◌, append_assoc, arith}
+use Rattle.std.proofs.lemmas.List.{append-nil, drop-drop, drop-append-le, take_all, take_at, drop_at, length-append, length-take, length-drop, length-map}
 use Rattle.std.specs.Global.{Vec}
+use Rattle.std.specs.Int.{w32, to_be_bytes}
 use Rattle.std.specs.List.{AllByRecursion}
 use Rattle.std.specs.Prelude.{Result, Ok, Err, IfOk, IfErr}
+use Rattle.sha2.specs.Sha256.{sha256}
 use Rattle.rq_model.specs.Records.{Record, Version, Two}
 use Rattle.rq_model.specs.Spelling.{body_of, IsRecord}
 use Rattle.rq_model.specs.Frames.{log_limit, magic, start, header, digest, frame, frames, frames_of, log_of, bodies_of, before, stated, body_in, HasFrame, HasHeader, AreBodies}
@@ -25,11 +27,23 @@ use Rattle.rq_restart.specs.declared.upgrading.Extent.{Extent}
 use Rattle.rq_restart.proofs.Endings.{before_is}
 use Rattle.rq_restart.proofs.Starts.{started, whole_front}
 
--- behind the header of version 2 the first frame is chained to its last 32 bytes
-pub header_ends : (out last : List ℕ) → out ≡ header Two → last ≡ before 40 out → last ≡ start Two
-header_ends out last is h =
+-- the last 32 bytes of a header are what the first frame is chained to
+pub header_ends : (out : List ℕ) → out ≡ header Two → before (length out) out ≡ start Two
+header_ends out is =
     let long : length (start Two) ≡ 32 = length-sha256 (magic Two) in
-    h ∙ ap (before 40) (is ∙ ap (λ (z : List ℕ). magic Two ++ z) (sym (append-nil (start Two)))) ∙ before_is (magic Two) (start Two) [] 40 long refl
+    let size : length out ≡ length (magic Two) + 32 = ap length is ∙ header_long Two in
+    ap (before (length out)) (is ∙ ap (λ (z : List ℕ). magic Two ++ z) (sym (append-nil (start Two)))) ∙ before_is (magic Two) (start Two) [] (length out) long size
+
+-- the length and the body behind the last 32 bytes, and the digest of all that, are the next frame
+pub framed_next : (old body one two new : List ℕ) → 32 ≤ length old → one ≡ old ++ to_be_bytes w32 (length body) → two ≡ one ++ body → new ≡ two ++ sha256 (drop (length old - 32) two) → new ≡ old ++ frame (before (length old) old) body
+framed_next old body one two new low first second third =
+    let p = before (length old) old in
+    let len : List ℕ = to_be_bytes w32 (length body) in
+    let from : ℕ = length old - 32 in
+    let last : p ≡ drop from old = take_all 32 (drop from old) (omega (arith, low, length-drop from old)) in
+    let here : two ≡ old ++ (len ++ body) = second ∙ ap (λ (z : List ℕ). z ++ body) first ∙ append_assoc old len body in
+    let message : drop from two ≡ p ++ (len ++ body) = ap (drop from) here ∙ drop-append-le from old (len ++ body) (omega arith) ∙ ap (λ (z : List ℕ). z ++ (len ++ body)) (sym last) in
+    third ∙ (λ i. here i ++ sha256 (message i)) ∙ append_assoc old (len ++ body) (digest p body) ∙ ap (λ (z : List ℕ). old ++ z) (append_assoc len body (digest p body))
 
 -- where the next frame stands, its digest aside
 pub record IsNext (b : List ℕ) (at more : ℕ) : Type 0 where

@@ -7,7 +7,7 @@ ghost use Rattle.rq_record.specs.declared.fault.Fault.TheVariants.{Resources};
 ghost use Rattle.rq_front.specs.Chains.{Refused};
 ghost use Rattle.rq_restart.specs.Upgrades.{HaveFrames, IsExtent, Upgrades, bodies_in};
 
-use crate::framing::{append_frame, before};
+use crate::framing::append_next;
 use crate::restarting::whole_front;
 use byteorder::{BigEndian, ByteOrder};
 use rq_front::header_of;
@@ -68,11 +68,10 @@ fn chained_anew(alloc: Global, bytes: &[u8], end: usize, count: usize) -> Result
 {
     let mut out = Vec::with_capacity(alloc, end)?;
     header_of(Version::Two, &mut out)?;
-    let mut last = before(&out, HEADER_LEN);
     let mut at = HEADER_LEN;
     for _ in 0..count {
         let body = body_at(bytes, at);
-        last = append_frame(&last, body, &mut out)?;
+        append_next(body, &mut out)?;
         at += FRAME_LEN + body.len();
     }
     Ok(out)
