@@ -25,9 +25,11 @@ pub struct Late<'a, R: Files> {
 }
 
 impl<'a, R: Files> Late<'a, R> {
-    /// The file of this path, to be opened so.
+    /// The file that is to be opened so by its path.
     pub fn new(rt: &'a R, path: &'a str, options: OpenOptions) -> Self
-        ensures { result.file ≡ None }
+        ensures file { result.file ≡ None }
+        ensures path { result.path.now ≡ path.now }
+        ensures options { result.options ≡ options }
     {
         Late {
             rt,
