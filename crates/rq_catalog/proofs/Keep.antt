@@ -74,7 +74,7 @@ names_step t (Define limit error name) n = cond_or (list_any (λ (d : Definition
 names_step t (Register queue name) n = refl
 names_step t (Deregister queue name) n = refl
 names_step t (Begin unit) n = refl
-names_step t (Enqueue unit queue priority by payload) n = refl
+names_step t (Enqueue priority queue unit by payload) n = refl
 names_step t (Dequeue unit queue by) n = refl
 names_step t (Commit unit) n = refl
 names_step t (Abort unit) n = refl
@@ -86,7 +86,7 @@ errors_step t (Define limit error name) = sym (map-append (λ (d : Definition). 
 errors_step t (Register queue name) = refl
 errors_step t (Deregister queue name) = refl
 errors_step t (Begin unit) = refl
-errors_step t (Enqueue unit queue priority by payload) = refl
+errors_step t (Enqueue priority queue unit by payload) = refl
 errors_step t (Dequeue unit queue by) = refl
 errors_step t (Commit unit) = refl
 errors_step t (Abort unit) = refl
@@ -133,7 +133,7 @@ registrants_step t (Deregister queue name) k = deregistered_step queue.0 name k 
 registrants_step t (Commit unit) k = sym (any_map (machine.told unit.0 t.notes) (is_registrant k.0 k.1) t.registrants)
 registrants_step t (Define limit error name) k = refl
 registrants_step t (Begin unit) k = refl
-registrants_step t (Enqueue unit queue priority by payload) k = refl
+registrants_step t (Enqueue priority queue unit by payload) k = refl
 registrants_step t (Dequeue unit queue by) k = refl
 registrants_step t (Abort unit) k = refl
 registrants_step t (Checkpoint bytes) k = refl
@@ -145,7 +145,7 @@ greatest_step t (Register queue name) = refl
 greatest_step t (Deregister queue name) = refl
 greatest_step t (Commit unit) = refl
 greatest_step t (Define limit error name) = refl
-greatest_step t (Enqueue unit queue priority by payload) = refl
+greatest_step t (Enqueue priority queue unit by payload) = refl
 greatest_step t (Dequeue unit queue by) = refl
 greatest_step t (Abort unit) = refl
 greatest_step t (Checkpoint bytes) = refl
@@ -158,7 +158,7 @@ committed_step t (Define limit error name) = refl
 committed_step t (Register queue name) = refl
 committed_step t (Deregister queue name) = refl
 committed_step t (Begin unit) = refl
-committed_step t (Enqueue unit queue priority by payload) = refl
+committed_step t (Enqueue priority queue unit by payload) = refl
 committed_step t (Dequeue unit queue by) = refl
 committed_step t (Commit unit) = refl
 committed_step t (Abort unit) = refl
@@ -170,7 +170,7 @@ aborted_step t (Define limit error name) = refl
 aborted_step t (Register queue name) = refl
 aborted_step t (Deregister queue name) = refl
 aborted_step t (Begin unit) = refl
-aborted_step t (Enqueue unit queue priority by payload) = refl
+aborted_step t (Enqueue priority queue unit by payload) = refl
 aborted_step t (Dequeue unit queue by) = refl
 aborted_step t (Commit unit) = refl
 aborted_step t (Abort unit) = refl
@@ -227,7 +227,7 @@ outcomes_step version s xs (Abort unit) u old well lawful ok e =
 outcomes_step version s xs (Define limit error name) u old well lawful ok e = e ∙ outcome_same s xs u (model.Define limit error.0 name) refl refl
 outcomes_step version s xs (Register queue name) u old well lawful ok e = e ∙ outcome_same s xs u (model.Register queue.0 name) refl refl
 outcomes_step version s xs (Deregister queue name) u old well lawful ok e = e ∙ outcome_same s xs u (model.Deregister queue.0 name) refl refl
-outcomes_step version s xs (Enqueue unit queue priority by payload) u old well lawful ok e = e ∙ outcome_same s xs u (model.Enqueue unit.0 queue.0 priority by payload) refl refl
+outcomes_step version s xs (Enqueue priority queue unit by payload) u old well lawful ok e = e ∙ outcome_same s xs u (model.Enqueue unit.0 queue.0 priority by payload) refl refl
 outcomes_step version s xs (Dequeue unit queue by) u old well lawful ok e = e ∙ outcome_same s xs u (model.Dequeue unit.0 queue.0 by) refl refl
 outcomes_step version s xs (Checkpoint bytes) u old well lawful ok e = e ∙ outcome_same s xs u (model.Checkpoint bytes) refl refl
 outcomes_step version s xs (Kill queue element) u old well lawful ok e = e ∙ outcome_same s xs u (model.Kill queue.0 element.0) refl refl
@@ -241,7 +241,7 @@ engaged_step s xs r u q = at r ∙ ap (λ b. is_engaged s q u || b) (sym (any_pu
     same = ap (λ b. is_engaged s q u || b) (sym (or_false (list_any (engages q u) xs)))
 
     at : (r : Record) → engaged_after r u q (is_engaged s q u || list_any (engages q u) xs) ≡ (is_engaged s q u || (list_any (engages q u) xs || engages q u (record_of r)))
-    at (Enqueue unit queue priority by payload) = turn (is_engaged s q u) (list_any (engages q u) xs) ((unit.0 == u) && (queue.0 == q))
+    at (Enqueue priority queue unit by payload) = turn (is_engaged s q u) (list_any (engages q u) xs) ((unit.0 == u) && (queue.0 == q))
     at (Dequeue unit queue by) = turn (is_engaged s q u) (list_any (engages q u) xs) ((unit.0 == u) && (queue.0 == q))
     at (Define limit error name) = same
     at (Register queue name) = same
@@ -327,7 +327,7 @@ module _ (version : Version) (c : Catalogue) (s : State) (xs : List model.Record
           registered_defined k name h = lt-ltb k (length (run s xs).definitions)
               (any_holds (λ (r : Registrant). r.queue < length (run s xs).definitions) (k < length (run s xs).definitions) (is_registrant k name)
               (λ r p b. subst (λ v. v < length (run s xs).definitions) (eqb-true r.queue k (and_parts (r.queue == k) (bytes_eq r.name name) p).0) b) (run s xs).registrants (registrant_queues (run s xs) (runs_are_well_formed version s xs well lawful)) h)
-      at (Enqueue unit queue priority by payload) l = below_more queue.0 q (length (run s xs).definitions) (and_parts (machine.is_defined (run s xs) queue.0) (is_open (run s xs) unit.0 && is_known (run s xs) queue.0 by) l).0
+      at (Enqueue priority queue unit by payload) l = below_more queue.0 q (length (run s xs).definitions) (and_parts (machine.is_defined (run s xs) queue.0) (is_open (run s xs) unit.0 && is_known (run s xs) queue.0 by) l).0
       at (Dequeue unit queue by) l = below_more queue.0 q (length (run s xs).definitions) (and_parts (machine.is_defined (run s xs) queue.0) (is_open (run s xs) unit.0 && is_known (run s xs) queue.0 by) l).0
       at (Commit unit) l = closing unit.0
       at (Abort unit) l = closing unit.0
@@ -362,7 +362,7 @@ module _ (version : Version) (c : Catalogue) (s : State) (xs : List model.Record
       longer (Register queue name) es = omega arith
       longer (Deregister queue name) es = omega arith
       longer (Begin unit) es = omega arith
-      longer (Enqueue unit queue priority by payload) es = omega arith
+      longer (Enqueue priority queue unit by payload) es = omega arith
       longer (Dequeue unit queue by) es = omega arith
       longer (Commit unit) es = omega arith
       longer (Abort unit) es = omega arith

@@ -87,7 +87,7 @@ module _ (version : Version) (c : Catalogue) (s : State) (xs : List model.Record
   lawful_here (Register queue name) = defined_here queue.0
   lawful_here (Deregister queue name) = f.registrants (queue.0, name)
   lawful_here (Begin unit) = ap (λ g. nat_lt g unit.0) f.greatest
-  lawful_here (Enqueue unit queue priority by payload) = operation_here unit.0 queue.0 by
+  lawful_here (Enqueue priority queue unit by payload) = operation_here unit.0 queue.0 by
   lawful_here (Dequeue unit queue by) = operation_here unit.0 queue.0 by
   lawful_here (Commit unit) = open_here unit.0
   lawful_here (Abort unit) = open_here unit.0

@@ -177,7 +177,7 @@ module _ (version : Version) (s : State) (xs : List model.Record) (well : IsWell
       at (Define limit error name) l = same
       at (Register queue name) l = same
       at (Deregister queue name) l = same
-      at (Enqueue unit queue priority by payload) l = same
+      at (Enqueue priority queue unit by payload) l = same
       at (Dequeue unit queue by) l = same
       at (Checkpoint bytes) l = same
       at (Kill queue element) l = same

@@ -47,7 +47,7 @@ may_take version c (Define limit error name) = is_limit_in version c limit error
 may_take version c (Register queue name) = nat_lt queue.0 (length c.errors.items)
 may_take version c (Deregister queue name) = contains key_eq c.registrants (queue.0, name)
 may_take version c (Begin unit) = nat_lt c.greatest unit.0
-may_take version c (Enqueue unit queue priority by payload) = nat_lt queue.0 (length c.errors.items) && (is_open_in (get nat_eq c.outcomes unit.0) && is_known_in c queue.0 by)
+may_take version c (Enqueue priority queue unit by payload) = nat_lt queue.0 (length c.errors.items) && (is_open_in (get nat_eq c.outcomes unit.0) && is_known_in c queue.0 by)
 may_take version c (Dequeue unit queue by) = nat_lt queue.0 (length c.errors.items) && (is_open_in (get nat_eq c.outcomes unit.0) && is_known_in c queue.0 by)
 may_take version c (Commit unit) = is_open_in (get nat_eq c.outcomes unit.0)
 may_take version c (Abort unit) = is_open_in (get nat_eq c.outcomes unit.0)
@@ -100,7 +100,7 @@ aborted_after (Abort unit) old = old + 1
 aborted_after r old = old
 
 abbrev pub engaged_after : Record → ℕ → ℕ → Bool → Bool
-engaged_after (Enqueue unit queue priority by payload) u q old = ((unit.0 == u) && (queue.0 == q)) || old
+engaged_after (Enqueue priority queue unit by payload) u q old = ((unit.0 == u) && (queue.0 == q)) || old
 engaged_after (Dequeue unit queue by) u q old = ((unit.0 == u) && (queue.0 == q)) || old
 engaged_after r u q old = old
 
@@ -108,7 +108,7 @@ engaged_after r u q old = old
 abbrev pub touches_in : Catalogue → Record → ℕ → Bool
 touches_in c (Register queue name) q = queue.0 == q
 touches_in c (Deregister queue name) q = queue.0 == q
-touches_in c (Enqueue unit queue priority by payload) q = queue.0 == q
+touches_in c (Enqueue priority queue unit by payload) q = queue.0 == q
 touches_in c (Dequeue unit queue by) q = queue.0 == q
 touches_in c (Commit unit) q = is_engaged_in (get nat_eq c.engaged unit.0) q
 touches_in c (Abort unit) q = is_engaged_in (get nat_eq c.engaged unit.0) q

@@ -14,7 +14,7 @@ ghost use Rattle.rq_catalog.specs.Catalogues.{HasRoom, Takes, may_take, key_eq, 
 use crate::lists::{engage, touch, touch_all};
 use crate::outcome::Outcome;
 use indexmap::{IndexMap, IndexSet};
-use rq_record::{By, Fault, Name, QueueNo, Record, Version};
+use rq_record::{Fault, KeptBy, Name, QueueNo, Record, Version};
 use std::alloc::Global;
 
 /// What lawfulness looks at, which is queues, registrants and units, and what is noted on the way: the queues that each unit
@@ -51,10 +51,10 @@ impl Catalogue {
         self.registrants.contains(&(queue, name))
     }
 
-    fn is_known(&self, queue: u32, by: &Option<By>) -> bool
+    fn is_known(&self, queue: u32, by: &KeptBy) -> bool
         ensures { result ≡ is_known_in self.now queue by.now }
     {
-        match by {
+        match by.by() {
             Some(by) => self.is_registered(queue, by.name),
             None => true,
         }
@@ -98,10 +98,10 @@ impl Catalogue {
             Record::Define { limit, error, name } => {
                 self.is_limit(version, *limit, *error)
                     && self.errors.len() < 4096
-                    && !self.names.contains(name)
+                    && !self.names.contains(&name.name())
             }
             Record::Register { queue, .. } => self.is_defined(queue.0),
-            Record::Deregister { queue, name } => self.is_registered(queue.0, *name),
+            Record::Deregister { queue, name } => self.is_registered(queue.0, name.name()),
             Record::Begin { unit } => self.greatest < unit.0,
             Record::Enqueue {
                 unit,
@@ -131,13 +131,13 @@ impl Catalogue {
         ensures refused { IfErr result (λ e. e ≡ Resources) }
     {
         match next {
-            Record::Define { error, name, .. } => self.define(alloc, *error, *name),
+            Record::Define { error, name, .. } => self.define(alloc, *error, name.name()),
             Record::Register { queue, name } => {
-                self.registrants.insert((queue.0, *name))?;
+                self.registrants.insert((queue.0, name.name()))?;
                 touch(&mut self.touching, queue.0, op)
             }
             Record::Deregister { queue, name } => {
-                self.registrants.swap_remove(&(queue.0, *name));
+                self.registrants.swap_remove(&(queue.0, name.name()));
                 touch(&mut self.touching, queue.0, op)
             }
             Record::Begin { unit } => {

@@ -59,9 +59,9 @@ pub(crate) fn unit_of(record: &Record) -> Option<UnitNo> {
 }
 
 /// The registrant that an operation names.
-pub(crate) fn by_of(record: &Record) -> Option<&By> {
+pub(crate) fn by_of(record: &Record) -> Option<By> {
     match record {
-        Record::Enqueue { by, .. } | Record::Dequeue { by, .. } => by.as_ref(),
+        Record::Enqueue { by, .. } | Record::Dequeue { by, .. } => by.by(),
         _ => None,
     }
 }
@@ -70,10 +70,11 @@ pub(crate) fn by_of(record: &Record) -> Option<&By> {
 pub(crate) fn registrant_of(record: &Record) -> Option<&str> {
     match record {
         Record::Register { name, .. } | Record::Deregister { name, .. } => Some(name.text()),
-        _ => match by_of(record) {
-            Some(by) => Some(by.name.text()),
+        Record::Enqueue { by, .. } | Record::Dequeue { by, .. } => match by.name() {
+            Some(name) => Some(name.text()),
             None => None,
         },
+        _ => None,
     }
 }
 

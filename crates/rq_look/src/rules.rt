@@ -9,7 +9,7 @@ ghost use Rattle.rq_model.specs.Machine as machine;
 ghost use Rattle.rq_record.specs.Views.{record_of, version_of};
 ghost use Rattle.rq_look.specs.Rules.{takes_arrivals};
 
-use rq_record::{By, Name, QueueNo, Record, UnitNo, Version};
+use rq_record::{KeptBy, Name, QueueNo, Record, UnitNo, Version};
 use rq_state::{Definition, Registrant, State};
 use std::fmt;
 
@@ -152,10 +152,10 @@ fn unregistered(state: &State, queue: QueueNo, name: Name) -> Option<Rule>
     }
 }
 
-fn unknown(state: &State, queue: QueueNo, by: &Option<By>) -> Option<Rule>
+fn unknown(state: &State, queue: QueueNo, by: &KeptBy) -> Option<Rule>
     ensures { is_some result ≡ not (machine.is_known state.now queue.0 by.now) }
 {
-    match by {
+    match by.by() {
         Some(by) => unregistered(state, queue, by.name),
         None => None,
     }
@@ -234,7 +234,7 @@ fn wrong_definition(
     }
 }
 
-fn operation(state: &State, unit: UnitNo, queue: QueueNo, by: &Option<By>) -> Option<Rule>
+fn operation(state: &State, unit: UnitNo, queue: QueueNo, by: &KeptBy) -> Option<Rule>
     ensures { is_some result ≡ not (machine.is_defined state.now queue.0 && (machine.is_open state.now unit.0 && machine.is_known state.now queue.0 by.now)) }
 {
     if let Some(rule) = undefined(state, queue) {
@@ -261,10 +261,10 @@ pub(crate) fn broken(version: Version, state: &State, next: &Record) -> Option<R
 {
     match next {
         Record::Define { limit, error, name } => {
-            wrong_definition(version, state, *limit, *error, *name)
+            wrong_definition(version, state, *limit, *error, name.name())
         }
         Record::Register { queue, .. } => undefined(state, *queue),
-        Record::Deregister { queue, name } => unregistered(state, *queue, *name),
+        Record::Deregister { queue, name } => unregistered(state, *queue, name.name()),
         Record::Begin { unit } => not_above(state, *unit),
         Record::Enqueue {
             unit,

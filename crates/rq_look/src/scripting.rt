@@ -41,13 +41,14 @@ fn put_number(text: &mut String, number: u64) -> Result<(), AllocError> {
 }
 
 fn put_who(text: &mut String, record: &Record) -> Result<(), AllocError> {
-    let (name, tag) = match by_of(record) {
-        Some(by) => (by.name.text(), by.tag),
-        None => ("-", 0),
-    };
     text.push(' ')?;
-    text.push_str(name)?;
-    put_number(text, tag)
+    match by_of(record) {
+        Some(by) => {
+            text.push_str(by.name.text())?;
+            put_number(text, by.tag)
+        }
+        None => text.push_str("- 0"),
+    }
 }
 
 // Puts what stands behind the word.

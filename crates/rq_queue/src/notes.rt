@@ -12,7 +12,7 @@ ghost use Rattle.rq_state.specs.Views.{kind_of, id_of};
 use crate::drawing::{drawn, in_order, without};
 use crate::places::{file, unfiled};
 use crate::whose::Whose;
-use rq_record::{By, ElemId, Fault, Name, QueueNo, UnitNo};
+use rq_record::{ElemId, Fault, KeptBy, Name, QueueNo, UnitNo};
 use rq_state::{Last, Note, OpKind};
 use std::alloc::Global;
 use std::collections::BTreeMap;
@@ -98,7 +98,7 @@ impl Notes {
         place: u64,
         unit: UnitNo,
         queue: QueueNo,
-        by: &Option<By>,
+        by: &KeptBy,
         kind: OpKind,
         element: Option<ElemId>,
     ) -> Result<Notes, Fault>
@@ -106,7 +106,7 @@ impl Notes {
         ensures done { IfOk result (λ v. v ≡ self ++ machine.noted place unit.0 queue.0 by.now (kind_of kind) (id_of element)) }
         ensures refused { IfErr result (λ e. e ≡ Resources) }
     {
-        match by {
+        match by.by() {
             None => Ok(self),
             Some(by) => self.push(
                 alloc,

@@ -16,7 +16,7 @@ use crate::moves::Move;
 use crate::notes::Notes;
 use crate::operations::Op;
 use crate::registrants::Registrants;
-use rq_record::{By, ElemId, Fault, Name, Payload, QueueNo, Record, UnitNo};
+use rq_record::{ElemId, Fault, KeptBy, Name, Payload, QueueNo, Record, UnitNo};
 use rq_state::{Definition, Fields, OpKind, State};
 use std::alloc::Global;
 use std::marker::Model;
@@ -123,7 +123,7 @@ impl Part {
         unit: UnitNo,
         queue: QueueNo,
         priority: u8,
-        by: &Option<By>,
+        by: &KeptBy,
         payload: &Payload,
     ) -> Result<Part, Fault>
         requires older { AllByRecursion (λ (e : states.Element). e.id < place) self.elements }
@@ -147,7 +147,7 @@ impl Part {
         place: u64,
         unit: UnitNo,
         queue: QueueNo,
-        by: &Option<By>,
+        by: &KeptBy,
     ) -> Result<Part, Fault>
         requires homes { AllByRecursion (λ (e : states.Element). e.home ≡ queue.0) self.elements }
         requires notes { AllByRecursion (λ (n : states.Note). n.last.place < place) self.notes }
@@ -244,8 +244,8 @@ impl Part {
     {
         match rec {
             Record::Define { .. } | Record::Begin { .. } | Record::Checkpoint { .. } => Ok(self),
-            Record::Register { queue, name } => self.register(*queue, name),
-            Record::Deregister { queue, name } => self.deregister(alloc, *queue, name),
+            Record::Register { queue, name } => self.register(*queue, &name.name()),
+            Record::Deregister { queue, name } => self.deregister(alloc, *queue, &name.name()),
             Record::Enqueue {
                 unit,
                 queue,

@@ -1,4 +1,5 @@
 pub mod Faults
+pub mod Kept
 pub mod Padding
 pub mod PaddingLaws
 pub mod Views

@@ -3,6 +3,8 @@
 
 mod check_bytes;
 mod fault;
+mod kept_by;
+mod kept_name;
 mod name;
 mod payload;
 mod reading;
@@ -12,6 +14,8 @@ mod writing;
 
 pub use check_bytes::CheckBytes;
 pub use fault::Fault;
+pub use kept_by::KeptBy;
+pub use kept_name::KeptName;
 pub use name::Name;
 pub use payload::Payload;
 pub use reading::{decode, decode_in};

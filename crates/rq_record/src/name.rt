@@ -59,13 +59,24 @@ fn is_name_bytes(bytes: &[u8]) -> bool
     1 <= bytes.len() && bytes.len() <= 64 && are_name_chars(bytes)
 }
 
-fn padded(bytes: &[u8]) -> [u8; 64]
-    requires { length bytes.now ≤ 64 }
-    ensures { result ≡ bytes.now ++ replicate (64 - length bytes.now) 0 }
+pub(crate) fn padded<const N: usize>(bytes: &[u8]) -> [u8; N]
+    requires { length bytes.now ≤ N }
+    ensures { result ≡ bytes.now ++ replicate (N - length bytes.now) 0 }
 {
-    let mut kept = [0; 64];
+    let mut kept = [0; N];
     kept[..bytes.len()].copy_from_slice(bytes);
     kept
+}
+
+/// The bytes of a name as a text: each of them is a character of ASCII.
+pub(crate) fn text_of(name: &[u8]) -> &str
+    requires { IsTrue (is_name name.now) }
+    ensures { result.now ≡ name.now }
+{
+    match std::str::from_utf8(name) {
+        Ok(text) => text,
+        Err(_) => "",
+    }
 }
 
 impl Name {
@@ -74,12 +85,20 @@ impl Name {
         ensures { result ≡ (if is_name bytes.now then Some bytes.now else None) }
     {
         if is_name_bytes(bytes) {
-            Some(Name {
-                bytes: padded(bytes),
-                len: bytes.len() as u8,
-            })
+            Some(Name::of_checked(bytes))
         } else {
             None
+        }
+    }
+
+    /// The name of these bytes, which are known to be one.
+    pub(crate) fn of_checked(bytes: &[u8]) -> Name
+        requires { IsTrue (is_name bytes.now) }
+        ensures { result ≡ bytes.now }
+    {
+        Name {
+            bytes: padded(bytes),
+            len: bytes.len() as u8,
         }
     }
 
@@ -95,10 +114,7 @@ impl Name {
     pub fn text(&self) -> &str
         ensures { result.now ≡ self.now }
     {
-        match std::str::from_utf8(self.bytes()) {
-            Ok(text) => text,
-            Err(_) => "",
-        }
+        text_of(self.bytes())
     }
 }
 

@@ -6,6 +6,8 @@ ghost use Rattle.rq_record.specs.Views.{record_of, version_of};
 
 use crate::check_bytes::CheckBytes;
 use crate::fault::Fault;
+use crate::kept_by::KeptBy;
+use crate::kept_name::KeptName;
 use crate::name::Name;
 use crate::payload::Payload;
 use crate::record::{By, ElemId, QueueNo, Record, UnitNo};
@@ -59,11 +61,11 @@ fn take(count: u8, bytes: &[u8]) -> Result<(&[u8], &[u8]), Fault>
     Ok(bytes.split_at(count))
 }
 
-fn name(bytes: &[u8]) -> Result<Name, Fault>
-    ensures { Reads (λ x. x) result (name_of bytes.now) }
+fn name(alloc: Global, bytes: &[u8]) -> Result<KeptName, Fault>
+    ensures { Copies (λ x. x) result (name_of bytes.now) }
 {
     match Name::new(bytes) {
-        Some(name) => Ok(name),
+        Some(name) => KeptName::of(alloc, &name),
         None => Err(Fault::Form),
     }
 }
@@ -102,12 +104,12 @@ fn who(bytes: &[u8]) -> Result<(&[u8], u64, &[u8]), Fault>
 }
 
 #[tactic(auto, unfolding(crate::specs::Reading::define_of))]
-fn define(bytes: &[u8]) -> Result<Record, Fault>
-    ensures { Reads record_of result (define_of bytes.now) }
+fn define(alloc: Global, bytes: &[u8]) -> Result<Record, Fault>
+    ensures { Copies record_of result (define_of bytes.now) }
 {
     let (limit, rest) = u16_at(bytes)?;
     let (error, rest) = u32_at(rest)?;
-    let name = name(rest)?;
+    let name = name(alloc, rest)?;
     Ok(Record::Define {
         limit,
         error: QueueNo(error),
@@ -116,11 +118,11 @@ fn define(bytes: &[u8]) -> Result<Record, Fault>
 }
 
 #[tactic(auto, unfolding(crate::specs::Reading::register_of))]
-fn register(bytes: &[u8]) -> Result<Record, Fault>
-    ensures { Reads record_of result (register_of bytes.now) }
+fn register(alloc: Global, bytes: &[u8]) -> Result<Record, Fault>
+    ensures { Copies record_of result (register_of bytes.now) }
 {
     let (queue, rest) = u32_at(bytes)?;
-    let name = name(rest)?;
+    let name = name(alloc, rest)?;
     Ok(Record::Register {
         queue: QueueNo(queue),
         name,
@@ -128,11 +130,11 @@ fn register(bytes: &[u8]) -> Result<Record, Fault>
 }
 
 #[tactic(auto, unfolding(crate::specs::Reading::deregister_of))]
-fn deregister(bytes: &[u8]) -> Result<Record, Fault>
-    ensures { Reads record_of result (deregister_of bytes.now) }
+fn deregister(alloc: Global, bytes: &[u8]) -> Result<Record, Fault>
+    ensures { Copies record_of result (deregister_of bytes.now) }
 {
     let (queue, rest) = u32_at(bytes)?;
-    let name = name(rest)?;
+    let name = name(alloc, rest)?;
     Ok(Record::Deregister {
         queue: QueueNo(queue),
         name,
@@ -196,17 +198,17 @@ fn enqueue(alloc: Global, bytes: &[u8]) -> Result<Record, Fault>
     let by = by(name, tag)?;
     let payload = payload(alloc, rest)?;
     Ok(Record::Enqueue {
-        unit: UnitNo(unit),
-        queue: QueueNo(queue),
         priority,
-        by,
+        queue: QueueNo(queue),
+        unit: UnitNo(unit),
+        by: KeptBy::of(alloc, &by)?,
         payload,
     })
 }
 
 #[tactic(auto, unfolding(crate::specs::Reading::dequeue_of))]
-fn dequeue(bytes: &[u8]) -> Result<Record, Fault>
-    ensures { Reads record_of result (dequeue_of bytes.now) }
+fn dequeue(alloc: Global, bytes: &[u8]) -> Result<Record, Fault>
+    ensures { Copies record_of result (dequeue_of bytes.now) }
 {
     let (unit, rest) = u64_at(bytes)?;
     let (queue, rest) = u32_at(rest)?;
@@ -216,7 +218,7 @@ fn dequeue(bytes: &[u8]) -> Result<Record, Fault>
     Ok(Record::Dequeue {
         unit: UnitNo(unit),
         queue: QueueNo(queue),
-        by,
+        by: KeptBy::of(alloc, &by)?,
     })
 }
 
@@ -252,12 +254,12 @@ fn of_kind(alloc: Global, version: Version, kind: u8, bytes: &[u8]) -> Result<Re
     ensures { Copies record_of result (of_kind (version_of version) kind bytes.now) }
 {
     match kind {
-        1 => define(bytes),
-        2 => register(bytes),
-        3 => deregister(bytes),
+        1 => define(alloc, bytes),
+        2 => register(alloc, bytes),
+        3 => deregister(alloc, bytes),
         4 => begin(bytes),
         5 => enqueue(alloc, bytes),
-        6 => dequeue(bytes),
+        6 => dequeue(alloc, bytes),
         7 => commit(bytes),
         8 => abort(bytes),
         9 => checkpoint(alloc, bytes),
@@ -280,7 +282,7 @@ fn record(alloc: Global, version: Version, bytes: &[u8]) -> Result<Record, Fault
 /// The record that a body of this version spells.
 ///
 /// `Form` answers exactly a body that spells none, and is found before memory is asked for; `Resources` answers a body
-/// that spells one whose bytes could not be copied.
+/// that spells one whose names or bytes could not be kept.
 pub fn decode_in(alloc: Global, version: Version, body: &[u8]) -> Result<Record, Fault>
     ensures decodes { Decodes (version_of version) body.now result }
 {

@@ -1,6 +1,8 @@
 //! The ten kinds of record, and the numbers that they name things by.
 
 use crate::check_bytes::CheckBytes;
+use crate::kept_by::KeptBy;
+use crate::kept_name::KeptName;
 use crate::name::Name;
 use crate::payload::Payload;
 use std::marker::Model;
@@ -44,6 +46,9 @@ impl Model for By {
     ghost inverse_ok = { λ b h. refl };
 }
 
+// A restart holds all records at once.
+const _: () = prove!(std::mem::size_of::<Record>() <= 56);
+
 /// A record of the log; version 1 has all but the last. Whether it is lawful after those before it is no matter of its
 /// form: each number may be any of its width.
 #[derive(Drop)]
@@ -53,17 +58,17 @@ pub enum Record {
     Define {
         limit: u16,
         error: QueueNo,
-        name: Name,
+        name: KeptName,
     },
     /// Registers a name with a queue.
     Register {
         queue: QueueNo,
-        name: Name,
+        name: KeptName,
     },
     /// Ends a registration.
     Deregister {
         queue: QueueNo,
-        name: Name,
+        name: KeptName,
     },
     /// Opens a unit.
     Begin {
@@ -71,17 +76,17 @@ pub enum Record {
     },
     /// Puts an element into a queue, to be seen when the unit commits. Greater priorities come first.
     Enqueue {
-        unit: UnitNo,
-        queue: QueueNo,
         priority: u8,
-        by: Option<By>,
+        queue: QueueNo,
+        unit: UnitNo,
+        by: KeptBy,
         payload: Payload,
     },
     /// Takes the first free element of a queue, if there is one, to be gone when the unit commits.
     Dequeue {
         unit: UnitNo,
         queue: QueueNo,
-        by: Option<By>,
+        by: KeptBy,
     },
     /// Ends a unit: what it did stands.
     Commit {

@@ -8,7 +8,8 @@ ghost use Rattle.rq_record.specs.Views.{record_of};
 ghost use Rattle.rq_record.specs.Writing.{Puts, Appends, HasKind};
 
 use crate::fault::Fault;
-use crate::record::{By, Record};
+use crate::kept_by::KeptBy;
+use crate::record::Record;
 use byteorder::{BigEndian, ByteOrder};
 
 fn put(out: &mut Vec<u8>, bytes: &[u8]) -> Result<(), Fault>
@@ -48,11 +49,11 @@ fn put_u64(out: &mut Vec<u8>, n: u64) -> Result<(), Fault>
     put(out, &cell)
 }
 
-fn put_who(out: &mut Vec<u8>, by: &Option<By>) -> Result<(), Fault>
+fn put_who(out: &mut Vec<u8>, by: &KeptBy) -> Result<(), Fault>
     ensures bytes { Puts out.old.items out.new.items (who by.now) result }
     ensures fits { OnOk result (IsWho by.now) }
 {
-    match by {
+    match by.by() {
         None => {
             put_u8(out, 0)?;
             put_u64(out, 0)?;
@@ -93,9 +94,9 @@ fn put_body(out: &mut Vec<u8>, r: &Record) -> Result<(), Fault>
             put_u64(out, unit.0)?;
         }
         Record::Enqueue {
-            unit,
-            queue,
             priority,
+            queue,
+            unit,
             by,
             payload,
         } => {

@@ -248,7 +248,7 @@ unit_step s t (own.Deregister queue name) u rise h = record { units = (h u).unit
 unit_step s t (own.Begin v) u rise h = of_whom t s (step s (Begin v.0)) v.0 u (of_unit t v.0 + 1) h
     (λ k. record { units = omega (arith, count_append (λ w. w == u) s.units (v.0 ∷ []), one_more (λ w. w == u) v.0, k.units); elements = omega (arith, k.elements); notes = omega (arith, k.notes) })
     (λ n k. record { units = omega (arith, count_append (λ w. w == u) s.units (v.0 ∷ []), no_more (λ w. w == u) v.0 n, k.units); elements = k.elements; notes = k.notes })
-unit_step s t (own.Enqueue v queue priority by payload) u rise h =
+unit_step s t (own.Enqueue priority queue v by payload) u rise h =
     let new = new_element s.next v.0 queue.0 priority payload in
     let notes = noted s.next v.0 queue.0 by Enqueued (Some s.next) in
     of_whom t s (step s (Enqueue v.0 queue.0 priority by payload)) v.0 u (of_unit t v.0 + 1) h
@@ -377,7 +377,7 @@ registrant_step s t (own.Deregister queue name) k h =
       notes = omega (arith, count_filtered (is_noted k) (λ m. not (is_note_of queue.0 name m)) s.notes, j.notes);
     })
 registrant_step s t (own.Begin v) k h = record { registrants = (h k).registrants; notes = (h k).notes }
-registrant_step s t (own.Enqueue v queue priority by payload) k h = operated t s (step s (Enqueue v.0 queue.0 priority by payload)) queue.0 by k s.next v.0 Enqueued (Some s.next) refl refl h
+registrant_step s t (own.Enqueue priority queue v by payload) k h = operated t s (step s (Enqueue v.0 queue.0 priority by payload)) queue.0 by k s.next v.0 Enqueued (Some s.next) refl refl h
 registrant_step s t (own.Dequeue v queue by) k h = operated t s (step s (Dequeue v.0 queue.0 by)) queue.0 by k s.next v.0 Dequeued (option_map (λ (e : Element). e.id) (best queue.0 s.elements)) refl refl h
 registrant_step s t (own.Commit v) k h = record {
   registrants = omega (arith, count_image (is_of k) (told v.0 s.notes) (λ r e. e) s.registrants, (h k).registrants);
@@ -441,7 +441,7 @@ lost s t (own.Deregister queue name) h rise narrow = let k = h.registrants (queu
   bytes = omega arith;
 }
 lost s t (own.Begin v) h rise narrow = record { members = omega (arith, length-append s.units (v.0 ∷ [])); bytes = omega arith }
-lost s t (own.Enqueue v queue priority by payload) h rise narrow = record {
+lost s t (own.Enqueue priority queue v by payload) h rise narrow = record {
   members = omega (arith, length-append s.elements (new_element s.next v.0 queue.0 priority payload ∷ []), length-append s.notes (noted s.next v.0 queue.0 by Enqueued (Some s.next)));
   bytes = omega (arith, more_payloads s.elements (new_element s.next v.0 queue.0 priority payload ∷ []));
 }

@@ -60,7 +60,7 @@ pub record IsWithin (n : ℕ) (t : Tally) : Type 0 where
 
 abbrev pub unit_after : Record → Tally → ℕ → ℕ
 unit_after (Begin unit) t u = cond (nat_eq unit.0 u) (of_unit t unit.0 + 1) (of_unit t u)
-unit_after (Enqueue unit queue priority by payload) t u = cond (nat_eq unit.0 u) (of_unit t unit.0 + 1) (of_unit t u)
+unit_after (Enqueue priority queue unit by payload) t u = cond (nat_eq unit.0 u) (of_unit t unit.0 + 1) (of_unit t u)
 unit_after (Dequeue unit queue by) t u = cond (nat_eq unit.0 u) (of_unit t unit.0 + 1) (of_unit t u)
 unit_after (Commit unit) t u = cond (nat_eq unit.0 u) 0 (of_unit t u)
 unit_after (Abort unit) t u = cond (nat_eq unit.0 u) 0 (of_unit t u)
@@ -74,7 +74,7 @@ named_after queue (Some by) t k = cond (key_eq (queue, by.name) k) (of_registran
 abbrev pub registrant_after : Record → Tally → ℕ × List ℕ → ℕ
 registrant_after (Register queue name) t k = cond (key_eq (queue.0, name) k) (of_registrant t (queue.0, name) + 1) (of_registrant t k)
 registrant_after (Deregister queue name) t k = cond (key_eq (queue.0, name) k) 0 (of_registrant t k)
-registrant_after (Enqueue unit queue priority by payload) t k = named_after queue.0 by t k
+registrant_after (Enqueue priority queue unit by payload) t k = named_after queue.0 by t k
 registrant_after (Dequeue unit queue by) t k = named_after queue.0 by t k
 registrant_after r t k = of_registrant t k
 

@@ -7,7 +7,7 @@ ghost use Rattle.rq_record.specs.declared.fault.Fault.TheVariants.{Resources};
 ghost use Rattle.rq_restart.specs.Worth.{Counts, IsWithin, count_of, lost_by, named_after, of_registrant, of_unit};
 
 use indexmap::IndexMap;
-use rq_record::{By, Fault, Name, Record};
+use rq_record::{Fault, KeptBy, Name, Record};
 use std::alloc::Global;
 
 /// How often an open unit, and a registrant, were spoken of since they came.
@@ -37,8 +37,8 @@ impl Tally {
         ensures refused { IfErr result (λ e. e ≡ Resources) }
     {
         match rec {
-            Record::Register { queue, name } => self.name(queue.0, *name),
-            Record::Deregister { queue, name } => Ok(self.forget(queue.0, *name)),
+            Record::Register { queue, name } => self.name(queue.0, name.name()),
+            Record::Deregister { queue, name } => Ok(self.forget(queue.0, name.name())),
             Record::Begin { unit } => self.speak(unit.0),
             Record::Enqueue {
                 unit,
@@ -56,14 +56,14 @@ impl Tally {
     }
 
     // An operation of a unit on a queue.
-    fn operate(&mut self, unit: u64, queue: u32, by: &Option<By>) -> Result<u64, Fault>
+    fn operate(&mut self, unit: u64, queue: u32, by: &KeptBy) -> Result<u64, Fault>
         requires { IsWithin (2 ^ 64 - 2) self.old }
         ensures units { OnOk result ((u : ℕ) → of_unit self.new u ≡ cond (nat_eq unit u) (of_unit self.old unit + 1) (of_unit self.old u)) }
         ensures registrants { OnOk result ((k : ℕ × List ℕ) → of_registrant self.new k ≡ named_after queue by.now self.old k) }
         ensures nothing { IfOk result (λ n. n ≡ 0) }
         ensures refused { IfErr result (λ e. e ≡ Resources) }
     {
-        if let Some(by) = by {
+        if let Some(by) = by.by() {
             self.name(queue, by.name)?;
         }
         self.speak(unit)

@@ -9,11 +9,11 @@ ghost use Rattle.rq_writer.specs.Views.{line_of};
 use crate::fields::{by, error, field, name, number, number_field, u32_field};
 use crate::hexes::{kept, payload};
 use crate::line::Line;
-use rq_record::{ElemId, Fault, QueueNo, Record, UnitNo, Version};
+use rq_record::{ElemId, Fault, KeptBy, KeptName, QueueNo, Record, UnitNo, Version};
 use std::alloc::Global;
 
 #[tactic(auto, unfolding(crate::specs::Reading::define_of))]
-fn define(bytes: &[u8]) -> Result<Record, Fault>
+fn define(alloc: Global, bytes: &[u8]) -> Result<Record, Fault>
     ensures { Gives record_of result (spec.define_of bytes.now) }
 {
     let (word, rest) = field(bytes)?;
@@ -23,31 +23,31 @@ fn define(bytes: &[u8]) -> Result<Record, Fault>
     Ok(Record::Define {
         limit: limit as u16,
         error: QueueNo(error),
-        name,
+        name: KeptName::of(alloc, &name)?,
     })
 }
 
 #[tactic(auto, unfolding(crate::specs::Reading::register_of))]
-fn register(bytes: &[u8]) -> Result<Record, Fault>
+fn register(alloc: Global, bytes: &[u8]) -> Result<Record, Fault>
     ensures { Gives record_of result (spec.register_of bytes.now) }
 {
     let (queue, rest) = u32_field(bytes)?;
     let name = name(rest)?;
     Ok(Record::Register {
         queue: QueueNo(queue),
-        name,
+        name: KeptName::of(alloc, &name)?,
     })
 }
 
 #[tactic(auto, unfolding(crate::specs::Reading::deregister_of))]
-fn deregister(bytes: &[u8]) -> Result<Record, Fault>
+fn deregister(alloc: Global, bytes: &[u8]) -> Result<Record, Fault>
     ensures { Gives record_of result (spec.deregister_of bytes.now) }
 {
     let (queue, rest) = u32_field(bytes)?;
     let name = name(rest)?;
     Ok(Record::Deregister {
         queue: QueueNo(queue),
-        name,
+        name: KeptName::of(alloc, &name)?,
     })
 }
 
@@ -94,16 +94,16 @@ fn enqueue(alloc: Global, bytes: &[u8]) -> Result<Record, Fault>
     let by = by(name, tag)?;
     let payload = payload(alloc, rest)?;
     Ok(Record::Enqueue {
-        unit: UnitNo(unit),
-        queue: QueueNo(queue),
         priority: priority as u8,
-        by,
+        queue: QueueNo(queue),
+        unit: UnitNo(unit),
+        by: KeptBy::of(alloc, &by)?,
         payload,
     })
 }
 
 #[tactic(auto, unfolding(crate::specs::Reading::dequeue_of))]
-fn dequeue(bytes: &[u8]) -> Result<Record, Fault>
+fn dequeue(alloc: Global, bytes: &[u8]) -> Result<Record, Fault>
     ensures { Gives record_of result (spec.dequeue_of bytes.now) }
 {
     let (unit, rest) = number_field(u64::MAX, bytes)?;
@@ -114,7 +114,7 @@ fn dequeue(bytes: &[u8]) -> Result<Record, Fault>
     Ok(Record::Dequeue {
         unit: UnitNo(unit),
         queue: QueueNo(queue),
-        by,
+        by: KeptBy::of(alloc, &by)?,
     })
 }
 
@@ -152,17 +152,17 @@ fn told_by(alloc: Global, version: Version, word: &[u8], rest: &[u8]) -> Result<
     ensures { Gives record_of result (spec.told_by (version_of version) word.now rest.now) }
 {
     if word == b"define".as_slice() {
-        define(rest)
+        define(alloc, rest)
     } else if word == b"register".as_slice() {
-        register(rest)
+        register(alloc, rest)
     } else if word == b"deregister".as_slice() {
-        deregister(rest)
+        deregister(alloc, rest)
     } else if word == b"begin".as_slice() {
         begin(rest)
     } else if word == b"enqueue".as_slice() {
         enqueue(alloc, rest)
     } else if word == b"dequeue".as_slice() {
-        dequeue(rest)
+        dequeue(alloc, rest)
     } else if word == b"commit".as_slice() {
         commit(rest)
     } else if word == b"abort".as_slice() {

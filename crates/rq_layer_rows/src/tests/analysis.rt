@@ -1,7 +1,7 @@
 //! What the analysis of records tells.
 
 use rq_catalog::{Outcome, analyse};
-use rq_record::{By, Name, Payload, QueueNo, Record, UnitNo};
+use rq_record::{By, Fault, KeptBy, KeptName, Name, Payload, QueueNo, Record, UnitNo};
 use rq_state::State;
 use std::alloc::Global;
 use std::test::Fail;
@@ -10,12 +10,12 @@ fn begin(unit: u64) -> Record {
     Record::Begin { unit: UnitNo(unit) }
 }
 
-fn dequeue(unit: u64, queue: u32, by: Option<By>) -> Record {
-    Record::Dequeue {
+fn dequeue(alloc: Global, unit: u64, queue: u32, by: Option<By>) -> Result<Record, Fault> {
+    Ok(Record::Dequeue {
         unit: UnitNo(unit),
         queue: QueueNo(queue),
-        by,
-    }
+        by: KeptBy::of(alloc, &by)?,
+    })
 }
 
 /// An element of `jobs` goes to `dead` at its second abort, where `ann` finds it at its second look.
@@ -27,37 +27,37 @@ fn arrival(alloc: Global) -> Result<Vec<Record>, Fail> {
         Record::Define {
             limit: 0,
             error: none,
-            name: Name::new(b"dead").ok_or("name")?
+            name: KeptName::of(alloc, &Name::new(b"dead").ok_or("name")?)?
         },
         Record::Define {
             limit: 2,
             error: QueueNo(0),
-            name: Name::new(b"jobs").ok_or("name")?
+            name: KeptName::of(alloc, &Name::new(b"jobs").ok_or("name")?)?
         },
         Record::Register {
             queue: QueueNo(0),
-            name: ann
+            name: KeptName::of(alloc, &ann)?
         },
         begin(1),
         Record::Enqueue {
             unit: UnitNo(1),
             queue: QueueNo(1),
             priority: 5,
-            by: None,
+            by: KeptBy::of(alloc, &None)?,
             payload
         },
         Record::Commit { unit: UnitNo(1) },
         begin(2),
-        dequeue(2, 1, None),
+        dequeue(alloc, 2, 1, None)?,
         Record::Abort { unit: UnitNo(2) },
         begin(3),
-        dequeue(3, 1, None),
+        dequeue(alloc, 3, 1, None)?,
         begin(4),
-        dequeue(4, 0, Some(By { name: ann, tag: 70 })),
+        dequeue(alloc, 4, 0, Some(By { name: ann, tag: 70 }))?,
         Record::Commit { unit: UnitNo(4) },
         Record::Abort { unit: UnitNo(3) },
         begin(5),
-        dequeue(5, 0, Some(By { name: ann, tag: 71 })),
+        dequeue(alloc, 5, 0, Some(By { name: ann, tag: 71 }))?,
         Record::Commit { unit: UnitNo(5) },
     ]?;
     Ok(records)

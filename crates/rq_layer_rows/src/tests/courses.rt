@@ -13,7 +13,7 @@ ghost use Rattle.rq_exchange.specs.Links.{naming};
 use rq_catalog::analyse_in;
 use rq_exchange::{Course, replay_traced};
 use rq_pool::{Gate, Plan};
-use rq_record::{Fault, Name, Payload, QueueNo, Record, UnitNo, Version};
+use rq_record::{Fault, KeptBy, KeptName, Name, Payload, QueueNo, Record, UnitNo, Version};
 use rq_state::State;
 use std::alloc::Global;
 use std::sync::atomic::{AtomicU32, Ordering};
@@ -22,17 +22,17 @@ use std::thread::Threads;
 
 const QUEUES: usize = 5;
 
-fn define(limit: u16, error: QueueNo, name: &[u8]) -> Result<Record, Fail> {
-    let name = Name::new(name).ok_or("name")?;
+fn define(alloc: Global, limit: u16, error: QueueNo, name: &[u8]) -> Result<Record, Fail> {
+    let name = KeptName::of(alloc, &Name::new(name).ok_or("name")?)?;
     Ok(Record::Define { limit, error, name })
 }
 
-fn dequeue(unit: u64, queue: u32) -> Record {
-    Record::Dequeue {
+fn dequeue(alloc: Global, unit: u64, queue: u32) -> Result<Record, Fault> {
+    Ok(Record::Dequeue {
         unit: UnitNo(unit),
         queue: QueueNo(queue),
-        by: None,
-    }
+        by: KeptBy::of(alloc, &None)?,
+    })
 }
 
 /// Two queues with one error queue, one whose error queue is the first of the two, and one with none. What leaves the last
@@ -41,25 +41,25 @@ fn chained(alloc: Global) -> Result<Vec<Record>, Fail> {
     let payload = Payload::new(Vec::from_slice(alloc, b"a")?).ok_or("payload")?;
     let unit = UnitNo(1);
     let records = vec![in alloc;
-        define(0, QueueNo::NONE, b"dead")?,
-        define(1, QueueNo(0), b"first")?,
-        define(1, QueueNo(0), b"second")?,
-        define(1, QueueNo(1), b"chained")?,
-        define(0, QueueNo::NONE, b"alone")?,
+        define(alloc, 0, QueueNo::NONE, b"dead")?,
+        define(alloc, 1, QueueNo(0), b"first")?,
+        define(alloc, 1, QueueNo(0), b"second")?,
+        define(alloc, 1, QueueNo(1), b"chained")?,
+        define(alloc, 0, QueueNo::NONE, b"alone")?,
         Record::Begin { unit },
         Record::Enqueue {
             unit,
             queue: QueueNo(3),
             priority: 5,
-            by: None,
+            by: KeptBy::of(alloc, &None)?,
             payload
         },
         Record::Commit { unit },
         Record::Begin { unit: UnitNo(2) },
-        dequeue(2, 3),
+        dequeue(alloc, 2, 3)?,
         Record::Abort { unit: UnitNo(2) },
         Record::Begin { unit: UnitNo(3) },
-        dequeue(3, 1),
+        dequeue(alloc, 3, 1)?,
         Record::Abort { unit: UnitNo(3) },
     ]?;
     Ok(records)

@@ -2,7 +2,7 @@
 
 use super::sweeping::{Call, is_right};
 use rq_front::{frame, header};
-use rq_record::{Payload, QueueNo, Record, UnitNo, encode};
+use rq_record::{KeptBy, Payload, QueueNo, Record, UnitNo, encode};
 use rq_tool::Fault;
 use std::alloc::Global;
 use std::test::Fail;
@@ -63,7 +63,7 @@ fn appends<R: Threads + Sync + AllocGlobal>(
         unit: UnitNo(1),
         queue: QueueNo(0),
         priority: 5,
-        by: None,
+        by: KeptBy::of(alloc, &None)?,
         payload: Payload::new(Vec::from_elem(alloc, 0x61, 500)?).ok_or("payload")?,
     };
     let mut appending = Appending {

@@ -9,24 +9,24 @@ ghost use Rattle.rq_record.specs.declared.fault.Fault.TheVariants.{Resources};
 use super::sweeping::{Call, is_right};
 use rq_catalog::analyse_in;
 use rq_exchange::replay;
-use rq_record::{By, Name, Payload, QueueNo, Record, UnitNo, Version};
+use rq_record::{By, KeptBy, KeptName, Name, Payload, QueueNo, Record, UnitNo, Version};
 use rq_state::{State, spell};
 use rq_tool::{Fault, Open, Plan};
 use std::alloc::Global;
 use std::test::Fail;
 use std::thread::Threads;
 
-fn define(limit: u16, error: QueueNo, name: &[u8]) -> Result<Record, Fail> {
-    let name = Name::new(name).ok_or("name")?;
+fn define(alloc: Global, limit: u16, error: QueueNo, name: &[u8]) -> Result<Record, Fail> {
+    let name = KeptName::of(alloc, &Name::new(name).ok_or("name")?)?;
     Ok(Record::Define { limit, error, name })
 }
 
-fn dequeue(unit: u64, queue: u32, by: Option<By>) -> Record {
-    Record::Dequeue {
+fn dequeue(alloc: Global, unit: u64, queue: u32, by: Option<By>) -> Result<Record, Fault> {
+    Ok(Record::Dequeue {
         unit: UnitNo(unit),
         queue: QueueNo(queue),
-        by,
-    }
+        by: KeptBy::of(alloc, &by)?,
+    })
 }
 
 /// An element leaves its queue by an abort, and its error queue by another, for the end of the chain, where a registrant that
@@ -37,30 +37,30 @@ fn chained(alloc: Global) -> Result<Vec<Record>, Fail> {
     let unit = UnitNo(1);
     let queue = QueueNo(2);
     let records = vec![in alloc;
-        define(0, QueueNo::NONE, b"dead")?,
-        define(1, QueueNo(0), b"late")?,
-        define(1, QueueNo(1), b"jobs")?,
+        define(alloc, 0, QueueNo::NONE, b"dead")?,
+        define(alloc, 1, QueueNo(0), b"late")?,
+        define(alloc, 1, QueueNo(1), b"jobs")?,
         Record::Register {
             queue: QueueNo(0),
-            name: ann
+            name: KeptName::of(alloc, &ann)?
         },
         Record::Begin { unit },
         Record::Enqueue {
             unit,
             queue,
             priority: 5,
-            by: None,
+            by: KeptBy::of(alloc, &None)?,
             payload
         },
         Record::Commit { unit },
         Record::Begin { unit: UnitNo(2) },
-        dequeue(2, 2, None),
+        dequeue(alloc, 2, 2, None)?,
         Record::Abort { unit: UnitNo(2) },
         Record::Begin { unit: UnitNo(3) },
-        dequeue(3, 1, None),
+        dequeue(alloc, 3, 1, None)?,
         Record::Abort { unit: UnitNo(3) },
         Record::Begin { unit: UnitNo(4) },
-        dequeue(4, 0, Some(By { name: ann, tag: 70 })),
+        dequeue(alloc, 4, 0, Some(By { name: ann, tag: 70 }))?,
     ]?;
     Ok(records)
 }

@@ -1,0 +1,79 @@
+//! A name as a record keeps it.
+
+ghost use Rattle.std.specs.Prelude.{◌≡◌, ◌≤◌, length, IfOk, IfErr, IsOk, IsTrue};
+ghost use Rattle.rq_model.specs.Spelling.{is_name};
+ghost use Rattle.rq_record.specs.declared.fault.Fault.TheVariants.{Resources};
+
+use crate::fault::Fault;
+use crate::name::{Name, padded, text_of};
+use std::alloc::Global;
+use std::marker::Model;
+
+/// A name in 16 bytes, where a `Name` takes 65: a log has many records, and most names are short.
+#[derive(Drop)]
+pub struct KeptName {
+    form: Form,
+}
+
+// A short name stands where it is kept, a longer one in memory of its own.
+#[derive(Drop)]
+enum Form {
+    Short { len: u8, bytes: [u8; 14] },
+    Long(Box<Name>),
+}
+
+impl Model for KeptName {
+    ghost use Rattle.std.specs.Prelude.{ℕ, List};
+    ghost use Rattle.rq_record.specs.Kept.{name_in, IsKept};
+
+    ghost Value = { List ℕ };
+
+    ghost view = { λ n. name_in n.form };
+
+    ghost invariant = { λ n. IsKept n.form };
+}
+
+impl KeptName {
+    /// Keeps the name. `Resources` where memory runs out; a name of at most 14 bytes takes none.
+    pub fn of(alloc: Global, name: &Name) -> Result<KeptName, Fault>
+        ensures kept { IfOk result (λ n. n ≡ name.now) }
+        ensures refused { IfErr result (λ e. e ≡ Resources) }
+        ensures short { length name.now ≤ 14 → IsOk result }
+    {
+        let bytes = name.bytes();
+        let form = if bytes.len() <= 14 {
+            Form::Short {
+                len: bytes.len() as u8,
+                bytes: padded(bytes),
+            }
+        } else {
+            Form::Long(Box::new(alloc, *name)?)
+        };
+        Ok(KeptName { form })
+    }
+
+    /// The bytes of the name, 1 to 64, and that they are a name.
+    pub fn bytes(&self) -> &[u8]
+        ensures bytes { result.now ≡ self.now }
+        ensures name { IsTrue (is_name self.now) }
+    {
+        match &self.form {
+            Form::Short { len, bytes } => &bytes[..*len as usize],
+            Form::Long(name) => name.bytes(),
+        }
+    }
+
+    /// The same bytes as a text: each of them is a character of ASCII.
+    pub fn text(&self) -> &str
+        ensures { result.now ≡ self.now }
+    {
+        text_of(self.bytes())
+    }
+
+    /// The name itself. Takes no memory.
+    pub fn name(&self) -> Name
+        ensures { result ≡ self.now }
+    {
+        Name::of_checked(self.bytes())
+    }
+}
