@@ -11,3 +11,4 @@ pub mod Audits
 pub mod Walks
 pub mod Worth
 pub mod Tallies
+pub mod Keepers

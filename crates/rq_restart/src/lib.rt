@@ -8,6 +8,7 @@ mod ends;
 mod framing;
 mod front;
 mod grain;
+mod keeper;
 mod reading;
 mod restarted;
 mod restarting;
@@ -18,6 +19,7 @@ mod upgrading;
 
 pub use auditing::audit;
 pub use ends::{FrontEnd, front_end};
+pub use keeper::Keeper;
 pub use restarted::{Restarted, Why};
 pub use restarting::{front_state, restart};
 pub use restarting_at::restart_at;
