@@ -11,3 +11,5 @@ pub mod Audits
 pub mod Walks
 pub mod Worth
 pub mod Tallies
+pub mod Judgings
+pub mod Passes

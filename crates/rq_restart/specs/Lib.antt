@@ -9,3 +9,4 @@ pub mod Upgrades
 pub mod Checkpoints
 pub mod Audits
 pub mod Worth
+pub mod Passes

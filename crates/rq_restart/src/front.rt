@@ -56,7 +56,7 @@ fn why_of(rest: Rest) -> Why
 }
 
 // Where the front ends, and why: behind `kept` frames of a chain, of which `read` were read.
-fn end_of(found: &Chain, read: usize, kept: usize) -> (usize, Why)
+pub(crate) fn end_of(found: &Chain, read: usize, kept: usize) -> (usize, Why)
     ensures { (result.0, why_of result.1) ≡ end_at found.now.spans.items found.now.end (rest_of found.now.rest) read kept }
 {
     match found.spans.get(kept) {

@@ -8,6 +8,7 @@ mod ends;
 mod framing;
 mod front;
 mod grain;
+mod passing;
 mod reading;
 mod restarted;
 mod restarting;
