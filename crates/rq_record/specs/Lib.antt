@@ -1,6 +1,7 @@
 pub mod Faults
 pub mod Padding
 pub mod PaddingLaws
+pub mod Payloads
 pub mod Views
 pub mod Reading
 pub mod Writing

@@ -175,11 +175,7 @@ fn abort(bytes: &[u8]) -> Result<Record, Fault>
 fn payload(alloc: Global, bytes: &[u8]) -> Result<Payload, Fault>
     ensures { Copies (λ x. x) result (bounded 65535 bytes.now) }
 {
-    if bytes.len() > 65535 {
-        return Err(Fault::Form);
-    }
-    let kept = Vec::from_slice(alloc, bytes)?;
-    match Payload::new(kept) {
+    match Payload::from_slice(alloc, bytes)? {
         Some(payload) => Ok(payload),
         None => Err(Fault::Form),
     }
