@@ -363,17 +363,17 @@ def threads() -> None:
         # how many there are at a time the machine's load decides, up to all but the calling one
         started, most = threads_of(shim, "restart", "many.log", workers, 1000000)
         check(f"threads of a restart with {workers} workers: {most} at a time", (started, most <= others), (others, True))
-        # decoding, where each part has a thousand bodies; the pass over the records; the redo; the report
+        # decoding, where each share has about a thousand bodies; the pass over the records; the redo; the report
         started, most = threads_of(shim, "restart", long, workers, 1000000)
         told = f"threads of a long restart with {workers} workers: {most} at a time"
-        check(told, (started, most <= others), (min(others, 15) + 1 + 2 * others, True))
+        check(told, (started, most <= others), (min(others, 11) + 1 + 2 * others, True))
         more, most = threads_of(shim, "restart", long, workers, 1)
         told = f"threads of a long restart with {workers} workers and more pieces than one: {more}, {most} at a time"
         check(told, started + (pieces > 2) <= more < started + pieces and most <= max(others, pieces), True)
         for word in ["close", "upgrade"]:
             started, most = threads_of(shim, word, long, "long.made", workers)
             told = f"threads of {word} with {workers} workers: {started}, {most} at a time"
-            check(told, started <= min(others, 15) + pieces and most <= max(others, pieces), True)
+            check(told, started <= min(others, 11) + pieces and most <= max(others, pieces), True)
 
 
 def main() -> None:

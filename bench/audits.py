@@ -1,8 +1,8 @@
 #!/usr/bin/env python3
 """Audits of logs that were made to make an audit slow, beside the restart of the same log.
 
-usage: audits.py RQ [--n N] [--folder DIR] [--workers W]
-For each shape a log at n and at 2n: its bytes, and the seconds of `rq restart` and `rq audit`. The last column is what the audit
+usage: audits.py RQ [--n N] [--folder DIR] [--workers W] [SHAPE ..]
+For each shape, all if none is named, a log at n and at 2n: its bytes, and the seconds of `rq restart` and `rq audit`. The last column is what the audit
 at 2n takes over the one at n, per byte of log.
 """
 from __future__ import annotations
@@ -187,6 +187,65 @@ def heavy_below_light(n: int) -> Script:
     return script
 
 
+def whole_unit(script: Script, count: int, operation: str) -> None:
+    """A unit of so many operations, each a line that leaves out the unit's number."""
+    unit = script.begin()
+    for _ in range(count):
+        script.add(operation.format(unit))
+    script.commit(unit)
+
+
+def heavy(script: Script, count: int) -> None:
+    """So many elements of 60,000 bytes."""
+    whole_unit(script, count, "enqueue {} 0 1 - 0 " + "a5" * 60000)
+
+
+def in_vain(n: int) -> Script:
+    """As many take from an empty queue as there are long payloads, and then a checkpoint has no members."""
+    script = Script()
+    script.define("jobs")
+    script.define("none")
+    heavy(script, n // 256)
+    for _ in range(512):
+        whole_unit(script, n // 256, "dequeue {} 1 - 0")
+        script.bare()
+    return script
+
+
+def come_and_go(n: int) -> Script:
+    """As many short elements come and go as there are long payloads, and then a checkpoint has no members."""
+    script = Script()
+    script.define("jobs")
+    script.define("short")
+    heavy(script, n // 256)
+    for _ in range(512):
+        whole_unit(script, n // 512, "enqueue {} 1 1 - 0 -")
+        whole_unit(script, n // 512, "dequeue {} 1 - 0")
+        script.bare()
+    return script
+
+
+def without_payloads(n: int) -> Script:
+    """Checkpoints with all members of long payloads, which they leave out."""
+    script = Script()
+    script.define("jobs")
+    heavy(script, n // 64)
+    for _ in range(256):
+        members = b"".join(struct.pack(">QIIBQBH", 2 + i, 0, 0, 1, 0, 0, 0) for i in range(n // 64))
+        script.told(script.head() + struct.pack(">II", 0, n // 64) + members + bytes(4))
+    return script
+
+
+def all_queues(n: int) -> Script:
+    """Checkpoints that spell as many queues as there may be, and of one element more than there is the number alone."""
+    script = Script()
+    for queue in range(min(n, 4096)):
+        script.define(f"{queue:x}")
+    for _ in range(n // 64):
+        script.told(script.head() + struct.pack(">III", 0, 1, 0))
+    return script
+
+
 def other_elements(n: int) -> Script:
     """As many elements as there are, of another priority."""
     script = filled(n)
@@ -206,7 +265,8 @@ def true_and_small(n: int) -> Script:
 
 
 SHAPES = [junk, one_byte_for_many_queues, empty_again, own_number, no_members, held_by_one, units_between, empty_units_between,
-          others_deregister, registrants, open_units, heavy_below_light, other_elements, true_and_small]
+          others_deregister, registrants, open_units, heavy_below_light, in_vain, come_and_go, without_payloads, all_queues,
+          other_elements, true_and_small]
 
 
 def seconds(words: list[str]) -> float:
@@ -219,8 +279,9 @@ def main() -> None:
     words = parser()
     words.add_argument("--n", type=int, default=4000)
     words.add_argument("--workers", default="1")
+    words.add_argument("shapes", nargs="*", metavar="SHAPE")
     options = parsed(words)
-    for shape in SHAPES:
+    for shape in [it for it in SHAPES if not options.shapes or it.__name__ in options.shapes]:
         rates = []
         for n in (options.n, 2 * options.n):
             text = os.path.join(options.folder, "audits.script")

@@ -69,7 +69,7 @@ turn false false false = refl
 
 -- Names and registrants.
 
-names_step : (t : State) (r : Record) (n : List ℕ) → names_after r n (list_any (λ (d : Definition). bytes_eq d.name n) t.definitions) ≡ list_any (λ (d : Definition). bytes_eq d.name n) (step t (record_of r)).definitions
+pub names_step : (t : State) (r : Record) (n : List ℕ) → names_after r n (list_any (λ (d : Definition). bytes_eq d.name n) t.definitions) ≡ list_any (λ (d : Definition). bytes_eq d.name n) (step t (record_of r)).definitions
 names_step t (Define limit error name) n = cond_or (list_any (λ (d : Definition). bytes_eq d.name n) t.definitions) (bytes_eq name n) ∙ sym (any_push (λ (d : Definition). bytes_eq d.name n) t.definitions (record { limit = limit; error = error.0; name = name }))
 names_step t (Register queue name) n = refl
 names_step t (Deregister queue name) n = refl
@@ -81,7 +81,7 @@ names_step t (Abort unit) n = refl
 names_step t (Checkpoint bytes) n = refl
 names_step t (Kill queue element) n = refl
 
-errors_step : (t : State) (r : Record) → errors_after r (map (λ (d : Definition). d.error) t.definitions) ≡ map (λ (d : Definition). d.error) (step t (record_of r)).definitions
+pub errors_step : (t : State) (r : Record) → errors_after r (map (λ (d : Definition). d.error) t.definitions) ≡ map (λ (d : Definition). d.error) (step t (record_of r)).definitions
 errors_step t (Define limit error name) = sym (map-append (λ (d : Definition). d.error) t.definitions (record { limit = limit; error = error.0; name = name } ∷ []))
 errors_step t (Register queue name) = refl
 errors_step t (Deregister queue name) = refl
@@ -127,7 +127,7 @@ module _ (q : ℕ) (n : List ℕ) (k : ℕ × List ℕ) where
       (λ _ _. cond_or_first (list_any (is_registrant k.0 k.1) rs) (key_eq (q, n) k) ∙ sym (any_put (is_registrant k.0 k.1) registrant_before (record { queue = q; name = n; last = None }) rs))
       refl
 
-registrants_step : (t : State) (r : Record) (k : ℕ × List ℕ) → registered_after r k (is_registered t k.0 k.1) ≡ is_registered (step t (record_of r)) k.0 k.1
+pub registrants_step : (t : State) (r : Record) (k : ℕ × List ℕ) → registered_after r k (is_registered t k.0 k.1) ≡ is_registered (step t (record_of r)) k.0 k.1
 registrants_step t (Register queue name) k = registered_step queue.0 name k t.registrants
 registrants_step t (Deregister queue name) k = deregistered_step queue.0 name k t.registrants
 registrants_step t (Commit unit) k = sym (any_map (machine.told unit.0 t.notes) (is_registrant k.0 k.1) t.registrants)
@@ -139,7 +139,7 @@ registrants_step t (Abort unit) k = refl
 registrants_step t (Checkpoint bytes) k = refl
 registrants_step t (Kill queue element) k = refl
 
-greatest_step : (t : State) (r : Record) → greatest_by r t.greatest ≡ (step t (record_of r)).greatest
+pub greatest_step : (t : State) (r : Record) → greatest_by r t.greatest ≡ (step t (record_of r)).greatest
 greatest_step t (Begin unit) = refl
 greatest_step t (Register queue name) = refl
 greatest_step t (Deregister queue name) = refl

@@ -8,3 +8,4 @@ pub mod Keep
 pub mod Begins
 pub mod Ends
 pub mod Again
+pub mod Judges

@@ -3,3 +3,4 @@ pub mod Lists
 pub mod Members
 pub mod Catalogues
 pub mod Analyses
+pub mod Judges

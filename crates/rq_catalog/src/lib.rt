@@ -3,9 +3,11 @@
 
 mod analysis;
 mod catalogue;
+mod judge;
 mod lists;
 mod outcome;
 mod start;
 
 pub use analysis::{Analysis, analyse, analyse_in, indices};
+pub use judge::Judge;
 pub use outcome::Outcome;

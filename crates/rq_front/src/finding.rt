@@ -1,17 +1,33 @@
 //! The longest run of right frames in a log.
 
 ghost use Rattle.std.specs.Prelude.{◌≡◌, ◌≤◌, ◌+◌, ◌*◌, ℕ, length, IfOk, IfErr, OnOk, All};
-ghost use Rattle.rq_model.specs.Frames.{IsFrameRun, log_limit};
+ghost use Rattle.rq_model.specs.Frames.{HasHeader, IsFrameRun, log_limit};
+ghost use Rattle.rq_record.specs.Views.{version_of};
+ghost use Rattle.rq_record.specs.declared.fault.Fault.TheVariants.{Resources};
 ghost use Rattle.rq_front.specs.Chains.{IsHeaded, Refused, bodies_at, rest_of, spans_from};
 ghost use Rattle.rq_front.specs.Walks.{IsChecked, Walks, spans_of};
 
 use crate::digests::first_wrong;
 use crate::{Chain, LOG_LIMIT, Rest, Walk, lengths, version};
 use rq_model::{frames_are_right, one_run};
-use rq_record::Fault;
+use rq_record::{Fault, Version};
 use std::alloc::Global;
 use std::marker::Sync;
 use std::thread::Threads;
+
+/// The version of a log. Takes no memory.
+///
+/// `TooLong` answers more than 4,294,967,295 bytes, and otherwise `NotALog` bytes that begin with no header.
+pub fn log_version(bytes: &[u8]) -> Result<Version, Fault>
+    ensures header { IfOk result (λ v. HasHeader (version_of v) bytes.now) }
+    ensures short { OnOk result (length bytes.now ≤ log_limit) }
+    ensures refused { IfErr result (λ e. Refused bytes.now e × (e ≡ Resources → ⊥)) }
+{
+    if bytes.len() > LOG_LIMIT {
+        return Err(Fault::TooLong);
+    }
+    version(bytes).ok_or(Fault::NotALog)
+}
 
 /// The frames of a log from the place `from` on by their lengths alone, and what follows them. Whoever has work for the
 /// bodies that needs no digest does it while `Walk::checked` runs.
@@ -25,12 +41,7 @@ pub fn walk(alloc: Global, bytes: &[u8], from: usize) -> Result<Walk, Fault>
     ensures log { OnOk result ((length bytes.now ≤ log_limit) × IsHeaded bytes.now) }
     ensures refused { IfErr result (Refused bytes.now) }
 {
-    if bytes.len() > LOG_LIMIT {
-        return Err(Fault::TooLong);
-    }
-    let Some(_version) = version(bytes) else {
-        return Err(Fault::NotALog);
-    };
+    log_version(bytes)?;
     let found = lengths::walk(alloc, bytes, from)?;
     Ok(Walk { found })
 }

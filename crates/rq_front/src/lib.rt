@@ -8,7 +8,7 @@ mod lengths;
 mod spans;
 mod writing;
 
-pub use finding::{chain, walk};
+pub use finding::{chain, log_version, walk};
 pub use headers::version;
 pub use spans::{Chain, Rest, Span, Walk};
 pub use writing::{frame, header, header_of};

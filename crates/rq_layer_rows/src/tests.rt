@@ -2,6 +2,7 @@ mod analysis;
 mod chains;
 mod countdowns;
 mod courses;
+mod judges;
 mod lanes;
 mod records;
 mod rooms;

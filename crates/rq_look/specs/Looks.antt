@@ -1,10 +1,15 @@
 -- What a look at a log promises.
-use Rattle.std.specs.Prelude.{◌≡◌, ℕ, Bool, true, false, ◌&&◌, List, map}
+use Rattle.std.specs.Prelude.{◌≡◌, ℕ, ◌<◌, ◌≤◌, Bool, true, false, ◌&&◌, ⊤, List, length, map, Option, Some, None}
 use Rattle.std.specs.List.{list_all}
+use Rattle.std.specs.Io.KnownBytes.{Appends}
 use Rattle.rq_model.specs.Frames.{Whole, Cut, Length, Digest}
 use Rattle.rq_model.specs.Fronts.{Why, Ends, Form, Law, Restarted, IsRestart}
+use Rattle.rq_model.specs.Reports.{IsReport}
 use Rattle.rq_model.specs.Checkpoints.{IsAudit}
+use Rattle.rq_front.specs.Chains.{Refused}
 use Rattle.rq_restart.specs.Audits.{audited_of}
+use Rattle.rq_look.specs.declared.trouble.Trouble.{Trouble}
+use Rattle.rq_look.specs.declared.trouble.Trouble.TheVariants.{Log, Output, NoQueue}
 
 -- nothing follows the front
 abbrev pub is_whole : Why → Bool
@@ -26,3 +31,32 @@ IsKnownWhole b whole = (r : Restarted) × IsRestart b r × (whole ≡ is_whole r
 -- whether b is whole, and each checkpoint of its front true
 abbrev pub IsChecked : List ℕ → Bool → Type 0
 IsChecked b fine = (r : Restarted) × (found : List (ℕ × Bool)) × IsRestart b r × IsAudit b (map audited_of found) × (fine ≡ (is_whole r.why && all_true found))
+
+-- b is refused as a restart of it is
+abbrev pub IsRefusal : List ℕ → Trouble → Type 0
+IsRefusal b (Log fault) = Refused b fault
+IsRefusal b _ = ⊥
+
+-- the restart of b has a queue of this number, if one is wanted
+abbrev pub HasQueue : Restarted → Option ℕ → Type 0
+HasQueue r None = ⊤
+HasQueue r (Some queue) = queue < length r.state.definitions
+
+-- a queue is wanted that b does not have
+abbrev pub IsNoQueue : List ℕ → Option ℕ → ℕ → Type 0
+IsNoQueue b wanted queue = (wanted ≡ Some queue) × (r : Restarted) × IsRestart b r × (length r.state.definitions ≤ queue)
+
+-- why b has no report with the queue that is wanted: it is refused, or has no such queue
+abbrev pub LacksReport : List ℕ → Option ℕ → Trouble → Type 0
+LacksReport b wanted (NoQueue queue) = IsNoQueue b wanted queue
+LacksReport b wanted e = IsRefusal b e
+
+-- the same, or the output was refused
+abbrev pub StaysUnreported : List ℕ → Option ℕ → Trouble → Type 0
+StaysUnreported b wanted (Output error) = ⊤
+StaysUnreported b wanted e = LacksReport b wanted e
+
+-- where no queue is wanted alone, the report of b is appended; else something is, of a log that has the queue
+abbrev pub PutsReport : List ℕ → Option ℕ → Option (List ℕ) → Option (List ℕ) → Type 0
+PutsReport b None old new = (text : List ℕ) × IsReport b text × Appends old new text
+PutsReport b (Some queue) old new = (r : Restarted) × IsRestart b r × (queue < length r.state.definitions)

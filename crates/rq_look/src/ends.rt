@@ -1,18 +1,20 @@
 //! Where the front of a log ends, and why.
 
-ghost use Rattle.std.specs.Prelude.{◌≡◌, IfOk, OnOk};
+ghost use Rattle.std.specs.Prelude.{◌≡◌, IfOk, IfErr, OnOk};
 ghost use Rattle.rq_model.specs.Fronts as fronts;
 ghost use Rattle.rq_model.specs.Fronts.{IsRestart};
-ghost use Rattle.rq_front.specs.Chains.{IsHeaded};
+ghost use Rattle.rq_front.specs.Chains.{IsHeaded, Refused};
+ghost use Rattle.rq_record.specs.declared.fault.Fault.TheVariants.{Resources};
 ghost use Rattle.rq_restart.specs.Views.{why_of};
 ghost use Rattle.rq_look.specs.Looks as looks;
 
 use crate::frames::{first_frame, stated_length};
 use crate::misfits::misfit_of;
-use crate::rules::broken;
+use crate::rules::{Rule, broken};
 use rq_front::version;
 use rq_record::{Fault, Version, decode_in};
 use rq_restart::{FrontEnd, Plan, Restarted, Why, front_end, front_state};
+use rq_state::State;
 use sha2::{Digest, Sha256};
 use std::alloc::{AllocError, Global};
 use std::fmt::Write;
@@ -88,6 +90,22 @@ fn form_reason(alloc: Global, version: Version, body: &[u8]) -> Result<String, A
     }
 }
 
+// The rule that the record of a body breaks in the state, if it is a record and breaks one.
+fn rule_of(
+    alloc: Global,
+    version: Version,
+    state: &State,
+    body: &[u8],
+) -> Result<Option<Rule>, Fault>
+    ensures { IfErr result (λ e. e ≡ Resources) }
+{
+    match decode_in(alloc, version, body) {
+        Ok(record) => Ok(broken(version, state, &record)),
+        Err(Fault::Form) => Ok(None),
+        Err(_) => Err(Fault::Resources),
+    }
+}
+
 fn law_reason<R: Threads + Sync>(
     rt: &R,
     alloc: Global,
@@ -95,10 +113,11 @@ fn law_reason<R: Threads + Sync>(
     bytes: &[u8],
     body: &[u8],
     plan: &Plan,
-) -> Result<String, Fault> {
+) -> Result<String, Fault>
+    ensures { IfErr result (Refused bytes.now) }
+{
     let state = front_state(rt, alloc, bytes, plan)?;
-    let record = decode_in(alloc, version, body)?;
-    match broken(version, &state, &record) {
+    match rule_of(alloc, version, &state, body)? {
         Some(rule) => Ok(format!(in alloc; "{rule}")?),
         None => Ok(String::from_str(alloc, "the record is not lawful")?),
     }
@@ -117,7 +136,10 @@ fn reason_of<R: Threads + Sync>(
     bytes: &[u8],
     end: (u64, Why),
     plan: &Plan,
-) -> Result<String, Fault> {
+) -> Result<String, Fault>
+    requires { IsHeaded bytes.now }
+    ensures { IfErr result (Refused bytes.now) }
+{
     let (used, why) = end;
     let Some(version) = version(bytes) else {
         return Err(Fault::NotALog);
@@ -141,7 +163,9 @@ fn told<R: Threads + Sync>(
     end: FrontEnd,
     plan: &Plan,
 ) -> Result<End, Fault>
-    ensures { IfOk result (λ told. why_of told.why ≡ why_of end.why) }
+    requires { IsHeaded bytes.now }
+    ensures why { IfOk result (λ told. why_of told.why ≡ why_of end.why) }
+    ensures refused { IfErr result (Refused bytes.now) }
 {
     let FrontEnd {
         records,
@@ -166,7 +190,9 @@ pub(crate) fn end_after<R: Threads + Sync>(
     r: &Restarted,
     plan: &Plan,
 ) -> Result<End, Fault>
-    ensures { IfOk result (λ end. why_of end.why ≡ r.now.why) }
+    requires { IsHeaded bytes.now }
+    ensures why { IfOk result (λ end. why_of end.why ≡ r.now.why) }
+    ensures refused { IfErr result (Refused bytes.now) }
 {
     let end = FrontEnd {
         records: r.records(),
@@ -186,6 +212,7 @@ pub(crate) fn end_of<R: Threads + Sync>(
 ) -> Result<End, Fault>
     ensures log { OnOk result (IsHeaded bytes.now) }
     ensures end { IfOk result (λ end. (r : fronts.Restarted) × IsRestart bytes.now r × (why_of end.why ≡ r.why)) }
+    ensures refused { IfErr result (Refused bytes.now) }
 {
     let end = front_end(rt, alloc, bytes, plan)?;
     told(rt, alloc, bytes, end, plan)

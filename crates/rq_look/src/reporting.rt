@@ -1,7 +1,11 @@
 //! The report of a log, as text and as JSON.
 
-ghost use Rattle.std.specs.Prelude.{OnOk};
+ghost use Rattle.std.specs.Prelude.{◌≡◌, IfOk, IfErr, OnOk};
+ghost use Rattle.rq_model.specs.Fronts.{IsRestart};
+ghost use Rattle.rq_model.specs.Reports.{IsText};
+ghost use Rattle.rq_record.specs.declared.fault.Fault.TheVariants.{Resources};
 ghost use Rattle.rq_front.specs.Chains.{IsHeaded};
+ghost use Rattle.rq_look.specs.Looks.{HasQueue, LacksReport, PutsReport, StaysUnreported};
 
 use crate::ends::{End, end_after};
 use crate::json::{Bytes, Front, front_of, queue_number, spelled_out};
@@ -200,7 +204,9 @@ fn restarted_with<R: Threads + Sync>(
     plan: &Plan,
     wanted: Option<u32>,
 ) -> Result<Restarted, Trouble>
-    ensures { OnOk result (IsHeaded bytes.now) }
+    ensures log { OnOk result (IsHeaded bytes.now) }
+    ensures restart { IfOk result (λ r. IsRestart bytes.now r × HasQueue r wanted) }
+    ensures refused { IfErr result (LacksReport bytes.now wanted) }
 {
     let restarted = restart(rt, alloc, bytes, plan, &Open)?;
     match wanted {
@@ -242,10 +248,16 @@ fn text_of<R: Threads + Sync>(
     alloc: Global,
     restarted: &Restarted,
     plan: &Plan,
-) -> Result<Vec<u8>, Fault> {
+) -> Result<Vec<u8>, Fault>
+    ensures text { IfOk result (λ v. IsText restarted.now v.items) }
+    ensures refused { IfErr result (λ e. e ≡ Resources) }
+{
     let mut output = OverWrite::new(Vec::new(alloc));
-    write_report_by(rt, alloc, restarted, plan, &mut output)?;
-    Ok(output.into_inner())
+    match write_report_by(rt, alloc, restarted, plan, &mut output) {
+        Ok(()) => Ok(output.into_inner()),
+        // A write into memory fails for want of it alone.
+        Err(_) => Err(Fault::Resources),
+    }
 }
 
 // The lines from that of a queue up to that of the next.
@@ -285,7 +297,8 @@ pub fn report<R, W>(
 where
     R: Threads + Sync,
     W: Write,
-    ensures { OnOk result (IsHeaded bytes.now) }
+    ensures report { OnOk result (PutsReport bytes.now wanted (W.contents output.old) (W.contents output.new)) }
+    ensures refused { IfErr result (StaysUnreported bytes.now wanted) }
 {
     let restarted = restarted_with(rt, alloc, bytes, plan, wanted)?;
     let text = text_of(rt, alloc, &restarted, plan)?;

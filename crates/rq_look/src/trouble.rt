@@ -1,5 +1,9 @@
 //! Why nothing more is shown.
 
+ghost use Rattle.std.specs.Prelude.{◌≡◌};
+ghost use Rattle.rq_record.specs.declared.fault.Fault.TheVariants.{Resources};
+ghost use Rattle.rq_look.specs.declared.trouble.Trouble.TheVariants.{Log, Output};
+
 use crate::telling::Subject;
 use rq_record::Fault;
 use std::alloc::AllocError;
@@ -27,18 +31,24 @@ pub enum Trouble {
 }
 
 impl From<Fault> for Trouble {
+    ghost from_gives = { λ fault e. e ≡ Log fault };
+
     fn from(fault: Fault) -> Trouble {
         Trouble::Log(fault)
     }
 }
 
 impl From<AllocError> for Trouble {
+    ghost from_gives = { λ _ e. e ≡ Log Resources };
+
     fn from(_error: AllocError) -> Trouble {
         Trouble::Log(Fault::Resources)
     }
 }
 
 impl From<io::Error> for Trouble {
+    ghost from_gives = { λ error e. e ≡ Output error };
+
     fn from(error: io::Error) -> Trouble {
         Trouble::Output(error)
     }

@@ -170,8 +170,12 @@ freed_step law new rest others start now next list among keyed inv = λ k a.
 pub unheld_more : (unit : ℕ) (e new : Element) (rest : List Element) → new ≡ marked Free e → is_held unit e.mark ≡ false → unheld unit (e ∷ rest) ≡ new ∷ unheld unit rest
 unheld_more unit e new rest n h = ap (λ b. map (marked Free) (cond (not b) (e ∷ filter (λ x. not (is_held unit x.mark)) rest) (filter (λ x. not (is_held unit x.mark)) rest))) h ∙ ap (λ (x : Element). x ∷ unheld unit rest) (sym n)
 
-pub unheld_less : (unit : ℕ) (e : Element) (rest : List Element) → is_held unit e.mark ≡ true → unheld unit (e ∷ rest) ≡ unheld unit rest
+unheld_less : (unit : ℕ) (e : Element) (rest : List Element) → is_held unit e.mark ≡ true → unheld unit (e ∷ rest) ≡ unheld unit rest
 unheld_less unit e rest h = ap (λ b. map (marked Free) (cond (not b) (e ∷ filter (λ x. not (is_held unit x.mark)) rest) (filter (λ x. not (is_held unit x.mark)) rest))) h
+
+-- one that the unit held goes with its COMMIT
+pub held_dropped : (unit : ℕ) (e : Element) (rest others all : List Element) (free now : List Entry) → is_held unit e.mark ≡ true → Frees others free all now (unheld unit (e ∷ rest)) → Frees others free all now (unheld unit rest)
+held_dropped unit e rest others all free now h = subst (λ (xs : List Element). Frees others free all now xs) (unheld_less unit e rest h)
 
 pub staying_more : (home : Definition) (unit : ℕ) (e new : Element) (rest : List Element) → new ≡ returned unit e → is_fresh unit e.mark ≡ false → leaves home unit e ≡ false → staying home unit (e ∷ rest) ≡ new ∷ staying home unit rest
 staying_more home unit e new rest n f l =
@@ -185,8 +189,12 @@ pub leaves_no_more : (b c : Bool) → c ≡ true → (not b && not c) ≡ false
 leaves_no_more true c h = refl
 leaves_no_more false c h = ap not h
 
-pub fresh_no_more : (b c : Bool) → b ≡ true → (not b && not c) ≡ false
+fresh_no_more : (b c : Bool) → b ≡ true → (not b && not c) ≡ false
 fresh_no_more b c h = ap (λ b. not b && not c) h
+
+-- one that the unit put in goes with its ABORT
+pub fresh_dropped : (home : Definition) (unit : ℕ) (e : Element) (rest others all : List Element) (free now : List Entry) → is_fresh unit e.mark ≡ true → Frees others free all now (staying home unit (e ∷ rest)) → Frees others free all now (staying home unit rest)
+fresh_dropped home unit e rest others all free now h = subst (λ (xs : List Element). Frees others free all now xs) (staying_less home unit e rest (fresh_no_more (is_fresh unit e.mark) (leaves home unit e) h))
 
 -- a list that a loop has yielded
 pub as_they_are : (xs : List Element) → map (λ y. y) xs ≡ xs

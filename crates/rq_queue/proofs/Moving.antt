@@ -1,5 +1,5 @@
 -- The best element goes from the Free ones to the marked ones.
-use Rattle.std.proofs.Common.{◌≡◌, ◌≢◌, ℕ, ◌==◌, true, false, cond, ◌&&◌, ◌||◌, List, [], ◌∷◌, ◌++◌, sym, ap, ◌∙◌, subst, arith, append_assoc}
+use Rattle.std.proofs.Common.{◌≡◌, ◌≢◌, ℕ, ◌==◌, true, false, cond, ◌&&◌, ◌||◌, List, [], ◌∷◌, ◌++◌, sym, ap, ◌∙◌, arith, append_assoc}
 use Rattle.std.specs.Prelude.{nat_lt, nat_le}
 use Rattle.std.specs.List.{AllByRecursion, filter, list_all}
 use Rattle.std.specs.declared.cmp.Ordering.{Ordering}
@@ -43,11 +43,6 @@ taken law unit queue e free held t first rest apart =
 
     last : Apart ((free ++ held) ++ marked (Held unit) e ∷ [])
     last = ordered_push (λ (a b : Element). a.id ≢ b.id) (free ++ held) (marked (Held unit) e) apart.1 (each_weaker (λ (f : Element). e.id ≢ f.id) (λ (f : Element). f.id ≢ e.id) (λ f n s. n (sym s)) (free ++ held) apart.0)
-
--- and numbers still differ
-pub still_apart : (unit : ℕ) (e : Element) (free held : List Element) → Apart (e ∷ free ++ held) → Apart (free ++ (held ++ marked (Held unit) e ∷ []))
-still_apart unit e free held apart = subst Apart (append_assoc free held (marked (Held unit) e ∷ []))
-    (ordered_push (λ (a b : Element). a.id ≢ b.id) (free ++ held) (marked (Held unit) e) apart.1 (each_weaker (λ (f : Element). e.id ≢ f.id) (λ (f : Element). f.id ≢ e.id) (λ f n s. n (sym s)) (free ++ held) apart.0))
 
 -- where none is Free, nothing changes
 pub none_held : (unit queue : ℕ) (es : List Element) → AllByRecursion (λ f. is_free_at queue f ≡ false) es → sorted es ≡ best_held unit queue (sorted es)

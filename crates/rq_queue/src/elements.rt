@@ -122,7 +122,7 @@ impl Elements {
         Ok(all)
     }
 
-    /// Adds a new element of a unit. The payload is copied.
+    /// Adds a new element of a unit, with a payload of the same bytes.
     pub fn add(
         self,
         alloc: Global,
@@ -136,7 +136,7 @@ impl Elements {
         ensures done { IfOk result (λ v. v ≡ self ++ machine.new_element place unit.0 queue.0 priority payload.now ∷ []) }
         ensures refused { IfErr result (λ e. e ≡ Resources) }
     {
-        let e = Element::fresh(place, unit, queue, priority, payload.copied(alloc)?);
+        let e = Element::fresh(place, unit, queue, priority, payload.copied()?);
         let all = self.push(alloc, e)?;
         Ok(all)
     }

@@ -11,7 +11,6 @@ use Rattle.rq_record.specs.declared.record.Record as code
 use Rattle.rq_model.specs.Records.{By, Record, Define, Register, Deregister, Begin, Enqueue, Dequeue, Commit, Abort, Checkpoint, Kill, Version, One, Two}
 use Rattle.rq_model.specs.Spelling.{who, body_of, IsRecord, Spells}
 use Rattle.rq_record.specs.Views.{record_of}
-use Rattle.rq_record.specs.Writing.{HasKind}
 use Rattle.rq_record.specs.Reading.{◌>>=◌, number_at, byte_at, name_of, bounded, nothing_in, named, who_at, define_of, register_of, deregister_of, unit_of, begin_of, commit_of, abort_of, enqueue_of, dequeue_of, checkpoint_of, kill_of, kill_in, of_kind, record_from, Copies, Decodes}
 use Rattle.rq_record.proofs.Fields.{IsBytes, bind_some, wide2, wide4, wide8, number_takes, number_again, byte_takes, name_takes, name_again, bounded_takes, bounded_again, nothing_takes, chosen, who_takes, who_name, who_tag, named_again, who_again}
 
@@ -274,17 +273,3 @@ is_decoded version body (Ok r) fits given = record_takes version body (record_of
 is_decoded version body (Err faults.Form) fits given = λ r s. none_some r (sym given ∙ record_again version r body s)
 is_decoded version body (Err faults.Resources) fits given = spelled version body (record_from version body) fits refl given
 is_decoded version body (Err _) fits given = given
-
--- what version 2 spells, version 1 spells so too where it has the kind
-pub in_each : (r : Record) → IsRecord Two r → (version : Version) → HasKind version r → IsRecord version r
-in_each (Define limit error name) h version has = h
-in_each (Register queue name) h version has = h
-in_each (Deregister queue name) h version has = h
-in_each (Begin unit) h version has = h
-in_each (Enqueue unit queue priority by payload) h version has = h
-in_each (Dequeue unit queue by) h version has = h
-in_each (Commit unit) h version has = h
-in_each (Abort unit) h version has = h
-in_each (Checkpoint bytes) h version has = h
-in_each (Kill queue element) h One has = absurd has
-in_each (Kill queue element) h Two has = h

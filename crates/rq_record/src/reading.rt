@@ -1,5 +1,6 @@
 //! From bytes to a record.
 
+ghost use Rattle.std.specs.Prelude.{◌+◌, ◌≤◌, length, slice_range};
 ghost use Rattle.rq_model.specs.Records.{One};
 ghost use Rattle.rq_record.specs.Reading.{Decodes, Reads, Copies, number_at, byte_at, piece_at, name_of, bounded, nothing_in, named, who_at, define_of, register_of, deregister_of, unit_of, begin_of, enqueue_of, dequeue_of, commit_of, abort_of, checkpoint_of, kill_of, of_kind, record_from};
 ghost use Rattle.rq_record.specs.Views.{record_of, version_of};
@@ -8,6 +9,7 @@ use crate::check_bytes::CheckBytes;
 use crate::fault::Fault;
 use crate::kept_by::KeptBy;
 use crate::kept_name::KeptName;
+use crate::lent_log::LentLog;
 use crate::name::Name;
 use crate::payload::Payload;
 use crate::record::{By, ElemId, QueueNo, Record, UnitNo};
@@ -174,21 +176,17 @@ fn abort(bytes: &[u8]) -> Result<Record, Fault>
     Ok(Record::Abort { unit })
 }
 
-fn payload(alloc: Global, bytes: &[u8]) -> Result<Payload, Fault>
+fn payload(alloc: Global, log: &LentLog, end: usize, bytes: &[u8]) -> Result<Payload, Fault>
     ensures { Copies (λ x. x) result (bounded 65535 bytes.now) }
 {
-    if bytes.len() > 65535 {
-        return Err(Fault::Form);
-    }
-    let kept = Vec::from_slice(alloc, bytes)?;
-    match Payload::new(kept) {
+    match Payload::lent(alloc, log, end, bytes)? {
         Some(payload) => Ok(payload),
         None => Err(Fault::Form),
     }
 }
 
 #[tactic(auto, unfolding(crate::specs::Reading::enqueue_of))]
-fn enqueue(alloc: Global, bytes: &[u8]) -> Result<Record, Fault>
+fn enqueue(alloc: Global, log: &LentLog, end: usize, bytes: &[u8]) -> Result<Record, Fault>
     ensures { Copies record_of result (enqueue_of bytes.now) }
 {
     let (unit, rest) = u64_at(bytes)?;
@@ -196,7 +194,7 @@ fn enqueue(alloc: Global, bytes: &[u8]) -> Result<Record, Fault>
     let (priority, rest) = u8_at(rest)?;
     let (name, tag, rest) = who(rest)?;
     let by = by(name, tag)?;
-    let payload = payload(alloc, rest)?;
+    let payload = payload(alloc, log, end, rest)?;
     Ok(Record::Enqueue {
         priority,
         queue: QueueNo(queue),
@@ -250,7 +248,14 @@ fn kill(bytes: &[u8]) -> Result<Record, Fault>
 }
 
 #[tactic(auto, unfolding(crate::specs::Reading::of_kind))]
-fn of_kind(alloc: Global, version: Version, kind: u8, bytes: &[u8]) -> Result<Record, Fault>
+fn of_kind(
+    alloc: Global,
+    version: Version,
+    log: &LentLog,
+    end: usize,
+    kind: u8,
+    bytes: &[u8],
+) -> Result<Record, Fault>
     ensures { Copies record_of result (of_kind (version_of version) kind bytes.now) }
 {
     match kind {
@@ -258,7 +263,7 @@ fn of_kind(alloc: Global, version: Version, kind: u8, bytes: &[u8]) -> Result<Re
         2 => register(alloc, bytes),
         3 => deregister(alloc, bytes),
         4 => begin(bytes),
-        5 => enqueue(alloc, bytes),
+        5 => enqueue(alloc, log, end, bytes),
         6 => dequeue(alloc, bytes),
         7 => commit(bytes),
         8 => abort(bytes),
@@ -272,11 +277,48 @@ fn of_kind(alloc: Global, version: Version, kind: u8, bytes: &[u8]) -> Result<Re
 }
 
 #[tactic(auto, unfolding(crate::specs::Reading::record_from))]
-fn record(alloc: Global, version: Version, bytes: &[u8]) -> Result<Record, Fault>
+fn record(
+    alloc: Global,
+    version: Version,
+    log: &LentLog,
+    end: usize,
+    bytes: &[u8],
+) -> Result<Record, Fault>
     ensures { Copies record_of result (record_from (version_of version) bytes.now) }
 {
     let (kind, rest) = u8_at(bytes)?;
-    of_kind(alloc, version, kind, rest)
+    of_kind(alloc, version, log, end, kind, rest)
+}
+
+// The record that a body of this version spells, which may end at an end in a log that may be lent.
+fn decode_lent(
+    alloc: Global,
+    version: Version,
+    log: &LentLog,
+    end: usize,
+    body: &[u8],
+) -> Result<Record, Fault>
+    ensures decodes { Decodes (version_of version) body.now result }
+{
+    record(alloc, version, log, end, body)
+}
+
+/// The record that `len` bytes of a log from `start` on spell: `decode_in` of that body.
+///
+/// Where the log is lent as well, a payload of more than 22 bytes is a part of it and no copy.
+pub fn decode_at(
+    alloc: Global,
+    version: Version,
+    lent: &LentLog,
+    bytes: &[u8],
+    start: usize,
+    len: usize,
+) -> Result<Record, Fault>
+    requires inside { start + len ≤ length bytes.now }
+    ensures decodes { Decodes (version_of version) (slice_range bytes.now start (start + len)) result }
+{
+    let end = start + len;
+    decode_lent(alloc, version, lent, end, &bytes[start..end])
 }
 
 /// The record that a body of this version spells.
@@ -286,7 +328,7 @@ fn record(alloc: Global, version: Version, bytes: &[u8]) -> Result<Record, Fault
 pub fn decode_in(alloc: Global, version: Version, body: &[u8]) -> Result<Record, Fault>
     ensures decodes { Decodes (version_of version) body.now result }
 {
-    record(alloc, version, body)
+    decode_lent(alloc, version, &LentLog::none(), body.len(), body)
 }
 
 /// The record that a body of version 1 spells: `decode_in` of that version.

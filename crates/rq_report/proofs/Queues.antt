@@ -31,11 +31,6 @@ both_are s from middle to front back low high within h more =
     subst (λ (xs : List Definition). AreQueueLines from xs s (front ++ back)) (parts_of ds from middle to low high)
     (lines_join from (slice_range ds from middle) (slice_range ds middle to) s front back h (subst (λ k. AreQueueLines k (slice_range ds middle to) s back) number more))
 
-pub none_are : (s : State) (queue : ℕ) → AreLinesOf s queue queue []
-none_are s queue =
-    let none : queue - queue ≡ 0 = omega arith in
-    subst (λ (n : ℕ). AreQueueLines queue (take n (drop queue s.definitions)) s []) (sym none) refl
-
 -- one more queue
 pub more_are : (s : State) (from queue : ℕ) (d : Definition) (front : List ℕ) (listing : List Element) → from ≤ queue → queue < length s.definitions → AreLinesOf s from queue front
     → IsListing queue s.elements listing → AreLinesOf s from (queue + 1) (front ++ queue_text queue (get_or s.definitions queue d) listing s.registrants)

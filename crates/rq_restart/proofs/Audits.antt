@@ -6,7 +6,7 @@ use Rattle.std.specs.Str.{bytes_eq}
 use Rattle.std.specs.List.{AllByRecursion}
 use Rattle.std.proofs.lemmas.List.{length-append}
 use Rattle.std.proofs.lemmas.Slice.Eq.{bytes_eq-Decides}
-use Rattle.rq_model.specs.Records.{Record, Define, Register, Deregister, Begin, Enqueue, Dequeue, Commit, Abort, Checkpoint, Kill, Version, One, Two}
+use Rattle.rq_model.specs.Records.{Record, Define, Register, Deregister, Begin, Enqueue, Dequeue, Commit, Abort, Checkpoint, Kill, Version}
 use Rattle.rq_model.specs.Spelling.{body_of, IsRecord}
 use Rattle.rq_model.specs.Frames.{IsBodyLength, frame, digest, frames_of, log_of, magic, start, header, log_limit}
 use Rattle.rq_model.specs.States.{State, empty}
@@ -15,7 +15,7 @@ use Rattle.rq_model.specs.WellFormed.{IsIn, Ordered}
 use Rattle.rq_model.specs.StateSpelling.{state_bytes}
 use Rattle.rq_model.specs.Fronts.{IsFront}
 use Rattle.rq_model.specs.Checkpoints.{Audited, HasCheckpoint, TrueAt, IsAudit}
-use Rattle.rq_model.specs.LogLaws.{OneFront, LogEnds, FrameIsRight, RecordHasOneBody, RecordIsWider}
+use Rattle.rq_model.specs.LogLaws.{OneFront, LogEnds, FrameIsRight, RecordHasOneBody}
 use Rattle.rq_model.proofs.Restarts.{each_cut}
 use Rattle.rq_record.specs.declared.fault.Fault.{Fault}
 use Rattle.rq_record.specs.declared.fault.Fault.TheVariants.{Resources}
@@ -132,12 +132,6 @@ log_size : (version : Version) → FrameIsRight → RecordHasOneBody → LogEnds
 log_size version right one ends rs h =
     let size : length (start version) ≡ 32 = (ends version []).2 in
     omega (arith, size, length-append (magic version) (start version), length-append (header version) (frames_of (start version) rs), frames_size version right one (start version) 40 rs h)
-
--- a record of any version is one of version 2
-pub records_in_two : RecordIsWider → (version : Version) (rs : List Record) → AllByRecursion (IsRecord version) rs → AllByRecursion (IsRecord Two) rs
-records_in_two wider Two rs h = h
-records_in_two wider One [] h = tt
-records_in_two wider One (r ∷ rs) h = ((wider r (body_of r) (h.0, refl)).0, records_in_two wider One rs h.1)
 
 -- what the audit rests on
 pub record AuditLaws : Type 0 where

@@ -9,7 +9,7 @@ use Rattle.rq_model.specs.LogLaws.{FrameIsRight, LogEnds}
 use Rattle.rq_model.specs.Checkpoints.{IsCheckpointAt}
 use Rattle.rq_record.specs.Views.{version_of}
 use Rattle.rq_front.specs.declared.spans.Chain.{Chain}
-use Rattle.rq_front.specs.Chains.{bodies_at, rest_of, spans_from, Refused}
+use Rattle.rq_front.specs.Chains.{bodies_at, rest_of, spans_from}
 use Rattle.rq_record.specs.declared.fault.Fault.{Fault}
 use Rattle.rq_record.specs.declared.fault.Fault.TheVariants as faults
 use Rattle.rq_state.specs.Spelling.{ReadsState}
@@ -112,31 +112,6 @@ none_at right b offset c kept chain h is =
     let here : place_of offset (length b) ≡ offset = (is_place b offset).some is.past_header (omega (arith, is.frame.whole.room, size)) in
     let chain_here : IsChain b offset c = subst (λ (n : ℕ). IsChain b n c) here chain in
     none_first right (before offset b) (drop offset b) (bodies_at b c.spans.items) (drop c.end b) kept (rest_of c.rest) chain_here.run.run chain_here.run.follows h is.frame is.body
-
--- a refusal of the chain is one of the beginning, and of the restart
-pub refused_begins : (b : List ℕ) (offset : ℕ) (e : Fault) → Refused b e → BeginsAt b offset (Err e)
-refused_begins b offset faults.TooLong h = h
-refused_begins b offset faults.NotALog h = h
-refused_begins b offset faults.Resources h = h
-refused_begins b offset faults.Form h = absurd h
-refused_begins b offset faults.TooLarge h = absurd h
-refused_begins b offset faults.BadCheckpoint h = absurd h
-refused_begins b offset faults.NoCheckpoint h = absurd h
-refused_begins b offset (faults.Script n) h = absurd h
-refused_begins b offset faults.ReadFailed h = absurd h
-refused_begins b offset faults.WriteFailed h = absurd h
-
-pub begins_restarts : (b : List ℕ) (offset : ℕ) (e : Fault) → BeginsAt b offset (Err e) → RestartsAt b offset (Err e)
-begins_restarts b offset faults.TooLong h = h
-begins_restarts b offset faults.NotALog h = h
-begins_restarts b offset faults.Resources h = h
-begins_restarts b offset faults.Form h = h
-begins_restarts b offset faults.TooLarge h = h
-begins_restarts b offset faults.BadCheckpoint h = h
-begins_restarts b offset faults.NoCheckpoint h = h
-begins_restarts b offset (faults.Script n) h = h
-begins_restarts b offset faults.ReadFailed h = h
-begins_restarts b offset faults.WriteFailed h = h
 
 -- what reading the checkpoint answers
 pub read_begins : (version : Version) (b : List ℕ) (offset : ℕ) (kept : List ℕ) (e : Fault) → length b ≤ log_limit → HasHeader version b → IsCheckpointAt b offset kept → ReadsState version kept (Err e) → BeginsAt b offset (Err e)

@@ -62,8 +62,8 @@ four : (n : ℕ) → n ≡ n + 4 - 4
 four n = omega arith
 
 -- by what follows the records: nothing of the chain, a body that no record spells, or a record that is not lawful
-ended : (version : Version) → FrameIsRight → FramesJoin → RunGivesFront → (s : State) (b : List ℕ) (place : ℕ) (c : Chain) (kept more : List Record) (left : List (List ℕ)) → IsChain b place c
-    → AllByRecursion (IsRecord version) kept → AllByRecursion (IsRecord version) more → all_lawful version s kept ≡ true → Stops version (run s kept) more → SpellsNone version left
+pub ended : (version : Version) → FrameIsRight → FramesJoin → RunGivesFront → (s : State) (b : List ℕ) (place : ℕ) (c : Chain) (kept more : List Record) (left : List (List ℕ)) → IsChain b place c
+    → AllByRecursion (IsRecord version) kept → AllByRecursion (IsRecord version) more → all_lawful version s kept ≡ true → Stops version (run s kept) more → (more ≡ [] → SpellsNone version left)
     → bodies_at b c.spans.items ≡ bodies_of kept ++ (bodies_of more ++ left) → (e : ℕ × Why) → e ≡ end_from (slice_get c.spans.items (length (bodies_of kept))) c.end (rest_of c.rest) (is_more more)
     → IsFrontFrom version s b place kept e.0 e.1
 ended version right join law s b place c kept [] [] h are others lawful stop none is e e_is =
@@ -86,7 +86,7 @@ ended version right join law s b place c kept [] (body ∷ left) h are others la
     let here = stopped right join b place c (bodies_of kept) body left h is in
     let at = behind place (bodies_of kept) in
     let end : e ≡ (at, Form) = e_is ∙ ap (λ (o : Option Span). end_from o c.end (rest_of c.rest) false) here.span ∙ ap (λ (n : ℕ). (n, Form)) (sym (four at)) in
-    let found = law.form version s (before place b) (drop place b) (drop c.end b) kept body left here.run are lawful none in
+    let found = law.form version s (before place b) (drop place b) (drop c.end b) kept body left here.run are lawful (none refl) in
     subst (λ (f : ℕ × Why). IsFrontFrom version s b place kept f.0 f.1) (sym end) (placed version s b place kept _ Form here.stands found)
 ended version right join law s b place c kept (r ∷ more) left h are others lawful stop none is e e_is =
     let here = stopped right join b place c (bodies_of kept) (body_of r) (bodies_of more ++ left) h is in
@@ -107,7 +107,7 @@ front_from version right join law s b place c rs h read e e_is =
     let below : nat_lt (length kept) (length rs) ≡ is_more p.more = ap (λ (qs : List Record). nat_lt (length kept) (length qs)) p.whole ∙ more_is kept p.more in
     let end : e ≡ end_from (slice_get c.spans.items (length (bodies_of kept))) c.end (rest_of c.rest) (is_more p.more) =
     e_is ∙ ap (end_from (slice_get c.spans.items (length kept)) c.end (rest_of c.rest)) below ∙ ap (λ (n : ℕ). end_from (slice_get c.spans.items n) c.end (rest_of c.rest) (is_more p.more)) (sym (length-map kept body_of)) in
-    ended version right join law s b place c kept p.more read.left h are.0 are.1 p.lawful p.stop read.stops bodies e end
+    ended version right join law s b place c kept p.more read.left h are.0 are.1 p.lawful p.stop (λ _. read.stops) bodies e end
 
 -- and the first bodies of the chain are theirs
 pub bodies_kept : (version : Version) (s : State) (bodies : List (List ℕ)) (rs : List Record) → AreRead version bodies rs → (left : List (List ℕ)) × (bodies ≡ bodies_of (lawful_front version s rs) ++ left)

@@ -11,3 +11,6 @@ pub mod Audits
 pub mod Walks
 pub mod Worth
 pub mod Tallies
+pub mod Judgings
+pub mod Passes
+pub mod Keepers

@@ -1,7 +1,7 @@
 -- The tally goes along with an audit.
-use Rattle.std.proofs.Common.{◌≡◌, ℕ, zero, suc, ◌+◌, ◌<◌, ◌≤◌, Bool, true, false, cond, List, [], ◌∷◌, ◌++◌, length, map, take, drop, get_or, Option, Some, None, refl, sym, ap, subst, ◌∙◌, arith}
+use Rattle.std.proofs.Common.{◌≡◌, ℕ, ◌+◌, ◌<◌, ◌≤◌, Bool, true, false, cond, List, [], ◌∷◌, ◌++◌, length, map, take, drop, get_or, Option, Some, None, refl, sym, ap, subst, ◌∙◌, arith}
 use Rattle.std.specs.Prelude.{slice_index_or, nat_eq, nat_lt, not, ◌&&◌}
-use Rattle.std.specs.List.{AllByRecursion, starts_with}
+use Rattle.std.specs.List.{starts_with}
 use Rattle.std.specs.Int.{w64, to_be_bytes}
 use Rattle.std.specs.Str.{bytes_eq}
 use Rattle.std.proofs.lemmas.Bool.{ltb-true}
@@ -9,14 +9,12 @@ use Rattle.std.proofs.Math.Seq.{take-suc}
 use Rattle.std.proofs.Math.Numerals.{suc-eq-add-one}
 use Rattle.std.proofs.lemmas.List.{length-map, take-append-drop, get_or-map}
 use Rattle.rq_model.specs.Records.{By, Record, Two}
-use Rattle.rq_model.specs.Spelling.{IsRecord}
-use Rattle.rq_model.specs.States.{State, Element, empty}
+use Rattle.rq_model.specs.States.{State, empty}
 use Rattle.rq_model.specs.WellFormed.{Ordered, IsWellFormed}
 use Rattle.rq_model.specs.Machine.{step, run, all_lawful}
-use Rattle.rq_model.specs.StateSpelling.{state_bytes, Fits, FitsElement}
+use Rattle.rq_model.specs.StateSpelling.{state_bytes}
 use Rattle.rq_model.specs.Laws.{RunsAreWellFormed}
-use Rattle.rq_model.specs.LogLaws.{RunsFit}
-use Rattle.rq_model.proofs.Lists.{by_cases, each_weaker}
+use Rattle.rq_model.proofs.Lists.{by_cases}
 use Rattle.rq_model.proofs.Restarts.{run_join, lawful_cut}
 use Rattle.rq_catalog.specs.Catalogues.{key_eq}
 use Rattle.rq_record.specs.declared.record.Record.{Record as Own}
@@ -24,7 +22,7 @@ use Rattle.rq_record.specs.declared.record.Record.TheVariants as own
 use Rattle.rq_record.specs.Views.{record_of}
 use Rattle.rq_restart.specs.declared.auditing.Walk.{Walk}
 use Rattle.rq_restart.specs.declared.tally.Tally.{Tally}
-use Rattle.rq_restart.specs.Worth.{payload_bytes, KeepsAllBut, of_unit, of_registrant, IsTallied, IsWithin, unit_after, named_after, registrant_after, lost_by, Counts}
+use Rattle.rq_restart.specs.Worth.{KeepsAllBut, of_unit, of_registrant, IsTallied, IsWithin, unit_after, named_after, registrant_after, lost_by, Counts}
 use Rattle.rq_restart.specs.Audits.{IsWalk, Passes, audits, audited_of, least}
 use Rattle.rq_restart.proofs.Worth.{tallied, lost, both_lost, not_not, too_short}
 use Rattle.rq_restart.proofs.Walks.{other_number}
@@ -98,24 +96,13 @@ run_more all i r lt is =
     ap (λ (n : ℕ). run empty (take n rs)) (sym (suc-eq-add-one i)) ∙ ap (run empty) (take-suc rs i (record_of r) few) ∙ run_join empty (take i rs) (get_or rs i (record_of r) ∷ [])
     ∙ ap (step (run empty (take i rs))) here
 
--- its elements rise, and none has a payload that is too long
-pub record IsFit (s : State) : Type 0 where
-  pub rise : Ordered (λ e f. e.id < f.id) s.elements
-  pub narrow : AllByRecursion (λ e. length e.payload ≤ 65535) s.elements
+abbrev pub Rising : State → Type 0
+Rising s = Ordered (λ e f. e.id < f.id) s.elements
 
-each_take : (P : Record → Type 0) (k : ℕ) (xs : List Record) → AllByRecursion P xs → AllByRecursion P (take k xs)
-each_take P zero xs h = tt
-each_take P (suc k) [] h = tt
-each_take P (suc k) (x ∷ xs) h = (h.0, each_take P k xs h.1)
-
-pub fit_at : (rs : List Record) (i : ℕ) → IsWellFormed empty → RunsAreWellFormed → RunsFit → AllByRecursion (IsRecord Two) rs → all_lawful Two empty rs ≡ true → IsFit (run empty (take i rs))
-fit_at rs i start well fit form lawful =
+pub rising_at : (rs : List Record) (i : ℕ) → IsWellFormed empty → RunsAreWellFormed → all_lawful Two empty rs ≡ true → Rising (run empty (take i rs))
+rising_at rs i start well lawful =
     let whole : all_lawful Two empty (take i rs ++ drop i rs) ≡ true = ap (all_lawful Two empty) (take-append-drop i rs) ∙ lawful in
-    let none : Fits empty = record { greatest = omega arith; definitions = tt; registrants = tt; elements = tt; notes = tt } in
-    record {
-      rise = (well Two empty (take i rs) start (lawful_cut Two empty (take i rs) (drop i rs) whole).0).elements_rise;
-      narrow = each_weaker FitsElement (λ (e : Element). length e.payload ≤ 65535) (λ e h. h.1) (run empty (take i rs)).elements (fit Two empty (take i rs) none (each_take (IsRecord Two) i rs form)).elements;
-    }
+    (well Two empty (take i rs) start (lawful_cut Two empty (take i rs) (drop i rs) whole).0).elements_rise
 
 -- One record further.
 
@@ -128,9 +115,9 @@ before_first t us ks = (
   record { units = λ u. omega (arith, us u); registrants = λ k. omega (arith, ks k) },
 )
 
-pub passed : (all : List Own) (i : ℕ) (r : Own) (w v : Walk) → i < length all → length all ≤ 4294967295 → r ≡ slice_index_or all i r → IsFit (run empty (take i (map record_of all))) → IsWalk (map record_of all) i w → Passes w r v
+pub passed : (all : List Own) (i : ℕ) (r : Own) (w v : Walk) → i < length all → length all ≤ 4294967295 → r ≡ slice_index_or all i r → Rising (run empty (take i (map record_of all))) → IsWalk (map record_of all) i w → Passes w r v
     → map audited_of w.found.items ≡ audits empty 40 (take (i + 1) (map record_of all)) → IsWalk (map record_of all) (i + 1) v
-passed all i r w v lt few is fit walk p found =
+passed all i r w v lt few is rise walk p found =
     let rs = map record_of all in
     let s = run empty (take i rs) in
     let more = run_more all i r lt is in
@@ -139,12 +126,11 @@ passed all i r w v lt few is fit walk p found =
     record {
       within = omega (arith, walk.within, from);
       state = state ∙ walk.state ∙ ap (λ (n : ℕ). run empty (take n rs)) (sym from);
-      carried = ap (λ (x : Walk). x.payload_bytes) p.others ∙ walk.carried ∙ ap payload_bytes (sym state);
-      tally = subst (λ (t : State). IsTallied t v.tally) (sym more) (tallied s w.tally v.tally r fit.rise p.tally walk.tally);
+      tally = subst (λ (t : State). IsTallied t v.tally) (sym more) (tallied s w.tally v.tally r rise p.tally walk.tally);
       counts = within_next w.tally v.tally i r p.tally walk.counts;
       few = omega (arith, p.lost, walk.few, lost_within w.tally i r walk.counts, lt, few);
       lost = subst (λ (t : State). KeepsAllBut v.lost v.state t) (sym more) (subst (λ (t : State). KeepsAllBut v.lost t (step s (record_of r))) (sym state)
-          (subst (λ (n : ℕ). KeepsAllBut n w.state (step s (record_of r))) (sym p.lost) (both_lost w.lost (lost_by r w.tally) w.state s (step s (record_of r)) walk.lost (lost s w.tally r walk.tally fit.rise fit.narrow))));
+          (subst (λ (n : ℕ). KeepsAllBut n w.state (step s (record_of r))) (sym p.lost) (both_lost w.lost (lost_by r w.tally) w.state s (step s (record_of r)) walk.lost (lost s w.tally r walk.tally rise))));
       found = ap (λ (x : Walk). map audited_of x.found.items) p.others ∙ found;
     }
 
@@ -152,23 +138,23 @@ passed all i r w v lt few is fit walk p found =
 same_counts : (t : Tally) (kept : List ℕ) → Counts t t (own.Checkpoint kept)
 same_counts t kept = record { units = λ u. refl; registrants = λ k. refl }
 
-pub tally_kept : (all : List Own) (i : ℕ) (r : Own) (kept : List ℕ) (t : Tally) → i < length all → r ≡ slice_index_or all i r → r ≡ own.Checkpoint kept → IsFit (run empty (take i (map record_of all)))
+pub tally_kept : (all : List Own) (i : ℕ) (r : Own) (kept : List ℕ) (t : Tally) → i < length all → r ≡ slice_index_or all i r → r ≡ own.Checkpoint kept → Rising (run empty (take i (map record_of all)))
     → IsTallied (run empty (take i (map record_of all))) t → IsTallied (run empty (take (i + 1) (map record_of all))) t
-tally_kept all i r kept t lt is checkpoint fit h =
+tally_kept all i r kept t lt is checkpoint rise h =
     let s = run empty (take i (map record_of all)) in
-    subst (λ (x : State). IsTallied x t) (sym (run_more all i r lt is ∙ ap (λ (q : Own). step s (record_of q)) checkpoint)) (tallied s t t (own.Checkpoint kept) fit.rise (same_counts t kept) h)
+    subst (λ (x : State). IsTallied x t) (sym (run_more all i r lt is ∙ ap (λ (q : Own). step s (record_of q)) checkpoint)) (tallied s t t (own.Checkpoint kept) rise (same_counts t kept) h)
 
 pub loss_kept : (all : List Own) (i : ℕ) (r : Own) (kept : List ℕ) (n : ℕ) (t : State) → i < length all → r ≡ slice_index_or all i r → r ≡ own.Checkpoint kept
     → KeepsAllBut n t (run empty (take i (map record_of all))) → KeepsAllBut n t (run empty (take (i + 1) (map record_of all)))
 loss_kept all i r kept n t lt is checkpoint h =
     let s = run empty (take i (map record_of all)) in
-    subst (λ (x : State). KeepsAllBut n t x) (sym (run_more all i r lt is ∙ ap (λ (q : Own). step s (record_of q)) checkpoint)) (record { members = h.members; bytes = h.bytes })
+    subst (λ (x : State). KeepsAllBut n t x) (sym (run_more all i r lt is ∙ ap (λ (q : Own). step s (record_of q)) checkpoint)) h
 
 -- a checkpoint that begins with another number, or is too short, is false
 pub no_spelling : (all : List Own) (i : ℕ) (w : Walk) (kept : List ℕ) (may : Bool) → i < length all → IsWalk (map record_of all) i w
     → may ≡ (starts_with nat_eq kept (to_be_bytes w64 i) && not (nat_lt (length kept) (least w))) → may ≡ false → false ≡ bytes_eq kept (state_bytes (run empty (take i (map record_of all))))
 no_spelling all i w kept may lt walk is not_so =
     by_cases (starts_with nat_eq kept (to_be_bytes w64 i)) (λ b. starts_with nat_eq kept (to_be_bytes w64 i) ≡ b → (b && not (nat_lt (length kept) (least w))) ≡ false → false ≡ bytes_eq kept (state_bytes (run empty (take i (map record_of all)))))
-    (λ _ _ short. too_short (run empty (take i (map record_of all))) kept (let less : length kept < least w = ltb-true (length kept) (least w) (not_not (nat_lt (length kept) (least w)) short) in omega (arith, less, walk.lost.members, walk.lost.bytes, walk.carried)))
+    (λ _ _ short. too_short (run empty (take i (map record_of all))) kept (let less : length kept < least w = ltb-true (length kept) (least w) (not_not (nat_lt (length kept) (least w)) short) in omega (arith, less, walk.lost)))
     (λ _ other _. other_number all i kept false lt (sym other) refl)
     refl (sym is ∙ not_so)

@@ -1,5 +1,5 @@
 -- What records take from a state, and how much a unit or a registrant has of it.
-use Rattle.std.proofs.Common.{◌≡◌, ◌⊎◌, inl, inr, ⊎_elim, ℕ, suc, ◌+◌, ◌*◌, ◌<◌, ◌≤◌, Bool, true, false, cond, not, ◌&&◌, List, [], ◌∷◌, ◌++◌, length, map, Option, Some, None, refl, sym, ap, subst, ◌∙◌, arith, length-append}
+use Rattle.std.proofs.Common.{◌≡◌, ◌⊎◌, inl, inr, ⊎_elim, ℕ, ◌+◌, ◌*◌, ◌<◌, ◌≤◌, Bool, true, false, cond, not, ◌&&◌, List, [], ◌∷◌, ◌++◌, length, map, Option, Some, None, refl, sym, ap, subst, ◌∙◌, arith, length-append}
 use Rattle.std.specs.Prelude.{◌==◌, nat_lt, nat_le, nat_eq, if◌then◌else◌}
 use Rattle.std.specs.List.{filter, flat_map, list_any, list_all, AllByRecursion}
 use Rattle.std.specs.Str.{bytes_eq}
@@ -24,7 +24,7 @@ use Rattle.rq_record.specs.declared.record.Record.{Record as Own}
 use Rattle.rq_record.specs.declared.record.Record.TheVariants as own
 use Rattle.rq_record.specs.Views.{record_of}
 use Rattle.rq_restart.specs.declared.tally.Tally.{Tally}
-use Rattle.rq_restart.specs.Worth.{member_bytes, payload_bytes, HangOnUnit, HangOnRegistrant, KeepsAllBut, of_unit, of_registrant, IsTallied, unit_after, named_after, registrant_after, lost_by, Counts}
+use Rattle.rq_restart.specs.Worth.{member_bytes, HangOnUnit, HangOnRegistrant, KeepsAllBut, of_unit, of_registrant, IsTallied, unit_after, named_after, registrant_after, lost_by, Counts}
 
 -- Lists: how many pass a test.
 
@@ -82,24 +82,6 @@ kept_or q m f h (x ∷ xs) = let more = kept_or q m f h xs in
     (λ _ _. by_cases (m x) (λ b. length (x ∷ xs) ≤ length (f x ∷ map f (filter q xs)) + length (cond b (x ∷ filter m xs) (filter m xs))) (λ _. omega (arith, more)) (λ _. omega (arith, more)))
     (λ _ n. subst (λ b. length (x ∷ xs) ≤ length (map f (filter q xs)) + length (cond b (x ∷ filter m xs) (filter m xs))) (sym (h x n)) (omega (arith, more)))
     refl
-
--- and as much of what each carries, where none carries more than `most`
-pub carried_or : {X : Type 0} (w : X → List ℕ) (most : ℕ) (q m : X → Bool) (f : X → X) → ((x : X) → length (w (f x)) ≡ length (w x)) → ((x : X) → q x ≡ false → m x ≡ true) → (xs : List X) → AllByRecursion (λ x. length (w x) ≤ most) xs
-    → length (flat_map w xs) ≤ length (flat_map w (map f (filter q xs))) + most * length (filter m xs)
-carried_or w most q m f same h [] few = omega arith
-carried_or w most q m f same h (x ∷ xs) few =
-    let more = carried_or w most q m f same h xs few.1 in
-    let whole : length (w x ++ flat_map w xs) ≡ length (w x) + length (flat_map w xs) = length-append (w x) (flat_map w xs) in
-    let mapped : length (w (f x) ++ flat_map w (map f (filter q xs))) ≡ length (w x) + length (flat_map w (map f (filter q xs))) = length-append (w (f x)) (flat_map w (map f (filter q xs))) ∙ ap (λ n. n + length (flat_map w (map f (filter q xs)))) (same x) in
-    by_cases (q x) (λ b. q x ≡ b → length (flat_map w (x ∷ xs)) ≤ length (flat_map w (map f (cond b (x ∷ filter q xs) (filter q xs)))) + most * length (filter m (x ∷ xs)))
-    (λ _ _. by_cases (m x) (λ b. length (flat_map w (x ∷ xs)) ≤ length (flat_map w (f x ∷ map f (filter q xs))) + most * length (cond b (x ∷ filter m xs) (filter m xs)))
-    (λ _. let up = times_more (length (filter m xs)) in omega (arith, more, whole, mapped, up)) (λ _. omega (arith, more, whole, mapped)))
-    (λ _ n. subst (λ b. length (flat_map w (x ∷ xs)) ≤ length (flat_map w (map f (filter q xs))) + most * length (cond b (x ∷ filter m xs) (filter m xs))) (sym (h x n))
-    (let up = times_more (length (filter m xs)) in let small = few.0 in omega (arith, more, whole, up, small)))
-    refl
-  where
-    times_more : (n : ℕ) → most * suc n ≡ most * n + most
-    times_more n = mul-suc most n
 
 -- At most one element is the best.
 
@@ -179,9 +161,6 @@ freed_of v u e = by_cases (is_fresh v e.mark) (λ b. Of u (cond b (marked Free e
 freed_none : (u : ℕ) (e : Element) → not (is_held u e.mark) ≡ true → Of u (freed u e) ≡ false
 freed_none u e n = by_cases (is_fresh u e.mark) (λ b. is_fresh u e.mark ≡ b → Of u (cond b (marked Free e) e) ≡ false) (λ _ _. refl) (λ _ f. unmarked u e.mark f (not_so (is_held u e.mark) n)) refl
 
-freed_payload : (v : ℕ) (e : Element) → length (freed v e).payload ≡ length e.payload
-freed_payload v e = by_cases (is_fresh v e.mark) (λ b. length (cond b (marked Free e) e).payload ≡ length e.payload) (λ _. refl) (λ _. refl)
-
 abbrev back : List Definition → ℕ → Element → Element
 back ds v e = if leaves (definition_at ds e.home) v e then moved (definition_at ds e.home) e else returned v e
 
@@ -196,10 +175,6 @@ back_none : (ds : List Definition) (u : ℕ) (e : Element) → not (is_fresh u e
 back_none ds u e n = by_cases (leaves (definition_at ds e.home) u e) (λ b. Of u (cond b (moved (definition_at ds e.home) e) (returned u e)) ≡ false) (λ _. refl)
     (λ _. by_cases (is_held u e.mark) (λ b. is_held u e.mark ≡ b → Of u (cond b (again e) e) ≡ false) (λ _ _. refl) (λ _ h. unmarked u e.mark (not_so (is_fresh u e.mark) n) h) refl)
 
-back_payload : (ds : List Definition) (v : ℕ) (e : Element) → length (back ds v e).payload ≡ length e.payload
-back_payload ds v e = by_cases (leaves (definition_at ds e.home) v e) (λ b. length (cond b (moved (definition_at ds e.home) e) (returned v e)).payload ≡ length e.payload) (λ _. refl)
-    (λ _. by_cases (is_held v e.mark) (λ b. length (cond b (again e) e).payload ≡ length e.payload) (λ _. refl) (λ _. refl))
-
 abbrev taken : ℕ → ℕ → List Element → Element → Element
 taken v queue es e = if is_best queue es e then marked (Held v) e else e
 
@@ -208,9 +183,6 @@ taken_of v u queue es e = by_cases (is_best queue es e) (λ b. is_best queue es 
 
 taken_other : (v u queue : ℕ) (es : List Element) → nat_eq v u ≡ false → (e : Element) → Of u (taken v queue es e) ≡ true → Of u e ≡ true
 taken_other v u queue es n e = by_cases (is_best queue es e) (λ b. Of u (cond b (marked (Held v) e) e) ≡ true → Of u e ≡ true) (λ _ h. absurd (false≢true (sym n ∙ h))) (λ _ h. h)
-
-taken_payload : (v queue : ℕ) (es : List Element) (e : Element) → length (taken v queue es e).payload ≡ length e.payload
-taken_payload v queue es e = by_cases (is_best queue es e) (λ b. length (cond b (marked (Held v) e) e).payload ≡ length e.payload) (λ _. refl) (λ _. refl)
 
 -- What a unit has after a record.
 
@@ -395,23 +367,8 @@ tallied s t u r rise c h = record {
 
 -- What is lost with a record.
 
-pub nothing_lost : (s : State) → KeepsAllBut 0 s s
-nothing_lost s = record { members = omega arith; bytes = omega arith }
-
 pub both_lost : (n m : ℕ) (a b c : State) → KeepsAllBut n a b → KeepsAllBut m b c → KeepsAllBut (n + m) a c
-both_lost n m a b c h k = record { members = omega (arith, h.members, k.members); bytes = omega (arith, h.bytes, k.bytes) }
-
-abbrev Narrow : List Element → Type 0
-Narrow es = AllByRecursion (λ e. length e.payload ≤ 65535) es
-
-same_payloads : (f : Element → Element) → ((e : Element) → length (f e).payload ≡ length e.payload) → (es : List Element) → length (flat_map (λ e. e.payload) (map f es)) ≡ length (flat_map (λ e. e.payload) es)
-same_payloads f same [] = refl
-same_payloads f same (e ∷ es) = length-append (f e).payload (flat_map (λ (x : Element). x.payload) (map f es)) ∙ ap (λ n. n + length (flat_map (λ (x : Element). x.payload) (map f es))) (same e) ∙ ap (λ n. length e.payload + n) (same_payloads f same es)
-    ∙ sym (length-append e.payload (flat_map (λ (x : Element). x.payload) es))
-
-more_payloads : (es fs : List Element) → length (flat_map (λ e. e.payload) es) ≤ length (flat_map (λ e. e.payload) (es ++ fs))
-more_payloads [] fs = omega arith
-more_payloads (e ∷ es) fs = omega (arith, more_payloads es fs, length-append e.payload (flat_map (λ (x : Element). x.payload) es), length-append e.payload (flat_map (λ (x : Element). x.payload) (es ++ fs)))
+both_lost n m a b c h k = omega (arith, h, k)
 
 as_many_or_more : (queue : ℕ) (name : List ℕ) (xs : List Registrant) → length xs ≤ length (registered queue name xs)
 as_many_or_more queue name xs = by_cases (list_any (is_registrant queue name) xs) (λ b. length xs ≤ length (cond b xs (put registrant_before (record { queue = queue; name = name; last = None }) xs))) (λ _. omega arith)
@@ -429,65 +386,43 @@ one_of_id id p (x ∷ es) rise h =
     other : p x ≡ true → (y : Element) → x.id < y.id → p y ≡ false
     other t y k = by_cases (p y) (λ c. p y ≡ c → c ≡ false) (λ _ u. absurd (omega (arith, k, h x t, h y u))) (λ _ _. refl) refl
 
-same_list : (es : List Element) → map (λ (e : Element). e) es ≡ es
-same_list [] = refl
-same_list (e ∷ es) = ap (λ (fs : List Element). e ∷ fs) (same_list es)
-
-pub lost : (s : State) (t : Tally) (r : Own) → IsTallied s t → Rising s.elements → Narrow s.elements → KeepsAllBut (lost_by r t) s (step s (record_of r))
-lost s t (own.Define limit error name) h rise narrow = record { members = omega (arith, length-append s.definitions (record { limit = limit; error = error.0; name = name } ∷ [])); bytes = omega arith }
-lost s t (own.Register queue name) h rise narrow = record { members = omega (arith, as_many_or_more queue.0 name s.registrants); bytes = omega arith }
-lost s t (own.Deregister queue name) h rise narrow = let k = h.registrants (queue.0, name) in record {
-  members = omega (arith, length-filter_both (is_registrant queue.0 name) (λ r. not (is_registrant queue.0 name r)) (λ _. refl) s.registrants, length-filter_both (is_note_of queue.0 name) (λ m. not (is_note_of queue.0 name m)) (λ _. refl) s.notes, k.registrants, k.notes);
-  bytes = omega arith;
-}
-lost s t (own.Begin v) h rise narrow = record { members = omega (arith, length-append s.units (v.0 ∷ [])); bytes = omega arith }
-lost s t (own.Enqueue priority queue v by payload) h rise narrow = record {
-  members = omega (arith, length-append s.elements (new_element s.next v.0 queue.0 priority payload ∷ []), length-append s.notes (noted s.next v.0 queue.0 by Enqueued (Some s.next)));
-  bytes = omega (arith, more_payloads s.elements (new_element s.next v.0 queue.0 priority payload ∷ []));
-}
-lost s t (own.Dequeue v queue by) h rise narrow = record {
-  members = omega (arith, length-map s.elements (taken v.0 queue.0 s.elements), length-append s.notes (noted s.next v.0 queue.0 by Dequeued (option_map (λ (e : Element). e.id) (best queue.0 s.elements))));
-  bytes = omega (arith, same_payloads (taken v.0 queue.0 s.elements) (taken_payload v.0 queue.0 s.elements) s.elements);
-}
-lost s t (own.Commit v) h rise narrow = let k = h.units v.0 in
-    let heldless = λ (e : Element) (n : not (is_held v.0 e.mark) ≡ false). held_is v.0 e.mark (not_not (is_held v.0 e.mark) n) in
-    record {
-      members = omega (
-        arith,
-        length-filter_both (λ w. w == v.0) (λ w. not (w == v.0)) (λ _. refl) s.units,
-        length-map s.registrants (told v.0 s.notes),
-        kept_or (λ (e : Element). not (is_held v.0 e.mark)) (Of v.0) (freed v.0) heldless s.elements,
-        length-filter_both (of_note v.0) (λ (m : Note). not (m.unit == v.0)) (λ _. refl) s.notes,
-        k.units,
-        k.elements,
-        k.notes,
-      );
-      bytes = omega (arith, carried_or (λ (e : Element). e.payload) 65535 (λ (e : Element). not (is_held v.0 e.mark)) (Of v.0) (freed v.0) (freed_payload v.0) heldless s.elements narrow, k.elements);
-    }
-lost s t (own.Abort v) h rise narrow = let k = h.units v.0 in
-    let stale = λ (e : Element) (n : not (is_fresh v.0 e.mark) ≡ false). fresh_is v.0 e.mark (not_not (is_fresh v.0 e.mark) n) in
-    record {
-      members = omega (
-        arith,
-        length-filter_both (λ w. w == v.0) (λ w. not (w == v.0)) (λ _. refl) s.units,
-        kept_or (λ (e : Element). not (is_fresh v.0 e.mark)) (Of v.0) (back s.definitions v.0) stale s.elements,
-        length-filter_both (of_note v.0) (λ (m : Note). not (m.unit == v.0)) (λ _. refl) s.notes,
-        k.units,
-        k.elements,
-        k.notes,
-      );
-      bytes = omega (arith, carried_or (λ (e : Element). e.payload) 65535 (λ (e : Element). not (is_fresh v.0 e.mark)) (Of v.0) (back s.definitions v.0) (back_payload s.definitions v.0) stale s.elements narrow, k.elements);
-    }
-lost s t (own.Checkpoint kept) h rise narrow = record { members = omega arith; bytes = omega arith }
-lost s t (own.Kill queue element) h rise narrow =
+pub lost : (s : State) (t : Tally) (r : Own) → IsTallied s t → Rising s.elements → KeepsAllBut (lost_by r t) s (step s (record_of r))
+lost s t (own.Define limit error name) h rise = omega (arith, length-append s.definitions (record { limit = limit; error = error.0; name = name } ∷ []))
+lost s t (own.Register queue name) h rise = omega (arith, as_many_or_more queue.0 name s.registrants)
+lost s t (own.Deregister queue name) h rise = let k = h.registrants (queue.0, name) in
+    omega (arith, length-filter_both (is_registrant queue.0 name) (λ r. not (is_registrant queue.0 name r)) (λ _. refl) s.registrants, length-filter_both (is_note_of queue.0 name) (λ m. not (is_note_of queue.0 name m)) (λ _. refl) s.notes, k.registrants, k.notes)
+lost s t (own.Begin v) h rise = omega (arith, length-append s.units (v.0 ∷ []))
+lost s t (own.Enqueue priority queue v by payload) h rise =
+    omega (arith, length-append s.elements (new_element s.next v.0 queue.0 priority payload ∷ []), length-append s.notes (noted s.next v.0 queue.0 by Enqueued (Some s.next)))
+lost s t (own.Dequeue v queue by) h rise =
+    omega (arith, length-map s.elements (taken v.0 queue.0 s.elements), length-append s.notes (noted s.next v.0 queue.0 by Dequeued (option_map (λ (e : Element). e.id) (best queue.0 s.elements))))
+lost s t (own.Commit v) h rise = let k = h.units v.0 in
+    omega (
+      arith,
+      length-filter_both (λ w. w == v.0) (λ w. not (w == v.0)) (λ _. refl) s.units,
+      length-map s.registrants (told v.0 s.notes),
+      kept_or (λ (e : Element). not (is_held v.0 e.mark)) (Of v.0) (freed v.0) (λ (e : Element) (n : not (is_held v.0 e.mark) ≡ false). held_is v.0 e.mark (not_not (is_held v.0 e.mark) n)) s.elements,
+      length-filter_both (of_note v.0) (λ (m : Note). not (m.unit == v.0)) (λ _. refl) s.notes,
+      k.units,
+      k.elements,
+      k.notes,
+    )
+lost s t (own.Abort v) h rise = let k = h.units v.0 in
+    omega (
+      arith,
+      length-filter_both (λ w. w == v.0) (λ w. not (w == v.0)) (λ _. refl) s.units,
+      kept_or (λ (e : Element). not (is_fresh v.0 e.mark)) (Of v.0) (back s.definitions v.0) (λ (e : Element) (n : not (is_fresh v.0 e.mark) ≡ false). fresh_is v.0 e.mark (not_not (is_fresh v.0 e.mark) n)) s.elements,
+      length-filter_both (of_note v.0) (λ (m : Note). not (m.unit == v.0)) (λ _. refl) s.notes,
+      k.units,
+      k.elements,
+      k.notes,
+    )
+lost s t (own.Checkpoint kept) h rise = omega arith
+lost s t (own.Kill queue element) h rise =
     let gone = λ (e : Element). is_free_at queue.0 e && (e.id == element.0) in
     let kept = λ (e : Element). not (is_free_at queue.0 e && (e.id == element.0)) in
     let one = one_of_id element.0 gone s.elements rise (λ e t. eqb-true e.id element.0 (and_parts (is_free_at queue.0 e) (e.id == element.0) t).1) in
-    let same = same_list (filter kept s.elements) in
-    record {
-      members = omega (arith, length-filter_both gone kept (λ _. refl) s.elements, one);
-      bytes = omega (arith, carried_or (λ (e : Element). e.payload) 65535 kept gone (λ (e : Element). e) (λ e. refl) (λ e n. not_not (is_free_at queue.0 e && (e.id == element.0)) n) s.elements narrow, ap (λ (es : List Element). length (flat_map (λ (e : Element). e.payload) es)) same, one);
-    }
+    omega (arith, length-filter_both gone kept (λ _. refl) s.elements, one)
 
 -- The spelling of a state is as long as its members.
 
@@ -510,7 +445,7 @@ note_long m =
     let rest = kind_byte m.last.kind ∷ (to_be_bytes w64 m.last.tag ++ to_be_bytes w64 (element_number m.last.element)) in
     omega (arith, length-append m.name rest)
 
-element_long : (e : Element) → 28 + length e.payload ≤ length (element_bytes e)
+element_long : (e : Element) → 28 ≤ length (element_bytes e)
 element_long e = let whole = length-append (mark_bytes e.mark) (to_be_bytes w16 (length e.payload) ++ e.payload) in let mark = mark_long e.mark in omega (arith, whole, mark)
   where
     mark_long : (m : Mark) → 1 ≤ length (mark_bytes m)
@@ -518,11 +453,7 @@ element_long e = let whole = length-append (mark_bytes e.mark) (to_be_bytes w16 
     mark_long (Fresh unit) = omega arith
     mark_long (Held unit) = omega arith
 
-elements_long : (es : List Element) → 28 * length es + length (flat_map (λ e. e.payload) es) ≤ length (flat_map element_bytes es)
-elements_long [] = omega arith
-elements_long (e ∷ es) = omega (arith, elements_long es, element_long e, length-append (element_bytes e) (flat_map element_bytes es), length-append e.payload (flat_map (λ (x : Element). x.payload) es), mul-suc 28 (length es))
-
-pub state_long : (s : State) → member_bytes s + payload_bytes s ≤ length (state_bytes s)
+state_long : (s : State) → member_bytes s ≤ length (state_bytes s)
 state_long s =
     let notes = counted note_bytes s.notes in
     let elements = counted element_bytes s.elements in
@@ -541,12 +472,12 @@ state_long s =
       as_long definition_bytes 7 definition_long s.definitions,
       as_long (to_be_bytes w64) 8 (λ u. omega arith) s.units,
       as_long registrant_bytes 6 registrant_long s.registrants,
-      elements_long s.elements,
+      as_long element_bytes 28 element_long s.elements,
       as_long note_bytes 38 note_long s.notes,
     )
 
 -- what is shorter is not the spelling
-pub too_short : (s : State) (kept : List ℕ) → length kept < member_bytes s + payload_bytes s → false ≡ bytes_eq kept (state_bytes s)
+pub too_short : (s : State) (kept : List ℕ) → length kept < member_bytes s → false ≡ bytes_eq kept (state_bytes s)
 too_short s kept short = by_cases (bytes_eq kept (state_bytes s)) (λ b. false ≡ b)
     (λ e. absurd (omega (arith, ap length ((bytes_eq-Decides kept (state_bytes s)).0 e), state_long s, short)))
     (λ _. refl)

@@ -14,7 +14,7 @@ use Rattle.rq_front.specs.declared.spans.Span.{Span}
 use Rattle.rq_front.specs.Chains.{IsHeaded, Refused}
 use Rattle.rq_restart.specs.declared.auditing.Walk.{Walk}
 use Rattle.rq_record.specs.declared.record.Record.{Record as Own}
-use Rattle.rq_restart.specs.Worth.{member_bytes, payload_bytes, IsTallied, IsWithin, KeepsAllBut, Counts, lost_by}
+use Rattle.rq_restart.specs.Worth.{member_bytes, IsTallied, IsWithin, KeepsAllBut, Counts, lost_by}
 
 -- a record whose frame stands at a place, in the state before it
 abbrev pub audit_of : State → ℕ → Record → List Audited
@@ -40,13 +40,12 @@ StandAt rs spans = (i : ℕ) → i < length rs → (i < length spans) × ((d : S
 
 -- the bytes that the state before the next record spells at least
 abbrev pub least : Walk → ℕ
-least w = (member_bytes w.state - 74 * w.lost) + (w.payload_bytes - 65535 * w.lost)
+least w = member_bytes w.state - 74 * w.lost
 
 -- how far an audit has come
 pub record IsWalk (rs : List Record) (i : ℕ) (w : Walk) : Type 0 where
   pub within : w.from ≤ i
   pub state : w.state ≡ run empty (take w.from rs)
-  pub carried : w.payload_bytes ≡ payload_bytes w.state
   pub tally : IsTallied (run empty (take i rs)) w.tally
   pub counts : IsWithin i w.tally
   pub few : w.lost ≤ i * 4294967296

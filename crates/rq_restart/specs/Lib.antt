@@ -9,3 +9,5 @@ pub mod Upgrades
 pub mod Checkpoints
 pub mod Audits
 pub mod Worth
+pub mod Passes
+pub mod Keepers

@@ -1,6 +1,5 @@
 -- How long the spelling of a state is at least, and how much of that records can take away.
 use Rattle.std.specs.Prelude.{◌≡◌, ◌≤◌, ◌+◌, ◌*◌, ◌==◌, ℕ, nat_eq, cond, List, length, filter, Option, Some, None}
-use Rattle.std.specs.List.{flat_map}
 use Rattle.indexmap.specs.IndexMap.{get}
 use Rattle.rq_model.specs.Records.{By}
 use Rattle.rq_model.specs.States.{State, is_registrant, is_note_of}
@@ -14,10 +13,6 @@ use Rattle.rq_restart.specs.declared.tally.Tally.{Tally}
 abbrev pub member_bytes : State → ℕ
 member_bytes s = 7 * length s.definitions + 8 * length s.units + 6 * length s.registrants + 28 * length s.elements + 38 * length s.notes
 
--- and those of its payloads
-abbrev pub payload_bytes : State → ℕ
-payload_bytes s = length (flat_map (λ e. e.payload) s.elements)
-
 -- of each list at most n members are the unit's
 pub record HangOnUnit (s : State) (unit n : ℕ) : Type 0 where
   pub units : length (filter (λ v. v == unit) s.units) ≤ n
@@ -29,10 +24,9 @@ pub record HangOnRegistrant (s : State) (key : ℕ × List ℕ) (n : ℕ) : Type
   pub registrants : length (filter (is_registrant key.0 key.1) s.registrants) ≤ n
   pub notes : length (filter (is_note_of key.0 key.1) s.notes) ≤ n
 
--- t has what s has, but for at most n members of each list: a unit, an element with its payload and a note for each
-pub record KeepsAllBut (n : ℕ) (s t : State) : Type 0 where
-  pub members : member_bytes s ≤ member_bytes t + 74 * n
-  pub bytes : payload_bytes s ≤ payload_bytes t + 65535 * n
+-- t has what s has, but for at most n members of each list: a unit, an element and a note for each
+abbrev pub KeepsAllBut : ℕ → State → State → Type 0
+KeepsAllBut n s t = member_bytes s ≤ member_bytes t + 74 * n
 
 -- What a tally has.
 

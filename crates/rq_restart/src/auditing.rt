@@ -2,13 +2,11 @@
 
 ghost use Rattle.std.specs.Prelude.{◌≡◌, ◌≤◌, ◌<◌, ◌+◌, ◌-◌, ◌^◌, ◌&&◌, not, true, List, length, map, nat_eq, nat_lt, IfOk, IfErr};
 ghost use Rattle.std.specs.Int.{w64, to_be_bytes};
-ghost use Rattle.std.specs.List.{starts_with, flat_map, AllByRecursion};
+ghost use Rattle.std.specs.List.{starts_with};
 ghost use Rattle.std.specs.Str.{bytes_eq};
 ghost use Rattle.rq_model.specs.Records as model;
 ghost use Rattle.rq_model.specs.Records.{Two};
-ghost use Rattle.rq_model.specs.States as states;
 ghost use Rattle.rq_model.specs.States.{empty};
-ghost use Rattle.rq_model.specs.Spelling.{IsRecord};
 ghost use Rattle.rq_model.specs.Frames.{HasHeader};
 ghost use Rattle.rq_model.specs.Machine.{all_lawful};
 ghost use Rattle.rq_model.specs.Checkpoints.{IsAudit};
@@ -25,8 +23,8 @@ use crate::tally::Tally;
 use rq_exchange::replay;
 use rq_front::{Chain, Span, chain, version};
 use rq_pool::{Open, Plan};
-use rq_record::{Fault, Record, Version};
-use rq_state::{Element, State, spell};
+use rq_record::{Fault, LentLog, Record, Version};
+use rq_state::{State, spell, spelled_len};
 use std::alloc::Global;
 use std::marker::Sync;
 use std::thread::Threads;
@@ -34,18 +32,18 @@ use std::thread::Threads;
 // So many bytes of a checkpoint cost about as much as a record.
 const BYTES_OF_A_RECORD: usize = 64;
 
-// Whether these are the bytes that spell the state.
+// Whether these are the bytes that spell the state, which is spelled only where its spelling has as many.
 fn is_spelled(alloc: Global, state: &State, kept: &[u8]) -> Result<bool, Fault>
     requires next { state.now.next ≤ 4294967295 }
     requires short { length kept.now ≤ 268435455 }
     ensures truth { IfOk result (λ t. t ≡ bytes_eq kept.now (state_bytes state.now)) }
     ensures refused { IfErr result (λ e. e ≡ Resources) }
 {
-    match spell(alloc, state) {
-        Ok(spelled) => Ok(kept == spelled.as_slice()),
-        Err(Fault::TooLarge) => Ok(false),
-        Err(fault) => Err(fault),
+    if spelled_len(state) != kept.len() as u128 {
+        return Ok(false);
     }
+    let spelled = spell(alloc, state)?;
+    Ok(kept == spelled.as_slice())
 }
 
 // Whether the bytes begin as those of each state with this next record number.
@@ -55,13 +53,11 @@ fn begins_with(kept: &[u8], next: u64) -> bool
     kept.starts_with(&next.to_be_bytes())
 }
 
-// How far an audit has come: the last state that was made, with the bytes of its payloads and the place of the record that it
-// stands before; how often each unit and registrant was spoken of; how many members of each list of that state may be gone
-// since; and what was found.
+// How far an audit has come: the last state that was made, and the place of the record that it stands before; how often each
+// unit and registrant was spoken of; how many members of each list of that state may be gone since; and what was found.
 #[derive(Drop)]
 struct Walk {
     state: State,
-    payload_bytes: u128,
     from: usize,
     tally: Tally,
     lost: u64,
@@ -77,24 +73,12 @@ impl Walk {
         let found = Vec::new(alloc);
         Walk {
             state: State::empty(alloc),
-            payload_bytes: 0,
             from: 0,
             tally,
             lost: 0,
             found,
         }
     }
-}
-
-// The bytes of the payloads of all these elements.
-fn payload_bytes_of(elements: &[Element]) -> u128
-    ensures { result ≡ length (flat_map (λ (e : states.Element). e.payload) elements.now) }
-{
-    let mut sum = 0;
-    for element in elements {
-        sum += element.payload.bytes().len() as u128;
-    }
-    sum
 }
 
 // The bytes of a state's members, each in its shortest form.
@@ -108,14 +92,11 @@ fn member_bytes_of(state: &State) -> u128
         + 38 * state.note_count() as u128
 }
 
-// Whether the state before the next record has more in it than so many bytes can spell.
+// Whether the state before the next record has more members than so many bytes can spell.
 fn is_too_short(walk: &Walk, len: usize) -> bool
     ensures { result ≡ nat_lt len (least walk.now) }
 {
-    let len = len as u128;
-    let lost = walk.lost as u128;
-    let members = member_bytes_of(&walk.state).saturating_sub(74 * lost);
-    len < members || len - members < walk.payload_bytes.saturating_sub(65535 * lost)
+    (len as u128) < member_bytes_of(&walk.state).saturating_sub(74 * walk.lost as u128)
 }
 
 // Whether the bytes may spell the state before the next record: they begin with its number, and are enough.
@@ -136,7 +117,6 @@ fn pass(walk: Walk, rec: &Record) -> Result<Walk, Fault>
     let lost = tally.take(rec)?;
     Ok(Walk {
         state: walk.state,
-        payload_bytes: walk.payload_bytes,
         from: walk.from,
         tally,
         lost: walk.lost + lost,
@@ -158,7 +138,6 @@ fn visit<R: Threads + Sync>(
 ) -> Result<Walk, Fault>
     requires there { place < length records.now }
     requires few { length records.now ≤ 4294967295 }
-    requires form { AllByRecursion (IsRecord Two) (map record_of records.now) }
     requires lawful { all_lawful Two empty (map record_of records.now) ≡ true }
     requires spans { StandAt (map record_of records.now) spans.now }
     requires walk { IsWalk (map record_of records.now) place walk }
@@ -166,7 +145,6 @@ fn visit<R: Threads + Sync>(
     ensures refused { IfErr result (λ e. e ≡ Resources) }
 {
     rq_model::runs_are_well_formed();
-    rq_model::runs_fit();
     let Record::Checkpoint { bytes } = &records[place] else {
         return pass(walk, &records[place]);
     };
@@ -189,7 +167,6 @@ fn visit<R: Threads + Sync>(
     let mut found = walk.found;
     found.push((offset, truth))?;
     Ok(Walk {
-        payload_bytes: payload_bytes_of(state.elements()),
         state,
         from: place,
         tally: walk.tally,
@@ -217,7 +194,7 @@ fn checkpoints_of<R: Threads + Sync>(
     rq_model::frames_join();
     rq_model::one_front();
     rq_model::versions();
-    let front = front_of(rt, alloc, version, bytes, found, &State::empty(alloc), plan)?;
+    let front = front_of(rt, alloc, version, &LentLog::none(), bytes, found, &State::empty(alloc), plan)?;
     let mut walk = Walk::first(alloc);
     for place in 0..front.records.len() {
         walk = visit(rt, alloc, &front.records, &found.spans, place, walk, plan)?;

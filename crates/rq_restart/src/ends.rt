@@ -2,8 +2,10 @@
 
 ghost use Rattle.rq_restart.specs.FrontEnds.{FindsEnd};
 
+use crate::grain::grain_of;
+use crate::passing::Pass;
 use crate::restarted::Why;
-use crate::restarting::whole_front;
+use rq_front::log_version;
 use rq_pool::Plan;
 use rq_record::Fault;
 use std::alloc::Global;
@@ -25,6 +27,9 @@ pub struct FrontEnd {
 
 /// Where the front of a log ends, and why, as its restart says it; no queue is redone.
 ///
+/// No record is kept, so beside the bytes this takes memory for the queues, registrants and open units alone, and for a
+/// part of the log, whose length does not grow with it.
+///
 /// Refuses with `TooLong` more than 4,294,967,295 bytes, with `NotALog` bytes that begin with no version's header, and with
 /// `Resources` where memory is refused.
 pub fn front_end<R: Threads + Sync>(
@@ -37,12 +42,15 @@ pub fn front_end<R: Threads + Sync>(
 {
     rq_model::frames_join();
     rq_model::numbers_after();
+    rq_model::one_front();
     rq_model::runs_are_well_formed();
-    let (_version, front) = whole_front(rt, alloc, bytes, plan)?;
+    let version = log_version(bytes)?;
+    let mut pass = Pass::new(alloc, version);
+    let why = pass.finish(rt, alloc, bytes, grain_of(plan))?;
     Ok(FrontEnd {
-        records: front.records.len() as u64,
-        used: front.end as u64,
+        records: pass.records as u64,
+        used: pass.place as u64,
         total: bytes.len() as u64,
-        why: front.why,
+        why,
     })
 }

@@ -22,7 +22,7 @@ use crate::restarted::Why;
 use rq_catalog::{Analysis, analyse_in};
 use rq_front::{Chain, Rest, Walk};
 use rq_pool::Plan;
-use rq_record::{Fault, Record, Version};
+use rq_record::{Fault, LentLog, Record, Version};
 use rq_state::State;
 use std::alloc::Global;
 use std::marker::Sync;
@@ -56,7 +56,7 @@ fn why_of(rest: Rest) -> Why
 }
 
 // Where the front ends, and why: behind `kept` frames of a chain, of which `read` were read.
-fn end_of(found: &Chain, read: usize, kept: usize) -> (usize, Why)
+pub(crate) fn end_of(found: &Chain, read: usize, kept: usize) -> (usize, Why)
     ensures { (result.0, why_of result.1) ≡ end_at found.now.spans.items found.now.end (rest_of found.now.rest) read kept }
 {
     match found.spans.get(kept) {
@@ -128,6 +128,7 @@ pub(crate) fn front_of<R: Threads + Sync>(
     rt: &R,
     alloc: Global,
     version: Version,
+    lent: &LentLog,
     bytes: &[u8],
     found: &Chain,
     state: &State,
@@ -140,7 +141,7 @@ pub(crate) fn front_of<R: Threads + Sync>(
     ensures analysis { IfOk result (λ f. IsAnalysis (version_of version) state.now (map record_of f.records.items) f.analysis) }
     ensures refused { IfErr result (λ e. e ≡ Resources) }
 {
-    let parts = read(rt, alloc, version, bytes, &found.spans, plan.workers())?;
+    let parts = read(rt, alloc, version, lent, bytes, &found.spans, plan.workers())?;
     let known = known_of(alloc, version, parts, state)?;
     Ok(settled(found, known))
 }
@@ -183,6 +184,7 @@ pub(crate) fn front_of_walk<R: Threads + Sync>(
     rt: &R,
     alloc: Global,
     version: Version,
+    lent: &LentLog,
     bytes: &[u8],
     walk: Walk,
     state: &State,
@@ -199,9 +201,9 @@ pub(crate) fn front_of_walk<R: Threads + Sync>(
     let grain = grain_of(plan);
     if plan.workers() < 2 || walk.spans().len() <= FEW {
         let found = walk.checked(rt, bytes, grain);
-        return front_of(rt, alloc, version, bytes, &found, state, plan);
+        return front_of(rt, alloc, version, lent, bytes, &found, state, plan);
     }
-    let parts = read(rt, alloc, version, bytes, walk.spans(), plan.workers())?;
+    let parts = read(rt, alloc, version, lent, bytes, walk.spans(), plan.workers())?;
     let (found, known) = check_meanwhile(rt, alloc, version, bytes, walk, parts, state, grain);
     let known = known_of_first(alloc, version, known?, found.spans.len(), state)?;
     Ok(settled(&found, known))

@@ -9,7 +9,7 @@ ghost use Rattle.rq_front.specs.Chains.{bodies_at};
 ghost use Rattle.rq_restart.specs.Readings.{AreApart, AreRead, Reads};
 
 use rq_front::Span;
-use rq_record::{Fault, Record, Version, decode_in};
+use rq_record::{Fault, LentLog, Record, Version, decode_at};
 use std::alloc::Global;
 use std::marker::Sync;
 use std::thread::{Threads, join};
@@ -29,6 +29,7 @@ pub(crate) struct Parts {
 fn read_in_order(
     alloc: Global,
     version: Version,
+    lent: &LentLog,
     bytes: &[u8],
     spans: &[Span],
     room: usize,
@@ -39,7 +40,7 @@ fn read_in_order(
 {
     let mut records = Vec::with_capacity(alloc, room)?;
     for span in spans.iter() {
-        match decode_in(alloc, version, &bytes[span.start..span.start + span.len]) {
+        match decode_at(alloc, version, lent, bytes, span.start, span.len) {
             Ok(record) => records.push(record)?,
             Err(Fault::Form) => return Ok(records),
             Err(fault) => return Err(fault),
@@ -49,11 +50,12 @@ fn read_in_order(
 }
 
 // The records that the bodies spell, up to the first body that spells none, read by as many workers.
-#[cycle(halves)]
+#[cycle(shares)]
 fn read_whole<R: Threads + Sync>(
     rt: &R,
     alloc: Global,
     version: Version,
+    lent: &LentLog,
     bytes: &[u8],
     spans: &[Span],
     workers: u32,
@@ -63,17 +65,18 @@ fn read_whole<R: Threads + Sync>(
     ensures records { IfOk result (λ rs. AreRead (version_of version) (bodies_at bytes.now spans.now) (map record_of rs.items)) }
     ensures refused { IfErr result (λ e. e ≡ Resources) }
 {
-    let parts = read_apart(rt, alloc, version, bytes, spans, workers, room)?;
+    let parts = read_apart(rt, alloc, version, lent, bytes, spans, workers, room)?;
     put_together(parts)
 }
 
-// The same in two parts: half of the workers read each. What the back half spells finds its room behind the front half.
-// One worker, or few bodies, leave the back part empty.
-#[cycle(halves)]
+// The same in two parts: one worker reads the back one, and what that spells finds its room behind what the others read, so no
+// more than one worker's share ever stands twice. One worker, or few bodies, leave the back part empty.
+#[cycle(shares)]
 fn read_apart<R: Threads + Sync>(
     rt: &R,
     alloc: Global,
     version: Version,
+    lent: &LentLog,
     bytes: &[u8],
     spans: &[Span],
     workers: u32,
@@ -85,24 +88,24 @@ fn read_apart<R: Threads + Sync>(
 {
     if workers < 2 || spans.len() <= FEW {
         return Ok(Parts {
-            front: read_in_order(alloc, version, bytes, spans, room)?,
+            front: read_in_order(alloc, version, lent, bytes, spans, room)?,
             back: Vec::new(alloc),
             count: spans.len(),
         });
     }
-    let count = spans.len() / 2;
+    let count = spans.len() - spans.len() / workers as usize;
     let (front, back) = spans.split_at(count);
-    let (fewer, others) = (workers / 2, workers - workers / 2);
+    let fewer = workers - 1;
     let (left, right) = join(
         rt,
         || -> Result<Vec<Record>, Fault>
             requires { IsSync R.row × All (λ s. s.start + s.len ≤ length bytes.now) front.now }
             ensures { Reads (version_of version) (bodies_at bytes.entry.now front.entry.now) result }
-        { read_whole(rt, alloc, version, bytes, front, fewer, room) },
+        { read_whole(rt, alloc, version, lent, bytes, front, fewer, room) },
         || -> Result<Vec<Record>, Fault>
-            requires { IsSync R.row × All (λ s. s.start + s.len ≤ length bytes.now) back.now }
+            requires { All (λ s. s.start + s.len ≤ length bytes.now) back.now }
             ensures { Reads (version_of version) (bodies_at bytes.entry.now back.entry.now) result }
-        { read_whole(rt, alloc, version, bytes, back, others, back.len()) },
+        { read_in_order(alloc, version, lent, bytes, back, back.len()) },
     );
     Ok(Parts {
         front: left?,
@@ -132,6 +135,7 @@ pub(crate) fn read<R: Threads + Sync>(
     rt: &R,
     alloc: Global,
     version: Version,
+    lent: &LentLog,
     bytes: &[u8],
     spans: &[Span],
     workers: u32,
@@ -142,5 +146,6 @@ pub(crate) fn read<R: Threads + Sync>(
 {
     // An eighth more, for the aborts of the units that are still open.
     let room = spans.len().saturating_add(spans.len() / 8);
-    read_apart(rt, alloc, version, bytes, spans, workers, room)
+    let readers = (workers as usize).min(spans.len() / FEW + 1) as u32;
+    read_apart(rt, alloc, version, lent, bytes, spans, readers, room)
 }

@@ -1,5 +1,6 @@
 //! The restart of a log from its start.
 
+ghost use Rattle.std.specs.Arc.{arc_slice_items};
 ghost use Rattle.std.specs.Prelude.{◌≡◌, ◌≤◌, length, map, IfOk, IfErr, OnOk};
 ghost use Rattle.rq_model.specs.Frames.{log_limit, HasHeader};
 ghost use Rattle.rq_model.specs.States.{empty};
@@ -16,16 +17,18 @@ use crate::restarted::Restarted;
 use rq_exchange::replay_analysed;
 use rq_front::{version, walk};
 use rq_pool::{Gate, Open, Plan};
-use rq_record::{Fault, Version};
+use rq_record::{Fault, LentLog, Version};
 use rq_state::State;
 use std::alloc::Global;
 use std::marker::Sync;
+use std::sync::ArcSlice;
 use std::thread::Threads;
 
 /// The version of a log, and the front of all of it.
 pub(crate) fn whole_front<R: Threads + Sync>(
     rt: &R,
     alloc: Global,
+    lent: &LentLog,
     bytes: &[u8],
     plan: &Plan,
 ) -> Result<(Version, Front), Fault>
@@ -40,8 +43,37 @@ pub(crate) fn whole_front<R: Threads + Sync>(
     let Some(version) = version(bytes) else {
         return Err(Fault::NotALog);
     };
-    let front = front_of_walk(rt, alloc, version, bytes, walk, &State::empty(alloc), plan)?;
+    let front = front_of_walk(rt, alloc, version, lent, bytes, walk, &State::empty(alloc), plan)?;
     Ok((version, front))
+}
+
+// The restart of a log that may be lent as well.
+fn restart_of<R, G>(
+    rt: &R,
+    alloc: Global,
+    lent: &LentLog,
+    bytes: &[u8],
+    plan: &Plan,
+    gate: &G,
+) -> Result<Restarted, Fault>
+where
+    R: Threads + Sync,
+    G: Gate + Sync,
+    ensures { Restarts bytes.now result }
+{
+    rq_model::runs_are_well_formed();
+    rq_model::frames_join();
+    let (version, front) = whole_front(rt, alloc, lent, bytes, plan)?;
+    close(
+        rt,
+        alloc,
+        version,
+        &State::empty(alloc),
+        front,
+        bytes.len(),
+        plan,
+        gate,
+    )
 }
 
 /// The front of a log, and the state behind it and the aborts of its open units.
@@ -61,19 +93,25 @@ where
     G: Gate + Sync,
     ensures { Restarts bytes.now result }
 {
-    rq_model::runs_are_well_formed();
-    rq_model::frames_join();
-    let (version, front) = whole_front(rt, alloc, bytes, plan)?;
-    close(
-        rt,
-        alloc,
-        version,
-        &State::empty(alloc),
-        front,
-        bytes.len(),
-        plan,
-        gate,
-    )
+    restart_of(rt, alloc, &LentLog::none(), bytes, plan, gate)
+}
+
+/// The restart of a log that is lent: `restart` of its bytes. A payload of more than 22 bytes is a part of the log and no copy,
+/// so the log stays in memory as long as one such payload of the state does.
+pub fn restart_lent<R, G>(
+    rt: &R,
+    alloc: Global,
+    log: &ArcSlice<u8>,
+    plan: &Plan,
+    gate: &G,
+) -> Result<Restarted, Fault>
+where
+    R: Threads + Sync,
+    G: Gate + Sync,
+    ensures { Restarts (arc_slice_items log.now) result }
+{
+    let lent = LentLog::of(log)?;
+    restart_of(rt, alloc, &lent, log.as_slice(), plan, gate)
 }
 
 /// The state after the front of a log, before any abort: open units stay open.
@@ -90,7 +128,7 @@ pub fn front_state<R: Threads + Sync>(
 {
     rq_model::frames_join();
     rq_model::versions();
-    let (_version, front) = whole_front(rt, alloc, bytes, plan)?;
+    let (_version, front) = whole_front(rt, alloc, &LentLog::none(), bytes, plan)?;
     replay_analysed(
         rt,
         alloc,

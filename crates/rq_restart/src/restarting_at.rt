@@ -1,5 +1,6 @@
 //! The restart of a log from a checkpoint.
 
+ghost use Rattle.std.specs.Arc.{arc_slice_items};
 ghost use Rattle.rq_restart.specs.Restarts.{RestartsAt};
 
 use crate::checkpoint::begin_at;
@@ -7,10 +8,49 @@ use crate::closing::close;
 use crate::front::front_of;
 use crate::restarted::Restarted;
 use rq_pool::{Gate, Plan};
-use rq_record::Fault;
+use rq_record::{Fault, LentLog};
 use std::alloc::Global;
 use std::marker::Sync;
+use std::sync::ArcSlice;
 use std::thread::Threads;
+
+// The restart from a checkpoint of a log that may be lent as well.
+fn restart_at_of<R, G>(
+    rt: &R,
+    alloc: Global,
+    lent: &LentLog,
+    bytes: &[u8],
+    offset: u64,
+    plan: &Plan,
+    gate: &G,
+) -> Result<Restarted, Fault>
+where
+    R: Threads + Sync,
+    G: Gate + Sync,
+    ensures { RestartsAt bytes.now offset result }
+{
+    let begun = begin_at(rt, alloc, bytes, offset, plan)?;
+    let front = front_of(
+        rt,
+        alloc,
+        begun.version,
+        lent,
+        bytes,
+        &begun.found,
+        &begun.state,
+        plan,
+    )?;
+    close(
+        rt,
+        alloc,
+        begun.version,
+        &begun.state,
+        front,
+        bytes.len(),
+        plan,
+        gate,
+    )
+}
 
 /// The restart of a log that begins with the checkpoint at an offset, in the state that it spells, and goes on with the
 /// longest run of lawful records from there. From a true checkpoint it is the restart of the log.
@@ -30,24 +70,24 @@ where
     G: Gate + Sync,
     ensures { RestartsAt bytes.now offset result }
 {
-    let begun = begin_at(rt, alloc, bytes, offset, plan)?;
-    let front = front_of(
-        rt,
-        alloc,
-        begun.version,
-        bytes,
-        &begun.found,
-        &begun.state,
-        plan,
-    )?;
-    close(
-        rt,
-        alloc,
-        begun.version,
-        &begun.state,
-        front,
-        bytes.len(),
-        plan,
-        gate,
-    )
+    restart_at_of(rt, alloc, &LentLog::none(), bytes, offset, plan, gate)
+}
+
+/// The restart from a checkpoint of a log that is lent: `restart_at` of its bytes. A payload of more than 22 bytes behind the
+/// checkpoint is a part of the log and no copy.
+pub fn restart_lent_at<R, G>(
+    rt: &R,
+    alloc: Global,
+    log: &ArcSlice<u8>,
+    offset: u64,
+    plan: &Plan,
+    gate: &G,
+) -> Result<Restarted, Fault>
+where
+    R: Threads + Sync,
+    G: Gate + Sync,
+    ensures { RestartsAt (arc_slice_items log.now) offset result }
+{
+    let lent = LentLog::of(log)?;
+    restart_at_of(rt, alloc, &lent, log.as_slice(), offset, plan, gate)
 }

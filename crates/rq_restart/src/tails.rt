@@ -11,7 +11,7 @@ ghost use Rattle.rq_restart.specs.Tails.{Closes, IsEnding, StaysOpen, Tails};
 use crate::framing::{append_frame, before};
 use crate::restarting::whole_front;
 use rq_pool::Plan;
-use rq_record::{Fault, Record, UnitNo, encode};
+use rq_record::{Fault, LentLog, Record, UnitNo, encode};
 use std::alloc::Global;
 use std::marker::Sync;
 use std::thread::Threads;
@@ -73,7 +73,7 @@ fn ending_of<R: Threads + Sync>(
     ensures refused { IfErr result (StaysOpen bytes.now) }
 {
     rq_model::frames_join();
-    let (_version, front) = whole_front(rt, alloc, bytes, plan)?;
+    let (_version, front) = whole_front(rt, alloc, &LentLog::none(), bytes, plan)?;
     let units = front.analysis.open_units(alloc)?;
     if units.len() > (LOG_LIMIT - front.end) / ABORT_LEN {
         return Err(Fault::TooLarge);

@@ -12,7 +12,7 @@ use crate::restarting::whole_front;
 use byteorder::{BigEndian, ByteOrder};
 use rq_front::header_of;
 use rq_pool::Plan;
-use rq_record::{Fault, Version};
+use rq_record::{Fault, LentLog, Version};
 use std::alloc::Global;
 use std::marker::Sync;
 use std::thread::Threads;
@@ -41,7 +41,7 @@ fn extent_of<R: Threads + Sync>(
     ensures refused { IfErr result (Refused bytes.now) }
 {
     rq_model::frames_join();
-    let (version, front) = whole_front(rt, alloc, bytes, plan)?;
+    let (version, front) = whole_front(rt, alloc, &LentLog::none(), bytes, plan)?;
     Ok(Extent {
         version,
         end: front.end,

@@ -85,9 +85,6 @@ pub is_lt-key_cmp : (a b : Registrant) → is_lt (key_cmp (key_of a) (key_of b))
 is_lt-key_cmp a b = by_cases (nat_lt a.queue b.queue) (λ t. is_lt (ordering_then (cond t Less (cond (a.queue == b.queue) Equal Greater)) (slice_cmp nat_cmp a.name b.name)) ≡ (t || ((a.queue == b.queue) && name_before a.name b.name))) (λ _. refl)
     (λ _. by_cases (a.queue == b.queue) (λ t. is_lt (ordering_then (cond t Equal Greater) (slice_cmp nat_cmp a.name b.name)) ≡ (t && name_before a.name b.name)) (λ _. refl) (λ _. refl))
 
-pub registrant_irreflexive : (r : Registrant) → registrant_before r r ≡ false
-registrant_irreflexive r = sym (is_lt-key_cmp r r) ∙ ap is_lt (tied_itself key_total (key_of r))
-
 pub registrants_are : (xs ys : List Registrant) → IsPermutation xs ys → IsSortedByKey key_of key_cmp ys → Ordered (λ a b. registrant_before a b ≡ true) (put_each registrant_before xs) → ys ≡ put_each registrant_before xs
 registrants_are xs ys moved up strict = order_is registrant_before key_of key_cmp key_total is_lt-key_cmp xs ys moved up strict
 

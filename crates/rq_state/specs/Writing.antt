@@ -1,18 +1,13 @@
 -- What a call that spells answers.
-use Rattle.std.specs.Prelude.{◌≡◌, ◌+◌, ◌≤◌, ◌<◌, ℕ, List, ◌++◌, length, Result, Ok, Err}
+use Rattle.std.specs.Prelude.{◌≡◌, ◌<◌, ℕ, List, ◌++◌, length, Result, Ok, Err}
 use Rattle.rq_model.specs.States.{State}
 use Rattle.rq_record.specs.declared.fault.Fault.{Fault}
-use Rattle.rq_record.specs.declared.fault.Fault.TheVariants.{Resources, TooLarge}
+use Rattle.rq_record.specs.declared.fault.Fault.TheVariants.{Resources}
 
 -- the text is appended, or memory ran out on the way
 abbrev pub Puts : {A : Type 0} → List ℕ → List ℕ → List ℕ → Result A Fault → Type 0
 Puts old new text (Ok x) = new ≡ old ++ text
 Puts old new text (Err e) = e ≡ Resources
-
--- the sum, at most the greatest length of a spelling, or TooLarge where it is more
-abbrev pub Measures : ℕ → ℕ → Result ℕ Fault → Type 0
-Measures total size (Ok sum) = (sum ≡ total + size) × (sum ≤ 268435455)
-Measures total size (Err e) = (e ≡ TooLarge) × (268435455 < total + size)
 
 -- each list's count has its width
 pub record AreFew (s : State) : Type 0 where

@@ -53,7 +53,7 @@ fn elements_copied(alloc: Global, state: &State, places: &[usize]) -> Result<Vec
     let mut copies = Vec::with_capacity(alloc, places.len())?;
     for place in places {
         let element = state.element(*place);
-        copies.push(element.copied(alloc)?)?;
+        copies.push(element.copied()?)?;
     }
     Ok(copies)
 }

@@ -5,7 +5,6 @@ ghost use Rattle.rq_model.specs.States as model;
 ghost use Rattle.rq_record.specs.declared.fault.Fault.TheVariants.{Resources};
 
 use rq_record::{ElemId, Fault, Name, Payload, QueueNo, UnitNo};
-use std::alloc::Global;
 use std::marker::Model;
 
 /// Whose an element is for now.
@@ -67,8 +66,8 @@ impl Element {
         self.home
     }
 
-    /// An element with a payload of the same bytes; Resources where there is no room for these.
-    pub fn copied(&self, alloc: Global) -> Result<Element, Fault>
+    /// An element with a payload of the same bytes; Resources where these are shared too often.
+    pub fn copied(&self) -> Result<Element, Fault>
         ensures copied { IfOk result (λ e. e ≡ self.now) }
         ensures refused { IfErr result (λ e. e ≡ Resources) }
     {
@@ -78,7 +77,7 @@ impl Element {
             origin: self.origin,
             priority: self.priority,
             attempts: self.attempts,
-            payload: self.payload.copied(alloc)?,
+            payload: self.payload.copied()?,
             mark: self.mark,
         })
     }

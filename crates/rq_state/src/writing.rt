@@ -15,9 +15,12 @@ mod sizes;
 use crate::state::State;
 use crate::writing::lists::{put_definitions, put_elements, put_notes, put_registrants, put_units};
 use crate::writing::output::put_u64;
-use crate::writing::sizes::state_size;
+pub use crate::writing::sizes::spelled_len;
 use rq_record::Fault;
 use std::alloc::Global;
+
+/// The greatest length of a spelling, as a checkpoint record holds it behind its kind.
+const BOUND: u128 = 268_435_455;
 
 /// The bytes of a checkpoint of this state, at most 268,435,455: four counts, then definitions by number, open units
 /// rising, registrants by queue and name, elements by id and notes by place, each list behind the number of its members.
@@ -26,7 +29,10 @@ pub fn spell(alloc: Global, state: &State) -> Result<Vec<u8>, Fault>
     requires { state.now.next ≤ 4294967295 }
     ensures { Spelled state.now result }
 {
-    let size = state_size(state)?;
+    let size = spelled_len(state);
+    if size > BOUND {
+        return Err(Fault::TooLarge);
+    }
     let mut out = Vec::with_capacity(alloc, size as usize)?;
     put_state(&mut out, state)?;
     Ok(out)

@@ -114,7 +114,7 @@ written_runs b r before after old new (Err faults.ReadFailed) read w = absurd w
 pub written_only : (b : List ℕ) (r : Restarted) (before after : ℕ) (old new : Option (List ℕ)) (result : Result (Unit {0}) Fault) → IsRestart b r → Reports r before after old new result → WritesOnly old new result
 written_only b r before after old new (Ok done) is w = (b, w.0, (r, is, w.1), w.3)
 written_only b r before after old new (Err faults.WriteFailed) is w = (b, w.0, (r, is, w.1), w.3)
-written_only b r before after old new (Err faults.Resources) is w = w.1
+written_only b r before after old new (Err faults.Resources) is w = (tt, w.1)
 written_only b r before after old new (Err faults.Form) is w = absurd w
 written_only b r before after old new (Err faults.NotALog) is w = absurd w
 written_only b r before after old new (Err faults.TooLong) is w = absurd w

@@ -71,7 +71,7 @@ pub written_only_at : (b : List ℕ) (offset : ℕ) (r : Restarted) (before afte
     → WritesOnlyAt offset old new result
 written_only_at b offset r before after old new (Ok done) is w = (b, w.0, (r, is, w.1), w.3)
 written_only_at b offset r before after old new (Err faults.WriteFailed) is w = (b, w.0, (r, is, w.1), w.3)
-written_only_at b offset r before after old new (Err faults.Resources) is w = w.1
+written_only_at b offset r before after old new (Err faults.Resources) is w = (tt, w.1)
 written_only_at b offset r before after old new (Err faults.Form) is w = absurd w
 written_only_at b offset r before after old new (Err faults.NotALog) is w = absurd w
 written_only_at b offset r before after old new (Err faults.TooLong) is w = absurd w

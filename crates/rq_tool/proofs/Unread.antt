@@ -10,7 +10,7 @@ use Rattle.rq_front.specs.Chains.{IsHeaded}
 use Rattle.rq_record.specs.declared.fault.Fault.{Fault}
 use Rattle.rq_record.specs.declared.fault.Fault.TheVariants as faults
 use Rattle.rq_tool.specs.Streams.{Counts, IsUnread, Takes, TakesSome}
-use Rattle.rq_tool.specs.Headline.{IsBeforeWriting, IsTold, RestartsAtRead, RestartsRead}
+use Rattle.rq_tool.specs.Headline.{IsBeforeWriting, IsTold, RestartsRead}
 use Rattle.rq_tool.proofs.Told.{same_read}
 use Rattle.rq_tool.proofs.ToldAt.{headed}
 
@@ -85,19 +85,6 @@ unread_before old new faults.BadCheckpoint h = absurd h
 unread_before old new faults.NoCheckpoint h = absurd h
 unread_before old new (faults.Script n) h = absurd h
 unread_before old new faults.WriteFailed h = absurd h
-
--- what refuses a restart refuses one from a checkpoint
-pub refused_at : (b : List ℕ) (offset : ℕ) (e : Fault) → RestartsRead b (Err e) → RestartsAtRead b offset (Err e)
-refused_at b offset faults.TooLong h = h
-refused_at b offset faults.NotALog h = h
-refused_at b offset faults.Resources h = tt
-refused_at b offset faults.ReadFailed h = tt
-refused_at b offset faults.Form h = absurd h
-refused_at b offset faults.TooLarge h = absurd h
-refused_at b offset faults.BadCheckpoint h = absurd h
-refused_at b offset faults.NoCheckpoint h = absurd h
-refused_at b offset (faults.Script n) h = absurd h
-refused_at b offset faults.WriteFailed h = absurd h
 
 -- a log with a true checkpoint is not too long
 pub refused_true : (b : List ℕ) (offset : ℕ) (e : Fault) → TrueAt b offset → RestartsRead b (Err e) → IsTold b (Err e)

@@ -9,7 +9,7 @@ use Rattle.rq_record.specs.declared.fault.Fault.{Fault}
 use Rattle.rq_record.specs.declared.fault.Fault.TheVariants.{WriteFailed}
 use Rattle.rq_restart.specs.Audits.{audited_of}
 use Rattle.rq_report.specs.Streams.{AppendsFront}
-use Rattle.rq_tool.specs.Headline.{IsRunnable, RestartsRead, Runs}
+use Rattle.rq_tool.specs.Headline.{IsBeforeWriting, IsRunnable, RestartsRead, Runs}
 
 abbrev pub truth_text : Bool → List ℕ
 truth_text true = codes "true"
@@ -33,7 +33,7 @@ AuditsLog b old new (Err e) = Runs b old new (Err e)
 abbrev pub AuditsOnly : Option (List ℕ) → Option (List ℕ) → Result (Unit {0}) Fault → Type 0
 AuditsOnly old new (Ok done) = (b text : List ℕ) × IsAuditText b text × Appends old new text
 AuditsOnly old new (Err WriteFailed) = (b text : List ℕ) × IsAuditText b text × AppendsFront old new text
-AuditsOnly old new (Err e) = Keeps old new
+AuditsOnly old new (Err e) = IsBeforeWriting e × Keeps old new
 
 -- the audit of the bytes b that a reader gives, or why there is none
 abbrev pub AuditsRead : List ℕ → Result (Vec (ℕ × Bool)) Fault → Type 0

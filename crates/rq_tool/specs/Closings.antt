@@ -33,13 +33,13 @@ ClosesLog b old new (Ok done) = (closed : List ℕ) × IsClosedLog b closed × A
 ClosesLog b old new (Err WriteFailed) = (closed : List ℕ) × IsClosedLog b closed × AppendsFront old new closed
 ClosesLog b old new (Err e) = ClosesRead b (Err e) × Keeps old new
 
--- also where the reader tells no bytes: nothing is written but a closed log or, where a write fails, a beginning of one
-abbrev pub ClosesOnly : Option (List ℕ) → Option (List ℕ) → Result (Unit {0}) Fault → Type 0
-ClosesOnly old new (Ok done) = (b closed : List ℕ) × IsClosedLog b closed × Appends old new closed
-ClosesOnly old new (Err WriteFailed) = (b closed : List ℕ) × IsClosedLog b closed × AppendsFront old new closed
-ClosesOnly old new (Err e) = Keeps old new
-
 -- a refusal that comes before anything is written
 abbrev pub IsBeforeClosing : Fault → Type 0
 IsBeforeClosing TooLarge = ⊤
 IsBeforeClosing e = IsBeforeWriting e
+
+-- also where the reader tells no bytes: nothing is written but a closed log or, where a write fails, a beginning of one
+abbrev pub ClosesOnly : Option (List ℕ) → Option (List ℕ) → Result (Unit {0}) Fault → Type 0
+ClosesOnly old new (Ok done) = (b closed : List ℕ) × IsClosedLog b closed × Appends old new closed
+ClosesOnly old new (Err WriteFailed) = (b closed : List ℕ) × IsClosedLog b closed × AppendsFront old new closed
+ClosesOnly old new (Err e) = IsBeforeClosing e × Keeps old new

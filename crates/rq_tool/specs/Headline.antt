@@ -26,11 +26,19 @@ Runs b old new (Err ReadFailed) = Keeps old new
 Runs b old new (Err WriteFailed) = IsRunnable b × (text : List ℕ) × IsReport b text × AppendsFront old new text
 Runs b old new (Err e) = ⊥
 
+-- a refusal that comes before anything is written
+abbrev pub IsBeforeWriting : Fault → Type 0
+IsBeforeWriting TooLong = ⊤
+IsBeforeWriting NotALog = ⊤
+IsBeforeWriting Resources = ⊤
+IsBeforeWriting ReadFailed = ⊤
+IsBeforeWriting e = ⊥
+
 -- also where the reader tells no bytes: nothing is written but a report or, where a write fails, a beginning of one
 abbrev pub WritesOnly : Option (List ℕ) → Option (List ℕ) → Result (Unit {0}) Fault → Type 0
 WritesOnly old new (Ok done) = (b text : List ℕ) × IsReport b text × Appends old new text
 WritesOnly old new (Err WriteFailed) = (b text : List ℕ) × IsReport b text × AppendsFront old new text
-WritesOnly old new (Err e) = Keeps old new
+WritesOnly old new (Err e) = IsBeforeWriting e × Keeps old new
 
 -- the restart of the bytes b that a reader gives, or why there is none
 abbrev pub RestartsRead : List ℕ → Result Restarted Fault → Type 0
@@ -40,14 +48,6 @@ RestartsRead b (Err NotALog) = (length b ≤ log_limit) × (IsHeaded b → ⊥)
 RestartsRead b (Err Resources) = ⊤
 RestartsRead b (Err ReadFailed) = ⊤
 RestartsRead b (Err e) = ⊥
-
--- a refusal that comes before anything is written
-abbrev pub IsBeforeWriting : Fault → Type 0
-IsBeforeWriting TooLong = ⊤
-IsBeforeWriting NotALog = ⊤
-IsBeforeWriting Resources = ⊤
-IsBeforeWriting ReadFailed = ⊤
-IsBeforeWriting e = ⊥
 
 -- A run from the checkpoint at an offset.
 
@@ -60,11 +60,17 @@ RunsAt b offset old new (Err BadCheckpoint) = HasBadCheckpoint b offset × Keeps
 RunsAt b offset old new (Err WriteFailed) = IsRunnable b × (text : List ℕ) × IsReportAt b offset text × AppendsFront old new text
 RunsAt b offset old new (Err e) = Runs b old new (Err e)
 
+-- a refusal that comes before anything is written
+abbrev pub IsBeforeWritingAt : Fault → Type 0
+IsBeforeWritingAt NoCheckpoint = ⊤
+IsBeforeWritingAt BadCheckpoint = ⊤
+IsBeforeWritingAt e = IsBeforeWriting e
+
 -- also where the reader tells no bytes
 abbrev pub WritesOnlyAt : ℕ → Option (List ℕ) → Option (List ℕ) → Result (Unit {0}) Fault → Type 0
 WritesOnlyAt offset old new (Ok done) = (b text : List ℕ) × IsReportAt b offset text × Appends old new text
 WritesOnlyAt offset old new (Err WriteFailed) = (b text : List ℕ) × IsReportAt b offset text × AppendsFront old new text
-WritesOnlyAt offset old new (Err e) = Keeps old new
+WritesOnlyAt offset old new (Err e) = IsBeforeWritingAt e × Keeps old new
 
 -- from a true checkpoint: the report of b is written, and nothing else; or nothing is, since memory is refused or a read failed;
 -- or a beginning of the report is, and then a write failed
@@ -88,9 +94,3 @@ RestartsAtRead b offset (Ok r) = IsRunnable b × IsRestartAt b offset r
 RestartsAtRead b offset (Err NoCheckpoint) = HasNoCheckpoint b offset
 RestartsAtRead b offset (Err BadCheckpoint) = HasBadCheckpoint b offset
 RestartsAtRead b offset (Err e) = RestartsRead b (Err e)
-
--- a refusal that comes before anything is written
-abbrev pub IsBeforeWritingAt : Fault → Type 0
-IsBeforeWritingAt NoCheckpoint = ⊤
-IsBeforeWritingAt BadCheckpoint = ⊤
-IsBeforeWritingAt e = IsBeforeWriting e

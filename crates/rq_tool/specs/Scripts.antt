@@ -32,12 +32,6 @@ Makes version b old new (Ok done) = (log : List ℕ) × IsLogOf version b log ×
 Makes version b old new (Err WriteFailed) = (log : List ℕ) × IsLogOf version b log × AppendsFront old new log
 Makes version b old new (Err e) = MakesRead version b (Err e) × Keeps old new
 
--- also where the reader tells no bytes: nothing is written but the log of a script or, where a write fails, a beginning of one
-abbrev pub MakesOnly : Version → Option (List ℕ) → Option (List ℕ) → Result (Unit {0}) Fault → Type 0
-MakesOnly version old new (Ok done) = (script log : List ℕ) × IsLogOf version script log × Appends old new log
-MakesOnly version old new (Err WriteFailed) = (script log : List ℕ) × IsLogOf version script log × AppendsFront old new log
-MakesOnly version old new (Err e) = Keeps old new
-
 -- a fault of the script, of its reader or of memory
 abbrev pub IsMakeFault : Fault → Type 0
 IsMakeFault (Script number) = ⊤
@@ -46,3 +40,9 @@ IsMakeFault TooLong = ⊤
 IsMakeFault Resources = ⊤
 IsMakeFault ReadFailed = ⊤
 IsMakeFault _ = ⊥
+
+-- also where the reader tells no bytes: nothing is written but the log of a script or, where a write fails, a beginning of one
+abbrev pub MakesOnly : Version → Option (List ℕ) → Option (List ℕ) → Result (Unit {0}) Fault → Type 0
+MakesOnly version old new (Ok done) = (script log : List ℕ) × IsLogOf version script log × Appends old new log
+MakesOnly version old new (Err WriteFailed) = (script log : List ℕ) × IsLogOf version script log × AppendsFront old new log
+MakesOnly version old new (Err e) = IsMakeFault e × Keeps old new

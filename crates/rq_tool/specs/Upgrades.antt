@@ -8,7 +8,7 @@ use Rattle.rq_model.specs.Upgrading.{SaysTheSame}
 use Rattle.rq_record.specs.declared.fault.Fault.{Fault}
 use Rattle.rq_record.specs.declared.fault.Fault.TheVariants.{WriteFailed}
 use Rattle.rq_report.specs.Streams.{AppendsFront}
-use Rattle.rq_tool.specs.Headline.{IsRunnable, RestartsRead}
+use Rattle.rq_tool.specs.Headline.{IsBeforeWriting, IsRunnable, RestartsRead}
 
 -- b in version 2: a log that says the same as b
 pub record IsUpgradedLog (b upgraded : List ℕ) : Type 0 where
@@ -33,4 +33,4 @@ UpgradesLog b old new (Err e) = UpgradesRead b (Err e) × Keeps old new
 abbrev pub UpgradesOnly : Option (List ℕ) → Option (List ℕ) → Result (Unit {0}) Fault → Type 0
 UpgradesOnly old new (Ok done) = (b upgraded : List ℕ) × IsUpgradedLog b upgraded × Appends old new upgraded
 UpgradesOnly old new (Err WriteFailed) = (b upgraded : List ℕ) × IsUpgradedLog b upgraded × AppendsFront old new upgraded
-UpgradesOnly old new (Err e) = Keeps old new
+UpgradesOnly old new (Err e) = IsBeforeWriting e × Keeps old new

@@ -2,17 +2,36 @@
 
 ghost use Rattle.std.specs.Prelude.{◌≡◌, ℕ, ◌<◌, List, Some, IfOk, IfErr};
 ghost use Rattle.rq_model.specs.Fronts.{IsRestart};
+ghost use Rattle.rq_restart.specs.Restarts.{Restarts};
 ghost use Rattle.rq_tool.specs.Streams.{ReadFaults, Takes, WriteFaults};
 ghost use Rattle.rq_tool.specs.Headline.{IsBeforeWriting, RestartsRead, Runs, WritesOnly};
 
 use crate::input::read_log;
 use rq_report::{Input, Output, write_report_by};
-use rq_restart::{Fault, Gate, Plan, Restarted, restart};
+use rq_restart::{Fault, Gate, Plan, Restarted, restart_lent};
 use std::alloc::Global;
 use std::marker::Sync;
+use std::sync::ArcSlice;
 use std::thread::Threads;
 
-// The restart of what the input gives; the bytes are let go.
+// The restart of the bytes that were read. Long payloads are parts of them; what holds none lets them go.
+fn restart_read<R, G>(
+    rt: &R,
+    alloc: Global,
+    bytes: Vec<u8>,
+    plan: &Plan,
+    gate: &G,
+) -> Result<Restarted, Fault>
+where
+    R: Threads + Sync,
+    G: Gate + Sync,
+    ensures { Restarts bytes.items result }
+{
+    let log = ArcSlice::from_vec(bytes)?;
+    restart_lent(rt, alloc, &log, plan, gate)
+}
+
+// The restart of what the input gives.
 fn read_and_restart<R, I, G>(
     rt: &R,
     alloc: Global,
@@ -32,7 +51,7 @@ where
     ensures faults { ReadFaults (I.faults input.old) (I.faults input.new) result }
 {
     let bytes = read_log(alloc, input)?;
-    restart(rt, alloc, &bytes, plan, gate)
+    restart_read(rt, alloc, bytes, plan, gate)
 }
 
 /// Reads the input to its end, but at most 4,294,967,296 bytes, restarts, and writes the report.

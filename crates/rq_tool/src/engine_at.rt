@@ -2,17 +2,37 @@
 
 ghost use Rattle.std.specs.Prelude.{◌≡◌, ℕ, ◌<◌, List, Some, IfOk, IfErr};
 ghost use Rattle.rq_model.specs.Checkpoints.{IsRestartAt, TrueAt};
+ghost use Rattle.rq_restart.specs.Restarts.{RestartsAt};
 ghost use Rattle.rq_tool.specs.Streams.{ReadFaults, Takes, WriteFaults};
 ghost use Rattle.rq_tool.specs.Headline.{IsBeforeWritingAt, IsTold, RestartsAtRead, RunsAt, WritesOnlyAt, WritesReport};
 
 use crate::input::{are_bytes, read_log};
 use rq_report::{Input, Output, write_report_by};
-use rq_restart::{Fault, Gate, Plan, Restarted, restart_at};
+use rq_restart::{Fault, Gate, Plan, Restarted, restart_lent_at};
 use std::alloc::Global;
 use std::marker::Sync;
+use std::sync::ArcSlice;
 use std::thread::Threads;
 
-// The restart of what the input gives, from the checkpoint at an offset; the bytes are let go.
+// The restart of the bytes that were read, from the checkpoint at an offset. Long payloads behind it are parts of them.
+fn restart_read_at<R, G>(
+    rt: &R,
+    alloc: Global,
+    bytes: Vec<u8>,
+    offset: u64,
+    plan: &Plan,
+    gate: &G,
+) -> Result<Restarted, Fault>
+where
+    R: Threads + Sync,
+    G: Gate + Sync,
+    ensures { RestartsAt bytes.items offset result }
+{
+    let log = ArcSlice::from_vec(bytes)?;
+    restart_lent_at(rt, alloc, &log, offset, plan, gate)
+}
+
+// The restart of what the input gives, from the checkpoint at an offset.
 fn read_and_restart_at<R, I, G>(
     rt: &R,
     alloc: Global,
@@ -38,7 +58,7 @@ where
     rq_model::versions();
     let bytes = read_log(alloc, input)?;
     are_bytes(&bytes);
-    restart_at(rt, alloc, &bytes, offset, plan, gate)
+    restart_read_at(rt, alloc, bytes, offset, plan, gate)
 }
 
 /// Reads the input to its end, but at most 4,294,967,296 bytes, restarts from the checkpoint at an offset, and writes the

@@ -1,9 +1,8 @@
 -- A text that is cut at a byte.
-use Rattle.std.proofs.Common.{◌≡◌, ℕ, ◌+◌, ◌<◌, ◌≤◌, Bool, true, false, eqb, List, [], ◌∷◌, ◌++◌, length, get_or, take, drop, Option, Some, None, refl, sym, ap, subst, ◌∙◌, append_assoc, rules}
+use Rattle.std.proofs.Common.{◌≡◌, ℕ, ◌+◌, ◌<◌, Bool, true, false, eqb, List, [], ◌∷◌, ◌++◌, length, get_or, take, drop, Option, Some, refl, sym, ap, subst, ◌∙◌, rules}
 use Rattle.std.specs.List.{AllByRecursion, list_all}
-use Rattle.std.proofs.Math.ListN.{drop_of_length-le}
 use Rattle.std.proofs.lemmas.Bool.{eqb-true, ne_eqb, and_parts}
-use Rattle.std.proofs.lemmas.List.{drop_more, take_more, append-nil}
+use Rattle.std.proofs.lemmas.List.{drop_more, append-nil}
 use Rattle.rq_record.specs.Reading.{◌>>=◌}
 use Rattle.rq_record.proofs.Fields.{bind_some}
 use Rattle.rq_writer.specs.Reading.{cut_at}
@@ -12,36 +11,17 @@ use Rattle.rq_writer.specs.Reading.{cut_at}
 abbrev pub past : List ℕ → Option (List ℕ × List ℕ) → Option (List ℕ × List ℕ)
 past front o = o >>= λ x. Some (front ++ x.0, x.1)
 
-past_step : (front : List ℕ) (c : ℕ) (o : Option (List ℕ × List ℕ)) → past front (o >>= λ x. Some (c ∷ x.0, x.1)) ≡ past (front ++ c ∷ []) o
-past_step front c None = refl
-past_step front c (Some x) = ap (λ (l : List ℕ). Some (l, x.1)) (sym (append_assoc front (c ∷ []) x.0))
-
-pub cut_start : (b : ℕ) (o : Option (List ℕ × List ℕ)) → o ≡ past [] o
-cut_start b None = refl
-cut_start b (Some x) = refl
-
 at_cons : (b c : ℕ) (cs : List ℕ) → eqb c b ≡ false → cut_at b (c ∷ cs) ≡ (cut_at b cs >>= λ x. Some (c ∷ x.0, x.1))
 at_cons b c cs isnt = rw isnt refl
 
 found_cons : (b c : ℕ) (cs : List ℕ) → eqb c b ≡ true → cut_at b (c ∷ cs) ≡ Some ([], cs)
 found_cons b c cs is = rw is refl
 
-pub cut_step : (b : ℕ) (bytes : List ℕ) (at : ℕ) → at < length bytes → eqb (get_or bytes at 0) b ≡ false → cut_at b bytes ≡ past (take at bytes) (cut_at b (drop at bytes)) → cut_at b bytes ≡ past (take (at + 1) bytes) (cut_at b (drop (at + 1) bytes))
-cut_step b bytes at within isnt inv =
-    let c = get_or bytes at 0 in
-    let rest = drop (at + 1) bytes in
-    inv ∙ ap (λ (l : List ℕ). past (take at bytes) (cut_at b l)) (drop_more bytes at 0 within)
-    ∙ ap (past (take at bytes)) (at_cons b c rest isnt) ∙ past_step (take at bytes) c (cut_at b rest)
-    ∙ ap (λ (l : List ℕ). past l (cut_at b rest)) (sym (take_more bytes at 0 within))
-
 pub cut_found : (b : ℕ) (bytes : List ℕ) (at : ℕ) → at < length bytes → eqb (get_or bytes at 0) b ≡ true → cut_at b bytes ≡ past (take at bytes) (cut_at b (drop at bytes)) → cut_at b bytes ≡ Some (take at bytes, drop (at + 1) bytes)
 cut_found b bytes at within is inv =
     inv ∙ ap (λ (l : List ℕ). past (take at bytes) (cut_at b l)) (drop_more bytes at 0 within)
     ∙ ap (past (take at bytes)) (found_cons b (get_or bytes at 0) (drop (at + 1) bytes) is)
     ∙ ap (λ (l : List ℕ). Some (l, drop (at + 1) bytes)) (append-nil (take at bytes))
-
-pub cut_end : (b : ℕ) (bytes : List ℕ) (at : ℕ) → length bytes ≤ at → cut_at b bytes ≡ past (take at bytes) (cut_at b (drop at bytes)) → cut_at b bytes ≡ None
-cut_end b bytes at over inv = inv ∙ ap (λ (l : List ℕ). past (take at bytes) (cut_at b l)) (drop_of_length-le bytes over)
 
 abbrev parts : List ℕ → List ℕ → List ℕ × List ℕ
 parts front rest = (front, rest)

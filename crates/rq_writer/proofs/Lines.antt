@@ -1,5 +1,5 @@
 -- The two laws: what is read is told so, and what is told so is read.
-use Rattle.std.proofs.Common.{◌≡◌, ℕ, ◌≤◌, true, false, cond, List, ◌∷◌, ◌++◌, Option, Some, None, Result, Ok, Err, refl, sym, ap, subst, ◌∙◌, inl, inr, arith}
+use Rattle.std.proofs.Common.{◌≡◌, ℕ, ◌≤◌, true, false, cond, List, ◌∷◌, ◌++◌, Option, Some, None, Result, Ok, Err, refl, ap, subst, ◌∙◌, inl, inr, arith}
 use Rattle.std.specs.Prelude.{codes}
 use Rattle.std.specs.Str.{bytes_eq}
 use Rattle.std.specs.Fmt.{decimal}
@@ -306,7 +306,3 @@ reads version text (Err faults.NoCheckpoint) g = absurd g
 reads version text (Err (faults.Script n)) g = absurd g
 reads version text (Err faults.ReadFailed) g = absurd g
 reads version text (Err faults.WriteFailed) g = absurd g
-
--- a text tells at most one line
-pub one_line : (version : Version) (l m : Line) (text : List ℕ) → Tells version l text → Tells version m text → l ≡ m
-one_line version l m text s t = some_is l m (sym (ap (line_at version) s.1 ∙ line_again version l s.0) ∙ ap (line_at version) t.1 ∙ line_again version m t.0)

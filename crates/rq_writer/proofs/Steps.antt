@@ -1,8 +1,8 @@
 -- One line of a script after the other.
-use Rattle.std.proofs.Common.{◌≡◌, ℕ, ◌+◌, ◌-◌, ◌<◌, ◌≤◌, List, [], ◌∷◌, ◌++◌, length, drop, Some, Result, Ok, Err, refl, sym, ap, subst, ◌∙◌, append_assoc, arith}
+use Rattle.std.proofs.Common.{◌≡◌, ℕ, ◌+◌, ◌-◌, ◌<◌, ◌≤◌, List, [], ◌∷◌, ◌++◌, length, drop, Some, Result, Ok, Err, sym, ap, subst, ◌∙◌, append_assoc, arith}
 use Rattle.std.specs.Prelude.{⊤, OnOk, IfErr}
 use Rattle.std.specs.List.{AllByRecursion}
-use Rattle.std.proofs.lemmas.List.{nil_from_length, length-append, drop_at, append-nil, flat_map_more}
+use Rattle.std.proofs.lemmas.List.{length-append, drop_at, append-nil, flat_map_more}
 use Rattle.rq_model.specs.Records.{Record, Version}
 use Rattle.rq_model.specs.Spelling.{IsRecord, body_of}
 use Rattle.rq_model.specs.Frames.{log_limit, frame, start, magic, header, log_of, last_of}
@@ -17,7 +17,7 @@ use Rattle.rq_record.specs.declared.record.Record as code
 use Rattle.rq_writer.specs.Script.{Line, Told, Spelled, IsLine, Tells, line_text}
 use Rattle.rq_writer.specs.Reading.{cut_at}
 use Rattle.rq_writer.specs.Made.{Adds, AreAdded, Begins, Made, script_of, ended}
-use Rattle.rq_writer.specs.Fronts.{Follows, SpellsFront}
+use Rattle.rq_writer.specs.Fronts.{Follows}
 use Rattle.rq_writer.specs.Making.{Holds, NextLine, RecordOf, Framed, LineMade, Making}
 use Rattle.rq_writer.specs.declared.front.Front.{Front}
 use Rattle.rq_writer.specs.declared.log.Log.{Log}
@@ -74,19 +74,6 @@ framed_log : (version : Version) → LogJoins → (log : Log) (rs : List Record)
 framed_log version joins log rs r h = (λ i. h.made i ++ frame (h.last i) (body_of r)) ∙ sym (log_added version joins rs r)
 
 -- One record.
-
-pub spelled_record : (version : Version) (number : ℕ) (text : List ℕ) (old new : Front) (res : Result code.Record Fault) → Tells version Spelled text → SpellsFront version old new res → RecordOf version number text old new res
-spelled_record version number text old new (Ok r) is s = (Spelled, is, s)
-spelled_record version number text old new (Err faults.TooLarge) is s = (is.1, s)
-spelled_record version number text old new (Err faults.Resources) is s = tt
-spelled_record version number text old new (Err faults.Form) is s = absurd s
-spelled_record version number text old new (Err faults.NotALog) is s = absurd s
-spelled_record version number text old new (Err faults.TooLong) is s = absurd s
-spelled_record version number text old new (Err faults.BadCheckpoint) is s = absurd s
-spelled_record version number text old new (Err faults.NoCheckpoint) is s = absurd s
-spelled_record version number text old new (Err (faults.Script n)) is s = absurd s
-spelled_record version number text old new (Err faults.ReadFailed) is s = absurd s
-spelled_record version number text old new (Err faults.WriteFailed) is s = absurd s
 
 pub no_record : (version : Version) (A : Type 0) (number : ℕ) (text : List ℕ) (old new : Log) (front : Front) (e : Fault) → RecordOf version number text old.front front (Err e) → LineMade {A = A} version number text old new (Err e)
 no_record version A number text old new front (faults.Script n) r = r
@@ -161,14 +148,6 @@ told_more version (m ∷ ls) l all one = (all.0, told_more version ls l all.1 on
 line_is : (rest : List ℕ) (x : List ℕ × List ℕ) (l : Line) → Some x ≡ cut_at 10 rest → x.0 ≡ line_text l → rest ≡ ended l ++ x.1
 line_is rest x l found e = cut_takes 10 rest x (sym found) ∙ ap (λ (t : List ℕ). t ++ 10 ∷ x.1) e ∙ sym (append_assoc (line_text l) (10 ∷ []) x.1)
 
-pub making_starts : (version : Version) (script : List ℕ) (log : Log) → Holds version log [] → Making version script 0 log script [] []
-making_starts version script log h = record {
-  begins = record { lines = tt; whole = refl; added = refl; fits = h.logged.fits };
-  number = refl;
-  small = omega arith;
-  holds = h;
-}
-
 pub making_more : (version : Version) (script : List ℕ) (n : ℕ) (old new : Log) (rest : List ℕ) (x : List ℕ × List ℕ) (ls : List Line) (rs : List Record) (l : Line) (r : Record) → Making version script n old rest ls rs → Some x ≡ cut_at 10 rest → Tells version l x.0 → Adds version rs l r → Holds version new (rs ++ r ∷ [])
     → Making version script (n + 1) new x.1 (ls ++ l ∷ []) (rs ++ r ∷ [])
 making_more version script n old new rest x ls rs l r m found tells adds h =
@@ -185,9 +164,6 @@ making_more version script n old new rest x ls rs l r m found tells adds h =
       small = omega (arith, m.small, ap length cut, length-append x.0 (10 ∷ x.1));
       holds = h;
     }
-
-pub making_ends : (version : Version) (script : List ℕ) (n : ℕ) (log : Log) (rest : List ℕ) (ls : List Line) (rs : List Record) → Making version script n log rest ls rs → length rest ≡ 0 → Begins version script ls rs [] × (log.out.items ≡ log_of version rs)
-making_ends version script n log rest ls rs m none = (subst (λ (t : List ℕ). Begins version script ls rs t) (nil_from_length rest none) m.begins, m.holds.made)
 
 pub no_line_stops : {X : Type 0} (version : Version) (view : X → List ℕ × List ℕ) {Y : Type 0} (bytes : Y → List ℕ) (script : List ℕ) (n : ℕ) (log : Log) (rest : List ℕ) (ls : List Line) (rs : List Record) (e : Fault) → Making version script n log rest ls rs → 0 < length rest → NextLine view (n + 1) rest (Err e) → Made version bytes script (Err e)
 no_line_stops version view bytes script n log rest ls rs (faults.Script k) m some stop =

@@ -70,7 +70,8 @@ fn hex(alloc: Global, limit: usize, text: &[u8]) -> Result<Vec<u8>, Fault>
 pub(crate) fn payload(alloc: Global, text: &[u8]) -> Result<Payload, Fault>
     ensures { Gives (λ x. x) result (spec.hex_of 65535 text.now) }
 {
-    match Payload::new(hex(alloc, 65535, text)?) {
+    let bytes = hex(alloc, 65535, text)?;
+    match Payload::from_slice(alloc, &bytes)? {
         Some(payload) => Ok(payload),
         None => Err(Fault::Form),
     }

@@ -1,6 +1,8 @@
 //! Names, what a checkpoint spells, and bodies.
 
-use rq_record::{By, CheckBytes, Fault, KeptBy, KeptName, Name, decode};
+use rq_record::{By, CheckBytes, Fault, KeptBy, KeptName, LentLog, Name, Payload, QueueNo, Record, UnitNo, Version, decode, decode_at, encode};
+use std::alloc::Global;
+use std::sync::ArcSlice;
 use std::test::Fail;
 
 #[test]
@@ -23,5 +25,62 @@ fn names_of_each_length_are_kept(rt: HostRuntime) -> Result<(), Fail> {
         assert_eq!(rt; by.by().ok_or("nobody")?.tag, 70);
     }
     assert!(rt; KeptBy::of(rt.alloc(), &None)?.by().is_none());
+    Ok(())
+}
+
+/// The bytes of an element's payload of a length, between a byte before and a byte behind, as the body of its ENQUEUE has them.
+fn body_among_others(alloc: Global, length: usize) -> Result<Vec<u8>, Fail> {
+    let payload = Vec::from_elem(alloc, b'p', length)?;
+    let record = Record::Enqueue {
+        priority: 5,
+        queue: QueueNo(0),
+        unit: UnitNo(1),
+        by: KeptBy::of(alloc, &None)?,
+        payload: Payload::from_slice(alloc, &payload)?.ok_or("too long")?,
+    };
+    let mut bytes = Vec::new(alloc);
+    bytes.push(0)?;
+    encode(&record, &mut bytes)?;
+    bytes.push(0)?;
+    Ok(bytes)
+}
+
+/// How many bytes the payload has that is read of a body among others, all of them as they were written, and how many more
+/// hold the lent log then.
+fn read_of(alloc: Global, bytes: &[u8], log: &ArcSlice<u8>) -> Result<(usize, usize), Fail> {
+    let lent = LentLog::of(log)?;
+    let before = ArcSlice::strong_count(log);
+    let len = bytes.len().saturating_sub(2);
+    if bytes.len() < len.saturating_add(1) {
+        return Err("no body".into());
+    }
+    let record = decode_at(alloc, Version::One, &lent, bytes, 1, len)?;
+    let Record::Enqueue { payload, .. } = &record else {
+        return Err("another record".into());
+    };
+    if payload.bytes().iter().any(|byte| *byte != b'p') {
+        return Err("another payload".into());
+    }
+    let more = ArcSlice::strong_count(log).saturating_sub(before);
+    Ok((payload.bytes().len(), more))
+}
+
+#[test]
+fn a_long_payload_is_a_part_of_the_log_that_is_lent(rt: HostRuntime) -> Result<(), Fail> {
+    for (length, more) in [(0, 0), (22, 0), (23, 1), (65_535, 1)] {
+        let bytes = body_among_others(rt.alloc(), length)?;
+        let log = ArcSlice::from_slice(rt.alloc(), &bytes)?;
+        assert_eq!(rt; read_of(rt.alloc(), &bytes, &log)?, (length, more));
+    }
+    Ok(())
+}
+
+#[test]
+fn a_payload_that_is_no_part_of_the_log_that_is_lent_is_a_copy(rt: HostRuntime) -> Result<(), Fail> {
+    let bytes = body_among_others(rt.alloc(), 100)?;
+    for other in [&[b'q'; 200][..], &[b'p'; 60][..], &[][..]] {
+        let log = ArcSlice::from_slice(rt.alloc(), other)?;
+        assert_eq!(rt; read_of(rt.alloc(), &bytes, &log)?, (100, 0));
+    }
     Ok(())
 }

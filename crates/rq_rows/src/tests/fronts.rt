@@ -3,7 +3,7 @@
 use super::scripts::{CHECKPOINT, ONE_ELEMENT};
 use super::{PLANS, answer, lines, log_of};
 use rq_restart::front_state;
-use rq_state::spell;
+use rq_state::{spell, spelled_len};
 use rq_tool::{Command, Fault, Plan};
 use sha2::{Digest, Sha256};
 use std::test::Fail;
@@ -45,6 +45,7 @@ fn the_state_after_a_front_has_its_open_units(rt: HostRuntime) -> Result<(), Fai
         let plan = Plan::new(workers, grain).ok_or("plan")?;
         let state = front_state(&rt, rt.alloc(), &log, &plan)?;
         assert_eq!(rt; state.next(), 8);
+        assert!(rt; spelled_len(&state) == 195);
         let spelled = spell(rt.alloc(), &state)?;
         assert!(rt; spelled.as_slice() == want, "{workers} workers");
     }
@@ -57,6 +58,7 @@ fn a_front_of_nothing_has_the_empty_state(rt: HostRuntime) -> Result<(), Fail> {
     let plan = Plan::new(2, 1).ok_or("plan")?;
     let state = front_state(&rt, rt.alloc(), &log, &plan)?;
     assert_eq!(rt; state.next(), 0);
+    assert!(rt; spelled_len(&state) == 52);
     let spelled = spell(rt.alloc(), &state)?;
     assert!(rt; spelled.as_slice() == [0u8; 52].as_slice());
     let short = front_state(&rt, rt.alloc(), log.get(..39).ok_or("log")?, &plan);

@@ -64,7 +64,7 @@ fn appends<R: Threads + Sync + AllocGlobal>(
         queue: QueueNo(0),
         priority: 5,
         by: KeptBy::of(alloc, &None)?,
-        payload: Payload::new(Vec::from_elem(alloc, 0x61, 500)?).ok_or("payload")?,
+        payload: Payload::from_slice(alloc, &[0x61; 500])?.ok_or("payload")?,
     };
     let mut appending = Appending {
         what,

@@ -32,7 +32,7 @@ fn dequeue(alloc: Global, unit: u64, queue: u32, by: Option<By>) -> Result<Recor
 /// An element leaves its queue by an abort, and its error queue by another, for the end of the chain, where a registrant that
 /// is still at work takes it.
 fn chained(alloc: Global) -> Result<Vec<Record>, Fail> {
-    let payload = Payload::new(Vec::from_slice(alloc, b"a")?).ok_or("payload")?;
+    let payload = Payload::from_slice(alloc, b"a")?.ok_or("payload")?;
     let ann = Name::new(b"ann").ok_or("name")?;
     let unit = UnitNo(1);
     let queue = QueueNo(2);

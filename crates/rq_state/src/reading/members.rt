@@ -141,8 +141,7 @@ fn kept_payload(alloc: Global, bytes: &[u8]) -> Result<Payload, Fault>
     requires { length bytes.now ≤ 65535 }
     ensures { Gives (λ x. x) result (Some bytes.now) }
 {
-    let kept = Vec::from_slice(alloc, bytes)?;
-    match Payload::new(kept) {
+    match Payload::from_slice(alloc, bytes)? {
         Some(payload) => Ok(payload),
         None => Err(Fault::BadCheckpoint),
     }

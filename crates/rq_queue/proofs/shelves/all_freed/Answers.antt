@@ -4,7 +4,7 @@ use Rattle.std.proofs.lemmas.Iterator.Adapters.{YieldsList-from_vec}
 use Rattle.std.proofs.lemmas.List.{append-nil}
 use Rattle.rq_model.specs.States.{Element}
 use Rattle.rq_queue.specs.Kept.{Frees, unheld}
-use Rattle.rq_queue.proofs.Doing.{as_they_are, freed_step, unheld_more, unheld_less}
+use Rattle.rq_queue.proofs.Doing.{as_they_are, freed_step, unheld_more, held_dropped}
 use Rattle.rq_queue.proofs.shelves.all_freed.Goals as goal
 
 pub loop-e-preserved-then-not-is_held : goal.loop-e-preserved-then-not-is_held
@@ -15,12 +15,15 @@ loop-e-preserved-then-not-is_held c = λ rest others s.
     (unheld_more c.args.unit.0 e c.unmarked.result rest c.unmarked.ensures (sym c.is_held.ensures ∙ c.if-not-is_held.true))
     (c.loop-e.invariant (e ∷ rest) others (s ∙ append_assoc c.loop-e.yielded (e ∷ []) rest)))
 
+pub loop-e-preserved-else-not-is_held : goal.loop-e-preserved-else-not-is_held
+loop-e-preserved-else-not-is_held c = λ rest others s.
+    held_dropped c.args.unit.0 c.in-Some.e rest others (unheld c.args.unit.0 c.args.list.items) c.args.free.entries c.loop-e.free.entries (sym c.is_held.ensures ∙ c.if-not-is_held.false)
+    (c.loop-e.invariant (c.in-Some.e ∷ rest) others (s ∙ append_assoc c.loop-e.yielded (c.in-Some.e ∷ []) rest))
+
 pub loop-e-preserved : goal.loop-e-preserved
 loop-e-preserved c = λ rest others s.
-    let e = c.in-Some.e in
-    subst (λ (xs : List Element). Frees others c.args.free.entries (unheld c.args.unit.0 c.args.list.items) c.loop-e.free.entries xs)
-    (unheld_less c.args.unit.0 e rest (sym c.is_held.ensures ∙ c.if-not-is_held.false))
-    (c.loop-e.invariant (e ∷ rest) others (s ∙ append_assoc c.loop-e.yielded (e ∷ []) rest))
+    held_dropped c.args.unit.0 c.in-Some.e rest others (unheld c.args.unit.0 c.args.list.items) c.args.free.entries c.loop-e.free.entries (sym c.is_held.ensures ∙ c.if-not-is_held.false)
+    (c.loop-e.invariant (c.in-Some.e ∷ rest) others (s ∙ append_assoc c.loop-e.yielded (c.in-Some.e ∷ []) rest))
 
 pub returns-clause-freed : goal.returns-clause-freed
 returns-clause-freed c =

@@ -5,7 +5,7 @@ use Rattle.std.proofs.lemmas.List.{append-nil}
 use Rattle.rq_model.specs.States.{Element, is_fresh}
 use Rattle.rq_model.specs.Machine.{leaves}
 use Rattle.rq_queue.specs.Kept.{Frees, staying}
-use Rattle.rq_queue.proofs.Doing.{as_they_are, freed_step, staying_more, staying_less, leaves_no_more, fresh_no_more, pass_more, pass_less}
+use Rattle.rq_queue.proofs.Doing.{as_they_are, freed_step, staying_more, staying_less, leaves_no_more, fresh_dropped, pass_more, pass_less}
 use Rattle.rq_queue.proofs.shelves.all_returned.Goals as goal
 
 pub loop-e-preserved-in-Continue-1 : goal.loop-e-preserved-in-Continue-1
@@ -37,18 +37,28 @@ loop-e-preserved-then-not-is_fresh c =
       leaving = pass_less (leaves home unit) c.loop-e.yielded e c.loop-e.leaving.items c.loop-e.invariant.leaving here;
     }
 
+pub loop-e-preserved-else-not-is_fresh : goal.loop-e-preserved-else-not-is_fresh
+loop-e-preserved-else-not-is_fresh c =
+    let e = c.in-Some.e in
+    let home = c.args.home.now in
+    let unit = c.args.unit.0 in
+    record {
+      freed = λ rest others s.
+          fresh_dropped home unit e rest others (staying home unit c.args.list.items) c.args.free.entries c.loop-e.free.entries (sym c.is_fresh.ensures ∙ c.if-not-is_fresh.false)
+          (c.loop-e.invariant.freed (e ∷ rest) others (s ∙ append_assoc c.loop-e.yielded (e ∷ []) rest));
+      leaving = pass_less (leaves home unit) c.loop-e.yielded e c.loop-e.leaving.items c.loop-e.invariant.leaving (sym c.leaves.ensures ∙ c.if-leaves.false);
+    }
+
 pub loop-e-preserved : goal.loop-e-preserved
 loop-e-preserved c =
     let e = c.in-Some.e in
     let home = c.args.home.now in
     let unit = c.args.unit.0 in
-    let here = sym c.leaves.ensures ∙ c.if-leaves.false in
     record {
       freed = λ rest others s.
-          subst (λ (xs : List Element). Frees others c.args.free.entries (staying home unit c.args.list.items) c.loop-e.free.entries xs)
-          (staying_less home unit e rest (fresh_no_more (is_fresh unit e.mark) (leaves home unit e) (sym c.is_fresh.ensures ∙ c.if-not-is_fresh.false)))
+          fresh_dropped home unit e rest others (staying home unit c.args.list.items) c.args.free.entries c.loop-e.free.entries (sym c.is_fresh.ensures ∙ c.if-not-is_fresh.false)
           (c.loop-e.invariant.freed (e ∷ rest) others (s ∙ append_assoc c.loop-e.yielded (e ∷ []) rest));
-      leaving = pass_less (leaves home unit) c.loop-e.yielded e c.loop-e.leaving.items c.loop-e.invariant.leaving here;
+      leaving = pass_less (leaves home unit) c.loop-e.yielded e c.loop-e.leaving.items c.loop-e.invariant.leaving (sym c.leaves.ensures ∙ c.if-leaves.false);
     }
 
 pub returns-clause-freed : goal.returns-clause-freed

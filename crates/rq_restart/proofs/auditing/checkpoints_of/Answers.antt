@@ -1,9 +1,7 @@
 use Rattle.std.proofs.Common.{◌≡◌, ◌≤◌, true, ◌+◌, List, length, map, drop, ap, sym, subst, ◌∙◌, arith, rules}
 use Rattle.std.proofs.lemmas.List.{length-map, take_all}
-use Rattle.std.specs.List.{AllByRecursion}
 use Rattle.rq_model.specs.Records.{Two}
 use Rattle.rq_model.specs.Machine.{all_lawful}
-use Rattle.rq_model.specs.Spelling.{IsRecord}
 use Rattle.rq_model.specs.States.{State, empty}
 use Rattle.rq_model.specs.Checkpoints.{IsAudit}
 use Rattle.rq_record.specs.declared.record.Record.{Record}
@@ -14,18 +12,12 @@ use Rattle.rq_restart.specs.Ends.{IsFrontFrom}
 use Rattle.rq_restart.specs.Views.{why_of}
 use Rattle.rq_restart.specs.Audits.{IsWalk, StandAt, audited_of, audits}
 use Rattle.rq_restart.proofs.Starts.{started, whole_front}
-use Rattle.rq_restart.proofs.Audits.{AuditLaws, is_audit, records_in_two}
+use Rattle.rq_restart.proofs.Audits.{AuditLaws, is_audit}
 use Rattle.rq_restart.proofs.Walks.{stand_at}
 use Rattle.rq_restart.proofs.auditing.checkpoints_of.Goals as goal
 
 pub loop-place-init : goal.loop-place-init
 loop-place-init g c = c.first-walk.ensures (map record_of c.in_ok-front.front.records.items)
-
-pub visit-requires-clause-form : goal.visit-requires-clause-form
-visit-requires-clause-form g c κs within =
-    let from = c.in_ok-front.ensures.front 40 c.requires.chain in
-    let rs = map record_of c.in_ok-front.front.records.items in
-    subst (λ (rs : List Record). AllByRecursion (IsRecord Two) (map record_of rs)) (sym c.deref.ensures.value) (records_in_two c.versions.ensures.wider (version_of c.args.version) rs from.longest.begins.records)
 
 pub visit-requires-clause-lawful : goal.visit-requires-clause-lawful
 visit-requires-clause-lawful g c κs within =

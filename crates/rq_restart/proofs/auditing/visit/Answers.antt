@@ -1,20 +1,19 @@
 use Rattle.std.proofs.Common.{◌≡◌, ℕ, ◌+◌, ◌-◌, ◌^◌, ◌≤◌, ◌<◌, List, length, map, take, drop, false, refl, ap, subst, ◌∙◌, arith}
 use Rattle.std.specs.Prelude.{slice_index_or, nat_eq, nat_lt, not, ◌&&◌}
 use Rattle.std.specs.Int.{w64, to_be_bytes}
-use Rattle.std.specs.List.{starts_with, flat_map}
+use Rattle.std.specs.List.{starts_with}
 use Rattle.std.specs.Str.{bytes_eq}
 use Rattle.std.proofs.lemmas.List.{length-map, length-take, length-drop}
-use Rattle.rq_model.specs.States.{State, Element, empty}
+use Rattle.rq_model.specs.States.{State, empty}
 use Rattle.rq_model.specs.Machine.{run}
 use Rattle.rq_model.specs.StateSpelling.{state_bytes}
 use Rattle.rq_record.specs.Views.{record_of}
 use Rattle.rq_front.specs.declared.spans.Span.{Span}
 use Rattle.rq_restart.specs.Audits.{IsWalk, Passes, audited_of, least}
 use Rattle.std.proofs.lemmas.Result.{IfOk-weaker}
-use Rattle.rq_restart.specs.Worth.{KeepsAllBut, payload_bytes}
+use Rattle.rq_restart.specs.Worth.{KeepsAllBut}
 use Rattle.rq_restart.proofs.Walks.{next_at, lawful_between, run_between, found_past, found_next}
-use Rattle.rq_restart.proofs.Worth.{nothing_lost}
-use Rattle.rq_restart.proofs.Tallies.{fit_at, lost_within, loss_kept, passed, tally_kept, no_spelling, within_more}
+use Rattle.rq_restart.proofs.Tallies.{rising_at, lost_within, loss_kept, passed, tally_kept, no_spelling, within_more}
 use Rattle.rq_restart.proofs.auditing.visit.Goals as goal
 
 pub pass-requires-clause-counts : goal.pass-requires-clause-counts
@@ -27,11 +26,11 @@ pub returns-in_default : goal.returns-in_default
 returns-in_default g c =
     let records = c.args.records.now in
     let r = c.index-records-place-in_default.result in
-    let fit = fit_at (map record_of records) c.args.place c.runs_are_well_formed.ensures.start c.runs_are_well_formed.ensures.runs c.runs_fit.ensures c.requires.form c.requires.lawful in
+    let rise = rising_at (map record_of records) c.args.place c.runs_are_well_formed.ensures.start c.runs_are_well_formed.ensures.runs c.requires.lawful in
     let found = found_past records c.args.place c.index-records-place.result c.args.walk.found.items c.requires.there c.index-records-place.is c.in_default.not-Checkpoint c.requires.walk.found in
     record {
       walk = IfOk-weaker c.pass.result (Passes c.args.walk r) (IsWalk (map record_of records) (c.args.place + 1))
-          (λ v p. passed records c.args.place r c.args.walk v c.requires.there c.requires.few c.index-records-place-in_default.is fit c.requires.walk p found) c.pass.ensures.passed;
+          (λ v p. passed records c.args.place r c.args.walk v c.requires.there c.requires.few c.index-records-place-in_default.is rise c.requires.walk p found) c.pass.ensures.passed;
       refused = c.pass.ensures.refused;
     }
 
@@ -78,8 +77,7 @@ returns-then-not-may_spell-clause-walk g c =
     record {
       within = omega (arith, c.requires.walk.within);
       state = c.requires.walk.state;
-      carried = c.requires.walk.carried;
-      tally = tally_kept records c.args.place r c.in-Checkpoint.bytes c.args.walk.tally c.requires.there c.index-records-place.is c.in-Checkpoint.is (fit_at (map record_of records) c.args.place c.runs_are_well_formed.ensures.start c.runs_are_well_formed.ensures.runs c.runs_fit.ensures c.requires.form c.requires.lawful) c.requires.walk.tally;
+      tally = tally_kept records c.args.place r c.in-Checkpoint.bytes c.args.walk.tally c.requires.there c.index-records-place.is c.in-Checkpoint.is (rising_at (map record_of records) c.args.place c.runs_are_well_formed.ensures.start c.runs_are_well_formed.ensures.runs c.requires.lawful) c.requires.walk.tally;
       counts = within_more c.args.walk.tally c.args.place (c.args.place + 1) (omega arith) c.requires.walk.counts;
       few = omega (arith, c.requires.walk.few);
       lost = loss_kept records c.args.place r c.in-Checkpoint.bytes c.args.walk.lost c.args.walk.state c.requires.there c.index-records-place.is c.in-Checkpoint.is c.requires.walk.lost;
@@ -99,16 +97,14 @@ returns-clause-walk g c =
     let test : c.in_ok-truth.truth ≡ bytes_eq c.in-Checkpoint.bytes (state_bytes c.in_ok-state.state) =
     c.in_ok-truth.ensures.truth ∙ ap (λ (z : List ℕ). bytes_eq z (state_bytes c.in_ok-state.state)) c.bytes-kept.ensures.bytes in
     let r = c.index-records-place.result in
-    let carried : c.payload_bytes_of.result ≡ payload_bytes c.in_ok-state.state = c.payload_bytes_of.ensures ∙ ap (λ (es : List Element). length (flat_map (λ e. e.payload) es)) c.elements.ensures in
     record {
       within = omega arith;
       state = state;
-      carried = carried;
       tally = tally_kept records c.args.place r c.in-Checkpoint.bytes c.args.walk.tally c.requires.there c.index-records-place.is c.in-Checkpoint.is
-          (fit_at (map record_of records) c.args.place c.runs_are_well_formed.ensures.start c.runs_are_well_formed.ensures.runs c.runs_fit.ensures c.requires.form c.requires.lawful) c.requires.walk.tally;
+          (rising_at (map record_of records) c.args.place c.runs_are_well_formed.ensures.start c.runs_are_well_formed.ensures.runs c.requires.lawful) c.requires.walk.tally;
       counts = within_more c.args.walk.tally c.args.place (c.args.place + 1) (omega arith) c.requires.walk.counts;
       few = omega arith;
-      lost = loss_kept records c.args.place r c.in-Checkpoint.bytes 0 c.in_ok-state.state c.requires.there c.index-records-place.is c.in-Checkpoint.is (subst (λ (t : State). KeepsAllBut 0 c.in_ok-state.state t) state (nothing_lost c.in_ok-state.state));
+      lost = loss_kept records c.args.place r c.in-Checkpoint.bytes 0 c.in_ok-state.state c.requires.there c.index-records-place.is c.in-Checkpoint.is (subst (λ (t : State). KeepsAllBut 0 c.in_ok-state.state t) state (omega arith));
       found = ap (map audited_of) c.in_ok-push-2.ensures.items
           ∙ found_next records c.args.place c.index-records-place.result c.in-Checkpoint.bytes c.args.walk.found.items (slice_index_or c.args.spans.now c.args.place none).start c.in_ok-truth.truth c.in_ok-state.state
           c.requires.there c.index-records-place.is c.in-Checkpoint.is c.requires.walk.found ((c.requires.spans c.args.place few).1 none) state test;

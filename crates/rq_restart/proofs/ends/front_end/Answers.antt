@@ -1,15 +1,20 @@
-use Rattle.std.proofs.Common.{map, refl, arith}
-use Rattle.std.proofs.lemmas.List.{length-map}
-use Rattle.rq_record.specs.Views.{record_of, version_of}
+use Rattle.std.proofs.Common.{refl, arith}
+use Rattle.rq_record.specs.Views.{version_of}
 use Rattle.rq_restart.specs.Views.{why_of}
 use Rattle.rq_restart.proofs.FrontEnds.{found}
+use Rattle.rq_restart.proofs.Passes.{front_is}
 use Rattle.rq_restart.proofs.ends.front_end.Goals as goal
+
+pub finish-requires-clause-passes : goal.finish-requires-clause-passes
+finish-requires-clause-passes g c κs within =
+    (version_of c.in_ok-version.version, c.new-pass.ensures c.args.bytes.now c.in_ok-version.ensures.header)
 
 pub returns : goal.returns
 returns g c =
+    let version = version_of c.in_ok-version.version in
     let b = c.args.bytes.now in
-    let front = c.in_ok-_version.front in
-    let is = c.in_ok-_version.ensures in
-    let rs = map record_of front.records.items in
-    found (version_of c.in_ok-_version._version) c.frames_join.ensures.end c.numbers_after.ensures c.runs_are_well_formed.ensures.start b rs front.end (why_of front.why) is.short is.header is.front
-    _ (omega (arith, c.len.ensures, length-map front.records.items record_of)) refl refl refl
+    let head = c.in_ok-version.ensures.header in
+    let stop = c.in_ok-why.ensures.stops version (c.new-pass.ensures b head) in
+    let front = front_is version c.frames_join.ensures.end c.one_front.ensures.stops b c.finish.new.self (why_of c.in_ok-why.why) head stop in
+    found version c.frames_join.ensures.end c.numbers_after.ensures c.runs_are_well_formed.ensures.start b stop.0 c.finish.new.self.place (why_of c.in_ok-why.why) c.in_ok-version.ensures.short head front
+    _ (omega (arith, stop.1.count)) refl refl refl

@@ -1,8 +1,7 @@
 use Rattle.std.proofs.Common.{◌≡◌, sym, ap, subst, arith, map}
 use Rattle.rq_model.specs.States.{State, empty}
 use Rattle.rq_restart.specs.Audits.{audited_of}
-use Rattle.rq_restart.specs.Worth.{payload_bytes, KeepsAllBut}
-use Rattle.rq_restart.proofs.Worth.{nothing_lost}
+use Rattle.rq_restart.specs.Worth.{KeepsAllBut}
 use Rattle.rq_restart.proofs.Tallies.{before_first}
 use Rattle.rq_restart.proofs.auditing.Walk.first.Goals as goal
 
@@ -13,10 +12,9 @@ returns c = λ rs.
     record {
       within = omega arith;
       state = state;
-      carried = sym (ap payload_bytes state);
       tally = tally.0;
       counts = tally.1;
       few = omega arith;
-      lost = subst (λ (t : State). KeepsAllBut 0 t empty) (sym state) (nothing_lost empty);
+      lost = subst (λ (t : State). KeepsAllBut 0 t empty) (sym state) (omega arith);
       found = ap (map audited_of) c.new-found.ensures.items;
     }

@@ -1,0 +1,199 @@
+//! Whether records are lawful, one after the other.
+
+ghost use Rattle.std.specs.Prelude.{◌≡◌, ℕ, ◌<◌, ◌&&◌, ◌++◌, ◌∷◌, [], List, IfOk, IfErr, OnOk, length, if◌then◌else◌, cond, true, nat_eq, nat_lt};
+ghost use Rattle.std.specs.Cmp.Lexicographic.{pointwise};
+ghost use Rattle.indexmap.specs.IndexSet.{contains};
+ghost use Rattle.rq_model.specs.Records as records;
+ghost use Rattle.rq_model.specs.Records.{Kill};
+ghost use Rattle.rq_model.specs.Machine as machine;
+ghost use Rattle.rq_model.specs.States.{State, empty};
+ghost use Rattle.rq_record.specs.Views.{record_of, version_of};
+ghost use Rattle.rq_record.specs.declared.fault.Fault.TheVariants.{Resources};
+ghost use Rattle.rq_catalog.specs.Judges.{Knows, StandsIn, Keeps, Notes};
+
+use indexmap::IndexSet;
+use rq_record::{Fault, KeptBy, Name, QueueNo, Record, Version};
+use std::alloc::Global;
+
+/// Says of records, one after the other, whether each is lawful behind the lawful ones before it. It keeps what
+/// lawfulness looks at alone, which is queues, registrants and open units: so it does not grow with the records.
+#[derive(Drop)]
+pub struct Judge {
+    version: Version,
+    names: IndexSet<Name>,
+    errors: Vec<u32>,
+    registrants: IndexSet<(u32, Name)>,
+    greatest: u64,
+    units: IndexSet<u64>,
+}
+
+impl Judge {
+    /// The judge by the rules of the version, before any record. Takes no memory yet.
+    pub fn new(alloc: Global, version: Version) -> Judge
+        ensures { StandsIn (version_of version) result empty }
+    {
+        Judge {
+            version,
+            names: IndexSet::new(alloc),
+            errors: Vec::new(alloc),
+            registrants: IndexSet::new(alloc),
+            greatest: 0,
+            units: IndexSet::new(alloc),
+        }
+    }
+
+    /// The version by whose rules it judges.
+    pub fn version(&self) -> Version
+        ensures { (version : records.Version) (s : State) → StandsIn version self.now s → version_of result ≡ version }
+    {
+        self.version
+    }
+
+    /// Whether the record is lawful behind those that were taken; where it is, it is taken. Refused with `Resources` alone,
+    /// and then nothing is taken.
+    pub fn take(&mut self, next: &Record) -> Result<bool, Fault>
+        ensures lawful { IfOk result (λ lawful. (version : records.Version) (s : State) → StandsIn version self.old s → lawful ≡ machine.is_lawful version s (record_of next.now)) }
+        ensures stands { IfOk result (λ lawful. (version : records.Version) (s : State) → StandsIn version self.old s → StandsIn version self.new (if lawful then machine.step s (record_of next.now) else s)) }
+        ensures refused { IfErr result (λ e. e ≡ Resources) }
+        ensures kept { IfErr result (λ e. Keeps self.old self.new) }
+    {
+        let is_lawful = self.may_take(next);
+        if is_lawful {
+            self.note(next)?;
+        }
+        Ok(is_lawful)
+    }
+
+    fn may_take(&self, next: &Record) -> bool
+        ensures { (s : State) → Knows self.now s → result ≡ machine.is_lawful (version_of self.now.version) s (record_of next.now) }
+    {
+        match next {
+            Record::Define { limit, error, name } => {
+                self.is_limit(*limit, *error)
+                    && self.errors.len() < 4096
+                    && !self.names.contains(&name.name())
+            }
+            Record::Register { queue, .. } => self.is_defined(*queue),
+            Record::Deregister { queue, name } => self.is_registered(*queue, name.name()),
+            Record::Begin { unit } => self.greatest < unit.0,
+            Record::Enqueue {
+                unit,
+                queue,
+                by,
+                ..
+            } => self.may_engage(unit.0, *queue, by),
+            Record::Dequeue { unit, queue, by } => self.may_engage(unit.0, *queue, by),
+            Record::Commit { unit } => self.units.contains(&unit.0),
+            Record::Abort { unit } => self.units.contains(&unit.0),
+            Record::Checkpoint { .. } => true,
+            Record::Kill { queue, .. } => self.may_kill(*queue),
+        }
+    }
+
+    fn is_defined(&self, queue: QueueNo) -> bool
+        ensures many { result ≡ nat_lt queue.0 (length self.now.errors.items) }
+        ensures state { (s : State) → Knows self.now s → result ≡ machine.is_defined s queue.0 }
+    {
+        (queue.0 as usize) < self.errors.len()
+    }
+
+    fn is_registered(&self, queue: QueueNo, name: Name) -> bool
+        ensures { (s : State) → Knows self.now s → result ≡ machine.is_registered s queue.0 name }
+    {
+        self.registrants.contains(&(queue.0, name))
+    }
+
+    fn is_known(&self, queue: QueueNo, by: &KeptBy) -> bool
+        ensures { (s : State) → Knows self.now s → result ≡ machine.is_known s queue.0 by.now }
+    {
+        match by.by() {
+            Some(by) => self.is_registered(queue, by.name),
+            None => true,
+        }
+    }
+
+    fn may_engage(&self, unit: u64, queue: QueueNo, by: &KeptBy) -> bool
+        ensures { (s : State) → Knows self.now s → result ≡ (machine.is_defined s queue.0 && (machine.is_open s unit && machine.is_known s queue.0 by.now)) }
+    {
+        self.is_defined(queue) && self.units.contains(&unit) && self.is_known(queue, by)
+    }
+
+    // An error queue of version 1 has none itself.
+    fn may_be_error(&self, error: QueueNo) -> bool
+        requires { error.0 < length self.now.errors.items }
+        ensures { (s : State) → Knows self.now s → result ≡ machine.may_be_error (version_of self.now.version) s error.0 }
+    {
+        match self.version {
+            Version::One => self.errors[error.0 as usize] == QueueNo::NONE.0,
+            Version::Two => true,
+        }
+    }
+
+    fn is_limit(&self, limit: u16, error: QueueNo) -> bool
+        ensures { (s : State) → Knows self.now s → result ≡ machine.is_limit (version_of self.now.version) s limit error.0 }
+    {
+        if limit == 0 {
+            return error.0 == QueueNo::NONE.0;
+        }
+        limit <= 1000 && self.is_defined(error) && self.may_be_error(error)
+    }
+
+    // Version 1 has no KILL.
+    fn may_kill(&self, queue: QueueNo) -> bool
+        ensures { (s : State) (element : ℕ) → Knows self.now s → result ≡ machine.is_lawful (version_of self.now.version) s (Kill queue.0 element) }
+    {
+        match self.version {
+            Version::One => false,
+            Version::Two => self.is_defined(queue),
+        }
+    }
+
+    // Takes a record that is lawful.
+    fn note(&mut self, next: &Record) -> Result<(), Fault>
+        ensures notes { OnOk result (Notes self.old self.new next.now) }
+        ensures version { self.new.version ≡ self.old.version }
+        ensures refused { IfErr result (λ e. e ≡ Resources) }
+        ensures kept { IfErr result (λ e. Keeps self.old self.new) }
+    {
+        match next {
+            Record::Define { error, name, .. } => self.define(*error, name.name()),
+            Record::Register { queue, name } => {
+                self.registrants.insert((queue.0, name.name()))?;
+                Ok(())
+            }
+            Record::Deregister { queue, name } => {
+                self.registrants.swap_remove(&(queue.0, name.name()));
+                Ok(())
+            }
+            Record::Begin { unit } => {
+                self.units.insert(unit.0)?;
+                self.greatest = unit.0;
+                Ok(())
+            }
+            Record::Commit { unit } => {
+                self.units.swap_remove(&unit.0);
+                Ok(())
+            }
+            Record::Abort { unit } => {
+                self.units.swap_remove(&unit.0);
+                Ok(())
+            }
+            _ => Ok(()),
+        }
+    }
+
+    fn define(&mut self, error: QueueNo, name: Name) -> Result<(), Fault>
+        ensures frame { self.new ≡ record self.old { names = self.new.names; errors = self.new.errors } }
+        ensures names { OnOk result ((n : List ℕ) → contains (pointwise nat_eq) self.new.names n ≡ cond (pointwise nat_eq name n) true (contains (pointwise nat_eq) self.old.names n)) }
+        ensures errors { OnOk result (self.new.errors.items ≡ self.old.errors.items ++ error.0 ∷ []) }
+        ensures refused { IfErr result (λ e. e ≡ Resources) }
+        ensures kept { IfErr result (λ e. Keeps self.old self.new) }
+    {
+        self.errors.push(error.0)?;
+        if self.names.insert(name).is_err() {
+            self.errors.pop();
+            return Err(Fault::Resources);
+        }
+        Ok(())
+    }
+}

@@ -1,7 +1,0 @@
-use Rattle.std.proofs.Common.{◌≡◌, ◌≤◌, ◌+◌, length, take}
-use Rattle.std.specs.List.{flat_map}
-use Rattle.rq_model.specs.StateSpelling.{element_bytes}
-use Rattle.rq_state.proofs.writing.sizes.add_elements.Given as goal
-
-abbrev pub invariant-loop-member : goal.invariant-loop-member
-invariant-loop-member l = (l.total ≡ l.start + length (flat_map element_bytes (take l.member-index l.members))) × (l.total ≤ 268435455)
