@@ -20,8 +20,15 @@ pub struct Payload {
 // An array of 22, how many of it count, and the tag: 24 bytes, no more than a `Vec` without its items.
 #[derive(Drop)]
 enum Bytes {
-    Inline { array: [u8; 22], len: u8 },
-    Part { whole: ArcSlice<u8>, start: u32, len: u16 },
+    Inline {
+        array: [u8; 22],
+        len: u8,
+    },
+    Part {
+        whole: ArcSlice<u8>,
+        start: u32,
+        len: u16,
+    },
 }
 
 impl Model for Payload {
@@ -98,7 +105,12 @@ impl Payload {
     }
 
     /// The same, of bytes that may be the last ones before an end in a log that may be lent: then a long payload is a part of it.
-    pub(crate) fn lent(alloc: Global, log: &LentLog, end: usize, bytes: &[u8]) -> Result<Option<Payload>, Fault>
+    pub(crate) fn lent(
+        alloc: Global,
+        log: &LentLog,
+        end: usize,
+        bytes: &[u8],
+    ) -> Result<Option<Payload>, Fault>
         ensures bounded { IfOk result (λ p. IsSome p ↔ (length bytes.now ≤ 65535)) }
         ensures bytes { IfOk result (λ p. IfSome p (λ q. q ≡ bytes.now)) }
         ensures refused { IfErr result (λ e. (e ≡ Resources) × (22 < length bytes.now) × (length bytes.now ≤ 65535)) }

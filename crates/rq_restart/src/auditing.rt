@@ -194,7 +194,16 @@ fn checkpoints_of<R: Threads + Sync>(
     rq_model::frames_join();
     rq_model::one_front();
     rq_model::versions();
-    let front = front_of(rt, alloc, version, &LentLog::none(), bytes, found, &State::empty(alloc), plan)?;
+    let front = front_of(
+        rt,
+        alloc,
+        version,
+        &LentLog::none(),
+        bytes,
+        found,
+        &State::empty(alloc),
+        plan,
+    )?;
     let mut walk = Walk::first(alloc);
     for place in 0..front.records.len() {
         walk = visit(rt, alloc, &front.records, &found.spans, place, walk, plan)?;

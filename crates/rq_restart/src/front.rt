@@ -141,7 +141,15 @@ pub(crate) fn front_of<R: Threads + Sync>(
     ensures analysis { IfOk result (λ f. IsAnalysis (version_of version) state.now (map record_of f.records.items) f.analysis) }
     ensures refused { IfErr result (λ e. e ≡ Resources) }
 {
-    let parts = read(rt, alloc, version, lent, bytes, &found.spans, plan.workers())?;
+    let parts = read(
+        rt,
+        alloc,
+        version,
+        lent,
+        bytes,
+        &found.spans,
+        plan.workers(),
+    )?;
     let known = known_of(alloc, version, parts, state)?;
     Ok(settled(found, known))
 }
@@ -203,7 +211,15 @@ pub(crate) fn front_of_walk<R: Threads + Sync>(
         let found = walk.checked(rt, bytes, grain);
         return front_of(rt, alloc, version, lent, bytes, &found, state, plan);
     }
-    let parts = read(rt, alloc, version, lent, bytes, walk.spans(), plan.workers())?;
+    let parts = read(
+        rt,
+        alloc,
+        version,
+        lent,
+        bytes,
+        walk.spans(),
+        plan.workers(),
+    )?;
     let (found, known) = check_meanwhile(rt, alloc, version, bytes, walk, parts, state, grain);
     let known = known_of_first(alloc, version, known?, found.spans.len(), state)?;
     Ok(settled(&found, known))

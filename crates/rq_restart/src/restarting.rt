@@ -43,7 +43,16 @@ pub(crate) fn whole_front<R: Threads + Sync>(
     let Some(version) = version(bytes) else {
         return Err(Fault::NotALog);
     };
-    let front = front_of_walk(rt, alloc, version, lent, bytes, walk, &State::empty(alloc), plan)?;
+    let front = front_of_walk(
+        rt,
+        alloc,
+        version,
+        lent,
+        bytes,
+        walk,
+        &State::empty(alloc),
+        plan,
+    )?;
     Ok((version, front))
 }
 

@@ -1,6 +1,9 @@
 //! Names, what a checkpoint spells, and bodies.
 
-use rq_record::{By, CheckBytes, Fault, KeptBy, KeptName, LentLog, Name, Payload, QueueNo, Record, UnitNo, Version, decode, decode_at, encode};
+use rq_record::{
+    By, CheckBytes, Fault, KeptBy, KeptName, LentLog, Name, Payload, QueueNo, Record, UnitNo,
+    Version, decode, decode_at, encode,
+};
 use std::alloc::Global;
 use std::sync::ArcSlice;
 use std::test::Fail;
@@ -76,7 +79,9 @@ fn a_long_payload_is_a_part_of_the_log_that_is_lent(rt: HostRuntime) -> Result<(
 }
 
 #[test]
-fn a_payload_that_is_no_part_of_the_log_that_is_lent_is_a_copy(rt: HostRuntime) -> Result<(), Fail> {
+fn a_payload_that_is_no_part_of_the_log_that_is_lent_is_a_copy(
+    rt: HostRuntime,
+) -> Result<(), Fail> {
     let bytes = body_among_others(rt.alloc(), 100)?;
     for other in [&[b'q'; 200][..], &[b'p'; 60][..], &[][..]] {
         let log = ArcSlice::from_slice(rt.alloc(), other)?;
