@@ -14,7 +14,7 @@ use crate::departures::{in_order, send};
 use crate::moves::Move;
 use crate::priorities::{kept_with, known, without};
 use crate::shelves::{all_freed, all_returned, free_list, freed, stow, taken, with_marked};
-use rq_record::{ElemId, Fault, Payload, QueueNo, UnitNo};
+use rq_record::{ElemId, Fault, KeptPayload, QueueNo, UnitNo};
 use rq_state::{Definition, Element, Mark};
 use std::alloc::Global;
 use std::cmp::Reverse;
@@ -130,7 +130,7 @@ impl Elements {
         unit: UnitNo,
         queue: QueueNo,
         priority: u8,
-        payload: &Payload,
+        payload: &KeptPayload,
     ) -> Result<Elements, Fault>
         requires { AllByRecursion (λ (x : model.Element). x.id < place) self }
         ensures done { IfOk result (λ v. v ≡ self ++ machine.new_element place unit.0 queue.0 priority payload.now ∷ []) }

@@ -16,7 +16,7 @@ use crate::moves::Move;
 use crate::notes::Notes;
 use crate::operations::Op;
 use crate::registrants::Registrants;
-use rq_record::{ElemId, Fault, KeptBy, Name, Payload, QueueNo, Record, UnitNo};
+use rq_record::{ElemId, Fault, KeptBy, KeptPayload, Name, QueueNo, Record, UnitNo};
 use rq_state::{Definition, Fields, OpKind, State};
 use std::alloc::Global;
 use std::marker::Model;
@@ -124,7 +124,7 @@ impl Part {
         queue: QueueNo,
         priority: u8,
         by: &KeptBy,
-        payload: &Payload,
+        payload: &KeptPayload,
     ) -> Result<Part, Fault>
         requires older { AllByRecursion (λ (e : states.Element). e.id < place) self.elements }
         requires notes { AllByRecursion (λ (n : states.Note). n.last.place < place) self.notes }

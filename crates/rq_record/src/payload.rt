@@ -1,126 +1,35 @@
 //! The payload of an element.
 
-ghost use Rattle.std.specs.Prelude.{◌≡◌, ◌<◌, ◌≤◌, ◌↔◌, length, IsSome, IfSome, IfOk, IfErr};
-ghost use Rattle.rq_record.specs.Payloads.{bytes_of};
-ghost use Rattle.rq_record.specs.declared.fault.Fault.TheVariants.{Resources};
+ghost use Rattle.std.specs.Prelude.{◌≡◌, ◌≤◌, ◌↔◌, length, IsSome, IfSome};
 
-use crate::fault::Fault;
-use crate::lent_log::LentLog;
-use std::alloc::Global;
 use std::marker::Model;
-use std::sync::ArcSlice;
 
-/// The payload of an element, at most 65,535 bytes. Up to 22 of them stand in it; more are shared by its copies, and with the
-/// log where it is lent.
+/// The payload of an element, at most 65,535 bytes.
 #[derive(Drop)]
 pub struct Payload {
-    bytes: Bytes,
-}
-
-// An array of 22, how many of it count, and the tag: 24 bytes, no more than a `Vec` without its items.
-#[derive(Drop)]
-enum Bytes {
-    Inline {
-        array: [u8; 22],
-        len: u8,
-    },
-    Part {
-        whole: ArcSlice<u8>,
-        start: u32,
-        len: u16,
-    },
+    bytes: Vec<u8>,
 }
 
 impl Model for Payload {
-    ghost use Rattle.std.specs.Prelude.{ℕ, List};
-    ghost use Rattle.rq_record.specs.Payloads.{bytes_of, Fits};
+    ghost use Rattle.std.specs.Prelude.{ℕ, List, ◌≤◌, length};
 
     ghost Value = { List ℕ };
 
-    ghost view = { λ p. bytes_of p.bytes };
+    ghost view = { λ p. p.bytes.items };
 
-    ghost invariant = { λ p. Fits p.bytes };
-}
-
-fn inline(bytes: &[u8]) -> Payload
-    requires { length bytes.now ≤ 22 }
-    ensures { result ≡ bytes.now }
-{
-    let mut array = [0; 22];
-    array[..bytes.len()].copy_from_slice(bytes);
-    Payload {
-        bytes: Bytes::Inline {
-            array,
-            len: bytes.len() as u8,
-        },
-    }
-}
-
-// The part of a log before an end, where it is lent and its part there is these bytes.
-fn part_before(lent: &LentLog, end: usize, bytes: &[u8]) -> Result<Option<Payload>, Fault>
-    requires { length bytes.now ≤ 65535 }
-    ensures part { IfOk result (λ p. IfSome p (λ q. q ≡ bytes.now)) }
-    ensures refused { IfErr result (λ e. e ≡ Resources) }
-{
-    let Some(log) = &lent.log else {
-        return Ok(None);
-    };
-    if end < bytes.len() || log.len() < end || end > u32::MAX as usize {
-        return Ok(None);
-    }
-    let start = end - bytes.len();
-    if &log.as_slice()[start..end] != bytes {
-        return Ok(None);
-    }
-    Ok(Some(Payload {
-        bytes: Bytes::Part {
-            whole: log.clone()?,
-            start: start as u32,
-            len: bytes.len() as u16,
-        },
-    }))
+    ghost invariant = { λ p. length p.bytes.items ≤ 65535 };
 }
 
 impl Payload {
-    /// A payload of these bytes; none where there are more than 65,535, and then no memory is asked for. Up to 22 bytes
-    /// take none. `Resources` where memory runs out.
-    pub fn from_slice(alloc: Global, bytes: &[u8]) -> Result<Option<Payload>, Fault>
-        ensures bounded { IfOk result (λ p. IsSome p ↔ (length bytes.now ≤ 65535)) }
-        ensures bytes { IfOk result (λ p. IfSome p (λ q. q ≡ bytes.now)) }
-        ensures refused { IfErr result (λ e. (e ≡ Resources) × (22 < length bytes.now) × (length bytes.now ≤ 65535)) }
+    /// These bytes; none where there are more than 65,535, which are dropped. Takes no memory.
+    pub fn new(bytes: Vec<u8>) -> Option<Payload>
+        ensures bounded { IsSome result ↔ (length bytes.items ≤ 65535) }
+        ensures bytes { IfSome result (λ p. p ≡ bytes.items) }
     {
         if bytes.len() > 65535 {
-            return Ok(None);
+            return None;
         }
-        if bytes.len() <= 22 {
-            return Ok(Some(inline(bytes)));
-        }
-        Ok(Some(Payload {
-            bytes: Bytes::Part {
-                whole: ArcSlice::from_slice(alloc, bytes)?,
-                start: 0,
-                len: bytes.len() as u16,
-            },
-        }))
-    }
-
-    /// The same, of bytes that may be the last ones before an end in a log that may be lent: then a long payload is a part of it.
-    pub(crate) fn lent(
-        alloc: Global,
-        log: &LentLog,
-        end: usize,
-        bytes: &[u8],
-    ) -> Result<Option<Payload>, Fault>
-        ensures bounded { IfOk result (λ p. IsSome p ↔ (length bytes.now ≤ 65535)) }
-        ensures bytes { IfOk result (λ p. IfSome p (λ q. q ≡ bytes.now)) }
-        ensures refused { IfErr result (λ e. (e ≡ Resources) × (22 < length bytes.now) × (length bytes.now ≤ 65535)) }
-    {
-        if 22 < bytes.len() && bytes.len() <= 65535 {
-            if let Some(payload) = part_before(log, end, bytes)? {
-                return Ok(Some(payload));
-            }
-        }
-        Payload::from_slice(alloc, bytes)
+        Some(Payload { bytes })
     }
 
     /// The bytes, with their bound.
@@ -128,30 +37,6 @@ impl Payload {
         ensures bytes { result.now ≡ self.now }
         ensures bounded { length self.now ≤ 65535 }
     {
-        match &self.bytes {
-            Bytes::Inline { array, len } => &array[..*len as usize],
-            Bytes::Part { whole, start, len } => {
-                &whole.as_slice()[*start as usize..*start as usize + *len as usize]
-            }
-        }
-    }
-
-    /// A payload of the same bytes, none of which is copied into memory. `Resources` where they are shared too often.
-    pub fn copied(&self) -> Result<Payload, Fault>
-        ensures copied { IfOk result (λ p. p ≡ self.now) }
-        ensures refused { IfErr result (λ e. e ≡ Resources) }
-    {
-        let bytes = match &self.bytes {
-            Bytes::Inline { array, len } => Bytes::Inline {
-                array: *array,
-                len: *len,
-            },
-            Bytes::Part { whole, start, len } => Bytes::Part {
-                whole: whole.clone()?,
-                start: *start,
-                len: *len,
-            },
-        };
-        Ok(Payload { bytes })
+        &self.bytes
     }
 }

@@ -9,9 +9,9 @@ use crate::check_bytes::CheckBytes;
 use crate::fault::Fault;
 use crate::kept_by::KeptBy;
 use crate::kept_name::KeptName;
+use crate::kept_payload::KeptPayload;
 use crate::lent_log::LentLog;
 use crate::name::Name;
-use crate::payload::Payload;
 use crate::record::{By, ElemId, QueueNo, Record, UnitNo};
 use crate::version::Version;
 use byteorder::{BigEndian, ByteOrder};
@@ -176,10 +176,10 @@ fn abort(bytes: &[u8]) -> Result<Record, Fault>
     Ok(Record::Abort { unit })
 }
 
-fn payload(alloc: Global, log: &LentLog, end: usize, bytes: &[u8]) -> Result<Payload, Fault>
+fn payload(alloc: Global, log: &LentLog, end: usize, bytes: &[u8]) -> Result<KeptPayload, Fault>
     ensures { Copies (λ x. x) result (bounded 65535 bytes.now) }
 {
-    match Payload::lent(alloc, log, end, bytes)? {
+    match KeptPayload::lent(alloc, log, end, bytes)? {
         Some(payload) => Ok(payload),
         None => Err(Fault::Form),
     }

@@ -3,8 +3,8 @@
 use crate::check_bytes::CheckBytes;
 use crate::kept_by::KeptBy;
 use crate::kept_name::KeptName;
+use crate::kept_payload::KeptPayload;
 use crate::name::Name;
-use crate::payload::Payload;
 use std::marker::Model;
 
 /// The number of a queue: its place among the DEFINE records, counted from 0.
@@ -80,7 +80,7 @@ pub enum Record {
         queue: QueueNo,
         unit: UnitNo,
         by: KeptBy,
-        payload: Payload,
+        payload: KeptPayload,
     },
     /// Takes the first free element of a queue, if there is one, to be gone when the unit commits.
     Dequeue {

@@ -9,12 +9,14 @@ mod many;
 mod program;
 mod queues;
 mod scripts;
+mod standby;
 mod streams;
 mod tails;
 mod texts;
 mod threads;
 mod upgrades;
 mod versions;
+mod windows;
 
 use rq_record::Version;
 use rq_tool::{Command, Fault, Open, OverRead, OverWrite, Plan, act};

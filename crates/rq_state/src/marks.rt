@@ -7,7 +7,7 @@ ghost use Rattle.rq_model.specs.States as model;
 ghost use Rattle.rq_state.specs.Views.{mark_of};
 
 use crate::members::{Definition, Element, Mark};
-use rq_record::{ElemId, Payload, QueueNo, UnitNo};
+use rq_record::{ElemId, KeptPayload, QueueNo, UnitNo};
 
 impl Element {
     /// A new element of a unit, with the place of its ENQUEUE as its id.
@@ -16,7 +16,7 @@ impl Element {
         unit: UnitNo,
         queue: QueueNo,
         priority: u8,
-        payload: Payload,
+        payload: KeptPayload,
     ) -> Element
         ensures { result ≡ machine.new_element place unit.0 queue.0 priority payload }
     {

@@ -4,7 +4,7 @@ ghost use Rattle.std.specs.Prelude.{◌≡◌, IfOk, IfErr};
 ghost use Rattle.rq_model.specs.States as model;
 ghost use Rattle.rq_record.specs.declared.fault.Fault.TheVariants.{Resources};
 
-use rq_record::{ElemId, Fault, Name, Payload, QueueNo, UnitNo};
+use rq_record::{ElemId, Fault, KeptPayload, Name, QueueNo, UnitNo};
 use std::marker::Model;
 
 /// Whose an element is for now.
@@ -38,7 +38,7 @@ pub struct Element {
     pub priority: u8,
     /// How often an aborted unit gave it back since it is in its home.
     pub attempts: u64,
-    pub payload: Payload,
+    pub payload: KeptPayload,
     pub mark: Mark,
 }
 

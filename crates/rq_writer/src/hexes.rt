@@ -4,7 +4,7 @@ ghost use Rattle.std.specs.Prelude.{◌≡◌, ◌*◌, ◌≤◌, ◌<◌, ◌�
 ghost use Rattle.rq_record.specs.Reading.{Gives};
 ghost use Rattle.rq_writer.specs.Reading as spec;
 
-use rq_record::{CheckBytes, Fault, Payload};
+use rq_record::{CheckBytes, Fault, KeptPayload, Payload};
 use std::alloc::Global;
 
 fn digit(byte: u8) -> Result<u8, Fault>
@@ -67,12 +67,11 @@ fn hex(alloc: Global, limit: usize, text: &[u8]) -> Result<Vec<u8>, Fault>
     pairs(alloc, text)
 }
 
-pub(crate) fn payload(alloc: Global, text: &[u8]) -> Result<Payload, Fault>
+pub(crate) fn payload(alloc: Global, text: &[u8]) -> Result<KeptPayload, Fault>
     ensures { Gives (λ x. x) result (spec.hex_of 65535 text.now) }
 {
-    let bytes = hex(alloc, 65535, text)?;
-    match Payload::from_slice(alloc, &bytes)? {
-        Some(payload) => Ok(payload),
+    match Payload::new(hex(alloc, 65535, text)?) {
+        Some(payload) => KeptPayload::of(alloc, &payload),
         None => Err(Fault::Form),
     }
 }

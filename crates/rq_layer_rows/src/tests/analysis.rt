@@ -1,7 +1,7 @@
 //! What the analysis of records tells.
 
 use rq_catalog::{Outcome, analyse};
-use rq_record::{By, Fault, KeptBy, KeptName, Name, Payload, QueueNo, Record, UnitNo};
+use rq_record::{By, Fault, KeptBy, KeptName, KeptPayload, Name, QueueNo, Record, UnitNo};
 use rq_state::State;
 use std::alloc::Global;
 use std::test::Fail;
@@ -21,7 +21,7 @@ fn dequeue(alloc: Global, unit: u64, queue: u32, by: Option<By>) -> Result<Recor
 /// An element of `jobs` goes to `dead` at its second abort, where `ann` finds it at its second look.
 fn arrival(alloc: Global) -> Result<Vec<Record>, Fail> {
     let ann = Name::new(b"ann").ok_or("name")?;
-    let payload = Payload::from_slice(alloc, b"a")?.ok_or("payload")?;
+    let payload = KeptPayload::from_slice(alloc, b"a")?.ok_or("payload")?;
     let none = QueueNo::NONE;
     let records = vec![in alloc;
         Record::Define {

@@ -13,7 +13,7 @@ ghost use Rattle.rq_exchange.specs.Links.{naming};
 use rq_catalog::analyse_in;
 use rq_exchange::{Course, replay_traced};
 use rq_pool::{Gate, Plan};
-use rq_record::{Fault, KeptBy, KeptName, Name, Payload, QueueNo, Record, UnitNo, Version};
+use rq_record::{Fault, KeptBy, KeptName, KeptPayload, Name, QueueNo, Record, UnitNo, Version};
 use rq_state::State;
 use std::alloc::Global;
 use std::sync::atomic::{AtomicU32, Ordering};
@@ -38,7 +38,7 @@ fn dequeue(alloc: Global, unit: u64, queue: u32) -> Result<Record, Fault> {
 /// Two queues with one error queue, one whose error queue is the first of the two, and one with none. What leaves the last
 /// of the chain by an abort goes on to its end by two more.
 fn chained(alloc: Global) -> Result<Vec<Record>, Fail> {
-    let payload = Payload::from_slice(alloc, b"a")?.ok_or("payload")?;
+    let payload = KeptPayload::from_slice(alloc, b"a")?.ok_or("payload")?;
     let unit = UnitNo(1);
     let records = vec![in alloc;
         define(alloc, 0, QueueNo::NONE, b"dead")?,

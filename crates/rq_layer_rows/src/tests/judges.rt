@@ -2,7 +2,7 @@
 
 use rq_catalog::{Judge, analyse_in};
 use rq_record::{
-    By, CheckBytes, ElemId, KeptBy, KeptName, Name, Payload, QueueNo, Record, UnitNo, Version,
+    By, CheckBytes, ElemId, KeptBy, KeptName, KeptPayload, Name, QueueNo, Record, UnitNo, Version,
 };
 use rq_state::State;
 use std::alloc::Global;
@@ -67,7 +67,7 @@ fn enqueue(alloc: Global, unit: u64, queue: u32, who: &[u8]) -> Result<Record, F
         queue: QueueNo(queue),
         priority: 5,
         by: by(alloc, who)?,
-        payload: Payload::from_slice(alloc, b"a")?.ok_or("payload")?,
+        payload: KeptPayload::from_slice(alloc, b"a")?.ok_or("payload")?,
     })
 }
 

@@ -1,8 +1,8 @@
 //! Names, what a checkpoint spells, and bodies.
 
 use rq_record::{
-    By, CheckBytes, Fault, KeptBy, KeptName, LentLog, Name, Payload, QueueNo, Record, UnitNo,
-    Version, decode, decode_at, encode,
+    By, CheckBytes, Fault, KeptBy, KeptName, KeptPayload, LentLog, Name, Payload, QueueNo, Record,
+    UnitNo, Version, decode, decode_at, encode,
 };
 use std::alloc::Global;
 use std::sync::ArcSlice;
@@ -31,6 +31,21 @@ fn names_of_each_length_are_kept(rt: HostRuntime) -> Result<(), Fail> {
     Ok(())
 }
 
+#[test]
+fn payloads_of_each_kind_of_length_are_kept(rt: HostRuntime) -> Result<(), Fail> {
+    for length in [0, 1, 22, 23, 65535] {
+        let payload = Payload::new(Vec::from_elem(rt.alloc(), b'p', length)?).ok_or("long")?;
+        assert_eq!(rt; payload.bytes().len(), length);
+        let kept = KeptPayload::of(rt.alloc(), &payload)?;
+        assert!(rt; kept.bytes() == payload.bytes());
+        assert!(rt; kept.copied()?.bytes() == payload.bytes());
+    }
+    let long = Vec::from_elem(rt.alloc(), b'p', 65536)?;
+    assert!(rt; KeptPayload::from_slice(rt.alloc(), &long)?.is_none());
+    assert!(rt; Payload::new(long).is_none());
+    Ok(())
+}
+
 /// The bytes of an element's payload of a length, between a byte before and a byte behind, as the body of its ENQUEUE has them.
 fn body_among_others(alloc: Global, length: usize) -> Result<Vec<u8>, Fail> {
     let payload = Vec::from_elem(alloc, b'p', length)?;
@@ -39,7 +54,7 @@ fn body_among_others(alloc: Global, length: usize) -> Result<Vec<u8>, Fail> {
         queue: QueueNo(0),
         unit: UnitNo(1),
         by: KeptBy::of(alloc, &None)?,
-        payload: Payload::from_slice(alloc, &payload)?.ok_or("too long")?,
+        payload: KeptPayload::from_slice(alloc, &payload)?.ok_or("too long")?,
     };
     let mut bytes = Vec::new(alloc);
     bytes.push(0)?;

@@ -2,7 +2,7 @@
 
 use super::sweeping::{Call, is_right};
 use rq_front::{frame, header};
-use rq_record::{KeptBy, Payload, QueueNo, Record, UnitNo, encode};
+use rq_record::{KeptBy, KeptPayload, QueueNo, Record, UnitNo, encode};
 use rq_tool::Fault;
 use std::alloc::Global;
 use std::test::Fail;
@@ -64,7 +64,7 @@ fn appends<R: Threads + Sync + AllocGlobal>(
         queue: QueueNo(0),
         priority: 5,
         by: KeptBy::of(alloc, &None)?,
-        payload: Payload::from_slice(alloc, &[0x61; 500])?.ok_or("payload")?,
+        payload: KeptPayload::from_slice(alloc, &[0x61; 500])?.ok_or("payload")?,
     };
     let mut appending = Appending {
         what,

@@ -9,7 +9,7 @@ ghost use Rattle.rq_record.specs.declared.fault.Fault.TheVariants.{Resources};
 use super::sweeping::{Call, is_right};
 use rq_catalog::analyse_in;
 use rq_exchange::replay;
-use rq_record::{By, KeptBy, KeptName, Name, Payload, QueueNo, Record, UnitNo, Version};
+use rq_record::{By, KeptBy, KeptName, KeptPayload, Name, QueueNo, Record, UnitNo, Version};
 use rq_state::{State, spell};
 use rq_tool::{Fault, Open, Plan};
 use std::alloc::Global;
@@ -32,7 +32,7 @@ fn dequeue(alloc: Global, unit: u64, queue: u32, by: Option<By>) -> Result<Recor
 /// An element leaves its queue by an abort, and its error queue by another, for the end of the chain, where a registrant that
 /// is still at work takes it.
 fn chained(alloc: Global) -> Result<Vec<Record>, Fail> {
-    let payload = Payload::from_slice(alloc, b"a")?.ok_or("payload")?;
+    let payload = KeptPayload::from_slice(alloc, b"a")?.ok_or("payload")?;
     let ann = Name::new(b"ann").ok_or("name")?;
     let unit = UnitNo(1);
     let queue = QueueNo(2);

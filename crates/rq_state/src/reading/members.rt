@@ -6,7 +6,7 @@ ghost use Rattle.rq_state.specs.Reading.{Gives, Reads, after_of, number_from, de
 
 use crate::members::{Definition, Element, Last, Mark, Note, OpKind, Registrant};
 use crate::reading::cursor::{piece_of, take_name, take_u8, take_u16, take_u32, take_u64};
-use rq_record::{ElemId, Fault, Payload, QueueNo, UnitNo};
+use rq_record::{ElemId, Fault, KeptPayload, QueueNo, UnitNo};
 use std::alloc::Global;
 
 #[tactic(auto, unfolding(crate::specs::Reading::definition_from))]
@@ -137,18 +137,18 @@ fn take_mark(rest: &mut &[u8]) -> Result<Mark, Fault>
     take_mark_of(n, rest)
 }
 
-fn kept_payload(alloc: Global, bytes: &[u8]) -> Result<Payload, Fault>
+fn kept_payload(alloc: Global, bytes: &[u8]) -> Result<KeptPayload, Fault>
     requires { length bytes.now ≤ 65535 }
     ensures { Gives (λ x. x) result (Some bytes.now) }
 {
-    match Payload::from_slice(alloc, bytes)? {
+    match KeptPayload::from_slice(alloc, bytes)? {
         Some(payload) => Ok(payload),
         None => Err(Fault::BadCheckpoint),
     }
 }
 
 #[tactic(auto, unfolding(crate::specs::Reading::payload_from))]
-fn take_payload(alloc: Global, rest: &mut &[u8]) -> Result<Payload, Fault>
+fn take_payload(alloc: Global, rest: &mut &[u8]) -> Result<KeptPayload, Fault>
     ensures { Gives (λ x. (x, rest.new.now)) result (payload_from rest.old.now) }
 {
     let size = take_u16(rest)?;

@@ -1,8 +1,8 @@
 -- Where the bytes of a payload stand.
 use Rattle.std.specs.Prelude.{ℕ, ◌+◌, ◌≤◌, List, length, take, slice_range}
 use Rattle.std.specs.Arc.{arc_slice_items}
-use Rattle.rq_record.specs.declared.payload.Bytes.{Bytes}
-use Rattle.rq_record.specs.declared.payload.Bytes.TheVariants.{Inline, Part}
+use Rattle.rq_record.specs.declared.kept_payload.Bytes.{Bytes}
+use Rattle.rq_record.specs.declared.kept_payload.Bytes.TheVariants.{Inline, Part}
 
 -- the first of an array, or a part of what is shared
 abbrev pub bytes_of : Bytes → List ℕ

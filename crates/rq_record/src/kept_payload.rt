@@ -1,0 +1,175 @@
+//! A payload as a record keeps it.
+
+ghost use Rattle.std.specs.Prelude.{◌≡◌, ◌<◌, ◌≤◌, ◌↔◌, length, IsSome, IfSome, IfOk, IfErr};
+ghost use Rattle.rq_record.specs.KeptPayloads.{bytes_of};
+ghost use Rattle.rq_record.specs.declared.fault.Fault.TheVariants.{Resources};
+
+use crate::fault::Fault;
+use crate::lent_log::LentLog;
+use crate::payload::Payload;
+use std::alloc::Global;
+use std::marker::Model;
+use std::sync::ArcSlice;
+
+/// A payload in 24 bytes, for records and elements, of which a log has many. Up to 22 bytes stand in it; more are shared by its
+/// copies, and with the log where it is lent.
+#[derive(Drop)]
+pub struct KeptPayload {
+    bytes: Bytes,
+}
+
+// An array of 22, how many of it count, and the tag: 24 bytes, no more than a `Vec` without its items.
+#[derive(Drop)]
+enum Bytes {
+    Inline {
+        array: [u8; 22],
+        len: u8,
+    },
+    Part {
+        whole: ArcSlice<u8>,
+        start: u32,
+        len: u16,
+    },
+}
+
+impl Model for KeptPayload {
+    ghost use Rattle.std.specs.Prelude.{ℕ, List};
+    ghost use Rattle.rq_record.specs.KeptPayloads.{bytes_of, Fits};
+
+    ghost Value = { List ℕ };
+
+    ghost view = { λ p. bytes_of p.bytes };
+
+    ghost invariant = { λ p. Fits p.bytes };
+}
+
+fn inline(bytes: &[u8]) -> KeptPayload
+    requires { length bytes.now ≤ 22 }
+    ensures { result ≡ bytes.now }
+{
+    let mut array = [0; 22];
+    array[..bytes.len()].copy_from_slice(bytes);
+    KeptPayload {
+        bytes: Bytes::Inline {
+            array,
+            len: bytes.len() as u8,
+        },
+    }
+}
+
+// The part of a log before an end, where it is lent and its part there is these bytes.
+fn part_before(lent: &LentLog, end: usize, bytes: &[u8]) -> Result<Option<KeptPayload>, Fault>
+    requires { length bytes.now ≤ 65535 }
+    ensures part { IfOk result (λ p. IfSome p (λ q. q ≡ bytes.now)) }
+    ensures refused { IfErr result (λ e. e ≡ Resources) }
+{
+    let Some(log) = &lent.log else {
+        return Ok(None);
+    };
+    if end < bytes.len() || log.len() < end || end > u32::MAX as usize {
+        return Ok(None);
+    }
+    let start = end - bytes.len();
+    if &log.as_slice()[start..end] != bytes {
+        return Ok(None);
+    }
+    Ok(Some(KeptPayload {
+        bytes: Bytes::Part {
+            whole: log.clone()?,
+            start: start as u32,
+            len: bytes.len() as u16,
+        },
+    }))
+}
+
+// Keeps so many bytes as a payload may have.
+fn kept(alloc: Global, bytes: &[u8]) -> Result<KeptPayload, Fault>
+    requires { length bytes.now ≤ 65535 }
+    ensures kept { IfOk result (λ p. p ≡ bytes.now) }
+    ensures refused { IfErr result (λ e. (e ≡ Resources) × (22 < length bytes.now)) }
+{
+    if bytes.len() <= 22 {
+        return Ok(inline(bytes));
+    }
+    Ok(KeptPayload {
+        bytes: Bytes::Part {
+            whole: ArcSlice::from_slice(alloc, bytes)?,
+            start: 0,
+            len: bytes.len() as u16,
+        },
+    })
+}
+
+impl KeptPayload {
+    /// Keeps the payload. `Resources` where memory runs out; one of at most 22 bytes takes none.
+    pub fn of(alloc: Global, payload: &Payload) -> Result<KeptPayload, Fault>
+        ensures kept { IfOk result (λ p. p ≡ payload.now) }
+        ensures refused { IfErr result (λ e. (e ≡ Resources) × (22 < length payload.now)) }
+    {
+        kept(alloc, payload.bytes())
+    }
+
+    /// Keeps a payload of these bytes; none where there are more than 65,535, and then no memory is asked for. Up to 22
+    /// bytes take none. `Resources` where memory runs out.
+    pub fn from_slice(alloc: Global, bytes: &[u8]) -> Result<Option<KeptPayload>, Fault>
+        ensures bounded { IfOk result (λ p. IsSome p ↔ (length bytes.now ≤ 65535)) }
+        ensures bytes { IfOk result (λ p. IfSome p (λ q. q ≡ bytes.now)) }
+        ensures refused { IfErr result (λ e. (e ≡ Resources) × (22 < length bytes.now) × (length bytes.now ≤ 65535)) }
+    {
+        if bytes.len() > 65535 {
+            return Ok(None);
+        }
+        Ok(Some(kept(alloc, bytes)?))
+    }
+
+    /// The same, of bytes that may be the last ones before an end in a log that may be lent: then a long payload is a part of it.
+    pub(crate) fn lent(
+        alloc: Global,
+        log: &LentLog,
+        end: usize,
+        bytes: &[u8],
+    ) -> Result<Option<KeptPayload>, Fault>
+        ensures bounded { IfOk result (λ p. IsSome p ↔ (length bytes.now ≤ 65535)) }
+        ensures bytes { IfOk result (λ p. IfSome p (λ q. q ≡ bytes.now)) }
+        ensures refused { IfErr result (λ e. (e ≡ Resources) × (22 < length bytes.now) × (length bytes.now ≤ 65535)) }
+    {
+        if 22 < bytes.len() && bytes.len() <= 65535 {
+            if let Some(payload) = part_before(log, end, bytes)? {
+                return Ok(Some(payload));
+            }
+        }
+        KeptPayload::from_slice(alloc, bytes)
+    }
+
+    /// The bytes, with their bound.
+    pub fn bytes(&self) -> &[u8]
+        ensures bytes { result.now ≡ self.now }
+        ensures bounded { length self.now ≤ 65535 }
+    {
+        match &self.bytes {
+            Bytes::Inline { array, len } => &array[..*len as usize],
+            Bytes::Part { whole, start, len } => {
+                &whole.as_slice()[*start as usize..*start as usize + *len as usize]
+            }
+        }
+    }
+
+    /// A payload of the same bytes, none of which is copied into memory. `Resources` where they are shared too often.
+    pub fn copied(&self) -> Result<KeptPayload, Fault>
+        ensures copied { IfOk result (λ p. p ≡ self.now) }
+        ensures refused { IfErr result (λ e. e ≡ Resources) }
+    {
+        let bytes = match &self.bytes {
+            Bytes::Inline { array, len } => Bytes::Inline {
+                array: *array,
+                len: *len,
+            },
+            Bytes::Part { whole, start, len } => Bytes::Part {
+                whole: whole.clone()?,
+                start: *start,
+                len: *len,
+            },
+        };
+        Ok(KeptPayload { bytes })
+    }
+}

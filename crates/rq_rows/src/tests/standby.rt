@@ -1,0 +1,168 @@
+//! A keeper that goes along with a log, piece by piece.
+
+use super::scripts::{CHECKPOINT, ONE_ELEMENT, RETURN_AND_ARRIVAL};
+use super::{log_in, log_of};
+use rq_front::chain;
+use rq_record::{ElemId, QueueNo, Record, UnitNo, Version, decode_in};
+use rq_restart::{Fault, Keeper, Plan, front_state};
+use rq_state::{State, read_in, spell};
+use std::alloc::Global;
+use std::test::Fail;
+use std::thread::Threads;
+
+/// Where pieces end: each record is one, some of several records, and all at once. No script has more than 20 lines.
+const SINGLY: &[usize] = &[
+    1, 2, 3, 4, 5, 6, 7, 8, 9, 10, 11, 12, 13, 14, 15, 16, 17, 18, 19, 20,
+];
+
+const IN_SOME: &[usize] = &[2, 7, 8, 8, 11, 20];
+
+const AT_ONCE: &[usize] = &[20];
+
+/// The records of a log of a version.
+fn records<R: Threads + Sync + AllocGlobal>(
+    rt: &R,
+    version: Version,
+    log: &[u8],
+) -> Result<Vec<Record>, Fail> {
+    let mut records = Vec::new(rt.alloc());
+    for span in chain(rt, rt.alloc(), log, 40, 1)?.spans.iter() {
+        let end = span.start.saturating_add(span.len);
+        let body = log.get(span.start..end).ok_or("body")?;
+        records.push(decode_in(rt.alloc(), version, body)?)?;
+    }
+    Ok(records)
+}
+
+/// Whether the keeper takes all records, in pieces that end at these places.
+fn takes_all<R: Threads + Sync + AllocGlobal>(
+    rt: &R,
+    keeper: &mut Keeper,
+    records: &[Record],
+    ends: &[usize],
+    plan: &Plan,
+) -> Result<bool, Fail> {
+    let mut start = 0;
+    for end in ends {
+        let end = (*end).min(records.len());
+        let piece = records.get(start..end).ok_or("piece")?;
+        if keeper.take(rt, rt.alloc(), piece, plan)? != piece.len() {
+            return Ok(false);
+        }
+        start = end;
+    }
+    Ok(start == records.len())
+}
+
+/// What a state spells that has no more records than a log may have.
+fn spelling(alloc: Global, state: &State) -> Result<Vec<u8>, Fail> {
+    if state.next() > 4_294_967_295 {
+        return Err("records".into());
+    }
+    Ok(spell(alloc, state)?)
+}
+
+/// What the state spells where the front of the log ends.
+fn spelling_after<R: Threads + Sync + AllocGlobal>(
+    rt: &R,
+    log: &[u8],
+    plan: &Plan,
+) -> Result<Vec<u8>, Fail> {
+    spelling(rt.alloc(), &front_state(rt, rt.alloc(), log, plan)?)
+}
+
+/// A state that spells nothing but the number of its next record.
+fn state_before(alloc: Global, next: u64) -> Result<State, Fail> {
+    let mut bytes = [0u8; 52];
+    bytes[..8].copy_from_slice(&next.to_be_bytes());
+    Ok(read_in(alloc, Version::One, &bytes)?)
+}
+
+#[test]
+fn a_keeper_stands_where_the_front_of_the_log_ends(rt: HostRuntime) -> Result<(), Fail> {
+    for script in [&RETURN_AND_ARRIVAL[..], &CHECKPOINT[..]] {
+        let log = log_of(&rt, script)?;
+        let records = records(&rt, Version::One, &log)?;
+        for (ends, workers) in [(SINGLY, 1), (IN_SOME, 7), (AT_ONCE, 64)] {
+            let plan = Plan::new(workers, 1).ok_or("plan")?;
+            let want = spelling_after(&rt, &log, &plan)?;
+            let mut keeper = Keeper::new(Version::One, State::empty(rt.alloc()));
+            assert!(rt; takes_all(&rt, &mut keeper, &records, ends, &plan)?);
+            let got = spelling(rt.alloc(), keeper.state())?;
+            assert!(rt; got == want, "{workers} workers");
+        }
+    }
+    Ok(())
+}
+
+#[test]
+fn a_keeper_goes_on_from_a_checkpoint(rt: HostRuntime) -> Result<(), Fail> {
+    let plan = Plan::new(2, 1).ok_or("plan")?;
+    let log = log_of(&rt, &RETURN_AND_ARRIVAL)?;
+    let records = records(&rt, Version::One, &log)?;
+    let want = spelling_after(&rt, &log, &plan)?;
+    for place in 0..records.len() {
+        let beginning = log_of(&rt, RETURN_AND_ARRIVAL.get(..place).ok_or("script")?)?;
+        let spelled = spelling_after(&rt, &beginning, &plan)?;
+        let base = read_in(rt.alloc(), Version::One, &spelled)?;
+        let mut keeper = Keeper::new(Version::One, base);
+        let rest = records.get(place..).ok_or("rest")?;
+        assert_eq!(rt; keeper.take(&rt, rt.alloc(), rest, &plan)?, rest.len());
+        assert!(rt;
+            spelling(rt.alloc(), keeper.state())? == want,
+            "from {place}"
+        );
+    }
+    Ok(())
+}
+
+#[test]
+fn a_keeper_stops_before_an_unlawful_record(rt: HostRuntime) -> Result<(), Fail> {
+    let plan = Plan::new(2, 1).ok_or("plan")?;
+    let log = log_of(&rt, &ONE_ELEMENT)?;
+    let mut records = records(&rt, Version::One, &log)?;
+    records.push(Record::Commit { unit: UnitNo(1) })?;
+    records.push(Record::Begin { unit: UnitNo(2) })?;
+    let mut keeper = Keeper::new(Version::One, State::empty(rt.alloc()));
+    assert_eq!(rt; keeper.take(&rt, rt.alloc(), &records, &plan)?, 4);
+    let want = spelling_after(&rt, &log, &plan)?;
+    assert!(rt; spelling(rt.alloc(), keeper.state())? == want);
+    let last = records.get(5..).ok_or("last")?;
+    assert_eq!(rt; keeper.take(&rt, rt.alloc(), last, &plan)?, 1);
+    assert_eq!(rt; keeper.state().next(), 5);
+    Ok(())
+}
+
+#[test]
+fn a_keeper_goes_by_the_rules_of_its_version(rt: HostRuntime) -> Result<(), Fail> {
+    let plan = Plan::new(2, 1).ok_or("plan")?;
+    let mut kill = Vec::new(rt.alloc());
+    kill.push(Record::Kill {
+        queue: QueueNo(0),
+        element: ElemId(2),
+    })?;
+    for (version, taken, left) in [(Version::One, 0, 1), (Version::Two, 1, 0)] {
+        let records = records(&rt, version, &log_in(&rt, version, &ONE_ELEMENT)?)?;
+        let mut keeper = Keeper::new(version, State::empty(rt.alloc()));
+        assert_eq!(rt; keeper.take(&rt, rt.alloc(), &records, &plan)?, 4);
+        assert_eq!(rt; keeper.take(&rt, rt.alloc(), &kill, &plan)?, taken);
+        assert_eq!(rt; keeper.state().element_count(), left);
+    }
+    Ok(())
+}
+
+#[test]
+fn a_keeper_takes_no_more_records_than_a_log_may_have(rt: HostRuntime) -> Result<(), Fail> {
+    let plan = Plan::new(2, 1).ok_or("plan")?;
+    let mut begin = Vec::new(rt.alloc());
+    begin.push(Record::Begin { unit: UnitNo(1) })?;
+    let mut keeper = Keeper::new(Version::One, state_before(rt.alloc(), 4_294_967_294)?);
+    assert_eq!(rt; keeper.take(&rt, rt.alloc(), &begin, &plan)?, 1);
+    assert_eq!(rt;
+        keeper.take(&rt, rt.alloc(), &begin, &plan).err(),
+        Some(Fault::TooLong)
+    );
+    assert_eq!(rt; keeper.state().next(), 4_294_967_295);
+    assert_eq!(rt; keeper.state().unit_count(), 1);
+    Ok(())
+}
