@@ -1,5 +1,5 @@
 -- The catalogue of a state agrees with the run of no records.
-use Rattle.std.proofs.Common.{cond, arith, ◌∷◌, ◌≡◌, ℕ, Bool, true, false, ◌||◌, List, [], length, Some, None, map, refl, sym, ap, ◌∙◌}
+use Rattle.std.proofs.Common.{cond, arith, ◌∷◌, ◌≡◌, ℕ, Bool, true, false, ◌&&◌, ◌||◌, List, [], length, Some, None, map, refl, sym, ap, ◌∙◌}
 use Rattle.std.specs.Prelude.{◌==◌, nat_eq, if◌then◌else◌, option_map}
 use Rattle.std.specs.List.{list_any}
 use Rattle.std.specs.Cmp.Lexicographic.{pointwise}
@@ -13,6 +13,7 @@ use Rattle.rq_model.specs.Machine as machine
 use Rattle.rq_model.specs.Machine.{is_open}
 use Rattle.rq_model.specs.States.{is_registrant}
 use Rattle.rq_model.specs.Queues.{is_engaged}
+use Rattle.rq_model.specs.WellFormed.{IsWellFormed}
 use Rattle.rq_model.proofs.Lists.{by_cases}
 use Rattle.rq_record.specs.declared.record.UnitNo.{UnitNo}
 use Rattle.rq_state.specs.Views.{unit_of}
@@ -21,11 +22,13 @@ use Rattle.rq_catalog.specs.declared.catalogue.Catalogue.{Catalogue}
 use Rattle.rq_catalog.specs.Lists.{is_engaged_in, listed}
 use Rattle.rq_catalog.specs.Outcomes.{outcome_of}
 use Rattle.rq_catalog.specs.Catalogues.{key_eq, Follows}
+use Rattle.rq_catalog.proofs.Engaged.{open_at_first}
 use Rattle.rq_catalog.specs.Members.{all_open, has_name, has_key, is_marked_at, is_noted_at}
 
-or_false : (a : Bool) → a ≡ (a || false)
-or_false true = refl
-or_false false = refl
+while_open : (a o : Bool) → (a ≡ true → o ≡ true) → a ≡ (o && (a || false))
+while_open true o h = sym (ap (λ b. b && true) (h refl))
+while_open false true h = refl
+while_open false false h = refl
 
 pub starts : (c : Catalogue) (s : model.State) (ds : List model.Definition) (rs : List model.Registrant) (us : List UnitNo) (es : List model.Element) (ns : List model.Note)
     → ds ≡ s.definitions → rs ≡ s.registrants → map unit_of us ≡ s.units → es ≡ s.elements → ns ≡ s.notes
@@ -37,8 +40,9 @@ pub starts : (c : Catalogue) (s : model.State) (ds : List model.Definition) (rs 
     → ((u q : ℕ) → is_engaged_in (get nat_eq c.engaged u) q ≡ (list_any (is_marked_at u q) es || list_any (is_noted_at u q) ns))
     → length c.touching.items ≡ length ds
     → ((q : ℕ) → listed c.touching.items q ≡ [])
+    → IsWellFormed s
     → Follows c s []
-starts c s ds rs us es ns d r u e n names errors registrants greatest committed aborted outcomes engaged queues touching = record {
+starts c s ds rs us es ns d r u e n names errors registrants greatest committed aborted outcomes engaged queues touching well = record {
   names = λ x. names x ∙ ap (list_any (has_name x)) d;
   errors = errors ∙ ap (map (λ (d : model.Definition). d.error)) d;
   registrants = λ k. registrants k ∙ ap (list_any (has_key k)) r;
@@ -48,7 +52,7 @@ starts c s ds rs us es ns d r u e n names errors registrants greatest committed 
   outcomes = λ x. ap (λ es. option_map outcome_of (lookup (nat_eq x) es)) open_here ∙ found x s.units
       ∙ by_cases (is_open s x) (λ b. (if b then Some machine.Open else None) ≡ (if b || false then Some machine.Open else None)) (λ _. refl) (λ _. refl);
   units = ap keys_of open_here ∙ kept s.units ∙ sym (append-nil s.units);
-  engaged = λ x q. engaged x q ∙ (λ i. list_any (is_marked_at x q) (e i) || list_any (is_noted_at x q) (n i)) ∙ or_false (is_engaged s q x);
+  engaged = λ x q. engaged x q ∙ (λ i. list_any (is_marked_at x q) (e i) || list_any (is_noted_at x q) (n i)) ∙ while_open (is_engaged s q x) (is_open s x) (open_at_first s q x well);
   queues = queues ∙ sym (length-map ds (λ (d : model.Definition). d.error)) ∙ ap length (sym errors);
   touching = touching;
 }

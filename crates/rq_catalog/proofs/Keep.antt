@@ -30,6 +30,7 @@ use Rattle.rq_catalog.specs.Catalogues.{key_eq, names_after, defines, errors_aft
 use Rattle.rq_catalog.proofs.Runs.{run_push, any_push, first, from_push, is_open_outcome, open_by_outcome, unseen, touching_push}
 use Rattle.rq_catalog.proofs.Lawfulness.{count}
 use Rattle.rq_catalog.proofs.Seen.{entries_step}
+use Rattle.rq_catalog.proofs.Engaged.{or_false, any_holds, engaged_step}
 use Rattle.std.specs.Map.{keys_of}
 use Rattle.rq_model.proofs.Parts.{any_filter}
 use Rattle.rq_model.proofs.ByQueue.{run_definitions}
@@ -45,10 +46,6 @@ or_true false true = refl
 or_true true false = refl
 or_true false false = refl
 
-or_false : (a : Bool) → (a || false) ≡ a
-or_false true = refl
-or_false false = refl
-
 cond_or : (a b : Bool) → cond b true a ≡ (a || b)
 cond_or true true = refl
 cond_or false true = refl
@@ -58,14 +55,6 @@ cond_or false false = refl
 cond_or_first : (a b : Bool) → cond b true a ≡ (b || a)
 cond_or_first a true = refl
 cond_or_first a false = refl
-
-turn : (a b c : Bool) → (c || (a || b)) ≡ (a || (b || c))
-turn true b true = refl
-turn true b false = refl
-turn false true true = refl
-turn false true false = refl
-turn false false true = refl
-turn false false false = refl
 
 -- Names and registrants.
 
@@ -234,28 +223,6 @@ outcomes_step version s xs (Kill queue element) u old well lawful ok e = e ∙ o
 
 -- Engagement.
 
-engaged_step : (s : State) (xs : List model.Record) (r : Record) (u q : ℕ) → engaged_after r u q (is_engaged s q u || list_any (engages q u) xs) ≡ (is_engaged s q u || list_any (engages q u) (xs ++ record_of r ∷ []))
-engaged_step s xs r u q = at r ∙ ap (λ b. is_engaged s q u || b) (sym (any_push (engages q u) xs (record_of r)))
-  where
-    same : (is_engaged s q u || list_any (engages q u) xs) ≡ (is_engaged s q u || (list_any (engages q u) xs || false))
-    same = ap (λ b. is_engaged s q u || b) (sym (or_false (list_any (engages q u) xs)))
-
-    at : (r : Record) → engaged_after r u q (is_engaged s q u || list_any (engages q u) xs) ≡ (is_engaged s q u || (list_any (engages q u) xs || engages q u (record_of r)))
-    at (Enqueue priority queue unit by payload) = turn (is_engaged s q u) (list_any (engages q u) xs) ((unit.0 == u) && (queue.0 == q))
-    at (Dequeue unit queue by) = turn (is_engaged s q u) (list_any (engages q u) xs) ((unit.0 == u) && (queue.0 == q))
-    at (Define limit error name) = same
-    at (Register queue name) = same
-    at (Deregister queue name) = same
-    at (Begin unit) = same
-    at (Commit unit) = same
-    at (Abort unit) = same
-    at (Checkpoint bytes) = same
-    at (Kill queue element) = same
-
-any_holds : {X : Type 0} (P : X → Type 0) (Q : Type 0) (p : X → Bool) → ((x : X) → p x ≡ true → P x → Q) → (xs : List X) → AllByRecursion P xs → list_any p xs ≡ true → Q
-any_holds P Q p f [] k o = absurd (false≢true o)
-any_holds P Q p f (x ∷ xs) k o = by_cases (p x) (λ b. p x ≡ b → (b || list_any p xs) ≡ true → Q) (λ _ e _. f x e k.0) (λ _ _ o. any_holds P Q p f xs k.1 o) refl o
-
 -- queues that are engaged are defined
 engaged_at_first : (s : State) (q u : ℕ) → IsWellFormed s → is_engaged s q u ≡ true → q < length s.definitions
 engaged_at_first s q u well h =
@@ -315,8 +282,8 @@ module _ (version : Version) (c : Catalogue) (s : State) (xs : List model.Record
   touches_step : (r : Record) (q : ℕ) → is_lawful version (run s xs) (record_of r) ≡ true → (touches_in c r q && nat_lt q (length c.touching.items)) ≡ touches s xs q (record_of r)
   touches_step r q ok = ap (λ n. touches_in c r q && nat_lt q n) (f.queues ∙ count c s xs f) ∙ at r ok
     where
-      closing : (u : ℕ) → (is_engaged_in (get nat_eq c.engaged u) q && nat_lt q (length (run s xs).definitions)) ≡ (is_engaged s q u || list_any (engages q u) xs)
-      closing u = ap (λ b. b && nat_lt q (length (run s xs).definitions)) (f.engaged u q)
+      closing : (u : ℕ) → is_open (run s xs) u ≡ true → (is_engaged_in (get nat_eq c.engaged u) q && nat_lt q (length (run s xs).definitions)) ≡ (is_engaged s q u || list_any (engages q u) xs)
+      closing u l = ap (λ b. b && nat_lt q (length (run s xs).definitions)) (f.engaged u q ∙ ap (λ b. b && (is_engaged s q u || list_any (engages q u) xs)) l)
           ∙ by_cases (is_engaged s q u || list_any (engages q u) xs) (λ b. (is_engaged s q u || list_any (engages q u) xs) ≡ b → (b && nat_lt q (length (run s xs).definitions)) ≡ b) (λ _ e. lt-ltb q (length (run s xs).definitions) (engaged_defined version s xs q u well lawful e)) (λ _ _. refl) refl
 
       at : (r : Record) → is_lawful version (run s xs) (record_of r) ≡ true → (touches_in c r q && nat_lt q (length (run s xs).definitions)) ≡ touches s xs q (record_of r)
@@ -329,8 +296,8 @@ module _ (version : Version) (c : Catalogue) (s : State) (xs : List model.Record
               (λ r p b. subst (λ v. v < length (run s xs).definitions) (eqb-true r.queue k (and_parts (r.queue == k) (bytes_eq r.name name) p).0) b) (run s xs).registrants (registrant_queues (run s xs) (runs_are_well_formed version s xs well lawful)) h)
       at (Enqueue priority queue unit by payload) l = below_more queue.0 q (length (run s xs).definitions) (and_parts (machine.is_defined (run s xs) queue.0) (is_open (run s xs) unit.0 && is_known (run s xs) queue.0 by) l).0
       at (Dequeue unit queue by) l = below_more queue.0 q (length (run s xs).definitions) (and_parts (machine.is_defined (run s xs) queue.0) (is_open (run s xs) unit.0 && is_known (run s xs) queue.0 by) l).0
-      at (Commit unit) l = closing unit.0
-      at (Abort unit) l = closing unit.0
+      at (Commit unit) l = closing unit.0 l
+      at (Abort unit) l = closing unit.0 l
       at (Define limit error name) l = refl
       at (Begin unit) l = refl
       at (Checkpoint bytes) l = refl
@@ -347,7 +314,7 @@ module _ (version : Version) (c : Catalogue) (s : State) (xs : List model.Record
     units = ap keys_of t.entries ∙ entries_step version s xs well lawful (s.next + length xs) r c.outcomes.entries ok f.units;
     committed = t.committed ∙ ap (committed_after r) f.committed ∙ committed_step (run s xs) r ∙ ap (λ (z : State). z.committed) back;
     aborted = t.aborted ∙ ap (aborted_after r) f.aborted ∙ aborted_step (run s xs) r ∙ ap (λ (z : State). z.aborted) back;
-    engaged = λ u q. t.engaged u q ∙ ap (engaged_after r u q) (f.engaged u q) ∙ engaged_step s xs r u q;
+    engaged = λ u q. t.engaged u q ∙ ap (engaged_after r u q) (f.engaged u q) ∙ engaged_step version s xs r u q well lawful ok ∙ ap (λ z. is_open z u && (is_engaged s q u || list_any (engages q u) (xs ++ record_of r ∷ []))) back;
     queues = t.queues ∙ ap (λ n. n + defines r) f.queues ∙ longer r c.errors.items ∙ ap length (sym t.errors);
     touching = λ q. t.touching q
         ∙ ap (λ b. if b then listed c.touching.items q ++ (s.next + length xs, length xs) ∷ [] else listed c.touching.items q) (touches_step r q ok)

@@ -3,6 +3,7 @@ pub mod Once
 pub mod Runs
 pub mod Fronts
 pub mod Lawfulness
+pub mod Engaged
 pub mod Seen
 pub mod Keep
 pub mod Begins

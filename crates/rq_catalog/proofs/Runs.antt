@@ -123,7 +123,7 @@ open_by_outcome version s xs u well lawful =
     ∙ ap (λ b. b && is_still_open (outcome_from s.next u xs)) (any_both (λ v. v == u) s.units (begun xs) ∙ ap (λ b. is_open s u || b) (any_begun u xs))
     ∙ by_cases (is_open s u || list_any (begins u) xs) (λ b. (b && is_still_open (outcome_from s.next u xs)) ≡ is_open_outcome (if b then Some (outcome_from s.next u xs) else None)) (λ _. refl) (λ _. refl)
 
-open_below : (u g : ℕ) (units : List ℕ) → AllByRecursion (λ v. (1 ≤ v) × (v ≤ g)) units → list_any (λ v. v == u) units ≡ true → u ≤ g
+pub open_below : (u g : ℕ) (units : List ℕ) → AllByRecursion (λ v. (1 ≤ v) × (v ≤ g)) units → list_any (λ v. v == u) units ≡ true → u ≤ g
 open_below u g [] k o = absurd (false≢true o)
 open_below u g (v ∷ us) k o = by_cases (v == u) (λ b. (v == u) ≡ b → (b || list_any (λ v. v == u) us) ≡ true → u ≤ g) (λ _ e _. omega (arith, eqb-true v u e, k.0.1)) (λ _ _ n. open_below u g us k.1 n) refl o
 

@@ -6,7 +6,7 @@ use Rattle.indexmap.specs.IndexSet.{contains}
 use Rattle.rq_model.specs.Records.{By, Version, One, Two, no_queue}
 use Rattle.rq_model.specs.Records as model
 use Rattle.rq_model.specs.States.{State, Definition}
-use Rattle.rq_model.specs.Machine.{is_registered, run, outcome}
+use Rattle.rq_model.specs.Machine.{is_open, is_registered, run, outcome}
 use Rattle.std.specs.List.{list_any, AllByRecursion}
 use Rattle.std.specs.Str.{bytes_eq}
 use Rattle.rq_model.specs.Laws.{begun}
@@ -99,9 +99,12 @@ abbrev pub aborted_after : Record → ℕ → ℕ
 aborted_after (Abort unit) old = old + 1
 aborted_after r old = old
 
+-- the queues of a unit are kept while it is open
 abbrev pub engaged_after : Record → ℕ → ℕ → Bool → Bool
 engaged_after (Enqueue priority queue unit by payload) u q old = ((unit.0 == u) && (queue.0 == q)) || old
 engaged_after (Dequeue unit queue by) u q old = ((unit.0 == u) && (queue.0 == q)) || old
+engaged_after (Commit unit) u q old = cond (nat_eq unit.0 u) false old
+engaged_after (Abort unit) u q old = cond (nat_eq unit.0 u) false old
 engaged_after r u q old = old
 
 -- the record touches the queue, by the catalogue before it
@@ -145,6 +148,6 @@ pub record Follows (c : Catalogue) (s : State) (xs : List model.Record) : Type 0
   pub units : keys c.outcomes ≡ s.units ++ begun xs
   pub committed : c.committed ≡ (run s xs).committed
   pub aborted : c.aborted ≡ (run s xs).aborted
-  pub engaged : (u q : ℕ) → is_engaged_in (get nat_eq c.engaged u) q ≡ (is_engaged s q u || list_any (engages q u) xs)
+  pub engaged : (u q : ℕ) → is_engaged_in (get nat_eq c.engaged u) q ≡ (is_open (run s xs) u && (is_engaged s q u || list_any (engages q u) xs))
   pub queues : length c.touching.items ≡ length c.errors.items
   pub touching : (q : ℕ) → listed c.touching.items q ≡ numbered s xs q

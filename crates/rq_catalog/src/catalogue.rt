@@ -1,6 +1,6 @@
 //! What lawfulness looks at, and what is noted on the way.
 
-ghost use Rattle.std.specs.Prelude.{◌≡◌, ℕ, ◌==◌, ◌&&◌, ◌||◌, List, ◌++◌, [], ◌∷◌, map, OnOk, IfErr, nat_lt, nat_eq, length, cond, true, ◌+◌, ◌<◌, Some, if◌then◌else◌};
+ghost use Rattle.std.specs.Prelude.{◌≡◌, ℕ, ◌==◌, ◌&&◌, ◌||◌, List, ◌++◌, [], ◌∷◌, map, OnOk, IfErr, nat_lt, nat_eq, length, cond, true, false, ◌+◌, ◌<◌, Some, if◌then◌else◌};
 ghost use Rattle.indexmap.specs.IndexMap.{get, insert_entry};
 ghost use Rattle.indexmap.specs.IndexSet.{contains};
 ghost use Rattle.std.specs.List.{AllByRecursion};
@@ -17,8 +17,8 @@ use indexmap::{IndexMap, IndexSet};
 use rq_record::{Fault, KeptBy, Name, QueueNo, Record, Version};
 use std::alloc::Global;
 
-/// What lawfulness looks at, which is queues, registrants and units, and what is noted on the way: the queues that each unit
-/// engaged, the records that touch each queue, and the counts.
+/// What lawfulness looks at, which is queues, registrants and units, and what is noted on the way: the queues that each open
+/// unit engaged, the records that touch each queue, and the counts.
 #[derive(Drop)]
 pub(crate) struct Catalogue {
     pub(crate) names: IndexSet<Name>,
@@ -193,16 +193,17 @@ impl Catalogue {
 
     fn close(&mut self, unit: u64, outcome: Outcome, op: (u64, usize)) -> Result<(), Fault>
         requires { (q : ℕ) → AllByRecursion (λ p. p.0 < op.0) (listed self.old.touching.items q) }
-        ensures frame { self.new ≡ record self.old { outcomes = self.new.outcomes; touching = self.new.touching } }
+        ensures frame { self.new ≡ record self.old { outcomes = self.new.outcomes; engaged = self.new.engaged; touching = self.new.touching } }
         ensures outcomes { OnOk result ((u : ℕ) → get nat_eq self.new.outcomes u ≡ cond (nat_eq unit u) (Some outcome) (get nat_eq self.old.outcomes u)) }
         ensures entries { OnOk result (self.new.outcomes.entries ≡ insert_entry nat_eq self.old.outcomes.entries unit outcome) }
+        ensures engaged { OnOk result ((u q : ℕ) → is_engaged_in (get nat_eq self.new.engaged u) q ≡ cond (nat_eq unit u) false (is_engaged_in (get nat_eq self.old.engaged u) q)) }
         ensures queues { length self.new.touching.items ≡ length self.old.touching.items }
         ensures touching { OnOk result ((q : ℕ) → listed self.new.touching.items q ≡ (if is_engaged_in (get nat_eq self.old.engaged unit) q && nat_lt q (length self.old.touching.items) then listed self.old.touching.items q ++ op ∷ [] else listed self.old.touching.items q)) }
         ensures refused { IfErr result (λ e. e ≡ Resources) }
     {
         self.outcomes.insert(unit, outcome)?;
-        match self.engaged.get(&unit) {
-            Some(queues) => touch_all(&mut self.touching, queues, op),
+        match self.engaged.swap_remove(&unit) {
+            Some(queues) => touch_all(&mut self.touching, &queues, op),
             None => Ok(()),
         }
     }
