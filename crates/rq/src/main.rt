@@ -82,7 +82,8 @@ where
     R: Files + Print + AllocGlobal + Threads + Sync,
 {
     match command {
-        Command::Make { script, log, .. } => make_file(rt, command, script, log),
+        Command::Make { script, log } => make_file(rt, command, script, log),
+        Command::Make2 { script, log } => make_file(rt, command, script, log),
         Command::Restart { log, .. } => print(rt, command, log),
         Command::RestartAt { log, .. } => print(rt, command, log),
         Command::Audit { log, .. } => print(rt, command, log),

@@ -25,6 +25,6 @@ pub use restarted::{Restarted, Why};
 pub use restarting::{front_state, restart, restart_lent};
 pub use restarting_at::{restart_at, restart_lent_at};
 pub use rq_pool::{Gate, Open, Plan};
-pub use rq_record::Fault;
+pub use rq_record::{Fault, Version};
 pub use tails::{closed, tail};
 pub use upgrading::upgrade;

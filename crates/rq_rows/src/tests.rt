@@ -66,10 +66,10 @@ fn log_in<R: Threads + Sync + AllocGlobal>(
     script: &[&str],
 ) -> Result<Vec<u8>, Fail> {
     let script = lines(rt.alloc(), script)?;
-    let command = Command::Make {
-        version,
-        script: "script",
-        log: "log",
+    let (from, log) = ("script", "log");
+    let command = match version {
+        Version::One => Command::Make { script: from, log },
+        Version::Two => Command::Make2 { script: from, log },
     };
     Ok(answer(rt, &command, &script)?)
 }

@@ -8,7 +8,6 @@ mod redoing;
 mod sweeping;
 mod workers;
 
-use rq_record::Version;
 use rq_tool::{Command, Fault, Input, Open, Output, OverRead, OverWrite, act};
 use std::alloc::Global;
 use std::io::Cursor;
@@ -66,7 +65,6 @@ const CLOSED: [&str; 10] = [
 ];
 
 const MAKE: Command<'static> = Command::Make {
-    version: Version::One,
     script: "script",
     log: "log",
 };

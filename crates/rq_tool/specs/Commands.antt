@@ -2,7 +2,6 @@
 use Rattle.std.specs.Prelude.{◌≡◌, ℕ, ◌<◌, ◌≤◌, ◌^◌, ⊤, List, [], ◌∷◌, Option, Some, None, codes}
 use Rattle.std.specs.Fmt.{decimal}
 use Rattle.rq_model.specs.Records.{Version, One, Two}
-use Rattle.rq_record.specs.Views.{version_of}
 use Rattle.rq_pool.specs.Plans.{workers_of, grain_of}
 use Rattle.rq_tool.specs.declared.line.Command.{Command}
 use Rattle.rq_tool.specs.declared.line.Command.TheVariants as code
@@ -45,7 +44,8 @@ IsLine (Upgrade log out workers grain) = IsPlan workers grain × (grain ≡ 1000
 
 -- the line of a command
 abbrev pub line_of : Command → Line
-line_of (code.Make version script log) = Make (version_of version) script.now log.now
+line_of (code.Make script log) = Make One script.now log.now
+line_of (code.Make2 script log) = Make Two script.now log.now
 line_of (code.Restart log plan) = Restart log.now (workers_of plan) (grain_of plan)
 line_of (code.RestartAt log offset plan) = RestartAt log.now offset (workers_of plan) (grain_of plan)
 line_of (code.Audit log plan) = Audit log.now (workers_of plan) (grain_of plan)

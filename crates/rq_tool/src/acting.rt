@@ -13,7 +13,7 @@ use crate::line::Command;
 use crate::making::make_log_in;
 use crate::upgrading::upgrade_log;
 use rq_report::{Input, Output};
-use rq_restart::{Fault, Gate};
+use rq_restart::{Fault, Gate, Version};
 use std::alloc::Global;
 use std::marker::Sync;
 use std::thread::Threads;
@@ -43,7 +43,8 @@ where
     ensures write_faults { WriteFaults (O.faults output.old) (O.faults output.new) result }
 {
     match command {
-        Command::Make { version, .. } => make_log_in(rt, alloc, *version, input, output),
+        Command::Make { .. } => make_log_in(rt, alloc, Version::One, input, output),
+        Command::Make2 { .. } => make_log_in(rt, alloc, Version::Two, input, output),
         Command::Restart { plan, .. } => run(rt, alloc, input, output, plan, gate),
         Command::RestartAt { offset, plan, .. } => {
             run_at(rt, alloc, input, output, *offset, plan, gate)

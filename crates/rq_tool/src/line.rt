@@ -1,14 +1,17 @@
 //! The lines of the program.
 
-use rq_record::Version;
 use rq_restart::Plan;
 
 /// A line of the program, by its words.
 #[derive(Clone, Copy, Debug)]
 pub enum Command<'a> {
-    /// Write the log of a script in a version.
+    /// Write the log of a script in version 1.
     Make {
-        version: Version,
+        script: &'a str,
+        log: &'a str,
+    },
+    /// Write the log of a script in version 2.
+    Make2 {
         script: &'a str,
         log: &'a str,
     },

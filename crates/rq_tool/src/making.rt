@@ -7,9 +7,8 @@ ghost use Rattle.rq_tool.specs.Scripts.{IsLogOf, IsMakeFault, Makes, MakesOnly, 
 ghost use Rattle.rq_tool.specs.Streams.{ReadFaults, Takes, WriteFaults};
 
 use crate::input::read_all;
-use rq_record::Version;
 use rq_report::{Input, Output, write_all};
-use rq_restart::{Fault, Plan};
+use rq_restart::{Fault, Plan, Version};
 use rq_writer::make_in;
 use std::alloc::Global;
 use std::marker::Sync;

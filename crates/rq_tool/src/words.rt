@@ -7,8 +7,7 @@ ghost use Rattle.rq_tool.specs.Words.{IsPlanOf, IsWorkersPlanOf};
 ghost use Rattle.rq_writer.specs.Decimals.{IsNumber};
 
 use crate::line::Command;
-use rq_record::Version;
-use rq_restart::Plan;
+use rq_restart::{Plan, Version};
 use rq_writer::decimal_number;
 
 /// The grain of a line that names none, in frames.
@@ -40,10 +39,9 @@ fn make<'a>(version: Version, words: &[&'a str]) -> Option<Command<'a>>
     ensures { IsCommand (make_word (version_of version) ∷ map (λ w. w.now) words.now) result }
 {
     match words {
-        [script, log] => Some(Command::Make {
-            version,
-            script,
-            log,
+        [script, log] => Some(match version {
+            Version::One => Command::Make { script, log },
+            Version::Two => Command::Make2 { script, log },
         }),
         _ => None,
     }

@@ -1,7 +1,6 @@
 //! Lines of the program, texts and exit statuses of faults.
 
 use super::answer;
-use rq_record::Version;
 use rq_tool::{Command, Fault, command};
 use std::test::Fail;
 
@@ -29,14 +28,8 @@ fn faults_have_texts_and_statuses(rt: HostRuntime) -> Result<(), Fail> {
 /// The first word of a command's line.
 fn word_of(command: &Command<'_>) -> &'static str {
     match command {
-        Command::Make {
-            version: Version::One,
-            ..
-        } => "make",
-        Command::Make {
-            version: Version::Two,
-            ..
-        } => "make2",
+        Command::Make { .. } => "make",
+        Command::Make2 { .. } => "make2",
         Command::Restart { .. } => "restart",
         Command::RestartAt { .. } => "restart-at",
         Command::Audit { .. } => "audit",
@@ -98,7 +91,6 @@ fn a_number_out_of_its_range_or_form_is_usage(rt: HostRuntime) -> Result<(), Fai
 #[test]
 fn a_line_that_is_none_is_named(rt: HostRuntime) -> Result<(), Fail> {
     let make = Command::Make {
-        version: Version::One,
         script: "script",
         log: "log",
     };
