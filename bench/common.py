@@ -4,6 +4,8 @@ import argparse, hashlib, os, subprocess, sys, time
 
 HERE = os.path.dirname(os.path.abspath(__file__))
 HEADER = 40
+# The logs whose times and memory are told, by the peer's names.
+SHAPES = ["small", "kib", "big", "hot", "names", "wide", "errors", "deep", "kills"]
 
 
 def parser() -> argparse.ArgumentParser:

@@ -8,9 +8,7 @@ of the runs, taken in turn, so that all columns met the same load. Ratios are to
 """
 from __future__ import annotations
 import os
-from common import built_peer, log_of, parsed, parser, seconds
-
-SHAPES = ["small", "kib", "big", "hot", "names", "wide", "errors", "deep", "kills"]
+from common import SHAPES, built_peer, log_of, parsed, parser, seconds
 
 
 def main() -> None:

@@ -1,8 +1,9 @@
 #!/usr/bin/env python3
-"""Says by what each wrong body of `crates/*/must-fail/` is refused.
+"""Says by what each wrong body of `crates/*/must-fail/` and `bench/wrong-bodies/` is refused.
 
 usage: refusals.py [CRATE | CRATE/EDIT ..]
-With no words all edits of all crates. Each edit is put into a copy of its crate, and the copy is checked over the work that
+With no words all edits of all crates. The gate tries those of the first folders, which turn what a public function means; those
+of the second one change a function within a crate. Each edit is put into a copy of its crate, and the copy is checked over the work that
 the crate keeps, so check the crates first. An edit is worth its place where a goal of a function that it changes stays open.
 One that is refused only since a proof file names what the edit took away, or only in another function, shows little of the
 contract; `rt must-fail` counts both as refused.
@@ -12,6 +13,7 @@ import os, re, shutil, subprocess, sys, tempfile
 
 ROOT = os.path.dirname(os.path.dirname(os.path.abspath(__file__)))
 CRATES = os.path.join(ROOT, "crates")
+INNER = os.path.join(ROOT, "bench", "wrong-bodies")
 TOLD = re.compile(r"(?:note: )?(?:\./)?(\S+?):(\d+):\d+: (.*)")
 # a hole that is left: the goal, and the file that would answer it
 HOLE = re.compile(r"note: `\S+` of (?:\./)?(\S+) must prove")
@@ -112,15 +114,21 @@ def copied(room: str, crate: str) -> str:
     return folder
 
 
+def edits_of(crate: str) -> list[str]:
+    """The files of the crate's edits, by name."""
+    folders = (os.path.join(CRATES, crate, "must-fail"), os.path.join(INNER, crate))
+    found = [os.path.join(at, name) for at in folders if os.path.isdir(at) for name in os.listdir(at) if name.endswith(".edit")]
+    return sorted(found, key=os.path.basename)
+
+
 def try_crate(crate: str, wanted: list[str]) -> None:
-    place = os.path.join(CRATES, crate, "must-fail")
-    edits = sorted(name for name in os.listdir(place) if name.endswith(".edit"))
     with tempfile.TemporaryDirectory(prefix="refusals-") as room:
         folder = copied(room, crate)
-        for name in edits:
-            if wanted and name.removesuffix(".edit") not in wanted:
+        for edit in edits_of(crate):
+            name = os.path.basename(edit).removesuffix(".edit")
+            if wanted and name not in wanted:
                 continue
-            print(f"{crate}/{name.removesuffix('.edit')}: {verdict(folder, os.path.join(place, name))}", flush=True)
+            print(f"{crate}/{name}: {verdict(folder, edit)}", flush=True)
             shutil.rmtree(os.path.join(folder, "src"))
             shutil.copytree(os.path.join(CRATES, crate, "src"), os.path.join(folder, "src"))
 
@@ -136,7 +144,7 @@ def main() -> None:
         if edit:
             wanted[crate].append(edit.removesuffix(".edit"))
     for crate, edits in wanted.items():
-        if os.path.isdir(os.path.join(CRATES, crate, "must-fail")):
+        if edits_of(crate):
             try_crate(crate, edits)
 
 

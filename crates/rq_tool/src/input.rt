@@ -1,6 +1,6 @@
 //! Reading a log, and a script.
 
-ghost use Rattle.std.specs.Prelude.{◌≡◌, ◌⊎◌, ℕ, ◌+◌, ◌<◌, ◌≤◌, ◌++◌, List, Option, Some, length, IfOk, IfErr, OnOk};
+ghost use Rattle.std.specs.Prelude.{[], ◌≡◌, ◌⊎◌, ℕ, ◌+◌, ◌<◌, ◌≤◌, ◌++◌, List, Option, Some, length, IfOk, IfErr, OnOk};
 ghost use Rattle.std.specs.Io.KnownBytes.{Consumes, IsAtEnd};
 ghost use Rattle.rq_model.specs.Frames.{AreBytes};
 ghost use Rattle.rq_front.specs.Chains.{IsHeaded};
@@ -28,6 +28,17 @@ fn room(alloc: Global) -> Result<Vec<u8>, Fault>
     ensures refused { IfErr result (λ e. e ≡ Resources) }
 {
     Ok(vec![in alloc; 0u8; 65_536]?)
+}
+
+// Nothing, with room for as many bytes as are ever read, where the system gives it: it takes pages as they are filled, and
+// nothing is moved. Where it does not, the room grows as the bytes come.
+fn roomy(alloc: Global) -> Vec<u8>
+    ensures items { result.items ≡ [] }
+{
+    match Vec::with_capacity(alloc, READ_LIMIT) {
+        Ok(bytes) => bytes,
+        Err(_) => Vec::new(alloc),
+    }
 }
 
 /// The members of a slice of bytes are bytes of 8 bits.
@@ -94,7 +105,7 @@ pub(crate) fn read_all<I: Input>(alloc: Global, input: &mut I) -> Result<Vec<u8>
     ensures takes { Takes (I.remaining input.old) (I.remaining input.new) result }
     ensures count { ReadFaults (I.faults input.old) (I.faults input.new) result }
 {
-    let mut bytes = Vec::new(alloc);
+    let mut bytes = roomy(alloc);
     let mut piece = room(alloc)?;
     read_up_to(input, &mut piece, &mut bytes, READ_LIMIT)?;
     Ok(bytes)
@@ -154,7 +165,7 @@ pub(crate) fn read_log<I: Input>(alloc: Global, input: &mut I) -> Result<Vec<u8>
     ensures takes { Takes (I.remaining input.old) (I.remaining input.new) result }
     ensures count { ReadFaults (I.faults input.old) (I.faults input.new) result }
 {
-    let mut bytes = Vec::new(alloc);
+    let mut bytes = roomy(alloc);
     let mut piece = room(alloc)?;
     read_up_to(input, &mut piece, &mut bytes, HEADER_LEN)?;
     let Some(_version) = version(&bytes) else {

@@ -24,21 +24,21 @@ returns-in_default-clause-told g c = λ b is.
     let remaining = g.I.Input.remaining in
     let old = remaining c.args.input.now in
     let new = remaining c.refused.new.input in
-    unread b old new c.refused.result is (why_unread old (remaining c.read_up_to.new.input) new c.new-bytes.result.items c.read_up_to.new.bytes.items c.deref-in_default.result.now c.refused.result c.new-bytes.ensures.items c.in_ok-read_up_to.ensures.bytes c.deref-in_default.ensures.value c.refused.ensures.told)
+    unread b old new c.refused.result is (why_unread old (remaining c.read_up_to.new.input) new c.roomy-bytes.result.items c.read_up_to.new.bytes.items c.deref-in_default.result.now c.refused.result c.roomy-bytes.ensures.items c.in_ok-read_up_to.ensures.bytes c.deref-in_default.ensures.value c.refused.ensures.told)
 
 pub returns-in_default-clause-refused : goal.returns-in_default-clause-refused
 returns-in_default-clause-refused g c =
     let remaining = g.I.Input.remaining in
     let old = remaining c.args.input.now in
     let new = remaining c.refused.new.input in
-    unread_before old new c.refused.result (why_unread old (remaining c.read_up_to.new.input) new c.new-bytes.result.items c.read_up_to.new.bytes.items c.deref-in_default.result.now c.refused.result c.new-bytes.ensures.items c.in_ok-read_up_to.ensures.bytes c.deref-in_default.ensures.value c.refused.ensures.told)
+    unread_before old new c.refused.result (why_unread old (remaining c.read_up_to.new.input) new c.roomy-bytes.result.items c.read_up_to.new.bytes.items c.deref-in_default.result.now c.refused.result c.roomy-bytes.ensures.items c.in_ok-read_up_to.ensures.bytes c.deref-in_default.ensures.value c.refused.ensures.told)
 
 pub returns-in_default-clause-takes : goal.returns-in_default-clause-takes
 returns-in_default-clause-takes g c =
     let remaining = g.I.Input.remaining in
     let old = remaining c.args.input.now in
     let new = remaining c.refused.new.input in
-    unread_taken (Vec ℕ) old new c.refused.result (why_unread old (remaining c.read_up_to.new.input) new c.new-bytes.result.items c.read_up_to.new.bytes.items c.deref-in_default.result.now c.refused.result c.new-bytes.ensures.items c.in_ok-read_up_to.ensures.bytes c.deref-in_default.ensures.value c.refused.ensures.told)
+    unread_taken (Vec ℕ) old new c.refused.result (why_unread old (remaining c.read_up_to.new.input) new c.roomy-bytes.result.items c.read_up_to.new.bytes.items c.deref-in_default.result.now c.refused.result c.roomy-bytes.ensures.items c.in_ok-read_up_to.ensures.bytes c.deref-in_default.ensures.value c.refused.ensures.told)
 
 pub returns-in_err-read_up_to-2-clause-takes : goal.returns-in_err-read_up_to-2-clause-takes
 returns-in_err-read_up_to-2-clause-takes g c =
@@ -46,7 +46,7 @@ returns-in_err-read_up_to-2-clause-takes g c =
     let old = remaining c.args.input.now in
     let mid = remaining c.read_up_to.new.input in
     let new = remaining c.read_up_to-2.new.input in
-    let taken = first_taken old mid c.new-bytes.result.items c.read_up_to.new.bytes.items c.new-bytes.ensures.items c.in_ok-read_up_to.ensures.bytes in
+    let taken = first_taken old mid c.roomy-bytes.result.items c.read_up_to.new.bytes.items c.roomy-bytes.ensures.items c.in_ok-read_up_to.ensures.bytes in
     let some = takes_on old mid new (c.read_up_to.new.bytes.items, taken) c.in_err-read_up_to-2.ensures.partly in
     let answer : c.from_residual-in_err-read_up_to-2.result ≡ Err c.in_err-read_up_to-2.field-0.0 = search rules in
     subst (λ (r : Result (Vec ℕ) Fault). Takes old new r) (sym answer) (some_taken (Vec ℕ) old new c.in_err-read_up_to-2.field-0.0 c.in_err-read_up_to-2.ensures.refused some)
@@ -66,5 +66,5 @@ pub returns-clause-takes : goal.returns-clause-takes
 returns-clause-takes g c =
     let remaining = g.I.Input.remaining in
     let old = remaining c.args.input.now in
-    let taken = first_taken old (remaining c.read_up_to.new.input) c.new-bytes.result.items c.read_up_to.new.bytes.items c.new-bytes.ensures.items c.in_ok-read_up_to.ensures.bytes in
+    let taken = first_taken old (remaining c.read_up_to.new.input) c.roomy-bytes.result.items c.read_up_to.new.bytes.items c.roomy-bytes.ensures.items c.in_ok-read_up_to.ensures.bytes in
     (c.read_up_to-2.new.bytes.items, all_read old (remaining c.read_up_to-2.new.input) c.read_up_to-2.new.bytes.items (c.in_ok-read_up_to-2.ensures.bytes old taken) c.in_ok-read_up_to-2.ensures.limit c.in_ok-read_up_to-2.ensures.end)
