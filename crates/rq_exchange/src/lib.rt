@@ -19,4 +19,5 @@ mod replaying;
 mod settling;
 
 pub use course::Course;
-pub use replaying::{replay, replay_analysed, replay_traced};
+pub use gathering::AllRedone;
+pub use replaying::{redo_analysed, replay, replay_analysed, replay_traced};

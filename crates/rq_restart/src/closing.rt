@@ -14,7 +14,7 @@ ghost use Rattle.rq_restart.specs.Views.{why_of};
 use crate::front::Front;
 use crate::restarted::Restarted;
 use rq_catalog::Analysis;
-use rq_exchange::replay_analysed;
+use rq_exchange::redo_analysed;
 use rq_pool::{Gate, Plan};
 use rq_record::{Fault, Record, UnitNo, Version};
 use rq_state::State;
@@ -49,8 +49,8 @@ fn with_aborts(
     Ok((records, units.len() as u64))
 }
 
-// The state behind the records, for whose beginning the analysis stands. It lets go of both, so that a caller that is
-// refused has neither to drop.
+// The state behind the records, for whose beginning the analysis stands. It lets go of both before the state is gathered, so
+// that the three never stand in memory at once, and a caller that is refused has neither to drop.
 fn redone<R, G>(
     rt: &R,
     alloc: Global,
@@ -73,7 +73,10 @@ where
 {
     rq_model::versions();
     let analysis = analysis.go_on(alloc, version, state, &records)?;
-    replay_analysed(rt, alloc, state, &records, &analysis, plan, gate)
+    let all = redo_analysed(rt, alloc, state, &records, &analysis, plan, gate)?;
+    drop(analysis);
+    drop(records);
+    all.gather(alloc)
 }
 
 /// What a restart answers of a front of the version that begins in the state and ends at a place of `total` bytes: its open
