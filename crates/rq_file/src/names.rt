@@ -10,10 +10,12 @@ use std::fs::{File, Files, Metadata, OpenFile, OpenOptions};
 use std::os::unix::fs::{MetadataExt, OpenOptionsExt, chown};
 use std::{fs, io};
 
-/// The mode of a file while it is written that is to take the place of another: nobody else reads it, whoever may read that.
+/// The mode of a file while it is written that is to take the place of another: nobody else reads
+/// it, whoever may read that.
 const OWN_MODE: u32 = 0o600;
 
-/// Gives the file of this name the owner and the group of the old one, or the group alone, as far as the system lets us.
+/// Gives the file of this name the owner and the group of the old one, or the group alone, as far
+/// as the system lets us.
 fn give_to<R: Files>(rt: &R, name: &str, old: &Metadata) {
     let (owner, group) = (Some(old.uid()), Some(old.gid()));
     if chown(rt, name, owner, group).is_err() {
@@ -21,7 +23,8 @@ fn give_to<R: Files>(rt: &R, name: &str, old: &Metadata) {
     }
 }
 
-/// The name under which a file is written before it takes the place of the old one, and what that is.
+/// The name under which a file is written before it takes the place of the old one, and what that
+/// is.
 #[derive(Drop)]
 pub struct Names {
     old: String,
@@ -29,14 +32,15 @@ pub struct Names {
 }
 
 impl Names {
-    /// The names for a path; none where what it names is written as it is: a device, a pipe, or a file that a process has
-    /// open. A symbolic link stays, and what it names is replaced.
+    /// The names for a path; none where what it names is written as it is: a device, a pipe, or a
+    /// file that a process has open. A symbolic link stays, and what it names is replaced.
     ///
-    /// Refuses with the system's error what cannot be looked at; with `FilesystemLoop` more symbolic links, one behind the
-    /// other, than the system follows; with `AlreadyExists` where all names beside it are taken; with `OutOfMemory` where
-    /// memory is refused.
+    /// Refuses with the system's error what cannot be looked at; with `FilesystemLoop` more
+    /// symbolic links, one behind the other, than the system follows; with `AlreadyExists` where
+    /// all names beside it are taken; with `OutOfMemory` where memory is refused.
     pub fn of<R: Files + AllocGlobal>(rt: &R, path: &str) -> io::Result<Option<Names>>
-        ensures { IfOk result (λ found. IfSome found (λ names. IsBeside (old_of names) (new_of names))) }
+        ensures { IfOk result
+            (λ found. IfSome found (λ names. IsBeside (old_of names) (new_of names))) }
     {
         let old = followed(rt, path)?;
         let is_file = fs::metadata(rt, old.as_str()).map_or(true, |found| found.is_file());
@@ -54,8 +58,8 @@ impl Names {
         &self.new
     }
 
-    /// How the new file is made: it never is one that was there. Where there is an old one, others may read the new one no
-    /// sooner than it has taken its place.
+    /// How the new file is made: it never is one that was there. Where there is an old one, others
+    /// may read the new one no sooner than it has taken its place.
     pub fn options<R: Files>(&self, rt: &R) -> OpenOptions
         ensures { asks_create_new result ≡ true }
     {
@@ -67,9 +71,10 @@ impl Names {
         options
     }
 
-    /// Ends the work on the new file, where it was opened. Where that is done, puts it in the place of the old one, with its
-    /// owner, group and mode, once its bytes are on the disk; else, or where this fails, takes it away. A fault in telling the
-    /// disk of the change leaves the new file in its place.
+    /// Ends the work on the new file, where it was opened. Where that is done, puts it in the place
+    /// of the old one, with its owner, group and mode, once its bytes are on the disk; else, or
+    /// where this fails, takes it away. A fault in telling the disk of the change leaves the new
+    /// file in its place.
     pub fn settle<R: Files>(&self, rt: &R, made: Option<R::File>, is_done: bool) -> io::Result<()> {
         let Some(file) = made else {
             return Ok(());
@@ -92,7 +97,8 @@ impl Names {
         }
     }
 
-    // Puts the new file in the place of the old one, and answers the folder, which was opened before.
+    // Puts the new file in the place of the old one, and answers the folder, which was opened
+    // before.
     fn exchange<R: Files>(&self, rt: &R, file: &R::File) -> io::Result<R::File> {
         let folder = File::open(rt, folder_of(&self.old))?;
         if let Ok(old) = fs::metadata(rt, self.old.as_str()) {

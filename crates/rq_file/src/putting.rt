@@ -5,7 +5,8 @@ use crate::names::Names;
 use std::fs::Files;
 use std::io::{self, Write};
 
-/// Makes the file of the path, with these bytes: whole, or as it was, or not there. What is no file is written as it is.
+/// Makes the file of the path, with these bytes: whole, or as it was, or not there. What is no file
+/// is written as it is.
 ///
 /// Refuses with the system's error, as `Names::of` does and as far as writing fails.
 pub fn put<R: Files + AllocGlobal>(rt: &R, path: &str, bytes: &[u8]) -> io::Result<()> {

@@ -19,7 +19,8 @@ bodies_at b spans = map (body_at b) spans
 -- the spans of bodies whose frames stand one after the other from a place
 abbrev pub spans_from : ℕ → List (List ℕ) → List Span
 spans_from at [] = []
-spans_from at (body ∷ bodies) = record { start = at + 4; len = length body } ∷ spans_from (at + 36 + length body) bodies
+spans_from at (body ∷ bodies) = record { start = at + 4; len = length body }
+    ∷ spans_from (at + 36 + length body) bodies
 
 -- what follows, in the words of the model
 abbrev pub rest_of : Rest → model.Rest

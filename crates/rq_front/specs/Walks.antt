@@ -1,5 +1,6 @@
 -- A walk along the lengths of a log, before any digest is looked at.
-use Rattle.std.specs.Prelude.{◌≡◌, ℕ, ◌+◌, ◌*◌, ◌-◌, ◌≤◌, ◌<◌, Bool, true, false, not, nat_le, List, [], ◌∷◌, length, take, drop, All}
+use Rattle.std.specs.Prelude.{◌≡◌, ℕ, ◌+◌, ◌*◌, ◌-◌, ◌≤◌, ◌<◌, Bool, true, false, not, nat_le, List}
+use Rattle.std.specs.Prelude.{[], ◌∷◌, length, take, drop, All}
 use Rattle.std.specs.List.{HoldsAt}
 use Rattle.rq_model.specs.Frames.{HasFrame, HasRightFrame, IsFrameRun, IsRest, stated, before}
 use Rattle.rq_lanes.specs.declared.lanes.Message.{Message}
@@ -8,10 +9,12 @@ use Rattle.rq_front.specs.declared.spans.Chain.{Chain}
 use Rattle.rq_front.specs.declared.spans.Walk.{Walk}
 use Rattle.rq_front.specs.Chains.{bodies_at, rest_of, spans_from}
 
--- frames stand one after the other from a place to an end, their digests aside, with bodies at these spans
+-- frames stand one after the other from a place to an end, their digests aside, with bodies at
+-- these spans
 abbrev pub IsWalk : List ℕ → ℕ → List Span → ℕ → Type 0
 IsWalk b at [] end = end ≡ at
-IsWalk b at (s ∷ ss) end = (s.start ≡ at + 4) × (s.len ≡ stated (drop at b)) × HasFrame (drop at b) × IsWalk b (at + 36 + s.len) ss end
+IsWalk b at (s ∷ ss) end = (s.start ≡ at + 4) × (s.len ≡ stated (drop at b))
+    × HasFrame (drop at b) × IsWalk b (at + 36 + s.len) ss end
 
 -- the span is that of the body of a frame, its digest aside, with 32 bytes before it
 pub record IsSpanOf (b : List ℕ) (s : Span) : Type 0 where

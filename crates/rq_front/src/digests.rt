@@ -1,8 +1,10 @@
 //! The first frame whose digest is wrong.
 
-ghost use Rattle.std.specs.Prelude.{◌≡◌, ◌≤◌, ◌↔◌, List, ◌++◌, drop, filter, length, map, IsTrue, IfOk, IfNone, IfSome, All, MatchBool};
+ghost use Rattle.std.specs.Prelude.{◌≡◌, ◌≤◌, ◌↔◌, List, ◌++◌, drop, filter, length, map, IsTrue};
+ghost use Rattle.std.specs.Prelude.{IfOk, IfNone, IfSome, All, MatchBool};
 ghost use Rattle.rq_model.specs.Frames.{HasFrame, HasRightFrame, before, stated};
-ghost use Rattle.rq_front.specs.Walks.{HasFirstWrong, IsFirstWrong, IsRight, IsSpanOf, has_turn, message_at, message_of};
+ghost use Rattle.rq_front.specs.Walks.{HasFirstWrong, IsFirstWrong, IsRight, IsSpanOf, has_turn};
+ghost use Rattle.rq_front.specs.Walks.{message_at, message_of};
 ghost use Rattle.rq_lanes.specs.Messages.{Holds};
 ghost use Rattle.rq_front.specs.Pieces.{AreSideBySide, spans_in};
 
@@ -24,7 +26,8 @@ const PIECE_LEAST: usize = 1_048_576;
 
 const PIECE_MOST: usize = 4_194_304;
 
-// The body of a frame that is a piece of its own: among others its lane would run on alone, slower than `sha2`.
+// The body of a frame that is a piece of its own: among others its lane would run on alone, slower
+// than `sha2`.
 const LONG: usize = 1_048_576;
 
 // The body of a frame that the lanes take before shorter ones.
@@ -37,8 +40,8 @@ struct Piece {
     to: usize,
 }
 
-// Whether the digest of the frame at a place is right. The 32 bytes before it, the length and the body stand side by
-// side.
+// Whether the digest of the frame at a place is right. The 32 bytes before it, the length and the
+// body stand side by side.
 fn is_right(bytes: &[u8], at: usize, len: usize) -> bool
     requires after { 32 ≤ at }
     requires frame { HasFrame (drop at bytes.now) }
@@ -76,7 +79,8 @@ fn message_at(bytes: &[u8], at: usize, len: usize) -> Message
     }
 }
 
-// Whether a frame has its turn: long ones come first, since behind all others their lanes would run on alone.
+// Whether a frame has its turn: long ones come first, since behind all others their lanes would run
+// on alone.
 fn has_turn(first: bool, span: Span) -> bool
     ensures { result ≡ has_turn first span }
 {
@@ -87,7 +91,8 @@ fn has_turn(first: bool, span: Span) -> bool
 // Gives the lanes the frames that have the first turn, or the second.
 fn taken(given: Lanes<LANES>, bytes: &[u8], spans: &[Span], first: bool) -> Lanes<LANES>
     requires { All (IsSpanOf bytes.now) spans.now }
-    ensures { (ms : List Message) → Holds bytes.now given ms → Holds bytes.now result (ms ++ map message_of (filter (has_turn first) spans.now)) }
+    ensures { (ms : List Message) → Holds bytes.now given ms
+        → Holds bytes.now result (ms ++ map message_of (filter (has_turn first) spans.now)) }
 {
     let mut lanes = given;
     'frames: for i in 0..spans.len() {
@@ -123,7 +128,8 @@ fn wrong_in_part(bytes: &[u8], spans: &[Span]) -> Option<usize>
     wrong_among(bytes, spans)
 }
 
-// How many frames at the front make up a piece: so many bytes, up to a long frame, and no fewer frames than the grain.
+// How many frames at the front make up a piece: so many bytes, up to a long frame, and no fewer
+// frames than the grain.
 fn piece_of(spans: &[Span], grain: usize, size: usize) -> usize
     requires some { 1 ≤ length spans.now }
     requires grain { 1 ≤ grain }
@@ -138,7 +144,8 @@ fn piece_of(spans: &[Span], grain: usize, size: usize) -> usize
     frames.max(grain).min(spans.len())
 }
 
-// The first span of a piece whose frame has a wrong digest. No more than a part of the piece is gone through twice.
+// The first span of a piece whose frame has a wrong digest. No more than a part of the piece is
+// gone through twice.
 fn wrong_in(bytes: &[u8], spans: &[Span]) -> Option<usize>
     requires { All (IsSpanOf bytes.now) spans.now }
     ensures none { IfNone result (All (IsRight bytes.now) spans.now) }
@@ -183,8 +190,8 @@ fn cut(alloc: Global, spans: &[Span], grain: usize) -> Result<Vec<Piece>, AllocE
     Ok(pieces)
 }
 
-// The first span whose frame has a wrong digest, looked for in pieces by several threads. Where memory runs out for the
-// pieces, it is one thread's work.
+// The first span whose frame has a wrong digest, looked for in pieces by several threads. Where
+// memory runs out for the pieces, it is one thread's work.
 pub(crate) fn first_wrong<R: Threads + Sync>(
     rt: &R,
     alloc: Global,
@@ -208,7 +215,9 @@ pub(crate) fn first_wrong<R: Threads + Sync>(
         |piece: &Piece| -> bool
             requires inside { All (IsSpanOf bytes.now) spans.now }
             requires within { (piece.now.from ≤ piece.now.to) × (piece.now.to ≤ length spans.now) }
-            ensures { MatchBool result (HasFirstWrong bytes.entry.now (spans_in spans.entry.now piece.now)) (All (IsRight bytes.entry.now) (spans_in spans.entry.now piece.now)) }
+            ensures { MatchBool result
+                (HasFirstWrong bytes.entry.now (spans_in spans.entry.now piece.now))
+                (All (IsRight bytes.entry.now) (spans_in spans.entry.now piece.now)) }
         { wrong_in(bytes, &spans[piece.from..piece.to]).is_some() },
     )?;
     let start = pieces[place].from;

@@ -41,7 +41,8 @@ fn behind(bytes: &[u8], at: usize) -> &[u8]
 pub(crate) fn walk(alloc: Global, bytes: &[u8], from: usize) -> Result<Chain, AllocError>
     requires { from ≤ length bytes.now }
     ensures walk { IfOk result (λ c. IsWalk bytes.now from c.spans.items c.end) }
-    ensures rest { IfOk result (λ c. (p : List ℕ) → IsRest p (drop c.end bytes.now) (rest_of c.rest)) }
+    ensures rest { IfOk result
+        (λ c. (p : List ℕ) → IsRest p (drop c.end bytes.now) (rest_of c.rest)) }
 {
     let mut spans = Vec::new(alloc);
     let mut end = from;

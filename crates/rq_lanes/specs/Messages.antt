@@ -1,5 +1,6 @@
 -- Messages in some bytes, each with its digest behind it, and the lanes that take them in.
-use Rattle.std.specs.Prelude.{◌≡◌, ◌⊎◌, ℕ, ◌+◌, ◌-◌, ◌*◌, ◌/◌, ◌%◌, ◌≤◌, ◌<◌, ◌++◌, true, false, List, [], length, take, drop, get_or, slice_range, All}
+use Rattle.std.specs.Prelude.{◌≡◌, ◌⊎◌, ℕ, ◌+◌, ◌-◌, ◌*◌, ◌/◌, ◌%◌, ◌≤◌, ◌<◌, ◌++◌, true, false}
+use Rattle.std.specs.Prelude.{List, [], length, take, drop, get_or, slice_range, All}
 use Rattle.sha2.specs.Sha256.{hash_after, initial_hash_256, padded_message, padding, sha256}
 use Rattle.rq_lanes.specs.Columns.{lane}
 use Rattle.rq_lanes.specs.declared.lanes.Message.{Message}
@@ -15,7 +16,8 @@ pub record IsRight (b : List ℕ) (m : Message) : Type 0 where
   pub within : m.start + m.len + 32 ≤ length b
   pub digest : slice_range b (m.start + m.len) (m.start + m.len + 32) ≡ sha256 (text b m)
 
--- the lane's message, its number of blocks, and the bytes from its last whole block on with the padding
+-- the lane's message, its number of blocks, and the bytes from its last whole block on with the
+-- padding
 pub record Fills (b : List ℕ) (l : Lane) : Type 0 where
   pub within : l.message.start + l.message.len + 32 ≤ length b
   pub count : (l.due - l.born) * 64 ≡ length (padded_message (text b l.message))
@@ -31,11 +33,13 @@ pub record Runs (b : List ℕ) (l : Lane) (clock : ℕ) (words : List ℕ) : Typ
   pub fills : Fills b l
   pub begun : l.born ≤ clock
   pub ending : clock ≤ l.due
-  pub hash : words ≡ hash_after initial_hash_256 (padded_message (text b l.message)) (clock - l.born)
+  pub hash : words
+      ≡ hash_after initial_hash_256 (padded_message (text b l.message)) (clock - l.born)
 
 -- the lane at a place
 abbrev pub held : List Lane → ℕ → Lane
-held lanes j = get_or lanes j (record { message = record { start = 0; len = 0 }; born = 0; due = 0; busy = false; tail = [] })
+held lanes j = get_or lanes j
+    (record { message = record { start = 0; len = 0 }; born = 0; due = 0; busy = false; tail = [] })
 
 -- a lane has the message
 pub record IsIn (lanes : List Lane) (m : Message) : Type 0 where
@@ -44,7 +48,9 @@ pub record IsIn (lanes : List Lane) (m : Message) : Type 0 where
   pub busy : (held lanes place).busy ≡ true
   pub same : (held lanes place).message ≡ m
 
--- of the messages that these lanes were given, each is right or in a lane, unless a wrong one was seen
+-- of the messages that these lanes were given, each is right or in a lane, unless a wrong one was
+-- seen
 pub record Holds {n : ℕ} (b : List ℕ) (s : Lanes n) (ms : List Message) : Type 0 where
-  pub each : (j : ℕ) → j < length s.lanes → (held s.lanes j).busy ≡ true → Runs b (held s.lanes j) s.clock (lane j s.hash)
+  pub each : (j : ℕ) → j < length s.lanes → (held s.lanes j).busy ≡ true
+      → Runs b (held s.lanes j) s.clock (lane j s.hash)
   pub known : s.right ≡ true → All (λ m. IsRight b m ⊎ IsIn s.lanes m) ms

@@ -1,7 +1,8 @@
-//! The padded end of a message (FIPS 180-4, 5.1.1).
+//! The padding of a message (FIPS 180-4, 5.1.1): how many blocks it makes, and the last of them.
 
-ghost use Rattle.std.specs.Prelude.{◌≡◌, ℕ, ◌+◌, ◌-◌, ◌%◌, ◌<◌, ◌++◌, ◌∷◌, length, replicate, take};
-ghost use Rattle.sha2.specs.Sha256.{padding};
+ghost use Rattle.std.specs.Prelude.{◌≡◌, ℕ, List, ◌+◌, ◌-◌, ◌*◌, ◌%◌, ◌<◌, ◌++◌, ◌∷◌, length};
+ghost use Rattle.std.specs.Prelude.{replicate, take};
+ghost use Rattle.sha2.specs.Sha256.{padded_message, padding};
 
 // The padding's first bytes: a bit 1, then zeros.
 const PADDING: [u8; 64] = [
@@ -9,6 +10,14 @@ const PADDING: [u8; 64] = [
     0, 0, 0, 0, 0, 0, 0, 0, 0, 0, 0, 0, 0, 0, 0, 0, 0, 0, 0, 0, 0, 0, 0, 0, 0, 0, 0, 0, 0, 0, 0, 0,
     0,
 ];
+
+// How many blocks a padded message of `len` bytes has.
+pub(crate) fn blocks_of(len: usize) -> usize
+    ensures { (m : List ℕ) → length m ≡ len → result * 64 ≡ length (padded_message m) }
+{
+    let more = if len % 64 < 56 { 1 } else { 2 };
+    len / 64 + more
+}
 
 // The padding's bytes before the length field.
 fn front(zeros: usize) -> &'static [u8]
@@ -18,7 +27,8 @@ fn front(zeros: usize) -> &'static [u8]
     &PADDING[..zeros + 1]
 }
 
-/// The last block or two of a message of `len` bytes, of which `rest` are the bytes after its last whole block.
+/// The last block or two of a message of `len` bytes, of which `rest` are the bytes after its last
+/// whole block.
 pub(crate) fn tail(rest: &[u8], len: u64) -> [u8; 128]
     requires { length rest.now ≡ len % 64 }
     ensures { take (len % 64 + (119 - len % 64) % 64 + 9) result ≡ rest.now ++ padding len }

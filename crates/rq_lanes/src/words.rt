@@ -9,7 +9,8 @@ use std::simd::Simd;
 #[inline(always)]
 fn rotate<const N: usize>(x: Simd<u32, N>, count: u32) -> Simd<u32, N>
     requires { (0 < count) × (count < 32) }
-    ensures { (j : ℕ) → j < N → slice_index result j ≡ rotate_right w32 (slice_index x.entry j) count }
+    ensures { (j : ℕ) → j < N
+        → slice_index result j ≡ rotate_right w32 (slice_index x.entry j) count }
 {
     (x >> Simd::splat(count)) | (x << Simd::splat(32 - count))
 }
@@ -24,7 +25,8 @@ fn shift<const N: usize>(x: Simd<u32, N>, count: u32) -> Simd<u32, N>
 
 #[inline(always)]
 pub(crate) fn add<const N: usize>(x: Simd<u32, N>, y: Simd<u32, N>) -> Simd<u32, N>
-    ensures { (j : ℕ) → j < N → slice_index result j ≡ standard.add32 (slice_index x.entry j) (slice_index y.entry j) }
+    ensures { (j : ℕ) → j < N
+        → slice_index result j ≡ standard.add32 (slice_index x.entry j) (slice_index y.entry j) }
 {
     x + y
 }
@@ -38,21 +40,25 @@ pub(crate) fn splat<const N: usize>(word: u32) -> Simd<u32, N>
 
 #[inline(always)]
 fn xor<const N: usize>(x: Simd<u32, N>, y: Simd<u32, N>) -> Simd<u32, N>
-    ensures { (j : ℕ) → j < N → slice_index result j ≡ bit_xor (slice_index x.entry j) (slice_index y.entry j) }
+    ensures { (j : ℕ) → j < N
+        → slice_index result j ≡ bit_xor (slice_index x.entry j) (slice_index y.entry j) }
 {
     x ^ y
 }
 
 #[inline(always)]
 fn and<const N: usize>(x: Simd<u32, N>, y: Simd<u32, N>) -> Simd<u32, N>
-    ensures { (j : ℕ) → j < N → slice_index result j ≡ bit_and (slice_index x.entry j) (slice_index y.entry j) }
+    ensures { (j : ℕ) → j < N
+        → slice_index result j ≡ bit_and (slice_index x.entry j) (slice_index y.entry j) }
 {
     x & y
 }
 
 #[inline(always)]
 fn xor_three<const N: usize>(x: Simd<u32, N>, y: Simd<u32, N>, z: Simd<u32, N>) -> Simd<u32, N>
-    ensures { (j : ℕ) → j < N → slice_index result j ≡ bit_xor (bit_xor (slice_index x.entry j) (slice_index y.entry j)) (slice_index z.entry j) }
+    ensures { (j : ℕ) → j < N
+        → slice_index result j ≡ bit_xor (bit_xor (slice_index x.entry j) (slice_index y.entry j))
+        (slice_index z.entry j) }
 {
     let both = xor(x, y);
     xor(both, z)
@@ -80,7 +86,8 @@ pub(crate) fn big_sigma1<const N: usize>(x: Simd<u32, N>) -> Simd<u32, N>
 
 #[inline(always)]
 pub(crate) fn small_sigma0<const N: usize>(x: Simd<u32, N>) -> Simd<u32, N>
-    ensures { (j : ℕ) → j < N → slice_index result j ≡ standard.small_sigma0 (slice_index x.entry j) }
+    ensures { (j : ℕ) → j < N
+        → slice_index result j ≡ standard.small_sigma0 (slice_index x.entry j) }
 {
     let first = rotate(x, 7);
     let second = rotate(x, 18);
@@ -90,7 +97,8 @@ pub(crate) fn small_sigma0<const N: usize>(x: Simd<u32, N>) -> Simd<u32, N>
 
 #[inline(always)]
 pub(crate) fn small_sigma1<const N: usize>(x: Simd<u32, N>) -> Simd<u32, N>
-    ensures { (j : ℕ) → j < N → slice_index result j ≡ standard.small_sigma1 (slice_index x.entry j) }
+    ensures { (j : ℕ) → j < N
+        → slice_index result j ≡ standard.small_sigma1 (slice_index x.entry j) }
 {
     let first = rotate(x, 17);
     let second = rotate(x, 19);
@@ -101,7 +109,8 @@ pub(crate) fn small_sigma1<const N: usize>(x: Simd<u32, N>) -> Simd<u32, N>
 // One operation fewer than the standard's form.
 #[inline(always)]
 pub(crate) fn ch<const N: usize>(x: Simd<u32, N>, y: Simd<u32, N>, z: Simd<u32, N>) -> Simd<u32, N>
-    ensures { (j : ℕ) → j < N → slice_index result j ≡ standard.ch (slice_index x.entry j) (slice_index y.entry j) (slice_index z.entry j) }
+    ensures { (j : ℕ) → j < N → slice_index result j
+        ≡ standard.ch (slice_index x.entry j) (slice_index y.entry j) (slice_index z.entry j) }
 {
     let differ = xor(y, z);
     let taken = and(x, differ);
@@ -111,7 +120,8 @@ pub(crate) fn ch<const N: usize>(x: Simd<u32, N>, y: Simd<u32, N>, z: Simd<u32, 
 // One operation fewer than the standard's form.
 #[inline(always)]
 pub(crate) fn maj<const N: usize>(x: Simd<u32, N>, y: Simd<u32, N>, z: Simd<u32, N>) -> Simd<u32, N>
-    ensures { (j : ℕ) → j < N → slice_index result j ≡ standard.maj (slice_index x.entry j) (slice_index y.entry j) (slice_index z.entry j) }
+    ensures { (j : ℕ) → j < N → slice_index result j
+        ≡ standard.maj (slice_index x.entry j) (slice_index y.entry j) (slice_index z.entry j) }
 {
     let first = xor(x, y);
     let second = xor(y, z);

@@ -1,5 +1,6 @@
 -- What a look at a log promises.
-use Rattle.std.specs.Prelude.{◌≡◌, ℕ, ◌<◌, ◌≤◌, Bool, true, false, ◌&&◌, ⊤, List, length, map, Option, Some, None}
+use Rattle.std.specs.Prelude.{◌≡◌, ℕ, ◌<◌, ◌≤◌, Bool, true, false, ◌&&◌, ⊤, List, length, map}
+use Rattle.std.specs.Prelude.{Option, Some, None}
 use Rattle.std.specs.List.{list_all}
 use Rattle.std.specs.Io.KnownBytes.{Appends}
 use Rattle.rq_model.specs.Frames.{Whole, Cut, Length, Digest}
@@ -30,7 +31,8 @@ IsKnownWhole b whole = (r : Restarted) × IsRestart b r × (whole ≡ is_whole r
 
 -- whether b is whole, and each checkpoint of its front true
 abbrev pub IsChecked : List ℕ → Bool → Type 0
-IsChecked b fine = (r : Restarted) × (found : List (ℕ × Bool)) × IsRestart b r × IsAudit b (map audited_of found) × (fine ≡ (is_whole r.why && all_true found))
+IsChecked b fine = (r : Restarted) × (found : List (ℕ × Bool)) × IsRestart b r
+    × IsAudit b (map audited_of found) × (fine ≡ (is_whole r.why && all_true found))
 
 -- b is refused as a restart of it is
 abbrev pub IsRefusal : List ℕ → Trouble → Type 0
@@ -44,7 +46,8 @@ HasQueue r (Some queue) = queue < length r.state.definitions
 
 -- a queue is wanted that b does not have
 abbrev pub IsNoQueue : List ℕ → Option ℕ → ℕ → Type 0
-IsNoQueue b wanted queue = (wanted ≡ Some queue) × (r : Restarted) × IsRestart b r × (length r.state.definitions ≤ queue)
+IsNoQueue b wanted queue = (wanted ≡ Some queue)
+    × (r : Restarted) × IsRestart b r × (length r.state.definitions ≤ queue)
 
 -- why b has no report with the queue that is wanted: it is refused, or has no such queue
 abbrev pub LacksReport : List ℕ → Option ℕ → Trouble → Type 0
@@ -56,7 +59,9 @@ abbrev pub StaysUnreported : List ℕ → Option ℕ → Trouble → Type 0
 StaysUnreported b wanted (Output error) = ⊤
 StaysUnreported b wanted e = LacksReport b wanted e
 
--- where no queue is wanted alone, the report of b is appended; else something is, of a log that has the queue
+-- where no queue is wanted alone, the report of b is appended; else something is, of a log that has
+-- the queue
 abbrev pub PutsReport : List ℕ → Option ℕ → Option (List ℕ) → Option (List ℕ) → Type 0
 PutsReport b None old new = (text : List ℕ) × IsReport b text × Appends old new text
-PutsReport b (Some queue) old new = (r : Restarted) × IsRestart b r × (queue < length r.state.definitions)
+PutsReport b (Some queue) old new = (r : Restarted) × IsRestart b r
+    × (queue < length r.state.definitions)

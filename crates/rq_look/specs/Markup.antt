@@ -8,4 +8,5 @@ is_text c = not (nat_eq c 60) && (not (nat_eq c 62) && (not (nat_eq c 34) && not
 
 -- only such characters were appended
 abbrev pub AppendsText : List ℕ → List ℕ → Type 0
-AppendsText old new = (put : List ℕ) × (new ≡ old ++ encode_utf8_all put) × (list_all is_text put ≡ true)
+AppendsText old new = (put : List ℕ) × (new ≡ old ++ encode_utf8_all put)
+    × (list_all is_text put ≡ true)

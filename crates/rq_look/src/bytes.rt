@@ -23,7 +23,8 @@ pub(crate) fn printable(bytes: &[u8]) -> Option<&str> {
     }
 }
 
-// Puts the first characters of a text, between quotation marks, and answers how many bytes these have.
+// Puts the first characters of a text, between quotation marks, and answers how many bytes these
+// have.
 fn put_quoted(text: &mut String, word: &str, most: usize) -> Result<usize, AllocError> {
     let mut shown: usize = 0;
     text.push('"')?;
@@ -51,8 +52,9 @@ fn put_hex(
     Ok(shown)
 }
 
-/// Puts bytes as a text where they are printable, else as digits, and `-` for none; the first of them alone where they are
-/// not wanted in full, and then their number behind, if these are not all.
+/// Puts bytes as a text where they are printable, else as digits, and `-` for none; the first of
+/// them alone where they are not wanted in full, and then their number behind, if these are not
+/// all.
 pub(crate) fn put_bytes(
     alloc: Global,
     text: &mut String,

@@ -15,7 +15,8 @@ use std::thread::Threads;
 pub struct Findings {
     /// Whether the log is whole, and each checkpoint of its front true.
     pub fine: bool,
-    /// What is wrong with it, a line each: that its front ends before it does, and each checkpoint of the front that is not true.
+    /// What is wrong with it, a line each: that its front ends before it does, and each checkpoint
+    /// of the front that is not true.
     pub text: String,
 }
 

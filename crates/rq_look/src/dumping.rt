@@ -78,11 +78,11 @@ fn put_records<W: Write>(
     Ok(())
 }
 
-/// Writes a line for each record of the front that is wanted, and a last one that says where the front ends and why: what is
-/// shown is what a restart sees.
+/// Writes a line for each record of the front that is wanted, and a last one that says where the
+/// front ends and why: what is shown is what a restart sees.
 ///
-/// Refuses what a restart refuses, and before anything is written; else with `Output` where the output fails, and with
-/// `Resources` where memory is refused, and then a beginning is written.
+/// Refuses what a restart refuses, and before anything is written; else with `Output` where the
+/// output fails, and with `Resources` where memory is refused, and then a beginning is written.
 pub fn dump<R, W>(
     rt: &R,
     alloc: Global,

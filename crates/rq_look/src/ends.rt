@@ -211,7 +211,8 @@ pub(crate) fn end_of<R: Threads + Sync>(
     plan: &Plan,
 ) -> Result<End, Fault>
     ensures log { OnOk result (IsHeaded bytes.now) }
-    ensures end { IfOk result (λ end. (r : fronts.Restarted) × IsRestart bytes.now r × (why_of end.why ≡ r.why)) }
+    ensures end { IfOk result
+        (λ end. (r : fronts.Restarted) × IsRestart bytes.now r × (why_of end.why ≡ r.why)) }
     ensures refused { IfErr result (Refused bytes.now) }
 {
     let end = front_end(rt, alloc, bytes, plan)?;

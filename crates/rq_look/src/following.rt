@@ -221,7 +221,8 @@ impl Queues {
         Ok(effect)
     }
 
-    /// Ends a unit, and adds what happens to each element that it put in or took, in the order in which it did.
+    /// Ends a unit, and adds what happens to each element that it put in or took, in the order in
+    /// which it did.
     pub(crate) fn end(
         &mut self,
         unit: u64,

@@ -165,8 +165,8 @@ fn put_spelled(text: &mut String, c: char) -> Result<(), AllocError> {
     Ok(())
 }
 
-/// The same value of JSON with each hidden character spelled by its numbers: such ones stand in its strings alone, but for
-/// the ends of its lines.
+/// The same value of JSON with each hidden character spelled by its numbers: such ones stand in its
+/// strings alone, but for the ends of its lines.
 pub(crate) fn spelled_out(alloc: Global, json: String) -> Result<String, AllocError> {
     if json.as_bytes().iter().all(|b| is_plain(*b) || *b == b'\n') {
         return Ok(json);

@@ -13,6 +13,7 @@ mod lines;
 mod misfits;
 mod numbered;
 mod paging;
+mod queues;
 mod reporting;
 mod rules;
 mod scripting;

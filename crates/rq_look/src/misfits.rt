@@ -148,7 +148,8 @@ fn fits(version: Version, kind: u8, rest: Rest<'_>) -> Result<(), Found> {
     }
 }
 
-/// Why the body spells no record of the version, and at which of its bytes that shows; none where it spells one.
+/// Why the body spells no record of the version, and at which of its bytes that shows; none where
+/// it spells one.
 pub(crate) fn misfit_of(version: Version, body: &[u8]) -> Option<Found> {
     match body {
         [] => Some((0, Misfit::Cut("kind"))),

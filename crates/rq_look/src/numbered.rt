@@ -4,7 +4,8 @@ use crate::frames::Placed;
 use rq_record::{By, ElemId, Fault, QueueNo, Record, UnitNo, Version, decode_in};
 use std::alloc::Global;
 
-/// A record of the front, with the offset of its frame, its number, and how many queues are defined before it.
+/// A record of the front, with the offset of its frame, its number, and how many queues are defined
+/// before it.
 #[derive(Drop)]
 pub(crate) struct Numbered {
     pub(crate) offset: u64,

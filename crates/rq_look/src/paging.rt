@@ -26,12 +26,13 @@ use std::alloc::Global;
 use std::io::Write;
 use std::thread::Threads;
 
-/// Writes a log under a name as one page of HTML: its front, a picture of the log along its length, the units that were open
-/// at the front's end, and each queue with its depth along the log and its elements. The page has no parts outside and no
-/// script. Its pictures have bins: it grows with the queues and their elements, and not with the records.
+/// Writes a log under a name as one page of HTML: its front, a picture of the log along its length,
+/// the units that were open at the front's end, and each queue with its depth along the log and its
+/// elements. The page has no parts outside and no script. Its pictures have bins: it grows with the
+/// queues and their elements, and not with the records.
 ///
-/// Refuses what a restart refuses, and before anything is written; else with `Output` where the output fails, and with
-/// `Resources` where memory is refused, and then a beginning is written.
+/// Refuses what a restart refuses, and before anything is written; else with `Output` where the
+/// output fails, and with `Resources` where memory is refused, and then a beginning is written.
 pub fn page<R, W>(
     rt: &R,
     alloc: Global,

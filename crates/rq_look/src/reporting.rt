@@ -8,15 +8,13 @@ ghost use Rattle.rq_front.specs.Chains.{IsHeaded};
 ghost use Rattle.rq_look.specs.Looks.{HasQueue, LacksReport, PutsReport, StaysUnreported};
 
 use crate::ends::{End, end_after};
-use crate::json::{Bytes, Front, front_of, queue_number, spelled_out};
+use crate::json::{Front, front_of, spelled_out};
+use crate::queues::{QueueShown, queues_shown};
 use crate::trouble::Trouble;
-use rq_record::QueueNo;
 use rq_report::{OverWrite, write_report_by};
 use rq_restart::{Fault, Open, Plan, Restarted, restart};
-use rq_state::{Definition, Element, Last, Mark, OpKind, Registrant, State};
 use serde::Serialize;
 use std::alloc::{AllocError, Global};
-use std::cmp::Reverse;
 use std::io::Write;
 use std::thread::Threads;
 
@@ -28,155 +26,10 @@ struct Units {
 }
 
 #[derive(Debug, Drop, Serialize)]
-struct ElementShown<'a> {
-    id: u64,
-    from: u32,
-    priority: u8,
-    attempts: u64,
-    payload: Bytes<'a>,
-}
-
-/// The last operation of a registrant.
-#[derive(Clone, Copy, Debug, Serialize)]
-pub(crate) struct LastShown<'a> {
-    pub(crate) kind: &'a str,
-    pub(crate) tag: u64,
-    pub(crate) element: Option<u64>,
-}
-
-/// A registrant, and what it did last.
-#[derive(Clone, Copy, Debug, Serialize)]
-pub(crate) struct RegistrantShown<'a> {
-    pub(crate) name: &'a str,
-    pub(crate) last: Option<LastShown<'a>>,
-}
-
-#[derive(Debug, Drop, Serialize)]
-struct QueueShown<'a> {
-    number: u32,
-    name: &'a str,
-    limit: u16,
-    error: Option<u32>,
-    elements: Vec<ElementShown<'a>>,
-    registrants: Vec<RegistrantShown<'a>>,
-}
-
-#[derive(Debug, Drop, Serialize)]
 struct ReportShown<'a> {
     front: Front<'a>,
     units: Units,
     queues: Vec<QueueShown<'a>>,
-}
-
-fn element_shown(alloc: Global, e: &Element) -> Result<ElementShown<'_>, AllocError> {
-    Ok(ElementShown {
-        id: e.id.0,
-        from: e.origin.0,
-        priority: e.priority,
-        attempts: e.attempts,
-        payload: Bytes::of(alloc, e.payload.bytes())?,
-    })
-}
-
-/// The queue's free elements, in the order in which they would be taken.
-pub(crate) fn free_elements(
-    alloc: Global,
-    state: &State,
-    queue: QueueNo,
-) -> Result<Vec<&Element>, AllocError> {
-    let mut found = Vec::new(alloc);
-    for place in state.elements_of(queue) {
-        if let Some(e) = state.elements().get(*place) {
-            if e.mark == Mark::Free {
-                found.push(e)?;
-            }
-        }
-    }
-    found.sort_unstable_by_key(|e| (Reverse(e.priority), e.id.0));
-    Ok(found)
-}
-
-// The same, shown.
-fn elements_shown(
-    alloc: Global,
-    state: &State,
-    queue: QueueNo,
-) -> Result<Vec<ElementShown<'_>>, AllocError> {
-    let mut shown = Vec::new(alloc);
-    for e in free_elements(alloc, state, queue)? {
-        shown.push(element_shown(alloc, e)?)?;
-    }
-    Ok(shown)
-}
-
-fn last_shown(last: &Last) -> LastShown<'static> {
-    LastShown {
-        kind: match last.kind {
-            OpKind::Enqueue => "enqueue",
-            OpKind::Dequeue => "dequeue",
-        },
-        tag: last.tag,
-        element: last.element.map(|id| id.0),
-    }
-}
-
-fn registrant_shown(r: &Registrant) -> RegistrantShown<'_> {
-    RegistrantShown {
-        name: r.name.text(),
-        last: match &r.last {
-            Some(last) => Some(last_shown(last)),
-            None => None,
-        },
-    }
-}
-
-/// The queue's registrants, by name.
-pub(crate) fn registrants_shown(
-    alloc: Global,
-    state: &State,
-    queue: QueueNo,
-) -> Result<Vec<RegistrantShown<'_>>, AllocError> {
-    let mut found = Vec::new(alloc);
-    for place in state.registrants_of(queue) {
-        if let Some(r) = state.registrants().get(*place) {
-            found.push(registrant_shown(r))?;
-        }
-    }
-    Ok(found)
-}
-
-fn queue_shown<'a>(
-    alloc: Global,
-    state: &'a State,
-    number: u32,
-    definition: &'a Definition,
-) -> Result<QueueShown<'a>, AllocError> {
-    let queue = QueueNo(number);
-    Ok(QueueShown {
-        number,
-        name: definition.name.text(),
-        limit: definition.limit,
-        error: queue_number(definition.error),
-        elements: elements_shown(alloc, state, queue)?,
-        registrants: registrants_shown(alloc, state, queue)?,
-    })
-}
-
-// The queue of the number, or all of them.
-fn queues_shown(
-    alloc: Global,
-    state: &State,
-    wanted: Option<u32>,
-) -> Result<Vec<QueueShown<'_>>, AllocError> {
-    let mut found = Vec::new(alloc);
-    let mut number: u32 = 0;
-    for definition in state.definitions() {
-        if wanted.is_none() || wanted == Some(number) {
-            found.push(queue_shown(alloc, state, number, definition)?)?;
-        }
-        number = number.saturating_add(1);
-    }
-    Ok(found)
 }
 
 fn report_shown<'a>(
@@ -217,7 +70,8 @@ fn restarted_with<R: Threads + Sync>(
     }
 }
 
-/// Writes the report of a log as one value of JSON, with all of its queues or the one that is wanted.
+/// Writes the report of a log as one value of JSON, with all of its queues or the one that is
+/// wanted.
 ///
 /// Refuses with `NoQueue` a queue that is not defined; else as `dump` does.
 pub fn report_json<R, W>(
@@ -284,8 +138,8 @@ fn lines_of(text: &[u8], queue: u32) -> &[u8] {
 
 /// Writes the report of a log as text, or those lines of it that are of the queue that is wanted.
 ///
-/// Refuses with `NoQueue` a queue that is not defined; else as `dump` does, and before anything is written but where the
-/// output fails.
+/// Refuses with `NoQueue` a queue that is not defined; else as `dump` does, and before anything is
+/// written but where the output fails.
 pub fn report<R, W>(
     rt: &R,
     alloc: Global,
@@ -297,7 +151,8 @@ pub fn report<R, W>(
 where
     R: Threads + Sync,
     W: Write,
-    ensures report { OnOk result (PutsReport bytes.now wanted (W.contents output.old) (W.contents output.new)) }
+    ensures report { OnOk result
+        (PutsReport bytes.now wanted (W.contents output.old) (W.contents output.new)) }
     ensures refused { IfErr result (StaysUnreported bytes.now wanted) }
 {
     let restarted = restarted_with(rt, alloc, bytes, plan, wanted)?;

@@ -182,7 +182,8 @@ fn too_deep(version: Version, definition: &Definition, error: QueueNo) -> Option
 }
 
 fn nested(version: Version, state: &State, error: QueueNo) -> Option<Rule>
-    ensures { is_some result ≡ not (machine.is_defined state.now error.0 && machine.may_be_error (version_of version) state.now error.0) }
+    ensures { is_some result ≡ not (machine.is_defined state.now error.0
+        && machine.may_be_error (version_of version) state.now error.0) }
 {
     match state.definitions().get(error.0 as usize) {
         Some(definition) => too_deep(version, definition, error),
@@ -207,7 +208,8 @@ fn wrong_limit(version: Version, state: &State, limit: u16, error: QueueNo) -> O
 }
 
 fn taken(state: &State, name: Name) -> Option<Rule>
-    ensures { is_some result ≡ not (nat_lt (length state.now.definitions) 4096 && not (list_any (λ d. bytes_eq d.name name) state.now.definitions)) }
+    ensures { is_some result ≡ not (nat_lt (length state.now.definitions) 4096
+        && not (list_any (λ d. bytes_eq d.name name) state.now.definitions)) }
 {
     if state.definitions().len() >= QUEUES {
         return Some(Rule::Full);
@@ -226,7 +228,9 @@ fn wrong_definition(
     error: QueueNo,
     name: Name,
 ) -> Option<Rule>
-    ensures { is_some result ≡ not (machine.is_limit (version_of version) state.now limit error.0 && (nat_lt (length state.now.definitions) 4096 && not (list_any (λ d. bytes_eq d.name name) state.now.definitions))) }
+    ensures { is_some result ≡ not (machine.is_limit (version_of version) state.now limit error.0
+        && (nat_lt (length state.now.definitions) 4096
+        && not (list_any (λ d. bytes_eq d.name name) state.now.definitions))) }
 {
     match wrong_limit(version, state, limit, error) {
         Some(rule) => Some(rule),
@@ -235,7 +239,8 @@ fn wrong_definition(
 }
 
 fn operation(state: &State, unit: UnitNo, queue: QueueNo, by: &KeptBy) -> Option<Rule>
-    ensures { is_some result ≡ not (machine.is_defined state.now queue.0 && (machine.is_open state.now unit.0 && machine.is_known state.now queue.0 by.now)) }
+    ensures { is_some result ≡ not (machine.is_defined state.now queue.0
+        && (machine.is_open state.now unit.0 && machine.is_known state.now queue.0 by.now)) }
 {
     if let Some(rule) = undefined(state, queue) {
         return Some(rule);
@@ -247,7 +252,8 @@ fn operation(state: &State, unit: UnitNo, queue: QueueNo, by: &KeptBy) -> Option
 }
 
 fn no_kill(version: Version, state: &State, queue: QueueNo) -> Option<Rule>
-    ensures { (element : ℕ) → is_some result ≡ not (machine.is_lawful (version_of version) state.now (Kill queue.0 element)) }
+    ensures { (element : ℕ) → is_some result
+        ≡ not (machine.is_lawful (version_of version) state.now (Kill queue.0 element)) }
 {
     match version {
         Version::One => Some(Rule::NoKill),
@@ -257,7 +263,8 @@ fn no_kill(version: Version, state: &State, queue: QueueNo) -> Option<Rule>
 
 /// The rule of the version that the record breaks in the state; none where it is lawful there.
 pub(crate) fn broken(version: Version, state: &State, next: &Record) -> Option<Rule>
-    ensures { is_some result ≡ not (machine.is_lawful (version_of version) state.now (record_of next.now)) }
+    ensures { is_some result
+        ≡ not (machine.is_lawful (version_of version) state.now (record_of next.now)) }
 {
     match next {
         Record::Define { limit, error, name } => {

@@ -133,10 +133,11 @@ fn put_records<W: io::Write>(
     Ok(())
 }
 
-/// Writes the script from which the front of a log is made again, byte by byte, and answers whether that is the whole log.
+/// Writes the script from which the front of a log is made again, byte by byte, and answers whether
+/// that is the whole log.
 ///
-/// Refuses with `Untold` an operation of the registrant `-`, which no script tells; else as `dump` does. Then a beginning of
-/// the script is written.
+/// Refuses with `Untold` an operation of the registrant `-`, which no script tells; else as `dump`
+/// does. Then a beginning of the script is written.
 pub fn script<R, W>(
     rt: &R,
     alloc: Global,

@@ -54,8 +54,8 @@ fn put_event(
     write!(text, ": {event}\n")
 }
 
-// Puts a line for each event of the record that is of the subject, and one for a record of the unit that has none. Answers
-// how many.
+// Puts a line for each event of the record that is of the subject, and one for a record of the unit
+// that has none. Answers how many.
 fn put_events(
     alloc: Global,
     text: &mut String,
@@ -162,8 +162,8 @@ fn tell<W: io::Write>(
     Ok(())
 }
 
-/// Writes what became of an element, or what a unit did: a line for each record of the front that has to do with it, where
-/// the front ends, and what the restart's aborts do to it.
+/// Writes what became of an element, or what a unit did: a line for each record of the front that
+/// has to do with it, where the front ends, and what the restart's aborts do to it.
 ///
 /// Refuses with `Nothing` a subject that the front does not have; else as `dump` does.
 pub fn story<R, W>(

@@ -24,21 +24,36 @@ IsClosed b closed = (tail : List ℕ) × IsClosedBy b tail closed
 abbrev pub OneClosed : Type 0
 OneClosed = (b x y : List ℕ) → IsClosed b x → IsClosed b y → x ≡ y
 
--- The front of a closed log is the front of b with the aborts of the open units behind, and nothing stands after it
+-- The front of a closed log is the front of b with the aborts of the open units behind, and nothing
+-- stands after it
 abbrev pub ClosedFront : Type 0
 ClosedFront =
-    (b closed : List ℕ) (version : Version) (records : List Record) (rest : List ℕ) → IsClosed b closed → length closed ≤ log_limit → IsFront b version records rest
+    (b closed : List ℕ) (version : Version) (records : List Record) (rest : List ℕ) →
+    IsClosed b closed → length closed ≤ log_limit → IsFront b version records rest
     → IsFront closed version (records ++ aborts (run empty records)) []
 
--- what a restart answers of a closed log of so many bytes: the same state, and all of it is front; the units that were cut off are aborted
+-- what a restart answers of a closed log of so many bytes: the same state, and all of it is front;
+-- the units that were cut off are aborted
 abbrev pub when_closed : Restarted → ℕ → Restarted
-when_closed r total = record { state = r.state; records = r.records + r.cut_off; used = total; total = total; why = Ends Whole; committed = r.committed; aborted = r.aborted + r.cut_off; cut_off = 0 }
+when_closed r total =
+    record {
+      state = r.state;
+      records = r.records + r.cut_off;
+      used = total;
+      total = total;
+      why = Ends Whole;
+      committed = r.committed;
+      aborted = r.aborted + r.cut_off;
+      cut_off = 0;
+    }
 
 -- there are two reports, with the same queue lines
 abbrev pub HaveSameQueues : List ℕ → List ℕ → Type 0
-HaveSameQueues b c = (r t : Restarted) × (queues : List ℕ) × HasReport b r queues × HasReport c t queues
+HaveSameQueues b c = (r t : Restarted) × (queues : List ℕ)
+    × HasReport b r queues × HasReport c t queues
 
--- A closed log has the restart of b, and is whole; however much of its tail is there, the queue lines are those of b; to close it again changes nothing
+-- A closed log has the restart of b, and is whole; however much of its tail is there, the queue
+-- lines are those of b; to close it again changes nothing
 pub record StandsFor (b closed : List ℕ) : Type 0 where
   pub found : Restarted
   pub restart : IsRestart b found
@@ -48,4 +63,5 @@ pub record StandsFor (b closed : List ℕ) : Type 0 where
 
 -- so does each that is no longer than a log may be
 abbrev pub ClosedStands : Type 0
-ClosedStands = (b closed : List ℕ) → AreBytes b → IsClosed b closed → length closed ≤ log_limit → StandsFor b closed
+ClosedStands = (b closed : List ℕ) → AreBytes b → IsClosed b closed
+    → length closed ≤ log_limit → StandsFor b closed

@@ -16,8 +16,10 @@ Rise ms = Ordered (λ m n. earlier m n ≡ true) ms
 
 -- What leaves a queue stands in the order of places and ids
 abbrev pub MovesRise : Type 0
-MovesRise = (version : Version) (s : State) (rs : List Record) (queue : ℕ) → IsWellFormed s → all_lawful version s rs ≡ true → Rise (moves s rs queue)
+MovesRise = (version : Version) (s : State) (rs : List Record) (queue : ℕ) →
+    IsWellFormed s → all_lawful version s rs ≡ true → Rise (moves s rs queue)
 
 -- and so does what arrives in one
 abbrev pub ArrivalsRise : Type 0
-ArrivalsRise = (version : Version) (s : State) (rs : List Record) (queue : ℕ) → IsWellFormed s → all_lawful version s rs ≡ true → Rise (arrivals s rs queue)
+ArrivalsRise = (version : Version) (s : State) (rs : List Record) (queue : ℕ) →
+    IsWellFormed s → all_lawful version s rs ≡ true → Rise (arrivals s rs queue)

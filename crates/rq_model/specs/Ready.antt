@@ -17,7 +17,8 @@ IsOf queue (Dequeue unit k by) = k ≡ queue
 IsOf queue (Kill k element) = k ≡ queue
 IsOf queue r = ⊤
 
--- the part is ready for an operation at the place: all in it is older and at home, and attempts do not run over
+-- the part is ready for an operation at the place: all in it is older and at home, and attempts do
+-- not run over
 pub record IsReady (place : ℕ) (r : Record) (p : Part) : Type 0 where
   pub of_queue : IsOf p.queue r
   pub homes : AllByRecursion (λ e. e.home ≡ p.queue) p.elements
@@ -28,7 +29,8 @@ pub record IsReady (place : ℕ) (r : Record) (p : Part) : Type 0 where
 -- each of them, put in behind those before it, has an id that no other has
 abbrev pub AreNew : List Move → List Element → Type 0
 AreNew [] es = ⊤
-AreNew (m ∷ ms) es = AllByRecursion (λ e. e.id ≢ m.element.id) es × AreNew ms (put id_before m.element es)
+AreNew (m ∷ ms) es = AllByRecursion (λ e. e.id ≢ m.element.id) es
+    × AreNew ms (put id_before m.element es)
 
 -- each arrival is new, and each operation finds the part ready
 abbrev pub GoesWell : Part → List Op → List Move → Type 0
@@ -41,14 +43,18 @@ GoesWell p (op ∷ ops) ms =
 -- In a lawful run from a well-formed state the redo of each queue goes well
 abbrev pub RedoGoesWell : Type 0
 RedoGoesWell =
-    (version : Version) (s : State) (rs : List Record) (queue : ℕ) → IsWellFormed s → all_lawful version s rs ≡ true → s.next + length rs < 2 ^ 64
+    (version : Version) (s : State) (rs : List Record) (queue : ℕ) →
+    IsWellFormed s → all_lawful version s rs ≡ true → s.next + length rs < 2 ^ 64
     → GoesWell (part_of (with_definitions s rs) queue) (touching s rs queue) (arrivals s rs queue)
 
 -- It goes well one arrival or one operation at a time
 pub record GoesOn : Type 0 where
-  pub arrives : (p : Part) (op : Op) (ops : List Op) (m : Move) (ms : List Move) → m.place < op.place → GoesWell p (op ∷ ops) (m ∷ ms)
-      → AllByRecursion (λ e. e.id ≢ m.element.id) p.elements × GoesWell (receive (m ∷ []) p) (op ∷ ops) ms
-  pub acts : (p : Part) (op : Op) (ops : List Op) (ms : List Move) → AllByRecursion (λ m. op.place ≤ m.place) ms → GoesWell p (op ∷ ops) ms
+  pub arrives : (p : Part) (op : Op) (ops : List Op) (m : Move) (ms : List Move) →
+      m.place < op.place → GoesWell p (op ∷ ops) (m ∷ ms)
+      → AllByRecursion (λ e. e.id ≢ m.element.id) p.elements
+      × GoesWell (receive (m ∷ []) p) (op ∷ ops) ms
+  pub acts : (p : Part) (op : Op) (ops : List Op) (ms : List Move) →
+      AllByRecursion (λ m. op.place ≤ m.place) ms → GoesWell p (op ∷ ops) ms
       → IsReady op.place op.does p × GoesWell (act op.place op.does p) ops ms
   pub ends : (p : Part) (m : Move) (ms : List Move) → GoesWell p [] (m ∷ ms)
       → AllByRecursion (λ e. e.id ≢ m.element.id) p.elements × GoesWell (receive (m ∷ []) p) [] ms

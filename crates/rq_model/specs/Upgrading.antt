@@ -11,8 +11,9 @@ use Rattle.rq_model.specs.LogLaws.{HasReport}
 abbrev pub when_upgraded : Restarted → Restarted
 when_upgraded r = record r { total = r.used; why = Ends Whole }
 
--- An upgraded log has the restart of b, and is whole; both reports have the same queue lines; the same checkpoints stand at the same offsets, and the same
--- of them are true; from each true one the restart is the same, and whole; to upgrade it again changes nothing
+-- An upgraded log has the restart of b, and is whole; both reports have the same queue lines; the
+-- same checkpoints stand at the same offsets, and the same of them are true; from each true one the
+-- restart is the same, and whole; to upgrade it again changes nothing
 pub record SaysTheSame (b upgraded : List ℕ) : Type 0 where
   pub found : Restarted
   pub restart : IsRestart b found
@@ -20,13 +21,16 @@ pub record SaysTheSame (b upgraded : List ℕ) : Type 0 where
   pub queues : List ℕ
   pub report : HasReport b found queues
   pub reported : HasReport upgraded (when_upgraded found) queues
-  pub offsets : (offset : ℕ) (records : List Record) (kept : List ℕ) → HasCheckpoint b offset records kept ↔ HasCheckpoint upgraded offset records kept
+  pub offsets : (offset : ℕ) (records : List Record) (kept : List ℕ) →
+      HasCheckpoint b offset records kept ↔ HasCheckpoint upgraded offset records kept
   pub truths : (offset : ℕ) → TrueAt b offset ↔ TrueAt upgraded offset
   pub audit : (found : List Audited) → IsAudit b found → IsAudit upgraded found
-  pub from : (offset : ℕ) (r : Restarted) → TrueAt b offset → IsRestartAt b offset r → IsRestartAt upgraded offset (when_upgraded r)
+  pub from : (offset : ℕ) (r : Restarted) → TrueAt b offset
+      → IsRestartAt b offset r → IsRestartAt upgraded offset (when_upgraded r)
   pub again : (twice : List ℕ) → IsUpgraded upgraded twice → twice ≡ upgraded
 
 -- An upgraded log is its front, that of b, in version 2; and it says the same as b
 pub record UpgradeIsSame : Type 0 where
-  pub front : (b upgraded : List ℕ) (version : Version) (records : List Record) (rest : List ℕ) → IsUpgraded b upgraded → IsFront b version records rest → IsFront upgraded Two records []
+  pub front : (b upgraded : List ℕ) (version : Version) (records : List Record) (rest : List ℕ) →
+      IsUpgraded b upgraded → IsFront b version records rest → IsFront upgraded Two records []
   pub same : (b upgraded : List ℕ) → AreBytes b → IsUpgraded b upgraded → SaysTheSame b upgraded

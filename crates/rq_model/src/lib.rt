@@ -1,19 +1,36 @@
-//! What is promised of the restart of a recoverable queue manager: its definitions, in specs/, and their laws, each
-//! on a function below that does nothing.
+//! What is promised of the restart of a recoverable queue manager: its definitions, in specs/, and
+//! their laws, each on a function below that does nothing.
 #![tactic(auto)]
 
-ghost use Rattle.rq_model.specs.LogLaws.{BodySpellsOne, RecordHasOneBody, BytesSpellOneState, RunsFit, FrameIsRight, RightIsFrame, RunStops, OneRun, OneRest, OneFrameRun, RunGivesFront, FramesJoin, LogJoins, LogEnds, FrontStops, OneLongest, OneWhy, OneFront, OneRestart, OneText, OneReport, FrontHasReport, EveryLogHasReport, OneVersion, RecordIsWider, UsedIsFront, FrontsAreSpelt, OneRestartAt, TrueIsSame, TrueSaysTheSame, OneAudit, CrashInTheTail, CrashSaysTheSame};
+ghost use Rattle.rq_model.specs.LogLaws.{BodySpellsOne, RecordHasOneBody, BytesSpellOneState};
+ghost use Rattle.rq_model.specs.LogLaws.{RunsFit, FrameIsRight, RightIsFrame, RunStops, OneRun};
+ghost use Rattle.rq_model.specs.LogLaws.{OneRest, OneFrameRun, RunGivesFront, FramesJoin, LogJoins};
+ghost use Rattle.rq_model.specs.LogLaws.{LogEnds, FrontStops, OneLongest, OneWhy, OneFront};
+ghost use Rattle.rq_model.specs.LogLaws.{OneRestart, OneText, OneReport, FrontHasReport};
+ghost use Rattle.rq_model.specs.LogLaws.{EveryLogHasReport, OneVersion, RecordIsWider, UsedIsFront};
+ghost use Rattle.rq_model.specs.LogLaws.{FrontsAreSpelt, OneRestartAt, TrueIsSame, TrueSaysTheSame};
+ghost use Rattle.rq_model.specs.LogLaws.{OneAudit, CrashInTheTail, CrashSaysTheSame};
 ghost use Rattle.rq_model.specs.Closing.{OneClosed, ClosedFront, ClosedStands};
 ghost use Rattle.rq_model.specs.Upgrading.{UpgradeIsSame};
-ghost use Rattle.rq_model.specs.WorkedLogs.{WorkedBytes, WorkedLogs, UnlawfulLogs, WorkedCheckpoint};
-ghost use Rattle.rq_model.specs.WorkedMachine.{WorkedLaw, WorkedSteps, WorkedOrders, WorkedQueues, WorkedRedo};
-ghost use Rattle.rq_model.specs.WorkedFormats.{WorkedNames, WorkedBodies, WorkedWidths, WorkedFrames, AllRests, WorkedStates, WorkedMembers, WorkedLines};
+ghost use Rattle.rq_model.specs.WorkedLogs.{WorkedBytes, WorkedLogs, UnlawfulLogs};
+ghost use Rattle.rq_model.specs.WorkedLogs.{WorkedCheckpoint};
+ghost use Rattle.rq_model.specs.WorkedMachine.{WorkedLaw, WorkedSteps, WorkedOrders, WorkedQueues};
+ghost use Rattle.rq_model.specs.WorkedMachine.{WorkedRedo};
+ghost use Rattle.rq_model.specs.WorkedFormats.{WorkedNames, WorkedBodies, WorkedWidths};
+ghost use Rattle.rq_model.specs.WorkedFormats.{WorkedFrames, AllRests, WorkedStates, WorkedMembers};
+ghost use Rattle.rq_model.specs.WorkedFormats.{WorkedLines};
 ghost use Rattle.rq_model.specs.WorkedEnds.{WorkedEnds};
 ghost use Rattle.rq_model.specs.Ready.{RedoGoesWell, GoesOn};
-ghost use Rattle.rq_model.specs.Laws.{Projection, ArrivalsAreMerged, LawfulnessLooksAt, PartsDecide, IdsDiffer, PutInAnyOrder, AnyOrder, QueueIsDecided, TouchingIsExact, LawfulFrontIsLongest, WellFormedIsSound, RunsAreWellFormed, EmptyIsWellFormed, NumbersAfter, VersionOneIsOneDeep, VersionTwoIsWider, RedoSteps, CrashIsHarmless};
+ghost use Rattle.rq_model.specs.Laws.{Projection, ArrivalsAreMerged, LawfulnessLooksAt};
+ghost use Rattle.rq_model.specs.Laws.{PartsDecide, IdsDiffer, PutInAnyOrder, AnyOrder};
+ghost use Rattle.rq_model.specs.Laws.{QueueIsDecided, TouchingIsExact, LawfulFrontIsLongest};
+ghost use Rattle.rq_model.specs.Laws.{WellFormedIsSound, RunsAreWellFormed, EmptyIsWellFormed};
+ghost use Rattle.rq_model.specs.Laws.{NumbersAfter, VersionOneIsOneDeep, VersionTwoIsWider};
+ghost use Rattle.rq_model.specs.Laws.{RedoSteps, CrashIsHarmless};
 ghost use Rattle.rq_model.specs.MoveLaws.{MovesRise, ArrivalsRise};
 
-/// A body spells at most one record, a record has one body, and the bytes of a state spell no other state.
+/// A body spells at most one record, a record has one body, and the bytes of a state spell no other
+/// state.
 pub fn one_spelling()
     ensures record { BodySpellsOne }
     ensures body { RecordHasOneBody }
@@ -26,7 +43,8 @@ pub fn frames_are_right()
     ensures frame { RightIsFrame }
 {}
 
-/// A run of frames behind which no right frame stands is the longest; there is one, and one line says what follows.
+/// A run of frames behind which no right frame stands is the longest; there is one, and one line
+/// says what follows.
 pub fn one_run()
     ensures stops { RunStops }
     ensures run { OneRun }
@@ -67,7 +85,8 @@ pub fn runs_fit()
     ensures { RunsFit }
 {}
 
-/// Bytes have one version's header; version 1 makes no chains of error queues, and version 2 takes all that version 1 takes.
+/// Bytes have one version's header; version 1 makes no chains of error queues, and version 2 takes
+/// all that version 1 takes.
 pub fn versions()
     ensures header { OneVersion }
     ensures wider { RecordIsWider }
@@ -75,12 +94,14 @@ pub fn versions()
     ensures two { VersionTwoIsWider }
 {}
 
-/// The numbers, definitions and open units after a run are decided by the records and the outcomes alone.
+/// The numbers, definitions and open units after a run are decided by the records and the outcomes
+/// alone.
 pub fn numbers_after()
     ensures { NumbersAfter }
 {}
 
-/// Lawful records at whose end a line of WHY applies are the longest; there is one front, and one line of WHY.
+/// Lawful records at whose end a line of WHY applies are the longest; there is one front, and one
+/// line of WHY.
 pub fn one_front()
     ensures stops { FrontStops }
     ensures longest { OneLongest }
@@ -109,7 +130,8 @@ pub fn used_is_the_front()
     ensures { UsedIsFront }
 {}
 
-/// The state after each beginning of a front is well formed and has a spelling, also by its first point.
+/// The state after each beginning of a front is well formed and has a spelling, also by its first
+/// point.
 pub fn fronts_are_spelt()
     ensures { FrontsAreSpelt }
 {}
@@ -129,33 +151,36 @@ pub fn crash_is_harmless()
     ensures { CrashIsHarmless }
 {}
 
-/// Whatever beginning of the tail stands behind the front, there is a restart, its state is the same, and so are the queue lines.
+/// Whatever beginning of the tail stands behind the front, there is a restart, its state is the
+/// same, and so are the queue lines.
 pub fn crash_in_the_tail()
     ensures state { CrashInTheTail }
     ensures report { CrashSaysTheSame }
 {}
 
-/// A log is closed in one way; the closed log stands in its place, also while its tail is written, and to close it again
-/// changes nothing.
+/// A log is closed in one way; the closed log stands in its place, also while its tail is written,
+/// and to close it again changes nothing.
 pub fn closed_logs()
     ensures one { OneClosed }
     ensures front { ClosedFront }
     ensures stands { ClosedStands }
 {}
 
-/// A log in version 2 has the front, the restart, the report, the checkpoints and the audit of the log it was made of, and to
-/// upgrade it again changes nothing.
+/// A log in version 2 has the front, the restart, the report, the checkpoints and the audit of the
+/// log it was made of, and to upgrade it again changes nothing.
 pub fn upgrade_is_the_same()
     ensures { UpgradeIsSame }
 {}
 
-/// What stays in a queue at an abort and what arrives have distinct ids, and are put in in any order.
+/// What stays in a queue at an abort and what arrives have distinct ids, and are put in in any
+/// order.
 pub fn any_order()
     ensures ids { IdsDiffer }
     ensures order { PutInAnyOrder }
 {}
 
-/// In whatever order what returns to a queue at an abort and what arrives there is put in, it holds the same elements.
+/// In whatever order what returns to a queue at an abort and what arrives there is put in, it holds
+/// the same elements.
 pub fn any_list_in_any_order()
     ensures { AnyOrder }
 {}
@@ -165,17 +190,20 @@ pub fn parts_decide()
     ensures { PartsDecide }
 {}
 
-/// A queue's part after a run, and what left it meanwhile, are decided by its part before, the operations that touch it and what arrives.
+/// A queue's part after a run, and what left it meanwhile, are decided by its part before, the
+/// operations that touch it and what arrives.
 pub fn projection()
     ensures { Projection }
 {}
 
-/// The records that touch a queue are those that do after the records before them, each once, rising.
+/// The records that touch a queue are those that do after the records before them, each once,
+/// rising.
 pub fn touching_is_exact()
     ensures { TouchingIsExact }
 {}
 
-/// Equal parts before, equal records that touch a queue and equal arrivals give equal parts and equal moves.
+/// Equal parts before, equal records that touch a queue and equal arrivals give equal parts and
+/// equal moves.
 pub fn queue_is_decided()
     ensures { QueueIsDecided }
 {}
@@ -214,7 +242,8 @@ pub fn worked_logs()
     ensures checkpoint { WorkedCheckpoint }
 {}
 
-/// In one state with open units: what is lawful, what each record does, and what each queue makes of it.
+/// In one state with open units: what is lawful, what each record does, and what each queue makes
+/// of it.
 pub fn worked_machine()
     ensures law { WorkedLaw }
     ensures steps { WorkedSteps }
@@ -223,7 +252,8 @@ pub fn worked_machine()
     ensures redo { WorkedRedo }
 {}
 
-/// Names, records, frames, states and the lines of a report, byte by byte, and each limit at its edge on both sides.
+/// Names, records, frames, states and the lines of a report, byte by byte, and each limit at its
+/// edge on both sides.
 pub fn worked_formats()
     ensures names { WorkedNames }
     ensures bodies { WorkedBodies }

@@ -1,8 +1,10 @@
 -- A deque of the room, and what has come back of it.
-use Rattle.std.specs.Prelude.{◌≡◌, ℕ, ◌+◌, ◌<◌, ◌≤◌, List, [], All, length, sum_by, vec_len, vec_capacity, Option, Some, None}
+use Rattle.std.specs.Prelude.{◌≡◌, ℕ, ◌+◌, ◌<◌, ◌≤◌, List, [], All, length, sum_by, vec_len}
+use Rattle.std.specs.Prelude.{vec_capacity, Option, Some, None}
 use Rattle.std.specs.Global.{Global}
 use Rattle.crossbeam_deque.specs.declared.handles.Worker.{Worker}
-use Rattle.crossbeam_deque.specs.Handles.{Pass, view, IsPassOf, worker_deque, worker_flavor, worker_view, stealer_deque}
+use Rattle.crossbeam_deque.specs.Handles.{Pass, view, IsPassOf, worker_deque, worker_flavor}
+use Rattle.crossbeam_deque.specs.Handles.{worker_view, stealer_deque}
 use Rattle.rq_pool.specs.declared.deque.Share.{Share}
 use Rattle.rq_pool.specs.declared.deque.DealRule.{DealRule}
 use Rattle.rq_pool.specs.declared.deck.Deck.{Deck}
@@ -27,7 +29,8 @@ list_in id = id.1
 
 -- the pass has one part, and took nothing yet
 abbrev pub IsFresh : Deck → Pass ℕ Share Global → Type 0
-IsFresh deck pass = IsPassOf (stealer_deque deck.thief) pass × (view pass ≡ share 1 deck.list.items [])
+IsFresh deck pass = IsPassOf (stealer_deque deck.thief) pass
+    × (view pass ≡ share 1 deck.list.items [])
 
 -- of n seats, m are still to get their pass
 pub record IsStocked (n m : ℕ) (deck : Deck) : Type 0 where
@@ -38,11 +41,13 @@ pub record IsStocked (n m : ℕ) (deck : Deck) : Type 0 where
 
 -- the owner of the deck's deque, of which each of n seats has one part
 abbrev pub IsOwnerOf : ℕ → Deck → Worker ℕ Global Share DealRule → Type 0
-IsOwnerOf n deck o = (worker_deque o ≡ stealer_deque deck.thief) × (worker_flavor o ≡ 0) × ((worker_view o).dealt ≡ deck.list.items) × ((worker_view o).parts + n ≡ 256)
+IsOwnerOf n deck o = (worker_deque o ≡ stealer_deque deck.thief) × (worker_flavor o ≡ 0)
+    × ((worker_view o).dealt ≡ deck.list.items) × ((worker_view o).parts + n ≡ 256)
 
 -- an owner that a seat of n has not yet, and all that its deque was dealt
 abbrev pub IsWhole : ℕ → Worker ℕ Global Share DealRule → Type 0
-IsWhole n owner = (worker_flavor owner ≡ 0) × ((worker_view owner).parts + n ≡ 256) × ((worker_view owner).taken ≡ [])
+IsWhole n owner = (worker_flavor owner ≡ 0)
+    × ((worker_view owner).parts + n ≡ 256) × ((worker_view owner).taken ≡ [])
 
 -- of n seats, m have handed in their pass
 pub record IsOpen (n m : ℕ) (deck : Deck) : Type 0 where

@@ -2,13 +2,17 @@
 use Rattle.std.specs.Prelude.{◌≡◌, ℕ, ◌+◌, ◌<◌, ◌≤◌, List, [], length, sum_by, slice_index_or}
 use Rattle.rq_pool.specs.declared.deque.Share.{Share}
 
--- the view of the deque of the seat's number, what it stole from each, its own aside, and the list of all that it took; nothing was taken more often than it was dealt, however the numbers are weighed
-pub record Holds (lists : List (List ℕ)) (number : ℕ) (v : Share) (stolens : List (List ℕ)) (taken : List ℕ) : Type 0 where
+-- the view of the deque of the seat's number, what it stole from each, its own aside, and the list
+-- of all that it took; nothing was taken more often than it was dealt, however the numbers are
+-- weighed
+pub record Holds (lists : List (List ℕ)) (number : ℕ) (v : Share)
+    (stolens : List (List ℕ)) (taken : List ℕ) : Type 0 where
   pub numbered : number < length lists
   pub dealt : slice_index_or lists number [] ≡ v.dealt
   pub parts : v.parts + length lists ≡ 256
   pub same : length stolens ≡ length lists
   pub counts : (h : ℕ → ℕ) → sum_by h taken ≡ sum_by h v.taken + sum_by (sum_by h) stolens
   pub within : (h : ℕ → ℕ) → sum_by h v.taken ≤ sum_by h v.dealt
-  pub least : (h : ℕ → ℕ) (j : ℕ) → sum_by h (slice_index_or stolens j []) ≤ sum_by h (slice_index_or lists j [])
+  pub least : (h : ℕ → ℕ) (j : ℕ) →
+      sum_by h (slice_index_or stolens j []) ≤ sum_by h (slice_index_or lists j [])
   pub untouched : slice_index_or stolens number [] ≡ []

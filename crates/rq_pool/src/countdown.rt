@@ -1,5 +1,7 @@
-//! A countdown: sources arrive with an outbox each, and the pass whose arrival is the last takes them all.
-ghost use Rattle.std.specs.Prelude.{◌≡◌, ◌+◌, ◌<◌, ◌≤◌, [], ◌∷◌, ◌++◌, All, length, map, IfOk, IfErr, vec_capacity};
+//! A countdown: sources arrive with an outbox each, and the pass whose arrival is the last takes
+//! them all.
+ghost use Rattle.std.specs.Prelude.{◌≡◌, ◌+◌, ◌<◌, ◌≤◌, [], ◌∷◌, ◌++◌, All, length, map, IfOk};
+ghost use Rattle.std.specs.Prelude.{IfErr, vec_capacity};
 ghost use Rattle.rq_record.specs.declared.fault.Fault.TheVariants.{Resources};
 
 mod arrival;
@@ -33,21 +35,25 @@ use std::snapshot::Snapshot;
 use steps::{claim, hand_in};
 use view::{Terms, View};
 
-/// It has a flag and a slot for each source, and the number of sources that were not counted. It may be
-/// lent to threads, and each of its passes moved to one.
+/// It has a flag and a slot for each source, and the number of sources that were not counted. It
+/// may be lent to threads, and each of its passes moved to one.
 #[derive(Drop)]
 pub struct Countdown<T: Fits> {
     pub(crate) table: Table<Option<T>, View<T, T::Key>, Terms<T::Key>, Counts<T>, Global>,
     pub(crate) home: Vec<T>,
     pub(crate) sources: u32,
-    ghost sized: { (table.shared.table_id.words ≡ sources + 1) × (table.shared.table_id.slots ≡ sources) × (home.items ≡ []) × (sources ≤ vec_capacity home) × (0 < table.shared.key.passes) },
+    ghost sized: { (table.shared.table_id.words ≡ sources + 1)
+        × (table.shared.table_id.slots ≡ sources) × (home.items ≡ [])
+        × (sources ≤ vec_capacity home) × (0 < table.shared.key.passes) },
 }
 
 impl<T: Fits> Countdown<T> {
-    ghost use Rattle.rq_pool.specs.Countdowns.Words.{IsPassOf, key_of, sources_of, passes_of, history_of};
+    ghost use Rattle.rq_pool.specs.Countdowns.Words.{IsPassOf, key_of, sources_of, passes_of};
+    ghost use Rattle.rq_pool.specs.Countdowns.Words.{history_of};
 
-    /// A countdown of 1 to 4,095 sources, which are numbered from 0, with 1 to 64 passes. All memory of it
-    /// and of its passes is taken here; `Resources` where the host refuses it, and then the key is dropped.
+    /// A countdown of 1 to 4,095 sources, which are numbered from 0, with 1 to 64 passes. All
+    /// memory of it and of its passes is taken here; `Resources` where the host refuses it, and
+    /// then the key is dropped.
     pub fn open(
         alloc: Global,
         key: T::Key,
@@ -56,7 +62,8 @@ impl<T: Fits> Countdown<T> {
     ) -> Result<(Countdown<T>, Vec<Pass<T>>), Fault>
         requires sources { (0 < sources) × (sources < 4096) }
         requires passes { (0 < passes) × (passes ≤ 64) }
-        ensures countdown { IfOk result (λ r. (sources_of r.0 ≡ sources) × (key_of r.0 ≡ key) × (passes_of r.0 ≡ passes)) }
+        ensures countdown { IfOk result
+            (λ r. (sources_of r.0 ≡ sources) × (key_of r.0 ≡ key) × (passes_of r.0 ≡ passes)) }
         ensures count { IfOk result (λ r. length r.1.items ≡ passes) }
         ensures own { IfOk result (λ r. All (IsPassOf r.0) r.1.items) }
         ensures fresh { IfOk result (λ r. All (λ p. history_of p ≡ []) r.1.items) }
@@ -87,14 +94,15 @@ impl<T: Fits> Countdown<T> {
     ghost use Rattle.rq_pool.specs.Countdowns.History.{Answered};
     ghost use Rattle.rq_pool.specs.Countdowns.History.{entry};
 
-    /// The arrival of a source with its outbox, answered as `Arrival` tells. It takes no memory and waits
-    /// for nobody.
+    /// The arrival of a source with its outbox, answered as `Arrival` tells. It takes no memory and
+    /// waits for nobody.
     pub fn arrive(&self, pass: &mut Pass<T>, source: u32, outbox: T) -> Arrival<T>
         requires own { IsPassOf self.now pass.old }
         requires source { source < sources_of self.now }
         requires fits { T.fits (key_of self.now) source outbox }
         ensures own { IsPassOf self.now pass.new }
-        ensures told { history_of pass.new ≡ history_of pass.old ++ entry source outbox result ∷ [] }
+        ensures told { history_of pass.new
+            ≡ history_of pass.old ++ entry source outbox result ∷ [] }
         ensures answer { Answered (T.fits (key_of self.now)) (sources_of self.now) outbox result }
     {
         let board = &self.table.shared;
@@ -116,16 +124,19 @@ impl<T: Fits> Countdown<T> {
 }
 
 impl<T: Fits> Countdown<T> {
-    ghost use Rattle.rq_pool.specs.Countdowns.Words.{IsPassOf, sources_of, passes_of, history_of, history_in, TellsLast};
+    ghost use Rattle.rq_pool.specs.Countdowns.Words.{IsPassOf, sources_of, passes_of, history_of};
+    ghost use Rattle.rq_pool.specs.Countdowns.Words.{history_in, TellsLast};
     ghost use Rattle.rq_pool.specs.Countdowns.Closings.{arrived_of, last_of, home_of, histories_of};
     ghost use Rattle.rq_pool.specs.Countdowns.Arrivals.{Settled};
 
-    /// What the arrivals came to, with the arrivals of each pass in the order in which the passes are handed in. The passes
-    /// are those of this countdown, all of them, in any order. It takes no memory and waits for nobody.
+    /// What the arrivals came to, with the arrivals of each pass in the order in which the passes
+    /// are handed in. The passes are those of this countdown, all of them, in any order. It takes
+    /// no memory and waits for nobody.
     pub fn close(self, passes: Vec<Pass<T>>) -> Closing<T>
         requires own { All (IsPassOf self) passes.items }
         requires all { length passes.items ≡ passes_of self }
-        ensures settled { Settled (sources_of self) (history_in passes.items) (arrived_of result) (home_of result) }
+        ensures settled { Settled (sources_of self)
+            (history_in passes.items) (arrived_of result) (home_of result) }
         ensures last { TellsLast passes.items (last_of result) }
         ensures histories { histories_of result ≡ map history_of passes.items }
     {

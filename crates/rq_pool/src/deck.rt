@@ -1,6 +1,8 @@
 //! A deque of the room: its passes before they are dealt out, and after they came back.
-ghost use Rattle.std.specs.Prelude.{◌≡◌, ℕ, ◌≤◌, ◌<◌, ◌+◌, ◌^◌, [], ◌∷◌, ◌++◌, length, All, IfOk, map, sum_by, Some, None, slice_index_or, vec_len, vec_capacity};
-ghost use Rattle.crossbeam_deque.specs.Handles.{worker_deque, worker_flavor, worker_view, stealer_deque};
+ghost use Rattle.std.specs.Prelude.{◌≡◌, ℕ, ◌≤◌, ◌<◌, ◌+◌, ◌^◌, [], ◌∷◌, ◌++◌, length, All, IfOk};
+ghost use Rattle.std.specs.Prelude.{map, sum_by, Some, None, slice_index_or, vec_len, vec_capacity};
+ghost use Rattle.crossbeam_deque.specs.Handles.{worker_deque, worker_flavor, worker_view};
+ghost use Rattle.crossbeam_deque.specs.Handles.{stealer_deque};
 
 use crate::deque::{DequePass, Owner, Thief, cut, dealt, together};
 use crate::settle::settled;
@@ -23,7 +25,8 @@ impl Deck {
     /// The deque of one list, with a pass for each seat, and its owner.
     pub fn new(alloc: Global, list: Vec<u32>, seats: usize) -> Result<(Deck, Owner), AllocError>
         requires { (seats ≤ 64) × (vec_len list < 2 ^ 32) }
-        ensures deck { IfOk result (λ r. IsStocked seats seats r.0 × (r.0.list.items ≡ list.items)) }
+        ensures deck { IfOk result
+            (λ r. IsStocked seats seats r.0 × (r.0.list.items ≡ list.items)) }
         ensures owner { IfOk result (λ r. IsWhole seats r.1 × (owner_id r.1 ≡ deck_id r.0)) }
     {
         let mut owner = dealt(alloc, list.as_slice())?;
@@ -90,7 +93,8 @@ impl Deck {
         requires deck { source_id source ≡ deck_id self.old }
         ensures same { (deck_id self.new ≡ deck_id self.old) × (self.new.owner ≡ self.old.owner) }
         ensures laid { (n m : ℕ) → IsOpen n m self.old → IsOpen n (m + 1) self.new }
-        ensures weight { (h : ℕ → ℕ) → taken_weight h self.new ≡ taken_weight h self.old + sum_by h (stolen source) }
+        ensures weight { (h : ℕ → ℕ) →
+            taken_weight h self.new ≡ taken_weight h self.old + sum_by h (stolen source) }
     {
         let Source { thief: _, pass } = source;
         self.passes.push_reserved(pass);
@@ -103,7 +107,8 @@ impl Deck {
         ensures same { map deck_id decks.new ≡ map deck_id decks.old }
         ensures owners { map filled decks.new ≡ map filled decks.old }
         ensures decks { All (IsOpen n (m + 1)) decks.new }
-        ensures weight { (h : ℕ → ℕ) → sum_by (taken_weight h) decks.new ≡ sum_by (taken_weight h) decks.old + sum_by (λ s. sum_by h (stolen s)) sources.items }
+        ensures weight { (h : ℕ → ℕ) → sum_by (taken_weight h) decks.new
+            ≡ sum_by (taken_weight h) decks.old + sum_by (λ s. sum_by h (stolen s)) sources.items }
     {
         while let Some(source) = sources.pop() {
             let j = sources.len();
@@ -138,7 +143,8 @@ impl Deck {
         ensures same { map deck_id decks.new ≡ map deck_id decks.old }
         ensures decks { All (IsOpen n m) decks.new }
         ensures filled { sum_by filled decks.new ≡ sum_by filled decks.old + 1 }
-        ensures weight { (h : ℕ → ℕ) → sum_by (taken_weight h) decks.new ≡ sum_by (taken_weight h) decks.old + sum_by h (worker_view owner).taken }
+        ensures weight { (h : ℕ → ℕ) → sum_by (taken_weight h) decks.new
+            ≡ sum_by (taken_weight h) decks.old + sum_by h (worker_view owner).taken }
     {
         decks[number].seat(owner, n);
     }
@@ -150,8 +156,10 @@ impl Deck {
     /// Empties all deques into `left`.
     pub fn emptied(mut decks: Vec<Deck>, left: &mut Vec<u32>)
         requires all { All IsComplete decks.items }
-        requires reserved { vec_len left.old + sum_by dealt_length decks.items ≤ vec_capacity left.old }
-        ensures sums { (h : ℕ → ℕ) → sum_by (taken_weight h) decks.items + sum_by h left.new.items ≡ sum_by (dealt_weight h) decks.items + sum_by h left.old.items }
+        requires reserved { vec_len left.old + sum_by dealt_length decks.items
+            ≤ vec_capacity left.old }
+        ensures sums { (h : ℕ → ℕ) → sum_by (taken_weight h) decks.items + sum_by h left.new.items
+            ≡ sum_by (dealt_weight h) decks.items + sum_by h left.old.items }
     {
         while let Some(deck) = decks.pop() {
             deck.empty(left);
@@ -162,8 +170,10 @@ impl Deck {
     fn empty(self, left: &mut Vec<u32>)
         requires whole { IsComplete self }
         requires reserved { vec_len left.old + dealt_length self ≤ vec_capacity left.old }
-        ensures room { (vec_capacity left.new ≡ vec_capacity left.old) × (vec_len left.new ≤ vec_len left.old + dealt_length self) }
-        ensures sums { (h : ℕ → ℕ) → taken_weight h self + sum_by h left.new.items ≡ dealt_weight h self + sum_by h left.old.items }
+        ensures room { (vec_capacity left.new ≡ vec_capacity left.old)
+            × (vec_len left.new ≤ vec_len left.old + dealt_length self) }
+        ensures sums { (h : ℕ → ℕ) → taken_weight h self + sum_by h left.new.items
+            ≡ dealt_weight h self + sum_by h left.old.items }
     {
         let Deck {
             thief: _,

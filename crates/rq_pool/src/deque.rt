@@ -1,6 +1,8 @@
 //! One seat's deque, under its rule.
-ghost use Rattle.std.specs.Prelude.{◌≡◌, ℕ, ◌≤◌, ◌<◌, ◌+◌, ◌^◌, [], ◌∷◌, ◌++◌, length, IfOk, IfSome, IfNone, sum_by, MatchOption, vec_len, vec_capacity};
-ghost use Rattle.crossbeam_deque.specs.Handles.{view, IsPassOf, worker_deque, worker_flavor, worker_view, stealer_deque, stealer_flavor};
+ghost use Rattle.std.specs.Prelude.{◌≡◌, ℕ, ◌≤◌, ◌<◌, ◌+◌, ◌^◌, [], ◌∷◌, ◌++◌, length, IfOk};
+ghost use Rattle.std.specs.Prelude.{IfSome, IfNone, sum_by, MatchOption, vec_len, vec_capacity};
+ghost use Rattle.crossbeam_deque.specs.Handles.{view, IsPassOf, worker_deque, worker_flavor};
+ghost use Rattle.crossbeam_deque.specs.Handles.{worker_view, stealer_deque, stealer_flavor};
 ghost use Rattle.rq_pool.specs.Shares.{share};
 ghost use Rattle.rq_pool.specs.Rules.{Taken};
 
@@ -9,7 +11,8 @@ use crossbeam_deque::{Pass, Steal, Stealer, Worker};
 use std::alloc::{AllocError, Global};
 use std::collections::LinkedList;
 
-// A pass's parts of the right to know the whole, what was dealt, and what it took. No value of it is made.
+// A pass's parts of the right to know the whole, what was dealt, and what it took. No value of it
+// is made.
 pub struct Share {
     pub parts: u64,
     pub dealt: LinkedList<u32>,
@@ -109,9 +112,13 @@ pub fn dealt(alloc: Global, list: &[u32]) -> Result<Owner, AllocError>
 // A pass with one part.
 pub fn cut(owner: &mut Owner) -> DequePass
     requires { 1 < (worker_view owner.old).parts }
-    ensures same { (worker_deque owner.new ≡ worker_deque owner.old) × (worker_flavor owner.new ≡ worker_flavor owner.old) }
-    ensures view { ((worker_view owner.new).parts + 1 ≡ (worker_view owner.old).parts) × ((worker_view owner.new).dealt ≡ (worker_view owner.old).dealt) × ((worker_view owner.new).taken ≡ (worker_view owner.old).taken) }
-    ensures one { IsPassOf (worker_deque owner.new) result × (view result ≡ share 1 (worker_view owner.old).dealt []) }
+    ensures same { (worker_deque owner.new ≡ worker_deque owner.old)
+        × (worker_flavor owner.new ≡ worker_flavor owner.old) }
+    ensures view { ((worker_view owner.new).parts + 1 ≡ (worker_view owner.old).parts)
+        × ((worker_view owner.new).dealt ≡ (worker_view owner.old).dealt)
+        × ((worker_view owner.new).taken ≡ (worker_view owner.old).taken) }
+    ensures one { IsPassOf (worker_deque owner.new) result
+        × (view result ≡ share 1 (worker_view owner.old).dealt []) }
 {
     owner.another::<Parts>()
 }
@@ -119,10 +126,13 @@ pub fn cut(owner: &mut Owner) -> DequePass
 // The owner's pop.
 pub fn pop(owner: &mut Owner) -> Option<u32>
     requires { (worker_flavor owner.old ≡ 0) × (0 < (worker_view owner.old).parts) }
-    ensures same { (worker_deque owner.new ≡ worker_deque owner.old) × (worker_flavor owner.new ≡ 0) }
-    ensures taken { IfSome result (λ x. Taken (worker_view owner.old) (x ∷ []) (worker_view owner.new)) }
+    ensures same { (worker_deque owner.new ≡ worker_deque owner.old)
+        × (worker_flavor owner.new ≡ 0) }
+    ensures taken { IfSome result
+        (λ x. Taken (worker_view owner.old) (x ∷ []) (worker_view owner.new)) }
     ensures none { IfNone result (worker_view owner.new ≡ worker_view owner.old) }
-    ensures emptied { IfNone result ((worker_view owner.old).parts ≡ 256 → (h : ℕ → ℕ) → sum_by h (worker_view owner.old).taken ≡ sum_by h (worker_view owner.old).dealt) }
+    ensures emptied { IfNone result ((worker_view owner.old).parts ≡ 256 → (h : ℕ → ℕ) →
+        sum_by h (worker_view owner.old).taken ≡ sum_by h (worker_view owner.old).dealt) }
 {
     owner.pop_as::<Gets>()
 }
@@ -144,13 +154,16 @@ pub fn steal_one(thief: &Thief, pass: &mut DequePass) -> Option<u32>
 // Takes in a pass with all that it took.
 pub fn gather(owner: &mut Owner, pass: DequePass)
     requires { IsPassOf (worker_deque owner.old) pass × (0 < (worker_view owner.old).parts) }
-    ensures same { (worker_deque owner.new ≡ worker_deque owner.old) × (worker_flavor owner.new ≡ worker_flavor owner.old) }
-    ensures view { worker_view owner.new ≡ share ((worker_view owner.old).parts + (view pass).parts) (worker_view owner.old).dealt ((worker_view owner.old).taken ++ (view pass).taken) }
+    ensures same { (worker_deque owner.new ≡ worker_deque owner.old)
+        × (worker_flavor owner.new ≡ worker_flavor owner.old) }
+    ensures view { worker_view owner.new ≡ share ((worker_view owner.old).parts + (view pass).parts)
+        (worker_view owner.old).dealt ((worker_view owner.old).taken ++ (view pass).taken) }
 {
     owner.absorb::<Parts>(pass);
 }
 
-/// Two owners of one deque have no more than all parts together. So there are no two whose parts are more.
+/// Two owners of one deque have no more than all parts together. So there are no two whose parts
+/// are more.
 pub fn together(one: &mut Owner, mut two: Owner)
     requires { (worker_deque two ≡ worker_deque one.old) × (0 < (worker_view one.old).parts) }
     ensures { (worker_view one.old).parts + (worker_view two).parts ≤ 256 }

@@ -1,5 +1,6 @@
 //! The room of several seats: a stealing deque for each.
-ghost use Rattle.std.specs.Prelude.{◌≡◌, ℕ, ◌≤◌, ◌<◌, ◌+◌, ◌^◌, [], ◌∷◌, ◌++◌, length, IfOk, All, map, sum_by, vec_len, vec_items, vec_capacity};
+ghost use Rattle.std.specs.Prelude.{◌≡◌, ℕ, ◌≤◌, ◌<◌, ◌+◌, ◌^◌, [], ◌∷◌, ◌++◌, length, IfOk, All};
+ghost use Rattle.std.specs.Prelude.{map, sum_by, vec_len, vec_items, vec_capacity};
 ghost use Rattle.rq_pool.specs.Ledger.{size};
 ghost use Rattle.rq_pool.specs.Decks.{list_in};
 ghost use Rattle.rq_pool.specs.Vaults.{reach};
@@ -17,8 +18,11 @@ pub struct DequeRoom {
     pub vault: Vault,
     pub takens: Vec<Vec<u32>>,
     pub left: Vec<u32>,
-    ghost several: { (1 < length (reach vault.table.shared.key)) × (length (reach vault.table.shared.key) ≤ 64) },
-    ghost reserved: { (takens.items ≡ []) × (length (reach vault.table.shared.key) ≤ vec_capacity takens) × (left.items ≡ []) × (size (map list_in (reach vault.table.shared.key)) ≤ vec_capacity left) },
+    ghost several: { (1 < length (reach vault.table.shared.key))
+        × (length (reach vault.table.shared.key) ≤ 64) },
+    ghost reserved: { (takens.items ≡ [])
+        × (length (reach vault.table.shared.key) ≤ vec_capacity takens) × (left.items ≡ [])
+        × (size (map list_in (reach vault.table.shared.key)) ≤ vec_capacity left) },
 }
 
 // How many numbers the lists have.
@@ -45,8 +49,11 @@ impl DequeRoom {
         requires few { vec_len lists ≤ 64 }
         requires short { All (λ v. length v.items < 2 ^ 32) lists.items }
         ensures lists { IfOk result (λ r. map deck_list r.0.items ≡ map vec_items lists.items) }
-        ensures decks { IfOk result (λ r. All (IsStocked (vec_len lists) (vec_len lists)) r.0.items) }
-        ensures owners { IfOk result (λ r. (reverse (map owner_id r.1.items) ≡ map deck_id r.0.items) × All (IsWhole (vec_len lists)) r.1.items) }
+        ensures decks { IfOk result
+            (λ r. All (IsStocked (vec_len lists) (vec_len lists)) r.0.items) }
+        ensures owners { IfOk result
+            (λ r. (reverse (map owner_id r.1.items) ≡ map deck_id r.0.items)
+            × All (IsWhole (vec_len lists)) r.1.items) }
     {
         let n = lists.len();
         let mut decks = Vec::with_capacity(alloc, n)?;
@@ -73,12 +80,15 @@ impl DequeRoom {
         mut owners: Vec<Owner>,
         total: usize,
     ) -> Result<Vec<Seat>, AllocError>
-        requires owners { (reverse (map owner_id owners.items) ≡ map deck_id decks.old) × All (IsWhole (length decks.old)) owners.items }
+        requires owners { (reverse (map owner_id owners.items) ≡ map deck_id decks.old)
+            × All (IsWhole (length decks.old)) owners.items }
         requires decks { All (IsStocked (length decks.old) (length decks.old)) decks.old }
         requires total { total ≡ size (map list_in (map deck_id decks.old)) }
         ensures same { IfOk result (λ v. map deck_id decks.new ≡ map deck_id decks.old) }
         ensures decks { IfOk result (λ v. All (IsStocked (length decks.old) 0) decks.new) }
-        ensures seats { IfOk result (λ v. (vec_len v ≡ length decks.old) × All (IsSeatBeside (map deck_id decks.old)) v.items × All (λ s. taken_of s ≡ []) v.items) }
+        ensures seats { IfOk result (λ v. (vec_len v ≡ length decks.old)
+            × All (IsSeatBeside (map deck_id decks.old)) v.items
+            × All (λ s. taken_of s ≡ []) v.items) }
     {
         let n = decks.len();
         let mut seats = Vec::with_capacity(alloc, n)?;
@@ -99,9 +109,13 @@ impl DequeRoom {
     ) -> Result<(Vec<Deck>, Vec<Seat>), AllocError>
         requires few { vec_len lists ≤ 64 }
         requires short { (total ≡ size (map vec_items lists.items)) × (total ≤ 65536) }
-        ensures lists { IfOk result (λ r. map list_in (map deck_id r.0.items) ≡ map vec_items lists.items) }
-        ensures decks { IfOk result (λ r. (vec_len r.0 ≡ vec_len lists) × All (IsStocked (vec_len lists) 0) r.0.items) }
-        ensures seats { IfOk result (λ r. (vec_len r.1 ≡ vec_len lists) × All (IsSeatBeside (map deck_id r.0.items)) r.1.items × All (λ s. taken_of s ≡ []) r.1.items) }
+        ensures lists { IfOk result
+            (λ r. map list_in (map deck_id r.0.items) ≡ map vec_items lists.items) }
+        ensures decks { IfOk result
+            (λ r. (vec_len r.0 ≡ vec_len lists) × All (IsStocked (vec_len lists) 0) r.0.items) }
+        ensures seats { IfOk result (λ r. (vec_len r.1 ≡ vec_len lists)
+            × All (IsSeatBeside (map deck_id r.0.items)) r.1.items
+            × All (λ s. taken_of s ≡ []) r.1.items) }
     {
         let (mut decks, owners) = DequeRoom::decks_of(alloc, lists)?;
         let seats = DequeRoom::seats_of(alloc, decks.as_mut_slice(), owners, total)?;
@@ -141,7 +155,8 @@ impl DequeRoom {
         requires seats { (1 < vec_len lists) × (vec_len lists ≤ 64) }
         requires short { size (map vec_items lists.items) ≤ 65536 }
         ensures deal { IfOk result (λ r. lists_of r.0 ≡ map vec_items lists.items) }
-        ensures count { IfOk result (λ r. (length (ids_of r.0) ≡ vec_len lists) × (vec_len r.1 ≡ vec_len lists)) }
+        ensures count { IfOk result
+            (λ r. (length (ids_of r.0) ≡ vec_len lists) × (vec_len r.1 ≡ vec_len lists)) }
         ensures seats { IfOk result (λ r. All (IsSeatBeside (ids_of r.0)) r.1.items) }
         ensures fresh { IfOk result (λ r. All (λ s. taken_of s ≡ []) r.1.items) }
     {
@@ -155,19 +170,22 @@ impl DequeRoom {
 impl DequeRoom {
     ghost use Rattle.rq_pool.specs.Ledger.{Ledger};
     ghost use Rattle.rq_pool.specs.Decks.{IsOpen, IsComplete, deck_id, filled, taken_weight};
-    ghost use Rattle.rq_pool.specs.Rooms.{IsSeatBeside, ids_of, lists_of, taken_of, left_of, takens_of};
+    ghost use Rattle.rq_pool.specs.Rooms.{IsSeatBeside, ids_of, lists_of, taken_of, left_of};
+    ghost use Rattle.rq_pool.specs.Rooms.{takens_of};
 
     // Takes in all seats, and keeps what they took.
     fn gathered(decks: &mut [Deck], mut seats: Vec<Seat>, takens: &mut Vec<Vec<u32>>)
         requires few { length decks.old ≤ 64 }
         requires seats { All (IsSeatBeside (map deck_id decks.old)) seats.items }
         requires all { vec_len seats ≡ length decks.old }
-        requires decks { All (IsOpen (length decks.old) 0) decks.old × (sum_by filled decks.old ≡ 0) }
+        requires decks { All (IsOpen (length decks.old) 0) decks.old
+            × (sum_by filled decks.old ≡ 0) }
         requires reserved { (takens.old.items ≡ []) × (length decks.old ≤ vec_capacity takens.old) }
         ensures same { map deck_id decks.new ≡ map deck_id decks.old }
         ensures decks { All IsComplete decks.new }
         ensures takens { map vec_items takens.new.items ≡ map taken_of seats.items }
-        ensures weight { (h : ℕ → ℕ) → sum_by (taken_weight h) decks.new ≡ sum_by (sum_by h) (map taken_of seats.items) }
+        ensures weight { (h : ℕ → ℕ) →
+            sum_by (taken_weight h) decks.new ≡ sum_by (sum_by h) (map taken_of seats.items) }
     {
         let n = decks.len();
         while let Some(seat) = seats.pop() {

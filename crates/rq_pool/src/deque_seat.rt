@@ -1,5 +1,6 @@
 //! A seat of a room of several.
-ghost use Rattle.std.specs.Prelude.{◌≡◌, ℕ, ◌≤◌, ◌<◌, ◌+◌, [], ◌∷◌, ◌++◌, length, IfSome, IfNone, map};
+ghost use Rattle.std.specs.Prelude.{◌≡◌, ℕ, ◌≤◌, ◌<◌, ◌+◌, [], ◌∷◌, ◌++◌, length, IfSome, IfNone};
+ghost use Rattle.std.specs.Prelude.{map};
 ghost use Rattle.crossbeam_deque.specs.Handles.{worker_deque, worker_flavor, worker_view};
 
 use crate::deck::Deck;
@@ -30,7 +31,8 @@ impl DequeSeat {
         ensures some { IfSome result (λ x. self.new.taken.items ≡ self.old.taken.items ++ x ∷ []) }
         ensures none { IfNone result (self.new.taken.items ≡ self.old.taken.items) }
         ensures dealt { IfSome result (λ x. 0 < times_in x (lists_of room.now)) }
-        ensures fewer { IfSome result (λ _. length self.old.taken.items < size (lists_of room.now)) }
+        ensures fewer { IfSome result
+            (λ _. length self.old.taken.items < size (lists_of room.now)) }
     {
         let Some(x) = self.next(room) else {
             return None;
@@ -43,10 +45,15 @@ impl DequeSeat {
     fn next(&mut self, room: &DequeRoom) -> Option<u32>
         requires seat { IsDequeSeat (ids_of room.now) self.old }
         ensures same { (self.new.taken ≡ self.old.taken) × (self.new.number ≡ self.old.number) }
-        ensures own { (worker_deque self.new.owner ≡ worker_deque self.old.owner) × ((worker_view self.new.owner).dealt ≡ (worker_view self.old.owner).dealt) }
-        ensures sources { map source_id self.new.sources.items ≡ map source_id self.old.sources.items }
-        ensures some { IfSome result (λ x. Holds (lists_of room.now) self.new.number (worker_view self.new.owner) (map stolen self.new.sources.items) (self.old.taken.items ++ x ∷ [])) }
-        ensures none { IfNone result (Holds (lists_of room.now) self.new.number (worker_view self.new.owner) (map stolen self.new.sources.items) self.old.taken.items) }
+        ensures own { (worker_deque self.new.owner ≡ worker_deque self.old.owner)
+            × ((worker_view self.new.owner).dealt ≡ (worker_view self.old.owner).dealt) }
+        ensures sources { map source_id self.new.sources.items
+            ≡ map source_id self.old.sources.items }
+        ensures some { IfSome result
+            (λ x. Holds (lists_of room.now) self.new.number (worker_view self.new.owner)
+            (map stolen self.new.sources.items) (self.old.taken.items ++ x ∷ [])) }
+        ensures none { IfNone result (Holds (lists_of room.now) self.new.number
+            (worker_view self.new.owner) (map stolen self.new.sources.items) self.old.taken.items) }
     {
         if let Some(x) = pop(&mut self.owner) {
             return Some(x);
@@ -57,11 +64,17 @@ impl DequeSeat {
     // One steal at each other seat in turn.
     fn steal(&mut self, room: &DequeRoom) -> Option<u32>
         requires sources { map source_id self.old.sources.items ≡ ids_of room.now }
-        requires holds { Holds (lists_of room.now) self.old.number (worker_view self.old.owner) (map stolen self.old.sources.items) self.old.taken.items }
-        ensures same { (self.new.taken ≡ self.old.taken) × (self.new.number ≡ self.old.number) × (self.new.owner ≡ self.old.owner) }
-        ensures sources { map source_id self.new.sources.items ≡ map source_id self.old.sources.items }
-        ensures some { IfSome result (λ x. Holds (lists_of room.now) self.new.number (worker_view self.new.owner) (map stolen self.new.sources.items) (self.old.taken.items ++ x ∷ [])) }
-        ensures none { IfNone result (Holds (lists_of room.now) self.new.number (worker_view self.new.owner) (map stolen self.new.sources.items) self.old.taken.items) }
+        requires holds { Holds (lists_of room.now) self.old.number (worker_view self.old.owner)
+            (map stolen self.old.sources.items) self.old.taken.items }
+        ensures same { (self.new.taken ≡ self.old.taken)
+            × (self.new.number ≡ self.old.number) × (self.new.owner ≡ self.old.owner) }
+        ensures sources { map source_id self.new.sources.items
+            ≡ map source_id self.old.sources.items }
+        ensures some { IfSome result
+            (λ x. Holds (lists_of room.now) self.new.number (worker_view self.new.owner)
+            (map stolen self.new.sources.items) (self.old.taken.items ++ x ∷ [])) }
+        ensures none { IfNone result (Holds (lists_of room.now) self.new.number
+            (worker_view self.new.owner) (map stolen self.new.sources.items) self.old.taken.items) }
     {
         for j in 0..self.sources.len() {
             if j == self.number {
@@ -89,7 +102,8 @@ impl DequeSeat {
         ensures same { map deck_id decks.new ≡ map deck_id decks.old }
         ensures decks { All (IsOpen n (m + 1)) decks.new }
         ensures filled { sum_by filled decks.new ≡ sum_by filled decks.old + 1 }
-        ensures weight { (h : ℕ → ℕ) → sum_by (taken_weight h) decks.new ≡ sum_by (taken_weight h) decks.old + sum_by h self.taken.items }
+        ensures weight { (h : ℕ → ℕ) → sum_by (taken_weight h) decks.new
+            ≡ sum_by (taken_weight h) decks.old + sum_by h self.taken.items }
     {
         let DequeSeat {
             number,

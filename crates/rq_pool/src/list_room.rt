@@ -1,5 +1,6 @@
 //! The room of one seat: a plain list, and no atomic step.
-ghost use Rattle.std.specs.Prelude.{◌≡◌, ◌≤◌, ◌<◌, ◌+◌, [], ◌∷◌, ◌++◌, length, IfOk, IfSome, IfNone, All, map, vec_len, vec_capacity};
+ghost use Rattle.std.specs.Prelude.{◌≡◌, ◌≤◌, ◌<◌, ◌+◌, [], ◌∷◌, ◌++◌, length, IfOk, IfSome};
+ghost use Rattle.std.specs.Prelude.{IfNone, All, map, vec_len, vec_capacity};
 
 use crate::left::Left;
 use crate::seat::{Place, Seat};

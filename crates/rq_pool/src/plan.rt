@@ -16,7 +16,8 @@ impl Plan {
 
     /// The plan of this many workers and this many frames a grain, where both are in their range.
     pub fn new(workers: u32, grain: u32) -> Option<Plan>
-        ensures range { IsSome result ↔ ((1 ≤ workers) × (workers ≤ 64) × (1 ≤ grain) × (grain ≤ 1000000)) }
+        ensures range { IsSome result
+            ↔ ((1 ≤ workers) × (workers ≤ 64) × (1 ≤ grain) × (grain ≤ 1000000)) }
         ensures plan { IfSome result (λ p. (workers_of p ≡ workers) × (grain_of p ≡ grain)) }
     {
         if workers < 1 || 64 < workers || grain < 1 || 1_000_000 < grain {

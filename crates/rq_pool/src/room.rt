@@ -1,5 +1,6 @@
 //! The room, of one seat or of several.
-ghost use Rattle.std.specs.Prelude.{◌≡◌, ◌≤◌, ◌∷◌, [], length, IfOk, IfErr, All, map, vec_len, vec_items};
+ghost use Rattle.std.specs.Prelude.{◌≡◌, ◌≤◌, ◌∷◌, [], length, IfOk, IfErr, All, map, vec_len};
+ghost use Rattle.std.specs.Prelude.{vec_items};
 ghost use Rattle.rq_record.specs.declared.fault.Fault.TheVariants.{Resources};
 
 use crate::deque_room::DequeRoom;
@@ -9,13 +10,15 @@ use crate::seat::Seat;
 use rq_record::Fault;
 use std::alloc::{AllocError, Global};
 
-/// Numbers for its seats to take. A room may be lent to threads, and each of its seats moved to one.
+/// Numbers for its seats to take. A room may be lent to threads, and each of its seats moved to
+/// one.
 #[derive(Drop)]
 pub struct Room {
     pub(crate) body: Body,
 }
 
-/// Whether it has one seat: a plain list, without an atomic step, or a stealing deque for each seat.
+/// Whether it has one seat: a plain list, without an atomic step, or a stealing deque for each
+/// seat.
 #[derive(Drop)]
 pub enum Body {
     Single(ListRoom),
@@ -26,14 +29,15 @@ impl Room {
     ghost use Rattle.rq_pool.specs.Ledger.{size};
     ghost use Rattle.rq_pool.specs.Rooms.{IsSeatOf, taken_of, deal_of, seats_of};
 
-    /// A room with a seat for each list, 1 to 64 of them, with at most 65,536 numbers in all. The same
-    /// number may stand more than once. All memory of the room and of its seats is taken here;
+    /// A room with a seat for each list, 1 to 64 of them, with at most 65,536 numbers in all. The
+    /// same number may stand more than once. All memory of the room and of its seats is taken here;
     /// `Resources` where the host refuses it, and then the lists are dropped.
     pub fn open(alloc: Global, mut lists: Vec<Vec<u32>>) -> Result<(Room, Vec<Seat>), Fault>
         requires seats { (1 ≤ vec_len lists) × (vec_len lists ≤ 64) }
         requires short { size (map vec_items lists.items) ≤ 65536 }
         ensures deal { IfOk result (λ r. deal_of r.0 ≡ map vec_items lists.items) }
-        ensures count { IfOk result (λ r. (seats_of r.0 ≡ vec_len lists) × (vec_len r.1 ≡ vec_len lists)) }
+        ensures count { IfOk result
+            (λ r. (seats_of r.0 ≡ vec_len lists) × (vec_len r.1 ≡ vec_len lists)) }
         ensures seats { IfOk result (λ r. All (IsSeatOf r.0) r.1.items) }
         ensures fresh { IfOk result (λ r. All (λ s. taken_of s ≡ []) r.1.items) }
         ensures refused { IfErr result (λ e. e ≡ Resources) }
@@ -71,11 +75,12 @@ impl Room {
 
 impl Room {
     ghost use Rattle.rq_pool.specs.Ledger.{Ledger};
-    ghost use Rattle.rq_pool.specs.Rooms.{IsSeatOf, taken_of, deal_of, seats_of, left_of, takens_of};
+    ghost use Rattle.rq_pool.specs.Rooms.{IsSeatOf, taken_of, deal_of, seats_of, left_of};
+    ghost use Rattle.rq_pool.specs.Rooms.{takens_of};
 
-    /// What the seats have taken, in the order in which they are handed in, and what is left. Together
-    /// these hold each number as often as the deal does. The seats are those of this room, all of them,
-    /// in any order. It takes no memory and waits for nobody.
+    /// What the seats have taken, in the order in which they are handed in, and what is left.
+    /// Together these hold each number as often as the deal does. The seats are those of this room,
+    /// all of them, in any order. It takes no memory and waits for nobody.
     pub fn close(self, seats: Vec<Seat>) -> Left
         requires seats { All (IsSeatOf self) seats.items }
         requires all { vec_len seats ≡ seats_of self }

@@ -25,10 +25,11 @@ impl Seat {
     ghost use Rattle.rq_pool.specs.Ledger.{times_in, size};
     ghost use Rattle.rq_pool.specs.Rooms.{IsSeatOf, taken_of, deal_of, seats_of};
 
-    /// A dealt number: the next of the seat's own list, or else one of another seat's that a single steal
-    /// at each of them in turn finds. None where neither gives one, which in a room of several does not
-    /// say that none is left: a steal that must be tried again counts as none. A seat alone is told None
-    /// only once it has taken the whole deal. It takes no memory and waits for nobody.
+    /// A dealt number: the next of the seat's own list, or else one of another seat's that a single
+    /// steal at each of them in turn finds. None where neither gives one, which in a room of
+    /// several does not say that none is left: a steal that must be tried again counts as none. A
+    /// seat alone is told None only once it has taken the whole deal. It takes no memory and waits
+    /// for nobody.
     pub fn take(&mut self, room: &Room) -> Option<u32>
         requires seat { IsSeatOf room.now self.old }
         ensures seat { IsSeatOf room.now self.new }
@@ -36,7 +37,8 @@ impl Seat {
         ensures none { IfNone result (taken_of self.new ≡ taken_of self.old) }
         ensures dealt { IfSome result (λ x. 0 < times_in x (deal_of room.now)) }
         ensures fewer { IfSome result (λ _. length (taken_of self.old) < size (deal_of room.now)) }
-        ensures alone { IfNone result (seats_of room.now ≡ 1 → deal_of room.now ≡ taken_of self.new ∷ []) }
+        ensures alone { IfNone result
+            (seats_of room.now ≡ 1 → deal_of room.now ≡ taken_of self.new ∷ []) }
     {
         match (&room.body, &mut self.place) {
             (Body::Single(room), Place::Alone(seat)) => seat.take(room.list.as_slice()),
@@ -64,7 +66,8 @@ impl Seat {
     pub(crate) fn list_taken(self, list: &[u32]) -> Vec<u32>
         requires seat { IsSeatAlone list.now self }
         ensures taken { result.items ≡ taken_of self }
-        ensures front { (result.items ≡ take (length result.items) list.now) × (length result.items ≤ length list.now) }
+        ensures front { (result.items ≡ take (length result.items) list.now)
+            × (length result.items ≤ length list.now) }
     {
         match self.place {
             Place::Alone(ListSeat { taken }) => taken,
@@ -85,7 +88,11 @@ impl Seat {
     pub(crate) fn beside(number: usize, owner: Owner, sources: Vec<Source>, taken: Vec<u32>) -> Seat
         requires fifo { worker_flavor owner ≡ 0 }
         ensures taken { taken_of result ≡ taken.items }
-        ensures seat { (ids : _) → slice_get ids number ≡ Some (owner_id owner) → map source_id sources.items ≡ ids → map stolen sources.items ≡ replicate (length ids) [] → IsWhole (length ids) owner → taken.items ≡ [] → size (map list_in ids) ≤ vec_capacity taken → IsSeatBeside ids result }
+        ensures seat { (ids : _) → slice_get ids number ≡ Some (owner_id owner)
+            → map source_id sources.items ≡ ids
+            → map stolen sources.items ≡ replicate (length ids) []
+            → IsWhole (length ids) owner → taken.items ≡ []
+            → size (map list_in ids) ≤ vec_capacity taken → IsSeatBeside ids result }
     {
         Seat {
             place: Place::Beside(DequeSeat {

@@ -19,7 +19,8 @@ impl Source {
     /// One steal.
     pub fn steal(&mut self) -> Option<u32>
         ensures same { source_id self.new ≡ source_id self.old }
-        ensures some { IfSome result (λ x. (stolen self.new ≡ stolen self.old ++ x ∷ []) × ((h : ℕ → ℕ) → sum_by h (stolen self.new) ≤ sum_by h (view self.old.pass).dealt)) }
+        ensures some { IfSome result (λ x. (stolen self.new ≡ stolen self.old ++ x ∷ [])
+            × ((h : ℕ → ℕ) → sum_by h (stolen self.new) ≤ sum_by h (view self.old.pass).dealt)) }
         ensures none { IfNone result (stolen self.new ≡ stolen self.old) }
     {
         steal_one(&self.thief, &mut self.pass)

@@ -1,5 +1,6 @@
 -- Reading a record from left to right.
-use Rattle.std.specs.Prelude.{◌≡◌, ℕ, List, [], ◌∷◌, length, take, drop, Option, Some, None, IsSome, Result, Ok, Err, nat_lt, nat_le, ◌==◌, if◌then◌else◌, ⊤}
+use Rattle.std.specs.Prelude.{◌≡◌, ℕ, List, [], ◌∷◌, length, take, drop, Option, Some, None, IsSome}
+use Rattle.std.specs.Prelude.{Result, Ok, Err, nat_lt, nat_le, ◌==◌, if◌then◌else◌, ⊤}
 use Rattle.byteorder.specs.Endian.{big_number}
 use Rattle.rq_model.specs.Records as model
 use Rattle.rq_model.specs.Records.{By, Version, One, Two}
@@ -39,7 +40,8 @@ Copies view (Err _) read = ⊥
 
 -- a field is a value and the bytes after it
 abbrev pub number_at : ℕ → List ℕ → Option (ℕ × List ℕ)
-number_at n bytes = if nat_lt (length bytes) n then None else Some (big_number n bytes, drop n bytes)
+number_at n bytes = if nat_lt (length bytes) n then None
+    else Some (big_number n bytes, drop n bytes)
 
 abbrev pub byte_at : List ℕ → Option (ℕ × List ℕ)
 byte_at [] = None
@@ -170,7 +172,8 @@ record_from version bytes = do
   kind ← byte_at bytes
   of_kind version kind.0 kind.1
 
--- what decode_in answers: the record that the body spells, or Form where it spells none; memory runs out only where it spells one
+-- what decode_in answers: the record that the body spells, or Form where it spells none; memory
+-- runs out only where it spells one
 abbrev pub Decodes : Version → List ℕ → Result Record Fault → Type 0
 Decodes version body (Ok r) = Spells version (record_of r) body
 Decodes version body (Err faults.Form) = (r : model.Record) → Spells version r body → ⊥

@@ -1,7 +1,9 @@
 -- What a record and a version of the code are among the words of the model.
 use Rattle.rq_model.specs.Records as model
 use Rattle.rq_record.specs.declared.record.Record.{Record}
-use Rattle.rq_record.specs.declared.record.Record.TheVariants.{Define, Register, Deregister, Begin, Enqueue, Dequeue, Commit, Abort, Checkpoint, Kill}
+use Rattle.rq_record.specs.declared.record.Record.TheVariants.{Define, Register, Deregister, Begin}
+use Rattle.rq_record.specs.declared.record.Record.TheVariants.{Enqueue, Dequeue, Commit, Abort}
+use Rattle.rq_record.specs.declared.record.Record.TheVariants.{Checkpoint, Kill}
 use Rattle.rq_record.specs.declared.version.Version.{Version}
 use Rattle.rq_record.specs.declared.version.Version.TheVariants.{One, Two}
 
@@ -11,7 +13,8 @@ record_of (Define limit error name) = model.Define limit error.0 name
 record_of (Register queue name) = model.Register queue.0 name
 record_of (Deregister queue name) = model.Deregister queue.0 name
 record_of (Begin unit) = model.Begin unit.0
-record_of (Enqueue priority queue unit by payload) = model.Enqueue unit.0 queue.0 priority by payload
+record_of (Enqueue priority queue unit by payload) =
+    model.Enqueue unit.0 queue.0 priority by payload
 record_of (Dequeue unit queue by) = model.Dequeue unit.0 queue.0 by
 record_of (Commit unit) = model.Commit unit.0
 record_of (Abort unit) = model.Abort unit.0

@@ -7,7 +7,8 @@ ghost use Rattle.rq_record.specs.Faults.{exit_of};
 use std::alloc::{AllocError, AllocFailed};
 use thiserror::Error;
 
-/// The one list of faults of all calls. A call that answers a fault leaves what it was lent as its own text says.
+/// The one list of faults of all calls. A call that answers a fault leaves what it was lent as its
+/// own text says.
 #[derive(Clone, Copy, PartialEq, Eq, Debug, Error)]
 pub enum Fault {
     /// A body spells no record.
@@ -59,8 +60,8 @@ impl<T: Drop> From<AllocFailed<T>> for Fault {
 }
 
 impl Fault {
-    /// The exit status of a program that ends by this fault: 4 where memory was refused, 3 where reading or writing
-    /// failed, else 1.
+    /// The exit status of a program that ends by this fault: 4 where memory was refused, 3 where
+    /// reading or writing failed, else 1.
     pub fn exit(&self) -> u8
         ensures { result ≡ exit_of self.now }
     {

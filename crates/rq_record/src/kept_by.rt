@@ -10,7 +10,8 @@ use crate::record::By;
 use std::alloc::Global;
 use std::marker::Model;
 
-/// The registrant and the tag of an operation, or nobody, in 16 bytes: operations are many, and most are by nobody.
+/// The registrant and the tag of an operation, or nobody, in 16 bytes: operations are many, and
+/// most are by nobody.
 #[derive(Drop)]
 pub struct KeptBy {
     somebody: Option<Box<Somebody>>,
@@ -29,7 +30,8 @@ impl Model for KeptBy {
 
     ghost Value = { Option model.By };
 
-    ghost view = { λ k. option_map (λ b. record { name = b.value.name; tag = b.value.tag }) k.somebody };
+    ghost view = { λ k. option_map
+        (λ b. record { name = b.value.name; tag = b.value.tag }) k.somebody };
 }
 
 impl KeptBy {

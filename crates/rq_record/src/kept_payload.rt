@@ -11,14 +11,15 @@ use std::alloc::Global;
 use std::marker::Model;
 use std::sync::ArcSlice;
 
-/// A payload in 24 bytes, for records and elements, of which a log has many. Up to 22 bytes stand in it; more are shared by its
-/// copies, and with the log where it is lent.
+/// A payload in 24 bytes, for records and elements, of which a log has many. Up to 22 bytes stand
+/// in it; more are shared by its copies, and with the log where it is lent.
 #[derive(Drop)]
 pub struct KeptPayload {
     bytes: Bytes,
 }
 
-// An array of 22, how many of it count, and the tag: 24 bytes, no more than a `Vec` without its items.
+// An array of 22, how many of it count, and the tag: 24 bytes, no more than a `Vec` without its
+// items.
 #[derive(Drop)]
 enum Bytes {
     Inline {
@@ -109,12 +110,13 @@ impl KeptPayload {
         kept(alloc, payload.bytes())
     }
 
-    /// Keeps a payload of these bytes; none where there are more than 65,535, and then no memory is asked for. Up to 22
-    /// bytes take none. `Resources` where memory runs out.
+    /// Keeps a payload of these bytes; none where there are more than 65,535, and then no memory is
+    /// asked for. Up to 22 bytes take none. `Resources` where memory runs out.
     pub fn from_slice(alloc: Global, bytes: &[u8]) -> Result<Option<KeptPayload>, Fault>
         ensures bounded { IfOk result (λ p. IsSome p ↔ (length bytes.now ≤ 65535)) }
         ensures bytes { IfOk result (λ p. IfSome p (λ q. q ≡ bytes.now)) }
-        ensures refused { IfErr result (λ e. (e ≡ Resources) × (22 < length bytes.now) × (length bytes.now ≤ 65535)) }
+        ensures refused { IfErr result
+            (λ e. (e ≡ Resources) × (22 < length bytes.now) × (length bytes.now ≤ 65535)) }
     {
         if bytes.len() > 65535 {
             return Ok(None);
@@ -122,7 +124,8 @@ impl KeptPayload {
         Ok(Some(kept(alloc, bytes)?))
     }
 
-    /// The same, of bytes that may be the last ones before an end in a log that may be lent: then a long payload is a part of it.
+    /// The same, of bytes that may be the last ones before an end in a log that may be lent: then a
+    /// long payload is a part of it.
     pub(crate) fn lent(
         alloc: Global,
         log: &LentLog,
@@ -131,7 +134,8 @@ impl KeptPayload {
     ) -> Result<Option<KeptPayload>, Fault>
         ensures bounded { IfOk result (λ p. IsSome p ↔ (length bytes.now ≤ 65535)) }
         ensures bytes { IfOk result (λ p. IfSome p (λ q. q ≡ bytes.now)) }
-        ensures refused { IfErr result (λ e. (e ≡ Resources) × (22 < length bytes.now) × (length bytes.now ≤ 65535)) }
+        ensures refused { IfErr result
+            (λ e. (e ≡ Resources) × (22 < length bytes.now) × (length bytes.now ≤ 65535)) }
     {
         if 22 < bytes.len() && bytes.len() <= 65535 {
             if let Some(payload) = part_before(log, end, bytes)? {
@@ -154,7 +158,8 @@ impl KeptPayload {
         }
     }
 
-    /// A payload of the same bytes, none of which is copied into memory. `Resources` where they are shared too often.
+    /// A payload of the same bytes, none of which is copied into memory. `Resources` where they are
+    /// shared too often.
     pub fn copied(&self) -> Result<KeptPayload, Fault>
         ensures copied { IfOk result (λ p. p ≡ self.now) }
         ensures refused { IfErr result (λ e. e ≡ Resources) }

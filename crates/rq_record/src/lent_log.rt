@@ -8,8 +8,9 @@ use crate::fault::Fault;
 use std::marker::Model;
 use std::sync::ArcSlice;
 
-/// A log whose bytes the records that are read from it may share, or none. What is read does not depend on it: it spares the
-/// copies of long payloads, each of which then keeps the whole log in memory.
+/// A log whose bytes the records that are read from it may share, or none. What is read does not
+/// depend on it: it spares the copies of long payloads, each of which then keeps the whole log in
+/// memory.
 #[derive(Drop)]
 pub struct LentLog {
     pub(crate) log: Option<ArcSlice<u8>>,

@@ -2,108 +2,22 @@
 
 ghost use Rattle.std.specs.Prelude.{◌+◌, ◌≤◌, length, slice_range};
 ghost use Rattle.rq_model.specs.Records.{One};
-ghost use Rattle.rq_record.specs.Reading.{Decodes, Reads, Copies, number_at, byte_at, piece_at, name_of, bounded, nothing_in, named, who_at, define_of, register_of, deregister_of, unit_of, begin_of, enqueue_of, dequeue_of, commit_of, abort_of, checkpoint_of, kill_of, of_kind, record_from};
+ghost use Rattle.rq_record.specs.Reading.{Decodes, Reads, Copies, define_of, register_of};
+ghost use Rattle.rq_record.specs.Reading.{deregister_of, unit_of, begin_of, enqueue_of, dequeue_of};
+ghost use Rattle.rq_record.specs.Reading.{commit_of, abort_of, checkpoint_of, kill_of, of_kind};
+ghost use Rattle.rq_record.specs.Reading.{record_from};
 ghost use Rattle.rq_record.specs.Views.{record_of, version_of};
+
+mod fields;
 
 use crate::check_bytes::CheckBytes;
 use crate::fault::Fault;
 use crate::kept_by::KeptBy;
-use crate::kept_name::KeptName;
-use crate::kept_payload::KeptPayload;
 use crate::lent_log::LentLog;
-use crate::name::Name;
-use crate::record::{By, ElemId, QueueNo, Record, UnitNo};
+use crate::reading::fields::{at_end, by, name, payload, u8_at, u16_at, u32_at, u64_at, who};
+use crate::record::{ElemId, QueueNo, Record, UnitNo};
 use crate::version::Version;
-use byteorder::{BigEndian, ByteOrder};
 use std::alloc::Global;
-
-fn u16_at(bytes: &[u8]) -> Result<(u16, &[u8]), Fault>
-    ensures { Reads (λ x. (x.0, x.1.now)) result (number_at 2 bytes.now) }
-{
-    if bytes.len() < 2 {
-        return Err(Fault::Form);
-    }
-    Ok((BigEndian::read_u16(bytes), &bytes[2..]))
-}
-
-fn u32_at(bytes: &[u8]) -> Result<(u32, &[u8]), Fault>
-    ensures { Reads (λ x. (x.0, x.1.now)) result (number_at 4 bytes.now) }
-{
-    if bytes.len() < 4 {
-        return Err(Fault::Form);
-    }
-    Ok((BigEndian::read_u32(bytes), &bytes[4..]))
-}
-
-fn u64_at(bytes: &[u8]) -> Result<(u64, &[u8]), Fault>
-    ensures { Reads (λ x. (x.0, x.1.now)) result (number_at 8 bytes.now) }
-{
-    if bytes.len() < 8 {
-        return Err(Fault::Form);
-    }
-    Ok((BigEndian::read_u64(bytes), &bytes[8..]))
-}
-
-fn u8_at(bytes: &[u8]) -> Result<(u8, &[u8]), Fault>
-    ensures { Reads (λ x. (x.0, x.1.now)) result (byte_at bytes.now) }
-{
-    match bytes {
-        [] => Err(Fault::Form),
-        [byte, rest @ ..] => Ok((*byte, rest)),
-    }
-}
-
-fn take(count: u8, bytes: &[u8]) -> Result<(&[u8], &[u8]), Fault>
-    ensures { Reads (λ x. (x.0.now, x.1.now)) result (piece_at count bytes.now) }
-{
-    let count = count as usize;
-    if bytes.len() < count {
-        return Err(Fault::Form);
-    }
-    Ok(bytes.split_at(count))
-}
-
-fn name(alloc: Global, bytes: &[u8]) -> Result<KeptName, Fault>
-    ensures { Copies (λ x. x) result (name_of bytes.now) }
-{
-    match Name::new(bytes) {
-        Some(name) => KeptName::of(alloc, &name),
-        None => Err(Fault::Form),
-    }
-}
-
-fn at_end(rest: &[u8]) -> Result<(), Fault>
-    ensures { Reads (λ x. x) result (nothing_in rest.now) }
-{
-    if rest.is_empty() {
-        Ok(())
-    } else {
-        Err(Fault::Form)
-    }
-}
-
-fn by(name: &[u8], tag: u64) -> Result<Option<By>, Fault>
-    ensures { Reads (λ x. x) result (named name.now tag) }
-{
-    if name.is_empty() {
-        if tag == 0 { Ok(None) } else { Err(Fault::Form) }
-    } else {
-        match Name::new(name) {
-            Some(name) => Ok(Some(By { name, tag })),
-            None => Err(Fault::Form),
-        }
-    }
-}
-
-#[tactic(auto, unfolding(crate::specs::Reading::who_at))]
-fn who(bytes: &[u8]) -> Result<(&[u8], u64, &[u8]), Fault>
-    ensures { Reads (λ x. (x.0.now, x.1, x.2.now)) result (who_at bytes.now) }
-{
-    let (len, rest) = u8_at(bytes)?;
-    let (name, rest) = take(len, rest)?;
-    let (tag, rest) = u64_at(rest)?;
-    Ok((name, tag, rest))
-}
 
 #[tactic(auto, unfolding(crate::specs::Reading::define_of))]
 fn define(alloc: Global, bytes: &[u8]) -> Result<Record, Fault>
@@ -174,15 +88,6 @@ fn abort(bytes: &[u8]) -> Result<Record, Fault>
 {
     let unit = unit(bytes)?;
     Ok(Record::Abort { unit })
-}
-
-fn payload(alloc: Global, log: &LentLog, end: usize, bytes: &[u8]) -> Result<KeptPayload, Fault>
-    ensures { Copies (λ x. x) result (bounded 65535 bytes.now) }
-{
-    match KeptPayload::lent(alloc, log, end, bytes)? {
-        Some(payload) => Ok(payload),
-        None => Err(Fault::Form),
-    }
 }
 
 #[tactic(auto, unfolding(crate::specs::Reading::enqueue_of))]
@@ -315,7 +220,8 @@ pub fn decode_at(
     len: usize,
 ) -> Result<Record, Fault>
     requires inside { start + len ≤ length bytes.now }
-    ensures decodes { Decodes (version_of version) (slice_range bytes.now start (start + len)) result }
+    ensures decodes { Decodes (version_of version)
+        (slice_range bytes.now start (start + len)) result }
 {
     let end = start + len;
     decode_lent(alloc, version, lent, end, &bytes[start..end])
@@ -323,8 +229,8 @@ pub fn decode_at(
 
 /// The record that a body of this version spells.
 ///
-/// `Form` answers exactly a body that spells none, and is found before memory is asked for; `Resources` answers a body
-/// that spells one whose names or bytes could not be kept.
+/// `Form` answers exactly a body that spells none, and is found before memory is asked for;
+/// `Resources` answers a body that spells one whose names or bytes could not be kept.
 pub fn decode_in(alloc: Global, version: Version, body: &[u8]) -> Result<Record, Fault>
     ensures decodes { Decodes (version_of version) body.now result }
 {

@@ -49,12 +49,12 @@ impl Model for By {
 // A restart holds all records at once.
 const _: () = prove!(std::mem::size_of::<Record>() <= 56);
 
-/// A record of the log; version 1 has all but the last. Whether it is lawful after those before it is no matter of its
-/// form: each number may be any of its width.
+/// A record of the log; version 1 has all but the last. Whether it is lawful after those before it
+/// is no matter of its form: each number may be any of its width.
 #[derive(Drop)]
 pub enum Record {
-    /// Defines the next queue: how many failed attempts an element may have, 0 for no limit, and the queue that it goes
-    /// to then.
+    /// Defines the next queue: how many failed attempts an element may have, 0 for no limit, and
+    /// the queue that it goes to then.
     Define {
         limit: u16,
         error: QueueNo,
@@ -74,7 +74,8 @@ pub enum Record {
     Begin {
         unit: UnitNo,
     },
-    /// Puts an element into a queue, to be seen when the unit commits. Greater priorities come first.
+    /// Puts an element into a queue, to be seen when the unit commits. Greater priorities come
+    /// first.
     Enqueue {
         priority: u8,
         queue: QueueNo,
@@ -100,7 +101,8 @@ pub enum Record {
     Checkpoint {
         bytes: CheckBytes,
     },
-    /// Removes an element from a queue where it is free there, at once and outside units. Version 2 alone has it.
+    /// Removes an element from a queue where it is free there, at once and outside units. Version 2
+    /// alone has it.
     Kill {
         queue: QueueNo,
         element: ElemId,

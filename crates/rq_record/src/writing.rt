@@ -139,7 +139,8 @@ fn put_body(out: &mut Vec<u8>, r: &Record) -> Result<(), Fault>
 /// `Resources` answers where memory runs out; `out` is then as before.
 pub fn encode(r: &Record, out: &mut Vec<u8>) -> Result<(), Fault>
     ensures bytes { Appends out.old.items out.new.items (body_of (record_of r.now)) result }
-    ensures spelled { OnOk result ((version : Version) → HasKind version (record_of r.now) → Spells version (record_of r.now) (body_of (record_of r.now))) }
+    ensures spelled { OnOk result ((version : Version) → HasKind version (record_of r.now)
+        → Spells version (record_of r.now) (body_of (record_of r.now))) }
 {
     let before = out.len();
     match put_body(out, r) {

@@ -7,11 +7,12 @@ ghost use Rattle.rq_model.specs.Reports.{hex_of, payload_text};
 use std::alloc::AllocError;
 use std::str::from_utf8;
 
-/// Puts bytes. Their digits are made side by side in the room: one by one they would cost a look at the
-/// text's room each.
+/// Puts bytes. Their digits are made side by side in the room: one by one they would cost a look at
+/// the text's room each.
 fn put_through(text: &mut String, room: &mut [u8], bytes: &[u8]) -> Result<(), AllocError>
     requires { length room.old ≡ 2 * length bytes.now }
-    ensures { OnOk result (string_bytes text.new ≡ string_bytes text.old ++ flat_map hex_of bytes.now) }
+    ensures { OnOk result
+        (string_bytes text.new ≡ string_bytes text.old ++ flat_map hex_of bytes.now) }
 {
     let Ok(()) = hex::encode_to_slice(bytes, room) else {
         unreachable!();
@@ -25,14 +26,16 @@ fn put_through(text: &mut String, room: &mut [u8], bytes: &[u8]) -> Result<(), A
 
 fn put_block(text: &mut String, block: &[u8]) -> Result<(), AllocError>
     requires { length block.now ≤ 128 }
-    ensures { OnOk result (string_bytes text.new ≡ string_bytes text.old ++ flat_map hex_of block.now) }
+    ensures { OnOk result
+        (string_bytes text.new ≡ string_bytes text.old ++ flat_map hex_of block.now) }
 {
     let mut room = [0; 256];
     put_through(text, &mut room[..2 * block.len()], block)
 }
 
 fn put_bytes(text: &mut String, bytes: &[u8]) -> Result<(), AllocError>
-    ensures { OnOk result (string_bytes text.new ≡ string_bytes text.old ++ flat_map hex_of bytes.now) }
+    ensures { OnOk result
+        (string_bytes text.new ≡ string_bytes text.old ++ flat_map hex_of bytes.now) }
 {
     let mut rest = bytes;
     while rest.len() > 128 {
@@ -45,7 +48,8 @@ fn put_bytes(text: &mut String, bytes: &[u8]) -> Result<(), AllocError>
 
 /// Puts a payload: its bytes in lower case, or `-` for none.
 pub(crate) fn put_payload(text: &mut String, bytes: &[u8]) -> Result<(), AllocError>
-    ensures { OnOk result (string_bytes text.new ≡ string_bytes text.old ++ payload_text bytes.now) }
+    ensures { OnOk result
+        (string_bytes text.new ≡ string_bytes text.old ++ payload_text bytes.now) }
 {
     if bytes.is_empty() {
         return text.push_str("-");

@@ -2,7 +2,9 @@
 
 ghost use Rattle.std.specs.Prelude.{◌≡◌, ◌++◌, OnOk, string_bytes, codes};
 ghost use Rattle.std.specs.Fmt.{decimal};
-ghost use Rattle.rq_model.specs.Reports.{element_line, element_text, error_text, front_line, kind_text, last_text, queue_line, registrant_line, units_line, why_text};
+ghost use Rattle.rq_model.specs.Reports.{element_line, element_text, error_text, front_line};
+ghost use Rattle.rq_model.specs.Reports.{kind_text, last_text, queue_line, registrant_line};
+ghost use Rattle.rq_model.specs.Reports.{units_line, why_text};
 ghost use Rattle.rq_restart.specs.Views.{why_of};
 ghost use Rattle.rq_state.specs.Views.{kind_of, id_of};
 
@@ -68,7 +70,8 @@ pub(crate) fn put_queue_line(
     queue: QueueNo,
     d: &Definition,
 ) -> Result<(), AllocError>
-    ensures { OnOk result (string_bytes text.new ≡ string_bytes text.old ++ queue_line queue.0 d.now) }
+    ensures { OnOk result
+        (string_bytes text.new ≡ string_bytes text.old ++ queue_line queue.0 d.now) }
 {
     let (number, limit) = (queue.0, d.limit);
     write!(text, "queue {number} ")?;
@@ -92,7 +95,8 @@ pub(crate) fn put_element(text: &mut String, e: &Element) -> Result<(), AllocErr
 }
 
 fn put_optional(text: &mut String, element: Option<ElemId>) -> Result<(), AllocError>
-    ensures { OnOk result (string_bytes text.new ≡ string_bytes text.old ++ element_text (id_of element)) }
+    ensures { OnOk result
+        (string_bytes text.new ≡ string_bytes text.old ++ element_text (id_of element)) }
 {
     match element {
         Some(id) => {
@@ -113,7 +117,9 @@ fn kind_word(kind: OpKind) -> &'static str
 }
 
 fn put_operation(text: &mut String, l: &Last) -> Result<(), AllocError>
-    ensures { OnOk result (string_bytes text.new ≡ string_bytes text.old ++ (kind_text l.now.kind ++ (codes " tag " ++ (decimal l.now.tag ++ (codes " element " ++ element_text l.now.element))))) }
+    ensures { OnOk result
+        (string_bytes text.new ≡ string_bytes text.old ++ (kind_text l.now.kind ++ (codes " tag "
+        ++ (decimal l.now.tag ++ (codes " element " ++ element_text l.now.element))))) }
 {
     let (kind, tag) = (kind_word(l.kind), l.tag);
     write!(text, "{kind} tag {tag} element ")?;

@@ -24,7 +24,8 @@ fn is_free(e: &Element) -> bool
 
 /// Adds an element where it is free.
 fn list<'a>(found: &mut Vec<&'a Element>, e: &'a Element) -> Result<(), AllocError>
-    ensures { OnOk result (map (λ e. e.now) found.new.items ≡ map (λ e. e.now) found.old.items ++ filter (λ e. model.is_free e.mark) (e.now ∷ [])) }
+    ensures { OnOk result (map (λ e. e.now) found.new.items
+        ≡ map (λ e. e.now) found.old.items ++ filter (λ e. model.is_free e.mark) (e.now ∷ [])) }
 {
     if is_free(e) {
         found.push(e)?;
@@ -38,7 +39,8 @@ fn free_elements<'a>(
     queue: QueueNo,
     state: &'a State,
 ) -> Result<Vec<&'a Element>, AllocError>
-    ensures { IfOk result (λ v. map (λ e. e.now) v.items ≡ filter (is_free_at queue.0) state.now.elements) }
+    ensures { IfOk result
+        (λ v. map (λ e. e.now) v.items ≡ filter (is_free_at queue.0) state.now.elements) }
 {
     let places = state.elements_of(queue);
     let mut found = Vec::new(alloc);

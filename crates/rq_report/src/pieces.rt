@@ -14,7 +14,8 @@ use std::alloc::{AllocError, Global};
 use std::marker::Sync;
 use std::thread::{Threads, join};
 
-// One thread makes the report of a log of at most as many bytes, so that the restart of a short log starts none for it.
+// One thread makes the report of a log of at most as many bytes, so that the restart of a short log
+// starts none for it.
 const SHORT: u64 = 1_048_576;
 
 // The lines of the queues from one of them up to another, as one piece.
@@ -27,14 +28,16 @@ fn one_piece(
     requires well { IsWellFormed state.now }
     requires order { from ≤ to }
     requires within { to ≤ length state.now.definitions }
-    ensures { IfOk result (λ pieces. AreLinesOf state.now from to (flat_map string_bytes pieces.items)) }
+    ensures { IfOk result
+        (λ pieces. AreLinesOf state.now from to (flat_map string_bytes pieces.items)) }
 {
     let mut text = String::new(alloc);
     put_queues(alloc, &mut text, state, from, to)?;
     Ok(vec![in alloc; text]?)
 }
 
-// The lines of the queues from one of them up to another, in about as many pieces: each half of the queues by itself.
+// The lines of the queues from one of them up to another, in about as many pieces: each half of the
+// queues by itself.
 #[cycle(halves)]
 fn queue_pieces<R: Threads + Sync>(
     rt: &R,
@@ -47,7 +50,8 @@ fn queue_pieces<R: Threads + Sync>(
     requires well { IsWellFormed state.now }
     requires order { from ≤ to }
     requires within { to ≤ length state.now.definitions }
-    ensures { IfOk result (λ pieces. AreLinesOf state.now from to (flat_map string_bytes pieces.items)) }
+    ensures { IfOk result
+        (λ pieces. AreLinesOf state.now from to (flat_map string_bytes pieces.items)) }
 {
     if count < 2 || to - from < 2 {
         return one_piece(alloc, state, from, to);
@@ -57,12 +61,16 @@ fn queue_pieces<R: Threads + Sync>(
     let (left, right) = join(
         rt,
         || -> Result<Vec<String>, AllocError>
-            requires { IsSync R.row × IsWellFormed state.now × (from ≤ middle) × (middle ≤ length state.now.definitions) }
-            ensures { IfOk result (λ pieces. AreLinesOf state.entry.now from middle (flat_map string_bytes pieces.items)) }
+            requires { IsSync R.row × IsWellFormed state.now
+                × (from ≤ middle) × (middle ≤ length state.now.definitions) }
+            ensures { IfOk result (λ pieces. AreLinesOf state.entry.now from middle
+                (flat_map string_bytes pieces.items)) }
         { queue_pieces(rt, alloc, state, from, middle, fewer) },
         || -> Result<Vec<String>, AllocError>
-            requires { IsSync R.row × IsWellFormed state.now × (middle ≤ to) × (to ≤ length state.now.definitions) }
-            ensures { IfOk result (λ pieces. AreLinesOf state.entry.now middle to (flat_map string_bytes pieces.items)) }
+            requires { IsSync R.row × IsWellFormed state.now
+                × (middle ≤ to) × (to ≤ length state.now.definitions) }
+            ensures { IfOk result (λ pieces. AreLinesOf state.entry.now middle to
+                (flat_map string_bytes pieces.items)) }
         { queue_pieces(rt, alloc, state, middle, to, others) },
     );
     let mut pieces = left?;

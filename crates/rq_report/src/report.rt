@@ -1,9 +1,11 @@
 //! The text of a report.
 
-ghost use Rattle.std.specs.Prelude.{◌≡◌, ◌<◌, ◌≤◌, ◌++◌, ◌==◌, ℕ, List, IfOk, OnOk, length, map, filter, slice_index_or, string_bytes};
+ghost use Rattle.std.specs.Prelude.{◌≡◌, ◌<◌, ◌≤◌, ◌++◌, ◌==◌, ℕ, List, IfOk, OnOk, length, map};
+ghost use Rattle.std.specs.Prelude.{filter, slice_index_or, string_bytes};
 ghost use Rattle.std.specs.List.{flat_map};
 ghost use Rattle.rq_model.specs.States as model;
-ghost use Rattle.rq_model.specs.Reports.{element_line, front_line, registrant_line, queue_text, units_line, IsListing, IsText};
+ghost use Rattle.rq_model.specs.Reports.{element_line, front_line, registrant_line, queue_text};
+ghost use Rattle.rq_model.specs.Reports.{units_line, IsListing, IsText};
 ghost use Rattle.rq_model.specs.WellFormed.{IsWellFormed};
 ghost use Rattle.rq_report.specs.Pieces.{AreLinesOf};
 
@@ -15,7 +17,8 @@ use rq_state::{Element, State};
 use std::alloc::{AllocError, Global};
 
 fn put_elements(text: &mut String, elements: &[&Element]) -> Result<(), AllocError>
-    ensures { OnOk result (string_bytes text.new ≡ string_bytes text.old ++ flat_map element_line (map (λ e. e.now) elements.now)) }
+    ensures { OnOk result (string_bytes text.new
+        ≡ string_bytes text.old ++ flat_map element_line (map (λ e. e.now) elements.now)) }
 {
     for e in elements {
         put_element(text, e)?;
@@ -24,7 +27,8 @@ fn put_elements(text: &mut String, elements: &[&Element]) -> Result<(), AllocErr
 }
 
 fn put_registrants(text: &mut String, queue: QueueNo, state: &State) -> Result<(), AllocError>
-    ensures { OnOk result (string_bytes text.new ≡ string_bytes text.old ++ flat_map registrant_line (filter (λ r. r.queue == queue.0) state.now.registrants)) }
+    ensures { OnOk result (string_bytes text.new ≡ string_bytes text.old
+        ++ flat_map registrant_line (filter (λ r. r.queue == queue.0) state.now.registrants)) }
 {
     for place in state.registrants_of(queue) {
         put_registrant(text, state.registrant(*place))?;
@@ -41,7 +45,10 @@ fn put_queue(
 ) -> Result<(), AllocError>
     requires well { IsWellFormed state.now }
     requires defined { queue.0 < length state.now.definitions }
-    ensures { OnOk result ((d : model.Definition) → (elements : List model.Element) × IsListing queue.0 state.now.elements elements × (string_bytes text.new ≡ string_bytes text.old ++ queue_text queue.0 (slice_index_or state.now.definitions queue.0 d) elements state.now.registrants)) }
+    ensures { OnOk result ((d : model.Definition) →
+        (elements : List model.Element) × IsListing queue.0 state.now.elements elements
+        × (string_bytes text.new ≡ string_bytes text.old ++ queue_text queue.0
+        (slice_index_or state.now.definitions queue.0 d) elements state.now.registrants)) }
 {
     let elements = listing(alloc, queue, state)?;
     put_queue_line(text, queue, state.definition(queue.0 as usize))?;
@@ -60,7 +67,8 @@ pub(crate) fn put_queues(
     requires well { IsWellFormed state.now }
     requires order { from ≤ to }
     requires within { to ≤ length state.now.definitions }
-    ensures { OnOk result ((lines : List ℕ) × AreLinesOf state.now from to lines × (string_bytes text.new ≡ string_bytes text.old ++ lines)) }
+    ensures { OnOk result ((lines : List ℕ) × AreLinesOf state.now from to lines
+        × (string_bytes text.new ≡ string_bytes text.old ++ lines)) }
 {
     for number in from..to {
         put_queue(alloc, text, QueueNo(number as u32), state)?;

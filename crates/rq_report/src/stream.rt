@@ -1,6 +1,7 @@
 //! Readers and writers that count their faults.
 
-ghost use Rattle.std.specs.Prelude.{◌≡◌, ℕ, ◌+◌, ◌<◌, ◌≤◌, List, Option, None, length, IfOk, OnOk, IfErr};
+ghost use Rattle.std.specs.Prelude.{◌≡◌, ℕ, ◌+◌, ◌<◌, ◌≤◌, List, Option, None, length, IfOk, OnOk};
+ghost use Rattle.std.specs.Prelude.{IfErr};
 ghost use Rattle.std.specs.Io.KnownBytes.{WriteAppends, ReadConsumes};
 ghost use Rattle.rq_record.specs.declared.fault.Fault.TheVariants.{ReadFailed, WriteFailed};
 
@@ -15,15 +16,16 @@ pub trait Input {
     // The bytes that it still has to give, where they are known.
     ghost remaining: { Self → Option (List ℕ) } = { λ _. None };
 
-    /// Reads into the front of the piece, and answers how many bytes. It answers 0 for a piece that is
-    /// not empty only at the end. Refused with `ReadFailed` where the read failed, which adds one to
-    /// the count of faults and takes no byte.
+    /// Reads into the front of the piece, and answers how many bytes. It answers 0 for a piece that
+    /// is not empty only at the end. Refused with `ReadFailed` where the read failed, which adds
+    /// one to the count of faults and takes no byte.
     fn read(&mut self, piece: &mut [u8]) -> Result<usize, Fault>
         requires { faults self.old < 18446744073709551615 }
         ensures bound { IfOk result (λ n. n ≤ length piece.new) }
         ensures bytes { ReadConsumes (remaining self.old) (remaining self.new) result piece.new }
         ensures ok { OnOk result (faults self.new ≡ faults self.old) }
-        ensures err { IfErr result (λ e. (e ≡ ReadFailed) × (faults self.new ≡ faults self.old + 1)) };
+        ensures err { IfErr result
+            (λ e. (e ≡ ReadFailed) × (faults self.new ≡ faults self.old + 1)) };
 }
 
 /// A sink of bytes that counts its faults.
@@ -34,16 +36,17 @@ pub trait Output {
     // The bytes that it holds, where they are known.
     ghost contents: { Self → Option (List ℕ) } = { λ _. None };
 
-    /// Writes bytes from the front of the piece, and answers how many: at least one of a piece that is
-    /// not empty. Refused with `WriteFailed` where the write failed, which adds one to the count of
-    /// faults and writes no byte.
+    /// Writes bytes from the front of the piece, and answers how many: at least one of a piece that
+    /// is not empty. Refused with `WriteFailed` where the write failed, which adds one to the count
+    /// of faults and writes no byte.
     fn write(&mut self, piece: &[u8]) -> Result<usize, Fault>
         requires { faults self.old < 18446744073709551615 }
         ensures bound { IfOk result (λ n. n ≤ length piece.now) }
         ensures some { IfOk result (λ n. 0 < length piece.now → 0 < n) }
         ensures bytes { WriteAppends (contents self.old) (contents self.new) result piece.now }
         ensures ok { OnOk result (faults self.new ≡ faults self.old) }
-        ensures err { IfErr result (λ e. (e ≡ WriteFailed) × (faults self.new ≡ faults self.old + 1)) };
+        ensures err { IfErr result
+            (λ e. (e ≡ WriteFailed) × (faults self.new ≡ faults self.old + 1)) };
 }
 
 /// One read of a reader of std, tried again where it was interrupted.
@@ -118,8 +121,8 @@ impl<R: Read> Input for OverRead<R> {
     }
 }
 
-/// Writes to any writer of std. A write that was interrupted is tried again, and is no fault; one that
-/// takes none of some bytes is one.
+/// Writes to any writer of std. A write that was interrupted is tried again, and is no fault; one
+/// that takes none of some bytes is one.
 #[derive(Drop)]
 pub struct OverWrite<W: Write> {
     inner: W,

@@ -13,10 +13,12 @@ use std::alloc::Global;
 use std::marker::Sync;
 use std::thread::Threads;
 
-/// Writes all of the text, however few bytes a call takes. With `WriteFailed` a beginning of it is written.
+/// Writes all of the text, however few bytes a call takes. With `WriteFailed` a beginning of it is
+/// written.
 pub fn write_all<W: Output>(output: &mut W, text: &[u8]) -> Result<(), Fault>
     requires { W.faults output.old < 18446744073709551615 }
-    ensures { Delivers (W.faults output.old) (W.faults output.new) (W.contents output.old) (W.contents output.new) text.now result }
+    ensures { Delivers (W.faults output.old) (W.faults output.new)
+        (W.contents output.old) (W.contents output.new) text.now result }
 {
     let mut rest = text;
     while !rest.is_empty() {
@@ -29,7 +31,8 @@ pub fn write_all<W: Output>(output: &mut W, text: &[u8]) -> Result<(), Fault>
 // Writes all of the pieces, one after the other.
 fn write_pieces<W: Output>(output: &mut W, pieces: &[String]) -> Result<(), Fault>
     requires { W.faults output.old < 18446744073709551615 }
-    ensures { Delivers (W.faults output.old) (W.faults output.new) (W.contents output.old) (W.contents output.new) (flat_map string_bytes pieces.now) result }
+    ensures { Delivers (W.faults output.old) (W.faults output.new) (W.contents output.old)
+        (W.contents output.new) (flat_map string_bytes pieces.now) result }
 {
     for piece in pieces {
         write_all(output, piece.as_bytes())?;
@@ -37,13 +40,14 @@ fn write_pieces<W: Output>(output: &mut W, pieces: &[String]) -> Result<(), Faul
     Ok(())
 }
 
-/// Writes the report of what a restart answered: the front, the units, then each queue with its free
-/// elements in order and its registrants by name. The whole text is made first. Refused with
+/// Writes the report of what a restart answered: the front, the units, then each queue with its
+/// free elements in order and its registrants by name. The whole text is made first. Refused with
 /// `Resources` where the host refuses memory, and then nothing is written; with `WriteFailed` where
 /// the writer failed, and then a beginning of the text is written.
 pub fn write_report<W: Output>(alloc: Global, r: &Restarted, output: &mut W) -> Result<(), Fault>
     requires { W.faults output.old < 18446744073709551615 }
-    ensures { Reports r.now (W.faults output.old) (W.faults output.new) (W.contents output.old) (W.contents output.new) result }
+    ensures { Reports r.now (W.faults output.old) (W.faults output.new)
+        (W.contents output.old) (W.contents output.new) result }
 {
     match report(alloc, r) {
         Ok(text) => write_all(output, text.as_bytes()),
@@ -63,7 +67,8 @@ where
     R: Threads + Sync,
     W: Output,
     requires { W.faults output.old < 18446744073709551615 }
-    ensures { Reports r.now (W.faults output.old) (W.faults output.new) (W.contents output.old) (W.contents output.new) result }
+    ensures { Reports r.now (W.faults output.old) (W.faults output.new)
+        (W.contents output.old) (W.contents output.new) result }
 {
     match report_in_pieces(rt, alloc, r, plan) {
         Ok(pieces) => write_pieces(output, &pieces),

@@ -8,6 +8,7 @@ mod looking;
 mod many;
 mod program;
 mod queues;
+mod registrants;
 mod scripts;
 mod standby;
 mod streams;

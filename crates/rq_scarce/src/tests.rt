@@ -14,7 +14,8 @@ use std::io::Cursor;
 use std::test::Fail;
 use std::thread::Threads;
 
-/// An element of `jobs` goes to `dead` at its second abort, where `ann` finds it at its second look.
+/// An element of `jobs` goes to `dead` at its second abort, where `ann` finds it at its second
+/// look.
 const ARRIVAL: [&str; 18] = [
     "define dead 0 -",
     "define jobs 2 0",

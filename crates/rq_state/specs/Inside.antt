@@ -6,4 +6,14 @@ use Rattle.rq_state.specs.declared.state.Fields.{Fields}
 
 -- the fields, with their lists as they stand
 abbrev pub state_of : Fields → model.State
-state_of f = record { next = f.next; greatest = f.greatest; committed = f.committed; aborted = f.aborted; definitions = f.definitions.items; units = map unit_of f.units.items; registrants = f.registrants.items; elements = f.elements.items; notes = f.notes.items }
+state_of f = record {
+  next = f.next;
+  greatest = f.greatest;
+  committed = f.committed;
+  aborted = f.aborted;
+  definitions = f.definitions.items;
+  units = map unit_of f.units.items;
+  registrants = f.registrants.items;
+  elements = f.elements.items;
+  notes = f.notes.items;
+}

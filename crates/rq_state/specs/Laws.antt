@@ -9,7 +9,12 @@ use Rattle.rq_state.specs.Orders.{in_order}
 
 -- the state with the members that its queues' parts have, one queue after another
 abbrev pub of_parts : State → State
-of_parts s = record s { registrants = gathered (λ p. p.registrants) (part_of s) (length s.definitions); elements = gathered (λ p. p.elements) (part_of s) (length s.definitions); notes = gathered (λ p. p.notes) (part_of s) (length s.definitions) }
+of_parts s =
+    record s {
+      registrants = gathered (λ p. p.registrants) (part_of s) (length s.definitions);
+      elements = gathered (λ p. p.elements) (part_of s) (length s.definitions);
+      notes = gathered (λ p. p.notes) (part_of s) (length s.definitions);
+    }
 
 -- What all queues' parts have, put in order, is the state
 abbrev pub PartsMakeTheState : Type 0

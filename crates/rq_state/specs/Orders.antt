@@ -1,5 +1,6 @@
 -- Lists in the model's order, and the places of a queue's members.
-use Rattle.std.specs.Prelude.{ℕ, ◌+◌, nat_lt, Bool, if◌then◌else◌, List, [], ◌∷◌, map, slice_index_or}
+use Rattle.std.specs.Prelude.{ℕ, ◌+◌, nat_lt, Bool, if◌then◌else◌, List, [], ◌∷◌, map}
+use Rattle.std.specs.Prelude.{slice_index_or}
 use Rattle.std.specs.Global.{Vec}
 use Rattle.rq_model.specs.States.{State, Note, put, id_before, registrant_before}
 
@@ -13,7 +14,12 @@ place_before a b = nat_lt a.last.place b.last.place
 
 -- the state with its lists put in order
 abbrev pub in_order : State → State
-in_order s = record s { units = put_each nat_lt s.units; registrants = put_each registrant_before s.registrants; elements = put_each id_before s.elements; notes = put_each place_before s.notes }
+in_order s = record s {
+  units = put_each nat_lt s.units;
+  registrants = put_each registrant_before s.registrants;
+  elements = put_each id_before s.elements;
+  notes = put_each place_before s.notes;
+}
 
 -- the places of those that pass the test, counted from n
 abbrev pub places_of : {X : Type 0} → (X → Bool) → ℕ → List X → List ℕ

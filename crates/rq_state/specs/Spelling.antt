@@ -14,8 +14,9 @@ Spelled s (Err TooLarge) = 268435455 < length (state_bytes s)
 Spelled s (Err Resources) = ⊤
 Spelled s (Err e) = ⊥
 
--- The state that the bytes spell in a log of the version, or that they spell none. Memory is asked for only where all bytes have the form of a state: they spell
--- numbers and members in their widths, whether or not these are a state's
+-- The state that the bytes spell in a log of the version, or that they spell none. Memory is asked
+-- for only where all bytes have the form of a state: they spell numbers and members in their
+-- widths, whether or not these are a state's
 abbrev pub ReadsState : Version → List ℕ → Result State Fault → Type 0
 ReadsState version bytes (Ok s) = SpellsState version s bytes
 ReadsState version bytes (Err BadCheckpoint) = (s : State) → SpellsState version s bytes → ⊥

@@ -1,8 +1,10 @@
 -- Each member's part of being well formed, as a test.
-use Rattle.std.specs.Prelude.{ℕ, ◌+◌, ◌==◌, nat_lt, nat_le, Bool, true, false, ◌&&◌, ◌||◌, List, [], ◌∷◌, length, Option, Some, None}
+use Rattle.std.specs.Prelude.{ℕ, ◌+◌, ◌==◌, nat_lt, nat_le, Bool, true, false, ◌&&◌, ◌||◌, List, []}
+use Rattle.std.specs.Prelude.{◌∷◌, length, Option, Some, None}
 use Rattle.std.specs.List.{list_all}
 use Rattle.rq_model.specs.Records.{Version, One, Two, no_queue}
-use Rattle.rq_model.specs.States.{Mark, Free, Fresh, Held, Kind, Enqueued, Dequeued, Element, Last, Note, Definition, Registrant, State, definition_at}
+use Rattle.rq_model.specs.States.{Mark, Free, Fresh, Held, Kind, Enqueued, Dequeued, Element, Last}
+use Rattle.rq_model.specs.States.{Note, Definition, Registrant, State, definition_at}
 use Rattle.rq_model.specs.Machine.{is_open, is_registered}
 
 abbrev pub unit_test : ℕ → ℕ → Bool
@@ -10,7 +12,8 @@ unit_test greatest unit = nat_le 1 unit && nat_le unit greatest
 
 -- no limit and no error queue, or a limit and an error queue of smaller number
 abbrev pub definition_test : ℕ → Definition → Bool
-definition_test number d = ((d.limit == 0) && (d.error == no_queue)) || (nat_le 1 d.limit && (nat_le d.limit 1000 && nat_lt d.error number))
+definition_test number d = ((d.limit == 0) && (d.error == no_queue))
+    || (nat_le 1 d.limit && (nat_le d.limit 1000 && nat_lt d.error number))
 
 abbrev pub definitions_test : ℕ → List Definition → Bool
 definitions_test number [] = true
@@ -18,7 +21,8 @@ definitions_test number (d ∷ ds) = definition_test number d && definitions_tes
 
 -- its error queue has none itself
 abbrev pub depth_test : List Definition → Definition → Bool
-depth_test definitions d = (d.error == no_queue) || ((definition_at definitions d.error).error == no_queue)
+depth_test definitions d = (d.error == no_queue)
+    || ((definition_at definitions d.error).error == no_queue)
 
 -- in version 1 each has none
 abbrev pub deep_test : Version → List Definition → Bool
@@ -35,8 +39,10 @@ limit_test limit attempts = (limit == 0) || nat_lt attempts limit
 
 abbrev pub element_test : State → Element → Bool
 element_test s e =
-    nat_lt e.id s.next && (nat_lt e.home (length s.definitions) && (nat_lt e.origin (length s.definitions)
-    && (nat_le e.attempts s.next && (limit_test (definition_at s.definitions e.home).limit e.attempts && mark_test s e.mark))))
+    nat_lt e.id s.next
+    && (nat_lt e.home (length s.definitions) && (nat_lt e.origin (length s.definitions)
+    && (nat_le e.attempts s.next
+    && (limit_test (definition_at s.definitions e.home).limit e.attempts && mark_test s e.mark))))
 
 -- the element of an enqueue is its place; that of a dequeue is older
 abbrev pub operation_test : Kind → ℕ → Option ℕ → Bool

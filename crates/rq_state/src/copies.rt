@@ -12,7 +12,8 @@ use rq_record::{Fault, QueueNo};
 use std::alloc::Global;
 
 impl State {
-    /// The elements of a queue by id, with payloads of the same bytes; none where no queue has the number.
+    /// The elements of a queue by id, with payloads of the same bytes; none where no queue has the
+    /// number.
     pub fn copied_elements_of(&self, alloc: Global, queue: QueueNo) -> Result<Vec<Element>, Fault>
         ensures elements { IfOk result (λ v. v.items ≡ elements_at queue.0 self.now.elements) }
         ensures refused { IfErr result (λ e. e ≡ Resources) }
@@ -27,7 +28,8 @@ impl State {
         alloc: Global,
         queue: QueueNo,
     ) -> Result<Vec<Registrant>, Fault>
-        ensures registrants { IfOk result (λ v. v.items ≡ registrants_at queue.0 self.now.registrants) }
+        ensures registrants { IfOk result
+            (λ v. v.items ≡ registrants_at queue.0 self.now.registrants) }
         ensures refused { IfErr result (λ e. e ≡ Resources) }
     {
         let copies = registrants_copied(alloc, self, self.registrants_of(queue))?;
@@ -47,7 +49,8 @@ impl State {
 /// Copies of the elements at these places.
 fn elements_copied(alloc: Global, state: &State, places: &[usize]) -> Result<Vec<Element>, Fault>
     requires { AllByRecursion (λ place. place < length state.now.elements) places.now }
-    ensures copied { IfOk result (λ v. (x : model.Element) → v.items ≡ map (λ place. slice_index_or state.now.elements place x) places.now) }
+    ensures copied { IfOk result (λ v. (x : model.Element) →
+        v.items ≡ map (λ place. slice_index_or state.now.elements place x) places.now) }
     ensures refused { IfErr result (λ e. e ≡ Resources) }
 {
     let mut copies = Vec::with_capacity(alloc, places.len())?;
@@ -65,7 +68,8 @@ fn registrants_copied(
     places: &[usize],
 ) -> Result<Vec<Registrant>, Fault>
     requires { AllByRecursion (λ place. place < length state.now.registrants) places.now }
-    ensures copied { IfOk result (λ v. (x : model.Registrant) → v.items ≡ map (λ place. slice_index_or state.now.registrants place x) places.now) }
+    ensures copied { IfOk result (λ v. (x : model.Registrant) →
+        v.items ≡ map (λ place. slice_index_or state.now.registrants place x) places.now) }
     ensures refused { IfErr result (λ e. e ≡ Resources) }
 {
     let mut copies = Vec::with_capacity(alloc, places.len())?;
@@ -79,7 +83,8 @@ fn registrants_copied(
 /// Copies of the notes at these places.
 fn notes_copied(alloc: Global, state: &State, places: &[usize]) -> Result<Vec<Note>, Fault>
     requires { AllByRecursion (λ place. place < length state.now.notes) places.now }
-    ensures copied { IfOk result (λ v. (x : model.Note) → v.items ≡ map (λ place. slice_index_or state.now.notes place x) places.now) }
+    ensures copied { IfOk result (λ v. (x : model.Note) →
+        v.items ≡ map (λ place. slice_index_or state.now.notes place x) places.now) }
     ensures refused { IfErr result (λ e. e ≡ Resources) }
 {
     let mut copies = Vec::with_capacity(alloc, places.len())?;

@@ -15,7 +15,8 @@ impl Last {
         self.place < other.place
     }
 
-    /// Of a last operation so far and another one, that of greater place; at equal places the one so far.
+    /// Of a last operation so far and another one, that of greater place; at equal places the one
+    /// so far.
     pub fn later(so_far: &Option<Last>, other: &Last) -> Option<Last>
         ensures { result ≡ machine.later so_far.now other.now }
     {

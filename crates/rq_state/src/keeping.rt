@@ -1,4 +1,5 @@
-//! What a spelled state must keep before it is one: each piece is tested, and what breaks it is refused.
+//! What a spelled state must keep before it is one: each piece is tested, and what breaks it is
+//! refused.
 
 ghost use Rattle.std.specs.Prelude.{◌≡◌, ◌<◌, ◌↔◌, IsTrue, false, true, map, IfOk, IfErr};
 ghost use Rattle.std.specs.Str.{bytes_eq};
@@ -7,7 +8,8 @@ ghost use Rattle.rq_model.specs.WellFormed.{Ordered};
 ghost use Rattle.rq_record.specs.Views.{version_of};
 ghost use Rattle.rq_record.specs.declared.fault.Fault.TheVariants.{Resources};
 ghost use Rattle.rq_state.specs.Inside.{state_of};
-ghost use Rattle.rq_state.specs.Keeping.{Tells, KeepsNumbers, KeepsDefinitions, KeepsUnits, KeepsRegistrants, KeepsElements, KeepsNotes, Keeps};
+ghost use Rattle.rq_state.specs.Keeping.{Tells, KeepsNumbers, KeepsDefinitions, KeepsUnits};
+ghost use Rattle.rq_state.specs.Keeping.{KeepsRegistrants, KeepsElements, KeepsNotes, Keeps};
 ghost use Rattle.rq_state.specs.Tests.{deep_test};
 ghost use Rattle.rq_state.specs.Views.{unit_of};
 
@@ -44,7 +46,8 @@ fn are_numbers(fields: &Fields) -> bool
 
 /// The names of these queues, by number.
 fn names_of(alloc: Global, definitions: &[Definition]) -> Result<Vec<Name>, Fault>
-    ensures names { IfOk result (λ v. v.items ≡ map (λ (d : model.Definition). d.name) definitions.now) }
+    ensures names { IfOk result
+        (λ v. v.items ≡ map (λ (d : model.Definition). d.name) definitions.now) }
     ensures refused { IfErr result (λ e. e ≡ Resources) }
 {
     let mut names = Vec::with_capacity(alloc, definitions.len())?;
@@ -116,15 +119,16 @@ fn check_elements(fields: &Fields) -> Result<(), Fault>
 
 fn check_notes(fields: &Fields) -> Result<(), Fault>
     requires units { Ordered (λ u v. u < v) (map unit_of fields.now.units.items) }
-    requires registrants { Ordered (λ r t. model.registrant_before r t ≡ true) fields.now.registrants.items }
+    requires registrants { Ordered
+        (λ r t. model.registrant_before r t ≡ true) fields.now.registrants.items }
     ensures { Tells (KeepsNotes (state_of fields.now)) result }
 {
     kept(do_notes_rise(&fields.notes))?;
     kept(are_notes(fields))
 }
 
-/// That the fields are those of a well-formed state of the version, or BadCheckpoint, or Resources where there is no room to
-/// sort names.
+/// That the fields are those of a well-formed state of the version, or BadCheckpoint, or Resources
+/// where there is no room to sort names.
 pub(crate) fn check(alloc: Global, version: Version, fields: &Fields) -> Result<(), Fault>
     ensures { Tells (Keeps (version_of version) (state_of fields.now)) result }
 {

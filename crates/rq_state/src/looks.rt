@@ -18,7 +18,8 @@ impl State {
     /// The definition of the queue whose number is `place`.
     pub fn definition(&self, place: usize) -> &Definition
         requires { place < length self.now.definitions }
-        ensures { (x : model.Definition) → result.now ≡ slice_index_or self.now.definitions place x }
+        ensures { (x : model.Definition) →
+            result.now ≡ slice_index_or self.now.definitions place x }
     {
         &self.definitions()[place]
     }
@@ -48,7 +49,8 @@ impl State {
     /// The registrant at a place of their list.
     pub fn registrant(&self, place: usize) -> &Registrant
         requires { place < length self.now.registrants }
-        ensures { (x : model.Registrant) → result.now ≡ slice_index_or self.now.registrants place x }
+        ensures { (x : model.Registrant) →
+            result.now ≡ slice_index_or self.now.registrants place x }
     {
         &self.registrants()[place]
     }

@@ -76,8 +76,8 @@ impl Element {
         }
     }
 
-    /// Whether an ABORT of the unit moves it to the error queue of its home: the unit holds it, and one attempt more is
-    /// the home's limit.
+    /// Whether an ABORT of the unit moves it to the error queue of its home: the unit holds it, and
+    /// one attempt more is the home's limit.
     pub fn leaves(&self, home: &Definition, unit: UnitNo) -> bool
         requires { self.now.attempts + 1 < 2 ^ 64 }
         ensures { result ≡ machine.leaves home.now unit.0 self.now }
@@ -100,7 +100,8 @@ impl Element {
         }
     }
 
-    /// As an ABORT of the unit leaves it in its queue: Free with one attempt more, if the unit holds it.
+    /// As an ABORT of the unit leaves it in its queue: Free with one attempt more, if the unit
+    /// holds it.
     pub fn returned(self, unit: UnitNo) -> Element
         requires { self.attempts + 1 < 2 ^ 64 }
         ensures { result ≡ machine.returned unit.0 self }

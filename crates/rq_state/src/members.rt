@@ -48,7 +48,15 @@ impl Model for Element {
 
     ghost Value = { model.Element };
 
-    ghost view = { λ e. record { id = e.id.0; home = e.home.0; origin = e.origin.0; priority = e.priority; attempts = e.attempts; payload = e.payload; mark = mark_of e.mark } };
+    ghost view = { λ e. record {
+      id = e.id.0;
+      home = e.home.0;
+      origin = e.origin.0;
+      priority = e.priority;
+      attempts = e.attempts;
+      payload = e.payload;
+      mark = mark_of e.mark;
+    } };
 }
 
 impl Element {
@@ -101,7 +109,12 @@ impl Model for Last {
 
     ghost Value = { model.Last };
 
-    ghost view = { λ l. record { place = l.place; kind = kind_of l.kind; tag = l.tag; element = id_of l.element } };
+    ghost view = { λ l. record {
+      place = l.place;
+      kind = kind_of l.kind;
+      tag = l.tag;
+      element = id_of l.element;
+    } };
 }
 
 impl Last {
@@ -140,7 +153,12 @@ impl Model for Note {
 
     ghost Value = { model.Note };
 
-    ghost view = { λ n. record { unit = n.unit.0; queue = n.queue.0; name = n.name; last = n.last } };
+    ghost view = { λ n. record {
+      unit = n.unit.0;
+      queue = n.queue.0;
+      name = n.name;
+      last = n.last;
+    } };
 }
 
 impl Note {
@@ -181,7 +199,8 @@ impl Note {
 /// A queue as it was defined.
 #[derive(Drop)]
 pub struct Definition {
-    /// The abort at which an element that came back so often leaves the queue, 1 to 1,000; 0 for never.
+    /// The abort at which an element that came back so often leaves the queue, 1 to 1,000; 0 for
+    /// never.
     pub limit: u16,
     /// Where an element goes at the limit; QueueNo::NONE where the limit is 0.
     pub error: QueueNo,

@@ -19,7 +19,8 @@ pub(crate) fn order_units(units: &mut Vec<UnitNo>)
 
 /// Puts registrants in order.
 pub(crate) fn order_registrants(registrants: &mut Vec<Registrant>)
-    requires { Ordered (λ a b. model.registrant_before a b ≡ true) (put_each model.registrant_before registrants.old.items) }
+    requires { Ordered (λ a b. model.registrant_before a b ≡ true)
+        (put_each model.registrant_before registrants.old.items) }
     ensures { registrants.new.items ≡ put_each model.registrant_before registrants.old.items }
 {
     registrants.sort_unstable_by_key(|registrant| registrant.key());
@@ -35,7 +36,8 @@ pub(crate) fn order_elements(elements: &mut Vec<Element>)
 
 /// Puts notes in order.
 pub(crate) fn order_notes(notes: &mut Vec<Note>)
-    requires { Ordered (λ n m. n.last.place < m.last.place) (put_each place_before notes.old.items) }
+    requires { Ordered (λ n m. n.last.place < m.last.place)
+        (put_each place_before notes.old.items) }
     ensures { notes.new.items ≡ put_each place_before notes.old.items }
 {
     notes.sort_unstable_by_key(|note| note.place());

@@ -23,9 +23,10 @@ pub fn read(alloc: Global, bytes: &[u8]) -> Result<State, Fault>
     read_in(alloc, Version::One, bytes)
 }
 
-/// The state that these bytes spell in a log of the version, as a checkpoint record holds them behind its kind.
-/// BadCheckpoint where they spell none: a member out of order or doubled, a count that does not fit, bytes left over, or
-/// fields that no state of the version has; Resources where there is no room for the state.
+/// The state that these bytes spell in a log of the version, as a checkpoint record holds them
+/// behind its kind. BadCheckpoint where they spell none: a member out of order or doubled, a count
+/// that does not fit, bytes left over, or fields that no state of the version has; Resources where
+/// there is no room for the state.
 pub fn read_in(alloc: Global, version: Version, bytes: &[u8]) -> Result<State, Fault>
     ensures { ReadsState (version_of version) bytes.now result }
 {

@@ -63,9 +63,32 @@ impl Model for State {
     ghost use Rattle.rq_state.specs.Views.{unit_of};
     ghost use Rattle.rq_state.specs.Tables.{IsTabled};
 
-    ghost view = { λ s. record { next = s.next; greatest = s.greatest; committed = s.committed; aborted = s.aborted; definitions = s.definitions.items; units = map unit_of s.units.items; registrants = s.registrants.items; elements = s.elements.items; notes = s.notes.items } };
+    ghost view = { λ s. record {
+      next = s.next;
+      greatest = s.greatest;
+      committed = s.committed;
+      aborted = s.aborted;
+      definitions = s.definitions.items;
+      units = map unit_of s.units.items;
+      registrants = s.registrants.items;
+      elements = s.elements.items;
+      notes = s.notes.items;
+    } };
 
-    ghost invariant = { λ s. IsWellFormed (record { next = s.next; greatest = s.greatest; committed = s.committed; aborted = s.aborted; definitions = s.definitions.items; units = map unit_of s.units.items; registrants = s.registrants.items; elements = s.elements.items; notes = s.notes.items }) × IsTabled s.registrants.items s.elements.items s.notes.items s.registered.items s.homes.items s.noted.items };
+    ghost invariant = { λ s. IsWellFormed
+        (record {
+          next = s.next;
+          greatest = s.greatest;
+          committed = s.committed;
+          aborted = s.aborted;
+          definitions = s.definitions.items;
+          units = map unit_of s.units.items;
+          registrants = s.registrants.items;
+          elements = s.elements.items;
+          notes = s.notes.items;
+        })
+        × IsTabled s.registrants.items s.elements.items s.notes.items
+        s.registered.items s.homes.items s.noted.items };
 }
 
 impl State {
@@ -89,8 +112,8 @@ impl State {
         }
     }
 
-    /// The state of the fields, with their lists put in order. Where there is no memory for the tables of each queue's
-    /// members, Resources, and the fields are dropped.
+    /// The state of the fields, with their lists put in order. Where there is no memory for the
+    /// tables of each queue's members, Resources, and the fields are dropped.
     pub fn build(alloc: Global, mut fields: Fields) -> Result<State, Fault>
         requires { IsWellFormed (in_order (state_of fields)) }
         ensures built { IfOk result (λ s. s ≡ in_order (state_of fields)) }
@@ -130,7 +153,8 @@ impl State {
         })
     }
 
-    /// The number that the next record gets. What is well formed is so for each look into the state.
+    /// The number that the next record gets. What is well formed is so for each look into the
+    /// state.
     pub fn next(&self) -> u64
         ensures next { result ≡ self.now.next }
         ensures well_formed { IsWellFormed self.now }
@@ -194,26 +218,35 @@ impl State {
         &self.notes
     }
 
-    /// Where a queue's elements stand in the list of elements, rising; none where no queue has the number.
+    /// Where a queue's elements stand in the list of elements, rising; none where no queue has the
+    /// number.
     pub fn elements_of(&self, queue: QueueNo) -> &[usize]
         ensures within { AllByRecursion (λ place. place < length self.now.elements) result.now }
-        ensures elements { (e : model.Element) → map (λ place. slice_index_or self.now.elements place e) result.now ≡ elements_at queue.0 self.now.elements }
+        ensures elements { (e : model.Element) →
+            map (λ place. slice_index_or self.now.elements place e) result.now
+            ≡ elements_at queue.0 self.now.elements }
     {
         listed_at(&self.homes, queue)
     }
 
-    /// Where a queue's registrants stand in the list of registrants, rising; none where no queue has the number.
+    /// Where a queue's registrants stand in the list of registrants, rising; none where no queue
+    /// has the number.
     pub fn registrants_of(&self, queue: QueueNo) -> &[usize]
         ensures within { AllByRecursion (λ place. place < length self.now.registrants) result.now }
-        ensures registrants { (r : model.Registrant) → map (λ place. slice_index_or self.now.registrants place r) result.now ≡ registrants_at queue.0 self.now.registrants }
+        ensures registrants { (r : model.Registrant) →
+            map (λ place. slice_index_or self.now.registrants place r) result.now
+            ≡ registrants_at queue.0 self.now.registrants }
     {
         listed_at(&self.registered, queue)
     }
 
-    /// Where a queue's notes stand in the list of notes, rising; none where no queue has the number.
+    /// Where a queue's notes stand in the list of notes, rising; none where no queue has the
+    /// number.
     pub fn notes_of(&self, queue: QueueNo) -> &[usize]
         ensures within { AllByRecursion (λ place. place < length self.now.notes) result.now }
-        ensures notes { (n : model.Note) → map (λ place. slice_index_or self.now.notes place n) result.now ≡ notes_at queue.0 self.now.notes }
+        ensures notes { (n : model.Note) →
+            map (λ place. slice_index_or self.now.notes place n) result.now
+            ≡ notes_at queue.0 self.now.notes }
     {
         listed_at(&self.noted, queue)
     }

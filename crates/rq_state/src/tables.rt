@@ -1,6 +1,7 @@
 //! Tables of places by queue.
 
-ghost use Rattle.std.specs.Prelude.{◌≡◌, ◌<◌, ◌==◌, ◌∷◌, ◌++◌, [], ℕ, length, if◌then◌else◌, IfOk, IfErr, OnOk};
+ghost use Rattle.std.specs.Prelude.{◌≡◌, ◌<◌, ◌==◌, ◌∷◌, ◌++◌, [], ℕ, length, if◌then◌else◌, IfOk};
+ghost use Rattle.std.specs.Prelude.{IfErr, OnOk};
 ghost use Rattle.std.specs.List.{AllByRecursion};
 ghost use Rattle.rq_model.specs.States as model;
 ghost use Rattle.rq_state.specs.Orders.{places_of, listed};
@@ -27,7 +28,8 @@ fn bare(alloc: Global, queues: usize) -> Result<Vec<Vec<usize>>, Fault>
 fn list(table: &mut Vec<Vec<usize>>, queue: QueueNo, place: usize) -> Result<(), Fault>
     requires { queue.0 < length table.old.items }
     ensures len { length table.new.items ≡ length table.old.items }
-    ensures listed { OnOk result ((q : ℕ) → listed table.new.items q ≡ (if queue.0 == q then listed table.old.items q ++ place ∷ [] else listed table.old.items q)) }
+    ensures listed { OnOk result ((q : ℕ) → listed table.new.items q ≡ (if queue.0 == q
+        then listed table.old.items q ++ place ∷ [] else listed table.old.items q)) }
     ensures refused { IfErr result (λ e. e ≡ Resources) }
 {
     table[queue.0 as usize].push(place)?;
@@ -41,7 +43,8 @@ pub(crate) fn homes_of(
     elements: &[Element],
 ) -> Result<Vec<Vec<usize>>, Fault>
     requires { AllByRecursion (λ (e : model.Element). e.home < queues) elements.now }
-    ensures listed { IfOk result (λ table. (queue : ℕ) → listed table.items queue ≡ places_of (λ e. e.home == queue) 0 elements.now) }
+    ensures listed { IfOk result (λ table. (queue : ℕ) →
+        listed table.items queue ≡ places_of (λ e. e.home == queue) 0 elements.now) }
     ensures refused { IfErr result (λ e. e ≡ Resources) }
 {
     let mut table = bare(alloc, queues)?;
@@ -58,7 +61,8 @@ pub(crate) fn registered_of(
     registrants: &[Registrant],
 ) -> Result<Vec<Vec<usize>>, Fault>
     requires { AllByRecursion (λ (r : model.Registrant). r.queue < queues) registrants.now }
-    ensures listed { IfOk result (λ table. (queue : ℕ) → listed table.items queue ≡ places_of (λ r. r.queue == queue) 0 registrants.now) }
+    ensures listed { IfOk result (λ table. (queue : ℕ) →
+        listed table.items queue ≡ places_of (λ r. r.queue == queue) 0 registrants.now) }
     ensures refused { IfErr result (λ e. e ≡ Resources) }
 {
     let mut table = bare(alloc, queues)?;
@@ -75,7 +79,8 @@ pub(crate) fn noted_of(
     notes: &[Note],
 ) -> Result<Vec<Vec<usize>>, Fault>
     requires { AllByRecursion (λ (n : model.Note). n.queue < queues) notes.now }
-    ensures listed { IfOk result (λ table. (queue : ℕ) → listed table.items queue ≡ places_of (λ n. n.queue == queue) 0 notes.now) }
+    ensures listed { IfOk result (λ table. (queue : ℕ) →
+        listed table.items queue ≡ places_of (λ n. n.queue == queue) 0 notes.now) }
     ensures refused { IfErr result (λ e. e ≡ Resources) }
 {
     let mut table = bare(alloc, queues)?;

@@ -18,7 +18,8 @@ pub record IsClosedLog (b closed : List ℕ) : Type 0 where
 
 -- closed, b would be longer than a log may be
 abbrev pub IsTooLargeToClose : List ℕ → Type 0
-IsTooLargeToClose b = IsRunnable b × (closed : List ℕ) × IsClosed b closed × (log_limit < length closed)
+IsTooLargeToClose b = IsRunnable b
+    × (closed : List ℕ) × IsClosed b closed × (log_limit < length closed)
 
 -- the closed log of the bytes b that a reader gives, or why there is none
 abbrev pub ClosesRead : List ℕ → Result (Vec ℕ) Fault → Type 0
@@ -26,11 +27,13 @@ ClosesRead b (Ok closed) = IsClosedLog b closed.items
 ClosesRead b (Err TooLarge) = IsTooLargeToClose b
 ClosesRead b (Err e) = RestartsRead b (Err e)
 
--- over the bytes b, where the writer held the bytes `old` before and holds `new` afterwards: the closed log is written, and nothing else; or nothing is,
--- since there is none; or a beginning of the closed log is, and then a write failed
+-- over the bytes b, where the writer held the bytes `old` before and holds `new` afterwards: the
+-- closed log is written, and nothing else; or nothing is, since there is none; or a beginning of
+-- the closed log is, and then a write failed
 abbrev pub ClosesLog : List ℕ → Option (List ℕ) → Option (List ℕ) → Result (Unit {0}) Fault → Type 0
 ClosesLog b old new (Ok done) = (closed : List ℕ) × IsClosedLog b closed × Appends old new closed
-ClosesLog b old new (Err WriteFailed) = (closed : List ℕ) × IsClosedLog b closed × AppendsFront old new closed
+ClosesLog b old new (Err WriteFailed) =
+    (closed : List ℕ) × IsClosedLog b closed × AppendsFront old new closed
 ClosesLog b old new (Err e) = ClosesRead b (Err e) × Keeps old new
 
 -- a refusal that comes before anything is written
@@ -38,8 +41,10 @@ abbrev pub IsBeforeClosing : Fault → Type 0
 IsBeforeClosing TooLarge = ⊤
 IsBeforeClosing e = IsBeforeWriting e
 
--- also where the reader tells no bytes: nothing is written but a closed log or, where a write fails, a beginning of one
+-- also where the reader tells no bytes: nothing is written but a closed log or, where a write
+-- fails, a beginning of one
 abbrev pub ClosesOnly : Option (List ℕ) → Option (List ℕ) → Result (Unit {0}) Fault → Type 0
 ClosesOnly old new (Ok done) = (b closed : List ℕ) × IsClosedLog b closed × Appends old new closed
-ClosesOnly old new (Err WriteFailed) = (b closed : List ℕ) × IsClosedLog b closed × AppendsFront old new closed
+ClosesOnly old new (Err WriteFailed) =
+    (b closed : List ℕ) × IsClosedLog b closed × AppendsFront old new closed
 ClosesOnly old new (Err e) = IsBeforeClosing e × Keeps old new

@@ -23,8 +23,10 @@ make_word Two = codes "make2"
 -- its words, after the program's name
 abbrev pub words_of : Line → List (List ℕ)
 words_of (Make version script log) = make_word version ∷ (script ∷ (log ∷ []))
-words_of (Restart log workers grain) = codes "restart" ∷ (log ∷ (decimal workers ∷ (decimal grain ∷ [])))
-words_of (RestartAt log offset workers grain) = codes "restart-at" ∷ (log ∷ (decimal offset ∷ (decimal workers ∷ (decimal grain ∷ []))))
+words_of (Restart log workers grain) = codes "restart"
+    ∷ (log ∷ (decimal workers ∷ (decimal grain ∷ [])))
+words_of (RestartAt log offset workers grain) = codes "restart-at"
+    ∷ (log ∷ (decimal offset ∷ (decimal workers ∷ (decimal grain ∷ []))))
 words_of (Audit log workers grain) = codes "audit" ∷ (log ∷ (decimal workers ∷ []))
 words_of (Close log out workers grain) = codes "close" ∷ (log ∷ (out ∷ (decimal workers ∷ [])))
 words_of (Upgrade log out workers grain) = codes "upgrade" ∷ (log ∷ (out ∷ (decimal workers ∷ [])))
@@ -47,7 +49,8 @@ abbrev pub line_of : Command → Line
 line_of (code.Make script log) = Make One script.now log.now
 line_of (code.Make2 script log) = Make Two script.now log.now
 line_of (code.Restart log plan) = Restart log.now (workers_of plan) (grain_of plan)
-line_of (code.RestartAt log offset plan) = RestartAt log.now offset (workers_of plan) (grain_of plan)
+line_of (code.RestartAt log offset plan) =
+    RestartAt log.now offset (workers_of plan) (grain_of plan)
 line_of (code.Audit log plan) = Audit log.now (workers_of plan) (grain_of plan)
 line_of (code.Close log out plan) = Close log.now out.now (workers_of plan) (grain_of plan)
 line_of (code.Upgrade log out plan) = Upgrade log.now out.now (workers_of plan) (grain_of plan)

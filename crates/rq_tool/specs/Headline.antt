@@ -8,22 +8,26 @@ use Rattle.rq_model.specs.Checkpoints.{IsReportAt, IsRestartAt}
 use Rattle.rq_front.specs.Chains.{IsHeaded}
 use Rattle.rq_restart.specs.Restarts.{HasNoCheckpoint, HasBadCheckpoint}
 use Rattle.rq_record.specs.declared.fault.Fault.{Fault}
-use Rattle.rq_record.specs.declared.fault.Fault.TheVariants.{TooLong, NotALog, NoCheckpoint, BadCheckpoint, Resources, ReadFailed, WriteFailed}
+use Rattle.rq_record.specs.declared.fault.Fault.TheVariants.{TooLong, NotALog, NoCheckpoint}
+use Rattle.rq_record.specs.declared.fault.Fault.TheVariants.{BadCheckpoint, Resources, ReadFailed}
+use Rattle.rq_record.specs.declared.fault.Fault.TheVariants.{WriteFailed}
 use Rattle.rq_report.specs.Streams.{AppendsFront}
 
 -- the bytes are a log that may be run
 abbrev pub IsRunnable : List ℕ → Type 0
 IsRunnable b = (length b ≤ log_limit) × IsHeaded b
 
--- a run over the bytes b, where the writer held the bytes `old` before and holds `new` afterwards: the report of b is written, and nothing else;
--- or nothing is, since b is too long or no log, memory is refused or a read failed; or a beginning of the report is, and then a write failed
+-- a run over the bytes b, where the writer held the bytes `old` before and holds `new` afterwards:
+-- the report of b is written, and nothing else; or nothing is, since b is too long or no log,
+-- memory is refused or a read failed; or a beginning of the report is, and then a write failed
 abbrev pub Runs : List ℕ → Option (List ℕ) → Option (List ℕ) → Result (Unit {0}) Fault → Type 0
 Runs b old new (Ok done) = IsRunnable b × (text : List ℕ) × IsReport b text × Appends old new text
 Runs b old new (Err TooLong) = (log_limit < length b) × Keeps old new
 Runs b old new (Err NotALog) = (length b ≤ log_limit) × (IsHeaded b → ⊥) × Keeps old new
 Runs b old new (Err Resources) = Keeps old new
 Runs b old new (Err ReadFailed) = Keeps old new
-Runs b old new (Err WriteFailed) = IsRunnable b × (text : List ℕ) × IsReport b text × AppendsFront old new text
+Runs b old new (Err WriteFailed) = IsRunnable b
+    × (text : List ℕ) × IsReport b text × AppendsFront old new text
 Runs b old new (Err e) = ⊥
 
 -- a refusal that comes before anything is written
@@ -34,10 +38,12 @@ IsBeforeWriting Resources = ⊤
 IsBeforeWriting ReadFailed = ⊤
 IsBeforeWriting e = ⊥
 
--- also where the reader tells no bytes: nothing is written but a report or, where a write fails, a beginning of one
+-- also where the reader tells no bytes: nothing is written but a report or, where a write fails, a
+-- beginning of one
 abbrev pub WritesOnly : Option (List ℕ) → Option (List ℕ) → Result (Unit {0}) Fault → Type 0
 WritesOnly old new (Ok done) = (b text : List ℕ) × IsReport b text × Appends old new text
-WritesOnly old new (Err WriteFailed) = (b text : List ℕ) × IsReport b text × AppendsFront old new text
+WritesOnly old new (Err WriteFailed) =
+    (b text : List ℕ) × IsReport b text × AppendsFront old new text
 WritesOnly old new (Err e) = IsBeforeWriting e × Keeps old new
 
 -- the restart of the bytes b that a reader gives, or why there is none
@@ -51,13 +57,17 @@ RestartsRead b (Err e) = ⊥
 
 -- A run from the checkpoint at an offset.
 
--- over the bytes b: the report from there is written, and nothing else; or nothing is, since no checkpoint begins there or it spells no state,
--- or for what refuses a run; or a beginning of the report is, and then a write failed
-abbrev pub RunsAt : List ℕ → ℕ → Option (List ℕ) → Option (List ℕ) → Result (Unit {0}) Fault → Type 0
-RunsAt b offset old new (Ok done) = IsRunnable b × (text : List ℕ) × IsReportAt b offset text × Appends old new text
+-- over the bytes b: the report from there is written, and nothing else; or nothing is, since no
+-- checkpoint begins there or it spells no state, or for what refuses a run; or a beginning of the
+-- report is, and then a write failed
+abbrev pub RunsAt : List ℕ → ℕ → Option (List ℕ)
+    → Option (List ℕ) → Result (Unit {0}) Fault → Type 0
+RunsAt b offset old new (Ok done) = IsRunnable b
+    × (text : List ℕ) × IsReportAt b offset text × Appends old new text
 RunsAt b offset old new (Err NoCheckpoint) = HasNoCheckpoint b offset × Keeps old new
 RunsAt b offset old new (Err BadCheckpoint) = HasBadCheckpoint b offset × Keeps old new
-RunsAt b offset old new (Err WriteFailed) = IsRunnable b × (text : List ℕ) × IsReportAt b offset text × AppendsFront old new text
+RunsAt b offset old new (Err WriteFailed) = IsRunnable b
+    × (text : List ℕ) × IsReportAt b offset text × AppendsFront old new text
 RunsAt b offset old new (Err e) = Runs b old new (Err e)
 
 -- a refusal that comes before anything is written
@@ -68,15 +78,19 @@ IsBeforeWritingAt e = IsBeforeWriting e
 
 -- also where the reader tells no bytes
 abbrev pub WritesOnlyAt : ℕ → Option (List ℕ) → Option (List ℕ) → Result (Unit {0}) Fault → Type 0
-WritesOnlyAt offset old new (Ok done) = (b text : List ℕ) × IsReportAt b offset text × Appends old new text
-WritesOnlyAt offset old new (Err WriteFailed) = (b text : List ℕ) × IsReportAt b offset text × AppendsFront old new text
+WritesOnlyAt offset old new (Ok done) =
+    (b text : List ℕ) × IsReportAt b offset text × Appends old new text
+WritesOnlyAt offset old new (Err WriteFailed) =
+    (b text : List ℕ) × IsReportAt b offset text × AppendsFront old new text
 WritesOnlyAt offset old new (Err e) = IsBeforeWritingAt e × Keeps old new
 
--- from a true checkpoint: the report of b is written, and nothing else; or nothing is, since memory is refused or a read failed;
--- or a beginning of the report is, and then a write failed
-abbrev pub WritesReport : List ℕ → Option (List ℕ) → Option (List ℕ) → Result (Unit {0}) Fault → Type 0
+-- from a true checkpoint: the report of b is written, and nothing else; or nothing is, since memory
+-- is refused or a read failed; or a beginning of the report is, and then a write failed
+abbrev pub WritesReport : List ℕ → Option (List ℕ)
+    → Option (List ℕ) → Result (Unit {0}) Fault → Type 0
 WritesReport b old new (Ok done) = (text : List ℕ) × IsReport b text × Appends old new text
-WritesReport b old new (Err WriteFailed) = (text : List ℕ) × IsReport b text × AppendsFront old new text
+WritesReport b old new (Err WriteFailed) =
+    (text : List ℕ) × IsReport b text × AppendsFront old new text
 WritesReport b old new (Err Resources) = Keeps old new
 WritesReport b old new (Err ReadFailed) = Keeps old new
 WritesReport b old new (Err e) = ⊥
@@ -88,7 +102,8 @@ IsTold b (Err Resources) = ⊤
 IsTold b (Err ReadFailed) = ⊤
 IsTold b (Err e) = ⊥
 
--- the restart of the bytes b that a reader gives, from the checkpoint at an offset, or why there is none
+-- the restart of the bytes b that a reader gives, from the checkpoint at an offset, or why there is
+-- none
 abbrev pub RestartsAtRead : List ℕ → ℕ → Result Restarted Fault → Type 0
 RestartsAtRead b offset (Ok r) = IsRunnable b × IsRestartAt b offset r
 RestartsAtRead b offset (Err NoCheckpoint) = HasNoCheckpoint b offset

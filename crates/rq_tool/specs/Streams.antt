@@ -4,7 +4,8 @@ use Rattle.std.specs.Io.KnownBytes.{Consumes, IsAtEnd}
 use Rattle.rq_model.specs.Frames.{log_limit}
 use Rattle.rq_front.specs.Chains.{IsHeaded}
 use Rattle.rq_record.specs.declared.fault.Fault.{Fault}
-use Rattle.rq_record.specs.declared.fault.Fault.TheVariants.{NotALog, ReadFailed, Resources, TooLong, WriteFailed}
+use Rattle.rq_record.specs.declared.fault.Fault.TheVariants.{NotALog, ReadFailed, Resources}
+use Rattle.rq_record.specs.declared.fault.Fault.TheVariants.{TooLong, WriteFailed}
 
 -- the reader's count of faults grows by one exactly where the answer is that a read failed
 abbrev pub ReadFaults : {A : Type 0} → ℕ → ℕ → Result A Fault → Type 0
@@ -20,7 +21,8 @@ WriteFaults before after (Err e) = after ≡ before
 
 -- the bytes are all that the reader still had to give, or one more than a log has
 abbrev pub ReadsAll : Option (List ℕ) → Option (List ℕ) → List ℕ → Type 0
-ReadsAll old new bytes = Consumes old new bytes × (length bytes ≤ log_limit + 1) × (IsAtEnd new ⊎ (length bytes ≡ log_limit + 1))
+ReadsAll old new bytes = Consumes old new bytes × (length bytes ≤ log_limit + 1)
+    × (IsAtEnd new ⊎ (length bytes ≡ log_limit + 1))
 
 -- some bytes are taken
 abbrev pub TakesSome : Option (List ℕ) → Option (List ℕ) → Type 0
@@ -28,21 +30,26 @@ TakesSome old new = (bytes : List ℕ) × Consumes old new bytes
 
 -- whatever a reader had given the bytes `before` of, it has given the bytes `after` of
 abbrev pub ReadsOn : Option (List ℕ) → List ℕ → Option (List ℕ) → List ℕ → Type 0
-ReadsOn old before new after = (origin : Option (List ℕ)) → Consumes origin old before → Consumes origin new after
+ReadsOn old before new after = (origin : Option (List ℕ)) →
+    Consumes origin old before → Consumes origin new after
 
 -- bytes are taken, and with those before there are so many
 abbrev pub Counts : Option (List ℕ) → Option (List ℕ) → ℕ → ℕ → Type 0
-Counts old new before total = (more : List ℕ) × Consumes old new more × (before + length more ≡ total)
+Counts old new before total = (more : List ℕ) × Consumes old new more
+    × (before + length more ≡ total)
 
--- why a reader's bytes are refused unkept: they are too long for a log, or begin with no header; or a read or memory was refused
+-- why a reader's bytes are refused unkept: they are too long for a log, or begin with no header; or
+-- a read or memory was refused
 abbrev pub IsUnread : Option (List ℕ) → Option (List ℕ) → Fault → Type 0
 IsUnread old new TooLong = (bytes : List ℕ) × ReadsAll old new bytes × (log_limit < length bytes)
-IsUnread old new NotALog = (bytes : List ℕ) × ReadsAll old new bytes × (length bytes ≤ log_limit) × (IsHeaded bytes → ⊥)
+IsUnread old new NotALog = (bytes : List ℕ) × ReadsAll old new bytes
+    × (length bytes ≤ log_limit) × (IsHeaded bytes → ⊥)
 IsUnread old new ReadFailed = TakesSome old new
 IsUnread old new Resources = TakesSome old new
 IsUnread old new e = ⊥
 
--- what is taken of a reader: all up to its end, or 4,294,967,296 bytes; but some where a read or memory was refused
+-- what is taken of a reader: all up to its end, or 4,294,967,296 bytes; but some where a read or
+-- memory was refused
 abbrev pub Takes : {A : Type 0} → Option (List ℕ) → Option (List ℕ) → Result A Fault → Type 0
 Takes old new (Err ReadFailed) = TakesSome old new
 Takes old new (Err Resources) = TakesSome old new

@@ -18,9 +18,9 @@ use std::alloc::Global;
 use std::marker::Sync;
 use std::thread::Threads;
 
-/// Reads the command's first file from `input` and writes to `output` what the command prints or puts into its second file:
-/// what `make_log_in`, `run`, `run_at`, `audit_log`, `close_log` or `upgrade_log` writes, with their faults. Nothing is written
-/// before all bytes are there.
+/// Reads the command's first file from `input` and writes to `output` what the command prints or
+/// puts into its second file: what `make_log_in`, `run`, `run_at`, `audit_log`, `close_log` or
+/// `upgrade_log` writes, with their faults. Nothing is written before all bytes are there.
 pub fn act<R, I, O, G>(
     rt: &R,
     alloc: Global,
@@ -36,8 +36,10 @@ where
     G: Gate + Sync,
     requires reads { I.faults input.old < 18446744073709551615 }
     requires writes { O.faults output.old < 18446744073709551615 }
-    ensures acts { (b : List ℕ) → I.remaining input.old ≡ Some b → Acts (line_of command.now) b (O.contents output.old) (O.contents output.new) result }
-    ensures quiet { ActsOnly (line_of command.now) (O.contents output.old) (O.contents output.new) result }
+    ensures acts { (b : List ℕ) → I.remaining input.old ≡ Some b
+        → Acts (line_of command.now) b (O.contents output.old) (O.contents output.new) result }
+    ensures quiet { ActsOnly (line_of command.now)
+        (O.contents output.old) (O.contents output.new) result }
     ensures takes { Takes (I.remaining input.old) (I.remaining input.new) result }
     ensures read_faults { ReadFaults (I.faults input.old) (I.faults input.new) result }
     ensures write_faults { WriteFaults (O.faults output.old) (O.faults output.new) result }

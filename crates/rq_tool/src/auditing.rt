@@ -1,6 +1,7 @@
 //! The audit of a log, as it is printed.
 
-ghost use Rattle.std.specs.Prelude.{◌≡◌, ℕ, ◌<◌, ◌++◌, List, Some, IfOk, IfErr, OnOk, map, string_bytes};
+ghost use Rattle.std.specs.Prelude.{◌≡◌, ℕ, ◌<◌, ◌++◌, List, Some, IfOk, IfErr, OnOk, map};
+ghost use Rattle.std.specs.Prelude.{string_bytes};
 ghost use Rattle.std.specs.List.{flat_map};
 ghost use Rattle.rq_model.specs.Checkpoints.{IsAudit};
 ghost use Rattle.rq_restart.specs.Audits.{audited_of};
@@ -17,7 +18,8 @@ use std::marker::Sync;
 use std::thread::Threads;
 
 fn put_line(text: &mut String, offset: u64, truth: bool) -> Result<(), AllocError>
-    ensures { OnOk result (string_bytes text.new ≡ string_bytes text.old ++ audit_line (audited_of (offset, truth))) }
+    ensures { OnOk result
+        (string_bytes text.new ≡ string_bytes text.old ++ audit_line (audited_of (offset, truth))) }
 {
     let word = if truth { "true" } else { "false" };
     write!(text, "checkpoint {offset} {word}\n")
@@ -25,7 +27,8 @@ fn put_line(text: &mut String, offset: u64, truth: bool) -> Result<(), AllocErro
 
 // A line for each checkpoint that was found.
 fn audit_text(alloc: Global, found: &[(u64, bool)]) -> Result<String, AllocError>
-    ensures { IfOk result (λ text. string_bytes text ≡ flat_map audit_line (map audited_of found.now)) }
+    ensures { IfOk result
+        (λ text. string_bytes text ≡ flat_map audit_line (map audited_of found.now)) }
 {
     let mut text = String::new(alloc);
     for (offset, truth) in found {
@@ -55,10 +58,11 @@ where
     audit(rt, alloc, &bytes, plan)
 }
 
-/// Reads the input to its end, but at most 4,294,967,296 bytes, and writes a line for each checkpoint of the log, rising:
-/// its offset, and whether it is true.
+/// Reads the input to its end, but at most 4,294,967,296 bytes, and writes a line for each
+/// checkpoint of the log, rising: its offset, and whether it is true.
 ///
-/// Nothing else is written. Refused as `run` is; with `WriteFailed` a beginning of the lines is written, else nothing.
+/// Nothing else is written. Refused as `run` is; with `WriteFailed` a beginning of the lines is
+/// written, else nothing.
 pub fn audit_log<R, I, O>(
     rt: &R,
     alloc: Global,
@@ -72,7 +76,8 @@ where
     O: Output,
     requires reads { I.faults input.old < 18446744073709551615 }
     requires writes { O.faults output.old < 18446744073709551615 }
-    ensures audits { (b : List ℕ) → I.remaining input.old ≡ Some b → AuditsLog b (O.contents output.old) (O.contents output.new) result }
+    ensures audits { (b : List ℕ) → I.remaining input.old ≡ Some b
+        → AuditsLog b (O.contents output.old) (O.contents output.new) result }
     ensures quiet { AuditsOnly (O.contents output.old) (O.contents output.new) result }
     ensures takes { Takes (I.remaining input.old) (I.remaining input.new) result }
     ensures read_faults { ReadFaults (I.faults input.old) (I.faults input.new) result }

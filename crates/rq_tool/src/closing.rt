@@ -1,7 +1,8 @@
 //! The closed log.
 
 ghost use Rattle.std.specs.Prelude.{◌≡◌, ℕ, ◌<◌, List, Some, IfOk, IfErr};
-ghost use Rattle.rq_tool.specs.Closings.{IsBeforeClosing, IsClosedLog, ClosesLog, ClosesOnly, ClosesRead};
+ghost use Rattle.rq_tool.specs.Closings.{IsBeforeClosing, IsClosedLog, ClosesLog, ClosesOnly};
+ghost use Rattle.rq_tool.specs.Closings.{ClosesRead};
 ghost use Rattle.rq_tool.specs.Streams.{ReadFaults, Takes, WriteFaults};
 
 use crate::input::{are_bytes, read_log};
@@ -29,14 +30,16 @@ where
     closed(rt, alloc, bytes, plan)
 }
 
-/// Reads the input to its end, but at most 4,294,967,296 bytes, and writes the closed log: its front, and behind it an ABORT
-/// for each unit that is open. No queue is redone for it.
+/// Reads the input to its end, but at most 4,294,967,296 bytes, and writes the closed log: its
+/// front, and behind it an ABORT for each unit that is open. No queue is redone for it.
 ///
-/// A restart of the closed log answers the state that a restart of the log answers; and so does a restart of as much of it as
-/// a crash leaves, once the front is there. To close it again changes nothing.
+/// A restart of the closed log answers the state that a restart of the log answers; and so does a
+/// restart of as much of it as a crash leaves, once the front is there. To close it again changes
+/// nothing.
 ///
-/// Nothing else is written. Refuses with `TooLarge` where the closed log would have more than 4,294,967,295 bytes, and else as
-/// `run` does; with `WriteFailed` a beginning of the closed log is written, else nothing.
+/// Nothing else is written. Refuses with `TooLarge` where the closed log would have more than
+/// 4,294,967,295 bytes, and else as `run` does; with `WriteFailed` a beginning of the closed log is
+/// written, else nothing.
 pub fn close_log<R, I, O>(
     rt: &R,
     alloc: Global,
@@ -50,7 +53,8 @@ where
     O: Output,
     requires reads { I.faults input.old < 18446744073709551615 }
     requires writes { O.faults output.old < 18446744073709551615 }
-    ensures closes { (b : List ℕ) → I.remaining input.old ≡ Some b → ClosesLog b (O.contents output.old) (O.contents output.new) result }
+    ensures closes { (b : List ℕ) → I.remaining input.old ≡ Some b
+        → ClosesLog b (O.contents output.old) (O.contents output.new) result }
     ensures quiet { ClosesOnly (O.contents output.old) (O.contents output.new) result }
     ensures takes { Takes (I.remaining input.old) (I.remaining input.new) result }
     ensures read_faults { ReadFaults (I.faults input.old) (I.faults input.new) result }

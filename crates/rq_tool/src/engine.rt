@@ -14,7 +14,8 @@ use std::marker::Sync;
 use std::sync::ArcSlice;
 use std::thread::Threads;
 
-// The restart of the bytes that were read. Long payloads are parts of them; what holds none lets them go.
+// The restart of the bytes that were read. Long payloads are parts of them; what holds none lets
+// them go.
 fn restart_read<R, G>(
     rt: &R,
     alloc: Global,
@@ -56,8 +57,8 @@ where
 
 /// Reads the input to its end, but at most 4,294,967,296 bytes, restarts, and writes the report.
 ///
-/// Nothing else is written. Refuses with `ReadFailed`, `TooLong`, `NotALog` or `Resources`, and then writes nothing, and
-/// with `WriteFailed`, and then has written a beginning of the report.
+/// Nothing else is written. Refuses with `ReadFailed`, `TooLong`, `NotALog` or `Resources`, and
+/// then writes nothing, and with `WriteFailed`, and then has written a beginning of the report.
 pub fn run<R, I, O, G>(
     rt: &R,
     alloc: Global,
@@ -73,7 +74,8 @@ where
     G: Gate + Sync,
     requires reads { I.faults input.old < 18446744073709551615 }
     requires writes { O.faults output.old < 18446744073709551615 }
-    ensures runs { (b : List ℕ) → I.remaining input.old ≡ Some b → Runs b (O.contents output.old) (O.contents output.new) result }
+    ensures runs { (b : List ℕ) → I.remaining input.old ≡ Some b
+        → Runs b (O.contents output.old) (O.contents output.new) result }
     ensures quiet { WritesOnly (O.contents output.old) (O.contents output.new) result }
     ensures takes { Takes (I.remaining input.old) (I.remaining input.new) result }
     ensures read_faults { ReadFaults (I.faults input.old) (I.faults input.new) result }

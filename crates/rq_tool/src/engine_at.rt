@@ -4,7 +4,8 @@ ghost use Rattle.std.specs.Prelude.{◌≡◌, ℕ, ◌<◌, List, Some, IfOk, I
 ghost use Rattle.rq_model.specs.Checkpoints.{IsRestartAt, TrueAt};
 ghost use Rattle.rq_restart.specs.Restarts.{RestartsAt};
 ghost use Rattle.rq_tool.specs.Streams.{ReadFaults, Takes, WriteFaults};
-ghost use Rattle.rq_tool.specs.Headline.{IsBeforeWritingAt, IsTold, RestartsAtRead, RunsAt, WritesOnlyAt, WritesReport};
+ghost use Rattle.rq_tool.specs.Headline.{IsBeforeWritingAt, IsTold, RestartsAtRead, RunsAt};
+ghost use Rattle.rq_tool.specs.Headline.{WritesOnlyAt, WritesReport};
 
 use crate::input::{are_bytes, read_log};
 use rq_report::{Input, Output, write_report_by};
@@ -14,7 +15,8 @@ use std::marker::Sync;
 use std::sync::ArcSlice;
 use std::thread::Threads;
 
-// The restart of the bytes that were read, from the checkpoint at an offset. Long payloads behind it are parts of them.
+// The restart of the bytes that were read, from the checkpoint at an offset. Long payloads behind
+// it are parts of them.
 fn restart_read_at<R, G>(
     rt: &R,
     alloc: Global,
@@ -48,7 +50,8 @@ where
     requires { I.faults input.old < 18446744073709551615 }
     ensures told { (b : List ℕ) → I.remaining input.old ≡ Some b → RestartsAtRead b offset result }
     ensures some { IfOk result (λ r. (b : List ℕ) × IsRestartAt b offset r) }
-    ensures excluded { (b : List ℕ) → I.remaining input.old ≡ Some b → TrueAt b offset → IsTold b result }
+    ensures excluded { (b : List ℕ) → I.remaining input.old ≡ Some b
+        → TrueAt b offset → IsTold b result }
     ensures refused { IfErr result IsBeforeWritingAt }
     ensures takes { Takes (I.remaining input.old) (I.remaining input.new) result }
     ensures faults { ReadFaults (I.faults input.old) (I.faults input.new) result }
@@ -61,11 +64,12 @@ where
     restart_read_at(rt, alloc, bytes, offset, plan, gate)
 }
 
-/// Reads the input to its end, but at most 4,294,967,296 bytes, restarts from the checkpoint at an offset, and writes the
-/// report. From a true checkpoint it is the report of the log, and only memory, the reader or the writer refuse it.
+/// Reads the input to its end, but at most 4,294,967,296 bytes, restarts from the checkpoint at an
+/// offset, and writes the report. From a true checkpoint it is the report of the log, and only
+/// memory, the reader or the writer refuse it.
 ///
-/// Nothing else is written. Refuses with `NoCheckpoint` where no checkpoint begins at the offset, with `BadCheckpoint`
-/// where it spells no well-formed state, and else as `run` does.
+/// Nothing else is written. Refuses with `NoCheckpoint` where no checkpoint begins at the offset,
+/// with `BadCheckpoint` where it spells no well-formed state, and else as `run` does.
 pub fn run_at<R, I, O, G>(
     rt: &R,
     alloc: Global,
@@ -82,8 +86,10 @@ where
     G: Gate + Sync,
     requires reads { I.faults input.old < 18446744073709551615 }
     requires writes { O.faults output.old < 18446744073709551615 }
-    ensures runs { (b : List ℕ) → I.remaining input.old ≡ Some b → RunsAt b offset (O.contents output.old) (O.contents output.new) result }
-    ensures same { (b : List ℕ) → I.remaining input.old ≡ Some b → TrueAt b offset → WritesReport b (O.contents output.old) (O.contents output.new) result }
+    ensures runs { (b : List ℕ) → I.remaining input.old ≡ Some b
+        → RunsAt b offset (O.contents output.old) (O.contents output.new) result }
+    ensures same { (b : List ℕ) → I.remaining input.old ≡ Some b → TrueAt b offset
+        → WritesReport b (O.contents output.old) (O.contents output.new) result }
     ensures quiet { WritesOnlyAt offset (O.contents output.old) (O.contents output.new) result }
     ensures takes { Takes (I.remaining input.old) (I.remaining input.new) result }
     ensures read_faults { ReadFaults (I.faults input.old) (I.faults input.new) result }

@@ -1,12 +1,14 @@
 //! Reading a log, and a script.
 
-ghost use Rattle.std.specs.Prelude.{[], ◌≡◌, ◌⊎◌, ℕ, ◌+◌, ◌<◌, ◌≤◌, ◌++◌, List, Option, Some, length, IfOk, IfErr, OnOk};
+ghost use Rattle.std.specs.Prelude.{[], ◌≡◌, ◌⊎◌, ℕ, ◌+◌, ◌<◌, ◌≤◌, ◌++◌, List, Option, Some};
+ghost use Rattle.std.specs.Prelude.{length, IfOk, IfErr, OnOk};
 ghost use Rattle.std.specs.Io.KnownBytes.{Consumes, IsAtEnd};
 ghost use Rattle.rq_model.specs.Frames.{AreBytes};
 ghost use Rattle.rq_front.specs.Chains.{IsHeaded};
 ghost use Rattle.rq_record.specs.declared.fault.Fault.TheVariants.{ReadFailed, Resources};
 ghost use Rattle.rq_tool.specs.Headline.{IsBeforeWriting, RestartsRead};
-ghost use Rattle.rq_tool.specs.Streams.{Counts, IsOneOf, IsUnread, ReadFaults, ReadsAll, ReadsOn, Takes, TakesSome};
+ghost use Rattle.rq_tool.specs.Streams.{Counts, IsOneOf, IsUnread, ReadFaults, ReadsAll, ReadsOn};
+ghost use Rattle.rq_tool.specs.Streams.{Takes, TakesSome};
 
 use rq_front::version;
 use rq_report::Input;
@@ -30,8 +32,8 @@ fn room(alloc: Global) -> Result<Vec<u8>, Fault>
     Ok(vec![in alloc; 0u8; 65_536]?)
 }
 
-// Nothing, with room for as many bytes as are ever read, where the system gives it: it takes pages as they are filled, and
-// nothing is moved. Where it does not, the room grows as the bytes come.
+// Nothing, with room for as many bytes as are ever read, where the system gives it: it takes pages
+// as they are filled, and nothing is moved. Where it does not, the room grows as the bytes come.
 fn roomy(alloc: Global) -> Vec<u8>
     ensures items { result.items ≡ [] }
 {
@@ -58,7 +60,8 @@ fn read_more<I: Input>(
     requires faults { I.faults input.old < 18446744073709551615 }
     requires piece { 0 < length piece.old }
     requires room { length bytes.old.items < most }
-    ensures bytes { IfOk result (λ n. (more : List ℕ) × (bytes.new.items ≡ bytes.old.items ++ more) × (length more ≡ n) × Consumes (I.remaining input.old) (I.remaining input.new) more) }
+    ensures bytes { IfOk result (λ n. (more : List ℕ) × (bytes.new.items ≡ bytes.old.items ++ more)
+        × (length more ≡ n) × Consumes (I.remaining input.old) (I.remaining input.new) more) }
     ensures limit { OnOk result (length bytes.new.items ≤ most) }
     ensures end { IfOk result (λ n. n ≡ 0 → IsAtEnd (I.remaining input.new)) }
     ensures refused { IfErr result (IsOneOf ReadFailed Resources) }
@@ -81,7 +84,8 @@ fn read_up_to<I: Input>(
     requires faults { I.faults input.old < 18446744073709551615 }
     requires piece { 0 < length piece.old }
     requires room { length bytes.old.items ≤ most }
-    ensures bytes { OnOk result (ReadsOn (I.remaining input.old) bytes.old.items (I.remaining input.new) bytes.new.items) }
+    ensures bytes { OnOk result
+        (ReadsOn (I.remaining input.old) bytes.old.items (I.remaining input.new) bytes.new.items) }
     ensures limit { OnOk result (length bytes.new.items ≤ most) }
     ensures end { OnOk result (length bytes.new.items < most → IsAtEnd (I.remaining input.new)) }
     ensures refused { IfErr result (IsOneOf ReadFailed Resources) }
@@ -97,10 +101,12 @@ fn read_up_to<I: Input>(
     Ok(())
 }
 
-/// The input's bytes to its end, but at most 4,294,967,296 of them: so many are too long for a log, and for a script.
+/// The input's bytes to its end, but at most 4,294,967,296 of them: so many are too long for a log,
+/// and for a script.
 pub(crate) fn read_all<I: Input>(alloc: Global, input: &mut I) -> Result<Vec<u8>, Fault>
     requires { I.faults input.old < 18446744073709551615 }
-    ensures bytes { IfOk result (λ bytes. ReadsAll (I.remaining input.old) (I.remaining input.new) bytes.items) }
+    ensures bytes { IfOk result
+        (λ bytes. ReadsAll (I.remaining input.old) (I.remaining input.new) bytes.items) }
     ensures refused { IfErr result (IsOneOf ReadFailed Resources) }
     ensures takes { Takes (I.remaining input.old) (I.remaining input.new) result }
     ensures count { ReadFaults (I.faults input.old) (I.faults input.new) result }
@@ -135,15 +141,18 @@ fn counted<I: Input>(input: &mut I, piece: &mut [u8], read: usize) -> Result<usi
     Ok(total)
 }
 
-// Why an input is refused whose first bytes, 40 where it has so many, are no header. What else it has is counted.
+// Why an input is refused whose first bytes, 40 where it has so many, are no header. What else it
+// has is counted.
 fn refused<I: Input>(input: &mut I, piece: &mut [u8], first: &[u8]) -> Fault
     requires faults { I.faults input.old < 18446744073709551615 }
     requires piece { 0 < length piece.old }
     requires first { length first.now ≤ 40 }
     requires end { length first.now < 40 → IsAtEnd (I.remaining input.old) }
     requires none { IsHeaded first.now → ⊥ }
-    ensures told { (origin : Option (List ℕ)) → Consumes origin (I.remaining input.old) first.now → IsUnread origin (I.remaining input.new) result }
-    ensures count { ReadFaults {A = Unit {0}} (I.faults input.old) (I.faults input.new) (Err result) }
+    ensures told { (origin : Option (List ℕ)) → Consumes origin (I.remaining input.old) first.now
+        → IsUnread origin (I.remaining input.new) result }
+    ensures count { ReadFaults {A = Unit {0}}
+        (I.faults input.old) (I.faults input.new) (Err result) }
 {
     if first.len() < HEADER_LEN {
         return Fault::NotALog;
@@ -155,12 +164,14 @@ fn refused<I: Input>(input: &mut I, piece: &mut [u8], first: &[u8]) -> Fault
     }
 }
 
-/// The bytes of a log, to its end, but at most 4,294,967,296 of them: so many are too long. What does not begin as a log does
-/// is refused without being kept.
+/// The bytes of a log, to its end, but at most 4,294,967,296 of them: so many are too long. What
+/// does not begin as a log does is refused without being kept.
 pub(crate) fn read_log<I: Input>(alloc: Global, input: &mut I) -> Result<Vec<u8>, Fault>
     requires { I.faults input.old < 18446744073709551615 }
-    ensures bytes { IfOk result (λ bytes. ReadsAll (I.remaining input.old) (I.remaining input.new) bytes.items) }
-    ensures told { (b : List ℕ) → I.remaining input.old ≡ Some b → IfErr result (λ e. RestartsRead b (Err e)) }
+    ensures bytes { IfOk result
+        (λ bytes. ReadsAll (I.remaining input.old) (I.remaining input.new) bytes.items) }
+    ensures told { (b : List ℕ) → I.remaining input.old ≡ Some b
+        → IfErr result (λ e. RestartsRead b (Err e)) }
     ensures refused { IfErr result IsBeforeWriting }
     ensures takes { Takes (I.remaining input.old) (I.remaining input.new) result }
     ensures count { ReadFaults (I.faults input.old) (I.faults input.new) result }

@@ -35,8 +35,10 @@ where
     R: Threads + Sync,
     I: Input,
     requires { I.faults input.old < 18446744073709551615 }
-    ensures told { (b : List ℕ) → I.remaining input.old ≡ Some b → MakesRead (version_of version) b result }
-    ensures some { IfOk result (λ log. (script : List ℕ) × IsLogOf (version_of version) script log.items) }
+    ensures told { (b : List ℕ) → I.remaining input.old ≡ Some b
+        → MakesRead (version_of version) b result }
+    ensures some { IfOk result
+        (λ log. (script : List ℕ) × IsLogOf (version_of version) script log.items) }
     ensures refused { IfErr result IsMakeFault }
     ensures takes { Takes (I.remaining input.old) (I.remaining input.new) result }
     ensures faults { ReadFaults (I.faults input.old) (I.faults input.new) result }
@@ -48,11 +50,13 @@ where
     make_in(rt, alloc, version, &script, &one_worker())
 }
 
-/// Reads a script to its end, but at most 4,294,967,296 bytes, makes its log in a version, with one worker, and writes it.
+/// Reads a script to its end, but at most 4,294,967,296 bytes, makes its log in a version, with one
+/// worker, and writes it.
 ///
-/// Nothing else is written. Refuses with `TooLong` a script or a log of more than 4,294,967,295 bytes, with `Script` and the
-/// number of the earliest line that is none, with `TooLarge` where the state of a `checkpoint` is too large to be spelled, and
-/// with `ReadFailed` or `Resources`, and then writes nothing; with `WriteFailed`, and then has written a beginning of the log.
+/// Nothing else is written. Refuses with `TooLong` a script or a log of more than 4,294,967,295
+/// bytes, with `Script` and the number of the earliest line that is none, with `TooLarge` where the
+/// state of a `checkpoint` is too large to be spelled, and with `ReadFailed` or `Resources`, and
+/// then writes nothing; with `WriteFailed`, and then has written a beginning of the log.
 pub fn make_log_in<R, I, O>(
     rt: &R,
     alloc: Global,
@@ -66,8 +70,10 @@ where
     O: Output,
     requires reads { I.faults input.old < 18446744073709551615 }
     requires writes { O.faults output.old < 18446744073709551615 }
-    ensures makes { (b : List ℕ) → I.remaining input.old ≡ Some b → Makes (version_of version) b (O.contents output.old) (O.contents output.new) result }
-    ensures quiet { MakesOnly (version_of version) (O.contents output.old) (O.contents output.new) result }
+    ensures makes { (b : List ℕ) → I.remaining input.old ≡ Some b
+        → Makes (version_of version) b (O.contents output.old) (O.contents output.new) result }
+    ensures quiet { MakesOnly (version_of version)
+        (O.contents output.old) (O.contents output.new) result }
     ensures takes { Takes (I.remaining input.old) (I.remaining input.new) result }
     ensures read_faults { ReadFaults (I.faults input.old) (I.faults input.new) result }
     ensures write_faults { WriteFaults (O.faults output.old) (O.faults output.new) result }
@@ -84,7 +90,8 @@ where
     O: Output,
     requires reads { I.faults input.old < 18446744073709551615 }
     requires writes { O.faults output.old < 18446744073709551615 }
-    ensures makes { (b : List ℕ) → I.remaining input.old ≡ Some b → Makes One b (O.contents output.old) (O.contents output.new) result }
+    ensures makes { (b : List ℕ) → I.remaining input.old ≡ Some b
+        → Makes One b (O.contents output.old) (O.contents output.new) result }
     ensures quiet { MakesOnly One (O.contents output.old) (O.contents output.new) result }
     ensures takes { Takes (I.remaining input.old) (I.remaining input.new) result }
     ensures read_faults { ReadFaults (I.faults input.old) (I.faults input.new) result }

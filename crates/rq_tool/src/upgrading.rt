@@ -35,14 +35,16 @@ where
     upgrade(rt, alloc, &bytes, plan)
 }
 
-/// Reads the input to its end, but at most 4,294,967,296 bytes, and writes the log in version 2: the records of its front,
-/// whose frames are chained anew behind the header of version 2. What stood behind the front is dropped. No queue is redone
-/// for it.
+/// Reads the input to its end, but at most 4,294,967,296 bytes, and writes the log in version 2:
+/// the records of its front, whose frames are chained anew behind the header of version 2. What
+/// stood behind the front is dropped. No queue is redone for it.
 ///
-/// The upgraded log has the report of the log, but that all of its bytes are front. It has the same checkpoints at the same
-/// offsets, true where they were; and from each true one the same restart. To upgrade it again changes nothing.
+/// The upgraded log has the report of the log, but that all of its bytes are front. It has the same
+/// checkpoints at the same offsets, true where they were; and from each true one the same restart.
+/// To upgrade it again changes nothing.
 ///
-/// Nothing else is written. Refused as `run` is; with `WriteFailed` a beginning of the upgraded log is written, else nothing.
+/// Nothing else is written. Refused as `run` is; with `WriteFailed` a beginning of the upgraded log
+/// is written, else nothing.
 pub fn upgrade_log<R, I, O>(
     rt: &R,
     alloc: Global,
@@ -56,7 +58,8 @@ where
     O: Output,
     requires reads { I.faults input.old < 18446744073709551615 }
     requires writes { O.faults output.old < 18446744073709551615 }
-    ensures upgrades { (b : List ℕ) → I.remaining input.old ≡ Some b → UpgradesLog b (O.contents output.old) (O.contents output.new) result }
+    ensures upgrades { (b : List ℕ) → I.remaining input.old ≡ Some b
+        → UpgradesLog b (O.contents output.old) (O.contents output.new) result }
     ensures quiet { UpgradesOnly (O.contents output.old) (O.contents output.new) result }
     ensures takes { Takes (I.remaining input.old) (I.remaining input.new) result }
     ensures read_faults { ReadFaults (I.faults input.old) (I.faults input.new) result }

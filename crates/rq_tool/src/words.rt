@@ -108,8 +108,9 @@ fn upgrade<'a>(words: &[&'a str]) -> Option<Command<'a>>
     }
 }
 
-/// The command whose line has these words after the program's name; none where they are of no line. Numbers are decimal
-/// without leading zeros; workers, grain and offset are in their ranges. It takes no memory.
+/// The command whose line has these words after the program's name; none where they are of no line.
+/// Numbers are decimal without leading zeros; workers, grain and offset are in their ranges. It
+/// takes no memory.
 pub fn command<'a>(words: &[&'a str]) -> Option<Command<'a>>
     ensures { IsCommand (map (λ w. w.now) words.now) result }
 {

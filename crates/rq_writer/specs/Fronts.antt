@@ -1,5 +1,6 @@
 -- The front of the log that is being made.
-use Rattle.std.specs.Prelude.{◌≡◌, ◌<◌, ◌≤◌, Bool, true, false, ⊤, List, ◌∷◌, ◌++◌, length, map, Result, Ok, Err}
+use Rattle.std.specs.Prelude.{◌≡◌, ◌<◌, ◌≤◌, Bool, true, false, ⊤, List, ◌∷◌, ◌++◌, length, map}
+use Rattle.std.specs.Prelude.{Result, Ok, Err}
 use Rattle.std.specs.List.{AllByRecursion}
 use Rattle.rq_model.specs.Records.{Record, Version}
 use Rattle.rq_model.specs.Spelling.{IsRecord}
@@ -15,16 +16,20 @@ use Rattle.rq_writer.specs.Made.{IsStateOf, Adds, spelling_limit}
 use Rattle.rq_writer.specs.Script.{Spelled}
 use Rattle.rq_writer.specs.declared.front.Front.{Front}
 
--- the state is that after the first records, and the others stand behind; or the first of the others is unlawful
+-- the state is that after the first records, and the others stand behind; or the first of the
+-- others is unlawful
 abbrev pub Splits : Version → State → List Record → Bool → List Record → Type 0
-Splits version s since false rs = (done : List Record) × (rs ≡ done ++ since) × (all_lawful version empty done ≡ true) × (s ≡ run empty done)
+Splits version s since false rs = (done : List Record) × (rs ≡ done ++ since)
+    × (all_lawful version empty done ≡ true) × (s ≡ run empty done)
 Splits version s since true rs =
-    (done : List Record) × (first : Record) × (more : List Record) × (rs ≡ done ++ first ∷ more) × (all_lawful version empty done ≡ true)
+    (done : List Record) × (first : Record) × (more : List Record) × (rs ≡ done ++ first ∷ more)
+    × (all_lawful version empty done ≡ true)
     × (is_lawful version s first ≡ false) × (s ≡ run empty done)
 
 -- the front of the log of the records
 abbrev pub Follows : Version → Front → List Record → Type 0
-Follows version front rs = Splits version front.state (map record_of front.since.items) front.ended rs
+Follows version front rs =
+    Splits version front.state (map record_of front.since.items) front.ended rs
 
 -- records that have a log
 pub record AreLogged (version : Version) (rs : List Record) : Type 0 where
@@ -33,7 +38,10 @@ pub record AreLogged (version : Version) (rs : List Record) : Type 0 where
 
 -- a checkpoint of the state after the front
 abbrev pub SpellsFront : Version → Front → Front → Result code.Record Fault → Type 0
-SpellsFront version old new (Ok r) = (rs : List Record) → Follows version old rs → AreLogged version rs → Follows version new rs × Adds version rs Spelled (record_of r)
-SpellsFront version old new (Err faults.TooLarge) = (rs : List Record) → Follows version old rs → AreLogged version rs → (s : State) × IsStateOf version rs s × (spelling_limit < length (state_bytes s))
+SpellsFront version old new (Ok r) = (rs : List Record) → Follows version old rs
+    → AreLogged version rs → Follows version new rs × Adds version rs Spelled (record_of r)
+SpellsFront version old new (Err faults.TooLarge) =
+    (rs : List Record) → Follows version old rs → AreLogged version rs
+    → (s : State) × IsStateOf version rs s × (spelling_limit < length (state_bytes s))
 SpellsFront version old new (Err faults.Resources) = ⊤
 SpellsFront version old new (Err _) = ⊥

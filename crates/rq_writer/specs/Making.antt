@@ -1,5 +1,6 @@
 -- The steps of making a log.
-use Rattle.std.specs.Prelude.{◌≡◌, ℕ, ◌+◌, ◌<◌, ◌≤◌, ⊤, List, [], ◌∷◌, ◌++◌, length, Some, None, Result, Ok, Err}
+use Rattle.std.specs.Prelude.{◌≡◌, ℕ, ◌+◌, ◌<◌, ◌≤◌, ⊤, List, [], ◌∷◌, ◌++◌, length, Some, None}
+use Rattle.std.specs.Prelude.{Result, Ok, Err}
 use Rattle.rq_model.specs.Records.{Record, Version}
 use Rattle.rq_model.specs.Spelling.{body_of}
 use Rattle.rq_model.specs.Frames.{log_limit, frame, start, log_of, last_of}
@@ -39,13 +40,17 @@ TellsNone version text = (l : Line) → Tells version l text → ⊥
 
 -- the state after the front of the records is too large for a checkpoint
 abbrev pub IsTooLarge : Version → List Record → Type 0
-IsTooLarge version rs = (s : State) × IsStateOf version rs s × (spelling_limit < length (state_bytes s))
+IsTooLarge version rs = (s : State) × IsStateOf version rs s
+    × (spelling_limit < length (state_bytes s))
 
 -- the record that a line adds
 abbrev pub RecordOf : Version → ℕ → List ℕ → Front → Front → Result code.Record Fault → Type 0
-RecordOf version number text old new (Ok r) = (l : Line) × Tells version l text × ((rs : List Record) → Follows version old rs → AreLogged version rs → Follows version new rs × Adds version rs l (record_of r))
+RecordOf version number text old new (Ok r) = (l : Line) × Tells version l text
+    × ((rs : List Record) → Follows version old rs → AreLogged version rs
+    → Follows version new rs × Adds version rs l (record_of r))
 RecordOf version number text old new (Err (faults.Script n)) = (n ≡ number) × TellsNone version text
-RecordOf version number text old new (Err faults.TooLarge) = (text ≡ line_text Spelled) × ((rs : List Record) → Follows version old rs → AreLogged version rs → IsTooLarge version rs)
+RecordOf version number text old new (Err faults.TooLarge) = (text ≡ line_text Spelled)
+    × ((rs : List Record) → Follows version old rs → AreLogged version rs → IsTooLarge version rs)
 RecordOf version number text old new (Err faults.Resources) = ⊤
 RecordOf version number text old new (Err _) = ⊥
 
@@ -58,15 +63,21 @@ Framed old new p r (Err _) = ⊥
 
 -- the log with the record that a line adds, or why there is none
 abbrev pub LineMade : {A : Type 0} → Version → ℕ → List ℕ → Log → Log → Result A Fault → Type 0
-LineMade version number text old new (Ok x) = (l : Line) × Tells version l text × ((rs : List Record) → Holds version old rs → (r : Record) × Adds version rs l r × Holds version new (rs ++ r ∷ []))
+LineMade version number text old new (Ok x) = (l : Line) × Tells version l text
+    × ((rs : List Record) → Holds version old rs
+    → (r : Record) × Adds version rs l r × Holds version new (rs ++ r ∷ []))
 LineMade version number text old new (Err (faults.Script n)) = (n ≡ number) × TellsNone version text
-LineMade version number text old new (Err faults.TooLarge) = (text ≡ line_text Spelled) × ((rs : List Record) → Holds version old rs → IsTooLarge version rs)
-LineMade version number text old new (Err faults.TooLong) = (l : Line) × Tells version l text × ((rs : List Record) → Holds version old rs → (r : Record) × Adds version rs l r × (log_limit < length (log_of version (rs ++ r ∷ []))))
+LineMade version number text old new (Err faults.TooLarge) = (text ≡ line_text Spelled)
+    × ((rs : List Record) → Holds version old rs → IsTooLarge version rs)
+LineMade version number text old new (Err faults.TooLong) = (l : Line) × Tells version l text
+    × ((rs : List Record) → Holds version old rs
+    → (r : Record) × Adds version rs l r × (log_limit < length (log_of version (rs ++ r ∷ []))))
 LineMade version number text old new (Err faults.Resources) = ⊤
 LineMade version number text old new (Err _) = ⊥
 
 -- what is kept from line to line
-pub record Making (version : Version) (script : List ℕ) (n : ℕ) (log : Log) (rest : List ℕ) (ls : List Line) (rs : List Record) : Type 0 where
+pub record Making (version : Version) (script : List ℕ) (n : ℕ) (log : Log)
+    (rest : List ℕ) (ls : List Line) (rs : List Record) : Type 0 where
   pub begins : Begins version script ls rs rest
   pub number : n ≡ length ls
   pub small : n + length rest ≤ length script

@@ -1,5 +1,7 @@
 -- Reading a line from left to right.
-use Rattle.std.specs.Prelude.{ℕ, ◌+◌, ◌*◌, ◌-◌, Bool, false, ◌&&◌, ◌||◌, ◌==◌, if◌then◌else◌, nat_le, nat_lt, List, [], ◌∷◌, length, codes, Option, Some, None, Result, Ok, Err, ⊤}
+use Rattle.std.specs.Prelude.{ℕ, ◌+◌, ◌*◌, ◌-◌, Bool, false, ◌&&◌, ◌||◌, ◌==◌, if◌then◌else◌}
+use Rattle.std.specs.Prelude.{nat_le, nat_lt, List, [], ◌∷◌, length, codes, Option, Some, None}
+use Rattle.std.specs.Prelude.{Result, Ok, Err, ⊤}
 use Rattle.std.specs.List.{list_all}
 use Rattle.std.specs.Str.{bytes_eq}
 use Rattle.std.specs.Str.Parse.{digits_value}
@@ -9,7 +11,8 @@ use Rattle.rq_record.specs.declared.fault.Fault.{Fault}
 use Rattle.rq_record.specs.declared.fault.Fault.TheVariants as faults
 use Rattle.rq_model.specs.Records.{By}
 use Rattle.rq_model.specs.Records.{Record}
-use Rattle.rq_model.specs.Records.{Define, Register, Deregister, Begin, Enqueue, Dequeue, Commit, Abort, Checkpoint, Kill, Version, One, Two}
+use Rattle.rq_model.specs.Records.{Define, Register, Deregister, Begin, Enqueue, Dequeue, Commit}
+use Rattle.rq_model.specs.Records.{Abort, Checkpoint, Kill, Version, One, Two}
 use Rattle.rq_writer.specs.Script.{Line, Told, Spelled, Tells}
 use Rattle.rq_writer.specs.Views.{line_of}
 use Rattle.rq_writer.specs.declared.line.Line as code
@@ -17,7 +20,8 @@ use Rattle.rq_writer.specs.declared.line.Line as code
 -- what stands before the first such byte, and what behind it
 abbrev pub cut_at : ℕ → List ℕ → Option (List ℕ × List ℕ)
 cut_at byte [] = None
-cut_at byte (b ∷ bytes) = if b == byte then Some ([], bytes) else (cut_at byte bytes >>= λ x. Some (b ∷ x.0, x.1))
+cut_at byte (b ∷ bytes) = if b == byte then Some ([], bytes)
+    else (cut_at byte bytes >>= λ x. Some (b ∷ x.0, x.1))
 
 -- a field, and what stands behind its space
 abbrev pub field_at : List ℕ → Option (List ℕ × List ℕ)
@@ -33,7 +37,8 @@ is_decimal (b ∷ bytes) = list_all is_digit (b ∷ bytes) && (length bytes == 0
 
 -- a number of at most `most`
 abbrev pub number_of : ℕ → List ℕ → Option ℕ
-number_of most bytes = if is_decimal bytes && nat_le (digits_value 10 bytes) most then Some (digits_value 10 bytes) else None
+number_of most bytes = if is_decimal bytes && nat_le (digits_value 10 bytes) most
+    then Some (digits_value 10 bytes) else None
 
 unfoldable pub number_at : ℕ → List ℕ → Option (ℕ × List ℕ)
 number_at most bytes = do
@@ -53,7 +58,8 @@ told name tag =
     else (if is_name name then Some (Some (record { name = name; tag = tag })) else None)
 
 abbrev pub digit_of : ℕ → Option ℕ
-digit_of b = if nat_le 48 b && nat_le b 57 then Some (b - 48) else if nat_le 97 b && nat_le b 102 then Some (b - 87) else None
+digit_of b = if nat_le 48 b && nat_le b 57 then Some (b - 48)
+    else if nat_le 97 b && nat_le b 102 then Some (b - 87) else None
 
 -- the byte of two digits
 abbrev pub pair_of : ℕ → ℕ → Option ℕ
@@ -173,7 +179,8 @@ told_line version text = do
   Some (Told r)
 
 abbrev pub line_at : Version → List ℕ → Option Line
-line_at version text = if bytes_eq text (codes "checkpoint") then Some Spelled else told_line version text
+line_at version text = if bytes_eq text (codes "checkpoint")
+    then Some Spelled else told_line version text
 
 -- a line that the text tells, or Form where no line has this text
 abbrev pub Reads : Version → List ℕ → Result code.Line Fault → Type 0

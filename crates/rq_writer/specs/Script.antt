@@ -2,7 +2,8 @@
 use Rattle.std.specs.Prelude.{◌≡◌, ℕ, ◌<◌, ⊤, List, ◌∷◌, ◌++◌, codes, Option, Some, None}
 use Rattle.std.specs.List.{AllByRecursion}
 use Rattle.std.specs.Fmt.{decimal}
-use Rattle.rq_model.specs.Records.{By, Record, Define, Register, Deregister, Begin, Enqueue, Dequeue, Commit, Abort, Checkpoint, Kill, Version}
+use Rattle.rq_model.specs.Records.{By, Record, Define, Register, Deregister, Begin, Enqueue}
+use Rattle.rq_model.specs.Records.{Dequeue, Commit, Abort, Checkpoint, Kill, Version}
 use Rattle.rq_model.specs.Spelling.{IsRecord}
 use Rattle.rq_model.specs.Reports.{payload_text, error_text}
 
@@ -23,13 +24,17 @@ who_tag (Some by) = by.tag
 
 -- a record as a script tells it
 abbrev pub record_text : Record → List ℕ
-record_text (Define limit error name) = codes "define " ++ (name ++ (32 ∷ (decimal limit ++ (32 ∷ error_text error))))
+record_text (Define limit error name) = codes "define "
+    ++ (name ++ (32 ∷ (decimal limit ++ (32 ∷ error_text error))))
 record_text (Register queue name) = codes "register " ++ (decimal queue ++ (32 ∷ name))
 record_text (Deregister queue name) = codes "deregister " ++ (decimal queue ++ (32 ∷ name))
 record_text (Begin unit) = codes "begin " ++ decimal unit
 record_text (Enqueue unit queue priority by payload) =
-    codes "enqueue " ++ (decimal unit ++ (32 ∷ (decimal queue ++ (32 ∷ (decimal priority ++ (32 ∷ (who_name by ++ (32 ∷ (decimal (who_tag by) ++ (32 ∷ payload_text payload))))))))))
-record_text (Dequeue unit queue by) = codes "dequeue " ++ (decimal unit ++ (32 ∷ (decimal queue ++ (32 ∷ (who_name by ++ (32 ∷ decimal (who_tag by)))))))
+    codes "enqueue " ++ (decimal unit ++ (32 ∷ (decimal queue ++ (32 ∷ (decimal priority
+    ++ (32 ∷ (who_name by ++ (32 ∷ (decimal (who_tag by) ++ (32 ∷ payload_text payload))))))))))
+record_text (Dequeue unit queue by) = codes "dequeue "
+    ++ (decimal unit
+    ++ (32 ∷ (decimal queue ++ (32 ∷ (who_name by ++ (32 ∷ decimal (who_tag by)))))))
 record_text (Commit unit) = codes "commit " ++ decimal unit
 record_text (Abort unit) = codes "abort " ++ decimal unit
 record_text (Checkpoint bytes) = codes "checkpoint-hex " ++ payload_text bytes

@@ -1,6 +1,7 @@
 //! The front of the log that is being made.
 
-ghost use Rattle.std.specs.Prelude.{◌≡◌, ◌+◌, ◌^◌, ◌<◌, ◌∷◌, ◌++◌, List, [], length, map, IfOk, IfErr, OnOk};
+ghost use Rattle.std.specs.Prelude.{◌≡◌, ◌+◌, ◌^◌, ◌<◌, ◌∷◌, ◌++◌, List, [], length, map, IfOk};
+ghost use Rattle.std.specs.Prelude.{IfErr, OnOk};
 ghost use Rattle.rq_model.specs.Machine.{lawful_front, run};
 ghost use Rattle.rq_model.specs.Records as model;
 ghost use Rattle.rq_record.specs.declared.fault.Fault.TheVariants.{Resources};
@@ -16,8 +17,8 @@ use rq_state::{State, spell};
 use std::alloc::Global;
 use std::thread::Threads;
 
-/// The state behind those of the records that are lawful in the version, each after those before it, and how many these
-/// are.
+/// The state behind those of the records that are lawful in the version, each after those before
+/// it, and how many these are.
 fn run_lawful<R: Threads + Sync>(
     rt: &R,
     alloc: Global,
@@ -27,8 +28,10 @@ fn run_lawful<R: Threads + Sync>(
     records: &[Record],
 ) -> Result<(State, usize), Fault>
     requires fits { state.now.next + length records.now < 2 ^ 64 }
-    ensures state { IfOk result (λ found. found.0 ≡ run state.now (lawful_front (version_of version) state.now (map record_of records.now))) }
-    ensures count { IfOk result (λ found. found.1 ≡ length (lawful_front (version_of version) state.now (map record_of records.now))) }
+    ensures state { IfOk result (λ found. found.0
+        ≡ run state.now (lawful_front (version_of version) state.now (map record_of records.now))) }
+    ensures count { IfOk result (λ found. found.1
+        ≡ length (lawful_front (version_of version) state.now (map record_of records.now))) }
     ensures refused { IfErr result (λ e. e ≡ Resources) }
 {
     rq_model::versions();
@@ -40,7 +43,8 @@ fn run_lawful<R: Threads + Sync>(
 }
 
 /// The state after the first records of the log, and the records behind these, until one of them is
-/// found to be unlawful. So a checkpoint costs the records since the one before it, not the whole log.
+/// found to be unlawful. So a checkpoint costs the records since the one before it, not the whole
+/// log.
 #[derive(Drop)]
 pub(crate) struct Front {
     state: State,
@@ -62,7 +66,8 @@ impl Front {
 
     /// Takes the next record of the log.
     pub(crate) fn keep(&mut self, r: Record) -> Result<(), Fault>
-        ensures kept { OnOk result ((version : model.Version) (rs : List model.Record) → Follows version self.old rs → Follows version self.new (rs ++ record_of r ∷ [])) }
+        ensures kept { OnOk result ((version : model.Version) (rs : List model.Record) →
+            Follows version self.old rs → Follows version self.new (rs ++ record_of r ∷ [])) }
         ensures refused { IfErr result (λ e. e ≡ Resources) }
     {
         if !self.ended {
@@ -79,8 +84,12 @@ impl Front {
         version: Version,
         plan: &Plan,
     ) -> Result<(), Fault>
-        requires { (rs : List model.Record) × Follows (version_of version) self.old rs × AreLogged (version_of version) rs }
-        ensures state { OnOk result ((rs : List model.Record) → Follows (version_of version) self.old rs → AreLogged (version_of version) rs → Follows (version_of version) self.new rs × IsStateOf (version_of version) rs self.new.state) }
+        requires { (rs : List model.Record) × Follows (version_of version) self.old rs
+            × AreLogged (version_of version) rs }
+        ensures state { OnOk result
+            ((rs : List model.Record) → Follows (version_of version) self.old rs
+            → AreLogged (version_of version) rs → Follows (version_of version) self.new rs
+            × IsStateOf (version_of version) rs self.new.state) }
         ensures refused { IfErr result (λ e. e ≡ Resources) }
     {
         rq_model::one_front();
@@ -97,8 +106,8 @@ impl Front {
         Ok(())
     }
 
-    /// A checkpoint of the state after the front of the log. `TooLarge` where its spelling is too long
-    /// for a record.
+    /// A checkpoint of the state after the front of the log. `TooLarge` where its spelling is too
+    /// long for a record.
     pub(crate) fn spelled<R: Threads + Sync>(
         &mut self,
         rt: &R,
@@ -106,7 +115,8 @@ impl Front {
         version: Version,
         plan: &Plan,
     ) -> Result<Record, Fault>
-        requires { (rs : List model.Record) × Follows (version_of version) self.old rs × AreLogged (version_of version) rs }
+        requires { (rs : List model.Record) × Follows (version_of version) self.old rs
+            × AreLogged (version_of version) rs }
         ensures { SpellsFront (version_of version) self.old self.new result }
     {
         self.catch_up(rt, alloc, version, plan)?;

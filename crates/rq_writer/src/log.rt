@@ -33,7 +33,8 @@ fn record_at<R: Threads + Sync>(
     text: &[u8],
     front: &mut Front,
 ) -> Result<Record, Fault>
-    requires { (rs : List model.Record) × Follows (version_of version) front.old rs × AreLogged (version_of version) rs }
+    requires { (rs : List model.Record) × Follows (version_of version) front.old rs
+        × AreLogged (version_of version) rs }
     ensures { RecordOf (version_of version) number text.now front.old front.new result }
 {
     match read_line(alloc, version, text) {

@@ -18,7 +18,8 @@ fn dequeue(alloc: Global, unit: u64, queue: u32, by: Option<By>) -> Result<Recor
     })
 }
 
-/// An element of `jobs` goes to `dead` at its second abort, where `ann` finds it at its second look.
+/// An element of `jobs` goes to `dead` at its second abort, where `ann` finds it at its second
+/// look.
 fn arrival(alloc: Global) -> Result<Vec<Record>, Fail> {
     let ann = Name::new(b"ann").ok_or("name")?;
     let payload = KeptPayload::from_slice(alloc, b"a")?.ok_or("payload")?;

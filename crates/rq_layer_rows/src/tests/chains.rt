@@ -7,7 +7,8 @@ use std::alloc::{AllocError, Global};
 use std::test::Fail;
 use std::thread::Threads;
 
-/// How long the bodies are of a queue's definition, a unit's begin, an element and the unit's commit.
+/// How long the bodies are of a queue's definition, a unit's begin, an element and the unit's
+/// commit.
 const LENGTHS: [usize; 4] = [11, 9, 24, 9];
 
 /// The chain from a place of the log, where there may be one.

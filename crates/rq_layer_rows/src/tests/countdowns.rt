@@ -106,7 +106,8 @@ fn arrive_all<R: Threads + Sync>(
     passes: &mut [Pass<Parcel>],
     seen: &Seen,
 )
-    requires { All (IsPassOf countdown.now) passes.old × (length passes.old ≡ 64) × (sources_of countdown.now ≡ 64) }
+    requires { All (IsPassOf countdown.now) passes.old
+        × (length passes.old ≡ 64) × (sources_of countdown.now ≡ 64) }
     ensures { All (IsPassOf countdown.now) passes.new × (length passes.new ≡ length passes.old) }
 {
     thread::for_each_mut(
@@ -114,7 +115,8 @@ fn arrive_all<R: Threads + Sync>(
         passes,
         64,
         &|i: usize, pass: &mut Pass<Parcel>|
-            requires { IsPassOf countdown.now pass.now × (i < 64) × (sources_of countdown.now ≡ 64) }
+            requires { IsPassOf countdown.now pass.now
+                × (i < 64) × (sources_of countdown.now ≡ 64) }
             ensures { IsPassOf countdown.entry.now pass.exit.now }
         { arrive_for(countdown, pass, i as u32, seen) },
     );

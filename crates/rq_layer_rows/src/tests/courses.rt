@@ -1,4 +1,5 @@
-//! How a replay goes: each queue is redone by one thread, and an error queue by the one whose arrival was the last.
+//! How a replay goes: each queue is redone by one thread, and an error queue by the one whose
+//! arrival was the last.
 ghost use Rattle.std.specs.Prelude.{◌≡◌, ◌<◌, ◌≤◌, ℕ, true, length, map, IfErr, IfOk};
 ghost use Rattle.rq_model.specs.Records.{Two};
 ghost use Rattle.rq_model.specs.States.{empty};
@@ -35,8 +36,8 @@ fn dequeue(alloc: Global, unit: u64, queue: u32) -> Result<Record, Fault> {
     })
 }
 
-/// Two queues with one error queue, one whose error queue is the first of the two, and one with none. What leaves the last
-/// of the chain by an abort goes on to its end by two more.
+/// Two queues with one error queue, one whose error queue is the first of the two, and one with
+/// none. What leaves the last of the chain by an abort goes on to its end by two more.
 fn chained(alloc: Global) -> Result<Vec<Record>, Fail> {
     let payload = KeptPayload::from_slice(alloc, b"a")?.ok_or("payload")?;
     let unit = UnitNo(1);
@@ -95,18 +96,23 @@ fn lawful_of(alloc: Global, records: Vec<Record>) -> Result<Lawful, Fault> {
     Ok(Lawful { records })
 }
 
-/// The state after the records, and how the replay went: one thread redid a queue, once, and no other did; of an error queue
-/// that queues lead to, this is the thread that was told Last, once, and nobody else was told so.
+/// The state after the records, and how the replay went: one thread redid a queue, once, and no
+/// other did; of an error queue that queues lead to, this is the thread that was told Last, once,
+/// and nobody else was told so.
 fn traced<R: Threads + Sync + AllocGlobal, G: Gate + Sync>(
     rt: &R,
     lawful: &Lawful,
     plan: &Plan,
     gate: &G,
 ) -> Result<(State, Course), Fault>
-    ensures once { IfOk result (λ r. (x : ℕ) → x < length r.0.definitions → IsAlone x (redone_of r.1)) }
-    ensures begun { IfOk result (λ r. (x : ℕ) → x < length r.0.definitions → 0 < length (naming (map (λ d. d.error) r.0.definitions) x)
-        → (k : ℕ) × (k < length (redone_of r.1)) × (times x (redone_by r.1 k) ≡ 1) × (length (last_lists (told_to r.1 k x)) ≡ 1)) }
-    ensures nobody_else { IfOk result (λ r. (x : ℕ) → x < length r.0.definitions → 0 < length (naming (map (λ d. d.error) r.0.definitions) x)
+    ensures once { IfOk result
+        (λ r. (x : ℕ) → x < length r.0.definitions → IsAlone x (redone_of r.1)) }
+    ensures begun { IfOk result (λ r. (x : ℕ) → x < length r.0.definitions
+        → 0 < length (naming (map (λ d. d.error) r.0.definitions) x)
+        → (k : ℕ) × (k < length (redone_of r.1)) × (times x (redone_by r.1 k) ≡ 1)
+        × (length (last_lists (told_to r.1 k x)) ≡ 1)) }
+    ensures nobody_else { IfOk result (λ r. (x : ℕ) → x < length r.0.definitions
+        → 0 < length (naming (map (λ d. d.error) r.0.definitions) x)
         → length (last_lists (all_told r.1 x)) ≡ 1) }
 {
     let alloc = rt.alloc();

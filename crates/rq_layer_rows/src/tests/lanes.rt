@@ -153,7 +153,8 @@ fn the_first_of_two_wrong_digests_is_found(rt: HostRuntime) -> Result<(), Fail> 
 
 #[test]
 fn wrong_digests_at_the_ends_of_pieces(rt: HostRuntime) -> Result<(), Fail> {
-    // Frames of 1,036 bytes: 1,013 of them are a piece of 1 MiB, and 4,049 one of 4 MiB, as one thread takes them.
+    // Frames of 1,036 bytes: 1,013 of them are a piece of 1 MiB, and 4,049 one of 4 MiB, as one
+    // thread takes them.
     let lens = Vec::from_elem(rt.alloc(), 1000usize, 4100)?;
     let Framed { mut log, ends } = log_of_lengths(rt.alloc(), &lens)?;
     for (place, grain) in [

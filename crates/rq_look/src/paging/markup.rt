@@ -28,8 +28,8 @@ fn put_char(text: &mut String, c: char) -> Result<(), AllocError>
     }
 }
 
-/// Puts a text so that HTML shows it: the characters that HTML takes for its own are spelled out, and one that is hidden
-/// is shown as one that is not known.
+/// Puts a text so that HTML shows it: the characters that HTML takes for its own are spelled out,
+/// and one that is hidden is shown as one that is not known.
 pub(super) fn put_text(text: &mut String, word: &str) -> Result<(), AllocError>
     ensures { OnOk result (AppendsText (string_bytes text.old) (string_bytes text.new)) }
 {
@@ -39,7 +39,8 @@ pub(super) fn put_text(text: &mut String, word: &str) -> Result<(), AllocError>
     Ok(())
 }
 
-/// Puts what stands before the front's summary. No part of the page may be loaded from anywhere, and no script runs.
+/// Puts what stands before the front's summary. No part of the page may be loaded from anywhere,
+/// and no script runs.
 pub(super) fn put_head(text: &mut String, name: &str) -> Result<(), AllocError> {
     text.push_str("<!DOCTYPE html>\n<html lang=\"en\">\n<head>\n<meta charset=\"utf-8\">\n")?;
     text.push_str(

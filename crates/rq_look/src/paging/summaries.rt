@@ -57,8 +57,8 @@ fn put_checkpoints(text: &mut String, checkpoints: &[(u64, bool)]) -> Result<(),
     text.push_str("</td></tr>\n")
 }
 
-/// Puts the numbers of a report's first two lines, how much there is after the restart, and the checkpoints, of each of which
-/// it is known whether it is true.
+/// Puts the numbers of a report's first two lines, how much there is after the restart, and the
+/// checkpoints, of each of which it is known whether it is true.
 pub(super) fn put_summary(
     text: &mut String,
     r: &Restarted,

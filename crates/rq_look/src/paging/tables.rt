@@ -4,7 +4,7 @@ use crate::bytes::put_bytes;
 use crate::json::queue_number;
 use crate::paging::markup::put_text;
 use crate::paging::surveys::Survey;
-use crate::reporting::{RegistrantShown, free_elements, registrants_shown};
+use crate::queues::{RegistrantShown, free_elements, registrants_shown};
 use crate::sheet::relieve;
 use crate::trouble::Trouble;
 use rq_record::QueueNo;

@@ -1,5 +1,6 @@
 -- What holds of all arrivals once the countdown is closed.
-use Rattle.std.specs.Prelude.{◌≡◌, ◌↔◌, ℕ, suc, zero, ◌<◌, ◌⊎◌, eqb, Bool, true, false, List, [], ◌∷◌, ◌++◌, length}
+use Rattle.std.specs.Prelude.{◌≡◌, ◌↔◌, ℕ, suc, zero, ◌<◌, ◌⊎◌, eqb, Bool, true, false, List, []}
+use Rattle.std.specs.Prelude.{◌∷◌, ◌++◌, length}
 use mathlib.Core.Option.{some}
 use lib.ListN.{get_elem?}
 use Rattle.rq_pool.specs.declared.countdown.arrival.Entry.{Entry}
@@ -47,13 +48,15 @@ module _ {T : Type 0} where
   SomeMissing n es = (i : ℕ) × (i < n) × (arrivals_for i es ≡ [])
 
   -- The arrivals es were all that were made for the n sources of a countdown.
-  -- Of the arrivals for a source exactly one was not answered Twice, and Twice gave each outbox back.
-  -- Where some source has no arrival, nobody was answered Last and what was kept is at home.
+  -- Of the arrivals for a source exactly one was not answered Twice, and Twice gave each outbox
+  -- back. Where some source has no arrival, nobody was answered Last and what was kept is at home.
   -- Else one was, with what was kept: the ith for the source i.
   pub record Settled (n : ℕ) (es : List (Entry T)) (arrived : ℕ) (home : List T) : Type 0 where
     pub once : (i : ℕ) → i < n → (arrivals_for i es ≡ []) ⊎ ((x : T) × (kept_for i es ≡ x ∷ []))
     pub gave_back : back_in es ≡ refused_outboxes es
     pub arrivals : arrived ≡ length (kept_from 0 n es)
     pub missing : arrived < n ↔ SomeMissing n es
-    pub outcome : ((arrived < n) × (last_lists es ≡ []) × (home ≡ kept_from 0 n es)) ⊎ ((arrived ≡ n) × (last_lists es ≡ kept_from 0 n es ∷ []) × (home ≡ []))
-    pub placed : arrived ≡ n → (i : ℕ) → i < n → (x : T) × (get_elem? (kept_from 0 n es) i ≡ some x) × (kept_for i es ≡ x ∷ [])
+    pub outcome : ((arrived < n) × (last_lists es ≡ []) × (home ≡ kept_from 0 n es))
+        ⊎ ((arrived ≡ n) × (last_lists es ≡ kept_from 0 n es ∷ []) × (home ≡ []))
+    pub placed : arrived ≡ n → (i : ℕ) → i < n
+        → (x : T) × (get_elem? (kept_from 0 n es) i ≡ some x) × (kept_for i es ≡ x ∷ [])

@@ -16,7 +16,8 @@ module _ {T : Type 0} where
   abbrev pub Fit : (ℕ → T → Type 0) → List T → Type 0
   Fit fit ys = (i : ℕ) (y : T) → get_elem? ys i ≡ some y → fit i y
 
-  -- Twice gives the outbox x back. Last gives an outbox for each of the n sources, each fitting its place
+  -- Twice gives the outbox x back. Last gives an outbox for each of the n sources, each fitting its
+  -- place
   abbrev pub Answered : (ℕ → T → Type 0) → ℕ → T → Arrival T → Type 0
   Answered fit n x (Twice y) = y ≡ x
   Answered fit n x NotLast = Unit {0}

@@ -1,6 +1,8 @@
 -- The rule of a countdown, and what each of its steps tells.
--- Word 0 is the number of sources that were not counted, word 1 + i the flag of the source i, and slot i its outbox.
-use Rattle.std.specs.Prelude.{◌≡◌, ℕ, ◌+◌, ◌-◌, ◌<◌, ◌⊎◌, ◌≢◌, eqb, Bool, true, false, List, [], ◌∷◌, ◌++◌, map, length, Option, Some, None}
+-- Word 0 is the number of sources that were not counted, word 1 + i the flag of the source i, and
+-- slot i its outbox.
+use Rattle.std.specs.Prelude.{◌≡◌, ℕ, ◌+◌, ◌-◌, ◌<◌, ◌⊎◌, ◌≢◌, eqb, Bool, true, false, List, []}
+use Rattle.std.specs.Prelude.{◌∷◌, ◌++◌, map, length, Option, Some, None}
 use mathlib.Core.Option.{some}
 use lib.ListN.{get_elem?}
 use Rattle.atomic_table.specs.Table.{State, Me, Step}
@@ -8,7 +10,8 @@ use Rattle.rq_pool.specs.declared.countdown.view.Made.{Made}
 use Rattle.rq_pool.specs.declared.countdown.view.View.{View}
 use Rattle.rq_pool.specs.declared.countdown.view.Terms.{Terms}
 use Rattle.rq_pool.specs.Countdowns.History.{Fit}
-use Rattle.rq_pool.specs.Countdowns.Phases.{total, Phase, gone, back, flag, is_away, is_done, is_shut, outbox_of, place, count, numbered}
+use Rattle.rq_pool.specs.Countdowns.Phases.{total, Phase, gone, back, flag, is_away, is_done}
+use Rattle.rq_pool.specs.Countdowns.Phases.{is_shut, outbox_of, place, count, numbered}
 
 abbrev pub one_if : Bool → ℕ
 one_if true = 1
@@ -33,7 +36,8 @@ module _ {T : Type 0} where
   told m = told_of m.told
 
   abbrev pub HasMade : ℕ → T → List (Made T) → Type 0
-  HasMade i x ms = (k : ℕ) × (m : Made T) × (get_elem? ms k ≡ some m) × (m.source ≡ i) × (m.outbox ≡ x)
+  HasMade i x ms = (k : ℕ) × (m : Made T)
+      × (get_elem? ms k ≡ some m) × (m.source ≡ i) × (m.outbox ≡ x)
 
   abbrev pub HasLast : List T → List (Made T) → Type 0
   HasLast ys ms = (k : ℕ) × (m : Made T) × (get_elem? ms k ≡ some m) × (m.told ≡ Some ys)
@@ -65,7 +69,8 @@ module _ {T K : Type 0} where
   abbrev pub SomeView : (List (Made T) → Type 0) → List (View T K) → Type 0
   SomeView P views = (j : ℕ) × (v : View T K) × (get_elem? views j ≡ some v) × P v.made
 
-  pub record AtSource (fit : ℕ → T → Type 0) (views : List (View T K)) (i : ℕ) (p : Phase T) : Type 0 where
+  pub record AtSource (fit : ℕ → T → Type 0) (views : List (View T K)) (i : ℕ) (p : Phase T)
+      : Type 0 where
     pub standing : total (stands_at i) views ≡ is_away p
     pub done : total (made_for i) views ≡ is_done p
     pub holding : (x : T) → outbox_of p ≡ some x → fit i x × SomeView (HasMade i x) views
@@ -86,29 +91,38 @@ module _ {T K : Type 0} where
     pub one : total lasts views ≡ 1
     pub has_it : SomeView (HasLast outboxes) views
 
-  pub record Held (fits : K → ℕ → T → Type 0) (terms : Terms K) (s : State (Option T) (View T K)) : Type 0 where
+  pub record Held (fits : K → ℕ → T → Type 0) (terms : Terms K) (s : State (Option T) (View T K))
+      : Type 0 where
     pub phases : List (Phase T)
     pub words_are : s.words ≡ count phases ∷ map flag phases
     pub homes_are : s.homes ≡ map place phases
     pub all_parts : total parts s.views ≡ terms.passes
-    pub each_source : (i : ℕ) (p : Phase T) → get_elem? phases i ≡ some p → AtSource (fits terms.key) s.views i p
+    pub each_source : (i : ℕ) (p : Phase T) → get_elem? phases i ≡ some p
+        → AtSource (fits terms.key) s.views i p
     pub each_pass : (j : ℕ) (v : View T K) → get_elem? s.views j ≡ some v → Knows terms.key phases v
     pub told_once : IsOpen s.views phases ⊎ IsShut s.views phases
 
-  -- The flag was clear: nobody was told Last, and the pass has the slot. Else the source is one more that was refused
-  abbrev pub claimed : Step (Option T) → Me (Option T) (View T K) → ℕ → Me (Option T) (View T K) → Type 0
+  -- The flag was clear: nobody was told Last, and the pass has the slot. Else the source is one
+  -- more that was refused
+  abbrev pub claimed : Step (Option T) → Me (Option T) (View T K)
+      → ℕ → Me (Option T) (View T K) → Type 0
   claimed st me found me' = let i : ℕ = st.word - 1 in let v = me.0 in
-      (found ≡ 0 → (lasts v ≡ 0) × (me' ≡ (view v.parts v.key (Some i) v.made v.refused, (i, None) ∷ me.1))) × (found ≢ 0 → me' ≡ (view v.parts v.key None v.made (v.refused ++ i ∷ []), me.1))
+      (found ≡ 0
+      → (lasts v ≡ 0) × (me' ≡ (view v.parts v.key (Some i) v.made v.refused, (i, None) ∷ me.1)))
+      × (found ≢ 0 → me' ≡ (view v.parts v.key None v.made (v.refused ++ i ∷ []), me.1))
 
   -- the view after an arrival that was counted
   abbrev pub after : View T K → ℕ → T → Option (List T) → View T K
   after v i x ys = view v.parts v.key None (v.made ++ made_of i x ys ∷ []) v.refused
 
   -- The last takes all slots, in the order of the sources. Any other gives its own back
-  abbrev pub counted : (K → ℕ → T → Type 0) → Step (Option T) → Me (Option T) (View T K) → ℕ → Me (Option T) (View T K) → Type 0
+  abbrev pub counted : (K → ℕ → T → Type 0) → Step (Option T)
+      → Me (Option T) (View T K) → ℕ → Me (Option T) (View T K) → Type 0
   counted fits st me found me' = (i : ℕ) (x : T) → me.1 ≡ (i, Some x) ∷ []
       → (found ≢ 1 → me' ≡ (after me.0 i x None, []))
-      × (found ≡ 1 → (lasts me.0 ≡ 0) × ((ys : List T) × (length ys ≡ st.slots) × ((k : K) → me.0.key ≡ Some k → Fit (fits k) ys) × (me' ≡ (after me.0 i x (Some ys), numbered 0 (map Some ys)))))
+      × (found ≡ 1 → (lasts me.0 ≡ 0)
+      × ((ys : List T) × (length ys ≡ st.slots) × ((k : K) → me.0.key ≡ Some k → Fit (fits k) ys)
+      × (me' ≡ (after me.0 i x (Some ys), numbered 0 (map Some ys)))))
 
   -- a pass is cut from another, which keeps what it made
   abbrev pub left_of : View T K → View T K
@@ -125,5 +139,6 @@ module _ {T K : Type 0} where
   spent_view = view 0 None None [] []
 
   -- the slots of the last are home again
-  abbrev pub returned : Step (Option T) → Me (Option T) (View T K) → ℕ → Me (Option T) (View T K) → Type 0
+  abbrev pub returned : Step (Option T) → Me (Option T) (View T K)
+      → ℕ → Me (Option T) (View T K) → Type 0
   returned st me found me' = me' ≡ (me.0, [])

@@ -1,5 +1,6 @@
 -- What a clause says of a countdown, of its passes and of its close.
-use Rattle.std.specs.Prelude.{◌≡◌, ℕ, ◌<◌, List, [], length, All, Option, Some, None, slice_index_or}
+use Rattle.std.specs.Prelude.{◌≡◌, ℕ, ◌<◌, List, [], length, All, Option, Some, None}
+use Rattle.std.specs.Prelude.{slice_index_or}
 use Rattle.rq_pool.specs.declared.countdown.fits.Fits.{Ghosts}
 use Rattle.rq_pool.specs.declared.countdown.arrival.Entry.{Entry}
 use Rattle.rq_pool.specs.declared.countdown.pass.Pass.{Pass}
@@ -23,7 +24,8 @@ module _ {T K : Type 0} where
 module _ {T K : Type 0} {g : Ghosts T K} where
   -- the pass is one of this countdown
   abbrev pub IsPassOf : Countdown T K → Pass T K g → Type 0
-  IsPassOf c p = (p.seat.table_id ≡ c.table.shared.table_id) × (p.seat.me.0.key ≡ Some c.table.shared.key.key)
+  IsPassOf c p = (p.seat.table_id ≡ c.table.shared.table_id)
+      × (p.seat.me.0.key ≡ Some c.table.shared.key.key)
 
   -- the arrivals that were made with the pass, in order
   abbrev pub history_of : Pass T K g → List (Entry T)
@@ -35,5 +37,6 @@ module _ {T K : Type 0} {g : Ghosts T K} where
 
   -- the pass at this index was answered Last, once; or no pass was
   abbrev pub TellsLast : List (Pass T K g) → Option ℕ → Type 0
-  TellsLast passes (Some k) = (k < length passes) × ((d : Pass T K g) → length (last_lists (history_of (slice_index_or passes k d))) ≡ 1)
+  TellsLast passes (Some k) = (k < length passes)
+      × ((d : Pass T K g) → length (last_lists (history_of (slice_index_or passes k d))) ≡ 1)
   TellsLast passes None = All (λ p. last_lists (history_of p) ≡ []) passes

@@ -7,8 +7,8 @@ use crate::countdown::pass::Pass;
 use diary::{Diary, Listing};
 use std::collections::LinkedList;
 
-/// How many sources arrived, who was last, and the outboxes that nobody was given. Contracts see the arrivals of each
-/// pass too: no value of it is made but by a countdown that closes.
+/// How many sources arrived, who was last, and the outboxes that nobody was given. Contracts see
+/// the arrivals of each pass too: no value of it is made but by a countdown that closes.
 #[derive(Drop)]
 pub struct Closing<T> {
     pub(crate) arrived: u32,
@@ -37,8 +37,8 @@ impl<T> Closing<T> {
         self.arrived
     }
 
-    /// The index, in the list handed in, of the pass that was answered `Last`. None where some source
-    /// had no arrival.
+    /// The index, in the list handed in, of the pass that was answered `Last`. None where some
+    /// source had no arrival.
     pub fn last(&self) -> Option<usize>
         ensures last { result ≡ last_of self.now }
     {

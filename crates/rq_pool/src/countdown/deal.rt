@@ -1,5 +1,6 @@
 //! How the passes of a countdown are made.
-ghost use Rattle.std.specs.Prelude.{◌≡◌, ◌<◌, ◌≤◌, [], All, length, Some, None, IfOk, IfErr, vec_capacity};
+ghost use Rattle.std.specs.Prelude.{◌≡◌, ◌<◌, ◌≤◌, [], All, length, Some, None, IfOk, IfErr};
+ghost use Rattle.std.specs.Prelude.{vec_capacity};
 ghost use Rattle.rq_record.specs.declared.fault.Fault.TheVariants.{Resources};
 ghost use Rattle.rq_pool.specs.Countdowns.Rule.{view};
 
@@ -13,7 +14,8 @@ use std::alloc::Global;
 
 /// Room for all outboxes, for each pass.
 pub fn rooms<T: Drop>(alloc: Global, sources: u32, passes: u32) -> Result<Vec<Vec<T>>, Fault>
-    ensures rooms { IfOk result (λ r. (length r.items ≡ passes) × All (λ v. (v.items ≡ []) × (sources ≤ vec_capacity v)) r.items) }
+    ensures rooms { IfOk result (λ r. (length r.items ≡ passes)
+        × All (λ v. (v.items ≡ []) × (sources ≤ vec_capacity v)) r.items) }
     ensures refused { IfErr result (λ e. e ≡ Resources) }
 {
     let mut rooms = Vec::with_capacity(alloc, passes as usize)?;
@@ -31,11 +33,14 @@ pub fn deal<T: Fits>(
     list: &mut Vec<Pass<T>>,
 )
     requires own { (seat.table_id ≡ board.now.table_id) × (0 < board.now.table_id.words) }
-    requires rooms { (0 < length rooms.items) × All (λ v. (v.items ≡ []) × (board.now.table_id.slots ≤ vec_capacity v)) rooms.items }
+    requires rooms { (0 < length rooms.items)
+        × All (λ v. (v.items ≡ []) × (board.now.table_id.slots ≤ vec_capacity v)) rooms.items }
     requires first { seat.me ≡ (view (length rooms.items) (Some board.now.key.key) None [] [], []) }
     requires list { (list.old.items ≡ []) × (length rooms.items ≤ vec_capacity list.old) }
     ensures count { length list.new.items ≡ length rooms.items }
-    ensures own { All (λ p. (p.seat.table_id ≡ board.now.table_id) × (p.seat.me.0 ≡ view 1 (Some board.now.key.key) None [] []) × (p.diary ≡ [])) list.new.items }
+    ensures own { All (λ p. (p.seat.table_id ≡ board.now.table_id)
+        × (p.seat.me.0 ≡ view 1 (Some board.now.key.key) None [] [])
+        × (p.diary ≡ [])) list.new.items }
 {
     let Some(last) = rooms.pop() else {
         unreachable!()

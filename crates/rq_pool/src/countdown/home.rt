@@ -8,7 +8,8 @@ use std::alloc::Global;
 
 fn keep<T>(home: &mut Vec<T>, found: Option<T>)
     requires { length home.old.items < vec_capacity home.old }
-    ensures { (home.new.items ≡ home.old.items ++ option_to_list found) × (vec_capacity home.new ≡ vec_capacity home.old) }
+    ensures { (home.new.items ≡ home.old.items ++ option_to_list found)
+        × (vec_capacity home.new ≡ vec_capacity home.old) }
 {
     if let Some(outbox) = found {
         home.push_reserved(outbox);
@@ -17,7 +18,8 @@ fn keep<T>(home: &mut Vec<T>, found: Option<T>)
 
 /// Moves what is in the slots into `home`, in order.
 pub fn empty<T: Drop>(mut closed: Closed<Option<T>, Global>, sources: u32, home: &mut Vec<T>)
-    requires { (slots_len closed.slots ≡ sources) × IsFull closed.slots × (sources ≤ vec_capacity home.old) × (home.old.items ≡ []) }
+    requires { (slots_len closed.slots ≡ sources) × IsFull closed.slots
+        × (sources ≤ vec_capacity home.old) × (home.old.items ≡ []) }
     ensures { home.new.items ≡ somes (slots_items closed.slots) }
 {
     for i in 0..sources as usize {

@@ -12,7 +12,8 @@ use crate::countdown::steps::{Board, Chair};
 
 /// The pass that was told Last.
 pub fn find_last<T: Fits>(passes: &Vec<Pass<T>>) -> Option<usize>
-    ensures some { ForSome result (λ k. (k < length passes.now.items) × ((d : _) → lasts (slice_index_or passes.now.items k d).seat.me.0 ≡ 1)) }
+    ensures some { ForSome result (λ k. (k < length passes.now.items)
+        × ((d : _) → lasts (slice_index_or passes.now.items k d).seat.me.0 ≡ 1)) }
     ensures none { ForNone result (All (λ p. lasts p.seat.me.0 ≡ 0) passes.now.items) }
 {
     for i in 0..passes.len() {
@@ -45,10 +46,13 @@ fn retire<T: Fits>(board: &Board<T>, pass: Pass<T>) -> Chair<T>
 
 /// One seat that has made all that the passes made.
 pub fn join_all<T: Fits>(board: &Board<T>, mut passes: Vec<Pass<T>>) -> Chair<T>
-    requires own { All (λ p. p.seat.table_id ≡ board.now.table_id) passes.items × (0 < board.now.table_id.words) × (0 < length passes.items) }
-    ensures own { (result.table_id ≡ board.now.table_id) × (result.me.1 ≡ []) × (result.me.0.at ≡ None) }
+    requires own { All (λ p. p.seat.table_id ≡ board.now.table_id) passes.items
+        × (0 < board.now.table_id.words) × (0 < length passes.items) }
+    ensures own { (result.table_id ≡ board.now.table_id)
+        × (result.me.1 ≡ []) × (result.me.0.at ≡ None) }
     ensures parts { result.me.0.parts ≡ total parts (map (λ p. p.seat.me.0) passes.items) }
-    ensures history { (result.me.0.made ≡ all_made (map (λ p. p.seat.me.0) passes.items)) × (result.me.0.refused ≡ all_refused (map (λ p. p.seat.me.0) passes.items)) }
+    ensures history { (result.me.0.made ≡ all_made (map (λ p. p.seat.me.0) passes.items))
+        × (result.me.0.refused ≡ all_refused (map (λ p. p.seat.me.0) passes.items)) }
 {
     let Some(first) = passes.pop() else {
         unreachable!()

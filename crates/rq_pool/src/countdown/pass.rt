@@ -20,6 +20,8 @@ pub struct Pass<T: Fits> {
     ghost rests: { (seat.me.0.at ≡ None) × (seat.me.0.parts ≡ 1) },
     ghost told: { (made_in diary ≡ seat.me.0.made) × (refused_in diary ≡ seat.me.0.refused) },
     ghost gave_back: { back_in diary ≡ refused_outboxes diary },
-    ghost has_room: { ForSome room (λ v. (lasts seat.me.0 ≡ 0) × (seat.me.1 ≡ []) × (v.items ≡ []) × (seat.table_id.slots ≤ vec_capacity v)) },
-    ghost was_last: { ForNone room ((lasts seat.me.0 ≡ 1) × (seat.me.1 ≡ numbered 0 (replicate seat.table_id.slots None))) },
+    ghost has_room: { ForSome room (λ v. (lasts seat.me.0 ≡ 0) × (seat.me.1 ≡ [])
+        × (v.items ≡ []) × (seat.table_id.slots ≤ vec_capacity v)) },
+    ghost was_last: { ForNone room
+        ((lasts seat.me.0 ≡ 1) × (seat.me.1 ≡ numbered 0 (replicate seat.table_id.slots None))) },
 }

@@ -8,8 +8,9 @@ pub struct Made<T> {
     pub told: Option<LinkedList<T>>,
 }
 
-/// What a pass knows. Only the spent one that a join leaves has no key. `at` is the source at which the
-/// pass stands between its two steps, `refused` the sources of the arrivals that were answered `Twice`.
+/// What a pass knows. Only the spent one that a join leaves has no key. `at` is the source at which
+/// the pass stands between its two steps, `refused` the sources of the arrivals that were answered
+/// `Twice`.
 pub struct View<T, K> {
     pub parts: u64,
     pub key: Option<K>,

@@ -9,8 +9,8 @@ use sha2::{Digest, Sha256};
 use std::test::Fail;
 use std::thread::Threads;
 
-/// What the state after the first eight lines of the script `CHECKPOINT` spells: its unit 2 is open, holds element 3, has put
-/// in element 7 and has a note of ann.
+/// What the state after the first eight lines of the script `CHECKPOINT` spells: its unit 2 is
+/// open, holds element 3, has put in element 7 and has a note of ann.
 const INSIDE_A_UNIT: &str =
     "checkpoint-hex 0000000000000008000000000000000200000000000000010000000000000000000000010000ffffffff046a6f6273000000010000000000000002000000010000000003616e6e0000000002000000000000000300000000000000000500000000000000000200000000000000020001610000000000000007000000000000000008000000000000000001000000000000000200016200000001000000000000000600000000000000020000000003616e6e02000000000000000a0000000000000003";
 

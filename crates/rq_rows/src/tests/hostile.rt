@@ -93,8 +93,8 @@ fn every_beginning_has_the_front_of_its_whole_frames(rt: HostRuntime) -> Result<
     Ok(())
 }
 
-/// What stands after so many frames of the log of which one byte was changed: a length that is out of range, a length with
-/// fewer bytes than its frame, or a wrong digest.
+/// What stands after so many frames of the log of which one byte was changed: a length that is out
+/// of range, a length with fewer bytes than its frame, or a wrong digest.
 fn why_after(bytes: &[u8], frames: usize) -> Result<&'static str, Fail> {
     let rest = bytes.get(end_of(frames)..).ok_or("rest")?;
     let mut length = 0u64;

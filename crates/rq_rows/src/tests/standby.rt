@@ -10,7 +10,8 @@ use std::alloc::Global;
 use std::test::Fail;
 use std::thread::Threads;
 
-/// Where pieces end: each record is one, some of several records, and all at once. No script has more than 20 lines.
+/// Where pieces end: each record is one, some of several records, and all at once. No script has
+/// more than 20 lines.
 const SINGLY: &[usize] = &[
     1, 2, 3, 4, 5, 6, 7, 8, 9, 10, 11, 12, 13, 14, 15, 16, 17, 18, 19, 20,
 ];

@@ -7,8 +7,9 @@ use std::io;
 use std::io::{Cursor, ErrorKind, Read, Write};
 use std::test::Fail;
 
-/// Gives at most 7 bytes a call. Each call that does not come after an interrupted one is interrupted, where that is asked
-/// for; the call of one number, from 1, those interrupted aside, fails.
+/// Gives at most 7 bytes a call. Each call that does not come after an interrupted one is
+/// interrupted, where that is asked for; the call of one number, from 1, those interrupted aside,
+/// fails.
 #[derive(Drop)]
 struct Rough<'a> {
     inner: Cursor<&'a [u8]>,

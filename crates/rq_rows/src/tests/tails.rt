@@ -9,7 +9,8 @@ use std::thread::Threads;
 
 const JOBS: &str = "queue 0 jobs limit 0 error -";
 
-/// What the elements are behind the first eight lines of `BEST_FIRST`, where the second unit is cut off.
+/// What the elements are behind the first eight lines of `BEST_FIRST`, where the second unit is cut
+/// off.
 const RETURNED: [&str; 3] = [
     "e 3 from 0 priority 9 attempts 1 62",
     "e 4 from 0 priority 9 attempts 0 63",

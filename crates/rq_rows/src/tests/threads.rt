@@ -150,7 +150,8 @@ fn a_queue_enters_the_gate_before_its_redo(rt: HostRuntime) -> Result<(), Fail> 
         run(&rt, rt.alloc(), &mut input, &mut output, &plan, &gate)?;
         let [first, second, third] = &gate.times;
         let second = second.load(Ordering::SeqCst);
-        // one thread redoes them in order, so the long redo is between the second entry and the third
+        // one thread redoes them in order, so the long redo is between the second entry and the
+        // third
         let short = second.saturating_sub(first.load(Ordering::SeqCst));
         let long = third.load(Ordering::SeqCst).saturating_sub(second);
         enters_before = enters_before || short < long / 4;

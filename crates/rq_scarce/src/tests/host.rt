@@ -8,7 +8,8 @@ const BLOCK: usize = 100_000;
 /// How many of them.
 const BLOCKS: usize = 16;
 
-/// The host keeps freed blocks of so many sizes apart for the next ones of their size: up to 1,032 bytes, in steps of 16.
+/// The host keeps freed blocks of so many sizes apart for the next ones of their size: up to 1,032
+/// bytes, in steps of 16.
 const SIZES: usize = 64;
 
 /// It keeps so many of each size.
@@ -47,7 +48,8 @@ impl Scarce {
         Ok(scarce)
     }
 
-    /// Leaves so many bytes of the store, side by side, and free to be cut into blocks of any sizes.
+    /// Leaves so many bytes of the store, side by side, and free to be cut into blocks of any
+    /// sizes.
     pub fn leave(&mut self, bytes: usize) -> Result<(), AllocError> {
         let all = bytes.saturating_add(PIN);
         self.spare.push(Vec::with_capacity(self.alloc, all)?)?;
@@ -57,8 +59,9 @@ impl Scarce {
         Ok(())
     }
 
-    /// Gives the store back. Blocks that are kept apart would cut it into pieces. So all are taken, others are freed to be
-    /// kept in their place, and those are taken again once the store is free.
+    /// Gives the store back. Blocks that are kept apart would cut it into pieces. So all are taken,
+    /// others are freed to be kept in their place, and those are taken again once the store is
+    /// free.
     pub fn relieve(&mut self) {
         take_all(self.alloc, &mut self.last);
         self.plugs.clear();
@@ -74,7 +77,8 @@ pub fn room(alloc: Global) -> Result<Vec<Vec<u8>>, AllocError> {
     Vec::with_capacity(alloc, 50_000)
 }
 
-/// Takes what memory there is, in ever smaller blocks: first of addresses, then of the heap of this thread.
+/// Takes what memory there is, in ever smaller blocks: first of addresses, then of the heap of this
+/// thread.
 pub fn take_all(alloc: Global, held: &mut Vec<Vec<u8>>) {
     for step in 0..34usize {
         take_size(alloc, held, 1usize << (44 - step));

@@ -62,7 +62,8 @@ impl Fits for Parcel {
     ghost fits = { λ _ source parcel. parcel.number ≡ source };
 }
 
-/// How many arrivals of two a countdown counted, and whether the second was told that it is the last.
+/// How many arrivals of two a countdown counted, and whether the second was told that it is the
+/// last.
 #[derive(Drop)]
 pub struct Arriving {
     seen: Option<(u32, bool)>,

@@ -29,8 +29,8 @@ fn dequeue(alloc: Global, unit: u64, queue: u32, by: Option<By>) -> Result<Recor
     })
 }
 
-/// An element leaves its queue by an abort, and its error queue by another, for the end of the chain, where a registrant that
-/// is still at work takes it.
+/// An element leaves its queue by an abort, and its error queue by another, for the end of the
+/// chain, where a registrant that is still at work takes it.
 fn chained(alloc: Global) -> Result<Vec<Record>, Fail> {
     let payload = KeptPayload::from_slice(alloc, b"a")?.ok_or("payload")?;
     let ann = Name::new(b"ann").ok_or("name")?;
@@ -150,8 +150,8 @@ fn wanted<R: Threads + Sync + AllocGlobal>(rt: &R, lawful: &Lawful) -> Result<Ve
     spelled(rt.alloc(), &replayed(rt, lawful, &alone)?)
 }
 
-/// Whether the replay has the same state, however little memory there is, or none. No thread is started before: where no
-/// memory is left, each is refused.
+/// Whether the replay has the same state, however little memory there is, or none. No thread is
+/// started before: where no memory is left, each is refused.
 fn replays<R: Threads + Sync + AllocGlobal>(rt: &R, workers: u32) -> Result<bool, Fail> {
     let plan = Plan::new(workers, 1).ok_or("plan")?;
     let lawful = lawful_of(rt.alloc(), chained(rt.alloc())?)?;

@@ -129,7 +129,8 @@ fn round<R: Threads + Sync + AllocGlobal>(
     Ok(answer)
 }
 
-/// Whether the call is right however little memory there is: calls with ever more, until that is enough.
+/// Whether the call is right however little memory there is: calls with ever more, until that is
+/// enough.
 pub fn is_right<R: Threads + Sync + AllocGlobal>(rt: &R, mut call: Call<'_>) -> Result<bool, Fail> {
     let mut tally = Tally {
         refused: 0,

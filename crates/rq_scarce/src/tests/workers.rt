@@ -94,7 +94,8 @@ impl<R: Wait> Gate for Famine<'_, R> {
     }
 }
 
-/// Whether one worker that is refused memory at this entry enters no more, and its run writes nothing and says so.
+/// Whether one worker that is refused memory at this entry enters no more, and its run writes
+/// nothing and says so.
 fn stops_at<R: Threads + Wait + Sync + AllocGlobal>(rt: &R, at: u32) -> Result<bool, Fail> {
     let gate = Famine {
         rt,
@@ -117,7 +118,8 @@ fn who_is_refused_draws_no_more(rt: HostRuntime) -> Result<(), Fail> {
     Ok(())
 }
 
-/// A gate where the first who enters takes all memory once another is there, and that one gives it back a while later.
+/// A gate where the first who enters takes all memory once another is there, and that one gives it
+/// back a while later.
 #[derive(Drop)]
 struct Relief<'a, R: Wait> {
     rt: &'a R,
@@ -154,7 +156,8 @@ impl<R: Wait> Gate for Relief<'_, R> {
     }
 }
 
-/// One restart on two workers: how it ends, what it writes, how many entered in all, and how many while there was no memory.
+/// One restart on two workers: how it ends, what it writes, how many entered in all, and how many
+/// while there was no memory.
 fn relieved<R: Threads + Wait + Sync + AllocGlobal>(
     rt: &R,
 ) -> Result<(Result<(), Fault>, Vec<u8>, u32, u32), Fail> {

@@ -5,7 +5,8 @@ ghost use Rattle.std.specs.List.{list_all};
 ghost use Rattle.rq_model.specs.States as model;
 ghost use Rattle.rq_model.specs.WellFormed.{Ordered};
 ghost use Rattle.rq_state.specs.Inside.{state_of};
-ghost use Rattle.rq_state.specs.Tests.{unit_test, definitions_test, depth_test, element_test, registrant_test, note_test};
+ghost use Rattle.rq_state.specs.Tests.{unit_test, definitions_test, depth_test, element_test};
+ghost use Rattle.rq_state.specs.Tests.{registrant_test, note_test};
 ghost use Rattle.rq_state.specs.Views.{unit_of};
 
 use crate::keeping::members::{
@@ -34,7 +35,8 @@ pub(crate) fn do_elements_rise(elements: &[Element]) -> bool
 }
 
 pub(crate) fn do_notes_rise(notes: &[Note]) -> bool
-    ensures { IsTrue result ↔ Ordered (λ (n : model.Note) m. n.last.place < m.last.place) notes.now }
+    ensures { IsTrue result
+        ↔ Ordered (λ (n : model.Note) m. n.last.place < m.last.place) notes.now }
 {
     notes.is_sorted_by(|one, next| one.place() < next.place())
 }
@@ -74,7 +76,8 @@ pub(crate) fn are_units(greatest: u64, units: &[UnitNo]) -> bool
 }
 
 pub(crate) fn are_registrants(fields: &Fields) -> bool
-    ensures { result ≡ list_all (registrant_test (state_of fields.now)) fields.now.registrants.items }
+    ensures { result
+        ≡ list_all (registrant_test (state_of fields.now)) fields.now.registrants.items }
 {
     for registrant in &fields.registrants {
         if !is_registrant(fields, registrant) {
@@ -98,7 +101,8 @@ pub(crate) fn are_elements(fields: &Fields) -> bool
 
 pub(crate) fn are_notes(fields: &Fields) -> bool
     requires units { Ordered (λ u v. u < v) (map unit_of fields.now.units.items) }
-    requires registrants { Ordered (λ r t. model.registrant_before r t ≡ true) fields.now.registrants.items }
+    requires registrants { Ordered
+        (λ r t. model.registrant_before r t ≡ true) fields.now.registrants.items }
     ensures { result ≡ list_all (note_test (state_of fields.now)) fields.now.notes.items }
 {
     for note in &fields.notes {

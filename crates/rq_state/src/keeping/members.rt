@@ -4,7 +4,9 @@ ghost use Rattle.std.specs.Prelude.{◌≡◌, ◌<◌, ℕ, true, length, map};
 ghost use Rattle.rq_model.specs.States.{State, registrant_before, definition_at};
 ghost use Rattle.rq_model.specs.WellFormed.{Ordered};
 ghost use Rattle.rq_state.specs.Inside.{state_of};
-ghost use Rattle.rq_state.specs.Tests.{unit_test, definition_test, depth_test, limit_test, mark_test, element_test, operation_test, last_test, optional_test, registrant_test, note_test};
+ghost use Rattle.rq_state.specs.Tests.{unit_test, definition_test, depth_test, limit_test};
+ghost use Rattle.rq_state.specs.Tests.{mark_test, element_test, operation_test, last_test};
+ghost use Rattle.rq_state.specs.Tests.{optional_test, registrant_test, note_test};
 ghost use Rattle.rq_state.specs.Views.{kind_of, mark_of, id_of, unit_of};
 
 use crate::keeping::searching::{has_registrant, has_unit};
@@ -71,7 +73,8 @@ fn is_below_limit(limit: u16, attempts: u64) -> bool
     limit == 0 || attempts < limit as u64
 }
 
-/// An element below the next record number, in queues that are defined, of an open unit where it is marked.
+/// An element below the next record number, in queues that are defined, of an open unit where it is
+/// marked.
 pub(crate) fn is_element(fields: &Fields, element: &Element) -> bool
     requires { Ordered (λ u v. u < v) (map unit_of fields.now.units.items) }
     ensures { result ≡ element_test (state_of fields.now) element.now }
@@ -124,7 +127,8 @@ pub(crate) fn is_registrant(fields: &Fields, registrant: &Registrant) -> bool
 /// A note of an open unit and a registrant, whose operation is below the next record number.
 pub(crate) fn is_note(fields: &Fields, note: &Note) -> bool
     requires units { Ordered (λ u v. u < v) (map unit_of fields.now.units.items) }
-    requires registrants { Ordered (λ r t. registrant_before r t ≡ true) fields.now.registrants.items }
+    requires registrants { Ordered
+        (λ r t. registrant_before r t ≡ true) fields.now.registrants.items }
     ensures { result ≡ note_test (state_of fields.now) note.now }
 {
     has_unit(&fields.units, note.unit)

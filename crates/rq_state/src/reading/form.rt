@@ -1,7 +1,9 @@
 //! Whether bytes have the form of a state, told without memory.
 
 ghost use Rattle.std.specs.Prelude.{[]};
-ghost use Rattle.rq_state.specs.Reading.{Reads, number_from, definition_from, registrant_from, element_from, note_from, members_from, counted_from, after_of, form_from};
+ghost use Rattle.rq_state.specs.Reading.{Reads, number_from, definition_from, registrant_from};
+ghost use Rattle.rq_state.specs.Reading.{element_from, note_from, members_from, counted_from};
+ghost use Rattle.rq_state.specs.Reading.{after_of, form_from};
 
 use crate::reading::cursor::{take_u32, take_u64};
 use crate::reading::members::{
@@ -10,7 +12,8 @@ use crate::reading::members::{
 use rq_record::Fault;
 
 fn pass_definitions(count: u32, rest: &mut &[u8]) -> Result<(), Fault>
-    ensures { Reads (λ x. rest.new.now) result (after_of (members_from definition_from count rest.old.now)) }
+    ensures { Reads (λ x. rest.new.now) result
+        (after_of (members_from definition_from count rest.old.now)) }
 {
     for _ in 0..count {
         let _member = take_definition(rest)?;
@@ -20,14 +23,16 @@ fn pass_definitions(count: u32, rest: &mut &[u8]) -> Result<(), Fault>
 
 #[tactic(auto, unfolding(crate::specs::Reading::counted_from))]
 fn pass_all_definitions(rest: &mut &[u8]) -> Result<(), Fault>
-    ensures { Reads (λ x. rest.new.now) result (after_of (counted_from definition_from rest.old.now)) }
+    ensures { Reads (λ x. rest.new.now) result
+        (after_of (counted_from definition_from rest.old.now)) }
 {
     let count = take_u32(rest)?;
     pass_definitions(count, rest)
 }
 
 fn pass_units(count: u32, rest: &mut &[u8]) -> Result<(), Fault>
-    ensures { Reads (λ x. rest.new.now) result (after_of (members_from (number_from 8) count rest.old.now)) }
+    ensures { Reads (λ x. rest.new.now) result
+        (after_of (members_from (number_from 8) count rest.old.now)) }
 {
     for _ in 0..count {
         let _member = take_unit(rest)?;
@@ -37,14 +42,16 @@ fn pass_units(count: u32, rest: &mut &[u8]) -> Result<(), Fault>
 
 #[tactic(auto, unfolding(crate::specs::Reading::counted_from))]
 fn pass_all_units(rest: &mut &[u8]) -> Result<(), Fault>
-    ensures { Reads (λ x. rest.new.now) result (after_of (counted_from (number_from 8) rest.old.now)) }
+    ensures { Reads (λ x. rest.new.now) result
+        (after_of (counted_from (number_from 8) rest.old.now)) }
 {
     let count = take_u32(rest)?;
     pass_units(count, rest)
 }
 
 fn pass_registrants(count: u32, rest: &mut &[u8]) -> Result<(), Fault>
-    ensures { Reads (λ x. rest.new.now) result (after_of (members_from registrant_from count rest.old.now)) }
+    ensures { Reads (λ x. rest.new.now) result
+        (after_of (members_from registrant_from count rest.old.now)) }
 {
     for _ in 0..count {
         let _member = take_registrant(rest)?;
@@ -54,14 +61,16 @@ fn pass_registrants(count: u32, rest: &mut &[u8]) -> Result<(), Fault>
 
 #[tactic(auto, unfolding(crate::specs::Reading::counted_from))]
 fn pass_all_registrants(rest: &mut &[u8]) -> Result<(), Fault>
-    ensures { Reads (λ x. rest.new.now) result (after_of (counted_from registrant_from rest.old.now)) }
+    ensures { Reads (λ x. rest.new.now) result
+        (after_of (counted_from registrant_from rest.old.now)) }
 {
     let count = take_u32(rest)?;
     pass_registrants(count, rest)
 }
 
 fn pass_elements(count: u32, rest: &mut &[u8]) -> Result<(), Fault>
-    ensures { Reads (λ x. rest.new.now) result (after_of (members_from element_from count rest.old.now)) }
+    ensures { Reads (λ x. rest.new.now) result
+        (after_of (members_from element_from count rest.old.now)) }
 {
     for _ in 0..count {
         pass_element(rest)?;
@@ -78,7 +87,8 @@ fn pass_all_elements(rest: &mut &[u8]) -> Result<(), Fault>
 }
 
 fn pass_notes(count: u32, rest: &mut &[u8]) -> Result<(), Fault>
-    ensures { Reads (λ x. rest.new.now) result (after_of (members_from note_from count rest.old.now)) }
+    ensures { Reads (λ x. rest.new.now) result
+        (after_of (members_from note_from count rest.old.now)) }
 {
     for _ in 0..count {
         let _member = take_note(rest)?;

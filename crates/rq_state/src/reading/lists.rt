@@ -3,7 +3,9 @@
 ghost use Rattle.std.specs.Prelude.{map};
 ghost use Rattle.rq_state.specs.Views.{unit_of};
 ghost use Rattle.rq_state.specs.Inside.{state_of};
-ghost use Rattle.rq_state.specs.Reading.{Gives, number_from, definition_from, registrant_from, element_from, note_from, members_from, counted_from, state_from, whole_state};
+ghost use Rattle.rq_state.specs.Reading.{Gives, number_from, definition_from, registrant_from};
+ghost use Rattle.rq_state.specs.Reading.{element_from, note_from, members_from, counted_from};
+ghost use Rattle.rq_state.specs.Reading.{state_from, whole_state};
 
 use crate::members::{Definition, Element, Note, Registrant};
 use crate::reading::cursor::{take_u32, take_u64};
@@ -15,7 +17,8 @@ use rq_record::{Fault, UnitNo};
 use std::alloc::Global;
 
 fn take_definitions(alloc: Global, count: u32, rest: &mut &[u8]) -> Result<Vec<Definition>, Fault>
-    ensures { Gives (λ x. (x.items, rest.new.now)) result (members_from definition_from count rest.old.now) }
+    ensures { Gives (λ x. (x.items, rest.new.now)) result
+        (members_from definition_from count rest.old.now) }
 {
     let mut members = Vec::new(alloc);
     for _ in 0..count {
@@ -27,14 +30,16 @@ fn take_definitions(alloc: Global, count: u32, rest: &mut &[u8]) -> Result<Vec<D
 
 #[tactic(auto, unfolding(crate::specs::Reading::counted_from))]
 fn take_all_definitions(alloc: Global, rest: &mut &[u8]) -> Result<Vec<Definition>, Fault>
-    ensures { Gives (λ x. (x.items, rest.new.now)) result (counted_from definition_from rest.old.now) }
+    ensures { Gives (λ x. (x.items, rest.new.now)) result
+        (counted_from definition_from rest.old.now) }
 {
     let count = take_u32(rest)?;
     take_definitions(alloc, count, rest)
 }
 
 fn take_units(alloc: Global, count: u32, rest: &mut &[u8]) -> Result<Vec<UnitNo>, Fault>
-    ensures { Gives (λ x. (map unit_of x.items, rest.new.now)) result (members_from (number_from 8) count rest.old.now) }
+    ensures { Gives (λ x. (map unit_of x.items, rest.new.now)) result
+        (members_from (number_from 8) count rest.old.now) }
 {
     let mut members = Vec::new(alloc);
     for _ in 0..count {
@@ -46,14 +51,16 @@ fn take_units(alloc: Global, count: u32, rest: &mut &[u8]) -> Result<Vec<UnitNo>
 
 #[tactic(auto, unfolding(crate::specs::Reading::counted_from))]
 fn take_all_units(alloc: Global, rest: &mut &[u8]) -> Result<Vec<UnitNo>, Fault>
-    ensures { Gives (λ x. (map unit_of x.items, rest.new.now)) result (counted_from (number_from 8) rest.old.now) }
+    ensures { Gives (λ x. (map unit_of x.items, rest.new.now)) result
+        (counted_from (number_from 8) rest.old.now) }
 {
     let count = take_u32(rest)?;
     take_units(alloc, count, rest)
 }
 
 fn take_registrants(alloc: Global, count: u32, rest: &mut &[u8]) -> Result<Vec<Registrant>, Fault>
-    ensures { Gives (λ x. (x.items, rest.new.now)) result (members_from registrant_from count rest.old.now) }
+    ensures { Gives (λ x. (x.items, rest.new.now)) result
+        (members_from registrant_from count rest.old.now) }
 {
     let mut members = Vec::new(alloc);
     for _ in 0..count {
@@ -65,14 +72,16 @@ fn take_registrants(alloc: Global, count: u32, rest: &mut &[u8]) -> Result<Vec<R
 
 #[tactic(auto, unfolding(crate::specs::Reading::counted_from))]
 fn take_all_registrants(alloc: Global, rest: &mut &[u8]) -> Result<Vec<Registrant>, Fault>
-    ensures { Gives (λ x. (x.items, rest.new.now)) result (counted_from registrant_from rest.old.now) }
+    ensures { Gives (λ x. (x.items, rest.new.now)) result
+        (counted_from registrant_from rest.old.now) }
 {
     let count = take_u32(rest)?;
     take_registrants(alloc, count, rest)
 }
 
 fn take_elements(alloc: Global, count: u32, rest: &mut &[u8]) -> Result<Vec<Element>, Fault>
-    ensures { Gives (λ x. (x.items, rest.new.now)) result (members_from element_from count rest.old.now) }
+    ensures { Gives (λ x. (x.items, rest.new.now)) result
+        (members_from element_from count rest.old.now) }
 {
     let mut members = Vec::new(alloc);
     for _ in 0..count {
@@ -91,7 +100,8 @@ fn take_all_elements(alloc: Global, rest: &mut &[u8]) -> Result<Vec<Element>, Fa
 }
 
 fn take_notes(alloc: Global, count: u32, rest: &mut &[u8]) -> Result<Vec<Note>, Fault>
-    ensures { Gives (λ x. (x.items, rest.new.now)) result (members_from note_from count rest.old.now) }
+    ensures { Gives (λ x. (x.items, rest.new.now)) result
+        (members_from note_from count rest.old.now) }
 {
     let mut members = Vec::new(alloc);
     for _ in 0..count {

@@ -2,7 +2,11 @@
 
 ghost use Rattle.std.specs.Prelude.{◌≡◌, ◌≤◌, length, Some};
 ghost use Rattle.rq_state.specs.Views.{mark_of, kind_of, id_of, unit_of};
-ghost use Rattle.rq_state.specs.Reading.{Gives, Reads, after_of, number_from, definition_from, known_kind, kind_from, element_of, id_from, operation_from, last_of_kind, last_from, registrant_from, mark_of_kind, mark_from, payload_from, element_from, note_from};
+ghost use Rattle.rq_state.specs.Reading.{Gives, Reads, after_of, number_from, definition_from};
+ghost use Rattle.rq_state.specs.Reading.{known_kind, kind_from, element_of, id_from};
+ghost use Rattle.rq_state.specs.Reading.{operation_from, last_of_kind, last_from, registrant_from};
+ghost use Rattle.rq_state.specs.Reading.{mark_of_kind, mark_from, payload_from, element_from};
+ghost use Rattle.rq_state.specs.Reading.{note_from};
 
 use crate::members::{Definition, Element, Last, Mark, Note, OpKind, Registrant};
 use crate::reading::cursor::{piece_of, take_name, take_u8, take_u16, take_u32, take_u64};

@@ -2,7 +2,8 @@
 
 ghost use Rattle.std.specs.Prelude.{◌<◌, length, map};
 ghost use Rattle.std.specs.Int.{w64, to_be_bytes};
-ghost use Rattle.rq_model.specs.StateSpelling.{counted, definition_bytes, registrant_bytes, element_bytes, note_bytes};
+ghost use Rattle.rq_model.specs.StateSpelling.{counted, definition_bytes, registrant_bytes};
+ghost use Rattle.rq_model.specs.StateSpelling.{element_bytes, note_bytes};
 ghost use Rattle.rq_state.specs.Views.{unit_of};
 ghost use Rattle.rq_state.specs.Writing.{Puts};
 
@@ -24,7 +25,8 @@ pub(crate) fn put_definitions(out: &mut Vec<u8>, members: &[Definition]) -> Resu
 
 pub(crate) fn put_units(out: &mut Vec<u8>, members: &[UnitNo]) -> Result<(), Fault>
     requires { length members.now < 4294967296 }
-    ensures { Puts out.old.items out.new.items (counted (to_be_bytes w64) (map unit_of members.now)) result }
+    ensures { Puts out.old.items out.new.items
+        (counted (to_be_bytes w64) (map unit_of members.now)) result }
 {
     put_u32(out, members.len() as u32)?;
     for member in members {

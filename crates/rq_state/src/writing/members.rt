@@ -2,7 +2,9 @@
 
 ghost use Rattle.std.specs.Prelude.{◌++◌, ◌∷◌, [], length};
 ghost use Rattle.std.specs.Int.{w16, w64, to_be_bytes};
-ghost use Rattle.rq_model.specs.StateSpelling.{name_bytes, element_number, kind_byte, definition_bytes, last_bytes, registrant_bytes, mark_bytes, element_bytes, note_bytes};
+ghost use Rattle.rq_model.specs.StateSpelling.{name_bytes, element_number, kind_byte};
+ghost use Rattle.rq_model.specs.StateSpelling.{definition_bytes, last_bytes, registrant_bytes};
+ghost use Rattle.rq_model.specs.StateSpelling.{mark_bytes, element_bytes, note_bytes};
 ghost use Rattle.rq_state.specs.Views.{mark_of};
 ghost use Rattle.rq_state.specs.Writing.{Puts};
 
@@ -30,7 +32,8 @@ fn put_mark(out: &mut Vec<u8>, mark: Mark) -> Result<(), Fault>
 
 /// The tag and the element of an operation, which end its spelling.
 fn put_operation_end(out: &mut Vec<u8>, last: &Last) -> Result<(), Fault>
-    ensures { Puts out.old.items out.new.items (to_be_bytes w64 last.now.tag ++ to_be_bytes w64 (element_number last.now.element)) result }
+    ensures { Puts out.old.items out.new.items
+        (to_be_bytes w64 last.now.tag ++ to_be_bytes w64 (element_number last.now.element)) result }
 {
     put_u64(out, last.tag)?;
     put_id(out, last.element)
@@ -43,7 +46,9 @@ fn put_kind_of(out: &mut Vec<u8>, last: &Last) -> Result<(), Fault>
 }
 
 fn put_operation(out: &mut Vec<u8>, last: &Last) -> Result<(), Fault>
-    ensures { Puts out.old.items out.new.items (kind_byte last.now.kind ∷ (to_be_bytes w64 last.now.place ++ (to_be_bytes w64 last.now.tag ++ to_be_bytes w64 (element_number last.now.element)))) result }
+    ensures { Puts out.old.items out.new.items
+        (kind_byte last.now.kind ∷ (to_be_bytes w64 last.now.place ++ (to_be_bytes w64 last.now.tag
+        ++ to_be_bytes w64 (element_number last.now.element)))) result }
 {
     put_kind_of(out, last)?;
     put_u64(out, last.place())?;
@@ -76,7 +81,9 @@ pub(crate) fn put_registrant(out: &mut Vec<u8>, registrant: &Registrant) -> Resu
 }
 
 fn put_element_end(out: &mut Vec<u8>, element: &Element) -> Result<(), Fault>
-    ensures { Puts out.old.items out.new.items (element.now.priority ∷ (to_be_bytes w64 element.now.attempts ++ (mark_bytes element.now.mark ++ (to_be_bytes w16 (length element.now.payload) ++ element.now.payload)))) result }
+    ensures { Puts out.old.items out.new.items (element.now.priority
+        ∷ (to_be_bytes w64 element.now.attempts ++ (mark_bytes element.now.mark
+        ++ (to_be_bytes w16 (length element.now.payload) ++ element.now.payload)))) result }
 {
     put_u8(out, element.priority)?;
     put_u64(out, element.attempts)?;
@@ -95,14 +102,19 @@ pub(crate) fn put_element(out: &mut Vec<u8>, element: &Element) -> Result<(), Fa
 
 /// The kind, the tag and the element of a note's operation: its place stands in front.
 fn put_done(out: &mut Vec<u8>, last: &Last) -> Result<(), Fault>
-    ensures { Puts out.old.items out.new.items (kind_byte last.now.kind ∷ (to_be_bytes w64 last.now.tag ++ to_be_bytes w64 (element_number last.now.element))) result }
+    ensures { Puts out.old.items out.new.items
+        (kind_byte last.now.kind ∷ (to_be_bytes w64 last.now.tag
+        ++ to_be_bytes w64 (element_number last.now.element))) result }
 {
     put_kind_of(out, last)?;
     put_operation_end(out, last)
 }
 
 fn put_note_end(out: &mut Vec<u8>, note: &Note) -> Result<(), Fault>
-    ensures { Puts out.old.items out.new.items (name_bytes note.now.name ++ kind_byte note.now.last.kind ∷ (to_be_bytes w64 note.now.last.tag ++ to_be_bytes w64 (element_number note.now.last.element))) result }
+    ensures { Puts out.old.items out.new.items
+        (name_bytes note.now.name ++ kind_byte note.now.last.kind
+        ∷ (to_be_bytes w64 note.now.last.tag
+        ++ to_be_bytes w64 (element_number note.now.last.element))) result }
 {
     put_name(out, &note.name)?;
     put_done(out, &note.last)

@@ -57,14 +57,16 @@ pub(crate) fn put_name(out: &mut Vec<u8>, name: &Name) -> Result<(), Fault>
 
 pub(crate) fn put_payload(out: &mut Vec<u8>, payload: &[u8]) -> Result<(), Fault>
     requires { length payload.now ≤ 65535 }
-    ensures { Puts out.old.items out.new.items (to_be_bytes w16 (length payload.now) ++ payload.now) result }
+    ensures { Puts out.old.items out.new.items
+        (to_be_bytes w16 (length payload.now) ++ payload.now) result }
 {
     put_u16(out, payload.len() as u16)?;
     put(out, payload)
 }
 
 pub(crate) fn put_id(out: &mut Vec<u8>, element: Option<ElemId>) -> Result<(), Fault>
-    ensures { Puts out.old.items out.new.items (to_be_bytes w64 (element_number (id_of element))) result }
+    ensures { Puts out.old.items out.new.items
+        (to_be_bytes w64 (element_number (id_of element))) result }
 {
     match element {
         None => put_u64(out, u64::MAX),

@@ -3,7 +3,8 @@
 ghost use Rattle.std.specs.Prelude.{◌≡◌, ◌≤◌, ◌*◌, length, map};
 ghost use Rattle.std.specs.List.{flat_map};
 ghost use Rattle.std.specs.Int.{w64, to_be_bytes};
-ghost use Rattle.rq_model.specs.StateSpelling.{definition_bytes, last_bytes, registrant_bytes, mark_bytes, element_bytes, note_bytes, state_bytes};
+ghost use Rattle.rq_model.specs.StateSpelling.{definition_bytes, last_bytes, registrant_bytes};
+ghost use Rattle.rq_model.specs.StateSpelling.{mark_bytes, element_bytes, note_bytes, state_bytes};
 ghost use Rattle.rq_state.specs.Views.{mark_of, unit_of};
 
 use crate::members::{Definition, Element, Last, Mark, Note, Registrant};
@@ -105,7 +106,8 @@ fn units_size(members: &[UnitNo]) -> u128
     8 * members.len() as u128
 }
 
-/// The number of bytes that spell a state, also where they are more than a checkpoint holds. It takes no memory.
+/// The number of bytes that spell a state, also where they are more than a checkpoint holds. It
+/// takes no memory.
 pub fn spelled_len(state: &State) -> u128
     ensures { result ≡ length (state_bytes state.now) }
 {

@@ -1,7 +1,7 @@
 use Rattle.std.proofs.Common.{rules, ◌≡◌, ◌∙◌, arith, inl, inr, refl}
 use Rattle.std.proofs.lemmas.Bool.{cases_lt}
 use Rattle.rq_lanes.proofs.Blocks.{row-set_same, row-set_other, other_words}
-use Rattle.rq_lanes.proofs.lanes.restart.Goals as goal
+use Rattle.rq_lanes.proofs.digest.restart.Goals as goal
 
 pub rows-init : goal.rows-init
 rows-init g c = (c.told-hash, λ r lt. absurd (omega arith), λ r k ne. refl)

@@ -1,7 +1,7 @@
 use Rattle.std.proofs.Common.{◌≡◌, ◌≢◌, ℕ, ◌<◌, length, slice_index}
 use Rattle.sha2.specs.Sha256.{initial_hash_256}
 use Rattle.rq_lanes.specs.Columns.{word_in}
-use Rattle.rq_lanes.proofs.lanes.restart.Given as goal
+use Rattle.rq_lanes.proofs.digest.restart.Given as goal
 
 abbrev pub invariant-rows : goal.invariant-rows
 invariant-rows g l = (length l.hash ≡ 8)
