@@ -19,7 +19,8 @@ use Rattle.rq_record.specs.declared.record.UnitNo.{UnitNo}
 use Rattle.rq_state.specs.Views.{unit_of}
 use Rattle.rq_catalog.specs.declared.outcome.Outcome.TheVariants.{Open}
 use Rattle.rq_catalog.specs.declared.catalogue.Catalogue.{Catalogue}
-use Rattle.rq_catalog.specs.Lists.{is_engaged_in, listed}
+use Rattle.rq_catalog.specs.Lists.{is_engaged_in}
+use Rattle.rq_state.specs.Orders.{listed}
 use Rattle.rq_catalog.specs.Outcomes.{outcome_of}
 use Rattle.rq_catalog.specs.Catalogues.{key_eq, Follows}
 use Rattle.rq_catalog.proofs.Engaged.{open_at_first}

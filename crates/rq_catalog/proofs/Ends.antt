@@ -11,7 +11,8 @@ use Rattle.rq_model.specs.WellFormed.{IsWellFormed}
 use Rattle.rq_record.specs.declared.record.Record.{Record}
 use Rattle.rq_record.specs.Views.{record_of}
 use Rattle.rq_catalog.specs.declared.catalogue.Catalogue.{Catalogue}
-use Rattle.rq_catalog.specs.Lists.{listed, numbered}
+use Rattle.rq_catalog.specs.Lists.{numbered}
+use Rattle.rq_state.specs.Orders.{listed}
 use Rattle.std.specs.Prelude.{nat_eq}
 use Rattle.indexmap.specs.IndexMap.{get, keys}
 use Rattle.rq_catalog.specs.Catalogues.{Follows, HasRoom, Takes, may_take}

@@ -11,7 +11,7 @@ use Rattle.rq_record.specs.declared.record.Record.TheVariants.{Define, Register,
 use Rattle.rq_record.specs.Views.{record_of}
 use Rattle.rq_catalog.specs.declared.judge.Judge.{Judge}
 use Rattle.rq_catalog.specs.Catalogues.{names_after, errors_after, registered_after, greatest_by}
-use Rattle.rq_catalog.specs.Judges.{Knows, Notes, open_after}
+use Rattle.rq_catalog.specs.Judges.{KnowsState, Notes, open_after}
 use Rattle.rq_catalog.proofs.Keep.{names_step, errors_step, registrants_step, greatest_step}
 use Rattle.rq_catalog.proofs.Runs.{any_push}
 
@@ -39,7 +39,7 @@ open_step s (Dequeue unit queue by) u = refl
 open_step s (Checkpoint bytes) u = refl
 open_step s (Kill queue element) u = refl
 
-pub moves : (j k : Judge) (r : Record) (s : State) → Notes j k r → Knows j s → Knows k (step s (record_of r))
+pub moves : (j k : Judge) (r : Record) (s : State) → Notes j k r → KnowsState j s → KnowsState k (step s (record_of r))
 moves j k r s it f = record {
   names = λ n. it.names n ∙ ap (names_after r n) (f.names n) ∙ names_step s r n;
   errors = it.errors ∙ ap (errors_after r) f.errors ∙ errors_step s r;

@@ -24,7 +24,8 @@ use Rattle.rq_record.specs.Views.{record_of}
 use Rattle.rq_catalog.specs.declared.outcome.Outcome.{Outcome}
 use Rattle.rq_catalog.specs.declared.outcome.Outcome.TheVariants.{Committed, Aborted, Open}
 use Rattle.rq_catalog.specs.declared.catalogue.Catalogue.{Catalogue}
-use Rattle.rq_catalog.specs.Lists.{is_engaged_in, listed, numbered, place_and_index}
+use Rattle.rq_catalog.specs.Lists.{is_engaged_in, numbered, place_and_index}
+use Rattle.rq_state.specs.Orders.{listed}
 use Rattle.rq_catalog.specs.Outcomes.{outcome_of}
 use Rattle.rq_catalog.specs.Catalogues.{key_eq, names_after, defines, errors_after, registered_after, greatest_by, outcome_after, committed_after, aborted_after, engaged_after, touches_in, Takes, Follows}
 use Rattle.rq_catalog.proofs.Runs.{run_push, any_push, first, from_push, is_open_outcome, open_by_outcome, unseen, touching_push}

@@ -5,7 +5,7 @@ use Rattle.std.specs.Global.{Vec}
 use Rattle.std.proofs.lemmas.Bool.{eqb-true, eqb-false, lt-ltb}
 use Rattle.std.proofs.lemmas.List.{map-set, get_or-set_same, get_or-set_other, length-map}
 use Rattle.rq_model.proofs.Lists.{by_cases}
-use Rattle.rq_catalog.specs.Lists.{listed}
+use Rattle.rq_state.specs.Orders.{listed}
 
 pub touched_same : {X : Type 0} (xs : List (Vec X)) (k : ℕ) (v : Vec X) → k < length xs → listed (slice_set xs k v) k ≡ v.items
 touched_same {X} xs k v h = ap (λ l. slice_index_or l k []) (map-set (λ (w : Vec X). w.items) xs k v) ∙ get_or-set_same (map (λ (w : Vec X). w.items) xs) k v.items [] (omega (arith, h, length-map xs (λ (w : Vec X). w.items)))

@@ -7,7 +7,8 @@ use Rattle.rq_model.specs.Machine as machine
 use Rattle.rq_model.specs.Machine.{lawful_front, run}
 use Rattle.rq_catalog.specs.declared.analysis.Analysis.{Analysis}
 use Rattle.rq_catalog.specs.Outcomes.{outcome_of, is_open_in}
-use Rattle.rq_catalog.specs.Lists.{listed, numbered}
+use Rattle.rq_catalog.specs.Lists.{numbered}
+use Rattle.rq_state.specs.Orders.{listed}
 use Rattle.rq_catalog.specs.Catalogues.{Follows}
 
 -- what the analysis has for a unit

@@ -14,7 +14,7 @@ use Rattle.rq_catalog.specs.declared.judge.Judge.{Judge}
 use Rattle.rq_catalog.specs.Catalogues.{key_eq, names_after, errors_after, registered_after, greatest_by}
 
 -- it knows of the state what lawfulness looks at
-pub record Knows (j : Judge) (s : State) : Type 0 where
+pub record KnowsState (j : Judge) (s : State) : Type 0 where
   pub names : (n : List ℕ) → contains (pointwise nat_eq) j.names n ≡ list_any (λ (d : Definition). bytes_eq d.name n) s.definitions
   pub errors : j.errors.items ≡ map (λ (d : Definition). d.error) s.definitions
   pub registrants : (k : ℕ × List ℕ) → contains key_eq j.registrants k ≡ is_registered s k.0 k.1
@@ -24,11 +24,11 @@ pub record Knows (j : Judge) (s : State) : Type 0 where
 -- it judges by the rules of the version what follows the state
 pub record StandsIn (version : Version) (j : Judge) (s : State) : Type 0 where
   pub rules : version_of j.version ≡ version
-  pub knows : Knows j s
+  pub knows : KnowsState j s
 
 -- wherever j stands, k stands too
-abbrev pub Keeps : Judge → Judge → Type 0
-Keeps j k = (version : Version) (s : State) → StandsIn version j s → StandsIn version k s
+abbrev pub KeepsStanding : Judge → Judge → Type 0
+KeepsStanding j k = (version : Version) (s : State) → StandsIn version j s → StandsIn version k s
 
 -- whether a unit is open after a record
 abbrev pub open_after : Record → ℕ → Bool → Bool

@@ -7,7 +7,8 @@ ghost use Rattle.std.specs.List.{AllByRecursion};
 ghost use Rattle.std.specs.Cmp.Lexicographic.{pointwise};
 ghost use Rattle.rq_record.specs.Views.{version_of};
 ghost use Rattle.rq_record.specs.declared.fault.Fault.TheVariants.{Resources};
-ghost use Rattle.rq_catalog.specs.Lists.{is_engaged_in, listed};
+ghost use Rattle.rq_catalog.specs.Lists.{is_engaged_in};
+ghost use Rattle.rq_state.specs.Orders.{listed};
 ghost use Rattle.rq_catalog.specs.Outcomes.{is_open_in};
 ghost use Rattle.rq_catalog.specs.Catalogues.{HasRoom, Takes, may_take, key_eq, is_known_in, is_limit_in, may_be_error_in, may_kill_in};
 

@@ -9,7 +9,7 @@ ghost use Rattle.rq_model.specs.Machine as machine;
 ghost use Rattle.rq_model.specs.States.{State, empty};
 ghost use Rattle.rq_record.specs.Views.{record_of, version_of};
 ghost use Rattle.rq_record.specs.declared.fault.Fault.TheVariants.{Resources};
-ghost use Rattle.rq_catalog.specs.Judges.{Knows, StandsIn, Keeps, Notes};
+ghost use Rattle.rq_catalog.specs.Judges.{KnowsState, StandsIn, KeepsStanding, Notes};
 
 use indexmap::IndexSet;
 use rq_record::{Fault, KeptBy, Name, QueueNo, Record, Version};
@@ -55,7 +55,7 @@ impl Judge {
         ensures lawful { IfOk result (λ lawful. (version : records.Version) (s : State) → StandsIn version self.old s → lawful ≡ machine.is_lawful version s (record_of next.now)) }
         ensures stands { IfOk result (λ lawful. (version : records.Version) (s : State) → StandsIn version self.old s → StandsIn version self.new (if lawful then machine.step s (record_of next.now) else s)) }
         ensures refused { IfErr result (λ e. e ≡ Resources) }
-        ensures kept { IfErr result (λ e. Keeps self.old self.new) }
+        ensures kept { IfErr result (λ e. KeepsStanding self.old self.new) }
     {
         let is_lawful = self.may_take(next);
         if is_lawful {
@@ -65,7 +65,7 @@ impl Judge {
     }
 
     fn may_take(&self, next: &Record) -> bool
-        ensures { (s : State) → Knows self.now s → result ≡ machine.is_lawful (version_of self.now.version) s (record_of next.now) }
+        ensures { (s : State) → KnowsState self.now s → result ≡ machine.is_lawful (version_of self.now.version) s (record_of next.now) }
     {
         match next {
             Record::Define { limit, error, name } => {
@@ -92,19 +92,19 @@ impl Judge {
 
     fn is_defined(&self, queue: QueueNo) -> bool
         ensures many { result ≡ nat_lt queue.0 (length self.now.errors.items) }
-        ensures state { (s : State) → Knows self.now s → result ≡ machine.is_defined s queue.0 }
+        ensures state { (s : State) → KnowsState self.now s → result ≡ machine.is_defined s queue.0 }
     {
         (queue.0 as usize) < self.errors.len()
     }
 
     fn is_registered(&self, queue: QueueNo, name: Name) -> bool
-        ensures { (s : State) → Knows self.now s → result ≡ machine.is_registered s queue.0 name }
+        ensures { (s : State) → KnowsState self.now s → result ≡ machine.is_registered s queue.0 name }
     {
         self.registrants.contains(&(queue.0, name))
     }
 
     fn is_known(&self, queue: QueueNo, by: &KeptBy) -> bool
-        ensures { (s : State) → Knows self.now s → result ≡ machine.is_known s queue.0 by.now }
+        ensures { (s : State) → KnowsState self.now s → result ≡ machine.is_known s queue.0 by.now }
     {
         match by.by() {
             Some(by) => self.is_registered(queue, by.name),
@@ -113,7 +113,7 @@ impl Judge {
     }
 
     fn may_engage(&self, unit: u64, queue: QueueNo, by: &KeptBy) -> bool
-        ensures { (s : State) → Knows self.now s → result ≡ (machine.is_defined s queue.0 && (machine.is_open s unit && machine.is_known s queue.0 by.now)) }
+        ensures { (s : State) → KnowsState self.now s → result ≡ (machine.is_defined s queue.0 && (machine.is_open s unit && machine.is_known s queue.0 by.now)) }
     {
         self.is_defined(queue) && self.units.contains(&unit) && self.is_known(queue, by)
     }
@@ -121,7 +121,7 @@ impl Judge {
     // An error queue of version 1 has none itself.
     fn may_be_error(&self, error: QueueNo) -> bool
         requires { error.0 < length self.now.errors.items }
-        ensures { (s : State) → Knows self.now s → result ≡ machine.may_be_error (version_of self.now.version) s error.0 }
+        ensures { (s : State) → KnowsState self.now s → result ≡ machine.may_be_error (version_of self.now.version) s error.0 }
     {
         match self.version {
             Version::One => self.errors[error.0 as usize] == QueueNo::NONE.0,
@@ -130,7 +130,7 @@ impl Judge {
     }
 
     fn is_limit(&self, limit: u16, error: QueueNo) -> bool
-        ensures { (s : State) → Knows self.now s → result ≡ machine.is_limit (version_of self.now.version) s limit error.0 }
+        ensures { (s : State) → KnowsState self.now s → result ≡ machine.is_limit (version_of self.now.version) s limit error.0 }
     {
         if limit == 0 {
             return error.0 == QueueNo::NONE.0;
@@ -140,7 +140,7 @@ impl Judge {
 
     // Version 1 has no KILL.
     fn may_kill(&self, queue: QueueNo) -> bool
-        ensures { (s : State) (element : ℕ) → Knows self.now s → result ≡ machine.is_lawful (version_of self.now.version) s (Kill queue.0 element) }
+        ensures { (s : State) (element : ℕ) → KnowsState self.now s → result ≡ machine.is_lawful (version_of self.now.version) s (Kill queue.0 element) }
     {
         match self.version {
             Version::One => false,
@@ -153,7 +153,7 @@ impl Judge {
         ensures notes { OnOk result (Notes self.old self.new next.now) }
         ensures version { self.new.version ≡ self.old.version }
         ensures refused { IfErr result (λ e. e ≡ Resources) }
-        ensures kept { IfErr result (λ e. Keeps self.old self.new) }
+        ensures kept { IfErr result (λ e. KeepsStanding self.old self.new) }
     {
         match next {
             Record::Define { error, name, .. } => self.define(*error, name.name()),
@@ -187,7 +187,7 @@ impl Judge {
         ensures names { OnOk result ((n : List ℕ) → contains (pointwise nat_eq) self.new.names n ≡ cond (pointwise nat_eq name n) true (contains (pointwise nat_eq) self.old.names n)) }
         ensures errors { OnOk result (self.new.errors.items ≡ self.old.errors.items ++ error.0 ∷ []) }
         ensures refused { IfErr result (λ e. e ≡ Resources) }
-        ensures kept { IfErr result (λ e. Keeps self.old self.new) }
+        ensures kept { IfErr result (λ e. KeepsStanding self.old self.new) }
     {
         self.errors.push(error.0)?;
         if self.names.insert(name).is_err() {

@@ -4,7 +4,8 @@ ghost use Rattle.std.specs.Prelude.{◌≡◌, ◌==◌, ◌&&◌, ◌||◌, ◌
 ghost use Rattle.std.specs.List.{list_any, AllByRecursion};
 ghost use Rattle.indexmap.specs.IndexMap.{get};
 ghost use Rattle.rq_record.specs.declared.fault.Fault.TheVariants.{Resources};
-ghost use Rattle.rq_catalog.specs.Lists.{is_engaged_in, listed, ends_at};
+ghost use Rattle.rq_catalog.specs.Lists.{is_engaged_in, ends_at};
+ghost use Rattle.rq_state.specs.Orders.{listed};
 
 use indexmap::IndexMap;
 use rq_record::Fault;

@@ -9,7 +9,8 @@ ghost use Rattle.rq_model.specs.WellFormed.{Ordered, IsWellFormed};
 ghost use Rattle.rq_record.specs.declared.fault.Fault.TheVariants.{Resources};
 ghost use Rattle.rq_state.specs.Views.{unit_of};
 ghost use Rattle.rq_catalog.specs.declared.outcome.Outcome.TheVariants.{Open};
-ghost use Rattle.rq_catalog.specs.Lists.{is_engaged_in, listed};
+ghost use Rattle.rq_catalog.specs.Lists.{is_engaged_in};
+ghost use Rattle.rq_state.specs.Orders.{listed};
 ghost use Rattle.rq_catalog.specs.Catalogues.{key_eq, Follows};
 ghost use Rattle.rq_catalog.specs.Members.{all_open, has_name, has_key, is_marked_at, is_noted_at};
 

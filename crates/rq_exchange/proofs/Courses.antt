@@ -13,13 +13,13 @@ use Rattle.rq_exchange.specs.declared.course.Course.{Course}
 use Rattle.rq_exchange.specs.declared.crew.Kept.{Kept}
 use Rattle.rq_exchange.specs.declared.jobs.Job.{Job}
 use Rattle.rq_exchange.specs.declared.outboxes.Outbox.{Outbox}
-use Rattle.rq_exchange.specs.Chains.{IsChain, redone_in, diaries_of}
+use Rattle.rq_exchange.specs.Chains.{IsChainOf, redone_in, diaries_of}
 use Rattle.rq_exchange.specs.Courses.{redone_of, redone_by, told_to, all_told, StartsByLast, Recounts}
 use Rattle.rq_exchange.specs.Coverage.{told_at}
 use Rattle.rq_exchange.specs.Jobs.{IsJob, errors_in}
 use Rattle.rq_exchange.specs.Links.{at, naming}
 use Rattle.rq_exchange.specs.Tasks.{AreBare}
-use Rattle.rq_exchange.specs.Workers.{Keeps, AllKeep, AreKept, AreSettled}
+use Rattle.rq_exchange.specs.Workers.{HasKept, AllKeep, HaveKept, AreSettled}
 use Rattle.rq_exchange.proofs.Alone.{alone}
 use Rattle.rq_exchange.proofs.Openings.{some_of}
 use Rattle.rq_exchange.proofs.Tasks.{zero_or}
@@ -33,7 +33,7 @@ joined f (x ∷ xs) = ap (λ l. f x ++ l) (joined f xs)
 
 module _ (job : Job) (chain : Chain) where
   -- each thread keeps what it began with, which is among what all began with
-  each_begins : (x : ℕ) (ss : List (List ℕ)) (ks : List Kept) → AllKeep job chain ss ks → (i : ℕ) (d : Kept) → i < length ks → (s : List ℕ) × (Keeps job chain s (slice_index_or ks i d) × (times x s ≤ times_in x ss))
+  each_begins : (x : ℕ) (ss : List (List ℕ)) (ks : List Kept) → AllKeep job chain ss ks → (i : ℕ) (d : Kept) → i < length ks → (s : List ℕ) × (HasKept job chain s (slice_index_or ks i d) × (times x s ≤ times_in x ss))
   each_begins x ss [] h i d lt = absurd (omega (arith, lt))
   each_begins x [] (k ∷ ks) h i d lt = absurd h
   each_begins x (s ∷ ss) (k ∷ ks) h zero d lt = (s, (h.0, omega (arith, sum_by-cons (times x) s ss)))
@@ -41,7 +41,7 @@ module _ (job : Job) (chain : Chain) where
       let rest = each_begins x ss ks h.1 i d (omega (arith, lt)) in
       (rest.0, (rest.1.0, omega (arith, rest.1.1, sum_by-cons (times x) s ss)))
 
-  module _ (is : IsJob job) (web : IsChain job chain) (tasks : List ℕ) (are : AreBare job.sources.now (length job.definitions.now) tasks) (kept : List Kept) (keep : AreKept job chain tasks kept) (settled : AreSettled chain kept) (c : Course) (tells : Recounts chain kept c) where
+  module _ (is : IsJob job) (web : IsChainOf job chain) (tasks : List ℕ) (are : AreBare job.sources.now (length job.definitions.now) tasks) (kept : List Kept) (keep : HaveKept job chain tasks kept) (settled : AreSettled chain kept) (c : Course) (tells : Recounts chain kept c) where
     inside : (x : ℕ) → x < length (errors_in job) → x < length job.definitions.now
     inside x near = omega (arith, near, many job is)
 

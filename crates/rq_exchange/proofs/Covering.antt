@@ -7,7 +7,7 @@ use Rattle.rq_pool.specs.declared.countdown.arrival.Entry.{Entry}
 use Rattle.rq_pool.specs.Countdowns.History.{flat_map}
 use Rattle.rq_pool.specs.Countdowns.Arrivals.{arrivals_for, kept_for, kept_from, last_lists, Settled}
 use Rattle.rq_pool.specs.Ledger.{times, times_in}
-use Rattle.rq_exchange.specs.Coverage.{Hand, Web, Follows, IsClosed, Once, told_at, lasts_at, arrived_at, source_at}
+use Rattle.rq_exchange.specs.Coverage.{Hand, Web, HasFollowed, IsWebClosed, Once, told_at, lasts_at, arrived_at, source_at}
 
 module _ {A B : Type 0} (f : A → List B) where
   pub flat_append : (xs ys : List A) → flat_map f (xs ++ ys) ≡ flat_map f xs ++ flat_map f ys
@@ -44,7 +44,7 @@ module _ {T : Type 0} where
 
 -- over all threads
 module _ {T : Type 0} (w : Web) where
-  pub all_redid : (x : ℕ) → x < w.n → (hs : List (Hand T)) → AllByRecursion (Follows w) hs → times_in x (map (λ h. h.redone) hs) ≡ times_in x (map (λ h. h.starts) hs) + sum_by (λ h. lasts_at h.diaries (w.slot x)) hs
+  pub all_redid : (x : ℕ) → x < w.n → (hs : List (Hand T)) → AllByRecursion (HasFollowed w) hs → times_in x (map (λ h. h.redone) hs) ≡ times_in x (map (λ h. h.starts) hs) + sum_by (λ h. lasts_at h.diaries (w.slot x)) hs
   all_redid x near [] f = refl
   all_redid x near (h ∷ hs) f = omega (
     arith,
@@ -55,7 +55,7 @@ module _ {T : Type 0} (w : Web) where
     all_redid x near hs f.1,
   )
 
-  all_arrived : (e i : ℕ) → e < w.n → i < length (w.sources e) → (hs : List (Hand T)) → AllByRecursion (Follows w) hs → sum_by (λ h. arrived_at i h.diaries (w.slot e)) hs ≡ times_in (source_at w.sources e i) (map (λ h. h.redone) hs)
+  all_arrived : (e i : ℕ) → e < w.n → i < length (w.sources e) → (hs : List (Hand T)) → AllByRecursion (HasFollowed w) hs → sum_by (λ h. arrived_at i h.diaries (w.slot e)) hs ≡ times_in (source_at w.sources e i) (map (λ h. h.redone) hs)
   all_arrived e i within near [] f = refl
   all_arrived e i within near (h ∷ hs) f = omega (
     arith,
@@ -65,14 +65,14 @@ module _ {T : Type 0} (w : Web) where
     all_arrived e i within near hs f.1,
   )
 
-  no_lasts : (x : ℕ) → w.count ≤ w.slot x → (hs : List (Hand T)) → AllByRecursion (Follows w) hs → sum_by (λ h. lasts_at h.diaries (w.slot x)) hs ≡ 0
+  no_lasts : (x : ℕ) → w.count ≤ w.slot x → (hs : List (Hand T)) → AllByRecursion (HasFollowed w) hs → sum_by (λ h. lasts_at h.diaries (w.slot x)) hs ≡ 0
   no_lasts x none [] f = refl
   no_lasts x none (h ∷ hs) f =
       let empty : told_at h.diaries (w.slot x) ≡ [] = get_or_past h.diaries (w.slot x) [] (omega (arith, f.0.long, none)) in
       omega (arith, sum_by-cons (λ (h : Hand T). lasts_at h.diaries (w.slot x)) h hs, ap (λ es. length (last_lists es)) empty, no_lasts x none hs f.1)
 
   -- one step of the induction: where the queues of greater numbers were redone once, this one was
-  step : (hs : List (Hand T)) → IsClosed w hs → (x : ℕ) → x < w.n → ((y : ℕ) → x < y → y < w.n → Once hs y) → (m : ℕ) → length (w.sources x) ≡ m → Once hs x
+  step : (hs : List (Hand T)) → IsWebClosed w hs → (x : ℕ) → x < w.n → ((y : ℕ) → x < y → y < w.n → Once hs y) → (m : ℕ) → length (w.sources x) ≡ m → Once hs x
   step hs c x near above zero is = all_redid x near hs c.follow ∙ omega (arith, c.bare x near is, no_lasts x (c.web.bare x near is) hs c.follow)
   step hs c x near above (suc m) is =
       let some : 0 < length (w.sources x) = omega (arith, is) in
@@ -89,10 +89,10 @@ module _ {T : Type 0} (w : Web) where
       one_is : {k : ℕ} → k ≡ 1 → 0 < k
       one_is e = omega arith
 
-  falling : (hs : List (Hand T)) → IsClosed w hs → (k x : ℕ) → x < w.n → w.n ≤ x + k → Once hs x
+  falling : (hs : List (Hand T)) → IsWebClosed w hs → (k x : ℕ) → x < w.n → w.n ≤ x + k → Once hs x
   falling hs c zero x near far = absurd (omega arith)
   falling hs c (suc k) x near far = step hs c x near (λ y up lt. falling hs c k y lt (omega arith)) (length (w.sources x)) refl
 
   -- each queue was redone once, by one thread
-  pub each_once : (hs : List (Hand T)) → IsClosed w hs → (x : ℕ) → x < w.n → Once hs x
+  pub each_once : (hs : List (Hand T)) → IsWebClosed w hs → (x : ℕ) → x < w.n → Once hs x
   each_once hs c x near = falling hs c w.n x near (omega arith)

@@ -14,7 +14,7 @@ use Rattle.rq_exchange.specs.declared.outboxes.Target.{Target}
 use Rattle.rq_exchange.specs.declared.outboxes.Redone.{Redone}
 use Rattle.rq_exchange.specs.declared.jobs.Job.{Job}
 use Rattle.rq_exchange.specs.Chains.{web_of, ArePasses, hand_of, diaries_of, redone_in}
-use Rattle.rq_exchange.specs.Coverage.{Web, Tells, Follows, told_at}
+use Rattle.rq_exchange.specs.Coverage.{Web, DiariesTell, HasFollowed, told_at}
 use Rattle.rq_exchange.proofs.Steps.{low_or_high}
 
 -- a list that was lent and came back as long
@@ -28,7 +28,7 @@ module _ {T : Type 0} (ds : List (List (Entry T))) (blank : All (λ d. d ≡ [])
   nothing_told : (k : ℕ) → told_at ds k ≡ []
   nothing_told k = elim (low_or_high k (length ds)) [ inl l ↦ blank k [] l | inr h ↦ get_or_past ds k [] h ]
 
-  pub tells_nothing : (w : Web) → length ds ≡ w.count → Tells w [] [] [] ds
+  pub tells_nothing : (w : Web) → length ds ≡ w.count → DiariesTell w [] [] [] ds
   tells_nothing w many = record {
     long = many;
     redid = λ x near. zero_more (length (last_lists (told_at ds (w.slot x)))) (ap (λ es. length (last_lists es)) (nothing_told (w.slot x)));
@@ -36,13 +36,13 @@ module _ {T : Type 0} (ds : List (List (Entry T))) (blank : All (λ d. d ≡ [])
   }
 
 module _ {g : Ghosts Outbox Target} (job : Job) (chain : Chain) where
-  pub fresh : (starts : List ℕ) (done : List Redone) (ps : List (Pass Outbox Target g)) → starts ≡ [] → done ≡ [] → ArePasses chain ps → All (λ p. history_of p ≡ []) ps → Follows (web_of job chain) (hand_of starts done ps)
+  pub fresh : (starts : List ℕ) (done : List Redone) (ps : List (Pass Outbox Target g)) → starts ≡ [] → done ≡ [] → ArePasses chain ps → All (λ p. history_of p ≡ []) ps → HasFollowed (web_of job chain) (hand_of starts done ps)
   fresh starts done ps none no_more are blank =
-      let t : Tells (web_of job chain) [] [] [] (diaries_of ps) = tells_nothing (diaries_of ps) (All-map (λ (d : List (Entry Outbox)). d ≡ []) (λ (p : Pass Outbox Target g). history_of p) ps blank) (web_of job chain) (length-map ps (λ (p : Pass Outbox Target g). history_of p) ∙ are.each) in
-      subst (λ (z : List ℕ × List Redone). Tells (web_of job chain) z.0 (redone_in z.1) (redone_in z.1) (diaries_of ps)) (λ i. (sym none i, sym no_more i)) t
+      let t : DiariesTell (web_of job chain) [] [] [] (diaries_of ps) = tells_nothing (diaries_of ps) (All-map (λ (d : List (Entry Outbox)). d ≡ []) (λ (p : Pass Outbox Target g). history_of p) ps blank) (web_of job chain) (length-map ps (λ (p : Pass Outbox Target g). history_of p) ∙ are.each) in
+      subst (λ (z : List ℕ × List Redone). DiariesTell (web_of job chain) z.0 (redone_in z.1) (redone_in z.1) (diaries_of ps)) (λ i. (sym none i, sym no_more i)) t
 
-  pub again : (starts after : List ℕ) (done : List Redone) (ps qs : List (Pass Outbox Target g)) → starts ≡ after → ps ≡ qs → Follows (web_of job chain) (hand_of starts done ps) → Follows (web_of job chain) (hand_of after done qs)
-  again starts after done ps qs e f h = subst (λ (z : List ℕ × List (Pass Outbox Target g)). Tells (web_of job chain) z.0 (redone_in done) (redone_in done) (diaries_of z.1)) (λ i. (e i, f i)) h
+  pub again : (starts after : List ℕ) (done : List Redone) (ps qs : List (Pass Outbox Target g)) → starts ≡ after → ps ≡ qs → HasFollowed (web_of job chain) (hand_of starts done ps) → HasFollowed (web_of job chain) (hand_of after done qs)
+  again starts after done ps qs e f h = subst (λ (z : List ℕ × List (Pass Outbox Target g)). DiariesTell (web_of job chain) z.0 (redone_in done) (redone_in done) (diaries_of z.1)) (λ i. (e i, f i)) h
 
 pub one_further : (starts left : List ℕ) (i : ℕ) → i < length left → (starts ++ take i left) ++ get_or left i 0 ∷ [] ≡ starts ++ take (i + 1) left
 one_further starts left i lt = append_assoc starts (take i left) (get_or left i 0 ∷ []) ∙ ap (λ xs. starts ++ xs) (sym (take_more left i 0 lt))

@@ -18,8 +18,8 @@ use Rattle.rq_exchange.specs.declared.outboxes.Target.{Target}
 use Rattle.rq_exchange.specs.declared.jobs.Job.{Job}
 use Rattle.rq_exchange.specs.Jobs.{records_of, errors_in}
 use Rattle.rq_exchange.specs.Links.{at}
-use Rattle.rq_exchange.specs.Chains.{web_of, due, AreBoxes, IsCountdownOf, IsChain, diaries_of}
-use Rattle.rq_exchange.specs.Coverage.{Tells}
+use Rattle.rq_exchange.specs.Chains.{web_of, due, AreBoxes, IsCountdownOf, IsChainOf, diaries_of}
+use Rattle.rq_exchange.specs.Coverage.{DiariesTell}
 use Rattle.rq_exchange.proofs.Steps.{arrives, next}
 
 pub placed : (xs : List ℕ) (i y n : ℕ) → y ≡ slice_index_or xs i y → length xs ≡ n → i < n → y ≡ at xs i
@@ -35,7 +35,7 @@ same_lists f d (x ∷ xs) (y ∷ ys) e h =
     let rest : map f xs ≡ ys = same_lists f d xs ys (omega (arith, e)) (λ i z is. h (suc i) z is) in
     λ i. sym first i ∷ rest i
 
-module _ (job : Job) (chain : Chain) (is : IsChain job chain) (q e : ℕ) (near : q < length job.definitions.now) (err : e ≡ at (errors_in job) q) (within : e < length job.definitions.now) where
+module _ (job : Job) (chain : Chain) (is : IsChainOf job chain) (q e : ℕ) (near : q < length job.definitions.now) (err : e ≡ at (errors_in job) q) (within : e < length job.definitions.now) where
   fed : 0 < length (listed job.sources.now e)
   fed =
       let r = is.web.ranked q near (omega (arith, err, within)) in
@@ -56,10 +56,10 @@ module _ (job : Job) (chain : Chain) (is : IsChain job chain) (q e : ℕ) (near 
     -- the arrival is told by the pass that made it
     pub handed : (k r : ℕ) (ps : List (Pass Outbox Target g)) (p p' : Pass Outbox Target g) (x : Outbox) (a : Arrival Outbox) → k ≡ at chain.slots.items e → r ≡ at job.ranks.now q
         → p ≡ slice_index_or ps k p → (history_of p') ≡ history_of (slice_index_or ps k p) ++ entry r x a ∷ [] → length ps ≡ length chain.countdowns.items
-        → (starts begun redone : List ℕ) → Tells (web_of job chain) starts begun redone (diaries_of ps) → Tells (web_of job chain) starts (begun ++ next e a) (redone ++ q ∷ []) (diaries_of (slice_set ps k p'))
+        → (starts begun redone : List ℕ) → DiariesTell (web_of job chain) starts begun redone (diaries_of ps) → DiariesTell (web_of job chain) starts (begun ++ next e a) (redone ++ q ∷ []) (diaries_of (slice_set ps k p'))
     handed k r ps p p' x a slot rank at_place told each starts begun redone t =
         let inside : k < length ps = omega (arith, slot, each, there) in
         let d_is : (history_of p) ≡ get_or (diaries_of ps) (at chain.slots.items e) (history_of p) = ap (λ (y : Pass Outbox Target g). history_of y) at_place ∙ sym (get_or-map (λ (y : Pass Outbox Target g). history_of y) ps k p (history_of p) inside) ∙ ap (λ j. get_or (diaries_of ps) j (history_of p)) slot in
         let told' : (history_of p') ≡ (history_of p) ++ entry (at job.ranks.now q) x a ∷ [] = told ∙ ap (λ (y : Pass Outbox Target g). history_of y ++ entry r x a ∷ []) (sym at_place) ∙ ap (λ j. (history_of p) ++ entry j x a ∷ []) rank in
-        let s : Tells (web_of job chain) starts (begun ++ next e a) (redone ++ q ∷ []) (set (diaries_of ps) (at chain.slots.items e) (history_of p')) = arrives (web_of job chain) is.web q e near (sym err) within starts begun redone (redone ++ q ∷ []) (diaries_of ps) (history_of p) (history_of p') x a t d_is told' refl there in
-        subst (λ ds. Tells (web_of job chain) starts (begun ++ next e a) (redone ++ q ∷ []) ds) (ap (λ j. set (diaries_of ps) j (history_of p')) (sym slot) ∙ sym (map-set (λ (y : Pass Outbox Target g). history_of y) ps k p')) s
+        let s : DiariesTell (web_of job chain) starts (begun ++ next e a) (redone ++ q ∷ []) (set (diaries_of ps) (at chain.slots.items e) (history_of p')) = arrives (web_of job chain) is.web q e near (sym err) within starts begun redone (redone ++ q ∷ []) (diaries_of ps) (history_of p) (history_of p') x a t d_is told' refl there in
+        subst (λ ds. DiariesTell (web_of job chain) starts (begun ++ next e a) (redone ++ q ∷ []) ds) (ap (λ j. set (diaries_of ps) j (history_of p')) (sym slot) ∙ sym (map-set (λ (y : Pass Outbox Target g). history_of y) ps k p')) s

@@ -14,7 +14,7 @@ use Rattle.rq_exchange.specs.declared.outboxes.Target.{Target}
 use Rattle.rq_exchange.specs.declared.jobs.Job.{Job}
 use Rattle.rq_exchange.specs.Chains.{IsCountdownOf, ArePasses, HasPasses}
 use Rattle.rq_exchange.specs.Links.{at}
-use Rattle.rq_exchange.specs.Openings.{IsFresh, Stays, Opened, AreOpened}
+use Rattle.rq_exchange.specs.Openings.{IsFreshColumn, Stays, Opened, AreOpened}
 use Rattle.rq_exchange.proofs.Steps.{same_or}
 
 pub some_of : {A : Type 0} (xs : List A) (k : ℕ) → k < length xs → A
@@ -62,7 +62,7 @@ module _ {g : Ghosts Outbox Target} (job : Job) (workers : ℕ) where
         before : (x : ℕ) → x < m + 1 → 0 < length (listed job.sources.now x) → x < m
         before x lt some = elim (below_or x m lt) [ inl l ↦ l | inr e ↦ absurd (let z : length (listed job.sources.now x) ≡ 0 = ap (λ y. length (listed job.sources.now y)) e ∙ s.bare in omega (arith, some, z)) ]
 
-    adds : (c : Countdown Outbox Target) (column : Vec (Pass Outbox Target g) Global) → slot ≡ length cs → 0 < length (listed job.sources.now m) → IsCountdownOf job m c → IsFresh workers c column → AreOpened job workers (m + 1) (slots ++ slot ∷ []) (cs ++ c ∷ []) (columns ++ column ∷ [])
+    adds : (c : Countdown Outbox Target) (column : Vec (Pass Outbox Target g) Global) → slot ≡ length cs → 0 < length (listed job.sources.now m) → IsCountdownOf job m c → IsFreshColumn workers c column → AreOpened job workers (m + 1) (slots ++ slot ∷ []) (cs ++ c ∷ []) (columns ++ column ∷ [])
     adds c column slot_is there keyed fresh = record {
       long = long_more;
       each = length-append columns (column ∷ []) ∙ ap (λ n. n + 1) o.each ∙ sym (length-append cs (c ∷ []));
@@ -87,9 +87,9 @@ module _ {g : Ghosts Outbox Target} (job : Job) (workers : ℕ) where
         key x d (inl l) some = subst (IsCountdownOf job x) (sym (ap (λ k. slice_index_or (cs ++ c ∷ []) k d) (old x l) ∙ get_or_append_left cs (c ∷ []) d (at slots x) (o.fed x l some))) (o.keyed x d l some)
         key x d (inr e) some = subst (λ (z : ℕ × Countdown Outbox Target). IsCountdownOf job z.0 z.1) (λ i. (sym e i, sym (ap (λ k. slice_index_or (cs ++ c ∷ []) k d) (new x e ∙ slot_is) ∙ get_or-append_seam cs c [] d) i)) keyed
 
-        blank : (k : ℕ) (d : Countdown Outbox Target) (e : Vec (Pass Outbox Target g) Global) → ((k < length cs) ⊎ (k ≡ length cs)) → IsFresh workers (slice_index_or (cs ++ c ∷ []) k d) (slice_index_or (columns ++ column ∷ []) k e)
-        blank k d e (inl l) = subst (λ (z : Countdown Outbox Target × Vec (Pass Outbox Target g) Global). IsFresh workers z.0 z.1) (λ i. (sym (get_or_append_left cs (c ∷ []) d k l) i, sym (get_or_append_left columns (column ∷ []) e k (omega (arith, l, o.each))) i)) (o.fresh k d e l)
-        blank k d e (inr is) = subst (λ (z : Countdown Outbox Target × Vec (Pass Outbox Target g) Global). IsFresh workers z.0 z.1)
+        blank : (k : ℕ) (d : Countdown Outbox Target) (e : Vec (Pass Outbox Target g) Global) → ((k < length cs) ⊎ (k ≡ length cs)) → IsFreshColumn workers (slice_index_or (cs ++ c ∷ []) k d) (slice_index_or (columns ++ column ∷ []) k e)
+        blank k d e (inl l) = subst (λ (z : Countdown Outbox Target × Vec (Pass Outbox Target g) Global). IsFreshColumn workers z.0 z.1) (λ i. (sym (get_or_append_left cs (c ∷ []) d k l) i, sym (get_or_append_left columns (column ∷ []) e k (omega (arith, l, o.each))) i)) (o.fresh k d e l)
+        blank k d e (inr is) = subst (λ (z : Countdown Outbox Target × Vec (Pass Outbox Target g) Global). IsFreshColumn workers z.0 z.1)
             (λ i. (sym (ap (λ j. slice_index_or (cs ++ c ∷ []) j d) is ∙ get_or-append_seam cs c [] d) i, sym (ap (λ j. slice_index_or (columns ++ column ∷ []) j e) (is ∙ sym o.each) ∙ get_or-append_seam columns column [] e) i)) fresh
 
     pub opened_more : (slots' : List ℕ) (cs' : List (Countdown Outbox Target)) (columns' : List (Vec (Pass Outbox Target g) Global)) → Opened job workers m cs columns slot cs' columns' → slots' ≡ slots ++ slot ∷ [] → AreOpened job workers (m + 1) slots' cs' columns'

@@ -9,10 +9,10 @@ use Rattle.rq_exchange.specs.declared.crew.Kept.{Kept}
 use Rattle.rq_exchange.specs.declared.jobs.Job.{Job}
 use Rattle.rq_exchange.specs.declared.outboxes.Redone.{Redone}
 use Rattle.rq_exchange.specs.Boards.{IsPart, queue_of}
-use Rattle.rq_exchange.specs.Chains.{IsChain, IsRedone, redone_in}
+use Rattle.rq_exchange.specs.Chains.{IsChainOf, IsRedone, redone_in}
 use Rattle.rq_exchange.specs.Jobs.{records_of}
 use Rattle.rq_exchange.specs.Tasks.{AreBare}
-use Rattle.rq_exchange.specs.Workers.{AreKept, AreSettled}
+use Rattle.rq_exchange.specs.Workers.{HaveKept, AreSettled}
 use Rattle.rq_exchange.proofs.Openings.{some_of}
 use Rattle.rq_exchange.proofs.Wholes.{whole}
 use Rattle.rq_exchange.proofs.Working.{each_keeps}
@@ -22,7 +22,7 @@ pub queues_are : (ks : List Kept) → map (λ (done : Vec Redone Global). map qu
 queues_are [] = refl
 queues_are (k ∷ ks) = ap (λ l. redone_in k.done.items ∷ l) (queues_are ks)
 
-module _ (job : Job) (chain : Chain) (tasks : List ℕ) (kept : List Kept) (keep : AreKept job chain tasks kept) (all : List (Vec Redone Global)) (is : all ≡ map (λ k. k.done) kept) where
+module _ (job : Job) (chain : Chain) (tasks : List ℕ) (kept : List Kept) (keep : HaveKept job chain tasks kept) (all : List (Vec Redone Global)) (is : all ≡ map (λ k. k.done) kept) where
   many : length all ≡ length kept
   many = ap length is ∙ length-map kept (λ (k : Kept). k.done)
 
@@ -39,7 +39,7 @@ module _ (job : Job) (chain : Chain) (tasks : List ℕ) (kept : List Kept) (keep
   pub all_parts : All (λ done. All (IsPart (run job.state.now (records_of job))) done.items) all
   all_parts i v lt j d l = (all_done i v lt j d l).1
 
-  pub all_there : IsChain job chain → AreBare job.sources.now (length job.definitions.now) tasks → AreSettled chain kept → (x : ℕ) → x < length job.definitions.now → 0 < times_in x (map (λ (done : Vec Redone Global). map queue_of done.items) all)
+  pub all_there : IsChainOf job chain → AreBare job.sources.now (length job.definitions.now) tasks → AreSettled chain kept → (x : ℕ) → x < length job.definitions.now → 0 < times_in x (map (λ (done : Vec Redone Global). map queue_of done.items) all)
   all_there web are settled x near =
       let one : times_in x (map (λ (done : Vec Redone Global). map queue_of done.items) all) ≡ 1 = ap (times_in x) (ap (map (λ (done : Vec Redone Global). map queue_of done.items)) is ∙ queues_are kept) ∙ whole job chain web tasks are kept keep settled x near in
       omega (arith, one)

@@ -10,7 +10,7 @@ use Rattle.rq_pool.specs.declared.countdown.arrival.Arrival.TheVariants.{Twice, 
 use Rattle.rq_pool.specs.Countdowns.History.{entry}
 use Rattle.rq_pool.specs.Countdowns.Arrivals.{arrivals_for, last_lists, only, if_last}
 use Rattle.rq_pool.specs.Ledger.{times}
-use Rattle.rq_exchange.specs.Coverage.{Web, IsWeb, Tells, told_at, lasts_at, arrived_at, source_at}
+use Rattle.rq_exchange.specs.Coverage.{Web, IsWeb, DiariesTell, told_at, lasts_at, arrived_at, source_at}
 use Rattle.rq_exchange.proofs.Covering.{flat_append}
 
 -- what an answer tells its thread to begin next
@@ -59,8 +59,8 @@ module _ {T : Type 0} where
 
   -- a queue was redone and arrived at the countdown of its error queue
   pub arrives : (w : Web) → IsWeb w → (q e : ℕ) → q < w.n → w.error q ≡ e → e < w.n → (starts begun redone after : List ℕ) (ds : List (List (Entry T))) (d d' : List (Entry T)) (x : T) (a : Arrival T)
-      → Tells w starts begun redone ds → d ≡ get_or ds (w.slot e) d → d' ≡ d ++ entry (w.rank q) x a ∷ [] → after ≡ redone ++ q ∷ [] → w.slot e < w.count
-      → Tells w starts (begun ++ next e a) after (set ds (w.slot e) d')
+      → DiariesTell w starts begun redone ds → d ≡ get_or ds (w.slot e) d → d' ≡ d ++ entry (w.rank q) x a ∷ [] → after ≡ redone ++ q ∷ [] → w.slot e < w.count
+      → DiariesTell w starts (begun ++ next e a) after (set ds (w.slot e) d')
   arrives w web q e near err within starts begun redone after ds d d' x a t was is more there = record {
     long = length-set ds (w.slot e) d' ∙ t.long;
     redid = λ y lt. go y lt (same_or (w.slot y) (w.slot e));
@@ -109,7 +109,7 @@ module _ {T : Type 0} where
 
   -- a queue that has no error queue was redone
   pub ends : (w : Web) → IsWeb w → (q : ℕ) → w.n ≤ w.error q → (starts begun redone after : List ℕ) (ds : List (List (Entry T)))
-      → Tells w starts begun redone ds → after ≡ redone ++ q ∷ [] → Tells w starts begun after ds
+      → DiariesTell w starts begun redone ds → after ≡ redone ++ q ∷ [] → DiariesTell w starts begun after ds
   ends w web q none starts begun redone after ds t more = record {
     long = t.long;
     redid = t.redid;
@@ -119,7 +119,7 @@ module _ {T : Type 0} where
   }
 
   -- a queue is begun that the room gave out
-  pub begins : (w : Web) (q : ℕ) (starts redone : List ℕ) (ds : List (List (Entry T))) → Tells w starts redone redone ds → Tells w (starts ++ q ∷ []) (redone ++ q ∷ []) redone ds
+  pub begins : (w : Web) (q : ℕ) (starts redone : List ℕ) (ds : List (List (Entry T))) → DiariesTell w starts redone redone ds → DiariesTell w (starts ++ q ∷ []) (redone ++ q ∷ []) redone ds
   begins w q starts redone ds t = record {
     long = t.long;
     redid = λ y lt. times_more y q redone ∙ omega (arith, t.redid y lt, times_more y q starts);
@@ -127,8 +127,8 @@ module _ {T : Type 0} where
   }
 
   -- the same of equal lists
-  pub moved : (w : Web) (starts b c r s : List ℕ) (ds : List (List (Entry T))) → b ≡ c → r ≡ s → Tells w starts b r ds → Tells w starts c s ds
-  moved w starts b c r s ds e f t = subst (λ (z : List ℕ × List ℕ). Tells w starts z.0 z.1 ds) (λ i. (e i, f i)) t
+  pub moved : (w : Web) (starts b c r s : List ℕ) (ds : List (List (Entry T))) → b ≡ c → r ≡ s → DiariesTell w starts b r ds → DiariesTell w starts c s ds
+  moved w starts b c r s ds e f t = subst (λ (z : List ℕ × List ℕ). DiariesTell w starts z.0 z.1 ds) (λ i. (e i, f i)) t
 
 pub low_or_high : (a b : ℕ) → (a < b) ⊎ (b ≤ a)
 low_or_high a zero = inr (omega arith)

@@ -11,7 +11,7 @@ use Rattle.rq_exchange.specs.declared.chain.Chain.{Chain}
 use Rattle.rq_exchange.specs.declared.outboxes.Outbox.{Outbox}
 use Rattle.rq_exchange.specs.declared.outboxes.Target.{Target}
 use Rattle.rq_exchange.specs.declared.jobs.Job.{Job}
-use Rattle.rq_exchange.specs.Chains.{IsChain}
+use Rattle.rq_exchange.specs.Chains.{IsChainOf}
 use Rattle.rq_exchange.specs.Jobs.{IsJob, errors_in}
 use Rattle.rq_exchange.specs.Links.{at, naming}
 use Rattle.rq_exchange.specs.Openings.{AreOpened}
@@ -56,7 +56,7 @@ module _ (job : Job) (is : IsJob job) where
     has_some : (x : ℕ) → x < length job.definitions.now → at chain.slots.items x < length chain.countdowns.items → 0 < length (listed job.sources.now x)
     has_some x near there = elim (some_or (length (listed job.sources.now x))) [ inl none ↦ absurd (omega (arith, o.bare x near none, o.few, there)) | inr some ↦ some ]
 
-    pub is_chain : IsChain job chain
+    pub is_chain : IsChainOf job chain
     is_chain = record {
       web = record {
         fall = λ q l m. is.fall q (omega (arith, l, many)) (omega (arith, m, many));

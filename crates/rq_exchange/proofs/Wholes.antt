@@ -10,10 +10,10 @@ use Rattle.rq_exchange.specs.declared.chain.Chain.{Chain}
 use Rattle.rq_exchange.specs.declared.crew.Kept.{Kept}
 use Rattle.rq_exchange.specs.declared.outboxes.Outbox.{Outbox}
 use Rattle.rq_exchange.specs.declared.jobs.Job.{Job}
-use Rattle.rq_exchange.specs.Chains.{web_of, IsChain, hand_of, diaries_of, redone_in}
-use Rattle.rq_exchange.specs.Coverage.{Hand, Follows, IsClosed, told_at}
+use Rattle.rq_exchange.specs.Chains.{web_of, IsChainOf, hand_of, diaries_of, redone_in}
+use Rattle.rq_exchange.specs.Coverage.{Hand, HasFollowed, IsWebClosed, told_at}
 use Rattle.rq_exchange.specs.Links.{at}
-use Rattle.rq_exchange.specs.Workers.{AllKeep, AreKept, AreSettled}
+use Rattle.rq_exchange.specs.Workers.{AllKeep, HaveKept, AreSettled}
 use Rattle.rq_exchange.specs.Tasks.{AreBare}
 use Rattle.rq_exchange.proofs.Covering.{each_once, all_redid, flat_long}
 use Rattle.rq_exchange.proofs.Openings.{some_of}
@@ -26,7 +26,7 @@ hands (s ∷ ss) [] = []
 hands (s ∷ ss) (k ∷ ks) = hand_of s k.done.items k.passes.items ∷ hands ss ks
 
 module _ (job : Job) (chain : Chain) where
-  follow_all : (ss : List (List ℕ)) (ks : List Kept) → AllKeep job chain ss ks → AllByRecursion (Follows (web_of job chain)) (hands ss ks)
+  follow_all : (ss : List (List ℕ)) (ks : List Kept) → AllKeep job chain ss ks → AllByRecursion (HasFollowed (web_of job chain)) (hands ss ks)
   follow_all [] ks h = tt
   follow_all (s ∷ ss) [] h = tt
   follow_all (s ∷ ss) (k ∷ ks) h = (h.0.follows, follow_all ss ks h.1)
@@ -48,7 +48,7 @@ module _ (job : Job) (chain : Chain) where
   told_are c (s ∷ ss) [] h = absurd h
   told_are c (s ∷ ss) (k ∷ ks) h = ap (λ l. told_at (diaries_of k.passes.items) c ++ l) (told_are c ss ks h.1)
 
-  module _ (is : IsChain job chain) (tasks : List ℕ) (are : AreBare job.sources.now (length job.definitions.now) tasks) (kept : List Kept) (keep : AreKept job chain tasks kept) (settled : AreSettled chain kept) where
+  module _ (is : IsChainOf job chain) (tasks : List ℕ) (are : AreBare job.sources.now (length job.definitions.now) tasks) (kept : List Kept) (keep : HaveKept job chain tasks kept) (settled : AreSettled chain kept) where
     -- no queue with sources is dealt
     nowhere : (x : ℕ) → 0 < length (listed job.sources.now x) → times_in x (map (λ (h : Hand Outbox). h.starts) (hands keep.starts kept)) ≡ 0
     nowhere x some = ap (times_in x) (starts_are keep.starts kept keep.keep) ∙ keep.dealt x ∙ zero_or (times x tasks) (λ stands. let none = ap length (are.no_other x stands).1 in omega (arith, some, none))
@@ -64,7 +64,7 @@ module _ (job : Job) (chain : Chain) where
         let same = sym (told_are c keep.starts kept keep.keep) in
         (s.0, s.1, subst (λ (z : ℕ × List (Entry Outbox)). Settled z.0 z.1 s.0 s.1) (λ i. (size i, same i)) s.2)
 
-    closed : IsClosed (web_of job chain) (hands keep.starts kept)
+    closed : IsWebClosed (web_of job chain) (hands keep.starts kept)
     closed = record {
       web = is.web;
       bare = λ y within none. ap (times_in y) (starts_are keep.starts kept keep.keep) ∙ keep.dealt y ∙ are.once y within none;

@@ -34,7 +34,7 @@ AreBoxes job queue boxes = map (λ b. b.moves.items) boxes ≡ due job queue
 abbrev pub IsCountdownOf : Job → ℕ → Countdown Outbox Target → Type 0
 IsCountdownOf job queue c = (sources_of c ≡ length (listed job.sources.now queue)) × ((key_of c).due ≡ due job queue)
 
-pub record IsChain (job : Job) (chain : Chain) : Type 0 where
+pub record IsChainOf (job : Job) (chain : Chain) : Type 0 where
   pub web : IsWeb (web_of job chain)
   pub slots : length chain.slots.items ≡ length job.definitions.now
   pub keyed : (e : ℕ) (d : Countdown Outbox Target) → e < length job.definitions.now → 0 < length (listed job.sources.now e) → IsCountdownOf job e (slice_index_or chain.countdowns.items (at chain.slots.items e) d)

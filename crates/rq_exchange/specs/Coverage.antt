@@ -54,34 +54,34 @@ pub record IsWeb (w : Web) : Type 0 where
 
 module _ {T : Type 0} where
   -- What a thread began to redo is what it was given and the queues whose countdown told it Last. For each queue that it redid it arrived, once for each time, where that queue is a source.
-  pub record Tells (w : Web) (starts begun redone : List ℕ) (diaries : List (List (Entry T))) : Type 0 where
+  pub record DiariesTell (w : Web) (starts begun redone : List ℕ) (diaries : List (List (Entry T))) : Type 0 where
     pub long : length diaries ≡ w.count
     pub redid : (x : ℕ) → x < w.n → times x begun ≡ times x starts + lasts_at diaries (w.slot x)
     pub arrived : (e i : ℕ) → e < w.n → i < length (w.sources e) → arrived_at i diaries (w.slot e) ≡ times (source_at w.sources e i) redone
 
   -- a queue more was redone, and what left it was handed on: the error queue is to begin next, where its outboxes were given out
   abbrev pub HandsOn : {B : Type 0} → Web → ℕ → ℕ → Option B → List (List (Entry T)) → List (List (Entry T)) → Type 0
-  HandsOn w queue error given old new = (starts begun redone : List ℕ) → Tells w starts begun redone old → Tells w starts (begun ++ asked error given) (redone ++ queue ∷ []) new
+  HandsOn w queue error given old new = (starts begun redone : List ℕ) → DiariesTell w starts begun redone old → DiariesTell w starts (begun ++ asked error given) (redone ++ queue ∷ []) new
 
   -- a thread that was to redo this queue has done so, and is to redo what is next
   abbrev pub StepsOn : Web → ℕ → List ℕ → List (List (Entry T)) → List ℕ → List (List (Entry T)) → List ℕ → Type 0
-  StepsOn w queue done old after new next = (starts : List ℕ) → Tells w starts (done ++ queue ∷ []) done old → Tells w starts (after ++ next) after new
+  StepsOn w queue done old after new next = (starts : List ℕ) → DiariesTell w starts (done ++ queue ∷ []) done old → DiariesTell w starts (after ++ next) after new
 
   -- the same of a thread that has redone all that it began
-  abbrev pub Follows : Web → Hand T → Type 0
-  Follows w h = Tells w h.starts h.redone h.redone h.diaries
+  abbrev pub HasFollowed : Web → Hand T → Type 0
+  HasFollowed w h = DiariesTell w h.starts h.redone h.redone h.diaries
 
   -- how often all threads redid the queue
   abbrev pub Once : List (Hand T) → ℕ → Type 0
   Once hs x = times_in x (map (λ h. h.redone) hs) ≡ 1
 
   -- what is known once the room and all countdowns are closed
-  pub record IsClosed (w : Web) (hs : List (Hand T)) : Type 0 where
+  pub record IsWebClosed (w : Web) (hs : List (Hand T)) : Type 0 where
     pub web : IsWeb w
     -- of the room: a queue without sources was given out once, no other was
     pub bare : (x : ℕ) → x < w.n → length (w.sources x) ≡ 0 → times_in x (map (λ h. h.starts) hs) ≡ 1
     pub fed : (x : ℕ) → x < w.n → 0 < length (w.sources x) → times_in x (map (λ h. h.starts) hs) ≡ 0
     -- of each thread
-    pub follow : AllByRecursion (Follows w) hs
+    pub follow : AllByRecursion (HasFollowed w) hs
     -- of each countdown
     pub settled : (e : ℕ) → e < w.n → 0 < length (w.sources e) → (arrived : ℕ) × (home : List T) × Settled (length (w.sources e)) (flat_map (λ h. told_at h.diaries (w.slot e)) hs) arrived home

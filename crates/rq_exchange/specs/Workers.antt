@@ -21,17 +21,17 @@ use Rattle.std.specs.Global.{Vec}
 use Rattle.rq_pool.specs.declared.countdown.fits.Fits.{Ghosts}
 use Rattle.rq_pool.specs.declared.countdown.pass.Pass.{Pass}
 use Rattle.rq_exchange.specs.Chains.{web_of, ArePasses, IsRedone, hand_of, diaries_of}
-use Rattle.rq_exchange.specs.Coverage.{Follows, told_at}
+use Rattle.rq_exchange.specs.Coverage.{HasFollowed, told_at}
 
 -- the thread has a pass of each countdown, its parts are right, and its passes tell of the queues that it began with, these
-pub record Keeps (job : Job) (chain : Chain) (starts : List ℕ) (k : Kept) : Type 0 where
+pub record HasKept (job : Job) (chain : Chain) (starts : List ℕ) (k : Kept) : Type 0 where
   pub passes : ArePasses chain k.passes.items
   pub done : All (IsRedone job) k.done.items
-  pub follows : Follows (web_of job chain) (hand_of starts k.done.items k.passes.items)
+  pub follows : HasFollowed (web_of job chain) (hand_of starts k.done.items k.passes.items)
 
 pub record HasEnded (job : Job) (chain : Chain) (room : Room) (w : Ended) : Type 0 where
   pub seat : IsSeatOf room w.seat
-  pub keeps : Keeps job chain (taken_of w.seat) w.kept
+  pub keeps : HasKept job chain (taken_of w.seat) w.kept
 
 -- or it was refused memory
 abbrev pub Works : Job → Chain → Room → Result Ended Fault → Type 0
@@ -43,7 +43,7 @@ abbrev pub AllKeep : Job → Chain → List (List ℕ) → List Kept → Type 0
 AllKeep job chain [] [] = ⊤
 AllKeep job chain [] (k ∷ ks) = ⊥
 AllKeep job chain (s ∷ ss) [] = ⊥
-AllKeep job chain (s ∷ ss) (k ∷ ks) = Keeps job chain s k × AllKeep job chain ss ks
+AllKeep job chain (s ∷ ss) (k ∷ ks) = HasKept job chain s k × AllKeep job chain ss ks
 
 -- all seats, and beside each what its thread keeps of what the seat took
 pub record AreHandedBack (job : Job) (chain : Chain) (room : Room) (count : ℕ) (back : List Seat) (all : List Kept) : Type 0 where
@@ -73,7 +73,7 @@ abbrev pub Pairs : {g : Ghosts Outbox Target} → List Seat → List (Vec (Pass 
 Pairs seats rows workers = (chain : Chain) (room : Room) → All (IsFreshSeat room) seats → All (AreFreshPasses chain) rows → All (IsFreshWorker chain room) workers
 
 -- the threads began with the tasks, each with its own
-pub record AreKept (job : Job) (chain : Chain) (tasks : List ℕ) (all : List Kept) : Type 0 where
+pub record HaveKept (job : Job) (chain : Chain) (tasks : List ℕ) (all : List Kept) : Type 0 where
   pub starts : List (List ℕ)
   pub keep : AllKeep job chain starts all
   pub dealt : (x : ℕ) → times_in x starts ≡ times x tasks

@@ -4,7 +4,7 @@ ghost use Rattle.std.specs.Prelude.{◌≡◌, ◌<◌, ◌≤◌, [], length, A
 ghost use Rattle.rq_record.specs.declared.fault.Fault.TheVariants.{Resources};
 ghost use Rattle.rq_model.specs.Queues as queues;
 ghost use Rattle.rq_pool.specs.Countdowns.Words.{history_of};
-ghost use Rattle.rq_exchange.specs.Chains.{web_of, due, AreBoxes, IsChain, ArePasses, HasPasses, diaries_of};
+ghost use Rattle.rq_exchange.specs.Chains.{web_of, due, AreBoxes, IsChainOf, ArePasses, HasPasses, diaries_of};
 ghost use Rattle.rq_exchange.specs.Openings.{Opened};
 ghost use Rattle.rq_exchange.specs.Coverage.{HandsOn};
 ghost use Rattle.rq_exchange.specs.Jobs.{IsJob, records_of, errors_in};
@@ -39,7 +39,7 @@ impl Chain {
         moves: Vec<Move>,
     ) -> Option<Vec<Outbox>>
         requires job { IsJob job.now }
-        requires chain { IsChain job.now self.now }
+        requires chain { IsChainOf job.now self.now }
         requires passes { ArePasses self.now passes.old }
         requires queue { (queue < length job.now.definitions.now) × (error ≡ at (errors_in job.now) queue) × (error < length job.now.definitions.now) }
         requires moves { moves.items ≡ queues.moves job.now.state.now (records_of job.now) queue }
@@ -129,7 +129,7 @@ impl Chain {
     ) -> Result<(Chain, Vec<Vec<Pass<Outbox>>>), Fault>
         requires job { IsJob job.now }
         requires workers { (0 < workers) × (workers ≤ 64) }
-        ensures chain { IfOk result (λ r. IsChain job.now r.0) }
+        ensures chain { IfOk result (λ r. IsChainOf job.now r.0) }
         ensures passes { IfOk result (λ r. HasPasses r.0 workers) }
         ensures count { IfOk result (λ r. length r.1.items ≡ workers) }
         ensures rows { IfOk result (λ r. All (λ ps. ArePasses r.0 ps.items × All (λ p. history_of p ≡ []) ps.items) r.1.items) }

@@ -6,13 +6,13 @@ ghost use Rattle.rq_pool.specs.Ledger.{times, times_in};
 ghost use Rattle.rq_pool.specs.Countdowns.Words.{history_of};
 ghost use Rattle.rq_pool.specs.Rooms.{IsSeatOf, taken_of, deal_of};
 ghost use Rattle.rq_record.specs.declared.fault.Fault.TheVariants.{Resources};
-ghost use Rattle.rq_exchange.specs.Chains.{web_of, IsChain, ArePasses, IsRedone, IsBare, hand_of};
-ghost use Rattle.rq_exchange.specs.Coverage.{Follows};
+ghost use Rattle.rq_exchange.specs.Chains.{web_of, IsChainOf, ArePasses, IsRedone, IsBare, hand_of};
+ghost use Rattle.rq_exchange.specs.Coverage.{HasFollowed};
 ghost use Rattle.rq_exchange.specs.Jobs.{IsJob};
 ghost use Rattle.rq_exchange.specs.Tasks.{AreBare};
 ghost use Rattle.rq_exchange.specs.declared.chain.Chain.{Chain as GhostChain};
 ghost use Rattle.rq_exchange.specs.declared.jobs.Job.{Job as GhostJob};
-ghost use Rattle.rq_exchange.specs.Workers.{Works, HandsBack, IsFreshWorker, Pairs, AreKept};
+ghost use Rattle.rq_exchange.specs.Workers.{Works, HandsBack, IsFreshWorker, Pairs, HaveKept};
 
 use crate::chain::Chain;
 use crate::dealing::deal;
@@ -57,7 +57,7 @@ fn work<G: Gate>(
     passes: Vec<Pass<Outbox>>,
 ) -> Result<Ended, Fault>
     requires job { IsJob job.now }
-    requires chain { IsChain job.now chain.now }
+    requires chain { IsChainOf job.now chain.now }
     requires seat { IsSeatOf room.now seat × (taken_of seat ≡ []) }
     requires passes { ArePasses chain.now passes.items }
     requires fresh { All (λ p. history_of p ≡ []) passes.items }
@@ -94,13 +94,13 @@ fn finish<G: Gate>(
     kept: &mut Kept,
 ) -> Result<(), Fault>
     requires job { IsJob job.now }
-    requires chain { IsChain job.now chain.now }
+    requires chain { IsChainOf job.now chain.now }
     requires passes { ArePasses chain.now kept.old.passes.items }
     requires done { All (IsRedone job.now) kept.old.done.items }
     requires bare { (x : ℕ) → 0 < times x left.now → IsBare job.now x }
     ensures passes { IfOk result (λ _. ArePasses chain.now kept.new.passes.items) }
     ensures done { IfOk result (λ _. All (IsRedone job.now) kept.new.done.items) }
-    ensures follows { IfOk result (λ _. (starts : List ℕ) → Follows (web_of job.now chain.now) (hand_of starts kept.old.done.items kept.old.passes.items) → Follows (web_of job.now chain.now) (hand_of (starts ++ left.now) kept.new.done.items kept.new.passes.items)) }
+    ensures follows { IfOk result (λ _. (starts : List ℕ) → HasFollowed (web_of job.now chain.now) (hand_of starts kept.old.done.items kept.old.passes.items) → HasFollowed (web_of job.now chain.now) (hand_of (starts ++ left.now) kept.new.done.items kept.new.passes.items)) }
     ensures refused { IfErr result (λ e. e ≡ Resources) }
 {
     let Kept { passes, done } = kept;
@@ -121,7 +121,7 @@ fn run_seats<R: Threads + Sync, G: Gate + Sync>(
     workers: Vec<Worker>,
 ) -> Result<Vec<Result<Ended, Fault>>, AllocError>
     requires job { IsJob job.now }
-    requires chain { IsChain job.now chain.now }
+    requires chain { IsChainOf job.now chain.now }
     requires workers { All (IsFreshWorker chain.now room.now) workers.items }
     requires bare { (x : ℕ) → 0 < times_in x (deal_of room.now) → IsBare job.now x }
     ensures { IfOk result (λ v. (length v.items ≡ length workers.items) × All (Works job.now chain.now room.now) v.items) }
@@ -188,11 +188,11 @@ pub(crate) fn all_kept<R: Threads + Sync, G: Gate + Sync>(
     rows: Vec<Vec<Pass<Outbox>>>,
 ) -> Result<Vec<Kept>, Fault>
     requires job { IsJob job.now }
-    requires chain { IsChain job.now chain.now }
+    requires chain { IsChainOf job.now chain.now }
     requires count { (0 < length rows.items) × (length rows.items ≤ 64) }
     requires rows { All (λ r. ArePasses chain.now r.items × All (λ p. history_of p ≡ []) r.items) rows.items }
     requires tasks { AreBare job.now.sources.now (length job.now.sources.now) tasks.now }
-    ensures kept { IfOk result (λ v. AreKept job.now chain.now tasks.now v.items) }
+    ensures kept { IfOk result (λ v. HaveKept job.now chain.now tasks.now v.items) }
     ensures count { IfOk result (λ v. length v.items ≡ length rows.items) }
     ensures refused { IfErr result (λ e. e ≡ Resources) }
 {

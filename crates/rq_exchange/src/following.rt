@@ -3,8 +3,8 @@
 ghost use Rattle.std.specs.Prelude.{◌≡◌, ◌<◌, ◌++◌, ◌∷◌, [], ℕ, List, length, All, IfOk, IfErr, IfSome};
 ghost use Rattle.rq_record.specs.declared.fault.Fault.TheVariants.{Resources};
 ghost use Rattle.rq_state.specs.Orders.{listed};
-ghost use Rattle.rq_exchange.specs.Chains.{web_of, AreBoxes, IsChain, ArePasses, IsRedone, redone_in, diaries_of, hand_of, next_of};
-ghost use Rattle.rq_exchange.specs.Coverage.{StepsOn, Follows};
+ghost use Rattle.rq_exchange.specs.Chains.{web_of, AreBoxes, IsChainOf, ArePasses, IsRedone, redone_in, diaries_of, hand_of, next_of};
+ghost use Rattle.rq_exchange.specs.Coverage.{StepsOn, HasFollowed};
 ghost use Rattle.rq_exchange.specs.Jobs.{IsJob};
 
 use crate::chain::Chain;
@@ -26,7 +26,7 @@ fn step<G: Gate>(
     done: &mut Vec<Redone>,
 ) -> Result<Option<(u32, Vec<Outbox>)>, Fault>
     requires job { IsJob job.now }
-    requires chain { IsChain job.now chain.now }
+    requires chain { IsChainOf job.now chain.now }
     requires passes { ArePasses chain.now passes.old }
     requires defined { queue < length job.now.definitions.now }
     requires boxes { AreBoxes job.now queue boxes.items }
@@ -60,12 +60,12 @@ pub(crate) fn follow<G: Gate>(
     done: &mut Vec<Redone>,
 ) -> Result<(), Fault>
     requires job { IsJob job.now }
-    requires chain { IsChain job.now chain.now }
+    requires chain { IsChainOf job.now chain.now }
     requires passes { ArePasses chain.now passes.old }
     requires start { (start < length job.now.definitions.now) × (listed job.now.sources.now start ≡ []) }
     ensures passes { IfOk result (λ _. ArePasses chain.now passes.new) }
     ensures done { IfOk result (λ _. All (IsRedone job.now) done.old.items → All (IsRedone job.now) done.new.items) }
-    ensures follows { IfOk result (λ _. (starts : List ℕ) → Follows (web_of job.now chain.now) (hand_of starts done.old.items passes.old) → Follows (web_of job.now chain.now) (hand_of (starts ++ start ∷ []) done.new.items passes.new)) }
+    ensures follows { IfOk result (λ _. (starts : List ℕ) → HasFollowed (web_of job.now chain.now) (hand_of starts done.old.items passes.old) → HasFollowed (web_of job.now chain.now) (hand_of (starts ++ start ∷ []) done.new.items passes.new)) }
     ensures refused { IfErr result (λ e. e ≡ Resources) }
 {
     let mut queue = start;

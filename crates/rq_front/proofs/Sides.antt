@@ -13,7 +13,7 @@ use Rattle.rq_front.specs.declared.spans.Span.{Span}
 use Rattle.rq_front.proofs.Framing.{IsBytes, right_exactly}
 
 -- where the lanes find the digest right, it is right
-one_right : (b : List ℕ) → IsBytes b → (s : Span) → IsSpanOf b s → lanes.IsRight b (message_of s) → IsRight b s
+one_right : (b : List ℕ) → IsBytes b → (s : Span) → IsSpanOf b s → lanes.HasDigestBehind b (message_of s) → IsRight b s
 one_right b bytes s is r =
     let at = s.start - 4 in
     let low : 32 ≤ at = omega (arith, is.after) in
@@ -25,10 +25,10 @@ one_right b bytes s is r =
     ap (λ (n : ℕ). sha256 (slice_range b (at - 32) n)) to in
     (right_exactly b at s.len bytes low is.frame is.size).0 (sym (sym here ∙ r.digest ∙ of))
 
-pub all_right : (b : List ℕ) → IsBytes b → (spans : List Span) → All (IsSpanOf b) spans → All (lanes.IsRight b) (map message_of spans) → All (IsRight b) spans
+pub all_right : (b : List ℕ) → IsBytes b → (spans : List Span) → All (IsSpanOf b) spans → All (lanes.HasDigestBehind b) (map message_of spans) → All (IsRight b) spans
 all_right b bytes spans are right = λ k d lt.
     let here = right k (message_of d) (omega (arith, lt, length-map spans message_of)) in
-    one_right b bytes (get_or spans k d) (are k d lt) (subst (lanes.IsRight b) (get_or-map message_of spans k d (message_of d) lt) here)
+    one_right b bytes (get_or spans k d) (are k d lt) (subst (lanes.HasDigestBehind b) (get_or-map message_of spans k d (message_of d) lt) here)
 
 -- what holds of two lists side by side holds of both
 each_of_both : (P : Span → Type 0) (xs ys : List Span) → AllByRecursion P (xs ++ ys) → AllByRecursion P xs × AllByRecursion P ys
@@ -45,12 +45,12 @@ each_turn P (s ∷ ss) first second =
 
 -- so where the lanes find the digests of both turns right, all are
 pub both_turns_right : (b : List ℕ) → IsBytes b → (spans : List Span) → All (IsSpanOf b) spans
-    → All (lanes.IsRight b) (map message_of (filter (has_turn true) spans) ++ map message_of (filter (has_turn false) spans)) → All (IsRight b) spans
+    → All (lanes.HasDigestBehind b) (map message_of (filter (has_turn true) spans) ++ map message_of (filter (has_turn false) spans)) → All (IsRight b) spans
 both_turns_right b bytes spans are right =
     let first : List Span = filter (has_turn true) spans in
     let second : List Span = filter (has_turn false) spans in
     let of : All (IsSpanOf b) (first ++ second) = All-append (IsSpanOf b) first second (All-filter (has_turn true) (IsSpanOf b) spans are) (All-filter (has_turn false) (IsSpanOf b) spans are) in
-    let both : All (IsRight b) (first ++ second) = all_right b bytes (first ++ second) of (subst (All (lanes.IsRight b)) (sym (map-append message_of first second)) right) in
+    let both : All (IsRight b) (first ++ second) = all_right b bytes (first ++ second) of (subst (All (lanes.HasDigestBehind b)) (sym (map-append message_of first second)) right) in
     let each = each_of_both (IsRight b) first second (recursion_from_All (IsRight b) (first ++ second) both) in
     All-from_recursion (IsRight b) spans (each_turn (IsRight b) spans each.0 each.1)
 

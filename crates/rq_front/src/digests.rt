@@ -5,7 +5,7 @@ ghost use Rattle.std.specs.Prelude.{IfOk, IfNone, IfSome, All, MatchBool};
 ghost use Rattle.rq_model.specs.Frames.{HasFrame, HasRightFrame, before, stated};
 ghost use Rattle.rq_front.specs.Walks.{HasFirstWrong, IsFirstWrong, IsRight, IsSpanOf, has_turn};
 ghost use Rattle.rq_front.specs.Walks.{message_at, message_of};
-ghost use Rattle.rq_lanes.specs.Messages.{Holds};
+ghost use Rattle.rq_lanes.specs.Messages.{AccountsFor};
 ghost use Rattle.rq_front.specs.Pieces.{AreSideBySide, spans_in};
 
 use crate::{FRAME_LEN, Span};
@@ -91,8 +91,8 @@ fn has_turn(first: bool, span: Span) -> bool
 // Gives the lanes the frames that have the first turn, or the second.
 fn taken(given: Lanes<LANES>, bytes: &[u8], spans: &[Span], first: bool) -> Lanes<LANES>
     requires { All (IsSpanOf bytes.now) spans.now }
-    ensures { (ms : List Message) → Holds bytes.now given ms
-        → Holds bytes.now result (ms ++ map message_of (filter (has_turn first) spans.now)) }
+    ensures { (ms : List Message) → AccountsFor bytes.now given ms
+        → AccountsFor bytes.now result (ms ++ map message_of (filter (has_turn first) spans.now)) }
 {
     let mut lanes = given;
     'frames: for i in 0..spans.len() {

@@ -5,7 +5,7 @@ use Rattle.std.proofs.lemmas.Bool.{cases_lt}
 use Rattle.sha2.specs.Sha256.{hash_after, compress, initial_hash_256, padded_message}
 use Rattle.sha2.proofs.Absorbing256.{hash_after_next}
 use Rattle.rq_lanes.specs.Columns.{word_in, lane}
-use Rattle.rq_lanes.specs.Messages.{Fills, Runs, block_at, text}
+use Rattle.rq_lanes.specs.Messages.{Fills, HasTakenIn, block_at, text}
 use Rattle.rq_lanes.specs.declared.lanes.Message.{Message}
 use Rattle.rq_lanes.specs.declared.lanes.Lane.{Lane}
 use Rattle.rq_lanes.proofs.Tails.{block_whole, block_tail, padded_blocks}
@@ -55,8 +55,8 @@ block_second_tail b l k f above below =
     sym (ap (λ (i : ℕ). take 64 (drop i (padded_message (text b l.message)))) (sym place) ∙ t)
 
 -- one more block
-pub runs_on : (b : List ℕ) (l : Lane) (clock : ℕ) (words block next : List ℕ) → Runs b l clock words → clock < l.due
-    → block ≡ block_at b l clock → next ≡ compress words block → Runs b l (clock + 1) next
+pub runs_on : (b : List ℕ) (l : Lane) (clock : ℕ) (words block next : List ℕ) → HasTakenIn b l clock words → clock < l.due
+    → block ≡ block_at b l clock → next ≡ compress words block → HasTakenIn b l (clock + 1) next
 runs_on b l clock words block next r lt at e =
     let p = padded_message (text b l.message) in
     let count : clock + 1 - l.born ≡ clock - l.born + 1 = omega (arith, r.begun) in

@@ -6,28 +6,28 @@ use Rattle.std.proofs.lemmas.List.Elements.{All-append, All-cons, All-nil}
 use Rattle.std.proofs.lemmas.Bool.{cases_lt, cases_eq}
 use Rattle.sha2.specs.Sha256.{digest_bytes, hash_after, initial_hash_256, padded_message, sha256}
 use Rattle.rq_lanes.specs.Columns.{lane}
-use Rattle.rq_lanes.specs.Messages.{Fills, Holds, IsIn, IsRight, Runs, block_at, held, text}
+use Rattle.rq_lanes.specs.Messages.{Fills, AccountsFor, IsInLane, HasDigestBehind, HasTakenIn, block_at, held, text}
 use Rattle.rq_lanes.specs.declared.lanes.Message.{Message}
 use Rattle.rq_lanes.specs.declared.lanes.Lane.{Lane}
 use Rattle.rq_lanes.specs.declared.lanes.Lanes.{Lanes}
 
 -- one more lane's block
 pub more_blocks : (b : List ℕ) (lanes : List Lane) (clock : ℕ) (blocks : List (List ℕ)) (j : ℕ) (x : List ℕ) (k : ℕ) (words : List ℕ) → j < length blocks
-    → ((ws : List ℕ) → Runs b (held lanes j) clock ws → clock < (held lanes j).due → x ≡ block_at b (held lanes j) clock)
-    → ((ws : List ℕ) → k < j → Runs b (held lanes k) clock ws → clock < (held lanes k).due → slice_index_or blocks k [] ≡ block_at b (held lanes k) clock)
-    → k < j + 1 → Runs b (held lanes k) clock words → clock < (held lanes k).due → slice_index_or (slice_set blocks j x) k [] ≡ block_at b (held lanes k) clock
+    → ((ws : List ℕ) → HasTakenIn b (held lanes j) clock ws → clock < (held lanes j).due → x ≡ block_at b (held lanes j) clock)
+    → ((ws : List ℕ) → k < j → HasTakenIn b (held lanes k) clock ws → clock < (held lanes k).due → slice_index_or blocks k [] ≡ block_at b (held lanes k) clock)
+    → k < j + 1 → HasTakenIn b (held lanes k) clock words → clock < (held lanes k).due → slice_index_or (slice_set blocks j x) k [] ≡ block_at b (held lanes k) clock
 more_blocks b lanes clock blocks j x k words low here before lt run below =
     elim (cases_lt k j) [
       | inl a ↦ get_or-set_other blocks j k x [] (omega arith) ∙ before words a run below
       | inr c ↦
           let e : k ≡ j = omega arith in
           let at = ap (λ (i : ℕ). slice_index_or (slice_set blocks j x) i []) e ∙ get_or-set_same blocks j x [] low in
-          at ∙ here words (subst (λ (i : ℕ). Runs b (held lanes i) clock words) e run) (subst (λ (i : ℕ). clock < (held lanes i).due) e below)
+          at ∙ here words (subst (λ (i : ℕ). HasTakenIn b (held lanes i) clock words) e run) (subst (λ (i : ℕ). clock < (held lanes i).due) e below)
           ∙ sym (ap (λ (i : ℕ). block_at b (held lanes i) clock) e)
     ]
 
 -- the digest of a message that has ended
-pub ended : (b : List ℕ) (l : Lane) (clock : ℕ) (words : List ℕ) → Runs b l clock words → l.due ≤ clock → digest_bytes words 8 ≡ sha256 (text b l.message)
+pub ended : (b : List ℕ) (l : Lane) (clock : ℕ) (words : List ℕ) → HasTakenIn b l clock words → l.due ≤ clock → digest_bytes words 8 ≡ sha256 (text b l.message)
 unfolding sha256
 ended b l clock words r late =
     let p = padded_message (text b l.message) in
@@ -35,7 +35,7 @@ ended b l clock words r late =
     ap (λ (h : List ℕ). digest_bytes h 8) (r.hash ∙ ap (hash_after initial_hash_256 p) count)
 
 -- a message whose first block comes next
-pub starts : (b : List ℕ) (l : Lane) (clock : ℕ) (words : List ℕ) → Fills b l → l.born ≡ clock → clock ≤ l.due → words ≡ initial_hash_256 → Runs b l clock words
+pub starts : (b : List ℕ) (l : Lane) (clock : ℕ) (words : List ℕ) → Fills b l → l.born ≡ clock → clock ≤ l.due → words ≡ initial_hash_256 → HasTakenIn b l clock words
 unfolding hash_after
 starts b l clock words fills born late e =
     let p = padded_message (text b l.message) in
@@ -62,7 +62,7 @@ new_lane : (lanes : List Lane) (j : ℕ) (l : Lane) → j < length lanes → hel
 new_lane lanes j l low = get_or-set_same lanes j l _ low
 
 -- a message in another lane stays there
-stays : (lanes : List Lane) (j : ℕ) (l : Lane) (m : Message) (at : IsIn lanes m) → at.place ≢ j → IsIn (slice_set lanes j l) m
+stays : (lanes : List Lane) (j : ℕ) (l : Lane) (m : Message) (at : IsInLane lanes m) → at.place ≢ j → IsInLane (slice_set lanes j l) m
 stays lanes j l m at ne =
     let same = same_lane lanes j at.place l ne in
     record {
@@ -74,9 +74,9 @@ stays lanes j l m at ne =
 
 module _ {n : ℕ} (b : List ℕ) (s : Lanes n) (ms : List Message) where
   -- a lane that has no message any more
-  pub released : (j : ℕ) (l : Lane) → j < length s.lanes → l.busy ≡ false → Holds b s ms
-      → (s.right ≡ true → (held s.lanes j).busy ≡ true → IsRight b (held s.lanes j).message)
-      → Holds {n = n} b (record { lanes = slice_set s.lanes j l; hash = s.hash; clock = s.clock; right = s.right }) ms
+  pub released : (j : ℕ) (l : Lane) → j < length s.lanes → l.busy ≡ false → AccountsFor b s ms
+      → (s.right ≡ true → (held s.lanes j).busy ≡ true → HasDigestBehind b (held s.lanes j).message)
+      → AccountsFor {n = n} b (record { lanes = slice_set s.lanes j l; hash = s.hash; clock = s.clock; right = s.right }) ms
   released j l low idle h right = record {
     each = λ k lt busy. elim (cases_eq k j) [
       | inl e ↦
@@ -85,7 +85,7 @@ module _ {n : ℕ} (b : List ℕ) (s : Lanes n) (ms : List Message) where
           cc
       | inr ne ↦
           let same = same_lane s.lanes j k l ne in
-          subst (λ (x : Lane). Runs b x s.clock (lane k s.hash)) (sym same)
+          subst (λ (x : Lane). HasTakenIn b x s.clock (lane k s.hash)) (sym same)
           (h.each k (omega (arith, lt, length-set s.lanes j l)) (sym (ap (λ (x : Lane). x.busy) same) ∙ busy))
     ];
     known = λ truth. λ k d lt. elim (h.known truth k d lt) [
@@ -94,7 +94,7 @@ module _ {n : ℕ} (b : List ℕ) (s : Lanes n) (ms : List Message) where
         | inl e ↦
             let busy = sym (ap (λ (i : ℕ). (held s.lanes i).busy) e) ∙ at.busy in
             let is = sym (ap (λ (i : ℕ). (held s.lanes i).message) e) ∙ at.same in
-            inl (subst (IsRight b) is (right truth busy))
+            inl (subst (HasDigestBehind b) is (right truth busy))
         | inr ne ↦ inr (stays s.lanes j l _ at ne)
       ]
     ];
@@ -102,21 +102,21 @@ module _ {n : ℕ} (b : List ℕ) (s : Lanes n) (ms : List Message) where
 
   -- a lane that was given a message
   pub placed : (hash : List (List ℕ)) (j : ℕ) (l : Lane) (m : Message) → j < length s.lanes → (held s.lanes j).busy ≡ false → l.busy ≡ true → l.message ≡ m
-      → Runs b l s.clock (lane j hash) → ((k : ℕ) → k ≢ j → lane k hash ≡ lane k s.hash) → Holds b s ms
-      → Holds {n = n} b (record { lanes = slice_set s.lanes j l; hash = hash; clock = s.clock; right = s.right }) (ms ++ m ∷ [])
+      → HasTakenIn b l s.clock (lane j hash) → ((k : ℕ) → k ≢ j → lane k hash ≡ lane k s.hash) → AccountsFor b s ms
+      → AccountsFor {n = n} b (record { lanes = slice_set s.lanes j l; hash = hash; clock = s.clock; right = s.right }) (ms ++ m ∷ [])
   placed hash j l m low free busy is run others h =
       let here = new_lane s.lanes j l low in
-      let Known : Message → Type 0 = λ x. IsRight b x ⊎ IsIn (slice_set s.lanes j l) x in
+      let Known : Message → Type 0 = λ x. HasDigestBehind b x ⊎ IsInLane (slice_set s.lanes j l) x in
       record {
         each = λ k lt full. elim (cases_eq k j) [
           | inl e ↦
-              subst (λ (i : ℕ). Runs b (held (slice_set s.lanes j l) i) s.clock (lane i hash)) (sym e)
-              (subst (λ (x : Lane). Runs b x s.clock (lane j hash)) (sym here) run)
+              subst (λ (i : ℕ). HasTakenIn b (held (slice_set s.lanes j l) i) s.clock (lane i hash)) (sym e)
+              (subst (λ (x : Lane). HasTakenIn b x s.clock (lane j hash)) (sym here) run)
           | inr ne ↦
               let same = same_lane s.lanes j k l ne in
               let before = h.each k (omega (arith, lt, length-set s.lanes j l)) (sym (ap (λ (x : Lane). x.busy) same) ∙ full) in
-              subst (λ (x : Lane). Runs b x s.clock (lane k hash)) (sym same)
-              (subst (λ (w : List ℕ). Runs b (held s.lanes k) s.clock w) (sym (others k ne)) before)
+              subst (λ (x : Lane). HasTakenIn b x s.clock (lane k hash)) (sym same)
+              (subst (λ (w : List ℕ). HasTakenIn b (held s.lanes k) s.clock w) (sym (others k ne)) before)
         ];
         known = λ truth. All-append Known ms (m ∷ [])
             (λ k d lt. elim (h.known truth k d lt) [
@@ -138,23 +138,23 @@ module _ {n : ℕ} (b : List ℕ) (s : Lanes n) (ms : List Message) where
 
   -- lanes that have taken in more
   pub ran : (t : Lanes n) (end : ℕ) → t.lanes ≡ s.lanes → t.right ≡ s.right → length s.lanes ≡ n → ((k : ℕ) → k < n → end ≤ (held s.lanes k).due)
-      → ((j : ℕ) → j < n → Runs b (held s.lanes j) s.clock (lane j s.hash) → end ≤ (held s.lanes j).due → Runs b (held s.lanes j) t.clock (lane j t.hash))
-      → Holds b s ms → Holds b t ms
+      → ((j : ℕ) → j < n → HasTakenIn b (held s.lanes j) s.clock (lane j s.hash) → end ≤ (held s.lanes j).due → HasTakenIn b (held s.lanes j) t.clock (lane j t.hash))
+      → AccountsFor b s ms → AccountsFor b t ms
   ran t end lanes right size first more h = record {
     each = λ k lt busy.
         let low : k < n = omega (arith, lt, size, ap length lanes) in
         let full : (held s.lanes k).busy ≡ true = sym (ap (λ (ls : List Lane). (held ls k).busy) lanes) ∙ busy in
-        subst (λ (ls : List Lane). Runs b (held ls k) t.clock (lane k t.hash)) (sym lanes)
+        subst (λ (ls : List Lane). HasTakenIn b (held ls k) t.clock (lane k t.hash)) (sym lanes)
         (more k low (h.each k (omega (arith, low, size)) full) (first k low));
-    known = λ truth. subst (λ (ls : List Lane). All (λ m. IsRight b m ⊎ IsIn ls m) ms) (sym lanes) (h.known (sym right ∙ truth));
+    known = λ truth. subst (λ (ls : List Lane). All (λ m. HasDigestBehind b m ⊎ IsInLane ls m) ms) (sym lanes) (h.known (sym right ∙ truth));
   }
 
   -- once a wrong digest was seen, whatever the messages are
-  pub wrong_seen : (more : List Message) → Holds b s ms → Holds {n = n} b (record { lanes = s.lanes; hash = s.hash; clock = s.clock; right = false }) more
+  pub wrong_seen : (more : List Message) → AccountsFor b s ms → AccountsFor {n = n} b (record { lanes = s.lanes; hash = s.hash; clock = s.clock; right = false }) more
   wrong_seen more h = record { each = h.each; known = λ (truth : false ≡ true). cc }
 
   -- lanes without a message have none that is not right
-  pub all_right : s.right ≡ true → ((k : ℕ) → k < length s.lanes → (held s.lanes k).busy ≡ false) → Holds b s ms → All (IsRight b) ms
+  pub all_right : s.right ≡ true → ((k : ℕ) → k < length s.lanes → (held s.lanes k).busy ≡ false) → AccountsFor b s ms → All (HasDigestBehind b) ms
   all_right truth idle h = λ k d lt. elim (h.known truth k d lt) [
     | inl r ↦ r
     | inr at ↦ let bad : false ≡ true = sym (idle at.place at.low) ∙ at.busy in cc

@@ -12,7 +12,7 @@ abbrev pub text : List ℕ → Message → List ℕ
 text b m = slice_range b m.start (m.start + m.len)
 
 -- the 32 bytes behind the message are its digest
-pub record IsRight (b : List ℕ) (m : Message) : Type 0 where
+pub record HasDigestBehind (b : List ℕ) (m : Message) : Type 0 where
   pub within : m.start + m.len + 32 ≤ length b
   pub digest : slice_range b (m.start + m.len) (m.start + m.len + 32) ≡ sha256 (text b m)
 
@@ -29,7 +29,7 @@ abbrev pub block_at : List ℕ → Lane → ℕ → List ℕ
 block_at b l clock = take 64 (drop ((clock - l.born) * 64) (padded_message (text b l.message)))
 
 -- the hash value has taken in the blocks of the lane's message that are before the clock
-pub record Runs (b : List ℕ) (l : Lane) (clock : ℕ) (words : List ℕ) : Type 0 where
+pub record HasTakenIn (b : List ℕ) (l : Lane) (clock : ℕ) (words : List ℕ) : Type 0 where
   pub fills : Fills b l
   pub begun : l.born ≤ clock
   pub ending : clock ≤ l.due
@@ -42,7 +42,7 @@ held lanes j = get_or lanes j
     (record { message = record { start = 0; len = 0 }; born = 0; due = 0; busy = false; tail = [] })
 
 -- a lane has the message
-pub record IsIn (lanes : List Lane) (m : Message) : Type 0 where
+pub record IsInLane (lanes : List Lane) (m : Message) : Type 0 where
   pub place : ℕ
   pub low : place < length lanes
   pub busy : (held lanes place).busy ≡ true
@@ -50,7 +50,7 @@ pub record IsIn (lanes : List Lane) (m : Message) : Type 0 where
 
 -- of the messages that these lanes were given, each is right or in a lane, unless a wrong one was
 -- seen
-pub record Holds {n : ℕ} (b : List ℕ) (s : Lanes n) (ms : List Message) : Type 0 where
+pub record AccountsFor {n : ℕ} (b : List ℕ) (s : Lanes n) (ms : List Message) : Type 0 where
   pub each : (j : ℕ) → j < length s.lanes → (held s.lanes j).busy ≡ true
-      → Runs b (held s.lanes j) s.clock (lane j s.hash)
-  pub known : s.right ≡ true → All (λ m. IsRight b m ⊎ IsIn s.lanes m) ms
+      → HasTakenIn b (held s.lanes j) s.clock (lane j s.hash)
+  pub known : s.right ≡ true → All (λ m. HasDigestBehind b m ⊎ IsInLane s.lanes m) ms

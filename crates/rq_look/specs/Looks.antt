@@ -30,8 +30,8 @@ abbrev pub IsKnownWhole : List ℕ → Bool → Type 0
 IsKnownWhole b whole = (r : Restarted) × IsRestart b r × (whole ≡ is_whole r.why)
 
 -- whether b is whole, and each checkpoint of its front true
-abbrev pub IsChecked : List ℕ → Bool → Type 0
-IsChecked b fine = (r : Restarted) × (found : List (ℕ × Bool)) × IsRestart b r
+abbrev pub IsWholeAndTrue : List ℕ → Bool → Type 0
+IsWholeAndTrue b fine = (r : Restarted) × (found : List (ℕ × Bool)) × IsRestart b r
     × IsAudit b (map audited_of found) × (fine ≡ (is_whole r.why && all_true found))
 
 -- b is refused as a restart of it is

@@ -1,7 +1,7 @@
 //! Whether a log is whole, and each of its checkpoints true.
 
 ghost use Rattle.std.specs.Prelude.{◌≡◌, IfOk, IfErr};
-ghost use Rattle.rq_look.specs.Looks.{IsChecked, IsRefusal, all_true};
+ghost use Rattle.rq_look.specs.Looks.{IsRefusal, IsWholeAndTrue, all_true};
 
 use crate::ends::{End, end_of, is_whole, put_end};
 use crate::trouble::Trouble;
@@ -56,7 +56,7 @@ pub fn check<R: Threads + Sync>(
     bytes: &[u8],
     plan: &Plan,
 ) -> Result<Findings, Trouble>
-    ensures checked { IfOk result (λ found. IsChecked bytes.now found.fine) }
+    ensures checked { IfOk result (λ found. IsWholeAndTrue bytes.now found.fine) }
     ensures refused { IfErr result (IsRefusal bytes.now) }
 {
     let end = end_of(rt, alloc, bytes, plan)?;

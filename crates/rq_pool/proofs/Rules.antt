@@ -8,7 +8,7 @@ use Rattle.crossbeam_deque.specs.Tasks.{Pushes, Takes, Finds, Forks, Merges, Lea
 use Rattle.crossbeam_deque.proofs.Lists.{at_set, set_else}
 use Rattle.rq_pool.specs.declared.deque.Share.{Share}
 use Rattle.rq_pool.specs.Shares.{share}
-use Rattle.rq_pool.specs.Rules.{Fits, Balanced, Pushed, Taken, Emptied}
+use Rattle.rq_pool.specs.Rules.{FitsDeal, Balanced, Pushed, Taken, Emptied}
 use Rattle.rq_pool.proofs.Totals.{total_set, total_at, total_one, each_set, each_snoc}
 
 pub length_sum : (xs : List ℕ) → length xs ≡ sum_by (λ _. 1) xs
@@ -31,7 +31,7 @@ begins = record {
   dealt = [];
   parts = refl;
   each_once = λ h. refl;
-  each_view = each_snoc (Fits []) [] (share 256 [] []) ((λ none. refl), λ _. refl) (λ port v at. absurd (some-ne-none v (sym at)));
+  each_view = each_snoc (FitsDeal []) [] (share 256 [] []) ((λ none. refl), λ _. refl) (λ port v at. absurd (some-ne-none v (sym at)));
 }
 
 pub puts : (port : ℕ) (v : Share) (x : ℕ) → v.parts ≡ 256 → Pushes Balanced port v (x ∷ []) (Pushed v (x ∷ []))
@@ -41,7 +41,7 @@ puts port v x all items views r at = let w : Share = share v.parts (v.dealt ++ x
     dealt = r.dealt ++ x ∷ [];
     parts = (let t = total_set parts_of views port v w at in let p = r.parts in omega arith);
     each_once = λ h. (let t = total_set (weight h) views port v w at in let e = r.each_once h in omega (arith, sum_by_push h items x, sum_by_push h r.dealt x));
-    each_view = λ j u here. ⊎_elim (λ e. subst (Fits (r.dealt ++ x ∷ [])) e.1 (mine.0, λ _. ap (λ l. l ++ x ∷ []) knows))
+    each_view = λ j u here. ⊎_elim (λ e. subst (FitsDeal (r.dealt ++ x ∷ [])) e.1 (mine.0, λ _. ap (λ l. l ++ x ∷ []) knows))
         (λ e. ((r.each_view j u e.1).0, λ some_part. (let none = others_none views port v j u at (r.parts ∙ sym all) e.0 e.1 in absurd (omega arith)))) (at_set views port j w u here);
   },
   refl,
@@ -54,7 +54,7 @@ gets port v part xs items views _ _ r at = let w : Share = share v.parts v.dealt
     dealt = r.dealt;
     parts = (let t = total_set parts_of views port v w at in let p = r.parts in omega arith);
     each_once = λ h. (let t = total_set (weight h) views port v w at in let e = r.each_once h in omega (arith, sum_by-append h xs items, sum_by-append h v.taken xs));
-    each_view = each_set (Fits r.dealt) views port w ((λ none. absurd (omega arith)), mine.1) r.each_view;
+    each_view = each_set (FitsDeal r.dealt) views port w ((λ none. absurd (omega arith)), mine.1) r.each_view;
   },
   (
     refl,
@@ -67,7 +67,7 @@ cuts port v part items views r at = let l : Share = share (v.parts - 1) v.dealt 
   dealt = r.dealt;
   parts = (let t = total_set parts_of views port v l at in let p = r.parts in omega (arith, sum_by_push parts_of (set views port l) one));
   each_once = λ h. (let t = total_set (weight h) views port v l at in let e = r.each_once h in omega (arith, sum_by_push (weight h) (set views port l) one));
-  each_view = each_snoc (Fits r.dealt) (set views port l) one ((λ none. absurd (omega arith)), λ _. knows) (each_set (Fits r.dealt) views port l ((λ none. absurd (omega arith)), λ _. knows) r.each_view);
+  each_view = each_snoc (FitsDeal r.dealt) (set views port l) one ((λ none. absurd (omega arith)), λ _. knows) (each_set (FitsDeal r.dealt) views port l ((λ none. absurd (omega arith)), λ _. knows) r.each_view);
 }
 
 pub glues : (port : ℕ) (v : Share) (other : ℕ) (u : Share) → 0 < v.parts → Merges Balanced port v other u (share (v.parts + u.parts) v.dealt (v.taken ++ u.taken)) (share 0 [] [])
@@ -76,7 +76,7 @@ glues port v other u part items views r at two at' = let both : Share = share (v
       dealt = r.dealt;
       parts = (let a = total_set parts_of views port v both at in let b = total_set parts_of vs other u spent at' in let p = r.parts in omega arith);
       each_once = λ h. (let a = total_set (weight h) views port v both at in let b = total_set (weight h) vs other u spent at' in let e = r.each_once h in omega (arith, sum_by-append h v.taken u.taken));
-      each_view = each_set (Fits r.dealt) vs other spent ((λ _. refl), λ none. absurd (omega arith)) (each_set (Fits r.dealt) views port both ((λ none. absurd (omega arith)), λ _. knows) r.each_view);
+      each_view = each_set (FitsDeal r.dealt) vs other spent ((λ _. refl), λ none. absurd (omega arith)) (each_set (FitsDeal r.dealt) views port both ((λ none. absurd (omega arith)), λ _. knows) r.each_view);
     }
 
 emptied : (port : ℕ) (v : Share) (items : List ℕ) (views : List Share) → length items ≤ 0 → Balanced items views → get_elem? views port ≡ some v → Emptied v
@@ -92,7 +92,7 @@ wholes port v items views r at = let l : Share = share 0 [] [] in record {
   dealt = r.dealt;
   parts = (let t = total_set parts_of views port v l at in let p = r.parts in omega (arith, sum_by_push parts_of (set views port l) v));
   each_once = λ h. (let t = total_set (weight h) views port v l at in let e = r.each_once h in omega (arith, sum_by_push (weight h) (set views port l) v));
-  each_view = each_snoc (Fits r.dealt) (set views port l) v (r.each_view port v at) (each_set (Fits r.dealt) views port l ((λ _. refl), λ none. absurd (omega arith)) r.each_view);
+  each_view = each_snoc (FitsDeal r.dealt) (set views port l) v (r.each_view port v at) (each_set (FitsDeal r.dealt) views port l ((λ _. refl), λ none. absurd (omega arith)) r.each_view);
 }
 
 pub over : (port : ℕ) (v : Share) → Learns Balanced port v (λ items. v.parts ≤ 256)

@@ -6,8 +6,8 @@ use Rattle.rq_pool.specs.declared.deque.Share.{Share}
 use Rattle.rq_pool.specs.Shares.{share}
 
 -- a pass with no part has taken nothing, and one with a part knows what was dealt
-abbrev pub Fits : List ℕ → Share → Type 0
-Fits dealt v = (v.parts ≡ 0 → v.taken ≡ []) × (0 < v.parts → v.dealt ≡ dealt)
+abbrev pub FitsDeal : List ℕ → Share → Type 0
+FitsDeal dealt v = (v.parts ≡ 0 → v.taken ≡ []) × (0 < v.parts → v.dealt ≡ dealt)
 
 -- what the deque holds and what the passes took from it are what was pushed on it, each as often,
 -- however the numbers are weighed
@@ -16,7 +16,7 @@ pub record Balanced (items : List ℕ) (views : List Share) : Type 0 where
   pub parts : sum_by (λ v. v.parts) views ≡ 256
   pub each_once : (h : ℕ → ℕ) →
       sum_by (λ v. sum_by h v.taken) views + sum_by h items ≡ sum_by h dealt
-  pub each_view : (port : ℕ) (v : Share) → get_elem? views port ≡ some v → Fits dealt v
+  pub each_view : (port : ℕ) (v : Share) → get_elem? views port ≡ some v → FitsDeal dealt v
 
 -- the numbers are dealt to the deque
 abbrev pub Pushed : Share → List ℕ → Share → Type 0

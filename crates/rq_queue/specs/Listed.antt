@@ -13,12 +13,12 @@ use Rattle.rq_queue.specs.declared.elements.Elements.TheInside.{Inside}
 abbrev pub contents : Inside → List Element
 contents a = values_of a.free.entries ++ items_of a.marked.entries
 
-abbrev pub listed : Inside → List Element
-listed a = sorted (contents a)
+abbrev pub elements_inside : Inside → List Element
+elements_inside a = sorted (contents a)
 
 -- each Free element stands under its key, each other one with its unit, and numbers differ; priorities that are kept are theirs
-pub record IsKept (a : Inside) : Type 0 where
+pub record IsShelved (a : Inside) : Type 0 where
   pub keyed : AllByRecursion IsKeyed a.free.entries
   pub of_units : AllByRecursion IsOfUnit a.marked.entries
   pub apart : Ordered (λ e f. e.id ≢ f.id) (contents a)
-  pub known : AreKnown a.priorities (listed a)
+  pub known : AreKnown a.priorities (elements_inside a)

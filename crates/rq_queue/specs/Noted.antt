@@ -11,11 +11,11 @@ use Rattle.rq_model.specs.WellFormed.{Ordered}
 use Rattle.rq_queue.specs.declared.whose.Whose.{Whose}
 use Rattle.rq_queue.specs.declared.whose.Whose.TheVariants.{OfUnit, OfRegistrant}
 use Rattle.rq_state.proofs.InOrder.{key_cmp}
-use Rattle.rq_state.specs.Orders.{put_each, place_before}
+use Rattle.rq_state.specs.Orders.{put_in_order, place_before}
 
 -- each put in by its place
 abbrev pub by_place : List Note → List Note
-by_place ns = put_each place_before ns
+by_place ns = put_in_order place_before ns
 
 -- no two of the notes have one place
 abbrev pub Apart : List Note → Type 0
@@ -26,13 +26,13 @@ abbrev pub Rises : List Note → Type 0
 Rises ns = Ordered (λ a b. a.last.place < b.last.place) ns
 
 -- a place, with the note that stands there
-abbrev pub Line : Type 0
-Line = ℕ × Note
+abbrev pub NoteEntry : Type 0
+NoteEntry = ℕ × Note
 
 -- each note stands at its place, and the places rise
-pub record AreByPlace (es : List Line) : Type 0 where
-  pub placed : AllByRecursion (λ (e : Line). e.0 ≡ e.1.last.place) es
-  pub rising : Ordered (λ (a b : Line). a.0 < b.0) es
+pub record AreByPlace (es : List NoteEntry) : Type 0 where
+  pub placed : AllByRecursion (λ (e : NoteEntry). e.0 ≡ e.1.last.place) es
+  pub rising : Ordered (λ (a b : NoteEntry). a.0 < b.0) es
 
 -- whether the place is one of these
 abbrev pub has_place : ℕ → List ℕ → Bool
@@ -47,10 +47,10 @@ abbrev pub filed : {K : Type 0} → (K → K → Ordering) → K → List (K × 
 filed R k es = list_of (lookup (is_at (R k)) es)
 
 -- each place of a note stands under its unit and under its registrant; what else stands there may be out of date
-pub record AreKept (all : List Line) (units : List (ℕ × Vec ℕ)) (names : List ((ℕ × List ℕ) × Vec ℕ)) : Type 0 where
+pub record AreKept (all : List NoteEntry) (units : List (ℕ × Vec ℕ)) (names : List ((ℕ × List ℕ) × Vec ℕ)) : Type 0 where
   pub by_place : AreByPlace all
-  pub by_unit : AllByRecursion (λ (e : Line). has_place e.0 (filed nat_cmp e.1.unit units) ≡ true) all
-  pub by_name : AllByRecursion (λ (e : Line). has_place e.0 (filed key_cmp (e.1.queue, e.1.name) names) ≡ true) all
+  pub by_unit : AllByRecursion (λ (e : NoteEntry). has_place e.0 (filed nat_cmp e.1.unit units) ≡ true) all
+  pub by_name : AllByRecursion (λ (e : NoteEntry). has_place e.0 (filed key_cmp (e.1.queue, e.1.name) names) ≡ true) all
 
 -- whether the note is one of theirs
 abbrev pub is_own : Whose → Note → Bool
@@ -62,8 +62,8 @@ has_own whose None = false
 has_own whose (Some n) = is_own whose n
 
 -- what is left without their notes at these places
-abbrev pub left : Whose → List ℕ → List Line → List Line
-left whose places es = filter (λ (e : Line). not (has_place e.0 places && is_own whose e.1)) es
+abbrev pub left : Whose → List ℕ → List NoteEntry → List NoteEntry
+left whose places es = filter (λ (e : NoteEntry). not (has_place e.0 places && is_own whose e.1)) es
 
 -- a note among the others
 pub record Among (n : Note) (whole others : List Note) : Type 0 where
@@ -73,6 +73,6 @@ pub record Among (n : Note) (whole others : List Note) : Type 0 where
   pub others_are : others ≡ front ++ back
 
 -- a note of theirs was taken out of the lines, or nothing was
-abbrev pub Drawn : Whose → Option Note → List Line → List Line → Type 0
+abbrev pub Drawn : Whose → Option Note → List NoteEntry → List NoteEntry → Type 0
 Drawn whose None old new = new ≡ old
 Drawn whose (Some n) old new = (is_own whose n ≡ true) × Among n (values_of old) (values_of new)

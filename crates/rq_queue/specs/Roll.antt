@@ -7,15 +7,15 @@ use Rattle.rq_model.specs.WellFormed.{Ordered}
 use Rattle.rq_state.proofs.InOrder.{key_cmp}
 
 -- a queue and name, with the last operation
-abbrev pub Line : Type 0
-Line = (ℕ × List ℕ) × Option Last
+abbrev pub RollEntry : Type 0
+RollEntry = (ℕ × List ℕ) × Option Last
 
-abbrev pub registrant_of : Line → Registrant
+abbrev pub registrant_of : RollEntry → Registrant
 registrant_of e = record { queue = e.0.0; name = e.0.1; last = e.1 }
 
 -- by queue and name
-abbrev pub IsRoll : List Line → Type 0
-IsRoll es = Ordered (λ (a b : Line). key_cmp a.0 b.0 ≡ Less) es
+abbrev pub IsRoll : List RollEntry → Type 0
+IsRoll es = Ordered (λ (a b : RollEntry). key_cmp a.0 b.0 ≡ Less) es
 
 -- the registrant after a note, if that is one of the unit and its own
 abbrev pub heard : ℕ → Note → Registrant → Registrant

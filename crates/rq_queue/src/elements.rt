@@ -40,11 +40,11 @@ impl Model for Elements {
 
     ghost Value = { List model.Element };
 
-    ghost use Rattle.rq_queue.specs.Listed.{listed, IsKept};
+    ghost use Rattle.rq_queue.specs.Listed.{elements_inside, IsShelved};
 
-    ghost view = { listed };
+    ghost view = { elements_inside };
 
-    ghost invariant = { IsKept };
+    ghost invariant = { IsShelved };
 }
 
 impl Elements {

@@ -11,7 +11,7 @@ use Rattle.rq_record.specs.declared.record.Record as code
 use Rattle.rq_model.specs.Records.{By, Record, Define, Register, Deregister, Begin, Enqueue, Dequeue, Commit, Abort, Checkpoint, Kill, Version, One, Two}
 use Rattle.rq_model.specs.Spelling.{who, body_of, IsRecord, Spells}
 use Rattle.rq_record.specs.Views.{record_of}
-use Rattle.rq_record.specs.Reading.{◌>>=◌, number_at, byte_at, name_of, bounded, nothing_in, named, who_at, define_of, register_of, deregister_of, unit_of, begin_of, commit_of, abort_of, enqueue_of, dequeue_of, checkpoint_of, kill_of, kill_in, of_kind, record_from, Copies, Decodes}
+use Rattle.rq_record.specs.Reading.{◌>>=◌, number_at, byte_at, name_of, bounded, nothing_in, named, who_at, define_of, register_of, deregister_of, only_unit, begin_of, commit_of, abort_of, enqueue_of, dequeue_of, checkpoint_of, kill_of, kill_in, of_kind, record_from, Copies, Decodes}
 use Rattle.rq_record.proofs.Fields.{IsBytes, bind_some, wide2, wide4, wide8, number_takes, number_again, byte_takes, name_takes, name_again, bounded_takes, bounded_again, nothing_takes, chosen, who_takes, who_name, who_tag, named_again, who_again}
 
 define_takes : (version : Version) (bytes : List ℕ) (r : Record) → IsBytes bytes → define_of bytes ≡ Some r → Spells version r (1 ∷ bytes)
@@ -58,8 +58,8 @@ deregister_again : (version : Version) (queue : ℕ) (name : List ℕ) → IsRec
 unfolding deregister_of
 deregister_again version queue name h = rw (number_again 4 queue name h.0, name_again name h.1) refl
 
-unit_takes : (bytes : List ℕ) (u : ℕ) → IsBytes bytes → unit_of bytes ≡ Some u → (bytes ≡ big_bytes 8 u) × (u < 256 ^ 8)
-unfolding unit_of
+unit_takes : (bytes : List ℕ) (u : ℕ) → IsBytes bytes → only_unit bytes ≡ Some u → (bytes ≡ big_bytes 8 u) × (u < 256 ^ 8)
+unfolding only_unit
 unit_takes bytes u fits e =
     let a = bind_some (number_at 8 bytes) (λ unit. nothing_in unit.1 >>= λ nothing. Some unit.0) u e in
     let b = bind_some (nothing_in a.0.1) (λ nothing. Some a.0.0) u a.2 in
@@ -67,8 +67,8 @@ unit_takes bytes u fits e =
     let whole : bytes ≡ big_bytes 8 a.0.0 = t.0.parts ∙ ap (λ (x : List ℕ). big_bytes 8 a.0.0 ++ x) (nothing_takes a.0.1 b.0 b.1) ∙ append-nil (big_bytes 8 a.0.0) in
     subst (λ (y : ℕ). (bytes ≡ big_bytes 8 y) × (y < 256 ^ 8)) (same_Some _ _ b.2) (whole, t.1)
 
-unit_again : (u : ℕ) → u < 256 ^ 8 → unit_of (big_bytes 8 u) ≡ Some u
-unfolding unit_of
+unit_again : (u : ℕ) → u < 256 ^ 8 → only_unit (big_bytes 8 u) ≡ Some u
+unfolding only_unit
 unit_again u lt =
     let one : number_at 8 (big_bytes 8 u) ≡ Some (u, []) = ap (number_at 8) (sym (append-nil (big_bytes 8 u))) ∙ number_again 8 u [] lt in
     ap (λ (o : Option (ℕ × List ℕ)). o >>= λ unit. nothing_in unit.1 >>= λ nothing. Some unit.0) one
@@ -76,7 +76,7 @@ unit_again u lt =
 begin_takes : (version : Version) (bytes : List ℕ) (r : Record) → IsBytes bytes → begin_of bytes ≡ Some r → Spells version r (4 ∷ bytes)
 unfolding begin_of
 begin_takes version bytes r fits e =
-    let a = bind_some (unit_of bytes) (λ unit. Some (Begin unit)) r e in
+    let a = bind_some (only_unit bytes) (λ unit. Some (Begin unit)) r e in
     let t = unit_takes bytes a.0 fits a.1 in
     subst (λ (y : Record). Spells version y (4 ∷ bytes)) (same_Some _ _ a.2) (t.1, ap (λ (x : List ℕ). 4 ∷ x) t.0)
 
@@ -87,7 +87,7 @@ begin_again version unit h = rw (unit_again unit h) refl
 commit_takes : (version : Version) (bytes : List ℕ) (r : Record) → IsBytes bytes → commit_of bytes ≡ Some r → Spells version r (7 ∷ bytes)
 unfolding commit_of
 commit_takes version bytes r fits e =
-    let a = bind_some (unit_of bytes) (λ unit. Some (Commit unit)) r e in
+    let a = bind_some (only_unit bytes) (λ unit. Some (Commit unit)) r e in
     let t = unit_takes bytes a.0 fits a.1 in
     subst (λ (y : Record). Spells version y (7 ∷ bytes)) (same_Some _ _ a.2) (t.1, ap (λ (x : List ℕ). 7 ∷ x) t.0)
 
@@ -98,7 +98,7 @@ commit_again version unit h = rw (unit_again unit h) refl
 abort_takes : (version : Version) (bytes : List ℕ) (r : Record) → IsBytes bytes → abort_of bytes ≡ Some r → Spells version r (8 ∷ bytes)
 unfolding abort_of
 abort_takes version bytes r fits e =
-    let a = bind_some (unit_of bytes) (λ unit. Some (Abort unit)) r e in
+    let a = bind_some (only_unit bytes) (λ unit. Some (Abort unit)) r e in
     let t = unit_takes bytes a.0 fits a.1 in
     subst (λ (y : Record). Spells version y (8 ∷ bytes)) (same_Some _ _ a.2) (t.1, ap (λ (x : List ℕ). 8 ∷ x) t.0)
 

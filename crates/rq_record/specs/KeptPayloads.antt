@@ -10,6 +10,6 @@ bytes_of (Inline array len) = take len array
 bytes_of (Part whole start len) = slice_range (arc_slice_items whole) start (start + len)
 
 -- no more than the array has; the part is inside the whole, and no more than a payload may have
-abbrev pub Fits : Bytes → Type 0
-Fits (Inline array len) = len ≤ 22
-Fits (Part whole start len) = (start + len ≤ length (arc_slice_items whole)) × (len ≤ 65535)
+abbrev pub FitsPayload : Bytes → Type 0
+FitsPayload (Inline array len) = len ≤ 22
+FitsPayload (Part whole start len) = (start + len ≤ length (arc_slice_items whole)) × (len ≤ 65535)

@@ -95,8 +95,8 @@ deregister_of bytes = do
   Some (model.Deregister queue.0 name)
 
 -- the unit's number, and nothing after it
-unfoldable pub unit_of : List ℕ → Option ℕ
-unit_of bytes = do
+unfoldable pub only_unit : List ℕ → Option ℕ
+only_unit bytes = do
   unit ← number_at 8 bytes
   nothing ← nothing_in unit.1
   Some unit.0
@@ -122,17 +122,17 @@ dequeue_of bytes = do
 
 unfoldable pub begin_of : List ℕ → Option model.Record
 begin_of bytes = do
-  unit ← unit_of bytes
+  unit ← only_unit bytes
   Some (model.Begin unit)
 
 unfoldable pub commit_of : List ℕ → Option model.Record
 commit_of bytes = do
-  unit ← unit_of bytes
+  unit ← only_unit bytes
   Some (model.Commit unit)
 
 unfoldable pub abort_of : List ℕ → Option model.Record
 abort_of bytes = do
-  unit ← unit_of bytes
+  unit ← only_unit bytes
   Some (model.Abort unit)
 
 unfoldable pub checkpoint_of : List ℕ → Option model.Record

@@ -35,13 +35,13 @@ enum Bytes {
 
 impl Model for KeptPayload {
     ghost use Rattle.std.specs.Prelude.{ℕ, List};
-    ghost use Rattle.rq_record.specs.KeptPayloads.{bytes_of, Fits};
+    ghost use Rattle.rq_record.specs.KeptPayloads.{bytes_of, FitsPayload};
 
     ghost Value = { List ℕ };
 
     ghost view = { λ p. bytes_of p.bytes };
 
-    ghost invariant = { λ p. Fits p.bytes };
+    ghost invariant = { λ p. FitsPayload p.bytes };
 }
 
 fn inline(bytes: &[u8]) -> KeptPayload

@@ -3,7 +3,7 @@
 ghost use Rattle.std.specs.Prelude.{◌+◌, ◌≤◌, length, slice_range};
 ghost use Rattle.rq_model.specs.Records.{One};
 ghost use Rattle.rq_record.specs.Reading.{Decodes, Reads, Copies, define_of, register_of};
-ghost use Rattle.rq_record.specs.Reading.{deregister_of, unit_of, begin_of, enqueue_of, dequeue_of};
+ghost use Rattle.rq_record.specs.Reading.{deregister_of, only_unit, begin_of, enqueue_of, dequeue_of};
 ghost use Rattle.rq_record.specs.Reading.{commit_of, abort_of, checkpoint_of, kill_of, of_kind};
 ghost use Rattle.rq_record.specs.Reading.{record_from};
 ghost use Rattle.rq_record.specs.Views.{record_of, version_of};
@@ -57,9 +57,9 @@ fn deregister(alloc: Global, bytes: &[u8]) -> Result<Record, Fault>
     })
 }
 
-#[tactic(auto, unfolding(crate::specs::Reading::unit_of))]
+#[tactic(auto, unfolding(crate::specs::Reading::only_unit))]
 fn unit(bytes: &[u8]) -> Result<UnitNo, Fault>
-    ensures { Reads (λ x. x.0) result (unit_of bytes.now) }
+    ensures { Reads (λ x. x.0) result (only_unit bytes.now) }
 {
     let (unit, rest) = u64_at(bytes)?;
     at_end(rest)?;

@@ -25,7 +25,7 @@ use Rattle.rq_catalog.proofs.Fronts.{is_more}
 use Rattle.rq_restart.specs.Ends.{IsChain, IsFrontFrom, end_at, end_from}
 use Rattle.rq_restart.specs.declared.passing.Pass.{Pass}
 use Rattle.rq_restart.specs.declared.passing.Reach.{Reach}
-use Rattle.rq_restart.specs.Passes.{AreJudged, HasPassed, IsPassed, Passes, StopsAt, StopsIn, stays}
+use Rattle.rq_restart.specs.Passes.{AreJudged, HasPassed, IsPassed, HasPassedSome, StopsAt, StopsIn, stays}
 use Rattle.rq_restart.proofs.Fronts.{ended}
 use Rattle.rq_restart.proofs.Starts.{started}
 
@@ -227,7 +227,7 @@ gone_on version ends joins join right law b part rs p limit c j reach short has 
 
 -- The start of a pass, and its end.
 
-pub starts : (version : Version) → LogEnds → (b : List ℕ) (p : Pass) → HasHeader version b → p.place ≡ 40 → p.records ≡ 0 → StandsIn version p.judge empty → Passes version b p
+pub starts : (version : Version) → LogEnds → (b : List ℕ) (p : Pass) → HasHeader version b → p.place ≡ 40 → p.records ≡ 0 → StandsIn version p.judge empty → HasPassedSome version b p
 starts version ends b p head place none judge =
     let is = started version ends b head in
     let whole : b ≡ log_of version [] ++ drop 40 b = is.whole ∙ ap (λ (x : List ℕ). x ++ drop 40 b) (sym (append-nil (header version))) in (

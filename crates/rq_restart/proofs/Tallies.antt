@@ -23,7 +23,7 @@ use Rattle.rq_record.specs.Views.{record_of}
 use Rattle.rq_restart.specs.declared.auditing.Walk.{Walk}
 use Rattle.rq_restart.specs.declared.tally.Tally.{Tally}
 use Rattle.rq_restart.specs.Worth.{KeepsAllBut, of_unit, of_registrant, IsTallied, IsWithin, unit_after, named_after, registrant_after, lost_by, Counts}
-use Rattle.rq_restart.specs.Audits.{IsWalk, Passes, audits, audited_of, least}
+use Rattle.rq_restart.specs.Audits.{IsAuditWalk, PassesRecord, audits, audited_of, least}
 use Rattle.rq_restart.proofs.Worth.{tallied, lost, both_lost, not_not, too_short}
 use Rattle.rq_restart.proofs.Walks.{other_number}
 
@@ -115,8 +115,8 @@ before_first t us ks = (
   record { units = λ u. omega (arith, us u); registrants = λ k. omega (arith, ks k) },
 )
 
-pub passed : (all : List Own) (i : ℕ) (r : Own) (w v : Walk) → i < length all → length all ≤ 4294967295 → r ≡ slice_index_or all i r → Rising (run empty (take i (map record_of all))) → IsWalk (map record_of all) i w → Passes w r v
-    → map audited_of w.found.items ≡ audits empty 40 (take (i + 1) (map record_of all)) → IsWalk (map record_of all) (i + 1) v
+pub passed : (all : List Own) (i : ℕ) (r : Own) (w v : Walk) → i < length all → length all ≤ 4294967295 → r ≡ slice_index_or all i r → Rising (run empty (take i (map record_of all))) → IsAuditWalk (map record_of all) i w → PassesRecord w r v
+    → map audited_of w.found.items ≡ audits empty 40 (take (i + 1) (map record_of all)) → IsAuditWalk (map record_of all) (i + 1) v
 passed all i r w v lt few is rise walk p found =
     let rs = map record_of all in
     let s = run empty (take i rs) in
@@ -151,7 +151,7 @@ loss_kept all i r kept n t lt is checkpoint h =
     subst (λ (x : State). KeepsAllBut n t x) (sym (run_more all i r lt is ∙ ap (λ (q : Own). step s (record_of q)) checkpoint)) h
 
 -- a checkpoint that begins with another number, or is too short, is false
-pub no_spelling : (all : List Own) (i : ℕ) (w : Walk) (kept : List ℕ) (may : Bool) → i < length all → IsWalk (map record_of all) i w
+pub no_spelling : (all : List Own) (i : ℕ) (w : Walk) (kept : List ℕ) (may : Bool) → i < length all → IsAuditWalk (map record_of all) i w
     → may ≡ (starts_with nat_eq kept (to_be_bytes w64 i) && not (nat_lt (length kept) (least w))) → may ≡ false → false ≡ bytes_eq kept (state_bytes (run empty (take i (map record_of all))))
 no_spelling all i w kept may lt walk is not_so =
     by_cases (starts_with nat_eq kept (to_be_bytes w64 i)) (λ b. starts_with nat_eq kept (to_be_bytes w64 i) ≡ b → (b && not (nat_lt (length kept) (least w))) ≡ false → false ≡ bytes_eq kept (state_bytes (run empty (take i (map record_of all)))))

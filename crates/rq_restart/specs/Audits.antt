@@ -43,7 +43,7 @@ abbrev pub least : Walk → ℕ
 least w = member_bytes w.state - 74 * w.lost
 
 -- how far an audit has come
-pub record IsWalk (rs : List Record) (i : ℕ) (w : Walk) : Type 0 where
+pub record IsAuditWalk (rs : List Record) (i : ℕ) (w : Walk) : Type 0 where
   pub within : w.from ≤ i
   pub state : w.state ≡ run empty (take w.from rs)
   pub tally : IsTallied (run empty (take i rs)) w.tally
@@ -53,7 +53,7 @@ pub record IsWalk (rs : List Record) (i : ℕ) (w : Walk) : Type 0 where
   pub found : map audited_of w.found.items ≡ audits empty 40 (take i rs)
 
 -- v is w behind a record that is no checkpoint
-pub record Passes (w : Walk) (r : Own) (v : Walk) : Type 0 where
+pub record PassesRecord (w : Walk) (r : Own) (v : Walk) : Type 0 where
   pub others : v ≡ record w { tally = v.tally; lost = v.lost }
   pub tally : Counts w.tally v.tally r
   pub lost : v.lost ≡ w.lost + lost_by r w.tally

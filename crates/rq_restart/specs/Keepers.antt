@@ -9,20 +9,20 @@ use Rattle.rq_record.specs.declared.fault.Fault.TheVariants.{Resources, TooLong}
 use Rattle.rq_restart.specs.declared.keeper.Keeper.{Keeper}
 
 -- the keeper stands behind the records, which are lawful from the base state on
-pub record Keeps (version : Version) (base : State) (taken : List Record) (k : Keeper) : Type 0 where
+pub record StandsBehind (version : Version) (base : State) (taken : List Record) (k : Keeper) : Type 0 where
   pub rules : version_of k.version ≡ version
   pub lawful : all_lawful version base taken ≡ true
   pub state : k.state ≡ run base taken
 
 -- v stands behind n records more than k: the longest lawful beginning of those that come
 pub record StandsFurther (k : Keeper) (more : List Record) (v : Keeper) (n : ℕ) : Type 0 where
-  pub taken : (version : Version) (base : State) (taken : List Record) → Keeps version base taken k → Keeps version base (taken ++ take n more) v
-  pub count : (version : Version) (base : State) (taken : List Record) → Keeps version base taken k → n ≡ length (lawful_front version (run base taken) more)
+  pub taken : (version : Version) (base : State) (taken : List Record) → StandsBehind version base taken k → StandsBehind version base (taken ++ take n more) v
+  pub count : (version : Version) (base : State) (taken : List Record) → StandsBehind version base taken k → n ≡ length (lawful_front version (run base taken) more)
   pub few : k.state.next + length more ≤ 4294967295
 
 -- what comes of taking more: where it is refused, k stays as it is
-abbrev pub Takes : Keeper → List Record → Keeper → Result ℕ Fault → Type 0
-Takes k more v (Ok n) = StandsFurther k more v n
-Takes k more v (Err TooLong) = (v ≡ k) × (4294967295 < k.state.next + length more)
-Takes k more v (Err Resources) = v ≡ k
-Takes k more v (Err e) = ⊥
+abbrev pub TakesMore : Keeper → List Record → Keeper → Result ℕ Fault → Type 0
+TakesMore k more v (Ok n) = StandsFurther k more v n
+TakesMore k more v (Err TooLong) = (v ≡ k) × (4294967295 < k.state.next + length more)
+TakesMore k more v (Err Resources) = v ≡ k
+TakesMore k more v (Err e) = ⊥

@@ -53,8 +53,8 @@ pub record HasPassed (version : Version) (b : List ℕ) (rs : List Record) (p : 
   pub judge : StandsIn version p.judge (run empty rs)
 
 -- it has come behind some
-abbrev pub Passes : Version → List ℕ → Pass → Type 0
-Passes version b p = (rs : List Record) × HasPassed version b rs p
+abbrev pub HasPassedSome : Version → List ℕ → Pass → Type 0
+HasPassedSome version b p = (rs : List Record) × HasPassed version b rs p
 
 -- for this reason no lawful record follows in the first bytes of b
 abbrev pub StopsIn : Version → List ℕ → ℕ → Pass → Why → Type 0

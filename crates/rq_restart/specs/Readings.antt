@@ -24,9 +24,9 @@ pub record AreRead (version : Version) (bodies : List (List ℕ)) (rs : List Rec
   pub stops : SpellsNone version left
 
 -- these, or no memory
-abbrev pub Reads : Version → List (List ℕ) → Result (Vec rt.Record) Fault → Type 0
-Reads version bodies (Ok v) = AreRead version bodies (map record_of v.items)
-Reads version bodies (Err e) = e ≡ Resources
+abbrev pub ReadsBodies : Version → List (List ℕ) → Result (Vec rt.Record) Fault → Type 0
+ReadsBodies version bodies (Ok v) = AreRead version bodies (map record_of v.items)
+ReadsBodies version bodies (Err e) = e ≡ Resources
 
 -- the records of the first bodies and those of the others, apart from one another
 pub record AreApart (version : Version) (bodies : List (List ℕ)) (p : Parts) : Type 0 where

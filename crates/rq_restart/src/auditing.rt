@@ -13,7 +13,7 @@ ghost use Rattle.rq_model.specs.Checkpoints.{IsAudit};
 ghost use Rattle.rq_model.specs.StateSpelling.{state_bytes};
 ghost use Rattle.rq_record.specs.Views.{record_of, version_of};
 ghost use Rattle.rq_record.specs.declared.fault.Fault.TheVariants.{Resources};
-ghost use Rattle.rq_restart.specs.Audits.{Audits, IsWalk, Passes, StandAt, audited_of, least};
+ghost use Rattle.rq_restart.specs.Audits.{Audits, IsAuditWalk, PassesRecord, StandAt, audited_of, least};
 ghost use Rattle.rq_restart.specs.Ends.{IsChain};
 ghost use Rattle.rq_restart.specs.Worth.{IsWithin, member_bytes, lost_by};
 
@@ -67,7 +67,7 @@ struct Walk {
 impl Walk {
     // Before the first record.
     fn first(alloc: Global) -> Walk
-        ensures { (rs : List model.Record) → IsWalk rs 0 result }
+        ensures { (rs : List model.Record) → IsAuditWalk rs 0 result }
     {
         let tally = Tally::new(alloc);
         let found = Vec::new(alloc);
@@ -110,7 +110,7 @@ fn may_spell(walk: &Walk, kept: &[u8], next: u64) -> bool
 fn pass(walk: Walk, rec: &Record) -> Result<Walk, Fault>
     requires counts { IsWithin (2 ^ 64 - 2) walk.tally }
     requires room { walk.lost + lost_by rec.now walk.tally < 2 ^ 64 }
-    ensures passed { IfOk result (Passes walk rec.now) }
+    ensures passed { IfOk result (PassesRecord walk rec.now) }
     ensures refused { IfErr result (λ e. e ≡ Resources) }
 {
     let mut tally = walk.tally;
@@ -140,8 +140,8 @@ fn visit<R: Threads + Sync>(
     requires few { length records.now ≤ 4294967295 }
     requires lawful { all_lawful Two empty (map record_of records.now) ≡ true }
     requires spans { StandAt (map record_of records.now) spans.now }
-    requires walk { IsWalk (map record_of records.now) place walk }
-    ensures walk { IfOk result (IsWalk (map record_of records.now) (place + 1)) }
+    requires walk { IsAuditWalk (map record_of records.now) place walk }
+    ensures walk { IfOk result (IsAuditWalk (map record_of records.now) (place + 1)) }
     ensures refused { IfErr result (λ e. e ≡ Resources) }
 {
     rq_model::runs_are_well_formed();

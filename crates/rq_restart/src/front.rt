@@ -14,7 +14,7 @@ ghost use Rattle.rq_front.specs.Walks.{IsChecked, Walks, spans_of};
 ghost use Rattle.rq_restart.specs.Views.{why_of};
 ghost use Rattle.rq_restart.specs.Ends.{IsChain, IsFrontFrom, end_at};
 ghost use Rattle.rq_restart.specs.Readings.{AreRead};
-ghost use Rattle.rq_restart.specs.Known.{IsKnown, Knows};
+ghost use Rattle.rq_restart.specs.Known.{IsKnownOfBodies, KnowsBodies};
 
 use crate::grain::grain_of;
 use crate::reading::{FEW, Parts, put_together, read};
@@ -71,7 +71,7 @@ pub(crate) fn end_of(found: &Chain, read: usize, kept: usize) -> (usize, Why)
 // All records of the two parts, and what one pass over them found.
 fn known_of(alloc: Global, version: Version, parts: Parts, state: &State) -> Result<Known, Fault>
     requires next { state.now.next ≤ 4294967295 }
-    ensures { Knows (version_of version) state.now parts result }
+    ensures { KnowsBodies (version_of version) state.now parts result }
 {
     let records = put_together(parts)?;
     let analysis = analyse_in(alloc, version, state, &records)?;
@@ -87,7 +87,7 @@ fn known_of_first(
     state: &State,
 ) -> Result<Known, Fault>
     requires next { state.now.next ≤ 4294967295 }
-    ensures known { IfOk result (λ k. (bodies : List (List ℕ)) → IsKnown (version_of version) state.now bodies known → IsKnown (version_of version) state.now (take count bodies) k) }
+    ensures known { IfOk result (λ k. (bodies : List (List ℕ)) → IsKnownOfBodies (version_of version) state.now bodies known → IsKnownOfBodies (version_of version) state.now (take count bodies) k) }
     ensures refused { IfErr result (λ e. e ≡ Resources) }
 {
     if known.records.len() <= count {
@@ -101,9 +101,9 @@ fn known_of_first(
 
 // The front among the records that were read of a chain.
 fn settled(found: &Chain, known: Known) -> Front
-    ensures front { (version : records.Version) (s : model.State) (b : List ℕ) (place : ℕ) → IsChain b place found.now → IsKnown version s (bodies_at b found.now.spans.items) known → IsFrontFrom version s b place (map record_of result.records.items) result.end (why_of result.why) }
-    ensures bodies { (version : records.Version) (s : model.State) (bodies : List (List ℕ)) → IsKnown version s bodies known → (left : List (List ℕ)) × (bodies ≡ bodies_of (map record_of result.records.items) ++ left) }
-    ensures analysis { (version : records.Version) (s : model.State) (bodies : List (List ℕ)) → IsKnown version s bodies known → IsAnalysis version s (map record_of result.records.items) result.analysis }
+    ensures front { (version : records.Version) (s : model.State) (b : List ℕ) (place : ℕ) → IsChain b place found.now → IsKnownOfBodies version s (bodies_at b found.now.spans.items) known → IsFrontFrom version s b place (map record_of result.records.items) result.end (why_of result.why) }
+    ensures bodies { (version : records.Version) (s : model.State) (bodies : List (List ℕ)) → IsKnownOfBodies version s bodies known → (left : List (List ℕ)) × (bodies ≡ bodies_of (map record_of result.records.items) ++ left) }
+    ensures analysis { (version : records.Version) (s : model.State) (bodies : List (List ℕ)) → IsKnownOfBodies version s bodies known → IsAnalysis version s (map record_of result.records.items) result.analysis }
 {
     rq_model::frames_are_right();
     rq_model::frames_join();
@@ -169,7 +169,7 @@ fn check_meanwhile<R: Threads + Sync>(
     requires next { state.now.next ≤ 4294967295 }
     requires grain { 1 ≤ grain }
     ensures chain { (from : ℕ) → Walks bytes.now from walk → IsChecked bytes.now from walk result.0 }
-    ensures known { Knows (version_of version) state.now parts result.1 }
+    ensures known { KnowsBodies (version_of version) state.now parts result.1 }
 {
     join(
         rt,
@@ -179,7 +179,7 @@ fn check_meanwhile<R: Threads + Sync>(
         { walk.checked(rt, bytes, grain) },
         move || -> Result<Known, Fault>
             requires { state.now.next ≤ 4294967295 }
-            ensures { Knows (version_of version) state.entry.now parts result }
+            ensures { KnowsBodies (version_of version) state.entry.now parts result }
         { known_of(alloc, version, parts, state) },
     )
 }

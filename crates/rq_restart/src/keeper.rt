@@ -5,7 +5,7 @@ ghost use Rattle.rq_model.specs.Records as model;
 ghost use Rattle.rq_model.specs.States as states;
 ghost use Rattle.rq_model.specs.Machine.{run};
 ghost use Rattle.rq_record.specs.Views.{record_of, version_of};
-ghost use Rattle.rq_restart.specs.Keepers.{Keeps, Takes};
+ghost use Rattle.rq_restart.specs.Keepers.{StandsBehind, TakesMore};
 
 use rq_catalog::analyse_in;
 use rq_exchange::replay_analysed;
@@ -32,14 +32,14 @@ pub struct Keeper {
 impl Keeper {
     /// Stands at the state, with no record taken. From there on records are lawful by the rules of the version.
     pub fn new(version: Version, state: State) -> Keeper
-        ensures { Keeps (version_of version) state [] result }
+        ensures { StandsBehind (version_of version) state [] result }
     {
         Keeper { version, state }
     }
 
     /// The state behind all records that were taken.
     pub fn state(&self) -> &State
-        ensures { (version : model.Version) (base : states.State) (taken : List model.Record) → Keeps version base taken self.now → result.now ≡ run base taken }
+        ensures { (version : model.Version) (base : states.State) (taken : List model.Record) → StandsBehind version base taken self.now → result.now ≡ run base taken }
     {
         &self.state
     }
@@ -56,7 +56,7 @@ impl Keeper {
         records: &[Record],
         plan: &Plan,
     ) -> Result<usize, Fault>
-        ensures { Takes self.old (map record_of records.now) self.new result }
+        ensures { TakesMore self.old (map record_of records.now) self.new result }
     {
         rq_model::versions();
         if self.state.next().saturating_add(records.len() as u64) > RECORDS {

@@ -9,7 +9,7 @@ ghost use Rattle.rq_record.specs.declared.fault.Fault.TheVariants.{Resources};
 ghost use Rattle.rq_front.specs.Chains.{bodies_at};
 ghost use Rattle.rq_catalog.specs.Judges.{StandsIn};
 ghost use Rattle.rq_restart.specs.Views.{why_of};
-ghost use Rattle.rq_restart.specs.Passes.{AreJudged, IsVerdict, Passes, StopsIn, stays};
+ghost use Rattle.rq_restart.specs.Passes.{AreJudged, HasPassedSome, IsVerdict, StopsIn, stays};
 
 use crate::front::end_of;
 use crate::restarted::Why;
@@ -118,7 +118,7 @@ fn first(bytes: &[u8], limit: usize) -> &[u8]
 impl Pass {
     /// A pass over a log of this version that stands behind its header.
     pub(crate) fn new(alloc: Global, version: Version) -> Pass
-        ensures { (b : List ℕ) → HasHeader (version_of version) b → Passes (version_of version) b result }
+        ensures { (b : List ℕ) → HasHeader (version_of version) b → HasPassedSome (version_of version) b result }
     {
         rq_model::frames_join();
         Pass {
@@ -141,8 +141,8 @@ impl Pass {
         requires short { length bytes.now ≤ log_limit }
         requires after { self.old.place ≤ limit }
         requires within { limit ≤ length bytes.now }
-        requires passes { (version : records.Version) × Passes version bytes.now self.old }
-        ensures stops { IfOk result (λ why. (version : records.Version) → Passes version bytes.now self.old → StopsIn version bytes.now limit self.new (why_of why)) }
+        requires passes { (version : records.Version) × HasPassedSome version bytes.now self.old }
+        ensures stops { IfOk result (λ why. (version : records.Version) → HasPassedSome version bytes.now self.old → StopsIn version bytes.now limit self.new (why_of why)) }
         ensures place { IfOk result (λ why. self.new.place ≤ limit) }
         ensures refused { IfErr result (λ e. e ≡ Resources) }
     {
@@ -168,8 +168,8 @@ impl Pass {
     ) -> Result<Why, Fault>
         requires grain { 1 ≤ grain }
         requires short { length bytes.now ≤ log_limit }
-        requires passes { (version : records.Version) × Passes version bytes.now self.old }
-        ensures stops { IfOk result (λ why. (version : records.Version) → Passes version bytes.now self.old → StopsIn version bytes.now (length bytes.now) self.new (why_of why)) }
+        requires passes { (version : records.Version) × HasPassedSome version bytes.now self.old }
+        ensures stops { IfOk result (λ why. (version : records.Version) → HasPassedSome version bytes.now self.old → StopsIn version bytes.now (length bytes.now) self.new (why_of why)) }
         ensures refused { IfErr result (λ e. e ≡ Resources) }
     {
         let mut limit = self.place;

@@ -6,7 +6,7 @@ ghost use Rattle.rq_model.specs.Records as model;
 ghost use Rattle.rq_record.specs.Views.{record_of, version_of};
 ghost use Rattle.rq_record.specs.declared.fault.Fault.TheVariants.{Resources};
 ghost use Rattle.rq_front.specs.Chains.{bodies_at};
-ghost use Rattle.rq_restart.specs.Readings.{AreApart, AreRead, Reads};
+ghost use Rattle.rq_restart.specs.Readings.{AreApart, AreRead, ReadsBodies};
 
 use rq_front::Span;
 use rq_record::{Fault, LentLog, Record, Version, decode_at};
@@ -100,11 +100,11 @@ fn read_apart<R: Threads + Sync>(
         rt,
         || -> Result<Vec<Record>, Fault>
             requires { IsSync R.row × All (λ s. s.start + s.len ≤ length bytes.now) front.now }
-            ensures { Reads (version_of version) (bodies_at bytes.entry.now front.entry.now) result }
+            ensures { ReadsBodies (version_of version) (bodies_at bytes.entry.now front.entry.now) result }
         { read_whole(rt, alloc, version, lent, bytes, front, fewer, room) },
         || -> Result<Vec<Record>, Fault>
             requires { All (λ s. s.start + s.len ≤ length bytes.now) back.now }
-            ensures { Reads (version_of version) (bodies_at bytes.entry.now back.entry.now) result }
+            ensures { ReadsBodies (version_of version) (bodies_at bytes.entry.now back.entry.now) result }
         { read_in_order(alloc, version, lent, bytes, back, back.len()) },
     );
     Ok(Parts {

@@ -14,7 +14,7 @@ use Rattle.std.proofs.lemmas.List.Sorted.{sorted_far, ranks_by, IsPermutation-ma
 use Rattle.rq_model.specs.States.{Registrant, registrant_before, name_before}
 use Rattle.rq_model.specs.WellFormed.{Ordered}
 use Rattle.rq_model.proofs.Lists.{by_cases, each_weaker}
-use Rattle.rq_state.specs.Orders.{put_each}
+use Rattle.rq_state.specs.Orders.{put_in_order}
 use Rattle.rq_state.proofs.Sorts.{sorted_is}
 
 each_at : {X : Type 0} (P : X → Type 0) (d : X) (xs : List X) → ((k : ℕ) → k < length xs → P (slice_index_or xs k d)) → AllByRecursion P xs
@@ -53,22 +53,22 @@ below_self n = le-ltb n n (omega arith)
 
 -- a sort by a key whose order is `before`
 pub order_is : {X K : Type 0} (before : X → X → Bool) (key : X → K) (R : K → K → Ordering) → IsTotalOrder R → ((a b : X) → is_lt (R (key a) (key b)) ≡ before a b) → (xs ys : List X)
-    → IsPermutation xs ys → IsSortedByKey key R ys → Ordered (λ a b. before a b ≡ true) (put_each before xs) → ys ≡ put_each before xs
+    → IsPermutation xs ys → IsSortedByKey key R ys → Ordered (λ a b. before a b ≡ true) (put_in_order before xs) → ys ≡ put_in_order before xs
 order_is before key R total same xs ys moved up strict =
     sorted_is before (λ x. sym (same x x) ∙ ap is_lt (tied_itself total (key x))) xs ys moved (ordered_weaker (λ a b. is_lt (R (key b) (key a)) ≡ false) (λ a b. before b a ≡ false) (λ a b h. sym (same b a) ∙ h) ys (pairwise (λ a b. is_lt (R (key a) (key b))) (ranks_by total key) ys up)) strict
 
 -- by a number
-pub numbers_are : {X : Type 0} (n : X → ℕ) (xs ys : List X) → IsPermutation xs ys → IsSortedByKey n nat_cmp ys → Ordered (λ a b. n a < n b) (put_each (λ a b. nat_lt (n a) (n b)) xs) → ys ≡ put_each (λ a b. nat_lt (n a) (n b)) xs
+pub numbers_are : {X : Type 0} (n : X → ℕ) (xs ys : List X) → IsPermutation xs ys → IsSortedByKey n nat_cmp ys → Ordered (λ a b. n a < n b) (put_in_order (λ a b. nat_lt (n a) (n b)) xs) → ys ≡ put_in_order (λ a b. nat_lt (n a) (n b)) xs
 numbers_are n xs ys moved up strict =
     order_is (λ a b. nat_lt (n a) (n b)) n nat_cmp nat_cmp_total (λ a b. is_lt-nat_cmp (n a) (n b)) xs ys moved up
-    (ordered_weaker (λ a b. n a < n b) (λ a b. nat_lt (n a) (n b) ≡ true) (λ a b h. lt-ltb (n a) (n b) h) (put_each (λ a b. nat_lt (n a) (n b)) xs) strict)
+    (ordered_weaker (λ a b. n a < n b) (λ a b. nat_lt (n a) (n b) ≡ true) (λ a b h. lt-ltb (n a) (n b) h) (put_in_order (λ a b. nat_lt (n a) (n b)) xs) strict)
 
 -- numbers, by what they are the numbers of
-pub mapped_are : {X : Type 0} (n : X → ℕ) (xs ys : List X) → IsPermutation xs ys → IsSortedByKey n nat_cmp ys → Ordered (λ a b. a < b) (put_each nat_lt (map n xs)) → map n ys ≡ put_each nat_lt (map n xs)
+pub mapped_are : {X : Type 0} (n : X → ℕ) (xs ys : List X) → IsPermutation xs ys → IsSortedByKey n nat_cmp ys → Ordered (λ a b. a < b) (put_in_order nat_lt (map n xs)) → map n ys ≡ put_in_order nat_lt (map n xs)
 mapped_are n xs ys moved up strict =
     sorted_is nat_lt below_self (map n xs) (map n ys) (IsPermutation-map n xs ys moved)
     (ordered_map (λ a b. nat_lt b a ≡ false) n ys (ordered_weaker (λ a b. is_lt (nat_cmp (n b) (n a)) ≡ false) (λ a b. nat_lt (n b) (n a) ≡ false) (λ a b h. sym (is_lt-nat_cmp (n b) (n a)) ∙ h) ys (pairwise (λ a b. is_lt (nat_cmp (n a) (n b))) (ranks_by nat_cmp_total n) ys up)))
-    (ordered_weaker (λ a b. a < b) (λ a b. nat_lt a b ≡ true) (λ a b h. lt-ltb a b h) (put_each nat_lt (map n xs)) strict)
+    (ordered_weaker (λ a b. a < b) (λ a b. nat_lt a b ≡ true) (λ a b h. lt-ltb a b h) (put_in_order nat_lt (map n xs)) strict)
 
 -- Registrants, by queue and name.
 
@@ -85,7 +85,7 @@ pub is_lt-key_cmp : (a b : Registrant) → is_lt (key_cmp (key_of a) (key_of b))
 is_lt-key_cmp a b = by_cases (nat_lt a.queue b.queue) (λ t. is_lt (ordering_then (cond t Less (cond (a.queue == b.queue) Equal Greater)) (slice_cmp nat_cmp a.name b.name)) ≡ (t || ((a.queue == b.queue) && name_before a.name b.name))) (λ _. refl)
     (λ _. by_cases (a.queue == b.queue) (λ t. is_lt (ordering_then (cond t Equal Greater) (slice_cmp nat_cmp a.name b.name)) ≡ (t && name_before a.name b.name)) (λ _. refl) (λ _. refl))
 
-pub registrants_are : (xs ys : List Registrant) → IsPermutation xs ys → IsSortedByKey key_of key_cmp ys → Ordered (λ a b. registrant_before a b ≡ true) (put_each registrant_before xs) → ys ≡ put_each registrant_before xs
+pub registrants_are : (xs ys : List Registrant) → IsPermutation xs ys → IsSortedByKey key_of key_cmp ys → Ordered (λ a b. registrant_before a b ≡ true) (put_in_order registrant_before xs) → ys ≡ put_in_order registrant_before xs
 registrants_are xs ys moved up strict = order_is registrant_before key_of key_cmp key_total is_lt-key_cmp xs ys moved up strict
 
 -- The orders.

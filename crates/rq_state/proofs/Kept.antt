@@ -9,9 +9,9 @@ use Rattle.rq_model.proofs.Lists.{each_weaker, each_both}
 use Rattle.rq_model.proofs.StateCodes.{IsWideDefinition, IsWideLast, IsWideRegistrant, IsWide, IsWideNote, are_wide}
 use Rattle.rq_record.specs.declared.fault.Fault.{Fault}
 use Rattle.rq_record.specs.declared.fault.Fault.TheVariants as faults
-use Rattle.rq_state.specs.Keeping.{Tells, Keeps}
+use Rattle.rq_state.specs.Keeping.{TellsWhether, KeepsAll}
 use Rattle.rq_state.specs.Spelling.{ReadsState}
-use Rattle.rq_state.specs.Reading.{◌>>=◌, Fails, Refuses, whole_state, form_from}
+use Rattle.rq_state.specs.Reading.{◌>>=◌, FailsAsCheckpoint, Refuses, whole_state, form_from}
 use Rattle.rq_state.proofs.Passing.{nothing_left, form_is}
 use Rattle.rq_state.proofs.Readers.{IsBytes}
 use Rattle.rq_state.proofs.MemberReaders.{IsDefinitionSpelled, IsRegistrantSpelled}
@@ -53,7 +53,7 @@ fits s h = record {
 read_again : (version : Version) (s : State) (bytes : List ℕ) → SpellsState version s bytes → whole_state bytes ≡ Some s
 read_again version s bytes h = ap whole_state h.spelling ∙ whole_again s (spelled version s bytes h)
 
-pub kept_well : (version : Version) (s : State) → Keeps version s → IsWellFormed s
+pub kept_well : (version : Version) (s : State) → KeepsAll version s → IsWellFormed s
 kept_well version s k = record {
   few = k.numbers.few;
   names = k.definitions.names;
@@ -70,7 +70,7 @@ kept_well version s k = record {
   notes_rise = k.notes.notes_rise;
 }
 
-spells_keeps : (version : Version) (s : State) (bytes : List ℕ) → SpellsState version s bytes → Keeps version s
+spells_keeps : (version : Version) (s : State) (bytes : List ℕ) → SpellsState version s bytes → KeepsAll version s
 spells_keeps version s bytes h =
     let w = h.keeps in
     record {
@@ -105,14 +105,14 @@ formed bytes byte is = from (whole_state bytes) refl
     from None e = let clash : None ≡ Some [] = sym (form_is bytes ∙ ap (λ (o : Option State). o >>= λ (s : State). nothing_left) e) ∙ is in absurd cc
 
 -- nor do those that are not read
-pub not_read : (version : Version) (bytes : List ℕ) (e : Fault) → IsBytes bytes → form_from bytes ≡ Some [] → Fails e (whole_state bytes) → ReadsState version bytes (Err e)
+pub not_read : (version : Version) (bytes : List ℕ) (e : Fault) → IsBytes bytes → form_from bytes ≡ Some [] → FailsAsCheckpoint e (whole_state bytes) → ReadsState version bytes (Err e)
 not_read version bytes faults.BadCheckpoint byte form nothing = no_state version bytes nothing
 not_read version bytes faults.Resources byte form nothing = formed bytes byte form
 not_read version bytes e byte form nothing = absurd nothing
 
 -- nor do bytes of which something else is read
-pub not_kept : (version : Version) (bytes : List ℕ) (t : State) (e : Fault) → IsBytes bytes → whole_state bytes ≡ Some t → Tells {A = Unit {0}} (Keeps version t) (Err e) → ReadsState version bytes (Err e)
-not_kept version bytes t faults.BadCheckpoint byte is told = λ s h. let same : s ≡ t = some_same s t (sym (read_again version s bytes h) ∙ is) in told (subst (Keeps version) same (spells_keeps version s bytes h))
+pub not_kept : (version : Version) (bytes : List ℕ) (t : State) (e : Fault) → IsBytes bytes → whole_state bytes ≡ Some t → TellsWhether {A = Unit {0}} (KeepsAll version t) (Err e) → ReadsState version bytes (Err e)
+not_kept version bytes t faults.BadCheckpoint byte is told = λ s h. let same : s ≡ t = some_same s t (sym (read_again version s bytes h) ∙ is) in told (subst (KeepsAll version) same (spells_keeps version s bytes h))
   where
     some_same : (x y : State) → Some x ≡ Some y → x ≡ y
     some_same x y e = cc
@@ -124,7 +124,7 @@ pub not_built : (version : Version) (bytes : List ℕ) (t : State) (e : Fault) �
 not_built version bytes t e byte is refused = subst (λ (f : Fault). ReadsState version bytes (Err f)) (sym refused) (spelled_by bytes t byte is)
 
 -- what is read and keeps it all is spelled by the bytes
-pub is_read : (version : Version) (bytes : List ℕ) (t : State) → IsBytes bytes → whole_state bytes ≡ Some t → Keeps version t → SpellsState version t bytes
+pub is_read : (version : Version) (bytes : List ℕ) (t : State) → IsBytes bytes → whole_state bytes ≡ Some t → KeepsAll version t → SpellsState version t bytes
 is_read version bytes t byte is k =
     let taken = whole_takes bytes t byte is in
     record { next = k.numbers.next; keeps = kept_well version t k; fits = fits t taken.0; deep = k.definitions.deep; spelling = taken.1 }

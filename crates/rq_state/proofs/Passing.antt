@@ -4,9 +4,9 @@ use Rattle.rq_record.specs.declared.fault.Fault.{Fault}
 use Rattle.rq_record.specs.declared.fault.Fault.TheVariants as faults
 use Rattle.std.specs.Prelude.{◌==◌, if◌then◌else◌, length}
 use Rattle.rq_model.specs.States.{State}
-use Rattle.rq_state.specs.Reading.{◌>>=◌, Fails, Refuses, number_from, definition_from, registrant_from, element_from, note_from, members_from, counted_from, state_from, whole_state, after_of, form_from}
+use Rattle.rq_state.specs.Reading.{◌>>=◌, FailsAsCheckpoint, Refuses, number_from, definition_from, registrant_from, element_from, note_from, members_from, counted_from, state_from, whole_state, after_of, form_from}
 
-pub refused : {Y : Type 0} (e : Fault) (read : Option Y) → Refuses e read → Fails e read
+pub refused : {Y : Type 0} (e : Fault) (read : Option Y) → Refuses e read → FailsAsCheckpoint e read
 refused faults.BadCheckpoint read h = h
 refused e read h = absurd h
 

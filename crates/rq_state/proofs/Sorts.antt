@@ -6,7 +6,7 @@ use Rattle.std.specs.List.Sorted.{IsPermutation}
 use Rattle.std.proofs.lemmas.List.Sums.{sum_by-cons}
 use Rattle.std.proofs.lemmas.List.Sorted.{Contains-permutation, IsPermutation-sym, sum_by-IsPermutation}
 use Rattle.rq_model.specs.States.{put}
-use Rattle.rq_state.specs.Orders.{put_each}
+use Rattle.rq_state.specs.Orders.{put_in_order}
 use Rattle.std.specs.List.{AllByRecursion}
 use Rattle.std.proofs.lemmas.Bool.{false≢true}
 use Rattle.rq_model.specs.WellFormed.{Ordered}
@@ -148,23 +148,23 @@ module _ {X : Type 0} (before : X → X → Bool) (irreflexive : (x : X) → bef
       there m = by_cases (before y x) (λ b. before y x ≡ b → IsIn y (filter (λ z. before z x) zs) ⊎ IsIn y (x ∷ filter (λ z. not (before z x)) zs))
           (λ _ e. inl (in_filter (λ z. before z x) y zs m e)) (λ _ e. inr (inr (in_filter (λ z. not (before z x)) y zs m (ap not e)))) refl
 
-  pub in_put_each : (xs : List X) (y : X) → IsIn y xs → IsIn y (put_each before xs)
+  pub in_put_each : (xs : List X) (y : X) → IsIn y xs → IsIn y (put_in_order before xs)
   in_put_each [] y h = h
-  in_put_each (x ∷ xs) y h = in_put x y (put_each before xs) (⊎_elim (λ e. inl e) (λ m. inr (in_put_each xs y m)) h)
+  in_put_each (x ∷ xs) y h = in_put x y (put_in_order before xs) (⊎_elim (λ e. inl e) (λ m. inr (in_put_each xs y m)) h)
 
-  pub number_put_each : (p : X → Bool) (xs : List X) → number_of p (put_each before xs) ≡ number_of p xs
+  pub number_put_each : (p : X → Bool) (xs : List X) → number_of p (put_in_order before xs) ≡ number_of p xs
   number_put_each p [] = refl
   number_put_each p (x ∷ xs) =
-      number_append p (filter (λ z. before z x) (put_each before xs)) (x ∷ filter (λ z. not (before z x)) (put_each before xs))
-      ∙ shift (if p x then 1 else 0) (number_of p (filter (λ z. before z x) (put_each before xs))) (number_of p (filter (λ z. not (before z x)) (put_each before xs))) (number_of p (put_each before xs)) (number_filters p (λ z. before z x) (put_each before xs))
+      number_append p (filter (λ z. before z x) (put_in_order before xs)) (x ∷ filter (λ z. not (before z x)) (put_in_order before xs))
+      ∙ shift (if p x then 1 else 0) (number_of p (filter (λ z. before z x) (put_in_order before xs))) (number_of p (filter (λ z. not (before z x)) (put_in_order before xs))) (number_of p (put_in_order before xs)) (number_filters p (λ z. before z x) (put_in_order before xs))
       ∙ ap (λ n. (if p x then 1 else 0) + n) (number_put_each p xs)
     where
       shift : (a b c d : ℕ) → b + c ≡ d → b + (a + c) ≡ a + d
       shift a b c d h = omega (arith, h)
 
   -- what a sort leaves is what putting each in gives, where the keys are distinct
-  pub sorted_is : (xs ys : List X) → IsPermutation xs ys → Ordered (λ a b. before b a ≡ false) ys → Ordered (λ a b. before a b ≡ true) (put_each before xs) → ys ≡ put_each before xs
-  sorted_is xs ys moved weak strict = only_order before irreflexive (put_each before xs) ys strict weak (record {
-    members = each_self (λ y. IsIn y (put_each before xs)) ys ys (λ w m. m) (λ w m. let c = Contains-permutation ys xs w (IsPermutation-sym xs ys moved) (contains_of_in ys w m) in in_put_each xs w (in_of_contains xs w c.0 c.1 c.2));
+  pub sorted_is : (xs ys : List X) → IsPermutation xs ys → Ordered (λ a b. before b a ≡ false) ys → Ordered (λ a b. before a b ≡ true) (put_in_order before xs) → ys ≡ put_in_order before xs
+  sorted_is xs ys moved weak strict = only_order before irreflexive (put_in_order before xs) ys strict weak (record {
+    members = each_self (λ y. IsIn y (put_in_order before xs)) ys ys (λ w m. m) (λ w m. let c = Contains-permutation ys xs w (IsPermutation-sym xs ys moved) (contains_of_in ys w m) in in_put_each xs w (in_of_contains xs w c.0 c.1 c.2));
     often = λ p. number_sum p ys ∙ sum_by-IsPermutation (λ x. if p x then 1 else 0) xs ys moved ∙ sym (number_sum p xs) ∙ sym (number_put_each p xs);
   })

@@ -13,16 +13,16 @@ use Rattle.rq_model.specs.Laws.{gathered}
 use Rattle.rq_model.proofs.Lists.{by_cases, each_weaker, each_append, each_filter, each_passes, each_of, filter_all, filter_none, filter_same, filter_absorb}
 use Rattle.rq_model.proofs.Merged.{ordered_append, ordered_filter}
 use Rattle.rq_model.proofs.Decided.{element_homes, registrant_queues, note_queues}
-use Rattle.rq_state.specs.Orders.{put_each, place_before}
+use Rattle.rq_state.specs.Orders.{put_in_order, place_before}
 use Rattle.rq_state.specs.Laws.{PartsMakeTheState, AnyOrderMakesTheState}
 use Rattle.rq_state.proofs.Sorts.{IsIn, number_of, number_append, number_put_each, number_sum, number_filters, each_self, in_of_contains, contains_of_in, only_order}
 use Rattle.rq_state.proofs.InOrder.{ordered_weaker, number_is_order, registrant_is_order}
 
-each_put_each : {X : Type 0} (before : X → X → Bool) (P : X → Type 0) (xs : List X) → AllByRecursion P xs → AllByRecursion P (put_each before xs)
+each_put_each : {X : Type 0} (before : X → X → Bool) (P : X → Type 0) (xs : List X) → AllByRecursion P xs → AllByRecursion P (put_in_order before xs)
 each_put_each before P [] h = tt
 each_put_each before P (x ∷ xs) h =
-    let rest : AllByRecursion P (put_each before xs) = each_put_each before P xs h.1 in
-    each_append P (filter (λ y. before y x) (put_each before xs)) (x ∷ filter (λ y. not (before y x)) (put_each before xs)) (each_filter P (λ y. before y x) (put_each before xs) rest) (h.0, each_filter P (λ y. not (before y x)) (put_each before xs) rest)
+    let rest : AllByRecursion P (put_in_order before xs) = each_put_each before P xs h.1 in
+    each_append P (filter (λ y. before y x) (put_in_order before xs)) (x ∷ filter (λ y. not (before y x)) (put_in_order before xs)) (each_filter P (λ y. before y x) (put_in_order before xs) rest) (h.0, each_filter P (λ y. not (before y x)) (put_in_order before xs) rest)
 
 not_true : (b : Bool) → not b ≡ true → b ≡ false
 not_true true h = sym h
@@ -44,21 +44,21 @@ module _ {X : Type 0} (before : X → X → Bool) (order : IsStrictWeakOrder bef
       behind : AllByRecursion (λ b. before b x ≡ false) (filter (λ y. not (before y x)) zs)
       behind = each_passes (λ b. before b x ≡ false) (λ y. not (before y x)) (λ b e. not_true (before b x) e) zs
 
-  weak_each : (xs : List X) → Ordered (λ a b. before b a ≡ false) (put_each before xs)
+  weak_each : (xs : List X) → Ordered (λ a b. before b a ≡ false) (put_in_order before xs)
   weak_each [] = tt
-  weak_each (x ∷ xs) = weak_put x (put_each before xs) (weak_each xs)
+  weak_each (x ∷ xs) = weak_put x (put_in_order before xs) (weak_each xs)
 
   -- members of a list in order, put in order, are that list
-  whole : (zs xs : List X) → Ordered (λ a b. before a b ≡ true) zs → AllByRecursion (λ x. IsIn x zs) xs → ((p : X → Bool) → number_of p xs ≡ number_of p zs) → put_each before xs ≡ zs
+  whole : (zs xs : List X) → Ordered (λ a b. before a b ≡ true) zs → AllByRecursion (λ x. IsIn x zs) xs → ((p : X → Bool) → number_of p xs ≡ number_of p zs) → put_in_order before xs ≡ zs
   whole zs xs strict members often =
-      only_order before irreflexive zs (put_each before xs) strict (weak_each xs) (record { members = each_put_each before (λ x. IsIn x zs) xs members; often = λ p. number_put_each before irreflexive p xs ∙ often p })
+      only_order before irreflexive zs (put_in_order before xs) strict (weak_each xs) (record { members = each_put_each before (λ x. IsIn x zs) xs members; often = λ p. number_put_each before irreflexive p xs ∙ often p })
 
-  pub whole_permuted : (zs xs : List X) → Ordered (λ a b. before a b ≡ true) zs → IsPermutation zs xs → put_each before xs ≡ zs
+  pub whole_permuted : (zs xs : List X) → Ordered (λ a b. before a b ≡ true) zs → IsPermutation zs xs → put_in_order before xs ≡ zs
   whole_permuted zs xs strict moved = whole zs xs strict
       (each_self (λ x. IsIn x zs) xs xs (λ w m. m) (λ w m. let c = Contains-permutation xs zs w (IsPermutation-sym zs xs moved) (contains_of_in xs w m) in in_of_contains zs w c.0 c.1 c.2))
       (λ p. number_sum p xs ∙ sum_by-IsPermutation (λ x. if p x then 1 else 0) zs xs moved ∙ sym (number_sum p zs))
 
-  pub whole_itself : (zs : List X) → Ordered (λ a b. before a b ≡ true) zs → put_each before zs ≡ zs
+  pub whole_itself : (zs : List X) → Ordered (λ a b. before a b ≡ true) zs → put_in_order before zs ≡ zs
   whole_itself zs strict = whole zs zs strict (each_self (λ x. IsIn x zs) zs zs (λ w m. m) (λ w m. m)) (λ p. refl)
 
   module _ (queue : X → ℕ) (field : Part → List X) (part : ℕ → Part) (zs : List X) (own : (n : ℕ) → field (part n) ≡ filter (λ x. queue x == n) zs) where
@@ -100,7 +100,7 @@ module _ {X : Type 0} (before : X → X → Bool) (order : IsStrictWeakOrder bef
     members_gathered (suc n) = each_append (λ x. IsIn x zs) (gathered field part n) (field (part n)) (members_gathered n)
         (subst (AllByRecursion (λ x. IsIn x zs)) (sym (own n)) (each_filter (λ x. IsIn x zs) (at n) zs (each_self (λ x. IsIn x zs) zs zs (λ w m. m) (λ w m. m))))
 
-    pub whole_gathered : (n : ℕ) → Ordered (λ a b. before a b ≡ true) zs → AllByRecursion (λ x. queue x < n) zs → put_each before (gathered field part n) ≡ zs
+    pub whole_gathered : (n : ℕ) → Ordered (λ a b. before a b ≡ true) zs → AllByRecursion (λ x. queue x < n) zs → put_in_order before (gathered field part n) ≡ zs
     whole_gathered n strict homes = whole zs (gathered field part n) strict (members_gathered n)
         (λ p. number_gathered p n ∙ ap (number_of p) (filter_all (below n) zs (each_weaker (λ x. queue x < n) (λ x. below n x ≡ true) (λ x l. lt-ltb (queue x) n l) zs homes)))
 
@@ -110,29 +110,29 @@ strictly n xs h = ordered_weaker (λ a b. n a < n b) (λ a b. nat_lt (n a) (n b)
 pub parts_whole : PartsMakeTheState
 parts_whole s w = λ i. record s { units = units i; registrants = registrants i; elements = elements i; notes = notes i }
   where
-    units : put_each nat_lt s.units ≡ s.units
+    units : put_in_order nat_lt s.units ≡ s.units
     units = whole_itself nat_lt (number_is_order (λ n. n)) s.units (strictly (λ n. n) s.units w.units_rise)
 
-    registrants : put_each registrant_before (gathered (λ (p : Part). p.registrants) (part_of s) (length s.definitions)) ≡ s.registrants
+    registrants : put_in_order registrant_before (gathered (λ (p : Part). p.registrants) (part_of s) (length s.definitions)) ≡ s.registrants
     registrants = whole_gathered registrant_before registrant_is_order (λ r. r.queue) (λ (p : Part). p.registrants) (part_of s) s.registrants (λ n. refl) (length s.definitions) w.registrants_rise (registrant_queues s w)
 
-    elements : put_each id_before (gathered (λ (p : Part). p.elements) (part_of s) (length s.definitions)) ≡ s.elements
+    elements : put_in_order id_before (gathered (λ (p : Part). p.elements) (part_of s) (length s.definitions)) ≡ s.elements
     elements = whole_gathered id_before (number_is_order (λ (e : Element). e.id)) (λ e. e.home) (λ (p : Part). p.elements) (part_of s) s.elements (λ n. refl) (length s.definitions) (strictly (λ (e : Element). e.id) s.elements w.elements_rise) (element_homes s w)
 
-    notes : put_each place_before (gathered (λ (p : Part). p.notes) (part_of s) (length s.definitions)) ≡ s.notes
+    notes : put_in_order place_before (gathered (λ (p : Part). p.notes) (part_of s) (length s.definitions)) ≡ s.notes
     notes = whole_gathered place_before (number_is_order (λ (n : Note). n.last.place)) (λ n. n.queue) (λ (p : Part). p.notes) (part_of s) s.notes (λ n. refl) (length s.definitions) (strictly (λ (n : Note). n.last.place) s.notes w.notes_rise) (note_queues s w)
 
 pub any_order_whole : AnyOrderMakesTheState
 any_order_whole s t w h = λ i. record { next = h.next i; greatest = h.greatest i; committed = h.committed i; aborted = h.aborted i; definitions = h.definitions i; units = units i; registrants = registrants i; elements = elements i; notes = notes i }
   where
-    units : put_each nat_lt t.units ≡ s.units
+    units : put_in_order nat_lt t.units ≡ s.units
     units = whole_permuted nat_lt (number_is_order (λ n. n)) s.units t.units (strictly (λ n. n) s.units w.units_rise) h.units
 
-    registrants : put_each registrant_before t.registrants ≡ s.registrants
+    registrants : put_in_order registrant_before t.registrants ≡ s.registrants
     registrants = whole_permuted registrant_before registrant_is_order s.registrants t.registrants w.registrants_rise h.registrants
 
-    elements : put_each id_before t.elements ≡ s.elements
+    elements : put_in_order id_before t.elements ≡ s.elements
     elements = whole_permuted id_before (number_is_order (λ (e : Element). e.id)) s.elements t.elements (strictly (λ (e : Element). e.id) s.elements w.elements_rise) h.elements
 
-    notes : put_each place_before t.notes ≡ s.notes
+    notes : put_in_order place_before t.notes ≡ s.notes
     notes = whole_permuted place_before (number_is_order (λ (n : Note). n.last.place)) s.notes t.notes (strictly (λ (n : Note). n.last.place) s.notes w.notes_rise) h.notes

@@ -10,11 +10,11 @@ use Rattle.rq_record.specs.declared.fault.Fault.{Fault}
 use Rattle.rq_record.specs.declared.fault.Fault.TheVariants.{Resources, BadCheckpoint}
 
 -- that it holds, or that it does not, or that memory ran out
-abbrev pub Tells : {A : Type 0} → Type 0 → Result A Fault → Type 0
-Tells P (Ok x) = P
-Tells P (Err BadCheckpoint) = P → ⊥
-Tells P (Err Resources) = ⊤
-Tells P (Err e) = ⊥
+abbrev pub TellsWhether : {A : Type 0} → Type 0 → Result A Fault → Type 0
+TellsWhether P (Ok x) = P
+TellsWhether P (Err BadCheckpoint) = P → ⊥
+TellsWhether P (Err Resources) = ⊤
+TellsWhether P (Err e) = ⊥
 
 pub record KeepsNumbers (s : State) : Type 0 where
   pub next : s.next ≤ 4294967295
@@ -44,7 +44,7 @@ pub record KeepsNotes (s : State) : Type 0 where
   pub notes_rise : Ordered (λ n m. n.last.place < m.last.place) s.notes
 
 -- all of it
-pub record Keeps (version : Version) (s : State) : Type 0 where
+pub record KeepsAll (version : Version) (s : State) : Type 0 where
   pub numbers : KeepsNumbers s
   pub definitions : KeepsDefinitions version s
   pub units : KeepsUnits s

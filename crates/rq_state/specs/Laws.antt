@@ -5,7 +5,7 @@ use Rattle.rq_model.specs.States.{State}
 use Rattle.rq_model.specs.WellFormed.{IsWellFormed}
 use Rattle.rq_model.specs.Queues.{part_of}
 use Rattle.rq_model.specs.Laws.{gathered}
-use Rattle.rq_state.specs.Orders.{in_order}
+use Rattle.rq_state.specs.Orders.{state_in_order}
 
 -- the state with the members that its queues' parts have, one queue after another
 abbrev pub of_parts : State → State
@@ -18,7 +18,7 @@ of_parts s =
 
 -- What all queues' parts have, put in order, is the state
 abbrev pub PartsMakeTheState : Type 0
-PartsMakeTheState = (s : State) → IsWellFormed s → in_order (of_parts s) ≡ s
+PartsMakeTheState = (s : State) → IsWellFormed s → state_in_order (of_parts s) ≡ s
 
 -- the same numbers and definitions, and the same members in whatever order
 pub record HasSame (s t : State) : Type 0 where
@@ -34,4 +34,4 @@ pub record HasSame (s t : State) : Type 0 where
 
 -- A state's members in whatever order, put in order, are the state
 abbrev pub AnyOrderMakesTheState : Type 0
-AnyOrderMakesTheState = (s t : State) → IsWellFormed s → HasSame s t → in_order t ≡ s
+AnyOrderMakesTheState = (s t : State) → IsWellFormed s → HasSame s t → state_in_order t ≡ s

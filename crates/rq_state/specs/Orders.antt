@@ -5,20 +5,20 @@ use Rattle.std.specs.Global.{Vec}
 use Rattle.rq_model.specs.States.{State, Note, put, id_before, registrant_before}
 
 -- each put in, from the last to the first
-abbrev pub put_each : {X : Type 0} → (X → X → Bool) → List X → List X
-put_each before [] = []
-put_each before (x ∷ xs) = put before x (put_each before xs)
+abbrev pub put_in_order : {X : Type 0} → (X → X → Bool) → List X → List X
+put_in_order before [] = []
+put_in_order before (x ∷ xs) = put before x (put_in_order before xs)
 
 abbrev pub place_before : Note → Note → Bool
 place_before a b = nat_lt a.last.place b.last.place
 
 -- the state with its lists put in order
-abbrev pub in_order : State → State
-in_order s = record s {
-  units = put_each nat_lt s.units;
-  registrants = put_each registrant_before s.registrants;
-  elements = put_each id_before s.elements;
-  notes = put_each place_before s.notes;
+abbrev pub state_in_order : State → State
+state_in_order s = record s {
+  units = put_in_order nat_lt s.units;
+  registrants = put_in_order registrant_before s.registrants;
+  elements = put_in_order id_before s.elements;
+  notes = put_in_order place_before s.notes;
 }
 
 -- the places of those that pass the test, counted from n

@@ -5,9 +5,9 @@ use Rattle.rq_record.specs.declared.fault.Fault.{Fault}
 use Rattle.rq_record.specs.declared.fault.Fault.TheVariants.{Resources}
 
 -- the text is appended, or memory ran out on the way
-abbrev pub Puts : {A : Type 0} → List ℕ → List ℕ → List ℕ → Result A Fault → Type 0
-Puts old new text (Ok x) = new ≡ old ++ text
-Puts old new text (Err e) = e ≡ Resources
+abbrev pub PutsSpelling : {A : Type 0} → List ℕ → List ℕ → List ℕ → Result A Fault → Type 0
+PutsSpelling old new text (Ok x) = new ≡ old ++ text
+PutsSpelling old new text (Err e) = e ≡ Resources
 
 -- each list's count has its width
 pub record AreFew (s : State) : Type 0 where

@@ -8,8 +8,8 @@ ghost use Rattle.rq_model.specs.WellFormed.{Ordered};
 ghost use Rattle.rq_record.specs.Views.{version_of};
 ghost use Rattle.rq_record.specs.declared.fault.Fault.TheVariants.{Resources};
 ghost use Rattle.rq_state.specs.Inside.{state_of};
-ghost use Rattle.rq_state.specs.Keeping.{Tells, KeepsNumbers, KeepsDefinitions, KeepsUnits};
-ghost use Rattle.rq_state.specs.Keeping.{KeepsRegistrants, KeepsElements, KeepsNotes, Keeps};
+ghost use Rattle.rq_state.specs.Keeping.{TellsWhether, KeepsNumbers, KeepsDefinitions, KeepsUnits};
+ghost use Rattle.rq_state.specs.Keeping.{KeepsRegistrants, KeepsElements, KeepsNotes, KeepsAll};
 ghost use Rattle.rq_state.specs.Tests.{deep_test};
 ghost use Rattle.rq_state.specs.Views.{unit_of};
 
@@ -67,7 +67,7 @@ fn do_names_differ(mut names: Vec<Name>) -> bool
 
 /// Goes on where it holds.
 fn kept(holds: bool) -> Result<(), Fault>
-    ensures { Tells (IsTrue holds) result }
+    ensures { TellsWhether (IsTrue holds) result }
 {
     if holds {
         Ok(())
@@ -87,7 +87,7 @@ fn are_deep_for(version: Version, definitions: &[Definition]) -> bool
 }
 
 fn check_definitions(alloc: Global, version: Version, fields: &Fields) -> Result<(), Fault>
-    ensures { Tells (KeepsDefinitions (version_of version) (state_of fields.now)) result }
+    ensures { TellsWhether (KeepsDefinitions (version_of version) (state_of fields.now)) result }
 {
     kept(are_definitions(&fields.definitions))?;
     kept(are_deep_for(version, &fields.definitions))?;
@@ -96,14 +96,14 @@ fn check_definitions(alloc: Global, version: Version, fields: &Fields) -> Result
 }
 
 fn check_units(fields: &Fields) -> Result<(), Fault>
-    ensures { Tells (KeepsUnits (state_of fields.now)) result }
+    ensures { TellsWhether (KeepsUnits (state_of fields.now)) result }
 {
     kept(do_units_rise(&fields.units))?;
     kept(are_units(fields.greatest, &fields.units))
 }
 
 fn check_registrants(fields: &Fields) -> Result<(), Fault>
-    ensures { Tells (KeepsRegistrants (state_of fields.now)) result }
+    ensures { TellsWhether (KeepsRegistrants (state_of fields.now)) result }
 {
     kept(do_registrants_rise(&fields.registrants))?;
     kept(are_registrants(fields))
@@ -111,7 +111,7 @@ fn check_registrants(fields: &Fields) -> Result<(), Fault>
 
 fn check_elements(fields: &Fields) -> Result<(), Fault>
     requires { Ordered (λ u v. u < v) (map unit_of fields.now.units.items) }
-    ensures { Tells (KeepsElements (state_of fields.now)) result }
+    ensures { TellsWhether (KeepsElements (state_of fields.now)) result }
 {
     kept(do_elements_rise(&fields.elements))?;
     kept(are_elements(fields))
@@ -121,7 +121,7 @@ fn check_notes(fields: &Fields) -> Result<(), Fault>
     requires units { Ordered (λ u v. u < v) (map unit_of fields.now.units.items) }
     requires registrants { Ordered
         (λ r t. model.registrant_before r t ≡ true) fields.now.registrants.items }
-    ensures { Tells (KeepsNotes (state_of fields.now)) result }
+    ensures { TellsWhether (KeepsNotes (state_of fields.now)) result }
 {
     kept(do_notes_rise(&fields.notes))?;
     kept(are_notes(fields))
@@ -130,7 +130,7 @@ fn check_notes(fields: &Fields) -> Result<(), Fault>
 /// That the fields are those of a well-formed state of the version, or BadCheckpoint, or Resources
 /// where there is no room to sort names.
 pub(crate) fn check(alloc: Global, version: Version, fields: &Fields) -> Result<(), Fault>
-    ensures { Tells (Keeps (version_of version) (state_of fields.now)) result }
+    ensures { TellsWhether (KeepsAll (version_of version) (state_of fields.now)) result }
 {
     kept(are_numbers(fields))?;
     check_definitions(alloc, version, fields)?;

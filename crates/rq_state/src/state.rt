@@ -6,7 +6,7 @@ ghost use Rattle.rq_model.specs.States as model;
 ghost use Rattle.rq_model.specs.Queues.{elements_at, registrants_at, notes_at};
 ghost use Rattle.rq_model.specs.WellFormed.{IsWellFormed};
 ghost use Rattle.rq_record.specs.declared.fault.Fault.TheVariants.{Resources};
-ghost use Rattle.rq_state.specs.Orders.{in_order};
+ghost use Rattle.rq_state.specs.Orders.{state_in_order};
 ghost use Rattle.rq_state.specs.Inside.{state_of};
 ghost use Rattle.rq_state.specs.Views.{unit_of};
 
@@ -115,8 +115,8 @@ impl State {
     /// The state of the fields, with their lists put in order. Where there is no memory for the
     /// tables of each queue's members, Resources, and the fields are dropped.
     pub fn build(alloc: Global, mut fields: Fields) -> Result<State, Fault>
-        requires { IsWellFormed (in_order (state_of fields)) }
-        ensures built { IfOk result (λ s. s ≡ in_order (state_of fields)) }
+        requires { IsWellFormed (state_in_order (state_of fields)) }
+        ensures built { IfOk result (λ s. s ≡ state_in_order (state_of fields)) }
         ensures refused { IfErr result (λ e. e ≡ Resources) }
     {
         order_units(&mut fields.units);

@@ -6,7 +6,7 @@ ghost use Rattle.rq_model.specs.StateSpelling.{counted, registrant_bytes, elemen
 ghost use Rattle.rq_model.specs.StateSpelling.{note_bytes, state_bytes};
 ghost use Rattle.rq_model.specs.WellFormed.{IsWellFormed};
 ghost use Rattle.rq_state.specs.Spelling.{Spelled};
-ghost use Rattle.rq_state.specs.Writing.{Puts, AreFew};
+ghost use Rattle.rq_state.specs.Writing.{PutsSpelling, AreFew};
 
 mod lists;
 mod members;
@@ -42,7 +42,7 @@ pub fn spell(alloc: Global, state: &State) -> Result<Vec<u8>, Fault>
 
 fn put_numbers(out: &mut Vec<u8>, state: &State) -> Result<(), Fault>
     ensures well_formed { IsWellFormed state.now }
-    ensures numbers { Puts out.old.items out.new.items
+    ensures numbers { PutsSpelling out.old.items out.new.items
         (to_be_bytes w64 state.now.next ++ (to_be_bytes w64 state.now.greatest
         ++ (to_be_bytes w64 state.now.committed ++ to_be_bytes w64 state.now.aborted))) result }
 {
@@ -54,7 +54,7 @@ fn put_numbers(out: &mut Vec<u8>, state: &State) -> Result<(), Fault>
 
 fn put_members(out: &mut Vec<u8>, state: &State) -> Result<(), Fault>
     requires { AreFew state.now }
-    ensures { Puts out.old.items out.new.items
+    ensures { PutsSpelling out.old.items out.new.items
         (counted registrant_bytes state.now.registrants ++ (counted element_bytes state.now.elements
         ++ counted note_bytes state.now.notes)) result }
 {
@@ -65,7 +65,7 @@ fn put_members(out: &mut Vec<u8>, state: &State) -> Result<(), Fault>
 
 fn put_state(out: &mut Vec<u8>, state: &State) -> Result<(), Fault>
     requires { state.now.next ≤ 4294967295 }
-    ensures { Puts out.old.items out.new.items (state_bytes state.now) result }
+    ensures { PutsSpelling out.old.items out.new.items (state_bytes state.now) result }
 {
     put_numbers(out, state)?;
     put_definitions(out, state.definitions())?;

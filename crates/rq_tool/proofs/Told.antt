@@ -11,7 +11,7 @@ use Rattle.rq_record.specs.declared.fault.Fault.TheVariants as faults
 use Rattle.rq_front.specs.Chains.{Refused}
 use Rattle.rq_report.specs.Streams.{Reports}
 use Rattle.rq_restart.specs.Restarts.{Restarts}
-use Rattle.rq_tool.specs.Streams.{IsOneOf, ReadsAll, ReadsOn, Takes, TakesSome}
+use Rattle.rq_tool.specs.Streams.{IsOneOf, ReadsAll, ReadsOn, TakesInput, TakesSome}
 use Rattle.rq_tool.specs.Headline.{RestartsRead, Runs, WritesOnly}
 
 -- what a reader gave, and what it gives next
@@ -22,7 +22,7 @@ pub takes_on : (old mid new : Option (List ℕ)) → TakesSome old mid → Takes
 takes_on old mid new h more = (h.0 ++ more.0, Consumes-trans old mid new h.0 more.0 h.1 more.1)
 
 -- what was taken up to the end, or as far as a log may go and one byte more
-pub all_taken : {A : Type 0} (old new : Option (List ℕ)) (bytes : List ℕ) (result : Result A Fault) → ReadsAll old new bytes → Takes old new result
+pub all_taken : {A : Type 0} (old new : Option (List ℕ)) (bytes : List ℕ) (result : Result A Fault) → ReadsAll old new bytes → TakesInput old new result
 all_taken old new bytes (Ok x) h = (bytes, h)
 all_taken old new bytes (Err faults.ReadFailed) h = (bytes, h.0)
 all_taken old new bytes (Err faults.Resources) h = (bytes, h.0)
@@ -36,10 +36,10 @@ all_taken old new bytes (Err (faults.Script n)) h = (bytes, h)
 all_taken old new bytes (Err faults.WriteFailed) h = (bytes, h)
 
 -- some bytes were taken where a read or memory was refused
-pub some_taken : (A : Type 0) (old new : Option (List ℕ)) (e : Fault) → IsOneOf faults.ReadFailed faults.Resources e → TakesSome old new → Takes {A = A} old new (Err e)
+pub some_taken : (A : Type 0) (old new : Option (List ℕ)) (e : Fault) → IsOneOf faults.ReadFailed faults.Resources e → TakesSome old new → TakesInput {A = A} old new (Err e)
 some_taken A old new e which h = elim which [
-  | inl is ↦ subst (λ (f : Fault). Takes {A = A} old new (Err f)) (sym is) h
-  | inr is ↦ subst (λ (f : Fault). Takes {A = A} old new (Err f)) (sym is) h
+  | inl is ↦ subst (λ (f : Fault). TakesInput {A = A} old new (Err f)) (sym is) h
+  | inr is ↦ subst (λ (f : Fault). TakesInput {A = A} old new (Err f)) (sym is) h
 ]
 
 -- the bytes are those that the reader had, or both are too long

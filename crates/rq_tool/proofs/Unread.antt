@@ -9,12 +9,12 @@ use Rattle.rq_model.specs.Checkpoints.{TrueAt}
 use Rattle.rq_front.specs.Chains.{IsHeaded}
 use Rattle.rq_record.specs.declared.fault.Fault.{Fault}
 use Rattle.rq_record.specs.declared.fault.Fault.TheVariants as faults
-use Rattle.rq_tool.specs.Streams.{Counts, IsUnread, Takes, TakesSome}
+use Rattle.rq_tool.specs.Streams.{CountsTaken, IsUnread, TakesInput, TakesSome}
 use Rattle.rq_tool.specs.Headline.{IsBeforeWriting, IsTold, RestartsRead}
 use Rattle.rq_tool.proofs.Told.{same_read}
 use Rattle.rq_tool.proofs.ToldAt.{headed}
 
-pub counts_on : (old mid new : Option (List ℕ)) (before total n : ℕ) (piece : List ℕ) → Counts old mid before total → Consumes mid new (take n piece) → n ≤ length piece → Counts old new before (total + n)
+pub counts_on : (old mid new : Option (List ℕ)) (before total n : ℕ) (piece : List ℕ) → CountsTaken old mid before total → Consumes mid new (take n piece) → n ≤ length piece → CountsTaken old new before (total + n)
 counts_on old mid new before total n piece h taken fits =
     (h.0 ++ take n piece, Consumes-trans old mid new h.0 (take n piece) h.1 taken, omega (arith, length-append h.0 (take n piece), length-take-le n piece fits, h.2))
 
@@ -25,7 +25,7 @@ short_unread origin now first none short ended taken =
     (first, (taken, omega arith, inl ended), few, none)
 
 -- the first 40 bytes are no header, and what is behind them is counted
-module _ (origin now new : Option (List ℕ)) (first : List ℕ) (total : ℕ) (whole : length first ≡ 40) (counts : Counts now new (length first) total) (limit : total ≤ 4294967296)
+module _ (origin now new : Option (List ℕ)) (first : List ℕ) (total : ℕ) (whole : length first ≡ 40) (counts : CountsTaken now new (length first) total) (limit : total ≤ 4294967296)
     (ended : total < 4294967296 → IsAtEnd new) (taken : Consumes origin now first) where
   all_consumed : Consumes origin new (first ++ counts.0)
   all_consumed = Consumes-trans origin now new first counts.0 taken counts.1
@@ -62,7 +62,7 @@ unread b old new faults.NoCheckpoint is h = absurd h
 unread b old new (faults.Script n) is h = absurd h
 unread b old new faults.WriteFailed is h = absurd h
 
-pub unread_taken : (A : Type 0) (old new : Option (List ℕ)) (e : Fault) → IsUnread old new e → Takes {A = A} old new (Err e)
+pub unread_taken : (A : Type 0) (old new : Option (List ℕ)) (e : Fault) → IsUnread old new e → TakesInput {A = A} old new (Err e)
 unread_taken A old new faults.TooLong h = (h.0, h.1)
 unread_taken A old new faults.NotALog h = (h.0, h.1)
 unread_taken A old new faults.Resources h = h

@@ -7,22 +7,22 @@ use Rattle.rq_tool.specs.Scripts.{Makes, MakesOnly}
 use Rattle.rq_tool.specs.AuditTexts.{AuditsLog, AuditsOnly}
 use Rattle.rq_tool.specs.Closings.{ClosesLog, ClosesOnly}
 use Rattle.rq_tool.specs.Upgrades.{UpgradesLog, UpgradesOnly}
-use Rattle.rq_tool.specs.Commands.{Line, Make, Restart, RestartAt, Audit, Close, Upgrade}
+use Rattle.rq_tool.specs.Commands.{CommandLine, Make, Restart, RestartAt, Audit, Close, Upgrade}
 
 -- with the bytes b of its first file, where the writer held the bytes `old` before and holds `new`
 -- afterwards
-abbrev pub Acts : Line → List ℕ → Option (List ℕ)
+abbrev pub ActsOn : CommandLine → List ℕ → Option (List ℕ)
     → Option (List ℕ) → Result (Unit {0}) Fault → Type 0
-Acts (Make version script log) b old new result = Makes version b old new result
-Acts (Restart log workers grain) b old new result = Runs b old new result
-Acts (RestartAt log offset workers grain) b old new result =
+ActsOn (Make version script log) b old new result = Makes version b old new result
+ActsOn (Restart log workers grain) b old new result = Runs b old new result
+ActsOn (RestartAt log offset workers grain) b old new result =
     RunsAt b offset old new result × (TrueAt b offset → WritesReport b old new result)
-Acts (Audit log workers grain) b old new result = AuditsLog b old new result
-Acts (Close log out workers grain) b old new result = ClosesLog b old new result
-Acts (Upgrade log out workers grain) b old new result = UpgradesLog b old new result
+ActsOn (Audit log workers grain) b old new result = AuditsLog b old new result
+ActsOn (Close log out workers grain) b old new result = ClosesLog b old new result
+ActsOn (Upgrade log out workers grain) b old new result = UpgradesLog b old new result
 
 -- also where the reader tells no bytes
-abbrev pub ActsOnly : Line → Option (List ℕ) → Option (List ℕ) → Result (Unit {0}) Fault → Type 0
+abbrev pub ActsOnly : CommandLine → Option (List ℕ) → Option (List ℕ) → Result (Unit {0}) Fault → Type 0
 ActsOnly (Make version script log) old new result = MakesOnly version old new result
 ActsOnly (Restart log workers grain) old new result = WritesOnly old new result
 ActsOnly (RestartAt log offset workers grain) old new result = WritesOnlyAt offset old new result

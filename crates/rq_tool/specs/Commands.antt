@@ -7,13 +7,13 @@ use Rattle.rq_tool.specs.declared.line.Command.{Command}
 use Rattle.rq_tool.specs.declared.line.Command.TheVariants as code
 
 -- what a line of the program tells
-pub data Line : Type 0 where
-  Make : (version : Version) (script log : List ℕ) → Line
-  Restart : (log : List ℕ) (workers grain : ℕ) → Line
-  RestartAt : (log : List ℕ) (offset workers grain : ℕ) → Line
-  Audit : (log : List ℕ) (workers grain : ℕ) → Line
-  Close : (log out : List ℕ) (workers grain : ℕ) → Line
-  Upgrade : (log out : List ℕ) (workers grain : ℕ) → Line
+pub data CommandLine : Type 0 where
+  Make : (version : Version) (script log : List ℕ) → CommandLine
+  Restart : (log : List ℕ) (workers grain : ℕ) → CommandLine
+  RestartAt : (log : List ℕ) (offset workers grain : ℕ) → CommandLine
+  Audit : (log : List ℕ) (workers grain : ℕ) → CommandLine
+  Close : (log out : List ℕ) (workers grain : ℕ) → CommandLine
+  Upgrade : (log out : List ℕ) (workers grain : ℕ) → CommandLine
 
 -- the word that makes a log of a version
 abbrev pub make_word : Version → List ℕ
@@ -21,7 +21,7 @@ make_word One = codes "make"
 make_word Two = codes "make2"
 
 -- its words, after the program's name
-abbrev pub words_of : Line → List (List ℕ)
+abbrev pub words_of : CommandLine → List (List ℕ)
 words_of (Make version script log) = make_word version ∷ (script ∷ (log ∷ []))
 words_of (Restart log workers grain) = codes "restart"
     ∷ (log ∷ (decimal workers ∷ (decimal grain ∷ [])))
@@ -36,26 +36,26 @@ abbrev pub IsPlan : ℕ → ℕ → Type 0
 IsPlan workers grain = (1 ≤ workers) × (workers ≤ 64) × (1 ≤ grain) × (grain ≤ 1000000)
 
 -- the numbers of a line are in their ranges; where it names no grain, it is 1,000
-abbrev pub IsLine : Line → Type 0
-IsLine (Make version script log) = ⊤
-IsLine (Restart log workers grain) = IsPlan workers grain
-IsLine (RestartAt log offset workers grain) = (offset < 2 ^ 64) × IsPlan workers grain
-IsLine (Audit log workers grain) = IsPlan workers grain × (grain ≡ 1000)
-IsLine (Close log out workers grain) = IsPlan workers grain × (grain ≡ 1000)
-IsLine (Upgrade log out workers grain) = IsPlan workers grain × (grain ≡ 1000)
+abbrev pub IsCommandLine : CommandLine → Type 0
+IsCommandLine (Make version script log) = ⊤
+IsCommandLine (Restart log workers grain) = IsPlan workers grain
+IsCommandLine (RestartAt log offset workers grain) = (offset < 2 ^ 64) × IsPlan workers grain
+IsCommandLine (Audit log workers grain) = IsPlan workers grain × (grain ≡ 1000)
+IsCommandLine (Close log out workers grain) = IsPlan workers grain × (grain ≡ 1000)
+IsCommandLine (Upgrade log out workers grain) = IsPlan workers grain × (grain ≡ 1000)
 
 -- the line of a command
-abbrev pub line_of : Command → Line
-line_of (code.Make script log) = Make One script.now log.now
-line_of (code.Make2 script log) = Make Two script.now log.now
-line_of (code.Restart log plan) = Restart log.now (workers_of plan) (grain_of plan)
-line_of (code.RestartAt log offset plan) =
+abbrev pub command_line : Command → CommandLine
+command_line (code.Make script log) = Make One script.now log.now
+command_line (code.Make2 script log) = Make Two script.now log.now
+command_line (code.Restart log plan) = Restart log.now (workers_of plan) (grain_of plan)
+command_line (code.RestartAt log offset plan) =
     RestartAt log.now offset (workers_of plan) (grain_of plan)
-line_of (code.Audit log plan) = Audit log.now (workers_of plan) (grain_of plan)
-line_of (code.Close log out plan) = Close log.now out.now (workers_of plan) (grain_of plan)
-line_of (code.Upgrade log out plan) = Upgrade log.now out.now (workers_of plan) (grain_of plan)
+command_line (code.Audit log plan) = Audit log.now (workers_of plan) (grain_of plan)
+command_line (code.Close log out plan) = Close log.now out.now (workers_of plan) (grain_of plan)
+command_line (code.Upgrade log out plan) = Upgrade log.now out.now (workers_of plan) (grain_of plan)
 
 -- the words are those of the command's line, or of no line
 abbrev pub IsCommand : List (List ℕ) → Option Command → Type 0
-IsCommand words (Some command) = IsLine (line_of command) × (words ≡ words_of (line_of command))
-IsCommand words None = (l : Line) → IsLine l → words ≡ words_of l → ⊥
+IsCommand words (Some command) = IsCommandLine (command_line command) × (words ≡ words_of (command_line command))
+IsCommand words None = (l : CommandLine) → IsCommandLine l → words ≡ words_of l → ⊥

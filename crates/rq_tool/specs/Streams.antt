@@ -34,8 +34,8 @@ ReadsOn old before new after = (origin : Option (List ℕ)) →
     Consumes origin old before → Consumes origin new after
 
 -- bytes are taken, and with those before there are so many
-abbrev pub Counts : Option (List ℕ) → Option (List ℕ) → ℕ → ℕ → Type 0
-Counts old new before total = (more : List ℕ) × Consumes old new more
+abbrev pub CountsTaken : Option (List ℕ) → Option (List ℕ) → ℕ → ℕ → Type 0
+CountsTaken old new before total = (more : List ℕ) × Consumes old new more
     × (before + length more ≡ total)
 
 -- why a reader's bytes are refused unkept: they are too long for a log, or begin with no header; or
@@ -50,10 +50,10 @@ IsUnread old new e = ⊥
 
 -- what is taken of a reader: all up to its end, or 4,294,967,296 bytes; but some where a read or
 -- memory was refused
-abbrev pub Takes : {A : Type 0} → Option (List ℕ) → Option (List ℕ) → Result A Fault → Type 0
-Takes old new (Err ReadFailed) = TakesSome old new
-Takes old new (Err Resources) = TakesSome old new
-Takes old new result = (bytes : List ℕ) × ReadsAll old new bytes
+abbrev pub TakesInput : {A : Type 0} → Option (List ℕ) → Option (List ℕ) → Result A Fault → Type 0
+TakesInput old new (Err ReadFailed) = TakesSome old new
+TakesInput old new (Err Resources) = TakesSome old new
+TakesInput old new result = (bytes : List ℕ) × ReadsAll old new bytes
 
 abbrev pub IsOneOf : Fault → Fault → Fault → Type 0
 IsOneOf a b e = (e ≡ a) ⊎ (e ≡ b)

@@ -1,9 +1,9 @@
 //! What each command does, over a reader and a writer.
 
 ghost use Rattle.std.specs.Prelude.{◌≡◌, ℕ, ◌<◌, List, Some};
-ghost use Rattle.rq_tool.specs.Acts.{Acts, ActsOnly};
-ghost use Rattle.rq_tool.specs.Commands.{line_of};
-ghost use Rattle.rq_tool.specs.Streams.{ReadFaults, Takes, WriteFaults};
+ghost use Rattle.rq_tool.specs.Acts.{ActsOn, ActsOnly};
+ghost use Rattle.rq_tool.specs.Commands.{command_line};
+ghost use Rattle.rq_tool.specs.Streams.{ReadFaults, TakesInput, WriteFaults};
 
 use crate::auditing::audit_log;
 use crate::closing::close_log;
@@ -37,10 +37,10 @@ where
     requires reads { I.faults input.old < 18446744073709551615 }
     requires writes { O.faults output.old < 18446744073709551615 }
     ensures acts { (b : List ℕ) → I.remaining input.old ≡ Some b
-        → Acts (line_of command.now) b (O.contents output.old) (O.contents output.new) result }
-    ensures quiet { ActsOnly (line_of command.now)
+        → ActsOn (command_line command.now) b (O.contents output.old) (O.contents output.new) result }
+    ensures quiet { ActsOnly (command_line command.now)
         (O.contents output.old) (O.contents output.new) result }
-    ensures takes { Takes (I.remaining input.old) (I.remaining input.new) result }
+    ensures takes { TakesInput (I.remaining input.old) (I.remaining input.new) result }
     ensures read_faults { ReadFaults (I.faults input.old) (I.faults input.new) result }
     ensures write_faults { WriteFaults (O.faults output.old) (O.faults output.new) result }
 {

@@ -7,7 +7,7 @@ ghost use Rattle.rq_model.specs.Checkpoints.{IsAudit};
 ghost use Rattle.rq_restart.specs.Audits.{audited_of};
 ghost use Rattle.rq_tool.specs.AuditTexts.{audit_line, AuditsLog, AuditsOnly, AuditsRead};
 ghost use Rattle.rq_tool.specs.Headline.{IsBeforeWriting};
-ghost use Rattle.rq_tool.specs.Streams.{ReadFaults, Takes, WriteFaults};
+ghost use Rattle.rq_tool.specs.Streams.{ReadFaults, TakesInput, WriteFaults};
 
 use crate::input::read_log;
 use rq_report::{Input, Output, write_all};
@@ -51,7 +51,7 @@ where
     ensures told { (b : List ℕ) → I.remaining input.old ≡ Some b → AuditsRead b result }
     ensures some { IfOk result (λ found. (b : List ℕ) × IsAudit b (map audited_of found.items)) }
     ensures refused { IfErr result IsBeforeWriting }
-    ensures takes { Takes (I.remaining input.old) (I.remaining input.new) result }
+    ensures takes { TakesInput (I.remaining input.old) (I.remaining input.new) result }
     ensures faults { ReadFaults (I.faults input.old) (I.faults input.new) result }
 {
     let bytes = read_log(alloc, input)?;
@@ -79,7 +79,7 @@ where
     ensures audits { (b : List ℕ) → I.remaining input.old ≡ Some b
         → AuditsLog b (O.contents output.old) (O.contents output.new) result }
     ensures quiet { AuditsOnly (O.contents output.old) (O.contents output.new) result }
-    ensures takes { Takes (I.remaining input.old) (I.remaining input.new) result }
+    ensures takes { TakesInput (I.remaining input.old) (I.remaining input.new) result }
     ensures read_faults { ReadFaults (I.faults input.old) (I.faults input.new) result }
     ensures write_faults { WriteFaults (O.faults output.old) (O.faults output.new) result }
 {

@@ -3,7 +3,7 @@
 ghost use Rattle.std.specs.Prelude.{◌≡◌, ℕ, ◌<◌, List, Some, IfOk, IfErr};
 ghost use Rattle.rq_tool.specs.Closings.{IsBeforeClosing, IsClosedLog, ClosesLog, ClosesOnly};
 ghost use Rattle.rq_tool.specs.Closings.{ClosesRead};
-ghost use Rattle.rq_tool.specs.Streams.{ReadFaults, Takes, WriteFaults};
+ghost use Rattle.rq_tool.specs.Streams.{ReadFaults, TakesInput, WriteFaults};
 
 use crate::input::{are_bytes, read_log};
 use rq_report::{Input, Output, write_all};
@@ -21,7 +21,7 @@ where
     ensures told { (b : List ℕ) → I.remaining input.old ≡ Some b → ClosesRead b result }
     ensures some { IfOk result (λ log. (b : List ℕ) × IsClosedLog b log.items) }
     ensures refused { IfErr result IsBeforeClosing }
-    ensures takes { Takes (I.remaining input.old) (I.remaining input.new) result }
+    ensures takes { TakesInput (I.remaining input.old) (I.remaining input.new) result }
     ensures faults { ReadFaults (I.faults input.old) (I.faults input.new) result }
 {
     rq_model::closed_logs();
@@ -56,7 +56,7 @@ where
     ensures closes { (b : List ℕ) → I.remaining input.old ≡ Some b
         → ClosesLog b (O.contents output.old) (O.contents output.new) result }
     ensures quiet { ClosesOnly (O.contents output.old) (O.contents output.new) result }
-    ensures takes { Takes (I.remaining input.old) (I.remaining input.new) result }
+    ensures takes { TakesInput (I.remaining input.old) (I.remaining input.new) result }
     ensures read_faults { ReadFaults (I.faults input.old) (I.faults input.new) result }
     ensures write_faults { WriteFaults (O.faults output.old) (O.faults output.new) result }
 {

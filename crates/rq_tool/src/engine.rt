@@ -3,7 +3,7 @@
 ghost use Rattle.std.specs.Prelude.{◌≡◌, ℕ, ◌<◌, List, Some, IfOk, IfErr};
 ghost use Rattle.rq_model.specs.Fronts.{IsRestart};
 ghost use Rattle.rq_restart.specs.Restarts.{Restarts};
-ghost use Rattle.rq_tool.specs.Streams.{ReadFaults, Takes, WriteFaults};
+ghost use Rattle.rq_tool.specs.Streams.{ReadFaults, TakesInput, WriteFaults};
 ghost use Rattle.rq_tool.specs.Headline.{IsBeforeWriting, RestartsRead, Runs, WritesOnly};
 
 use crate::input::read_log;
@@ -48,7 +48,7 @@ where
     ensures told { (b : List ℕ) → I.remaining input.old ≡ Some b → RestartsRead b result }
     ensures some { IfOk result (λ r. (b : List ℕ) × IsRestart b r) }
     ensures refused { IfErr result IsBeforeWriting }
-    ensures takes { Takes (I.remaining input.old) (I.remaining input.new) result }
+    ensures takes { TakesInput (I.remaining input.old) (I.remaining input.new) result }
     ensures faults { ReadFaults (I.faults input.old) (I.faults input.new) result }
 {
     let bytes = read_log(alloc, input)?;
@@ -77,7 +77,7 @@ where
     ensures runs { (b : List ℕ) → I.remaining input.old ≡ Some b
         → Runs b (O.contents output.old) (O.contents output.new) result }
     ensures quiet { WritesOnly (O.contents output.old) (O.contents output.new) result }
-    ensures takes { Takes (I.remaining input.old) (I.remaining input.new) result }
+    ensures takes { TakesInput (I.remaining input.old) (I.remaining input.new) result }
     ensures read_faults { ReadFaults (I.faults input.old) (I.faults input.new) result }
     ensures write_faults { WriteFaults (O.faults output.old) (O.faults output.new) result }
 {

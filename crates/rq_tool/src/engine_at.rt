@@ -3,7 +3,7 @@
 ghost use Rattle.std.specs.Prelude.{◌≡◌, ℕ, ◌<◌, List, Some, IfOk, IfErr};
 ghost use Rattle.rq_model.specs.Checkpoints.{IsRestartAt, TrueAt};
 ghost use Rattle.rq_restart.specs.Restarts.{RestartsAt};
-ghost use Rattle.rq_tool.specs.Streams.{ReadFaults, Takes, WriteFaults};
+ghost use Rattle.rq_tool.specs.Streams.{ReadFaults, TakesInput, WriteFaults};
 ghost use Rattle.rq_tool.specs.Headline.{IsBeforeWritingAt, IsTold, RestartsAtRead, RunsAt};
 ghost use Rattle.rq_tool.specs.Headline.{WritesOnlyAt, WritesReport};
 
@@ -53,7 +53,7 @@ where
     ensures excluded { (b : List ℕ) → I.remaining input.old ≡ Some b
         → TrueAt b offset → IsTold b result }
     ensures refused { IfErr result IsBeforeWritingAt }
-    ensures takes { Takes (I.remaining input.old) (I.remaining input.new) result }
+    ensures takes { TakesInput (I.remaining input.old) (I.remaining input.new) result }
     ensures faults { ReadFaults (I.faults input.old) (I.faults input.new) result }
 {
     rq_model::every_log_has_report();
@@ -91,7 +91,7 @@ where
     ensures same { (b : List ℕ) → I.remaining input.old ≡ Some b → TrueAt b offset
         → WritesReport b (O.contents output.old) (O.contents output.new) result }
     ensures quiet { WritesOnlyAt offset (O.contents output.old) (O.contents output.new) result }
-    ensures takes { Takes (I.remaining input.old) (I.remaining input.new) result }
+    ensures takes { TakesInput (I.remaining input.old) (I.remaining input.new) result }
     ensures read_faults { ReadFaults (I.faults input.old) (I.faults input.new) result }
     ensures write_faults { WriteFaults (O.faults output.old) (O.faults output.new) result }
 {

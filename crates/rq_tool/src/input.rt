@@ -7,8 +7,8 @@ ghost use Rattle.rq_model.specs.Frames.{AreBytes};
 ghost use Rattle.rq_front.specs.Chains.{IsHeaded};
 ghost use Rattle.rq_record.specs.declared.fault.Fault.TheVariants.{ReadFailed, Resources};
 ghost use Rattle.rq_tool.specs.Headline.{IsBeforeWriting, RestartsRead};
-ghost use Rattle.rq_tool.specs.Streams.{Counts, IsOneOf, IsUnread, ReadFaults, ReadsAll, ReadsOn};
-ghost use Rattle.rq_tool.specs.Streams.{Takes, TakesSome};
+ghost use Rattle.rq_tool.specs.Streams.{CountsTaken, IsOneOf, IsUnread, ReadFaults, ReadsAll, ReadsOn};
+ghost use Rattle.rq_tool.specs.Streams.{TakesInput, TakesSome};
 
 use rq_front::version;
 use rq_report::Input;
@@ -108,7 +108,7 @@ pub(crate) fn read_all<I: Input>(alloc: Global, input: &mut I) -> Result<Vec<u8>
     ensures bytes { IfOk result
         (λ bytes. ReadsAll (I.remaining input.old) (I.remaining input.new) bytes.items) }
     ensures refused { IfErr result (IsOneOf ReadFailed Resources) }
-    ensures takes { Takes (I.remaining input.old) (I.remaining input.new) result }
+    ensures takes { TakesInput (I.remaining input.old) (I.remaining input.new) result }
     ensures count { ReadFaults (I.faults input.old) (I.faults input.new) result }
 {
     let mut bytes = roomy(alloc);
@@ -122,7 +122,7 @@ fn counted<I: Input>(input: &mut I, piece: &mut [u8], read: usize) -> Result<usi
     requires faults { I.faults input.old < 18446744073709551615 }
     requires piece { 0 < length piece.old }
     requires room { read ≤ 4294967296 }
-    ensures count { IfOk result (Counts (I.remaining input.old) (I.remaining input.new) read) }
+    ensures count { IfOk result (CountsTaken (I.remaining input.old) (I.remaining input.new) read) }
     ensures limit { IfOk result (λ n. n ≤ 4294967296) }
     ensures end { IfOk result (λ n. n < 4294967296 → IsAtEnd (I.remaining input.new)) }
     ensures refused { IfErr result (λ e. e ≡ ReadFailed) }
@@ -173,7 +173,7 @@ pub(crate) fn read_log<I: Input>(alloc: Global, input: &mut I) -> Result<Vec<u8>
     ensures told { (b : List ℕ) → I.remaining input.old ≡ Some b
         → IfErr result (λ e. RestartsRead b (Err e)) }
     ensures refused { IfErr result IsBeforeWriting }
-    ensures takes { Takes (I.remaining input.old) (I.remaining input.new) result }
+    ensures takes { TakesInput (I.remaining input.old) (I.remaining input.new) result }
     ensures count { ReadFaults (I.faults input.old) (I.faults input.new) result }
 {
     let mut bytes = roomy(alloc);

@@ -4,7 +4,7 @@ ghost use Rattle.std.specs.Prelude.{◌≡◌, ℕ, ◌<◌, List, Some, IfOk, I
 ghost use Rattle.rq_model.specs.Records.{One};
 ghost use Rattle.rq_record.specs.Views.{version_of};
 ghost use Rattle.rq_tool.specs.Scripts.{IsLogOf, IsMakeFault, Makes, MakesOnly, MakesRead};
-ghost use Rattle.rq_tool.specs.Streams.{ReadFaults, Takes, WriteFaults};
+ghost use Rattle.rq_tool.specs.Streams.{ReadFaults, TakesInput, WriteFaults};
 
 use crate::input::read_all;
 use rq_report::{Input, Output, write_all};
@@ -40,7 +40,7 @@ where
     ensures some { IfOk result
         (λ log. (script : List ℕ) × IsLogOf (version_of version) script log.items) }
     ensures refused { IfErr result IsMakeFault }
-    ensures takes { Takes (I.remaining input.old) (I.remaining input.new) result }
+    ensures takes { TakesInput (I.remaining input.old) (I.remaining input.new) result }
     ensures faults { ReadFaults (I.faults input.old) (I.faults input.new) result }
 {
     let script = read_all(alloc, input)?;
@@ -74,7 +74,7 @@ where
         → Makes (version_of version) b (O.contents output.old) (O.contents output.new) result }
     ensures quiet { MakesOnly (version_of version)
         (O.contents output.old) (O.contents output.new) result }
-    ensures takes { Takes (I.remaining input.old) (I.remaining input.new) result }
+    ensures takes { TakesInput (I.remaining input.old) (I.remaining input.new) result }
     ensures read_faults { ReadFaults (I.faults input.old) (I.faults input.new) result }
     ensures write_faults { WriteFaults (O.faults output.old) (O.faults output.new) result }
 {
@@ -93,7 +93,7 @@ where
     ensures makes { (b : List ℕ) → I.remaining input.old ≡ Some b
         → Makes One b (O.contents output.old) (O.contents output.new) result }
     ensures quiet { MakesOnly One (O.contents output.old) (O.contents output.new) result }
-    ensures takes { Takes (I.remaining input.old) (I.remaining input.new) result }
+    ensures takes { TakesInput (I.remaining input.old) (I.remaining input.new) result }
     ensures read_faults { ReadFaults (I.faults input.old) (I.faults input.new) result }
     ensures write_faults { WriteFaults (O.faults output.old) (O.faults output.new) result }
 {

@@ -2,7 +2,7 @@
 
 ghost use Rattle.std.specs.Prelude.{◌≡◌, ℕ, ◌<◌, List, Some, IfOk, IfErr};
 ghost use Rattle.rq_tool.specs.Headline.{IsBeforeWriting};
-ghost use Rattle.rq_tool.specs.Streams.{ReadFaults, Takes, WriteFaults};
+ghost use Rattle.rq_tool.specs.Streams.{ReadFaults, TakesInput, WriteFaults};
 ghost use Rattle.rq_tool.specs.Upgrades.{IsUpgradedLog, UpgradesLog, UpgradesOnly, UpgradesRead};
 
 use crate::input::{are_bytes, read_log};
@@ -26,7 +26,7 @@ where
     ensures told { (b : List ℕ) → I.remaining input.old ≡ Some b → UpgradesRead b result }
     ensures some { IfOk result (λ log. (b : List ℕ) × IsUpgradedLog b log.items) }
     ensures refused { IfErr result IsBeforeWriting }
-    ensures takes { Takes (I.remaining input.old) (I.remaining input.new) result }
+    ensures takes { TakesInput (I.remaining input.old) (I.remaining input.new) result }
     ensures faults { ReadFaults (I.faults input.old) (I.faults input.new) result }
 {
     rq_model::upgrade_is_the_same();
@@ -61,7 +61,7 @@ where
     ensures upgrades { (b : List ℕ) → I.remaining input.old ≡ Some b
         → UpgradesLog b (O.contents output.old) (O.contents output.new) result }
     ensures quiet { UpgradesOnly (O.contents output.old) (O.contents output.new) result }
-    ensures takes { Takes (I.remaining input.old) (I.remaining input.new) result }
+    ensures takes { TakesInput (I.remaining input.old) (I.remaining input.new) result }
     ensures read_faults { ReadFaults (I.faults input.old) (I.faults input.new) result }
     ensures write_faults { WriteFaults (O.faults output.old) (O.faults output.new) result }
 {

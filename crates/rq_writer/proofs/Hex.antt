@@ -1,12 +1,12 @@
 -- Bytes in hexadecimal.
-use Rattle.std.proofs.Common.{◌≡◌, ℕ, ◌+◌, ◌*◌, ◌/◌, ◌%◌, ◌-◌, ◌<◌, ◌≤◌, Bool, true, false, cond, leb, ◌&&◌, List, [], ◌∷◌, ◌++◌, length, Option, Some, None, refl, sym, ap, subst, ◌∙◌, arith, inl, inr, append_assoc}
+use Rattle.std.proofs.Common.{◌≡◌, ℕ, zero, suc, ◌+◌, ◌*◌, ◌/◌, ◌%◌, ◌-◌, ◌<◌, ◌≤◌, Bool, true, false, cond, leb, ◌&&◌, List, [], ◌∷◌, ◌++◌, length, Option, Some, None, refl, sym, ap, subst, ◌∙◌, arith, inl, inr, append_assoc}
 use Rattle.std.proofs.lemmas.List.{length-append}
 use Rattle.std.specs.List.{flat_map}
 use Rattle.std.specs.Fmt.{digit_glyph}
 use Rattle.std.proofs.lemmas.Bool.{leb-true, le-leb, lt-leb, lt-ltb, le-ltb, and_parts, cases_lt}
 use Rattle.rq_record.specs.Reading.{◌>>=◌}
 use Rattle.rq_record.proofs.Fields.{bind_some}
-use Rattle.rq_writer.specs.Script.{AreBytes}
+use Rattle.rq_model.specs.Frames.{AreBytes}
 use Rattle.rq_model.specs.Reports as reports
 use Rattle.rq_writer.specs.Reading.{digit_of, pair_of, pairs_of}
 
@@ -91,8 +91,15 @@ pair_again : (b : ℕ) → b < 256 → pair_of (digit_glyph false (b / 16)) (dig
 pair_again b lt =
     rw (digit_again (b / 16) (omega arith), digit_again (b % 16) (omega arith)) (ap (λ (n : ℕ). Some n) (omega arith))
 
+pub no_bytes : AreBytes []
+no_bytes i = omega arith
+
+byte_more : (b : ℕ) (bytes : List ℕ) → b < 256 → AreBytes bytes → AreBytes (b ∷ bytes)
+byte_more b bytes lt are zero = lt
+byte_more b bytes lt are (suc i) = are i
+
 pub pairs_takes : (text bytes : List ℕ) → pairs_of text ≡ Some bytes → (text ≡ flat_map reports.hex_of bytes) × AreBytes bytes
-pairs_takes [] bytes e = let nothing : [] ≡ bytes = some_is [] bytes e in subst (λ (l : List ℕ). ([] ≡ flat_map reports.hex_of l) × AreBytes l) nothing (refl, tt)
+pairs_takes [] bytes e = let nothing : [] ≡ bytes = some_is [] bytes e in subst (λ (l : List ℕ). ([] ≡ flat_map reports.hex_of l) × AreBytes l) nothing (refl, no_bytes)
 pairs_takes (h ∷ []) bytes e = absurd cc
 pairs_takes (h ∷ l ∷ rest) bytes e =
     let b = bind_some (pair_of h l) (λ x. pairs_of rest >>= λ more. Some (x ∷ more)) bytes e in
@@ -101,11 +108,11 @@ pairs_takes (h ∷ l ∷ rest) bytes e =
     let p = pair_takes h l b.0 b.1 in
     let more = pairs_takes rest m.0 m.1 in
     subst (λ (x : List ℕ). (h ∷ l ∷ rest ≡ flat_map reports.hex_of x) × AreBytes x) whole
-    (ap (λ (x : List ℕ). h ∷ l ∷ x) more.0 ∙ ap (λ (x : List ℕ). x ++ flat_map reports.hex_of m.0) (sym p.1), (p.0, more.1))
+    (ap (λ (x : List ℕ). h ∷ l ∷ x) more.0 ∙ ap (λ (x : List ℕ). x ++ flat_map reports.hex_of m.0) (sym p.1), byte_more b.0 m.0 p.0 more.1)
 
 pub pairs_again : (bytes : List ℕ) → AreBytes bytes → pairs_of (flat_map reports.hex_of bytes) ≡ Some bytes
 pairs_again [] fit = refl
-pairs_again (b ∷ bytes) fit = rw (pair_again b fit.0, pairs_again bytes fit.1) refl
+pairs_again (b ∷ bytes) fit = rw (pair_again b (fit 0), pairs_again bytes (λ i. fit (suc i))) refl
 
 pub length-hex : (bytes : List ℕ) → length (flat_map reports.hex_of bytes) ≡ 2 * length bytes
 length-hex [] = refl

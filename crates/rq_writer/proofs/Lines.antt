@@ -17,7 +17,7 @@ use Rattle.rq_writer.specs.Script.{Line, Told, Spelled}
 use Rattle.rq_writer.specs.Views.{line_of}
 use Rattle.rq_writer.specs.declared.line.Line as code
 use Rattle.rq_writer.specs.Script.{who_name, who_tag, record_text, line_text, IsTellable, IsLine, Tells}
-use Rattle.rq_writer.specs.Reading.{field_at, number_of, number_at, error_of, told, hex_of, unit_of, define_of, register_of, deregister_of, begin_of, commit_of, abort_of, enqueue_of, dequeue_of, checkpoint_of, kill_of, kill_in, told_by, record_at, told_line, line_at, Reads}
+use Rattle.rq_writer.specs.Reading.{field_at, number_of, number_at, error_of, by_of, bytes_of_hex, unit_number, define_of, register_of, deregister_of, begin_of, commit_of, abort_of, enqueue_of, dequeue_of, checkpoint_of, kill_of, kill_line_in, told_by, record_at, told_line, line_at, ReadsLine}
 use Rattle.rq_writer.proofs.Cuts.{cut_takes, cut_again}
 use Rattle.rq_writer.proofs.Numbers.{number_takes, number_again}
 use Rattle.rq_writer.proofs.Hex.{some_is}
@@ -90,7 +90,7 @@ deregister_again version queue name h = rw (number_at_again 4294967295 queue nam
 begin_takes : (version : Version) (bytes : List ℕ) (r : Record) → begin_of bytes ≡ Some r → IsTale version (codes "begin " ++ bytes) r
 unfolding begin_of
 begin_takes version bytes r e =
-    let a = bind_some (unit_of bytes) (λ unit. Some (Begin unit)) r e in
+    let a = bind_some (unit_number bytes) (λ unit. Some (Begin unit)) r e in
     let t = number_takes 18446744073709551615 bytes a.0 (omega arith) a.1 in
     subst (IsTale version (codes "begin " ++ bytes)) (some_is _ _ a.2) ((omega (arith, t.1), tt), ap (λ (l : List ℕ). codes "begin " ++ l) t.0)
 
@@ -101,7 +101,7 @@ begin_again version unit h = rw (number_again 18446744073709551615 unit (omega a
 commit_takes : (version : Version) (bytes : List ℕ) (r : Record) → commit_of bytes ≡ Some r → IsTale version (codes "commit " ++ bytes) r
 unfolding commit_of
 commit_takes version bytes r e =
-    let a = bind_some (unit_of bytes) (λ unit. Some (Commit unit)) r e in
+    let a = bind_some (unit_number bytes) (λ unit. Some (Commit unit)) r e in
     let t = number_takes 18446744073709551615 bytes a.0 (omega arith) a.1 in
     subst (IsTale version (codes "commit " ++ bytes)) (some_is _ _ a.2) ((omega (arith, t.1), tt), ap (λ (l : List ℕ). codes "commit " ++ l) t.0)
 
@@ -112,7 +112,7 @@ commit_again version unit h = rw (number_again 18446744073709551615 unit (omega 
 abort_takes : (version : Version) (bytes : List ℕ) (r : Record) → abort_of bytes ≡ Some r → IsTale version (codes "abort " ++ bytes) r
 unfolding abort_of
 abort_takes version bytes r e =
-    let a = bind_some (unit_of bytes) (λ unit. Some (Abort unit)) r e in
+    let a = bind_some (unit_number bytes) (λ unit. Some (Abort unit)) r e in
     let t = number_takes 18446744073709551615 bytes a.0 (omega arith) a.1 in
     subst (IsTale version (codes "abort " ++ bytes)) (some_is _ _ a.2) ((omega (arith, t.1), tt), ap (λ (l : List ℕ). codes "abort " ++ l) t.0)
 
@@ -123,13 +123,13 @@ abort_again version unit h = rw (number_again 18446744073709551615 unit (omega a
 enqueue_takes : (version : Version) (bytes : List ℕ) (r : Record) → enqueue_of bytes ≡ Some r → IsTale version (codes "enqueue " ++ bytes) r
 unfolding enqueue_of
 enqueue_takes version bytes r e =
-    let a = bind_some (number_at 18446744073709551615 bytes) (λ unit. number_at 4294967295 unit.1 >>= λ queue. number_at 255 queue.1 >>= λ priority. field_at priority.1 >>= λ name. number_at 18446744073709551615 name.1 >>= λ tag. told name.0 tag.0 >>= λ by. hex_of 65535 tag.1 >>= λ payload. Some (Enqueue unit.0 queue.0 priority.0 by payload)) r e in
-    let b = bind_some (number_at 4294967295 a.0.1) (λ queue. number_at 255 queue.1 >>= λ priority. field_at priority.1 >>= λ name. number_at 18446744073709551615 name.1 >>= λ tag. told name.0 tag.0 >>= λ by. hex_of 65535 tag.1 >>= λ payload. Some (Enqueue a.0.0 queue.0 priority.0 by payload)) r a.2 in
-    let c = bind_some (number_at 255 b.0.1) (λ priority. field_at priority.1 >>= λ name. number_at 18446744073709551615 name.1 >>= λ tag. told name.0 tag.0 >>= λ by. hex_of 65535 tag.1 >>= λ payload. Some (Enqueue a.0.0 b.0.0 priority.0 by payload)) r b.2 in
-    let d = bind_some (field_at c.0.1) (λ name. number_at 18446744073709551615 name.1 >>= λ tag. told name.0 tag.0 >>= λ by. hex_of 65535 tag.1 >>= λ payload. Some (Enqueue a.0.0 b.0.0 c.0.0 by payload)) r c.2 in
-    let f = bind_some (number_at 18446744073709551615 d.0.1) (λ tag. told d.0.0 tag.0 >>= λ by. hex_of 65535 tag.1 >>= λ payload. Some (Enqueue a.0.0 b.0.0 c.0.0 by payload)) r d.2 in
-    let g = bind_some (told d.0.0 f.0.0) (λ by. hex_of 65535 f.0.1 >>= λ payload. Some (Enqueue a.0.0 b.0.0 c.0.0 by payload)) r f.2 in
-    let h = bind_some (hex_of 65535 f.0.1) (λ payload. Some (Enqueue a.0.0 b.0.0 c.0.0 g.0 payload)) r g.2 in
+    let a = bind_some (number_at 18446744073709551615 bytes) (λ unit. number_at 4294967295 unit.1 >>= λ queue. number_at 255 queue.1 >>= λ priority. field_at priority.1 >>= λ name. number_at 18446744073709551615 name.1 >>= λ tag. by_of name.0 tag.0 >>= λ by. bytes_of_hex 65535 tag.1 >>= λ payload. Some (Enqueue unit.0 queue.0 priority.0 by payload)) r e in
+    let b = bind_some (number_at 4294967295 a.0.1) (λ queue. number_at 255 queue.1 >>= λ priority. field_at priority.1 >>= λ name. number_at 18446744073709551615 name.1 >>= λ tag. by_of name.0 tag.0 >>= λ by. bytes_of_hex 65535 tag.1 >>= λ payload. Some (Enqueue a.0.0 queue.0 priority.0 by payload)) r a.2 in
+    let c = bind_some (number_at 255 b.0.1) (λ priority. field_at priority.1 >>= λ name. number_at 18446744073709551615 name.1 >>= λ tag. by_of name.0 tag.0 >>= λ by. bytes_of_hex 65535 tag.1 >>= λ payload. Some (Enqueue a.0.0 b.0.0 priority.0 by payload)) r b.2 in
+    let d = bind_some (field_at c.0.1) (λ name. number_at 18446744073709551615 name.1 >>= λ tag. by_of name.0 tag.0 >>= λ by. bytes_of_hex 65535 tag.1 >>= λ payload. Some (Enqueue a.0.0 b.0.0 c.0.0 by payload)) r c.2 in
+    let f = bind_some (number_at 18446744073709551615 d.0.1) (λ tag. by_of d.0.0 tag.0 >>= λ by. bytes_of_hex 65535 tag.1 >>= λ payload. Some (Enqueue a.0.0 b.0.0 c.0.0 by payload)) r d.2 in
+    let g = bind_some (by_of d.0.0 f.0.0) (λ by. bytes_of_hex 65535 f.0.1 >>= λ payload. Some (Enqueue a.0.0 b.0.0 c.0.0 by payload)) r f.2 in
+    let h = bind_some (bytes_of_hex 65535 f.0.1) (λ payload. Some (Enqueue a.0.0 b.0.0 c.0.0 g.0 payload)) r g.2 in
     let t0 = number_at_takes 18446744073709551615 bytes a.0 (omega arith) a.1 in
     let t1 = number_at_takes 4294967295 a.0.1 b.0 (omega arith) b.1 in
     let t2 = number_at_takes 255 b.0.1 c.0 (omega arith) c.1 in
@@ -167,11 +167,11 @@ enqueue_again version unit queue priority by payload h t =
 dequeue_takes : (version : Version) (bytes : List ℕ) (r : Record) → dequeue_of bytes ≡ Some r → IsTale version (codes "dequeue " ++ bytes) r
 unfolding dequeue_of
 dequeue_takes version bytes r e =
-    let a = bind_some (number_at 18446744073709551615 bytes) (λ unit. number_at 4294967295 unit.1 >>= λ queue. field_at queue.1 >>= λ name. number_of 18446744073709551615 name.1 >>= λ tag. told name.0 tag >>= λ by. Some (Dequeue unit.0 queue.0 by)) r e in
-    let b = bind_some (number_at 4294967295 a.0.1) (λ queue. field_at queue.1 >>= λ name. number_of 18446744073709551615 name.1 >>= λ tag. told name.0 tag >>= λ by. Some (Dequeue a.0.0 queue.0 by)) r a.2 in
-    let d = bind_some (field_at b.0.1) (λ name. number_of 18446744073709551615 name.1 >>= λ tag. told name.0 tag >>= λ by. Some (Dequeue a.0.0 b.0.0 by)) r b.2 in
-    let f = bind_some (number_of 18446744073709551615 d.0.1) (λ tag. told d.0.0 tag >>= λ by. Some (Dequeue a.0.0 b.0.0 by)) r d.2 in
-    let g = bind_some (told d.0.0 f.0) (λ by. Some (Dequeue a.0.0 b.0.0 by)) r f.2 in
+    let a = bind_some (number_at 18446744073709551615 bytes) (λ unit. number_at 4294967295 unit.1 >>= λ queue. field_at queue.1 >>= λ name. number_of 18446744073709551615 name.1 >>= λ tag. by_of name.0 tag >>= λ by. Some (Dequeue unit.0 queue.0 by)) r e in
+    let b = bind_some (number_at 4294967295 a.0.1) (λ queue. field_at queue.1 >>= λ name. number_of 18446744073709551615 name.1 >>= λ tag. by_of name.0 tag >>= λ by. Some (Dequeue a.0.0 queue.0 by)) r a.2 in
+    let d = bind_some (field_at b.0.1) (λ name. number_of 18446744073709551615 name.1 >>= λ tag. by_of name.0 tag >>= λ by. Some (Dequeue a.0.0 b.0.0 by)) r b.2 in
+    let f = bind_some (number_of 18446744073709551615 d.0.1) (λ tag. by_of d.0.0 tag >>= λ by. Some (Dequeue a.0.0 b.0.0 by)) r d.2 in
+    let g = bind_some (by_of d.0.0 f.0) (λ by. Some (Dequeue a.0.0 b.0.0 by)) r f.2 in
     let t0 = number_at_takes 18446744073709551615 bytes a.0 (omega arith) a.1 in
     let t1 = number_at_takes 4294967295 a.0.1 b.0 (omega arith) b.1 in
     let t3 = cut_takes 32 b.0.1 d.0 d.1 in
@@ -199,7 +199,7 @@ dequeue_again version unit queue by h t =
 checkpoint_takes : (version : Version) (bytes : List ℕ) (r : Record) → checkpoint_of bytes ≡ Some r → IsTale version (codes "checkpoint-hex " ++ bytes) r
 unfolding checkpoint_of
 checkpoint_takes version bytes r e =
-    let a = bind_some (hex_of 268435455 bytes) (λ kept. Some (Checkpoint kept)) r e in
+    let a = bind_some (bytes_of_hex 268435455 bytes) (λ kept. Some (Checkpoint kept)) r e in
     let t = hex_takes 268435455 bytes a.0 a.1 in
     subst (IsTale version (codes "checkpoint-hex " ++ bytes)) (some_is _ _ a.2) ((t.2, t.1), ap (λ (l : List ℕ). codes "checkpoint-hex " ++ l) t.0)
 
@@ -219,7 +219,7 @@ kill_takes bytes r e =
     let whole : bytes ≡ decimal b.0.0 ++ 32 ∷ decimal c.0 = t1.0 ∙ behind (decimal b.0.0) _ _ t2.0 in
     subst (IsTale Two (codes "kill " ++ bytes)) (some_is _ _ c.2) (((omega (arith, t1.1), omega (arith, t2.1)), tt), ap (λ (l : List ℕ). codes "kill " ++ l) whole)
 
-kill_in_takes : (version : Version) (bytes : List ℕ) (r : Record) → kill_in version bytes ≡ Some r → IsTale version (codes "kill " ++ bytes) r
+kill_in_takes : (version : Version) (bytes : List ℕ) (r : Record) → kill_line_in version bytes ≡ Some r → IsTale version (codes "kill " ++ bytes) r
 kill_in_takes One bytes r e = absurd cc
 kill_in_takes Two bytes r e = kill_takes bytes r e
 
@@ -243,7 +243,7 @@ choose version word w bytes here later r takes others e =
 told_by_takes : (version : Version) (word bytes : List ℕ) (r : Record) → told_by version word bytes ≡ Some r → IsTale version (word ++ 32 ∷ bytes) r
 unfolding told_by
 told_by_takes version word bytes r e =
-    choose version word (codes "define") bytes (define_of bytes) _ r (define_takes version bytes r) (λ o. choose version word (codes "register") bytes (register_of bytes) _ r (register_takes version bytes r) (λ o. choose version word (codes "deregister") bytes (deregister_of bytes) _ r (deregister_takes version bytes r) (λ o. choose version word (codes "begin") bytes (begin_of bytes) _ r (begin_takes version bytes r) (λ o. choose version word (codes "enqueue") bytes (enqueue_of bytes) _ r (enqueue_takes version bytes r) (λ o. choose version word (codes "dequeue") bytes (dequeue_of bytes) _ r (dequeue_takes version bytes r) (λ o. choose version word (codes "commit") bytes (commit_of bytes) _ r (commit_takes version bytes r) (λ o. choose version word (codes "abort") bytes (abort_of bytes) _ r (abort_takes version bytes r) (λ o. choose version word (codes "checkpoint-hex") bytes (checkpoint_of bytes) _ r (checkpoint_takes version bytes r) (λ o. choose version word (codes "kill") bytes (kill_in version bytes) None r (kill_in_takes version bytes r) (λ (none : None ≡ Some r). absurd cc) o) o) o) o) o) o) o) o) o) e
+    choose version word (codes "define") bytes (define_of bytes) _ r (define_takes version bytes r) (λ o. choose version word (codes "register") bytes (register_of bytes) _ r (register_takes version bytes r) (λ o. choose version word (codes "deregister") bytes (deregister_of bytes) _ r (deregister_takes version bytes r) (λ o. choose version word (codes "begin") bytes (begin_of bytes) _ r (begin_takes version bytes r) (λ o. choose version word (codes "enqueue") bytes (enqueue_of bytes) _ r (enqueue_takes version bytes r) (λ o. choose version word (codes "dequeue") bytes (dequeue_of bytes) _ r (dequeue_takes version bytes r) (λ o. choose version word (codes "commit") bytes (commit_of bytes) _ r (commit_takes version bytes r) (λ o. choose version word (codes "abort") bytes (abort_of bytes) _ r (abort_takes version bytes r) (λ o. choose version word (codes "checkpoint-hex") bytes (checkpoint_of bytes) _ r (checkpoint_takes version bytes r) (λ o. choose version word (codes "kill") bytes (kill_line_in version bytes) None r (kill_in_takes version bytes r) (λ (none : None ≡ Some r). absurd cc) o) o) o) o) o) o) o) o) o) e
 
 record_takes : (version : Version) (text : List ℕ) (r : Record) → record_at version text ≡ Some r → IsTale version text r
 unfolding record_at
@@ -294,7 +294,7 @@ line_again version Spelled h = refl
 line_again version (Told r) h = rw (is_told r, record_again version r h.0 h.1) refl
 
 -- what the reader gives is what the relation asks for
-pub reads : (version : Version) (text : List ℕ) (r : Result code.Line Fault) → Gives line_of r (line_at version text) → Reads version text r
+pub reads : (version : Version) (text : List ℕ) (r : Result code.Line Fault) → Gives line_of r (line_at version text) → ReadsLine version text r
 reads version text (Ok l) g = line_takes version text (line_of l) g
 reads version text (Err faults.Form) g = λ l t. let found : line_at version text ≡ Some l = ap (line_at version) t.1 ∙ line_again version l t.0 in absurd cc
 reads version text (Err faults.Resources) g = tt

@@ -13,12 +13,13 @@ use Rattle.rq_record.specs.Reading.{◌>>=◌}
 use Rattle.rq_model.specs.Records.{By}
 use Rattle.rq_record.proofs.Fields.{bind_some, guard_some, chosen}
 use Rattle.rq_model.specs.Reports.{payload_text, error_text}
-use Rattle.rq_writer.specs.Script.{who_name, who_tag, IsNamed, AreBytes}
+use Rattle.rq_writer.specs.Script.{who_name, who_tag, IsNamed}
+use Rattle.rq_model.specs.Frames.{AreBytes}
 use Rattle.rq_model.specs.Reports as reports
-use Rattle.rq_writer.specs.Reading.{field_at, is_digit, is_decimal, number_of, number_at, error_of, told, pairs_of, hex_of}
+use Rattle.rq_writer.specs.Reading.{field_at, is_digit, is_decimal, number_of, number_at, error_of, by_of, pairs_of, bytes_of_hex}
 use Rattle.rq_writer.proofs.Cuts.{cut_takes, cut_again, Lacks, lacks}
 use Rattle.rq_writer.proofs.Numbers.{own, number_takes, number_again, decimal_is_decimal}
-use Rattle.rq_writer.proofs.Hex.{some_is, pairs_takes, pairs_again, pairs_length, length-hex}
+use Rattle.rq_writer.proofs.Hex.{no_bytes, some_is, pairs_takes, pairs_again, pairs_length, length-hex}
 
 pub refuted : (b : Bool) → (b ≡ true → ⊥) → b ≡ false
 refuted true h = absurd (h refl)
@@ -89,7 +90,7 @@ error_again n lt = error_by n (eqb n 4294967295) refl lt
 
 -- ---- who
 
-pub told_takes : (name : List ℕ) (tag : ℕ) (by : Option By) → told name tag ≡ Some by → tag < 2 ^ 64 → (name ≡ who_name by) × (tag ≡ who_tag by) × IsWho by × IsNamed by
+pub told_takes : (name : List ℕ) (tag : ℕ) (by : Option By) → by_of name tag ≡ Some by → tag < 2 ^ 64 → (name ≡ who_name by) × (tag ≡ who_tag by) × IsWho by × IsNamed by
 told_takes name tag by e lt =
     elim (chosen (bytes_eq name (codes "-")) (cond (eqb tag 0) (Some None) None) (cond (is_name name) (Some (Some (record { name = name; tag = tag }))) None) (Some by) e) [
       | inl a ↦
@@ -101,7 +102,7 @@ told_takes name tag by e lt =
           subst (λ (y : Option By). (name ≡ who_name y) × (tag ≡ who_tag y) × IsWho y × IsNamed y) g.1 (refl, refl, (g.0, lt), other)
     ]
 
-pub told_again : (by : Option By) → IsWho by → IsNamed by → told (who_name by) (who_tag by) ≡ Some by
+pub told_again : (by : Option By) → IsWho by → IsNamed by → by_of (who_name by) (who_tag by) ≡ Some by
 told_again None h t = refl
 told_again (Some by) h t =
     let other : bytes_eq by.name (codes "-") ≡ false = refuted _ (λ e. t ((bytes_eq-Decides by.name (codes "-")).0 e)) in
@@ -116,10 +117,10 @@ hex_is (b ∷ bytes) lt = refl
 abbrev IsHex : ℕ → List ℕ → List ℕ → Type 0
 IsHex limit text bytes = (text ≡ payload_text bytes) × AreBytes bytes × (length bytes ≤ limit)
 
-pub hex_takes : (limit : ℕ) (text bytes : List ℕ) → hex_of limit text ≡ Some bytes → IsHex limit text bytes
+pub hex_takes : (limit : ℕ) (text bytes : List ℕ) → bytes_of_hex limit text ≡ Some bytes → IsHex limit text bytes
 hex_takes limit text bytes e =
     elim (chosen (bytes_eq text (codes "-")) (Some []) (cond (eqb (length text) 0) None (cond (leb (length text) (2 * limit)) (pairs_of text) None)) (Some bytes) e) [
-      | inl a ↦ subst (IsHex limit text) (some_is [] bytes a.1) ((bytes_eq-Decides text (codes "-")).0 a.0, tt, omega arith)
+      | inl a ↦ subst (IsHex limit text) (some_is [] bytes a.1) ((bytes_eq-Decides text (codes "-")).0 a.0, no_bytes, omega arith)
       | inr b ↦ elim (chosen (eqb (length text) 0) None (cond (leb (length text) (2 * limit)) (pairs_of text) None) (Some bytes) b.1) [
         | inl c ↦ absurd cc
         | inr c ↦ elim (chosen (leb (length text) (2 * limit)) (pairs_of text) None (Some bytes) c.1) [
@@ -134,7 +135,7 @@ hex_takes limit text bytes e =
       ]
     ]
 
-pub hex_again : (limit : ℕ) (bytes : List ℕ) → AreBytes bytes → length bytes ≤ limit → hex_of limit (payload_text bytes) ≡ Some bytes
+pub hex_again : (limit : ℕ) (bytes : List ℕ) → AreBytes bytes → length bytes ≤ limit → bytes_of_hex limit (payload_text bytes) ≡ Some bytes
 hex_again limit [] fit le = refl
 hex_again limit (b ∷ bytes) fit le =
     let text = flat_map reports.hex_of (b ∷ bytes) in

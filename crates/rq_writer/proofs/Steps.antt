@@ -16,9 +16,9 @@ use Rattle.rq_record.specs.declared.fault.Fault.TheVariants as faults
 use Rattle.rq_record.specs.declared.record.Record as code
 use Rattle.rq_writer.specs.Script.{Line, Told, Spelled, IsLine, Tells, line_text}
 use Rattle.rq_writer.specs.Reading.{cut_at}
-use Rattle.rq_writer.specs.Made.{Adds, AreAdded, Begins, Made, script_of, ended}
-use Rattle.rq_writer.specs.Fronts.{Follows}
-use Rattle.rq_writer.specs.Making.{Holds, NextLine, RecordOf, Framed, LineMade, Making}
+use Rattle.rq_writer.specs.Made.{Adds, AreAdded, BeginsWithLines, Made, script_of, ended}
+use Rattle.rq_writer.specs.Fronts.{IsFrontAfter}
+use Rattle.rq_writer.specs.Making.{HoldsRecords, NextLine, RecordOf, Framed, LineMade, Making}
 use Rattle.rq_writer.specs.declared.front.Front.{Front}
 use Rattle.rq_writer.specs.declared.log.Log.{Log}
 use Rattle.rq_writer.proofs.Cuts.{cut_takes}
@@ -45,7 +45,7 @@ header_length version = omega (arith, length-append (magic version) (start versi
 none_is_header : (version : Version) → header version ≡ log_of version []
 none_is_header version = sym (append-nil (header version))
 
-pub starts : (version : Version) → LogEnds → (log : Log) → log.out.items ≡ header version → log.last ≡ drop (length log.out.items - 32) log.out.items → Follows version log.front [] → Holds version log []
+pub starts : (version : Version) → LogEnds → (log : Log) → log.out.items ≡ header version → log.last ≡ drop (length log.out.items - 32) log.out.items → IsFrontAfter version log.front [] → HoldsRecords version log []
 starts version ends log out last front = record {
   made = out ∙ none_is_header version;
   last = last ∙ log_tail version ends [] log.out.items (out ∙ none_is_header version);
@@ -70,7 +70,7 @@ framed_from {A} old new p body r (Err f) a e short = subst (λ (g : Fault). Fram
 pub log_added : (version : Version) → LogJoins → (rs : List Record) (r : Record) → log_of version (rs ++ r ∷ []) ≡ log_of version rs ++ frame (last_of (start version) rs) (body_of r)
 log_added version joins rs r = joins version rs (r ∷ []) ∙ ap (λ (l : List ℕ). log_of version rs ++ l) (append-nil (frame (last_of (start version) rs) (body_of r)))
 
-framed_log : (version : Version) → LogJoins → (log : Log) (rs : List Record) (r : Record) → Holds version log rs → log.out.items ++ frame log.last (body_of r) ≡ log_of version (rs ++ r ∷ [])
+framed_log : (version : Version) → LogJoins → (log : Log) (rs : List Record) (r : Record) → HoldsRecords version log rs → log.out.items ++ frame log.last (body_of r) ≡ log_of version (rs ++ r ∷ [])
 framed_log version joins log rs r h = (λ i. h.made i ++ frame (h.last i) (body_of r)) ∙ sym (log_added version joins rs r)
 
 -- One record.
@@ -109,12 +109,12 @@ added_is_record version rs Spelled r is adds = subst (IsRecord version) (sym add
 pub record IsNext (version : Version) (old new : Log) (front : Front) (r : Record) : Type 0 where
   pub framed : Framed {A = ⊤} old.out.items new.out.items old.last r (Ok tt)
   pub last : new.last ≡ drop (length new.out.items - 32) new.out.items
-  pub front_is : (rs : List Record) → Follows version front rs → Follows version new.front (rs ++ r ∷ [])
+  pub front_is : (rs : List Record) → IsFrontAfter version front rs → IsFrontAfter version new.front (rs ++ r ∷ [])
 
 pub line_more : {A : Type 0} → (version : Version) → LogJoins → LogEnds → (number : ℕ) (text : List ℕ) (old new : Log) (front : Front) (r : code.Record) (x : A) → RecordOf version number text old.front front (Ok r) → IsNext version old new front (record_of r) → LineMade version number text old new (Ok x)
 line_more version joins ends number text old new front r x line n = (line.0, line.1, λ rs h. next rs h (line.2 rs h.front h.logged))
   where
-    next : (rs : List Record) → Holds version old rs → Follows version front rs × Adds version rs line.0 (record_of r) → (s : Record) × Adds version rs line.0 s × Holds version new (rs ++ s ∷ [])
+    next : (rs : List Record) → HoldsRecords version old rs → IsFrontAfter version front rs × Adds version rs line.0 (record_of r) → (s : Record) × Adds version rs line.0 s × HoldsRecords version new (rs ++ s ∷ [])
     next rs h f =
         let made : new.out.items ≡ log_of version (rs ++ record_of r ∷ []) = n.framed.0 ∙ framed_log version joins old rs (record_of r) h in (
           record_of r,
@@ -131,7 +131,7 @@ line_more version joins ends number text old new front r x line n = (line.0, lin
         )
 
 pub line_kept : {A : Type 0} → (version : Version) → LogJoins → LogEnds → (number : ℕ) (text : List ℕ) (old new : Log) (front : Front) (r : code.Record) (res : Result A Fault) → RecordOf version number text old.front front (Ok r) → Framed {A = ⊤} old.out.items new.out.items old.last (record_of r) (Ok tt)
-    → new.last ≡ drop (length new.out.items - 32) new.out.items → OnOk res ((every : Version) (rs : List Record) → Follows every front rs → Follows every new.front (rs ++ record_of r ∷ [])) → IfErr res (λ e. e ≡ faults.Resources) → LineMade version number text old new res
+    → new.last ≡ drop (length new.out.items - 32) new.out.items → OnOk res ((every : Version) (rs : List Record) → IsFrontAfter every front rs → IsFrontAfter every new.front (rs ++ record_of r ∷ [])) → IfErr res (λ e. e ≡ faults.Resources) → LineMade version number text old new res
 line_kept version joins ends number text old new front r (Ok x) line framed last kept refused = line_more version joins ends number text old new front r x line (record { framed = framed; last = last; front_is = kept version })
 line_kept {A} version joins ends number text old new front r (Err e) line framed last kept refused = subst (λ f. LineMade {A = A} version number text old new (Err f)) (sym refused) tt
 
@@ -148,7 +148,7 @@ told_more version (m ∷ ls) l all one = (all.0, told_more version ls l all.1 on
 line_is : (rest : List ℕ) (x : List ℕ × List ℕ) (l : Line) → Some x ≡ cut_at 10 rest → x.0 ≡ line_text l → rest ≡ ended l ++ x.1
 line_is rest x l found e = cut_takes 10 rest x (sym found) ∙ ap (λ (t : List ℕ). t ++ 10 ∷ x.1) e ∙ sym (append_assoc (line_text l) (10 ∷ []) x.1)
 
-pub making_more : (version : Version) (script : List ℕ) (n : ℕ) (old new : Log) (rest : List ℕ) (x : List ℕ × List ℕ) (ls : List Line) (rs : List Record) (l : Line) (r : Record) → Making version script n old rest ls rs → Some x ≡ cut_at 10 rest → Tells version l x.0 → Adds version rs l r → Holds version new (rs ++ r ∷ [])
+pub making_more : (version : Version) (script : List ℕ) (n : ℕ) (old new : Log) (rest : List ℕ) (x : List ℕ × List ℕ) (ls : List Line) (rs : List Record) (l : Line) (r : Record) → Making version script n old rest ls rs → Some x ≡ cut_at 10 rest → Tells version l x.0 → Adds version rs l r → HoldsRecords version new (rs ++ r ∷ [])
     → Making version script (n + 1) new x.1 (ls ++ l ∷ []) (rs ++ r ∷ [])
 making_more version script n old new rest x ls rs l r m found tells adds h =
     let here : rest ≡ ended l ++ x.1 = line_is rest x l found tells.1 in
@@ -183,11 +183,11 @@ line_stops version A bytes script n old new rest x ls rs (faults.Script k) m som
     (ls, rs, rest, record { begins = m.begins; some = some; none = no_tale version rest x found stop.1; is = omega (arith, stop.0, m.number) })
 line_stops version A bytes script n old new rest x ls rs faults.TooLarge m some found stop =
     let large = stop.1 rs m.holds in
-    (ls, rs, x.1, large.0, record { begins = subst (λ (t : List ℕ). Begins version script ls rs t) (line_is rest x Spelled found stop.0) m.begins; state = large.1; long = large.2 })
+    (ls, rs, x.1, large.0, record { begins = subst (λ (t : List ℕ). BeginsWithLines version script ls rs t) (line_is rest x Spelled found stop.0) m.begins; state = large.1; long = large.2 })
 line_stops version A bytes script n old new rest x ls rs faults.TooLong m some found stop =
     let l = stop.0 in
     let more = stop.2 rs m.holds in
-    (ls, rs, l, more.0, x.1, record { begins = subst (λ (t : List ℕ). Begins version script ls rs t) (line_is rest x l found stop.1.1) m.begins; line = stop.1.0; adds = more.1; long = more.2 })
+    (ls, rs, l, more.0, x.1, record { begins = subst (λ (t : List ℕ). BeginsWithLines version script ls rs t) (line_is rest x l found stop.1.1) m.begins; line = stop.1.0; adds = more.1; long = more.2 })
 line_stops version A bytes script n old new rest x ls rs faults.Resources m some found stop = tt
 line_stops version A bytes script n old new rest x ls rs faults.Form m some found stop = absurd stop
 line_stops version A bytes script n old new rest x ls rs faults.NotALog m some found stop = absurd stop

@@ -27,8 +27,8 @@ Splits version s since true rs =
     × (is_lawful version s first ≡ false) × (s ≡ run empty done)
 
 -- the front of the log of the records
-abbrev pub Follows : Version → Front → List Record → Type 0
-Follows version front rs =
+abbrev pub IsFrontAfter : Version → Front → List Record → Type 0
+IsFrontAfter version front rs =
     Splits version front.state (map record_of front.since.items) front.ended rs
 
 -- records that have a log
@@ -38,10 +38,10 @@ pub record AreLogged (version : Version) (rs : List Record) : Type 0 where
 
 -- a checkpoint of the state after the front
 abbrev pub SpellsFront : Version → Front → Front → Result code.Record Fault → Type 0
-SpellsFront version old new (Ok r) = (rs : List Record) → Follows version old rs
-    → AreLogged version rs → Follows version new rs × Adds version rs Spelled (record_of r)
+SpellsFront version old new (Ok r) = (rs : List Record) → IsFrontAfter version old rs
+    → AreLogged version rs → IsFrontAfter version new rs × Adds version rs Spelled (record_of r)
 SpellsFront version old new (Err faults.TooLarge) =
-    (rs : List Record) → Follows version old rs → AreLogged version rs
+    (rs : List Record) → IsFrontAfter version old rs → AreLogged version rs
     → (s : State) × IsStateOf version rs s × (spelling_limit < length (state_bytes s))
 SpellsFront version old new (Err faults.Resources) = ⊤
 SpellsFront version old new (Err _) = ⊥

@@ -47,7 +47,7 @@ AreAdded version before (l ∷ ls) after = (r : Record) × Adds version before l
 
 -- the script begins with these lines, which add these records, and their log keeps within a log's
 -- limit
-pub record Begins (version : Version) (script : List ℕ)
+pub record BeginsWithLines (version : Version) (script : List ℕ)
     (ls : List Line) (rs : List Record) (rest : List ℕ) : Type 0 where
   pub lines : AllByRecursion (IsLine version) ls
   pub whole : script ≡ script_of ls ++ rest
@@ -57,7 +57,7 @@ pub record Begins (version : Version) (script : List ℕ)
 -- what stands after these lines is no line
 pub record Stops (version : Version) (script : List ℕ) (number : ℕ)
     (ls : List Line) (rs : List Record) (rest : List ℕ) : Type 0 where
-  pub begins : Begins version script ls rs rest
+  pub begins : BeginsWithLines version script ls rs rest
   pub some : 0 < length rest
   pub none : NoLine version rest
   pub is : number ≡ length ls + 1
@@ -65,14 +65,14 @@ pub record Stops (version : Version) (script : List ℕ) (number : ℕ)
 -- the line after these is a checkpoint of a state whose spelling is too long
 pub record Swells (version : Version) (script : List ℕ) (ls : List Line)
     (rs : List Record) (rest : List ℕ) (s : State) : Type 0 where
-  pub begins : Begins version script ls rs (ended Spelled ++ rest)
+  pub begins : BeginsWithLines version script ls rs (ended Spelled ++ rest)
   pub state : IsStateOf version rs s
   pub long : spelling_limit < length (state_bytes s)
 
 -- the line after these makes the log too long
-pub record Passes (version : Version) (script : List ℕ) (ls : List Line)
+pub record PassesLimit (version : Version) (script : List ℕ) (ls : List Line)
     (rs : List Record) (l : Line) (r : Record) (rest : List ℕ) : Type 0 where
-  pub begins : Begins version script ls rs (ended l ++ rest)
+  pub begins : BeginsWithLines version script ls rs (ended l ++ rest)
   pub line : IsLine version l
   pub adds : Adds version rs l r
   pub long : log_limit < length (log_of version (rs ++ r ∷ []))
@@ -80,12 +80,12 @@ pub record Passes (version : Version) (script : List ℕ) (ls : List Line)
 -- Made: the log of the script, or the fault of its earliest line that has one
 abbrev pub Made : {X : Type 0} → Version → (X → List ℕ) → List ℕ → Result X Fault → Type 0
 Made version view script (Ok log) = (ls : List Line) × (rs : List Record)
-    × Begins version script ls rs [] × (view log ≡ log_of version rs)
+    × BeginsWithLines version script ls rs [] × (view log ≡ log_of version rs)
 Made version view script (Err (faults.Script number)) =
     (ls : List Line) × (rs : List Record) × (rest : List ℕ) × Stops version script number ls rs rest
 Made version view script (Err faults.TooLarge) = (ls : List Line) × (rs : List Record)
     × (rest : List ℕ) × (s : State) × Swells version script ls rs rest s
 Made version view script (Err faults.TooLong) = (ls : List Line) × (rs : List Record)
-    × (l : Line) × (r : Record) × (rest : List ℕ) × Passes version script ls rs l r rest
+    × (l : Line) × (r : Record) × (rest : List ℕ) × PassesLimit version script ls rs l r rest
 Made version view script (Err faults.Resources) = ⊤
 Made version view script (Err _) = ⊥

@@ -12,20 +12,20 @@ use Rattle.rq_record.specs.declared.fault.Fault.TheVariants as faults
 use Rattle.rq_record.specs.declared.record.Record as code
 use Rattle.rq_writer.specs.Script.{Line, Spelled, Tells, line_text}
 use Rattle.rq_writer.specs.Reading.{cut_at}
-use Rattle.rq_writer.specs.Made.{Begins, Adds, IsStateOf, spelling_limit}
-use Rattle.rq_writer.specs.Fronts.{Follows, AreLogged}
+use Rattle.rq_writer.specs.Made.{BeginsWithLines, Adds, IsStateOf, spelling_limit}
+use Rattle.rq_writer.specs.Fronts.{IsFrontAfter, AreLogged}
 use Rattle.rq_writer.specs.declared.front.Front.{Front}
 use Rattle.rq_writer.specs.declared.log.Log.{Log}
 
 -- the log of the records, with its last 32 bytes and its front
-pub record Holds (version : Version) (log : Log) (rs : List Record) : Type 0 where
+pub record HoldsRecords (version : Version) (log : Log) (rs : List Record) : Type 0 where
   pub made : log.out.items ≡ log_of version rs
   pub last : log.last ≡ last_of (start version) rs
   pub logged : AreLogged version rs
-  pub front : Follows version log.front rs
+  pub front : IsFrontAfter version log.front rs
 
 abbrev pub Starts : Version → Result Log Fault → Type 0
-Starts version (Ok log) = Holds version log []
+Starts version (Ok log) = HoldsRecords version log []
 Starts version (Err e) = e ≡ faults.Resources
 
 -- the next line's text and what stands behind it
@@ -46,11 +46,11 @@ IsTooLarge version rs = (s : State) × IsStateOf version rs s
 -- the record that a line adds
 abbrev pub RecordOf : Version → ℕ → List ℕ → Front → Front → Result code.Record Fault → Type 0
 RecordOf version number text old new (Ok r) = (l : Line) × Tells version l text
-    × ((rs : List Record) → Follows version old rs → AreLogged version rs
-    → Follows version new rs × Adds version rs l (record_of r))
+    × ((rs : List Record) → IsFrontAfter version old rs → AreLogged version rs
+    → IsFrontAfter version new rs × Adds version rs l (record_of r))
 RecordOf version number text old new (Err (faults.Script n)) = (n ≡ number) × TellsNone version text
 RecordOf version number text old new (Err faults.TooLarge) = (text ≡ line_text Spelled)
-    × ((rs : List Record) → Follows version old rs → AreLogged version rs → IsTooLarge version rs)
+    × ((rs : List Record) → IsFrontAfter version old rs → AreLogged version rs → IsTooLarge version rs)
 RecordOf version number text old new (Err faults.Resources) = ⊤
 RecordOf version number text old new (Err _) = ⊥
 
@@ -64,13 +64,13 @@ Framed old new p r (Err _) = ⊥
 -- the log with the record that a line adds, or why there is none
 abbrev pub LineMade : {A : Type 0} → Version → ℕ → List ℕ → Log → Log → Result A Fault → Type 0
 LineMade version number text old new (Ok x) = (l : Line) × Tells version l text
-    × ((rs : List Record) → Holds version old rs
-    → (r : Record) × Adds version rs l r × Holds version new (rs ++ r ∷ []))
+    × ((rs : List Record) → HoldsRecords version old rs
+    → (r : Record) × Adds version rs l r × HoldsRecords version new (rs ++ r ∷ []))
 LineMade version number text old new (Err (faults.Script n)) = (n ≡ number) × TellsNone version text
 LineMade version number text old new (Err faults.TooLarge) = (text ≡ line_text Spelled)
-    × ((rs : List Record) → Holds version old rs → IsTooLarge version rs)
+    × ((rs : List Record) → HoldsRecords version old rs → IsTooLarge version rs)
 LineMade version number text old new (Err faults.TooLong) = (l : Line) × Tells version l text
-    × ((rs : List Record) → Holds version old rs
+    × ((rs : List Record) → HoldsRecords version old rs
     → (r : Record) × Adds version rs l r × (log_limit < length (log_of version (rs ++ r ∷ []))))
 LineMade version number text old new (Err faults.Resources) = ⊤
 LineMade version number text old new (Err _) = ⊥
@@ -78,7 +78,7 @@ LineMade version number text old new (Err _) = ⊥
 -- what is kept from line to line
 pub record Making (version : Version) (script : List ℕ) (n : ℕ) (log : Log)
     (rest : List ℕ) (ls : List Line) (rs : List Record) : Type 0 where
-  pub begins : Begins version script ls rs rest
+  pub begins : BeginsWithLines version script ls rs rest
   pub number : n ≡ length ls
   pub small : n + length rest ≤ length script
-  pub holds : Holds version log rs
+  pub holds : HoldsRecords version log rs

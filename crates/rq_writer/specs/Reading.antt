@@ -51,8 +51,8 @@ abbrev pub error_of : List ℕ → Option ℕ
 error_of bytes = if bytes_eq bytes (codes "-") then Some 4294967295 else number_of 4294967294 bytes
 
 -- the registrant that a name and a tag give
-abbrev pub told : List ℕ → ℕ → Option (Option By)
-told name tag =
+abbrev pub by_of : List ℕ → ℕ → Option (Option By)
+by_of name tag =
     if bytes_eq name (codes "-")
     then (if tag == 0 then Some None else None)
     else (if is_name name then Some (Some (record { name = name; tag = tag })) else None)
@@ -72,8 +72,8 @@ pairs_of (high ∷ []) = None
 pairs_of (high ∷ low ∷ rest) = pair_of high low >>= λ b. pairs_of rest >>= λ bytes. Some (b ∷ bytes)
 
 -- at most `limit` bytes in hexadecimal, or `-` for none
-abbrev pub hex_of : ℕ → List ℕ → Option (List ℕ)
-hex_of limit text =
+abbrev pub bytes_of_hex : ℕ → List ℕ → Option (List ℕ)
+bytes_of_hex limit text =
     if bytes_eq text (codes "-") then Some []
     else if length text == 0 then None
     else if nat_le (length text) (2 * limit) then pairs_of text
@@ -99,22 +99,22 @@ deregister_of bytes = do
   name ← name_of queue.1
   Some (Deregister queue.0 name)
 
-abbrev pub unit_of : List ℕ → Option ℕ
-unit_of bytes = number_of 18446744073709551615 bytes
+abbrev pub unit_number : List ℕ → Option ℕ
+unit_number bytes = number_of 18446744073709551615 bytes
 
 unfoldable pub begin_of : List ℕ → Option Record
 begin_of bytes = do
-  unit ← unit_of bytes
+  unit ← unit_number bytes
   Some (Begin unit)
 
 unfoldable pub commit_of : List ℕ → Option Record
 commit_of bytes = do
-  unit ← unit_of bytes
+  unit ← unit_number bytes
   Some (Commit unit)
 
 unfoldable pub abort_of : List ℕ → Option Record
 abort_of bytes = do
-  unit ← unit_of bytes
+  unit ← unit_number bytes
   Some (Abort unit)
 
 unfoldable pub enqueue_of : List ℕ → Option Record
@@ -124,8 +124,8 @@ enqueue_of bytes = do
   priority ← number_at 255 queue.1
   name ← field_at priority.1
   tag ← number_at 18446744073709551615 name.1
-  by ← told name.0 tag.0
-  payload ← hex_of 65535 tag.1
+  by ← by_of name.0 tag.0
+  payload ← bytes_of_hex 65535 tag.1
   Some (Enqueue unit.0 queue.0 priority.0 by payload)
 
 unfoldable pub dequeue_of : List ℕ → Option Record
@@ -134,12 +134,12 @@ dequeue_of bytes = do
   queue ← number_at 4294967295 unit.1
   name ← field_at queue.1
   tag ← number_of 18446744073709551615 name.1
-  by ← told name.0 tag
+  by ← by_of name.0 tag
   Some (Dequeue unit.0 queue.0 by)
 
 unfoldable pub checkpoint_of : List ℕ → Option Record
 checkpoint_of bytes = do
-  kept ← hex_of 268435455 bytes
+  kept ← bytes_of_hex 268435455 bytes
   Some (Checkpoint kept)
 
 unfoldable pub kill_of : List ℕ → Option Record
@@ -149,9 +149,9 @@ kill_of bytes = do
   Some (Kill queue.0 element)
 
 -- version 1 has no line of it
-abbrev pub kill_in : Version → List ℕ → Option Record
-kill_in One bytes = None
-kill_in Two bytes = kill_of bytes
+abbrev pub kill_line_in : Version → List ℕ → Option Record
+kill_line_in One bytes = None
+kill_line_in Two bytes = kill_of bytes
 
 -- the record that a first word and what stands behind it tell
 unfoldable pub told_by : Version → List ℕ → List ℕ → Option Record
@@ -165,7 +165,7 @@ told_by version word bytes =
     else if bytes_eq word (codes "commit") then commit_of bytes
     else if bytes_eq word (codes "abort") then abort_of bytes
     else if bytes_eq word (codes "checkpoint-hex") then checkpoint_of bytes
-    else if bytes_eq word (codes "kill") then kill_in version bytes
+    else if bytes_eq word (codes "kill") then kill_line_in version bytes
     else None
 
 unfoldable pub record_at : Version → List ℕ → Option Record
@@ -183,8 +183,8 @@ line_at version text = if bytes_eq text (codes "checkpoint")
     then Some Spelled else told_line version text
 
 -- a line that the text tells, or Form where no line has this text
-abbrev pub Reads : Version → List ℕ → Result code.Line Fault → Type 0
-Reads version text (Ok l) = Tells version (line_of l) text
-Reads version text (Err faults.Form) = (l : Line) → Tells version l text → ⊥
-Reads version text (Err faults.Resources) = ⊤
-Reads version text (Err _) = ⊥
+abbrev pub ReadsLine : Version → List ℕ → Result code.Line Fault → Type 0
+ReadsLine version text (Ok l) = Tells version (line_of l) text
+ReadsLine version text (Err faults.Form) = (l : Line) → Tells version l text → ⊥
+ReadsLine version text (Err faults.Resources) = ⊤
+ReadsLine version text (Err _) = ⊥

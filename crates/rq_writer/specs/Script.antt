@@ -1,11 +1,11 @@
 -- The lines of a script, and the text of each.
-use Rattle.std.specs.Prelude.{◌≡◌, ℕ, ◌<◌, ⊤, List, ◌∷◌, ◌++◌, codes, Option, Some, None}
-use Rattle.std.specs.List.{AllByRecursion}
+use Rattle.std.specs.Prelude.{◌≡◌, ℕ, ⊤, List, ◌∷◌, ◌++◌, codes, Option, Some, None}
 use Rattle.std.specs.Fmt.{decimal}
 use Rattle.rq_model.specs.Records.{By, Record, Define, Register, Deregister, Begin, Enqueue}
 use Rattle.rq_model.specs.Records.{Dequeue, Commit, Abort, Checkpoint, Kill, Version}
 use Rattle.rq_model.specs.Spelling.{IsRecord}
 use Rattle.rq_model.specs.Reports.{payload_text, error_text}
+use Rattle.rq_model.specs.Frames.{AreBytes}
 
 -- a line: a record in so many words, or a checkpoint of the state so far
 pub data Line : Type 0 where
@@ -44,9 +44,6 @@ record_text (Kill queue element) = codes "kill " ++ (decimal queue ++ (32 ∷ de
 abbrev pub IsNamed : Option By → Type 0
 IsNamed None = ⊤
 IsNamed (Some by) = by.name ≡ codes "-" → ⊥
-
-abbrev pub AreBytes : List ℕ → Type 0
-AreBytes bytes = AllByRecursion (λ b. b < 256) bytes
 
 -- a record that a script can tell
 abbrev pub IsTellable : Record → Type 0

@@ -115,7 +115,7 @@ pub(crate) fn error(bytes: &[u8]) -> Result<u32, Fault>
 }
 
 pub(crate) fn by(name: &[u8], tag: u64) -> Result<Option<By>, Fault>
-    ensures { Gives (λ x. x) result (spec.told name.now tag) }
+    ensures { Gives (λ x. x) result (spec.by_of name.now tag) }
 {
     if name == b"-".as_slice() {
         if tag == 0 { Ok(None) } else { Err(Fault::Form) }

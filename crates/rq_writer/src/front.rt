@@ -6,7 +6,7 @@ ghost use Rattle.rq_model.specs.Machine.{lawful_front, run};
 ghost use Rattle.rq_model.specs.Records as model;
 ghost use Rattle.rq_record.specs.declared.fault.Fault.TheVariants.{Resources};
 ghost use Rattle.rq_record.specs.Views.{record_of, version_of};
-ghost use Rattle.rq_writer.specs.Fronts.{Follows, AreLogged, SpellsFront};
+ghost use Rattle.rq_writer.specs.Fronts.{IsFrontAfter, AreLogged, SpellsFront};
 ghost use Rattle.rq_writer.specs.Made.{IsStateOf};
 
 use rq_catalog::analyse_in;
@@ -55,7 +55,7 @@ pub(crate) struct Front {
 impl Front {
     /// That of a log without records.
     pub(crate) fn start(alloc: Global) -> Front
-        ensures { (version : model.Version) → Follows version result [] }
+        ensures { (version : model.Version) → IsFrontAfter version result [] }
     {
         Front {
             state: State::empty(alloc),
@@ -67,7 +67,7 @@ impl Front {
     /// Takes the next record of the log.
     pub(crate) fn keep(&mut self, r: Record) -> Result<(), Fault>
         ensures kept { OnOk result ((version : model.Version) (rs : List model.Record) →
-            Follows version self.old rs → Follows version self.new (rs ++ record_of r ∷ [])) }
+            IsFrontAfter version self.old rs → IsFrontAfter version self.new (rs ++ record_of r ∷ [])) }
         ensures refused { IfErr result (λ e. e ≡ Resources) }
     {
         if !self.ended {
@@ -84,11 +84,11 @@ impl Front {
         version: Version,
         plan: &Plan,
     ) -> Result<(), Fault>
-        requires { (rs : List model.Record) × Follows (version_of version) self.old rs
+        requires { (rs : List model.Record) × IsFrontAfter (version_of version) self.old rs
             × AreLogged (version_of version) rs }
         ensures state { OnOk result
-            ((rs : List model.Record) → Follows (version_of version) self.old rs
-            → AreLogged (version_of version) rs → Follows (version_of version) self.new rs
+            ((rs : List model.Record) → IsFrontAfter (version_of version) self.old rs
+            → AreLogged (version_of version) rs → IsFrontAfter (version_of version) self.new rs
             × IsStateOf (version_of version) rs self.new.state) }
         ensures refused { IfErr result (λ e. e ≡ Resources) }
     {
@@ -115,7 +115,7 @@ impl Front {
         version: Version,
         plan: &Plan,
     ) -> Result<Record, Fault>
-        requires { (rs : List model.Record) × Follows (version_of version) self.old rs
+        requires { (rs : List model.Record) × IsFrontAfter (version_of version) self.old rs
             × AreLogged (version_of version) rs }
         ensures { SpellsFront (version_of version) self.old self.new result }
     {

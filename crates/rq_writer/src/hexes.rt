@@ -55,7 +55,7 @@ fn pairs(alloc: Global, text: &[u8]) -> Result<Vec<u8>, Fault>
 
 fn hex(alloc: Global, limit: usize, text: &[u8]) -> Result<Vec<u8>, Fault>
     requires { limit ≤ 268435455 }
-    ensures bytes { Gives (λ x. x.items) result (spec.hex_of limit text.now) }
+    ensures bytes { Gives (λ x. x.items) result (spec.bytes_of_hex limit text.now) }
     ensures short { IfOk result (λ x. length x.items ≤ limit) }
 {
     if text == b"-".as_slice() {
@@ -68,7 +68,7 @@ fn hex(alloc: Global, limit: usize, text: &[u8]) -> Result<Vec<u8>, Fault>
 }
 
 pub(crate) fn payload(alloc: Global, text: &[u8]) -> Result<KeptPayload, Fault>
-    ensures { Gives (λ x. x) result (spec.hex_of 65535 text.now) }
+    ensures { Gives (λ x. x) result (spec.bytes_of_hex 65535 text.now) }
 {
     match Payload::new(hex(alloc, 65535, text)?) {
         Some(payload) => KeptPayload::of(alloc, &payload),
@@ -77,7 +77,7 @@ pub(crate) fn payload(alloc: Global, text: &[u8]) -> Result<KeptPayload, Fault>
 }
 
 pub(crate) fn kept(alloc: Global, text: &[u8]) -> Result<CheckBytes, Fault>
-    ensures { Gives (λ x. x) result (spec.hex_of 268435455 text.now) }
+    ensures { Gives (λ x. x) result (spec.bytes_of_hex 268435455 text.now) }
 {
     match CheckBytes::new(hex(alloc, 268_435_455, text)?) {
         Some(bytes) => Ok(bytes),

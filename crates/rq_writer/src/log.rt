@@ -3,8 +3,8 @@
 ghost use Rattle.std.specs.Prelude.{◌≡◌, ◌+◌, ◌≤◌, ◌-◌, List, length, drop};
 ghost use Rattle.rq_model.specs.Records as model;
 ghost use Rattle.rq_record.specs.Views.{record_of, version_of};
-ghost use Rattle.rq_writer.specs.Fronts.{Follows, AreLogged};
-ghost use Rattle.rq_writer.specs.Making.{Holds, RecordOf, Framed, LineMade, Starts};
+ghost use Rattle.rq_writer.specs.Fronts.{IsFrontAfter, AreLogged};
+ghost use Rattle.rq_writer.specs.Making.{HoldsRecords, RecordOf, Framed, LineMade, Starts};
 
 use crate::front::Front;
 use crate::line::Line;
@@ -33,7 +33,7 @@ fn record_at<R: Threads + Sync>(
     text: &[u8],
     front: &mut Front,
 ) -> Result<Record, Fault>
-    requires { (rs : List model.Record) × Follows (version_of version) front.old rs
+    requires { (rs : List model.Record) × IsFrontAfter (version_of version) front.old rs
         × AreLogged (version_of version) rs }
     ensures { RecordOf (version_of version) number text.now front.old front.new result }
 {
@@ -99,7 +99,7 @@ impl Log {
         number: u64,
         text: &[u8],
     ) -> Result<(), Fault>
-        requires { (rs : List model.Record) × Holds (version_of version) self.old rs }
+        requires { (rs : List model.Record) × HoldsRecords (version_of version) self.old rs }
         ensures { LineMade (version_of version) number text.now self.old self.new result }
     {
         rq_model::frames_join();

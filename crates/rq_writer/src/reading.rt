@@ -3,7 +3,7 @@
 ghost use Rattle.rq_record.specs.Reading.{Gives};
 ghost use Rattle.rq_record.specs.Views.{record_of, version_of};
 ghost use Rattle.rq_writer.specs.Reading as spec;
-ghost use Rattle.rq_writer.specs.Reading.{Reads};
+ghost use Rattle.rq_writer.specs.Reading.{ReadsLine};
 ghost use Rattle.rq_writer.specs.Views.{line_of};
 
 use crate::fields::{by, error, field, name, number, number_field, u32_field};
@@ -52,7 +52,7 @@ fn deregister(alloc: Global, bytes: &[u8]) -> Result<Record, Fault>
 }
 
 fn unit(bytes: &[u8]) -> Result<UnitNo, Fault>
-    ensures { Gives (λ x. x.0) result (spec.unit_of bytes.now) }
+    ensures { Gives (λ x. x.0) result (spec.unit_number bytes.now) }
 {
     let unit = number(u64::MAX, bytes)?;
     Ok(UnitNo(unit))
@@ -139,7 +139,7 @@ fn kill(bytes: &[u8]) -> Result<Record, Fault>
 }
 
 fn kill_in(version: Version, bytes: &[u8]) -> Result<Record, Fault>
-    ensures { Gives record_of result (spec.kill_in (version_of version) bytes.now) }
+    ensures { Gives record_of result (spec.kill_line_in (version_of version) bytes.now) }
 {
     match version {
         Version::One => Err(Fault::Form),
@@ -203,7 +203,7 @@ fn line(alloc: Global, version: Version, text: &[u8]) -> Result<Line, Fault>
 
 /// The line that the text tells in the version. `Form` where no line has this text.
 pub(crate) fn read_line(alloc: Global, version: Version, text: &[u8]) -> Result<Line, Fault>
-    ensures { Reads (version_of version) text.now result }
+    ensures { ReadsLine (version_of version) text.now result }
 {
     line(alloc, version, text)
 }

@@ -1,14 +1,14 @@
 //! Numbers, pieces and names from the front of the bytes that are left. Each call takes what it
 //! answers off the front; after a refusal nothing is said of what is left, and nobody reads on.
 
-ghost use Rattle.rq_state.specs.Reading.{Reads, number_from, byte_from, piece_from, checked_name};
+ghost use Rattle.rq_state.specs.Reading.{ReadsFromCheckpoint, number_from, byte_from, piece_from, checked_name};
 ghost use Rattle.rq_state.specs.Reading.{name_from};
 
 use byteorder::{BigEndian, ByteOrder};
 use rq_record::{Fault, Name};
 
 pub(crate) fn take_u16(rest: &mut &[u8]) -> Result<u16, Fault>
-    ensures { Reads (λ x. (x, rest.new.now)) result (number_from 2 rest.old.now) }
+    ensures { ReadsFromCheckpoint (λ x. (x, rest.new.now)) result (number_from 2 rest.old.now) }
 {
     let bytes = *rest;
     if bytes.len() < 2 {
@@ -19,7 +19,7 @@ pub(crate) fn take_u16(rest: &mut &[u8]) -> Result<u16, Fault>
 }
 
 pub(crate) fn take_u32(rest: &mut &[u8]) -> Result<u32, Fault>
-    ensures { Reads (λ x. (x, rest.new.now)) result (number_from 4 rest.old.now) }
+    ensures { ReadsFromCheckpoint (λ x. (x, rest.new.now)) result (number_from 4 rest.old.now) }
 {
     let bytes = *rest;
     if bytes.len() < 4 {
@@ -30,7 +30,7 @@ pub(crate) fn take_u32(rest: &mut &[u8]) -> Result<u32, Fault>
 }
 
 pub(crate) fn take_u64(rest: &mut &[u8]) -> Result<u64, Fault>
-    ensures { Reads (λ x. (x, rest.new.now)) result (number_from 8 rest.old.now) }
+    ensures { ReadsFromCheckpoint (λ x. (x, rest.new.now)) result (number_from 8 rest.old.now) }
 {
     let bytes = *rest;
     if bytes.len() < 8 {
@@ -41,7 +41,7 @@ pub(crate) fn take_u64(rest: &mut &[u8]) -> Result<u64, Fault>
 }
 
 pub(crate) fn take_u8(rest: &mut &[u8]) -> Result<u8, Fault>
-    ensures { Reads (λ x. (x, rest.new.now)) result (byte_from rest.old.now) }
+    ensures { ReadsFromCheckpoint (λ x. (x, rest.new.now)) result (byte_from rest.old.now) }
 {
     match *rest {
         [] => Err(Fault::BadCheckpoint),
@@ -53,7 +53,7 @@ pub(crate) fn take_u8(rest: &mut &[u8]) -> Result<u8, Fault>
 }
 
 pub(crate) fn piece_of(count: usize, bytes: &[u8]) -> Result<(&[u8], &[u8]), Fault>
-    ensures { Reads (λ x. (x.0.now, x.1.now)) result (piece_from count bytes.now) }
+    ensures { ReadsFromCheckpoint (λ x. (x.0.now, x.1.now)) result (piece_from count bytes.now) }
 {
     if bytes.len() < count {
         return Err(Fault::BadCheckpoint);
@@ -62,7 +62,7 @@ pub(crate) fn piece_of(count: usize, bytes: &[u8]) -> Result<(&[u8], &[u8]), Fau
 }
 
 fn checked_name(name: &[u8]) -> Result<Name, Fault>
-    ensures { Reads (λ x. x) result (checked_name name.now) }
+    ensures { ReadsFromCheckpoint (λ x. x) result (checked_name name.now) }
 {
     match Name::new(name) {
         Some(name) => Ok(name),
@@ -72,7 +72,7 @@ fn checked_name(name: &[u8]) -> Result<Name, Fault>
 
 #[tactic(auto, unfolding(crate::specs::Reading::name_from))]
 pub(crate) fn take_name(rest: &mut &[u8]) -> Result<Name, Fault>
-    ensures { Reads (λ x. (x, rest.new.now)) result (name_from rest.old.now) }
+    ensures { ReadsFromCheckpoint (λ x. (x, rest.new.now)) result (name_from rest.old.now) }
 {
     let size = take_u8(rest)?;
     let (name, after) = piece_of(size as usize, rest)?;

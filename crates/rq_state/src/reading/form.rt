@@ -1,7 +1,7 @@
 //! Whether bytes have the form of a state, told without memory.
 
 ghost use Rattle.std.specs.Prelude.{[]};
-ghost use Rattle.rq_state.specs.Reading.{Reads, number_from, definition_from, registrant_from};
+ghost use Rattle.rq_state.specs.Reading.{ReadsFromCheckpoint, number_from, definition_from, registrant_from};
 ghost use Rattle.rq_state.specs.Reading.{element_from, note_from, members_from, counted_from};
 ghost use Rattle.rq_state.specs.Reading.{after_of, form_from};
 
@@ -12,7 +12,7 @@ use crate::reading::members::{
 use rq_record::Fault;
 
 fn pass_definitions(count: u32, rest: &mut &[u8]) -> Result<(), Fault>
-    ensures { Reads (λ x. rest.new.now) result
+    ensures { ReadsFromCheckpoint (λ x. rest.new.now) result
         (after_of (members_from definition_from count rest.old.now)) }
 {
     for _ in 0..count {
@@ -23,7 +23,7 @@ fn pass_definitions(count: u32, rest: &mut &[u8]) -> Result<(), Fault>
 
 #[tactic(auto, unfolding(crate::specs::Reading::counted_from))]
 fn pass_all_definitions(rest: &mut &[u8]) -> Result<(), Fault>
-    ensures { Reads (λ x. rest.new.now) result
+    ensures { ReadsFromCheckpoint (λ x. rest.new.now) result
         (after_of (counted_from definition_from rest.old.now)) }
 {
     let count = take_u32(rest)?;
@@ -31,7 +31,7 @@ fn pass_all_definitions(rest: &mut &[u8]) -> Result<(), Fault>
 }
 
 fn pass_units(count: u32, rest: &mut &[u8]) -> Result<(), Fault>
-    ensures { Reads (λ x. rest.new.now) result
+    ensures { ReadsFromCheckpoint (λ x. rest.new.now) result
         (after_of (members_from (number_from 8) count rest.old.now)) }
 {
     for _ in 0..count {
@@ -42,7 +42,7 @@ fn pass_units(count: u32, rest: &mut &[u8]) -> Result<(), Fault>
 
 #[tactic(auto, unfolding(crate::specs::Reading::counted_from))]
 fn pass_all_units(rest: &mut &[u8]) -> Result<(), Fault>
-    ensures { Reads (λ x. rest.new.now) result
+    ensures { ReadsFromCheckpoint (λ x. rest.new.now) result
         (after_of (counted_from (number_from 8) rest.old.now)) }
 {
     let count = take_u32(rest)?;
@@ -50,7 +50,7 @@ fn pass_all_units(rest: &mut &[u8]) -> Result<(), Fault>
 }
 
 fn pass_registrants(count: u32, rest: &mut &[u8]) -> Result<(), Fault>
-    ensures { Reads (λ x. rest.new.now) result
+    ensures { ReadsFromCheckpoint (λ x. rest.new.now) result
         (after_of (members_from registrant_from count rest.old.now)) }
 {
     for _ in 0..count {
@@ -61,7 +61,7 @@ fn pass_registrants(count: u32, rest: &mut &[u8]) -> Result<(), Fault>
 
 #[tactic(auto, unfolding(crate::specs::Reading::counted_from))]
 fn pass_all_registrants(rest: &mut &[u8]) -> Result<(), Fault>
-    ensures { Reads (λ x. rest.new.now) result
+    ensures { ReadsFromCheckpoint (λ x. rest.new.now) result
         (after_of (counted_from registrant_from rest.old.now)) }
 {
     let count = take_u32(rest)?;
@@ -69,7 +69,7 @@ fn pass_all_registrants(rest: &mut &[u8]) -> Result<(), Fault>
 }
 
 fn pass_elements(count: u32, rest: &mut &[u8]) -> Result<(), Fault>
-    ensures { Reads (λ x. rest.new.now) result
+    ensures { ReadsFromCheckpoint (λ x. rest.new.now) result
         (after_of (members_from element_from count rest.old.now)) }
 {
     for _ in 0..count {
@@ -80,14 +80,14 @@ fn pass_elements(count: u32, rest: &mut &[u8]) -> Result<(), Fault>
 
 #[tactic(auto, unfolding(crate::specs::Reading::counted_from))]
 fn pass_all_elements(rest: &mut &[u8]) -> Result<(), Fault>
-    ensures { Reads (λ x. rest.new.now) result (after_of (counted_from element_from rest.old.now)) }
+    ensures { ReadsFromCheckpoint (λ x. rest.new.now) result (after_of (counted_from element_from rest.old.now)) }
 {
     let count = take_u32(rest)?;
     pass_elements(count, rest)
 }
 
 fn pass_notes(count: u32, rest: &mut &[u8]) -> Result<(), Fault>
-    ensures { Reads (λ x. rest.new.now) result
+    ensures { ReadsFromCheckpoint (λ x. rest.new.now) result
         (after_of (members_from note_from count rest.old.now)) }
 {
     for _ in 0..count {
@@ -98,7 +98,7 @@ fn pass_notes(count: u32, rest: &mut &[u8]) -> Result<(), Fault>
 
 #[tactic(auto, unfolding(crate::specs::Reading::counted_from))]
 fn pass_all_notes(rest: &mut &[u8]) -> Result<(), Fault>
-    ensures { Reads (λ x. rest.new.now) result (after_of (counted_from note_from rest.old.now)) }
+    ensures { ReadsFromCheckpoint (λ x. rest.new.now) result (after_of (counted_from note_from rest.old.now)) }
 {
     let count = take_u32(rest)?;
     pass_notes(count, rest)
@@ -107,7 +107,7 @@ fn pass_all_notes(rest: &mut &[u8]) -> Result<(), Fault>
 /// That the bytes have the form of a state, or BadCheckpoint.
 #[tactic(auto, unfolding(crate::specs::Reading::form_from))]
 pub(crate) fn check_form(bytes: &[u8]) -> Result<(), Fault>
-    ensures { Reads (λ x. []) result (form_from bytes.now) }
+    ensures { ReadsFromCheckpoint (λ x. []) result (form_from bytes.now) }
 {
     let mut rest = bytes;
     let _next = take_u64(&mut rest)?;

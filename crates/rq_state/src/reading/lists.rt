@@ -3,7 +3,7 @@
 ghost use Rattle.std.specs.Prelude.{map};
 ghost use Rattle.rq_state.specs.Views.{unit_of};
 ghost use Rattle.rq_state.specs.Inside.{state_of};
-ghost use Rattle.rq_state.specs.Reading.{Gives, number_from, definition_from, registrant_from};
+ghost use Rattle.rq_state.specs.Reading.{GivesFromCheckpoint, number_from, definition_from, registrant_from};
 ghost use Rattle.rq_state.specs.Reading.{element_from, note_from, members_from, counted_from};
 ghost use Rattle.rq_state.specs.Reading.{state_from, whole_state};
 
@@ -17,7 +17,7 @@ use rq_record::{Fault, UnitNo};
 use std::alloc::Global;
 
 fn take_definitions(alloc: Global, count: u32, rest: &mut &[u8]) -> Result<Vec<Definition>, Fault>
-    ensures { Gives (λ x. (x.items, rest.new.now)) result
+    ensures { GivesFromCheckpoint (λ x. (x.items, rest.new.now)) result
         (members_from definition_from count rest.old.now) }
 {
     let mut members = Vec::new(alloc);
@@ -30,7 +30,7 @@ fn take_definitions(alloc: Global, count: u32, rest: &mut &[u8]) -> Result<Vec<D
 
 #[tactic(auto, unfolding(crate::specs::Reading::counted_from))]
 fn take_all_definitions(alloc: Global, rest: &mut &[u8]) -> Result<Vec<Definition>, Fault>
-    ensures { Gives (λ x. (x.items, rest.new.now)) result
+    ensures { GivesFromCheckpoint (λ x. (x.items, rest.new.now)) result
         (counted_from definition_from rest.old.now) }
 {
     let count = take_u32(rest)?;
@@ -38,7 +38,7 @@ fn take_all_definitions(alloc: Global, rest: &mut &[u8]) -> Result<Vec<Definitio
 }
 
 fn take_units(alloc: Global, count: u32, rest: &mut &[u8]) -> Result<Vec<UnitNo>, Fault>
-    ensures { Gives (λ x. (map unit_of x.items, rest.new.now)) result
+    ensures { GivesFromCheckpoint (λ x. (map unit_of x.items, rest.new.now)) result
         (members_from (number_from 8) count rest.old.now) }
 {
     let mut members = Vec::new(alloc);
@@ -51,7 +51,7 @@ fn take_units(alloc: Global, count: u32, rest: &mut &[u8]) -> Result<Vec<UnitNo>
 
 #[tactic(auto, unfolding(crate::specs::Reading::counted_from))]
 fn take_all_units(alloc: Global, rest: &mut &[u8]) -> Result<Vec<UnitNo>, Fault>
-    ensures { Gives (λ x. (map unit_of x.items, rest.new.now)) result
+    ensures { GivesFromCheckpoint (λ x. (map unit_of x.items, rest.new.now)) result
         (counted_from (number_from 8) rest.old.now) }
 {
     let count = take_u32(rest)?;
@@ -59,7 +59,7 @@ fn take_all_units(alloc: Global, rest: &mut &[u8]) -> Result<Vec<UnitNo>, Fault>
 }
 
 fn take_registrants(alloc: Global, count: u32, rest: &mut &[u8]) -> Result<Vec<Registrant>, Fault>
-    ensures { Gives (λ x. (x.items, rest.new.now)) result
+    ensures { GivesFromCheckpoint (λ x. (x.items, rest.new.now)) result
         (members_from registrant_from count rest.old.now) }
 {
     let mut members = Vec::new(alloc);
@@ -72,7 +72,7 @@ fn take_registrants(alloc: Global, count: u32, rest: &mut &[u8]) -> Result<Vec<R
 
 #[tactic(auto, unfolding(crate::specs::Reading::counted_from))]
 fn take_all_registrants(alloc: Global, rest: &mut &[u8]) -> Result<Vec<Registrant>, Fault>
-    ensures { Gives (λ x. (x.items, rest.new.now)) result
+    ensures { GivesFromCheckpoint (λ x. (x.items, rest.new.now)) result
         (counted_from registrant_from rest.old.now) }
 {
     let count = take_u32(rest)?;
@@ -80,7 +80,7 @@ fn take_all_registrants(alloc: Global, rest: &mut &[u8]) -> Result<Vec<Registran
 }
 
 fn take_elements(alloc: Global, count: u32, rest: &mut &[u8]) -> Result<Vec<Element>, Fault>
-    ensures { Gives (λ x. (x.items, rest.new.now)) result
+    ensures { GivesFromCheckpoint (λ x. (x.items, rest.new.now)) result
         (members_from element_from count rest.old.now) }
 {
     let mut members = Vec::new(alloc);
@@ -93,14 +93,14 @@ fn take_elements(alloc: Global, count: u32, rest: &mut &[u8]) -> Result<Vec<Elem
 
 #[tactic(auto, unfolding(crate::specs::Reading::counted_from))]
 fn take_all_elements(alloc: Global, rest: &mut &[u8]) -> Result<Vec<Element>, Fault>
-    ensures { Gives (λ x. (x.items, rest.new.now)) result (counted_from element_from rest.old.now) }
+    ensures { GivesFromCheckpoint (λ x. (x.items, rest.new.now)) result (counted_from element_from rest.old.now) }
 {
     let count = take_u32(rest)?;
     take_elements(alloc, count, rest)
 }
 
 fn take_notes(alloc: Global, count: u32, rest: &mut &[u8]) -> Result<Vec<Note>, Fault>
-    ensures { Gives (λ x. (x.items, rest.new.now)) result
+    ensures { GivesFromCheckpoint (λ x. (x.items, rest.new.now)) result
         (members_from note_from count rest.old.now) }
 {
     let mut members = Vec::new(alloc);
@@ -113,7 +113,7 @@ fn take_notes(alloc: Global, count: u32, rest: &mut &[u8]) -> Result<Vec<Note>, 
 
 #[tactic(auto, unfolding(crate::specs::Reading::counted_from))]
 fn take_all_notes(alloc: Global, rest: &mut &[u8]) -> Result<Vec<Note>, Fault>
-    ensures { Gives (λ x. (x.items, rest.new.now)) result (counted_from note_from rest.old.now) }
+    ensures { GivesFromCheckpoint (λ x. (x.items, rest.new.now)) result (counted_from note_from rest.old.now) }
 {
     let count = take_u32(rest)?;
     take_notes(alloc, count, rest)
@@ -121,7 +121,7 @@ fn take_all_notes(alloc: Global, rest: &mut &[u8]) -> Result<Vec<Note>, Fault>
 
 #[tactic(auto, unfolding(crate::specs::Reading::state_from))]
 fn take_fields(alloc: Global, rest: &mut &[u8]) -> Result<Fields, Fault>
-    ensures { Gives (λ x. (state_of x, rest.new.now)) result (state_from rest.old.now) }
+    ensures { GivesFromCheckpoint (λ x. (state_of x, rest.new.now)) result (state_from rest.old.now) }
 {
     let next = take_u64(rest)?;
     let greatest = take_u64(rest)?;
@@ -147,7 +147,7 @@ fn take_fields(alloc: Global, rest: &mut &[u8]) -> Result<Fields, Fault>
 
 #[tactic(auto, unfolding(crate::specs::Reading::whole_state))]
 pub(crate) fn all_fields(alloc: Global, bytes: &[u8]) -> Result<Fields, Fault>
-    ensures { Gives state_of result (whole_state bytes.now) }
+    ensures { GivesFromCheckpoint state_of result (whole_state bytes.now) }
 {
     let mut rest = bytes;
     let fields = take_fields(alloc, &mut rest)?;

@@ -2,7 +2,7 @@
 
 ghost use Rattle.std.specs.Prelude.{◌≡◌, ◌≤◌, length, Some};
 ghost use Rattle.rq_state.specs.Views.{mark_of, kind_of, id_of, unit_of};
-ghost use Rattle.rq_state.specs.Reading.{Gives, Reads, after_of, number_from, definition_from};
+ghost use Rattle.rq_state.specs.Reading.{GivesFromCheckpoint, ReadsFromCheckpoint, after_of, number_from, definition_from};
 ghost use Rattle.rq_state.specs.Reading.{known_kind, kind_from, element_of, id_from};
 ghost use Rattle.rq_state.specs.Reading.{operation_from, last_of_kind, last_from, registrant_from};
 ghost use Rattle.rq_state.specs.Reading.{mark_of_kind, mark_from, payload_from, element_from};
@@ -15,7 +15,7 @@ use std::alloc::Global;
 
 #[tactic(auto, unfolding(crate::specs::Reading::definition_from))]
 pub(crate) fn take_definition(rest: &mut &[u8]) -> Result<Definition, Fault>
-    ensures { Reads (λ x. (x, rest.new.now)) result (definition_from rest.old.now) }
+    ensures { ReadsFromCheckpoint (λ x. (x, rest.new.now)) result (definition_from rest.old.now) }
 {
     let limit = take_u16(rest)?;
     let error = take_u32(rest)?;
@@ -28,14 +28,14 @@ pub(crate) fn take_definition(rest: &mut &[u8]) -> Result<Definition, Fault>
 }
 
 pub(crate) fn take_unit(rest: &mut &[u8]) -> Result<UnitNo, Fault>
-    ensures { Reads (λ x. (unit_of x, rest.new.now)) result (number_from 8 rest.old.now) }
+    ensures { ReadsFromCheckpoint (λ x. (unit_of x, rest.new.now)) result (number_from 8 rest.old.now) }
 {
     let unit = take_u64(rest)?;
     Ok(UnitNo(unit))
 }
 
 fn known_kind(n: u8) -> Result<OpKind, Fault>
-    ensures { Reads kind_of result (known_kind n) }
+    ensures { ReadsFromCheckpoint kind_of result (known_kind n) }
 {
     match n {
         1 => Ok(OpKind::Enqueue),
@@ -52,7 +52,7 @@ fn element_of(n: u64) -> Option<ElemId>
 
 #[tactic(auto, unfolding(crate::specs::Reading::kind_from))]
 fn take_kind(rest: &mut &[u8]) -> Result<OpKind, Fault>
-    ensures { Reads (λ x. (kind_of x, rest.new.now)) result (kind_from rest.old.now) }
+    ensures { ReadsFromCheckpoint (λ x. (kind_of x, rest.new.now)) result (kind_from rest.old.now) }
 {
     let n = take_u8(rest)?;
     known_kind(n)
@@ -60,7 +60,7 @@ fn take_kind(rest: &mut &[u8]) -> Result<OpKind, Fault>
 
 #[tactic(auto, unfolding(crate::specs::Reading::id_from))]
 fn take_id(rest: &mut &[u8]) -> Result<Option<ElemId>, Fault>
-    ensures { Reads (λ x. (id_of x, rest.new.now)) result (id_from rest.old.now) }
+    ensures { ReadsFromCheckpoint (λ x. (id_of x, rest.new.now)) result (id_from rest.old.now) }
 {
     let n = take_u64(rest)?;
     Ok(element_of(n))
@@ -68,7 +68,7 @@ fn take_id(rest: &mut &[u8]) -> Result<Option<ElemId>, Fault>
 
 #[tactic(auto, unfolding(crate::specs::Reading::operation_from))]
 fn take_operation(kind: OpKind, rest: &mut &[u8]) -> Result<Last, Fault>
-    ensures { Reads (λ x. (x, rest.new.now)) result (operation_from (kind_of kind) rest.old.now) }
+    ensures { ReadsFromCheckpoint (λ x. (x, rest.new.now)) result (operation_from (kind_of kind) rest.old.now) }
 {
     let place = take_u64(rest)?;
     let tag = take_u64(rest)?;
@@ -83,7 +83,7 @@ fn take_operation(kind: OpKind, rest: &mut &[u8]) -> Result<Last, Fault>
 
 #[tactic(auto, unfolding(crate::specs::Reading::last_of_kind))]
 fn take_last_of(n: u8, rest: &mut &[u8]) -> Result<Option<Last>, Fault>
-    ensures { Reads (λ x. (x, rest.new.now)) result (last_of_kind n rest.old.now) }
+    ensures { ReadsFromCheckpoint (λ x. (x, rest.new.now)) result (last_of_kind n rest.old.now) }
 {
     if n == 0 {
         return Ok(None);
@@ -95,7 +95,7 @@ fn take_last_of(n: u8, rest: &mut &[u8]) -> Result<Option<Last>, Fault>
 
 #[tactic(auto, unfolding(crate::specs::Reading::last_from))]
 fn take_last(rest: &mut &[u8]) -> Result<Option<Last>, Fault>
-    ensures { Reads (λ x. (x, rest.new.now)) result (last_from rest.old.now) }
+    ensures { ReadsFromCheckpoint (λ x. (x, rest.new.now)) result (last_from rest.old.now) }
 {
     let n = take_u8(rest)?;
     take_last_of(n, rest)
@@ -103,7 +103,7 @@ fn take_last(rest: &mut &[u8]) -> Result<Option<Last>, Fault>
 
 #[tactic(auto, unfolding(crate::specs::Reading::registrant_from))]
 pub(crate) fn take_registrant(rest: &mut &[u8]) -> Result<Registrant, Fault>
-    ensures { Reads (λ x. (x, rest.new.now)) result (registrant_from rest.old.now) }
+    ensures { ReadsFromCheckpoint (λ x. (x, rest.new.now)) result (registrant_from rest.old.now) }
 {
     let queue = take_u32(rest)?;
     let name = take_name(rest)?;
@@ -117,7 +117,7 @@ pub(crate) fn take_registrant(rest: &mut &[u8]) -> Result<Registrant, Fault>
 
 #[tactic(auto, unfolding(crate::specs::Reading::mark_of_kind))]
 fn take_mark_of(n: u8, rest: &mut &[u8]) -> Result<Mark, Fault>
-    ensures { Reads (λ x. (mark_of x, rest.new.now)) result (mark_of_kind n rest.old.now) }
+    ensures { ReadsFromCheckpoint (λ x. (mark_of x, rest.new.now)) result (mark_of_kind n rest.old.now) }
 {
     match n {
         0 => Ok(Mark::Free),
@@ -135,7 +135,7 @@ fn take_mark_of(n: u8, rest: &mut &[u8]) -> Result<Mark, Fault>
 
 #[tactic(auto, unfolding(crate::specs::Reading::mark_from))]
 fn take_mark(rest: &mut &[u8]) -> Result<Mark, Fault>
-    ensures { Reads (λ x. (mark_of x, rest.new.now)) result (mark_from rest.old.now) }
+    ensures { ReadsFromCheckpoint (λ x. (mark_of x, rest.new.now)) result (mark_from rest.old.now) }
 {
     let n = take_u8(rest)?;
     take_mark_of(n, rest)
@@ -143,7 +143,7 @@ fn take_mark(rest: &mut &[u8]) -> Result<Mark, Fault>
 
 fn kept_payload(alloc: Global, bytes: &[u8]) -> Result<KeptPayload, Fault>
     requires { length bytes.now ≤ 65535 }
-    ensures { Gives (λ x. x) result (Some bytes.now) }
+    ensures { GivesFromCheckpoint (λ x. x) result (Some bytes.now) }
 {
     match KeptPayload::from_slice(alloc, bytes)? {
         Some(payload) => Ok(payload),
@@ -153,7 +153,7 @@ fn kept_payload(alloc: Global, bytes: &[u8]) -> Result<KeptPayload, Fault>
 
 #[tactic(auto, unfolding(crate::specs::Reading::payload_from))]
 fn take_payload(alloc: Global, rest: &mut &[u8]) -> Result<KeptPayload, Fault>
-    ensures { Gives (λ x. (x, rest.new.now)) result (payload_from rest.old.now) }
+    ensures { GivesFromCheckpoint (λ x. (x, rest.new.now)) result (payload_from rest.old.now) }
 {
     let size = take_u16(rest)?;
     let (piece, after) = piece_of(size as usize, rest)?;
@@ -163,7 +163,7 @@ fn take_payload(alloc: Global, rest: &mut &[u8]) -> Result<KeptPayload, Fault>
 
 #[tactic(auto, unfolding(crate::specs::Reading::payload_from))]
 fn pass_payload(rest: &mut &[u8]) -> Result<(), Fault>
-    ensures { Reads (λ x. rest.new.now) result (after_of (payload_from rest.old.now)) }
+    ensures { ReadsFromCheckpoint (λ x. rest.new.now) result (after_of (payload_from rest.old.now)) }
 {
     let size = take_u16(rest)?;
     let (_payload, after) = piece_of(size as usize, rest)?;
@@ -174,7 +174,7 @@ fn pass_payload(rest: &mut &[u8]) -> Result<(), Fault>
 /// Goes past an element, whose payload is not copied.
 #[tactic(auto, unfolding(crate::specs::Reading::element_from))]
 pub(crate) fn pass_element(rest: &mut &[u8]) -> Result<(), Fault>
-    ensures { Reads (λ x. rest.new.now) result (after_of (element_from rest.old.now)) }
+    ensures { ReadsFromCheckpoint (λ x. rest.new.now) result (after_of (element_from rest.old.now)) }
 {
     let _id = take_u64(rest)?;
     let _home = take_u32(rest)?;
@@ -187,7 +187,7 @@ pub(crate) fn pass_element(rest: &mut &[u8]) -> Result<(), Fault>
 
 #[tactic(auto, unfolding(crate::specs::Reading::element_from))]
 pub(crate) fn take_element(alloc: Global, rest: &mut &[u8]) -> Result<Element, Fault>
-    ensures { Gives (λ x. (x, rest.new.now)) result (element_from rest.old.now) }
+    ensures { GivesFromCheckpoint (λ x. (x, rest.new.now)) result (element_from rest.old.now) }
 {
     let id = take_u64(rest)?;
     let home = take_u32(rest)?;
@@ -209,7 +209,7 @@ pub(crate) fn take_element(alloc: Global, rest: &mut &[u8]) -> Result<Element, F
 
 #[tactic(auto, unfolding(crate::specs::Reading::note_from))]
 pub(crate) fn take_note(rest: &mut &[u8]) -> Result<Note, Fault>
-    ensures { Reads (λ x. (x, rest.new.now)) result (note_from rest.old.now) }
+    ensures { ReadsFromCheckpoint (λ x. (x, rest.new.now)) result (note_from rest.old.now) }
 {
     let place = take_u64(rest)?;
     let unit = take_u64(rest)?;

@@ -5,7 +5,7 @@ ghost use Rattle.std.specs.Int.{w64, to_be_bytes};
 ghost use Rattle.rq_model.specs.StateSpelling.{counted, definition_bytes, registrant_bytes};
 ghost use Rattle.rq_model.specs.StateSpelling.{element_bytes, note_bytes};
 ghost use Rattle.rq_state.specs.Views.{unit_of};
-ghost use Rattle.rq_state.specs.Writing.{Puts};
+ghost use Rattle.rq_state.specs.Writing.{PutsSpelling};
 
 use crate::members::{Definition, Element, Note, Registrant};
 use crate::writing::members::{put_definition, put_element, put_note, put_registrant};
@@ -14,7 +14,7 @@ use rq_record::{Fault, UnitNo};
 
 pub(crate) fn put_definitions(out: &mut Vec<u8>, members: &[Definition]) -> Result<(), Fault>
     requires { length members.now < 4294967296 }
-    ensures { Puts out.old.items out.new.items (counted definition_bytes members.now) result }
+    ensures { PutsSpelling out.old.items out.new.items (counted definition_bytes members.now) result }
 {
     put_u32(out, members.len() as u32)?;
     for member in members {
@@ -25,7 +25,7 @@ pub(crate) fn put_definitions(out: &mut Vec<u8>, members: &[Definition]) -> Resu
 
 pub(crate) fn put_units(out: &mut Vec<u8>, members: &[UnitNo]) -> Result<(), Fault>
     requires { length members.now < 4294967296 }
-    ensures { Puts out.old.items out.new.items
+    ensures { PutsSpelling out.old.items out.new.items
         (counted (to_be_bytes w64) (map unit_of members.now)) result }
 {
     put_u32(out, members.len() as u32)?;
@@ -37,7 +37,7 @@ pub(crate) fn put_units(out: &mut Vec<u8>, members: &[UnitNo]) -> Result<(), Fau
 
 pub(crate) fn put_registrants(out: &mut Vec<u8>, members: &[Registrant]) -> Result<(), Fault>
     requires { length members.now < 4294967296 }
-    ensures { Puts out.old.items out.new.items (counted registrant_bytes members.now) result }
+    ensures { PutsSpelling out.old.items out.new.items (counted registrant_bytes members.now) result }
 {
     put_u32(out, members.len() as u32)?;
     for member in members {
@@ -48,7 +48,7 @@ pub(crate) fn put_registrants(out: &mut Vec<u8>, members: &[Registrant]) -> Resu
 
 pub(crate) fn put_elements(out: &mut Vec<u8>, members: &[Element]) -> Result<(), Fault>
     requires { length members.now < 4294967296 }
-    ensures { Puts out.old.items out.new.items (counted element_bytes members.now) result }
+    ensures { PutsSpelling out.old.items out.new.items (counted element_bytes members.now) result }
 {
     put_u32(out, members.len() as u32)?;
     for member in members {
@@ -59,7 +59,7 @@ pub(crate) fn put_elements(out: &mut Vec<u8>, members: &[Element]) -> Result<(),
 
 pub(crate) fn put_notes(out: &mut Vec<u8>, members: &[Note]) -> Result<(), Fault>
     requires { length members.now < 4294967296 }
-    ensures { Puts out.old.items out.new.items (counted note_bytes members.now) result }
+    ensures { PutsSpelling out.old.items out.new.items (counted note_bytes members.now) result }
 {
     put_u32(out, members.len() as u32)?;
     for member in members {

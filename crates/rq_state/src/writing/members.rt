@@ -6,7 +6,7 @@ ghost use Rattle.rq_model.specs.StateSpelling.{name_bytes, element_number, kind_
 ghost use Rattle.rq_model.specs.StateSpelling.{definition_bytes, last_bytes, registrant_bytes};
 ghost use Rattle.rq_model.specs.StateSpelling.{mark_bytes, element_bytes, note_bytes};
 ghost use Rattle.rq_state.specs.Views.{mark_of};
-ghost use Rattle.rq_state.specs.Writing.{Puts};
+ghost use Rattle.rq_state.specs.Writing.{PutsSpelling};
 
 use crate::members::{Definition, Element, Last, Mark, Note, Registrant};
 use crate::writing::output::{
@@ -15,7 +15,7 @@ use crate::writing::output::{
 use rq_record::Fault;
 
 fn put_mark(out: &mut Vec<u8>, mark: Mark) -> Result<(), Fault>
-    ensures { Puts out.old.items out.new.items (mark_bytes (mark_of mark)) result }
+    ensures { PutsSpelling out.old.items out.new.items (mark_bytes (mark_of mark)) result }
 {
     match mark {
         Mark::Free => put_u8(out, 0),
@@ -32,7 +32,7 @@ fn put_mark(out: &mut Vec<u8>, mark: Mark) -> Result<(), Fault>
 
 /// The tag and the element of an operation, which end its spelling.
 fn put_operation_end(out: &mut Vec<u8>, last: &Last) -> Result<(), Fault>
-    ensures { Puts out.old.items out.new.items
+    ensures { PutsSpelling out.old.items out.new.items
         (to_be_bytes w64 last.now.tag ++ to_be_bytes w64 (element_number last.now.element)) result }
 {
     put_u64(out, last.tag)?;
@@ -40,13 +40,13 @@ fn put_operation_end(out: &mut Vec<u8>, last: &Last) -> Result<(), Fault>
 }
 
 fn put_kind_of(out: &mut Vec<u8>, last: &Last) -> Result<(), Fault>
-    ensures { Puts out.old.items out.new.items (kind_byte last.now.kind ∷ []) result }
+    ensures { PutsSpelling out.old.items out.new.items (kind_byte last.now.kind ∷ []) result }
 {
     put_kind(out, last.kind)
 }
 
 fn put_operation(out: &mut Vec<u8>, last: &Last) -> Result<(), Fault>
-    ensures { Puts out.old.items out.new.items
+    ensures { PutsSpelling out.old.items out.new.items
         (kind_byte last.now.kind ∷ (to_be_bytes w64 last.now.place ++ (to_be_bytes w64 last.now.tag
         ++ to_be_bytes w64 (element_number last.now.element)))) result }
 {
@@ -56,7 +56,7 @@ fn put_operation(out: &mut Vec<u8>, last: &Last) -> Result<(), Fault>
 }
 
 fn put_last(out: &mut Vec<u8>, last: &Option<Last>) -> Result<(), Fault>
-    ensures { Puts out.old.items out.new.items (last_bytes last.now) result }
+    ensures { PutsSpelling out.old.items out.new.items (last_bytes last.now) result }
 {
     match last {
         None => put_u8(out, 0),
@@ -65,7 +65,7 @@ fn put_last(out: &mut Vec<u8>, last: &Option<Last>) -> Result<(), Fault>
 }
 
 pub(crate) fn put_definition(out: &mut Vec<u8>, definition: &Definition) -> Result<(), Fault>
-    ensures { Puts out.old.items out.new.items (definition_bytes definition.now) result }
+    ensures { PutsSpelling out.old.items out.new.items (definition_bytes definition.now) result }
 {
     put_u16(out, definition.limit)?;
     put_u32(out, definition.error.0)?;
@@ -73,7 +73,7 @@ pub(crate) fn put_definition(out: &mut Vec<u8>, definition: &Definition) -> Resu
 }
 
 pub(crate) fn put_registrant(out: &mut Vec<u8>, registrant: &Registrant) -> Result<(), Fault>
-    ensures { Puts out.old.items out.new.items (registrant_bytes registrant.now) result }
+    ensures { PutsSpelling out.old.items out.new.items (registrant_bytes registrant.now) result }
 {
     put_u32(out, registrant.queue.0)?;
     put_name(out, &registrant.name)?;
@@ -81,7 +81,7 @@ pub(crate) fn put_registrant(out: &mut Vec<u8>, registrant: &Registrant) -> Resu
 }
 
 fn put_element_end(out: &mut Vec<u8>, element: &Element) -> Result<(), Fault>
-    ensures { Puts out.old.items out.new.items (element.now.priority
+    ensures { PutsSpelling out.old.items out.new.items (element.now.priority
         ∷ (to_be_bytes w64 element.now.attempts ++ (mark_bytes element.now.mark
         ++ (to_be_bytes w16 (length element.now.payload) ++ element.now.payload)))) result }
 {
@@ -92,7 +92,7 @@ fn put_element_end(out: &mut Vec<u8>, element: &Element) -> Result<(), Fault>
 }
 
 pub(crate) fn put_element(out: &mut Vec<u8>, element: &Element) -> Result<(), Fault>
-    ensures { Puts out.old.items out.new.items (element_bytes element.now) result }
+    ensures { PutsSpelling out.old.items out.new.items (element_bytes element.now) result }
 {
     put_u64(out, element.id.0)?;
     put_u32(out, element.home.0)?;
@@ -102,7 +102,7 @@ pub(crate) fn put_element(out: &mut Vec<u8>, element: &Element) -> Result<(), Fa
 
 /// The kind, the tag and the element of a note's operation: its place stands in front.
 fn put_done(out: &mut Vec<u8>, last: &Last) -> Result<(), Fault>
-    ensures { Puts out.old.items out.new.items
+    ensures { PutsSpelling out.old.items out.new.items
         (kind_byte last.now.kind ∷ (to_be_bytes w64 last.now.tag
         ++ to_be_bytes w64 (element_number last.now.element))) result }
 {
@@ -111,7 +111,7 @@ fn put_done(out: &mut Vec<u8>, last: &Last) -> Result<(), Fault>
 }
 
 fn put_note_end(out: &mut Vec<u8>, note: &Note) -> Result<(), Fault>
-    ensures { Puts out.old.items out.new.items
+    ensures { PutsSpelling out.old.items out.new.items
         (name_bytes note.now.name ++ kind_byte note.now.last.kind
         ∷ (to_be_bytes w64 note.now.last.tag
         ++ to_be_bytes w64 (element_number note.now.last.element))) result }
@@ -121,7 +121,7 @@ fn put_note_end(out: &mut Vec<u8>, note: &Note) -> Result<(), Fault>
 }
 
 pub(crate) fn put_note(out: &mut Vec<u8>, note: &Note) -> Result<(), Fault>
-    ensures { Puts out.old.items out.new.items (note_bytes note.now) result }
+    ensures { PutsSpelling out.old.items out.new.items (note_bytes note.now) result }
 {
     put_u64(out, note.last.place)?;
     put_u64(out, note.unit.0)?;

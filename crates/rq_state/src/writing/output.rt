@@ -4,27 +4,27 @@ ghost use Rattle.std.specs.Prelude.{◌≤◌, ◌++◌, ◌∷◌, [], length};
 ghost use Rattle.std.specs.Int.{w16, w32, w64, to_be_bytes};
 ghost use Rattle.rq_model.specs.StateSpelling.{name_bytes, element_number, kind_byte};
 ghost use Rattle.rq_state.specs.Views.{kind_of, id_of};
-ghost use Rattle.rq_state.specs.Writing.{Puts};
+ghost use Rattle.rq_state.specs.Writing.{PutsSpelling};
 
 use crate::members::OpKind;
 use byteorder::{BigEndian, ByteOrder};
 use rq_record::{ElemId, Fault, Name};
 
 fn put(out: &mut Vec<u8>, bytes: &[u8]) -> Result<(), Fault>
-    ensures { Puts out.old.items out.new.items bytes.now result }
+    ensures { PutsSpelling out.old.items out.new.items bytes.now result }
 {
     out.extend_from_slice(bytes)?;
     Ok(())
 }
 
 pub(crate) fn put_u8(out: &mut Vec<u8>, n: u8) -> Result<(), Fault>
-    ensures { Puts out.old.items out.new.items (n ∷ []) result }
+    ensures { PutsSpelling out.old.items out.new.items (n ∷ []) result }
 {
     put(out, &[n])
 }
 
 pub(crate) fn put_u16(out: &mut Vec<u8>, n: u16) -> Result<(), Fault>
-    ensures { Puts out.old.items out.new.items (to_be_bytes w16 n) result }
+    ensures { PutsSpelling out.old.items out.new.items (to_be_bytes w16 n) result }
 {
     let mut cell = [0; 2];
     BigEndian::write_u16(&mut cell, n);
@@ -32,7 +32,7 @@ pub(crate) fn put_u16(out: &mut Vec<u8>, n: u16) -> Result<(), Fault>
 }
 
 pub(crate) fn put_u32(out: &mut Vec<u8>, n: u32) -> Result<(), Fault>
-    ensures { Puts out.old.items out.new.items (to_be_bytes w32 n) result }
+    ensures { PutsSpelling out.old.items out.new.items (to_be_bytes w32 n) result }
 {
     let mut cell = [0; 4];
     BigEndian::write_u32(&mut cell, n);
@@ -40,7 +40,7 @@ pub(crate) fn put_u32(out: &mut Vec<u8>, n: u32) -> Result<(), Fault>
 }
 
 pub(crate) fn put_u64(out: &mut Vec<u8>, n: u64) -> Result<(), Fault>
-    ensures { Puts out.old.items out.new.items (to_be_bytes w64 n) result }
+    ensures { PutsSpelling out.old.items out.new.items (to_be_bytes w64 n) result }
 {
     let mut cell = [0; 8];
     BigEndian::write_u64(&mut cell, n);
@@ -48,7 +48,7 @@ pub(crate) fn put_u64(out: &mut Vec<u8>, n: u64) -> Result<(), Fault>
 }
 
 pub(crate) fn put_name(out: &mut Vec<u8>, name: &Name) -> Result<(), Fault>
-    ensures { Puts out.old.items out.new.items (name_bytes name.now) result }
+    ensures { PutsSpelling out.old.items out.new.items (name_bytes name.now) result }
 {
     let bytes = name.bytes();
     put_u8(out, bytes.len() as u8)?;
@@ -57,7 +57,7 @@ pub(crate) fn put_name(out: &mut Vec<u8>, name: &Name) -> Result<(), Fault>
 
 pub(crate) fn put_payload(out: &mut Vec<u8>, payload: &[u8]) -> Result<(), Fault>
     requires { length payload.now ≤ 65535 }
-    ensures { Puts out.old.items out.new.items
+    ensures { PutsSpelling out.old.items out.new.items
         (to_be_bytes w16 (length payload.now) ++ payload.now) result }
 {
     put_u16(out, payload.len() as u16)?;
@@ -65,7 +65,7 @@ pub(crate) fn put_payload(out: &mut Vec<u8>, payload: &[u8]) -> Result<(), Fault
 }
 
 pub(crate) fn put_id(out: &mut Vec<u8>, element: Option<ElemId>) -> Result<(), Fault>
-    ensures { Puts out.old.items out.new.items
+    ensures { PutsSpelling out.old.items out.new.items
         (to_be_bytes w64 (element_number (id_of element))) result }
 {
     match element {
@@ -75,7 +75,7 @@ pub(crate) fn put_id(out: &mut Vec<u8>, element: Option<ElemId>) -> Result<(), F
 }
 
 pub(crate) fn put_kind(out: &mut Vec<u8>, kind: OpKind) -> Result<(), Fault>
-    ensures { Puts out.old.items out.new.items (kind_byte (kind_of kind) ∷ []) result }
+    ensures { PutsSpelling out.old.items out.new.items (kind_byte (kind_of kind) ∷ []) result }
 {
     match kind {
         OpKind::Enqueue => put_u8(out, 1),

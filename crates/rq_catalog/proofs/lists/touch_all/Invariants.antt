@@ -1,7 +1,7 @@
 use Rattle.std.proofs.Common.{length, ◌≡◌, ◌&&◌, ◌++◌, ℕ, [], ◌∷◌, nat_lt, if◌then◌else◌, take}
 use Rattle.std.specs.Prelude.{◌==◌}
 use Rattle.std.specs.List.{list_any}
-use Rattle.rq_catalog.specs.Lists.{listed}
+use Rattle.rq_state.specs.Orders.{listed}
 use Rattle.rq_catalog.proofs.lists.touch_all.Given as goal
 
 abbrev pub invariant-loop-queue : goal.invariant-loop-queue

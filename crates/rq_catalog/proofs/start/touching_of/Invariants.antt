@@ -1,5 +1,5 @@
 use Rattle.std.proofs.Common.{◌≡◌, ℕ, [], length, ◌-◌, ◌≤◌}
-use Rattle.rq_catalog.specs.Lists.{listed}
+use Rattle.rq_state.specs.Orders.{listed}
 use Rattle.rq_catalog.proofs.start.touching_of.Given as goal
 
 abbrev pub invariant-loop-alloc : goal.invariant-loop-alloc

@@ -5,7 +5,7 @@ use Rattle.rq_record.specs.declared.fault.Fault.TheVariants.{Resources}
 use Rattle.rq_pool.specs.Ledger.{times, times_in, Ledger}
 use Rattle.rq_pool.specs.Rooms.{deal_of, left_of, taken_of}
 use Rattle.rq_exchange.specs.declared.crew.Kept.{Kept}
-use Rattle.rq_exchange.specs.Workers.{AreHandedBack, Keeps}
+use Rattle.rq_exchange.specs.Workers.{AreHandedBack, HasKept}
 use Rattle.rq_exchange.proofs.Working.{waits_for_nobody, taken_over, each_keeps}
 use Rattle.rq_exchange.proofs.crew.all_kept.Goals as goal
 use Rattle.rq_exchange.proofs.crew.all_kept.Goals.{In_ok-room, In_ok-seats}
@@ -38,11 +38,11 @@ close-left-requires-clause-all g c =
     omega (arith, h.each, c.in_ok-ended.ensures.0, c.in_ok-workers.ensures.count, c.in_ok-room.ensures.count.0, c.in_ok-room.ensures.count.1, c.in_ok-room.seats.ok.0, c.in_ok-seats.seats.ok.0)
 
 -- the first thread has what it took
-first : (g : _) (c : In_ok-seats g) (k : Kept) → 0 < length c.in_ok-seats.kept.items → k ≡ slice_index_or c.in_ok-seats.kept.items 0 k → (s : List ℕ) × Keeps c.args.job.now c.args.chain.now s k
+first : (g : _) (c : In_ok-seats g) (k : Kept) → 0 < length c.in_ok-seats.kept.items → k ≡ slice_index_or c.in_ok-seats.kept.items 0 k → (s : List ℕ) × HasKept c.args.job.now c.args.chain.now s k
 first g c k some is =
     let h = back g c in
     let one = each_keeps c.args.job.now c.args.chain.now (map taken_of c.in_ok-seats.seats.items) c.in_ok-seats.kept.items h.keep 0 k some in
-    (one.0, subst (Keeps c.args.job.now c.args.chain.now one.0) (sym is) one.1)
+    (one.0, subst (HasKept c.args.job.now c.args.chain.now one.0) (sym is) one.1)
 
 -- as many threads as rows of passes
 threads : (g : _) (c : In_ok-seats g) → length c.in_ok-seats.kept.items ≡ length c.args.rows.items

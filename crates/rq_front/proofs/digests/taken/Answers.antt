@@ -1,6 +1,6 @@
 use Rattle.std.proofs.Common.{◌≡◌, ◌∷◌, ◌++◌, ◌+◌, [], List, get_or, take, sym, ap, subst, ◌∙◌, append_assoc, arith}
 use Rattle.std.proofs.lemmas.List.{append-nil, take_all}
-use Rattle.rq_lanes.specs.Messages.{Holds}
+use Rattle.rq_lanes.specs.Messages.{AccountsFor}
 use Rattle.rq_lanes.specs.declared.lanes.Message.{Message}
 use Rattle.rq_lanes.specs.declared.lanes.Lanes.{Lanes}
 use Rattle.rq_front.proofs.Sides.{of_turn, turn_taken, turn_passed}
@@ -10,7 +10,7 @@ use Rattle.rq_front.proofs.digests.taken.Goals as goal
 use Rattle.rq_front.proofs.digests.taken.Goals.{then-has_turn, else-has_turn}
 
 pub frames-init : goal.frames-init
-frames-init c = λ ms h. subst (Holds c.args.bytes.now c.args.given) (sym (append-nil ms)) h
+frames-init c = λ ms h. subst (AccountsFor c.args.bytes.now c.args.given) (sym (append-nil ms)) h
 
 pub frames-preserved : goal.frames-preserved
 frames-preserved c = λ ms h.
@@ -26,15 +26,15 @@ frames-preserved c = λ ms h.
           let more = turn_taken t spans c.frames.i d (omega arith) (sym c.has_turn.ensures ∙ w.if-has_turn.true) in
           let whole : (ms ++ before) ++ message_of (get_or spans c.frames.i d) ∷ [] ≡ ms ++ of_turn t (take (c.frames.i + 1) spans) =
           append_assoc ms before (message_of (get_or spans c.frames.i d) ∷ []) ∙ ap (λ (xs : List Message). ms ++ xs) (sym more) in
-          subst (λ (l : Lanes 8). Holds b l (ms ++ of_turn t (take (c.frames.i + 1) spans))) (sym w.lanes-is)
-          (subst (Holds b w.take.new.self) whole (subst (λ (m : Message). Holds b w.take.new.self ((ms ++ before) ++ m ∷ [])) w.message_at-message.ensures one))
+          subst (λ (l : Lanes 8). AccountsFor b l (ms ++ of_turn t (take (c.frames.i + 1) spans))) (sym w.lanes-is)
+          (subst (AccountsFor b w.take.new.self) whole (subst (λ (m : Message). AccountsFor b w.take.new.self ((ms ++ before) ++ m ∷ [])) w.message_at-message.ensures one))
       | else-has_turn w ↦
           let same = turn_passed t spans c.frames.i d (omega arith) (sym c.has_turn.ensures ∙ w.if-has_turn.false) in
-          subst (λ (l : Lanes 8). Holds b l (ms ++ of_turn t (take (c.frames.i + 1) spans))) (sym w.lanes-is)
-          (subst (λ (xs : List Message). Holds b c.frames.lanes (ms ++ xs)) (sym same) held)
+          subst (λ (l : Lanes 8). AccountsFor b l (ms ++ of_turn t (take (c.frames.i + 1) spans))) (sym w.lanes-is)
+          (subst (λ (xs : List Message). AccountsFor b c.frames.lanes (ms ++ xs)) (sym same) held)
     ]
 
 pub returns : goal.returns
 returns c = λ ms h.
     let whole = take_all c.frames.i c.args.spans.now (omega arith) in
-    subst (λ (xs : List Span). Holds c.args.bytes.now c.frames.lanes (ms ++ of_turn c.args.first xs)) whole (c.frames.invariant ms h)
+    subst (λ (xs : List Span). AccountsFor c.args.bytes.now c.frames.lanes (ms ++ of_turn c.args.first xs)) whole (c.frames.invariant ms h)

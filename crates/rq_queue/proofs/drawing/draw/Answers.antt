@@ -1,7 +1,7 @@
 use Rattle.std.proofs.Common.{sym, ◌∙◌, subst, List}
 use Rattle.std.specs.BTreeMap.{is_at}
 use Rattle.std.specs.Ordering.{nat_cmp}
-use Rattle.rq_queue.specs.Noted.{Drawn, Line}
+use Rattle.rq_queue.specs.Noted.{Drawn, NoteEntry}
 use Rattle.rq_queue.proofs.Noting.{none_drawn, one_drawn, drawn_one}
 use Rattle.rq_queue.proofs.drawing.draw.Goals as goal
 
@@ -13,5 +13,5 @@ returns-clause-left c = c.remove.ensures.entries ∙ one_drawn c.args.whose.now 
 
 pub returns-clause-drawn : goal.returns-clause-drawn
 returns-clause-drawn c =
-    subst (λ (new : List Line). Drawn c.args.whose.now c.remove.result c.args.all.now.entries new) (sym c.remove.ensures.entries)
+    subst (λ (new : List NoteEntry). Drawn c.args.whose.now c.remove.result c.args.all.now.entries new) (sym c.remove.ensures.entries)
     (drawn_one c.args.whose.now (is_at (nat_cmp c.args.place)) c.args.all.now.entries c.remove.result c.remove.ensures.value (sym c.stands.ensures ∙ c.if-not-stands.false))

@@ -4,7 +4,7 @@ use Rattle.std.specs.List.{AllByRecursion}
 use Rattle.std.specs.Map.{values_of}
 use Rattle.rq_model.proofs.Lists.{each_append}
 use Rattle.rq_model.specs.States.{Note}
-use Rattle.rq_queue.specs.Noted.{Apart, Line, by_place, is_own, left}
+use Rattle.rq_queue.specs.Noted.{Apart, NoteEntry, by_place, is_own, left}
 use Rattle.rq_queue.proofs.Noting.{left_by_place, left_more, left_none, values_rise, rises_apart, rises_sorted, drawn_apart, drawn_together}
 use Rattle.rq_queue.proofs.drawing.drawn.Goals as goal
 
@@ -33,8 +33,8 @@ loop-place-preserved-in_default c =
       in_order = left_by_place whose (get_or places i 0) es new c.draw.ensures.left c.loop-place.invariant.in_order;
       rest = ap (left whose (drop (i + 1) places)) c.draw.ensures.left ∙ (left_more whose (get_or places i 0) (drop (i + 1) places) es ∙ (ap (λ (ps : List ℕ). left whose ps es) (sym (drop_more places i 0 here)) ∙ c.loop-place.invariant.rest));
       own = c.loop-place.invariant.own;
-      apart = subst (λ (xs : List Line). Apart (drawn ++ values_of xs)) (sym same) c.loop-place.invariant.apart;
-      together = ap (λ (xs : List Line). by_place (drawn ++ values_of xs)) same ∙ c.loop-place.invariant.together;
+      apart = subst (λ (xs : List NoteEntry). Apart (drawn ++ values_of xs)) (sym same) c.loop-place.invariant.apart;
+      together = ap (λ (xs : List NoteEntry). by_place (drawn ++ values_of xs)) same ∙ c.loop-place.invariant.together;
     }
 
 pub loop-place-preserved : goal.loop-place-preserved

@@ -10,7 +10,7 @@ use Rattle.rq_front.specs.declared.spans.Span.{Span}
 use Rattle.rq_catalog.proofs.Fronts.{lawful_in_two}
 use Rattle.rq_restart.specs.Ends.{IsFrontFrom}
 use Rattle.rq_restart.specs.Views.{why_of}
-use Rattle.rq_restart.specs.Audits.{IsWalk, StandAt, audited_of, audits}
+use Rattle.rq_restart.specs.Audits.{IsAuditWalk, StandAt, audited_of, audits}
 use Rattle.rq_restart.proofs.Starts.{started, whole_front}
 use Rattle.rq_restart.proofs.Audits.{AuditLaws, is_audit}
 use Rattle.rq_restart.proofs.Walks.{stand_at}
@@ -36,10 +36,10 @@ visit-requires-clause-spans g c κs within =
     (subst (λ (ss : List Span). StandAt (map record_of records) ss) (sym c.deref-in-loop-place.ensures.value) stand)
 
 pub visit-requires-clause-walk : goal.visit-requires-clause-walk
-visit-requires-clause-walk g c κs within = subst (λ (rs : List Record). IsWalk (map record_of rs) c.loop-place.place c.loop-place.walk) (sym c.deref.ensures.value) c.loop-place.invariant
+visit-requires-clause-walk g c κs within = subst (λ (rs : List Record). IsAuditWalk (map record_of rs) c.loop-place.place c.loop-place.walk) (sym c.deref.ensures.value) c.loop-place.invariant
 
 pub loop-place-preserved : goal.loop-place-preserved
-loop-place-preserved g c = subst (λ (rs : List Record). IsWalk (map record_of rs) (c.loop-place.place + 1) c.in_ok-walk.walk) c.deref.ensures.value c.in_ok-walk.ensures.walk
+loop-place-preserved g c = subst (λ (rs : List Record). IsAuditWalk (map record_of rs) (c.loop-place.place + 1) c.in_ok-walk.walk) c.deref.ensures.value c.in_ok-walk.ensures.walk
 
 pub returns-in_err-walk : goal.returns-in_err-walk
 returns-in_err-walk g c = search (rules, c.in_err-walk.ensures.refused, c.from_residual-in_err-walk.ensures)

@@ -9,7 +9,7 @@ use Rattle.rq_model.specs.Machine.{run}
 use Rattle.rq_model.specs.StateSpelling.{state_bytes}
 use Rattle.rq_record.specs.Views.{record_of}
 use Rattle.rq_front.specs.declared.spans.Span.{Span}
-use Rattle.rq_restart.specs.Audits.{IsWalk, Passes, audited_of, least}
+use Rattle.rq_restart.specs.Audits.{IsAuditWalk, PassesRecord, audited_of, least}
 use Rattle.std.proofs.lemmas.Result.{IfOk-weaker}
 use Rattle.rq_restart.specs.Worth.{KeepsAllBut}
 use Rattle.rq_restart.proofs.Walks.{next_at, lawful_between, run_between, found_past, found_next}
@@ -29,7 +29,7 @@ returns-in_default g c =
     let rise = rising_at (map record_of records) c.args.place c.runs_are_well_formed.ensures.start c.runs_are_well_formed.ensures.runs c.requires.lawful in
     let found = found_past records c.args.place c.index-records-place.result c.args.walk.found.items c.requires.there c.index-records-place.is c.in_default.not-Checkpoint c.requires.walk.found in
     record {
-      walk = IfOk-weaker c.pass.result (Passes c.args.walk r) (IsWalk (map record_of records) (c.args.place + 1))
+      walk = IfOk-weaker c.pass.result (PassesRecord c.args.walk r) (IsAuditWalk (map record_of records) (c.args.place + 1))
           (λ v p. passed records c.args.place r c.args.walk v c.requires.there c.requires.few c.index-records-place-in_default.is rise c.requires.walk p found) c.pass.ensures.passed;
       refused = c.pass.ensures.refused;
     }

@@ -2,12 +2,12 @@ use Rattle.std.proofs.Common.{List, subst}
 use Rattle.rq_record.specs.Views.{version_of}
 use Rattle.rq_front.specs.Chains.{bodies_at}
 use Rattle.rq_front.specs.declared.spans.Span.{Span}
-use Rattle.rq_restart.specs.Known.{IsKnown}
+use Rattle.rq_restart.specs.Known.{IsKnownOfBodies}
 use Rattle.rq_restart.specs.Readings.{AreApart}
 use Rattle.rq_restart.proofs.front.front_of.Goals as goal
 
 -- what is known of the chain's bodies
-known : (g : _) (c : goal.After-settled g) → IsKnown (version_of c.args.version) c.args.state.now (bodies_at c.args.bytes.now c.args.found.now.spans.items) c.in_ok-known.known
+known : (g : _) (c : goal.After-settled g) → IsKnownOfBodies (version_of c.args.version) c.args.state.now (bodies_at c.args.bytes.now c.args.found.now.spans.items) c.in_ok-known.known
 known g c =
     let apart = subst (λ (ss : List Span). AreApart (version_of c.args.version) (bodies_at c.args.bytes.now ss) c.in_ok-parts.parts) c.deref.ensures.value c.in_ok-parts.ensures.parts in
     c.in_ok-known.ensures (bodies_at c.args.bytes.now c.args.found.now.spans.items) apart

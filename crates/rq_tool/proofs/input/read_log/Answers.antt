@@ -6,7 +6,7 @@ use Rattle.std.specs.Io.KnownBytes.{Consumes, IsAtEnd}
 use Rattle.rq_model.specs.Frames.{log_limit}
 use Rattle.std.proofs.KnownBytes.{Consumes-nil}
 use Rattle.rq_record.specs.declared.fault.Fault.{Fault}
-use Rattle.rq_tool.specs.Streams.{IsUnread, ReadsAll, ReadsOn, Takes}
+use Rattle.rq_tool.specs.Streams.{IsUnread, ReadsAll, ReadsOn, TakesInput}
 use Rattle.rq_tool.proofs.Told.{some_taken, takes_on}
 use Rattle.rq_tool.proofs.Unread.{unread, unread_before, unread_taken}
 use Rattle.rq_tool.proofs.input.read_log.Goals as goal
@@ -49,7 +49,7 @@ returns-in_err-read_up_to-2-clause-takes g c =
     let taken = first_taken old mid c.roomy-bytes.result.items c.read_up_to.new.bytes.items c.roomy-bytes.ensures.items c.in_ok-read_up_to.ensures.bytes in
     let some = takes_on old mid new (c.read_up_to.new.bytes.items, taken) c.in_err-read_up_to-2.ensures.partly in
     let answer : c.from_residual-in_err-read_up_to-2.result ≡ Err c.in_err-read_up_to-2.field-0.0 = search rules in
-    subst (λ (r : Result (Vec ℕ) Fault). Takes old new r) (sym answer) (some_taken (Vec ℕ) old new c.in_err-read_up_to-2.field-0.0 c.in_err-read_up_to-2.ensures.refused some)
+    subst (λ (r : Result (Vec ℕ) Fault). TakesInput old new r) (sym answer) (some_taken (Vec ℕ) old new c.in_err-read_up_to-2.field-0.0 c.in_err-read_up_to-2.ensures.refused some)
 
 -- all that a reader had, or one byte more than a log has
 all_read : (old new : Option (List ℕ)) (bytes : List ℕ) → Consumes old new bytes → length bytes ≤ log_limit + 1 → (length bytes < log_limit + 1 → IsAtEnd new) → ReadsAll old new bytes

@@ -7,7 +7,7 @@ use Rattle.rq_record.specs.declared.record.UnitNo.{UnitNo}
 use Rattle.rq_state.specs.Views.{unit_of}
 use Rattle.rq_state.specs.Inside.{state_of}
 use Rattle.rq_state.specs.Laws.{HasSame}
-use Rattle.rq_state.specs.Orders.{in_order, place_before}
+use Rattle.rq_state.specs.Orders.{state_in_order, place_before}
 use Rattle.rq_exchange.specs.Gathering.{IsRedoneTo}
 use Rattle.rq_exchange.proofs.Pouring.{members, is_same}
 use Rattle.rq_exchange.proofs.gathering.AllRedone.gather.Goals as goal
@@ -31,7 +31,7 @@ same c t all =
     }
 
 -- the fields, put in order, are the state that all is redone to
-ordered : (c : In_ok-fields) (t : State) → IsRedoneTo t c.args.self → in_order (state_of c.in_ok-fields.fields) ≡ t
+ordered : (c : In_ok-fields) (t : State) → IsRedoneTo t c.args.self → state_in_order (state_of c.in_ok-fields.fields) ≡ t
 ordered c t all = c.any_order_makes_the_state.ensures t (state_of c.in_ok-fields.fields) all.well (same c t all)
 
 pub build-requires : goal.build-requires

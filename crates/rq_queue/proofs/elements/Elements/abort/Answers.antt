@@ -7,7 +7,7 @@ use Rattle.rq_model.specs.WellFormed.{Ordered}
 use Rattle.rq_queue.specs.Kept.{items_of, staying, sent_from}
 use Rattle.rq_queue.specs.Sorted.{sorted}
 use Rattle.rq_queue.proofs.Sorting.{each_unsorted}
-use Rattle.rq_queue.specs.Listed.{listed}
+use Rattle.rq_queue.specs.Listed.{elements_inside}
 use Rattle.rq_queue.specs.Priorities.{AreKnown}
 use Rattle.rq_queue.proofs.Known.{known_staying}
 use Rattle.rq_queue.proofs.Ending.{aborted, departed, each_listed, chosen_rise}
@@ -30,7 +30,7 @@ invariant_of-result c =
       keyed = done.0.0;
       of_units = c.taken-marked.ensures.of_units;
       apart = done.0.1;
-      known = subst (AreKnown c.self.inside.priorities) (sym done.1) (known_staying c.self.inside.priorities c.args.home.now c.args.unit.0 (listed c.self.inside) c.self.invariant.known);
+      known = subst (AreKnown c.self.inside.priorities) (sym done.1) (known_staying c.self.inside.priorities c.args.home.now c.args.unit.0 (elements_inside c.self.inside) c.self.invariant.known);
     }
 
 pub returns-clause-kept : goal.returns-clause-kept

@@ -1,6 +1,6 @@
 use Rattle.std.proofs.Common.{◌∙◌, ap, subst, sym}
 use Rattle.rq_model.specs.Machine.{committed_elements}
-use Rattle.rq_queue.specs.Listed.{listed}
+use Rattle.rq_queue.specs.Listed.{elements_inside}
 use Rattle.rq_queue.specs.Priorities.{AreKnown}
 use Rattle.rq_queue.proofs.Known.{known_committed}
 use Rattle.rq_queue.proofs.Ending.{committed}
@@ -14,7 +14,7 @@ invariant_of-result c =
       keyed = done.0.0;
       of_units = c.taken-marked.ensures.of_units;
       apart = done.0.1;
-      known = subst (AreKnown c.self.inside.priorities) (sym done.1) (known_committed c.self.inside.priorities c.args.unit.0 (listed c.self.inside) c.self.invariant.known);
+      known = subst (AreKnown c.self.inside.priorities) (sym done.1) (known_committed c.self.inside.priorities c.args.unit.0 (elements_inside c.self.inside) c.self.invariant.known);
     }
 
 pub returns-clause-done : goal.returns-clause-done

@@ -4,7 +4,7 @@ use Rattle.std.proofs.lemmas.List.Elements.{recursion_from_All}
 use Rattle.rq_model.specs.States.{Element}
 use Rattle.rq_model.specs.Machine.{best, best_held}
 use Rattle.rq_queue.specs.Kept.{Stowed}
-use Rattle.rq_queue.specs.Listed.{listed}
+use Rattle.rq_queue.specs.Listed.{elements_inside}
 use Rattle.rq_queue.specs.Priorities.{AreKnown}
 use Rattle.rq_queue.proofs.Known.{known_held}
 use Rattle.rq_queue.proofs.Doing.{held, none_there, none_best, best_first}
@@ -19,7 +19,7 @@ invariant_of-all-in-Some c =
       keyed = done.1.1;
       of_units = c.in_ok-marked-in-Some.ensures.of_units;
       apart = done.1.0;
-      known = subst (AreKnown c.self.inside.priorities) (sym done.0) (known_held c.self.inside.priorities c.args.unit.0 c.args.queue.0 (listed c.self.inside) c.self.invariant.known);
+      known = subst (AreKnown c.self.inside.priorities) (sym done.0) (known_held c.self.inside.priorities c.args.unit.0 c.args.queue.0 (elements_inside c.self.inside) c.self.invariant.known);
     }
 
 pub returns-in-None-clause-held : goal.returns-in-None-clause-held

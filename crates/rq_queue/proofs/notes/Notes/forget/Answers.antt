@@ -5,7 +5,7 @@ use Rattle.rq_model.specs.Machine.{unnoted}
 use Rattle.rq_model.specs.States.{Note, is_note_of}
 use Rattle.rq_model.proofs.Lists.{each_filter}
 use Rattle.rq_state.proofs.InOrder.{key_cmp, key_total}
-use Rattle.rq_queue.specs.Noted.{Line, AreKept, filed, has_place, left}
+use Rattle.rq_queue.specs.Noted.{NoteEntry, AreKept, filed, has_place, left}
 use Rattle.rq_queue.specs.declared.whose.Whose.TheVariants.{OfRegistrant}
 use Rattle.rq_queue.proofs.Noting.{all_filed, others_filed, left_all, values_left, filtered_by_place}
 use Rattle.rq_queue.proofs.Registered.{note_at}
@@ -17,12 +17,12 @@ invariant_of-result c =
     let es = notes.all.entries in
     let k : ℕ × List ℕ = (c.args.queue.0, c.args.name.now) in
     let own = is_note_of c.args.queue.0 c.args.name.now in
-    let others : c.without-all.result.entries ≡ filter (λ (e : Line). not (own e.1)) es
+    let others : c.without-all.result.entries ≡ filter (λ (e : NoteEntry). not (own e.1)) es
     = c.without-all.ensures ∙ (ap (λ (ps : List ℕ). left (OfRegistrant c.args.queue c.args.name.now) ps es) (c.deref.ensures.value ∙ c.unfiled-names.ensures.places)
     ∙ left_all (OfRegistrant c.args.queue c.args.name.now) (filed key_cmp k notes.names.entries) es (all_filed key_cmp key_total (λ (m : Note). (m.queue, m.name)) k own (note_at k) notes.names.entries es c.self.invariant.by_name)) in
-    subst (λ (xs : List Line). AreKept xs notes.units.entries c.unfiled-names.result.0.entries) (sym others) (record {
-      by_place = filtered_by_place (λ (e : Line). not (own e.1)) es c.self.invariant.by_place;
-      by_unit = each_filter (λ (e : Line). has_place e.0 (filed nat_cmp e.1.unit notes.units.entries) ≡ true) (λ (e : Line). not (own e.1)) es c.self.invariant.by_unit;
+    subst (λ (xs : List NoteEntry). AreKept xs notes.units.entries c.unfiled-names.result.0.entries) (sym others) (record {
+      by_place = filtered_by_place (λ (e : NoteEntry). not (own e.1)) es c.self.invariant.by_place;
+      by_unit = each_filter (λ (e : NoteEntry). has_place e.0 (filed nat_cmp e.1.unit notes.units.entries) ≡ true) (λ (e : NoteEntry). not (own e.1)) es c.self.invariant.by_unit;
       by_name = others_filed key_cmp key_total (λ (m : Note). (m.queue, m.name)) k own (note_at k) notes.names.entries c.unfiled-names.result.0.entries c.unfiled-names.ensures.others es c.self.invariant.by_name;
     })
 

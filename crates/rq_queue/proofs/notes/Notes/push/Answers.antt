@@ -6,7 +6,7 @@ use Rattle.std.specs.Ordering.{nat_cmp}
 use Rattle.std.proofs.lemmas.Cmp.{nat_cmp_total}
 use Rattle.rq_model.specs.States.{Note}
 use Rattle.rq_state.proofs.InOrder.{key_cmp, key_total}
-use Rattle.rq_queue.specs.Noted.{Line, AreKept}
+use Rattle.rq_queue.specs.Noted.{NoteEntry, AreKept}
 use Rattle.rq_queue.proofs.Noting.{added_last, values_last, last_by_place, filed_last}
 use Rattle.rq_queue.proofs.notes.Notes.push.Goals as goal
 
@@ -17,7 +17,7 @@ invariant_of-result c =
     let below = subst (AllByRecursion (λ (m : Note). m.last.place < n.last.place)) (sym c.self.view_is) c.requires in
     let added : c.insert.new.self.entries ≡ notes.all.entries ++ (n.last.place, n) ∷ []
     = c.in_ok-insert.ensures.entries ∙ (ap (λ (k : ℕ). insert_entry nat_cmp notes.all.entries k n) c.place-place.ensures ∙ added_last n notes.all.entries c.self.invariant.by_place below) in
-    subst (λ (es : List Line). AreKept es c.in_ok-units.units.entries c.in_ok-names.names.entries) (sym added) (record {
+    subst (λ (es : List NoteEntry). AreKept es c.in_ok-units.units.entries c.in_ok-names.names.entries) (sym added) (record {
       by_place = last_by_place n notes.all.entries c.self.invariant.by_place below;
       by_unit = filed_last nat_cmp nat_cmp_total (λ (m : Note). m.unit) n c.unit.result.0 c.place-place.result c.unit.ensures c.place-place.ensures notes.units.entries c.in_ok-units.units.entries c.in_ok-units.ensures.filed notes.all.entries c.self.invariant.by_unit;
       by_name = filed_last key_cmp key_total (λ (m : Note). (m.queue, m.name)) n c.key.result c.place-place.result c.key.ensures c.place-place.ensures notes.names.entries c.in_ok-names.names.entries c.in_ok-names.ensures.filed notes.all.entries c.self.invariant.by_name;

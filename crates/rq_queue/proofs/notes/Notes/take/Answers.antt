@@ -6,7 +6,7 @@ use Rattle.rq_model.specs.Machine.{closed_notes}
 use Rattle.rq_model.specs.States.{Note}
 use Rattle.rq_model.proofs.Lists.{each_filter}
 use Rattle.rq_state.proofs.InOrder.{key_cmp}
-use Rattle.rq_queue.specs.Noted.{Apart, Line, AreKept, by_place, filed, has_place, left}
+use Rattle.rq_queue.specs.Noted.{Apart, NoteEntry, AreKept, by_place, filed, has_place, left}
 use Rattle.rq_queue.specs.declared.whose.Whose.TheVariants.{OfUnit}
 use Rattle.rq_queue.proofs.NotesInOrder.{rising_sorted}
 use Rattle.rq_queue.proofs.Noting.{all_filed, others_filed, left_all, values_left, values_drawn, filtered_by_place, apart_front}
@@ -19,13 +19,13 @@ invariant_of-notes c =
     let es = notes.all.entries in
     let unit = c.args.unit in
     let own = λ (n : Note). n.unit == unit.0 in
-    let others : c.in_ok-all.all.entries ≡ filter (λ (e : Line). not (own e.1)) es
+    let others : c.in_ok-all.all.entries ≡ filter (λ (e : NoteEntry). not (own e.1)) es
     = c.in_ok-all.ensures.left ∙ (ap (λ (ps : List ℕ). left (OfUnit unit) ps es) (c.deref.ensures.value ∙ c.unfiled-units.ensures.places)
     ∙ left_all (OfUnit unit) (filed nat_cmp unit.0 notes.units.entries) es (all_filed nat_cmp nat_cmp_total (λ (m : Note). m.unit) unit.0 own (λ n. same_number unit.0 n.unit) notes.units.entries es c.self.invariant.by_unit)) in
-    subst (λ (xs : List Line). AreKept xs c.unfiled-units.result.0.entries notes.names.entries) (sym others) (record {
-      by_place = filtered_by_place (λ (e : Line). not (own e.1)) es c.self.invariant.by_place;
+    subst (λ (xs : List NoteEntry). AreKept xs c.unfiled-units.result.0.entries notes.names.entries) (sym others) (record {
+      by_place = filtered_by_place (λ (e : NoteEntry). not (own e.1)) es c.self.invariant.by_place;
       by_unit = others_filed nat_cmp nat_cmp_total (λ (m : Note). m.unit) unit.0 own (λ n. same_number unit.0 n.unit) notes.units.entries c.unfiled-units.result.0.entries c.unfiled-units.ensures.others es c.self.invariant.by_unit;
-      by_name = each_filter (λ (e : Line). has_place e.0 (filed key_cmp (e.1.queue, e.1.name) notes.names.entries) ≡ true) (λ (e : Line). not (own e.1)) es c.self.invariant.by_name;
+      by_name = each_filter (λ (e : NoteEntry). has_place e.0 (filed key_cmp (e.1.queue, e.1.name) notes.names.entries) ≡ true) (λ (e : NoteEntry). not (own e.1)) es c.self.invariant.by_name;
     })
 
 pub in_order-requires : goal.in_order-requires
@@ -52,5 +52,5 @@ returns-clause-taken c =
     = c.in_ok-all.ensures.left ∙ ap (λ (ps : List ℕ). left (OfUnit unit) ps es) (c.deref.ensures.value ∙ c.unfiled-units.ensures.places) in
     c.in_order.ensures
     ∙ (values_drawn (OfUnit unit) (filed nat_cmp unit.0 notes.units.entries) es (all_filed nat_cmp nat_cmp_total (λ (m : Note). m.unit) unit.0 own (λ n. same_number unit.0 n.unit) notes.units.entries es c.self.invariant.by_unit)
-    drawn c.in_ok-all.ensures.own (subst (λ (xs : List Line). Apart (drawn ++ values_of xs)) rest c.in_ok-all.ensures.apart) (ap (λ (xs : List Line). by_place (drawn ++ values_of xs)) (sym rest) ∙ c.in_ok-all.ensures.together)
+    drawn c.in_ok-all.ensures.own (subst (λ (xs : List NoteEntry). Apart (drawn ++ values_of xs)) rest c.in_ok-all.ensures.apart) (ap (λ (xs : List NoteEntry). by_place (drawn ++ values_of xs)) (sym rest) ∙ c.in_ok-all.ensures.together)
     ∙ ap (filter own) c.self.view_is)

@@ -5,14 +5,14 @@ use Rattle.std.proofs.Common.{◌≡◌}
 use Rattle.rq_model.specs.Machine.{deregistered}
 use Rattle.rq_model.proofs.Merged.{ordered_filter}
 use Rattle.rq_state.proofs.InOrder.{key_cmp, key_total}
-use Rattle.rq_queue.specs.Roll.{Line, registrant_of, IsRoll}
+use Rattle.rq_queue.specs.Roll.{RollEntry, registrant_of, IsRoll}
 use Rattle.rq_queue.proofs.Roll.{removed}
 use Rattle.rq_queue.proofs.Registered.{deregistered_then}
 use Rattle.rq_queue.proofs.registrants.Registrants.deregister.Goals as goal
 
 pub invariant_of-result : goal.invariant_of-result
 invariant_of-result c = subst IsRoll (sym (c.remove.ensures.entries ∙ removed key_cmp key_total (c.args.queue.0, c.args.name.now) c.self.inside.lasts.entries c.self.invariant))
-    (ordered_filter (λ (a b : Line). key_cmp a.0 b.0 ≡ Less) (λ (e : Line). not (is_eq (key_cmp (c.args.queue.0, c.args.name.now) e.0))) c.self.inside.lasts.entries c.self.invariant)
+    (ordered_filter (λ (a b : RollEntry). key_cmp a.0 b.0 ≡ Less) (λ (e : RollEntry). not (is_eq (key_cmp (c.args.queue.0, c.args.name.now) e.0))) c.self.inside.lasts.entries c.self.invariant)
 
 pub returns : goal.returns
 returns c = ap (map registrant_of) c.remove.ensures.entries

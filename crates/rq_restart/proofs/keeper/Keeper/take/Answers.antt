@@ -4,7 +4,7 @@ use Rattle.std.proofs.lemmas.List.{length-map, length-take}
 use Rattle.std.proofs.lemmas.Result.{err_from_is_err_and}
 use Rattle.rq_record.specs.Views.{record_of}
 use Rattle.rq_record.specs.declared.fault.Fault.{Fault}
-use Rattle.rq_restart.specs.Keepers.{Takes}
+use Rattle.rq_restart.specs.Keepers.{TakesMore}
 use Rattle.rq_restart.proofs.Keepers.{analysed_again, further, lawful_again, within}
 use Rattle.rq_restart.proofs.keeper.Keeper.take.Goals as goal
 
@@ -27,7 +27,7 @@ returns-in_err-self g c =
     let k = c.args.self.now in
     let more = map record_of c.args.records.now in
     let p = err_from_is_err_and c.from_residual-in_err-self.result c.from_residual-in_err-self.ensures.1 in
-    subst (Takes k more k) (sym p.1) (subst (λ (e : Fault). Takes k more k (Err e)) (sym (p.2 ∙ c.in_err-self.ensures.refused)) refl)
+    subst (TakesMore k more k) (sym p.1) (subst (λ (e : Fault). TakesMore k more k (Err e)) (sym (p.2 ∙ c.in_err-self.ensures.refused)) refl)
 
 pub returns : goal.returns
 returns g c =
