@@ -91,8 +91,7 @@ impl<T: Fits> Countdown<T> {
 
 impl<T: Fits> Countdown<T> {
     ghost use Rattle.rq_pool.specs.Countdowns.Words.{IsPassOf, key_of, sources_of, history_of};
-    ghost use Rattle.rq_pool.specs.Countdowns.History.{Answered};
-    ghost use Rattle.rq_pool.specs.Countdowns.History.{entry};
+    ghost use Rattle.rq_pool.specs.Countdowns.History.{Answered, entry};
 
     /// The arrival of a source with its outbox, answered as `Arrival` tells. It takes no memory and
     /// waits for nobody.

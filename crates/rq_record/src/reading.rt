@@ -3,9 +3,9 @@
 ghost use Rattle.std.specs.Prelude.{◌+◌, ◌≤◌, length, slice_range};
 ghost use Rattle.rq_model.specs.Records.{One};
 ghost use Rattle.rq_record.specs.Reading.{Decodes, Reads, Copies, define_of, register_of};
-ghost use Rattle.rq_record.specs.Reading.{deregister_of, only_unit, begin_of, enqueue_of, dequeue_of};
-ghost use Rattle.rq_record.specs.Reading.{commit_of, abort_of, checkpoint_of, kill_of, of_kind};
-ghost use Rattle.rq_record.specs.Reading.{record_from};
+ghost use Rattle.rq_record.specs.Reading.{deregister_of, only_unit, begin_of, enqueue_of};
+ghost use Rattle.rq_record.specs.Reading.{dequeue_of, commit_of, abort_of, checkpoint_of, kill_of};
+ghost use Rattle.rq_record.specs.Reading.{of_kind, record_from};
 ghost use Rattle.rq_record.specs.Views.{record_of, version_of};
 
 mod fields;

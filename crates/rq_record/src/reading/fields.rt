@@ -1,5 +1,5 @@
-//! A record's fields, from the front of the bytes that are left of a body. `Form` answers bytes that
-//! have none, before memory is asked for.
+//! A record's fields, from the front of the bytes that are left of a body. `Form` answers bytes
+//! that have none, before memory is asked for.
 
 ghost use Rattle.rq_record.specs.Reading.{Reads, Copies, number_at, byte_at, piece_at, name_of};
 ghost use Rattle.rq_record.specs.Reading.{bounded, nothing_in, named, who_at};

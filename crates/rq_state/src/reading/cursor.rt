@@ -1,8 +1,8 @@
 //! Numbers, pieces and names from the front of the bytes that are left. Each call takes what it
 //! answers off the front; after a refusal nothing is said of what is left, and nobody reads on.
 
-ghost use Rattle.rq_state.specs.Reading.{ReadsFromCheckpoint, number_from, byte_from, piece_from, checked_name};
-ghost use Rattle.rq_state.specs.Reading.{name_from};
+ghost use Rattle.rq_state.specs.Reading.{ReadsFromCheckpoint, number_from, byte_from, piece_from};
+ghost use Rattle.rq_state.specs.Reading.{checked_name, name_from};
 
 use byteorder::{BigEndian, ByteOrder};
 use rq_record::{Fault, Name};

@@ -1,9 +1,9 @@
 //! Whether bytes have the form of a state, told without memory.
 
 ghost use Rattle.std.specs.Prelude.{[]};
-ghost use Rattle.rq_state.specs.Reading.{ReadsFromCheckpoint, number_from, definition_from, registrant_from};
-ghost use Rattle.rq_state.specs.Reading.{element_from, note_from, members_from, counted_from};
-ghost use Rattle.rq_state.specs.Reading.{after_of, form_from};
+ghost use Rattle.rq_state.specs.Reading.{ReadsFromCheckpoint, number_from, definition_from};
+ghost use Rattle.rq_state.specs.Reading.{registrant_from, element_from, note_from, members_from};
+ghost use Rattle.rq_state.specs.Reading.{counted_from, after_of, form_from};
 
 use crate::reading::cursor::{take_u32, take_u64};
 use crate::reading::members::{
@@ -80,7 +80,8 @@ fn pass_elements(count: u32, rest: &mut &[u8]) -> Result<(), Fault>
 
 #[tactic(auto, unfolding(crate::specs::Reading::counted_from))]
 fn pass_all_elements(rest: &mut &[u8]) -> Result<(), Fault>
-    ensures { ReadsFromCheckpoint (λ x. rest.new.now) result (after_of (counted_from element_from rest.old.now)) }
+    ensures { ReadsFromCheckpoint (λ x. rest.new.now) result
+        (after_of (counted_from element_from rest.old.now)) }
 {
     let count = take_u32(rest)?;
     pass_elements(count, rest)
@@ -98,7 +99,8 @@ fn pass_notes(count: u32, rest: &mut &[u8]) -> Result<(), Fault>
 
 #[tactic(auto, unfolding(crate::specs::Reading::counted_from))]
 fn pass_all_notes(rest: &mut &[u8]) -> Result<(), Fault>
-    ensures { ReadsFromCheckpoint (λ x. rest.new.now) result (after_of (counted_from note_from rest.old.now)) }
+    ensures { ReadsFromCheckpoint (λ x. rest.new.now) result
+        (after_of (counted_from note_from rest.old.now)) }
 {
     let count = take_u32(rest)?;
     pass_notes(count, rest)

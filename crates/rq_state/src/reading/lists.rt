@@ -3,9 +3,9 @@
 ghost use Rattle.std.specs.Prelude.{map};
 ghost use Rattle.rq_state.specs.Views.{unit_of};
 ghost use Rattle.rq_state.specs.Inside.{state_of};
-ghost use Rattle.rq_state.specs.Reading.{GivesFromCheckpoint, number_from, definition_from, registrant_from};
-ghost use Rattle.rq_state.specs.Reading.{element_from, note_from, members_from, counted_from};
-ghost use Rattle.rq_state.specs.Reading.{state_from, whole_state};
+ghost use Rattle.rq_state.specs.Reading.{GivesFromCheckpoint, number_from, definition_from};
+ghost use Rattle.rq_state.specs.Reading.{registrant_from, element_from, note_from, members_from};
+ghost use Rattle.rq_state.specs.Reading.{counted_from, state_from, whole_state};
 
 use crate::members::{Definition, Element, Note, Registrant};
 use crate::reading::cursor::{take_u32, take_u64};
@@ -93,7 +93,8 @@ fn take_elements(alloc: Global, count: u32, rest: &mut &[u8]) -> Result<Vec<Elem
 
 #[tactic(auto, unfolding(crate::specs::Reading::counted_from))]
 fn take_all_elements(alloc: Global, rest: &mut &[u8]) -> Result<Vec<Element>, Fault>
-    ensures { GivesFromCheckpoint (λ x. (x.items, rest.new.now)) result (counted_from element_from rest.old.now) }
+    ensures { GivesFromCheckpoint (λ x. (x.items, rest.new.now)) result
+        (counted_from element_from rest.old.now) }
 {
     let count = take_u32(rest)?;
     take_elements(alloc, count, rest)
@@ -113,7 +114,8 @@ fn take_notes(alloc: Global, count: u32, rest: &mut &[u8]) -> Result<Vec<Note>, 
 
 #[tactic(auto, unfolding(crate::specs::Reading::counted_from))]
 fn take_all_notes(alloc: Global, rest: &mut &[u8]) -> Result<Vec<Note>, Fault>
-    ensures { GivesFromCheckpoint (λ x. (x.items, rest.new.now)) result (counted_from note_from rest.old.now) }
+    ensures { GivesFromCheckpoint (λ x. (x.items, rest.new.now)) result
+        (counted_from note_from rest.old.now) }
 {
     let count = take_u32(rest)?;
     take_notes(alloc, count, rest)
@@ -121,7 +123,8 @@ fn take_all_notes(alloc: Global, rest: &mut &[u8]) -> Result<Vec<Note>, Fault>
 
 #[tactic(auto, unfolding(crate::specs::Reading::state_from))]
 fn take_fields(alloc: Global, rest: &mut &[u8]) -> Result<Fields, Fault>
-    ensures { GivesFromCheckpoint (λ x. (state_of x, rest.new.now)) result (state_from rest.old.now) }
+    ensures { GivesFromCheckpoint (λ x. (state_of x, rest.new.now)) result
+        (state_from rest.old.now) }
 {
     let next = take_u64(rest)?;
     let greatest = take_u64(rest)?;

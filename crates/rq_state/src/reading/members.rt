@@ -2,11 +2,11 @@
 
 ghost use Rattle.std.specs.Prelude.{◌≡◌, ◌≤◌, length, Some};
 ghost use Rattle.rq_state.specs.Views.{mark_of, kind_of, id_of, unit_of};
-ghost use Rattle.rq_state.specs.Reading.{GivesFromCheckpoint, ReadsFromCheckpoint, after_of, number_from, definition_from};
-ghost use Rattle.rq_state.specs.Reading.{known_kind, kind_from, element_of, id_from};
-ghost use Rattle.rq_state.specs.Reading.{operation_from, last_of_kind, last_from, registrant_from};
-ghost use Rattle.rq_state.specs.Reading.{mark_of_kind, mark_from, payload_from, element_from};
-ghost use Rattle.rq_state.specs.Reading.{note_from};
+ghost use Rattle.rq_state.specs.Reading.{GivesFromCheckpoint, ReadsFromCheckpoint, after_of};
+ghost use Rattle.rq_state.specs.Reading.{number_from, definition_from, known_kind, kind_from};
+ghost use Rattle.rq_state.specs.Reading.{element_of, id_from, operation_from, last_of_kind};
+ghost use Rattle.rq_state.specs.Reading.{last_from, registrant_from, mark_of_kind, mark_from};
+ghost use Rattle.rq_state.specs.Reading.{payload_from, element_from, note_from};
 
 use crate::members::{Definition, Element, Last, Mark, Note, OpKind, Registrant};
 use crate::reading::cursor::{piece_of, take_name, take_u8, take_u16, take_u32, take_u64};
@@ -28,7 +28,8 @@ pub(crate) fn take_definition(rest: &mut &[u8]) -> Result<Definition, Fault>
 }
 
 pub(crate) fn take_unit(rest: &mut &[u8]) -> Result<UnitNo, Fault>
-    ensures { ReadsFromCheckpoint (λ x. (unit_of x, rest.new.now)) result (number_from 8 rest.old.now) }
+    ensures { ReadsFromCheckpoint (λ x. (unit_of x, rest.new.now)) result
+        (number_from 8 rest.old.now) }
 {
     let unit = take_u64(rest)?;
     Ok(UnitNo(unit))
@@ -68,7 +69,8 @@ fn take_id(rest: &mut &[u8]) -> Result<Option<ElemId>, Fault>
 
 #[tactic(auto, unfolding(crate::specs::Reading::operation_from))]
 fn take_operation(kind: OpKind, rest: &mut &[u8]) -> Result<Last, Fault>
-    ensures { ReadsFromCheckpoint (λ x. (x, rest.new.now)) result (operation_from (kind_of kind) rest.old.now) }
+    ensures { ReadsFromCheckpoint (λ x. (x, rest.new.now)) result
+        (operation_from (kind_of kind) rest.old.now) }
 {
     let place = take_u64(rest)?;
     let tag = take_u64(rest)?;
@@ -117,7 +119,8 @@ pub(crate) fn take_registrant(rest: &mut &[u8]) -> Result<Registrant, Fault>
 
 #[tactic(auto, unfolding(crate::specs::Reading::mark_of_kind))]
 fn take_mark_of(n: u8, rest: &mut &[u8]) -> Result<Mark, Fault>
-    ensures { ReadsFromCheckpoint (λ x. (mark_of x, rest.new.now)) result (mark_of_kind n rest.old.now) }
+    ensures { ReadsFromCheckpoint (λ x. (mark_of x, rest.new.now)) result
+        (mark_of_kind n rest.old.now) }
 {
     match n {
         0 => Ok(Mark::Free),
@@ -163,7 +166,8 @@ fn take_payload(alloc: Global, rest: &mut &[u8]) -> Result<KeptPayload, Fault>
 
 #[tactic(auto, unfolding(crate::specs::Reading::payload_from))]
 fn pass_payload(rest: &mut &[u8]) -> Result<(), Fault>
-    ensures { ReadsFromCheckpoint (λ x. rest.new.now) result (after_of (payload_from rest.old.now)) }
+    ensures { ReadsFromCheckpoint (λ x. rest.new.now) result
+        (after_of (payload_from rest.old.now)) }
 {
     let size = take_u16(rest)?;
     let (_payload, after) = piece_of(size as usize, rest)?;
@@ -174,7 +178,8 @@ fn pass_payload(rest: &mut &[u8]) -> Result<(), Fault>
 /// Goes past an element, whose payload is not copied.
 #[tactic(auto, unfolding(crate::specs::Reading::element_from))]
 pub(crate) fn pass_element(rest: &mut &[u8]) -> Result<(), Fault>
-    ensures { ReadsFromCheckpoint (λ x. rest.new.now) result (after_of (element_from rest.old.now)) }
+    ensures { ReadsFromCheckpoint (λ x. rest.new.now) result
+        (after_of (element_from rest.old.now)) }
 {
     let _id = take_u64(rest)?;
     let _home = take_u32(rest)?;

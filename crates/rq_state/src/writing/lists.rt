@@ -14,7 +14,8 @@ use rq_record::{Fault, UnitNo};
 
 pub(crate) fn put_definitions(out: &mut Vec<u8>, members: &[Definition]) -> Result<(), Fault>
     requires { length members.now < 4294967296 }
-    ensures { PutsSpelling out.old.items out.new.items (counted definition_bytes members.now) result }
+    ensures { PutsSpelling out.old.items out.new.items
+        (counted definition_bytes members.now) result }
 {
     put_u32(out, members.len() as u32)?;
     for member in members {
@@ -37,7 +38,8 @@ pub(crate) fn put_units(out: &mut Vec<u8>, members: &[UnitNo]) -> Result<(), Fau
 
 pub(crate) fn put_registrants(out: &mut Vec<u8>, members: &[Registrant]) -> Result<(), Fault>
     requires { length members.now < 4294967296 }
-    ensures { PutsSpelling out.old.items out.new.items (counted registrant_bytes members.now) result }
+    ensures { PutsSpelling out.old.items out.new.items
+        (counted registrant_bytes members.now) result }
 {
     put_u32(out, members.len() as u32)?;
     for member in members {
