@@ -1,5 +1,6 @@
 -- What an analysis says.
-use Rattle.std.specs.Prelude.{ℕ, ◌≡◌, Bool, List, length, filter, nat_eq, Option, option_map, slice_index_or}
+use Rattle.std.specs.Prelude.{ℕ, ◌≡◌, Bool, List, length, filter, nat_eq, Option, option_map}
+use Rattle.std.specs.Prelude.{slice_index_or}
 use Rattle.indexmap.specs.IndexMap.{get, keys}
 use Rattle.rq_model.specs.Records.{Record, Version}
 use Rattle.rq_model.specs.States.{State}
@@ -17,7 +18,8 @@ outcome_in a unit = option_map outcome_of (get nat_eq a.catalogue.outcomes unit)
 
 -- the units that the analysis has as open, in the order in which they were begun
 abbrev pub open_in : Analysis → List ℕ
-open_in a = filter (λ unit. is_open_in (get nat_eq a.catalogue.outcomes unit)) (keys a.catalogue.outcomes)
+open_in a = filter (λ unit. is_open_in (get nat_eq a.catalogue.outcomes unit))
+    (keys a.catalogue.outcomes)
 
 -- the unit at a place of their list
 abbrev pub unit_at : Analysis → ℕ → ℕ
@@ -30,9 +32,10 @@ is_open_at a place = is_open_in (get nat_eq a.catalogue.outcomes (unit_at a plac
 abbrev pub touched : Analysis → ℕ → List (ℕ × ℕ)
 touched a queue = listed a.catalogue.touching.items queue
 
--- by the rules of the version: the length of the longest lawful beginning, each unit's outcome in it, what of it touches each queue, and the counts, the
--- open units and the catalogue after it
-pub record IsAnalysis (version : Version) (s : State) (rs : List Record) (a : Analysis) : Type 0 where
+-- by the rules of the version: the length of the longest lawful beginning, each unit's outcome in
+-- it, what of it touches each queue, and the counts, the open units and the catalogue after it
+pub record IsAnalysis (version : Version) (s : State) (rs : List Record) (a : Analysis)
+    : Type 0 where
   pub lawful : a.lawful ≡ length (lawful_front version s rs)
   pub outcomes : (unit : ℕ) → outcome_in a unit ≡ machine.outcome s (lawful_front version s rs) unit
   pub touching : (queue : ℕ) → touched a queue ≡ numbered s (lawful_front version s rs) queue

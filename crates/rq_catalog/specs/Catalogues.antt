@@ -1,5 +1,7 @@
 -- What a catalogue knows, and when a record is lawful by it.
-use Rattle.std.specs.Prelude.{ℕ, Bool, true, false, not, ◌&&◌, ◌||◌, ◌==◌, ◌≡◌, ◌+◌, ◌<◌, ◌^◌, cond, nat_lt, nat_le, nat_eq, if◌then◌else◌, List, [], ◌∷◌, ◌++◌, length, Option, Some, None, option_map, slice_index_or, map}
+use Rattle.std.specs.Prelude.{ℕ, Bool, true, false, not, ◌&&◌, ◌||◌, ◌==◌, ◌≡◌, ◌+◌, ◌<◌, ◌^◌, cond}
+use Rattle.std.specs.Prelude.{nat_lt, nat_le, nat_eq, if◌then◌else◌, List, [], ◌∷◌, ◌++◌, length}
+use Rattle.std.specs.Prelude.{Option, Some, None, option_map, slice_index_or, map}
 use Rattle.std.specs.Cmp.Lexicographic.{pointwise}
 use Rattle.indexmap.specs.IndexMap.{get, insert_entry, keys}
 use Rattle.indexmap.specs.IndexSet.{contains}
@@ -12,7 +14,9 @@ use Rattle.std.specs.Str.{bytes_eq}
 use Rattle.rq_model.specs.Laws.{begun}
 use Rattle.rq_model.specs.Queues.{is_engaged, engages}
 use Rattle.rq_record.specs.declared.record.Record.{Record}
-use Rattle.rq_record.specs.declared.record.Record.TheVariants.{Define, Register, Deregister, Begin, Enqueue, Dequeue, Commit, Abort, Checkpoint, Kill}
+use Rattle.rq_record.specs.declared.record.Record.TheVariants.{Define, Register, Deregister, Begin}
+use Rattle.rq_record.specs.declared.record.Record.TheVariants.{Enqueue, Dequeue, Commit, Abort}
+use Rattle.rq_record.specs.declared.record.Record.TheVariants.{Checkpoint, Kill}
 use Rattle.rq_catalog.specs.Outcomes.{is_open_in, outcome_of}
 use Rattle.rq_catalog.specs.Lists.{is_engaged_in, numbered}
 use Rattle.rq_state.specs.Orders.{listed}
@@ -35,7 +39,8 @@ may_be_error_in Two c error = true
 abbrev pub is_limit_in : Version → Catalogue → ℕ → ℕ → Bool
 is_limit_in version c limit error =
     if limit == 0 then error == no_queue
-    else (nat_le limit 1000 && (nat_lt error (length c.errors.items) && may_be_error_in version c error))
+    else (nat_le limit 1000
+    && (nat_lt error (length c.errors.items) && may_be_error_in version c error))
 
 -- version 1 has no KILL
 abbrev pub may_kill_in : Version → Catalogue → ℕ → Bool
@@ -44,12 +49,15 @@ may_kill_in Two c queue = nat_lt queue (length c.errors.items)
 
 -- the record is lawful by the catalogue
 abbrev pub may_take : Version → Catalogue → Record → Bool
-may_take version c (Define limit error name) = is_limit_in version c limit error.0 && (nat_lt (length c.errors.items) 4096 && not (contains (pointwise nat_eq) c.names name))
+may_take version c (Define limit error name) = is_limit_in version c limit error.0
+    && (nat_lt (length c.errors.items) 4096 && not (contains (pointwise nat_eq) c.names name))
 may_take version c (Register queue name) = nat_lt queue.0 (length c.errors.items)
 may_take version c (Deregister queue name) = contains key_eq c.registrants (queue.0, name)
 may_take version c (Begin unit) = nat_lt c.greatest unit.0
-may_take version c (Enqueue priority queue unit by payload) = nat_lt queue.0 (length c.errors.items) && (is_open_in (get nat_eq c.outcomes unit.0) && is_known_in c queue.0 by)
-may_take version c (Dequeue unit queue by) = nat_lt queue.0 (length c.errors.items) && (is_open_in (get nat_eq c.outcomes unit.0) && is_known_in c queue.0 by)
+may_take version c (Enqueue priority queue unit by payload) = nat_lt queue.0 (length c.errors.items)
+    && (is_open_in (get nat_eq c.outcomes unit.0) && is_known_in c queue.0 by)
+may_take version c (Dequeue unit queue by) = nat_lt queue.0 (length c.errors.items)
+    && (is_open_in (get nat_eq c.outcomes unit.0) && is_known_in c queue.0 by)
 may_take version c (Commit unit) = is_open_in (get nat_eq c.outcomes unit.0)
 may_take version c (Abort unit) = is_open_in (get nat_eq c.outcomes unit.0)
 may_take version c (Checkpoint bytes) = true
@@ -102,7 +110,8 @@ aborted_after r old = old
 
 -- the queues of a unit are kept while it is open
 abbrev pub engaged_after : Record → ℕ → ℕ → Bool → Bool
-engaged_after (Enqueue priority queue unit by payload) u q old = ((unit.0 == u) && (queue.0 == q)) || old
+engaged_after (Enqueue priority queue unit by payload) u q old =
+    ((unit.0 == u) && (queue.0 == q)) || old
 engaged_after (Dequeue unit queue by) u q old = ((unit.0 == u) && (queue.0 == q)) || old
 engaged_after (Commit unit) u q old = cond (nat_eq unit.0 u) false old
 engaged_after (Abort unit) u q old = cond (nat_eq unit.0 u) false old
@@ -127,28 +136,37 @@ pub record HasRoom (c : Catalogue) (place : ℕ) : Type 0 where
 
 -- d is c after the record
 pub record Takes (c d : Catalogue) (op : ℕ × ℕ) (r : Record) : Type 0 where
-  pub names : (n : List ℕ) → contains (pointwise nat_eq) d.names n ≡ names_after r n (contains (pointwise nat_eq) c.names n)
+  pub names : (n : List ℕ) → contains (pointwise nat_eq) d.names n
+      ≡ names_after r n (contains (pointwise nat_eq) c.names n)
   pub errors : d.errors.items ≡ errors_after r c.errors.items
-  pub registrants : (k : ℕ × List ℕ) → contains key_eq d.registrants k ≡ registered_after r k (contains key_eq c.registrants k)
+  pub registrants : (k : ℕ × List ℕ) →
+      contains key_eq d.registrants k ≡ registered_after r k (contains key_eq c.registrants k)
   pub greatest : d.greatest ≡ greatest_by r c.greatest
-  pub outcomes : (u : ℕ) → get nat_eq d.outcomes u ≡ outcome_after op.0 r u (get nat_eq c.outcomes u)
+  pub outcomes : (u : ℕ) →
+      get nat_eq d.outcomes u ≡ outcome_after op.0 r u (get nat_eq c.outcomes u)
   pub entries : d.outcomes.entries ≡ entries_after op.0 r c.outcomes.entries
   pub committed : d.committed ≡ committed_after r c.committed
   pub aborted : d.aborted ≡ aborted_after r c.aborted
-  pub engaged : (u q : ℕ) → is_engaged_in (get nat_eq d.engaged u) q ≡ engaged_after r u q (is_engaged_in (get nat_eq c.engaged u) q)
+  pub engaged : (u q : ℕ) → is_engaged_in (get nat_eq d.engaged u) q
+      ≡ engaged_after r u q (is_engaged_in (get nat_eq c.engaged u) q)
   pub queues : length d.touching.items ≡ length c.touching.items + defines r
-  pub touching : (q : ℕ) → listed d.touching.items q ≡ (if touches_in c r q && nat_lt q (length c.touching.items) then listed c.touching.items q ++ op ∷ [] else listed c.touching.items q)
+  pub touching : (q : ℕ) →
+      listed d.touching.items q ≡ (if touches_in c r q && nat_lt q (length c.touching.items)
+      then listed c.touching.items q ++ op ∷ [] else listed c.touching.items q)
 
 -- the catalogue agrees with the run of xs from s
 pub record Follows (c : Catalogue) (s : State) (xs : List model.Record) : Type 0 where
-  pub names : (n : List ℕ) → contains (pointwise nat_eq) c.names n ≡ list_any (λ (d : Definition). bytes_eq d.name n) (run s xs).definitions
+  pub names : (n : List ℕ) → contains (pointwise nat_eq) c.names n
+      ≡ list_any (λ (d : Definition). bytes_eq d.name n) (run s xs).definitions
   pub errors : c.errors.items ≡ map (λ (d : Definition). d.error) (run s xs).definitions
-  pub registrants : (k : ℕ × List ℕ) → contains key_eq c.registrants k ≡ is_registered (run s xs) k.0 k.1
+  pub registrants : (k : ℕ × List ℕ) →
+      contains key_eq c.registrants k ≡ is_registered (run s xs) k.0 k.1
   pub greatest : c.greatest ≡ (run s xs).greatest
   pub outcomes : (u : ℕ) → option_map outcome_of (get nat_eq c.outcomes u) ≡ outcome s xs u
   pub units : keys c.outcomes ≡ s.units ++ begun xs
   pub committed : c.committed ≡ (run s xs).committed
   pub aborted : c.aborted ≡ (run s xs).aborted
-  pub engaged : (u q : ℕ) → is_engaged_in (get nat_eq c.engaged u) q ≡ (is_open (run s xs) u && (is_engaged s q u || list_any (engages q u) xs))
+  pub engaged : (u q : ℕ) → is_engaged_in (get nat_eq c.engaged u) q
+      ≡ (is_open (run s xs) u && (is_engaged s q u || list_any (engages q u) xs))
   pub queues : length c.touching.items ≡ length c.errors.items
   pub touching : (q : ℕ) → listed c.touching.items q ≡ numbered s xs q

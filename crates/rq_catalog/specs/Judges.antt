@@ -11,11 +11,13 @@ use Rattle.rq_record.specs.Views.{version_of}
 use Rattle.rq_record.specs.declared.record.Record.{Record}
 use Rattle.rq_record.specs.declared.record.Record.TheVariants.{Begin, Commit, Abort}
 use Rattle.rq_catalog.specs.declared.judge.Judge.{Judge}
-use Rattle.rq_catalog.specs.Catalogues.{key_eq, names_after, errors_after, registered_after, greatest_by}
+use Rattle.rq_catalog.specs.Catalogues.{key_eq, names_after, errors_after, registered_after}
+use Rattle.rq_catalog.specs.Catalogues.{greatest_by}
 
 -- it knows of the state what lawfulness looks at
 pub record KnowsState (j : Judge) (s : State) : Type 0 where
-  pub names : (n : List ℕ) → contains (pointwise nat_eq) j.names n ≡ list_any (λ (d : Definition). bytes_eq d.name n) s.definitions
+  pub names : (n : List ℕ) → contains (pointwise nat_eq) j.names n
+      ≡ list_any (λ (d : Definition). bytes_eq d.name n) s.definitions
   pub errors : j.errors.items ≡ map (λ (d : Definition). d.error) s.definitions
   pub registrants : (k : ℕ × List ℕ) → contains key_eq j.registrants k ≡ is_registered s k.0 k.1
   pub greatest : j.greatest ≡ s.greatest
@@ -39,8 +41,10 @@ open_after r u old = old
 
 -- k is j after the record
 pub record Notes (j k : Judge) (r : Record) : Type 0 where
-  pub names : (n : List ℕ) → contains (pointwise nat_eq) k.names n ≡ names_after r n (contains (pointwise nat_eq) j.names n)
+  pub names : (n : List ℕ) → contains (pointwise nat_eq) k.names n
+      ≡ names_after r n (contains (pointwise nat_eq) j.names n)
   pub errors : k.errors.items ≡ errors_after r j.errors.items
-  pub registrants : (q : ℕ × List ℕ) → contains key_eq k.registrants q ≡ registered_after r q (contains key_eq j.registrants q)
+  pub registrants : (q : ℕ × List ℕ) →
+      contains key_eq k.registrants q ≡ registered_after r q (contains key_eq j.registrants q)
   pub greatest : k.greatest ≡ greatest_by r j.greatest
   pub units : (u : ℕ) → contains nat_eq k.units u ≡ open_after r u (contains nat_eq j.units u)

@@ -1,5 +1,6 @@
 -- Lists by unit and by queue.
-use Rattle.std.specs.Prelude.{ℕ, Bool, false, ◌==◌, List, Option, Some, None, slice_index_or, map, slice_get, length, ◌-◌}
+use Rattle.std.specs.Prelude.{ℕ, Bool, false, ◌==◌, List, Option, Some, None, slice_index_or, map}
+use Rattle.std.specs.Prelude.{slice_get, length, ◌-◌}
 use Rattle.std.specs.List.{list_any}
 use Rattle.std.specs.Global.{Vec}
 use Rattle.std.specs.Option.{option_map_or}
@@ -15,7 +16,8 @@ is_engaged_in (Some queues) queue = list_any (λ v. v == queue) queues.items
 
 -- the last of the list has this place
 abbrev pub ends_at : ℕ → List (ℕ × ℕ) → Bool
-ends_at place ops = option_map_or (λ (p : ℕ × ℕ). p.0 == place) (slice_get ops (length ops - 1)) false
+ends_at place ops =
+    option_map_or (λ (p : ℕ × ℕ). p.0 == place) (slice_get ops (length ops - 1)) false
 
 -- the place of a record, and its index among those that begin at the place `next`
 abbrev pub place_and_index : ℕ → Op → ℕ × ℕ

@@ -1,6 +1,8 @@
 //! The lawful front of a list of records.
 
-ghost use Rattle.std.specs.Prelude.{◌≡◌, ◌≤◌, ◌^◌, ◌+◌, ◌<◌, ℕ, List, length, map, take, IfOk, IfErr, OnOk, ◌++◌, ◌∷◌, [], Some, None, option_map, if◌then◌else◌};
+ghost use Rattle.std.specs.Prelude.{◌≡◌, ◌≤◌, ◌^◌, ◌+◌, ◌<◌, ℕ, List, length, map, take, IfOk};
+ghost use Rattle.std.specs.Prelude.{IfErr, OnOk, ◌++◌, ◌∷◌, [], Some, None, option_map};
+ghost use Rattle.std.specs.Prelude.{if◌then◌else◌};
 ghost use Rattle.indexmap.specs.IndexMap.{keys};
 ghost use Rattle.rq_model.specs.Records.{Record as ModelRecord, One};
 ghost use Rattle.rq_model.specs.States.{State};
@@ -10,7 +12,8 @@ ghost use Rattle.rq_state.specs.Views.{unit_of};
 ghost use Rattle.rq_record.specs.declared.fault.Fault.TheVariants.{Resources};
 ghost use Rattle.rq_catalog.specs.Outcomes.{outcome_of};
 ghost use Rattle.rq_catalog.specs.Lists.{numbered, op_again};
-ghost use Rattle.rq_catalog.specs.Analyses.{IsAnalysis, outcome_in, open_in, is_open_at, unit_at, touched};
+ghost use Rattle.rq_catalog.specs.Analyses.{IsAnalysis, outcome_in, open_in, is_open_at, unit_at};
+ghost use Rattle.rq_catalog.specs.Analyses.{touched};
 
 use crate::catalogue::Catalogue;
 use crate::outcome::Outcome;
@@ -20,8 +23,8 @@ use rq_record::{Fault, QueueNo, Record, UnitNo, Version};
 use rq_state::State;
 use std::alloc::Global;
 
-/// What one pass over a list of records finds: how many of them are lawful, what became of each unit, and which of the
-/// lawful records touch each queue.
+/// What one pass over a list of records finds: how many of them are lawful, what became of each
+/// unit, and which of the lawful records touch each queue.
 #[derive(Drop)]
 pub struct Analysis {
     lawful: usize,
@@ -37,9 +40,9 @@ pub fn analyse(alloc: Global, state: &State, records: &[Record]) -> Result<Analy
     analyse_in(alloc, Version::One, state, records)
 }
 
-/// Analyses the records that follow the state, by the rules of the version. A record is lawful where it may come after those
-/// before it; the first that is not lawful ends the pass, and nothing is said of it or of those behind it. Refused with
-/// `Resources` alone.
+/// Analyses the records that follow the state, by the rules of the version. A record is lawful
+/// where it may come after those before it; the first that is not lawful ends the pass, and nothing
+/// is said of it or of those behind it. Refused with `Resources` alone.
 pub fn analyse_in(
     alloc: Global,
     version: Version,
@@ -47,7 +50,8 @@ pub fn analyse_in(
     records: &[Record],
 ) -> Result<Analysis, Fault>
     requires { state.now.next + length records.now < 2 ^ 64 }
-    ensures analysis { IfOk result (IsAnalysis (version_of version) state.now (map record_of records.now)) }
+    ensures analysis { IfOk result
+        (IsAnalysis (version_of version) state.now (map record_of records.now)) }
     ensures refused { IfErr result (λ e. e ≡ Resources) }
 {
     state.is_well_formed();
@@ -59,8 +63,9 @@ pub fn analyse_in(
 }
 
 impl Analysis {
-    /// Goes on behind the records that were analysed by the rules of the version, which are lawful and with which these
-    /// begin: so the analysis of them all costs no more than what is new. Refused with `Resources` alone.
+    /// Goes on behind the records that were analysed by the rules of the version, which are lawful
+    /// and with which these begin: so the analysis of them all costs no more than what is new.
+    /// Refused with `Resources` alone.
     pub fn go_on(
         self,
         alloc: Global,
@@ -70,8 +75,10 @@ impl Analysis {
     ) -> Result<Analysis, Fault>
         requires fits { state.now.next + length records.now < 2 ^ 64 }
         requires within { self.lawful ≤ length records.now }
-        requires analysed { IsAnalysis (version_of version) state.now (map record_of (take self.lawful records.now)) self }
-        ensures analysis { IfOk result (IsAnalysis (version_of version) state.now (map record_of records.now)) }
+        requires analysed { IsAnalysis (version_of version) state.now
+            (map record_of (take self.lawful records.now)) self }
+        ensures analysis { IfOk result
+            (IsAnalysis (version_of version) state.now (map record_of records.now)) }
         ensures refused { IfErr result (λ e. e ≡ Resources) }
     {
         let start = state.next();
@@ -95,15 +102,17 @@ impl Analysis {
         self.lawful
     }
 
-    /// What became of the unit in the lawful records; `None` where it was neither open in the state nor begun by one of them.
+    /// What became of the unit in the lawful records; `None` where it was neither open in the state
+    /// nor begun by one of them.
     pub fn outcome(&self, unit: UnitNo) -> Option<Outcome>
         ensures { option_map outcome_of result ≡ outcome_in self.now unit.0 }
     {
         self.catalogue.outcomes.get(&unit.0).copied()
     }
 
-    /// The lawful records that touch the queue, rising: the place of each in the log, and its index in the list that was
-    /// analysed. A COMMIT or ABORT touches the queues that its unit engaged. None for a queue that there is not.
+    /// The lawful records that touch the queue, rising: the place of each in the log, and its index
+    /// in the list that was analysed. A COMMIT or ABORT touches the queues that its unit engaged.
+    /// None for a queue that there is not.
     pub fn touching(&self, queue: QueueNo) -> &[(u64, usize)]
         ensures { result.now ≡ touched self.now queue.0 }
     {
@@ -144,7 +153,9 @@ impl Analysis {
     /// Adds the unit at a place of their list, where it is open.
     fn push_open(&self, place: usize, units: &mut Vec<UnitNo>) -> Result<(), Fault>
         requires { place < length (keys self.now.catalogue.outcomes) }
-        ensures opened { OnOk result (map unit_of units.new.items ≡ (if is_open_at self.now place then map unit_of units.old.items ++ unit_at self.now place ∷ [] else map unit_of units.old.items)) }
+        ensures opened { OnOk result (map unit_of units.new.items ≡ (if is_open_at self.now place
+            then map unit_of units.old.items ++ unit_at self.now place ∷ []
+            else map unit_of units.old.items)) }
         ensures refused { IfErr result (λ e. e ≡ Resources) }
     {
         if let Some(unit) = self.open_at(place) {
@@ -156,7 +167,8 @@ impl Analysis {
     /// The unit at a place of their list, where it is open.
     fn open_at(&self, place: usize) -> Option<UnitNo>
         requires { place < length (keys self.now.catalogue.outcomes) }
-        ensures { option_map unit_of result ≡ (if is_open_at self.now place then Some (unit_at self.now place) else None) }
+        ensures { option_map unit_of result
+            ≡ (if is_open_at self.now place then Some (unit_at self.now place) else None) }
     {
         match self.catalogue.outcomes.get_index(place) {
             Some((unit, Outcome::Open)) => Some(UnitNo(*unit)),
@@ -167,5 +179,6 @@ impl Analysis {
 
 /// The index that `touching` gives for a record leads to that record.
 pub fn indices()
-    ensures { (s : State) (rs : List ModelRecord) (q : ℕ) (d : ModelRecord) → map (op_again rs d) (numbered s rs q) ≡ touching s rs q }
+    ensures { (s : State) (rs : List ModelRecord) (q : ℕ) (d : ModelRecord) →
+        map (op_again rs d) (numbered s rs q) ≡ touching s rs q }
 {}

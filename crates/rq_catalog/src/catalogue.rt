@@ -1,6 +1,8 @@
 //! What lawfulness looks at, and what is noted on the way.
 
-ghost use Rattle.std.specs.Prelude.{◌≡◌, ℕ, ◌==◌, ◌&&◌, ◌||◌, List, ◌++◌, [], ◌∷◌, map, OnOk, IfErr, nat_lt, nat_eq, length, cond, true, false, ◌+◌, ◌<◌, Some, if◌then◌else◌};
+ghost use Rattle.std.specs.Prelude.{◌≡◌, ℕ, ◌==◌, ◌&&◌, ◌||◌, List, ◌++◌, [], ◌∷◌, map, OnOk};
+ghost use Rattle.std.specs.Prelude.{IfErr, nat_lt, nat_eq, length, cond, true, false, ◌+◌, ◌<◌};
+ghost use Rattle.std.specs.Prelude.{Some, if◌then◌else◌};
 ghost use Rattle.indexmap.specs.IndexMap.{get, insert_entry};
 ghost use Rattle.indexmap.specs.IndexSet.{contains};
 ghost use Rattle.std.specs.List.{AllByRecursion};
@@ -10,7 +12,8 @@ ghost use Rattle.rq_record.specs.declared.fault.Fault.TheVariants.{Resources};
 ghost use Rattle.rq_catalog.specs.Lists.{is_engaged_in};
 ghost use Rattle.rq_state.specs.Orders.{listed};
 ghost use Rattle.rq_catalog.specs.Outcomes.{is_open_in};
-ghost use Rattle.rq_catalog.specs.Catalogues.{HasRoom, Takes, may_take, key_eq, is_known_in, is_limit_in, may_be_error_in, may_kill_in};
+ghost use Rattle.rq_catalog.specs.Catalogues.{HasRoom, Takes, may_take, key_eq, is_known_in};
+ghost use Rattle.rq_catalog.specs.Catalogues.{is_limit_in, may_be_error_in, may_kill_in};
 
 use crate::lists::{engage, touch, touch_all};
 use crate::outcome::Outcome;
@@ -18,8 +21,8 @@ use indexmap::{IndexMap, IndexSet};
 use rq_record::{Fault, KeptBy, Name, QueueNo, Record, Version};
 use std::alloc::Global;
 
-/// What lawfulness looks at, which is queues, registrants and units, and what is noted on the way: the queues that each open
-/// unit engaged, the records that touch each queue, and the counts.
+/// What lawfulness looks at, which is queues, registrants and units, and what is noted on the way:
+/// the queues that each open unit engaged, the records that touch each queue, and the counts.
 #[derive(Drop)]
 pub(crate) struct Catalogue {
     pub(crate) names: IndexSet<Name>,
@@ -162,11 +165,20 @@ impl Catalogue {
     }
 
     fn define(&mut self, alloc: Global, error: QueueNo, name: Name) -> Result<(), Fault>
-        ensures frame { self.new ≡ record self.old { names = self.new.names; errors = self.new.errors; touching = self.new.touching } }
-        ensures names { OnOk result ((n : List ℕ) → contains (pointwise nat_eq) self.new.names n ≡ cond (pointwise nat_eq name n) true (contains (pointwise nat_eq) self.old.names n)) }
-        ensures errors { OnOk result (self.new.errors.items ≡ self.old.errors.items ++ error.0 ∷ []) }
-        ensures queues { OnOk result (length self.new.touching.items ≡ length self.old.touching.items + 1) }
-        ensures touching { OnOk result ((q : ℕ) → listed self.new.touching.items q ≡ listed self.old.touching.items q) }
+        ensures frame { self.new
+            ≡ record self.old {
+              names = self.new.names;
+              errors = self.new.errors;
+              touching = self.new.touching;
+            } }
+        ensures names { OnOk result ((n : List ℕ) → contains (pointwise nat_eq) self.new.names n
+            ≡ cond (pointwise nat_eq name n) true (contains (pointwise nat_eq) self.old.names n)) }
+        ensures errors { OnOk result
+            (self.new.errors.items ≡ self.old.errors.items ++ error.0 ∷ []) }
+        ensures queues { OnOk result
+            (length self.new.touching.items ≡ length self.old.touching.items + 1) }
+        ensures touching { OnOk result
+            ((q : ℕ) → listed self.new.touching.items q ≡ listed self.old.touching.items q) }
         ensures refused { IfErr result (λ e. e ≡ Resources) }
     {
         self.names.insert(name)?;
@@ -182,10 +194,15 @@ impl Catalogue {
         queue: u32,
         op: (u64, usize),
     ) -> Result<(), Fault>
-        ensures frame { self.new ≡ record self.old { engaged = self.new.engaged; touching = self.new.touching } }
-        ensures engaged { OnOk result ((u q : ℕ) → is_engaged_in (get nat_eq self.new.engaged u) q ≡ (((unit == u) && (queue == q)) || is_engaged_in (get nat_eq self.old.engaged u) q)) }
+        ensures frame { self.new
+            ≡ record self.old { engaged = self.new.engaged; touching = self.new.touching } }
+        ensures engaged { OnOk result ((u q : ℕ) → is_engaged_in (get nat_eq self.new.engaged u) q
+            ≡ (((unit == u) && (queue == q)) || is_engaged_in (get nat_eq self.old.engaged u) q)) }
         ensures queues { length self.new.touching.items ≡ length self.old.touching.items }
-        ensures touching { OnOk result ((q : ℕ) → listed self.new.touching.items q ≡ (if (queue == q) && nat_lt q (length self.old.touching.items) then listed self.old.touching.items q ++ op ∷ [] else listed self.old.touching.items q)) }
+        ensures touching { OnOk result ((q : ℕ) → listed self.new.touching.items q
+            ≡ (if (queue == q) && nat_lt q (length self.old.touching.items)
+            then listed self.old.touching.items q ++ op ∷ []
+            else listed self.old.touching.items q)) }
         ensures refused { IfErr result (λ e. e ≡ Resources) }
     {
         engage(alloc, &mut self.engaged, unit, queue)?;
@@ -194,12 +211,24 @@ impl Catalogue {
 
     fn close(&mut self, unit: u64, outcome: Outcome, op: (u64, usize)) -> Result<(), Fault>
         requires { (q : ℕ) → AllByRecursion (λ p. p.0 < op.0) (listed self.old.touching.items q) }
-        ensures frame { self.new ≡ record self.old { outcomes = self.new.outcomes; engaged = self.new.engaged; touching = self.new.touching } }
-        ensures outcomes { OnOk result ((u : ℕ) → get nat_eq self.new.outcomes u ≡ cond (nat_eq unit u) (Some outcome) (get nat_eq self.old.outcomes u)) }
-        ensures entries { OnOk result (self.new.outcomes.entries ≡ insert_entry nat_eq self.old.outcomes.entries unit outcome) }
-        ensures engaged { OnOk result ((u q : ℕ) → is_engaged_in (get nat_eq self.new.engaged u) q ≡ cond (nat_eq unit u) false (is_engaged_in (get nat_eq self.old.engaged u) q)) }
+        ensures frame { self.new
+            ≡ record self.old {
+              outcomes = self.new.outcomes;
+              engaged = self.new.engaged;
+              touching = self.new.touching;
+            } }
+        ensures outcomes { OnOk result ((u : ℕ) → get nat_eq self.new.outcomes u
+            ≡ cond (nat_eq unit u) (Some outcome) (get nat_eq self.old.outcomes u)) }
+        ensures entries { OnOk result (self.new.outcomes.entries
+            ≡ insert_entry nat_eq self.old.outcomes.entries unit outcome) }
+        ensures engaged { OnOk result ((u q : ℕ) → is_engaged_in (get nat_eq self.new.engaged u) q
+            ≡ cond (nat_eq unit u) false (is_engaged_in (get nat_eq self.old.engaged u) q)) }
         ensures queues { length self.new.touching.items ≡ length self.old.touching.items }
-        ensures touching { OnOk result ((q : ℕ) → listed self.new.touching.items q ≡ (if is_engaged_in (get nat_eq self.old.engaged unit) q && nat_lt q (length self.old.touching.items) then listed self.old.touching.items q ++ op ∷ [] else listed self.old.touching.items q)) }
+        ensures touching { OnOk result ((q : ℕ) → listed self.new.touching.items q
+            ≡ (if is_engaged_in (get nat_eq self.old.engaged unit) q
+            && nat_lt q (length self.old.touching.items)
+            then listed self.old.touching.items q ++ op ∷ []
+            else listed self.old.touching.items q)) }
         ensures refused { IfErr result (λ e. e ≡ Resources) }
     {
         self.outcomes.insert(unit, outcome)?;

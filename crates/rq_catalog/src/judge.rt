@@ -1,6 +1,7 @@
 //! Whether records are lawful, one after the other.
 
-ghost use Rattle.std.specs.Prelude.{◌≡◌, ℕ, ◌<◌, ◌&&◌, ◌++◌, ◌∷◌, [], List, IfOk, IfErr, OnOk, length, if◌then◌else◌, cond, true, nat_eq, nat_lt};
+ghost use Rattle.std.specs.Prelude.{◌≡◌, ℕ, ◌<◌, ◌&&◌, ◌++◌, ◌∷◌, [], List, IfOk, IfErr, OnOk};
+ghost use Rattle.std.specs.Prelude.{length, if◌then◌else◌, cond, true, nat_eq, nat_lt};
 ghost use Rattle.std.specs.Cmp.Lexicographic.{pointwise};
 ghost use Rattle.indexmap.specs.IndexSet.{contains};
 ghost use Rattle.rq_model.specs.Records as records;
@@ -15,8 +16,9 @@ use indexmap::IndexSet;
 use rq_record::{Fault, KeptBy, Name, QueueNo, Record, Version};
 use std::alloc::Global;
 
-/// Says of records, one after the other, whether each is lawful behind the lawful ones before it. It keeps what
-/// lawfulness looks at alone, which is queues, registrants and open units: so it does not grow with the records.
+/// Says of records, one after the other, whether each is lawful behind the lawful ones before it.
+/// It keeps what lawfulness looks at alone, which is queues, registrants and open units: so it does
+/// not grow with the records.
 #[derive(Drop)]
 pub struct Judge {
     version: Version,
@@ -44,16 +46,22 @@ impl Judge {
 
     /// The version by whose rules it judges.
     pub fn version(&self) -> Version
-        ensures { (version : records.Version) (s : State) → StandsIn version self.now s → version_of result ≡ version }
+        ensures { (version : records.Version) (s : State) →
+            StandsIn version self.now s → version_of result ≡ version }
     {
         self.version
     }
 
-    /// Whether the record is lawful behind those that were taken; where it is, it is taken. Refused with `Resources` alone,
-    /// and then nothing is taken.
+    /// Whether the record is lawful behind those that were taken; where it is, it is taken. Refused
+    /// with `Resources` alone, and then nothing is taken.
     pub fn take(&mut self, next: &Record) -> Result<bool, Fault>
-        ensures lawful { IfOk result (λ lawful. (version : records.Version) (s : State) → StandsIn version self.old s → lawful ≡ machine.is_lawful version s (record_of next.now)) }
-        ensures stands { IfOk result (λ lawful. (version : records.Version) (s : State) → StandsIn version self.old s → StandsIn version self.new (if lawful then machine.step s (record_of next.now) else s)) }
+        ensures lawful { IfOk result
+            (λ lawful. (version : records.Version) (s : State) → StandsIn version self.old s
+            → lawful ≡ machine.is_lawful version s (record_of next.now)) }
+        ensures stands { IfOk result
+            (λ lawful. (version : records.Version) (s : State) → StandsIn version self.old s
+            → StandsIn version self.new
+            (if lawful then machine.step s (record_of next.now) else s)) }
         ensures refused { IfErr result (λ e. e ≡ Resources) }
         ensures kept { IfErr result (λ e. KeepsStanding self.old self.new) }
     {
@@ -65,7 +73,8 @@ impl Judge {
     }
 
     fn may_take(&self, next: &Record) -> bool
-        ensures { (s : State) → KnowsState self.now s → result ≡ machine.is_lawful (version_of self.now.version) s (record_of next.now) }
+        ensures { (s : State) → KnowsState self.now s
+            → result ≡ machine.is_lawful (version_of self.now.version) s (record_of next.now) }
     {
         match next {
             Record::Define { limit, error, name } => {
@@ -92,13 +101,15 @@ impl Judge {
 
     fn is_defined(&self, queue: QueueNo) -> bool
         ensures many { result ≡ nat_lt queue.0 (length self.now.errors.items) }
-        ensures state { (s : State) → KnowsState self.now s → result ≡ machine.is_defined s queue.0 }
+        ensures state { (s : State) → KnowsState self.now s
+            → result ≡ machine.is_defined s queue.0 }
     {
         (queue.0 as usize) < self.errors.len()
     }
 
     fn is_registered(&self, queue: QueueNo, name: Name) -> bool
-        ensures { (s : State) → KnowsState self.now s → result ≡ machine.is_registered s queue.0 name }
+        ensures { (s : State) → KnowsState self.now s
+            → result ≡ machine.is_registered s queue.0 name }
     {
         self.registrants.contains(&(queue.0, name))
     }
@@ -113,7 +124,8 @@ impl Judge {
     }
 
     fn may_engage(&self, unit: u64, queue: QueueNo, by: &KeptBy) -> bool
-        ensures { (s : State) → KnowsState self.now s → result ≡ (machine.is_defined s queue.0 && (machine.is_open s unit && machine.is_known s queue.0 by.now)) }
+        ensures { (s : State) → KnowsState self.now s → result ≡ (machine.is_defined s queue.0
+            && (machine.is_open s unit && machine.is_known s queue.0 by.now)) }
     {
         self.is_defined(queue) && self.units.contains(&unit) && self.is_known(queue, by)
     }
@@ -121,7 +133,8 @@ impl Judge {
     // An error queue of version 1 has none itself.
     fn may_be_error(&self, error: QueueNo) -> bool
         requires { error.0 < length self.now.errors.items }
-        ensures { (s : State) → KnowsState self.now s → result ≡ machine.may_be_error (version_of self.now.version) s error.0 }
+        ensures { (s : State) → KnowsState self.now s
+            → result ≡ machine.may_be_error (version_of self.now.version) s error.0 }
     {
         match self.version {
             Version::One => self.errors[error.0 as usize] == QueueNo::NONE.0,
@@ -130,7 +143,8 @@ impl Judge {
     }
 
     fn is_limit(&self, limit: u16, error: QueueNo) -> bool
-        ensures { (s : State) → KnowsState self.now s → result ≡ machine.is_limit (version_of self.now.version) s limit error.0 }
+        ensures { (s : State) → KnowsState self.now s
+            → result ≡ machine.is_limit (version_of self.now.version) s limit error.0 }
     {
         if limit == 0 {
             return error.0 == QueueNo::NONE.0;
@@ -140,7 +154,8 @@ impl Judge {
 
     // Version 1 has no KILL.
     fn may_kill(&self, queue: QueueNo) -> bool
-        ensures { (s : State) (element : ℕ) → KnowsState self.now s → result ≡ machine.is_lawful (version_of self.now.version) s (Kill queue.0 element) }
+        ensures { (s : State) (element : ℕ) → KnowsState self.now s
+            → result ≡ machine.is_lawful (version_of self.now.version) s (Kill queue.0 element) }
     {
         match self.version {
             Version::One => false,
@@ -183,9 +198,12 @@ impl Judge {
     }
 
     fn define(&mut self, error: QueueNo, name: Name) -> Result<(), Fault>
-        ensures frame { self.new ≡ record self.old { names = self.new.names; errors = self.new.errors } }
-        ensures names { OnOk result ((n : List ℕ) → contains (pointwise nat_eq) self.new.names n ≡ cond (pointwise nat_eq name n) true (contains (pointwise nat_eq) self.old.names n)) }
-        ensures errors { OnOk result (self.new.errors.items ≡ self.old.errors.items ++ error.0 ∷ []) }
+        ensures frame { self.new
+            ≡ record self.old { names = self.new.names; errors = self.new.errors } }
+        ensures names { OnOk result ((n : List ℕ) → contains (pointwise nat_eq) self.new.names n
+            ≡ cond (pointwise nat_eq name n) true (contains (pointwise nat_eq) self.old.names n)) }
+        ensures errors { OnOk result
+            (self.new.errors.items ≡ self.old.errors.items ++ error.0 ∷ []) }
         ensures refused { IfErr result (λ e. e ≡ Resources) }
         ensures kept { IfErr result (λ e. KeepsStanding self.old self.new) }
     {

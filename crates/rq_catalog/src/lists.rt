@@ -1,6 +1,7 @@
 //! Lists by unit and by queue.
 
-ghost use Rattle.std.specs.Prelude.{◌≡◌, ◌==◌, ◌&&◌, ◌||◌, ◌<◌, ◌++◌, ℕ, [], ◌∷◌, length, OnOk, nat_eq, nat_lt, not, IfErr, if◌then◌else◌};
+ghost use Rattle.std.specs.Prelude.{◌≡◌, ◌==◌, ◌&&◌, ◌||◌, ◌<◌, ◌++◌, ℕ, [], ◌∷◌, length, OnOk};
+ghost use Rattle.std.specs.Prelude.{nat_eq, nat_lt, not, IfErr, if◌then◌else◌};
 ghost use Rattle.std.specs.List.{list_any, AllByRecursion};
 ghost use Rattle.indexmap.specs.IndexMap.{get};
 ghost use Rattle.rq_record.specs.declared.fault.Fault.TheVariants.{Resources};
@@ -18,7 +19,8 @@ pub(crate) fn engage(
     unit: u64,
     queue: u32,
 ) -> Result<(), Fault>
-    ensures engaged { OnOk result ((u q : ℕ) → is_engaged_in (get nat_eq engaged.new u) q ≡ (((unit == u) && (queue == q)) || is_engaged_in (get nat_eq engaged.old u) q)) }
+    ensures engaged { OnOk result ((u q : ℕ) → is_engaged_in (get nat_eq engaged.new u) q
+        ≡ (((unit == u) && (queue == q)) || is_engaged_in (get nat_eq engaged.old u) q)) }
     ensures refused { IfErr result (λ e. e ≡ Resources) }
 {
     match engaged.get_mut(&unit) {
@@ -39,7 +41,9 @@ pub(crate) fn touch(
     op: (u64, usize),
 ) -> Result<(), Fault>
     ensures len { length touching.new.items ≡ length touching.old.items }
-    ensures listed { OnOk result ((q : ℕ) → listed touching.new.items q ≡ (if (queue == q) && nat_lt q (length touching.old.items) then listed touching.old.items q ++ op ∷ [] else listed touching.old.items q)) }
+    ensures listed { OnOk result ((q : ℕ) → listed touching.new.items q
+        ≡ (if (queue == q) && nat_lt q (length touching.old.items)
+        then listed touching.old.items q ++ op ∷ [] else listed touching.old.items q)) }
     ensures refused { IfErr result (λ e. e ≡ Resources) }
 {
     if (queue as usize) < touching.len() {
@@ -55,7 +59,9 @@ pub(crate) fn touch_all(
     op: (u64, usize),
 ) -> Result<(), Fault>
     requires { (q : ℕ) → AllByRecursion (λ p. p.0 < op.0) (listed touching.old.items q) }
-    ensures listed { OnOk result ((q : ℕ) → listed touching.new.items q ≡ (if list_any (λ v. v == q) queues.now && nat_lt q (length touching.old.items) then listed touching.old.items q ++ op ∷ [] else listed touching.old.items q)) }
+    ensures listed { OnOk result ((q : ℕ) → listed touching.new.items q
+        ≡ (if list_any (λ v. v == q) queues.now && nat_lt q (length touching.old.items)
+        then listed touching.old.items q ++ op ∷ [] else listed touching.old.items q)) }
     ensures len { length touching.new.items ≡ length touching.old.items }
     ensures refused { IfErr result (λ e. e ≡ Resources) }
 {
@@ -85,7 +91,10 @@ fn touch_once(
     op: (u64, usize),
 ) -> Result<(), Fault>
     ensures len { length touching.new.items ≡ length touching.old.items }
-    ensures listed { OnOk result ((q : ℕ) → listed touching.new.items q ≡ (if (queue == q) && (nat_lt q (length touching.old.items) && not (ends_at op.0 (listed touching.old.items q))) then listed touching.old.items q ++ op ∷ [] else listed touching.old.items q)) }
+    ensures listed { OnOk result ((q : ℕ) →
+        listed touching.new.items q ≡ (if (queue == q) && (nat_lt q (length touching.old.items)
+        && not (ends_at op.0 (listed touching.old.items q)))
+        then listed touching.old.items q ++ op ∷ [] else listed touching.old.items q)) }
     ensures refused { IfErr result (λ e. e ≡ Resources) }
 {
     if is_last(touching, queue, op.0) {

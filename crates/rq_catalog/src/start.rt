@@ -1,6 +1,7 @@
 //! The catalogue of a state.
 
-ghost use Rattle.std.specs.Prelude.{◌≡◌, ℕ, ◌==◌, ◌&&◌, ◌||◌, ◌<◌, List, [], map, IfOk, IfErr, nat_eq, length, OnOk, Some, None, if◌then◌else◌};
+ghost use Rattle.std.specs.Prelude.{◌≡◌, ℕ, ◌==◌, ◌&&◌, ◌||◌, ◌<◌, List, [], map, IfOk, IfErr};
+ghost use Rattle.std.specs.Prelude.{nat_eq, length, OnOk, Some, None, if◌then◌else◌};
 ghost use Rattle.std.specs.List.{list_any};
 ghost use Rattle.std.specs.Cmp.Lexicographic.{pointwise};
 ghost use Rattle.indexmap.specs.IndexMap.{get, keys};
@@ -23,7 +24,8 @@ use rq_state::{Definition, Element, Mark, Note, Registrant, State};
 use std::alloc::Global;
 
 fn names_of(alloc: Global, definitions: &[Definition]) -> Result<IndexSet<Name>, Fault>
-    ensures names { IfOk result (λ names. (n : List ℕ) → contains (pointwise nat_eq) names n ≡ list_any (has_name n) definitions.now) }
+    ensures names { IfOk result (λ names. (n : List ℕ) →
+        contains (pointwise nat_eq) names n ≡ list_any (has_name n) definitions.now) }
     ensures refused { IfErr result (λ e. e ≡ Resources) }
 {
     let mut names = IndexSet::new(alloc);
@@ -45,7 +47,8 @@ fn errors_of(alloc: Global, definitions: &[Definition]) -> Result<Vec<u32>, Faul
 }
 
 fn registrants_of(alloc: Global, registrants: &[Registrant]) -> Result<IndexSet<(u32, Name)>, Fault>
-    ensures keys { IfOk result (λ keys. (k : ℕ × List ℕ) → contains key_eq keys k ≡ list_any (has_key k) registrants.now) }
+    ensures keys { IfOk result
+        (λ keys. (k : ℕ × List ℕ) → contains key_eq keys k ≡ list_any (has_key k) registrants.now) }
     ensures refused { IfErr result (λ e. e ≡ Resources) }
 {
     let mut keys = IndexSet::new(alloc);
@@ -57,7 +60,8 @@ fn registrants_of(alloc: Global, registrants: &[Registrant]) -> Result<IndexSet<
 
 fn outcomes_of(alloc: Global, units: &[UnitNo]) -> Result<IndexMap<u64, Outcome>, Fault>
     requires { Ordered (λ a b. a < b) (map unit_of units.now) }
-    ensures outcomes { IfOk result (λ outcomes. outcomes.entries ≡ all_open (map unit_of units.now)) }
+    ensures outcomes { IfOk result
+        (λ outcomes. outcomes.entries ≡ all_open (map unit_of units.now)) }
     ensures refused { IfErr result (λ e. e ≡ Resources) }
 {
     let mut outcomes = IndexMap::new(alloc);
@@ -68,7 +72,8 @@ fn outcomes_of(alloc: Global, units: &[UnitNo]) -> Result<IndexMap<u64, Outcome>
 }
 
 fn engaged_by_marks(alloc: Global, elements: &[Element]) -> Result<IndexMap<u64, Vec<u32>>, Fault>
-    ensures engaged { IfOk result (λ engaged. (u q : ℕ) → is_engaged_in (get nat_eq engaged u) q ≡ list_any (is_marked_at u q) elements.now) }
+    ensures engaged { IfOk result (λ engaged. (u q : ℕ) →
+        is_engaged_in (get nat_eq engaged u) q ≡ list_any (is_marked_at u q) elements.now) }
     ensures refused { IfErr result (λ e. e ≡ Resources) }
 {
     let mut engaged = IndexMap::new(alloc);
@@ -83,7 +88,8 @@ fn engage_by_mark(
     engaged: &mut IndexMap<u64, Vec<u32>>,
     element: &Element,
 ) -> Result<(), Fault>
-    ensures engaged { OnOk result ((u q : ℕ) → is_engaged_in (get nat_eq engaged.new u) q ≡ (is_marked_at u q element.now || is_engaged_in (get nat_eq engaged.old u) q)) }
+    ensures engaged { OnOk result ((u q : ℕ) → is_engaged_in (get nat_eq engaged.new u) q
+        ≡ (is_marked_at u q element.now || is_engaged_in (get nat_eq engaged.old u) q)) }
     ensures refused { IfErr result (λ e. e ≡ Resources) }
 {
     match element.mark {
@@ -98,7 +104,8 @@ fn engage_by_notes(
     engaged: &mut IndexMap<u64, Vec<u32>>,
     notes: &[Note],
 ) -> Result<(), Fault>
-    ensures engaged { OnOk result ((u q : ℕ) → is_engaged_in (get nat_eq engaged.new u) q ≡ (is_engaged_in (get nat_eq engaged.old u) q || list_any (is_noted_at u q) notes.now)) }
+    ensures engaged { OnOk result ((u q : ℕ) → is_engaged_in (get nat_eq engaged.new u) q
+        ≡ (is_engaged_in (get nat_eq engaged.old u) q || list_any (is_noted_at u q) notes.now)) }
     ensures refused { IfErr result (λ e. e ≡ Resources) }
 {
     for note in notes {
@@ -124,7 +131,8 @@ fn engaged_of(
     elements: &[Element],
     notes: &[Note],
 ) -> Result<IndexMap<u64, Vec<u32>>, Fault>
-    ensures engaged { IfOk result (λ engaged. (u q : ℕ) → is_engaged_in (get nat_eq engaged u) q ≡ (list_any (is_marked_at u q) elements.now || list_any (is_noted_at u q) notes.now)) }
+    ensures engaged { IfOk result (λ engaged. (u q : ℕ) → is_engaged_in (get nat_eq engaged u) q
+        ≡ (list_any (is_marked_at u q) elements.now || list_any (is_noted_at u q) notes.now)) }
     ensures refused { IfErr result (λ e. e ≡ Resources) }
 {
     let mut engaged = engaged_by_marks(alloc, elements)?;

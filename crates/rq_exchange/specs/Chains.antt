@@ -1,5 +1,6 @@
 -- The countdowns of the error queues, and the passes of a thread.
-use Rattle.std.specs.Prelude.{◌≡◌, ◌<◌, ℕ, List, [], ◌∷◌, length, map, All, slice_index_or, Option, Some, None}
+use Rattle.std.specs.Prelude.{◌≡◌, ◌<◌, ℕ, List, [], ◌∷◌, length, map, All, slice_index_or, Option}
+use Rattle.std.specs.Prelude.{Some, None}
 use Rattle.std.specs.Global.{Vec}
 use Rattle.rq_model.specs.Machine.{run}
 use Rattle.rq_model.specs.Queues as queues
@@ -8,7 +9,8 @@ use Rattle.rq_pool.specs.declared.countdown.Countdown.{Countdown}
 use Rattle.rq_pool.specs.declared.countdown.pass.Pass.{Pass}
 use Rattle.rq_pool.specs.declared.countdown.fits.Fits.{Ghosts}
 use Rattle.rq_pool.specs.Countdowns.Arrivals.{Settled}
-use Rattle.rq_pool.specs.Countdowns.Words.{IsPassOf, key_of, sources_of, passes_of, history_of, history_in}
+use Rattle.rq_pool.specs.Countdowns.Words.{IsPassOf, key_of, sources_of, passes_of, history_of}
+use Rattle.rq_pool.specs.Countdowns.Words.{history_in}
 use Rattle.rq_pool.specs.declared.countdown.arrival.Entry.{Entry}
 use Rattle.rq_exchange.specs.declared.chain.Chain.{Chain}
 use Rattle.rq_exchange.specs.declared.outboxes.Outbox.{Outbox}
@@ -20,7 +22,14 @@ use Rattle.rq_exchange.specs.Coverage.{Web, IsWeb, Hand}
 use Rattle.rq_exchange.specs.Links.{at}
 
 abbrev pub web_of : Job → Chain → Web
-web_of job chain = record { n = length job.definitions.now; error = λ q. at (errors_in job) q; sources = λ q. listed job.sources.now q; slot = λ q. at chain.slots.items q; count = length chain.countdowns.items; rank = λ q. at job.ranks.now q }
+web_of job chain = record {
+  n = length job.definitions.now;
+  error = λ q. at (errors_in job) q;
+  sources = λ q. listed job.sources.now q;
+  slot = λ q. at chain.slots.items q;
+  count = length chain.countdowns.items;
+  rank = λ q. at job.ranks.now q;
+}
 
 -- what left the sources of the queue
 abbrev pub due : Job → ℕ → List (List queues.Move)
@@ -32,12 +41,15 @@ AreBoxes job queue boxes = map (λ b. b.moves.items) boxes ≡ due job queue
 
 -- the countdown is that of the queue
 abbrev pub IsCountdownOf : Job → ℕ → Countdown Outbox Target → Type 0
-IsCountdownOf job queue c = (sources_of c ≡ length (listed job.sources.now queue)) × ((key_of c).due ≡ due job queue)
+IsCountdownOf job queue c = (sources_of c ≡ length (listed job.sources.now queue))
+    × ((key_of c).due ≡ due job queue)
 
 pub record IsChainOf (job : Job) (chain : Chain) : Type 0 where
   pub web : IsWeb (web_of job chain)
   pub slots : length chain.slots.items ≡ length job.definitions.now
-  pub keyed : (e : ℕ) (d : Countdown Outbox Target) → e < length job.definitions.now → 0 < length (listed job.sources.now e) → IsCountdownOf job e (slice_index_or chain.countdowns.items (at chain.slots.items e) d)
+  pub keyed : (e : ℕ) (d : Countdown Outbox Target) →
+      e < length job.definitions.now → 0 < length (listed job.sources.now e)
+      → IsCountdownOf job e (slice_index_or chain.countdowns.items (at chain.slots.items e) d)
 
 -- each countdown has as many passes
 abbrev pub HasPasses : Chain → ℕ → Type 0
@@ -49,7 +61,8 @@ IsBare job queue = (queue < length job.definitions.now) × (listed job.sources.n
 
 -- the part of the queue is the one after the run
 abbrev pub IsRedone : Job → Redone → Type 0
-IsRedone job r = (r.queue < length job.definitions.now) × (r.part ≡ queues.part_of (run job.state.now (records_of job)) r.queue)
+IsRedone job r = (r.queue < length job.definitions.now)
+    × (r.part ≡ queues.part_of (run job.state.now (records_of job)) r.queue)
 
 abbrev pub redone_in : List Redone → List ℕ
 redone_in = map (λ r. r.queue)
@@ -58,14 +71,17 @@ module _ {g : Ghosts Outbox Target} where
   -- one of each countdown
   pub record ArePasses (chain : Chain) (passes : List (Pass Outbox Target g)) : Type 0 where
     pub each : length passes ≡ length chain.countdowns.items
-    pub own : (k : ℕ) (d : Countdown Outbox Target) (p : Pass Outbox Target g) → k < length chain.countdowns.items → IsPassOf (slice_index_or chain.countdowns.items k d) (slice_index_or passes k p)
+    pub own : (k : ℕ) (d : Countdown Outbox Target) (p : Pass Outbox Target g) →
+        k < length chain.countdowns.items
+        → IsPassOf (slice_index_or chain.countdowns.items k d) (slice_index_or passes k p)
 
   abbrev pub diaries_of : List (Pass Outbox Target g) → List (List (Entry Outbox))
   diaries_of = map (λ p. history_of p)
 
   -- what a thread has to show
   abbrev pub hand_of : List ℕ → List Redone → List (Pass Outbox Target g) → Hand Outbox
-  hand_of starts done passes = record { starts = starts; redone = redone_in done; diaries = diaries_of passes }
+  hand_of starts done passes =
+      record { starts = starts; redone = redone_in done; diaries = diaries_of passes }
 
   -- all passes of the countdown
   abbrev pub IsColumn : Countdown Outbox Target → Vec (Pass Outbox Target g) → Type 0
@@ -73,7 +89,8 @@ module _ {g : Ghosts Outbox Target} where
 
   -- what is known of the countdown once it is closed with these passes
   abbrev pub IsSettled : Countdown Outbox Target → Vec (Pass Outbox Target g) → Type 0
-  IsSettled c column = (arrived : ℕ) × (home : List Outbox) × Settled (sources_of c) (history_in column.items) arrived home
+  IsSettled c column = (arrived : ℕ) × (home : List Outbox)
+      × Settled (sources_of c) (history_in column.items) arrived home
 
 -- the queue to begin next
 abbrev pub next_of : Option (ℕ × Vec Outbox) → List ℕ

@@ -21,7 +21,8 @@ redone_of c = c.redone
 abbrev pub redone_by : Course → ℕ → List ℕ
 redone_by c k = slice_index_or (redone_of c) k []
 
--- what the closed countdown of a queue tells: the arrivals of each thread, for the sources of the queue
+-- what the closed countdown of a queue tells: the arrivals of each thread, for the sources of the
+-- queue
 abbrev pub told_of : Course → ℕ → List (List (Entry Outbox))
 told_of c queue = slice_index_or (map histories_of c.closings.items) (at c.slots.items queue) []
 
@@ -38,16 +39,25 @@ pub record IsAlone (x : ℕ) (lists : List (List ℕ)) : Type 0 where
   pub place : ℕ
   pub within : place < length lists
   pub here : times x (slice_index_or lists place []) ≡ 1
-  pub nowhere_else : (k : ℕ) → k < length lists → k ≢ place → times x (slice_index_or lists k []) ≡ 0
+  pub nowhere_else : (k : ℕ) → k < length lists → k ≢ place
+      → times x (slice_index_or lists k []) ≡ 0
 
--- Each queue is redone by one thread, once. What leaves a queue is handed in by the thread that redid it, as often. An error queue is redone by the thread that was told Last, as often as it was told so; and all its sources have arrived, so that one thread was, once, and was given what left them all
+-- Each queue is redone by one thread, once. What leaves a queue is handed in by the thread that
+-- redid it, as often. An error queue is redone by the thread that was told Last, as often as it was
+-- told so; and all its sources have arrived, so that one thread was, once, and was given what left
+-- them all
 pub record StartsByLast (errors : List ℕ) (c : Course) : Type 0 where
   pub once : (x : ℕ) → x < length errors → IsAlone x (redone_of c)
-  pub handed_in : (x i k : ℕ) → x < length errors → i < length (naming errors x) → k < length (redone_of c) → length (arrivals_for i (told_to c k x)) ≡ times (at (naming errors x) i) (redone_by c k)
-  pub by_last : (x k : ℕ) → x < length errors → 0 < length (naming errors x) → k < length (redone_of c) → times x (redone_by c k) ≡ length (last_lists (told_to c k x))
-  pub settled : (x : ℕ) → x < length errors → 0 < length (naming errors x) → Settled (length (naming errors x)) (all_told c x) (length (naming errors x)) []
+  pub handed_in : (x i k : ℕ) → x < length errors
+      → i < length (naming errors x) → k < length (redone_of c)
+      → length (arrivals_for i (told_to c k x)) ≡ times (at (naming errors x) i) (redone_by c k)
+  pub by_last : (x k : ℕ) → x < length errors → 0 < length (naming errors x)
+      → k < length (redone_of c) → times x (redone_by c k) ≡ length (last_lists (told_to c k x))
+  pub settled : (x : ℕ) → x < length errors → 0 < length (naming errors x)
+      → Settled (length (naming errors x)) (all_told c x) (length (naming errors x)) []
 
 -- the course tells which queues the threads redid, and what the passes that they keep tell
 pub record Recounts (chain : Chain) (kept : List Kept) (c : Course) : Type 0 where
   pub redone : redone_of c ≡ map (λ k. redone_in k.done.items) kept
-  pub told : (x : ℕ) → at chain.slots.items x < length chain.countdowns.items → told_of c x ≡ map (λ k. told_at (diaries_of k.passes.items) (at chain.slots.items x)) kept
+  pub told : (x : ℕ) → at chain.slots.items x < length chain.countdowns.items
+      → told_of c x ≡ map (λ k. told_at (diaries_of k.passes.items) (at chain.slots.items x)) kept

@@ -1,5 +1,6 @@
 -- How the countdowns are opened, queue by queue.
-use Rattle.std.specs.Prelude.{◌≡◌, ◌⊎◌, ◌<◌, ◌≤◌, ◌++◌, ℕ, List, [], ◌∷◌, length, All, slice_index_or}
+use Rattle.std.specs.Prelude.{◌≡◌, ◌⊎◌, ◌<◌, ◌≤◌, ◌++◌, ℕ, List, [], ◌∷◌, length, All}
+use Rattle.std.specs.Prelude.{slice_index_or}
 use Rattle.std.specs.Global.{Vec}
 use Rattle.rq_state.specs.Orders.{listed}
 use Rattle.rq_pool.specs.declared.countdown.Countdown.{Countdown}
@@ -14,14 +15,18 @@ use Rattle.rq_exchange.specs.Links.{at}
 
 module _ {g : Ghosts Outbox Target} where
   -- all passes of the countdown, so many; nobody has arrived with one
-  pub record IsFreshColumn (workers : ℕ) (c : Countdown Outbox Target) (column : Vec (Pass Outbox Target g)) : Type 0 where
+  pub record IsFreshColumn (workers : ℕ) (c : Countdown Outbox Target)
+      (column : Vec (Pass Outbox Target g)) : Type 0 where
     pub own : All (λ p. IsPassOf c p) column.items
     pub count : length column.items ≡ workers
     pub passes : passes_of c ≡ workers
     pub blank : All (λ p. history_of p ≡ []) column.items
 
   -- a countdown more, where the queue has sources, and its passes
-  pub record AddsCountdown (job : Job) (workers queue : ℕ) (countdowns : List (Countdown Outbox Target)) (columns : List (Vec (Pass Outbox Target g))) (slot : ℕ) (after : List (Countdown Outbox Target)) (more : List (Vec (Pass Outbox Target g))) : Type 0 where
+  pub record AddsCountdown (job : Job) (workers queue : ℕ)
+      (countdowns : List (Countdown Outbox Target)) (columns : List (Vec (Pass Outbox Target g)))
+      (slot : ℕ) (after : List (Countdown Outbox Target)) (more : List (Vec (Pass Outbox Target g)))
+      : Type 0 where
     pub countdown : Countdown Outbox Target
     pub column : Vec (Pass Outbox Target g)
     pub after_is : after ≡ countdowns ++ countdown ∷ []
@@ -32,23 +37,39 @@ module _ {g : Ghosts Outbox Target} where
     pub fresh : IsFreshColumn workers countdown column
 
   -- nothing is opened for a queue without sources
-  pub record Stays (job : Job) (queue : ℕ) (countdowns : List (Countdown Outbox Target)) (columns : List (Vec (Pass Outbox Target g))) (slot : ℕ) (after : List (Countdown Outbox Target)) (more : List (Vec (Pass Outbox Target g))) : Type 0 where
+  pub record Stays (job : Job) (queue : ℕ) (countdowns : List (Countdown Outbox Target))
+      (columns : List (Vec (Pass Outbox Target g))) (slot : ℕ)
+      (after : List (Countdown Outbox Target)) (more : List (Vec (Pass Outbox Target g)))
+      : Type 0 where
     pub after_is : after ≡ countdowns
     pub more_is : more ≡ columns
     pub slot_is : slot ≡ length job.definitions.now
     pub bare : length (listed job.sources.now queue) ≡ 0
 
   -- the countdown of a queue is opened, or it needs none
-  abbrev pub Opened : Job → ℕ → ℕ → List (Countdown Outbox Target) → List (Vec (Pass Outbox Target g)) → ℕ → List (Countdown Outbox Target) → List (Vec (Pass Outbox Target g)) → Type 0
-  Opened job workers queue countdowns columns slot after more = Stays job queue countdowns columns slot after more ⊎ AddsCountdown job workers queue countdowns columns slot after more
+  abbrev pub Opened : Job → ℕ → ℕ → List (Countdown Outbox Target)
+      → List (Vec (Pass Outbox Target g)) → ℕ → List (Countdown Outbox Target)
+      → List (Vec (Pass Outbox Target g)) → Type 0
+  Opened job workers queue countdowns columns slot after more =
+      Stays job queue countdowns columns slot after more
+      ⊎ AddsCountdown job workers queue countdowns columns slot after more
 
   -- the countdowns of the first m queues are opened, each where its slot says
-  pub record AreOpened (job : Job) (workers m : ℕ) (slots : List ℕ) (countdowns : List (Countdown Outbox Target)) (columns : List (Vec (Pass Outbox Target g))) : Type 0 where
+  pub record AreOpened (job : Job) (workers m : ℕ) (slots : List ℕ)
+      (countdowns : List (Countdown Outbox Target)) (columns : List (Vec (Pass Outbox Target g)))
+      : Type 0 where
     pub long : length slots ≡ m
     pub each : length columns ≡ length countdowns
     pub few : length countdowns ≤ m
-    pub bare : (x : ℕ) → x < m → length (listed job.sources.now x) ≡ 0 → at slots x ≡ length job.definitions.now
-    pub fed : (x : ℕ) → x < m → 0 < length (listed job.sources.now x) → at slots x < length countdowns
-    pub apart : (x y : ℕ) → x < m → y < m → 0 < length (listed job.sources.now x) → 0 < length (listed job.sources.now y) → at slots y ≡ at slots x → y ≡ x
-    pub keyed : (x : ℕ) (d : Countdown Outbox Target) → x < m → 0 < length (listed job.sources.now x) → IsCountdownOf job x (slice_index_or countdowns (at slots x) d)
-    pub fresh : (k : ℕ) (d : Countdown Outbox Target) (e : Vec (Pass Outbox Target g)) → k < length countdowns → IsFreshColumn workers (slice_index_or countdowns k d) (slice_index_or columns k e)
+    pub bare : (x : ℕ) → x < m → length (listed job.sources.now x) ≡ 0
+        → at slots x ≡ length job.definitions.now
+    pub fed : (x : ℕ) → x < m → 0 < length (listed job.sources.now x)
+        → at slots x < length countdowns
+    pub apart : (x y : ℕ) → x < m → y < m → 0 < length (listed job.sources.now x)
+        → 0 < length (listed job.sources.now y) → at slots y ≡ at slots x → y ≡ x
+    pub keyed : (x : ℕ) (d : Countdown Outbox Target) →
+        x < m → 0 < length (listed job.sources.now x)
+        → IsCountdownOf job x (slice_index_or countdowns (at slots x) d)
+    pub fresh : (k : ℕ) (d : Countdown Outbox Target) (e : Vec (Pass Outbox Target g)) →
+        k < length countdowns
+        → IsFreshColumn workers (slice_index_or countdowns k d) (slice_index_or columns k e)

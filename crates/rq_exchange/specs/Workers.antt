@@ -1,5 +1,6 @@
 -- What the workers hand back.
-use Rattle.std.specs.Prelude.{◌≡◌, ◌<◌, ℕ, List, [], ◌∷◌, length, map, All, ⊤, slice_index_or, Result, Ok, Err}
+use Rattle.std.specs.Prelude.{◌≡◌, ◌<◌, ℕ, List, [], ◌∷◌, length, map, All, ⊤, slice_index_or}
+use Rattle.std.specs.Prelude.{Result, Ok, Err}
 use Rattle.rq_record.specs.declared.fault.Fault.{Fault}
 use Rattle.rq_record.specs.declared.fault.Fault.TheVariants.{Resources}
 use Rattle.rq_pool.specs.declared.room.Room.{Room}
@@ -23,7 +24,8 @@ use Rattle.rq_pool.specs.declared.countdown.pass.Pass.{Pass}
 use Rattle.rq_exchange.specs.Chains.{web_of, ArePasses, IsRedone, hand_of, diaries_of}
 use Rattle.rq_exchange.specs.Coverage.{HasFollowed, told_at}
 
--- the thread has a pass of each countdown, its parts are right, and its passes tell of the queues that it began with, these
+-- the thread has a pass of each countdown, its parts are right, and its passes tell of the queues
+-- that it began with, these
 pub record HasKept (job : Job) (chain : Chain) (starts : List ℕ) (k : Kept) : Type 0 where
   pub passes : ArePasses chain k.passes.items
   pub done : All (IsRedone job) k.done.items
@@ -46,7 +48,8 @@ AllKeep job chain (s ∷ ss) [] = ⊥
 AllKeep job chain (s ∷ ss) (k ∷ ks) = HasKept job chain s k × AllKeep job chain ss ks
 
 -- all seats, and beside each what its thread keeps of what the seat took
-pub record AreHandedBack (job : Job) (chain : Chain) (room : Room) (count : ℕ) (back : List Seat) (all : List Kept) : Type 0 where
+pub record AreHandedBack (job : Job) (chain : Chain) (room : Room)
+    (count : ℕ) (back : List Seat) (all : List Kept) : Type 0 where
   pub each : length back ≡ count
   pub many : length all ≡ count
   pub seats : All (IsSeatOf room) back
@@ -54,7 +57,8 @@ pub record AreHandedBack (job : Job) (chain : Chain) (room : Room) (count : ℕ)
 
 -- where all workers worked so, their seats and what they keep are handed back
 abbrev pub HandsBack : List (Result Ended Fault) → List Seat → List Kept → Type 0
-HandsBack ended back all = (job : Job) (chain : Chain) (room : Room) → All (Works job chain room) ended → AreHandedBack job chain room (length ended) back all
+HandsBack ended back all = (job : Job) (chain : Chain) (room : Room) →
+    All (Works job chain room) ended → AreHandedBack job chain room (length ended) back all
 
 -- a seat that has taken nothing
 abbrev pub IsFreshSeat : Room → Seat → Type 0
@@ -66,11 +70,14 @@ AreFreshPasses chain ps = ArePasses chain ps.items × All (λ p. history_of p �
 
 -- a worker that has not begun
 abbrev pub IsFreshWorker : Chain → Room → Worker → Type 0
-IsFreshWorker chain room w = IsSeatOf room w.seat × (taken_of w.seat ≡ []) × ArePasses chain w.passes.items × All (λ p. history_of p ≡ []) w.passes.items
+IsFreshWorker chain room w = IsSeatOf room w.seat × (taken_of w.seat ≡ [])
+    × ArePasses chain w.passes.items × All (λ p. history_of p ≡ []) w.passes.items
 
 -- where the seats and the passes are fresh, the workers that they make are
-abbrev pub Pairs : {g : Ghosts Outbox Target} → List Seat → List (Vec (Pass Outbox Target g)) → List Worker → Type 0
-Pairs seats rows workers = (chain : Chain) (room : Room) → All (IsFreshSeat room) seats → All (AreFreshPasses chain) rows → All (IsFreshWorker chain room) workers
+abbrev pub Pairs : {g : Ghosts Outbox Target} → List Seat
+    → List (Vec (Pass Outbox Target g)) → List Worker → Type 0
+Pairs seats rows workers = (chain : Chain) (room : Room) → All (IsFreshSeat room) seats
+    → All (AreFreshPasses chain) rows → All (IsFreshWorker chain room) workers
 
 -- the threads began with the tasks, each with its own
 pub record HaveKept (job : Job) (chain : Chain) (tasks : List ℕ) (all : List Kept) : Type 0 where
@@ -80,4 +87,7 @@ pub record HaveKept (job : Job) (chain : Chain) (tasks : List ℕ) (all : List K
 
 -- each countdown is closed with what all threads' passes tell of it
 abbrev pub AreSettled : Chain → List Kept → Type 0
-AreSettled chain all = (c : ℕ) (d : Countdown Outbox Target) → c < length chain.countdowns.items → (arrived : ℕ) × (home : List Outbox) × Settled (sources_of (slice_index_or chain.countdowns.items c d)) (flat_map (λ k. told_at (diaries_of k.passes.items) c) all) arrived home
+AreSettled chain all = (c : ℕ) (d : Countdown Outbox Target) → c < length chain.countdowns.items
+    → (arrived : ℕ) × (home : List Outbox)
+    × Settled (sources_of (slice_index_or chain.countdowns.items c d))
+    (flat_map (λ k. told_at (diaries_of k.passes.items) c) all) arrived home

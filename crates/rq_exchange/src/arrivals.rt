@@ -29,7 +29,8 @@ impl MergePredicate<Move> for Earlier {
 /// The moves of all lists, each in order, in one order.
 pub(crate) fn merged(alloc: Global, lists: Vec<Vec<Move>>) -> Result<Vec<Move>, Fault>
     requires { All (λ l. IsSortedBy earlier l.items) lists.items }
-    ensures permutation { IfOk result (λ v. IsPermutation (flat_map (λ l. l.items) lists.items) v.items) }
+    ensures permutation { IfOk result
+        (λ v. IsPermutation (flat_map (λ l. l.items) lists.items) v.items) }
     ensures order { IfOk result (λ v. IsSortedBy earlier v.items) }
     ensures refused { IfErr result (λ e. e ≡ Resources) }
 {
@@ -39,7 +40,8 @@ pub(crate) fn merged(alloc: Global, lists: Vec<Vec<Move>>) -> Result<Vec<Move>, 
 
 /// What was handed in, without its boxes.
 pub(crate) fn opened(alloc: Global, boxes: Vec<Outbox>) -> Result<Vec<Vec<Move>>, Fault>
-    ensures lists { IfOk result (λ v. map (λ l. l.items) v.items ≡ map (λ b. b.moves.items) boxes.items) }
+    ensures lists { IfOk result
+        (λ v. map (λ l. l.items) v.items ≡ map (λ b. b.moves.items) boxes.items) }
     ensures refused { IfErr result (λ e. e ≡ Resources) }
 {
     let mut lists = Vec::with_capacity(alloc, boxes.len())?;

@@ -4,7 +4,8 @@ ghost use Rattle.std.specs.Prelude.{◌≡◌, ◌<◌, ◌≤◌, [], length, A
 ghost use Rattle.rq_record.specs.declared.fault.Fault.TheVariants.{Resources};
 ghost use Rattle.rq_model.specs.Queues as queues;
 ghost use Rattle.rq_pool.specs.Countdowns.Words.{history_of};
-ghost use Rattle.rq_exchange.specs.Chains.{web_of, due, AreBoxes, IsChainOf, ArePasses, HasPasses, diaries_of};
+ghost use Rattle.rq_exchange.specs.Chains.{web_of, due, AreBoxes, IsChainOf, ArePasses, HasPasses};
+ghost use Rattle.rq_exchange.specs.Chains.{diaries_of};
 ghost use Rattle.rq_exchange.specs.Openings.{Opened};
 ghost use Rattle.rq_exchange.specs.Coverage.{HandsOn};
 ghost use Rattle.rq_exchange.specs.Jobs.{IsJob, records_of, errors_in};
@@ -21,7 +22,8 @@ use rq_state::State;
 use std::alloc::Global;
 use std::collections::LinkedList;
 
-/// A countdown for each queue that has sources, and where each queue's countdown stands: past the last where it has none.
+/// A countdown for each queue that has sources, and where each queue's countdown stands: past the
+/// last where it has none.
 #[derive(Drop)]
 pub(crate) struct Chain {
     pub countdowns: Vec<Countdown<Outbox>>,
@@ -29,7 +31,8 @@ pub(crate) struct Chain {
 }
 
 impl Chain {
-    /// Hands what left a queue to its error queue. Who is the last to do so is given what left all its sources.
+    /// Hands what left a queue to its error queue. Who is the last to do so is given what left all
+    /// its sources.
     pub(crate) fn hand_on(
         &self,
         job: &Job,
@@ -41,11 +44,13 @@ impl Chain {
         requires job { IsJob job.now }
         requires chain { IsChainOf job.now self.now }
         requires passes { ArePasses self.now passes.old }
-        requires queue { (queue < length job.now.definitions.now) × (error ≡ at (errors_in job.now) queue) × (error < length job.now.definitions.now) }
+        requires queue { (queue < length job.now.definitions.now)
+            × (error ≡ at (errors_in job.now) queue) × (error < length job.now.definitions.now) }
         requires moves { moves.items ≡ queues.moves job.now.state.now (records_of job.now) queue }
         ensures passes { ArePasses self.now passes.new }
         ensures boxes { IfSome result (λ b. AreBoxes job.now error b.items) }
-        ensures tells { HandsOn (web_of job.now self.now) queue error result (diaries_of passes.old) (diaries_of passes.new) }
+        ensures tells { HandsOn (web_of job.now self.now) queue error result
+            (diaries_of passes.old) (diaries_of passes.new) }
     {
         let slot = self.slots[error as usize] as usize;
         let rank = job.ranks[queue as usize];
@@ -75,7 +80,8 @@ impl<'a> Listing<Aim<'a>, LinkedList<Move>> for Due {
     ghost use Rattle.rq_model.specs.Queues as queues;
     ghost use Rattle.rq_record.specs.Views.{record_of};
 
-    ghost list = { λ a. map (queues.moves a.state.now (map record_of a.records.now)) a.sources.now };
+    ghost list = { λ a. map
+        (queues.moves a.state.now (map record_of a.records.now)) a.sources.now };
 }
 
 /// The key of the countdown of a queue.
@@ -92,7 +98,8 @@ fn target_of(job: &Job, queue: u32) -> Target
     }
 }
 
-/// Opens the countdown of a queue that has sources, and answers where it stands; past the last where the queue has none.
+/// Opens the countdown of a queue that has sources, and answers where it stands; past the last
+/// where the queue has none.
 fn open_one(
     alloc: Global,
     job: &Job,
@@ -105,7 +112,8 @@ fn open_one(
     requires workers { (0 < workers) × (workers ≤ 64) }
     requires queue { queue < length job.now.definitions.now }
     requires few { length countdowns.old.items ≤ 4096 }
-    ensures opened { IfOk result (λ slot. Opened job.now workers queue countdowns.old.items columns.old.items slot countdowns.new.items columns.new.items) }
+    ensures opened { IfOk result (λ slot. Opened job.now workers queue countdowns.old.items
+        columns.old.items slot countdowns.new.items columns.new.items) }
     ensures refused { IfErr result (λ e. e ≡ Resources) }
 {
     let sources = job.sources_of(queue).len();
@@ -132,7 +140,8 @@ impl Chain {
         ensures chain { IfOk result (λ r. IsChainOf job.now r.0) }
         ensures passes { IfOk result (λ r. HasPasses r.0 workers) }
         ensures count { IfOk result (λ r. length r.1.items ≡ workers) }
-        ensures rows { IfOk result (λ r. All (λ ps. ArePasses r.0 ps.items × All (λ p. history_of p ≡ []) ps.items) r.1.items) }
+        ensures rows { IfOk result (λ r. All
+            (λ ps. ArePasses r.0 ps.items × All (λ p. history_of p ≡ []) ps.items) r.1.items) }
         ensures refused { IfErr result (λ e. e ≡ Resources) }
     {
         let mut countdowns = Vec::new(alloc);

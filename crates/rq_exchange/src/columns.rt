@@ -1,6 +1,7 @@
 //! Rows turned into columns.
 
-ghost use Rattle.std.specs.Prelude.{◌≡◌, ◌<◌, ◌++◌, ◌∷◌, [], ℕ, length, map, All, IfOk, IfErr, OnOk, slice_index_or};
+ghost use Rattle.std.specs.Prelude.{◌≡◌, ◌<◌, ◌++◌, ◌∷◌, [], ℕ, length, map, All, IfOk, IfErr};
+ghost use Rattle.std.specs.Prelude.{OnOk, slice_index_or};
 ghost use Rattle.rq_state.specs.Orders.{listed};
 ghost use Rattle.rq_record.specs.declared.fault.Fault.TheVariants.{Resources};
 
@@ -24,7 +25,9 @@ pub(crate) fn bare<T: Drop>(alloc: Global, count: usize) -> Result<Vec<Vec<T>>, 
 fn spread<T: Drop>(columns: &mut Vec<Vec<T>>, row: Vec<T>) -> Result<(), Fault>
     requires { length row.items ≡ length columns.old.items }
     ensures len { length columns.new.items ≡ length columns.old.items }
-    ensures spread { OnOk result ((k : ℕ) (d e : _) (x : T) → k < length columns.old.items → (slice_index_or columns.new.items k d).items ≡ (slice_index_or columns.old.items k e).items ++ slice_index_or row.items k x ∷ []) }
+    ensures spread { OnOk result ((k : ℕ) (d e : _) (x : T) → k < length columns.old.items
+        → (slice_index_or columns.new.items k d).items
+        ≡ (slice_index_or columns.old.items k e).items ++ slice_index_or row.items k x ∷ []) }
     ensures refused { IfErr result (λ e. e ≡ Resources) }
 {
     let mut row = row;
@@ -43,8 +46,10 @@ pub(crate) fn columns<T: Drop>(
 ) -> Result<Vec<Vec<T>>, Fault>
     requires { All (λ r. length r.items ≡ count) rows.items }
     ensures len { IfOk result (λ cs. length cs.items ≡ count) }
-    ensures long { IfOk result (λ cs. (k : ℕ) (d : _) → k < count → length (slice_index_or cs.items k d).items ≡ length rows.items) }
-    ensures columns { IfOk result (λ cs. (k : ℕ) (d : _) (x : T) → k < count → (slice_index_or cs.items k d).items ≡ map (λ r. slice_index_or r.items k x) rows.items) }
+    ensures long { IfOk result (λ cs. (k : ℕ) (d : _) → k < count
+        → length (slice_index_or cs.items k d).items ≡ length rows.items) }
+    ensures columns { IfOk result (λ cs. (k : ℕ) (d : _) (x : T) → k < count
+        → (slice_index_or cs.items k d).items ≡ map (λ r. slice_index_or r.items k x) rows.items) }
     ensures refused { IfErr result (λ e. e ≡ Resources) }
 {
     let mut columns = bare(alloc, count)?;

@@ -9,8 +9,9 @@ use rq_pool::Closing;
 use std::alloc::Global;
 use std::collections::LinkedList;
 
-/// How a replay went: which queues each thread redid, and what the countdown of each error queue told each thread. The
-/// latter is what the countdowns answered at their close; nothing but a countdown makes a closing.
+/// How a replay went: which queues each thread redid, and what the countdown of each error queue
+/// told each thread. The latter is what the countdowns answered at their close; nothing but a
+/// countdown makes a closing.
 #[derive(Drop)]
 pub struct Course {
     closings: Vec<Closing<Outbox>>,
@@ -40,7 +41,8 @@ impl Course {
         }
     }
 
-    /// The course of the threads that redid these, each its own, with the closed countdowns and where each queue's stands.
+    /// The course of the threads that redid these, each its own, with the closed countdowns and
+    /// where each queue's stands.
     pub(crate) fn of(
         closings: Vec<Closing<Outbox>>,
         slots: Vec<u32>,

@@ -1,4 +1,5 @@
-//! The workers: each takes queues without sources from the room, and follows each as far as it leads.
+//! The workers: each takes queues without sources from the room, and follows each as far as it
+//! leads.
 
 ghost use Rattle.std.specs.Prelude.{◌≡◌, ◌<◌, ◌≤◌, ◌++◌, [], ℕ, List, length, All, IfOk, IfErr};
 ghost use Rattle.rq_pool.specs.declared.room.Room.{Room as PoolRoom};
@@ -100,7 +101,10 @@ fn finish<G: Gate>(
     requires bare { (x : ℕ) → 0 < times x left.now → IsBare job.now x }
     ensures passes { IfOk result (λ _. ArePasses chain.now kept.new.passes.items) }
     ensures done { IfOk result (λ _. All (IsRedone job.now) kept.new.done.items) }
-    ensures follows { IfOk result (λ _. (starts : List ℕ) → HasFollowed (web_of job.now chain.now) (hand_of starts kept.old.done.items kept.old.passes.items) → HasFollowed (web_of job.now chain.now) (hand_of (starts ++ left.now) kept.new.done.items kept.new.passes.items)) }
+    ensures follows { IfOk result (λ _. (starts : List ℕ) → HasFollowed (web_of job.now chain.now)
+        (hand_of starts kept.old.done.items kept.old.passes.items)
+        → HasFollowed (web_of job.now chain.now)
+        (hand_of (starts ++ left.now) kept.new.done.items kept.new.passes.items)) }
     ensures refused { IfErr result (λ e. e ≡ Resources) }
 {
     let Kept { passes, done } = kept;
@@ -124,7 +128,8 @@ fn run_seats<R: Threads + Sync, G: Gate + Sync>(
     requires chain { IsChainOf job.now chain.now }
     requires workers { All (IsFreshWorker chain.now room.now) workers.items }
     requires bare { (x : ℕ) → 0 < times_in x (deal_of room.now) → IsBare job.now x }
-    ensures { IfOk result (λ v. (length v.items ≡ length workers.items) × All (Works job.now chain.now room.now) v.items) }
+    ensures { IfOk result (λ v. (length v.items ≡ length workers.items)
+        × All (Works job.now chain.now room.now) v.items) }
 {
     thread::map_vec(
         rt,
@@ -165,7 +170,8 @@ fn handed_back(
     ended: Vec<Result<Ended, Fault>>,
 ) -> Result<(Vec<Seat>, Vec<Kept>), Fault>
     ensures back { IfOk result (λ r. HandsBack ended.items r.0.items r.1.items) }
-    ensures refused { (job : GhostJob) (chain : GhostChain) (room : PoolRoom) → All (Works job chain room) ended.items → IfErr result (λ e. e ≡ Resources) }
+    ensures refused { (job : GhostJob) (chain : GhostChain) (room : PoolRoom) →
+        All (Works job chain room) ended.items → IfErr result (λ e. e ≡ Resources) }
 {
     let mut seats = Vec::new(alloc);
     let mut all = Vec::new(alloc);
@@ -190,7 +196,8 @@ pub(crate) fn all_kept<R: Threads + Sync, G: Gate + Sync>(
     requires job { IsJob job.now }
     requires chain { IsChainOf job.now chain.now }
     requires count { (0 < length rows.items) × (length rows.items ≤ 64) }
-    requires rows { All (λ r. ArePasses chain.now r.items × All (λ p. history_of p ≡ []) r.items) rows.items }
+    requires rows { All
+        (λ r. ArePasses chain.now r.items × All (λ p. history_of p ≡ []) r.items) rows.items }
     requires tasks { AreBare job.now.sources.now (length job.now.sources.now) tasks.now }
     ensures kept { IfOk result (λ v. HaveKept job.now chain.now tasks.now v.items) }
     ensures count { IfOk result (λ v. length v.items ≡ length rows.items) }

@@ -28,7 +28,8 @@ pub(crate) fn tasks_of(alloc: Global, sources: &[Vec<u32>]) -> Result<Vec<u32>, 
 pub(crate) fn deal(alloc: Global, workers: usize, tasks: &[u32]) -> Result<Vec<Vec<u32>>, Fault>
     requires { 0 < workers }
     ensures count { IfOk result (λ v. vec_len v ≡ workers) }
-    ensures deal { IfOk result (λ v. (x : ℕ) → times_in x (map vec_items v.items) ≡ times x tasks.now) }
+    ensures deal { IfOk result
+        (λ v. (x : ℕ) → times_in x (map vec_items v.items) ≡ times x tasks.now) }
     ensures size { IfOk result (λ v. size (map vec_items v.items) ≡ length tasks.now) }
     ensures refused { IfErr result (λ e. e ≡ Resources) }
 {

@@ -1,9 +1,12 @@
-//! What a thread does: it redoes a queue, and hands on what left it. Who hands on as the last redoes the error queue next.
+//! What a thread does: it redoes a queue, and hands on what left it. Who hands on as the last
+//! redoes the error queue next.
 
-ghost use Rattle.std.specs.Prelude.{◌≡◌, ◌<◌, ◌++◌, ◌∷◌, [], ℕ, List, length, All, IfOk, IfErr, IfSome};
+ghost use Rattle.std.specs.Prelude.{◌≡◌, ◌<◌, ◌++◌, ◌∷◌, [], ℕ, List, length, All, IfOk, IfErr};
+ghost use Rattle.std.specs.Prelude.{IfSome};
 ghost use Rattle.rq_record.specs.declared.fault.Fault.TheVariants.{Resources};
 ghost use Rattle.rq_state.specs.Orders.{listed};
-ghost use Rattle.rq_exchange.specs.Chains.{web_of, AreBoxes, IsChainOf, ArePasses, IsRedone, redone_in, diaries_of, hand_of, next_of};
+ghost use Rattle.rq_exchange.specs.Chains.{web_of, AreBoxes, IsChainOf, ArePasses, IsRedone};
+ghost use Rattle.rq_exchange.specs.Chains.{redone_in, diaries_of, hand_of, next_of};
 ghost use Rattle.rq_exchange.specs.Coverage.{StepsOn, HasFollowed};
 ghost use Rattle.rq_exchange.specs.Jobs.{IsJob};
 
@@ -14,7 +17,8 @@ use rq_pool::{Gate, Pass};
 use rq_record::Fault;
 use std::alloc::Global;
 
-/// Redoes a queue and hands on what left it. Answers the queue to redo next, with what its sources handed in.
+/// Redoes a queue and hands on what left it. Answers the queue to redo next, with what its sources
+/// handed in.
 fn step<G: Gate>(
     alloc: Global,
     job: &Job,
@@ -31,9 +35,13 @@ fn step<G: Gate>(
     requires defined { queue < length job.now.definitions.now }
     requires boxes { AreBoxes job.now queue boxes.items }
     ensures passes { IfOk result (λ _. ArePasses chain.now passes.new) }
-    ensures done { IfOk result (λ _. All (IsRedone job.now) done.old.items → All (IsRedone job.now) done.new.items) }
-    ensures next { IfOk result (λ o. IfSome o (λ r. (r.0 < queue) × AreBoxes job.now r.0 r.1.items)) }
-    ensures tells { IfOk result (λ o. StepsOn (web_of job.now chain.now) queue (redone_in done.old.items) (diaries_of passes.old) (redone_in done.new.items) (diaries_of passes.new) (next_of o)) }
+    ensures done { IfOk result
+        (λ _. All (IsRedone job.now) done.old.items → All (IsRedone job.now) done.new.items) }
+    ensures next { IfOk result
+        (λ o. IfSome o (λ r. (r.0 < queue) × AreBoxes job.now r.0 r.1.items)) }
+    ensures tells { IfOk result
+        (λ o. StepsOn (web_of job.now chain.now) queue (redone_in done.old.items)
+        (diaries_of passes.old) (redone_in done.new.items) (diaries_of passes.new) (next_of o)) }
     ensures refused { IfErr result (λ e. e ≡ Resources) }
 {
     gate.enter(queue);
@@ -49,7 +57,8 @@ fn step<G: Gate>(
     }
 }
 
-/// Redoes a queue without sources, and then each error queue that was waiting for this thread alone.
+/// Redoes a queue without sources, and then each error queue that was waiting for this thread
+/// alone.
 pub(crate) fn follow<G: Gate>(
     alloc: Global,
     job: &Job,
@@ -62,10 +71,15 @@ pub(crate) fn follow<G: Gate>(
     requires job { IsJob job.now }
     requires chain { IsChainOf job.now chain.now }
     requires passes { ArePasses chain.now passes.old }
-    requires start { (start < length job.now.definitions.now) × (listed job.now.sources.now start ≡ []) }
+    requires start { (start < length job.now.definitions.now)
+        × (listed job.now.sources.now start ≡ []) }
     ensures passes { IfOk result (λ _. ArePasses chain.now passes.new) }
-    ensures done { IfOk result (λ _. All (IsRedone job.now) done.old.items → All (IsRedone job.now) done.new.items) }
-    ensures follows { IfOk result (λ _. (starts : List ℕ) → HasFollowed (web_of job.now chain.now) (hand_of starts done.old.items passes.old) → HasFollowed (web_of job.now chain.now) (hand_of (starts ++ start ∷ []) done.new.items passes.new)) }
+    ensures done { IfOk result
+        (λ _. All (IsRedone job.now) done.old.items → All (IsRedone job.now) done.new.items) }
+    ensures follows { IfOk result (λ _. (starts : List ℕ) →
+        HasFollowed (web_of job.now chain.now) (hand_of starts done.old.items passes.old)
+        → HasFollowed (web_of job.now chain.now)
+        (hand_of (starts ++ start ∷ []) done.new.items passes.new)) }
     ensures refused { IfErr result (λ e. e ≡ Resources) }
 {
     let mut queue = start;

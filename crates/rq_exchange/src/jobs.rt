@@ -38,7 +38,8 @@ fn ops_of<'a>(
     touching: &[(u64, usize)],
 ) -> Result<Vec<Op<'a>>, Fault>
     requires { All (λ p. p.1 < length records.now) touching.now }
-    ensures ops { IfOk result (λ v. (d : ModelRecord) → v.items ≡ map (op_again (map record_of records.now) d) touching.now) }
+    ensures ops { IfOk result (λ v. (d : ModelRecord) →
+        v.items ≡ map (op_again (map record_of records.now) d) touching.now) }
     ensures refused { IfErr result (λ e. e ≡ Resources) }
 {
     let mut ops = Vec::with_capacity(alloc, touching.len())?;
@@ -66,7 +67,8 @@ impl Job<'_> {
     fn part_before(&self, alloc: Global, queue: u32) -> Result<Part, Fault>
         requires job { IsJob self.now }
         requires defined { queue < length self.now.definitions.now }
-        ensures part { IfOk result (λ p. p ≡ queues.part_of (queues.with_definitions self.now.state.now (records_of self.now)) queue) }
+        ensures part { IfOk result (λ p. p ≡ queues.part_of
+            (queues.with_definitions self.now.state.now (records_of self.now)) queue) }
         ensures refused { IfErr result (λ e. e ≡ Resources) }
     {
         if (queue as usize) < self.state.definition_count() {
@@ -99,7 +101,8 @@ impl Job<'_> {
         requires boxes { AreBoxes self.now queue boxes.items }
         ensures queue { IfOk result (λ r. r.0.queue ≡ queue) }
         ensures redone { IfOk result (λ r. IsRedone self.now r.0) }
-        ensures moves { IfOk result (λ r. r.1.items ≡ queues.moves self.now.state.now (records_of self.now) queue) }
+        ensures moves { IfOk result
+            (λ r. r.1.items ≡ queues.moves self.now.state.now (records_of self.now) queue) }
         ensures refused { IfErr result (λ e. e ≡ Resources) }
     {
         rq_catalog::indices();

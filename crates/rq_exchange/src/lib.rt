@@ -1,5 +1,6 @@
-//! Replay: the state after the records, redone by queue on workers that take from a room. No queue waits for another but its
-//! error queue for it: who hands on the last of what leaves the sources of an error queue redoes that one next.
+//! Replay: the state after the records, redone by queue on workers that take from a room. No queue
+//! waits for another but its error queue for it: who hands on the last of what leaves the sources
+//! of an error queue redoes that one next.
 #![tactic(auto)]
 
 mod arrivals;

@@ -1,6 +1,7 @@
 //! Which queue is the error queue of which.
 
-ghost use Rattle.std.specs.Prelude.{◌≡◌, ◌<◌, ◌≤◌, ◌+◌, ◌==◌, ◌∷◌, ◌++◌, [], ℕ, length, map, if◌then◌else◌, IfOk, IfErr, OnOk};
+ghost use Rattle.std.specs.Prelude.{◌≡◌, ◌<◌, ◌≤◌, ◌+◌, ◌==◌, ◌∷◌, ◌++◌, [], ℕ, length, map};
+ghost use Rattle.std.specs.Prelude.{if◌then◌else◌, IfOk, IfErr, OnOk};
 ghost use Rattle.rq_state.specs.Orders.{listed};
 ghost use Rattle.rq_record.specs.declared.fault.Fault.TheVariants.{Resources};
 ghost use Rattle.rq_exchange.specs.Links.{naming, AreRanks};
@@ -33,8 +34,11 @@ pub(crate) fn errors_of(alloc: Global, definitions: &[Definition]) -> Result<Vec
 fn list(lists: &mut Vec<Vec<u32>>, number: u32, place: u32) -> Result<u32, Fault>
     requires few { number < length lists.old.items → length (listed lists.old.items number) ≤ 4096 }
     ensures len { length lists.new.items ≡ length lists.old.items }
-    ensures listed { OnOk result ((x : ℕ) → x < length lists.old.items → listed lists.new.items x ≡ (if number == x then listed lists.old.items x ++ place ∷ [] else listed lists.old.items x)) }
-    ensures rank { IfOk result (λ r. number < length lists.old.items → r ≡ length (listed lists.old.items number)) }
+    ensures listed { OnOk result
+        ((x : ℕ) → x < length lists.old.items → listed lists.new.items x ≡ (if number == x
+        then listed lists.old.items x ++ place ∷ [] else listed lists.old.items x)) }
+    ensures rank { IfOk result
+        (λ r. number < length lists.old.items → r ≡ length (listed lists.old.items number)) }
     ensures refused { IfErr result (λ e. e ≡ Resources) }
 {
     let place_of = number as usize;
@@ -46,7 +50,8 @@ fn list(lists: &mut Vec<Vec<u32>>, number: u32, place: u32) -> Result<u32, Fault
     Ok(rank as u32)
 }
 
-/// The sources of each of so many queues, those whose error queue it is; and which of these each queue is.
+/// The sources of each of so many queues, those whose error queue it is; and which of these each
+/// queue is.
 pub(crate) fn sources_of(
     alloc: Global,
     count: usize,
@@ -54,7 +59,8 @@ pub(crate) fn sources_of(
 ) -> Result<(Vec<Vec<u32>>, Vec<u32>), Fault>
     requires { length errors.now ≤ 4096 }
     ensures len { IfOk result (λ r. length r.0.items ≡ count) }
-    ensures listed { IfOk result (λ r. (x : ℕ) → x < count → listed r.0.items x ≡ naming errors.now x) }
+    ensures listed { IfOk result
+        (λ r. (x : ℕ) → x < count → listed r.0.items x ≡ naming errors.now x) }
     ensures ranks { IfOk result (λ r. AreRanks errors.now count (length errors.now) r.1.items) }
     ensures refused { IfErr result (λ e. e ≡ Resources) }
 {

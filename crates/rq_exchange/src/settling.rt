@@ -24,9 +24,12 @@ fn close_all(
     columns: Vec<Vec<Pass<Outbox>>>,
 ) -> Result<Vec<Closing<Outbox>>, Fault>
     requires many { length columns.items ≡ length countdowns.items }
-    requires own { (k : ℕ) (d : _) (e : _) → k < length countdowns.items → IsColumn (slice_index_or countdowns.items k d) (slice_index_or columns.items k e) }
-    ensures settled { IfOk result (λ _. (k : ℕ) (d : _) (e : _) → k < length countdowns.items → IsSettled (slice_index_or countdowns.items k d) (slice_index_or columns.items k e)) }
-    ensures histories { IfOk result (λ v. map histories_of v.items ≡ map (λ column. map history_of column.items) columns.items) }
+    requires own { (k : ℕ) (d : _) (e : _) → k < length countdowns.items
+        → IsColumn (slice_index_or countdowns.items k d) (slice_index_or columns.items k e) }
+    ensures settled { IfOk result (λ _. (k : ℕ) (d : _) (e : _) → k < length countdowns.items
+        → IsSettled (slice_index_or countdowns.items k d) (slice_index_or columns.items k e)) }
+    ensures histories { IfOk result (λ v. map histories_of v.items
+        ≡ map (λ column. map history_of column.items) columns.items) }
     ensures refused { IfErr result (λ e. e ≡ Resources) }
 {
     let mut closings = Vec::with_capacity(alloc, countdowns.len())?;
@@ -61,7 +64,8 @@ fn apart(
     Ok((rows, all))
 }
 
-/// Closes all countdowns with the passes of all threads. Answers what the threads redid, and how the replay went.
+/// Closes all countdowns with the passes of all threads. Answers what the threads redid, and how
+/// the replay went.
 pub(crate) fn settled(
     alloc: Global,
     chain: Chain,

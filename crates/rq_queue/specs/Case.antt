@@ -7,7 +7,8 @@ use Rattle.rq_model.specs.Machine.{all_lawful}
 use Rattle.rq_model.specs.Queues as queues
 
 -- part, operations and arrivals are those of the part's queue in a lawful run of these records
-pub record IsCase (version : Version) (s : State) (rs : List Record) (part : queues.Part) (ops : List queues.Op) (arrivals : List queues.Move) : Type 0 where
+pub record IsCase (version : Version) (s : State) (rs : List Record) (part : queues.Part)
+    (ops : List queues.Op) (arrivals : List queues.Move) : Type 0 where
   pub well : IsWellFormed s
   pub lawful : all_lawful version s rs ≡ true
   pub fits : s.next + length rs < 2 ^ 64

@@ -47,13 +47,18 @@ unheld unit es = map (marked Free) (filter (λ e. not (is_held unit e.mark)) es)
 
 -- what an ABORT of the unit leaves of its elements
 abbrev pub staying : Definition → ℕ → List Element → List Element
-staying home unit es = map (returned unit) (filter (λ e. not (is_fresh unit e.mark) && not (leaves home unit e)) es)
+staying home unit es =
+    map (returned unit) (filter (λ e. not (is_fresh unit e.mark) && not (leaves home unit e)) es)
 
 -- the elements that an ABORT of the unit sends away, as they arrive
 abbrev pub sent_from : ℕ → Definition → List Element → List Move
 sent_from place home es = map (λ e. record { place = place; element = moved home e }) es
 
 -- the same elements by number, some of them under their keys now
-abbrev pub Frees : List Element → List ((Reverse ℕ × ℕ) × Element) → List Element → List ((Reverse ℕ × ℕ) × Element) → List Element → Type 0
-Frees others old list new rest = AllByRecursion IsKeyed old → Ordered (λ e f. e.id ≢ f.id) (values_of old ++ (list ++ others))
-    → AllByRecursion IsKeyed new × (Ordered (λ e f. e.id ≢ f.id) (values_of new ++ (rest ++ others)) × (sorted (values_of new ++ (rest ++ others)) ≡ sorted (values_of old ++ (list ++ others))))
+abbrev pub Frees : List Element → List ((Reverse ℕ × ℕ) × Element)
+    → List Element → List ((Reverse ℕ × ℕ) × Element) → List Element → Type 0
+Frees others old list new rest = AllByRecursion IsKeyed old
+    → Ordered (λ e f. e.id ≢ f.id) (values_of old ++ (list ++ others))
+    → AllByRecursion IsKeyed new
+    × (Ordered (λ e f. e.id ≢ f.id) (values_of new ++ (rest ++ others))
+    × (sorted (values_of new ++ (rest ++ others)) ≡ sorted (values_of old ++ (list ++ others))))

@@ -1,5 +1,7 @@
--- How the notes of a queue are kept: by place, and under each unit and registrant the places where its notes stand.
-use Rattle.std.specs.Prelude.{◌≡◌, ◌≢◌, ◌<◌, ◌==◌, ℕ, Bool, true, false, not, ◌&&◌, List, Option, Some, None, [], ◌∷◌, ◌++◌, filter}
+-- How the notes of a queue are kept: by place, and under each unit and registrant the places where
+-- its notes stand.
+use Rattle.std.specs.Prelude.{◌≡◌, ◌≢◌, ◌<◌, ◌==◌, ℕ, Bool, true, false, not, ◌&&◌, List, Option}
+use Rattle.std.specs.Prelude.{Some, None, [], ◌∷◌, ◌++◌, filter}
 use Rattle.std.specs.BTreeMap.{is_at}
 use Rattle.std.specs.List.{AllByRecursion, list_any}
 use Rattle.std.specs.Global.{Vec}
@@ -46,11 +48,15 @@ list_of (Some places) = places.items
 abbrev pub filed : {K : Type 0} → (K → K → Ordering) → K → List (K × Vec ℕ) → List ℕ
 filed R k es = list_of (lookup (is_at (R k)) es)
 
--- each place of a note stands under its unit and under its registrant; what else stands there may be out of date
-pub record AreKept (all : List NoteEntry) (units : List (ℕ × Vec ℕ)) (names : List ((ℕ × List ℕ) × Vec ℕ)) : Type 0 where
+-- each place of a note stands under its unit and under its registrant; what else stands there may
+-- be out of date
+pub record AreKept (all : List NoteEntry) (units : List (ℕ × Vec ℕ))
+    (names : List ((ℕ × List ℕ) × Vec ℕ)) : Type 0 where
   pub by_place : AreByPlace all
-  pub by_unit : AllByRecursion (λ (e : NoteEntry). has_place e.0 (filed nat_cmp e.1.unit units) ≡ true) all
-  pub by_name : AllByRecursion (λ (e : NoteEntry). has_place e.0 (filed key_cmp (e.1.queue, e.1.name) names) ≡ true) all
+  pub by_unit : AllByRecursion
+      (λ (e : NoteEntry). has_place e.0 (filed nat_cmp e.1.unit units) ≡ true) all
+  pub by_name : AllByRecursion
+      (λ (e : NoteEntry). has_place e.0 (filed key_cmp (e.1.queue, e.1.name) names) ≡ true) all
 
 -- whether the note is one of theirs
 abbrev pub is_own : Whose → Note → Bool

@@ -5,5 +5,6 @@ use Rattle.rq_record.specs.declared.fault.Fault.{Fault}
 
 -- behind what the list had stand these members, in some order; refused, it is as it was
 abbrev pub Grows : {X U : Type 0} → List X → List X → List X → Result U Fault → Type 0
-Grows {X} old members new (Ok _) = (tail : List X) × (new ≡ old ++ tail) × IsPermutation members tail
+Grows {X} old members new (Ok _) =
+    (tail : List X) × (new ≡ old ++ tail) × IsPermutation members tail
 Grows old members new (Err _) = new ≡ old

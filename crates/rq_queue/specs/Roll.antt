@@ -19,4 +19,5 @@ IsRoll es = Ordered (λ (a b : RollEntry). key_cmp a.0 b.0 ≡ Less) es
 
 -- the registrant after a note, if that is one of the unit and its own
 abbrev pub heard : ℕ → Note → Registrant → Registrant
-heard unit n r = if (n.unit == unit) && is_note_of r.queue r.name n then record r { last = later r.last n.last } else r
+heard unit n r = if (n.unit == unit) && is_note_of r.queue r.name n
+    then record r { last = later r.last n.last } else r

@@ -28,7 +28,8 @@ pub fn send(
     home: &Definition,
     sent: &mut Vec<Move>,
 ) -> Result<(), Fault>
-    ensures sent { OnOk result (sent.new.items ≡ sent.old.items ++ sent_from place home.now leaving.items) }
+    ensures sent { OnOk result
+        (sent.new.items ≡ sent.old.items ++ sent_from place home.now leaving.items) }
     ensures refused { IfErr result (λ e. e ≡ Resources) }
 {
     for e in leaving {

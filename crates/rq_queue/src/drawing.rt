@@ -5,7 +5,8 @@ ghost use Rattle.std.specs.BTreeMap.{is_at};
 ghost use Rattle.std.specs.List.{AllByRecursion};
 ghost use Rattle.std.specs.Map.{lookup, values_of};
 ghost use Rattle.std.specs.Ordering.{nat_cmp};
-ghost use Rattle.rq_queue.specs.Noted.{by_place, is_own, has_own, left, AreByPlace, Apart, Drawn, Rises};
+ghost use Rattle.rq_queue.specs.Noted.{by_place, is_own, has_own, left, AreByPlace, Apart, Drawn};
+ghost use Rattle.rq_queue.specs.Noted.{Rises};
 ghost use Rattle.rq_record.specs.declared.fault.Fault.TheVariants.{Resources};
 
 use crate::whose::Whose;
@@ -59,7 +60,8 @@ pub fn drawn(
     ensures left { IfOk result (λ r. r.0.entries ≡ left whose.now places.now all.entries) }
     ensures own { IfOk result (λ r. AllByRecursion (λ n. is_own whose.now n ≡ true) r.1.items) }
     ensures apart { IfOk result (λ r. Apart (r.1.items ++ values_of r.0.entries)) }
-    ensures together { IfOk result (λ r. by_place (r.1.items ++ values_of r.0.entries) ≡ values_of all.entries) }
+    ensures together { IfOk result
+        (λ r. by_place (r.1.items ++ values_of r.0.entries) ≡ values_of all.entries) }
     ensures refused { IfErr result (λ e. e ≡ Resources) }
 {
     let mut all = all;

@@ -1,6 +1,7 @@
 //! The elements of a queue.
 
-ghost use Rattle.std.specs.Prelude.{◌≡◌, ◌≢◌, ◌+◌, ◌<◌, ◌&&◌, ◌^◌, ◌∷◌, ◌++◌, [], not, map, filter, option_map, IfOk, IfErr, OnOk};
+ghost use Rattle.std.specs.Prelude.{◌≡◌, ◌≢◌, ◌+◌, ◌<◌, ◌&&◌, ◌^◌, ◌∷◌, ◌++◌, [], not, map, filter};
+ghost use Rattle.std.specs.Prelude.{option_map, IfOk, IfErr, OnOk};
 ghost use Rattle.std.specs.List.{AllByRecursion};
 ghost use Rattle.std.specs.List.Sorted.{IsPermutation};
 ghost use Rattle.rq_model.specs.Machine as machine;
@@ -21,12 +22,13 @@ use std::cmp::Reverse;
 use std::collections::BTreeMap;
 use std::marker::Model;
 
-/// The elements of a queue, by id. Free ones stand by priority and id, so that the best one is the first; the others
-/// stand with the unit that marks them. So an operation costs the logarithm of their number for each element that it
-/// changes.
+/// The elements of a queue, by id. Free ones stand by priority and id, so that the best one is the
+/// first; the others stand with the unit that marks them. So an operation costs the logarithm of
+/// their number for each element that it changes.
 ///
-/// From the first KILL on the priority of each element stands under its id, since a KILL names no priority. An entry may
-/// be of an element that has gone: it is only where to look. A queue without a KILL keeps none.
+/// From the first KILL on the priority of each element stands under its id, since a KILL names no
+/// priority. An entry may be of an element that has gone: it is only where to look. A queue without
+/// a KILL keeps none.
 #[derive(Drop)]
 pub struct Elements {
     free: BTreeMap<(Reverse<u8>, u64), Element>,
@@ -133,7 +135,8 @@ impl Elements {
         payload: &KeptPayload,
     ) -> Result<Elements, Fault>
         requires { AllByRecursion (λ (x : model.Element). x.id < place) self }
-        ensures done { IfOk result (λ v. v ≡ self ++ machine.new_element place unit.0 queue.0 priority payload.now ∷ []) }
+        ensures done { IfOk result
+            (λ v. v ≡ self ++ machine.new_element place unit.0 queue.0 priority payload.now ∷ []) }
         ensures refused { IfErr result (λ e. e ≡ Resources) }
     {
         let e = Element::fresh(place, unit, queue, priority, payload.copied()?);
@@ -150,7 +153,8 @@ impl Elements {
     ) -> Result<(Elements, Option<ElemId>), Fault>
         requires { AllByRecursion (λ (x : model.Element). x.home ≡ queue.0) self }
         ensures held { IfOk result (λ v. v.0 ≡ machine.best_held unit.0 queue.0 self) }
-        ensures best { IfOk result (λ v. id_of v.1 ≡ option_map (λ e. e.id) (machine.best queue.0 self)) }
+        ensures best { IfOk result
+            (λ v. id_of v.1 ≡ option_map (λ e. e.id) (machine.best queue.0 self)) }
         ensures refused { IfErr result (λ e. e ≡ Resources) }
     {
         rq_model::any_order();
@@ -205,8 +209,11 @@ impl Elements {
         sent: &mut Vec<Move>,
     ) -> Result<Elements, Fault>
         requires { AllByRecursion (λ (e : model.Element). e.attempts + 1 < 2 ^ 64) self }
-        ensures kept { IfOk result (λ v. v ≡ map (machine.returned unit.0) (filter (λ e. not (model.is_fresh unit.0 e.mark) && not (machine.leaves home.now unit.0 e)) self)) }
-        ensures sent { OnOk result (sent.new.items ≡ sent.old.items ++ sent_from place home.now (filter (machine.leaves home.now unit.0) self)) }
+        ensures kept { IfOk result
+            (λ v. v ≡ map (machine.returned unit.0) (filter (λ e. not (model.is_fresh unit.0 e.mark)
+            && not (machine.leaves home.now unit.0 e)) self)) }
+        ensures sent { OnOk result (sent.new.items ≡ sent.old.items
+            ++ sent_from place home.now (filter (machine.leaves home.now unit.0) self)) }
         ensures refused { IfErr result (λ e. e ≡ Resources) }
     {
         rq_model::any_order();

@@ -5,7 +5,8 @@ ghost use Rattle.std.specs.Prelude.{◌≡◌};
 use rq_state::Element;
 use std::marker::Model;
 
-/// An element as it arrives in an error queue, with attempts 0, and the place of the ABORT that moved it.
+/// An element as it arrives in an error queue, with attempts 0, and the place of the ABORT that
+/// moved it.
 #[derive(Drop)]
 pub struct Move {
     pub place: u64,

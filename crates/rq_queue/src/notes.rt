@@ -18,9 +18,9 @@ use std::alloc::Global;
 use std::collections::BTreeMap;
 use std::marker::Model;
 
-/// The notes of a queue, by place. Under each unit and each registrant stand the places of its notes, so that the end
-/// of a unit and a DEREGISTER cost their own notes alone. Such a list may keep the place of a note that has gone: it
-/// is only where to look.
+/// The notes of a queue, by place. Under each unit and each registrant stand the places of its
+/// notes, so that the end of a unit and a DEREGISTER cost their own notes alone. Such a list may
+/// keep the place of a note that has gone: it is only where to look.
 #[derive(Drop)]
 pub struct Notes {
     all: BTreeMap<u64, Note>,
@@ -103,7 +103,8 @@ impl Notes {
         element: Option<ElemId>,
     ) -> Result<Notes, Fault>
         requires { AllByRecursion (λ (m : model.Note). m.last.place < place) self }
-        ensures done { IfOk result (λ v. v ≡ self ++ machine.noted place unit.0 queue.0 by.now (kind_of kind) (id_of element)) }
+        ensures done { IfOk result (λ v. v
+            ≡ self ++ machine.noted place unit.0 queue.0 by.now (kind_of kind) (id_of element)) }
         ensures refused { IfErr result (λ e. e ≡ Resources) }
     {
         match by.by() {

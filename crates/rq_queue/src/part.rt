@@ -1,6 +1,7 @@
 //! What belongs to one queue.
 
-ghost use Rattle.std.specs.Prelude.{◌≡◌, ◌≢◌, ◌+◌, ◌<◌, ◌^◌, ◌++◌, ◌∷◌, [], length, IfOk, IfErr, OnOk};
+ghost use Rattle.std.specs.Prelude.{◌≡◌, ◌≢◌, ◌+◌, ◌<◌, ◌^◌, ◌++◌, ◌∷◌, [], length, IfOk, IfErr};
+ghost use Rattle.std.specs.Prelude.{OnOk};
 ghost use Rattle.std.specs.List.{AllByRecursion};
 ghost use Rattle.rq_model.specs.Queues as queues;
 ghost use Rattle.rq_model.specs.Records as records;
@@ -36,7 +37,13 @@ impl Model for Part {
 
     ghost Value = { queues.Part };
 
-    ghost view = { λ p. record { queue = p.queue.0; definition = p.definition; elements = p.elements; registrants = p.registrants; notes = p.notes } };
+    ghost view = { λ p. record {
+      queue = p.queue.0;
+      definition = p.definition;
+      elements = p.elements;
+      registrants = p.registrants;
+      notes = p.notes;
+    } };
 }
 
 impl Part {
@@ -62,7 +69,14 @@ impl Part {
 
     /// The part of a queue that the records themselves define: nothing is in it yet.
     pub fn new(alloc: Global, queue: QueueNo, definition: Definition) -> Part
-        ensures { result ≡ record { queue = queue.0; definition = definition; elements = []; registrants = []; notes = [] } }
+        ensures { result
+            ≡ record {
+              queue = queue.0;
+              definition = definition;
+              elements = [];
+              registrants = [];
+              notes = [];
+            } }
     {
         Part {
             queue,
@@ -80,10 +94,13 @@ impl Part {
         self.queue
     }
 
-    /// Adds its elements, registrants and notes to the lists. Refused with Resources: the fields are then as before.
+    /// Adds its elements, registrants and notes to the lists. Refused with Resources: the fields
+    /// are then as before.
     pub fn pour(self, fields: &mut Fields) -> Result<(), Fault>
-        ensures elements { Grows fields.old.elements.items self.elements fields.new.elements.items result }
-        ensures registrants { Grows fields.old.registrants.items self.registrants fields.new.registrants.items result }
+        ensures elements { Grows fields.old.elements.items
+            self.elements fields.new.elements.items result }
+        ensures registrants { Grows fields.old.registrants.items
+            self.registrants fields.new.registrants.items result }
         ensures notes { Grows fields.old.notes.items self.notes fields.new.notes.items result }
         ensures next { fields.new.next ≡ fields.old.next }
         ensures greatest { fields.new.greatest ≡ fields.old.greatest }
@@ -108,7 +125,8 @@ impl Part {
 
     /// Puts in what arrives.
     pub(crate) fn receive(mut self, alloc: Global, arrival: Move) -> Result<Part, Fault>
-        requires new { AllByRecursion (λ (e : states.Element). e.id ≢ arrival.element.id) self.elements }
+        requires new { AllByRecursion
+            (λ (e : states.Element). e.id ≢ arrival.element.id) self.elements }
         ensures part { IfOk result (λ p. p ≡ redo_words.receive (arrival ∷ []) self) }
         ensures refused { IfErr result (λ e. e ≡ Resources) }
     {
@@ -128,7 +146,8 @@ impl Part {
     ) -> Result<Part, Fault>
         requires older { AllByRecursion (λ (e : states.Element). e.id < place) self.elements }
         requires notes { AllByRecursion (λ (n : states.Note). n.last.place < place) self.notes }
-        ensures done { IfOk result (λ p. p ≡ redo_words.act place (records.Enqueue unit.0 queue.0 priority by.now payload.now) self) }
+        ensures done { IfOk result (λ p. p ≡ redo_words.act place
+            (records.Enqueue unit.0 queue.0 priority by.now payload.now) self) }
         ensures refused { IfErr result (λ e. e ≡ Resources) }
     {
         let id = Some(ElemId(place));
@@ -151,7 +170,8 @@ impl Part {
     ) -> Result<Part, Fault>
         requires homes { AllByRecursion (λ (e : states.Element). e.home ≡ queue.0) self.elements }
         requires notes { AllByRecursion (λ (n : states.Note). n.last.place < place) self.notes }
-        ensures done { IfOk result (λ p. p ≡ redo_words.act place (records.Dequeue unit.0 queue.0 by.now) self) }
+        ensures done { IfOk result
+            (λ p. p ≡ redo_words.act place (records.Dequeue unit.0 queue.0 by.now) self) }
         ensures refused { IfErr result (λ e. e ≡ Resources) }
     {
         let (elements, id) = self.elements.hold_best(alloc, unit, queue)?;
@@ -180,9 +200,11 @@ impl Part {
         unit: UnitNo,
         sent: &mut Vec<Move>,
     ) -> Result<Part, Fault>
-        requires room { AllByRecursion (λ (e : states.Element). e.attempts + 1 < 2 ^ 64) self.elements }
+        requires room { AllByRecursion
+            (λ (e : states.Element). e.attempts + 1 < 2 ^ 64) self.elements }
         ensures part { IfOk result (λ p. p ≡ redo_words.act place (records.Abort unit.0) self) }
-        ensures sent { OnOk result (sent.new.items ≡ sent.old.items ++ redo_words.sent place (records.Abort unit.0) self) }
+        ensures sent { OnOk result
+            (sent.new.items ≡ sent.old.items ++ redo_words.sent place (records.Abort unit.0) self) }
         ensures refused { IfErr result (λ e. e ≡ Resources) }
     {
         self.elements = self
@@ -194,7 +216,8 @@ impl Part {
     }
 
     fn register(mut self, queue: QueueNo, name: &Name) -> Result<Part, Fault>
-        ensures done { IfOk result (λ p. p ≡ redo_words.act 0 (records.Register queue.0 name.now) self) }
+        ensures done { IfOk result
+            (λ p. p ≡ redo_words.act 0 (records.Register queue.0 name.now) self) }
         ensures refused { IfErr result (λ e. e ≡ Resources) }
     {
         self.registrants = self.registrants.register(queue, name)?;
@@ -202,7 +225,8 @@ impl Part {
     }
 
     fn deregister(mut self, alloc: Global, queue: QueueNo, name: &Name) -> Result<Part, Fault>
-        ensures done { IfOk result (λ p. p ≡ redo_words.act 0 (records.Deregister queue.0 name.now) self) }
+        ensures done { IfOk result
+            (λ p. p ≡ redo_words.act 0 (records.Deregister queue.0 name.now) self) }
         ensures refused { IfErr result (λ e. e ≡ Resources) }
     {
         self.registrants = self.registrants.deregister(queue, name);
@@ -212,7 +236,8 @@ impl Part {
 
     fn kill(mut self, alloc: Global, queue: QueueNo, element: ElemId) -> Result<Part, Fault>
         requires homes { AllByRecursion (λ (e : states.Element). e.home ≡ queue.0) self.elements }
-        ensures done { IfOk result (λ p. p ≡ redo_words.act 0 (records.Kill queue.0 element.0) self) }
+        ensures done { IfOk result
+            (λ p. p ≡ redo_words.act 0 (records.Kill queue.0 element.0) self) }
         ensures refused { IfErr result (λ e. e ≡ Resources) }
     {
         self.elements = self.elements.kill(alloc, queue, element)?;
@@ -223,7 +248,8 @@ impl Part {
     pub(crate) fn act(self, alloc: Global, op: &Op, sent: &mut Vec<Move>) -> Result<Part, Fault>
         requires ready { IsReady op.now.place op.now.does self }
         ensures part { IfOk result (λ p. p ≡ redo_words.act op.now.place op.now.does self) }
-        ensures sent { OnOk result (sent.new.items ≡ sent.old.items ++ redo_words.sent op.now.place op.now.does self) }
+        ensures sent { OnOk result
+            (sent.new.items ≡ sent.old.items ++ redo_words.sent op.now.place op.now.does self) }
         ensures refused { IfErr result (λ e. e ≡ Resources) }
     {
         self.follow(alloc, op.place(), op.record(), sent)
@@ -239,7 +265,8 @@ impl Part {
     ) -> Result<Part, Fault>
         requires ready { IsReady place (record_of rec.now) self }
         ensures part { IfOk result (λ p. p ≡ redo_words.act place (record_of rec.now) self) }
-        ensures sent { OnOk result (sent.new.items ≡ sent.old.items ++ redo_words.sent place (record_of rec.now) self) }
+        ensures sent { OnOk result
+            (sent.new.items ≡ sent.old.items ++ redo_words.sent place (record_of rec.now) self) }
         ensures refused { IfErr result (λ e. e ≡ Resources) }
     {
         match rec {

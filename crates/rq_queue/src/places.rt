@@ -16,7 +16,8 @@ pub fn unfiled<K: Ord + Drop>(
     key: &K,
 ) -> (BTreeMap<K, Vec<u64>>, Vec<u64>)
     ensures places { result.1.items ≡ filed K.cmp key.now index.entries }
-    ensures others { (k : K) → filed K.cmp k result.0.entries ≡ (if is_eq (K.cmp key.now k) then [] else filed K.cmp k index.entries) }
+    ensures others { (k : K) → filed K.cmp k result.0.entries
+        ≡ (if is_eq (K.cmp key.now k) then [] else filed K.cmp k index.entries) }
 {
     let mut index = index;
     match index.remove(key) {
@@ -32,7 +33,8 @@ pub fn file<K: Ord + Drop>(
     key: K,
     place: u64,
 ) -> Result<BTreeMap<K, Vec<u64>>, Fault>
-    ensures filed { IfOk result (λ m. (k : K) → filed K.cmp k m.entries ≡ filed K.cmp k index.entries ++ (if is_eq (K.cmp key k) then place ∷ [] else [])) }
+    ensures filed { IfOk result (λ m. (k : K) → filed K.cmp k m.entries
+        ≡ filed K.cmp k index.entries ++ (if is_eq (K.cmp key k) then place ∷ [] else [])) }
     ensures refused { IfErr result (λ e. e ≡ Resources) }
 {
     let (mut others, mut places) = unfiled(alloc, index, &key);

@@ -1,4 +1,5 @@
-//! The priority of each element by its id. A KILL names an id alone, and Free elements stand by priority first.
+//! The priority of each element by its id. A KILL names an id alone, and Free elements stand by
+//! priority first.
 
 ghost use Rattle.std.specs.Prelude.{◌≡◌, ◌≢◌, ◌==◌, ◌∷◌, ◌++◌, [], List, not, filter, IfOk, IfErr};
 ghost use Rattle.std.specs.List.{AllByRecursion};
@@ -20,7 +21,9 @@ pub fn kept_with(
     priorities: Option<BTreeMap<u64, u8>>,
     e: &Element,
 ) -> Result<Option<BTreeMap<u64, u8>>, Fault>
-    ensures known { IfOk result (λ o. (es : List model.Element) → AllByRecursion (λ x. e.now.id ≢ x.id) es → AreKnown priorities es → AreKnown o (e.now ∷ es)) }
+    ensures known { IfOk result
+        (λ o. (es : List model.Element) → AllByRecursion (λ x. e.now.id ≢ x.id) es
+        → AreKnown priorities es → AreKnown o (e.now ∷ es)) }
     ensures refused { IfErr result (λ e. e ≡ Resources) }
 {
     let Some(mut by_id) = priorities else {
@@ -65,7 +68,8 @@ fn with_marked(
     by_id: BTreeMap<u64, u8>,
     marked: &BTreeMap<u64, Vec<Element>>,
 ) -> Result<BTreeMap<u64, u8>, Fault>
-    ensures added { IfOk result (λ m. m.entries ≡ with_all (items_of marked.now.entries) by_id.entries) }
+    ensures added { IfOk result
+        (λ m. m.entries ≡ with_all (items_of marked.now.entries) by_id.entries) }
     ensures refused { IfErr result (λ e. e ≡ Resources) }
 {
     let mut by_id = by_id;
@@ -82,9 +86,12 @@ pub fn known(
     free: &BTreeMap<(Reverse<u8>, u64), Element>,
     marked: &BTreeMap<u64, Vec<Element>>,
 ) -> Result<BTreeMap<u64, u8>, Fault>
-    requires apart { Ordered (λ (e f : model.Element). e.id ≢ f.id) (values_of free.now.entries ++ items_of marked.now.entries) }
-    requires known { AreKnown priorities (values_of free.now.entries ++ items_of marked.now.entries) }
-    ensures known { IfOk result (λ m. AllByRecursion (IsKnown m.entries) (values_of free.now.entries ++ items_of marked.now.entries)) }
+    requires apart { Ordered (λ (e f : model.Element). e.id ≢ f.id)
+        (values_of free.now.entries ++ items_of marked.now.entries) }
+    requires known { AreKnown priorities
+        (values_of free.now.entries ++ items_of marked.now.entries) }
+    ensures known { IfOk result (λ m. AllByRecursion (IsKnown m.entries)
+        (values_of free.now.entries ++ items_of marked.now.entries)) }
     ensures refused { IfErr result (λ e. e ≡ Resources) }
 {
     match priorities {
@@ -97,7 +104,8 @@ pub fn known(
     }
 }
 
-/// The Free elements without the one of that id, if there is one: its priority says where it stands.
+/// The Free elements without the one of that id, if there is one: its priority says where it
+/// stands.
 pub fn without(
     free: BTreeMap<(Reverse<u8>, u64), Element>,
     by_id: &BTreeMap<u64, u8>,
@@ -107,7 +115,8 @@ pub fn without(
     requires apart { Ordered (λ (e f : model.Element). e.id ≢ f.id) (values_of free.entries) }
     requires known { AllByRecursion (IsKnown by_id.now.entries) (values_of free.entries) }
     ensures keyed { AllByRecursion IsKeyed result.entries }
-    ensures others { values_of result.entries ≡ filter (λ (e : model.Element). not (e.id == id.0)) (values_of free.entries) }
+    ensures others { values_of result.entries
+        ≡ filter (λ (e : model.Element). not (e.id == id.0)) (values_of free.entries) }
 {
     let mut free = free;
     if let Some(priority) = by_id.get(&id.0) {

@@ -1,6 +1,7 @@
 //! Redo of one queue.
 
-ghost use Rattle.std.specs.Prelude.{◌≡◌, ◌≤◌, ◌<◌, ◌-◌, ◌^◌, ◌++◌, ◌∷◌, [], List, length, drop, IfOk, IfErr};
+ghost use Rattle.std.specs.Prelude.{◌≡◌, ◌≤◌, ◌<◌, ◌-◌, ◌^◌, ◌++◌, ◌∷◌, [], List, length, drop};
+ghost use Rattle.std.specs.Prelude.{IfOk, IfErr};
 ghost use Rattle.std.specs.List.{AllByRecursion};
 ghost use Rattle.rq_model.specs.Queues as queues;
 ghost use Rattle.rq_model.specs.Redo as redo_words;
@@ -18,7 +19,8 @@ use crate::part::Part;
 use rq_record::Fault;
 use std::alloc::Global;
 
-/// Does the operations from a place in the list on, as far as they stand at `until` or before. How many are done then.
+/// Does the operations from a place in the list on, as far as they stand at `until` or before. How
+/// many are done then.
 fn catch_up(
     alloc: Global,
     part: Part,
@@ -28,15 +30,22 @@ fn catch_up(
     sent: &mut Vec<Move>,
 ) -> Result<(Part, usize), Fault>
     requires bound { from ≤ length ops.now }
-    requires well { (ms : List queues.Move) × AllByRecursion (λ m. until ≤ m.place) ms × GoesWell part (drop from ops.now) ms }
+    requires well { (ms : List queues.Move) × AllByRecursion (λ m. until ≤ m.place) ms
+        × GoesWell part (drop from ops.now) ms }
     ensures bound { IfOk result (λ r. r.1 ≤ length ops.now) }
-    ensures well { IfOk result (λ r. (ms : List queues.Move) → AllByRecursion (λ m. until ≤ m.place) ms
+    ensures well { IfOk result
+        (λ r. (ms : List queues.Move) → AllByRecursion (λ m. until ≤ m.place) ms
         → GoesWell part (drop from ops.now) ms → GoesWell r.0 (drop r.1 ops.now) ms) }
-    ensures redone { IfOk result (λ r. (ms : List queues.Move) → AllByRecursion (λ m. until ≤ m.place) ms
-        → redo_words.redone part (drop from ops.now) ms ≡ redo_words.redone r.0 (drop r.1 ops.now) ms) }
-    ensures sent { IfOk result (λ r. (ms : List queues.Move) → AllByRecursion (λ m. until ≤ m.place) ms
-        → sent.old.items ++ redo_words.all_sent part (drop from ops.now) ms ≡ sent.new.items ++ redo_words.all_sent r.0 (drop r.1 ops.now) ms) }
-    ensures stops { IfOk result (λ r. (op : queues.Op) (rest : List queues.Op) → drop r.1 ops.now ≡ op ∷ rest → until < op.place) }
+    ensures redone { IfOk result
+        (λ r. (ms : List queues.Move) → AllByRecursion (λ m. until ≤ m.place) ms
+        → redo_words.redone part (drop from ops.now) ms
+        ≡ redo_words.redone r.0 (drop r.1 ops.now) ms) }
+    ensures sent { IfOk result
+        (λ r. (ms : List queues.Move) → AllByRecursion (λ m. until ≤ m.place) ms
+        → sent.old.items ++ redo_words.all_sent part (drop from ops.now) ms
+        ≡ sent.new.items ++ redo_words.all_sent r.0 (drop r.1 ops.now) ms) }
+    ensures stops { IfOk result (λ r. (op : queues.Op) (rest : List queues.Op) →
+        drop r.1 ops.now ≡ op ∷ rest → until < op.place) }
     ensures refused { IfErr result (λ e. e ≡ Resources) }
     ensures all { IfOk result (λ r. until ≡ 2 ^ 64 - 1 → r.1 ≡ length ops.now) }
 {
@@ -91,10 +100,15 @@ pub fn redo(
     ops: &[Op],
     arrivals: Vec<Move>,
 ) -> Result<(Part, Vec<Move>), Fault>
-    requires { (version : records.Version) × (s : states.State) × (rs : List records.Record) × IsCase version s rs part ops.now arrivals.items }
-    ensures part { IfOk result (λ r. (version : records.Version) (s : states.State) (rs : List records.Record) → IsCase version s rs part ops.now arrivals.items
+    requires { (version : records.Version) × (s : states.State)
+        × (rs : List records.Record) × IsCase version s rs part ops.now arrivals.items }
+    ensures part { IfOk result
+        (λ r. (version : records.Version) (s : states.State) (rs : List records.Record) →
+        IsCase version s rs part ops.now arrivals.items
         → r.0 ≡ queues.part_of (machine.run s rs) part.queue) }
-    ensures moves { IfOk result (λ r. (version : records.Version) (s : states.State) (rs : List records.Record) → IsCase version s rs part ops.now arrivals.items
+    ensures moves { IfOk result
+        (λ r. (version : records.Version) (s : states.State) (rs : List records.Record) →
+        IsCase version s rs part ops.now arrivals.items
         → r.1.items ≡ queues.moves s rs part.queue) }
     ensures refused { IfErr result (λ e. e ≡ Resources) }
 {

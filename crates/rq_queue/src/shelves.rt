@@ -1,6 +1,7 @@
 //! Where the elements of a queue stand: Free ones under their keys, the others with their units.
 
-ghost use Rattle.std.specs.Prelude.{◌≡◌, ◌≢◌, ◌+◌, ◌<◌, ◌^◌, ◌∷◌, ◌++◌, [], true, List, filter, None, IfOk, IfErr};
+ghost use Rattle.std.specs.Prelude.{◌≡◌, ◌≢◌, ◌+◌, ◌<◌, ◌^◌, ◌∷◌, ◌++◌, [], true, List, filter};
+ghost use Rattle.std.specs.Prelude.{None, IfOk, IfErr};
 ghost use Rattle.std.specs.BTreeMap.{is_at};
 ghost use Rattle.std.specs.List.{AllByRecursion};
 ghost use Rattle.std.specs.Map.{lookup, values_of};
@@ -8,7 +9,8 @@ ghost use Rattle.std.specs.Ordering.{nat_cmp};
 ghost use Rattle.rq_model.specs.Machine as machine;
 ghost use Rattle.rq_model.specs.Queues as queues;
 ghost use Rattle.rq_model.specs.States as model;
-ghost use Rattle.rq_queue.specs.Kept.{items_of, IsKeyed, IsOfUnit, Stowed, Among, Frees, unheld, staying};
+ghost use Rattle.rq_queue.specs.Kept.{items_of, IsKeyed, IsOfUnit, Stowed, Among, Frees, unheld};
+ghost use Rattle.rq_queue.specs.Kept.{staying};
 ghost use Rattle.rq_record.specs.declared.fault.Fault.TheVariants.{Resources};
 
 use rq_record::{Fault, UnitNo};
@@ -50,7 +52,8 @@ pub fn stow(
     ensures refused { IfErr result (λ e. e ≡ Resources) }
 {
     let (mut others, mut list) = taken(alloc, marked, unit);
-    // Most units mark one element of a queue, and a list that grows by itself begins with room for four.
+    // Most units mark one element of a queue, and a list that grows by itself begins with room for
+    // four.
     let first = usize::from(list.is_empty());
     list.reserve_exact(first)?;
     list.push(e)?;
@@ -64,8 +67,12 @@ pub fn freed(
     e: Element,
 ) -> Result<BTreeMap<(Reverse<u8>, u64), Element>, Fault>
     requires mark { model.is_free e.mark ≡ true }
-    ensures among { IfOk result (λ m. AllByRecursion IsKeyed free.entries → AllByRecursion (λ x. e.id ≢ x.id) (values_of free.entries) → Among (e ∷ []) (values_of m.entries) (values_of free.entries)) }
-    ensures keyed { IfOk result (λ m. AllByRecursion IsKeyed free.entries → AllByRecursion (λ x. e.id ≢ x.id) (values_of free.entries) → AllByRecursion IsKeyed m.entries) }
+    ensures among { IfOk result (λ m. AllByRecursion IsKeyed free.entries
+        → AllByRecursion (λ x. e.id ≢ x.id) (values_of free.entries)
+        → Among (e ∷ []) (values_of m.entries) (values_of free.entries)) }
+    ensures keyed { IfOk result (λ m. AllByRecursion IsKeyed free.entries
+        → AllByRecursion (λ x. e.id ≢ x.id) (values_of free.entries)
+        → AllByRecursion IsKeyed m.entries) }
     ensures refused { IfErr result (λ e. e ≡ Resources) }
 {
     let mut free = free;
@@ -80,7 +87,8 @@ pub fn all_freed(
     list: Vec<Element>,
     unit: UnitNo,
 ) -> Result<BTreeMap<(Reverse<u8>, u64), Element>, Fault>
-    ensures freed { IfOk result (λ m. (others : List model.Element) → Frees others free.entries (unheld unit.0 list.items) m.entries []) }
+    ensures freed { IfOk result (λ m. (others : List model.Element) →
+        Frees others free.entries (unheld unit.0 list.items) m.entries []) }
     ensures refused { IfErr result (λ e. e ≡ Resources) }
 {
     rq_model::any_order();
@@ -93,7 +101,8 @@ pub fn all_freed(
     Ok(free)
 }
 
-/// Puts what an ABORT of the unit leaves of its elements under their keys. Those that leave the queue.
+/// Puts what an ABORT of the unit leaves of its elements under their keys. Those that leave the
+/// queue.
 pub fn all_returned(
     alloc: Global,
     free: BTreeMap<(Reverse<u8>, u64), Element>,
@@ -102,9 +111,12 @@ pub fn all_returned(
     home: &Definition,
 ) -> Result<(BTreeMap<(Reverse<u8>, u64), Element>, Vec<Element>), Fault>
     requires room { AllByRecursion (λ (e : model.Element). e.attempts + 1 < 2 ^ 64) list.items }
-    requires of_unit { AllByRecursion (λ (e : model.Element). queues.is_marked unit.0 e.mark ≡ true) list.items }
-    ensures freed { IfOk result (λ r. (others : List model.Element) → Frees others free.entries (staying home.now unit.0 list.items) r.0.entries []) }
-    ensures leaving { IfOk result (λ r. r.1.items ≡ filter (machine.leaves home.now unit.0) list.items) }
+    requires of_unit { AllByRecursion
+        (λ (e : model.Element). queues.is_marked unit.0 e.mark ≡ true) list.items }
+    ensures freed { IfOk result (λ r. (others : List model.Element) →
+        Frees others free.entries (staying home.now unit.0 list.items) r.0.entries []) }
+    ensures leaving { IfOk result
+        (λ r. r.1.items ≡ filter (machine.leaves home.now unit.0) list.items) }
     ensures refused { IfErr result (λ e. e ≡ Resources) }
 {
     rq_model::any_order();

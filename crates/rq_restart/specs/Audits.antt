@@ -1,5 +1,6 @@
 -- Which checkpoints are true, found on the way through the records.
-use Rattle.std.specs.Prelude.{◌≡◌, ℕ, ◌+◌, ◌-◌, ◌*◌, ◌≤◌, ◌<◌, Bool, List, [], ◌∷◌, ◌++◌, length, map, take, slice_index_or, Result, Ok, Err}
+use Rattle.std.specs.Prelude.{◌≡◌, ℕ, ◌+◌, ◌-◌, ◌*◌, ◌≤◌, ◌<◌, Bool, List, [], ◌∷◌, ◌++◌, length}
+use Rattle.std.specs.Prelude.{map, take, slice_index_or, Result, Ok, Err}
 use Rattle.std.specs.Str.{bytes_eq}
 use Rattle.std.specs.Global.{Vec}
 use Rattle.rq_model.specs.Records.{Record, Checkpoint}
@@ -36,7 +37,8 @@ audited_of x = record { offset = x.0; truth = x.1 }
 
 -- the spans of a chain behind the header, of which the first are those of the records
 abbrev pub StandAt : List Record → List Span → Type 0
-StandAt rs spans = (i : ℕ) → i < length rs → (i < length spans) × ((d : Span) → (slice_index_or spans i d).start ≡ past 40 (take i rs) + 4)
+StandAt rs spans = (i : ℕ) → i < length rs
+    → (i < length spans) × ((d : Span) → (slice_index_or spans i d).start ≡ past 40 (take i rs) + 4)
 
 -- the bytes that the state before the next record spells at least
 abbrev pub least : Walk → ℕ

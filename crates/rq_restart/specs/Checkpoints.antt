@@ -1,5 +1,6 @@
 -- The checkpoint that a chain begins with.
-use Rattle.std.specs.Prelude.{◌==◌, ℕ, List, [], ◌∷◌, Option, Some, None, if◌then◌else◌, ◌&&◌, nat_le, max, Result, Ok, Err}
+use Rattle.std.specs.Prelude.{◌==◌, ℕ, List, [], ◌∷◌, Option, Some, None, if◌then◌else◌, ◌&&◌}
+use Rattle.std.specs.Prelude.{nat_le, max, Result, Ok, Err}
 use Rattle.rq_model.specs.Frames.{HasHeader}
 use Rattle.rq_model.specs.StateSpelling.{SpellsState}
 use Rattle.rq_model.specs.Checkpoints.{IsCheckpointAt}

@@ -1,5 +1,6 @@
 -- Where lawful records end, and why, counted from a place of the log and a state.
-use Rattle.std.specs.Prelude.{◌≡◌, ℕ, ◌+◌, ◌-◌, ◌≤◌, nat_lt, Bool, if◌then◌else◌, All, List, length, drop, Option, Some, None, slice_get}
+use Rattle.std.specs.Prelude.{◌≡◌, ℕ, ◌+◌, ◌-◌, ◌≤◌, nat_lt, Bool, if◌then◌else◌, All, List, length}
+use Rattle.std.specs.Prelude.{drop, Option, Some, None, slice_get}
 use Rattle.rq_model.specs.Records.{Record, Version}
 use Rattle.rq_model.specs.Frames as frames
 use Rattle.rq_model.specs.Frames.{log_limit, before, last_of, IsFrameRun}
@@ -28,7 +29,8 @@ abbrev pub end_at : List Span → ℕ → frames.Rest → ℕ → ℕ → ℕ ×
 end_at spans end rest read kept = end_from (slice_get spans kept) end rest (nat_lt kept read)
 
 -- the longest list of lawful records from a place of b and a state, where it ends, and why
-pub record IsFrontFrom (version : Version) (s : State) (b : List ℕ) (place : ℕ) (rs : List Record) (end : ℕ) (why : Why) : Type 0 where
+pub record IsFrontFrom (version : Version) (s : State) (b : List ℕ)
+    (place : ℕ) (rs : List Record) (end : ℕ) (why : Why) : Type 0 where
   pub within : end ≤ length b
   pub few : place + length rs ≤ end
   pub longest : IsLongest version s (before place b) (drop place b) rs (drop end b)

@@ -16,5 +16,6 @@ pub record IsEndOf (r : Restarted) (e : FrontEnd) : Type 0 where
 
 -- the end of the front of b, or why b is refused
 abbrev pub FindsEnd : List ℕ → Result FrontEnd Fault → Type 0
-FindsEnd b (Ok e) = (length b ≤ log_limit) × IsHeaded b × (r : Restarted) × IsRestart b r × IsEndOf r e
+FindsEnd b (Ok e) = (length b ≤ log_limit) × IsHeaded b
+    × (r : Restarted) × IsRestart b r × IsEndOf r e
 FindsEnd b (Err e) = Refused b e

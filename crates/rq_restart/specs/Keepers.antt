@@ -1,5 +1,6 @@
 -- What a keeper of a state has taken.
-use Rattle.std.specs.Prelude.{◌≡◌, ◌+◌, ◌≤◌, ◌<◌, ℕ, true, List, ◌++◌, length, take, Result, Ok, Err}
+use Rattle.std.specs.Prelude.{◌≡◌, ◌+◌, ◌≤◌, ◌<◌, ℕ, true, List, ◌++◌, length, take, Result, Ok}
+use Rattle.std.specs.Prelude.{Err}
 use Rattle.rq_model.specs.Records.{Record, Version}
 use Rattle.rq_model.specs.States.{State}
 use Rattle.rq_model.specs.Machine.{run, all_lawful, lawful_front}
@@ -9,15 +10,18 @@ use Rattle.rq_record.specs.declared.fault.Fault.TheVariants.{Resources, TooLong}
 use Rattle.rq_restart.specs.declared.keeper.Keeper.{Keeper}
 
 -- the keeper stands behind the records, which are lawful from the base state on
-pub record StandsBehind (version : Version) (base : State) (taken : List Record) (k : Keeper) : Type 0 where
+pub record StandsBehind (version : Version) (base : State) (taken : List Record) (k : Keeper)
+    : Type 0 where
   pub rules : version_of k.version ≡ version
   pub lawful : all_lawful version base taken ≡ true
   pub state : k.state ≡ run base taken
 
 -- v stands behind n records more than k: the longest lawful beginning of those that come
 pub record StandsFurther (k : Keeper) (more : List Record) (v : Keeper) (n : ℕ) : Type 0 where
-  pub taken : (version : Version) (base : State) (taken : List Record) → StandsBehind version base taken k → StandsBehind version base (taken ++ take n more) v
-  pub count : (version : Version) (base : State) (taken : List Record) → StandsBehind version base taken k → n ≡ length (lawful_front version (run base taken) more)
+  pub taken : (version : Version) (base : State) (taken : List Record) →
+      StandsBehind version base taken k → StandsBehind version base (taken ++ take n more) v
+  pub count : (version : Version) (base : State) (taken : List Record) →
+      StandsBehind version base taken k → n ≡ length (lawful_front version (run base taken) more)
   pub few : k.state.next + length more ≤ 4294967295
 
 -- what comes of taking more: where it is refused, k stays as it is

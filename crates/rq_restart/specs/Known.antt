@@ -11,11 +11,13 @@ use Rattle.rq_restart.specs.declared.front.Known.{Known}
 use Rattle.rq_restart.specs.Readings.{AreApart, AreRead}
 
 -- the records that the bodies spell, and what one pass over them from a state on found
-pub record IsKnownOfBodies (version : Version) (s : State) (bodies : List (List ℕ)) (k : Known) : Type 0 where
+pub record IsKnownOfBodies (version : Version) (s : State) (bodies : List (List ℕ)) (k : Known)
+    : Type 0 where
   pub read : AreRead version bodies (map record_of k.records.items)
   pub analysis : IsAnalysis version s (map record_of k.records.items) k.analysis
 
 -- that of the bodies whose records stand apart, or no memory
 abbrev pub KnowsBodies : Version → State → Parts → Result Known Fault → Type 0
-KnowsBodies version s parts (Ok k) = (bodies : List (List ℕ)) → AreApart version bodies parts → IsKnownOfBodies version s bodies k
+KnowsBodies version s parts (Ok k) = (bodies : List (List ℕ)) →
+    AreApart version bodies parts → IsKnownOfBodies version s bodies k
 KnowsBodies version s parts (Err e) = e ≡ Resources

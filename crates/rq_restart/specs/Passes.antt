@@ -1,5 +1,6 @@
 -- How far a pass over a log has come.
-use Rattle.std.specs.Prelude.{◌≡◌, ◌≤◌, ◌+◌, ℕ, Bool, true, false, nat_lt, List, [], ◌∷◌, ◌++◌, length, take, drop}
+use Rattle.std.specs.Prelude.{◌≡◌, ◌≤◌, ◌+◌, ℕ, Bool, true, false, nat_lt, List, [], ◌∷◌, ◌++◌}
+use Rattle.std.specs.Prelude.{length, take, drop}
 use Rattle.std.specs.List.{AllByRecursion}
 use Rattle.rq_model.specs.Records.{Record, Version}
 use Rattle.rq_model.specs.Spelling.{IsRecord, Spells}
@@ -15,20 +16,26 @@ use Rattle.rq_restart.specs.declared.passing.Verdict.TheVariants.{Lawful, Unlawf
 use Rattle.rq_restart.specs.declared.passing.Reach.{Reach}
 use Rattle.rq_restart.specs.declared.passing.Pass.{Pass}
 
--- what a judge that stood in the state makes of a body; only behind a lawful record it stands elsewhere
+-- what a judge that stood in the state makes of a body; only behind a lawful record it stands
+-- elsewhere
 abbrev pub IsVerdict : Version → State → List ℕ → Judge → Verdict → Type 0
-IsVerdict version s body j Lawful = (r : Record) × Spells version r body × (is_lawful version s r ≡ true) × StandsIn version j (step s r)
-IsVerdict version s body j Unlawful = StandsIn version j s × (r : Record) × Spells version r body × (is_lawful version s r ≡ false)
-IsVerdict version s body j NoRecord = StandsIn version j s × ((r : Record) → Spells version r body → ⊥)
+IsVerdict version s body j Lawful = (r : Record) × Spells version r body
+    × (is_lawful version s r ≡ true) × StandsIn version j (step s r)
+IsVerdict version s body j Unlawful = StandsIn version j s
+    × (r : Record) × Spells version r body × (is_lawful version s r ≡ false)
+IsVerdict version s body j NoRecord = StandsIn version j s
+    × ((r : Record) → Spells version r body → ⊥)
 
 -- nothing, or a body that spells a record which is not lawful, or one that spells none
 abbrev pub StopsAt : Version → State → List (List ℕ) → Bool → Type 0
 StopsAt version s [] unlawful = unlawful ≡ false
-StopsAt version s (body ∷ left) true = (r : Record) × Spells version r body × (is_lawful version s r ≡ false)
+StopsAt version s (body ∷ left) true =
+    (r : Record) × Spells version r body × (is_lawful version s r ≡ false)
 StopsAt version s (body ∷ left) false = (r : Record) → Spells version r body → ⊥
 
 -- the lawful records that the bodies spell, from a state on; the judge stands behind them
-pub record AreJudged (version : Version) (s : State) (bodies : List (List ℕ)) (j : Judge) (reach : Reach) : Type 0 where
+pub record AreJudged (version : Version) (s : State)
+    (bodies : List (List ℕ)) (j : Judge) (reach : Reach) : Type 0 where
   pub kept : List Record
   pub left : List (List ℕ)
   pub records : AllByRecursion (IsRecord version) kept
@@ -58,7 +65,8 @@ HasPassedSome version b p = (rs : List Record) × HasPassed version b rs p
 
 -- for this reason no lawful record follows in the first bytes of b
 abbrev pub StopsIn : Version → List ℕ → ℕ → Pass → Why → Type 0
-StopsIn version b limit p why = (rs : List Record) × HasPassed version b rs p × IsWhy version (run empty rs) (last_of (start version) rs) (drop p.place (take limit b)) why
+StopsIn version b limit p why = (rs : List Record) × HasPassed version b rs p
+    × IsWhy version (run empty rs) (last_of (start version) rs) (drop p.place (take limit b)) why
 
 -- more bytes do not take the reason away
 abbrev pub stays : Why → Bool

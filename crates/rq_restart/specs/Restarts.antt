@@ -18,16 +18,20 @@ Restarts b (Err e) = Refused b e
 
 -- the state after the front of b, or why b is refused
 abbrev pub FindsState : List ℕ → Result State Fault → Type 0
-FindsState b (Ok s) = (version : Version) × (records : List Record) × (rest : List ℕ) × IsFront b version records rest × (s ≡ run empty records)
+FindsState b (Ok s) = (version : Version) × (records : List Record)
+    × (rest : List ℕ) × IsFront b version records rest × (s ≡ run empty records)
 FindsState b (Err e) = Refused b e
 
 -- no checkpoint begins at the offset of the log b
 abbrev pub HasNoCheckpoint : List ℕ → ℕ → Type 0
-HasNoCheckpoint b offset = (length b ≤ log_limit) × IsHeaded b × ((kept : List ℕ) → IsCheckpointAt b offset kept → ⊥)
+HasNoCheckpoint b offset = (length b ≤ log_limit) × IsHeaded b
+    × ((kept : List ℕ) → IsCheckpointAt b offset kept → ⊥)
 
 -- one does, and spells no state of the log's version
 abbrev pub HasBadCheckpoint : List ℕ → ℕ → Type 0
-HasBadCheckpoint b offset = (length b ≤ log_limit) × (version : Version) × HasHeader version b × (kept : List ℕ) × IsCheckpointAt b offset kept × ((s : State) → SpellsState version s kept → ⊥)
+HasBadCheckpoint b offset = (length b ≤ log_limit) × (version : Version) × HasHeader version b
+    × (kept : List ℕ) × IsCheckpointAt b offset kept
+    × ((s : State) → SpellsState version s kept → ⊥)
 
 -- the restart of b from the checkpoint at the offset, or why there is none
 abbrev pub RestartsAt : List ℕ → ℕ → Result Restarted Fault → Type 0

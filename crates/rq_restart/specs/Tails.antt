@@ -12,9 +12,11 @@ use Rattle.rq_restart.specs.declared.tails.Ending.{Ending}
 abbrev pub IsShortLog : List ℕ → Type 0
 IsShortLog b = (length b ≤ log_limit) × IsHeaded b
 
--- why b is not closed: its front and its tail together are longer than a log may be, or b is too long, or no log; or memory ran out
+-- why b is not closed: its front and its tail together are longer than a log may be, or b is too
+-- long, or no log; or memory ran out
 abbrev pub StaysOpen : List ℕ → Fault → Type 0
-StaysOpen b TooLarge = IsShortLog b × (closed : List ℕ) × IsClosed b closed × (log_limit < length closed)
+StaysOpen b TooLarge = IsShortLog b
+    × (closed : List ℕ) × IsClosed b closed × (log_limit < length closed)
 StaysOpen b e = Refused b e
 
 -- where the front of b ends, and the tail that closes it
@@ -25,7 +27,8 @@ pub record IsEnding (b : List ℕ) (e : Ending) : Type 0 where
 
 -- the tail of b, which closes it, or why there is none
 abbrev pub Tails : List ℕ → Result (Vec ℕ) Fault → Type 0
-Tails b (Ok v) = IsShortLog b × (closed : List ℕ) × IsClosedBy b v.items closed × (length closed ≤ log_limit)
+Tails b (Ok v) = IsShortLog b × (closed : List ℕ) × IsClosedBy b v.items closed
+    × (length closed ≤ log_limit)
 Tails b (Err e) = StaysOpen b e
 
 -- b closed, or why it is not

@@ -2,7 +2,8 @@
 use Rattle.rq_model.specs.Fronts as fronts
 use Rattle.rq_model.specs.Frames as frames
 use Rattle.rq_restart.specs.declared.restarted.Why.{Why}
-use Rattle.rq_restart.specs.declared.restarted.Why.TheVariants.{Whole, Cut, Length, Chain, Form, Law}
+use Rattle.rq_restart.specs.declared.restarted.Why.TheVariants.{Whole, Cut, Length, Chain, Form}
+use Rattle.rq_restart.specs.declared.restarted.Why.TheVariants.{Law}
 
 abbrev pub why_of : Why → fronts.Why
 why_of Whole = fronts.Ends frames.Whole

@@ -1,17 +1,20 @@
 -- How long the spelling of a state is at least, and how much of that records can take away.
-use Rattle.std.specs.Prelude.{◌≡◌, ◌≤◌, ◌+◌, ◌*◌, ◌==◌, ℕ, nat_eq, cond, List, length, filter, Option, Some, None}
+use Rattle.std.specs.Prelude.{◌≡◌, ◌≤◌, ◌+◌, ◌*◌, ◌==◌, ℕ, nat_eq, cond, List, length, filter}
+use Rattle.std.specs.Prelude.{Option, Some, None}
 use Rattle.indexmap.specs.IndexMap.{get}
 use Rattle.rq_model.specs.Records.{By}
 use Rattle.rq_model.specs.States.{State, is_registrant, is_note_of}
 use Rattle.rq_model.specs.Queues.{is_marked}
 use Rattle.rq_catalog.specs.Catalogues.{key_eq}
 use Rattle.rq_record.specs.declared.record.Record.{Record}
-use Rattle.rq_record.specs.declared.record.Record.TheVariants.{Register, Deregister, Begin, Enqueue, Dequeue, Commit, Abort, Kill}
+use Rattle.rq_record.specs.declared.record.Record.TheVariants.{Register, Deregister, Begin, Enqueue}
+use Rattle.rq_record.specs.declared.record.Record.TheVariants.{Dequeue, Commit, Abort, Kill}
 use Rattle.rq_restart.specs.declared.tally.Tally.{Tally}
 
 -- the bytes of a state's members, each in its shortest form
 abbrev pub member_bytes : State → ℕ
-member_bytes s = 7 * length s.definitions + 8 * length s.units + 6 * length s.registrants + 28 * length s.elements + 38 * length s.notes
+member_bytes s = 7 * length s.definitions + 8 * length s.units
+    + 6 * length s.registrants + 28 * length s.elements + 38 * length s.notes
 
 -- of each list at most n members are the unit's
 pub record HangOnUnit (s : State) (unit n : ℕ) : Type 0 where
@@ -54,7 +57,8 @@ pub record IsWithin (n : ℕ) (t : Tally) : Type 0 where
 
 abbrev pub unit_after : Record → Tally → ℕ → ℕ
 unit_after (Begin unit) t u = cond (nat_eq unit.0 u) (of_unit t unit.0 + 1) (of_unit t u)
-unit_after (Enqueue priority queue unit by payload) t u = cond (nat_eq unit.0 u) (of_unit t unit.0 + 1) (of_unit t u)
+unit_after (Enqueue priority queue unit by payload) t u =
+    cond (nat_eq unit.0 u) (of_unit t unit.0 + 1) (of_unit t u)
 unit_after (Dequeue unit queue by) t u = cond (nat_eq unit.0 u) (of_unit t unit.0 + 1) (of_unit t u)
 unit_after (Commit unit) t u = cond (nat_eq unit.0 u) 0 (of_unit t u)
 unit_after (Abort unit) t u = cond (nat_eq unit.0 u) 0 (of_unit t u)
@@ -63,10 +67,12 @@ unit_after r t u = of_unit t u
 -- one more at the registrant who is named
 abbrev pub named_after : ℕ → Option By → Tally → ℕ × List ℕ → ℕ
 named_after queue None t k = of_registrant t k
-named_after queue (Some by) t k = cond (key_eq (queue, by.name) k) (of_registrant t (queue, by.name) + 1) (of_registrant t k)
+named_after queue (Some by) t k =
+    cond (key_eq (queue, by.name) k) (of_registrant t (queue, by.name) + 1) (of_registrant t k)
 
 abbrev pub registrant_after : Record → Tally → ℕ × List ℕ → ℕ
-registrant_after (Register queue name) t k = cond (key_eq (queue.0, name) k) (of_registrant t (queue.0, name) + 1) (of_registrant t k)
+registrant_after (Register queue name) t k =
+    cond (key_eq (queue.0, name) k) (of_registrant t (queue.0, name) + 1) (of_registrant t k)
 registrant_after (Deregister queue name) t k = cond (key_eq (queue.0, name) k) 0 (of_registrant t k)
 registrant_after (Enqueue priority queue unit by payload) t k = named_after queue.0 by t k
 registrant_after (Dequeue unit queue by) t k = named_after queue.0 by t k

@@ -1,6 +1,7 @@
 //! Which checkpoints of a log are true.
 
-ghost use Rattle.std.specs.Prelude.{◌≡◌, ◌≤◌, ◌<◌, ◌+◌, ◌-◌, ◌^◌, ◌&&◌, not, true, List, length, map, nat_eq, nat_lt, IfOk, IfErr};
+ghost use Rattle.std.specs.Prelude.{◌≡◌, ◌≤◌, ◌<◌, ◌+◌, ◌-◌, ◌^◌, ◌&&◌, not, true, List, length};
+ghost use Rattle.std.specs.Prelude.{map, nat_eq, nat_lt, IfOk, IfErr};
 ghost use Rattle.std.specs.Int.{w64, to_be_bytes};
 ghost use Rattle.std.specs.List.{starts_with};
 ghost use Rattle.std.specs.Str.{bytes_eq};
@@ -13,7 +14,8 @@ ghost use Rattle.rq_model.specs.Checkpoints.{IsAudit};
 ghost use Rattle.rq_model.specs.StateSpelling.{state_bytes};
 ghost use Rattle.rq_record.specs.Views.{record_of, version_of};
 ghost use Rattle.rq_record.specs.declared.fault.Fault.TheVariants.{Resources};
-ghost use Rattle.rq_restart.specs.Audits.{Audits, IsAuditWalk, PassesRecord, StandAt, audited_of, least};
+ghost use Rattle.rq_restart.specs.Audits.{Audits, IsAuditWalk, PassesRecord, StandAt, audited_of};
+ghost use Rattle.rq_restart.specs.Audits.{least};
 ghost use Rattle.rq_restart.specs.Ends.{IsChain};
 ghost use Rattle.rq_restart.specs.Worth.{IsWithin, member_bytes, lost_by};
 
@@ -32,7 +34,8 @@ use std::thread::Threads;
 // So many bytes of a checkpoint cost about as much as a record.
 const BYTES_OF_A_RECORD: usize = 64;
 
-// Whether these are the bytes that spell the state, which is spelled only where its spelling has as many.
+// Whether these are the bytes that spell the state, which is spelled only where its spelling has as
+// many.
 fn is_spelled(alloc: Global, state: &State, kept: &[u8]) -> Result<bool, Fault>
     requires next { state.now.next ≤ 4294967295 }
     requires short { length kept.now ≤ 268435455 }
@@ -53,8 +56,9 @@ fn begins_with(kept: &[u8], next: u64) -> bool
     kept.starts_with(&next.to_be_bytes())
 }
 
-// How far an audit has come: the last state that was made, and the place of the record that it stands before; how often each
-// unit and registrant was spoken of; how many members of each list of that state may be gone since; and what was found.
+// How far an audit has come: the last state that was made, and the place of the record that it
+// stands before; how often each unit and registrant was spoken of; how many members of each list of
+// that state may be gone since; and what was found.
 #[derive(Drop)]
 struct Walk {
     state: State,
@@ -99,9 +103,12 @@ fn is_too_short(walk: &Walk, len: usize) -> bool
     (len as u128) < member_bytes_of(&walk.state).saturating_sub(74 * walk.lost as u128)
 }
 
-// Whether the bytes may spell the state before the next record: they begin with its number, and are enough.
+// Whether the bytes may spell the state before the next record: they begin with its number, and are
+// enough.
 fn may_spell(walk: &Walk, kept: &[u8], next: u64) -> bool
-    ensures { result ≡ (starts_with nat_eq kept.now (to_be_bytes w64 next) && not (nat_lt (length kept.now) (least walk.now))) }
+    ensures { result
+        ≡ (starts_with nat_eq kept.now (to_be_bytes w64 next)
+        && not (nat_lt (length kept.now) (least walk.now))) }
 {
     begins_with(kept, next) && !is_too_short(walk, kept.len())
 }
@@ -124,9 +131,9 @@ fn pass(walk: Walk, rec: &Record) -> Result<Walk, Fault>
     })
 }
 
-// One record further. The state before a checkpoint is made of the last one that was made, and only where the checkpoint
-// begins with its own number and is long enough to spell it: so a false one costs its bytes, and what was taken from the state
-// since the last one.
+// One record further. The state before a checkpoint is made of the last one that was made, and only
+// where the checkpoint begins with its own number and is long enough to spell it: so a false one
+// costs its bytes, and what was taken from the state since the last one.
 fn visit<R: Threads + Sync>(
     rt: &R,
     alloc: Global,
@@ -211,11 +218,11 @@ fn checkpoints_of<R: Threads + Sync>(
     Ok(walk.found)
 }
 
-/// The checkpoints of the front of a log, rising: the offset of each, and whether it is true, which is to say that it spells
-/// the state before it.
+/// The checkpoints of the front of a log, rising: the offset of each, and whether it is true, which
+/// is to say that it spells the state before it.
 ///
-/// Refuses with `TooLong` more than 4,294,967,295 bytes, with `NotALog` bytes that begin with no version's header, and with
-/// `Resources` where memory is refused.
+/// Refuses with `TooLong` more than 4,294,967,295 bytes, with `NotALog` bytes that begin with no
+/// version's header, and with `Resources` where memory is refused.
 pub fn audit<R: Threads + Sync>(
     rt: &R,
     alloc: Global,

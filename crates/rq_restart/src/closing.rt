@@ -1,6 +1,7 @@
 //! The end of a restart: open units are aborted, and all is redone.
 
-ghost use Rattle.std.specs.Prelude.{◌≡◌, ◌≤◌, ◌<◌, ◌^◌, ◌+◌, ◌-◌, ◌++◌, true, length, map, take, IfOk, IfErr, OnOk};
+ghost use Rattle.std.specs.Prelude.{◌≡◌, ◌≤◌, ◌<◌, ◌^◌, ◌+◌, ◌-◌, ◌++◌, true, length, map, take};
+ghost use Rattle.std.specs.Prelude.{IfOk, IfErr, OnOk};
 ghost use Rattle.rq_model.specs.Records as model;
 ghost use Rattle.rq_model.specs.Machine.{all_lawful, run};
 ghost use Rattle.rq_model.specs.WellFormed.{IsWellFormed};
@@ -24,7 +25,8 @@ use std::thread::Threads;
 
 // Puts the ABORT of each unit behind the records.
 fn append_aborts(records: &mut Vec<Record>, units: &[UnitNo]) -> Result<(), Fault>
-    ensures records { OnOk result (map record_of records.new.items ≡ map record_of records.old.items ++ map model.Abort (map unit_of units.now)) }
+    ensures records { OnOk result (map record_of records.new.items
+        ≡ map record_of records.old.items ++ map model.Abort (map unit_of units.now)) }
     ensures refused { IfErr result (λ e. e ≡ Resources) }
 {
     records.reserve_exact(units.len())?;
@@ -34,13 +36,15 @@ fn append_aborts(records: &mut Vec<Record>, units: &[UnitNo]) -> Result<(), Faul
     Ok(())
 }
 
-// The records and, behind them, the ABORT of each unit that is open after them, rising; and how many these are.
+// The records and, behind them, the ABORT of each unit that is open after them, rising; and how
+// many these are.
 fn with_aborts(
     alloc: Global,
     mut records: Vec<Record>,
     analysis: &Analysis,
 ) -> Result<(Vec<Record>, u64), Fault>
-    ensures records { IfOk result (λ all. map record_of all.0.items ≡ map record_of records.items ++ map model.Abort (open_in analysis.now)) }
+    ensures records { IfOk result (λ all. map record_of all.0.items
+        ≡ map record_of records.items ++ map model.Abort (open_in analysis.now)) }
     ensures count { IfOk result (λ all. all.1 ≡ length (open_in analysis.now)) }
     ensures refused { IfErr result (λ e. e ≡ Resources) }
 {
@@ -49,8 +53,9 @@ fn with_aborts(
     Ok((records, units.len() as u64))
 }
 
-// The state behind the records, for whose beginning the analysis stands. It lets go of both before the state is gathered, so
-// that the three never stand in memory at once, and a caller that is refused has neither to drop.
+// The state behind the records, for whose beginning the analysis stands. It lets go of both before
+// the state is gathered, so that the three never stand in memory at once, and a caller that is
+// refused has neither to drop.
 fn redone<R, G>(
     rt: &R,
     alloc: Global,
@@ -64,10 +69,12 @@ fn redone<R, G>(
 where
     R: Threads + Sync,
     G: Gate + Sync,
-    requires lawful { all_lawful (version_of version) state.now (map record_of records.items) ≡ true }
+    requires lawful { all_lawful (version_of version) state.now (map record_of records.items)
+        ≡ true }
     requires fits { state.now.next + length records.items < 2 ^ 64 }
     requires within { analysis.lawful ≤ length records.items }
-    requires analysed { IsAnalysis (version_of version) state.now (map record_of (take analysis.lawful records.items)) analysis }
+    requires analysed { IsAnalysis (version_of version) state.now
+        (map record_of (take analysis.lawful records.items)) analysis }
     ensures state { IfOk result (λ t. t ≡ run state.now (map record_of records.items)) }
     ensures refused { IfErr result (λ e. e ≡ Resources) }
 {
@@ -79,8 +86,9 @@ where
     all.gather(alloc)
 }
 
-/// What a restart answers of a front of the version that begins in the state and ends at a place of `total` bytes: its open
-/// units are aborted, rising, and records and aborts are redone together. The counts are those before these aborts.
+/// What a restart answers of a front of the version that begins in the state and ends at a place of
+/// `total` bytes: its open units are aborted, rising, and records and aborts are redone together.
+/// The counts are those before these aborts.
 pub(crate) fn close<R, G>(
     rt: &R,
     alloc: Global,
@@ -98,9 +106,13 @@ where
     requires next { state.now.next ≤ 4294967295 }
     requires few { length front.records.items ≤ 4294967295 }
     requires within { front.end ≤ total }
-    requires lawful { all_lawful (version_of version) state.now (map record_of front.records.items) ≡ true }
-    requires analysis { IsAnalysis (version_of version) state.now (map record_of front.records.items) front.analysis }
-    ensures answer { IfOk result (λ r. r ≡ restarted (run state.now (map record_of front.records.items)) (total - front.end) total (why_of front.why)) }
+    requires lawful { all_lawful (version_of version) state.now (map record_of front.records.items)
+        ≡ true }
+    requires analysis { IsAnalysis (version_of version) state.now
+        (map record_of front.records.items) front.analysis }
+    ensures answer { IfOk result
+        (λ r. r ≡ restarted (run state.now (map record_of front.records.items))
+        (total - front.end) total (why_of front.why)) }
     ensures refused { IfErr result (λ e. e ≡ Resources) }
 {
     rq_model::runs_are_well_formed();

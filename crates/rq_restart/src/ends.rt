@@ -27,11 +27,11 @@ pub struct FrontEnd {
 
 /// Where the front of a log ends, and why, as its restart says it; no queue is redone.
 ///
-/// No record is kept, so beside the bytes this takes memory for the queues, registrants and open units alone, and for a
-/// part of the log, whose length does not grow with it.
+/// No record is kept, so beside the bytes this takes memory for the queues, registrants and open
+/// units alone, and for a part of the log, whose length does not grow with it.
 ///
-/// Refuses with `TooLong` more than 4,294,967,295 bytes, with `NotALog` bytes that begin with no version's header, and with
-/// `Resources` where memory is refused.
+/// Refuses with `TooLong` more than 4,294,967,295 bytes, with `NotALog` bytes that begin with no
+/// version's header, and with `Resources` where memory is refused.
 pub fn front_end<R: Threads + Sync>(
     rt: &R,
     alloc: Global,

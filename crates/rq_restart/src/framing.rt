@@ -34,12 +34,14 @@ pub(crate) fn append_frame(
     Ok(before(out, out.len()))
 }
 
-/// Appends the frame of a body behind the last 32 bytes of what is there. These, the length and the body then stand side by
-/// side, so that one digest is taken of them where they stand. Where memory is refused a part of the frame may be there.
+/// Appends the frame of a body behind the last 32 bytes of what is there. These, the length and the
+/// body then stand side by side, so that one digest is taken of them where they stand. Where memory
+/// is refused a part of the frame may be there.
 pub(crate) fn append_next(body: &[u8], out: &mut Vec<u8>) -> Result<(), Fault>
     requires body { IsBodyLength (length body.now) }
     requires after { 32 ≤ length out.old.items }
-    ensures bytes { OnOk result (out.new.items ≡ out.old.items ++ frame (before (length out.old.items) out.old.items) body.now) }
+    ensures bytes { OnOk result (out.new.items
+        ≡ out.old.items ++ frame (before (length out.old.items) out.old.items) body.now) }
     ensures refused { IfErr result (λ e. e ≡ Resources) }
 {
     let from = out.len() - 32;

@@ -1,6 +1,7 @@
 //! The front of a log, from any state and place on.
 
-ghost use Rattle.std.specs.Prelude.{◌≡◌, ◌≤◌, ◌+◌, ◌++◌, ℕ, List, length, map, take, All, IfOk, IfErr};
+ghost use Rattle.std.specs.Prelude.{◌≡◌, ◌≤◌, ◌+◌, ◌++◌, ℕ, List, length, map, take, All, IfOk};
+ghost use Rattle.std.specs.Prelude.{IfErr};
 ghost use Rattle.std.specs.Thread.{IsSync};
 ghost use Rattle.rq_model.specs.Records as records;
 ghost use Rattle.rq_model.specs.Frames.{bodies_of, log_limit};
@@ -57,7 +58,8 @@ fn why_of(rest: Rest) -> Why
 
 // Where the front ends, and why: behind `kept` frames of a chain, of which `read` were read.
 pub(crate) fn end_of(found: &Chain, read: usize, kept: usize) -> (usize, Why)
-    ensures { (result.0, why_of result.1) ≡ end_at found.now.spans.items found.now.end (rest_of found.now.rest) read kept }
+    ensures { (result.0, why_of result.1)
+        ≡ end_at found.now.spans.items found.now.end (rest_of found.now.rest) read kept }
 {
     match found.spans.get(kept) {
         Some(span) => {
@@ -87,7 +89,9 @@ fn known_of_first(
     state: &State,
 ) -> Result<Known, Fault>
     requires next { state.now.next ≤ 4294967295 }
-    ensures known { IfOk result (λ k. (bodies : List (List ℕ)) → IsKnownOfBodies (version_of version) state.now bodies known → IsKnownOfBodies (version_of version) state.now (take count bodies) k) }
+    ensures known { IfOk result
+        (λ k. (bodies : List (List ℕ)) → IsKnownOfBodies (version_of version) state.now bodies known
+        → IsKnownOfBodies (version_of version) state.now (take count bodies) k) }
     ensures refused { IfErr result (λ e. e ≡ Resources) }
 {
     if known.records.len() <= count {
@@ -101,9 +105,17 @@ fn known_of_first(
 
 // The front among the records that were read of a chain.
 fn settled(found: &Chain, known: Known) -> Front
-    ensures front { (version : records.Version) (s : model.State) (b : List ℕ) (place : ℕ) → IsChain b place found.now → IsKnownOfBodies version s (bodies_at b found.now.spans.items) known → IsFrontFrom version s b place (map record_of result.records.items) result.end (why_of result.why) }
-    ensures bodies { (version : records.Version) (s : model.State) (bodies : List (List ℕ)) → IsKnownOfBodies version s bodies known → (left : List (List ℕ)) × (bodies ≡ bodies_of (map record_of result.records.items) ++ left) }
-    ensures analysis { (version : records.Version) (s : model.State) (bodies : List (List ℕ)) → IsKnownOfBodies version s bodies known → IsAnalysis version s (map record_of result.records.items) result.analysis }
+    ensures front { (version : records.Version) (s : model.State) (b : List ℕ) (place : ℕ) →
+        IsChain b place found.now
+        → IsKnownOfBodies version s (bodies_at b found.now.spans.items) known
+        → IsFrontFrom version s b place
+        (map record_of result.records.items) result.end (why_of result.why) }
+    ensures bodies { (version : records.Version) (s : model.State) (bodies : List (List ℕ)) →
+        IsKnownOfBodies version s bodies known → (left : List (List ℕ))
+        × (bodies ≡ bodies_of (map record_of result.records.items) ++ left) }
+    ensures analysis { (version : records.Version) (s : model.State) (bodies : List (List ℕ)) →
+        IsKnownOfBodies version s bodies known
+        → IsAnalysis version s (map record_of result.records.items) result.analysis }
 {
     rq_model::frames_are_right();
     rq_model::frames_join();
@@ -136,9 +148,14 @@ pub(crate) fn front_of<R: Threads + Sync>(
 ) -> Result<Front, Fault>
     requires chain { (place : ℕ) × IsChain bytes.now place found.now }
     requires next { state.now.next ≤ 4294967295 }
-    ensures front { IfOk result (λ f. (place : ℕ) → IsChain bytes.now place found.now → IsFrontFrom (version_of version) state.now bytes.now place (map record_of f.records.items) f.end (why_of f.why)) }
-    ensures bodies { IfOk result (λ f. (left : List (List ℕ)) × (bodies_at bytes.now found.now.spans.items ≡ bodies_of (map record_of f.records.items) ++ left)) }
-    ensures analysis { IfOk result (λ f. IsAnalysis (version_of version) state.now (map record_of f.records.items) f.analysis) }
+    ensures front { IfOk result (λ f. (place : ℕ) → IsChain bytes.now place found.now
+        → IsFrontFrom (version_of version) state.now bytes.now place
+        (map record_of f.records.items) f.end (why_of f.why)) }
+    ensures bodies { IfOk result
+        (λ f. (left : List (List ℕ)) × (bodies_at bytes.now found.now.spans.items
+        ≡ bodies_of (map record_of f.records.items) ++ left)) }
+    ensures analysis { IfOk result (λ f. IsAnalysis (version_of version) state.now
+        (map record_of f.records.items) f.analysis) }
     ensures refused { IfErr result (λ e. e ≡ Resources) }
 {
     let parts = read(
@@ -154,7 +171,8 @@ pub(crate) fn front_of<R: Threads + Sync>(
     Ok(settled(found, known))
 }
 
-// Checks the digests of a walk, while another thread puts the records of its bodies together and goes through them.
+// Checks the digests of a walk, while another thread puts the records of its bodies together and
+// goes through them.
 fn check_meanwhile<R: Threads + Sync>(
     rt: &R,
     alloc: Global,
@@ -168,14 +186,16 @@ fn check_meanwhile<R: Threads + Sync>(
     requires walk { (from : ℕ) × Walks bytes.now from walk }
     requires next { state.now.next ≤ 4294967295 }
     requires grain { 1 ≤ grain }
-    ensures chain { (from : ℕ) → Walks bytes.now from walk → IsChecked bytes.now from walk result.0 }
+    ensures chain { (from : ℕ) → Walks bytes.now from walk
+        → IsChecked bytes.now from walk result.0 }
     ensures known { KnowsBodies (version_of version) state.now parts result.1 }
 {
     join(
         rt,
         move || -> Chain
             requires { IsSync R.row × (1 ≤ grain) × (from : ℕ) × Walks bytes.now from walk }
-            ensures { (from : ℕ) → Walks bytes.entry.now from walk → IsChecked bytes.entry.now from walk result }
+            ensures { (from : ℕ) → Walks bytes.entry.now from walk
+                → IsChecked bytes.entry.now from walk result }
         { walk.checked(rt, bytes, grain) },
         move || -> Result<Known, Fault>
             requires { state.now.next ≤ 4294967295 }
@@ -186,8 +206,9 @@ fn check_meanwhile<R: Threads + Sync>(
 
 /// The front of the log of the version, in the frames of a walk, from a state on.
 ///
-/// Where threads are to be had, the records are read before any digest is known to be right, and those behind the first
-/// wrong one are dropped again: so the one pass over them, which is one thread's work, runs beside the digests.
+/// Where threads are to be had, the records are read before any digest is known to be right, and
+/// those behind the first wrong one are dropped again: so the one pass over them, which is one
+/// thread's work, runs beside the digests.
 pub(crate) fn front_of_walk<R: Threads + Sync>(
     rt: &R,
     alloc: Global,
@@ -202,8 +223,11 @@ pub(crate) fn front_of_walk<R: Threads + Sync>(
     requires inside { All (λ s. s.start + s.len ≤ length bytes.now) (spans_of walk) }
     requires short { length bytes.now ≤ log_limit }
     requires next { state.now.next ≤ 4294967295 }
-    ensures front { IfOk result (λ f. (place : ℕ) → Walks bytes.now place walk → IsFrontFrom (version_of version) state.now bytes.now place (map record_of f.records.items) f.end (why_of f.why)) }
-    ensures analysis { IfOk result (λ f. IsAnalysis (version_of version) state.now (map record_of f.records.items) f.analysis) }
+    ensures front { IfOk result (λ f. (place : ℕ) → Walks bytes.now place walk
+        → IsFrontFrom (version_of version) state.now bytes.now place
+        (map record_of f.records.items) f.end (why_of f.why)) }
+    ensures analysis { IfOk result (λ f. IsAnalysis (version_of version) state.now
+        (map record_of f.records.items) f.analysis) }
     ensures refused { IfErr result (λ e. e ≡ Resources) }
 {
     let grain = grain_of(plan);

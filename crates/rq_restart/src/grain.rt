@@ -4,8 +4,8 @@ ghost use Rattle.std.specs.Prelude.{◌≤◌};
 
 use rq_pool::Plan;
 
-/// How many frames a worker checks in one piece: those of the plan's grain, and all of them where it is alone, so that no
-/// thread is started.
+/// How many frames a worker checks in one piece: those of the plan's grain, and all of them where
+/// it is alone, so that no thread is started.
 pub(crate) fn grain_of(plan: &Plan) -> u32
     ensures { 1 ≤ result }
 {
@@ -16,7 +16,8 @@ pub(crate) fn grain_of(plan: &Plan) -> u32
     }
 }
 
-/// The plan for so little work as this many records are: one worker where they make no grain, so that no thread is started.
+/// The plan for so little work as this many records are: one worker where they make no grain, so
+/// that no thread is started.
 pub(crate) fn plan_for(plan: &Plan, records: usize) -> Plan {
     match Plan::new(1, plan.grain()) {
         Some(alone) if records < plan.grain() as usize => alone,

@@ -19,10 +19,11 @@ use std::thread::Threads;
 // A log has at most so many bytes, and so fewer records.
 const RECORDS: u64 = 4_294_967_295;
 
-/// The state behind all records that were taken, one piece of a log after the other. Open units stay open.
+/// The state behind all records that were taken, one piece of a log after the other. Open units
+/// stay open.
 ///
-/// A piece costs the members of the state and the records of the piece, whatever was taken before: so large pieces are
-/// cheaper than small ones. No record is kept.
+/// A piece costs the members of the state and the records of the piece, whatever was taken before:
+/// so large pieces are cheaper than small ones. No record is kept.
 #[derive(Drop)]
 pub struct Keeper {
     version: Version,
@@ -30,7 +31,8 @@ pub struct Keeper {
 }
 
 impl Keeper {
-    /// Stands at the state, with no record taken. From there on records are lawful by the rules of the version.
+    /// Stands at the state, with no record taken. From there on records are lawful by the rules of
+    /// the version.
     pub fn new(version: Version, state: State) -> Keeper
         ensures { StandsBehind (version_of version) state [] result }
     {
@@ -39,16 +41,17 @@ impl Keeper {
 
     /// The state behind all records that were taken.
     pub fn state(&self) -> &State
-        ensures { (version : model.Version) (base : states.State) (taken : List model.Record) → StandsBehind version base taken self.now → result.now ≡ run base taken }
+        ensures { (version : model.Version) (base : states.State) (taken : List model.Record) →
+            StandsBehind version base taken self.now → result.now ≡ run base taken }
     {
         &self.state
     }
 
-    /// Takes the records that are lawful behind those that were taken, up to the first that is not, and answers how many
-    /// these are. The queues are redone on the workers of the plan.
+    /// Takes the records that are lawful behind those that were taken, up to the first that is not,
+    /// and answers how many these are. The queues are redone on the workers of the plan.
     ///
-    /// `TooLong` where with all of them there would be more records than 4,294,967,295; `Resources` where the host refuses
-    /// memory. Then none was taken.
+    /// `TooLong` where with all of them there would be more records than 4,294,967,295; `Resources`
+    /// where the host refuses memory. Then none was taken.
     pub fn take<R: Threads + Sync>(
         &mut self,
         rt: &R,

@@ -20,7 +20,8 @@ use std::alloc::Global;
 use std::marker::Sync;
 use std::thread::Threads;
 
-// By so many bytes the part of a log that is looked at grows, or by more where a frame is longer. No answer depends on it.
+// By so many bytes the part of a log that is looked at grows, or by more where a frame is longer.
+// No answer depends on it.
 const WINDOW: usize = 16_777_216;
 
 // What a judge makes of a body.
@@ -48,7 +49,8 @@ pub(crate) struct Pass {
 
 // What the judge makes of a body; the record of a lawful one it takes.
 fn judge_one(alloc: Global, judge: &mut Judge, body: &[u8]) -> Result<Verdict, Fault>
-    ensures verdict { IfOk result (λ v. (version : records.Version) (s : model.State) → StandsIn version judge.old s → IsVerdict version s body.now judge.new v) }
+    ensures verdict { IfOk result (λ v. (version : records.Version) (s : model.State) →
+        StandsIn version judge.old s → IsVerdict version s body.now judge.new v) }
     ensures refused { IfErr result (λ e. e ≡ Resources) }
 {
     match decode_in(alloc, judge.version(), body) {
@@ -73,7 +75,9 @@ fn judge_each(
     spans: &[Span],
 ) -> Result<Reach, Fault>
     requires { All (λ s. s.start + s.len ≤ length bytes.now) spans.now }
-    ensures judged { IfOk result (λ reach. (version : records.Version) (s : model.State) → StandsIn version judge.old s → AreJudged version s (bodies_at bytes.now spans.now) judge.new reach) }
+    ensures judged { IfOk result
+        (λ reach. (version : records.Version) (s : model.State) → StandsIn version judge.old s
+        → AreJudged version s (bodies_at bytes.now spans.now) judge.new reach) }
     ensures few { IfOk result (λ reach. reach.lawful ≤ length spans.now) }
     ensures refused { IfErr result (λ e. e ≡ Resources) }
 {
@@ -118,7 +122,8 @@ fn first(bytes: &[u8], limit: usize) -> &[u8]
 impl Pass {
     /// A pass over a log of this version that stands behind its header.
     pub(crate) fn new(alloc: Global, version: Version) -> Pass
-        ensures { (b : List ℕ) → HasHeader (version_of version) b → HasPassedSome (version_of version) b result }
+        ensures { (b : List ℕ) → HasHeader (version_of version) b
+            → HasPassedSome (version_of version) b result }
     {
         rq_model::frames_join();
         Pass {
@@ -142,7 +147,9 @@ impl Pass {
         requires after { self.old.place ≤ limit }
         requires within { limit ≤ length bytes.now }
         requires passes { (version : records.Version) × HasPassedSome version bytes.now self.old }
-        ensures stops { IfOk result (λ why. (version : records.Version) → HasPassedSome version bytes.now self.old → StopsIn version bytes.now limit self.new (why_of why)) }
+        ensures stops { IfOk result
+            (λ why. (version : records.Version) → HasPassedSome version bytes.now self.old
+            → StopsIn version bytes.now limit self.new (why_of why)) }
         ensures place { IfOk result (λ why. self.new.place ≤ limit) }
         ensures refused { IfErr result (λ e. e ≡ Resources) }
     {
@@ -169,12 +176,15 @@ impl Pass {
         requires grain { 1 ≤ grain }
         requires short { length bytes.now ≤ log_limit }
         requires passes { (version : records.Version) × HasPassedSome version bytes.now self.old }
-        ensures stops { IfOk result (λ why. (version : records.Version) → HasPassedSome version bytes.now self.old → StopsIn version bytes.now (length bytes.now) self.new (why_of why)) }
+        ensures stops { IfOk result
+            (λ why. (version : records.Version) → HasPassedSome version bytes.now self.old
+            → StopsIn version bytes.now (length bytes.now) self.new (why_of why)) }
         ensures refused { IfErr result (λ e. e ≡ Resources) }
     {
         let mut limit = self.place;
         'windows: loop {
-            // What is left of the last window is less than a frame: where it is long, its frame may be longer still.
+            // What is left of the last window is less than a frame: where it is long, its frame may
+            // be longer still.
             let more = WINDOW.max(limit - self.place);
             limit = limit.saturating_add(more).min(bytes.len());
             let why = self.go_on(rt, alloc, bytes, limit, grain)?;

@@ -17,7 +17,8 @@ use std::thread::{Threads, join};
 // As many bodies are read by one thread, so that the restart of a small log starts none.
 pub(crate) const FEW: usize = 1024;
 
-/// The records that the bodies of a chain spell, in two parts: the front one has those of the first `count` bodies.
+/// The records that the bodies of a chain spell, in two parts: the front one has those of the first
+/// `count` bodies.
 #[derive(Drop)]
 pub(crate) struct Parts {
     front: Vec<Record>,
@@ -25,7 +26,8 @@ pub(crate) struct Parts {
     count: usize,
 }
 
-// The records of the version that the bodies spell, read by one thread, with room for as many as are to stand with them.
+// The records of the version that the bodies spell, read by one thread, with room for as many as
+// are to stand with them.
 fn read_in_order(
     alloc: Global,
     version: Version,
@@ -35,7 +37,8 @@ fn read_in_order(
     room: usize,
 ) -> Result<Vec<Record>, Fault>
     requires { All (λ s. s.start + s.len ≤ length bytes.now) spans.now }
-    ensures records { IfOk result (λ rs. AreRead (version_of version) (bodies_at bytes.now spans.now) (map record_of rs.items)) }
+    ensures records { IfOk result (λ rs. AreRead (version_of version)
+        (bodies_at bytes.now spans.now) (map record_of rs.items)) }
     ensures refused { IfErr result (λ e. e ≡ Resources) }
 {
     let mut records = Vec::with_capacity(alloc, room)?;
@@ -49,7 +52,8 @@ fn read_in_order(
     Ok(records)
 }
 
-// The records that the bodies spell, up to the first body that spells none, read by as many workers.
+// The records that the bodies spell, up to the first body that spells none, read by as many
+// workers.
 #[cycle(shares)]
 fn read_whole<R: Threads + Sync>(
     rt: &R,
@@ -62,15 +66,17 @@ fn read_whole<R: Threads + Sync>(
     room: usize,
 ) -> Result<Vec<Record>, Fault>
     requires { All (λ s. s.start + s.len ≤ length bytes.now) spans.now }
-    ensures records { IfOk result (λ rs. AreRead (version_of version) (bodies_at bytes.now spans.now) (map record_of rs.items)) }
+    ensures records { IfOk result (λ rs. AreRead (version_of version)
+        (bodies_at bytes.now spans.now) (map record_of rs.items)) }
     ensures refused { IfErr result (λ e. e ≡ Resources) }
 {
     let parts = read_apart(rt, alloc, version, lent, bytes, spans, workers, room)?;
     put_together(parts)
 }
 
-// The same in two parts: one worker reads the back one, and what that spells finds its room behind what the others read, so no
-// more than one worker's share ever stands twice. One worker, or few bodies, leave the back part empty.
+// The same in two parts: one worker reads the back one, and what that spells finds its room behind
+// what the others read, so no more than one worker's share ever stands twice. One worker, or few
+// bodies, leave the back part empty.
 #[cycle(shares)]
 fn read_apart<R: Threads + Sync>(
     rt: &R,
@@ -100,11 +106,13 @@ fn read_apart<R: Threads + Sync>(
         rt,
         || -> Result<Vec<Record>, Fault>
             requires { IsSync R.row × All (λ s. s.start + s.len ≤ length bytes.now) front.now }
-            ensures { ReadsBodies (version_of version) (bodies_at bytes.entry.now front.entry.now) result }
+            ensures { ReadsBodies (version_of version)
+                (bodies_at bytes.entry.now front.entry.now) result }
         { read_whole(rt, alloc, version, lent, bytes, front, fewer, room) },
         || -> Result<Vec<Record>, Fault>
             requires { All (λ s. s.start + s.len ≤ length bytes.now) back.now }
-            ensures { ReadsBodies (version_of version) (bodies_at bytes.entry.now back.entry.now) result }
+            ensures { ReadsBodies (version_of version)
+                (bodies_at bytes.entry.now back.entry.now) result }
         { read_in_order(alloc, version, lent, bytes, back, back.len()) },
     );
     Ok(Parts {
@@ -114,9 +122,11 @@ fn read_apart<R: Threads + Sync>(
     })
 }
 
-/// All records of the two parts. Where the front one ends before its last body, nothing behind it counts.
+/// All records of the two parts. Where the front one ends before its last body, nothing behind it
+/// counts.
 pub(crate) fn put_together(parts: Parts) -> Result<Vec<Record>, Fault>
-    ensures records { IfOk result (λ rs. (version : model.Version) (bodies : List (List ℕ)) → AreApart version bodies parts → AreRead version bodies (map record_of rs.items)) }
+    ensures records { IfOk result (λ rs. (version : model.Version) (bodies : List (List ℕ)) →
+        AreApart version bodies parts → AreRead version bodies (map record_of rs.items)) }
     ensures refused { IfErr result (λ e. e ≡ Resources) }
 {
     let Parts {
@@ -130,7 +140,8 @@ pub(crate) fn put_together(parts: Parts) -> Result<Vec<Record>, Fault>
     Ok(front)
 }
 
-/// The records that the bodies spell, up to the first body that spells none, read by as many workers, in two parts.
+/// The records that the bodies spell, up to the first body that spells none, read by as many
+/// workers, in two parts.
 pub(crate) fn read<R: Threads + Sync>(
     rt: &R,
     alloc: Global,

@@ -23,7 +23,8 @@ pub enum Why {
     Law,
 }
 
-/// What a restart answers: the state after the units that were open were aborted, and numbers of the front.
+/// What a restart answers: the state after the units that were open were aborted, and numbers of
+/// the front.
 #[derive(Drop)]
 pub struct Restarted {
     pub(crate) state: State,
@@ -42,7 +43,16 @@ impl Model for Restarted {
 
     ghost Value = { model.Restarted };
 
-    ghost view = { λ r. record { state = r.state; records = r.records; used = r.used; total = r.total; why = why_of r.why; committed = r.committed; aborted = r.aborted; cut_off = r.cut_off } };
+    ghost view = { λ r. record {
+      state = r.state;
+      records = r.records;
+      used = r.used;
+      total = r.total;
+      why = why_of r.why;
+      committed = r.committed;
+      aborted = r.aborted;
+      cut_off = r.cut_off;
+    } };
 }
 
 impl Restarted {

@@ -32,8 +32,10 @@ pub(crate) fn whole_front<R: Threads + Sync>(
     bytes: &[u8],
     plan: &Plan,
 ) -> Result<(Version, Front), Fault>
-    ensures front { IfOk result (λ x. IsFrontFrom (version_of x.0) empty bytes.now 40 (map record_of x.1.records.items) x.1.end (why_of x.1.why)) }
-    ensures analysis { IfOk result (λ x. IsAnalysis (version_of x.0) empty (map record_of x.1.records.items) x.1.analysis) }
+    ensures front { IfOk result (λ x. IsFrontFrom (version_of x.0) empty bytes.now 40
+        (map record_of x.1.records.items) x.1.end (why_of x.1.why)) }
+    ensures analysis { IfOk result
+        (λ x. IsAnalysis (version_of x.0) empty (map record_of x.1.records.items) x.1.analysis) }
     ensures header { IfOk result (λ x. HasHeader (version_of x.0) bytes.now) }
     ensures short { OnOk result (length bytes.now ≤ log_limit) }
     ensures refused { IfErr result (Refused bytes.now) }
@@ -87,9 +89,9 @@ where
 
 /// The front of a log, and the state behind it and the aborts of its open units.
 ///
-/// Every queue is redone by `plan.workers()` workers; each of them enters the gate before it redoes a queue. Refuses
-/// with `TooLong` more than 4,294,967,295 bytes, with `NotALog` bytes that begin with no version's header, and with
-/// `Resources` where memory is refused.
+/// Every queue is redone by `plan.workers()` workers; each of them enters the gate before it redoes
+/// a queue. Refuses with `TooLong` more than 4,294,967,295 bytes, with `NotALog` bytes that begin
+/// with no version's header, and with `Resources` where memory is refused.
 pub fn restart<R, G>(
     rt: &R,
     alloc: Global,
@@ -105,8 +107,9 @@ where
     restart_of(rt, alloc, &LentLog::none(), bytes, plan, gate)
 }
 
-/// The restart of a log that is lent: `restart` of its bytes. A payload of more than 22 bytes is a part of the log and no copy,
-/// so the log stays in memory as long as one such payload of the state does.
+/// The restart of a log that is lent: `restart` of its bytes. A payload of more than 22 bytes is a
+/// part of the log and no copy, so the log stays in memory as long as one such payload of the state
+/// does.
 pub fn restart_lent<R, G>(
     rt: &R,
     alloc: Global,
@@ -125,8 +128,8 @@ where
 
 /// The state after the front of a log, before any abort: open units stay open.
 ///
-/// Refuses with `TooLong` more than 4,294,967,295 bytes, with `NotALog` bytes that begin with no version's header, and with
-/// `Resources` where memory is refused.
+/// Refuses with `TooLong` more than 4,294,967,295 bytes, with `NotALog` bytes that begin with no
+/// version's header, and with `Resources` where memory is refused.
 pub fn front_state<R: Threads + Sync>(
     rt: &R,
     alloc: Global,

@@ -52,11 +52,13 @@ where
     )
 }
 
-/// The restart of a log that begins with the checkpoint at an offset, in the state that it spells, and goes on with the
-/// longest run of lawful records from there. From a true checkpoint it is the restart of the log.
+/// The restart of a log that begins with the checkpoint at an offset, in the state that it spells,
+/// and goes on with the longest run of lawful records from there. From a true checkpoint it is the
+/// restart of the log.
 ///
-/// Refuses with `NoCheckpoint` where the offset is below 40 or no frame with the right digest and kind 9 starts there, with
-/// `BadCheckpoint` where the checkpoint spells no well-formed state, and else as `restart` does.
+/// Refuses with `NoCheckpoint` where the offset is below 40 or no frame with the right digest and
+/// kind 9 starts there, with `BadCheckpoint` where the checkpoint spells no well-formed state, and
+/// else as `restart` does.
 pub fn restart_at<R, G>(
     rt: &R,
     alloc: Global,
@@ -73,8 +75,8 @@ where
     restart_at_of(rt, alloc, &LentLog::none(), bytes, offset, plan, gate)
 }
 
-/// The restart from a checkpoint of a log that is lent: `restart_at` of its bytes. A payload of more than 22 bytes behind the
-/// checkpoint is a part of the log and no copy.
+/// The restart from a checkpoint of a log that is lent: `restart_at` of its bytes. A payload of
+/// more than 22 bytes behind the checkpoint is a part of the log and no copy.
 pub fn restart_lent_at<R, G>(
     rt: &R,
     alloc: Global,

@@ -28,8 +28,10 @@ fn append_abort(
     unit: UnitNo,
     out: &mut Vec<u8>,
 ) -> Result<[u8; 32], Fault>
-    ensures bytes { OnOk result (out.new.items ≡ out.old.items ++ frame prev.now (body_of (model.Abort (unit_of unit)))) }
-    ensures last { IfOk result (λ last. last ≡ digest prev.now (body_of (model.Abort (unit_of unit)))) }
+    ensures bytes { OnOk result
+        (out.new.items ≡ out.old.items ++ frame prev.now (body_of (model.Abort (unit_of unit)))) }
+    ensures last { IfOk result
+        (λ last. last ≡ digest prev.now (body_of (model.Abort (unit_of unit)))) }
     ensures refused { IfErr result (λ e. e ≡ Resources) }
 {
     let mut body = Vec::new(alloc);
@@ -45,7 +47,8 @@ fn append_aborts(
     out: &mut Vec<u8>,
 ) -> Result<(), Fault>
     requires { length units.now ≤ 4294967295 }
-    ensures bytes { OnOk result (out.new.items ≡ out.old.items ++ frames_of prev (map model.Abort (map unit_of units.now))) }
+    ensures bytes { OnOk result (out.new.items
+        ≡ out.old.items ++ frames_of prev (map model.Abort (map unit_of units.now))) }
     ensures refused { IfErr result (λ e. e ≡ Resources) }
 {
     out.reserve(ABORT_LEN * units.len())?;
@@ -86,11 +89,11 @@ fn ending_of<R: Threads + Sync>(
     })
 }
 
-/// The tail of a log: the frames of the ABORT of each unit that is open after its front, rising, chained to the front's
-/// last 32 bytes; empty where no unit is open. No queue is redone for it.
+/// The tail of a log: the frames of the ABORT of each unit that is open after its front, rising,
+/// chained to the front's last 32 bytes; empty where no unit is open. No queue is redone for it.
 ///
-/// Refuses with `TooLarge` where the front followed by the tail would have more than 4,294,967,295 bytes, and else as
-/// `restart` does.
+/// Refuses with `TooLarge` where the front followed by the tail would have more than 4,294,967,295
+/// bytes, and else as `restart` does.
 pub fn tail<R: Threads + Sync>(
     rt: &R,
     alloc: Global,
@@ -103,8 +106,8 @@ pub fn tail<R: Threads + Sync>(
     Ok(ending.tail)
 }
 
-/// The closed log: the bytes up to the end of the front, as many as a restart says are used, and the tail behind them.
-/// What stood behind the front is dropped.
+/// The closed log: the bytes up to the end of the front, as many as a restart says are used, and
+/// the tail behind them. What stood behind the front is dropped.
 ///
 /// Refused as `tail` is.
 pub fn closed<R: Threads + Sync>(

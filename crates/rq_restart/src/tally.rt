@@ -1,10 +1,13 @@
-//! How many records speak for each unit and each registrant: no more members of a state go with these.
+//! How many records speak for each unit and each registrant: no more members of a state go with
+//! these.
 
-ghost use Rattle.std.specs.Prelude.{◌≡◌, ◌<◌, ◌+◌, ◌^◌, ◌-◌, ℕ, List, cond, nat_eq, OnOk, IfOk, IfErr};
+ghost use Rattle.std.specs.Prelude.{◌≡◌, ◌<◌, ◌+◌, ◌^◌, ◌-◌, ℕ, List, cond, nat_eq, OnOk, IfOk};
+ghost use Rattle.std.specs.Prelude.{IfErr};
 ghost use Rattle.indexmap.specs.IndexMap.{get};
 ghost use Rattle.rq_catalog.specs.Catalogues.{key_eq};
 ghost use Rattle.rq_record.specs.declared.fault.Fault.TheVariants.{Resources};
-ghost use Rattle.rq_restart.specs.Worth.{Counts, IsWithin, count_of, lost_by, named_after, of_registrant, of_unit};
+ghost use Rattle.rq_restart.specs.Worth.{Counts, IsWithin, count_of, lost_by, named_after};
+ghost use Rattle.rq_restart.specs.Worth.{of_registrant, of_unit};
 
 use indexmap::IndexMap;
 use rq_record::{Fault, KeptBy, Name, Record};
@@ -58,8 +61,10 @@ impl Tally {
     // An operation of a unit on a queue.
     fn operate(&mut self, unit: u64, queue: u32, by: &KeptBy) -> Result<u64, Fault>
         requires { IsWithin (2 ^ 64 - 2) self.old }
-        ensures units { OnOk result ((u : ℕ) → of_unit self.new u ≡ cond (nat_eq unit u) (of_unit self.old unit + 1) (of_unit self.old u)) }
-        ensures registrants { OnOk result ((k : ℕ × List ℕ) → of_registrant self.new k ≡ named_after queue by.now self.old k) }
+        ensures units { OnOk result ((u : ℕ) → of_unit self.new u
+            ≡ cond (nat_eq unit u) (of_unit self.old unit + 1) (of_unit self.old u)) }
+        ensures registrants { OnOk result
+            ((k : ℕ × List ℕ) → of_registrant self.new k ≡ named_after queue by.now self.old k) }
         ensures nothing { IfOk result (λ n. n ≡ 0) }
         ensures refused { IfErr result (λ e. e ≡ Resources) }
     {
@@ -73,7 +78,8 @@ impl Tally {
     fn speak(&mut self, unit: u64) -> Result<u64, Fault>
         requires { of_unit self.old unit + 1 < 2 ^ 64 }
         ensures frame { self.new ≡ record self.old { units = self.new.units } }
-        ensures units { OnOk result ((u : ℕ) → of_unit self.new u ≡ cond (nat_eq unit u) (of_unit self.old unit + 1) (of_unit self.old u)) }
+        ensures units { OnOk result ((u : ℕ) → of_unit self.new u
+            ≡ cond (nat_eq unit u) (of_unit self.old unit + 1) (of_unit self.old u)) }
         ensures nothing { IfOk result (λ n. n ≡ 0) }
         ensures refused { IfErr result (λ e. e ≡ Resources) }
     {
@@ -86,7 +92,9 @@ impl Tally {
     fn name(&mut self, queue: u32, name: Name) -> Result<u64, Fault>
         requires { of_registrant self.old (queue, name) + 1 < 2 ^ 64 }
         ensures frame { self.new ≡ record self.old { registrants = self.new.registrants } }
-        ensures registrants { OnOk result ((k : ℕ × List ℕ) → of_registrant self.new k ≡ cond (key_eq (queue, name) k) (of_registrant self.old (queue, name) + 1) (of_registrant self.old k)) }
+        ensures registrants { OnOk result
+            ((k : ℕ × List ℕ) → of_registrant self.new k ≡ cond (key_eq (queue, name) k)
+            (of_registrant self.old (queue, name) + 1) (of_registrant self.old k)) }
         ensures nothing { IfOk result (λ n. n ≡ 0) }
         ensures refused { IfErr result (λ e. e ≡ Resources) }
     {
@@ -107,7 +115,8 @@ impl Tally {
     // A registrant goes. How often it was spoken of.
     fn forget(&mut self, queue: u32, name: Name) -> u64
         ensures frame { self.new ≡ record self.old { registrants = self.new.registrants } }
-        ensures registrants { (k : ℕ × List ℕ) → of_registrant self.new k ≡ cond (key_eq (queue, name) k) 0 (of_registrant self.old k) }
+        ensures registrants { (k : ℕ × List ℕ) →
+            of_registrant self.new k ≡ cond (key_eq (queue, name) k) 0 (of_registrant self.old k) }
         ensures count { result ≡ of_registrant self.old (queue, name) }
     {
         self.registrants.swap_remove(&(queue, name)).unwrap_or(0)

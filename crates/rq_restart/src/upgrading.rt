@@ -30,7 +30,8 @@ struct Extent {
     count: usize,
 }
 
-// The records themselves are let go here: their bodies stand in the log, spelt alike in both versions.
+// The records themselves are let go here: their bodies stand in the log, spelt alike in both
+// versions.
 fn extent_of<R: Threads + Sync>(
     rt: &R,
     alloc: Global,
@@ -59,11 +60,12 @@ fn body_at(bytes: &[u8], at: usize) -> &[u8]
     &from[4..4 + len]
 }
 
-// The bodies of the first frames of a log, framed anew behind the header of version 2; room for all of them, up to an end, is
-// there before anything is written.
+// The bodies of the first frames of a log, framed anew behind the header of version 2; room for all
+// of them, up to an end, is there before anything is written.
 fn chained_anew(alloc: Global, bytes: &[u8], end: usize, count: usize) -> Result<Vec<u8>, Fault>
     requires { HaveFrames count (drop 40 bytes.now) }
-    ensures chained { IfOk result (λ v. v.items ≡ header Two ++ frames (start Two) (bodies_in count (drop 40 bytes.now))) }
+    ensures chained { IfOk result
+        (λ v. v.items ≡ header Two ++ frames (start Two) (bodies_in count (drop 40 bytes.now))) }
     ensures refused { IfErr result (λ e. e ≡ Resources) }
 {
     let mut out = Vec::with_capacity(alloc, end)?;
@@ -88,12 +90,12 @@ fn copied(alloc: Global, bytes: &[u8], end: usize) -> Result<Vec<u8>, Fault>
     Ok(out)
 }
 
-/// The log in version 2: the records of its front, each at its old place and spelt as before, chained anew behind the header
-/// of version 2. What stood behind the front is dropped. Of a log that has version 2 it is the front's bytes. No queue is
-/// redone for it.
+/// The log in version 2: the records of its front, each at its old place and spelt as before,
+/// chained anew behind the header of version 2. What stood behind the front is dropped. Of a log
+/// that has version 2 it is the front's bytes. No queue is redone for it.
 ///
-/// Refuses with `TooLong` more than 4,294,967,295 bytes, with `NotALog` bytes that begin with no version's header, and with
-/// `Resources` where memory is refused.
+/// Refuses with `TooLong` more than 4,294,967,295 bytes, with `NotALog` bytes that begin with no
+/// version's header, and with `Resources` where memory is refused.
 pub fn upgrade<R: Threads + Sync>(
     rt: &R,
     alloc: Global,

@@ -22,7 +22,8 @@ ActsOn (Close log out workers grain) b old new result = ClosesLog b old new resu
 ActsOn (Upgrade log out workers grain) b old new result = UpgradesLog b old new result
 
 -- also where the reader tells no bytes
-abbrev pub ActsOnly : CommandLine → Option (List ℕ) → Option (List ℕ) → Result (Unit {0}) Fault → Type 0
+abbrev pub ActsOnly : CommandLine → Option (List ℕ)
+    → Option (List ℕ) → Result (Unit {0}) Fault → Type 0
 ActsOnly (Make version script log) old new result = MakesOnly version old new result
 ActsOnly (Restart log workers grain) old new result = WritesOnly old new result
 ActsOnly (RestartAt log offset workers grain) old new result = WritesOnlyAt offset old new result

@@ -57,5 +57,6 @@ command_line (code.Upgrade log out plan) = Upgrade log.now out.now (workers_of p
 
 -- the words are those of the command's line, or of no line
 abbrev pub IsCommand : List (List ℕ) → Option Command → Type 0
-IsCommand words (Some command) = IsCommandLine (command_line command) × (words ≡ words_of (command_line command))
+IsCommand words (Some command) = IsCommandLine (command_line command)
+    × (words ≡ words_of (command_line command))
 IsCommand words None = (l : CommandLine) → IsCommandLine l → words ≡ words_of l → ⊥

@@ -37,7 +37,8 @@ where
     requires reads { I.faults input.old < 18446744073709551615 }
     requires writes { O.faults output.old < 18446744073709551615 }
     ensures acts { (b : List ℕ) → I.remaining input.old ≡ Some b
-        → ActsOn (command_line command.now) b (O.contents output.old) (O.contents output.new) result }
+        → ActsOn (command_line command.now) b
+        (O.contents output.old) (O.contents output.new) result }
     ensures quiet { ActsOnly (command_line command.now)
         (O.contents output.old) (O.contents output.new) result }
     ensures takes { TakesInput (I.remaining input.old) (I.remaining input.new) result }

@@ -7,8 +7,8 @@ ghost use Rattle.rq_model.specs.Frames.{AreBytes};
 ghost use Rattle.rq_front.specs.Chains.{IsHeaded};
 ghost use Rattle.rq_record.specs.declared.fault.Fault.TheVariants.{ReadFailed, Resources};
 ghost use Rattle.rq_tool.specs.Headline.{IsBeforeWriting, RestartsRead};
-ghost use Rattle.rq_tool.specs.Streams.{CountsTaken, IsOneOf, IsUnread, ReadFaults, ReadsAll, ReadsOn};
-ghost use Rattle.rq_tool.specs.Streams.{TakesInput, TakesSome};
+ghost use Rattle.rq_tool.specs.Streams.{CountsTaken, IsOneOf, IsUnread, ReadFaults, ReadsAll};
+ghost use Rattle.rq_tool.specs.Streams.{ReadsOn, TakesInput, TakesSome};
 
 use rq_front::version;
 use rq_report::Input;

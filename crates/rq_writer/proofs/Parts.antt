@@ -16,7 +16,7 @@ use Rattle.rq_model.specs.Reports.{payload_text, error_text}
 use Rattle.rq_writer.specs.Script.{who_name, who_tag, IsNamed}
 use Rattle.rq_model.specs.Frames.{AreBytes}
 use Rattle.rq_model.specs.Reports as reports
-use Rattle.rq_writer.specs.Reading.{field_at, is_digit, is_decimal, number_of, number_at, error_of, by_of, pairs_of, bytes_of_hex}
+use Rattle.rq_writer.specs.Reading.{field_at, is_digit, is_decimal, number_of, number_field, error_of, by_of, pairs_of, bytes_of_hex}
 use Rattle.rq_writer.proofs.Cuts.{cut_takes, cut_again, Lacks, lacks}
 use Rattle.rq_writer.proofs.Numbers.{own, number_takes, number_again, decimal_is_decimal}
 use Rattle.rq_writer.proofs.Hex.{no_bytes, some_is, pairs_takes, pairs_again, pairs_length, length-hex}
@@ -42,8 +42,8 @@ who_lacks (Some by) h = name_lacks by.name h.0
 abbrev number_then : ℕ → List ℕ × List ℕ → Option (ℕ × List ℕ)
 number_then most field = number_of most field.0 >>= λ n. Some (n, field.1)
 
-pub number_at_takes : (most : ℕ) (bytes : List ℕ) (x : ℕ × List ℕ) → most < 2 ^ 64 → number_at most bytes ≡ Some x → (bytes ≡ decimal x.0 ++ 32 ∷ x.1) × (x.0 ≤ most)
-unfolding number_at
+pub number_at_takes : (most : ℕ) (bytes : List ℕ) (x : ℕ × List ℕ) → most < 2 ^ 64 → number_field most bytes ≡ Some x → (bytes ≡ decimal x.0 ++ 32 ∷ x.1) × (x.0 ≤ most)
+unfolding number_field
 number_at_takes most bytes x small e =
     let a = bind_some (field_at bytes) (number_then most) x e in
     let b = bind_some (number_of most a.0.0) (λ n. Some (n, a.0.1)) x a.2 in
@@ -52,8 +52,8 @@ number_at_takes most bytes x small e =
     subst (λ (y : ℕ × List ℕ). (bytes ≡ decimal y.0 ++ 32 ∷ y.1) × (y.0 ≤ most)) whole
     (cut_takes 32 bytes a.0 a.1 ∙ ap (λ (l : List ℕ). l ++ 32 ∷ a.0.1) t.0, t.1)
 
-pub number_at_again : (most n : ℕ) (rest : List ℕ) → most < 2 ^ 64 → n ≤ most → number_at most (decimal n ++ 32 ∷ rest) ≡ Some (n, rest)
-unfolding number_at
+pub number_at_again : (most n : ℕ) (rest : List ℕ) → most < 2 ^ 64 → n ≤ most → number_field most (decimal n ++ 32 ∷ rest) ≡ Some (n, rest)
+unfolding number_field
 number_at_again most n rest small le =
     ap (λ (o : Option (List ℕ × List ℕ)). o >>= number_then most) (cut_again 32 (decimal n) rest (decimal_lacks n (omega (arith, small, le))))
     ∙ ap (λ (o : Option ℕ). o >>= λ m. Some (m, rest)) (number_again most n small le)

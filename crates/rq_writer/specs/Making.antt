@@ -50,7 +50,8 @@ RecordOf version number text old new (Ok r) = (l : Line) × Tells version l text
     → IsFrontAfter version new rs × Adds version rs l (record_of r))
 RecordOf version number text old new (Err (faults.Script n)) = (n ≡ number) × TellsNone version text
 RecordOf version number text old new (Err faults.TooLarge) = (text ≡ line_text Spelled)
-    × ((rs : List Record) → IsFrontAfter version old rs → AreLogged version rs → IsTooLarge version rs)
+    × ((rs : List Record) → IsFrontAfter version old rs
+    → AreLogged version rs → IsTooLarge version rs)
 RecordOf version number text old new (Err faults.Resources) = ⊤
 RecordOf version number text old new (Err _) = ⊥
 

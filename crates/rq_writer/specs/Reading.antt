@@ -9,10 +9,8 @@ use Rattle.rq_model.specs.Spelling.{is_name}
 use Rattle.rq_record.specs.Reading.{◌>>=◌, name_of}
 use Rattle.rq_record.specs.declared.fault.Fault.{Fault}
 use Rattle.rq_record.specs.declared.fault.Fault.TheVariants as faults
-use Rattle.rq_model.specs.Records.{By}
-use Rattle.rq_model.specs.Records.{Record}
-use Rattle.rq_model.specs.Records.{Define, Register, Deregister, Begin, Enqueue, Dequeue, Commit}
-use Rattle.rq_model.specs.Records.{Abort, Checkpoint, Kill, Version, One, Two}
+use Rattle.rq_model.specs.Records.{By, Record, Define, Register, Deregister, Begin, Enqueue}
+use Rattle.rq_model.specs.Records.{Dequeue, Commit, Abort, Checkpoint, Kill, Version, One, Two}
 use Rattle.rq_writer.specs.Script.{Line, Told, Spelled, Tells}
 use Rattle.rq_writer.specs.Views.{line_of}
 use Rattle.rq_writer.specs.declared.line.Line as code
@@ -40,8 +38,8 @@ abbrev pub number_of : ℕ → List ℕ → Option ℕ
 number_of most bytes = if is_decimal bytes && nat_le (digits_value 10 bytes) most
     then Some (digits_value 10 bytes) else None
 
-unfoldable pub number_at : ℕ → List ℕ → Option (ℕ × List ℕ)
-number_at most bytes = do
+unfoldable pub number_field : ℕ → List ℕ → Option (ℕ × List ℕ)
+number_field most bytes = do
   field ← field_at bytes
   n ← number_of most field.0
   Some (n, field.1)
@@ -79,92 +77,92 @@ bytes_of_hex limit text =
     else if nat_le (length text) (2 * limit) then pairs_of text
     else None
 
-unfoldable pub define_of : List ℕ → Option Record
-define_of bytes = do
+unfoldable pub define_line : List ℕ → Option Record
+define_line bytes = do
   word ← field_at bytes
   name ← name_of word.0
-  limit ← number_at 65535 word.1
+  limit ← number_field 65535 word.1
   error ← error_of limit.1
   Some (Define limit.0 error name)
 
-unfoldable pub register_of : List ℕ → Option Record
-register_of bytes = do
-  queue ← number_at 4294967295 bytes
+unfoldable pub register_line : List ℕ → Option Record
+register_line bytes = do
+  queue ← number_field 4294967295 bytes
   name ← name_of queue.1
   Some (Register queue.0 name)
 
-unfoldable pub deregister_of : List ℕ → Option Record
-deregister_of bytes = do
-  queue ← number_at 4294967295 bytes
+unfoldable pub deregister_line : List ℕ → Option Record
+deregister_line bytes = do
+  queue ← number_field 4294967295 bytes
   name ← name_of queue.1
   Some (Deregister queue.0 name)
 
 abbrev pub unit_number : List ℕ → Option ℕ
 unit_number bytes = number_of 18446744073709551615 bytes
 
-unfoldable pub begin_of : List ℕ → Option Record
-begin_of bytes = do
+unfoldable pub begin_line : List ℕ → Option Record
+begin_line bytes = do
   unit ← unit_number bytes
   Some (Begin unit)
 
-unfoldable pub commit_of : List ℕ → Option Record
-commit_of bytes = do
+unfoldable pub commit_line : List ℕ → Option Record
+commit_line bytes = do
   unit ← unit_number bytes
   Some (Commit unit)
 
-unfoldable pub abort_of : List ℕ → Option Record
-abort_of bytes = do
+unfoldable pub abort_line : List ℕ → Option Record
+abort_line bytes = do
   unit ← unit_number bytes
   Some (Abort unit)
 
-unfoldable pub enqueue_of : List ℕ → Option Record
-enqueue_of bytes = do
-  unit ← number_at 18446744073709551615 bytes
-  queue ← number_at 4294967295 unit.1
-  priority ← number_at 255 queue.1
+unfoldable pub enqueue_line : List ℕ → Option Record
+enqueue_line bytes = do
+  unit ← number_field 18446744073709551615 bytes
+  queue ← number_field 4294967295 unit.1
+  priority ← number_field 255 queue.1
   name ← field_at priority.1
-  tag ← number_at 18446744073709551615 name.1
+  tag ← number_field 18446744073709551615 name.1
   by ← by_of name.0 tag.0
   payload ← bytes_of_hex 65535 tag.1
   Some (Enqueue unit.0 queue.0 priority.0 by payload)
 
-unfoldable pub dequeue_of : List ℕ → Option Record
-dequeue_of bytes = do
-  unit ← number_at 18446744073709551615 bytes
-  queue ← number_at 4294967295 unit.1
+unfoldable pub dequeue_line : List ℕ → Option Record
+dequeue_line bytes = do
+  unit ← number_field 18446744073709551615 bytes
+  queue ← number_field 4294967295 unit.1
   name ← field_at queue.1
   tag ← number_of 18446744073709551615 name.1
   by ← by_of name.0 tag
   Some (Dequeue unit.0 queue.0 by)
 
-unfoldable pub checkpoint_of : List ℕ → Option Record
-checkpoint_of bytes = do
+unfoldable pub checkpoint_line : List ℕ → Option Record
+checkpoint_line bytes = do
   kept ← bytes_of_hex 268435455 bytes
   Some (Checkpoint kept)
 
-unfoldable pub kill_of : List ℕ → Option Record
-kill_of bytes = do
-  queue ← number_at 4294967295 bytes
+unfoldable pub kill_line : List ℕ → Option Record
+kill_line bytes = do
+  queue ← number_field 4294967295 bytes
   element ← number_of 18446744073709551615 queue.1
   Some (Kill queue.0 element)
 
 -- version 1 has no line of it
 abbrev pub kill_line_in : Version → List ℕ → Option Record
 kill_line_in One bytes = None
-kill_line_in Two bytes = kill_of bytes
+kill_line_in Two bytes = kill_line bytes
 
 -- the record that a first word and what stands behind it tell
 unfoldable pub told_by : Version → List ℕ → List ℕ → Option Record
 told_by version word bytes =
-    if bytes_eq word (codes "define") then define_of bytes
-    else if bytes_eq word (codes "register") then register_of bytes
-    else if bytes_eq word (codes "deregister") then deregister_of bytes
-    else if bytes_eq word (codes "begin") then begin_of bytes
-    else if bytes_eq word (codes "enqueue") then enqueue_of bytes
-    else if bytes_eq word (codes "dequeue") then dequeue_of bytes
-    else if bytes_eq word (codes "commit") then commit_of bytes
-    else if bytes_eq word (codes "abort") then abort_of bytes
-    else if bytes_eq word (codes "checkpoint-hex") then checkpoint_of bytes
+    if bytes_eq word (codes "define") then define_line bytes
+    else if bytes_eq word (codes "register") then register_line bytes
+    else if bytes_eq word (codes "deregister") then deregister_line bytes
+    else if bytes_eq word (codes "begin") then begin_line bytes
+    else if bytes_eq word (codes "enqueue") then enqueue_line bytes
+    else if bytes_eq word (codes "dequeue") then dequeue_line bytes
+    else if bytes_eq word (codes "commit") then commit_line bytes
+    else if bytes_eq word (codes "abort") then abort_line bytes
+    else if bytes_eq word (codes "checkpoint-hex") then checkpoint_line bytes
     else if bytes_eq word (codes "kill") then kill_line_in version bytes
     else None
 

@@ -78,9 +78,9 @@ pub(crate) fn number(most: u64, bytes: &[u8]) -> Result<u64, Fault>
     }
 }
 
-#[tactic(auto, unfolding(crate::specs::Reading::number_at))]
+#[tactic(auto, unfolding(crate::specs::Reading::number_field))]
 pub(crate) fn number_field(most: u64, bytes: &[u8]) -> Result<(u64, &[u8]), Fault>
-    ensures number { Gives (λ x. (x.0, x.1.now)) result (spec.number_at most bytes.now) }
+    ensures number { Gives (λ x. (x.0, x.1.now)) result (spec.number_field most bytes.now) }
     ensures most { IfOk result (λ x. x.0 ≤ most) }
 {
     let (field, rest) = field(bytes)?;
@@ -89,7 +89,7 @@ pub(crate) fn number_field(most: u64, bytes: &[u8]) -> Result<(u64, &[u8]), Faul
 }
 
 pub(crate) fn u32_field(bytes: &[u8]) -> Result<(u32, &[u8]), Fault>
-    ensures { Gives (λ x. (x.0, x.1.now)) result (spec.number_at 4294967295 bytes.now) }
+    ensures { Gives (λ x. (x.0, x.1.now)) result (spec.number_field 4294967295 bytes.now) }
 {
     let (n, rest) = number_field(4294967295, bytes)?;
     Ok((n as u32, rest))

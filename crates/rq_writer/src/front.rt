@@ -67,7 +67,8 @@ impl Front {
     /// Takes the next record of the log.
     pub(crate) fn keep(&mut self, r: Record) -> Result<(), Fault>
         ensures kept { OnOk result ((version : model.Version) (rs : List model.Record) →
-            IsFrontAfter version self.old rs → IsFrontAfter version self.new (rs ++ record_of r ∷ [])) }
+            IsFrontAfter version self.old rs
+            → IsFrontAfter version self.new (rs ++ record_of r ∷ [])) }
         ensures refused { IfErr result (λ e. e ≡ Resources) }
     {
         if !self.ended {

@@ -12,9 +12,9 @@ use crate::line::Line;
 use rq_record::{ElemId, Fault, KeptBy, KeptName, QueueNo, Record, UnitNo, Version};
 use std::alloc::Global;
 
-#[tactic(auto, unfolding(crate::specs::Reading::define_of))]
+#[tactic(auto, unfolding(crate::specs::Reading::define_line))]
 fn define(alloc: Global, bytes: &[u8]) -> Result<Record, Fault>
-    ensures { Gives record_of result (spec.define_of bytes.now) }
+    ensures { Gives record_of result (spec.define_line bytes.now) }
 {
     let (word, rest) = field(bytes)?;
     let name = name(word)?;
@@ -27,9 +27,9 @@ fn define(alloc: Global, bytes: &[u8]) -> Result<Record, Fault>
     })
 }
 
-#[tactic(auto, unfolding(crate::specs::Reading::register_of))]
+#[tactic(auto, unfolding(crate::specs::Reading::register_line))]
 fn register(alloc: Global, bytes: &[u8]) -> Result<Record, Fault>
-    ensures { Gives record_of result (spec.register_of bytes.now) }
+    ensures { Gives record_of result (spec.register_line bytes.now) }
 {
     let (queue, rest) = u32_field(bytes)?;
     let name = name(rest)?;
@@ -39,9 +39,9 @@ fn register(alloc: Global, bytes: &[u8]) -> Result<Record, Fault>
     })
 }
 
-#[tactic(auto, unfolding(crate::specs::Reading::deregister_of))]
+#[tactic(auto, unfolding(crate::specs::Reading::deregister_line))]
 fn deregister(alloc: Global, bytes: &[u8]) -> Result<Record, Fault>
-    ensures { Gives record_of result (spec.deregister_of bytes.now) }
+    ensures { Gives record_of result (spec.deregister_line bytes.now) }
 {
     let (queue, rest) = u32_field(bytes)?;
     let name = name(rest)?;
@@ -58,33 +58,33 @@ fn unit(bytes: &[u8]) -> Result<UnitNo, Fault>
     Ok(UnitNo(unit))
 }
 
-#[tactic(auto, unfolding(crate::specs::Reading::begin_of))]
+#[tactic(auto, unfolding(crate::specs::Reading::begin_line))]
 fn begin(bytes: &[u8]) -> Result<Record, Fault>
-    ensures { Gives record_of result (spec.begin_of bytes.now) }
+    ensures { Gives record_of result (spec.begin_line bytes.now) }
 {
     let unit = unit(bytes)?;
     Ok(Record::Begin { unit })
 }
 
-#[tactic(auto, unfolding(crate::specs::Reading::commit_of))]
+#[tactic(auto, unfolding(crate::specs::Reading::commit_line))]
 fn commit(bytes: &[u8]) -> Result<Record, Fault>
-    ensures { Gives record_of result (spec.commit_of bytes.now) }
+    ensures { Gives record_of result (spec.commit_line bytes.now) }
 {
     let unit = unit(bytes)?;
     Ok(Record::Commit { unit })
 }
 
-#[tactic(auto, unfolding(crate::specs::Reading::abort_of))]
+#[tactic(auto, unfolding(crate::specs::Reading::abort_line))]
 fn abort(bytes: &[u8]) -> Result<Record, Fault>
-    ensures { Gives record_of result (spec.abort_of bytes.now) }
+    ensures { Gives record_of result (spec.abort_line bytes.now) }
 {
     let unit = unit(bytes)?;
     Ok(Record::Abort { unit })
 }
 
-#[tactic(auto, unfolding(crate::specs::Reading::enqueue_of))]
+#[tactic(auto, unfolding(crate::specs::Reading::enqueue_line))]
 fn enqueue(alloc: Global, bytes: &[u8]) -> Result<Record, Fault>
-    ensures { Gives record_of result (spec.enqueue_of bytes.now) }
+    ensures { Gives record_of result (spec.enqueue_line bytes.now) }
 {
     let (unit, rest) = number_field(u64::MAX, bytes)?;
     let (queue, rest) = u32_field(rest)?;
@@ -102,9 +102,9 @@ fn enqueue(alloc: Global, bytes: &[u8]) -> Result<Record, Fault>
     })
 }
 
-#[tactic(auto, unfolding(crate::specs::Reading::dequeue_of))]
+#[tactic(auto, unfolding(crate::specs::Reading::dequeue_line))]
 fn dequeue(alloc: Global, bytes: &[u8]) -> Result<Record, Fault>
-    ensures { Gives record_of result (spec.dequeue_of bytes.now) }
+    ensures { Gives record_of result (spec.dequeue_line bytes.now) }
 {
     let (unit, rest) = number_field(u64::MAX, bytes)?;
     let (queue, rest) = u32_field(rest)?;
@@ -118,17 +118,17 @@ fn dequeue(alloc: Global, bytes: &[u8]) -> Result<Record, Fault>
     })
 }
 
-#[tactic(auto, unfolding(crate::specs::Reading::checkpoint_of))]
+#[tactic(auto, unfolding(crate::specs::Reading::checkpoint_line))]
 fn checkpoint(alloc: Global, bytes: &[u8]) -> Result<Record, Fault>
-    ensures { Gives record_of result (spec.checkpoint_of bytes.now) }
+    ensures { Gives record_of result (spec.checkpoint_line bytes.now) }
 {
     let bytes = kept(alloc, bytes)?;
     Ok(Record::Checkpoint { bytes })
 }
 
-#[tactic(auto, unfolding(crate::specs::Reading::kill_of))]
+#[tactic(auto, unfolding(crate::specs::Reading::kill_line))]
 fn kill(bytes: &[u8]) -> Result<Record, Fault>
-    ensures { Gives record_of result (spec.kill_of bytes.now) }
+    ensures { Gives record_of result (spec.kill_line bytes.now) }
 {
     let (queue, rest) = u32_field(bytes)?;
     let element = number(u64::MAX, rest)?;
