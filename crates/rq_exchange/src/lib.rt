@@ -1,6 +1,6 @@
-//! Replay: the state after the records, redone by queue on workers that take from a room. No queue
-//! waits for another but its error queue for it: who hands on the last of what leaves the sources
-//! of an error queue redoes that one next.
+//! Replay: the state after the records, redone by queue on workers that take from a room. No worker
+//! waits for another: whoever hands in the last of what leaves an error queue's sources redoes that
+//! queue next.
 #![tactic(auto)]
 
 mod arrivals;

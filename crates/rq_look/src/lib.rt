@@ -1,4 +1,5 @@
-//! What a log holds, shown: its records, its front, its report, its script.
+//! What a log holds, shown: its records, its front, its report, its script, whether its checkpoints
+//! are true, what became of an element, and a page of all of it.
 #![tactic(auto)]
 
 mod bytes;

@@ -28,7 +28,7 @@ fn line_at(number: u64, rest: &[u8]) -> Result<(&[u8], &[u8]), Fault>
 /// The fault of the earliest line that has one: `Script` with its number, counted from 1, where it
 /// is no line; `TooLarge` for a `checkpoint` whose spelling has more than 268,435,455 bytes;
 /// `TooLong` where the log would pass 4,294,967,295 bytes. `Resources` where the host refuses
-/// memory or a thread.
+/// memory.
 pub fn make_in<R: Threads + Sync>(
     rt: &R,
     alloc: Global,
