@@ -187,6 +187,8 @@ def faults() -> None:
     check("a log of a bad script", os.path.exists("bad.made"), False)
     for line in [["make", "missing", "made"], ["restart", "missing", 1, 1], ["restart-at", "missing", 40, 1, 1], ["audit", "missing", 1], ["close", "missing", "made", 1], ["upgrade", "missing", "made", 1]]:
         check(f"{line[0]} of a missing file", run(*line), READ_FAULT)
+    for line in [["restart", "/dev/zero", 2, 1], ["restart-at", "/dev/zero", 40, 2, 1], ["audit", "/dev/zero", 2], ["close", "/dev/zero", "made", 2], ["upgrade", "/dev/zero", "made", 2]]:
+        check(f"{line[0]} of zeros without end", run(*line), refused("too long"))
     os.mkdir("folder")
     for line in [["make", "folder", "made"], ["restart", "folder", 1, 1], ["restart-at", "folder", 40, 1, 1], ["audit", "folder", 1], ["close", "folder", "made", 1], ["upgrade", "folder", "made", 1]]:
         check(f"{line[0]} of a folder", run(*line), READ_FAULT)
@@ -290,6 +292,13 @@ def plans() -> None:
         os.remove(name)
 
 
+def words() -> None:
+    """Memory that is refused for the words of the line is told as such, and not as a line that is none."""
+    long = ["x" * 100000] * 12
+    told = {run_within(kibibytes, *long)[0] for kibibytes in range(1 << 10, 1 << 15, 128)}
+    check("long words with little memory and with more", (RESOURCES[0] in told, USAGE[0] in told), (True, True))
+
+
 THREADS = rb"""
 #define _GNU_SOURCE
 #include <dlfcn.h>
@@ -380,7 +389,7 @@ def main() -> None:
     folder = tempfile.mkdtemp()
     os.chdir(folder)
     try:
-        for part in [commands, usage, faults, closing, upgrading, outputs, files, plans, threads]:
+        for part in [commands, usage, faults, closing, upgrading, outputs, files, plans, words, threads]:
             try:
                 part()
             except Exception as fault:

@@ -78,8 +78,8 @@ fn queue_pieces<R: Threads + Sync>(
     Ok(pieces)
 }
 
-// How many pieces a report gets: one for each worker.
-fn count_of(r: &Restarted, plan: &Plan) -> u32 {
+/// How many pieces a report gets: one for each worker.
+pub(crate) fn count_of(r: &Restarted, plan: &Plan) -> u32 {
     if r.total() <= SHORT {
         1
     } else {

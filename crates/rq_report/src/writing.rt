@@ -4,7 +4,7 @@ ghost use Rattle.std.specs.Prelude.{◌<◌, string_bytes};
 ghost use Rattle.std.specs.List.{flat_map};
 ghost use Rattle.rq_report.specs.Streams.{Delivers, Reports};
 
-use crate::pieces::report_in_pieces;
+use crate::pieces::{count_of, report_in_pieces};
 use crate::report::report;
 use crate::stream::Output;
 use rq_record::Fault;
@@ -55,7 +55,8 @@ pub fn write_report<W: Output>(alloc: Global, r: &Restarted, output: &mut W) -> 
     }
 }
 
-/// What `write_report` does, its text made by the plan's workers.
+/// What `write_report` does, its text made by the plan's workers. Where that is worth no threads, it
+/// is made whole.
 pub fn write_report_by<R, W>(
     rt: &R,
     alloc: Global,
@@ -70,6 +71,9 @@ where
     ensures { Reports r.now (W.faults output.old) (W.faults output.new)
         (W.contents output.old) (W.contents output.new) result }
 {
+    if count_of(r, plan) < 2 {
+        return write_report(alloc, r, output);
+    }
     match report_in_pieces(rt, alloc, r, plan) {
         Ok(pieces) => write_pieces(output, &pieces),
         Err(_) => Err(Fault::Resources),

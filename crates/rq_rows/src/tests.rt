@@ -38,6 +38,9 @@ const PLANS: [(u32, u32); 8] = [
     (64, 1000),
 ];
 
+/// Those that a log is restarted with which is damaged at each place in turn, or whose reads or writes fail one by one.
+const FEW_PLANS: [(u32, u32); 3] = [(1, 1), (2, 1000), (7, 1)];
+
 /// The lines, each ended by LF.
 fn lines(alloc: Global, lines: &[&str]) -> Result<Vec<u8>, Fail> {
     let mut bytes = Vec::new(alloc);

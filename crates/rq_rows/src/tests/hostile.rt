@@ -1,7 +1,7 @@
 //! One log, cut at every place and changed at every byte.
 
 use super::scripts::RETURN_AND_ARRIVAL;
-use super::{answer, log_of, refusal};
+use super::{FEW_PLANS, answer, log_of, refusal};
 use rq_tool::{Command, Fault, Plan};
 use std::test::Fail;
 use std::thread::Threads;
@@ -42,11 +42,10 @@ fn rests<R: Threads + Sync + AllocGlobal>(rt: &R) -> Result<Vec<Vec<u8>>, Fail> 
     Ok(rests)
 }
 
-/// Whether the report of the bytes has a front of so many frames, and the other lines of these.
+/// Whether the report of the bytes has a front of so many frames, and the other lines of these, whatever the plan is.
 fn has_front<R: Threads + Sync + AllocGlobal>(
     rt: &R,
     bytes: &[u8],
-    plan: Plan,
     frames: usize,
     why: &str,
     rests: &[Vec<u8>],
@@ -55,7 +54,13 @@ fn has_front<R: Threads + Sync + AllocGlobal>(
     let line = format!(in rt.alloc(); "front {frames} records, {used} of {total} bytes, {why}")?;
     let mut want = Vec::from_slice(rt.alloc(), line.as_bytes())?;
     want.extend_from_slice(rests.get(frames).ok_or("rest")?)?;
-    Ok(answer(rt, &Command::Restart { log: "log", plan }, bytes)? == want)
+    let mut same = true;
+    for (workers, grain) in FEW_PLANS {
+        let plan = Plan::new(workers, grain).ok_or("plan")?;
+        let got = answer(rt, &Command::Restart { log: "log", plan }, bytes)?;
+        same = same && got == want;
+    }
+    Ok(same)
 }
 
 #[test]
@@ -83,11 +88,8 @@ fn every_beginning_has_the_front_of_its_whole_frames(rt: HostRuntime) -> Result<
             cut = cut.saturating_add(1);
         }
         let why = if is_whole { "whole" } else { "cut" };
-        for (workers, grain) in [(2, 1000), (1, 1)] {
-            let plan = Plan::new(workers, grain).ok_or("plan")?;
-            let is = has_front(&rt, bytes, plan, frames, why, &rests)?;
-            assert!(rt; is, "{length} bytes");
-        }
+        let is = has_front(&rt, bytes, frames, why, &rests)?;
+        assert!(rt; is, "{length} bytes");
     }
     assert_eq!(rt; (none, whole, cut), (40, 14, 691));
     Ok(())
@@ -121,8 +123,7 @@ fn every_changed_byte_ends_the_front_before_its_frame(rt: HostRuntime) -> Result
             } else {
                 let frames = frames_before(offset);
                 let why = why_after(&log, frames)?;
-                let plan = Plan::new(2, 1000).ok_or("plan")?;
-                let is = has_front(&rt, &log, plan, frames, why, &rests)?;
+                let is = has_front(&rt, &log, frames, why, &rests)?;
                 assert!(rt; is, "byte {offset} by {mask}");
             }
             *log.get_mut(offset).ok_or("byte")? = byte;

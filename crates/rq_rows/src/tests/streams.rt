@@ -1,11 +1,12 @@
 //! Readers and writers that are interrupted, give and take a few bytes a call, and fail.
 
 use super::scripts::RETURN_AND_ARRIVAL;
-use super::{answer, log_of};
+use super::{FEW_PLANS, answer, log_of};
 use rq_tool::{Command, Fault, Open, OverRead, OverWrite, Plan, run};
 use std::io;
 use std::io::{Cursor, ErrorKind, Read, Write};
 use std::test::Fail;
+use std::thread::Threads;
 
 /// Gives at most 7 bytes a call. Each call that does not come after an interrupted one is
 /// interrupted, where that is asked for; the call of one number, from 1, those interrupted aside,
@@ -90,26 +91,58 @@ impl Write for Narrow {
     }
 }
 
+/// How a run ends that reads so, how many reads it made, and what it wrote.
+fn run_from<R: Threads + Sync + AllocGlobal>(
+    rt: &R,
+    plan: &Plan,
+    rough: Rough<'_>,
+) -> (Option<Fault>, u64, Vec<u8>) {
+    let mut input = OverRead::new(rough);
+    let mut output = OverWrite::new(Vec::new(rt.alloc()));
+    let done = run(rt, rt.alloc(), &mut input, &mut output, plan, &Open);
+    (done.err(), input.into_inner().calls, output.into_inner())
+}
+
+/// How a run ends that writes so, how many writes it made, and what these took.
+fn run_into<R: Threads + Sync + AllocGlobal>(
+    rt: &R,
+    plan: &Plan,
+    log: &[u8],
+    narrow: Narrow,
+) -> (Option<Fault>, u64, Vec<u8>) {
+    let mut input = OverRead::new(Cursor::new(log));
+    let mut output = OverWrite::new(narrow);
+    let done = run(rt, rt.alloc(), &mut input, &mut output, plan, &Open);
+    let narrow = output.into_inner();
+    (done.err(), narrow.calls, narrow.taken)
+}
+
+/// The report of the log.
+fn report_of<R: Threads + Sync + AllocGlobal>(rt: &R, log: &[u8]) -> Result<Vec<u8>, Fail> {
+    let plan = Plan::new(1, 1000).ok_or("plan")?;
+    Ok(answer(rt, &Command::Restart { log: "log", plan }, log)?)
+}
+
 #[test]
 fn a_read_that_fails_is_told_and_nothing_is_written(rt: HostRuntime) -> Result<(), Fail> {
     let log = log_of(&rt, &RETURN_AND_ARRIVAL)?;
-    let plan = Plan::new(2, 1000).ok_or("plan")?;
-    let report = answer(&rt, &Command::Restart { log: "log", plan }, &log)?;
-    for interrupts in [false, true] {
-        // 106 calls of 7 bytes, one of the last 3, and one that finds the end
-        for fails_at in 0..110 {
-            let mut input = OverRead::new(Rough::new(&log, interrupts, fails_at));
-            let mut output = OverWrite::new(Vec::new(rt.alloc()));
-            let done = run(&rt, rt.alloc(), &mut input, &mut output, &plan, &Open);
-            let calls = input.into_inner().calls;
-            if 0 < fails_at && fails_at <= 108 {
-                assert_eq!(rt; done.err(), Some(Fault::ReadFailed), "call {fails_at}");
-                assert_eq!(rt; calls, fails_at);
-                assert!(rt; output.into_inner().is_empty(), "call {fails_at}");
-            } else {
-                assert!(rt; done.is_ok(), "call {fails_at}");
-                assert_eq!(rt; calls, 108);
-                assert!(rt; output.into_inner() == report, "call {fails_at}");
+    let report = report_of(&rt, &log)?;
+    for (workers, grain) in FEW_PLANS {
+        let plan = Plan::new(workers, grain).ok_or("plan")?;
+        for interrupts in [false, true] {
+            // 105 calls of 7 bytes; two of 5, where the header ends and where the log does; and one that finds the end
+            for fails_at in 0..110 {
+                let rough = Rough::new(&log, interrupts, fails_at);
+                let (fault, calls, written) = run_from(&rt, &plan, rough);
+                if 0 < fails_at && fails_at <= 108 {
+                    assert_eq!(rt; fault, Some(Fault::ReadFailed), "call {fails_at}");
+                    assert_eq!(rt; calls, fails_at);
+                    assert!(rt; written.is_empty(), "call {fails_at}");
+                } else {
+                    assert_eq!(rt; fault, None, "call {fails_at}");
+                    assert_eq!(rt; calls, 108);
+                    assert!(rt; written == report, "call {fails_at}");
+                }
             }
         }
     }
@@ -119,32 +152,28 @@ fn a_read_that_fails_is_told_and_nothing_is_written(rt: HostRuntime) -> Result<(
 #[test]
 fn a_write_that_fails_is_told_and_leaves_a_beginning(rt: HostRuntime) -> Result<(), Fail> {
     let log = log_of(&rt, &RETURN_AND_ARRIVAL)?;
-    let plan = Plan::new(2, 1000).ok_or("plan")?;
-    let report = answer(&rt, &Command::Restart { log: "log", plan }, &log)?;
-    assert!(rt; report.len() < 600, "a short report");
-    let mut is_whole_once = false;
-    for interrupts in [false, true] {
-        for fails_at in 1..210u64 {
-            let mut input = OverRead::new(Cursor::new(log.as_slice()));
-            let mut output = OverWrite::new(Narrow::new(
-                Vec::new(rt.alloc()),
-                interrupts,
-                fails_at,
-            ));
-            let done = run(&rt, rt.alloc(), &mut input, &mut output, &plan, &Open);
-            let narrow = output.into_inner();
-            if done.is_ok() {
-                is_whole_once = true;
-                assert!(rt; narrow.taken == report, "call {fails_at}");
-                assert!(rt; narrow.calls < fails_at, "call {fails_at}");
-            } else {
-                assert_eq!(rt; done.err(), Some(Fault::WriteFailed), "call {fails_at}");
-                assert_eq!(rt; narrow.calls, fails_at);
-                assert!(rt; report.starts_with(&narrow.taken), "call {fails_at}");
-                assert!(rt; narrow.taken.len() < report.len(), "call {fails_at}");
+    let report = report_of(&rt, &log)?;
+    assert_eq!(rt; report.len(), 206);
+    for (workers, grain) in FEW_PLANS {
+        let plan = Plan::new(workers, grain).ok_or("plan")?;
+        for interrupts in [false, true] {
+            // 68 calls that take 3 bytes, and one that takes the last 2
+            for fails_at in 1..75u64 {
+                let narrow = Narrow::new(Vec::new(rt.alloc()), interrupts, fails_at);
+                let (fault, calls, taken) = run_into(&rt, &plan, &log, narrow);
+                if fails_at <= 69 {
+                    let took = fails_at.saturating_sub(1).saturating_mul(3);
+                    assert_eq!(rt; fault, Some(Fault::WriteFailed), "call {fails_at}");
+                    assert_eq!(rt; calls, fails_at);
+                    assert_eq!(rt; taken.len() as u64, took, "call {fails_at}");
+                    assert!(rt; report.starts_with(&taken), "call {fails_at}");
+                } else {
+                    assert_eq!(rt; fault, None, "call {fails_at}");
+                    assert_eq!(rt; calls, 69);
+                    assert!(rt; taken == report, "call {fails_at}");
+                }
             }
         }
     }
-    assert!(rt; is_whole_once, "no run that does not fail");
     Ok(())
 }
