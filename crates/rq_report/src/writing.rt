@@ -55,8 +55,8 @@ pub fn write_report<W: Output>(alloc: Global, r: &Restarted, output: &mut W) -> 
     }
 }
 
-/// What `write_report` does, its text made by the plan's workers. Where that is worth no threads, it
-/// is made whole.
+/// What `write_report` does, its text made by the plan's workers. Where that is worth no threads,
+/// it is made whole.
 pub fn write_report_by<R, W>(
     rt: &R,
     alloc: Global,

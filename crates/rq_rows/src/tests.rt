@@ -38,7 +38,8 @@ const PLANS: [(u32, u32); 8] = [
     (64, 1000),
 ];
 
-/// Those that a log is restarted with which is damaged at each place in turn, or whose reads or writes fail one by one.
+/// Those that a log is restarted with which is damaged at each place in turn, or whose reads or
+/// writes fail one by one.
 const FEW_PLANS: [(u32, u32); 3] = [(1, 1), (2, 1000), (7, 1)];
 
 /// The lines, each ended by LF.

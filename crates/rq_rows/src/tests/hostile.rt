@@ -42,7 +42,8 @@ fn rests<R: Threads + Sync + AllocGlobal>(rt: &R) -> Result<Vec<Vec<u8>>, Fail> 
     Ok(rests)
 }
 
-/// Whether the report of the bytes has a front of so many frames, and the other lines of these, whatever the plan is.
+/// Whether the report of the bytes has a front of so many frames, and the other lines of these,
+/// whatever the plan is.
 fn has_front<R: Threads + Sync + AllocGlobal>(
     rt: &R,
     bytes: &[u8],

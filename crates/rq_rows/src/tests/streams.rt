@@ -130,7 +130,8 @@ fn a_read_that_fails_is_told_and_nothing_is_written(rt: HostRuntime) -> Result<(
     for (workers, grain) in FEW_PLANS {
         let plan = Plan::new(workers, grain).ok_or("plan")?;
         for interrupts in [false, true] {
-            // 105 calls of 7 bytes; two of 5, where the header ends and where the log does; and one that finds the end
+            // 105 calls of 7 bytes; two of 5, where the header ends and where the log does; and one
+            // that finds the end
             for fails_at in 0..110 {
                 let rough = Rough::new(&log, interrupts, fails_at);
                 let (fault, calls, written) = run_from(&rt, &plan, rough);
