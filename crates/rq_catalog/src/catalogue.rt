@@ -36,6 +36,18 @@ pub(crate) struct Catalogue {
     pub(crate) touching: Vec<Vec<(u64, usize)>>,
 }
 
+/// Gives room back where many have gone. As many as are left must go then before it does so again,
+/// so it costs little beside what they cost.
+fn give_back(registrants: &mut IndexSet<(u32, Name)>)
+    ensures { (k : ℕ × List ℕ) →
+        contains key_eq registrants.new k ≡ contains key_eq registrants.old k }
+{
+    let left = registrants.len();
+    if registrants.capacity() / 4 > left + 16 {
+        registrants.shrink_to(2 * left);
+    }
+}
+
 impl Catalogue {
     fn is_defined(&self, queue: u32) -> bool
         ensures { result ≡ nat_lt queue (length self.now.errors.items) }
@@ -142,6 +154,7 @@ impl Catalogue {
             }
             Record::Deregister { queue, name } => {
                 self.registrants.swap_remove(&(queue.0, name.name()));
+                give_back(&mut self.registrants);
                 touch(&mut self.touching, queue.0, op)
             }
             Record::Begin { unit } => {

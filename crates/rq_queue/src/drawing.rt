@@ -9,14 +9,14 @@ ghost use Rattle.rq_queue.specs.Noted.{by_place, is_own, has_own, left, AreByPla
 ghost use Rattle.rq_queue.specs.Noted.{Rises};
 ghost use Rattle.rq_record.specs.declared.fault.Fault.TheVariants.{Resources};
 
+use crate::kept_note::KeptNote;
 use crate::whose::Whose;
 use rq_record::Fault;
-use rq_state::Note;
 use std::alloc::Global;
 use std::collections::BTreeMap;
 
 /// Whether a note of theirs stands at the place.
-fn stands(all: &BTreeMap<u64, Note>, place: u64, whose: &Whose) -> bool
+fn stands(all: &BTreeMap<u64, KeptNote>, place: u64, whose: &Whose) -> bool
     ensures { result ≡ has_own whose.now (lookup (is_at (nat_cmp place)) all.now.entries) }
 {
     match all.get(&place) {
@@ -26,7 +26,7 @@ fn stands(all: &BTreeMap<u64, Note>, place: u64, whose: &Whose) -> bool
 }
 
 /// Takes the note at the place out, if it is one of theirs.
-fn draw(all: &mut BTreeMap<u64, Note>, place: u64, whose: &Whose) -> Option<Note>
+fn draw(all: &mut BTreeMap<u64, KeptNote>, place: u64, whose: &Whose) -> Option<KeptNote>
     requires { AreByPlace all.old.entries }
     ensures left { all.new.entries ≡ left whose.now (place ∷ []) all.old.entries }
     ensures drawn { Drawn whose.now result all.old.entries all.new.entries }
@@ -38,7 +38,11 @@ fn draw(all: &mut BTreeMap<u64, Note>, place: u64, whose: &Whose) -> Option<Note
 }
 
 /// The notes without theirs at these places.
-pub fn without(all: BTreeMap<u64, Note>, places: &[u64], whose: &Whose) -> BTreeMap<u64, Note>
+pub fn without(
+    all: BTreeMap<u64, KeptNote>,
+    places: &[u64],
+    whose: &Whose,
+) -> BTreeMap<u64, KeptNote>
     requires { AreByPlace all.entries }
     ensures { result.entries ≡ left whose.now places.now all.entries }
 {
@@ -52,10 +56,10 @@ pub fn without(all: BTreeMap<u64, Note>, places: &[u64], whose: &Whose) -> BTree
 /// The notes without theirs at these places, and those.
 pub fn drawn(
     alloc: Global,
-    all: BTreeMap<u64, Note>,
+    all: BTreeMap<u64, KeptNote>,
     places: &[u64],
     whose: &Whose,
-) -> Result<(BTreeMap<u64, Note>, Vec<Note>), Fault>
+) -> Result<(BTreeMap<u64, KeptNote>, Vec<KeptNote>), Fault>
     requires { AreByPlace all.entries }
     ensures left { IfOk result (λ r. r.0.entries ≡ left whose.now places.now all.entries) }
     ensures own { IfOk result (λ r. AllByRecursion (λ n. is_own whose.now n ≡ true) r.1.items) }
@@ -76,7 +80,7 @@ pub fn drawn(
 }
 
 /// Notes of distinct places, by place.
-pub fn in_order(notes: Vec<Note>) -> Vec<Note>
+pub fn in_order(notes: Vec<KeptNote>) -> Vec<KeptNote>
     requires { Rises (by_place notes.items) }
     ensures { result.items ≡ by_place notes.items }
 {

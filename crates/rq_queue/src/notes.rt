@@ -9,7 +9,9 @@ ghost use Rattle.rq_queue.specs.Noted.{Rises};
 ghost use Rattle.rq_record.specs.declared.fault.Fault.TheVariants.{Resources};
 ghost use Rattle.rq_state.specs.Views.{kind_of, id_of};
 
+use crate::called::{Called, slim};
 use crate::drawing::{drawn, in_order, without};
+use crate::kept_note::KeptNote;
 use crate::places::{file, unfiled};
 use crate::whose::Whose;
 use rq_record::{ElemId, Fault, KeptBy, Name, QueueNo, UnitNo};
@@ -23,9 +25,9 @@ use std::marker::Model;
 /// keep the place of a note that has gone: it is only where to look.
 #[derive(Drop)]
 pub struct Notes {
-    all: BTreeMap<u64, Note>,
+    all: BTreeMap<u64, KeptNote>,
     units: BTreeMap<u64, Vec<u64>>,
-    names: BTreeMap<(u32, Name), Vec<u64>>,
+    names: BTreeMap<(u32, Called), Vec<u64>>,
 }
 
 impl Model for Notes {
@@ -76,9 +78,11 @@ impl Notes {
     {
         let place = n.place();
         let units = file(alloc, self.units, n.unit().0, place)?;
-        let names = file(alloc, self.names, n.key(), place)?;
+        let key = slim(alloc, n.key())?;
+        let names = file(alloc, self.names, key, place)?;
+        let kept = KeptNote::of(alloc, n)?;
         let mut all = self.all;
-        all.insert(place, n)?;
+        all.insert(place, kept)?;
         Ok(Notes { all, units, names })
     }
 
@@ -127,20 +131,22 @@ impl Notes {
     }
 
     /// The notes of the registrant go.
-    pub fn forget(self, alloc: Global, queue: QueueNo, name: &Name) -> Notes
-        ensures { result ≡ machine.unnoted queue.0 name.now self }
+    pub fn forget(self, alloc: Global, queue: QueueNo, name: &Name) -> Result<Notes, Fault>
+        ensures done { IfOk result (λ v. v ≡ machine.unnoted queue.0 name.now self) }
+        ensures refused { IfErr result (λ e. e ≡ Resources) }
     {
-        let (names, places) = unfiled(alloc, self.names, &(queue.0, *name));
+        let key = slim(alloc, (queue.0, *name))?;
+        let (names, places) = unfiled(alloc, self.names, &key);
         let all = without(self.all, &places, &Whose::OfRegistrant(queue, *name));
-        Notes {
+        Ok(Notes {
             all,
             units: self.units,
             names,
-        }
+        })
     }
 
     /// Takes the notes of the unit out. They come by place.
-    pub fn take(self, alloc: Global, unit: UnitNo) -> Result<(Notes, Vec<Note>), Fault>
+    pub fn take(self, alloc: Global, unit: UnitNo) -> Result<(Notes, Vec<KeptNote>), Fault>
         ensures others { IfOk result (λ r. r.0 ≡ machine.closed_notes unit.0 self) }
         ensures taken { IfOk result (λ r. r.1.items ≡ filter (λ n. n.unit == unit.0) self) }
         ensures refused { IfErr result (λ e. e ≡ Resources) }
@@ -157,13 +163,13 @@ impl Notes {
 }
 
 /// The notes, by place.
-fn listed(alloc: Global, notes: BTreeMap<u64, Note>) -> Result<Vec<Note>, Fault>
+fn listed(alloc: Global, notes: BTreeMap<u64, KeptNote>) -> Result<Vec<Note>, Fault>
     ensures listed { IfOk result (λ v. v.items ≡ values_of notes.entries) }
     ensures refused { IfErr result (λ e. e ≡ Resources) }
 {
     let mut all = Vec::new(alloc);
     for n in notes.into_values() {
-        all.push(n)?;
+        all.push(n.note())?;
     }
     Ok(all)
 }

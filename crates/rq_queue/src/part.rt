@@ -188,7 +188,7 @@ impl Part {
     {
         let (notes, heard) = self.notes.take(alloc, unit)?;
         self.notes = notes;
-        self.registrants = self.registrants.hear(unit, &heard)?;
+        self.registrants = self.registrants.hear(alloc, unit, &heard)?;
         self.elements = self.elements.commit(alloc, unit)?;
         Ok(self)
     }
@@ -215,12 +215,12 @@ impl Part {
         Ok(self)
     }
 
-    fn register(mut self, queue: QueueNo, name: &Name) -> Result<Part, Fault>
+    fn register(mut self, alloc: Global, queue: QueueNo, name: &Name) -> Result<Part, Fault>
         ensures done { IfOk result
             (λ p. p ≡ redo_words.act 0 (records.Register queue.0 name.now) self) }
         ensures refused { IfErr result (λ e. e ≡ Resources) }
     {
-        self.registrants = self.registrants.register(queue, name)?;
+        self.registrants = self.registrants.register(alloc, queue, name)?;
         Ok(self)
     }
 
@@ -229,8 +229,8 @@ impl Part {
             (λ p. p ≡ redo_words.act 0 (records.Deregister queue.0 name.now) self) }
         ensures refused { IfErr result (λ e. e ≡ Resources) }
     {
-        self.registrants = self.registrants.deregister(queue, name);
-        self.notes = self.notes.forget(alloc, queue, name);
+        self.registrants = self.registrants.deregister(alloc, queue, name)?;
+        self.notes = self.notes.forget(alloc, queue, name)?;
         Ok(self)
     }
 
@@ -271,7 +271,7 @@ impl Part {
     {
         match rec {
             Record::Define { .. } | Record::Begin { .. } | Record::Checkpoint { .. } => Ok(self),
-            Record::Register { queue, name } => self.register(*queue, &name.name()),
+            Record::Register { queue, name } => self.register(alloc, *queue, &name.name()),
             Record::Deregister { queue, name } => self.deregister(alloc, *queue, &name.name()),
             Record::Enqueue {
                 unit,

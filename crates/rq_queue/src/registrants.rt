@@ -8,8 +8,11 @@ ghost use Rattle.rq_model.specs.WellFormed.{Ordered};
 ghost use Rattle.rq_queue.specs.Roll.{registrant_of, heard};
 ghost use Rattle.rq_record.specs.declared.fault.Fault.TheVariants.{Resources};
 
+use crate::called::{Called, slim};
+use crate::kept_last::KeptLast;
+use crate::kept_note::KeptNote;
 use rq_record::{Fault, Name, QueueNo, UnitNo};
-use rq_state::{Last, Note, Registrant};
+use rq_state::Registrant;
 use std::alloc::Global;
 use std::collections::BTreeMap;
 use std::marker::Model;
@@ -17,7 +20,7 @@ use std::marker::Model;
 /// The registrants of a queue, by name: the last operation of each.
 #[derive(Drop)]
 pub struct Registrants {
-    lasts: BTreeMap<(u32, Name), Option<Last>>,
+    lasts: BTreeMap<(u32, Called), KeptLast>,
 }
 
 impl Model for Registrants {
@@ -52,20 +55,21 @@ impl Registrants {
         coming.reverse();
         let mut all = Registrants::none(alloc);
         while let Some(r) = coming.pop() {
-            all = all.push(r)?;
+            all = all.push(alloc, r)?;
         }
         Ok(all)
     }
 
     /// Adds a registrant that stands behind all others.
-    fn push(self, r: Registrant) -> Result<Registrants, Fault>
+    fn push(self, alloc: Global, r: Registrant) -> Result<Registrants, Fault>
         requires { AllByRecursion (λ x. model.registrant_before x r ≡ true) self }
         ensures done { IfOk result (λ v. v ≡ self ++ r ∷ []) }
         ensures refused { IfErr result (λ e. e ≡ Resources) }
     {
-        let key = r.key();
+        let key = slim(alloc, r.key())?;
+        let last = KeptLast::of(alloc, r.into_last())?;
         let mut lasts = self.lasts;
-        lasts.insert(key, r.into_last())?;
+        lasts.insert(key, last)?;
         Ok(Registrants { lasts })
     }
 
@@ -79,41 +83,48 @@ impl Registrants {
     }
 
     /// Registers a name, unless it is registered.
-    pub fn register(self, queue: QueueNo, name: &Name) -> Result<Registrants, Fault>
+    pub fn register(self, alloc: Global, queue: QueueNo, name: &Name) -> Result<Registrants, Fault>
         ensures done { IfOk result (λ v. v ≡ machine.registered queue.0 name.now self) }
         ensures refused { IfErr result (λ e. e ≡ Resources) }
     {
-        let key = (queue.0, *name);
+        let key = slim(alloc, (queue.0, *name))?;
         if self.lasts.contains_key(&key) {
             return Ok(self);
         }
         let mut lasts = self.lasts;
-        lasts.insert(key, None)?;
+        lasts.insert(key, KeptLast::none())?;
         Ok(Registrants { lasts })
     }
 
     /// The name is registered no longer.
-    pub fn deregister(self, queue: QueueNo, name: &Name) -> Registrants
-        ensures { result ≡ machine.deregistered queue.0 name.now self }
+    pub fn deregister(
+        self,
+        alloc: Global,
+        queue: QueueNo,
+        name: &Name,
+    ) -> Result<Registrants, Fault>
+        ensures done { IfOk result (λ v. v ≡ machine.deregistered queue.0 name.now self) }
+        ensures refused { IfErr result (λ e. e ≡ Resources) }
     {
+        let key = slim(alloc, (queue.0, *name))?;
         let mut lasts = self.lasts;
-        lasts.remove(&(queue.0, *name));
-        Registrants { lasts }
+        lasts.remove(&key);
+        Ok(Registrants { lasts })
     }
 
     /// A note reaches its registrant, if it is one of the unit.
-    fn hear_one(self, unit: UnitNo, note: &Note) -> Result<Registrants, Fault>
+    fn hear_one(self, alloc: Global, unit: UnitNo, note: &KeptNote) -> Result<Registrants, Fault>
         ensures done { IfOk result (λ v. v ≡ map (heard unit.0 note.now) self) }
         ensures refused { IfErr result (λ e. e ≡ Resources) }
     {
         if !note.is_by(unit) {
             return Ok(self);
         }
-        let key = note.key();
+        let key = slim(alloc, note.key())?;
         match self.lasts.get(&key) {
             None => Ok(self),
             Some(last) => {
-                let last = Last::later(last, note.last());
+                let last = last.later(alloc, note.last())?;
                 let mut lasts = self.lasts;
                 lasts.insert(key, last)?;
                 Ok(Registrants { lasts })
@@ -122,32 +133,34 @@ impl Registrants {
     }
 
     /// The notes of the unit among these reach the registrants.
-    pub fn hear(self, unit: UnitNo, notes: &[Note]) -> Result<Registrants, Fault>
+    pub fn hear(self, alloc: Global, unit: UnitNo, notes: &[KeptNote]) -> Result<Registrants, Fault>
         ensures done { IfOk result (λ v. v ≡ map (machine.told unit.0 notes.now) self) }
         ensures refused { IfErr result (λ e. e ≡ Resources) }
     {
-        let all = hear_all(self, unit, notes)?;
+        let all = hear_all(alloc, self, unit, notes)?;
         Ok(all)
     }
 }
 
 /// The notes of the unit, one after another, reach the registrants.
-fn hear_all(all: Registrants, unit: UnitNo, notes: &[Note]) -> Result<Registrants, Fault>
+fn hear_all(
+    alloc: Global,
+    all: Registrants,
+    unit: UnitNo,
+    notes: &[KeptNote],
+) -> Result<Registrants, Fault>
     ensures done { IfOk result (λ v. v ≡ map (machine.told unit.0 notes.now) all) }
     ensures refused { IfErr result (λ e. e ≡ Resources) }
 {
     let mut now = all;
     for n in notes {
-        now = now.hear_one(unit, n)?;
+        now = now.hear_one(alloc, unit, n)?;
     }
     Ok(now)
 }
 
 /// The registrants, in order.
-fn listed(
-    alloc: Global,
-    lasts: BTreeMap<(u32, Name), Option<Last>>,
-) -> Result<Vec<Registrant>, Fault>
+fn listed(alloc: Global, lasts: BTreeMap<(u32, Called), KeptLast>) -> Result<Vec<Registrant>, Fault>
     ensures listed { IfOk result (λ v. v.items ≡ map registrant_of lasts.entries) }
     ensures refused { IfErr result (λ e. e ≡ Resources) }
 {
@@ -155,8 +168,8 @@ fn listed(
     for (key, last) in lasts {
         all.push(Registrant {
             queue: QueueNo(key.0),
-            name: key.1,
-            last,
+            name: key.1.name(),
+            last: last.last(),
         })?;
     }
     Ok(all)

@@ -3,8 +3,8 @@
 ghost use Rattle.std.specs.Prelude.{◌≡◌};
 ghost use Rattle.rq_queue.specs.Noted.{is_own};
 
+use crate::kept_note::KeptNote;
 use rq_record::{Name, QueueNo, UnitNo};
-use rq_state::Note;
 
 /// Those of a unit, or those of a registrant.
 #[derive(Clone, Copy)]
@@ -15,7 +15,7 @@ pub enum Whose {
 
 impl Whose {
     /// Whether the note is one of them.
-    pub fn owns(&self, n: &Note) -> bool
+    pub fn owns(&self, n: &KeptNote) -> bool
         ensures { result ≡ is_own self.now n.now }
     {
         match self {

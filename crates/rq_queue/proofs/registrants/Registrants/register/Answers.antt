@@ -1,5 +1,7 @@
-use Rattle.std.proofs.Common.{sym, ap, ◌∙◌, subst, None}
+use Rattle.std.proofs.Common.{sym, ap, ◌∙◌, subst, ℕ, List, Option}
+use Rattle.std.specs.BTreeMap.{insert_entry}
 use Rattle.rq_model.specs.Machine.{registered}
+use Rattle.rq_model.specs.States.{Last}
 use Rattle.rq_state.proofs.InOrder.{key_cmp, key_total}
 use Rattle.rq_queue.specs.Roll.{registrant_of, IsRoll}
 use Rattle.rq_queue.proofs.Roll.{up_inserted}
@@ -9,12 +11,16 @@ use Rattle.rq_queue.proofs.registrants.Registrants.register.Goals as goal
 
 pub returns-then-contains_key-clause-done : goal.returns-then-contains_key-clause-done
 returns-then-contains_key-clause-done c =
-    sym c.self.view_is ∙ (still_registered (c.args.queue.0, c.args.name.now) c.self.inside.lasts.entries (sym c.contains_key.ensures ∙ c.if-contains_key.true) ∙ ap (registered c.args.queue.0 c.args.name.now) c.self.view_is)
+    let es = c.self.inside.lasts.entries in
+    sym c.self.view_is ∙ (still_registered c.in_ok-key.key es (sym c.contains_key.ensures ∙ c.if-contains_key.true)
+    ∙ (ap (λ (k : ℕ × List ℕ). registered k.0 k.1 (map registrant_of es)) c.in_ok-key.ensures.key ∙ ap (registered c.args.queue.0 c.args.name.now) c.self.view_is))
 
 pub invariant_of-result : goal.invariant_of-result
-invariant_of-result c = subst IsRoll (sym c.in_ok-insert.ensures.entries) (up_inserted key_cmp key_total (c.args.queue.0, c.args.name.now) None c.self.inside.lasts.entries c.self.invariant)
+invariant_of-result c = subst IsRoll (sym c.in_ok-insert.ensures.entries) (up_inserted key_cmp key_total c.in_ok-key.key c.none.result c.self.inside.lasts.entries c.self.invariant)
 
 pub returns-clause-done : goal.returns-clause-done
 returns-clause-done c =
-    ap (map registrant_of) c.in_ok-insert.ensures.entries
-    ∙ (newly_registered (c.args.queue.0, c.args.name.now) c.self.inside.lasts.entries c.self.invariant (sym c.contains_key.ensures ∙ c.if-contains_key.false) ∙ ap (registered c.args.queue.0 c.args.name.now) c.self.view_is)
+    let es = c.self.inside.lasts.entries in
+    ap (map registrant_of) (c.in_ok-insert.ensures.entries ∙ ap (λ (l : Option Last). insert_entry key_cmp es c.in_ok-key.key l) c.none.ensures)
+    ∙ (newly_registered c.in_ok-key.key es c.self.invariant (sym c.contains_key.ensures ∙ c.if-contains_key.false)
+    ∙ (ap (λ (k : ℕ × List ℕ). registered k.0 k.1 (map registrant_of es)) c.in_ok-key.ensures.key ∙ ap (registered c.args.queue.0 c.args.name.now) c.self.view_is))

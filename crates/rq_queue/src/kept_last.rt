@@ -1,0 +1,68 @@
+//! The last operation of a registrant, as a queue keeps it.
+
+ghost use Rattle.std.specs.Prelude.{◌≡◌, None, IfOk, IfErr};
+ghost use Rattle.rq_model.specs.Machine as machine;
+ghost use Rattle.rq_record.specs.declared.fault.Fault.TheVariants.{Resources};
+
+use rq_record::Fault;
+use rq_state::Last;
+use std::alloc::Global;
+use std::marker::Model;
+
+/// The last operation of a registrant, where there is one, in 16 bytes and 40 elsewhere: of many
+/// registrants that a log brings in most may have none yet.
+#[derive(Drop)]
+pub struct KeptLast {
+    last: Option<Box<Last>>,
+}
+
+impl Model for KeptLast {
+    ghost use Rattle.std.specs.Prelude.{Option};
+    ghost use Rattle.std.specs.Option.{option_map};
+    ghost use Rattle.rq_model.specs.States as model;
+
+    ghost Value = { Option model.Last };
+
+    ghost view = { λ k. option_map (λ b. b.value) k.last };
+}
+
+impl KeptLast {
+    /// No operation. Takes no memory.
+    pub fn none() -> KeptLast
+        ensures { result ≡ None }
+    {
+        KeptLast { last: None }
+    }
+
+    /// Keeps an operation. Refused with Resources.
+    pub fn of(alloc: Global, last: Option<Last>) -> Result<KeptLast, Fault>
+        ensures kept { IfOk result (λ k. k ≡ last) }
+        ensures refused { IfErr result (λ e. e ≡ Resources) }
+    {
+        match last {
+            None => Ok(KeptLast::none()),
+            Some(last) => Ok(KeptLast {
+                last: Some(Box::new(alloc, last)?),
+            }),
+        }
+    }
+
+    /// The operation itself.
+    pub fn last(&self) -> Option<Last>
+        ensures { result ≡ self.now }
+    {
+        match &self.last {
+            None => None,
+            Some(last) => Some(last.copied()),
+        }
+    }
+
+    /// Of this operation and another one, that of greater place; at equal places this one. Refused
+    /// with Resources.
+    pub fn later(&self, alloc: Global, other: &Last) -> Result<KeptLast, Fault>
+        ensures later { IfOk result (λ k. k ≡ machine.later self.now other.now) }
+        ensures refused { IfErr result (λ e. e ≡ Resources) }
+    {
+        KeptLast::of(alloc, Last::later(&self.last(), other))
+    }
+}
