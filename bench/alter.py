@@ -6,7 +6,7 @@ copy of the crate, and says which alterations the prover accepts.
 
 Each alteration is first held against the worked facts, or, in a chapter of laws, against the function that has the law
 (`rt check --only`, some 4 seconds), and against the whole crate (some 9 seconds) only where these let it through. There
-are about 840 alterations, a third of them of statements of laws. What is known is kept in FILE (one JSON object a line)
+are about 850 alterations, a third of them of statements of laws. What is known is kept in FILE (one JSON object a line)
 and is not tried again, so a run can be broken off and taken up. `no definition` means that the altered chapter itself is
 ill typed, `no answer` that the prover came to no end. `--only` takes those whose place has the word, `--share K/N` the
 Kth of N shares (each process wants a DIR of its own; FILE may be the same), `--backwards` begins at the last chapter,
@@ -43,7 +43,7 @@ WORDS = {
 }
 SIGNS = {"+": "-", "-": "+", "/": "%", "%": "/", "<": "≤", "≤": "<", "≡": "≢", "≢": "≡", "&&": "||", "||": "&&", "×": "⊎", "⊎": "×", "↔": "×"}
 TOKEN = re.compile(r'"(?:[^"\\]|\\.)*"|0x[0-9a-f]+|[A-Za-z_][A-Za-z0-9_\'-]*|\d+|&&|\|\||==|\+\+|[-+/%<≤≡≢×⊎↔]')
-LAWS = ("Laws", "LogLaws", "MoveLaws", "Ready", "Closing")
+LAWS = ("Laws", "LogLaws", "MoveLaws", "Ready", "Closing", "Upgrading")
 HOMES = {
     "Rattle.std.specs.List": ("list_any", "list_all"), "Rattle.std.specs.Int": ("w16", "w32", "w64"),
     "Rattle.rq_model.specs.Records": ("One", "Two", "Commit", "Abort", "Register", "Deregister"),
