@@ -5,6 +5,8 @@ use Rattle.std.specs.List.{starts_with}
 use Rattle.std.specs.Int.{w64, to_be_bytes}
 use Rattle.std.specs.Str.{bytes_eq}
 use Rattle.std.proofs.lemmas.Bool.{ltb-true}
+use Rattle.std.proofs.lemmas.Bool.Decides.{Decides-eqb}
+use Rattle.std.proofs.lemmas.Slice.Eq.{bytes_eq-Decides, starts_is}
 use Rattle.std.proofs.Math.Seq.{take-suc}
 use Rattle.std.proofs.Math.Numerals.{suc-eq-add-one}
 use Rattle.std.proofs.lemmas.List.{length-map, take-append-drop, get_or-map}
@@ -115,6 +117,9 @@ before_first t us ks = (
   record { units = λ u. omega (arith, us u); registrants = λ k. omega (arith, ks k) },
 )
 
+not_still : false ≡ true → ⊥
+not_still h = cc
+
 pub passed : (all : List Own) (i : ℕ) (r : Own) (w v : Walk) → i < length all → length all ≤ 4294967295 → r ≡ slice_index_or all i r → Rising (run empty (take i (map record_of all))) → IsWalk (map record_of all) i w → Passes w r v
     → map audited_of w.found.items ≡ audits empty 40 (take (i + 1) (map record_of all)) → IsWalk (map record_of all) (i + 1) v
 passed all i r w v lt few is rise walk p found =
@@ -126,6 +131,7 @@ passed all i r w v lt few is rise walk p found =
     record {
       within = omega (arith, walk.within, from);
       state = state ∙ walk.state ∙ ap (λ (n : ℕ). run empty (take n rs)) (sym from);
+      still = λ t. absurd (not_still (sym (ap (λ (x : Walk). x.still) p.others) ∙ t));
       tally = subst (λ (t : State). IsTallied t v.tally) (sym more) (tallied s w.tally v.tally r rise p.tally walk.tally);
       counts = within_next w.tally v.tally i r p.tally walk.counts;
       few = omega (arith, p.lost, walk.few, lost_within w.tally i r walk.counts, lt, few);
@@ -158,3 +164,21 @@ no_spelling all i w kept may lt walk is not_so =
     (λ _ _ short. too_short (run empty (take i (map record_of all))) kept (let less : length kept < least w = ltb-true (length kept) (least w) (not_not (nat_lt (length kept) (least w)) short) in omega (arith, less, walk.lost)))
     (λ _ other _. other_number all i kept false lt (sym other) refl)
     refl (sym is ∙ not_so)
+
+-- a checkpoint behind others, which are all that stands behind the last state, is told by that state but for its number
+pub but_number : (s : State) (n : ℕ) (kept : List ℕ) → starts_with nat_eq kept (to_be_bytes w64 n) ≡ true → bytes_eq (drop 8 kept) (drop 8 (state_bytes s)) ≡ bytes_eq kept (state_bytes (record s { next = n }))
+but_number s n kept begins =
+    let rest = drop 8 (state_bytes s) in
+    let whole = state_bytes (record s { next = n }) in
+    let same : to_be_bytes w64 n ++ rest ≡ whole = refl in
+    by_cases (bytes_eq (drop 8 kept) rest) (λ b. b ≡ bytes_eq kept whole)
+    (λ e. sym ((bytes_eq-Decides kept whole).1 (number_and_rest ∙ ap (λ (z : List ℕ). to_be_bytes w64 n ++ z) ((bytes_eq-Decides (drop 8 kept) rest).0 e) ∙ same)))
+    (λ e. by_cases (bytes_eq kept whole) (λ b. false ≡ b) (λ t. sym e ∙ (bytes_eq-Decides (drop 8 kept) rest).1 (ap (drop 8) ((bytes_eq-Decides kept whole).0 t))) (λ _. refl))
+  where
+    number_and_rest : kept ≡ to_be_bytes w64 n ++ drop 8 kept
+    number_and_rest = (starts_is Decides-eqb kept (to_be_bytes w64 n) (starts_with nat_eq kept (to_be_bytes w64 n)) refl).0 begins
+
+-- a checkpoint changes the number alone
+pub still_more : (all : List Own) (i : ℕ) (r : Own) (kept : List ℕ) (s : State) → i < length all → r ≡ slice_index_or all i r → r ≡ own.Checkpoint kept
+    → run empty (take i (map record_of all)) ≡ record s { next = i } → run empty (take (i + 1) (map record_of all)) ≡ record s { next = i + 1 }
+still_more all i r kept s lt is checkpoint h = run_more all i r lt is ∙ ap (λ (q : Own). step (run empty (take i (map record_of all))) (record_of q)) checkpoint ∙ ap (λ (t : State). record t { next = t.next + 1 }) h

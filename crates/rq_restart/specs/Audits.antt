@@ -1,5 +1,5 @@
 -- Which checkpoints are true, found on the way through the records.
-use Rattle.std.specs.Prelude.{◌≡◌, ℕ, ◌+◌, ◌-◌, ◌*◌, ◌≤◌, ◌<◌, Bool, List, [], ◌∷◌, ◌++◌, length, map, take, slice_index_or, Result, Ok, Err}
+use Rattle.std.specs.Prelude.{◌≡◌, ℕ, ◌+◌, ◌-◌, ◌*◌, ◌≤◌, ◌<◌, Bool, true, false, List, [], ◌∷◌, ◌++◌, length, map, take, slice_index_or, Result, Ok, Err}
 use Rattle.std.specs.Str.{bytes_eq}
 use Rattle.std.specs.Global.{Vec}
 use Rattle.rq_model.specs.Records.{Record, Checkpoint}
@@ -10,6 +10,7 @@ use Rattle.rq_model.specs.Machine.{step, run}
 use Rattle.rq_model.specs.StateSpelling.{state_bytes}
 use Rattle.rq_model.specs.Checkpoints.{Audited, IsAudit}
 use Rattle.rq_record.specs.declared.fault.Fault.{Fault}
+use Rattle.rq_record.specs.Views.{record_of}
 use Rattle.rq_front.specs.declared.spans.Span.{Span}
 use Rattle.rq_front.specs.Chains.{IsHeaded, Refused}
 use Rattle.rq_restart.specs.declared.auditing.Walk.{Walk}
@@ -46,15 +47,20 @@ least w = member_bytes w.state - 74 * w.lost
 pub record IsWalk (rs : List Record) (i : ℕ) (w : Walk) : Type 0 where
   pub within : w.from ≤ i
   pub state : w.state ≡ run empty (take w.from rs)
+  pub still : w.still ≡ true → run empty (take i rs) ≡ record w.state { next = i }
   pub tally : IsTallied (run empty (take i rs)) w.tally
   pub counts : IsWithin i w.tally
   pub few : w.lost ≤ i * 4294967296
   pub lost : KeepsAllBut w.lost w.state (run empty (take i rs))
   pub found : map audited_of w.found.items ≡ audits empty 40 (take i rs)
 
+-- t is whether the bytes spell the state before the next record, whatever the records are that led there
+abbrev pub Tells : Walk → List ℕ → ℕ → Bool → Type 0
+Tells w kept i t = (all : List Own) → i < length all → IsWalk (map record_of all) i w → t ≡ bytes_eq kept (state_bytes (run empty (take i (map record_of all))))
+
 -- v is w behind a record that is no checkpoint
 pub record Passes (w : Walk) (r : Own) (v : Walk) : Type 0 where
-  pub others : v ≡ record w { tally = v.tally; lost = v.lost }
+  pub others : v ≡ record w { still = false; tally = v.tally; lost = v.lost }
   pub tally : Counts w.tally v.tally r
   pub lost : v.lost ≡ w.lost + lost_by r w.tally
 

@@ -1,6 +1,6 @@
 //! Which checkpoints of a log are true.
 
-ghost use Rattle.std.specs.Prelude.{◌≡◌, ◌≤◌, ◌<◌, ◌+◌, ◌-◌, ◌^◌, ◌&&◌, not, true, List, length, map, nat_eq, nat_lt, IfOk, IfErr};
+ghost use Rattle.std.specs.Prelude.{◌≡◌, ◌≤◌, ◌<◌, ◌+◌, ◌-◌, ◌^◌, ◌&&◌, not, true, List, length, map, drop, nat_eq, nat_lt, IfOk, IfErr, IfSome};
 ghost use Rattle.std.specs.Int.{w64, to_be_bytes};
 ghost use Rattle.std.specs.List.{starts_with};
 ghost use Rattle.std.specs.Str.{bytes_eq};
@@ -13,7 +13,7 @@ ghost use Rattle.rq_model.specs.Checkpoints.{IsAudit};
 ghost use Rattle.rq_model.specs.StateSpelling.{state_bytes};
 ghost use Rattle.rq_record.specs.Views.{record_of, version_of};
 ghost use Rattle.rq_record.specs.declared.fault.Fault.TheVariants.{Resources};
-ghost use Rattle.rq_restart.specs.Audits.{Audits, IsWalk, Passes, StandAt, audited_of, least};
+ghost use Rattle.rq_restart.specs.Audits.{Audits, IsWalk, Passes, StandAt, Tells, audited_of, least};
 ghost use Rattle.rq_restart.specs.Ends.{IsChain};
 ghost use Rattle.rq_restart.specs.Worth.{IsWithin, member_bytes, lost_by};
 
@@ -53,12 +53,29 @@ fn begins_with(kept: &[u8], next: u64) -> bool
     kept.starts_with(&next.to_be_bytes())
 }
 
-// How far an audit has come: the last state that was made, and the place of the record that it stands before; how often each
-// unit and registrant was spoken of; how many members of each list of that state may be gone since; and what was found.
+// Whether behind their first 8 bytes, the number of the next record, these are the bytes that spell the state.
+fn is_rest_spelled(alloc: Global, state: &State, kept: &[u8]) -> Result<bool, Fault>
+    requires next { state.now.next ≤ 4294967295 }
+    requires short { length kept.now ≤ 268435455 }
+    requires long { 8 ≤ length kept.now }
+    ensures truth { IfOk result (λ t. t ≡ bytes_eq (drop 8 kept.now) (drop 8 (state_bytes state.now))) }
+    ensures refused { IfErr result (λ e. e ≡ Resources) }
+{
+    if spelled_len(state) != kept.len() as u128 {
+        return Ok(false);
+    }
+    let spelled = spell(alloc, state)?;
+    Ok(kept[8..] == spelled[8..])
+}
+
+// How far an audit has come: the last state that was made, the place of the record that it stands before, and whether all
+// records since were checkpoints; how often each unit and registrant was spoken of; how many members of each list of that state
+// may be gone since; and what was found.
 #[derive(Drop)]
 struct Walk {
     state: State,
     from: usize,
+    still: bool,
     tally: Tally,
     lost: u64,
     found: Vec<(u64, bool)>,
@@ -74,6 +91,7 @@ impl Walk {
         Walk {
             state: State::empty(alloc),
             from: 0,
+            still: true,
             tally,
             lost: 0,
             found,
@@ -106,6 +124,24 @@ fn may_spell(walk: &Walk, kept: &[u8], next: u64) -> bool
     begins_with(kept, next) && !is_too_short(walk, kept.len())
 }
 
+// Whether the checkpoint is true, where that is known without a redo: it may not spell the state before it, or that is the last
+// one that was made but for its number.
+fn known(alloc: Global, walk: &Walk, kept: &[u8], next: u64) -> Result<Option<bool>, Fault>
+    requires next { walk.now.state.next ≤ 4294967295 }
+    requires short { length kept.now ≤ 268435455 }
+    ensures known { IfOk result (λ o. IfSome o (Tells walk.now kept.now next)) }
+    ensures refused { IfErr result (λ e. e ≡ Resources) }
+{
+    if !may_spell(walk, kept, next) {
+        return Ok(Some(false));
+    }
+    if !walk.still {
+        return Ok(None);
+    }
+    let truth = is_rest_spelled(alloc, &walk.state, kept)?;
+    Ok(Some(truth))
+}
+
 // Behind one record that is no checkpoint.
 fn pass(walk: Walk, rec: &Record) -> Result<Walk, Fault>
     requires counts { IsWithin (2 ^ 64 - 2) walk.tally }
@@ -118,6 +154,7 @@ fn pass(walk: Walk, rec: &Record) -> Result<Walk, Fault>
     Ok(Walk {
         state: walk.state,
         from: walk.from,
+        still: false,
         tally,
         lost: walk.lost + lost,
         found: walk.found,
@@ -125,8 +162,8 @@ fn pass(walk: Walk, rec: &Record) -> Result<Walk, Fault>
 }
 
 // One record further. The state before a checkpoint is made of the last one that was made, and only where the checkpoint
-// begins with its own number and is long enough to spell it: so a false one costs its bytes, and what was taken from the state
-// since the last one.
+// begins with its own number and is long enough to spell it, and other records than checkpoints stand between: so a false one
+// costs its bytes, and what was taken from the state since the last one.
 fn visit<R: Threads + Sync>(
     rt: &R,
     alloc: Global,
@@ -150,8 +187,8 @@ fn visit<R: Threads + Sync>(
     };
     let kept = bytes.bytes();
     let offset = spans[place].start as u64 - 4;
-    if !may_spell(&walk, kept, place as u64) {
-        walk.found.push((offset, false))?;
+    if let Some(truth) = known(alloc, &walk, kept, place as u64)? {
+        walk.found.push((offset, truth))?;
         return Ok(walk);
     }
     let work = (place - walk.from).saturating_add(kept.len() / BYTES_OF_A_RECORD);
@@ -169,6 +206,7 @@ fn visit<R: Threads + Sync>(
     Ok(Walk {
         state,
         from: place,
+        still: true,
         tally: walk.tally,
         lost: 0,
         found,

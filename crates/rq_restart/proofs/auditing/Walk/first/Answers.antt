@@ -12,6 +12,7 @@ returns c = λ rs.
     record {
       within = omega arith;
       state = state;
+      still = λ _. ap (λ (t : State). record t { next = 0 }) (sym state);
       tally = tally.0;
       counts = tally.1;
       few = omega arith;
