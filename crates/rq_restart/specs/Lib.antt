@@ -9,5 +9,6 @@ pub mod Upgrades
 pub mod Checkpoints
 pub mod Audits
 pub mod Worth
+pub mod Steps
 pub mod Passes
 pub mod Keepers

@@ -4,6 +4,7 @@
 mod auditing;
 mod checkpoint;
 mod closing;
+mod copying;
 mod ends;
 mod framing;
 mod front;
@@ -14,6 +15,7 @@ mod reading;
 mod restarted;
 mod restarting;
 mod restarting_at;
+mod stepping;
 mod tails;
 mod tally;
 mod upgrading;
