@@ -5,7 +5,7 @@ usage: outside.py RQ
 Prints a line for each thing that is not as it must be, and at last `N passed, M failed`.
 """
 from __future__ import annotations
-import os, resource, shutil, signal, stat, subprocess, sys, tempfile, threading
+import itertools, os, resource, shutil, signal, stat, subprocess, sys, tempfile, threading
 
 RQ = os.path.abspath(sys.argv[1])
 HERE = os.path.dirname(os.path.abspath(__file__))
@@ -195,6 +195,50 @@ def faults() -> None:
     check("a file made of no script", os.path.exists("made"), False)
 
 
+def permissions() -> None:
+    """What the permissions of files and folders forbid is a fault of reading or of writing. Root, to whom they forbid nothing, is
+    nobody meanwhile."""
+    os.chmod(".", 0o755)
+    program = os.path.abspath(shutil.copy(RQ, "rq"))
+    nobody = {"user": 65534, "group": 65534, "extra_groups": []} if os.geteuid() == 0 else {}
+    as_reader = {"executable": program, **nobody}
+    closed, script = shutil.copy("one.log", "closed.to.all"), shutil.copy("one.script", "script.closed.to.all")
+    os.mkdir("shut", 0o555)
+    check("make into a folder that may not be written", run("make", "one.script", "shut/log", **as_reader), WRITE_FAULT)
+    check("close into a folder that may not be written", run("close", "one.log", "shut/log", 1, **as_reader), WRITE_FAULT)
+    check("upgrade into a folder that may not be written", run("upgrade", "one.log", "shut/log", 1, **as_reader), WRITE_FAULT)
+    os.chmod(closed, 0)
+    os.chmod(script, 0)
+    os.mkdir("open")
+    os.chmod("open", 0o777)
+    for line in [["restart", closed, 1, 1], ["restart-at", closed, 40, 1, 1], ["audit", closed, 1], ["close", closed, "open/log", 1], ["upgrade", closed, "open/log", 1], ["make", script, "open/log"], ["make2", script, "open/log"]]:
+        check(f"{line[0]} of a file that may not be read", run(*line, **as_reader), READ_FAULT)
+    check("files that were not made", (os.listdir("shut"), os.listdir("open")), ([], []))
+
+
+def pour(to: object, pieces: object) -> None:
+    """Writes the pieces, as far as they are taken."""
+    try:
+        for piece in pieces:
+            to.write(piece)
+        to.close()
+    except BrokenPipeError:
+        pass
+
+
+def too_large() -> None:
+    """A checkpoint whose state takes more bytes to spell than a checkpoint holds, and one that just fits."""
+    element = b"enqueue 1 0 5 - 0 " + b"5a" * 60000 + b"\n"
+    for count, path, want in [(4472, "large.log", refused("too large")), (4471, "/dev/null", DONE)]:
+        lines = itertools.chain([b"define jobs 0 -\nbegin 1\n"], itertools.repeat(element, count), [b"checkpoint\n"])
+        made = subprocess.Popen([RQ, "make", "/dev/stdin", path], stdin=subprocess.PIPE, stdout=subprocess.PIPE, stderr=subprocess.PIPE)
+        pour(made.stdin, lines)
+        with made.stdout, made.stderr:
+            told = made.stdout.read(), made.stderr.read()
+        check(f"a checkpoint of {count} long elements", (made.wait(60), *told), want)
+    check("a log of a checkpoint that is too large", os.path.exists("large.log"), False)
+
+
 def outputs() -> None:
     """Outputs that take nothing, or not all."""
     printing = [["restart", "two.log", 2, 1], ["restart-at", "two.log", 447, 2, 1], ["audit", "two.log", 2]]
@@ -354,6 +398,13 @@ def long_log() -> str:
     return log_of(script + b"".join(b"begin %d\nenqueue %d %d 1 - 0 %s\ncommit %d\n" % (u, u, u % 96, b"5a" * 1200, u) for u in range(1, 4001)), "long")
 
 
+def told_log() -> str:
+    """A short log of which most bytes are those of true checkpoints."""
+    elements = b"enqueue 1 0 5 - 0 " + b"5a" * 100 + b"\n"
+    units = b"".join(b"begin %d\ncommit %d\ncheckpoint\n" % (u, u) for u in range(2, 152))
+    return log_of(b"define jobs 0 -\nbegin 1\n" + elements * 64 + b"commit 1\n" + units, "told")
+
+
 def threads() -> None:
     """How many threads a plan starts: none for one worker. For more so many that each has its own, and no more of them at a
     time; those that check digests, where the grain leaves several pieces, are two for each core at most."""
@@ -366,6 +417,13 @@ def threads() -> None:
     long = long_log()
     for line in [["make", "many.script", "many.again"], ["restart", long, 1, 1], ["restart-at", "two.log", 447, 1, 1], ["audit", "two.log", 1], ["close", long, "long.closed", 1], ["upgrade", long, "long.upgraded", 1]]:
         check(f"threads of {line[0]} with one worker", threads_of(shim, *line), (0, 0))
+    told_often = told_log()
+    alone = run("audit", told_often, 1)
+    check("audit of many true checkpoints", (alone[0], alone[1].count(b" true\n"), alone[1].count(b"\n")), (0, 150, 150))
+    for workers in [1, 2, 3, 4, 7]:
+        # each worker but the calling one goes through a share of its own
+        check(f"threads of an audit with {workers} workers", threads_of(shim, "audit", told_often, workers)[0], workers - 1)
+        check(f"audit of many true checkpoints with {workers} workers", run("audit", told_often, workers) == alone, True)
     pieces = 2 * len(os.sched_getaffinity(0))
     for workers in [2, 3, 4, 5, 8, 16, 64]:
         others = workers - 1
@@ -389,7 +447,7 @@ def main() -> None:
     folder = tempfile.mkdtemp()
     os.chdir(folder)
     try:
-        for part in [commands, usage, faults, closing, upgrading, outputs, files, plans, words, threads]:
+        for part in [commands, usage, faults, permissions, closing, upgrading, outputs, files, plans, words, threads, too_large]:
             try:
                 part()
             except Exception as fault:

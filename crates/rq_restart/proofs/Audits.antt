@@ -4,7 +4,7 @@ use Rattle.std.specs.Prelude.{◌↔◌, map, Result, Ok, Err, IfOk, IfErr}
 use Rattle.std.specs.Global.{Vec}
 use Rattle.std.specs.Str.{bytes_eq}
 use Rattle.std.specs.List.{AllByRecursion}
-use Rattle.std.proofs.lemmas.List.{length-append}
+use Rattle.std.proofs.lemmas.List.{length-append, take_all}
 use Rattle.std.proofs.lemmas.Slice.Eq.{bytes_eq-Decides}
 use Rattle.rq_model.specs.Records.{Record, Define, Register, Deregister, Begin, Enqueue, Dequeue, Commit, Abort, Checkpoint, Kill, Version}
 use Rattle.rq_model.specs.Spelling.{body_of, IsRecord}
@@ -20,7 +20,7 @@ use Rattle.rq_model.proofs.Restarts.{each_cut}
 use Rattle.rq_record.specs.declared.fault.Fault.{Fault}
 use Rattle.rq_record.specs.declared.fault.Fault.TheVariants.{Resources}
 use Rattle.rq_front.specs.Chains.{IsHeaded, Refused}
-use Rattle.rq_restart.specs.Audits.{Audits, audit_of, audited_of, audits, past}
+use Rattle.rq_restart.specs.Audits.{Audits, FindsShare, audit_of, audited_of, audits, past}
 use Rattle.rq_restart.proofs.Chains.{frame_long}
 
 abbrev audit_at : State → ℕ → List Record → List ℕ → Audited
@@ -213,3 +213,9 @@ is_audit version laws b rs rest front = record {
 pub audits_are : (b : List ℕ) → length b ≤ log_limit → IsHeaded b → (result : Result (Vec (ℕ × Bool)) Fault) → IfOk result (λ v. IsAudit b (map audited_of v.items)) → IfErr result (λ e. e ≡ Resources) → Audits b result
 audits_are b short head (Ok v) is refused = (short, head, is)
 audits_are b short head (Err e) is refused = subst (λ (f : Fault). Refused b f) (sym refused) tt
+
+-- the share from the first record to the last is the audit
+pub found_whole : (b : List ℕ) (rs : List Record) (n : ℕ) (result : Result (Vec (ℕ × Bool)) Fault) → length rs ≤ n → IsAudit b (audits empty 40 rs) → FindsShare rs 0 n result
+    → IfOk result (λ v. IsAudit b (map audited_of v.items)) × IfErr result (λ e. e ≡ Resources)
+found_whole b rs n (Ok v) all is h = (subst (IsAudit b) (sym (h ∙ ap (audits empty 40) (take_all n rs all))) is, tt)
+found_whole b rs n (Err e) all is h = (tt, h)

@@ -23,7 +23,7 @@ use Rattle.rq_record.specs.Views.{record_of}
 use Rattle.rq_restart.specs.declared.auditing.Walk.{Walk}
 use Rattle.rq_restart.specs.declared.tally.Tally.{Tally}
 use Rattle.rq_restart.specs.Worth.{KeepsAllBut, of_unit, of_registrant, IsTallied, IsWithin, unit_after, named_after, registrant_after, lost_by, Counts}
-use Rattle.rq_restart.specs.Audits.{IsAuditWalk, PassesRecord, audits, audited_of, least}
+use Rattle.rq_restart.specs.Audits.{IsAuditWalk, PassesRecord, least}
 use Rattle.rq_restart.proofs.Worth.{tallied, lost, both_lost, not_not, too_short}
 use Rattle.rq_restart.proofs.Walks.{other_number}
 
@@ -115,23 +115,31 @@ before_first t us ks = (
   record { units = λ u. omega (arith, us u); registrants = λ k. omega (arith, ks k) },
 )
 
+-- the tally behind one record more
+pub tallied_next : (all : List Own) (i : ℕ) (r : Own) (t u : Tally) → i < length all → r ≡ slice_index_or all i r → Rising (run empty (take i (map record_of all))) → Counts t u r
+    → IsTallied (run empty (take i (map record_of all))) t → IsWithin i t → IsTallied (run empty (take (i + 1) (map record_of all))) u × IsWithin (i + 1) u
+tallied_next all i r t u lt is rise c h within = (
+  subst (λ (s : State). IsTallied s u) (sym (run_more all i r lt is)) (tallied (run empty (take i (map record_of all))) t u r rise c h),
+  within_next t u i r c within,
+)
+
 pub passed : (all : List Own) (i : ℕ) (r : Own) (w v : Walk) → i < length all → length all ≤ 4294967295 → r ≡ slice_index_or all i r → Rising (run empty (take i (map record_of all))) → IsAuditWalk (map record_of all) i w → PassesRecord w r v
-    → map audited_of w.found.items ≡ audits empty 40 (take (i + 1) (map record_of all)) → IsAuditWalk (map record_of all) (i + 1) v
-passed all i r w v lt few is rise walk p found =
+    → IsAuditWalk (map record_of all) (i + 1) v
+passed all i r w v lt few is rise walk p =
     let rs = map record_of all in
     let s = run empty (take i rs) in
     let more = run_more all i r lt is in
     let from : v.from ≡ w.from = ap (λ (x : Walk). x.from) p.others in
     let state : v.state ≡ w.state = ap (λ (x : Walk). x.state) p.others in
+    let next = tallied_next all i r w.tally v.tally lt is rise p.tally walk.tally walk.counts in
     record {
       within = omega (arith, walk.within, from);
       state = state ∙ walk.state ∙ ap (λ (n : ℕ). run empty (take n rs)) (sym from);
-      tally = subst (λ (t : State). IsTallied t v.tally) (sym more) (tallied s w.tally v.tally r rise p.tally walk.tally);
-      counts = within_next w.tally v.tally i r p.tally walk.counts;
+      tally = next.0;
+      counts = next.1;
       few = omega (arith, p.lost, walk.few, lost_within w.tally i r walk.counts, lt, few);
       lost = subst (λ (t : State). KeepsAllBut v.lost v.state t) (sym more) (subst (λ (t : State). KeepsAllBut v.lost t (step s (record_of r))) (sym state)
           (subst (λ (n : ℕ). KeepsAllBut n w.state (step s (record_of r))) (sym p.lost) (both_lost w.lost (lost_by r w.tally) w.state s (step s (record_of r)) walk.lost (lost s w.tally r walk.tally rise))));
-      found = ap (λ (x : Walk). map audited_of x.found.items) p.others ∙ found;
     }
 
 -- a checkpoint changes nothing

@@ -25,7 +25,7 @@ use Rattle.rq_front.specs.declared.spans.Chain.{Chain}
 use Rattle.rq_front.specs.declared.spans.Span.{Span}
 use Rattle.rq_front.specs.Chains.{bodies_at, spans_from}
 use Rattle.rq_restart.specs.Ends.{IsChain}
-use Rattle.rq_restart.specs.Audits.{audit_of, audits, audited_of, past, StandAt}
+use Rattle.rq_restart.specs.Audits.{audit_of, audits, audited_of, past, AreFound, StandAt}
 
 -- where the frames of the records stand
 stand_from : (at : ℕ) (rs : List Record) (left : List (List ℕ)) (i : ℕ) → i < length rs
@@ -100,9 +100,9 @@ none_here s at (own.Commit unit) h = refl
 none_here s at (own.Abort unit) h = refl
 none_here s at (own.Kill queue element) h = refl
 
-pub found_past : (all : List Own) (i : ℕ) (r : Own) (found : List (ℕ × Bool)) → i < length all → r ≡ slice_index_or all i r → ((kept : List ℕ) → r ≡ own.Checkpoint kept → ⊥)
-    → map audited_of found ≡ audits empty 40 (take i (map record_of all)) → map audited_of found ≡ audits empty 40 (take (i + 1) (map record_of all))
-found_past all i r found lt is other so_far =
+pub found_past : (all : List Own) (start i : ℕ) (r : Own) (found : List (ℕ × Bool)) → i < length all → r ≡ slice_index_or all i r → ((kept : List ℕ) → r ≡ own.Checkpoint kept → ⊥)
+    → AreFound (map record_of all) start i found → AreFound (map record_of all) start (i + 1) found
+found_past all start i r found lt is other so_far =
     let rs = map record_of all in
     let before : List Audited = audits empty 40 (take i rs) in
     so_far ∙ sym (audits_more all i r lt is ∙ ap (λ (z : List Audited). before ++ z) (none_here (run empty (take i rs)) (past 40 (take i rs)) r other) ∙ append-nil before)
@@ -119,14 +119,22 @@ other_number all i kept begins lt is not_so =
     sym not_so ∙ (starts_is Decides-eqb kept (to_be_bytes w64 i) begins is).1 (drop 8 kept) whole)
     (λ _. refl)
 
-pub found_next : (all : List Own) (i : ℕ) (r : Own) (kept : List ℕ) (found : List (ℕ × Bool)) (start : ℕ) (truth : Bool) (s : State) → i < length all → r ≡ slice_index_or all i r → r ≡ own.Checkpoint kept
-    → map audited_of found ≡ audits empty 40 (take i (map record_of all)) → start ≡ past 40 (take i (map record_of all)) + 4 → s ≡ run empty (take i (map record_of all)) → truth ≡ bytes_eq kept (state_bytes s)
-    → map audited_of (found ++ (start - 4, truth) ∷ []) ≡ audits empty 40 (take (i + 1) (map record_of all))
-found_next all i r kept found start truth s lt is checkpoint so_far place state test =
+pub found_next : (all : List Own) (start i : ℕ) (r : Own) (kept : List ℕ) (found : List (ℕ × Bool)) (place : ℕ) (truth : Bool) (s : State) → i < length all → r ≡ slice_index_or all i r → r ≡ own.Checkpoint kept
+    → AreFound (map record_of all) start i found → place ≡ past 40 (take i (map record_of all)) + 4 → s ≡ run empty (take i (map record_of all)) → truth ≡ bytes_eq kept (state_bytes s)
+    → AreFound (map record_of all) start (i + 1) (found ++ (place - 4, truth) ∷ [])
+found_next all start i r kept found place truth s lt is checkpoint so_far stands state test =
     let rs = map record_of all in
+    let earlier : List Audited = audits empty 40 (take start rs) in
     let before : List Audited = audits empty 40 (take i rs) in
-    let at : start - 4 ≡ past 40 (take i rs) = omega (arith, place) in
+    let at : place - 4 ≡ past 40 (take i rs) = omega (arith, stands) in
     let true_is : truth ≡ bytes_eq kept (state_bytes (run empty (take i rs))) = test ∙ ap (λ (t : State). bytes_eq kept (state_bytes t)) state in
-    let same : audited_of (start - 4, truth) ≡ record { offset = past 40 (take i rs); truth = bytes_eq kept (state_bytes (run empty (take i rs))) } = λ j. record { offset = at j; truth = true_is j } in
-    map-append audited_of found ((start - 4, truth) ∷ []) ∙ ap (λ (z : List Audited). z ++ audited_of (start - 4, truth) ∷ []) so_far ∙ ap (λ (a : Audited). before ++ a ∷ []) same
+    let same : audited_of (place - 4, truth) ≡ record { offset = past 40 (take i rs); truth = bytes_eq kept (state_bytes (run empty (take i rs))) } = λ j. record { offset = at j; truth = true_is j } in
+    ap (λ (z : List Audited). earlier ++ z) (map-append audited_of found ((place - 4, truth) ∷ [])) ∙ sym (append_assoc earlier (map audited_of found) (audited_of (place - 4, truth) ∷ []))
+    ∙ ap (λ (z : List Audited). z ++ audited_of (place - 4, truth) ∷ []) so_far ∙ ap (λ (a : Audited). before ++ a ∷ []) same
     ∙ sym (audits_more all i r lt is ∙ ap (λ (q : Own). before ++ audit_of (run empty (take i rs)) (past 40 (take i rs)) (record_of q)) checkpoint)
+
+-- two shares, one behind the other
+pub found_both : (rs : List Record) (start middle end : ℕ) (found more : List (ℕ × Bool)) → AreFound rs start middle found → AreFound rs middle end more → AreFound rs start end (found ++ more)
+found_both rs start middle end found more h k =
+    let earlier : List Audited = audits empty 40 (take start rs) in
+    ap (λ (z : List Audited). earlier ++ z) (map-append audited_of found more) ∙ sym (append_assoc earlier (map audited_of found) (map audited_of more)) ∙ ap (λ (z : List Audited). z ++ map audited_of more) h ∙ k

@@ -1,16 +1,18 @@
 -- Which checkpoints are true, found on the way through the records.
-use Rattle.std.specs.Prelude.{◌≡◌, ℕ, ◌+◌, ◌-◌, ◌*◌, ◌≤◌, ◌<◌, Bool, List, [], ◌∷◌, ◌++◌, length}
+use Rattle.std.specs.Prelude.{◌≡◌, ℕ, ◌+◌, ◌-◌, ◌*◌, ◌≤◌, ◌<◌, Bool, true, List, [], ◌∷◌, ◌++◌}
+use Rattle.std.specs.Prelude.{length}
 use Rattle.std.specs.Prelude.{map, take, slice_index_or, Result, Ok, Err}
 use Rattle.std.specs.Str.{bytes_eq}
 use Rattle.std.specs.Global.{Vec}
-use Rattle.rq_model.specs.Records.{Record, Checkpoint}
+use Rattle.rq_model.specs.Records.{Record, Checkpoint, Two}
 use Rattle.rq_model.specs.Spelling.{body_of}
 use Rattle.rq_model.specs.Frames.{log_limit}
 use Rattle.rq_model.specs.States.{State, empty}
-use Rattle.rq_model.specs.Machine.{step, run}
+use Rattle.rq_model.specs.Machine.{step, run, all_lawful}
 use Rattle.rq_model.specs.StateSpelling.{state_bytes}
 use Rattle.rq_model.specs.Checkpoints.{Audited, IsAudit}
 use Rattle.rq_record.specs.declared.fault.Fault.{Fault}
+use Rattle.rq_record.specs.declared.fault.Fault.TheVariants.{Resources}
 use Rattle.rq_front.specs.declared.spans.Span.{Span}
 use Rattle.rq_front.specs.Chains.{IsHeaded, Refused}
 use Rattle.rq_restart.specs.declared.auditing.Walk.{Walk}
@@ -44,6 +46,22 @@ StandAt rs spans = (i : ℕ) → i < length rs
 abbrev pub least : Walk → ℕ
 least w = member_bytes w.state - 74 * w.lost
 
+-- the records of a log, which are lawful, and the spans of their frames
+pub record AreFramed (rs : List Record) (spans : List Span) : Type 0 where
+  pub few : length rs ≤ 4294967295
+  pub lawful : all_lawful Two empty rs ≡ true
+  pub stand : StandAt rs spans
+
+-- the checkpoints among the records from one place up to another
+abbrev pub AreFound : List Record → ℕ → ℕ → List (ℕ × Bool) → Type 0
+AreFound rs start end found =
+    audits empty 40 (take start rs) ++ map audited_of found ≡ audits empty 40 (take end rs)
+
+-- these, or no memory
+abbrev pub FindsShare : List Record → ℕ → ℕ → Result (Vec (ℕ × Bool)) Fault → Type 0
+FindsShare rs start end (Ok v) = AreFound rs start end v.items
+FindsShare rs start end (Err e) = e ≡ Resources
+
 -- how far an audit has come
 pub record IsAuditWalk (rs : List Record) (i : ℕ) (w : Walk) : Type 0 where
   pub within : w.from ≤ i
@@ -52,7 +70,6 @@ pub record IsAuditWalk (rs : List Record) (i : ℕ) (w : Walk) : Type 0 where
   pub counts : IsWithin i w.tally
   pub few : w.lost ≤ i * 4294967296
   pub lost : KeepsAllBut w.lost w.state (run empty (take i rs))
-  pub found : map audited_of w.found.items ≡ audits empty 40 (take i rs)
 
 -- v is w behind a record that is no checkpoint
 pub record PassesRecord (w : Walk) (r : Own) (v : Walk) : Type 0 where

@@ -1,26 +1,26 @@
 //! Which checkpoints of a log are true.
 
-ghost use Rattle.std.specs.Prelude.{◌≡◌, ◌≤◌, ◌<◌, ◌+◌, ◌-◌, ◌^◌, ◌&&◌, not, true, List, length};
-ghost use Rattle.std.specs.Prelude.{map, nat_eq, nat_lt, IfOk, IfErr};
+ghost use Rattle.std.specs.Prelude.{◌≡◌, ◌≤◌, ◌<◌, ◌+◌, ◌-◌, ◌^◌, ◌&&◌, ℕ, not, true, [], length};
+ghost use Rattle.std.specs.Prelude.{map, take, nat_eq, nat_lt, IfOk, IfErr};
 ghost use Rattle.std.specs.Int.{w64, to_be_bytes};
 ghost use Rattle.std.specs.List.{starts_with};
 ghost use Rattle.std.specs.Str.{bytes_eq};
-ghost use Rattle.rq_model.specs.Records as model;
 ghost use Rattle.rq_model.specs.Records.{Two};
 ghost use Rattle.rq_model.specs.States.{empty};
 ghost use Rattle.rq_model.specs.Frames.{HasHeader};
-ghost use Rattle.rq_model.specs.Machine.{all_lawful};
+ghost use Rattle.rq_model.specs.Machine.{all_lawful, run};
 ghost use Rattle.rq_model.specs.Checkpoints.{IsAudit};
 ghost use Rattle.rq_model.specs.StateSpelling.{state_bytes};
 ghost use Rattle.rq_record.specs.Views.{record_of, version_of};
 ghost use Rattle.rq_record.specs.declared.fault.Fault.TheVariants.{Resources};
-ghost use Rattle.rq_restart.specs.Audits.{Audits, IsAuditWalk, PassesRecord, StandAt, audited_of};
-ghost use Rattle.rq_restart.specs.Audits.{least};
+ghost use Rattle.rq_restart.specs.Audits.{Audits, IsAuditWalk, PassesRecord, AreFound, AreFramed};
+ghost use Rattle.rq_restart.specs.Audits.{audited_of, least};
 ghost use Rattle.rq_restart.specs.Ends.{IsChain};
-ghost use Rattle.rq_restart.specs.Worth.{IsWithin, member_bytes, lost_by};
+ghost use Rattle.rq_restart.specs.Worth.{IsTallied, IsWithin, member_bytes, lost_by};
 
 use crate::front::front_of;
 use crate::grain::{grain_of, plan_for};
+use crate::shares::audited;
 use crate::tally::Tally;
 use rq_exchange::replay;
 use rq_front::{Chain, Span, chain, version};
@@ -49,39 +49,66 @@ fn is_spelled(alloc: Global, state: &State, kept: &[u8]) -> Result<bool, Fault>
     Ok(kept == spelled.as_slice())
 }
 
-// Whether the bytes begin as those of each state with this next record number.
-fn begins_with(kept: &[u8], next: u64) -> bool
+/// Whether the bytes begin as those of each state with this next record number.
+pub(crate) fn begins_with(kept: &[u8], next: u64) -> bool
     ensures { result ≡ starts_with nat_eq kept.now (to_be_bytes w64 next) }
 {
     kept.starts_with(&next.to_be_bytes())
 }
 
-// How far an audit has come: the last state that was made, and the place of the record that it
-// stands before; how often each unit and registrant was spoken of; how many members of each list of
-// that state may be gone since; and what was found.
+// How often each unit and registrant was spoken of before the record of a place.
+fn tally_before(alloc: Global, records: &[Record], place: usize) -> Result<Tally, Fault>
+    requires within { place ≤ length records.now }
+    requires few { length records.now ≤ 4294967295 }
+    requires lawful { all_lawful Two empty (map record_of records.now) ≡ true }
+    ensures tally { IfOk result (IsTallied (run empty (take place (map record_of records.now)))) }
+    ensures counts { IfOk result (IsWithin place) }
+    ensures refused { IfErr result (λ e. e ≡ Resources) }
+{
+    rq_model::runs_are_well_formed();
+    let mut tally = Tally::new(alloc);
+    for at in 0..place {
+        tally.take(&records[at])?;
+    }
+    Ok(tally)
+}
+
+// How far an audit of the records from one of them on has come: the last state that was made, and
+// the place of the record that it stands before; how often each unit and registrant was spoken of;
+// how many members of each list of that state may be gone since; and what was found.
 #[derive(Drop)]
-struct Walk {
+pub(crate) struct Walk {
     state: State,
     from: usize,
     tally: Tally,
     lost: u64,
-    found: Vec<(u64, bool)>,
+    pub(crate) found: Vec<(u64, bool)>,
 }
 
 impl Walk {
-    // Before the first record.
-    fn first(alloc: Global) -> Walk
-        ensures { (rs : List model.Record) → IsAuditWalk rs 0 result }
+    /// In the state before the record of a place, with nothing found.
+    pub(crate) fn before(
+        alloc: Global,
+        records: &[Record],
+        place: usize,
+        state: State,
+    ) -> Result<Walk, Fault>
+        requires within { place ≤ length records.now }
+        requires few { length records.now ≤ 4294967295 }
+        requires lawful { all_lawful Two empty (map record_of records.now) ≡ true }
+        requires state { state ≡ run empty (take place (map record_of records.now)) }
+        ensures walk { IfOk result (IsAuditWalk (map record_of records.now) place) }
+        ensures nothing { IfOk result (λ w. w.found.items ≡ []) }
+        ensures refused { IfErr result (λ e. e ≡ Resources) }
     {
-        let tally = Tally::new(alloc);
-        let found = Vec::new(alloc);
-        Walk {
-            state: State::empty(alloc),
-            from: 0,
+        let tally = tally_before(alloc, records, place)?;
+        Ok(Walk {
+            state,
+            from: place,
             tally,
             lost: 0,
-            found,
-        }
+            found: Vec::new(alloc),
+        })
     }
 }
 
@@ -131,10 +158,31 @@ fn pass(walk: Walk, rec: &Record) -> Result<Walk, Fault>
     })
 }
 
-// One record further. The state before a checkpoint is made of the last one that was made, and only
-// where the checkpoint begins with its own number and is long enough to spell it: so a false one
-// costs its bytes, and what was taken from the state since the last one.
-fn visit<R: Threads + Sync>(
+/// The state before the record of a place, made of the one before an earlier record.
+pub(crate) fn state_before<R: Threads + Sync>(
+    rt: &R,
+    alloc: Global,
+    records: &[Record],
+    place: usize,
+    from: usize,
+    state: &State,
+    plan: &Plan,
+) -> Result<State, Fault>
+    requires order { from ≤ place }
+    requires within { place ≤ length records.now }
+    requires few { length records.now ≤ 4294967295 }
+    requires lawful { all_lawful Two empty (map record_of records.now) ≡ true }
+    requires state { state.now ≡ run empty (take from (map record_of records.now)) }
+    ensures state { IfOk result (λ s. s ≡ run empty (take place (map record_of records.now))) }
+    ensures refused { IfErr result (λ e. e ≡ Resources) }
+{
+    replay(rt, alloc, state, &records[from..place], plan, &Open)
+}
+
+/// One record further. The state before a checkpoint is made of the last one that was made, and only
+/// where the checkpoint begins with its own number and is long enough to spell it: so a false one
+/// costs its bytes, and what was taken from the state since the last one.
+pub(crate) fn visit<R: Threads + Sync>(
     rt: &R,
     alloc: Global,
     records: &[Record],
@@ -144,11 +192,12 @@ fn visit<R: Threads + Sync>(
     plan: &Plan,
 ) -> Result<Walk, Fault>
     requires there { place < length records.now }
-    requires few { length records.now ≤ 4294967295 }
-    requires lawful { all_lawful Two empty (map record_of records.now) ≡ true }
-    requires spans { StandAt (map record_of records.now) spans.now }
+    requires framed { AreFramed (map record_of records.now) spans.now }
     requires walk { IsAuditWalk (map record_of records.now) place walk }
     ensures walk { IfOk result (IsAuditWalk (map record_of records.now) (place + 1)) }
+    ensures found { IfOk result
+        (λ w. (start : ℕ) → AreFound (map record_of records.now) start place walk.found.items
+        → AreFound (map record_of records.now) start (place + 1) w.found.items) }
     ensures refused { IfErr result (λ e. e ≡ Resources) }
 {
     rq_model::runs_are_well_formed();
@@ -162,14 +211,8 @@ fn visit<R: Threads + Sync>(
         return Ok(walk);
     }
     let work = (place - walk.from).saturating_add(kept.len() / BYTES_OF_A_RECORD);
-    let state = replay(
-        rt,
-        alloc,
-        &walk.state,
-        &records[walk.from..place],
-        &plan_for(plan, work),
-        &Open,
-    )?;
+    let plan = plan_for(plan, work);
+    let state = state_before(rt, alloc, records, place, walk.from, &walk.state, &plan)?;
     let truth = is_spelled(alloc, &state, kept)?;
     let mut found = walk.found;
     found.push((offset, truth))?;
@@ -211,11 +254,7 @@ fn checkpoints_of<R: Threads + Sync>(
         &State::empty(alloc),
         plan,
     )?;
-    let mut walk = Walk::first(alloc);
-    for place in 0..front.records.len() {
-        walk = visit(rt, alloc, &front.records, &found.spans, place, walk, plan)?;
-    }
-    Ok(walk.found)
+    audited(rt, alloc, &front.records, &found.spans, plan)
 }
 
 /// The checkpoints of the front of a log, rising: the offset of each, and whether it is true, which

@@ -16,6 +16,7 @@ mod reading;
 mod restarted;
 mod restarting;
 mod restarting_at;
+mod shares;
 mod tails;
 mod tally;
 mod upgrading;
