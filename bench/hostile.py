@@ -272,6 +272,13 @@ def wide_checkpoints(n: int) -> Records:
     yield from itertools.repeat(checkpoint(b"j"), n)
 
 
+def queues_told(n: int) -> Records:
+    """4,096 queues, and n / 4,096 checkpoints that spell them."""
+    names = [b"q%d" % queue for queue in range(4096)]
+    yield from map(define, names)
+    yield from (checkpoint(spelled((4096 + at, 0, 0, 0), names, [])) for at in range(n // 4096))
+
+
 def chained(n: int) -> Records:
     """4,096 queues, each the error queue of the next, and elements that fall through all of them, one after the other."""
     yield define(b"q0")
@@ -316,7 +323,7 @@ def killed_and_new(n: int) -> Records:
 
 RESTARTED = [open_units, one_unit, units_in_turn, one_registrant, strangers_go, noted_and_gone, last_go_first]
 RESTARTED += [retried, all_retried, moved, all_moved, all_queues, spread]
-AUDITED = [true_checkpoints, false_checkpoints, junk_checkpoints, empty_checkpoints, counting_checkpoints, one_told, wide_checkpoints]
+AUDITED = [true_checkpoints, false_checkpoints, junk_checkpoints, empty_checkpoints, counting_checkpoints, one_told, wide_checkpoints, queues_told]
 IN_VERSION_TWO = [chained, all_killed, none_killed, killed_and_new]
 SHAPES = {shape.__name__: shape for shape in RESTARTED + IN_VERSION_TWO + AUDITED}
 
