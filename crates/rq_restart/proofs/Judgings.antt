@@ -1,5 +1,5 @@
 -- What a judge makes of bodies, one after the other.
-use Rattle.std.proofs.Common.{◌≡◌, ℕ, suc, ◌+◌, ◌<◌, ◌≤◌, true, false, List, [], ◌∷◌, ◌++◌, length, map, take, drop, get_or, refl, sym, ap, subst, ◌∙◌, arith}
+use Rattle.std.proofs.Common.{◌≡◌, ℕ, suc, ◌+◌, ◌<◌, ◌≤◌, true, false, List, [], ◌∷◌, ◌++◌, length, take, drop, get_or, sym, ap, subst, ◌∙◌, arith}
 use Rattle.std.specs.Prelude.{nat_lt}
 use Rattle.std.specs.List.{AllByRecursion}
 use Rattle.std.proofs.lemmas.Bool.{lt-ltb, le-ltb}
@@ -7,17 +7,16 @@ use Rattle.std.proofs.lemmas.List.{append-nil, length-map, length-take, take_all
 use Rattle.std.proofs.Math.Seq.{drop-cons}
 use Rattle.std.proofs.Math.Numerals.{suc-eq-add-one}
 use Rattle.rq_model.specs.Records.{Record, Version}
-use Rattle.rq_model.specs.Spelling.{IsRecord, Spells, body_of}
+use Rattle.rq_model.specs.Spelling.{IsRecord, body_of}
 use Rattle.rq_model.specs.Frames.{bodies_of}
 use Rattle.rq_model.specs.States.{State}
-use Rattle.rq_model.specs.Machine.{is_lawful, all_lawful, step, run}
+use Rattle.rq_model.specs.Machine.{all_lawful, run}
 use Rattle.rq_front.specs.declared.spans.Span.{Span}
 use Rattle.rq_front.specs.Chains.{body_at, bodies_at}
 use Rattle.rq_catalog.specs.declared.judge.Judge.{Judge}
 use Rattle.rq_catalog.specs.Judges.{StandsIn}
 use Rattle.rq_catalog.proofs.Runs.{lawful_push, run_push}
 use Rattle.rq_restart.specs.declared.passing.Verdict.TheVariants.{Lawful, Unlawful, NoRecord}
-use Rattle.rq_restart.specs.declared.passing.Reach.{Reach}
 use Rattle.rq_restart.specs.Passes.{AreJudged, IsVerdict, StopsAt}
 use Rattle.rq_restart.proofs.Readings.{each_push, read_more, two_parts}
 

@@ -1,9 +1,9 @@
 -- A pass in windows: a frame that is right in a beginning of the log is right in the log.
-use Rattle.std.proofs.Common.{◌≡◌, ℕ, ◌+◌, ◌-◌, ◌≤◌, Bool, true, false, List, [], ◌∷◌, ◌++◌, length, map, take, drop, refl, sym, ap, subst, ◌∙◌, append_assoc, arith}
+use Rattle.std.proofs.Common.{◌≡◌, ℕ, ◌+◌, ◌-◌, ◌≤◌, Bool, true, false, List, [], ◌∷◌, ◌++◌, length, take, drop, refl, sym, ap, subst, ◌∙◌, append_assoc, arith}
 use Rattle.std.specs.Prelude.{All, slice_get, nat_lt}
 use Rattle.std.specs.List.{AllByRecursion}
 use Rattle.std.proofs.lemmas.Bool.{false≢true}
-use Rattle.std.proofs.lemmas.List.{append-nil, drop-append-le, drop-drop, drop_at, length-append, length-drop, length-map, length-take, map-append, take-append-drop, take-append-le, take-take, take_all, take_at}
+use Rattle.std.proofs.lemmas.List.{append-nil, drop-append-le, drop_at, length-append, length-drop, length-map, length-take, map-append, take-append-drop, take-append-le, take-take, take_all, take_at}
 use Rattle.byteorder.specs.Numbers.{big_from-append}
 use Rattle.rq_model.specs.Records.{Record, Version}
 use Rattle.rq_model.specs.Spelling.{IsRecord, Spells, body_of}
@@ -11,7 +11,7 @@ use Rattle.rq_model.specs.Frames as frames
 use Rattle.rq_model.specs.Frames.{HasFrame, HasHeader, HasRightFrame, IsBodyLength, IsFrameRun, before, body_in, bodies_of, digest, digest_in, frames_of, header, last, last_of, log_limit, log_of, magic, start, stated}
 use Rattle.rq_model.specs.LogLaws.{FrameIsRight, FramesJoin, FrontStops, LogEnds, LogJoins, RunGivesFront}
 use Rattle.rq_model.specs.States.{State, empty}
-use Rattle.rq_model.specs.Machine.{all_lawful, is_lawful, run}
+use Rattle.rq_model.specs.Machine.{all_lawful, run}
 use Rattle.rq_model.specs.Fronts.{Begins, IsLongest, IsWhy, Why, Ends, Form, Law}
 use Rattle.rq_model.proofs.Lists.{each_append}
 use Rattle.rq_model.proofs.Restarts.{lawful_join, run_join}
@@ -21,7 +21,6 @@ use Rattle.rq_record.specs.declared.fault.Fault.TheVariants as faults
 use Rattle.rq_front.specs.Chains.{Refused, bodies_at, rest_of, spans_from}
 use Rattle.rq_catalog.specs.declared.judge.Judge.{Judge}
 use Rattle.rq_catalog.specs.Judges.{StandsIn}
-use Rattle.rq_catalog.proofs.Fronts.{is_more}
 use Rattle.rq_restart.specs.Ends.{IsChain, IsFrontFrom, end_at, end_from}
 use Rattle.rq_restart.specs.declared.passing.Pass.{Pass}
 use Rattle.rq_restart.specs.declared.passing.Reach.{Reach}

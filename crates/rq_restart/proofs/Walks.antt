@@ -132,9 +132,3 @@ found_next all start i r kept found place truth s lt is checkpoint so_far stands
     ap (λ (z : List Audited). earlier ++ z) (map-append audited_of found ((place - 4, truth) ∷ [])) ∙ sym (append_assoc earlier (map audited_of found) (audited_of (place - 4, truth) ∷ []))
     ∙ ap (λ (z : List Audited). z ++ audited_of (place - 4, truth) ∷ []) so_far ∙ ap (λ (a : Audited). before ++ a ∷ []) same
     ∙ sym (audits_more all i r lt is ∙ ap (λ (q : Own). before ++ audit_of (run empty (take i rs)) (past 40 (take i rs)) (record_of q)) checkpoint)
-
--- two shares, one behind the other
-pub found_both : (rs : List Record) (start middle end : ℕ) (found more : List (ℕ × Bool)) → AreFound rs start middle found → AreFound rs middle end more → AreFound rs start end (found ++ more)
-found_both rs start middle end found more h k =
-    let earlier : List Audited = audits empty 40 (take start rs) in
-    ap (λ (z : List Audited). earlier ++ z) (map-append audited_of found more) ∙ sym (append_assoc earlier (map audited_of found) (map audited_of more)) ∙ ap (λ (z : List Audited). z ++ map audited_of more) h ∙ k

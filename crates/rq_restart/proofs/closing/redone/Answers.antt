@@ -1,4 +1,4 @@
-use Rattle.std.proofs.Common.{◌≡◌, ◌≤◌, List, length, map, take, sym, subst}
+use Rattle.std.proofs.Common.{◌≤◌, List, length, map, take, sym, subst}
 use Rattle.rq_model.specs.Records.{Two}
 use Rattle.rq_model.specs.Machine.{run}
 use Rattle.rq_record.specs.declared.record.Record.{Record}

@@ -1,11 +1,9 @@
-use Rattle.std.proofs.Common.{◌≡◌, Bool, true, false, sym, subst, ap, ◌∙◌, if◌then◌else◌}
+use Rattle.std.proofs.Common.{Bool, sym, subst, ◌∙◌, if◌then◌else◌}
 use Rattle.rq_model.specs.Records as records
-use Rattle.rq_model.specs.States as model
-use Rattle.rq_model.specs.Machine.{is_lawful, step}
-use Rattle.rq_record.specs.Views.{record_of, version_of}
+use Rattle.rq_model.specs.Machine.{step}
+use Rattle.rq_record.specs.Views.{record_of}
 use Rattle.rq_model.specs.Spelling.{Spells}
 use Rattle.rq_catalog.specs.Judges.{StandsIn}
-use Rattle.rq_restart.specs.declared.passing.Verdict.{Verdict}
 use Rattle.rq_restart.specs.Passes.{IsVerdict}
 use Rattle.rq_restart.proofs.passing.judge_one.Goals as goal
 use Rattle.rq_restart.proofs.passing.judge_one.Goals.{then-is_lawful, else-is_lawful}
