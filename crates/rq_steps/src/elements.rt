@@ -1,0 +1,1 @@
+//! What records do to the elements of a state.

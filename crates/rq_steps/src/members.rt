@@ -1,0 +1,1 @@
+//! What records do to the units, registrants and notes of a state.
