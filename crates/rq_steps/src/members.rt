@@ -1,10 +1,12 @@
 //! What records do to the units, registrants and notes of a state.
 
-ghost use Rattle.std.specs.Prelude.{◌≡◌, ◌++◌, map, IfOk, IfErr, OnOk};
+ghost use Rattle.std.specs.Prelude.{◌≡◌, ◌++◌, true, map, IfOk, IfErr, OnOk};
 ghost use Rattle.rq_model.specs.Machine as machine;
 ghost use Rattle.rq_model.specs.States as model;
+ghost use Rattle.rq_model.specs.WellFormed.{Ordered};
 ghost use Rattle.rq_record.specs.declared.fault.Fault.TheVariants.{Resources};
 ghost use Rattle.rq_state.specs.Views.{kind_of, id_of, unit_of};
+ghost use Rattle.rq_steps.specs.Hearing.{heard};
 
 use rq_record::{ElemId, Fault, KeptBy, Name, QueueNo, UnitNo};
 use rq_state::{Last, Note, OpKind, Registrant};
@@ -73,4 +75,52 @@ pub(crate) fn note(
         })?;
     }
     Ok(())
+}
+
+/// The name is registered with the queue.
+pub(crate) fn register(
+    registrants: &mut Vec<Registrant>,
+    queue: QueueNo,
+    name: &Name,
+) -> Result<(), Fault>
+    requires { Ordered (λ r t. model.registrant_before r t ≡ true) registrants.old.items }
+    ensures registered { OnOk result (registrants.new.items
+        ≡ machine.registered queue.0 name.now registrants.old.items) }
+    ensures refused { IfErr result (λ e. e ≡ Resources) }
+{
+    match registrants.binary_search_by_key(&(queue.0, *name), |one| one.key()) {
+        Ok(_) => Ok(()),
+        Err(place) => {
+            let registrant = Registrant {
+                queue,
+                name: *name,
+                last: None,
+            };
+            registrants.insert(place, registrant)?;
+            Ok(())
+        }
+    }
+}
+
+/// The registrant of a note hears of it.
+fn hear(registrants: &mut Vec<Registrant>, note: &Note)
+    requires { Ordered (λ r t. model.registrant_before r t ≡ true) registrants.old.items }
+    ensures { registrants.new.items ≡ map (heard note.now) registrants.old.items }
+{
+    if let Ok(place) = registrants.binary_search_by_key(&note.key(), |one| one.key()) {
+        let last = Last::later(&registrants[place].last, note.last());
+        registrants[place].last = last;
+    }
+}
+
+/// The registrants hear of the unit's notes among these.
+pub(crate) fn tell(registrants: &mut Vec<Registrant>, notes: &[Note], unit: UnitNo)
+    requires { Ordered (λ r t. model.registrant_before r t ≡ true) registrants.old.items }
+    ensures { registrants.new.items ≡ map (machine.told unit.0 notes.now) registrants.old.items }
+{
+    for note in notes {
+        if note.is_by(unit) {
+            hear(registrants, note);
+        }
+    }
 }
