@@ -1,6 +1,6 @@
 //! What records do to the units, registrants and notes of a state.
 
-ghost use Rattle.std.specs.Prelude.{◌≡◌, ◌++◌, true, map, IfOk, IfErr, OnOk};
+ghost use Rattle.std.specs.Prelude.{◌≡◌, ◌++◌, true, map, IfErr, OnErr, OnOk};
 ghost use Rattle.rq_model.specs.Machine as machine;
 ghost use Rattle.rq_model.specs.States as model;
 ghost use Rattle.rq_model.specs.WellFormed.{Ordered};
@@ -59,6 +59,7 @@ pub(crate) fn note(
 ) -> Result<(), Fault>
     ensures noted { OnOk result (notes.new.items ≡ notes.old.items
         ++ machine.noted place unit.0 queue.0 by.now (kind_of kind) (id_of element)) }
+    ensures unchanged { OnErr result (notes.new.items ≡ notes.old.items) }
     ensures refused { IfErr result (λ e. e ≡ Resources) }
 {
     if let Some(by) = by.by() {
@@ -86,6 +87,7 @@ pub(crate) fn register(
     requires { Ordered (λ r t. model.registrant_before r t ≡ true) registrants.old.items }
     ensures registered { OnOk result (registrants.new.items
         ≡ machine.registered queue.0 name.now registrants.old.items) }
+    ensures unchanged { OnErr result (registrants.new.items ≡ registrants.old.items) }
     ensures refused { IfErr result (λ e. e ≡ Resources) }
 {
     match registrants.binary_search_by_key(&(queue.0, *name), |one| one.key()) {
