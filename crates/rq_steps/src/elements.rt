@@ -1,7 +1,7 @@
 //! What records do to the elements of a state.
 
-ghost use Rattle.std.specs.Prelude.{◌≡◌, ◌+◌, ◌<◌, ◌^◌, ◌∷◌, ◌++◌, ◌&&◌, ◌==◌, [], map, take, length};
-ghost use Rattle.std.specs.Prelude.{if◌then◌else◌, option_map, IfOk, IfErr};
+ghost use Rattle.std.specs.Prelude.{◌≡◌, ◌+◌, ◌<◌, ◌^◌, ◌∷◌, ◌++◌, ◌&&◌, ◌==◌, [], map, take};
+ghost use Rattle.std.specs.Prelude.{length, if◌then◌else◌, option_map, IfOk, IfErr};
 ghost use Rattle.std.specs.List.{AllByRecursion};
 ghost use Rattle.rq_model.specs.Machine as machine;
 ghost use Rattle.rq_model.specs.States as model;

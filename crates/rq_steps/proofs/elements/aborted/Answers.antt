@@ -1,4 +1,4 @@
-use Rattle.std.proofs.Common.{rules, ◌≡◌, ◌+◌, ◌<◌, ◌^◌, List, not, ◌∙◌, sym, ap, subst, map, filter, length}
+use Rattle.std.proofs.Common.{rules, ◌≡◌, ◌+◌, ◌<◌, ◌^◌, not, ◌∙◌, sym, ap, subst, map, filter, length}
 use Rattle.std.specs.List.{AllByRecursion}
 use Rattle.std.proofs.lemmas.Fn.{filter_same}
 use Rattle.rq_model.specs.States as model

@@ -1,6 +1,6 @@
 use Rattle.std.proofs.Common.{sym, ap, ◌∙◌, subst, take}
 use Rattle.rq_model.specs.Machine.{is_free_at, comes_first}
-use Rattle.rq_steps.specs.Best.{element_at, IsBestAmong}
+use Rattle.rq_steps.specs.Best.{IsBestAmong}
 use Rattle.rq_steps.proofs.Best.{first_place, better_place}
 use Rattle.rq_steps.proofs.elements.better.Goals as goal
 

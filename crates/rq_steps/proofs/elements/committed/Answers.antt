@@ -1,4 +1,4 @@
-use Rattle.std.proofs.Common.{rules, ◌≡◌, List, not, ◌∙◌, ap, not, map, filter}
+use Rattle.std.proofs.Common.{rules, ◌≡◌, not, ◌∙◌, ap, map, filter}
 use Rattle.std.specs.Prelude.{if◌then◌else◌}
 use Rattle.std.proofs.lemmas.Fn.{filter_same}
 use Rattle.rq_model.specs.Machine as machine
