@@ -7,7 +7,8 @@ ghost use Rattle.rq_model.specs.Machine.{run};
 ghost use Rattle.rq_record.specs.Views.{record_of};
 ghost use Rattle.rq_restart.specs.Audits.{AreFramed, FindsShare};
 
-use crate::auditing::{Walk, begins_with, state_before, visit};
+use crate::auditing::{Walk, begins_with, visit};
+use crate::before::state_before;
 use crate::grain::{plan_for, with_workers};
 use rq_front::Span;
 use rq_pool::Plan;
