@@ -202,6 +202,11 @@ def permissions() -> None:
     program = os.path.abspath(shutil.copy(RQ, "rq"))
     nobody = {"user": 65534, "group": 65534, "extra_groups": []} if os.geteuid() == 0 else {}
     as_reader = {"executable": program, **nobody}
+    try:
+        run(**as_reader)
+    except PermissionError:
+        print("nobody may run no program here: permissions are not tried")
+        return
     closed, script = shutil.copy("one.log", "closed.to.all"), shutil.copy("one.script", "script.closed.to.all")
     os.mkdir("shut", 0o555)
     check("make into a folder that may not be written", run("make", "one.script", "shut/log", **as_reader), WRITE_FAULT)
@@ -232,9 +237,12 @@ def too_large() -> None:
     for count, path, want in [(4472, "large.log", refused("too large")), (4471, "/dev/null", DONE)]:
         lines = itertools.chain([b"define jobs 0 -\nbegin 1\n"], itertools.repeat(element, count), [b"checkpoint\n"])
         made = subprocess.Popen([RQ, "make", "/dev/stdin", path], stdin=subprocess.PIPE, stdout=subprocess.PIPE, stderr=subprocess.PIPE)
+        limit = threading.Timer(120, made.kill)
+        limit.start()
         pour(made.stdin, lines)
         with made.stdout, made.stderr:
             told = made.stdout.read(), made.stderr.read()
+        limit.cancel()
         check(f"a checkpoint of {count} long elements", (made.wait(60), *told), want)
     check("a log of a checkpoint that is too large", os.path.exists("large.log"), False)
 
