@@ -279,6 +279,21 @@ def queues_told(n: int) -> Records:
     yield from (checkpoint(spelled((4096 + at, 0, 0, 0), names, [])) for at in range(n // 4096))
 
 
+def units_told(n: int) -> Records:
+    """4,096 elements, and n / 4,096 checkpoints that have their number right and tell of as many others; a dozen units between two."""
+    count = 4096
+    yield from filled(count)
+    place, told = count + 3, [(2 + at, b"b") for at in range(count)]
+    for at in range(n // count):
+        for unit in range(2 + 12 * at, 14 + 12 * at):
+            yield begin(unit)
+            yield dequeue(unit, 0)
+            yield abort(unit)
+        place += 36
+        yield checkpoint(spelled((place, 13 + 12 * at, 1, 12 + 12 * at), [b"jobs"], told))
+        place += 1
+
+
 def chained(n: int) -> Records:
     """4,096 queues, each the error queue of the next, and elements that fall through all of them, one after the other."""
     yield define(b"q0")
@@ -323,7 +338,7 @@ def killed_and_new(n: int) -> Records:
 
 RESTARTED = [open_units, one_unit, units_in_turn, one_registrant, strangers_go, noted_and_gone, last_go_first]
 RESTARTED += [retried, all_retried, moved, all_moved, all_queues, spread]
-AUDITED = [true_checkpoints, false_checkpoints, junk_checkpoints, empty_checkpoints, counting_checkpoints, one_told, wide_checkpoints, queues_told]
+AUDITED = [true_checkpoints, false_checkpoints, junk_checkpoints, empty_checkpoints, counting_checkpoints, one_told, wide_checkpoints, queues_told, units_told]
 IN_VERSION_TWO = [chained, all_killed, none_killed, killed_and_new]
 SHAPES = {shape.__name__: shape for shape in RESTARTED + IN_VERSION_TWO + AUDITED}
 

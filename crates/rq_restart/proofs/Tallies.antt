@@ -20,6 +20,7 @@ use Rattle.rq_catalog.specs.Catalogues.{key_eq}
 use Rattle.rq_record.specs.declared.record.Record.{Record as Own}
 use Rattle.rq_record.specs.declared.record.Record.TheVariants as own
 use Rattle.rq_record.specs.Views.{record_of}
+use Rattle.rq_state.specs.Inside.{state_of}
 use Rattle.rq_restart.specs.declared.auditing.Walk.{Walk}
 use Rattle.rq_restart.specs.declared.tally.Tally.{Tally}
 use Rattle.rq_restart.specs.Worth.{KeepsAllBut, of_unit, of_registrant, IsTallied, IsWithin, unit_after, named_after, registrant_after, lost_by, Counts}
@@ -99,10 +100,13 @@ run_more all i r lt is =
 abbrev pub Rising : State → Type 0
 Rising s = Ordered (λ e f. e.id < f.id) s.elements
 
-pub rising_at : (rs : List Record) (i : ℕ) → IsWellFormed empty → RunsAreWellFormed → all_lawful Two empty rs ≡ true → Rising (run empty (take i rs))
-rising_at rs i start well lawful =
+pub well_formed_at : (rs : List Record) (i : ℕ) → IsWellFormed empty → RunsAreWellFormed → all_lawful Two empty rs ≡ true → IsWellFormed (run empty (take i rs))
+well_formed_at rs i start well lawful =
     let whole : all_lawful Two empty (take i rs ++ drop i rs) ≡ true = ap (all_lawful Two empty) (take-append-drop i rs) ∙ lawful in
-    (well Two empty (take i rs) start (lawful_cut Two empty (take i rs) (drop i rs) whole).0).elements_rise
+    well Two empty (take i rs) start (lawful_cut Two empty (take i rs) (drop i rs) whole).0
+
+pub rising_at : (rs : List Record) (i : ℕ) → IsWellFormed empty → RunsAreWellFormed → all_lawful Two empty rs ≡ true → Rising (run empty (take i rs))
+rising_at rs i start well lawful = (well_formed_at rs i start well lawful).elements_rise
 
 -- One record further.
 
@@ -130,7 +134,7 @@ passed all i r w v lt few is rise walk p =
     let s = run empty (take i rs) in
     let more = run_more all i r lt is in
     let from : v.from ≡ w.from = ap (λ (x : Walk). x.from) p.others in
-    let state : v.state ≡ w.state = ap (λ (x : Walk). x.state) p.others in
+    let state : state_of v.fields ≡ state_of w.fields = ap (λ (x : Walk). state_of x.fields) p.others in
     let next = tallied_next all i r w.tally v.tally lt is rise p.tally walk.tally walk.counts in
     record {
       within = omega (arith, walk.within, from);
@@ -138,8 +142,8 @@ passed all i r w v lt few is rise walk p =
       tally = next.0;
       counts = next.1;
       few = omega (arith, p.lost, walk.few, lost_within w.tally i r walk.counts, lt, few);
-      lost = subst (λ (t : State). KeepsAllBut v.lost v.state t) (sym more) (subst (λ (t : State). KeepsAllBut v.lost t (step s (record_of r))) (sym state)
-          (subst (λ (n : ℕ). KeepsAllBut n w.state (step s (record_of r))) (sym p.lost) (both_lost w.lost (lost_by r w.tally) w.state s (step s (record_of r)) walk.lost (lost s w.tally r walk.tally rise))));
+      lost = subst (λ (t : State). KeepsAllBut v.lost (state_of v.fields) t) (sym more) (subst (λ (t : State). KeepsAllBut v.lost t (step s (record_of r))) (sym state)
+          (subst (λ (n : ℕ). KeepsAllBut n (state_of w.fields) (step s (record_of r))) (sym p.lost) (both_lost w.lost (lost_by r w.tally) (state_of w.fields) s (step s (record_of r)) walk.lost (lost s w.tally r walk.tally rise))));
     }
 
 -- a checkpoint changes nothing

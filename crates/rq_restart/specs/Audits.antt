@@ -11,6 +11,7 @@ use Rattle.rq_model.specs.States.{State, empty}
 use Rattle.rq_model.specs.Machine.{step, run, all_lawful}
 use Rattle.rq_model.specs.StateSpelling.{state_bytes}
 use Rattle.rq_model.specs.Checkpoints.{Audited, IsAudit}
+use Rattle.rq_state.specs.Inside.{state_of}
 use Rattle.rq_record.specs.declared.fault.Fault.{Fault}
 use Rattle.rq_record.specs.declared.fault.Fault.TheVariants.{Resources}
 use Rattle.rq_front.specs.declared.spans.Span.{Span}
@@ -44,7 +45,7 @@ StandAt rs spans = (i : ℕ) → i < length rs
 
 -- the bytes that the state before the next record spells at least
 abbrev pub least : Walk → ℕ
-least w = member_bytes w.state - 74 * w.lost
+least w = member_bytes (state_of w.fields) - 74 * w.lost
 
 -- the records of a log, which are lawful, and the spans of their frames
 pub record AreFramed (rs : List Record) (spans : List Span) : Type 0 where
@@ -65,11 +66,11 @@ FindsShare rs start end (Err e) = e ≡ Resources
 -- how far an audit has come
 pub record IsAuditWalk (rs : List Record) (i : ℕ) (w : Walk) : Type 0 where
   pub within : w.from ≤ i
-  pub state : w.state ≡ run empty (take w.from rs)
+  pub state : state_of w.fields ≡ run empty (take w.from rs)
   pub tally : IsTallied (run empty (take i rs)) w.tally
   pub counts : IsWithin i w.tally
   pub few : w.lost ≤ i * 4294967296
-  pub lost : KeepsAllBut w.lost w.state (run empty (take i rs))
+  pub lost : KeepsAllBut w.lost (state_of w.fields) (run empty (take i rs))
 
 -- v is w behind a record that is no checkpoint
 pub record PassesRecord (w : Walk) (r : Own) (v : Walk) : Type 0 where

@@ -11,6 +11,8 @@ ghost use Rattle.rq_model.specs.Frames.{HasHeader};
 ghost use Rattle.rq_model.specs.Machine.{all_lawful, run};
 ghost use Rattle.rq_model.specs.Checkpoints.{IsAudit};
 ghost use Rattle.rq_model.specs.StateSpelling.{state_bytes};
+ghost use Rattle.rq_model.specs.WellFormed.{IsWellFormed};
+ghost use Rattle.rq_state.specs.Inside.{state_of};
 ghost use Rattle.rq_record.specs.Views.{record_of, version_of};
 ghost use Rattle.rq_record.specs.declared.fault.Fault.TheVariants.{Resources};
 ghost use Rattle.rq_restart.specs.Audits.{Audits, IsAuditWalk, PassesRecord, AreFound, AreFramed};
@@ -18,15 +20,15 @@ ghost use Rattle.rq_restart.specs.Audits.{audited_of, least};
 ghost use Rattle.rq_restart.specs.Ends.{IsChain};
 ghost use Rattle.rq_restart.specs.Worth.{IsTallied, IsWithin, member_bytes, lost_by};
 
+use crate::before::fields_before;
 use crate::front::front_of;
 use crate::grain::{grain_of, plan_for};
 use crate::shares::audited;
 use crate::tally::Tally;
-use rq_exchange::replay;
 use rq_front::{Chain, Span, chain, version};
-use rq_pool::{Open, Plan};
+use rq_pool::Plan;
 use rq_record::{Fault, LentLog, Record, Version};
-use rq_state::{State, spell, spelled_len};
+use rq_state::{Fields, State, fields_len, spell_fields};
 use std::alloc::Global;
 use std::marker::Sync;
 use std::thread::Threads;
@@ -36,16 +38,17 @@ const BYTES_OF_A_RECORD: usize = 64;
 
 // Whether these are the bytes that spell the state, which is spelled only where its spelling has as
 // many.
-fn is_spelled(alloc: Global, state: &State, kept: &[u8]) -> Result<bool, Fault>
-    requires next { state.now.next ≤ 4294967295 }
+fn is_spelled(alloc: Global, fields: &Fields, kept: &[u8]) -> Result<bool, Fault>
+    requires next { fields.now.next ≤ 4294967295 }
+    requires well_formed { IsWellFormed (state_of fields.now) }
     requires short { length kept.now ≤ 268435455 }
-    ensures truth { IfOk result (λ t. t ≡ bytes_eq kept.now (state_bytes state.now)) }
+    ensures truth { IfOk result (λ t. t ≡ bytes_eq kept.now (state_bytes (state_of fields.now))) }
     ensures refused { IfErr result (λ e. e ≡ Resources) }
 {
-    if spelled_len(state) != kept.len() as u128 {
+    if fields_len(fields) != kept.len() as u128 {
         return Ok(false);
     }
-    let spelled = spell(alloc, state)?;
+    let spelled = spell_fields(alloc, fields)?;
     Ok(kept == spelled.as_slice())
 }
 
@@ -78,7 +81,7 @@ fn tally_before(alloc: Global, records: &[Record], place: usize) -> Result<Tally
 // how many members of each list of that state may be gone since; and what was found.
 #[derive(Drop)]
 pub(crate) struct Walk {
-    state: State,
+    fields: Fields,
     from: usize,
     tally: Tally,
     lost: u64,
@@ -103,7 +106,7 @@ impl Walk {
     {
         let tally = tally_before(alloc, records, place)?;
         Ok(Walk {
-            state,
+            fields: state.into_fields(),
             from: place,
             tally,
             lost: 0,
@@ -113,21 +116,21 @@ impl Walk {
 }
 
 // The bytes of a state's members, each in its shortest form.
-fn member_bytes_of(state: &State) -> u128
-    ensures { result ≡ member_bytes state.now }
+fn member_bytes_of(fields: &Fields) -> u128
+    ensures { result ≡ member_bytes (state_of fields.now) }
 {
-    7 * state.definition_count() as u128
-        + 8 * state.unit_count() as u128
-        + 6 * state.registrant_count() as u128
-        + 28 * state.element_count() as u128
-        + 38 * state.note_count() as u128
+    7 * fields.definitions.len() as u128
+        + 8 * fields.units.len() as u128
+        + 6 * fields.registrants.len() as u128
+        + 28 * fields.elements.len() as u128
+        + 38 * fields.notes.len() as u128
 }
 
 // Whether the state before the next record has more members than so many bytes can spell.
 fn is_too_short(walk: &Walk, len: usize) -> bool
     ensures { result ≡ nat_lt len (least walk.now) }
 {
-    (len as u128) < member_bytes_of(&walk.state).saturating_sub(74 * walk.lost as u128)
+    (len as u128) < member_bytes_of(&walk.fields).saturating_sub(74 * walk.lost as u128)
 }
 
 // Whether the bytes may spell the state before the next record: they begin with its number, and are
@@ -150,33 +153,12 @@ fn pass(walk: Walk, rec: &Record) -> Result<Walk, Fault>
     let mut tally = walk.tally;
     let lost = tally.take(rec)?;
     Ok(Walk {
-        state: walk.state,
+        fields: walk.fields,
         from: walk.from,
         tally,
         lost: walk.lost + lost,
         found: walk.found,
     })
-}
-
-/// The state before the record of a place, made of the one before an earlier record.
-pub(crate) fn state_before<R: Threads + Sync>(
-    rt: &R,
-    alloc: Global,
-    records: &[Record],
-    place: usize,
-    from: usize,
-    state: &State,
-    plan: &Plan,
-) -> Result<State, Fault>
-    requires order { from ≤ place }
-    requires within { place ≤ length records.now }
-    requires few { length records.now ≤ 4294967295 }
-    requires lawful { all_lawful Two empty (map record_of records.now) ≡ true }
-    requires state { state.now ≡ run empty (take from (map record_of records.now)) }
-    ensures state { IfOk result (λ s. s ≡ run empty (take place (map record_of records.now))) }
-    ensures refused { IfErr result (λ e. e ≡ Resources) }
-{
-    replay(rt, alloc, state, &records[from..place], plan, &Open)
 }
 
 /// One record further. The state before a checkpoint is made of the last one that was made, and only
@@ -212,12 +194,12 @@ pub(crate) fn visit<R: Threads + Sync>(
     }
     let work = (place - walk.from).saturating_add(kept.len() / BYTES_OF_A_RECORD);
     let plan = plan_for(plan, work);
-    let state = state_before(rt, alloc, records, place, walk.from, &walk.state, &plan)?;
-    let truth = is_spelled(alloc, &state, kept)?;
+    let fields = fields_before(rt, alloc, records, place, walk.from, walk.fields, &plan)?;
+    let truth = is_spelled(alloc, &fields, kept)?;
     let mut found = walk.found;
     found.push((offset, truth))?;
     Ok(Walk {
-        state,
+        fields,
         from: place,
         tally: walk.tally,
         lost: 0,

@@ -4,6 +4,7 @@
 #![tactic(auto)]
 
 mod auditing;
+mod before;
 mod checkpoint;
 mod closing;
 mod ends;

@@ -7,7 +7,8 @@ ghost use Rattle.rq_model.specs.Machine.{run};
 ghost use Rattle.rq_record.specs.Views.{record_of};
 ghost use Rattle.rq_restart.specs.Audits.{AreFramed, FindsShare};
 
-use crate::auditing::{Walk, begins_with, state_before, visit};
+use crate::auditing::{Walk, begins_with, visit};
+use crate::before::state_before;
 use crate::grain::{plan_for, with_workers};
 use rq_front::Span;
 use rq_pool::Plan;
@@ -20,6 +21,9 @@ use std::thread::{Threads, join};
 // A share has at least so many bytes of checkpoints that may be true, which take a worker about as
 // long as ten threads take to start.
 const BYTES_OF_A_SHARE: usize = 131_072;
+
+// So many bytes of checkpoints take about as long as one queue of the state that a share begins in.
+const BYTES_OF_A_QUEUE: usize = 128;
 
 // The checkpoints from one place up to another, found by one thread in order.
 fn found_in_order<R: Threads + Sync>(
@@ -97,10 +101,10 @@ fn found_in_shares<R: Threads + Sync>(
         return found_in_order(rt, alloc, records, spans, from, to, state, plan);
     }
     let middle = middle_of(spans, from, to);
-    let enough = plan_for(plan, middle - from);
-    let behind = state_before(rt, alloc, records, middle, from, &state, &enough)?;
+    let redo = plan_for(plan, middle - from);
+    let behind = state_before(rt, alloc, records, middle, from, &state, &redo)?;
     let (fewer, others) = (count / 2, count - count / 2);
-    let less = with_workers(plan, plan.workers() / 2);
+    let half = with_workers(plan, plan.workers() / 2);
     let (left, right) = join(
         rt,
         move || -> Result<Vec<(u64, bool)>, Fault>
@@ -108,13 +112,13 @@ fn found_in_shares<R: Threads + Sync>(
                 × (from ≤ middle) × (middle ≤ length records.now)
                 × (state ≡ run empty (take from (map record_of records.now))) }
             ensures { FindsShare (map record_of records.entry.now) from middle result }
-        { found_in_shares(rt, alloc, records, spans, from, middle, state, fewer, &less) },
+        { found_in_shares(rt, alloc, records, spans, from, middle, state, fewer, &half) },
         move || -> Result<Vec<(u64, bool)>, Fault>
             requires { IsSync R.row × AreFramed (map record_of records.now) spans.now
                 × (middle ≤ to) × (to ≤ length records.now)
                 × (behind ≡ run empty (take middle (map record_of records.now))) }
             ensures { FindsShare (map record_of records.entry.now) middle to result }
-        { found_in_shares(rt, alloc, records, spans, middle, to, behind, others, &less) },
+        { found_in_shares(rt, alloc, records, spans, middle, to, behind, others, &half) },
     );
     let mut found = left?;
     found.append(&mut right?)?;
@@ -140,15 +144,29 @@ fn told_in_all(records: &[Record]) -> usize {
     told
 }
 
+// How many queues the records define.
+fn queues_in(records: &[Record]) -> usize {
+    let mut queues = 0usize;
+    for rec in records {
+        if let Record::Define { .. } = rec {
+            queues = queues.saturating_add(1);
+        }
+    }
+    queues
+}
+
 // How many shares an audit is worth. Each has a state of its own in memory, of at most as many
 // members as there are records: so there are the more shares, the less of the log is records that
-// change something.
+// change something. To make that state costs each queue about as much as BYTES_OF_A_QUEUE.
 fn share_count(records: &[Record], spans: &[Span], plan: &Plan) -> u32 {
     let told = told_in_all(records);
     let others = start_of(spans, records.len().saturating_sub(1))
         .saturating_sub(told)
         .max(1);
-    let worth = (told / BYTES_OF_A_SHARE).min(told / others / 2);
+    let queues = BYTES_OF_A_QUEUE.saturating_mul(queues_in(records)).max(1);
+    let worth = (told / BYTES_OF_A_SHARE)
+        .min(told / others / 2)
+        .min(told / queues);
     worth.min(plan.workers() as usize) as u32
 }
 

@@ -20,4 +20,4 @@ pub use laws::{any_order_makes_the_state, parts_make_the_state};
 pub use members::{Definition, Element, Last, Mark, Note, OpKind, Registrant};
 pub use reading::{read, read_in};
 pub use state::{Fields, State};
-pub use writing::{spell, spelled_len};
+pub use writing::{fields_len, spell, spell_fields, spelled_len};

@@ -39,15 +39,7 @@ pub struct Fields {
 /// What the queue manager keeps, and where the members of each queue stand in its lists.
 #[derive(Drop)]
 pub struct State {
-    next: u64,
-    greatest: u64,
-    committed: u64,
-    aborted: u64,
-    definitions: Vec<Definition>,
-    units: Vec<UnitNo>,
-    registrants: Vec<Registrant>,
-    elements: Vec<Element>,
-    notes: Vec<Note>,
+    fields: Fields,
     homes: Vec<Vec<usize>>,
     registered: Vec<Vec<usize>>,
     noted: Vec<Vec<usize>>,
@@ -58,36 +50,14 @@ impl Model for State {
 
     ghost Value = { State };
 
-    ghost use Rattle.std.specs.Prelude.{map};
     ghost use Rattle.rq_model.specs.WellFormed.{IsWellFormed};
-    ghost use Rattle.rq_state.specs.Views.{unit_of};
+    ghost use Rattle.rq_state.specs.Inside.{state_of};
     ghost use Rattle.rq_state.specs.Tables.{IsTabled};
 
-    ghost view = { λ s. record {
-      next = s.next;
-      greatest = s.greatest;
-      committed = s.committed;
-      aborted = s.aborted;
-      definitions = s.definitions.items;
-      units = map unit_of s.units.items;
-      registrants = s.registrants.items;
-      elements = s.elements.items;
-      notes = s.notes.items;
-    } };
+    ghost view = { λ s. state_of s.fields };
 
-    ghost invariant = { λ s. IsWellFormed
-        (record {
-          next = s.next;
-          greatest = s.greatest;
-          committed = s.committed;
-          aborted = s.aborted;
-          definitions = s.definitions.items;
-          units = map unit_of s.units.items;
-          registrants = s.registrants.items;
-          elements = s.elements.items;
-          notes = s.notes.items;
-        })
-        × IsTabled s.registrants.items s.elements.items s.notes.items
+    ghost invariant = { λ s. IsWellFormed (state_of s.fields)
+        × IsTabled s.fields.registrants.items s.fields.elements.items s.fields.notes.items
         s.registered.items s.homes.items s.noted.items };
 }
 
@@ -96,7 +66,7 @@ impl State {
     pub fn empty(alloc: Global) -> State
         ensures { result ≡ model.empty }
     {
-        State {
+        let fields = Fields {
             next: 0,
             greatest: 0,
             committed: 0,
@@ -106,6 +76,9 @@ impl State {
             registrants: Vec::new(alloc),
             elements: Vec::new(alloc),
             notes: Vec::new(alloc),
+        };
+        State {
+            fields,
             homes: Vec::new(alloc),
             registered: Vec::new(alloc),
             noted: Vec::new(alloc),
@@ -127,8 +100,9 @@ impl State {
         Ok(state)
     }
 
-    /// The state of fields whose lists are in order already.
-    pub(crate) fn of_ordered(alloc: Global, fields: Fields) -> Result<State, Fault>
+    /// The state of fields whose lists are in order already. Where there is no memory for the tables
+    /// of each queue's members, Resources, and the fields are dropped.
+    pub fn of_ordered(alloc: Global, fields: Fields) -> Result<State, Fault>
         requires { IsWellFormed (state_of fields) }
         ensures built { IfOk result (λ s. s ≡ state_of fields) }
         ensures refused { IfErr result (λ e. e ≡ Resources) }
@@ -138,19 +112,27 @@ impl State {
         let registered = registered_of(alloc, queues, &fields.registrants)?;
         let noted = noted_of(alloc, queues, &fields.notes)?;
         Ok(State {
-            next: fields.next,
-            greatest: fields.greatest,
-            committed: fields.committed,
-            aborted: fields.aborted,
-            definitions: fields.definitions,
-            units: fields.units,
-            registrants: fields.registrants,
-            elements: fields.elements,
-            notes: fields.notes,
+            fields,
             homes,
             registered,
             noted,
         })
+    }
+
+    /// Its fields, with their lists in order.
+    pub fn fields(&self) -> &Fields
+        ensures fields { state_of result.now ≡ self.now }
+        ensures well_formed { IsWellFormed self.now }
+    {
+        &self.fields
+    }
+
+    /// Its fields alone, with their lists in order.
+    pub fn into_fields(self) -> Fields
+        ensures fields { state_of result ≡ self }
+        ensures well_formed { IsWellFormed self }
+    {
+        self.fields
     }
 
     /// The number that the next record gets. What is well formed is so for each look into the
@@ -159,63 +141,63 @@ impl State {
         ensures next { result ≡ self.now.next }
         ensures well_formed { IsWellFormed self.now }
     {
-        self.next
+        self.fields.next
     }
 
     /// The greatest unit that ever began; 0 before the first.
     pub fn greatest(&self) -> u64
         ensures { result ≡ self.now.greatest }
     {
-        self.greatest
+        self.fields.greatest
     }
 
     /// How many units were committed.
     pub fn committed(&self) -> u64
         ensures { result ≡ self.now.committed }
     {
-        self.committed
+        self.fields.committed
     }
 
     /// How many units were aborted.
     pub fn aborted(&self) -> u64
         ensures { result ≡ self.now.aborted }
     {
-        self.aborted
+        self.fields.aborted
     }
 
     /// The queues, by number.
     pub fn definitions(&self) -> &[Definition]
         ensures { result.now ≡ self.now.definitions }
     {
-        &self.definitions
+        &self.fields.definitions
     }
 
     /// The open units, rising.
     pub fn units(&self) -> &[UnitNo]
         ensures { map unit_of result.now ≡ self.now.units }
     {
-        &self.units
+        &self.fields.units
     }
 
     /// The registrants, by queue and name.
     pub fn registrants(&self) -> &[Registrant]
         ensures { result.now ≡ self.now.registrants }
     {
-        &self.registrants
+        &self.fields.registrants
     }
 
     /// The elements, by id.
     pub fn elements(&self) -> &[Element]
         ensures { result.now ≡ self.now.elements }
     {
-        &self.elements
+        &self.fields.elements
     }
 
     /// The notes of open units, by place.
     pub fn notes(&self) -> &[Note]
         ensures { result.now ≡ self.now.notes }
     {
-        &self.notes
+        &self.fields.notes
     }
 
     /// Where a queue's elements stand in the list of elements, rising; none where no queue has the

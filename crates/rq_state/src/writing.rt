@@ -5,6 +5,7 @@ ghost use Rattle.std.specs.Int.{w64, to_be_bytes};
 ghost use Rattle.rq_model.specs.StateSpelling.{counted, registrant_bytes, element_bytes};
 ghost use Rattle.rq_model.specs.StateSpelling.{note_bytes, state_bytes};
 ghost use Rattle.rq_model.specs.WellFormed.{IsWellFormed};
+ghost use Rattle.rq_state.specs.Inside.{state_of};
 ghost use Rattle.rq_state.specs.Spelling.{Spelled};
 ghost use Rattle.rq_state.specs.Writing.{PutsSpelling, AreFew};
 
@@ -13,10 +14,10 @@ mod members;
 mod output;
 mod sizes;
 
-use crate::state::State;
+use crate::state::{Fields, State};
 use crate::writing::lists::{put_definitions, put_elements, put_notes, put_registrants, put_units};
 use crate::writing::output::put_u64;
-pub use crate::writing::sizes::spelled_len;
+pub use crate::writing::sizes::{fields_len, spelled_len};
 use rq_record::Fault;
 use std::alloc::Global;
 
@@ -31,44 +32,54 @@ pub fn spell(alloc: Global, state: &State) -> Result<Vec<u8>, Fault>
     requires { state.now.next ≤ 4294967295 }
     ensures { Spelled state.now result }
 {
-    let size = spelled_len(state);
+    spell_fields(alloc, state.fields())
+}
+
+/// The same of fields whose lists are in order.
+pub fn spell_fields(alloc: Global, fields: &Fields) -> Result<Vec<u8>, Fault>
+    requires next { fields.now.next ≤ 4294967295 }
+    requires well_formed { IsWellFormed (state_of fields.now) }
+    ensures { Spelled (state_of fields.now) result }
+{
+    let size = fields_len(fields);
     if size > BOUND {
         return Err(Fault::TooLarge);
     }
     let mut out = Vec::with_capacity(alloc, size as usize)?;
-    put_state(&mut out, state)?;
+    put_fields(&mut out, fields)?;
     Ok(out)
 }
 
-fn put_numbers(out: &mut Vec<u8>, state: &State) -> Result<(), Fault>
-    ensures well_formed { IsWellFormed state.now }
-    ensures numbers { PutsSpelling out.old.items out.new.items
-        (to_be_bytes w64 state.now.next ++ (to_be_bytes w64 state.now.greatest
-        ++ (to_be_bytes w64 state.now.committed ++ to_be_bytes w64 state.now.aborted))) result }
-{
-    put_u64(out, state.next())?;
-    put_u64(out, state.greatest())?;
-    put_u64(out, state.committed())?;
-    put_u64(out, state.aborted())
-}
-
-fn put_members(out: &mut Vec<u8>, state: &State) -> Result<(), Fault>
-    requires { AreFew state.now }
+fn put_numbers(out: &mut Vec<u8>, fields: &Fields) -> Result<(), Fault>
     ensures { PutsSpelling out.old.items out.new.items
-        (counted registrant_bytes state.now.registrants ++ (counted element_bytes state.now.elements
-        ++ counted note_bytes state.now.notes)) result }
+        (to_be_bytes w64 fields.now.next ++ (to_be_bytes w64 fields.now.greatest
+        ++ (to_be_bytes w64 fields.now.committed ++ to_be_bytes w64 fields.now.aborted))) result }
 {
-    put_registrants(out, state.registrants())?;
-    put_elements(out, state.elements())?;
-    put_notes(out, state.notes())
+    put_u64(out, fields.next)?;
+    put_u64(out, fields.greatest)?;
+    put_u64(out, fields.committed)?;
+    put_u64(out, fields.aborted)
 }
 
-fn put_state(out: &mut Vec<u8>, state: &State) -> Result<(), Fault>
-    requires { state.now.next ≤ 4294967295 }
-    ensures { PutsSpelling out.old.items out.new.items (state_bytes state.now) result }
+fn put_members(out: &mut Vec<u8>, fields: &Fields) -> Result<(), Fault>
+    requires { AreFew (state_of fields.now) }
+    ensures { PutsSpelling out.old.items out.new.items
+        (counted registrant_bytes fields.now.registrants.items
+        ++ (counted element_bytes fields.now.elements.items
+        ++ counted note_bytes fields.now.notes.items)) result }
 {
-    put_numbers(out, state)?;
-    put_definitions(out, state.definitions())?;
-    put_units(out, state.units())?;
-    put_members(out, state)
+    put_registrants(out, &fields.registrants)?;
+    put_elements(out, &fields.elements)?;
+    put_notes(out, &fields.notes)
+}
+
+fn put_fields(out: &mut Vec<u8>, fields: &Fields) -> Result<(), Fault>
+    requires next { fields.now.next ≤ 4294967295 }
+    requires well_formed { IsWellFormed (state_of fields.now) }
+    ensures { PutsSpelling out.old.items out.new.items (state_bytes (state_of fields.now)) result }
+{
+    put_numbers(out, fields)?;
+    put_definitions(out, &fields.definitions)?;
+    put_units(out, &fields.units)?;
+    put_members(out, fields)
 }

@@ -5,10 +5,11 @@ ghost use Rattle.std.specs.List.{flat_map};
 ghost use Rattle.std.specs.Int.{w64, to_be_bytes};
 ghost use Rattle.rq_model.specs.StateSpelling.{definition_bytes, last_bytes, registrant_bytes};
 ghost use Rattle.rq_model.specs.StateSpelling.{mark_bytes, element_bytes, note_bytes, state_bytes};
+ghost use Rattle.rq_state.specs.Inside.{state_of};
 ghost use Rattle.rq_state.specs.Views.{mark_of, unit_of};
 
 use crate::members::{Definition, Element, Last, Mark, Note, Registrant};
-use crate::state::State;
+use crate::state::{Fields, State};
 use rq_record::UnitNo;
 
 fn definition_size(definition: &Definition) -> u32
@@ -111,10 +112,17 @@ fn units_size(members: &[UnitNo]) -> u128
 pub fn spelled_len(state: &State) -> u128
     ensures { result ≡ length (state_bytes state.now) }
 {
+    fields_len(state.fields())
+}
+
+/// The same of fields whose lists are in order.
+pub fn fields_len(fields: &Fields) -> u128
+    ensures { result ≡ length (state_bytes (state_of fields.now)) }
+{
     // four numbers of 8 bytes and five counts of 4
-    52 + definitions_size(state.definitions())
-        + units_size(state.units())
-        + registrants_size(state.registrants())
-        + elements_size(state.elements())
-        + notes_size(state.notes())
+    52 + definitions_size(&fields.definitions)
+        + units_size(&fields.units)
+        + registrants_size(&fields.registrants)
+        + elements_size(&fields.elements)
+        + notes_size(&fields.notes)
 }

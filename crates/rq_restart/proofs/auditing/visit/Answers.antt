@@ -8,13 +8,15 @@ use Rattle.rq_model.specs.States.{State, empty}
 use Rattle.rq_model.specs.Machine.{run}
 use Rattle.rq_model.specs.StateSpelling.{state_bytes}
 use Rattle.rq_record.specs.Views.{record_of}
+use Rattle.rq_state.specs.Inside.{state_of}
 use Rattle.rq_front.specs.declared.spans.Span.{Span}
 use Rattle.rq_restart.specs.declared.auditing.Walk.{Walk}
 use Rattle.rq_restart.specs.Audits.{AreFound, IsAuditWalk, PassesRecord, least}
 use Rattle.std.proofs.lemmas.Result.{IfOk-weaker}
 use Rattle.rq_restart.specs.Worth.{KeepsAllBut}
 use Rattle.rq_restart.proofs.Walks.{next_at, found_past, found_next}
-use Rattle.rq_restart.proofs.Tallies.{rising_at, lost_within, loss_kept, passed, tally_kept, no_spelling, within_more}
+use Rattle.rq_model.specs.WellFormed.{IsWellFormed}
+use Rattle.rq_restart.proofs.Tallies.{rising_at, well_formed_at, lost_within, loss_kept, passed, tally_kept, no_spelling, within_more}
 use Rattle.rq_restart.proofs.auditing.visit.Goals as goal
 
 pub pass-requires-clause-counts : goal.pass-requires-clause-counts
@@ -38,12 +40,16 @@ returns-in_default g c =
       refused = c.pass.ensures.refused;
     }
 
+pub is_spelled-requires-clause-well_formed : goal.is_spelled-requires-clause-well_formed
+is_spelled-requires-clause-well_formed g c =
+    subst IsWellFormed (sym c.in_ok-fields.ensures.fields) (well_formed_at (map record_of c.args.records.now) c.args.place c.runs_are_well_formed.ensures.start c.runs_are_well_formed.ensures.runs c.requires.framed.lawful)
+
 pub is_spelled-requires-clause-next : goal.is_spelled-requires-clause-next
 is_spelled-requires-clause-next g c =
     let records = c.args.records.now in
     let few : c.args.place ≤ length (map record_of records) = omega (arith, c.requires.there, length-map records record_of) in
-    let state : c.in_ok-state.state ≡ run empty (take c.args.place (map record_of records)) = c.in_ok-state.ensures.state in
-    let next : c.in_ok-state.state.next ≡ c.args.place = next_at (map record_of records) c.args.place c.in_ok-state.state few state in
+    let state : (state_of c.in_ok-fields.fields) ≡ run empty (take c.args.place (map record_of records)) = c.in_ok-fields.ensures.fields in
+    let next : (state_of c.in_ok-fields.fields).next ≡ c.args.place = next_at (map record_of records) c.args.place (state_of c.in_ok-fields.fields) few state in
     omega (arith, next, c.requires.there, c.requires.framed.few, length-map c.args.records.now record_of)
 
 pub bounds-spans-place : goal.bounds-spans-place
@@ -68,7 +74,7 @@ returns-then-not-may_spell-clause-walk g c =
       tally = tally_kept records c.args.place r c.in-Checkpoint.bytes c.args.walk.tally c.requires.there c.index-records-place.is c.in-Checkpoint.is (rising_at (map record_of records) c.args.place c.runs_are_well_formed.ensures.start c.runs_are_well_formed.ensures.runs c.requires.framed.lawful) c.requires.walk.tally;
       counts = within_more c.args.walk.tally c.args.place (c.args.place + 1) (omega arith) c.requires.walk.counts;
       few = omega (arith, c.requires.walk.few);
-      lost = loss_kept records c.args.place r c.in-Checkpoint.bytes c.args.walk.lost c.args.walk.state c.requires.there c.index-records-place.is c.in-Checkpoint.is c.requires.walk.lost;
+      lost = loss_kept records c.args.place r c.in-Checkpoint.bytes c.args.walk.lost (state_of c.args.walk.fields) c.requires.there c.index-records-place.is c.in-Checkpoint.is c.requires.walk.lost;
     }
 
 pub returns-then-not-may_spell-clause-found : goal.returns-then-not-may_spell-clause-found
@@ -86,7 +92,7 @@ returns-then-not-may_spell-clause-found g c = λ start so_far.
 pub returns-clause-walk : goal.returns-clause-walk
 returns-clause-walk g c =
     let records = c.args.records.now in
-    let state : c.in_ok-state.state ≡ run empty (take c.args.place (map record_of records)) = c.in_ok-state.ensures.state in
+    let state : (state_of c.in_ok-fields.fields) ≡ run empty (take c.args.place (map record_of records)) = c.in_ok-fields.ensures.fields in
     let r = c.index-records-place.result in
     record {
       within = omega arith;
@@ -95,7 +101,7 @@ returns-clause-walk g c =
           (rising_at (map record_of records) c.args.place c.runs_are_well_formed.ensures.start c.runs_are_well_formed.ensures.runs c.requires.framed.lawful) c.requires.walk.tally;
       counts = within_more c.args.walk.tally c.args.place (c.args.place + 1) (omega arith) c.requires.walk.counts;
       few = omega arith;
-      lost = loss_kept records c.args.place r c.in-Checkpoint.bytes 0 c.in_ok-state.state c.requires.there c.index-records-place.is c.in-Checkpoint.is (subst (λ (t : State). KeepsAllBut 0 c.in_ok-state.state t) state (omega arith));
+      lost = loss_kept records c.args.place r c.in-Checkpoint.bytes 0 (state_of c.in_ok-fields.fields) c.requires.there c.index-records-place.is c.in-Checkpoint.is (subst (λ (t : State). KeepsAllBut 0 (state_of c.in_ok-fields.fields) t) state (omega arith));
     }
 
 pub returns-clause-found : goal.returns-clause-found
@@ -103,9 +109,9 @@ returns-clause-found g c = λ start so_far.
     let records = c.args.records.now in
     let few : c.args.place < length (map record_of records) = omega (arith, c.requires.there, length-map records record_of) in
     let none : Span = record { start = 0; len = 0 } in
-    let state : c.in_ok-state.state ≡ run empty (take c.args.place (map record_of records)) = c.in_ok-state.ensures.state in
-    let test : c.in_ok-truth.truth ≡ bytes_eq c.in-Checkpoint.bytes (state_bytes c.in_ok-state.state) =
-    c.in_ok-truth.ensures.truth ∙ ap (λ (z : List ℕ). bytes_eq z (state_bytes c.in_ok-state.state)) c.bytes-kept.ensures.bytes in
+    let state : (state_of c.in_ok-fields.fields) ≡ run empty (take c.args.place (map record_of records)) = c.in_ok-fields.ensures.fields in
+    let test : c.in_ok-truth.truth ≡ bytes_eq c.in-Checkpoint.bytes (state_bytes (state_of c.in_ok-fields.fields)) =
+    c.in_ok-truth.ensures.truth ∙ ap (λ (z : List ℕ). bytes_eq z (state_bytes (state_of c.in_ok-fields.fields))) c.bytes-kept.ensures.bytes in
     subst (λ (xs : List (ℕ × Bool)). AreFound (map record_of records) start (c.args.place + 1) xs) (sym c.in_ok-push-2.ensures.items)
-    (found_next records start c.args.place c.index-records-place.result c.in-Checkpoint.bytes c.args.walk.found.items (slice_index_or c.args.spans.now c.args.place none).start c.in_ok-truth.truth c.in_ok-state.state
+    (found_next records start c.args.place c.index-records-place.result c.in-Checkpoint.bytes c.args.walk.found.items (slice_index_or c.args.spans.now c.args.place none).start c.in_ok-truth.truth (state_of c.in_ok-fields.fields)
     c.requires.there c.index-records-place.is c.in-Checkpoint.is so_far ((c.requires.framed.stand c.args.place few).1 none) state test)

@@ -5,7 +5,7 @@ use Rattle.rq_model.specs.States.{empty}
 use Rattle.rq_model.specs.Machine.{run}
 use Rattle.rq_record.specs.Views.{record_of}
 use Rattle.rq_restart.proofs.Walks.{next_at, lawful_between, run_between}
-use Rattle.rq_restart.proofs.auditing.state_before.Goals as goal
+use Rattle.rq_restart.proofs.before.state_before.Goals as goal
 
 pub replay-requires-clause-lawful : goal.replay-requires-clause-lawful
 replay-requires-clause-lawful g c κs within = lawful_between c.args.records.now c.args.from c.args.place c.args.state.now c.requires.order c.requires.state c.requires.lawful

@@ -1,0 +1,4 @@
+pub mod Hearing
+pub mod InPlace
+pub mod Best
+pub mod WellFormed

@@ -1,0 +1,27 @@
+-- What a search for the best element knows, and what an ABORT does to one element.
+use Rattle.std.specs.Prelude.{◌≡◌, ◌<◌, ℕ, true, false, List, [], length, Option, Some, None}
+use Rattle.std.specs.Prelude.{if◌then◌else◌, slice_index_or}
+use Rattle.std.specs.List.{AllByRecursion}
+use Rattle.rq_model.specs.States.{Element, Definition, definition_at}
+use Rattle.rq_model.specs.Machine.{is_free_at, comes_first, leaves, moved, returned, new_element}
+
+-- the element at a place; some other beyond the list
+abbrev pub element_at : List Element → ℕ → Element
+element_at elements place = slice_index_or elements place (new_element 0 0 0 0 [])
+
+-- it stands at the place among all elements, and comes first among these
+pub record Leads (queue : ℕ) (elements these : List Element) (place : ℕ) : Type 0 where
+  pub there : place < length elements
+  pub free : is_free_at queue (element_at elements place) ≡ true
+  pub first : AllByRecursion
+      (λ f. is_free_at queue f ≡ true → comes_first (element_at elements place) f ≡ true) these
+
+-- the place, among all elements, of the Free one of the queue that comes first among these
+abbrev pub IsBestAmong : ℕ → List Element → List Element → Option ℕ → Type 0
+IsBestAmong queue elements these None = AllByRecursion (λ f. is_free_at queue f ≡ false) these
+IsBestAmong queue elements these (Some place) = Leads queue elements these place
+
+-- as an ABORT of the unit leaves an element that is no Fresh one of it
+abbrev pub given_back : List Definition → ℕ → Element → Element
+given_back definitions unit e = if leaves (definition_at definitions e.home) unit e
+    then moved (definition_at definitions e.home) e else returned unit e

@@ -1,0 +1,209 @@
+//! What records do to the elements of a state.
+
+ghost use Rattle.std.specs.Prelude.{◌≡◌, ◌+◌, ◌<◌, ◌^◌, ◌∷◌, ◌++◌, ◌&&◌, ◌==◌, [], map, take};
+ghost use Rattle.std.specs.Prelude.{length, if◌then◌else◌, option_map, IfOk, IfErr};
+ghost use Rattle.std.specs.List.{AllByRecursion};
+ghost use Rattle.rq_model.specs.Machine as machine;
+ghost use Rattle.rq_model.specs.States as model;
+ghost use Rattle.rq_model.specs.WellFormed.{Ordered};
+ghost use Rattle.rq_record.specs.declared.fault.Fault.TheVariants.{Resources};
+ghost use Rattle.rq_state.specs.Views.{id_of};
+ghost use Rattle.rq_steps.specs.Best.{element_at, given_back, IsBestAmong};
+
+use rq_record::{ElemId, Fault, KeptPayload, QueueNo, UnitNo};
+use rq_state::{Definition, Element, Mark};
+
+/// Whether the element is Free and in the queue.
+fn is_free_at(e: &Element, queue: QueueNo) -> bool
+    ensures { result ≡ machine.is_free_at queue.0 e.now }
+{
+    let free = match e.mark {
+        Mark::Free => true,
+        Mark::Fresh(_) | Mark::Held(_) => false,
+    };
+    free && e.home.0 == queue.0
+}
+
+/// Whether a KILL of the element in the queue takes this one out.
+fn is_killed(e: &Element, queue: QueueNo, element: ElemId) -> bool
+    ensures { result ≡ (machine.is_free_at queue.0 e.now && (e.now.id == element.0)) }
+{
+    is_free_at(e, queue) && e.id.0 == element.0
+}
+
+/// The elements after a KILL.
+pub(crate) fn killed(elements: Vec<Element>, queue: QueueNo, element: ElemId) -> Vec<Element>
+    ensures { result.items ≡ machine.killed queue.0 element.0 elements.items }
+{
+    let mut elements = elements;
+    elements.retain(|e| !is_killed(e, queue, element));
+    elements
+}
+
+/// The elements after an ENQUEUE with that record number.
+pub(crate) fn added(
+    elements: Vec<Element>,
+    place: u64,
+    unit: UnitNo,
+    queue: QueueNo,
+    priority: u8,
+    payload: KeptPayload,
+) -> Result<Vec<Element>, Fault>
+    ensures added { IfOk result (λ v. v.items ≡ elements.items
+        ++ machine.new_element place unit.0 queue.0 priority payload ∷ []) }
+    ensures refused { IfErr result (λ e. e ≡ Resources) }
+{
+    let mut elements = elements;
+    elements.push(Element::fresh(place, unit, queue, priority, payload))?;
+    Ok(elements)
+}
+
+/// Makes an element Free, if it is a Fresh one of the unit.
+fn free(e: &mut Element, unit: UnitNo)
+    ensures { e.new ≡ (if model.is_fresh unit.0 e.old.mark
+        then machine.marked model.Free e.old else e.old) }
+{
+    if e.is_fresh(unit) {
+        e.set_mark(Mark::Free);
+    }
+}
+
+/// The elements with the Fresh ones of the unit made Free.
+fn all_freed(elements: Vec<Element>, unit: UnitNo) -> Vec<Element>
+    ensures { result.items ≡ map
+        (λ e. if model.is_fresh unit.0 e.mark then machine.marked model.Free e else e)
+        elements.items }
+{
+    let mut elements = elements;
+    for e in elements.iter_mut() {
+        free(e, unit);
+    }
+    elements
+}
+
+/// The elements after a COMMIT of the unit.
+pub(crate) fn committed(elements: Vec<Element>, unit: UnitNo) -> Vec<Element>
+    ensures { result.items ≡ machine.committed_elements unit.0 elements.items }
+{
+    let mut elements = elements;
+    elements.retain(|e| !e.is_held(unit));
+    all_freed(elements, unit)
+}
+
+/// As an ABORT of the unit leaves an element that is no Fresh one of it: where the unit holds it,
+/// Free with one attempt more, or in the error queue of its home.
+fn give_back(e: &mut Element, unit: UnitNo, definitions: &[Definition])
+    requires home { e.old.home < length definitions.now }
+    requires room { e.old.attempts + 1 < 2 ^ 64 }
+    ensures { e.new ≡ given_back definitions.now unit.0 e.old }
+{
+    if !e.is_held(unit) {
+        return;
+    }
+    let home = &definitions[e.home.0 as usize];
+    if e.leaves(home, unit) {
+        e.home = home.error;
+        e.attempts = 0;
+    } else {
+        e.attempts += 1;
+    }
+    e.mark = Mark::Free;
+}
+
+/// Elements, none of them a Fresh one of the unit, as an ABORT of the unit leaves them.
+fn all_given_back(elements: Vec<Element>, unit: UnitNo, definitions: &[Definition]) -> Vec<Element>
+    requires homes { AllByRecursion (λ (e : model.Element). e.home < length definitions.now)
+        elements.items }
+    requires room { AllByRecursion (λ (e : model.Element). e.attempts + 1 < 2 ^ 64)
+        elements.items }
+    ensures { result.items ≡ map (given_back definitions.now unit.0) elements.items }
+{
+    let mut elements = elements;
+    for e in elements.iter_mut() {
+        give_back(e, unit, definitions);
+    }
+    elements
+}
+
+/// The elements after an ABORT of the unit.
+pub(crate) fn aborted(
+    elements: Vec<Element>,
+    unit: UnitNo,
+    definitions: &[Definition],
+) -> Vec<Element>
+    requires homes { AllByRecursion (λ (e : model.Element). e.home < length definitions.now)
+        elements.items }
+    requires room { AllByRecursion (λ (e : model.Element). e.attempts + 1 < 2 ^ 64)
+        elements.items }
+    ensures { result.items ≡ machine.aborted_elements definitions.now unit.0 elements.items }
+{
+    let mut elements = elements;
+    elements.retain(|e| !e.is_fresh(unit));
+    all_given_back(elements, unit, definitions)
+}
+
+/// Whether the first of two comes before the second, or is it.
+fn comes_first(e: &Element, f: &Element) -> bool
+    ensures { result ≡ machine.comes_first e.now f.now }
+{
+    e.priority > f.priority || (e.priority == f.priority && e.id.0 <= f.id.0)
+}
+
+/// The element at a place.
+fn at(elements: &[Element], place: usize) -> &Element
+    requires { place < length elements.now }
+    ensures { result.now ≡ element_at elements.now place }
+{
+    &elements[place]
+}
+
+/// The place of the best of the queue, given the one before a place and the element there.
+fn better(elements: &[Element], best: Option<usize>, place: usize, queue: QueueNo) -> Option<usize>
+    requires there { place < length elements.now }
+    requires best { IsBestAmong queue.0 elements.now (take place elements.now) best }
+    ensures { IsBestAmong queue.0 elements.now (take (place + 1) elements.now) result }
+{
+    let new = at(elements, place);
+    if !is_free_at(new, queue) {
+        return best;
+    }
+    let Some(old) = best else {
+        return Some(place);
+    };
+    if comes_first(at(elements, old), new) {
+        return best;
+    }
+    Some(place)
+}
+
+/// The place of the best element of the queue; none where none of it is Free.
+fn best_place(elements: &[Element], queue: QueueNo) -> Option<usize>
+    ensures { IsBestAmong queue.0 elements.now elements.now result }
+{
+    let mut best = None;
+    for place in 0..elements.len() {
+        best = better(elements, best, place, queue);
+    }
+    best
+}
+
+/// The elements after a DEQUEUE from the queue in the unit, and the id of the one that it takes,
+/// where one of the queue is Free.
+pub(crate) fn held(
+    elements: Vec<Element>,
+    unit: UnitNo,
+    queue: QueueNo,
+) -> (Vec<Element>, Option<ElemId>)
+    requires { Ordered (λ (e f : model.Element). e.id < f.id) elements.items }
+    ensures held { result.0.items ≡ machine.best_held unit.0 queue.0 elements.items }
+    ensures best { id_of result.1
+        ≡ option_map (λ e. e.id) (machine.best queue.0 elements.items) }
+{
+    let mut elements = elements;
+    let Some(place) = best_place(&elements, queue) else {
+        return (elements, None);
+    };
+    let id = at(&elements, place).id();
+    elements[place].set_mark(Mark::Held(unit));
+    (elements, Some(id))
+}

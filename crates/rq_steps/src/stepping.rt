@@ -1,0 +1,193 @@
+//! One record, done to the fields of a state.
+
+ghost use Rattle.std.specs.Prelude.{◌≡◌, ◌≤◌, IfOk, IfErr};
+ghost use Rattle.rq_model.specs.Records.{Define, Register, Deregister, Begin, Enqueue, Dequeue};
+ghost use Rattle.rq_model.specs.Records.{Commit, Abort};
+ghost use Rattle.rq_model.specs.Machine.{change, step};
+ghost use Rattle.rq_model.specs.WellFormed.{IsWellFormed};
+ghost use Rattle.rq_record.specs.Views.{record_of};
+ghost use Rattle.rq_record.specs.declared.fault.Fault.TheVariants.{Resources};
+ghost use Rattle.rq_state.specs.Inside.{state_of};
+
+use crate::elements::{aborted, added, committed, held, killed};
+use crate::members::{close_notes, close_unit, deregister, note, register, tell, unnote};
+use rq_record::{ElemId, Fault, KeptBy, KeptName, KeptPayload, QueueNo, Record, UnitNo};
+use rq_state::{Definition, Fields, OpKind};
+
+// A queue more.
+fn defined(fields: Fields, limit: u16, error: QueueNo, name: &KeptName) -> Result<Fields, Fault>
+    ensures defined { IfOk result
+        (λ f. state_of f ≡ change (state_of fields) (Define limit error.0 name.now)) }
+    ensures refused { IfErr result (λ e. e ≡ Resources) }
+{
+    let mut fields = fields;
+    fields.definitions.push(Definition {
+        limit,
+        error,
+        name: name.name(),
+    })?;
+    Ok(fields)
+}
+
+// A unit more.
+fn begun(fields: Fields, unit: UnitNo) -> Result<Fields, Fault>
+    ensures begun { IfOk result (λ f. state_of f ≡ change (state_of fields) (Begin unit.0)) }
+    ensures refused { IfErr result (λ e. e ≡ Resources) }
+{
+    let mut fields = fields;
+    fields.greatest = unit.0;
+    fields.units.push(unit)?;
+    Ok(fields)
+}
+
+// A registrant more.
+fn registered(fields: Fields, queue: QueueNo, name: &KeptName) -> Result<Fields, Fault>
+    requires { IsWellFormed (state_of fields) }
+    ensures registered { IfOk result
+        (λ f. state_of f ≡ change (state_of fields) (Register queue.0 name.now)) }
+    ensures refused { IfErr result (λ e. e ≡ Resources) }
+{
+    let mut fields = fields;
+    register(&mut fields.registrants, queue, &name.name())?;
+    Ok(fields)
+}
+
+// A registrant less.
+fn deregistered(fields: Fields, queue: QueueNo, name: &KeptName) -> Fields
+    ensures { state_of result ≡ change (state_of fields) (Deregister queue.0 name.now) }
+{
+    let mut fields = fields;
+    let name = name.name();
+    deregister(&mut fields.registrants, queue, &name);
+    unnote(&mut fields.notes, queue, &name);
+    fields
+}
+
+// An element more.
+fn enqueued(
+    fields: Fields,
+    unit: UnitNo,
+    queue: QueueNo,
+    priority: u8,
+    by: &KeptBy,
+    payload: &KeptPayload,
+) -> Result<Fields, Fault>
+    ensures enqueued { IfOk result (λ f. state_of f
+        ≡ change (state_of fields) (Enqueue unit.0 queue.0 priority by.now payload.now)) }
+    ensures refused { IfErr result (λ e. e ≡ Resources) }
+{
+    let mut fields = fields;
+    let place = fields.next;
+    let payload = payload.copied()?;
+    fields.elements = added(fields.elements, place, unit, queue, priority, payload)?;
+    let element = Some(ElemId(place));
+    note(
+        &mut fields.notes,
+        place,
+        unit,
+        queue,
+        by,
+        OpKind::Enqueue,
+        element,
+    )?;
+    Ok(fields)
+}
+
+// The best element of a queue is held.
+fn dequeued(fields: Fields, unit: UnitNo, queue: QueueNo, by: &KeptBy) -> Result<Fields, Fault>
+    requires { IsWellFormed (state_of fields) }
+    ensures dequeued { IfOk result (λ f. state_of f
+        ≡ change (state_of fields) (Dequeue unit.0 queue.0 by.now)) }
+    ensures refused { IfErr result (λ e. e ≡ Resources) }
+{
+    let mut fields = fields;
+    let (elements, best) = held(fields.elements, unit, queue);
+    fields.elements = elements;
+    let place = fields.next;
+    note(
+        &mut fields.notes,
+        place,
+        unit,
+        queue,
+        by,
+        OpKind::Dequeue,
+        best,
+    )?;
+    Ok(fields)
+}
+
+// A unit's work stands.
+fn closed(fields: Fields, unit: UnitNo) -> Fields
+    requires well_formed { IsWellFormed (state_of fields) }
+    requires next { fields.next ≤ 4294967295 }
+    ensures { state_of result ≡ change (state_of fields) (Commit unit.0) }
+{
+    let mut fields = fields;
+    fields.committed += 1;
+    close_unit(&mut fields.units, unit);
+    tell(&mut fields.registrants, &fields.notes, unit);
+    fields.elements = committed(fields.elements, unit);
+    close_notes(&mut fields.notes, unit);
+    fields
+}
+
+// A unit's work is undone.
+fn undone(fields: Fields, unit: UnitNo) -> Fields
+    requires well_formed { IsWellFormed (state_of fields) }
+    requires next { fields.next ≤ 4294967295 }
+    ensures { state_of result ≡ change (state_of fields) (Abort unit.0) }
+{
+    let mut fields = fields;
+    fields.aborted += 1;
+    close_unit(&mut fields.units, unit);
+    fields.elements = aborted(fields.elements, unit, &fields.definitions);
+    close_notes(&mut fields.notes, unit);
+    fields
+}
+
+// What a record does, but for the record number.
+fn changed(fields: Fields, rec: &Record) -> Result<Fields, Fault>
+    requires well_formed { IsWellFormed (state_of fields) }
+    requires next { fields.next ≤ 4294967295 }
+    ensures changed { IfOk result
+        (λ f. state_of f ≡ change (state_of fields) (record_of rec.now)) }
+    ensures refused { IfErr result (λ e. e ≡ Resources) }
+{
+    match rec {
+        Record::Define { limit, error, name } => defined(fields, *limit, *error, name),
+        Record::Register { queue, name } => registered(fields, *queue, name),
+        Record::Deregister { queue, name } => Ok(deregistered(fields, *queue, name)),
+        Record::Begin { unit } => begun(fields, *unit),
+        Record::Enqueue {
+            priority,
+            queue,
+            unit,
+            by,
+            payload,
+        } => enqueued(fields, *unit, *queue, *priority, by, payload),
+        Record::Dequeue { unit, queue, by } => dequeued(fields, *unit, *queue, by),
+        Record::Commit { unit } => Ok(closed(fields, *unit)),
+        Record::Abort { unit } => Ok(undone(fields, *unit)),
+        Record::Checkpoint { .. } => Ok(fields),
+        Record::Kill { queue, element } => {
+            let mut fields = fields;
+            fields.elements = killed(fields.elements, *queue, *element);
+            Ok(fields)
+        }
+    }
+}
+
+/// The fields of the state behind a record, whether or not the record is lawful. It costs the
+/// members of the lists that the record may change, and takes memory for what it adds alone. Where
+/// that is refused, Resources, and the fields are dropped.
+pub fn stepped(fields: Fields, rec: &Record) -> Result<Fields, Fault>
+    requires well_formed { IsWellFormed (state_of fields) }
+    requires next { fields.next ≤ 4294967295 }
+    ensures stepped { IfOk result
+        (λ f. state_of f ≡ step (state_of fields) (record_of rec.now)) }
+    ensures refused { IfErr result (λ e. e ≡ Resources) }
+{
+    let mut fields = changed(fields, rec)?;
+    fields.next += 1;
+    Ok(fields)
+}
