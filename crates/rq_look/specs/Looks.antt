@@ -1,5 +1,5 @@
 -- What a look at a log promises.
-use Rattle.std.specs.Prelude.{◌≡◌, ℕ, ◌<◌, ◌≤◌, Bool, true, false, ◌&&◌, ⊤, List, length, map}
+use Rattle.std.specs.Prelude.{◌≡◌, ℕ, ◌<◌, ◌≤◌, ◌⊎◌, Bool, true, false, ◌&&◌, ⊤, List, length, map}
 use Rattle.std.specs.Prelude.{Option, Some, None}
 use Rattle.std.specs.List.{list_all}
 use Rattle.std.specs.Io.KnownBytes.{Appends}
@@ -7,10 +7,12 @@ use Rattle.rq_model.specs.Frames.{Whole, Cut, Length, Digest}
 use Rattle.rq_model.specs.Fronts.{Why, Ends, Form, Law, Restarted, IsRestart}
 use Rattle.rq_model.specs.Reports.{IsReport}
 use Rattle.rq_model.specs.Checkpoints.{IsAudit}
-use Rattle.rq_front.specs.Chains.{Refused}
+use Rattle.rq_record.specs.declared.fault.Fault.TheVariants.{Resources}
+use Rattle.rq_front.specs.Chains.{IsHeaded, Refused}
 use Rattle.rq_restart.specs.Audits.{audited_of}
 use Rattle.rq_look.specs.declared.trouble.Trouble.{Trouble}
-use Rattle.rq_look.specs.declared.trouble.Trouble.TheVariants.{Log, Output, NoQueue}
+use Rattle.rq_look.specs.declared.telling.Subject.{Subject}
+use Rattle.rq_look.specs.declared.trouble.Trouble.TheVariants.{Log, Output, Untold, NoQueue, Nothing}
 
 -- nothing follows the front
 abbrev pub is_whole : Why → Bool
@@ -38,6 +40,36 @@ IsWholeAndTrue b fine = (r : Restarted) × (found : List (ℕ × Bool)) × IsRes
 abbrev pub IsRefusal : List ℕ → Trouble → Type 0
 IsRefusal b (Log fault) = Refused b fault
 IsRefusal b _ = ⊥
+
+-- memory or the output was refused
+abbrev pub IsBroken : Trouble → Type 0
+IsBroken (Log fault) = fault ≡ Resources
+IsBroken (Output error) = ⊤
+IsBroken _ = ⊥
+
+-- what an output holds where b is not shown: all that it held, where b is refused
+abbrev pub StaysUnshown : List ℕ → Option (List ℕ) → Option (List ℕ) → Trouble → Type 0
+StaysUnshown b old new e = IsBroken e ⊎ (IsRefusal b e × (new ≡ old))
+
+-- a script broke off: at a record that none tells, or as all that is shown may
+abbrev pub BreaksOff : Trouble → Type 0
+BreaksOff (Untold number) = ⊤
+BreaksOff e = IsBroken e
+
+-- there is no whole script of b: it is not shown, or it is a log and its script broke off
+abbrev pub StaysUntold : List ℕ → Option (List ℕ) → Option (List ℕ) → Trouble → Type 0
+StaysUntold b old new e = (IsHeaded b × BreaksOff e) ⊎ StaysUnshown b old new e
+
+-- nothing is told of the subject, or it is not told to its end
+abbrev pub LacksStory : Subject → Trouble → Type 0
+LacksStory subject (Nothing told) = told ≡ subject
+LacksStory subject e = IsBroken e
+
+-- there is no whole story of the subject in b: b is not shown, or it is a log that lacks one
+abbrev pub StaysWithoutStory : List ℕ → Subject → Option (List ℕ) → Option (List ℕ) → Trouble
+    → Type 0
+StaysWithoutStory b subject old new e = (IsHeaded b × LacksStory subject e)
+    ⊎ StaysUnshown b old new e
 
 -- the restart of b has a queue of this number, if one is wanted
 abbrev pub HasQueue : Restarted → Option ℕ → Type 0

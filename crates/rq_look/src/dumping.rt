@@ -1,7 +1,8 @@
 //! A line for each record of a log.
 
-ghost use Rattle.std.specs.Prelude.{OnOk};
+ghost use Rattle.std.specs.Prelude.{IfErr, OnOk};
 ghost use Rattle.rq_front.specs.Chains.{IsHeaded};
+ghost use Rattle.rq_look.specs.Looks.{IsBroken, StaysUnshown};
 
 use crate::ends::{End, end_of, put_end};
 use crate::frames::Walk;
@@ -22,7 +23,9 @@ fn put_shown(
     text: &mut String,
     it: &Numbered,
     wanted: &Wanted<'_>,
-) -> Result<(), Trouble> {
+) -> Result<(), Trouble>
+    ensures { IfErr result IsBroken }
+{
     if wanted.json {
         let line = record_shown(alloc, it)?;
         let json = serde_json::to_string(alloc, &line)?;
@@ -40,7 +43,9 @@ fn put_closing(
     text: &mut String,
     end: &End,
     wanted: &Wanted<'_>,
-) -> Result<(), Trouble> {
+) -> Result<(), Trouble>
+    ensures { IfErr result IsBroken }
+{
     if wanted.json {
         text.push_str(serde_json::to_string(alloc, &closing_of(end))?.as_str())?;
         text.push('\n')?;
@@ -58,7 +63,9 @@ fn put_records<W: Write>(
     wanted: &Wanted<'_>,
     text: &mut String,
     output: &mut W,
-) -> Result<(), Trouble> {
+) -> Result<(), Trouble>
+    ensures { IfErr result IsBroken }
+{
     let mut queues = 0;
     let mut left = wanted.limit;
     for placed in Walk::of(bytes, used) {
@@ -94,7 +101,9 @@ pub fn dump<R, W>(
 where
     R: Threads + Sync,
     W: Write,
-    ensures { OnOk result (IsHeaded bytes.now) }
+    ensures log { OnOk result (IsHeaded bytes.now) }
+    ensures refused { IfErr result
+        (StaysUnshown bytes.now (W.contents output.old) (W.contents output.new)) }
 {
     let end = end_of(rt, alloc, bytes, plan)?;
     let mut text = String::new(alloc);

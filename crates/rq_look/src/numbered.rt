@@ -1,5 +1,8 @@
 //! Records with their places and the queues that they are about.
 
+ghost use Rattle.std.specs.Prelude.{◌≡◌, IfErr};
+ghost use Rattle.rq_record.specs.declared.fault.Fault.TheVariants.{Resources};
+
 use crate::frames::Placed;
 use rq_record::{By, ElemId, Fault, QueueNo, Record, UnitNo, Version, decode_in};
 use std::alloc::Global;
@@ -16,12 +19,18 @@ pub(crate) struct Numbered {
 
 impl Numbered {
     /// The record that the body spells. What has a record in version 1 has it in version 2 too.
-    pub(crate) fn of(alloc: Global, placed: Placed<'_>, queues: u32) -> Result<Numbered, Fault> {
+    pub(crate) fn of(alloc: Global, placed: Placed<'_>, queues: u32) -> Result<Numbered, Fault>
+        ensures { IfErr result (λ e. e ≡ Resources) }
+    {
+        // Each body of a front is a record, so memory alone is refused.
+        let Ok(record) = decode_in(alloc, Version::Two, placed.body) else {
+            return Err(Fault::Resources);
+        };
         Ok(Numbered {
             offset: placed.offset,
             number: placed.number,
             queues,
-            record: decode_in(alloc, Version::Two, placed.body)?,
+            record,
         })
     }
 

@@ -1,7 +1,8 @@
 //! A log as one page that a browser shows.
 
-ghost use Rattle.std.specs.Prelude.{OnOk};
+ghost use Rattle.std.specs.Prelude.{IfErr, OnOk};
 ghost use Rattle.rq_front.specs.Chains.{IsHeaded};
+ghost use Rattle.rq_look.specs.Looks.{StaysUnshown};
 
 mod courses;
 mod markup;
@@ -44,7 +45,9 @@ pub fn page<R, W>(
 where
     R: Threads + Sync,
     W: Write,
-    ensures { OnOk result (IsHeaded bytes.now) }
+    ensures log { OnOk result (IsHeaded bytes.now) }
+    ensures refused { IfErr result
+        (StaysUnshown bytes.now (W.contents output.old) (W.contents output.new)) }
 {
     let restarted = restart(rt, alloc, bytes, plan, &Open)?;
     let end = end_after(rt, alloc, bytes, &restarted, plan)?;

@@ -85,7 +85,8 @@ pub fn report_json<R, W>(
 where
     R: Threads + Sync,
     W: Write,
-    ensures { OnOk result (IsHeaded bytes.now) }
+    ensures log { OnOk result (IsHeaded bytes.now) }
+    ensures refused { IfErr result (StaysUnreported bytes.now wanted) }
 {
     let restarted = restarted_with(rt, alloc, bytes, plan, wanted)?;
     let end = end_after(rt, alloc, bytes, &restarted, plan)?;

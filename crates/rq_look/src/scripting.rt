@@ -1,7 +1,7 @@
 //! The script of a log.
 
-ghost use Rattle.std.specs.Prelude.{IfOk};
-ghost use Rattle.rq_look.specs.Looks.{IsKnownWhole};
+ghost use Rattle.std.specs.Prelude.{IfOk, IfErr};
+ghost use Rattle.rq_look.specs.Looks.{BreaksOff, IsKnownWhole, StaysUntold};
 
 use crate::ends::{end_of, is_whole};
 use crate::frames::Walk;
@@ -104,7 +104,9 @@ fn is_untold(record: &Record) -> bool {
     }
 }
 
-fn put_line(alloc: Global, text: &mut String, it: &Numbered) -> Result<(), Trouble> {
+fn put_line(alloc: Global, text: &mut String, it: &Numbered) -> Result<(), Trouble>
+    ensures { IfErr result BreaksOff }
+{
     if is_untold(&it.record) {
         return Err(Trouble::Untold(it.number));
     }
@@ -122,7 +124,9 @@ fn put_records<W: io::Write>(
     bytes: &[u8],
     used: u64,
     output: &mut W,
-) -> Result<(), Trouble> {
+) -> Result<(), Trouble>
+    ensures { IfErr result BreaksOff }
+{
     let mut text = String::new(alloc);
     for placed in Walk::of(bytes, used) {
         let it = Numbered::of(alloc, placed, 0)?;
@@ -148,7 +152,9 @@ pub fn script<R, W>(
 where
     R: Threads + Sync,
     W: io::Write,
-    ensures { IfOk result (IsKnownWhole bytes.now) }
+    ensures script { IfOk result (IsKnownWhole bytes.now) }
+    ensures refused { IfErr result
+        (StaysUntold bytes.now (W.contents output.old) (W.contents output.new)) }
 {
     let end = end_of(rt, alloc, bytes, plan)?;
     put_records(alloc, bytes, end.used, output)?;

@@ -1,7 +1,8 @@
 //! What became of one element, and what one unit did.
 
-ghost use Rattle.std.specs.Prelude.{OnOk};
+ghost use Rattle.std.specs.Prelude.{IfErr, OnOk};
 ghost use Rattle.rq_front.specs.Chains.{IsHeaded};
+ghost use Rattle.rq_look.specs.Looks.{IsBroken, LacksStory, StaysWithoutStory};
 
 use crate::ends::{End, end_of, put_end};
 use crate::following::{Effect, Event, Queues};
@@ -91,7 +92,9 @@ fn tell_front<W: io::Write>(
     subject: Subject,
     text: &mut String,
     output: &mut W,
-) -> Result<Option<Queues>, Trouble> {
+) -> Result<Option<Queues>, Trouble>
+    ensures { IfErr result IsBroken }
+{
     let mut machine = Queues::new(alloc);
     let mut events = Vec::new(alloc);
     let (mut queues, mut told) = (0, 0u64);
@@ -151,7 +154,9 @@ fn tell<W: io::Write>(
     end: &End,
     subject: Subject,
     output: &mut W,
-) -> Result<(), Trouble> {
+) -> Result<(), Trouble>
+    ensures { IfErr result (LacksStory subject) }
+{
     let mut text = String::new(alloc);
     let Some(machine) = tell_front(alloc, bytes, end.used, subject, &mut text, output)? else {
         return Err(Trouble::Nothing(subject));
@@ -177,7 +182,9 @@ pub fn story<R, W>(
 where
     R: Threads + Sync,
     W: io::Write,
-    ensures { OnOk result (IsHeaded bytes.now) }
+    ensures log { OnOk result (IsHeaded bytes.now) }
+    ensures refused { IfErr result (StaysWithoutStory bytes.now subject
+        (W.contents output.old) (W.contents output.new)) }
 {
     let end = end_of(rt, alloc, bytes, plan)?;
     tell(alloc, bytes, &end, subject, output)

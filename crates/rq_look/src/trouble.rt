@@ -56,6 +56,8 @@ impl From<io::Error> for Trouble {
 
 // What is written as JSON here fails for want of memory alone.
 impl From<serde_json::Error> for Trouble {
+    ghost from_gives = { λ _ e. e ≡ Log Resources };
+
     fn from(_error: serde_json::Error) -> Trouble {
         Trouble::Log(Fault::Resources)
     }

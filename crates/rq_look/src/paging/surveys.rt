@@ -1,5 +1,8 @@
 //! What one walk over the front finds for a page.
 
+ghost use Rattle.std.specs.Prelude.{IfErr};
+ghost use Rattle.rq_look.specs.Looks.{IsBroken};
+
 use crate::ends::End;
 use crate::following::{Effect, Event, Queues};
 use crate::frames::Walk;
@@ -134,7 +137,9 @@ pub(super) fn surveyed(
     bytes: &[u8],
     end: &End,
     state: &State,
-) -> Result<Survey, Trouble> {
+) -> Result<Survey, Trouble>
+    ensures { IfErr result IsBroken }
+{
     let mut machine = Queues::new(alloc);
     let mut events = Vec::new(alloc);
     let mut seen = Survey::new(alloc)?;

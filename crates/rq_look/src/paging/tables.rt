@@ -1,5 +1,8 @@
 //! The queues, each with its depth along the log, its elements and its registrants.
 
+ghost use Rattle.std.specs.Prelude.{IfErr};
+ghost use Rattle.rq_look.specs.Looks.{IsBroken};
+
 use crate::bytes::put_bytes;
 use crate::json::queue_number;
 use crate::paging::markup::put_text;
@@ -63,7 +66,9 @@ fn put_elements<W: io::Write>(
     text: &mut String,
     elements: &[&Element],
     output: &mut W,
-) -> Result<(), Trouble> {
+) -> Result<(), Trouble>
+    ensures { IfErr result IsBroken }
+{
     if elements.is_empty() {
         return Ok(());
     }
@@ -101,7 +106,9 @@ fn put_registrants<W: io::Write>(
     text: &mut String,
     registrants: &[RegistrantShown<'_>],
     output: &mut W,
-) -> Result<(), Trouble> {
+) -> Result<(), Trouble>
+    ensures { IfErr result IsBroken }
+{
     if registrants.is_empty() {
         return Ok(());
     }
@@ -123,7 +130,9 @@ fn put_fold<W: io::Write>(
     elements: &[&Element],
     registrants: &[RegistrantShown<'_>],
     output: &mut W,
-) -> Result<(), Trouble> {
+) -> Result<(), Trouble>
+    ensures { IfErr result IsBroken }
+{
     if elements.is_empty() && registrants.is_empty() {
         return Ok(());
     }
@@ -145,7 +154,9 @@ fn put_queue<W: io::Write>(
     state: &State,
     numbered: (u32, &Definition),
     output: &mut W,
-) -> Result<(), Trouble> {
+) -> Result<(), Trouble>
+    ensures { IfErr result IsBroken }
+{
     let (number, definition) = numbered;
     let elements = free_elements(alloc, state, QueueNo(number))?;
     let registrants = registrants_shown(alloc, state, QueueNo(number))?;
@@ -162,7 +173,9 @@ pub(super) fn put_queues<W: io::Write>(
     seen: &Survey,
     state: &State,
     output: &mut W,
-) -> Result<(), Trouble> {
+) -> Result<(), Trouble>
+    ensures { IfErr result IsBroken }
+{
     text.push_str(
         "<h2>Queues</h2>\n<div class=\"scroll\"><table>\n<tr><th>queue</th><th>name</th><th>limit</th><th>error queue</th>",
     )?;
