@@ -4,7 +4,7 @@
 usage: refused.py RQ [--step N] [--folder DIR] [COMMAND ..]
 A run that is refused must write what it writes with ample memory, or end with status 4, say `resources`, and write nothing,
 no file either. With no COMMAND, sweeps each command over the logs of two scripts in `examples/`, and restarts and upgrades logs
-that are large enough for what runs on large logs alone: records decoded by halves, digests checked beside the analysis and in
+that are large enough for what runs on large logs alone: records decoded by several workers, digests checked beside the analysis and in
 lanes, a report made in pieces. Of these each Nth allocation is refused, for a prime N. A COMMAND that writes a file names it
 `{made}/NAME`. RQ is the built program itself. Ends with status 1 where a run ended otherwise, or where no allocation of a
 command was met.
