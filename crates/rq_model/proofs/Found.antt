@@ -16,7 +16,7 @@ use Rattle.rq_model.specs.States.{State, empty}
 use Rattle.rq_model.specs.Machine.{is_lawful, all_lawful, step, run}
 use Rattle.rq_model.specs.Fronts.{Begins, Why, Ends, Form, Law, IsWhy, IsFront, Restarted, restarted, IsRestart}
 use Rattle.rq_model.specs.LogLaws.{EveryLogHasReport, HasReport, CrashSaysTheSame}
-use Rattle.rq_model.proofs.Codes.{name_long}
+use Rattle.rq_model.proofs.RecordReaders.{name_long}
 use Rattle.rq_model.proofs.Runs.{frame_at, frame_long, frames_assoc}
 use Rattle.rq_model.proofs.Longest.{front_stops}
 use Rattle.rq_model.proofs.WorkedReports.{is_who, is_record, passes, front_has_report, final_kept}
