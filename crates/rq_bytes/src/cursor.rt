@@ -1,6 +1,6 @@
 //! Numbers and pieces from the front of the bytes that are left.
 
-ghost use Rattle.std.specs.Prelude.{◌≡◌, [], option_map};
+ghost use Rattle.std.specs.Prelude.{◌≡◌, ◌≤◌, [], length, option_map, IfSome};
 ghost use Rattle.rq_bytes.specs.Readers.{byte, number, piece, sized, ending};
 
 use byteorder::{BigEndian, ByteOrder};
@@ -80,7 +80,8 @@ impl<'a> Cursor<'a> {
 
     /// So many bytes.
     pub fn piece(&mut self, count: usize) -> Option<&'a [u8]>
-        ensures { option_map (λ p. (p.now, self.new)) result ≡ piece count self.old }
+        ensures piece { option_map (λ p. (p.now, self.new)) result ≡ piece count self.old }
+        ensures long { IfSome result (λ p. length p.now ≡ count) }
     {
         let bytes = self.rest;
         if bytes.len() < count {
@@ -93,7 +94,8 @@ impl<'a> Cursor<'a> {
 
     /// A byte, and as many bytes behind it.
     pub fn sized_u8(&mut self) -> Option<&'a [u8]>
-        ensures { option_map (λ p. (p.now, self.new)) result ≡ sized byte self.old }
+        ensures piece { option_map (λ p. (p.now, self.new)) result ≡ sized byte self.old }
+        ensures bounded { IfSome result (λ p. length p.now ≤ 255) }
     {
         let size = self.u8()?;
         self.piece(size as usize)
@@ -101,7 +103,8 @@ impl<'a> Cursor<'a> {
 
     /// A number of two bytes, and as many bytes behind it.
     pub fn sized_u16(&mut self) -> Option<&'a [u8]>
-        ensures { option_map (λ p. (p.now, self.new)) result ≡ sized (number 2) self.old }
+        ensures piece { option_map (λ p. (p.now, self.new)) result ≡ sized (number 2) self.old }
+        ensures bounded { IfSome result (λ p. length p.now ≤ 65535) }
     {
         let size = self.u16()?;
         self.piece(size as usize)
