@@ -8,6 +8,7 @@ use Rattle.rq_model.specs.States.{Mark, Free, Fresh, Held, Kind, Enqueued, Deque
 use Rattle.std.specs.Str.{bytes_eq}
 use Rattle.rq_model.specs.WellFormed.{Ordered, unit_is_open, IsElement, IsElementOf, IsLast, IsRegistrant, IsNote, AreDefinitions, IsWellFormed}
 use Rattle.rq_model.specs.StateSpelling.{FitsDefinition, FitsRegistrant, FitsElement, FitsNote, Fits, SpellsState}
+use Rattle.rq_model.specs.StateReading.{AreFew}
 use Rattle.rq_model.proofs.Lists.{each_weaker, each_both}
 use Rattle.rq_bytes.proofs.Together.{reads_alone, spells_one}
 use Rattle.rq_model.proofs.StateReaders.{IsDefinitionSpelled, IsWideElement, IsWideLast, IsRegistrantSpelled, IsWideMark, IsElementSpelled, IsNoteSpelled, IsSpelled, reads_state}
@@ -48,7 +49,7 @@ spelled_definitions number (d ∷ ds) le h f = (
 )
 
 -- as many as fit below a number
-pub few : {X : Type 0} (key : X → ℕ) (low high : ℕ) (xs : List X) → low ≤ high → Ordered (λ x y. key x < key y) xs → AllByRecursion (λ x. low ≤ key x) xs → AllByRecursion (λ x. key x < high) xs → low + length xs ≤ high
+few : {X : Type 0} (key : X → ℕ) (low high : ℕ) (xs : List X) → low ≤ high → Ordered (λ x y. key x < key y) xs → AllByRecursion (λ x. low ≤ key x) xs → AllByRecursion (λ x. key x < high) xs → low + length xs ≤ high
 few key low high [] le up above below = omega (arith, le)
 few key low high (x ∷ xs) le up above below =
     let others = few key (key x + 1) high xs (omega (arith, below.0)) up.1 (each_weaker (λ y. key x < key y) (λ y. key x + 1 ≤ key y) (λ y lt. omega (arith, lt)) xs up.0) below.1 in
@@ -66,33 +67,44 @@ note_queue s n w h = omega (arith, w.few, queue_of s.registrants w.registrants h
           | inr there ↦ queue_of rs h.1 there
         ]
 
+pub are_few : (s : State) → IsWellFormed s → s.next ≤ 4294967295 → AreFew s
+are_few s w le =
+    let places = each_weaker (IsNote s) (λ n. n.last.place < s.next) (λ n x. x.last.place) s.notes w.notes in
+    let ids = each_weaker (IsElement s) (λ e. e.id < s.next) (λ e x. x.id) s.elements w.elements in
+    record {
+      definitions = omega (arith, w.few);
+      units = omega (arith, le, w.counts);
+      registrants = omega (arith, le, w.registrants_few);
+      elements = omega (arith, le, few (λ (e : Element). e.id) 0 s.next s.elements (omega arith) w.elements_rise (each_weaker (λ e. e.id < s.next) (λ e. 0 ≤ e.id) (λ e x. omega arith) s.elements ids) ids);
+      notes = omega (arith, le, few (λ (n : Note). n.last.place) 0 s.next s.notes (omega arith) w.notes_rise (each_weaker (λ n. n.last.place < s.next) (λ n. 0 ≤ n.last.place) (λ n x. omega arith) s.notes places) places);
+    }
+
 pub is_spelled : (version : Version) (s : State) (bytes : List ℕ) → SpellsState version s bytes → IsSpelled s
 is_spelled version s bytes h =
     let w = h.keeps in
     let le = h.next in
     let defined = w.few in
-    let places = each_weaker (IsNote s) (λ n. n.last.place < s.next) (λ n x. x.last.place) s.notes w.notes in
-    let ids = each_weaker (IsElement s) (λ e. e.id < s.next) (λ e x. x.id) s.elements w.elements in
+    let counts = are_few s w le in
     record {
       next = omega (arith, le);
       greatest = h.fits.greatest;
       committed = omega (arith, le, w.counts);
       aborted = omega (arith, le, w.counts);
-      definitions = (omega (arith, defined), spelled_definitions 0 s.definitions (omega (arith, defined)) w.definitions h.fits.definitions);
-      units = (omega (arith, le, w.counts), each_weaker (λ u. (1 ≤ u) × (u ≤ s.greatest)) (λ u. u < 2 ^ 64) (λ u x. omega (arith, x.1, h.fits.greatest)) s.units w.units);
+      definitions = (counts.definitions, spelled_definitions 0 s.definitions (omega (arith, defined)) w.definitions h.fits.definitions);
+      units = (counts.units, each_weaker (λ u. (1 ≤ u) × (u ≤ s.greatest)) (λ u. u < 2 ^ 64) (λ u x. omega (arith, x.1, h.fits.greatest)) s.units w.units);
       registrants = (
-        omega (arith, le, w.registrants_few),
-        each_weaker (λ r. IsRegistrant s r × FitsRegistrant r) IsRegistrantSpelled
-            (λ r x. (omega (arith, x.0.queue, defined), x.1.0, wide_optional s r.last le x.0.last x.1.1)) s.registrants (each_both (IsRegistrant s) FitsRegistrant s.registrants w.registrants h.fits.registrants),
+        counts.registrants,
+        each_weaker (λ r. IsRegistrant s r × FitsRegistrant r) IsRegistrantSpelled (λ r x. (omega (arith, x.0.queue, defined), x.1.0, wide_optional s r.last le x.0.last x.1.1))
+            s.registrants (each_both (IsRegistrant s) FitsRegistrant s.registrants w.registrants h.fits.registrants),
       );
       elements = (
-        omega (arith, le, few (λ (e : Element). e.id) 0 s.next s.elements (omega arith) w.elements_rise (each_weaker (λ e. e.id < s.next) (λ e. 0 ≤ e.id) (λ e x. omega arith) s.elements ids) ids),
+        counts.elements,
         each_weaker (λ e. IsElement s e × FitsElement e) IsElementSpelled
             (λ e x. record { id = omega (arith, le, x.0.id); home = omega (arith, x.0.home, defined); origin = omega (arith, x.0.origin, defined); priority = x.1.0; attempts = omega (arith, le, x.0.attempts); mark = wide_mark s e.mark w h.fits x.0.unit; payload = omega (arith, x.1.1) })
             s.elements (each_both (IsElement s) FitsElement s.elements w.elements h.fits.elements),
       );
       notes = (
-        omega (arith, le, few (λ (n : Note). n.last.place) 0 s.next s.notes (omega arith) w.notes_rise (each_weaker (λ n. n.last.place < s.next) (λ n. 0 ≤ n.last.place) (λ n x. omega arith) s.notes places) places),
+        counts.notes,
         each_weaker (λ n. IsNote s n × FitsNote n) IsNoteSpelled
             (λ n x. (omega (arith, (any_of (λ v. (1 ≤ v) × (v ≤ s.greatest)) n.unit s.units w.units x.0.unit).1, h.fits.greatest), note_queue s n w x.0, x.1.0, wide_last s n.last le x.0.last x.1.1))
             s.notes (each_both (IsNote s) FitsNote s.notes w.notes h.fits.notes),

@@ -1,5 +1,6 @@
 -- How a state is read: its spelling from left to right.
-use Rattle.std.specs.Prelude.{ℕ, List, Option, Some, None, ◌==◌, if◌then◌else◌, ⊤}
+use Rattle.std.specs.Prelude.{ℕ, ◌<◌, ◌^◌, List, length, Option, Some, None, ◌==◌}
+use Rattle.std.specs.Prelude.{if◌then◌else◌, ⊤}
 use Rattle.rq_bytes.specs.Readers.{Reader, byte, number, nothing, ◌then◌, sized, made, tested}
 use Rattle.rq_bytes.specs.Readers.{tagged, case, no_case, counted}
 use Rattle.rq_model.specs.Spelling.{is_name}
@@ -110,3 +111,11 @@ unfoldable pub state_read : Reader State
 state_read = made whole_state (number 8 then number 8 then number 8 then number 8
     then counted definition_read then counted (number 8) then counted registrant_read
     then counted element_read then counted note_read)
+
+-- each list's count has its width
+pub record AreFew (s : State) : Type 0 where
+  pub definitions : length s.definitions < 2 ^ 32
+  pub units : length s.units < 2 ^ 32
+  pub registrants : length s.registrants < 2 ^ 32
+  pub elements : length s.elements < 2 ^ 32
+  pub notes : length s.notes < 2 ^ 32

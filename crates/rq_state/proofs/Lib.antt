@@ -1,6 +1,5 @@
 pub mod ByPlace
 pub mod Distinct
-pub mod Few
 pub mod Grown
 pub mod InOrder
 pub mod Joined

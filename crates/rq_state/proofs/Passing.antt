@@ -46,6 +46,9 @@ is_past {X} {reader} {count} {i} {bytes} so_far le =
     let k : count - i ≡ 0 = omega arith in
     ap (λ (n : ℕ). passed (members reader n) bytes) (sym k) ∙ so_far.left
 
+-- what a loop past members needs
+pub ruleset passing = (passes_on, stops, is_past)
+
 -- Readers that read to the same place.
 
 pub record SamePlace {X Y : Type 0} (r : Reader X) (s : Reader Y) : Type 0 where

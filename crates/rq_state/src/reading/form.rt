@@ -11,7 +11,7 @@ use crate::reading::members::{
 };
 use rq_bytes::Cursor;
 
-#[tactic(auto, using(crate::proofs::Passing::passes_on, crate::proofs::Passing::stops, crate::proofs::Passing::is_past))]
+#[tactic(auto, using(crate::proofs::Passing::passing))]
 fn pass_definitions(count: u32, bytes: &mut Cursor<'_>) -> Option<()>
     ensures { option_map (λ done. (done, bytes.new)) result
         ≡ passed (members definition_read count) bytes.old }
@@ -31,7 +31,7 @@ fn pass_all_definitions(bytes: &mut Cursor<'_>) -> Option<()>
     pass_definitions(count, bytes)
 }
 
-#[tactic(auto, using(crate::proofs::Passing::passes_on, crate::proofs::Passing::stops, crate::proofs::Passing::is_past))]
+#[tactic(auto, using(crate::proofs::Passing::passing))]
 fn pass_units(count: u32, bytes: &mut Cursor<'_>) -> Option<()>
     ensures { option_map (λ done. (done, bytes.new)) result
         ≡ passed (members (number 8) count) bytes.old }
@@ -51,7 +51,7 @@ fn pass_all_units(bytes: &mut Cursor<'_>) -> Option<()>
     pass_units(count, bytes)
 }
 
-#[tactic(auto, using(crate::proofs::Passing::passes_on, crate::proofs::Passing::stops, crate::proofs::Passing::is_past))]
+#[tactic(auto, using(crate::proofs::Passing::passing))]
 fn pass_registrants(count: u32, bytes: &mut Cursor<'_>) -> Option<()>
     ensures { option_map (λ done. (done, bytes.new)) result
         ≡ passed (members registrant_read count) bytes.old }
@@ -71,7 +71,7 @@ fn pass_all_registrants(bytes: &mut Cursor<'_>) -> Option<()>
     pass_registrants(count, bytes)
 }
 
-#[tactic(auto, using(crate::proofs::Passing::passes_on, crate::proofs::Passing::stops, crate::proofs::Passing::is_past))]
+#[tactic(auto, using(crate::proofs::Passing::passing))]
 fn pass_elements(count: u32, bytes: &mut Cursor<'_>) -> Option<()>
     ensures { option_map (λ done. (done, bytes.new)) result
         ≡ passed (members element_read count) bytes.old }
@@ -91,7 +91,7 @@ fn pass_all_elements(bytes: &mut Cursor<'_>) -> Option<()>
     pass_elements(count, bytes)
 }
 
-#[tactic(auto, using(crate::proofs::Passing::passes_on, crate::proofs::Passing::stops, crate::proofs::Passing::is_past))]
+#[tactic(auto, using(crate::proofs::Passing::passing))]
 fn pass_notes(count: u32, bytes: &mut Cursor<'_>) -> Option<()>
     ensures { option_map (λ done. (done, bytes.new)) result
         ≡ passed (members note_read count) bytes.old }
