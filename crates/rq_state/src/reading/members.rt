@@ -3,8 +3,9 @@
 
 ghost use Rattle.std.specs.Prelude.{◌≡◌, ◌≤◌, length, option_map, IfSome, Some};
 ghost use Rattle.rq_model.specs.StateReading.{name_read, definition_read, element_of, id_read};
-ghost use Rattle.rq_model.specs.StateReading.{kind_read, operation_read, last_read, registrant_read};
-ghost use Rattle.rq_model.specs.StateReading.{mark_read, whole_element, element_read, note_read};
+ghost use Rattle.rq_model.specs.StateReading.{kind_read, operation_read, last_of, last_read};
+ghost use Rattle.rq_model.specs.StateReading.{registrant_read, mark_read, whole_element};
+ghost use Rattle.rq_model.specs.StateReading.{element_read, note_read};
 ghost use Rattle.rq_bytes.specs.Readers.{number, made};
 ghost use Rattle.rq_state.specs.Views.{mark_of, kind_of, id_of, unit_of};
 ghost use Rattle.rq_state.specs.Reading.{GivesFromCheckpoint};
@@ -70,9 +71,8 @@ fn take_id(bytes: &mut Cursor<'_>) -> Option<Option<ElemId>>
 
 #[tactic(auto, unfolding(rq_model::specs::StateReading::operation_read))]
 fn take_operation(kind: OpKind, bytes: &mut Cursor<'_>) -> Option<Last>
-    ensures { option_map (λ x. (x, bytes.new)) result
-        ≡ made (λ x. record { place = x.0; kind = kind_of kind; tag = x.1.0; element = x.1.1 })
-        operation_read bytes.old }
+    ensures { option_map (λ x. (Some x, bytes.new)) result
+        ≡ made (last_of (kind_of kind)) operation_read bytes.old }
 {
     let place = bytes.u64()?;
     let tag = bytes.u64()?;
