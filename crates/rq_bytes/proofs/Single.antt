@@ -10,10 +10,10 @@ use Rattle.byteorder.specs.Numbers.{big_number-reads_back, big_from-lt, length-b
 use Rattle.rq_bytes.specs.Readers.{◌>>=◌, byte, number, piece, all, nothing, ending}
 use Rattle.rq_bytes.specs.Reads.{IsBytes, Takes, Reads, Any, End}
 
-IsBytes-drop : (n : ℕ) (bytes : List ℕ) → IsBytes bytes → IsBytes (drop n bytes)
+pub IsBytes-drop : (n : ℕ) (bytes : List ℕ) → IsBytes bytes → IsBytes (drop n bytes)
 IsBytes-drop n bytes h i = rw get_or-drop (h (n + i))
 
-IsBytes-take : (n : ℕ) (bytes : List ℕ) → IsBytes bytes → IsBytes (take n bytes)
+pub IsBytes-take : (n : ℕ) (bytes : List ℕ) → IsBytes bytes → IsBytes (take n bytes)
 IsBytes-take n bytes h i =
     elim (cases_lt i n) [
       | inl lt ↦ rw (get_or-take n bytes i 0 lt) (h i)
