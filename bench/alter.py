@@ -27,6 +27,7 @@ import time
 
 ROOT = pathlib.Path(__file__).resolve().parent.parent
 CRATE = "rq_model"
+BELOW = ("rq_bytes",)  # what it stands on
 SPECS = ROOT / "crates" / CRATE / "specs"
 LIB = ROOT / "crates" / CRATE / "src" / "lib.rt"
 
@@ -98,13 +99,14 @@ def alterations():
 
 
 def prepare(copy):
-    """A repository of this one crate, with what is proved already."""
+    """A repository of this crate and those below it, with what is proved already."""
     crate = copy / "crates" / CRATE
     if not crate.exists():
         crate.parent.mkdir(parents=True, exist_ok=True)
-        shutil.copytree(ROOT / "crates" / CRATE, crate)
+        for name in (CRATE, *BELOW):
+            shutil.copytree(ROOT / "crates" / name, copy / "crates" / name)
         lines = (ROOT / "crates.txt").read_text().split("\n")
-        (copy / "crates.txt").write_text("\n".join(line for line in lines if line.startswith(f"{CRATE}:")) + "\n")
+        (copy / "crates.txt").write_text("\n".join(line for line in lines if line.partition(":")[0] in (CRATE, *BELOW)) + "\n")
         shutil.copy(ROOT / "HANDLES", copy / "HANDLES")
     for part in ("specs", "proofs", "src"):
         shutil.copytree(ROOT / "crates" / CRATE / part, crate / part, dirs_exist_ok=True)

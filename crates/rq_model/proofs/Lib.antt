@@ -19,7 +19,8 @@ pub mod Numbers
 pub mod Depth
 pub mod Cursor
 pub mod Crash
-pub mod Codes
+pub mod RecordReaders
+pub mod StateReaders
 pub mod Bodies
 pub mod Runs
 pub mod Longest

@@ -17,6 +17,8 @@ pub mod LogLaws
 pub mod Closing
 pub mod Upgrading
 pub mod MoveLaws
+pub mod RecordReading
+pub mod StateReading
 pub mod WorkedLogs
 pub mod WorkedMachine
 pub mod WorkedFormats

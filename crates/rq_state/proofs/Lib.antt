@@ -1,8 +1,5 @@
 pub mod ByPlace
-pub mod Chains
 pub mod Distinct
-pub mod ElementReaders
-pub mod Few
 pub mod Grown
 pub mod InOrder
 pub mod Joined
@@ -10,15 +7,12 @@ pub mod Kept
 pub mod Listings
 pub mod Loop
 pub mod Measured
-pub mod MemberReaders
 pub mod Neighbours
 pub mod Passing
 pub mod Places
-pub mod Readers
 pub mod Rises
 pub mod Searched
 pub mod Sorts
 pub mod Telling
-pub mod StateReader
 pub mod Tested
 pub mod Whole

@@ -1,79 +1,93 @@
--- Going past members one after the other.
-use Rattle.std.proofs.Common.{◌≡◌, ℕ, suc, ◌-◌, ◌+◌, ◌≤◌, ◌<◌, Bool, true, false, List, [], ◌∷◌, Option, Some, None, refl, sym, ap, ◌∙◌, arith}
-use Rattle.rq_record.specs.declared.fault.Fault.{Fault}
-use Rattle.rq_record.specs.declared.fault.Fault.TheVariants as faults
-use Rattle.std.specs.Prelude.{◌==◌, if◌then◌else◌, length}
-use Rattle.rq_model.specs.States.{State}
-use Rattle.rq_state.specs.Reading.{◌>>=◌, FailsAsCheckpoint, Refuses, number_from, definition_from, registrant_from, element_from, note_from, members_from, counted_from, state_from, whole_state, after_of, form_from}
+-- Going past members one after the other, and past the lists of a whole state.
+use Rattle.std.proofs.Common.{◌≡◌, ℕ, suc, ◌-◌, ◌+◌, ◌≤◌, ◌<◌, List, ◌∷◌, Option, Some, None, refl, sym, ap, ◌∙◌, arith}
+use Rattle.std.specs.Prelude.{⊤}
+use Rattle.std.proofs.lemmas.Option.{same_Some}
+use Rattle.rq_bytes.specs.Readers.{Reader, ◌>>=◌, number, ending, ◌then◌, made, alone, members, counted, after_of}
+use Rattle.rq_model.specs.StateReading.{definition_read, registrant_read, element_read, note_read, whole_state, state_read}
+use Rattle.rq_state.specs.Reading.{passed, form_read}
 
-pub refused : {Y : Type 0} (e : Fault) (read : Option Y) → Refuses e read → FailsAsCheckpoint e read
-refused faults.BadCheckpoint read h = h
-refused e read h = absurd h
-
-pub nothing_after : {X : Type 0} (e : Fault) (read : Option (X × List ℕ)) → Refuses e read → Refuses e (after_of read)
-nothing_after faults.BadCheckpoint read h = ap after_of h
-nothing_after e read h = absurd h
-
--- past one more member
-pub passes_on : {X : Type 0} (reader : List ℕ → Option (X × List ℕ)) (count i : ℕ) (bytes after : List ℕ) (total : Option (List ℕ)) → i < count → after_of (reader bytes) ≡ Some after
-    → after_of (members_from reader (count - i) bytes) ≡ total → after_of (members_from reader (count - (i + 1)) after) ≡ total
-unfolding members_from
-passes_on {X} reader count i bytes after total lt h so_far =
-    let k : count - i ≡ suc (count - (i + 1)) = omega arith in
-    let one : after_of (members_from reader (count - i) bytes) ≡ after_of (members_from reader (count - (i + 1)) after) = rw k (past (reader bytes) h) in
-    sym one ∙ so_far
+-- the members that are left, where the first is there or is missing
+one_more : {X : Type 0} (reader : Reader X) (n : ℕ) (bytes : List ℕ) (first : Option (⊤ × List ℕ)) → passed reader bytes ≡ first → passed (members reader (suc n)) bytes ≡ (first >>= λ x. passed (members reader n) x.1)
+unfolding members
+one_more {X} reader n bytes first e = at_first (reader bytes) refl ∙ ap (λ (o : Option (⊤ × List ℕ)). o >>= λ x. passed (members reader n) x.1) e
   where
-    others : (x : X) (ms : Option (List X × List ℕ)) → after_of (ms >>= λ (y : List X × List ℕ). Some (x ∷ y.0, y.1)) ≡ after_of ms
+    more : X → List X × List ℕ → Option (List X × List ℕ)
+    more x ys = Some (x ∷ ys.0, ys.1)
+
+    none_of : List X × List ℕ → Option (⊤ × List ℕ)
+    none_of ys = Some (tt, ys.1)
+
+    others : (x : X) (ms : Option (List X × List ℕ)) → ((ms >>= λ ys. more x ys) >>= λ ys. none_of ys) ≡ (ms >>= λ ys. none_of ys)
     others x (Some ms) = refl
     others x None = refl
 
-    past : (o : Option (X × List ℕ)) → after_of o ≡ Some after → after_of (o >>= λ (x : X × List ℕ). members_from reader (count - (i + 1)) x.1 >>= λ (y : List X × List ℕ). Some (x.0 ∷ y.0, y.1)) ≡ after_of (members_from reader (count - (i + 1)) after)
-    past (Some x) e = let same : x.1 ≡ after = cc in rw same (others x.0 (members_from reader (count - (i + 1)) after))
-    past None e = absurd cc
+    at_first : (o : Option (X × List ℕ)) → reader bytes ≡ o → passed (members reader (suc n)) bytes ≡ (passed reader bytes >>= λ x. passed (members reader n) x.1)
+    at_first (Some x) e = rw e (others x.0 (members reader n x.1))
+    at_first None e = rw e refl
 
--- nothing is read where a member is missing
-pub stops : {X : Type 0} (reader : List ℕ → Option (X × List ℕ)) (e : Fault) (count i : ℕ) (bytes : List ℕ) (total : Option (List ℕ)) → i < count → Refuses e (after_of (reader bytes))
-    → after_of (members_from reader (count - i) bytes) ≡ total → Refuses e total
-unfolding members_from
-stops {X} reader faults.BadCheckpoint count i bytes total lt h so_far =
+-- what passing so many members gives is the total
+pub record Passing {X : Type 0} (reader : Reader X) (n : ℕ) (bytes : List ℕ) (total : Option (⊤ × List ℕ)) : Type 0 where
+  pub left : passed (members reader n) bytes ≡ total
+
+pub passes_on : {X : Type 0} {reader : Reader X} {count i : ℕ} {bytes : List ℕ} {total : Option (⊤ × List ℕ)} (x : X) (after : List ℕ) → Passing reader (count - i) bytes total → i < count → Some (x, after) ≡ reader bytes
+    → Passing reader (count - (i + 1)) after total
+passes_on {X} {reader} {count} {i} {bytes} x after so_far lt h =
     let k : count - i ≡ suc (count - (i + 1)) = omega arith in
-    let one : after_of (members_from reader (count - i) bytes) ≡ None = rw k (none (reader bytes) h) in
-    sym so_far ∙ one
-  where
-    none : (o : Option (X × List ℕ)) → after_of o ≡ None → after_of (o >>= λ (x : X × List ℕ). members_from reader (count - (i + 1)) x.1 >>= λ (y : List X × List ℕ). Some (x.0 ∷ y.0, y.1)) ≡ None
-    none (Some x) e = absurd cc
-    none None e = refl
-stops reader e count i bytes total lt h so_far = absurd h
+    record { left = sym (one_more reader (count - (i + 1)) bytes (Some (tt, after)) (rw (← h) refl)) ∙ ap (λ (n : ℕ). passed (members reader n) bytes) (sym k) ∙ so_far.left }
 
-pub passed : {X : Type 0} (reader : List ℕ → Option (X × List ℕ)) (count i : ℕ) (bytes : List ℕ) (total : Option (List ℕ)) → count ≤ i → after_of (members_from reader (count - i) bytes) ≡ total → total ≡ Some bytes
-unfolding members_from
-passed reader count i bytes total le so_far =
+pub stops : {X : Type 0} {reader : Reader X} {count i : ℕ} {bytes : List ℕ} {total : Option (⊤ × List ℕ)} → Passing reader (count - i) bytes total → i < count → None ≡ reader bytes → None ≡ total
+stops {X} {reader} {count} {i} {bytes} so_far lt h =
+    let k : count - i ≡ suc (count - (i + 1)) = omega arith in
+    sym (one_more reader (count - (i + 1)) bytes None (rw (← h) refl)) ∙ ap (λ (n : ℕ). passed (members reader n) bytes) (sym k) ∙ so_far.left
+
+pub is_past : {X : Type 0} {reader : Reader X} {count i : ℕ} {bytes : List ℕ} {total : Option (⊤ × List ℕ)} → Passing reader (count - i) bytes total → count ≤ i → Some (tt, bytes) ≡ total
+unfolding members
+is_past {X} {reader} {count} {i} {bytes} so_far le =
     let k : count - i ≡ 0 = omega arith in
-    let one : after_of (members_from reader (count - i) bytes) ≡ Some bytes = rw k refl in
-    sym so_far ∙ one
+    ap (λ (n : ℕ). passed (members reader n) bytes) (sym k) ∙ so_far.left
 
--- The form of a whole state.
+-- what a loop past members needs
+pub ruleset passing = (passes_on, stops, is_past)
 
-abbrev pub nothing_left : Option (List ℕ)
-nothing_left = Some []
+-- Readers that read to the same place.
 
-each : {A B C D : Type 0} (f : A → Option D) (g : A → Option B) (h : B → Option C) (k : C → Option D) (o : Option A) → ((x : A) → f x ≡ ((g x >>= h) >>= k)) → (o >>= f) ≡ (((o >>= g) >>= h) >>= k)
-each f g h k (Some x) e = e x
-each f g h k None e = refl
+pub record SamePlace {X Y : Type 0} (r : Reader X) (s : Reader Y) : Type 0 where
+  pub after : (bytes : List ℕ) → after_of (r bytes) ≡ after_of (s bytes)
 
-each_after : {X B C D : Type 0} (f : List ℕ → Option D) (g : X × List ℕ → Option B) (h : B → Option C) (k : C → Option D) (o : Option (X × List ℕ)) → ((x : X × List ℕ) → f x.1 ≡ ((g x >>= h) >>= k)) → (after_of o >>= f) ≡ (((o >>= g) >>= h) >>= k)
-each_after f g h k (Some x) e = e x
-each_after f g h k None e = refl
+same : {X : Type 0} (r : Reader X) → SamePlace r r
+same r = record { after = λ bytes. refl }
 
-ends : (b : Bool) (s : State) → (if b then Some [] else None) ≡ ((if b then Some s else None) >>= λ (t : State). nothing_left)
-ends true s = refl
-ends false s = refl
+same_bind : {X Y A B : Type 0} (f : X × List ℕ → Option (A × List ℕ)) (g : Y × List ℕ → Option (B × List ℕ)) (o : Option (X × List ℕ)) (p : Option (Y × List ℕ)) → after_of o ≡ after_of p
+    → ((x : X × List ℕ) (y : Y × List ℕ) → x.1 ≡ y.1 → after_of (f x) ≡ after_of (g y)) → after_of (o >>= f) ≡ after_of (p >>= g)
+same_bind f g (Some x) (Some y) e h = h x y (same_Some _ _ e)
+same_bind f g None None e h = refl
+same_bind f g o p e h = absurd cc
+
+same_then : {X Y A B : Type 0} {r : Reader X} {s : Reader Y} {q : Reader A} {t : Reader B} → SamePlace r s → SamePlace q t → SamePlace (r then q) (s then t)
+same_then {X} {Y} {A} {B} {r} {s} {q} {t} h k = record {
+  after = λ bytes. same_bind _ _ (r bytes) (s bytes) (h.after bytes) (λ x y e. same_bind _ _ (q x.1) (t y.1) (ap (λ (c : List ℕ). after_of (q c)) e ∙ k.after y.1) (λ u v d. ap Some d));
+}
+
+same_made : {X Y : Type 0} (f : X → Y) (r : Reader X) → SamePlace (made f r) r
+same_made {X} {Y} f r = record { after = λ bytes. of (r bytes) }
+  where
+    of : (o : Option (X × List ℕ)) → after_of (o >>= λ x. Some (f x.0, x.1)) ≡ after_of o
+    of (Some x) = refl
+    of None = refl
+
+past : {X : Type 0} (r : Reader X) → SamePlace (passed r) r
+past r = same_made (λ x. tt) r
+
+into_made : {X Y Z : Type 0} {r : Reader X} {s : Reader Y} (f : Y → Z) → SamePlace r s → SamePlace r (made f s)
+into_made {X} {Y} {Z} {r} {s} f h = record { after = λ bytes. h.after bytes ∙ sym ((same_made f s).after bytes) }
+
+same_alone : {X Y : Type 0} {r : Reader X} {s : Reader Y} → SamePlace r s → SamePlace (alone r) (alone s)
+same_alone {X} {Y} {r} {s} h = record {
+  after = λ bytes. same_bind _ _ (r bytes) (s bytes) (h.after bytes) (λ x y e. same_bind _ _ (ending x.1) (ending y.1) (ap (λ (c : List ℕ). after_of (ending c)) e) (λ u v d. ap Some d));
+}
 
 -- the form is there where a state is read
-pub form_is : (bytes : List ℕ) → form_from bytes ≡ (whole_state bytes >>= λ (s : State). nothing_left)
-unfolding form_from whole_state state_from
-form_is bytes =
-    each _ _ _ _ (number_from 8 bytes) (λ next. each _ _ _ _ (number_from 8 next.1) (λ greatest. each _ _ _ _ (number_from 8 greatest.1) (λ committed. each _ _ _ _ (number_from 8 committed.1) (λ aborted.
-    each_after _ _ _ _ (counted_from definition_from aborted.1) (λ definitions. each_after _ _ _ _ (counted_from (number_from 8) definitions.1) (λ units. each_after _ _ _ _ (counted_from registrant_from units.1) (λ registrants.
-    each_after _ _ _ _ (counted_from element_from registrants.1) (λ elements. each_after _ _ _ _ (counted_from note_from elements.1) (λ notes.
-    ends (length notes.1 == 0) _)))))))))
+pub form_is : SamePlace form_read (alone state_read)
+unfolding form_read state_read
+form_is = same_alone (into_made whole_state (same_then (same (number 8)) (same_then (same (number 8)) (same_then (same (number 8)) (same_then (same (number 8))
+    (same_then (past (counted definition_read)) (same_then (past (counted (number 8))) (same_then (past (counted registrant_read)) (same_then (past (counted element_read)) (past (counted note_read)))))))))))

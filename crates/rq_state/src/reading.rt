@@ -4,7 +4,6 @@ ghost use Rattle.rq_model.specs.Records.{One};
 ghost use Rattle.rq_record.specs.Views.{version_of};
 ghost use Rattle.rq_state.specs.Spelling.{ReadsState};
 
-mod cursor;
 mod form;
 mod lists;
 mod members;
@@ -30,7 +29,9 @@ pub fn read(alloc: Global, bytes: &[u8]) -> Result<State, Fault>
 pub fn read_in(alloc: Global, version: Version, bytes: &[u8]) -> Result<State, Fault>
     ensures { ReadsState (version_of version) bytes.now result }
 {
-    check_form(bytes)?;
+    let Some(()) = check_form(bytes) else {
+        return Err(Fault::BadCheckpoint);
+    };
     let fields = all_fields(alloc, bytes)?;
     check(alloc, version, &fields)?;
     let state = State::of_ordered(alloc, fields)?;

@@ -4,10 +4,11 @@ ghost use Rattle.std.specs.Prelude.{◌≤◌, ◌++◌};
 ghost use Rattle.std.specs.Int.{w64, to_be_bytes};
 ghost use Rattle.rq_model.specs.StateSpelling.{counted, registrant_bytes, element_bytes};
 ghost use Rattle.rq_model.specs.StateSpelling.{note_bytes, state_bytes};
+ghost use Rattle.rq_model.specs.StateReading.{AreFew};
 ghost use Rattle.rq_model.specs.WellFormed.{IsWellFormed};
 ghost use Rattle.rq_state.specs.Inside.{state_of};
 ghost use Rattle.rq_state.specs.Spelling.{Spelled};
-ghost use Rattle.rq_state.specs.Writing.{PutsSpelling, AreFew};
+ghost use Rattle.rq_state.specs.Writing.{PutsSpelling};
 
 mod lists;
 mod members;
@@ -16,10 +17,10 @@ mod sizes;
 
 use crate::state::{Fields, State};
 use crate::writing::lists::{put_definitions, put_elements, put_notes, put_registrants, put_units};
-use crate::writing::output::put_u64;
 pub use crate::writing::sizes::{fields_len, spelled_len};
+use rq_bytes::put_u64;
 use rq_record::Fault;
-use std::alloc::Global;
+use std::alloc::{AllocError, Global};
 
 /// The greatest length of a spelling, as a checkpoint record holds it behind its kind.
 const BOUND: u128 = 268_435_455;
@@ -50,7 +51,7 @@ pub fn spell_fields(alloc: Global, fields: &Fields) -> Result<Vec<u8>, Fault>
     Ok(out)
 }
 
-fn put_numbers(out: &mut Vec<u8>, fields: &Fields) -> Result<(), Fault>
+fn put_numbers(out: &mut Vec<u8>, fields: &Fields) -> Result<(), AllocError>
     ensures { PutsSpelling out.old.items out.new.items
         (to_be_bytes w64 fields.now.next ++ (to_be_bytes w64 fields.now.greatest
         ++ (to_be_bytes w64 fields.now.committed ++ to_be_bytes w64 fields.now.aborted))) result }
@@ -61,7 +62,7 @@ fn put_numbers(out: &mut Vec<u8>, fields: &Fields) -> Result<(), Fault>
     put_u64(out, fields.aborted)
 }
 
-fn put_members(out: &mut Vec<u8>, fields: &Fields) -> Result<(), Fault>
+fn put_members(out: &mut Vec<u8>, fields: &Fields) -> Result<(), AllocError>
     requires { AreFew (state_of fields.now) }
     ensures { PutsSpelling out.old.items out.new.items
         (counted registrant_bytes fields.now.registrants.items
@@ -73,7 +74,7 @@ fn put_members(out: &mut Vec<u8>, fields: &Fields) -> Result<(), Fault>
     put_notes(out, &fields.notes)
 }
 
-fn put_fields(out: &mut Vec<u8>, fields: &Fields) -> Result<(), Fault>
+fn put_fields(out: &mut Vec<u8>, fields: &Fields) -> Result<(), AllocError>
     requires next { fields.now.next ≤ 4294967295 }
     requires well_formed { IsWellFormed (state_of fields.now) }
     ensures { PutsSpelling out.old.items out.new.items (state_bytes (state_of fields.now)) result }

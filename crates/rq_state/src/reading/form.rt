@@ -1,128 +1,130 @@
 //! Whether bytes have the form of a state, told without memory.
 
-ghost use Rattle.std.specs.Prelude.{[]};
-ghost use Rattle.rq_state.specs.Reading.{ReadsFromCheckpoint, number_from, definition_from};
-ghost use Rattle.rq_state.specs.Reading.{registrant_from, element_from, note_from, members_from};
-ghost use Rattle.rq_state.specs.Reading.{counted_from, after_of, form_from};
+ghost use Rattle.std.specs.Prelude.{◌≡◌, [], option_map};
+ghost use Rattle.rq_bytes.specs.Readers.{number, members, counted, after_of};
+ghost use Rattle.rq_model.specs.StateReading.{definition_read, registrant_read, element_read};
+ghost use Rattle.rq_model.specs.StateReading.{note_read};
+ghost use Rattle.rq_state.specs.Reading.{passed, form_read};
 
-use crate::reading::cursor::{take_u32, take_u64};
 use crate::reading::members::{
-    pass_element, take_definition, take_note, take_registrant, take_unit,
+    element_fields, take_definition, take_note, take_registrant, take_unit,
 };
-use rq_record::Fault;
+use rq_bytes::Cursor;
 
-fn pass_definitions(count: u32, rest: &mut &[u8]) -> Result<(), Fault>
-    ensures { ReadsFromCheckpoint (λ x. rest.new.now) result
-        (after_of (members_from definition_from count rest.old.now)) }
+#[tactic(auto, using(crate::proofs::Passing::passing))]
+fn pass_definitions(count: u32, bytes: &mut Cursor<'_>) -> Option<()>
+    ensures { option_map (λ done. (done, bytes.new)) result
+        ≡ passed (members definition_read count) bytes.old }
 {
     for _ in 0..count {
-        let _member = take_definition(rest)?;
+        let _member = take_definition(bytes)?;
     }
-    Ok(())
+    Some(())
 }
 
-#[tactic(auto, unfolding(crate::specs::Reading::counted_from))]
-fn pass_all_definitions(rest: &mut &[u8]) -> Result<(), Fault>
-    ensures { ReadsFromCheckpoint (λ x. rest.new.now) result
-        (after_of (counted_from definition_from rest.old.now)) }
+#[tactic(auto, unfolding(rq_bytes::specs::Readers::counted))]
+fn pass_all_definitions(bytes: &mut Cursor<'_>) -> Option<()>
+    ensures { option_map (λ done. (done, bytes.new)) result
+        ≡ passed (counted definition_read) bytes.old }
 {
-    let count = take_u32(rest)?;
-    pass_definitions(count, rest)
+    let count = bytes.u32()?;
+    pass_definitions(count, bytes)
 }
 
-fn pass_units(count: u32, rest: &mut &[u8]) -> Result<(), Fault>
-    ensures { ReadsFromCheckpoint (λ x. rest.new.now) result
-        (after_of (members_from (number_from 8) count rest.old.now)) }
+#[tactic(auto, using(crate::proofs::Passing::passing))]
+fn pass_units(count: u32, bytes: &mut Cursor<'_>) -> Option<()>
+    ensures { option_map (λ done. (done, bytes.new)) result
+        ≡ passed (members (number 8) count) bytes.old }
 {
     for _ in 0..count {
-        let _member = take_unit(rest)?;
+        let _member = take_unit(bytes)?;
     }
-    Ok(())
+    Some(())
 }
 
-#[tactic(auto, unfolding(crate::specs::Reading::counted_from))]
-fn pass_all_units(rest: &mut &[u8]) -> Result<(), Fault>
-    ensures { ReadsFromCheckpoint (λ x. rest.new.now) result
-        (after_of (counted_from (number_from 8) rest.old.now)) }
+#[tactic(auto, unfolding(rq_bytes::specs::Readers::counted))]
+fn pass_all_units(bytes: &mut Cursor<'_>) -> Option<()>
+    ensures { option_map (λ done. (done, bytes.new)) result
+        ≡ passed (counted (number 8)) bytes.old }
 {
-    let count = take_u32(rest)?;
-    pass_units(count, rest)
+    let count = bytes.u32()?;
+    pass_units(count, bytes)
 }
 
-fn pass_registrants(count: u32, rest: &mut &[u8]) -> Result<(), Fault>
-    ensures { ReadsFromCheckpoint (λ x. rest.new.now) result
-        (after_of (members_from registrant_from count rest.old.now)) }
+#[tactic(auto, using(crate::proofs::Passing::passing))]
+fn pass_registrants(count: u32, bytes: &mut Cursor<'_>) -> Option<()>
+    ensures { option_map (λ done. (done, bytes.new)) result
+        ≡ passed (members registrant_read count) bytes.old }
 {
     for _ in 0..count {
-        let _member = take_registrant(rest)?;
+        let _member = take_registrant(bytes)?;
     }
-    Ok(())
+    Some(())
 }
 
-#[tactic(auto, unfolding(crate::specs::Reading::counted_from))]
-fn pass_all_registrants(rest: &mut &[u8]) -> Result<(), Fault>
-    ensures { ReadsFromCheckpoint (λ x. rest.new.now) result
-        (after_of (counted_from registrant_from rest.old.now)) }
+#[tactic(auto, unfolding(rq_bytes::specs::Readers::counted))]
+fn pass_all_registrants(bytes: &mut Cursor<'_>) -> Option<()>
+    ensures { option_map (λ done. (done, bytes.new)) result
+        ≡ passed (counted registrant_read) bytes.old }
 {
-    let count = take_u32(rest)?;
-    pass_registrants(count, rest)
+    let count = bytes.u32()?;
+    pass_registrants(count, bytes)
 }
 
-fn pass_elements(count: u32, rest: &mut &[u8]) -> Result<(), Fault>
-    ensures { ReadsFromCheckpoint (λ x. rest.new.now) result
-        (after_of (members_from element_from count rest.old.now)) }
+#[tactic(auto, using(crate::proofs::Passing::passing))]
+fn pass_elements(count: u32, bytes: &mut Cursor<'_>) -> Option<()>
+    ensures { option_map (λ done. (done, bytes.new)) result
+        ≡ passed (members element_read count) bytes.old }
 {
     for _ in 0..count {
-        pass_element(rest)?;
+        let _member = element_fields(bytes)?;
     }
-    Ok(())
+    Some(())
 }
 
-#[tactic(auto, unfolding(crate::specs::Reading::counted_from))]
-fn pass_all_elements(rest: &mut &[u8]) -> Result<(), Fault>
-    ensures { ReadsFromCheckpoint (λ x. rest.new.now) result
-        (after_of (counted_from element_from rest.old.now)) }
+#[tactic(auto, unfolding(rq_bytes::specs::Readers::counted))]
+fn pass_all_elements(bytes: &mut Cursor<'_>) -> Option<()>
+    ensures { option_map (λ done. (done, bytes.new)) result
+        ≡ passed (counted element_read) bytes.old }
 {
-    let count = take_u32(rest)?;
-    pass_elements(count, rest)
+    let count = bytes.u32()?;
+    pass_elements(count, bytes)
 }
 
-fn pass_notes(count: u32, rest: &mut &[u8]) -> Result<(), Fault>
-    ensures { ReadsFromCheckpoint (λ x. rest.new.now) result
-        (after_of (members_from note_from count rest.old.now)) }
+#[tactic(auto, using(crate::proofs::Passing::passing))]
+fn pass_notes(count: u32, bytes: &mut Cursor<'_>) -> Option<()>
+    ensures { option_map (λ done. (done, bytes.new)) result
+        ≡ passed (members note_read count) bytes.old }
 {
     for _ in 0..count {
-        let _member = take_note(rest)?;
+        let _member = take_note(bytes)?;
     }
-    Ok(())
+    Some(())
 }
 
-#[tactic(auto, unfolding(crate::specs::Reading::counted_from))]
-fn pass_all_notes(rest: &mut &[u8]) -> Result<(), Fault>
-    ensures { ReadsFromCheckpoint (λ x. rest.new.now) result
-        (after_of (counted_from note_from rest.old.now)) }
+#[tactic(auto, unfolding(rq_bytes::specs::Readers::counted))]
+fn pass_all_notes(bytes: &mut Cursor<'_>) -> Option<()>
+    ensures { option_map (λ done. (done, bytes.new)) result
+        ≡ passed (counted note_read) bytes.old }
 {
-    let count = take_u32(rest)?;
-    pass_notes(count, rest)
+    let count = bytes.u32()?;
+    pass_notes(count, bytes)
 }
 
-/// That the bytes have the form of a state, or BadCheckpoint.
-#[tactic(auto, unfolding(crate::specs::Reading::form_from))]
-pub(crate) fn check_form(bytes: &[u8]) -> Result<(), Fault>
-    ensures { ReadsFromCheckpoint (λ x. []) result (form_from bytes.now) }
+/// Whether the bytes have the form of a state.
+#[tactic(auto, unfolding(crate::specs::Reading::form_read))]
+pub(crate) fn check_form(bytes: &[u8]) -> Option<()>
+    ensures { option_map (λ _. []) result ≡ after_of (form_read bytes.now) }
 {
-    let mut rest = bytes;
-    let _next = take_u64(&mut rest)?;
-    let _greatest = take_u64(&mut rest)?;
-    let _committed = take_u64(&mut rest)?;
-    let _aborted = take_u64(&mut rest)?;
-    pass_all_definitions(&mut rest)?;
-    pass_all_units(&mut rest)?;
-    pass_all_registrants(&mut rest)?;
-    pass_all_elements(&mut rest)?;
-    pass_all_notes(&mut rest)?;
-    if !rest.is_empty() {
-        return Err(Fault::BadCheckpoint);
-    }
-    Ok(())
+    let mut bytes = Cursor::new(bytes);
+    let _next = bytes.u64()?;
+    let _greatest = bytes.u64()?;
+    let _committed = bytes.u64()?;
+    let _aborted = bytes.u64()?;
+    pass_all_definitions(&mut bytes)?;
+    pass_all_units(&mut bytes)?;
+    pass_all_registrants(&mut bytes)?;
+    pass_all_elements(&mut bytes)?;
+    pass_all_notes(&mut bytes)?;
+    bytes.end()
 }

@@ -1,140 +1,154 @@
 //! The lists of a state, each behind its count.
 
-ghost use Rattle.std.specs.Prelude.{map};
+ghost use Rattle.std.specs.Prelude.{[], map};
 ghost use Rattle.rq_state.specs.Views.{unit_of};
 ghost use Rattle.rq_state.specs.Inside.{state_of};
-ghost use Rattle.rq_state.specs.Reading.{GivesFromCheckpoint, number_from, definition_from};
-ghost use Rattle.rq_state.specs.Reading.{registrant_from, element_from, note_from, members_from};
-ghost use Rattle.rq_state.specs.Reading.{counted_from, state_from, whole_state};
+ghost use Rattle.rq_state.specs.Reading.{GivesFromCheckpoint};
+ghost use Rattle.rq_bytes.specs.Readers.{number, members, counted, alone};
+ghost use Rattle.rq_model.specs.StateReading.{definition_read, registrant_read, element_read};
+ghost use Rattle.rq_model.specs.StateReading.{note_read, state_read};
 
 use crate::members::{Definition, Element, Note, Registrant};
-use crate::reading::cursor::{take_u32, take_u64};
 use crate::reading::members::{
     take_definition, take_element, take_note, take_registrant, take_unit,
 };
 use crate::state::Fields;
+use rq_bytes::Cursor;
 use rq_record::{Fault, UnitNo};
 use std::alloc::Global;
 
-fn take_definitions(alloc: Global, count: u32, rest: &mut &[u8]) -> Result<Vec<Definition>, Fault>
-    ensures { GivesFromCheckpoint (λ x. (x.items, rest.new.now)) result
-        (members_from definition_from count rest.old.now) }
+#[tactic(auto, using(crate::proofs::Loop::begins, crate::proofs::Loop::ends))]
+fn take_definitions(
+    alloc: Global,
+    count: u32,
+    bytes: &mut Cursor<'_>,
+) -> Result<Vec<Definition>, Fault>
+    ensures { GivesFromCheckpoint (λ x. (x.items, bytes.new)) result
+        (members definition_read count bytes.old) }
 {
     let mut members = Vec::new(alloc);
     for _ in 0..count {
-        let member = take_definition(rest)?;
+        let member = take_definition(bytes).ok_or(Fault::BadCheckpoint)?;
         members.push(member)?;
     }
     Ok(members)
 }
 
-#[tactic(auto, unfolding(crate::specs::Reading::counted_from))]
-fn take_all_definitions(alloc: Global, rest: &mut &[u8]) -> Result<Vec<Definition>, Fault>
-    ensures { GivesFromCheckpoint (λ x. (x.items, rest.new.now)) result
-        (counted_from definition_from rest.old.now) }
+#[tactic(auto, unfolding(rq_bytes::specs::Readers::counted))]
+fn take_all_definitions(alloc: Global, bytes: &mut Cursor<'_>) -> Result<Vec<Definition>, Fault>
+    ensures { GivesFromCheckpoint (λ x. (x.items, bytes.new)) result
+        (counted definition_read bytes.old) }
 {
-    let count = take_u32(rest)?;
-    take_definitions(alloc, count, rest)
+    let count = bytes.u32().ok_or(Fault::BadCheckpoint)?;
+    take_definitions(alloc, count, bytes)
 }
 
-fn take_units(alloc: Global, count: u32, rest: &mut &[u8]) -> Result<Vec<UnitNo>, Fault>
-    ensures { GivesFromCheckpoint (λ x. (map unit_of x.items, rest.new.now)) result
-        (members_from (number_from 8) count rest.old.now) }
+#[tactic(auto, using(crate::proofs::Loop::begins, crate::proofs::Loop::ends))]
+fn take_units(alloc: Global, count: u32, bytes: &mut Cursor<'_>) -> Result<Vec<UnitNo>, Fault>
+    ensures { GivesFromCheckpoint (λ x. (map unit_of x.items, bytes.new)) result
+        (members (number 8) count bytes.old) }
 {
     let mut members = Vec::new(alloc);
     for _ in 0..count {
-        let member = take_unit(rest)?;
+        let member = take_unit(bytes).ok_or(Fault::BadCheckpoint)?;
         members.push(member)?;
     }
     Ok(members)
 }
 
-#[tactic(auto, unfolding(crate::specs::Reading::counted_from))]
-fn take_all_units(alloc: Global, rest: &mut &[u8]) -> Result<Vec<UnitNo>, Fault>
-    ensures { GivesFromCheckpoint (λ x. (map unit_of x.items, rest.new.now)) result
-        (counted_from (number_from 8) rest.old.now) }
+#[tactic(auto, unfolding(rq_bytes::specs::Readers::counted))]
+fn take_all_units(alloc: Global, bytes: &mut Cursor<'_>) -> Result<Vec<UnitNo>, Fault>
+    ensures { GivesFromCheckpoint (λ x. (map unit_of x.items, bytes.new)) result
+        (counted (number 8) bytes.old) }
 {
-    let count = take_u32(rest)?;
-    take_units(alloc, count, rest)
+    let count = bytes.u32().ok_or(Fault::BadCheckpoint)?;
+    take_units(alloc, count, bytes)
 }
 
-fn take_registrants(alloc: Global, count: u32, rest: &mut &[u8]) -> Result<Vec<Registrant>, Fault>
-    ensures { GivesFromCheckpoint (λ x. (x.items, rest.new.now)) result
-        (members_from registrant_from count rest.old.now) }
+#[tactic(auto, using(crate::proofs::Loop::begins, crate::proofs::Loop::ends))]
+fn take_registrants(
+    alloc: Global,
+    count: u32,
+    bytes: &mut Cursor<'_>,
+) -> Result<Vec<Registrant>, Fault>
+    ensures { GivesFromCheckpoint (λ x. (x.items, bytes.new)) result
+        (members registrant_read count bytes.old) }
 {
     let mut members = Vec::new(alloc);
     for _ in 0..count {
-        let member = take_registrant(rest)?;
+        let member = take_registrant(bytes).ok_or(Fault::BadCheckpoint)?;
         members.push(member)?;
     }
     Ok(members)
 }
 
-#[tactic(auto, unfolding(crate::specs::Reading::counted_from))]
-fn take_all_registrants(alloc: Global, rest: &mut &[u8]) -> Result<Vec<Registrant>, Fault>
-    ensures { GivesFromCheckpoint (λ x. (x.items, rest.new.now)) result
-        (counted_from registrant_from rest.old.now) }
+#[tactic(auto, unfolding(rq_bytes::specs::Readers::counted))]
+fn take_all_registrants(alloc: Global, bytes: &mut Cursor<'_>) -> Result<Vec<Registrant>, Fault>
+    ensures { GivesFromCheckpoint (λ x. (x.items, bytes.new)) result
+        (counted registrant_read bytes.old) }
 {
-    let count = take_u32(rest)?;
-    take_registrants(alloc, count, rest)
+    let count = bytes.u32().ok_or(Fault::BadCheckpoint)?;
+    take_registrants(alloc, count, bytes)
 }
 
-fn take_elements(alloc: Global, count: u32, rest: &mut &[u8]) -> Result<Vec<Element>, Fault>
-    ensures { GivesFromCheckpoint (λ x. (x.items, rest.new.now)) result
-        (members_from element_from count rest.old.now) }
+#[tactic(auto, using(crate::proofs::Loop::begins, crate::proofs::Loop::ends))]
+fn take_elements(alloc: Global, count: u32, bytes: &mut Cursor<'_>) -> Result<Vec<Element>, Fault>
+    ensures { GivesFromCheckpoint (λ x. (x.items, bytes.new)) result
+        (members element_read count bytes.old) }
 {
     let mut members = Vec::new(alloc);
     for _ in 0..count {
-        let member = take_element(alloc, rest)?;
+        let member = take_element(alloc, bytes)?;
         members.push(member)?;
     }
     Ok(members)
 }
 
-#[tactic(auto, unfolding(crate::specs::Reading::counted_from))]
-fn take_all_elements(alloc: Global, rest: &mut &[u8]) -> Result<Vec<Element>, Fault>
-    ensures { GivesFromCheckpoint (λ x. (x.items, rest.new.now)) result
-        (counted_from element_from rest.old.now) }
+#[tactic(auto, unfolding(rq_bytes::specs::Readers::counted))]
+fn take_all_elements(alloc: Global, bytes: &mut Cursor<'_>) -> Result<Vec<Element>, Fault>
+    ensures { GivesFromCheckpoint (λ x. (x.items, bytes.new)) result
+        (counted element_read bytes.old) }
 {
-    let count = take_u32(rest)?;
-    take_elements(alloc, count, rest)
+    let count = bytes.u32().ok_or(Fault::BadCheckpoint)?;
+    take_elements(alloc, count, bytes)
 }
 
-fn take_notes(alloc: Global, count: u32, rest: &mut &[u8]) -> Result<Vec<Note>, Fault>
-    ensures { GivesFromCheckpoint (λ x. (x.items, rest.new.now)) result
-        (members_from note_from count rest.old.now) }
+#[tactic(auto, using(crate::proofs::Loop::begins, crate::proofs::Loop::ends))]
+fn take_notes(alloc: Global, count: u32, bytes: &mut Cursor<'_>) -> Result<Vec<Note>, Fault>
+    ensures { GivesFromCheckpoint (λ x. (x.items, bytes.new)) result
+        (members note_read count bytes.old) }
 {
     let mut members = Vec::new(alloc);
     for _ in 0..count {
-        let member = take_note(rest)?;
+        let member = take_note(bytes).ok_or(Fault::BadCheckpoint)?;
         members.push(member)?;
     }
     Ok(members)
 }
 
-#[tactic(auto, unfolding(crate::specs::Reading::counted_from))]
-fn take_all_notes(alloc: Global, rest: &mut &[u8]) -> Result<Vec<Note>, Fault>
-    ensures { GivesFromCheckpoint (λ x. (x.items, rest.new.now)) result
-        (counted_from note_from rest.old.now) }
+#[tactic(auto, unfolding(rq_bytes::specs::Readers::counted))]
+fn take_all_notes(alloc: Global, bytes: &mut Cursor<'_>) -> Result<Vec<Note>, Fault>
+    ensures { GivesFromCheckpoint (λ x. (x.items, bytes.new)) result
+        (counted note_read bytes.old) }
 {
-    let count = take_u32(rest)?;
-    take_notes(alloc, count, rest)
+    let count = bytes.u32().ok_or(Fault::BadCheckpoint)?;
+    take_notes(alloc, count, bytes)
 }
 
-#[tactic(auto, unfolding(crate::specs::Reading::state_from))]
-fn take_fields(alloc: Global, rest: &mut &[u8]) -> Result<Fields, Fault>
-    ensures { GivesFromCheckpoint (λ x. (state_of x, rest.new.now)) result
-        (state_from rest.old.now) }
+#[tactic(auto, unfolding(rq_model::specs::StateReading::state_read))]
+fn take_fields(alloc: Global, bytes: &mut Cursor<'_>) -> Result<Fields, Fault>
+    ensures { GivesFromCheckpoint (λ x. (state_of x, bytes.new)) result
+        (state_read bytes.old) }
 {
-    let next = take_u64(rest)?;
-    let greatest = take_u64(rest)?;
-    let committed = take_u64(rest)?;
-    let aborted = take_u64(rest)?;
-    let definitions = take_all_definitions(alloc, rest)?;
-    let units = take_all_units(alloc, rest)?;
-    let registrants = take_all_registrants(alloc, rest)?;
-    let elements = take_all_elements(alloc, rest)?;
-    let notes = take_all_notes(alloc, rest)?;
+    let next = bytes.u64().ok_or(Fault::BadCheckpoint)?;
+    let greatest = bytes.u64().ok_or(Fault::BadCheckpoint)?;
+    let committed = bytes.u64().ok_or(Fault::BadCheckpoint)?;
+    let aborted = bytes.u64().ok_or(Fault::BadCheckpoint)?;
+    let definitions = take_all_definitions(alloc, bytes)?;
+    let units = take_all_units(alloc, bytes)?;
+    let registrants = take_all_registrants(alloc, bytes)?;
+    let elements = take_all_elements(alloc, bytes)?;
+    let notes = take_all_notes(alloc, bytes)?;
     Ok(Fields {
         next,
         greatest,
@@ -148,14 +162,11 @@ fn take_fields(alloc: Global, rest: &mut &[u8]) -> Result<Fields, Fault>
     })
 }
 
-#[tactic(auto, unfolding(crate::specs::Reading::whole_state))]
 pub(crate) fn all_fields(alloc: Global, bytes: &[u8]) -> Result<Fields, Fault>
-    ensures { GivesFromCheckpoint state_of result (whole_state bytes.now) }
+    ensures { GivesFromCheckpoint (λ x. (state_of x, [])) result (alone state_read bytes.now) }
 {
-    let mut rest = bytes;
-    let fields = take_fields(alloc, &mut rest)?;
-    if !rest.is_empty() {
-        return Err(Fault::BadCheckpoint);
-    }
+    let mut bytes = Cursor::new(bytes);
+    let fields = take_fields(alloc, &mut bytes)?;
+    bytes.end().ok_or(Fault::BadCheckpoint)?;
     Ok(fields)
 }

@@ -1,47 +1,57 @@
-//! Members of a state from the front of the bytes that are left.
+//! Members of a state from the front of the bytes that are left. After `None` nothing is said of
+//! what is left, and nobody reads on.
 
-ghost use Rattle.std.specs.Prelude.{◌≡◌, ◌≤◌, length, Some};
+ghost use Rattle.std.specs.Prelude.{◌≡◌, ◌≤◌, length, option_map, IfSome, Some};
+ghost use Rattle.rq_model.specs.StateReading.{name_read, definition_read, element_of, id_read};
+ghost use Rattle.rq_model.specs.StateReading.{kind_read, operation_read, last_of, last_read};
+ghost use Rattle.rq_model.specs.StateReading.{registrant_read, mark_read, whole_element};
+ghost use Rattle.rq_model.specs.StateReading.{element_read, note_read};
+ghost use Rattle.rq_bytes.specs.Readers.{number, made};
 ghost use Rattle.rq_state.specs.Views.{mark_of, kind_of, id_of, unit_of};
-ghost use Rattle.rq_state.specs.Reading.{GivesFromCheckpoint, ReadsFromCheckpoint, after_of};
-ghost use Rattle.rq_state.specs.Reading.{number_from, definition_from, known_kind, kind_from};
-ghost use Rattle.rq_state.specs.Reading.{element_of, id_from, operation_from, last_of_kind};
-ghost use Rattle.rq_state.specs.Reading.{last_from, registrant_from, mark_of_kind, mark_from};
-ghost use Rattle.rq_state.specs.Reading.{payload_from, element_from, note_from};
+ghost use Rattle.rq_state.specs.Reading.{GivesFromCheckpoint};
 
 use crate::members::{Definition, Element, Last, Mark, Note, OpKind, Registrant};
-use crate::reading::cursor::{piece_of, take_name, take_u8, take_u16, take_u32, take_u64};
-use rq_record::{ElemId, Fault, KeptPayload, QueueNo, UnitNo};
+use rq_bytes::Cursor;
+use rq_record::{ElemId, Fault, KeptPayload, Name, QueueNo, UnitNo};
 use std::alloc::Global;
 
-#[tactic(auto, unfolding(crate::specs::Reading::definition_from))]
-pub(crate) fn take_definition(rest: &mut &[u8]) -> Result<Definition, Fault>
-    ensures { ReadsFromCheckpoint (λ x. (x, rest.new.now)) result (definition_from rest.old.now) }
+#[tactic(auto, unfolding(rq_model::specs::StateReading::name_read))]
+fn take_name(bytes: &mut Cursor<'_>) -> Option<Name>
+    ensures { option_map (λ x. (x, bytes.new)) result ≡ name_read bytes.old }
 {
-    let limit = take_u16(rest)?;
-    let error = take_u32(rest)?;
-    let name = take_name(rest)?;
-    Ok(Definition {
+    let name = bytes.sized_u8()?;
+    Name::new(name)
+}
+
+#[tactic(auto, unfolding(rq_model::specs::StateReading::definition_read))]
+pub(crate) fn take_definition(bytes: &mut Cursor<'_>) -> Option<Definition>
+    ensures { option_map (λ x. (x, bytes.new)) result ≡ definition_read bytes.old }
+{
+    let limit = bytes.u16()?;
+    let error = bytes.u32()?;
+    let name = take_name(bytes)?;
+    Some(Definition {
         limit,
         error: QueueNo(error),
         name,
     })
 }
 
-pub(crate) fn take_unit(rest: &mut &[u8]) -> Result<UnitNo, Fault>
-    ensures { ReadsFromCheckpoint (λ x. (unit_of x, rest.new.now)) result
-        (number_from 8 rest.old.now) }
+pub(crate) fn take_unit(bytes: &mut Cursor<'_>) -> Option<UnitNo>
+    ensures { option_map (λ x. (unit_of x, bytes.new)) result ≡ number 8 bytes.old }
 {
-    let unit = take_u64(rest)?;
-    Ok(UnitNo(unit))
+    let unit = bytes.u64()?;
+    Some(UnitNo(unit))
 }
 
-fn known_kind(n: u8) -> Result<OpKind, Fault>
-    ensures { ReadsFromCheckpoint kind_of result (known_kind n) }
+#[tactic(auto, unfolding(rq_model::specs::StateReading::kind_read))]
+fn take_kind(bytes: &mut Cursor<'_>) -> Option<OpKind>
+    ensures { option_map (λ x. (kind_of x, bytes.new)) result ≡ kind_read bytes.old }
 {
-    match n {
-        1 => Ok(OpKind::Enqueue),
-        2 => Ok(OpKind::Dequeue),
-        _ => Err(Fault::BadCheckpoint),
+    match bytes.u8()? {
+        1 => Some(OpKind::Enqueue),
+        2 => Some(OpKind::Dequeue),
+        _ => None,
     }
 }
 
@@ -51,31 +61,23 @@ fn element_of(n: u64) -> Option<ElemId>
     if n == u64::MAX { None } else { Some(ElemId(n)) }
 }
 
-#[tactic(auto, unfolding(crate::specs::Reading::kind_from))]
-fn take_kind(rest: &mut &[u8]) -> Result<OpKind, Fault>
-    ensures { ReadsFromCheckpoint (λ x. (kind_of x, rest.new.now)) result (kind_from rest.old.now) }
+#[tactic(auto, unfolding(rq_model::specs::StateReading::id_read))]
+fn take_id(bytes: &mut Cursor<'_>) -> Option<Option<ElemId>>
+    ensures { option_map (λ x. (id_of x, bytes.new)) result ≡ id_read bytes.old }
 {
-    let n = take_u8(rest)?;
-    known_kind(n)
+    let n = bytes.u64()?;
+    Some(element_of(n))
 }
 
-#[tactic(auto, unfolding(crate::specs::Reading::id_from))]
-fn take_id(rest: &mut &[u8]) -> Result<Option<ElemId>, Fault>
-    ensures { ReadsFromCheckpoint (λ x. (id_of x, rest.new.now)) result (id_from rest.old.now) }
+#[tactic(auto, unfolding(rq_model::specs::StateReading::operation_read))]
+fn take_operation(kind: OpKind, bytes: &mut Cursor<'_>) -> Option<Last>
+    ensures { option_map (λ x. (Some x, bytes.new)) result
+        ≡ made (last_of (kind_of kind)) operation_read bytes.old }
 {
-    let n = take_u64(rest)?;
-    Ok(element_of(n))
-}
-
-#[tactic(auto, unfolding(crate::specs::Reading::operation_from))]
-fn take_operation(kind: OpKind, rest: &mut &[u8]) -> Result<Last, Fault>
-    ensures { ReadsFromCheckpoint (λ x. (x, rest.new.now)) result
-        (operation_from (kind_of kind) rest.old.now) }
-{
-    let place = take_u64(rest)?;
-    let tag = take_u64(rest)?;
-    let element = take_id(rest)?;
-    Ok(Last {
+    let place = bytes.u64()?;
+    let tag = bytes.u64()?;
+    let element = take_id(bytes)?;
+    Some(Last {
         place,
         kind,
         tag,
@@ -83,65 +85,77 @@ fn take_operation(kind: OpKind, rest: &mut &[u8]) -> Result<Last, Fault>
     })
 }
 
-#[tactic(auto, unfolding(crate::specs::Reading::last_of_kind))]
-fn take_last_of(n: u8, rest: &mut &[u8]) -> Result<Option<Last>, Fault>
-    ensures { ReadsFromCheckpoint (λ x. (x, rest.new.now)) result (last_of_kind n rest.old.now) }
+#[tactic(auto, unfolding(rq_model::specs::StateReading::last_read))]
+fn take_last(bytes: &mut Cursor<'_>) -> Option<Option<Last>>
+    ensures { option_map (λ x. (x, bytes.new)) result ≡ last_read bytes.old }
 {
-    if n == 0 {
-        return Ok(None);
+    match bytes.u8()? {
+        0 => Some(None),
+        1 => {
+            let last = take_operation(OpKind::Enqueue, bytes)?;
+            Some(Some(last))
+        }
+        2 => {
+            let last = take_operation(OpKind::Dequeue, bytes)?;
+            Some(Some(last))
+        }
+        _ => None,
     }
-    let kind = known_kind(n)?;
-    let last = take_operation(kind, rest)?;
-    Ok(Some(last))
 }
 
-#[tactic(auto, unfolding(crate::specs::Reading::last_from))]
-fn take_last(rest: &mut &[u8]) -> Result<Option<Last>, Fault>
-    ensures { ReadsFromCheckpoint (λ x. (x, rest.new.now)) result (last_from rest.old.now) }
+#[tactic(auto, unfolding(rq_model::specs::StateReading::registrant_read))]
+pub(crate) fn take_registrant(bytes: &mut Cursor<'_>) -> Option<Registrant>
+    ensures { option_map (λ x. (x, bytes.new)) result ≡ registrant_read bytes.old }
 {
-    let n = take_u8(rest)?;
-    take_last_of(n, rest)
-}
-
-#[tactic(auto, unfolding(crate::specs::Reading::registrant_from))]
-pub(crate) fn take_registrant(rest: &mut &[u8]) -> Result<Registrant, Fault>
-    ensures { ReadsFromCheckpoint (λ x. (x, rest.new.now)) result (registrant_from rest.old.now) }
-{
-    let queue = take_u32(rest)?;
-    let name = take_name(rest)?;
-    let last = take_last(rest)?;
-    Ok(Registrant {
+    let queue = bytes.u32()?;
+    let name = take_name(bytes)?;
+    let last = take_last(bytes)?;
+    Some(Registrant {
         queue: QueueNo(queue),
         name,
         last,
     })
 }
 
-#[tactic(auto, unfolding(crate::specs::Reading::mark_of_kind))]
-fn take_mark_of(n: u8, rest: &mut &[u8]) -> Result<Mark, Fault>
-    ensures { ReadsFromCheckpoint (λ x. (mark_of x, rest.new.now)) result
-        (mark_of_kind n rest.old.now) }
+#[tactic(auto, unfolding(rq_model::specs::StateReading::mark_read))]
+fn take_mark(bytes: &mut Cursor<'_>) -> Option<Mark>
+    ensures { option_map (λ x. (mark_of x, bytes.new)) result ≡ mark_read bytes.old }
 {
-    match n {
-        0 => Ok(Mark::Free),
+    match bytes.u8()? {
+        0 => Some(Mark::Free),
         1 => {
-            let unit = take_unit(rest)?;
-            Ok(Mark::Fresh(unit))
+            let unit = take_unit(bytes)?;
+            Some(Mark::Fresh(unit))
         }
         2 => {
-            let unit = take_unit(rest)?;
-            Ok(Mark::Held(unit))
+            let unit = take_unit(bytes)?;
+            Some(Mark::Held(unit))
         }
-        _ => Err(Fault::BadCheckpoint),
+        _ => None,
     }
 }
 
-#[tactic(auto, unfolding(crate::specs::Reading::mark_from))]
-fn take_mark(rest: &mut &[u8]) -> Result<Mark, Fault>
-    ensures { ReadsFromCheckpoint (λ x. (mark_of x, rest.new.now)) result (mark_from rest.old.now) }
+/// The fields of an element, whose payload is not copied.
+#[tactic(auto, unfolding(rq_model::specs::StateReading::element_read))]
+pub(crate) fn element_fields<'a>(
+    bytes: &mut Cursor<'a>,
+) -> Option<(u64, u32, u32, u8, u64, Mark, &'a [u8])>
+    ensures fields { option_map (λ x. (
+      whole_element
+          (x.0, (x.1, (x.2, (x.3, (x.4, (mark_of x.5, x.6.now)))))),
+      bytes.new,
+    )) result
+        ≡ element_read bytes.old }
+    ensures bounded { IfSome result (λ x. length x.6.now ≤ 65535) }
 {
-    let n = take_u8(rest)?;
-    take_mark_of(n, rest)
+    let id = bytes.u64()?;
+    let home = bytes.u32()?;
+    let origin = bytes.u32()?;
+    let priority = bytes.u8()?;
+    let attempts = bytes.u64()?;
+    let mark = take_mark(bytes)?;
+    let payload = bytes.sized_u16()?;
+    Some((id, home, origin, priority, attempts, mark, payload))
 }
 
 fn kept_payload(alloc: Global, bytes: &[u8]) -> Result<KeptPayload, Fault>
@@ -154,53 +168,13 @@ fn kept_payload(alloc: Global, bytes: &[u8]) -> Result<KeptPayload, Fault>
     }
 }
 
-#[tactic(auto, unfolding(crate::specs::Reading::payload_from))]
-fn take_payload(alloc: Global, rest: &mut &[u8]) -> Result<KeptPayload, Fault>
-    ensures { GivesFromCheckpoint (λ x. (x, rest.new.now)) result (payload_from rest.old.now) }
+pub(crate) fn take_element(alloc: Global, bytes: &mut Cursor<'_>) -> Result<Element, Fault>
+    ensures { GivesFromCheckpoint (λ x. (x, bytes.new)) result (element_read bytes.old) }
 {
-    let size = take_u16(rest)?;
-    let (piece, after) = piece_of(size as usize, rest)?;
-    *rest = after;
-    kept_payload(alloc, piece)
-}
-
-#[tactic(auto, unfolding(crate::specs::Reading::payload_from))]
-fn pass_payload(rest: &mut &[u8]) -> Result<(), Fault>
-    ensures { ReadsFromCheckpoint (λ x. rest.new.now) result
-        (after_of (payload_from rest.old.now)) }
-{
-    let size = take_u16(rest)?;
-    let (_payload, after) = piece_of(size as usize, rest)?;
-    *rest = after;
-    Ok(())
-}
-
-/// Goes past an element, whose payload is not copied.
-#[tactic(auto, unfolding(crate::specs::Reading::element_from))]
-pub(crate) fn pass_element(rest: &mut &[u8]) -> Result<(), Fault>
-    ensures { ReadsFromCheckpoint (λ x. rest.new.now) result
-        (after_of (element_from rest.old.now)) }
-{
-    let _id = take_u64(rest)?;
-    let _home = take_u32(rest)?;
-    let _origin = take_u32(rest)?;
-    let _priority = take_u8(rest)?;
-    let _attempts = take_u64(rest)?;
-    let _mark = take_mark(rest)?;
-    pass_payload(rest)
-}
-
-#[tactic(auto, unfolding(crate::specs::Reading::element_from))]
-pub(crate) fn take_element(alloc: Global, rest: &mut &[u8]) -> Result<Element, Fault>
-    ensures { GivesFromCheckpoint (λ x. (x, rest.new.now)) result (element_from rest.old.now) }
-{
-    let id = take_u64(rest)?;
-    let home = take_u32(rest)?;
-    let origin = take_u32(rest)?;
-    let priority = take_u8(rest)?;
-    let attempts = take_u64(rest)?;
-    let mark = take_mark(rest)?;
-    let payload = take_payload(alloc, rest)?;
+    let (id, home, origin, priority, attempts, mark, payload) = element_fields(bytes).ok_or(
+        Fault::BadCheckpoint,
+    )?;
+    let payload = kept_payload(alloc, payload)?;
     Ok(Element {
         id: ElemId(id),
         home: QueueNo(home),
@@ -212,18 +186,18 @@ pub(crate) fn take_element(alloc: Global, rest: &mut &[u8]) -> Result<Element, F
     })
 }
 
-#[tactic(auto, unfolding(crate::specs::Reading::note_from))]
-pub(crate) fn take_note(rest: &mut &[u8]) -> Result<Note, Fault>
-    ensures { ReadsFromCheckpoint (λ x. (x, rest.new.now)) result (note_from rest.old.now) }
+#[tactic(auto, unfolding(rq_model::specs::StateReading::note_read))]
+pub(crate) fn take_note(bytes: &mut Cursor<'_>) -> Option<Note>
+    ensures { option_map (λ x. (x, bytes.new)) result ≡ note_read bytes.old }
 {
-    let place = take_u64(rest)?;
-    let unit = take_u64(rest)?;
-    let queue = take_u32(rest)?;
-    let name = take_name(rest)?;
-    let kind = take_kind(rest)?;
-    let tag = take_u64(rest)?;
-    let element = take_id(rest)?;
-    Ok(Note {
+    let place = bytes.u64()?;
+    let unit = bytes.u64()?;
+    let queue = bytes.u32()?;
+    let name = take_name(bytes)?;
+    let kind = take_kind(bytes)?;
+    let tag = bytes.u64()?;
+    let element = take_id(bytes)?;
+    Some(Note {
         unit: UnitNo(unit),
         queue: QueueNo(queue),
         name,

@@ -9,10 +9,11 @@ ghost use Rattle.rq_state.specs.Writing.{PutsSpelling};
 
 use crate::members::{Definition, Element, Note, Registrant};
 use crate::writing::members::{put_definition, put_element, put_note, put_registrant};
-use crate::writing::output::{put_u32, put_u64};
-use rq_record::{Fault, UnitNo};
+use rq_bytes::{put_u32, put_u64};
+use rq_record::UnitNo;
+use std::alloc::AllocError;
 
-pub(crate) fn put_definitions(out: &mut Vec<u8>, members: &[Definition]) -> Result<(), Fault>
+pub(crate) fn put_definitions(out: &mut Vec<u8>, members: &[Definition]) -> Result<(), AllocError>
     requires { length members.now < 4294967296 }
     ensures { PutsSpelling out.old.items out.new.items
         (counted definition_bytes members.now) result }
@@ -24,7 +25,7 @@ pub(crate) fn put_definitions(out: &mut Vec<u8>, members: &[Definition]) -> Resu
     Ok(())
 }
 
-pub(crate) fn put_units(out: &mut Vec<u8>, members: &[UnitNo]) -> Result<(), Fault>
+pub(crate) fn put_units(out: &mut Vec<u8>, members: &[UnitNo]) -> Result<(), AllocError>
     requires { length members.now < 4294967296 }
     ensures { PutsSpelling out.old.items out.new.items
         (counted (to_be_bytes w64) (map unit_of members.now)) result }
@@ -36,7 +37,7 @@ pub(crate) fn put_units(out: &mut Vec<u8>, members: &[UnitNo]) -> Result<(), Fau
     Ok(())
 }
 
-pub(crate) fn put_registrants(out: &mut Vec<u8>, members: &[Registrant]) -> Result<(), Fault>
+pub(crate) fn put_registrants(out: &mut Vec<u8>, members: &[Registrant]) -> Result<(), AllocError>
     requires { length members.now < 4294967296 }
     ensures { PutsSpelling out.old.items out.new.items
         (counted registrant_bytes members.now) result }
@@ -48,7 +49,7 @@ pub(crate) fn put_registrants(out: &mut Vec<u8>, members: &[Registrant]) -> Resu
     Ok(())
 }
 
-pub(crate) fn put_elements(out: &mut Vec<u8>, members: &[Element]) -> Result<(), Fault>
+pub(crate) fn put_elements(out: &mut Vec<u8>, members: &[Element]) -> Result<(), AllocError>
     requires { length members.now < 4294967296 }
     ensures { PutsSpelling out.old.items out.new.items (counted element_bytes members.now) result }
 {
@@ -59,7 +60,7 @@ pub(crate) fn put_elements(out: &mut Vec<u8>, members: &[Element]) -> Result<(),
     Ok(())
 }
 
-pub(crate) fn put_notes(out: &mut Vec<u8>, members: &[Note]) -> Result<(), Fault>
+pub(crate) fn put_notes(out: &mut Vec<u8>, members: &[Note]) -> Result<(), AllocError>
     requires { length members.now < 4294967296 }
     ensures { PutsSpelling out.old.items out.new.items (counted note_bytes members.now) result }
 {

@@ -9,12 +9,11 @@ ghost use Rattle.rq_state.specs.Views.{mark_of};
 ghost use Rattle.rq_state.specs.Writing.{PutsSpelling};
 
 use crate::members::{Definition, Element, Last, Mark, Note, Registrant};
-use crate::writing::output::{
-    put_id, put_kind, put_name, put_payload, put_u8, put_u16, put_u32, put_u64,
-};
-use rq_record::Fault;
+use crate::writing::output::{put_id, put_kind, put_name, put_payload};
+use rq_bytes::{put_u8, put_u16, put_u32, put_u64};
+use std::alloc::AllocError;
 
-fn put_mark(out: &mut Vec<u8>, mark: Mark) -> Result<(), Fault>
+fn put_mark(out: &mut Vec<u8>, mark: Mark) -> Result<(), AllocError>
     ensures { PutsSpelling out.old.items out.new.items (mark_bytes (mark_of mark)) result }
 {
     match mark {
@@ -31,7 +30,7 @@ fn put_mark(out: &mut Vec<u8>, mark: Mark) -> Result<(), Fault>
 }
 
 /// The tag and the element of an operation, which end its spelling.
-fn put_operation_end(out: &mut Vec<u8>, last: &Last) -> Result<(), Fault>
+fn put_operation_end(out: &mut Vec<u8>, last: &Last) -> Result<(), AllocError>
     ensures { PutsSpelling out.old.items out.new.items
         (to_be_bytes w64 last.now.tag ++ to_be_bytes w64 (element_number last.now.element)) result }
 {
@@ -39,13 +38,13 @@ fn put_operation_end(out: &mut Vec<u8>, last: &Last) -> Result<(), Fault>
     put_id(out, last.element)
 }
 
-fn put_kind_of(out: &mut Vec<u8>, last: &Last) -> Result<(), Fault>
+fn put_kind_of(out: &mut Vec<u8>, last: &Last) -> Result<(), AllocError>
     ensures { PutsSpelling out.old.items out.new.items (kind_byte last.now.kind ∷ []) result }
 {
     put_kind(out, last.kind)
 }
 
-fn put_operation(out: &mut Vec<u8>, last: &Last) -> Result<(), Fault>
+fn put_operation(out: &mut Vec<u8>, last: &Last) -> Result<(), AllocError>
     ensures { PutsSpelling out.old.items out.new.items
         (kind_byte last.now.kind ∷ (to_be_bytes w64 last.now.place ++ (to_be_bytes w64 last.now.tag
         ++ to_be_bytes w64 (element_number last.now.element)))) result }
@@ -55,7 +54,7 @@ fn put_operation(out: &mut Vec<u8>, last: &Last) -> Result<(), Fault>
     put_operation_end(out, last)
 }
 
-fn put_last(out: &mut Vec<u8>, last: &Option<Last>) -> Result<(), Fault>
+fn put_last(out: &mut Vec<u8>, last: &Option<Last>) -> Result<(), AllocError>
     ensures { PutsSpelling out.old.items out.new.items (last_bytes last.now) result }
 {
     match last {
@@ -64,7 +63,7 @@ fn put_last(out: &mut Vec<u8>, last: &Option<Last>) -> Result<(), Fault>
     }
 }
 
-pub(crate) fn put_definition(out: &mut Vec<u8>, definition: &Definition) -> Result<(), Fault>
+pub(crate) fn put_definition(out: &mut Vec<u8>, definition: &Definition) -> Result<(), AllocError>
     ensures { PutsSpelling out.old.items out.new.items (definition_bytes definition.now) result }
 {
     put_u16(out, definition.limit)?;
@@ -72,7 +71,7 @@ pub(crate) fn put_definition(out: &mut Vec<u8>, definition: &Definition) -> Resu
     put_name(out, &definition.name)
 }
 
-pub(crate) fn put_registrant(out: &mut Vec<u8>, registrant: &Registrant) -> Result<(), Fault>
+pub(crate) fn put_registrant(out: &mut Vec<u8>, registrant: &Registrant) -> Result<(), AllocError>
     ensures { PutsSpelling out.old.items out.new.items (registrant_bytes registrant.now) result }
 {
     put_u32(out, registrant.queue.0)?;
@@ -80,7 +79,7 @@ pub(crate) fn put_registrant(out: &mut Vec<u8>, registrant: &Registrant) -> Resu
     put_last(out, &registrant.last)
 }
 
-fn put_element_end(out: &mut Vec<u8>, element: &Element) -> Result<(), Fault>
+fn put_element_end(out: &mut Vec<u8>, element: &Element) -> Result<(), AllocError>
     ensures { PutsSpelling out.old.items out.new.items (element.now.priority
         ∷ (to_be_bytes w64 element.now.attempts ++ (mark_bytes element.now.mark
         ++ (to_be_bytes w16 (length element.now.payload) ++ element.now.payload)))) result }
@@ -91,7 +90,7 @@ fn put_element_end(out: &mut Vec<u8>, element: &Element) -> Result<(), Fault>
     put_payload(out, element.payload.bytes())
 }
 
-pub(crate) fn put_element(out: &mut Vec<u8>, element: &Element) -> Result<(), Fault>
+pub(crate) fn put_element(out: &mut Vec<u8>, element: &Element) -> Result<(), AllocError>
     ensures { PutsSpelling out.old.items out.new.items (element_bytes element.now) result }
 {
     put_u64(out, element.id.0)?;
@@ -101,7 +100,7 @@ pub(crate) fn put_element(out: &mut Vec<u8>, element: &Element) -> Result<(), Fa
 }
 
 /// The kind, the tag and the element of a note's operation: its place stands in front.
-fn put_done(out: &mut Vec<u8>, last: &Last) -> Result<(), Fault>
+fn put_done(out: &mut Vec<u8>, last: &Last) -> Result<(), AllocError>
     ensures { PutsSpelling out.old.items out.new.items
         (kind_byte last.now.kind ∷ (to_be_bytes w64 last.now.tag
         ++ to_be_bytes w64 (element_number last.now.element))) result }
@@ -110,7 +109,7 @@ fn put_done(out: &mut Vec<u8>, last: &Last) -> Result<(), Fault>
     put_operation_end(out, last)
 }
 
-fn put_note_end(out: &mut Vec<u8>, note: &Note) -> Result<(), Fault>
+fn put_note_end(out: &mut Vec<u8>, note: &Note) -> Result<(), AllocError>
     ensures { PutsSpelling out.old.items out.new.items
         (name_bytes note.now.name ++ kind_byte note.now.last.kind
         ∷ (to_be_bytes w64 note.now.last.tag
@@ -120,7 +119,7 @@ fn put_note_end(out: &mut Vec<u8>, note: &Note) -> Result<(), Fault>
     put_done(out, &note.last)
 }
 
-pub(crate) fn put_note(out: &mut Vec<u8>, note: &Note) -> Result<(), Fault>
+pub(crate) fn put_note(out: &mut Vec<u8>, note: &Note) -> Result<(), AllocError>
     ensures { PutsSpelling out.old.items out.new.items (note_bytes note.now) result }
 {
     put_u64(out, note.last.place)?;

@@ -1,53 +1,17 @@
-//! Numbers, names and single bytes behind what is spelled already.
+//! Names, payloads, ids and kinds behind what is spelled already.
 
 ghost use Rattle.std.specs.Prelude.{◌≤◌, ◌++◌, ◌∷◌, [], length};
-ghost use Rattle.std.specs.Int.{w16, w32, w64, to_be_bytes};
+ghost use Rattle.std.specs.Int.{w16, w64, to_be_bytes};
 ghost use Rattle.rq_model.specs.StateSpelling.{name_bytes, element_number, kind_byte};
 ghost use Rattle.rq_state.specs.Views.{kind_of, id_of};
 ghost use Rattle.rq_state.specs.Writing.{PutsSpelling};
 
 use crate::members::OpKind;
-use byteorder::{BigEndian, ByteOrder};
-use rq_record::{ElemId, Fault, Name};
+use rq_bytes::{put, put_u8, put_u16, put_u64};
+use rq_record::{ElemId, Name};
+use std::alloc::AllocError;
 
-fn put(out: &mut Vec<u8>, bytes: &[u8]) -> Result<(), Fault>
-    ensures { PutsSpelling out.old.items out.new.items bytes.now result }
-{
-    out.extend_from_slice(bytes)?;
-    Ok(())
-}
-
-pub(crate) fn put_u8(out: &mut Vec<u8>, n: u8) -> Result<(), Fault>
-    ensures { PutsSpelling out.old.items out.new.items (n ∷ []) result }
-{
-    put(out, &[n])
-}
-
-pub(crate) fn put_u16(out: &mut Vec<u8>, n: u16) -> Result<(), Fault>
-    ensures { PutsSpelling out.old.items out.new.items (to_be_bytes w16 n) result }
-{
-    let mut cell = [0; 2];
-    BigEndian::write_u16(&mut cell, n);
-    put(out, &cell)
-}
-
-pub(crate) fn put_u32(out: &mut Vec<u8>, n: u32) -> Result<(), Fault>
-    ensures { PutsSpelling out.old.items out.new.items (to_be_bytes w32 n) result }
-{
-    let mut cell = [0; 4];
-    BigEndian::write_u32(&mut cell, n);
-    put(out, &cell)
-}
-
-pub(crate) fn put_u64(out: &mut Vec<u8>, n: u64) -> Result<(), Fault>
-    ensures { PutsSpelling out.old.items out.new.items (to_be_bytes w64 n) result }
-{
-    let mut cell = [0; 8];
-    BigEndian::write_u64(&mut cell, n);
-    put(out, &cell)
-}
-
-pub(crate) fn put_name(out: &mut Vec<u8>, name: &Name) -> Result<(), Fault>
+pub(crate) fn put_name(out: &mut Vec<u8>, name: &Name) -> Result<(), AllocError>
     ensures { PutsSpelling out.old.items out.new.items (name_bytes name.now) result }
 {
     let bytes = name.bytes();
@@ -55,7 +19,7 @@ pub(crate) fn put_name(out: &mut Vec<u8>, name: &Name) -> Result<(), Fault>
     put(out, bytes)
 }
 
-pub(crate) fn put_payload(out: &mut Vec<u8>, payload: &[u8]) -> Result<(), Fault>
+pub(crate) fn put_payload(out: &mut Vec<u8>, payload: &[u8]) -> Result<(), AllocError>
     requires { length payload.now ≤ 65535 }
     ensures { PutsSpelling out.old.items out.new.items
         (to_be_bytes w16 (length payload.now) ++ payload.now) result }
@@ -64,7 +28,7 @@ pub(crate) fn put_payload(out: &mut Vec<u8>, payload: &[u8]) -> Result<(), Fault
     put(out, payload)
 }
 
-pub(crate) fn put_id(out: &mut Vec<u8>, element: Option<ElemId>) -> Result<(), Fault>
+pub(crate) fn put_id(out: &mut Vec<u8>, element: Option<ElemId>) -> Result<(), AllocError>
     ensures { PutsSpelling out.old.items out.new.items
         (to_be_bytes w64 (element_number (id_of element))) result }
 {
@@ -74,7 +38,7 @@ pub(crate) fn put_id(out: &mut Vec<u8>, element: Option<ElemId>) -> Result<(), F
     }
 }
 
-pub(crate) fn put_kind(out: &mut Vec<u8>, kind: OpKind) -> Result<(), Fault>
+pub(crate) fn put_kind(out: &mut Vec<u8>, kind: OpKind) -> Result<(), AllocError>
     ensures { PutsSpelling out.old.items out.new.items (kind_byte (kind_of kind) ∷ []) result }
 {
     match kind {

@@ -7,15 +7,13 @@ use Rattle.rq_state.specs.Inside.{state_of}
 use Rattle.rq_state.proofs.Kept.{kept_well, not_formed, not_read, not_kept, not_built, is_read}
 use Rattle.rq_state.proofs.reading.read_in.Goals as goal
 
-pub returns-in_err-check_form : goal.returns-in_err-check_form
-returns-in_err-check_form c =
-    let p = err_from_is_err_and c.from_residual.result c.from_residual.ensures.1 in
-    rw (p.1, p.2) (not_formed (version_of c.args.version) c.args.bytes.now c.in_err-check_form.field-0.0 c.in_err-check_form.ensures)
+pub returns-in_default : goal.returns-in_default
+returns-in_default c = not_formed (version_of c.args.version) c.args.bytes.now c.in_default.ensures
 
 pub returns-in_err-fields : goal.returns-in_err-fields
 returns-in_err-fields c =
-    let p = err_from_is_err_and c.from_residual-in_err-fields.result c.from_residual-in_err-fields.ensures.1 in
-    rw (p.1, p.2) (not_read (version_of c.args.version) c.args.bytes.now c.in_err-fields.field-0.0 (λ i. omega (arith, c.type_inv.bytes i)) c.in_ok-check_form.ensures c.in_err-fields.ensures)
+    let p = err_from_is_err_and c.from_residual.result c.from_residual.ensures.1 in
+    rw (p.1, p.2) (not_read (version_of c.args.version) c.args.bytes.now c.in_err-fields.field-0.0 (λ i. omega (arith, c.type_inv.bytes i)) c.in-Some.ensures c.in_err-fields.ensures)
 
 pub returns-in_err-check : goal.returns-in_err-check
 returns-in_err-check c =

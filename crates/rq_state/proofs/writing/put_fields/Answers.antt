@@ -1,9 +1,9 @@
 use Rattle.std.proofs.Common.{◌≡◌, ◌++◌, map, ap, ◌∙◌}
 use Rattle.std.specs.Int.{w64, to_be_bytes}
+use Rattle.rq_model.proofs.StateCodes.{are_few}
 use Rattle.rq_model.specs.StateSpelling.{counted, definition_bytes, registrant_bytes, element_bytes, note_bytes}
 use Rattle.rq_state.specs.Inside.{state_of}
 use Rattle.rq_state.specs.Views.{unit_of}
-use Rattle.rq_state.proofs.Few.{are_few}
 use Rattle.rq_state.proofs.Joined.{joined_all}
 use Rattle.rq_state.proofs.writing.put_fields.Goals as goal
 

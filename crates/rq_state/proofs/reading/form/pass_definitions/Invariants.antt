@@ -1,6 +1,9 @@
-use Rattle.std.proofs.Common.{◌≡◌, ◌-◌}
-use Rattle.rq_state.specs.Reading.{definition_from, members_from, after_of}
+use Rattle.std.proofs.Common.{◌-◌}
+use Rattle.rq_bytes.specs.Readers.{members}
+use Rattle.rq_model.specs.StateReading.{definition_read}
+use Rattle.rq_state.specs.Reading.{passed}
+use Rattle.rq_state.proofs.Passing.{Passing}
 use Rattle.rq_state.proofs.reading.form.pass_definitions.Given as goal
 
 abbrev pub invariant-loop : goal.invariant-loop
-invariant-loop l = after_of (members_from definition_from (l.count - l.counter) l.rest.now) ≡ after_of (members_from definition_from l.count l.fn.rest.now)
+invariant-loop l = Passing definition_read (l.count - l.counter) l.bytes (passed (members definition_read l.count) l.fn.bytes)

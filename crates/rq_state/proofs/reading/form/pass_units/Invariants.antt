@@ -1,6 +1,8 @@
-use Rattle.std.proofs.Common.{◌≡◌, ◌-◌}
-use Rattle.rq_state.specs.Reading.{number_from, members_from, after_of}
+use Rattle.std.proofs.Common.{◌-◌}
+use Rattle.rq_bytes.specs.Readers.{number, members}
+use Rattle.rq_state.specs.Reading.{passed}
+use Rattle.rq_state.proofs.Passing.{Passing}
 use Rattle.rq_state.proofs.reading.form.pass_units.Given as goal
 
 abbrev pub invariant-loop : goal.invariant-loop
-invariant-loop l = after_of (members_from (number_from 8) (l.count - l.counter) l.rest.now) ≡ after_of (members_from (number_from 8) l.count l.fn.rest.now)
+invariant-loop l = Passing (number 8) (l.count - l.counter) l.bytes (passed (members (number 8) l.count) l.fn.bytes)

@@ -1,7 +1,8 @@
-use Rattle.std.proofs.Common.{◌≡◌, ◌-◌}
-use Rattle.rq_state.specs.Reading.{registrant_from, members_from}
-use Rattle.rq_state.proofs.Loop.{with_front}
+use Rattle.std.proofs.Common.{◌-◌}
+use Rattle.rq_bytes.specs.Readers.{members}
+use Rattle.rq_model.specs.StateReading.{registrant_read}
+use Rattle.rq_state.proofs.Loop.{Taking}
 use Rattle.rq_state.proofs.reading.lists.take_registrants.Given as goal
 
 abbrev pub invariant-loop : goal.invariant-loop
-invariant-loop l = with_front l.members.items (members_from registrant_from (l.count - l.counter) l.rest.now) ≡ members_from registrant_from l.count l.fn.rest.now
+invariant-loop l = Taking registrant_read l.members.items (l.count - l.counter) l.bytes (members registrant_read l.count l.fn.bytes)

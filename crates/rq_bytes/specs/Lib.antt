@@ -1,0 +1,3 @@
+pub mod Readers
+pub mod Reads
+pub mod Writing

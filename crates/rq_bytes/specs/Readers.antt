@@ -1,0 +1,99 @@
+-- Readers: the value at the front of the bytes with the bytes behind it, or none.
+use Rattle.std.specs.Prelude.{ℕ, zero, suc, List, [], ◌∷◌, length, take, drop, Option, Some, None}
+use Rattle.std.specs.Prelude.{Bool, nat_lt, ◌==◌, if◌then◌else◌, ⊤}
+use Rattle.byteorder.specs.Endian.{big_number}
+
+abbrev pub Reader : Type 0 → Type 0
+Reader X = List ℕ → Option (X × List ℕ)
+
+infixl 10 ◌>>=◌
+abbrev pub ◌>>=◌ : {A B : Type 0} → Option A → (A → Option B) → Option B
+(Some x) >>= f = f x
+None >>= f = None
+
+-- Single readers.
+
+abbrev pub byte : Reader ℕ
+byte [] = None
+byte (b ∷ bytes) = Some (b, bytes)
+
+-- a number in so many bytes
+abbrev pub number : ℕ → Reader ℕ
+number n bytes = if nat_lt (length bytes) n then None else Some (big_number n bytes, drop n bytes)
+
+abbrev pub piece : ℕ → Reader (List ℕ)
+piece n bytes = if nat_lt (length bytes) n then None else Some (take n bytes, drop n bytes)
+
+-- all that is left
+abbrev pub all : Reader (List ℕ)
+all bytes = Some (bytes, [])
+
+-- nothing, which is everywhere
+abbrev pub nothing : Reader (⊤)
+nothing bytes = Some (tt, bytes)
+
+-- the end of the bytes
+abbrev pub ending : Reader (⊤)
+ending bytes = if length bytes == 0 then Some (tt, []) else None
+
+-- Readers put together.
+
+-- one behind the other
+infixr 20 ◌then◌
+abbrev pub ◌then◌ : {X Y : Type 0} → Reader X → Reader Y → Reader (X × Y)
+(r then s) bytes = do
+  x ← r bytes
+  y ← s x.1
+  Some ((x.0, y.0), y.1)
+
+-- a number, and as many bytes
+abbrev pub sized : Reader ℕ → Reader (List ℕ)
+sized r bytes = r bytes >>= λ n. piece n.0 n.1
+
+-- what f makes of the value
+abbrev pub made : {X Y : Type 0} → (X → Y) → Reader X → Reader Y
+made f r bytes = do
+  x ← r bytes
+  Some (f x.0, x.1)
+
+-- the value, if it passes the test
+abbrev pub tested : {X : Type 0} → (X → Bool) → Reader X → Reader X
+tested test r bytes = do
+  x ← r bytes
+  if test x.0 then Some x else None
+
+-- nothing behind it
+abbrev pub alone : {X : Type 0} → Reader X → Reader X
+alone r bytes = do
+  x ← r bytes
+  last ← ending x.1
+  Some (x.0, last.1)
+
+-- a byte, and what it says stands behind it
+abbrev pub tagged : {X : Type 0} → (ℕ → Reader X) → Reader X
+tagged behind bytes = byte bytes >>= λ n. behind n.0 n.1
+
+-- this reader behind the byte k, behind others those
+abbrev pub case : {X : Type 0} → ℕ → Reader X → (ℕ → Reader X) → ℕ → Reader X
+case k r others n bytes = if n == k then r bytes else others n bytes
+
+-- nothing behind any byte
+abbrev pub no_case : {X : Type 0} → ℕ → Reader X
+no_case n bytes = None
+
+-- so many members
+unfoldable pub members : {X : Type 0} → Reader X → ℕ → Reader (List X)
+members r zero bytes = Some ([], bytes)
+members r (suc n) bytes = do
+  first ← r bytes
+  others ← members r n first.1
+  Some (first.0 ∷ others.0, others.1)
+
+-- their number in four bytes, then the members
+unfoldable pub counted : {X : Type 0} → Reader X → Reader (List X)
+counted r bytes = number 4 bytes >>= λ count. members r count.0 count.1
+
+-- the bytes behind what is read
+abbrev pub after_of : {X : Type 0} → Option (X × List ℕ) → Option (List ℕ)
+after_of (Some x) = Some x.1
+after_of None = None

@@ -1,0 +1,121 @@
+-- How a state is read: its spelling from left to right.
+use Rattle.std.specs.Prelude.{ℕ, ◌<◌, ◌^◌, List, length, Option, Some, None, ◌==◌}
+use Rattle.std.specs.Prelude.{if◌then◌else◌, ⊤}
+use Rattle.rq_bytes.specs.Readers.{Reader, byte, number, nothing, ◌then◌, sized, made, tested}
+use Rattle.rq_bytes.specs.Readers.{tagged, case, no_case, counted}
+use Rattle.rq_model.specs.Spelling.{is_name}
+use Rattle.rq_model.specs.States.{Mark, Free, Fresh, Held, Kind, Enqueued, Dequeued, Element, Last}
+use Rattle.rq_model.specs.States.{Note, Definition, Registrant, State}
+
+-- What members are made of.
+
+unfoldable pub name_read : Reader (List ℕ)
+name_read = tested is_name (sized byte)
+
+-- 18446744073709551615 stands for none
+abbrev pub element_of : ℕ → Option ℕ
+element_of n = if n == 18446744073709551615 then None else Some n
+
+unfoldable pub id_read : Reader (Option ℕ)
+id_read = made element_of (number 8)
+
+-- one value, whatever is read
+abbrev pub always : {X : Type 0} → X → ⊤ → X
+always x _ = x
+
+unfoldable pub kind_read : Reader Kind
+kind_read = tagged (case 1 (made (always Enqueued) nothing)
+    (case 2 (made (always Dequeued) nothing) no_case))
+
+unfoldable pub mark_read : Reader Mark
+mark_read = tagged (case 0 (made (always Free) nothing)
+    (case 1 (made Fresh (number 8)) (case 2 (made Held (number 8)) no_case)))
+
+-- place, tag and element of an operation, behind its kind
+unfoldable pub operation_read : Reader (ℕ × (ℕ × Option ℕ))
+operation_read = number 8 then number 8 then id_read
+
+abbrev pub last_of : Kind → ℕ × (ℕ × Option ℕ) → Option Last
+last_of kind x = Some (record { place = x.0; kind = kind; tag = x.1.0; element = x.1.1 })
+
+unfoldable pub last_read : Reader (Option Last)
+last_read = tagged (case 0 (made (always None) nothing)
+    (case 1 (made (last_of Enqueued) operation_read)
+    (case 2 (made (last_of Dequeued) operation_read) no_case)))
+
+-- Members.
+
+abbrev pub definition_of : ℕ × (ℕ × List ℕ) → Definition
+definition_of x = record { limit = x.0; error = x.1.0; name = x.1.1 }
+
+unfoldable pub definition_read : Reader Definition
+definition_read = made definition_of (number 2 then number 4 then name_read)
+
+abbrev pub registrant_of : ℕ × (List ℕ × Option Last) → Registrant
+registrant_of x = record { queue = x.0; name = x.1.0; last = x.1.1 }
+
+unfoldable pub registrant_read : Reader Registrant
+registrant_read = made registrant_of (number 4 then name_read then last_read)
+
+abbrev pub whole_element : ℕ × (ℕ × (ℕ × (ℕ × (ℕ × (Mark × List ℕ))))) → Element
+whole_element x = record {
+  id = x.0;
+  home = x.1.0;
+  origin = x.1.1.0;
+  priority = x.1.1.1.0;
+  attempts = x.1.1.1.1.0;
+  mark = x.1.1.1.1.1.0;
+  payload = x.1.1.1.1.1.1;
+}
+
+unfoldable pub element_read : Reader Element
+element_read = made whole_element (number 8 then number 4 then number 4 then byte then number 8
+    then mark_read then sized (number 2))
+
+abbrev pub note_of : ℕ × (ℕ × (ℕ × (List ℕ × (Kind × (ℕ × Option ℕ))))) → Note
+note_of x = record {
+  unit = x.1.0;
+  queue = x.1.1.0;
+  name = x.1.1.1.0;
+  last = record {
+    place = x.0;
+    kind = x.1.1.1.1.0;
+    tag = x.1.1.1.1.1.0;
+    element = x.1.1.1.1.1.1;
+  };
+}
+
+unfoldable pub note_read : Reader Note
+note_read = made note_of (number 8 then number 8 then number 4 then name_read then kind_read
+    then number 8 then id_read)
+
+-- Four numbers and five lists.
+
+abbrev pub Lists : Type 0
+Lists = List Definition × (List ℕ × (List Registrant × (List Element × List Note)))
+
+abbrev pub whole_state : ℕ × (ℕ × (ℕ × (ℕ × Lists))) → State
+whole_state x = record {
+  next = x.0;
+  greatest = x.1.0;
+  committed = x.1.1.0;
+  aborted = x.1.1.1.0;
+  definitions = x.1.1.1.1.0;
+  units = x.1.1.1.1.1.0;
+  registrants = x.1.1.1.1.1.1.0;
+  elements = x.1.1.1.1.1.1.1.0;
+  notes = x.1.1.1.1.1.1.1.1;
+}
+
+unfoldable pub state_read : Reader State
+state_read = made whole_state (number 8 then number 8 then number 8 then number 8
+    then counted definition_read then counted (number 8) then counted registrant_read
+    then counted element_read then counted note_read)
+
+-- each list's count has its width
+pub record AreFew (s : State) : Type 0 where
+  pub definitions : length s.definitions < 2 ^ 32
+  pub units : length s.units < 2 ^ 32
+  pub registrants : length s.registrants < 2 ^ 32
+  pub elements : length s.elements < 2 ^ 32
+  pub notes : length s.notes < 2 ^ 32
