@@ -1,15 +1,15 @@
 -- The parts of the frame at a place, and what its digest is taken over.
-use Rattle.std.proofs.Common.{◌≡◌, ℕ, ◌+◌, ◌-◌, ◌≤◌, ◌<◌, List, ◌++◌, length, take, drop, get_or, sym, ap, ◌∙◌, arith}
+use Rattle.std.proofs.Common.{◌≡◌, ℕ, ◌+◌, ◌-◌, ◌≤◌, ◌<◌, false, ltb, List, ◌++◌, length, take, drop, get_or, refl, sym, ap, ◌∙◌, arith}
 use Rattle.std.specs.Int.{w32, to_be_bytes}
 use Rattle.std.specs.Prelude.{◌↔◌, slice_range}
+use Rattle.std.proofs.lemmas.Bool.{le-ltb}
 use Rattle.std.proofs.lemmas.List.{length-take, length-drop, drop-drop, get_or-drop}
 use Rattle.std.proofs.Math.Seq.{take-add}
-use Rattle.byteorder.specs.Endian.{big_bytes}
 use Rattle.sha2.specs.Sha256.{sha256}
+use Rattle.rq_bytes.proofs.Single.{reads_u32}
 use Rattle.rq_model.specs.Records.{Version, One, Two}
 use Rattle.rq_model.specs.Frames.{stated, body_in, digest_in, HasFrame, HasRightFrame, HasHeader, before, magic}
 use Rattle.rq_model.proofs.Runs.{length-sha256}
-use Rattle.rq_record.proofs.Fields.{wide4}
 
 -- each is a byte
 abbrev pub IsBytes : List ℕ → Type 0
@@ -29,7 +29,9 @@ body_long bytes frame = omega (arith, length-take (stated bytes) (drop 4 bytes),
 -- the length and the body
 front_is : (bytes : List ℕ) → IsBytes bytes → HasFrame bytes → take (4 + stated bytes) bytes ≡ to_be_bytes w32 (length (body_in bytes)) ++ body_in bytes
 front_is bytes fits frame =
-    let four : take 4 bytes ≡ to_be_bytes w32 (length (body_in bytes)) = sym (wide4.back bytes (omega (arith, frame.room)) fits) ∙ ap (big_bytes 4) (sym (body_long bytes frame)) in
+    let long : ltb (length bytes) 4 ≡ false = le-ltb _ _ (omega (arith, frame.room)) in
+    let read = reads_u32.takes bytes (stated bytes, drop 4 bytes) fits (rw long refl) in
+    let four : take 4 bytes ≡ to_be_bytes w32 (length (body_in bytes)) = ap (take 4) read.parts ∙ ap (to_be_bytes w32) (sym (body_long bytes frame)) in
     take-add 4 (stated bytes) bytes ∙ ap (λ (x : List ℕ). x ++ body_in bytes) four
 
 -- the 32 bytes before the frame, the length and the body

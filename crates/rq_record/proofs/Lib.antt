@@ -1,3 +1,2 @@
-pub mod Fields
-pub mod Records
-pub mod NameText
+mod Records
+mod NameText

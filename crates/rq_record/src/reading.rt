@@ -1,198 +1,237 @@
-//! From bytes to a record.
+//! From bytes to a record. Of a body that spells none nothing is answered, before memory is asked
+//! for; the fault is chosen at the end.
 
-ghost use Rattle.std.specs.Prelude.{◌+◌, ◌≤◌, length, slice_range};
-ghost use Rattle.rq_model.specs.Records.{One};
-ghost use Rattle.rq_record.specs.Reading.{Decodes, Reads, Copies, define_of, register_of};
-ghost use Rattle.rq_record.specs.Reading.{deregister_of, only_unit, begin_of, enqueue_of};
-ghost use Rattle.rq_record.specs.Reading.{dequeue_of, commit_of, abort_of, checkpoint_of, kill_of};
-ghost use Rattle.rq_record.specs.Reading.{of_kind, record_from};
+ghost use Rattle.std.specs.Prelude.{◌≡◌, ◌+◌, ◌≤◌, [], length, slice_range, option_map};
+ghost use Rattle.rq_bytes.specs.Readers.{made};
+ghost use Rattle.rq_model.specs.Records.{One, Checkpoint};
+ghost use Rattle.rq_model.specs.RecordReading.{name_left, who_read, define_of, define_read};
+ghost use Rattle.rq_model.specs.RecordReading.{register_of, deregister_of, registration_read};
+ghost use Rattle.rq_model.specs.RecordReading.{unit_read, enqueue_of, enqueue_read, dequeue_of};
+ghost use Rattle.rq_model.specs.RecordReading.{dequeue_read, checkpoint_read, kill_of, kill_read};
+ghost use Rattle.rq_model.specs.RecordReading.{at_most, kind_read, record_read};
+ghost use Rattle.rq_record.specs.Reading.{Keeps, Decodes};
 ghost use Rattle.rq_record.specs.Views.{record_of, version_of};
-
-mod fields;
 
 use crate::check_bytes::CheckBytes;
 use crate::fault::Fault;
 use crate::kept_by::KeptBy;
+use crate::kept_name::KeptName;
+use crate::kept_payload::KeptPayload;
 use crate::lent_log::LentLog;
-use crate::reading::fields::{at_end, by, name, payload, u8_at, u16_at, u32_at, u64_at, who};
-use crate::record::{ElemId, QueueNo, Record, UnitNo};
+use crate::name::Name;
+use crate::record::{By, ElemId, QueueNo, Record, UnitNo};
 use crate::version::Version;
+use rq_bytes::Cursor;
 use std::alloc::Global;
 
-#[tactic(auto, unfolding(crate::specs::Reading::define_of))]
-fn define(alloc: Global, bytes: &[u8]) -> Result<Record, Fault>
-    ensures { Copies record_of result (define_of bytes.now) }
+#[tactic(auto, unfolding(rq_model::specs::RecordReading::name_left))]
+fn name_left(bytes: Cursor<'_>) -> Option<Name>
+    ensures { option_map (λ n. (n, [])) result ≡ name_left bytes.entry }
 {
-    let (limit, rest) = u16_at(bytes)?;
-    let (error, rest) = u32_at(rest)?;
-    let name = name(alloc, rest)?;
-    Ok(Record::Define {
+    Name::new(bytes.rest())
+}
+
+#[tactic(auto, unfolding(rq_model::specs::RecordReading::who_read))]
+fn who(bytes: &mut Cursor<'_>) -> Option<Option<By>>
+    ensures { option_map (λ x. (x, bytes.new)) result ≡ who_read bytes.old }
+{
+    match bytes.u8()? {
+        0 => {
+            let tag = bytes.u64()?;
+            if tag == 0 { Some(None) } else { None }
+        }
+        size => {
+            let name = Name::new(bytes.piece(size as usize)?)?;
+            let tag = bytes.u64()?;
+            Some(Some(By { name, tag }))
+        }
+    }
+}
+
+#[tactic(auto, unfolding(rq_model::specs::RecordReading::define_read))]
+fn define(alloc: Global, bytes: Cursor<'_>) -> Option<Result<Record, Fault>>
+    ensures { Keeps record_of result (made define_of define_read bytes.entry) }
+{
+    let mut bytes = bytes;
+    let limit = bytes.u16()?;
+    let error = bytes.u32()?;
+    let name = name_left(bytes)?;
+    Some(KeptName::of(alloc, &name).map(|name| Record::Define {
         limit,
         error: QueueNo(error),
         name,
-    })
+    }))
 }
 
-#[tactic(auto, unfolding(crate::specs::Reading::register_of))]
-fn register(alloc: Global, bytes: &[u8]) -> Result<Record, Fault>
-    ensures { Copies record_of result (register_of bytes.now) }
+#[tactic(auto, unfolding(rq_model::specs::RecordReading::registration_read))]
+fn register(alloc: Global, bytes: Cursor<'_>) -> Option<Result<Record, Fault>>
+    ensures { Keeps record_of result (made register_of registration_read bytes.entry) }
 {
-    let (queue, rest) = u32_at(bytes)?;
-    let name = name(alloc, rest)?;
-    Ok(Record::Register {
+    let mut bytes = bytes;
+    let queue = bytes.u32()?;
+    let name = name_left(bytes)?;
+    Some(KeptName::of(alloc, &name).map(|name| Record::Register {
         queue: QueueNo(queue),
         name,
-    })
+    }))
 }
 
-#[tactic(auto, unfolding(crate::specs::Reading::deregister_of))]
-fn deregister(alloc: Global, bytes: &[u8]) -> Result<Record, Fault>
-    ensures { Copies record_of result (deregister_of bytes.now) }
+#[tactic(auto, unfolding(rq_model::specs::RecordReading::registration_read))]
+fn deregister(alloc: Global, bytes: Cursor<'_>) -> Option<Result<Record, Fault>>
+    ensures { Keeps record_of result (made deregister_of registration_read bytes.entry) }
 {
-    let (queue, rest) = u32_at(bytes)?;
-    let name = name(alloc, rest)?;
-    Ok(Record::Deregister {
+    let mut bytes = bytes;
+    let queue = bytes.u32()?;
+    let name = name_left(bytes)?;
+    Some(KeptName::of(alloc, &name).map(|name| Record::Deregister {
         queue: QueueNo(queue),
         name,
-    })
+    }))
 }
 
-#[tactic(auto, unfolding(crate::specs::Reading::only_unit))]
-fn unit(bytes: &[u8]) -> Result<UnitNo, Fault>
-    ensures { Reads (λ x. x.0) result (only_unit bytes.now) }
+#[tactic(auto, unfolding(rq_model::specs::RecordReading::unit_read))]
+fn unit(bytes: Cursor<'_>) -> Option<UnitNo>
+    ensures { option_map (λ u. (u.0, [])) result ≡ unit_read bytes.entry }
 {
-    let (unit, rest) = u64_at(bytes)?;
-    at_end(rest)?;
-    Ok(UnitNo(unit))
+    let mut bytes = bytes;
+    let unit = bytes.u64()?;
+    bytes.end()?;
+    Some(UnitNo(unit))
 }
 
-#[tactic(auto, unfolding(crate::specs::Reading::begin_of))]
-fn begin(bytes: &[u8]) -> Result<Record, Fault>
-    ensures { Reads record_of result (begin_of bytes.now) }
+#[tactic(auto, unfolding(rq_model::specs::RecordReading::at_most))]
+fn payload(
+    alloc: Global,
+    log: &LentLog,
+    end: usize,
+    bytes: Cursor<'_>,
+) -> Option<Result<KeptPayload, Fault>>
+    ensures { Keeps (λ p. p) result (at_most 65535 bytes.entry) }
 {
-    let unit = unit(bytes)?;
-    Ok(Record::Begin { unit })
+    KeptPayload::lent(alloc, log, end, bytes.rest()).transpose()
 }
 
-#[tactic(auto, unfolding(crate::specs::Reading::commit_of))]
-fn commit(bytes: &[u8]) -> Result<Record, Fault>
-    ensures { Reads record_of result (commit_of bytes.now) }
+#[tactic(auto, unfolding(rq_model::specs::RecordReading::enqueue_read))]
+fn enqueue(
+    alloc: Global,
+    log: &LentLog,
+    end: usize,
+    bytes: Cursor<'_>,
+) -> Option<Result<Record, Fault>>
+    ensures { Keeps record_of result (made enqueue_of enqueue_read bytes.entry) }
 {
-    let unit = unit(bytes)?;
-    Ok(Record::Commit { unit })
+    let mut bytes = bytes;
+    let unit = bytes.u64()?;
+    let queue = bytes.u32()?;
+    let priority = bytes.u8()?;
+    let by = who(&mut bytes)?;
+    let payload = payload(alloc, log, end, bytes)?;
+    Some(payload.and_then(|payload| {
+        Ok(Record::Enqueue {
+            priority,
+            queue: QueueNo(queue),
+            unit: UnitNo(unit),
+            by: KeptBy::of(alloc, &by)?,
+            payload,
+        })
+    }))
 }
 
-#[tactic(auto, unfolding(crate::specs::Reading::abort_of))]
-fn abort(bytes: &[u8]) -> Result<Record, Fault>
-    ensures { Reads record_of result (abort_of bytes.now) }
+#[tactic(auto, unfolding(rq_model::specs::RecordReading::dequeue_read))]
+fn dequeue(alloc: Global, bytes: Cursor<'_>) -> Option<Result<Record, Fault>>
+    ensures { Keeps record_of result (made dequeue_of dequeue_read bytes.entry) }
 {
-    let unit = unit(bytes)?;
-    Ok(Record::Abort { unit })
-}
-
-#[tactic(auto, unfolding(crate::specs::Reading::enqueue_of))]
-fn enqueue(alloc: Global, log: &LentLog, end: usize, bytes: &[u8]) -> Result<Record, Fault>
-    ensures { Copies record_of result (enqueue_of bytes.now) }
-{
-    let (unit, rest) = u64_at(bytes)?;
-    let (queue, rest) = u32_at(rest)?;
-    let (priority, rest) = u8_at(rest)?;
-    let (name, tag, rest) = who(rest)?;
-    let by = by(name, tag)?;
-    let payload = payload(alloc, log, end, rest)?;
-    Ok(Record::Enqueue {
-        priority,
-        queue: QueueNo(queue),
-        unit: UnitNo(unit),
-        by: KeptBy::of(alloc, &by)?,
-        payload,
-    })
-}
-
-#[tactic(auto, unfolding(crate::specs::Reading::dequeue_of))]
-fn dequeue(alloc: Global, bytes: &[u8]) -> Result<Record, Fault>
-    ensures { Copies record_of result (dequeue_of bytes.now) }
-{
-    let (unit, rest) = u64_at(bytes)?;
-    let (queue, rest) = u32_at(rest)?;
-    let (name, tag, rest) = who(rest)?;
-    let by = by(name, tag)?;
-    at_end(rest)?;
-    Ok(Record::Dequeue {
+    let mut bytes = bytes;
+    let unit = bytes.u64()?;
+    let queue = bytes.u32()?;
+    let by = who(&mut bytes)?;
+    bytes.end()?;
+    Some(KeptBy::of(alloc, &by).map(|by| Record::Dequeue {
         unit: UnitNo(unit),
         queue: QueueNo(queue),
-        by: KeptBy::of(alloc, &by)?,
-    })
+        by,
+    }))
 }
 
-#[tactic(auto, unfolding(crate::specs::Reading::checkpoint_of))]
-fn checkpoint(alloc: Global, bytes: &[u8]) -> Result<Record, Fault>
-    ensures { Copies record_of result (checkpoint_of bytes.now) }
+#[tactic(auto, unfolding(rq_model::specs::RecordReading::at_most))]
+fn check_bytes(alloc: Global, bytes: Cursor<'_>) -> Option<Result<CheckBytes, Fault>>
+    ensures { Keeps (λ b. b) result (at_most 268435455 bytes.entry) }
 {
+    let bytes = bytes.rest();
     if bytes.len() > 268_435_455 {
-        return Err(Fault::Form);
+        return None;
     }
-    let kept = Vec::from_slice(alloc, bytes)?;
-    match CheckBytes::new(kept) {
-        Some(bytes) => Ok(Record::Checkpoint { bytes }),
-        None => Err(Fault::Form),
+    match Vec::from_slice(alloc, bytes) {
+        Ok(kept) => Some(Ok(CheckBytes::new(kept)?)),
+        Err(refused) => Some(Err(refused.into())),
     }
 }
 
-#[tactic(auto, unfolding(crate::specs::Reading::kill_of))]
-fn kill(bytes: &[u8]) -> Result<Record, Fault>
-    ensures { Reads record_of result (kill_of bytes.now) }
+#[tactic(auto, unfolding(rq_model::specs::RecordReading::checkpoint_read))]
+fn checkpoint(alloc: Global, bytes: Cursor<'_>) -> Option<Result<Record, Fault>>
+    ensures { Keeps record_of result (made Checkpoint checkpoint_read bytes.entry) }
 {
-    let (queue, rest) = u32_at(bytes)?;
-    let (element, rest) = u64_at(rest)?;
-    at_end(rest)?;
-    Ok(Record::Kill {
+    let kept = check_bytes(alloc, bytes)?;
+    Some(kept.map(|bytes| Record::Checkpoint { bytes }))
+}
+
+#[tactic(auto, unfolding(rq_model::specs::RecordReading::kill_read))]
+fn kill(version: Version, bytes: Cursor<'_>) -> Option<Record>
+    ensures { option_map (λ r. (record_of r, [])) result
+        ≡ made kill_of (kill_read (version_of version)) bytes.entry }
+{
+    if version == Version::One {
+        return None;
+    }
+    let mut bytes = bytes;
+    let queue = bytes.u32()?;
+    let element = bytes.u64()?;
+    bytes.end()?;
+    Some(Record::Kill {
         queue: QueueNo(queue),
         element: ElemId(element),
     })
 }
 
-#[tactic(auto, unfolding(crate::specs::Reading::of_kind))]
+#[tactic(auto, unfolding(rq_model::specs::RecordReading::kind_read))]
 fn of_kind(
     alloc: Global,
     version: Version,
     log: &LentLog,
     end: usize,
     kind: u8,
-    bytes: &[u8],
-) -> Result<Record, Fault>
-    ensures { Copies record_of result (of_kind (version_of version) kind bytes.now) }
+    bytes: Cursor<'_>,
+) -> Option<Result<Record, Fault>>
+    ensures { Keeps record_of result (kind_read (version_of version) kind bytes.entry) }
 {
     match kind {
         1 => define(alloc, bytes),
         2 => register(alloc, bytes),
         3 => deregister(alloc, bytes),
-        4 => begin(bytes),
+        4 => Some(Ok(Record::Begin { unit: unit(bytes)? })),
         5 => enqueue(alloc, log, end, bytes),
         6 => dequeue(alloc, bytes),
-        7 => commit(bytes),
-        8 => abort(bytes),
+        7 => Some(Ok(Record::Commit { unit: unit(bytes)? })),
+        8 => Some(Ok(Record::Abort { unit: unit(bytes)? })),
         9 => checkpoint(alloc, bytes),
-        10 => match version {
-            Version::One => Err(Fault::Form),
-            Version::Two => kill(bytes),
-        },
-        _ => Err(Fault::Form),
+        10 => Some(Ok(kill(version, bytes)?)),
+        _ => None,
     }
 }
 
-#[tactic(auto, unfolding(crate::specs::Reading::record_from))]
+#[tactic(auto, unfolding(rq_model::specs::RecordReading::record_read))]
 fn record(
     alloc: Global,
     version: Version,
     log: &LentLog,
     end: usize,
-    bytes: &[u8],
-) -> Result<Record, Fault>
-    ensures { Copies record_of result (record_from (version_of version) bytes.now) }
+    body: &[u8],
+) -> Option<Result<Record, Fault>>
+    ensures { Keeps record_of result (record_read (version_of version) body.now) }
 {
-    let (kind, rest) = u8_at(bytes)?;
-    of_kind(alloc, version, log, end, kind, rest)
+    let mut bytes = Cursor::new(body);
+    let kind = bytes.u8()?;
+    of_kind(alloc, version, log, end, kind, bytes)
 }
 
 // The record that a body of this version spells, which may end at an end in a log that may be lent.
@@ -205,7 +244,7 @@ fn decode_lent(
 ) -> Result<Record, Fault>
     ensures decodes { Decodes (version_of version) body.now result }
 {
-    record(alloc, version, log, end, body)
+    record(alloc, version, log, end, body).unwrap_or(Err(Fault::Form))
 }
 
 /// The record that `len` bytes of a log from `start` on spell: `decode_in` of that body.

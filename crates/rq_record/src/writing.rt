@@ -1,7 +1,6 @@
 //! From a record to bytes.
 
-ghost use Rattle.std.specs.Prelude.{◌≡◌, ◌≤◌, ◌++◌, ◌∷◌, [], ℕ, List, length, OnOk};
-ghost use Rattle.std.specs.Int.{w16, w32, w64, to_be_bytes};
+ghost use Rattle.std.specs.Prelude.{OnOk};
 ghost use Rattle.rq_model.specs.Records.{Version, Two};
 ghost use Rattle.rq_model.specs.Spelling.{who, IsWho, body_of, IsRecord, Spells};
 ghost use Rattle.rq_record.specs.Views.{record_of};
@@ -10,44 +9,7 @@ ghost use Rattle.rq_record.specs.Writing.{Puts, Appends, HasKind};
 use crate::fault::Fault;
 use crate::kept_by::KeptBy;
 use crate::record::Record;
-use byteorder::{BigEndian, ByteOrder};
-
-fn put(out: &mut Vec<u8>, bytes: &[u8]) -> Result<(), Fault>
-    ensures { Appends out.old.items out.new.items bytes.now result }
-{
-    out.extend_from_slice(bytes)?;
-    Ok(())
-}
-
-fn put_u8(out: &mut Vec<u8>, n: u8) -> Result<(), Fault>
-    ensures { Appends out.old.items out.new.items (n ∷ []) result }
-{
-    put(out, &[n])
-}
-
-fn put_u16(out: &mut Vec<u8>, n: u16) -> Result<(), Fault>
-    ensures { Appends out.old.items out.new.items (to_be_bytes w16 n) result }
-{
-    let mut cell = [0; 2];
-    BigEndian::write_u16(&mut cell, n);
-    put(out, &cell)
-}
-
-fn put_u32(out: &mut Vec<u8>, n: u32) -> Result<(), Fault>
-    ensures { Appends out.old.items out.new.items (to_be_bytes w32 n) result }
-{
-    let mut cell = [0; 4];
-    BigEndian::write_u32(&mut cell, n);
-    put(out, &cell)
-}
-
-fn put_u64(out: &mut Vec<u8>, n: u64) -> Result<(), Fault>
-    ensures { Appends out.old.items out.new.items (to_be_bytes w64 n) result }
-{
-    let mut cell = [0; 8];
-    BigEndian::write_u64(&mut cell, n);
-    put(out, &cell)
-}
+use rq_bytes::{put, put_u8, put_u16, put_u32, put_u64};
 
 fn put_who(out: &mut Vec<u8>, by: &KeptBy) -> Result<(), Fault>
     ensures bytes { Puts out.old.items out.new.items (who by.now) result }

@@ -3,8 +3,8 @@ use Rattle.std.proofs.Common.{◌≡◌, ℕ, ◌+◌, ◌<◌, Bool, true, fals
 use Rattle.std.specs.List.{AllByRecursion, list_all}
 use Rattle.std.proofs.lemmas.Bool.{eqb-true, ne_eqb, and_parts}
 use Rattle.std.proofs.lemmas.List.{drop_more, append-nil}
-use Rattle.rq_record.specs.Reading.{◌>>=◌}
-use Rattle.rq_record.proofs.Fields.{bind_some}
+use Rattle.rq_bytes.specs.Readers.{◌>>=◌}
+use Rattle.rq_bytes.proofs.Single.{bind_some}
 use Rattle.rq_writer.specs.Reading.{cut_at}
 
 -- more in front of what a reader found

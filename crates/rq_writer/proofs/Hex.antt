@@ -4,8 +4,8 @@ use Rattle.std.proofs.lemmas.List.{length-append}
 use Rattle.std.specs.List.{flat_map}
 use Rattle.std.specs.Fmt.{digit_glyph}
 use Rattle.std.proofs.lemmas.Bool.{leb-true, le-leb, lt-leb, lt-ltb, le-ltb, and_parts, cases_lt}
-use Rattle.rq_record.specs.Reading.{◌>>=◌}
-use Rattle.rq_record.proofs.Fields.{bind_some}
+use Rattle.rq_bytes.specs.Readers.{◌>>=◌}
+use Rattle.rq_bytes.proofs.Single.{bind_some}
 use Rattle.rq_model.specs.Frames.{AreBytes}
 use Rattle.rq_model.specs.Reports as reports
 use Rattle.rq_writer.specs.Reading.{digit_of, pair_of, pairs_of}

@@ -10,18 +10,18 @@ use Rattle.rq_model.specs.Records.{By}
 use Rattle.rq_model.specs.Records.{Record}
 use Rattle.rq_model.specs.Records.{Define, Register, Deregister, Begin, Enqueue, Dequeue, Commit, Abort, Checkpoint, Kill, Version, One, Two}
 use Rattle.rq_model.specs.Spelling.{IsRecord, IsWho}
-use Rattle.rq_record.specs.Reading.{◌>>=◌, name_of, Gives}
-use Rattle.rq_record.proofs.Fields.{bind_some, chosen, name_takes, name_again}
+use Rattle.rq_bytes.specs.Readers.{◌>>=◌}
+use Rattle.rq_bytes.proofs.Single.{bind_some, chosen}
 use Rattle.rq_model.specs.Reports.{payload_text, error_text}
 use Rattle.rq_writer.specs.Script.{Line, Told, Spelled}
 use Rattle.rq_writer.specs.Views.{line_of}
 use Rattle.rq_writer.specs.declared.line.Line as code
 use Rattle.rq_writer.specs.Script.{who_name, who_tag, record_text, line_text, IsTellable, IsLine, Tells}
-use Rattle.rq_writer.specs.Reading.{field_at, number_of, number_field, error_of, by_of, bytes_of_hex, unit_number, define_line, register_line, deregister_line, begin_line, commit_line, abort_line, enqueue_line, dequeue_line, checkpoint_line, kill_line, kill_line_in, told_by, record_at, told_line, line_at, ReadsLine}
+use Rattle.rq_writer.specs.Reading.{Gives, field_at, name_of, number_of, number_field, error_of, by_of, bytes_of_hex, unit_number, define_line, register_line, deregister_line, begin_line, commit_line, abort_line, enqueue_line, dequeue_line, checkpoint_line, kill_line, kill_line_in, told_by, record_at, told_line, line_at, ReadsLine}
 use Rattle.rq_writer.proofs.Cuts.{cut_takes, cut_again}
 use Rattle.rq_writer.proofs.Numbers.{number_takes, number_again}
 use Rattle.rq_writer.proofs.Hex.{some_is}
-use Rattle.rq_writer.proofs.Parts.{number_at_takes, number_at_again, error_takes, error_again, told_takes, told_again, hex_takes, hex_again, who_lacks, name_lacks}
+use Rattle.rq_writer.proofs.Parts.{number_at_takes, number_at_again, name_takes, name_again, error_takes, error_again, told_takes, told_again, hex_takes, hex_again, who_lacks, name_lacks}
 
 -- the record is one that a script can tell, and this is its text
 abbrev IsTale : (version : Version) → List ℕ → Record → Type 0

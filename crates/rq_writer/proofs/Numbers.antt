@@ -6,7 +6,7 @@ use Rattle.std.specs.Str.Parse.{ParsesUnsigned, digits_value}
 use Rattle.std.proofs.lemmas.Bool.{eqb-true, ltb-true, lt-ltb, leb-true, le-leb, lt-leb, and_parts, or_cases, cases_lt}
 use Rattle.std.proofs.lemmas.Str.Parse.{IsNumeralModel, numerals_by_value, parse_digits}
 use Rattle.std.proofs.lemmas.Fmt.{decimal-digits_value, decimal_is_IsNumeral, decimal_digit, first_decimal}
-use Rattle.rq_record.proofs.Fields.{guard_some}
+use Rattle.rq_bytes.proofs.Single.{guard_some}
 use Rattle.rq_writer.specs.Decimals.{IsNumber}
 use Rattle.rq_writer.specs.Reading.{is_digit, is_decimal, number_of}
 

@@ -9,14 +9,14 @@ use Rattle.std.proofs.lemmas.Fmt.{decimal_is_IsNumeral}
 use Rattle.std.proofs.lemmas.Slice.Eq.{bytes_eq-Decides}
 use Rattle.rq_model.specs.Spelling.{is_name, is_name_byte}
 use Rattle.rq_model.specs.Spelling.{IsWho}
-use Rattle.rq_record.specs.Reading.{◌>>=◌}
+use Rattle.rq_bytes.specs.Readers.{◌>>=◌}
 use Rattle.rq_model.specs.Records.{By}
-use Rattle.rq_record.proofs.Fields.{bind_some, guard_some, chosen}
+use Rattle.rq_bytes.proofs.Single.{bind_some, guard_some, chosen}
 use Rattle.rq_model.specs.Reports.{payload_text, error_text}
 use Rattle.rq_writer.specs.Script.{who_name, who_tag, IsNamed}
 use Rattle.rq_model.specs.Frames.{AreBytes}
 use Rattle.rq_model.specs.Reports as reports
-use Rattle.rq_writer.specs.Reading.{field_at, is_digit, is_decimal, number_of, number_field, error_of, by_of, pairs_of, bytes_of_hex}
+use Rattle.rq_writer.specs.Reading.{field_at, name_of, is_digit, is_decimal, number_of, number_field, error_of, by_of, pairs_of, bytes_of_hex}
 use Rattle.rq_writer.proofs.Cuts.{cut_takes, cut_again, Lacks, lacks}
 use Rattle.rq_writer.proofs.Numbers.{own, number_takes, number_again, decimal_is_decimal}
 use Rattle.rq_writer.proofs.Hex.{no_bytes, some_is, pairs_takes, pairs_again, pairs_length, length-hex}
@@ -87,6 +87,16 @@ error_by n false e lt =
 
 pub error_again : (n : ℕ) → n < 2 ^ 32 → error_of (error_text n) ≡ Some n
 error_again n lt = error_by n (eqb n 4294967295) refl lt
+
+-- ---- names
+
+pub name_takes : (bytes name : List ℕ) → name_of bytes ≡ Some name → (bytes ≡ name) × IsTrue (is_name name)
+name_takes bytes name e =
+    let g = guard_some (is_name bytes) bytes name e in
+    (g.1, subst (λ (n : List ℕ). IsTrue (is_name n)) g.1 g.0)
+
+pub name_again : (name : List ℕ) → IsTrue (is_name name) → name_of name ≡ Some name
+name_again name h = rw h refl
 
 -- ---- who
 

@@ -1,12 +1,12 @@
 -- Reading a line from left to right.
-use Rattle.std.specs.Prelude.{ℕ, ◌+◌, ◌*◌, ◌-◌, Bool, false, ◌&&◌, ◌||◌, ◌==◌, if◌then◌else◌}
-use Rattle.std.specs.Prelude.{nat_le, nat_lt, List, [], ◌∷◌, length, codes, Option, Some, None}
-use Rattle.std.specs.Prelude.{Result, Ok, Err, ⊤}
+use Rattle.std.specs.Prelude.{◌≡◌, ℕ, ◌+◌, ◌*◌, ◌-◌, Bool, false, ◌&&◌, ◌||◌, ◌==◌}
+use Rattle.std.specs.Prelude.{if◌then◌else◌, nat_le, nat_lt, List, [], ◌∷◌, length, codes, Option}
+use Rattle.std.specs.Prelude.{Some, None, Result, Ok, Err, ⊤}
 use Rattle.std.specs.List.{list_all}
 use Rattle.std.specs.Str.{bytes_eq}
 use Rattle.std.specs.Str.Parse.{digits_value}
+use Rattle.rq_bytes.specs.Readers.{◌>>=◌}
 use Rattle.rq_model.specs.Spelling.{is_name}
-use Rattle.rq_record.specs.Reading.{◌>>=◌, name_of}
 use Rattle.rq_record.specs.declared.fault.Fault.{Fault}
 use Rattle.rq_record.specs.declared.fault.Fault.TheVariants as faults
 use Rattle.rq_model.specs.Records.{By, Record, Define, Register, Deregister, Begin, Enqueue}
@@ -14,6 +14,16 @@ use Rattle.rq_model.specs.Records.{Dequeue, Commit, Abort, Checkpoint, Kill, Ver
 use Rattle.rq_writer.specs.Script.{Line, Told, Spelled, Tells}
 use Rattle.rq_writer.specs.Views.{line_of}
 use Rattle.rq_writer.specs.declared.line.Line as code
+
+-- What a function returned, seen by view, is what reading gives, unless memory ran out.
+abbrev pub Fails : {Y : Type 0} → Fault → Option Y → Type 0
+Fails faults.Form read = read ≡ None
+Fails faults.Resources read = ⊤
+Fails _ read = ⊥
+
+abbrev pub Gives : {X Y : Type 0} → (X → Y) → Result X Fault → Option Y → Type 0
+Gives view (Ok x) read = read ≡ Some (view x)
+Gives view (Err e) read = Fails e read
 
 -- what stands before the first such byte, and what behind it
 abbrev pub cut_at : ℕ → List ℕ → Option (List ℕ × List ℕ)
@@ -76,6 +86,9 @@ bytes_of_hex limit text =
     else if length text == 0 then None
     else if nat_le (length text) (2 * limit) then pairs_of text
     else None
+
+abbrev pub name_of : List ℕ → Option (List ℕ)
+name_of bytes = if is_name bytes then Some bytes else None
 
 unfoldable pub define_line : List ℕ → Option Record
 define_line bytes = do

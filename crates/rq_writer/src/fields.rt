@@ -3,7 +3,7 @@
 ghost use Rattle.std.specs.Prelude.{◌≡◌, ◌≤◌, IsTrue, IfOk};
 ghost use Rattle.std.specs.Option.{option_map};
 ghost use Rattle.std.specs.List.{list_all};
-ghost use Rattle.rq_record.specs.Reading.{Gives, name_of};
+ghost use Rattle.rq_writer.specs.Reading.{Gives, name_of};
 ghost use Rattle.rq_writer.specs.Reading as spec;
 
 use rq_record::{By, Fault, Name};

@@ -1,7 +1,7 @@
 //! Bytes in hexadecimal.
 
 ghost use Rattle.std.specs.Prelude.{◌≡◌, ◌*◌, ◌≤◌, ◌<◌, ◌∷◌, length, IfSome, IfNone, IfOk};
-ghost use Rattle.rq_record.specs.Reading.{Gives};
+ghost use Rattle.rq_writer.specs.Reading.{Gives};
 ghost use Rattle.rq_writer.specs.Reading as spec;
 
 use rq_record::{CheckBytes, Fault, KeptPayload, Payload};

@@ -1,6 +1,6 @@
 //! From a text to a line.
 
-ghost use Rattle.rq_record.specs.Reading.{Gives};
+ghost use Rattle.rq_writer.specs.Reading.{Gives};
 ghost use Rattle.rq_record.specs.Views.{record_of, version_of};
 ghost use Rattle.rq_writer.specs.Reading as spec;
 ghost use Rattle.rq_writer.specs.Reading.{ReadsLine};
