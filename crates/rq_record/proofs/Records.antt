@@ -14,12 +14,16 @@ use Rattle.rq_record.specs.declared.fault.Fault.{Fault}
 use Rattle.rq_record.specs.declared.fault.Fault.TheVariants as faults
 use Rattle.rq_record.specs.declared.record.Record as code
 
-spelled : (version : Version) (body : List ℕ) (read : Option (Record × List ℕ)) → IsBytes body → record_read version body ≡ read → IsSome read → (r : Record) × Spells version r body
+spelled : (version : Version) (body : List ℕ) (read : Option (Record × List ℕ)) → IsBytes body
+    → record_read version body ≡ read → IsSome read → (r : Record) × Spells version r body
 spelled version body (Some x) fits e some = (x.0, spelled_by body x (reads_record version) fits e)
 spelled version body None fits e some = absurd cc
 
-pub is_decoded : (version : Version) (body : List ℕ) (kept : Option (Result code.Record Fault)) → IsBytes body → Keeps record_of kept (record_read version body) → Decodes version body (unwrap_or kept (Err faults.Form))
-is_decoded version body None fits none = λ r s. let again = read_again body r (reads_record version) s.0 s.1 in absurd cc
+pub is_decoded : (version : Version) (body : List ℕ) (kept : Option (Result code.Record Fault)) → IsBytes body
+    → Keeps record_of kept (record_read version body) → Decodes version body (unwrap_or kept (Err faults.Form))
+is_decoded version body None fits none = λ r s.
+    let again = read_again body r (reads_record version) s.0 s.1 in absurd cc
 is_decoded version body (Some (Ok r)) fits read = spelled_by body (record_of r, []) (reads_record version) fits read
-is_decoded version body (Some (Err faults.Resources)) fits some = spelled version body (record_read version body) fits refl some
+is_decoded version body (Some (Err faults.Resources)) fits some =
+    spelled version body (record_read version body) fits refl some
 is_decoded version body (Some (Err _)) fits given = absurd given

@@ -1,5 +1,5 @@
-//! From bytes to a record. Of a body that spells none nothing is answered, before memory is asked
-//! for; the fault is chosen at the end.
+//! From bytes to a record. `None` answers bytes that spell none, before memory is asked for; it
+//! becomes the fault at one place, in `decode_lent`.
 
 ghost use Rattle.std.specs.Prelude.{◌≡◌, ◌+◌, ◌≤◌, [], length, slice_range, option_map};
 ghost use Rattle.rq_bytes.specs.Readers.{made};
