@@ -17,11 +17,13 @@ from common import HERE
 
 CRATES = os.path.abspath(os.path.join(HERE, "..", "crates"))
 # The head of a definition, or of a module with parameters, in which some stand.
-HEAD = re.compile(r"^(?:abbrev |unfolding |pub |record |data )*(?!use |open |infix|unfoldable |pub mod |mod )([^\s(){}:]+)(?= [^=\n]*(?::|where)| :)", re.M)
+HEAD = re.compile(r"^(?:abbrev |unfolding |unfoldable |pub |record |data )*(?!use |open |infix|ruleset |pub mod |mod )([^\s(){}:]+)(?= [^=\n]*(?::|where)| :)", re.M)
 INNER = re.compile(r"^  (?:abbrev |unfolding |pub |record |data )*([^\s(){}:]+)(?: [^=\n]*?)? :", re.M)
 TOKEN = re.compile(r"[^\s(){}\[\],;.`λ→↔×]+")
 # Files whose names are asked for by the prover: a goal, an invariant, a variant.
 ASKED = ("Answers.antt", "Invariants.antt", "Variants.antt")
+# A list of lemmas that the tactics of a function are given.
+RULES = re.compile(r"^pub ruleset .*$", re.M)
 
 
 class Definition(NamedTuple):
@@ -99,6 +101,7 @@ def unreached(crates: list[str]) -> list[Definition]:
             if is_asked(path):
                 live |= tokens(without_comments(re.sub(r"^use .*$", "", text, flags=re.M)))
             else:
+                live |= tokens(" ".join(RULES.findall(text)))
                 left += [Definition(crate, os.path.relpath(path, os.path.join(CRATES, crate)), *it) for it in blocks(text)]
     while True:
         reached = [it for it in left if it.words() & live]

@@ -3,7 +3,7 @@ use Rattle.std.proofs.Common.{◌≡◌, ℕ, zero, suc, ◌^◌, ◌<◌, List,
 use Rattle.std.specs.List.{flat_map, AllByRecursion}
 use Rattle.std.specs.Int.{w32, to_be_bytes}
 use Rattle.std.proofs.lemmas.List.Concat.{flat_map-cons}
-use Rattle.rq_bytes.specs.Readers.{Reader, ◌>>=◌, number, members, counted}
+use Rattle.rq_bytes.specs.Readers.{Reader, ◌>>=◌, number, members, counted_members}
 use Rattle.rq_bytes.specs.Reads.{IsBytes, Takes, Reads, Any}
 use Rattle.rq_bytes.proofs.Single.{bind_some, reads_u32}
 
@@ -35,8 +35,8 @@ reads_members {X} {P} {s} {r} n reads = record { takes = takes n; again = λ xs 
 abbrev pub AreCounted : {X : Type 0} → (X → Type 0) → List X → Type 0
 AreCounted P xs = (length xs < 2 ^ 32) × AllByRecursion P xs
 
-pub reads_counted : {X : Type 0} {P : X → Type 0} {s : X → List ℕ} {r : Reader X} → Reads P s Any r → Reads (AreCounted P) (λ (xs : List X). to_be_bytes w32 (length xs) ++ flat_map s xs) Any (counted r)
-unfolding counted
+pub reads_counted : {X : Type 0} {P : X → Type 0} {s : X → List ℕ} {r : Reader X} → Reads P s Any r → Reads (AreCounted P) (λ (xs : List X). to_be_bytes w32 (length xs) ++ flat_map s xs) Any (counted_members r)
+unfolding counted_members
 reads_counted {X} {P} {s} {r} reads = record {
   takes = λ bytes x fits e.
       let a = bind_some (number 4 bytes) (λ count. members r count.0 count.1) x e in
@@ -45,5 +45,5 @@ reads_counted {X} {P} {s} {r} reads = record {
       let parts : bytes ≡ to_be_bytes w32 (length x.0) ++ (flat_map s x.0 ++ x.1) = h.parts ∙ ap (λ (m : ℕ). to_be_bytes w32 m ++ a.0.1) (sym k.fits.0) ∙ ap (λ (c : List ℕ). to_be_bytes w32 (length x.0) ++ c) k.parts in
       record { parts = parts ∙ sym (append_assoc (to_be_bytes w32 (length x.0)) (flat_map s x.0) x.1); fits = (omega (arith, k.fits.0, h.fits), k.fits.1); rest_fits = k.rest_fits; ends = tt };
   again = λ xs rest fits ends.
-      ap (counted r) (append_assoc (to_be_bytes w32 (length xs)) (flat_map s xs) rest) ∙ rw (reads_u32.again (length xs) (flat_map s xs ++ rest) fits.0 tt) ((reads_members (length xs) reads).again xs rest (refl, fits.1) tt);
+      ap (counted_members r) (append_assoc (to_be_bytes w32 (length xs)) (flat_map s xs) rest) ∙ rw (reads_u32.again (length xs) (flat_map s xs ++ rest) fits.0 tt) ((reads_members (length xs) reads).again xs rest (refl, fits.1) tt);
 }

@@ -90,8 +90,8 @@ members r (suc n) bytes = do
   Some (first.0 ∷ others.0, others.1)
 
 -- their number in four bytes, then the members
-unfoldable pub counted : {X : Type 0} → Reader X → Reader (List X)
-counted r bytes = number 4 bytes >>= λ count. members r count.0 count.1
+unfoldable pub counted_members : {X : Type 0} → Reader X → Reader (List X)
+counted_members r bytes = number 4 bytes >>= λ count. members r count.0 count.1
 
 -- the bytes behind what is read
 abbrev pub after_of : {X : Type 0} → Option (X × List ℕ) → Option (List ℕ)

@@ -11,7 +11,7 @@ use Rattle.rq_bytes.proofs.Members.{AreCounted, reads_counted}
 use Rattle.rq_model.specs.Spelling.{is_name}
 use Rattle.rq_model.specs.States.{Mark, Free, Fresh, Held, Kind, Enqueued, Dequeued, Element, Last, Note, Definition, Registrant, State}
 use Rattle.rq_model.specs.StateSpelling.{name_bytes, element_number, kind_byte, definition_bytes, last_bytes, registrant_bytes, mark_bytes, element_bytes, note_bytes, state_bytes}
-use Rattle.rq_model.specs.StateReading.{name_read, element_of, id_read, always, kind_read, mark_read, operation_read, last_of, last_read, definition_of, definition_read, registrant_of, registrant_read, whole_element, element_read, note_of, note_read, whole_state, state_read}
+use Rattle.rq_model.specs.StateReading.{name_read, element_of, id_read, always, kind_read, mark_read, operation_read, last_of, last_read, definition_of, definition_read, registrant_from, registrant_read, whole_element, element_read, note_of, note_read, whole_state, state_read}
 use Rattle.rq_model.proofs.RecordReaders.{name_long}
 
 -- What has a spelling: each number in its width, each name a name.
@@ -121,7 +121,7 @@ reads_definition = reads_made definition_of (λ d. (d.limit, (d.error, d.name)))
 
 pub reads_registrant : Reads IsRegistrantSpelled registrant_bytes Any registrant_read
 unfolding registrant_read
-reads_registrant = reads_made registrant_of (λ r. (r.queue, (r.name, r.last))) (λ x h. ((h.0, h.1.0, h.1.1), refl)) (λ r h. ((h.0, (h.1, h.2)), refl)) (reads_then reads_u32 (reads_then reads_name reads_last))
+reads_registrant = reads_made registrant_from (λ r. (r.queue, (r.name, r.last))) (λ x h. ((h.0, h.1.0, h.1.1), refl)) (λ r h. ((h.0, (h.1, h.2)), refl)) (reads_then reads_u32 (reads_then reads_name reads_last))
 
 pub reads_element : Reads IsElementSpelled element_bytes Any element_read
 unfolding element_read

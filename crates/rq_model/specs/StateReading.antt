@@ -2,7 +2,7 @@
 use Rattle.std.specs.Prelude.{ℕ, ◌<◌, ◌^◌, List, length, Option, Some, None, ◌==◌}
 use Rattle.std.specs.Prelude.{if◌then◌else◌, ⊤}
 use Rattle.rq_bytes.specs.Readers.{Reader, byte, number, nothing, ◌then◌, sized, made, tested}
-use Rattle.rq_bytes.specs.Readers.{tagged, case, no_case, counted}
+use Rattle.rq_bytes.specs.Readers.{tagged, case, no_case, counted_members}
 use Rattle.rq_model.specs.Spelling.{is_name}
 use Rattle.rq_model.specs.States.{Mark, Free, Fresh, Held, Kind, Enqueued, Dequeued, Element, Last}
 use Rattle.rq_model.specs.States.{Note, Definition, Registrant, State}
@@ -51,11 +51,11 @@ definition_of x = record { limit = x.0; error = x.1.0; name = x.1.1 }
 unfoldable pub definition_read : Reader Definition
 definition_read = made definition_of (number 2 then number 4 then name_read)
 
-abbrev pub registrant_of : ℕ × (List ℕ × Option Last) → Registrant
-registrant_of x = record { queue = x.0; name = x.1.0; last = x.1.1 }
+abbrev pub registrant_from : ℕ × (List ℕ × Option Last) → Registrant
+registrant_from x = record { queue = x.0; name = x.1.0; last = x.1.1 }
 
 unfoldable pub registrant_read : Reader Registrant
-registrant_read = made registrant_of (number 4 then name_read then last_read)
+registrant_read = made registrant_from (number 4 then name_read then last_read)
 
 abbrev pub whole_element : ℕ × (ℕ × (ℕ × (ℕ × (ℕ × (Mark × List ℕ))))) → Element
 whole_element x = record {
@@ -109,8 +109,9 @@ whole_state x = record {
 
 unfoldable pub state_read : Reader State
 state_read = made whole_state (number 8 then number 8 then number 8 then number 8
-    then counted definition_read then counted (number 8) then counted registrant_read
-    then counted element_read then counted note_read)
+    then counted_members definition_read then counted_members (number 8)
+    then counted_members registrant_read then counted_members element_read
+    then counted_members note_read)
 
 -- each list's count has its width
 pub record AreFew (s : State) : Type 0 where

@@ -8,7 +8,7 @@ use Rattle.rq_model.specs.Records.{Record, Version}
 use Rattle.rq_model.specs.Spelling.{Spells}
 use Rattle.rq_model.specs.RecordReading.{record_read}
 use Rattle.rq_model.proofs.RecordReaders.{reads_record}
-use Rattle.rq_record.specs.Reading.{Keeps, Decodes}
+use Rattle.rq_record.specs.Reading.{KeepsRead, Decodes}
 use Rattle.rq_record.specs.Views.{record_of}
 use Rattle.rq_record.specs.declared.fault.Fault.{Fault}
 use Rattle.rq_record.specs.declared.fault.Fault.TheVariants as faults
@@ -20,7 +20,7 @@ spelled version body (Some x) fits e some = (x.0, spelled_by body x (reads_recor
 spelled version body None fits e some = absurd cc
 
 pub is_decoded : (version : Version) (body : List ℕ) (kept : Option (Result code.Record Fault)) → IsBytes body
-    → Keeps record_of kept (record_read version body) → Decodes version body (unwrap_or kept (Err faults.Form))
+    → KeepsRead record_of kept (record_read version body) → Decodes version body (unwrap_or kept (Err faults.Form))
 is_decoded version body None fits none = λ r s.
     let again = read_again body r (reads_record version) s.0 s.1 in absurd cc
 is_decoded version body (Some (Ok r)) fits read = spelled_by body (record_of r, []) (reads_record version) fits read

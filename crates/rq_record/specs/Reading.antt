@@ -9,11 +9,12 @@ use Rattle.rq_record.specs.declared.fault.Fault.TheVariants as faults
 use Rattle.rq_record.specs.declared.record.Record.{Record}
 
 -- None where nothing is read; else what is read, seen by view, unless there was no memory for it
-abbrev pub Keeps : {X Y : Type 0} → (X → Y) → Option (Result X Fault) → Option (Y × List ℕ) → Type 0
-Keeps view None read = read ≡ None
-Keeps view (Some (Ok x)) read = read ≡ Some (view x, [])
-Keeps view (Some (Err faults.Resources)) read = IsSome read
-Keeps view (Some (Err _)) read = ⊥
+abbrev pub KeepsRead : {X Y : Type 0}
+    → (X → Y) → Option (Result X Fault) → Option (Y × List ℕ) → Type 0
+KeepsRead view None read = read ≡ None
+KeepsRead view (Some (Ok x)) read = read ≡ Some (view x, [])
+KeepsRead view (Some (Err faults.Resources)) read = IsSome read
+KeepsRead view (Some (Err _)) read = ⊥
 
 -- what decode_in answers: the record that the body spells, or Form where it spells none; memory
 -- runs out only where it spells one

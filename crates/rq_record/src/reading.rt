@@ -9,7 +9,7 @@ ghost use Rattle.rq_model.specs.RecordReading.{register_of, deregister_of, regis
 ghost use Rattle.rq_model.specs.RecordReading.{unit_read, enqueue_of, enqueue_read, dequeue_of};
 ghost use Rattle.rq_model.specs.RecordReading.{dequeue_read, checkpoint_read, kill_of, kill_read};
 ghost use Rattle.rq_model.specs.RecordReading.{at_most, kind_read, record_read};
-ghost use Rattle.rq_record.specs.Reading.{Keeps, Decodes};
+ghost use Rattle.rq_record.specs.Reading.{KeepsRead, Decodes};
 ghost use Rattle.rq_record.specs.Views.{record_of, version_of};
 
 use crate::check_bytes::CheckBytes;
@@ -50,7 +50,7 @@ fn who(bytes: &mut Cursor<'_>) -> Option<Option<By>>
 
 #[tactic(auto, unfolding(rq_model::specs::RecordReading::define_read))]
 fn define(alloc: Global, bytes: Cursor<'_>) -> Option<Result<Record, Fault>>
-    ensures { Keeps record_of result (made define_of define_read bytes.entry) }
+    ensures { KeepsRead record_of result (made define_of define_read bytes.entry) }
 {
     let mut bytes = bytes;
     let limit = bytes.u16()?;
@@ -65,7 +65,7 @@ fn define(alloc: Global, bytes: Cursor<'_>) -> Option<Result<Record, Fault>>
 
 #[tactic(auto, unfolding(rq_model::specs::RecordReading::registration_read))]
 fn register(alloc: Global, bytes: Cursor<'_>) -> Option<Result<Record, Fault>>
-    ensures { Keeps record_of result (made register_of registration_read bytes.entry) }
+    ensures { KeepsRead record_of result (made register_of registration_read bytes.entry) }
 {
     let mut bytes = bytes;
     let queue = bytes.u32()?;
@@ -78,7 +78,7 @@ fn register(alloc: Global, bytes: Cursor<'_>) -> Option<Result<Record, Fault>>
 
 #[tactic(auto, unfolding(rq_model::specs::RecordReading::registration_read))]
 fn deregister(alloc: Global, bytes: Cursor<'_>) -> Option<Result<Record, Fault>>
-    ensures { Keeps record_of result (made deregister_of registration_read bytes.entry) }
+    ensures { KeepsRead record_of result (made deregister_of registration_read bytes.entry) }
 {
     let mut bytes = bytes;
     let queue = bytes.u32()?;
@@ -106,7 +106,7 @@ fn payload(
     end: usize,
     bytes: Cursor<'_>,
 ) -> Option<Result<KeptPayload, Fault>>
-    ensures { Keeps (λ p. p) result (at_most 65535 bytes.entry) }
+    ensures { KeepsRead (λ p. p) result (at_most 65535 bytes.entry) }
 {
     KeptPayload::lent(alloc, log, end, bytes.rest()).transpose()
 }
@@ -118,7 +118,7 @@ fn enqueue(
     end: usize,
     bytes: Cursor<'_>,
 ) -> Option<Result<Record, Fault>>
-    ensures { Keeps record_of result (made enqueue_of enqueue_read bytes.entry) }
+    ensures { KeepsRead record_of result (made enqueue_of enqueue_read bytes.entry) }
 {
     let mut bytes = bytes;
     let unit = bytes.u64()?;
@@ -139,7 +139,7 @@ fn enqueue(
 
 #[tactic(auto, unfolding(rq_model::specs::RecordReading::dequeue_read))]
 fn dequeue(alloc: Global, bytes: Cursor<'_>) -> Option<Result<Record, Fault>>
-    ensures { Keeps record_of result (made dequeue_of dequeue_read bytes.entry) }
+    ensures { KeepsRead record_of result (made dequeue_of dequeue_read bytes.entry) }
 {
     let mut bytes = bytes;
     let unit = bytes.u64()?;
@@ -155,7 +155,7 @@ fn dequeue(alloc: Global, bytes: Cursor<'_>) -> Option<Result<Record, Fault>>
 
 #[tactic(auto, unfolding(rq_model::specs::RecordReading::at_most))]
 fn check_bytes(alloc: Global, bytes: Cursor<'_>) -> Option<Result<CheckBytes, Fault>>
-    ensures { Keeps (λ b. b) result (at_most 268435455 bytes.entry) }
+    ensures { KeepsRead (λ b. b) result (at_most 268435455 bytes.entry) }
 {
     let bytes = bytes.rest();
     if bytes.len() > 268_435_455 {
@@ -169,7 +169,7 @@ fn check_bytes(alloc: Global, bytes: Cursor<'_>) -> Option<Result<CheckBytes, Fa
 
 #[tactic(auto, unfolding(rq_model::specs::RecordReading::checkpoint_read))]
 fn checkpoint(alloc: Global, bytes: Cursor<'_>) -> Option<Result<Record, Fault>>
-    ensures { Keeps record_of result (made Checkpoint checkpoint_read bytes.entry) }
+    ensures { KeepsRead record_of result (made Checkpoint checkpoint_read bytes.entry) }
 {
     let kept = check_bytes(alloc, bytes)?;
     Some(kept.map(|bytes| Record::Checkpoint { bytes }))
@@ -202,7 +202,7 @@ fn of_kind(
     kind: u8,
     bytes: Cursor<'_>,
 ) -> Option<Result<Record, Fault>>
-    ensures { Keeps record_of result (kind_read (version_of version) kind bytes.entry) }
+    ensures { KeepsRead record_of result (kind_read (version_of version) kind bytes.entry) }
 {
     match kind {
         1 => define(alloc, bytes),
@@ -227,7 +227,7 @@ fn record(
     end: usize,
     body: &[u8],
 ) -> Option<Result<Record, Fault>>
-    ensures { Keeps record_of result (record_read (version_of version) body.now) }
+    ensures { KeepsRead record_of result (record_read (version_of version) body.now) }
 {
     let mut bytes = Cursor::new(body);
     let kind = bytes.u8()?;

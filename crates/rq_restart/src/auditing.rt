@@ -161,9 +161,9 @@ fn pass(walk: Walk, rec: &Record) -> Result<Walk, Fault>
     })
 }
 
-/// One record further. The state before a checkpoint is made of the last one that was made, and only
-/// where the checkpoint begins with its own number and is long enough to spell it: so a false one
-/// costs its bytes, and what was taken from the state since the last one.
+/// One record further. The state before a checkpoint is made of the last one that was made, and
+/// only where the checkpoint begins with its own number and is long enough to spell it: so a false
+/// one costs its bytes, and what was taken from the state since the last one.
 pub(crate) fn visit<R: Threads + Sync>(
     rt: &R,
     alloc: Global,

@@ -2,7 +2,7 @@
 use Rattle.std.proofs.Common.{◌≡◌, ℕ, suc, ◌-◌, ◌+◌, ◌≤◌, ◌<◌, List, ◌∷◌, Option, Some, None, refl, sym, ap, ◌∙◌, arith}
 use Rattle.std.specs.Prelude.{⊤}
 use Rattle.std.proofs.lemmas.Option.{same_Some}
-use Rattle.rq_bytes.specs.Readers.{Reader, ◌>>=◌, number, ending, ◌then◌, made, alone, members, counted, after_of}
+use Rattle.rq_bytes.specs.Readers.{Reader, ◌>>=◌, number, ending, ◌then◌, made, alone, members, counted_members, after_of}
 use Rattle.rq_model.specs.StateReading.{definition_read, registrant_read, element_read, note_read, whole_state, state_read}
 use Rattle.rq_state.specs.Reading.{passed, form_read}
 
@@ -90,4 +90,4 @@ same_alone {X} {Y} {r} {s} h = record {
 pub form_is : SamePlace form_read (alone state_read)
 unfolding form_read state_read
 form_is = same_alone (into_made whole_state (same_then (same (number 8)) (same_then (same (number 8)) (same_then (same (number 8)) (same_then (same (number 8))
-    (same_then (past (counted definition_read)) (same_then (past (counted (number 8))) (same_then (past (counted registrant_read)) (same_then (past (counted element_read)) (past (counted note_read)))))))))))
+    (same_then (past (counted_members definition_read)) (same_then (past (counted_members (number 8))) (same_then (past (counted_members registrant_read)) (same_then (past (counted_members element_read)) (past (counted_members note_read)))))))))))

@@ -100,8 +100,8 @@ impl State {
         Ok(state)
     }
 
-    /// The state of fields whose lists are in order already. Where there is no memory for the tables
-    /// of each queue's members, Resources, and the fields are dropped.
+    /// The state of fields whose lists are in order already. Where there is no memory for the
+    /// tables of each queue's members, Resources, and the fields are dropped.
     pub fn of_ordered(alloc: Global, fields: Fields) -> Result<State, Fault>
         requires { IsWellFormed (state_of fields) }
         ensures built { IfOk result (λ s. s ≡ state_of fields) }

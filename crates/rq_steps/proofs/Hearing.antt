@@ -20,7 +20,7 @@ use Rattle.rq_model.proofs.Merged.{ordered_map}
 use Rattle.rq_state.proofs.InOrder.{key_of, key_cmp, key_total, is_lt-key_cmp, ordered_weaker}
 use Rattle.rq_state.proofs.Neighbours.{at_next}
 use Rattle.rq_state.proofs.Searched.{registrants_searched}
-use Rattle.rq_steps.specs.Hearing.{heard}
+use Rattle.rq_steps.specs.Hearing.{heard_of}
 
 -- Lists.
 
@@ -103,13 +103,13 @@ newly_registered queue name rs i l result up =
 
 -- A note.
 
-hears_not : (n : Note) (r : Registrant) → is_eq (key_cmp (n.queue, n.name) (key_of r)) ≡ false → heard n r ≡ r
+hears_not : (n : Note) (r : Registrant) → is_eq (key_cmp (n.queue, n.name) (key_of r)) ≡ false → heard_of n r ≡ r
 hears_not n r h = ap (λ b. if b then record r { last = later r.last n.last } else r) (sym (note_is n r) ∙ h)
 
-nobody : (n : Note) (rs : List Registrant) → AllByRecursion (λ r. is_eq (key_cmp (n.queue, n.name) (key_of r)) ≡ false) rs → map (heard n) rs ≡ rs
-nobody n rs h = map_all (heard n) rs (each_weaker (λ r. is_eq (key_cmp (n.queue, n.name) (key_of r)) ≡ false) (λ r. heard n r ≡ r) (λ r m. hears_not n r m) rs h)
+nobody : (n : Note) (rs : List Registrant) → AllByRecursion (λ r. is_eq (key_cmp (n.queue, n.name) (key_of r)) ≡ false) rs → map (heard_of n) rs ≡ rs
+nobody n rs h = map_all (heard_of n) rs (each_weaker (λ r. is_eq (key_cmp (n.queue, n.name) (key_of r)) ≡ false) (λ r. heard_of n r ≡ r) (λ r m. hears_not n r m) rs h)
 
-pub nobody_hears : (n : Note) (rs : List Registrant) (i : ℕ) → IsBinarySearchResult (λ y. key_cmp (key_of y) (n.queue, n.name)) rs (Err i) → InOrder rs → rs ≡ map (heard n) rs
+pub nobody_hears : (n : Note) (rs : List Registrant) (i : ℕ) → IsBinarySearchResult (λ y. key_cmp (key_of y) (n.queue, n.name)) rs (Err i) → InOrder rs → rs ≡ map (heard_of n) rs
 nobody_hears n rs i result up = sym (nobody n rs (each_at (λ r. is_eq (key_cmp (n.queue, n.name) (key_of r)) ≡ false) rs (λ k d l. at k d l)))
   where
     both : IsPartitionPoint (λ y. key_cmp (key_of y) (n.queue, n.name) ≡ Less) (λ y. key_cmp (key_of y) (n.queue, n.name) ≡ Greater) rs i
@@ -122,7 +122,7 @@ nobody_hears n rs i result up = sym (nobody n rs (each_at (λ r. is_eq (key_cmp 
     ]
 
 pub one_hears : (n : Note) (rs : List Registrant) (i : ℕ) (new : Registrant) → i < length rs → IsBinarySearchResult (λ y. key_cmp (key_of y) (n.queue, n.name)) rs (Ok i) → InOrder rs
-    → ((d : Registrant) → new ≡ record (slice_index_or rs i d) { last = later (slice_index_or rs i d).last n.last }) → slice_set rs i new ≡ map (heard n) rs
+    → ((d : Registrant) → new ≡ record (slice_index_or rs i d) { last = later (slice_index_or rs i d).last n.last }) → slice_set rs i new ≡ map (heard_of n) rs
 one_hears n [] i new l result up is = let no : ⊥ = omega (arith, l) in absurd no
 one_hears n (x ∷ xs) zero new l result up is =
     let same : key_cmp (key_of x) (n.queue, n.name) ≡ Equal = result x in
@@ -138,25 +138,25 @@ one_hears n (x ∷ xs) (suc i) new l result up is =
     let other : is_eq (key_cmp (n.queue, n.name) (key_of x)) ≡ false = ap is_eq (sym (key_total.congr (key_of z) (n.queue, n.name) (key_of x) same) ∙ turned (key_of x) (key_of z) Less less) in
     λ j. sym (hears_not n x other) j ∷ one_hears n xs i new within (λ d. result d) up.1 (λ d. is d) j
 
-same_key : (n : Note) (r : Registrant) → key_of (heard n r) ≡ key_of r
+same_key : (n : Note) (r : Registrant) → key_of (heard_of n r) ≡ key_of r
 same_key n r = by_cases (is_note_of r.queue r.name n) (λ b. key_of (if b then record r { last = later r.last n.last } else r) ≡ key_of r) (λ _. refl) (λ _. refl)
 
 -- they stay in order
-pub in_order_still : (n : Note) (rs : List Registrant) → InOrder rs → InOrder (map (heard n) rs)
-in_order_still n rs up = ordered_map (λ a b. registrant_before a b ≡ true) (λ a b. registrant_before a b ≡ true) (heard n)
-    (λ a b h. sym (is_lt-key_cmp (heard n a) (heard n b)) ∙ ((λ i. is_lt (key_cmp (same_key n a i) (same_key n b i))) ∙ (is_lt-key_cmp a b ∙ h))) rs up
+pub in_order_still : (n : Note) (rs : List Registrant) → InOrder rs → InOrder (map (heard_of n) rs)
+in_order_still n rs up = ordered_map (λ a b. registrant_before a b ≡ true) (λ a b. registrant_before a b ≡ true) (heard_of n)
+    (λ a b h. sym (is_lt-key_cmp (heard_of n a) (heard_of n b)) ∙ ((λ i. is_lt (key_cmp (same_key n a i) (same_key n b i))) ∙ (is_lt-key_cmp a b ∙ h))) rs up
 
 -- The notes of a unit.
 
 abbrev mine : ℕ → Registrant → Note → Bool
 mine unit r n = (n.unit == unit) && is_note_of r.queue r.name n
 
-told_one : (unit : ℕ) (n : Note) (rest : List Note) (r : Registrant) → (n.unit == unit) ≡ true → told unit rest (heard n r) ≡ told unit (n ∷ rest) r
+told_one : (unit : ℕ) (n : Note) (rest : List Note) (r : Registrant) → (n.unit == unit) ≡ true → told unit rest (heard_of n r) ≡ told unit (n ∷ rest) r
 told_one unit n rest r u = by_cases (is_note_of r.queue r.name n) (λ b. told unit rest (if b then record r { last = later r.last n.last } else r)
     ≡ record { queue = r.queue; name = r.name; last = latest r.last (if b then n ∷ filter (mine unit r) rest else filter (mine unit r) rest) }) (λ _. refl) (λ _. refl)
     ∙ ap (λ b. record { queue = r.queue; name = r.name; last = latest r.last (if b && is_note_of r.queue r.name n then n ∷ filter (mine unit r) rest else filter (mine unit r) rest) }) (sym u)
 
-pub told_more : (unit : ℕ) (n : Note) (rest : List Note) (rs : List Registrant) → (n.unit == unit) ≡ true → map (told unit rest) (map (heard n) rs) ≡ map (told unit (n ∷ rest)) rs
+pub told_more : (unit : ℕ) (n : Note) (rest : List Note) (rs : List Registrant) → (n.unit == unit) ≡ true → map (told unit rest) (map (heard_of n) rs) ≡ map (told unit (n ∷ rest)) rs
 told_more unit n rest [] u = refl
 told_more unit n rest (r ∷ rs) u = λ i. told_one unit n rest r u i ∷ told_more unit n rest rs u i
 

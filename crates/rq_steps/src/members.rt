@@ -6,7 +6,7 @@ ghost use Rattle.rq_model.specs.States as model;
 ghost use Rattle.rq_model.specs.WellFormed.{Ordered};
 ghost use Rattle.rq_record.specs.declared.fault.Fault.TheVariants.{Resources};
 ghost use Rattle.rq_state.specs.Views.{kind_of, id_of, unit_of};
-ghost use Rattle.rq_steps.specs.Hearing.{heard};
+ghost use Rattle.rq_steps.specs.Hearing.{heard_of};
 
 use rq_record::{ElemId, Fault, KeptBy, Name, QueueNo, UnitNo};
 use rq_state::{Last, Note, OpKind, Registrant};
@@ -107,7 +107,7 @@ pub(crate) fn register(
 /// The registrant of a note hears of it.
 fn hear(registrants: &mut Vec<Registrant>, note: &Note)
     requires { Ordered (λ r t. model.registrant_before r t ≡ true) registrants.old.items }
-    ensures { registrants.new.items ≡ map (heard note.now) registrants.old.items }
+    ensures { registrants.new.items ≡ map (heard_of note.now) registrants.old.items }
 {
     if let Ok(place) = registrants.binary_search_by_key(&note.key(), |one| one.key()) {
         let last = Last::later(&registrants[place].last, note.last());

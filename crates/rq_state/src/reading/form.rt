@@ -1,7 +1,7 @@
 //! Whether bytes have the form of a state, told without memory.
 
 ghost use Rattle.std.specs.Prelude.{◌≡◌, [], option_map};
-ghost use Rattle.rq_bytes.specs.Readers.{number, members, counted, after_of};
+ghost use Rattle.rq_bytes.specs.Readers.{number, members, counted_members, after_of};
 ghost use Rattle.rq_model.specs.StateReading.{definition_read, registrant_read, element_read};
 ghost use Rattle.rq_model.specs.StateReading.{note_read};
 ghost use Rattle.rq_state.specs.Reading.{passed, form_read};
@@ -22,10 +22,10 @@ fn pass_definitions(count: u32, bytes: &mut Cursor<'_>) -> Option<()>
     Some(())
 }
 
-#[tactic(auto, unfolding(rq_bytes::specs::Readers::counted))]
+#[tactic(auto, unfolding(rq_bytes::specs::Readers::counted_members))]
 fn pass_all_definitions(bytes: &mut Cursor<'_>) -> Option<()>
     ensures { option_map (λ done. (done, bytes.new)) result
-        ≡ passed (counted definition_read) bytes.old }
+        ≡ passed (counted_members definition_read) bytes.old }
 {
     let count = bytes.u32()?;
     pass_definitions(count, bytes)
@@ -42,10 +42,10 @@ fn pass_units(count: u32, bytes: &mut Cursor<'_>) -> Option<()>
     Some(())
 }
 
-#[tactic(auto, unfolding(rq_bytes::specs::Readers::counted))]
+#[tactic(auto, unfolding(rq_bytes::specs::Readers::counted_members))]
 fn pass_all_units(bytes: &mut Cursor<'_>) -> Option<()>
     ensures { option_map (λ done. (done, bytes.new)) result
-        ≡ passed (counted (number 8)) bytes.old }
+        ≡ passed (counted_members (number 8)) bytes.old }
 {
     let count = bytes.u32()?;
     pass_units(count, bytes)
@@ -62,10 +62,10 @@ fn pass_registrants(count: u32, bytes: &mut Cursor<'_>) -> Option<()>
     Some(())
 }
 
-#[tactic(auto, unfolding(rq_bytes::specs::Readers::counted))]
+#[tactic(auto, unfolding(rq_bytes::specs::Readers::counted_members))]
 fn pass_all_registrants(bytes: &mut Cursor<'_>) -> Option<()>
     ensures { option_map (λ done. (done, bytes.new)) result
-        ≡ passed (counted registrant_read) bytes.old }
+        ≡ passed (counted_members registrant_read) bytes.old }
 {
     let count = bytes.u32()?;
     pass_registrants(count, bytes)
@@ -82,10 +82,10 @@ fn pass_elements(count: u32, bytes: &mut Cursor<'_>) -> Option<()>
     Some(())
 }
 
-#[tactic(auto, unfolding(rq_bytes::specs::Readers::counted))]
+#[tactic(auto, unfolding(rq_bytes::specs::Readers::counted_members))]
 fn pass_all_elements(bytes: &mut Cursor<'_>) -> Option<()>
     ensures { option_map (λ done. (done, bytes.new)) result
-        ≡ passed (counted element_read) bytes.old }
+        ≡ passed (counted_members element_read) bytes.old }
 {
     let count = bytes.u32()?;
     pass_elements(count, bytes)
@@ -102,10 +102,10 @@ fn pass_notes(count: u32, bytes: &mut Cursor<'_>) -> Option<()>
     Some(())
 }
 
-#[tactic(auto, unfolding(rq_bytes::specs::Readers::counted))]
+#[tactic(auto, unfolding(rq_bytes::specs::Readers::counted_members))]
 fn pass_all_notes(bytes: &mut Cursor<'_>) -> Option<()>
     ensures { option_map (λ done. (done, bytes.new)) result
-        ≡ passed (counted note_read) bytes.old }
+        ≡ passed (counted_members note_read) bytes.old }
 {
     let count = bytes.u32()?;
     pass_notes(count, bytes)

@@ -4,7 +4,7 @@ ghost use Rattle.std.specs.Prelude.{[], map};
 ghost use Rattle.rq_state.specs.Views.{unit_of};
 ghost use Rattle.rq_state.specs.Inside.{state_of};
 ghost use Rattle.rq_state.specs.Reading.{GivesFromCheckpoint};
-ghost use Rattle.rq_bytes.specs.Readers.{number, members, counted, alone};
+ghost use Rattle.rq_bytes.specs.Readers.{number, members, counted_members, alone};
 ghost use Rattle.rq_model.specs.StateReading.{definition_read, registrant_read, element_read};
 ghost use Rattle.rq_model.specs.StateReading.{note_read, state_read};
 
@@ -34,10 +34,10 @@ fn take_definitions(
     Ok(members)
 }
 
-#[tactic(auto, unfolding(rq_bytes::specs::Readers::counted))]
+#[tactic(auto, unfolding(rq_bytes::specs::Readers::counted_members))]
 fn take_all_definitions(alloc: Global, bytes: &mut Cursor<'_>) -> Result<Vec<Definition>, Fault>
     ensures { GivesFromCheckpoint (λ x. (x.items, bytes.new)) result
-        (counted definition_read bytes.old) }
+        (counted_members definition_read bytes.old) }
 {
     let count = bytes.u32().ok_or(Fault::BadCheckpoint)?;
     take_definitions(alloc, count, bytes)
@@ -56,10 +56,10 @@ fn take_units(alloc: Global, count: u32, bytes: &mut Cursor<'_>) -> Result<Vec<U
     Ok(members)
 }
 
-#[tactic(auto, unfolding(rq_bytes::specs::Readers::counted))]
+#[tactic(auto, unfolding(rq_bytes::specs::Readers::counted_members))]
 fn take_all_units(alloc: Global, bytes: &mut Cursor<'_>) -> Result<Vec<UnitNo>, Fault>
     ensures { GivesFromCheckpoint (λ x. (map unit_of x.items, bytes.new)) result
-        (counted (number 8) bytes.old) }
+        (counted_members (number 8) bytes.old) }
 {
     let count = bytes.u32().ok_or(Fault::BadCheckpoint)?;
     take_units(alloc, count, bytes)
@@ -82,10 +82,10 @@ fn take_registrants(
     Ok(members)
 }
 
-#[tactic(auto, unfolding(rq_bytes::specs::Readers::counted))]
+#[tactic(auto, unfolding(rq_bytes::specs::Readers::counted_members))]
 fn take_all_registrants(alloc: Global, bytes: &mut Cursor<'_>) -> Result<Vec<Registrant>, Fault>
     ensures { GivesFromCheckpoint (λ x. (x.items, bytes.new)) result
-        (counted registrant_read bytes.old) }
+        (counted_members registrant_read bytes.old) }
 {
     let count = bytes.u32().ok_or(Fault::BadCheckpoint)?;
     take_registrants(alloc, count, bytes)
@@ -104,10 +104,10 @@ fn take_elements(alloc: Global, count: u32, bytes: &mut Cursor<'_>) -> Result<Ve
     Ok(members)
 }
 
-#[tactic(auto, unfolding(rq_bytes::specs::Readers::counted))]
+#[tactic(auto, unfolding(rq_bytes::specs::Readers::counted_members))]
 fn take_all_elements(alloc: Global, bytes: &mut Cursor<'_>) -> Result<Vec<Element>, Fault>
     ensures { GivesFromCheckpoint (λ x. (x.items, bytes.new)) result
-        (counted element_read bytes.old) }
+        (counted_members element_read bytes.old) }
 {
     let count = bytes.u32().ok_or(Fault::BadCheckpoint)?;
     take_elements(alloc, count, bytes)
@@ -126,10 +126,10 @@ fn take_notes(alloc: Global, count: u32, bytes: &mut Cursor<'_>) -> Result<Vec<N
     Ok(members)
 }
 
-#[tactic(auto, unfolding(rq_bytes::specs::Readers::counted))]
+#[tactic(auto, unfolding(rq_bytes::specs::Readers::counted_members))]
 fn take_all_notes(alloc: Global, bytes: &mut Cursor<'_>) -> Result<Vec<Note>, Fault>
     ensures { GivesFromCheckpoint (λ x. (x.items, bytes.new)) result
-        (counted note_read bytes.old) }
+        (counted_members note_read bytes.old) }
 {
     let count = bytes.u32().ok_or(Fault::BadCheckpoint)?;
     take_notes(alloc, count, bytes)

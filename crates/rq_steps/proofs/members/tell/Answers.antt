@@ -3,7 +3,7 @@ use Rattle.std.proofs.lemmas.List.{drop_more, drop_all}
 use Rattle.rq_model.specs.States.{Note, registrant_before}
 use Rattle.rq_model.specs.Machine.{told}
 use Rattle.rq_model.specs.WellFormed.{Ordered}
-use Rattle.rq_steps.specs.Hearing.{heard}
+use Rattle.rq_steps.specs.Hearing.{heard_of}
 use Rattle.rq_steps.proofs.Hearing.{told_more, told_same, told_none, in_order_still}
 use Rattle.rq_steps.proofs.members.tell.Goals.{then-is_by, else-is_by}
 use Rattle.rq_steps.proofs.members.tell.Goals as goal
@@ -27,7 +27,7 @@ loop-note-preserved c =
     = ap (λ (ns : List Note). map (told unit ns) rs) (ap (λ (m : Note). m ∷ rest) c.note-item.is ∙ sym (drop_more notes i n here)) ∙ c.loop-note.invariant.0 in
     elim c.if-is_by.branch [
       | then-is_by w ↦
-          let now : c.if-is_by.registrants.items ≡ map (heard n) rs = ap (λ v. v.items) w.registrants-is ∙ w.hear.ensures in
+          let now : c.if-is_by.registrants.items ≡ map (heard_of n) rs = ap (λ v. v.items) w.registrants-is ∙ w.hear.ensures in
           (ap (map (told unit rest)) now ∙ (told_more unit n rest rs (sym c.is_by.ensures ∙ w.if-is_by.true) ∙ on), subst (Ordered (λ a b. registrant_before a b ≡ true)) (sym now) (in_order_still n rs c.loop-note.invariant.1))
       | else-is_by w ↦
           let now : c.if-is_by.registrants.items ≡ rs = ap (λ v. v.items) w.registrants-is in
