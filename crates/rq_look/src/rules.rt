@@ -261,7 +261,7 @@ fn no_kill(version: Version, state: &State, queue: QueueNo) -> Option<Rule>
     }
 }
 
-/// A rule of the version that the record breaks in the state; none exactly where it is lawful there.
+/// A rule of the version that the record breaks in the state; none exactly where it is lawful.
 /// Which rule that is, is tested.
 pub(crate) fn broken(version: Version, state: &State, next: &Record) -> Option<Rule>
     ensures { is_some result
