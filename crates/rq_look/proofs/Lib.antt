@@ -1,2 +1,3 @@
 mod Lists
 pub mod Texts
+pub mod Puts

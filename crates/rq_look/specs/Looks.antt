@@ -1,18 +1,25 @@
 -- What a look at a log promises.
-use Rattle.std.specs.Prelude.{◌≡◌, ℕ, ◌<◌, ◌≤◌, ◌⊎◌, Bool, true, false, ◌&&◌, ⊤, List, length, map}
-use Rattle.std.specs.Prelude.{Option, Some, None}
+use Rattle.std.specs.Prelude.{◌≡◌, ℕ, ◌<◌, ◌≤◌, ◌⊎◌, Bool, true, false, ◌&&◌, ⊤}
+use Rattle.std.specs.Prelude.{List, ◌++◌, length, map, codes, Option, Some, None}
 use Rattle.std.specs.List.{list_all}
+use Rattle.std.specs.Fmt.{decimal}
 use Rattle.std.specs.Io.KnownBytes.{Appends}
-use Rattle.rq_model.specs.Frames.{Whole, Cut, Length, Digest}
+use Rattle.rq_model.specs.Frames.{Whole, Cut, Length, Digest, log_limit}
 use Rattle.rq_model.specs.Fronts.{Why, Ends, Form, Law, Restarted, IsRestart}
-use Rattle.rq_model.specs.Reports.{IsReport}
+use Rattle.rq_model.specs.Reports.{IsReport, why_text}
 use Rattle.rq_model.specs.Checkpoints.{IsAudit}
 use Rattle.rq_record.specs.declared.fault.Fault.TheVariants.{Resources}
 use Rattle.rq_front.specs.Chains.{IsHeaded, Refused}
 use Rattle.rq_restart.specs.Audits.{audited_of}
+use Rattle.rq_restart.specs.declared.ends.FrontEnd.{FrontEnd}
+use Rattle.rq_look.specs.declared.ends.End.{End}
 use Rattle.rq_look.specs.declared.trouble.Trouble.{Trouble}
 use Rattle.rq_look.specs.declared.telling.Subject.{Subject}
 use Rattle.rq_look.specs.declared.trouble.Trouble.TheVariants.{Log, Output, Untold, NoQueue, Nothing}
+
+-- b is a log: not too long, and with a header
+abbrev pub IsLog : List ℕ → Type 0
+IsLog b = (length b ≤ log_limit) × IsHeaded b
 
 -- nothing follows the front
 abbrev pub is_whole : Why → Bool
@@ -31,6 +38,35 @@ all_true found = list_all (λ x. x.1) found
 abbrev pub IsKnownWhole : List ℕ → Bool → Type 0
 IsKnownWhole b whole = (r : Restarted) × IsRestart b r × (whole ≡ is_whole r.why)
 
+-- where the front ends, but for the reason
+abbrev pub front_end_of : End → FrontEnd
+front_end_of end =
+    record { records = end.records; used = end.used; total = end.total; why = end.why }
+
+-- the line of where a front ends: its records, its bytes, all bytes, why, and the reason
+abbrev pub end_text : ℕ → ℕ → ℕ → Why → List ℕ → List ℕ
+end_text records used total why reason = codes "front ends behind " ++ (decimal records
+    ++ (codes " records, at " ++ (decimal used ++ (codes " of " ++ (decimal total
+    ++ (codes " bytes, " ++ (why_text why ++ (codes ": " ++ (reason ++ codes "\n")))))))))
+
+-- this line for what a restart answers
+abbrev pub end_line : Restarted → List ℕ → List ℕ
+end_line r reason = end_text r.records r.used r.total r.why reason
+
+-- the text is this line of b, with some reason
+abbrev pub IsEndText : List ℕ → List ℕ → Type 0
+IsEndText b text = (r : Restarted) × (reason : List ℕ) × IsRestart b r × (text ≡ end_line r reason)
+
+-- the last line of a dump of b: an object of JSON, or this line
+abbrev pub IsClosing : List ℕ → Bool → List ℕ → Type 0
+IsClosing b true text = (object : List ℕ) × (text ≡ object ++ codes "\n")
+IsClosing b false text = IsEndText b text
+
+-- some text is appended, and then the last line of a dump of b
+abbrev pub EndsDump : List ℕ → Bool → Option (List ℕ) → Option (List ℕ) → Type 0
+EndsDump b json old new = (records closing : List ℕ) × IsClosing b json closing
+    × Appends old new (records ++ closing)
+
 -- whether b is whole, and each checkpoint of its front true
 abbrev pub IsWholeAndTrue : List ℕ → Bool → Type 0
 IsWholeAndTrue b fine = (r : Restarted) × (found : List (ℕ × Bool)) × IsRestart b r
@@ -41,34 +77,34 @@ abbrev pub IsRefusal : List ℕ → Trouble → Type 0
 IsRefusal b (Log fault) = Refused b fault
 IsRefusal b _ = ⊥
 
--- memory or the output was refused
+-- so is told where memory or the output is refused
 abbrev pub IsBroken : Trouble → Type 0
 IsBroken (Log fault) = fault ≡ Resources
 IsBroken (Output error) = ⊤
 IsBroken _ = ⊥
 
--- what an output holds where b is not shown: all that it held, where b is refused
+-- b is not shown: it is refused, and the output holds what it held; or it is a log, and broke off
 abbrev pub StaysUnshown : List ℕ → Option (List ℕ) → Option (List ℕ) → Trouble → Type 0
-StaysUnshown b old new e = IsBroken e ⊎ (IsRefusal b e × (new ≡ old))
+StaysUnshown b old new e = (IsLog b × IsBroken e) ⊎ (IsRefusal b e × (new ≡ old))
 
--- a script broke off: at a record that none tells, or as all that is shown may
+-- a script broke off: so is told of a record that no script tells, and of what `IsBroken` says
 abbrev pub BreaksOff : Trouble → Type 0
 BreaksOff (Untold number) = ⊤
 BreaksOff e = IsBroken e
 
 -- there is no whole script of b: it is not shown, or it is a log and its script broke off
 abbrev pub StaysUntold : List ℕ → Option (List ℕ) → Option (List ℕ) → Trouble → Type 0
-StaysUntold b old new e = (IsHeaded b × BreaksOff e) ⊎ StaysUnshown b old new e
+StaysUntold b old new e = (IsLog b × BreaksOff e) ⊎ StaysUnshown b old new e
 
--- nothing is told of the subject, or it is not told to its end
-abbrev pub LacksStory : Subject → Trouble → Type 0
-LacksStory subject (Nothing told) = told ≡ subject
-LacksStory subject e = IsBroken e
+-- the story of the subject is missing, and the output holds what it held; or it broke off
+abbrev pub LacksStory : Subject → Option (List ℕ) → Option (List ℕ) → Trouble → Type 0
+LacksStory subject old new (Nothing told) = (told ≡ subject) × (new ≡ old)
+LacksStory subject old new e = IsBroken e
 
 -- there is no whole story of the subject in b: b is not shown, or it is a log that lacks one
 abbrev pub StaysWithoutStory : List ℕ → Subject → Option (List ℕ) → Option (List ℕ) → Trouble
     → Type 0
-StaysWithoutStory b subject old new e = (IsHeaded b × LacksStory subject e)
+StaysWithoutStory b subject old new e = (IsLog b × LacksStory subject old new e)
     ⊎ StaysUnshown b old new e
 
 -- the restart of b has a queue of this number, if one is wanted
@@ -86,14 +122,20 @@ abbrev pub LacksReport : List ℕ → Option ℕ → Trouble → Type 0
 LacksReport b wanted (NoQueue queue) = IsNoQueue b wanted queue
 LacksReport b wanted e = IsRefusal b e
 
--- the same, or the output was refused
-abbrev pub StaysUnreported : List ℕ → Option ℕ → Trouble → Type 0
-StaysUnreported b wanted (Output error) = ⊤
-StaysUnreported b wanted e = LacksReport b wanted e
+-- b is a log that has the queue, if one is wanted
+abbrev pub HasWanted : List ℕ → Option ℕ → Type 0
+HasWanted b wanted = IsLog b × (r : Restarted) × IsRestart b r × HasQueue r wanted
 
--- where no queue is wanted alone, the report of b is appended; else something is, of a log that has
--- the queue
+-- there is no report of b: it lacks one, and the output holds what it held; or it has one, and the
+-- output was refused
+abbrev pub StaysUnreported : List ℕ → Option ℕ → Option (List ℕ) → Option (List ℕ) → Trouble
+    → Type 0
+StaysUnreported b wanted old new (Output error) = HasWanted b wanted
+StaysUnreported b wanted old new e = LacksReport b wanted e × (new ≡ old)
+
+-- where no queue is wanted alone, the report of b is appended; else b is a log that has the queue,
+-- and some text is
 abbrev pub PutsReport : List ℕ → Option ℕ → Option (List ℕ) → Option (List ℕ) → Type 0
 PutsReport b None old new = (text : List ℕ) × IsReport b text × Appends old new text
-PutsReport b (Some queue) old new = (r : Restarted) × IsRestart b r
-    × (queue < length r.state.definitions)
+PutsReport b (Some queue) old new = HasWanted b (Some queue)
+    × (text : List ℕ) × Appends old new text

@@ -1,11 +1,14 @@
 //! A line for each record of a log.
 
-ghost use Rattle.std.specs.Prelude.{IfErr, OnOk};
-ghost use Rattle.rq_front.specs.Chains.{IsHeaded};
-ghost use Rattle.rq_look.specs.Looks.{IsBroken, StaysUnshown};
+ghost use Rattle.std.specs.Prelude.{◌≡◌, ◌++◌, ℕ, List, IfErr, OnOk, string_bytes};
+ghost use Rattle.std.specs.Io.KnownBytes.{Appends};
+ghost use Rattle.rq_model.specs.Fronts.{Restarted, IsRestart};
+ghost use Rattle.rq_restart.specs.FrontEnds.{IsEndOf};
+ghost use Rattle.rq_look.specs.Looks.{EndsDump, IsBroken, IsClosing, IsLog, StaysUnshown};
+ghost use Rattle.rq_look.specs.Looks.{front_end_of};
 
 use crate::ends::{End, end_of, put_end};
-use crate::frames::Walk;
+use crate::frames::{Placed, Walk};
 use crate::json::{closing_of, record_shown, spelled_out};
 use crate::lines::put_record;
 use crate::numbered::{Numbered, queues_behind};
@@ -44,7 +47,10 @@ fn put_closing(
     end: &End,
     wanted: &Wanted<'_>,
 ) -> Result<(), Trouble>
-    ensures { IfErr result IsBroken }
+    ensures closing { OnOk result ((b : List ℕ) (r : Restarted) → IsRestart b r
+        → IsEndOf r (front_end_of end.now) → (line : List ℕ) × IsClosing b wanted.now.json line
+        × (string_bytes text.new ≡ string_bytes text.old ++ line)) }
+    ensures refused { IfErr result IsBroken }
 {
     if wanted.json {
         text.push_str(serde_json::to_string(alloc, &closing_of(end))?.as_str())?;
@@ -53,6 +59,31 @@ fn put_closing(
         put_end(text, end)?;
     }
     Ok(())
+}
+
+// Puts a record, if it is wanted. Answers whether it is.
+fn put_wanted<W: Write>(
+    alloc: Global,
+    placed: Placed<'_>,
+    queues: u32,
+    wanted: &Wanted<'_>,
+    text: &mut String,
+    output: &mut W,
+) -> Result<bool, Trouble>
+    ensures only { OnOk result
+        ((put : List ℕ) × Appends (W.contents output.old) (W.contents output.new) put) }
+    ensures refused { IfErr result IsBroken }
+{
+    if placed.offset < wanted.from {
+        return Ok(false);
+    }
+    let it = Numbered::of(alloc, placed, queues)?;
+    if !wanted.wants(&it) {
+        return Ok(false);
+    }
+    put_shown(alloc, text, &it, wanted)?;
+    relieve(text, output)?;
+    Ok(true)
 }
 
 // Puts those records of the front that are wanted.
@@ -64,21 +95,18 @@ fn put_records<W: Write>(
     text: &mut String,
     output: &mut W,
 ) -> Result<(), Trouble>
-    ensures { IfErr result IsBroken }
+    ensures only { OnOk result
+        ((put : List ℕ) × Appends (W.contents output.old) (W.contents output.new) put) }
+    ensures refused { IfErr result IsBroken }
 {
     let mut queues = 0;
     let mut left = wanted.limit;
     for placed in Walk::of(bytes, used) {
         if left == 0 {
-            break;
+            return Ok(());
         }
-        if placed.offset >= wanted.from {
-            let it = Numbered::of(alloc, placed, queues)?;
-            if wanted.wants(&it) {
-                put_shown(alloc, text, &it, wanted)?;
-                relieve(text, output)?;
-                left -= 1;
-            }
+        if put_wanted(alloc, placed, queues, wanted, text, output)? {
+            left -= 1;
         }
         queues = queues_behind(queues, placed.body);
     }
@@ -89,7 +117,7 @@ fn put_records<W: Write>(
 /// front ends and why: what is shown is what a restart sees.
 ///
 /// Refuses what a restart refuses, and before anything is written; else with `Output` where the
-/// output fails, and with `Resources` where memory is refused, and then a beginning is written.
+/// output fails, and with `Resources` where memory is refused, and then some of it may be written.
 pub fn dump<R, W>(
     rt: &R,
     alloc: Global,
@@ -101,7 +129,9 @@ pub fn dump<R, W>(
 where
     R: Threads + Sync,
     W: Write,
-    ensures log { OnOk result (IsHeaded bytes.now) }
+    ensures log { OnOk result (IsLog bytes.now) }
+    ensures last { OnOk result (EndsDump bytes.now wanted.now.json
+        (W.contents output.old) (W.contents output.new)) }
     ensures refused { IfErr result
         (StaysUnshown bytes.now (W.contents output.old) (W.contents output.new)) }
 {

@@ -1,12 +1,15 @@
 //! Where the front of a log ends, and why.
 
-ghost use Rattle.std.specs.Prelude.{◌≡◌, IfOk, IfErr, OnOk};
+ghost use Rattle.std.specs.Prelude.{◌≡◌, ◌++◌, string_bytes, IfOk, IfErr, OnOk};
 ghost use Rattle.rq_model.specs.Fronts as fronts;
 ghost use Rattle.rq_model.specs.Fronts.{IsRestart};
+ghost use Rattle.rq_model.specs.Reports.{why_text};
 ghost use Rattle.rq_front.specs.Chains.{IsHeaded, Refused};
 ghost use Rattle.rq_record.specs.declared.fault.Fault.TheVariants.{Resources};
+ghost use Rattle.rq_restart.specs.FrontEnds.{IsEndOf};
 ghost use Rattle.rq_restart.specs.Views.{why_of};
 ghost use Rattle.rq_look.specs.Looks as looks;
+ghost use Rattle.rq_look.specs.Looks.{IsLog, end_text, front_end_of};
 
 use crate::frames::{first_frame, stated_length};
 use crate::misfits::misfit_of;
@@ -44,7 +47,9 @@ pub(crate) fn is_whole(why: Why) -> bool
 }
 
 /// The word for why a front ends.
-pub(crate) fn why_word(why: Why) -> &'static str {
+pub(crate) fn why_word(why: Why) -> &'static str
+    ensures { result.now ≡ why_text (why_of why) }
+{
     match why {
         Why::Whole => "whole",
         Why::Cut => "cut",
@@ -164,7 +169,8 @@ fn told<R: Threads + Sync>(
     plan: &Plan,
 ) -> Result<End, Fault>
     requires { IsHeaded bytes.now }
-    ensures why { IfOk result (λ told. why_of told.why ≡ why_of end.why) }
+    ensures end { IfOk result
+        (λ told. (r : fronts.Restarted) → IsEndOf r end → IsEndOf r (front_end_of told)) }
     ensures refused { IfErr result (Refused bytes.now) }
 {
     let FrontEnd {
@@ -191,7 +197,7 @@ pub(crate) fn end_after<R: Threads + Sync>(
     plan: &Plan,
 ) -> Result<End, Fault>
     requires { IsHeaded bytes.now }
-    ensures why { IfOk result (λ end. why_of end.why ≡ r.now.why) }
+    ensures end { IfOk result (λ end. IsEndOf r.now (front_end_of end)) }
     ensures refused { IfErr result (Refused bytes.now) }
 {
     let end = FrontEnd {
@@ -200,7 +206,8 @@ pub(crate) fn end_after<R: Threads + Sync>(
         total: r.total(),
         why: r.why(),
     };
-    told(rt, alloc, bytes, end, plan)
+    let told = told(rt, alloc, bytes, end, plan)?;
+    Ok(told)
 }
 
 /// Where the front of a log ends. No queue is redone for it, unless a record there breaks a rule.
@@ -210,17 +217,22 @@ pub(crate) fn end_of<R: Threads + Sync>(
     bytes: &[u8],
     plan: &Plan,
 ) -> Result<End, Fault>
-    ensures log { OnOk result (IsHeaded bytes.now) }
-    ensures end { IfOk result
-        (λ end. (r : fronts.Restarted) × IsRestart bytes.now r × (why_of end.why ≡ r.why)) }
+    ensures log { OnOk result (IsLog bytes.now) }
+    ensures end { IfOk result (λ end. (r : fronts.Restarted) × IsRestart bytes.now r
+        × IsEndOf r (front_end_of end)) }
     ensures refused { IfErr result (Refused bytes.now) }
 {
     let end = front_end(rt, alloc, bytes, plan)?;
-    told(rt, alloc, bytes, end, plan)
+    let told = told(rt, alloc, bytes, end, plan)?;
+    Ok(told)
 }
 
 /// Puts where the front ends, as a line.
-pub(crate) fn put_end(text: &mut String, end: &End) -> Result<(), AllocError> {
+pub(crate) fn put_end(text: &mut String, end: &End) -> Result<(), AllocError>
+    ensures { OnOk result (string_bytes text.new ≡ string_bytes text.old
+        ++ end_text end.now.records end.now.used end.now.total (why_of end.now.why)
+        (string_bytes end.now.reason)) }
+{
     let (records, used, total) = (end.records, end.used, end.total);
     let (why, reason) = (why_word(end.why), end.reason.as_str());
     write!(

@@ -149,7 +149,7 @@ fn fits(version: Version, kind: u8, rest: Rest<'_>) -> Result<(), Found> {
 }
 
 /// Why the body spells no record of the version, and at which of its bytes that shows; none where
-/// it spells one.
+/// nothing is found. It is asked of bodies that spell none, and what it finds is tested.
 pub(crate) fn misfit_of(version: Version, body: &[u8]) -> Option<Found> {
     match body {
         [] => Some((0, Misfit::Cut("kind"))),

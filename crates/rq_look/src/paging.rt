@@ -1,8 +1,9 @@
 //! A log as one page that a browser shows.
 
-ghost use Rattle.std.specs.Prelude.{IfErr, OnOk};
-ghost use Rattle.rq_front.specs.Chains.{IsHeaded};
-ghost use Rattle.rq_look.specs.Looks.{StaysUnshown};
+ghost use Rattle.std.specs.Prelude.{ℕ, ◌++◌, List, IfErr, OnOk};
+ghost use Rattle.std.specs.Io.KnownBytes.{Appends};
+ghost use Rattle.rq_look.specs.Looks.{IsLog, StaysUnshown};
+ghost use Rattle.rq_look.specs.Markup.{page_foot};
 
 mod courses;
 mod markup;
@@ -33,7 +34,7 @@ use std::thread::Threads;
 /// queues and their elements, and not with the records.
 ///
 /// Refuses what a restart refuses, and before anything is written; else with `Output` where the
-/// output fails, and with `Resources` where memory is refused, and then a beginning is written.
+/// output fails, and with `Resources` where memory is refused, and then some of it may be written.
 pub fn page<R, W>(
     rt: &R,
     alloc: Global,
@@ -45,7 +46,9 @@ pub fn page<R, W>(
 where
     R: Threads + Sync,
     W: Write,
-    ensures log { OnOk result (IsHeaded bytes.now) }
+    ensures log { OnOk result (IsLog bytes.now) }
+    ensures whole { OnOk result ((put : List ℕ)
+        × Appends (W.contents output.old) (W.contents output.new) (put ++ page_foot)) }
     ensures refused { IfErr result
         (StaysUnshown bytes.now (W.contents output.old) (W.contents output.new)) }
 {

@@ -1,11 +1,12 @@
 //! The report of a log, as text and as JSON.
 
-ghost use Rattle.std.specs.Prelude.{◌≡◌, IfOk, IfErr, OnOk};
+ghost use Rattle.std.specs.Prelude.{◌≡◌, ◌++◌, ℕ, List, codes, IfOk, IfErr, OnOk};
+ghost use Rattle.std.specs.Io.KnownBytes.{Appends};
 ghost use Rattle.rq_model.specs.Fronts.{IsRestart};
 ghost use Rattle.rq_model.specs.Reports.{IsText};
 ghost use Rattle.rq_record.specs.declared.fault.Fault.TheVariants.{Resources};
-ghost use Rattle.rq_front.specs.Chains.{IsHeaded};
-ghost use Rattle.rq_look.specs.Looks.{HasQueue, LacksReport, PutsReport, StaysUnreported};
+ghost use Rattle.rq_look.specs.Looks.{HasQueue, HasWanted, IsLog, LacksReport, PutsReport};
+ghost use Rattle.rq_look.specs.Looks.{StaysUnreported};
 
 use crate::ends::{End, end_after};
 use crate::json::{Front, front_of, spelled_out};
@@ -57,7 +58,7 @@ fn restarted_with<R: Threads + Sync>(
     plan: &Plan,
     wanted: Option<u32>,
 ) -> Result<Restarted, Trouble>
-    ensures log { OnOk result (IsHeaded bytes.now) }
+    ensures log { OnOk result (IsLog bytes.now) }
     ensures restart { IfOk result (λ r. IsRestart bytes.now r × HasQueue r wanted) }
     ensures refused { IfErr result (LacksReport bytes.now wanted) }
 {
@@ -85,8 +86,11 @@ pub fn report_json<R, W>(
 where
     R: Threads + Sync,
     W: Write,
-    ensures log { OnOk result (IsHeaded bytes.now) }
-    ensures refused { IfErr result (StaysUnreported bytes.now wanted) }
+    ensures log { OnOk result (HasWanted bytes.now wanted) }
+    ensures line { OnOk result ((text : List ℕ)
+        × Appends (W.contents output.old) (W.contents output.new) (text ++ codes "\n")) }
+    ensures refused { IfErr result
+        (StaysUnreported bytes.now wanted (W.contents output.old) (W.contents output.new)) }
 {
     let restarted = restarted_with(rt, alloc, bytes, plan, wanted)?;
     let end = end_after(rt, alloc, bytes, &restarted, plan)?;
@@ -154,7 +158,8 @@ where
     W: Write,
     ensures report { OnOk result
         (PutsReport bytes.now wanted (W.contents output.old) (W.contents output.new)) }
-    ensures refused { IfErr result (StaysUnreported bytes.now wanted) }
+    ensures refused { IfErr result
+        (StaysUnreported bytes.now wanted (W.contents output.old) (W.contents output.new)) }
 {
     let restarted = restarted_with(rt, alloc, bytes, plan, wanted)?;
     let text = text_of(rt, alloc, &restarted, plan)?;

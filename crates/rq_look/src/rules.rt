@@ -261,7 +261,8 @@ fn no_kill(version: Version, state: &State, queue: QueueNo) -> Option<Rule>
     }
 }
 
-/// The rule of the version that the record breaks in the state; none where it is lawful there.
+/// A rule of the version that the record breaks in the state; none exactly where it is lawful.
+/// Which rule that is, is tested.
 pub(crate) fn broken(version: Version, state: &State, next: &Record) -> Option<Rule>
     ensures { is_some result
         ≡ not (machine.is_lawful (version_of version) state.now (record_of next.now)) }

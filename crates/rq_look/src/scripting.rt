@@ -1,10 +1,11 @@
 //! The script of a log.
 
-ghost use Rattle.std.specs.Prelude.{IfOk, IfErr};
+ghost use Rattle.std.specs.Prelude.{ℕ, List, IfOk, IfErr, OnOk};
+ghost use Rattle.std.specs.Io.KnownBytes.{Appends};
 ghost use Rattle.rq_look.specs.Looks.{BreaksOff, IsKnownWhole, StaysUntold};
 
 use crate::ends::{end_of, is_whole};
-use crate::frames::Walk;
+use crate::frames::{Placed, Walk};
 use crate::numbered::{Numbered, by_of, kind_of};
 use crate::sheet::{finish, relieve};
 use crate::trouble::Trouble;
@@ -119,19 +120,35 @@ fn put_line(alloc: Global, text: &mut String, it: &Numbered) -> Result<(), Troub
     Ok(())
 }
 
+fn put_placed<W: io::Write>(
+    alloc: Global,
+    text: &mut String,
+    placed: Placed<'_>,
+    output: &mut W,
+) -> Result<(), Trouble>
+    ensures only { OnOk result
+        ((put : List ℕ) × Appends (W.contents output.old) (W.contents output.new) put) }
+    ensures refused { IfErr result BreaksOff }
+{
+    let it = Numbered::of(alloc, placed, 0)?;
+    put_line(alloc, text, &it)?;
+    relieve(text, output)?;
+    Ok(())
+}
+
 fn put_records<W: io::Write>(
     alloc: Global,
     bytes: &[u8],
     used: u64,
     output: &mut W,
 ) -> Result<(), Trouble>
-    ensures { IfErr result BreaksOff }
+    ensures only { OnOk result
+        ((put : List ℕ) × Appends (W.contents output.old) (W.contents output.new) put) }
+    ensures refused { IfErr result BreaksOff }
 {
     let mut text = String::new(alloc);
     for placed in Walk::of(bytes, used) {
-        let it = Numbered::of(alloc, placed, 0)?;
-        put_line(alloc, &mut text, &it)?;
-        relieve(&mut text, output)?;
+        put_placed(alloc, &mut text, placed, output)?;
     }
     finish(&mut text, output)?;
     Ok(())
@@ -140,8 +157,8 @@ fn put_records<W: io::Write>(
 /// Writes the script from which the front of a log is made again, byte by byte, and answers whether
 /// that is the whole log.
 ///
-/// Refuses with `Untold` an operation of the registrant `-`, which no script tells; else as `dump`
-/// does. Then a beginning of the script is written.
+/// Refuses with `Untold` an operation of the registrant `-`, which no script tells, and then a
+/// beginning of the script is written; else as `dump` does.
 pub fn script<R, W>(
     rt: &R,
     alloc: Global,
@@ -153,6 +170,8 @@ where
     R: Threads + Sync,
     W: io::Write,
     ensures script { IfOk result (IsKnownWhole bytes.now) }
+    ensures only { OnOk result
+        ((put : List ℕ) × Appends (W.contents output.old) (W.contents output.new) put) }
     ensures refused { IfErr result
         (StaysUntold bytes.now (W.contents output.old) (W.contents output.new)) }
 {

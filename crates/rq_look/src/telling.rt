@@ -1,12 +1,12 @@
 //! What became of one element, and what one unit did.
 
-ghost use Rattle.std.specs.Prelude.{IfErr, OnOk};
-ghost use Rattle.rq_front.specs.Chains.{IsHeaded};
-ghost use Rattle.rq_look.specs.Looks.{IsBroken, LacksStory, StaysWithoutStory};
+ghost use Rattle.std.specs.Prelude.{◌≡◌, [], ℕ, List, None, IfOk, IfErr, OnOk, string_bytes};
+ghost use Rattle.std.specs.Io.KnownBytes.{Appends};
+ghost use Rattle.rq_look.specs.Looks.{IsBroken, IsLog, LacksStory, StaysWithoutStory};
 
 use crate::ends::{End, end_of, put_end};
 use crate::following::{Effect, Event, Queues};
-use crate::frames::Walk;
+use crate::frames::{Placed, Walk};
 use crate::lines::put_record;
 use crate::numbered::{Numbered, queues_behind, unit_of};
 use crate::sheet::{finish, relieve};
@@ -63,7 +63,9 @@ fn put_events(
     it: &Numbered,
     events: &[Event],
     subject: Subject,
-) -> Result<u64, AllocError> {
+) -> Result<u64, AllocError>
+    ensures { IfOk result (λ count. count ≡ 0 → string_bytes text.new ≡ string_bytes text.old) }
+{
     if let Subject::Unit(unit) = subject {
         if unit_of(&it.record) != Some(UnitNo(unit)) {
             return Ok(0);
@@ -84,6 +86,31 @@ fn put_events(
     Ok(count)
 }
 
+// Tells of a record of the front. Answers in how many lines.
+fn tell_record<W: io::Write>(
+    alloc: Global,
+    placed: Placed<'_>,
+    queues: u32,
+    subject: Subject,
+    machine: &mut Queues,
+    events: &mut Vec<Event>,
+    text: &mut String,
+    output: &mut W,
+) -> Result<u64, Trouble>
+    ensures only { OnOk result
+        ((put : List ℕ) × Appends (W.contents output.old) (W.contents output.new) put) }
+    ensures nothing { IfOk result (λ count. count ≡ 0 → string_bytes text.old ≡ []
+        → (W.contents output.new ≡ W.contents output.old) × (string_bytes text.new ≡ [])) }
+    ensures refused { IfErr result IsBroken }
+{
+    let it = Numbered::of(alloc, placed, queues)?;
+    events.clear();
+    machine.step(alloc, &it, events)?;
+    let count = put_events(alloc, text, &it, events, subject)?;
+    relieve(text, output)?;
+    Ok(count)
+}
+
 // Tells of each record of the front, and answers the queues behind it, if anything was told.
 fn tell_front<W: io::Write>(
     alloc: Global,
@@ -93,17 +120,28 @@ fn tell_front<W: io::Write>(
     text: &mut String,
     output: &mut W,
 ) -> Result<Option<Queues>, Trouble>
-    ensures { IfErr result IsBroken }
+    ensures only { OnOk result
+        ((put : List ℕ) × Appends (W.contents output.old) (W.contents output.new) put) }
+    ensures nothing { IfOk result
+        (λ found. found ≡ None → string_bytes text.old ≡ []
+        → W.contents output.new ≡ W.contents output.old) }
+    ensures refused { IfErr result IsBroken }
 {
     let mut machine = Queues::new(alloc);
     let mut events = Vec::new(alloc);
     let (mut queues, mut told) = (0, 0u64);
     for placed in Walk::of(bytes, used) {
-        let it = Numbered::of(alloc, placed, queues)?;
-        events.clear();
-        machine.step(alloc, &it, &mut events)?;
-        told = told.saturating_add(put_events(alloc, text, &it, &events, subject)?);
-        relieve(text, output)?;
+        let count = tell_record(
+            alloc,
+            placed,
+            queues,
+            subject,
+            &mut machine,
+            &mut events,
+            text,
+            output,
+        )?;
+        told = told.saturating_add(count);
         queues = queues_behind(queues, placed.body);
     }
     Ok(if told > 0 { Some(machine) } else { None })
@@ -155,7 +193,10 @@ fn tell<W: io::Write>(
     subject: Subject,
     output: &mut W,
 ) -> Result<(), Trouble>
-    ensures { IfErr result (LacksStory subject) }
+    ensures only { OnOk result
+        ((put : List ℕ) × Appends (W.contents output.old) (W.contents output.new) put) }
+    ensures refused { IfErr result
+        (LacksStory subject (W.contents output.old) (W.contents output.new)) }
 {
     let mut text = String::new(alloc);
     let Some(machine) = tell_front(alloc, bytes, end.used, subject, &mut text, output)? else {
@@ -170,7 +211,8 @@ fn tell<W: io::Write>(
 /// Writes what became of an element, or what a unit did: a line for each record of the front that
 /// has to do with it, where the front ends, and what the restart's aborts do to it.
 ///
-/// Refuses with `Nothing` a subject that the front does not have; else as `dump` does.
+/// Refuses with `Nothing` a subject of which there is nothing to tell, and then nothing is written;
+/// else as `dump` does.
 pub fn story<R, W>(
     rt: &R,
     alloc: Global,
@@ -182,7 +224,9 @@ pub fn story<R, W>(
 where
     R: Threads + Sync,
     W: io::Write,
-    ensures log { OnOk result (IsHeaded bytes.now) }
+    ensures log { OnOk result (IsLog bytes.now) }
+    ensures only { OnOk result
+        ((put : List ℕ) × Appends (W.contents output.old) (W.contents output.new) put) }
     ensures refused { IfErr result (StaysWithoutStory bytes.now subject
         (W.contents output.old) (W.contents output.new)) }
 {

@@ -13,19 +13,20 @@ use thiserror::Error;
 /// Why a log is not shown, or not to its end.
 #[derive(Debug, Drop, Error)]
 pub enum Trouble {
-    /// The log is refused.
+    /// The log is refused, or memory is.
     #[error("{0}")]
     Log(Fault),
     /// The output is refused.
     #[error("{0}")]
     Output(io::Error),
-    /// No script tells the record of this number: its operation names the registrant `-`.
+    /// The script ends before the record of this number, as one that no script tells: its operation
+    /// names the registrant `-`.
     #[error("no script tells record {0}")]
     Untold(u64),
     /// There is no queue of this number.
     #[error("no queue {0}")]
     NoQueue(u32),
-    /// The front has no such element, or no such unit.
+    /// There is nothing to tell of this element, or of this unit.
     #[error("no {0}")]
     Nothing(Subject),
 }

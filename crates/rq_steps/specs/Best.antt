@@ -9,14 +9,15 @@ use Rattle.rq_model.specs.Machine.{is_free_at, comes_first, leaves, moved, retur
 abbrev pub element_at : List Element → ℕ → Element
 element_at elements place = slice_index_or elements place (new_element 0 0 0 0 [])
 
--- it stands at the place among all elements, and comes first among these
+-- it stands at the place among all elements and is Free in the queue, and of these none that is Free
+-- there comes before it
 pub record Leads (queue : ℕ) (elements these : List Element) (place : ℕ) : Type 0 where
   pub there : place < length elements
   pub free : is_free_at queue (element_at elements place) ≡ true
   pub first : AllByRecursion
       (λ f. is_free_at queue f ≡ true → comes_first (element_at elements place) f ≡ true) these
 
--- the place, among all elements, of the Free one of the queue that comes first among these
+-- the place of one that leads these; none where none of these is Free in the queue
 abbrev pub IsBestAmong : ℕ → List Element → List Element → Option ℕ → Type 0
 IsBestAmong queue elements these None = AllByRecursion (λ f. is_free_at queue f ≡ false) these
 IsBestAmong queue elements these (Some place) = Leads queue elements these place

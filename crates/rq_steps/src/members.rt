@@ -1,6 +1,6 @@
 //! What records do to the units, registrants and notes of a state.
 
-ghost use Rattle.std.specs.Prelude.{◌≡◌, ◌++◌, true, map, IfErr, OnErr, OnOk};
+ghost use Rattle.std.specs.Prelude.{◌≡◌, ◌++◌, true, map, None, IfErr, OnErr, OnOk, IsOk};
 ghost use Rattle.rq_model.specs.Machine as machine;
 ghost use Rattle.rq_model.specs.States as model;
 ghost use Rattle.rq_model.specs.WellFormed.{Ordered};
@@ -60,6 +60,7 @@ pub(crate) fn note(
     ensures noted { OnOk result (notes.new.items ≡ notes.old.items
         ++ machine.noted place unit.0 queue.0 by.now (kind_of kind) (id_of element)) }
     ensures unchanged { OnErr result (notes.new.items ≡ notes.old.items) }
+    ensures nobody { by.now ≡ None → IsOk result }
     ensures refused { IfErr result (λ e. e ≡ Resources) }
 {
     if let Some(by) = by.by() {

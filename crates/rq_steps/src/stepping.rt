@@ -1,6 +1,6 @@
 //! One record, done to the fields of a state.
 
-ghost use Rattle.std.specs.Prelude.{◌≡◌, ◌≤◌, IfOk, IfErr};
+ghost use Rattle.std.specs.Prelude.{◌≡◌, ◌≤◌, true, None, IfOk, IfErr, IsOk};
 ghost use Rattle.rq_model.specs.Records.{Define, Register, Deregister, Begin, Enqueue, Dequeue};
 ghost use Rattle.rq_model.specs.Records.{Commit, Abort};
 ghost use Rattle.rq_model.specs.Machine.{change, step};
@@ -8,6 +8,7 @@ ghost use Rattle.rq_model.specs.WellFormed.{IsWellFormed};
 ghost use Rattle.rq_record.specs.Views.{record_of};
 ghost use Rattle.rq_record.specs.declared.fault.Fault.TheVariants.{Resources};
 ghost use Rattle.rq_state.specs.Inside.{state_of};
+ghost use Rattle.rq_steps.specs.Spared.{adds_nothing};
 
 use crate::elements::{aborted, added, committed, held, killed};
 use crate::members::{close_notes, close_unit, deregister, note, register, tell, unnote};
@@ -40,7 +41,7 @@ fn begun(fields: Fields, unit: UnitNo) -> Result<Fields, Fault>
     Ok(fields)
 }
 
-// A registrant more.
+// A registrant more, unless the name is registered with the queue already.
 fn registered(fields: Fields, queue: QueueNo, name: &KeptName) -> Result<Fields, Fault>
     requires { IsWellFormed (state_of fields) }
     ensures registered { IfOk result
@@ -93,11 +94,12 @@ fn enqueued(
     Ok(fields)
 }
 
-// The best element of a queue is held.
+// The best element of a queue is held, where one of the queue is free.
 fn dequeued(fields: Fields, unit: UnitNo, queue: QueueNo, by: &KeptBy) -> Result<Fields, Fault>
     requires { IsWellFormed (state_of fields) }
     ensures dequeued { IfOk result (λ f. state_of f
         ≡ change (state_of fields) (Dequeue unit.0 queue.0 by.now)) }
+    ensures spared { by.now ≡ None → IsOk result }
     ensures refused { IfErr result (λ e. e ≡ Resources) }
 {
     let mut fields = fields;
@@ -117,7 +119,7 @@ fn dequeued(fields: Fields, unit: UnitNo, queue: QueueNo, by: &KeptBy) -> Result
 }
 
 // A unit's work stands.
-fn closed(fields: Fields, unit: UnitNo) -> Fields
+fn settled(fields: Fields, unit: UnitNo) -> Fields
     requires well_formed { IsWellFormed (state_of fields) }
     requires next { fields.next ≤ 4294967295 }
     ensures { state_of result ≡ change (state_of fields) (Commit unit.0) }
@@ -151,6 +153,7 @@ fn changed(fields: Fields, rec: &Record) -> Result<Fields, Fault>
     requires next { fields.next ≤ 4294967295 }
     ensures changed { IfOk result
         (λ f. state_of f ≡ change (state_of fields) (record_of rec.now)) }
+    ensures spared { adds_nothing (record_of rec.now) ≡ true → IsOk result }
     ensures refused { IfErr result (λ e. e ≡ Resources) }
 {
     match rec {
@@ -166,7 +169,7 @@ fn changed(fields: Fields, rec: &Record) -> Result<Fields, Fault>
             payload,
         } => enqueued(fields, *unit, *queue, *priority, by, payload),
         Record::Dequeue { unit, queue, by } => dequeued(fields, *unit, *queue, by),
-        Record::Commit { unit } => Ok(closed(fields, *unit)),
+        Record::Commit { unit } => Ok(settled(fields, *unit)),
         Record::Abort { unit } => Ok(undone(fields, *unit)),
         Record::Checkpoint { .. } => Ok(fields),
         Record::Kill { queue, element } => {
@@ -178,13 +181,15 @@ fn changed(fields: Fields, rec: &Record) -> Result<Fields, Fault>
 }
 
 /// The fields of the state behind a record, whether or not the record is lawful. It costs the
-/// members of the lists that the record may change, and takes memory for what it adds alone. Where
-/// that is refused, Resources, and the fields are dropped.
+/// members of the lists that the record may change, and takes memory for what it adds alone: where
+/// that is refused, Resources, and the fields are dropped. A record that adds nothing, as a COMMIT,
+/// is never refused.
 pub fn stepped(fields: Fields, rec: &Record) -> Result<Fields, Fault>
     requires well_formed { IsWellFormed (state_of fields) }
     requires next { fields.next ≤ 4294967295 }
     ensures stepped { IfOk result
         (λ f. state_of f ≡ step (state_of fields) (record_of rec.now)) }
+    ensures spared { adds_nothing (record_of rec.now) ≡ true → IsOk result }
     ensures refused { IfErr result (λ e. e ≡ Resources) }
 {
     let mut fields = changed(fields, rec)?;

@@ -1,11 +1,11 @@
 //! What the program does for each of its commands.
 
 use crate::failing::Failure;
-use crate::reading::{is_same_file, log_in};
+use crate::reading::{is_over_log, log_in};
 use crate::watching::{Watch, Watched};
 use crate::words::{records_asked, subject_asked};
 use clap::ArgMatches;
-use rq_look::{Plan, Trouble};
+use rq_look::{Fault, Plan, Trouble};
 use std::io::{self, ErrorKind, Printer};
 use std::rt::{Clock, Files};
 use std::thread::Threads;
@@ -92,18 +92,34 @@ where
     }
 }
 
+// The page of a log, in memory.
+fn page_of<R>(rt: &R, bytes: &[u8], plan: &Plan, file: &str) -> Result<Vec<u8>, Trouble>
+where
+    R: AllocGlobal + Threads + Sync,
+{
+    let mut made = Vec::new(rt.alloc());
+    match rq_look::page(rt, rt.alloc(), bytes, plan, file, &mut made) {
+        Ok(()) => Ok(made),
+        // A write into memory fails for want of it alone.
+        Err(Trouble::Output(_)) => Err(Trouble::Log(Fault::Resources)),
+        Err(trouble) => Err(trouble),
+    }
+}
+
 /// Makes the page of a log. Its file is whole or as it was, and never the log.
 fn page<R>(rt: &R, bytes: &[u8], plan: &Plan, file: &str, to: &str) -> Result<bool, Failure>
 where
     R: Files + Print + AllocGlobal + Threads + Sync,
 {
-    if is_same_file(rt, file, to) {
+    if is_over_log(rt, file, to) {
         return Err(Failure::Same);
     }
-    let mut made = Vec::new(rt.alloc());
-    if let Err(trouble) = rq_look::page(rt, rt.alloc(), bytes, plan, file, &mut made) {
-        return Err(Failure::Refused(String::from_str(rt.alloc(), file)?, trouble));
-    }
+    let made = match page_of(rt, bytes, plan, file) {
+        Ok(made) => made,
+        Err(trouble) => {
+            return Err(Failure::Refused(String::from_str(rt.alloc(), file)?, trouble));
+        }
+    };
     if to == "-" {
         rt.write_all(&made)?;
         return Ok(true);

@@ -44,9 +44,14 @@ where
     Err(Failure::Unread(name, error))
 }
 
-/// Whether the two names are of one file. A name of no file is not.
-pub(crate) fn is_same_file<R: Files>(rt: &R, one: &str, other: &str) -> bool {
-    match (fs::metadata(rt, one), fs::metadata(rt, other)) {
+/// Whether what is written to the second name would be written over the log of the first: both are
+/// of one file. Standard input may be a file, too; standard output is none that is written over.
+pub(crate) fn is_over_log<R: Files>(rt: &R, file: &str, to: &str) -> bool {
+    if to == "-" {
+        return false;
+    }
+    let log = if file == "-" { "/dev/stdin" } else { file };
+    match (fs::metadata(rt, log), fs::metadata(rt, to)) {
         (Ok(one), Ok(other)) => one.is_file()
             && one.dev() == other.dev()
             && one.ino() == other.ino(),

@@ -97,7 +97,10 @@ fn check<'a>(alloc: Global) -> Result<Command<'a>, Error> {
     let quiet = flag(alloc, "quiet", "Says nothing").short('q');
     Ok(
         Command::new(alloc, "check")
-            .about("Exits with 0 where the log is whole and each checkpoint true, else with 1")
+            .about(
+                "Exits with 0 where the log is whole and each checkpoint true, or the reader of the \
+                 lines went away, and with 1 where it finds something",
+            )
             .arg(log(alloc))?
             .arg(quiet)?
             .arg(workers(alloc))?,
@@ -118,7 +121,10 @@ fn report<'a>(alloc: Global) -> Result<Command<'a>, Error> {
 fn script<'a>(alloc: Global) -> Result<Command<'a>, Error> {
     Ok(
         Command::new(alloc, "script")
-            .about("Shows the script from which rq make makes the log again")
+            .about(
+                "Shows the script from which rq make, or rq make2 for a log of version 2, makes \
+                 the log again",
+            )
             .arg(log(alloc))?
             .arg(workers(alloc))?,
     )

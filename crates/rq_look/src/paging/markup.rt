@@ -1,7 +1,7 @@
 //! The text of HTML.
 
-ghost use Rattle.std.specs.Prelude.{◌≡◌, true, OnOk, string_bytes};
-ghost use Rattle.rq_look.specs.Markup.{AppendsText, is_text};
+ghost use Rattle.std.specs.Prelude.{◌≡◌, ◌++◌, true, OnOk, string_bytes};
+ghost use Rattle.rq_look.specs.Markup.{AppendsText, is_text, page_foot};
 
 use crate::hidden::is_hidden;
 use crate::paging::style::STYLE;
@@ -14,7 +14,7 @@ fn visible(c: char) -> char
     if is_hidden(c) { '\u{fffd}' } else { c }
 }
 
-// Puts a character so that HTML shows it.
+// Puts a character as text, of which none begins or ends a tag or an attribute's value.
 fn put_char(text: &mut String, c: char) -> Result<(), AllocError>
     ensures { OnOk result (AppendsText (string_bytes text.old) (string_bytes text.new)) }
 {
@@ -28,8 +28,9 @@ fn put_char(text: &mut String, c: char) -> Result<(), AllocError>
     }
 }
 
-/// Puts a text so that HTML shows it: the characters that HTML takes for its own are spelled out,
-/// and one that is hidden is shown as one that is not known.
+/// Puts a text as text, of which no character begins or ends a tag or an attribute's value. Those
+/// that HTML takes for its own are spelled out, and one that is hidden is shown as one that is not
+/// known.
 pub(super) fn put_text(text: &mut String, word: &str) -> Result<(), AllocError>
     ensures { OnOk result (AppendsText (string_bytes text.old) (string_bytes text.new)) }
 {
@@ -56,6 +57,8 @@ pub(super) fn put_head(text: &mut String, name: &str) -> Result<(), AllocError> 
 }
 
 /// Puts what stands behind the last queue.
-pub(super) fn put_foot(text: &mut String) -> Result<(), AllocError> {
+pub(super) fn put_foot(text: &mut String) -> Result<(), AllocError>
+    ensures { OnOk result (string_bytes text.new ≡ string_bytes text.old ++ page_foot) }
+{
     text.push_str("</body>\n</html>\n")
 }

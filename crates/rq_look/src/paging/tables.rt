@@ -1,6 +1,7 @@
 //! The queues, each with its depth along the log, its elements and its registrants.
 
-ghost use Rattle.std.specs.Prelude.{IfErr};
+ghost use Rattle.std.specs.Prelude.{ℕ, List, IfErr, OnOk};
+ghost use Rattle.std.specs.Io.KnownBytes.{Appends};
 ghost use Rattle.rq_look.specs.Looks.{IsBroken};
 
 use crate::bytes::put_bytes;
@@ -19,6 +20,7 @@ use std::io;
 // As many elements of a queue are shown: those that would be taken first.
 const SHOWN: usize = 1000;
 
+// A name has none of the characters that HTML takes for its own.
 fn put_row(
     text: &mut String,
     seen: &Survey,
@@ -67,7 +69,9 @@ fn put_elements<W: io::Write>(
     elements: &[&Element],
     output: &mut W,
 ) -> Result<(), Trouble>
-    ensures { IfErr result IsBroken }
+    ensures only { OnOk result
+        ((put : List ℕ) × Appends (W.contents output.old) (W.contents output.new) put) }
+    ensures refused { IfErr result IsBroken }
 {
     if elements.is_empty() {
         return Ok(());
@@ -87,6 +91,7 @@ fn put_elements<W: io::Write>(
     Ok(())
 }
 
+// A name and a kind have none of the characters that HTML takes for its own.
 fn put_registrant(text: &mut String, it: &RegistrantShown<'_>) -> Result<(), AllocError> {
     let name = it.name;
     write!(text, "<tr><td>{name}</td>")?;
@@ -107,7 +112,9 @@ fn put_registrants<W: io::Write>(
     registrants: &[RegistrantShown<'_>],
     output: &mut W,
 ) -> Result<(), Trouble>
-    ensures { IfErr result IsBroken }
+    ensures only { OnOk result
+        ((put : List ℕ) × Appends (W.contents output.old) (W.contents output.new) put) }
+    ensures refused { IfErr result IsBroken }
 {
     if registrants.is_empty() {
         return Ok(());
@@ -131,7 +138,9 @@ fn put_fold<W: io::Write>(
     registrants: &[RegistrantShown<'_>],
     output: &mut W,
 ) -> Result<(), Trouble>
-    ensures { IfErr result IsBroken }
+    ensures only { OnOk result
+        ((put : List ℕ) × Appends (W.contents output.old) (W.contents output.new) put) }
+    ensures refused { IfErr result IsBroken }
 {
     if elements.is_empty() && registrants.is_empty() {
         return Ok(());
@@ -155,7 +164,9 @@ fn put_queue<W: io::Write>(
     numbered: (u32, &Definition),
     output: &mut W,
 ) -> Result<(), Trouble>
-    ensures { IfErr result IsBroken }
+    ensures only { OnOk result
+        ((put : List ℕ) × Appends (W.contents output.old) (W.contents output.new) put) }
+    ensures refused { IfErr result IsBroken }
 {
     let (number, definition) = numbered;
     let elements = free_elements(alloc, state, QueueNo(number))?;
@@ -174,7 +185,9 @@ pub(super) fn put_queues<W: io::Write>(
     state: &State,
     output: &mut W,
 ) -> Result<(), Trouble>
-    ensures { IfErr result IsBroken }
+    ensures only { OnOk result
+        ((put : List ℕ) × Appends (W.contents output.old) (W.contents output.new) put) }
+    ensures refused { IfErr result IsBroken }
 {
     text.push_str(
         "<h2>Queues</h2>\n<div class=\"scroll\"><table>\n<tr><th>queue</th><th>name</th><th>limit</th><th>error queue</th>",

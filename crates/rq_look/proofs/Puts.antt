@@ -1,0 +1,28 @@
+-- Writing text after text.
+use Rattle.std.proofs.Common.{◌≡◌, ◌++◌, ◌∙◌, ℕ, List, Option, sym, ap, subst, append_assoc}
+use Rattle.std.specs.Io.KnownBytes.{Appends}
+use Rattle.std.proofs.KnownBytes.{Appends-trans}
+use Rattle.rq_model.specs.Fronts.{Restarted}
+use Rattle.rq_restart.specs.FrontEnds.{IsEndOf}
+use Rattle.rq_restart.specs.Views.{why_of}
+use Rattle.rq_look.specs.declared.ends.End.{End}
+use Rattle.rq_look.specs.Looks.{end_text, end_line, front_end_of}
+
+-- some text was appended
+abbrev pub AppendsSome : Option (List ℕ) → Option (List ℕ) → Type 0
+AppendsSome old new = (put : List ℕ) × Appends old new put
+
+-- one behind the other
+pub both_put : (old mid new : Option (List ℕ)) → AppendsSome old mid → AppendsSome mid new → AppendsSome old new
+both_put old mid new (a, p) (b, q) = (a ++ b, Appends-trans old mid new a b p q)
+
+-- a text whose end is known behind another
+pub put_last : (old mid new : Option (List ℕ)) (put text last whole : List ℕ) → Appends old mid put → Appends mid new whole → whole ≡ text ++ last
+    → Appends old new ((put ++ text) ++ last)
+put_last old mid new put text last whole p q e =
+    subst (λ (t : List ℕ). Appends old new t) (ap (λ (t : List ℕ). put ++ t) e ∙ sym (append_assoc put text last)) (Appends-trans old mid new put whole p q)
+
+-- the line of an end is that of the restart whose end it is
+pub same_line : (r : Restarted) (end : End) (reason : List ℕ) → IsEndOf r (front_end_of end)
+    → end_text end.records end.used end.total (why_of end.why) reason ≡ end_line r reason
+same_line r end reason e = λ i. end_text (e.records i) (e.used i) (e.total i) (e.why i) reason
