@@ -15,7 +15,8 @@ use Rattle.rq_restart.specs.declared.ends.FrontEnd.{FrontEnd}
 use Rattle.rq_look.specs.declared.ends.End.{End}
 use Rattle.rq_look.specs.declared.trouble.Trouble.{Trouble}
 use Rattle.rq_look.specs.declared.telling.Subject.{Subject}
-use Rattle.rq_look.specs.declared.trouble.Trouble.TheVariants.{Log, Output, Untold, NoQueue, Nothing}
+use Rattle.rq_look.specs.declared.trouble.Trouble.TheVariants.{Log, Output, Untold, NoQueue}
+use Rattle.rq_look.specs.declared.trouble.Trouble.TheVariants.{Nothing}
 
 -- b is a log: not too long, and with a header
 abbrev pub IsLog : List ℕ → Type 0
