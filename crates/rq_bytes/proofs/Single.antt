@@ -1,9 +1,11 @@
 -- The laws of single readers.
-use Rattle.std.proofs.Common.{◌≡◌, ℕ, suc, ◌+◌, ◌^◌, ◌<◌, ◌≤◌, Bool, true, false, cond, ltb, eqb, List, [], ◌∷◌, ◌++◌, length, take, drop, Option, Some, None, refl, sym, subst, arith, inl, inr, ◌⊎◌}
+use Rattle.std.proofs.Common.{◌≡◌, ℕ, suc, ◌+◌, ◌^◌, ◌<◌, ◌≤◌, Bool, true, false, cond, ltb, eqb, List, [], ◌∷◌, ◌++◌}
+use Rattle.std.proofs.Common.{length, take, drop, Option, Some, None, refl, sym, subst, arith, inl, inr, ◌⊎◌}
 use Rattle.std.specs.Prelude.{⊤}
 use Rattle.std.specs.Int.{w16, w32, w64, to_be_bytes}
 use Rattle.std.proofs.lemmas.Bool.{cases_lt, ltb-false, le-ltb, eqb-true}
-use Rattle.std.proofs.lemmas.List.{nil_from_length, take_at, drop_at, take-append-drop, append-nil, length-append, length-take, get_or-drop, get_or-take, get_or_past}
+use Rattle.std.proofs.lemmas.List.{nil_from_length, take_at, drop_at, take-append-drop, append-nil, length-append}
+use Rattle.std.proofs.lemmas.List.{length-take, get_or-drop, get_or-take, get_or_past}
 use Rattle.std.proofs.lemmas.Nat.{be_bytes_2, be_bytes_4, be_bytes_8}
 use Rattle.byteorder.specs.Endian.{big_number, big_bytes}
 use Rattle.byteorder.specs.Numbers.{big_number-reads_back, big_from-lt, length-bytes_high_first}
@@ -21,7 +23,8 @@ IsBytes-take n bytes h i =
     ]
 
 -- the value of a step that did not fail
-pub bind_some : {A B : Type 0} (o : Option A) (f : A → Option B) (y : B) → (o >>= f) ≡ Some y → (x : A) × (o ≡ Some x) × (f x ≡ Some y)
+pub bind_some : {A B : Type 0} (o : Option A) (f : A → Option B) (y : B) → (o >>= f) ≡ Some y
+    → (x : A) × (o ≡ Some x) × (f x ≡ Some y)
 bind_some (Some x) f y e = (x, refl, e)
 bind_some None f y e = absurd cc
 
@@ -41,56 +44,93 @@ chosen false x y z e = inr (refl, e)
 pub reads_byte : Reads (λ x. x < 2 ^ 8) (λ x. x ∷ []) Any byte
 reads_byte = record { takes = takes; again = λ x rest fits ends. refl }
   where
-    takes : (bytes : List ℕ) (x : ℕ × List ℕ) → IsBytes bytes → byte bytes ≡ Some x → Takes (λ x. x < 2 ^ 8) (λ x. x ∷ []) Any bytes x
+    takes : (bytes : List ℕ) (x : ℕ × List ℕ) → IsBytes bytes → byte bytes ≡ Some x
+        → Takes (λ x. x < 2 ^ 8) (λ x. x ∷ []) Any bytes x
     takes [] x fits e = absurd cc
     takes (b ∷ bytes) x fits e =
         let same : (b, bytes) ≡ x = cc in
-        subst (Takes (λ x. x < 2 ^ 8) (λ x. x ∷ []) Any (b ∷ bytes)) same (record { parts = refl; fits = fits 0; rest_fits = λ i. fits (suc i); ends = tt })
+        subst (Takes (λ x. x < 2 ^ 8) (λ x. x ∷ []) Any (b ∷ bytes)) same
+        (record { parts = refl; fits = fits 0; rest_fits = λ i. fits (suc i); ends = tt })
 
 pub reads_piece : (n : ℕ) → Reads (λ (p : List ℕ). length p ≡ n) (λ p. p) Any (piece n)
 reads_piece n = record {
   takes = λ bytes x fits e.
       let g = guard_past (ltb (length bytes) n) (take n bytes, drop n bytes) x e in
       let long : n ≤ length bytes = ltb-false _ _ g.0 in
-      let whole : Takes (λ (p : List ℕ). length p ≡ n) (λ p. p) Any bytes (take n bytes, drop n bytes) = record { parts = sym (take-append-drop n bytes); fits = omega (arith, length-take n bytes); rest_fits = IsBytes-drop n bytes fits; ends = tt } in
+      let whole : Takes (λ (p : List ℕ). length p ≡ n) (λ p. p) Any bytes (take n bytes, drop n bytes) =
+      record {
+        parts = sym (take-append-drop n bytes);
+        fits = omega (arith, length-take n bytes);
+        rest_fits =
+            IsBytes-drop n bytes fits;
+        ends = tt;
+      } in
       subst (Takes (λ (p : List ℕ). length p ≡ n) (λ p. p) Any bytes) g.1 whole;
   again = λ p rest len ends.
       let long : ltb (length (p ++ rest)) n ≡ false = le-ltb _ _ (omega (arith, length-append p rest)) in
       rw (long, take_at p rest n len, drop_at p rest n len) refl;
 }
 
-reads_number : (n : ℕ) → ((bytes : List ℕ) → n ≤ length bytes → IsBytes bytes → big_bytes n (big_number n bytes) ≡ take n bytes) → Reads (λ x. x < 256 ^ n) (big_bytes n) Any (number n)
+reads_number : (n : ℕ)
+    → ((bytes : List ℕ) → n ≤ length bytes → IsBytes bytes → big_bytes n (big_number n bytes) ≡ take n bytes)
+    → Reads (λ x. x < 256 ^ n) (big_bytes n) Any (number n)
 reads_number n back = record {
   takes = λ bytes x fits e.
       let g = guard_past (ltb (length bytes) n) (big_number n bytes, drop n bytes) x e in
       let long : n ≤ length bytes = ltb-false _ _ g.0 in
-      let whole : Takes (λ x. x < 256 ^ n) (big_bytes n) Any bytes (big_number n bytes, drop n bytes) = record { parts = rw (back bytes long fits) (sym (take-append-drop n bytes)); fits = big_from-lt 0 n bytes fits; rest_fits = IsBytes-drop n bytes fits; ends = tt } in
+      let whole : Takes (λ x. x < 256 ^ n) (big_bytes n) Any bytes (big_number n bytes, drop n bytes) =
+      record {
+        parts = rw (back bytes long fits) (sym (take-append-drop n bytes));
+        fits =
+            big_from-lt 0 n bytes fits;
+        rest_fits = IsBytes-drop n bytes fits;
+        ends = tt;
+      } in
       subst (Takes (λ x. x < 256 ^ n) (big_bytes n) Any bytes) g.1 whole;
   again = λ x rest lt ends.
       let len = length-bytes_high_first n x in
-      let long : ltb (length (big_bytes n x ++ rest)) n ≡ false = le-ltb _ _ (omega (arith, length-append (big_bytes n x) rest)) in
+      let long : ltb (length (big_bytes n x ++ rest)) n ≡ false =
+      le-ltb _ _ (omega (arith, length-append (big_bytes n x) rest)) in
       rw (long, drop_at (big_bytes n x) rest n len, big_number-reads_back n x rest lt) refl;
 }
 
 pub reads_u16 : Reads (λ x. x < 2 ^ 16) (to_be_bytes w16) Any (number 2)
 reads_u16 = reads_number 2 (λ bytes long fits.
-    be_bytes_2 (take 2 bytes) (big_number 2 bytes) (omega (arith, length-take 2 bytes)) (IsBytes-take 2 bytes fits) (omega (arith, get_or-take 2 bytes 0 0 (omega arith), get_or-take 2 bytes 1 0 (omega arith))))
+    be_bytes_2 (take 2 bytes) (big_number 2 bytes) (omega (arith, length-take 2 bytes)) (IsBytes-take 2 bytes fits)
+    (omega (arith, get_or-take 2 bytes 0 0 (omega arith), get_or-take 2 bytes 1 0 (omega arith))))
 
 pub reads_u32 : Reads (λ x. x < 2 ^ 32) (to_be_bytes w32) Any (number 4)
 reads_u32 = reads_number 4 (λ bytes long fits.
     be_bytes_4 (take 4 bytes) (big_number 4 bytes) (omega (arith, length-take 4 bytes)) (IsBytes-take 4 bytes fits)
-    (omega (arith, get_or-take 4 bytes 0 0 (omega arith), get_or-take 4 bytes 1 0 (omega arith), get_or-take 4 bytes 2 0 (omega arith), get_or-take 4 bytes 3 0 (omega arith))))
+    (omega (
+      arith,
+      get_or-take 4 bytes 0 0 (omega arith),
+      get_or-take 4 bytes 1 0 (omega arith),
+      get_or-take 4 bytes 2 0 (omega arith),
+      get_or-take 4 bytes 3 0 (omega arith),
+    )))
 
 pub reads_u64 : Reads (λ x. x < 2 ^ 64) (to_be_bytes w64) Any (number 8)
 reads_u64 = reads_number 8 (λ bytes long fits.
     be_bytes_8 (take 8 bytes) (big_number 8 bytes) (omega (arith, length-take 8 bytes)) (IsBytes-take 8 bytes fits)
-    (omega (arith, get_or-take 8 bytes 0 0 (omega arith), get_or-take 8 bytes 1 0 (omega arith), get_or-take 8 bytes 2 0 (omega arith), get_or-take 8 bytes 3 0 (omega arith), get_or-take 8 bytes 4 0 (omega arith), get_or-take 8 bytes 5 0 (omega arith), get_or-take 8 bytes 6 0 (omega arith), get_or-take 8 bytes 7 0 (omega arith))))
+    (omega (
+      arith,
+      get_or-take 8 bytes 0 0 (omega arith),
+      get_or-take 8 bytes 1 0 (omega arith),
+      get_or-take 8 bytes 2 0 (omega arith),
+      get_or-take 8 bytes 3 0 (omega arith),
+      get_or-take 8 bytes 4 0 (omega arith),
+      get_or-take 8 bytes 5 0 (omega arith),
+      get_or-take 8 bytes 6 0 (omega arith),
+      get_or-take 8 bytes 7 0 (omega arith),
+    )))
 
 pub reads_all : Reads (λ (p : List ℕ). ⊤) (λ p. p) End all
 reads_all = record {
   takes = λ bytes x fits e.
       let same : (bytes, []) ≡ x = cc in
-      subst (Takes (λ (p : List ℕ). ⊤) (λ p. p) End bytes) same (record { parts = sym (append-nil bytes); fits = tt; rest_fits = λ i. omega arith; ends = refl });
+      subst (Takes (λ (p : List ℕ). ⊤) (λ p. p) End bytes) same
+      (record { parts = sym (append-nil bytes); fits = tt; rest_fits = λ i. omega arith; ends = refl });
   again = λ p rest fits ends. rw (ends, append-nil p) refl;
 }
 
@@ -98,7 +138,8 @@ pub reads_nothing : Reads (λ (x : ⊤). ⊤) (λ x. []) Any nothing
 reads_nothing = record {
   takes = λ bytes x fits e.
       let same : (tt, bytes) ≡ x = cc in
-      subst (Takes (λ (x : ⊤). ⊤) (λ x. []) Any bytes) same (record { parts = refl; fits = tt; rest_fits = fits; ends = tt });
+      subst (Takes (λ (x : ⊤). ⊤) (λ x. []) Any bytes) same
+      (record { parts = refl; fits = tt; rest_fits = fits; ends = tt });
   again = λ x rest fits ends. refl;
 }
 
@@ -106,6 +147,13 @@ pub reads_ending : Reads (λ (x : ⊤). ⊤) (λ x. []) End ending
 reads_ending = record {
   takes = λ bytes x fits e.
       let g = guard_some (eqb (length bytes) 0) (tt, []) x e in
-      subst (Takes (λ (x : ⊤). ⊤) (λ x. []) End bytes) g.1 (record { parts = nil_from_length bytes (eqb-true _ _ g.0); fits = tt; rest_fits = λ i. omega arith; ends = refl });
+      subst (Takes (λ (x : ⊤). ⊤) (λ x. []) End bytes) g.1
+      (record {
+        parts = nil_from_length bytes (eqb-true _ _ g.0);
+        fits = tt;
+        rest_fits = λ i. omega arith;
+        ends =
+            refl;
+      });
   again = λ x rest fits ends. rw ends refl;
 }

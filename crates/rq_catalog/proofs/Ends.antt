@@ -1,5 +1,6 @@
 -- The loop over the records, and its end.
-use Rattle.std.proofs.Common.{◌≡◌, ℕ, suc, zero, ◌+◌, ◌<◌, ◌≤◌, ◌++◌, true, false, List, [], ◌∷◌, length, map, refl, sym, ap, ◌∙◌, subst, arith, take, drop, get_or}
+use Rattle.std.proofs.Common.{◌≡◌, ℕ, suc, zero, ◌+◌, ◌<◌, ◌≤◌, ◌++◌, true, false, List, [], ◌∷◌, length, map, refl}
+use Rattle.std.proofs.Common.{sym, ap, ◌∙◌, subst, arith, take, drop, get_or}
 use Rattle.std.specs.List.{AllByRecursion}
 use Rattle.std.proofs.lemmas.List.{length-map, length-take, map-append}
 use Rattle.std.proofs.Math.Seq.{take-suc}
@@ -34,38 +35,55 @@ upto n rs = map record_of (take n rs)
 pub length-upto : (n : ℕ) (rs : List Record) → n ≤ length rs → length (upto n rs) ≡ n
 length-upto n rs h = length-map (take n rs) record_of ∙ omega (arith, length-take n rs, h)
 
-pub upto_more : (n : ℕ) (rs : List Record) (x : Record) → n < length rs → upto n rs ++ record_of (get_or rs n x) ∷ [] ≡ upto (n + 1) rs
-upto_more n rs x h = sym (ap (λ k. upto k rs) (up n) ∙ ap (map record_of) (take-suc rs n x h) ∙ map-append record_of (take n rs) (get_or rs n x ∷ []))
+pub upto_more : (n : ℕ) (rs : List Record) (x : Record) → n < length rs
+    → upto n rs ++ record_of (get_or rs n x) ∷ [] ≡ upto (n + 1) rs
+upto_more n rs x h =
+    sym (ap (λ k. upto k rs) (up n) ∙ ap (map record_of) (take-suc rs n x h)
+    ∙ map-append record_of (take n rs) (get_or rs n x ∷ []))
   where
     up : (n : ℕ) → n + 1 ≡ suc n
     up n = omega arith
 
-module _ (version : Version) (c : Catalogue) (s : State) (rs : List Record) (n : ℕ) (well : IsWellFormed s) (inside : n ≤ length rs) (lawful : all_lawful version s (upto n rs) ≡ true) (f : Follows c s (upto n rs)) where
+module _ (version : Version) (c : Catalogue) (s : State) (rs : List Record) (n : ℕ) (well : IsWellFormed s)
+    (inside : n ≤ length rs) (lawful : all_lawful version s (upto n rs) ≡ true) (f : Follows c s (upto n rs)) where
   pub places_here : (q : ℕ) → AllByRecursion (λ (p : ℕ × ℕ). p.0 < s.next + n) (listed c.touching.items q)
-  places_here = subst (λ k. (q : ℕ) → AllByRecursion (λ (p : ℕ × ℕ). p.0 < s.next + k) (listed c.touching.items q)) (length-upto n rs inside) (places_below c s (upto n rs) f)
+  places_here = subst (λ k. (q : ℕ) → AllByRecursion (λ (p : ℕ × ℕ). p.0 < s.next + k) (listed c.touching.items q))
+      (length-upto n rs inside) (places_below c s (upto n rs) f)
 
   -- what the catalogue asks of the next record's place
   pub room_here : s.next + length rs < 2 ^ 64 → n < length rs → HasRoom c (s.next + n)
   room_here small here =
       let counts = (runs_are_well_formed version s (upto n rs) well lawful).counts in
       let next = (numbers_after version s (upto n rs) well lawful).next in
-      record { after = places_here; committed = omega (arith, counts, next, f.committed, small, here, length-upto n rs inside); aborted = omega (arith, counts, next, f.aborted, small, here, length-upto n rs inside) }
+      record {
+        after = places_here;
+        committed =
+            omega (arith, counts, next, f.committed, small, here, length-upto n rs inside);
+        aborted =
+            omega (arith, counts, next, f.aborted, small, here, length-upto n rs inside);
+      }
 
-  pub one_further : (d : Catalogue) (x : Record) → n < length rs → may_take version c (get_or rs n x) ≡ true → Takes c d (s.next + n, n) (get_or rs n x) → (all_lawful version s (upto (n + 1) rs) ≡ true) × Follows d s (upto (n + 1) rs)
+  pub one_further : (d : Catalogue) (x : Record) → n < length rs → may_take version c (get_or rs n x) ≡ true
+      → Takes c d (s.next + n, n) (get_or rs n x)
+      → (all_lawful version s (upto (n + 1) rs) ≡ true) × Follows d s (upto (n + 1) rs)
   one_further d x h may t =
-      let ok : is_lawful version (run s (upto n rs)) (record_of (get_or rs n x)) ≡ true = sym (lawful_here version c s (upto n rs) f well lawful (get_or rs n x)) ∙ may in
+      let ok : is_lawful version (run s (upto n rs)) (record_of (get_or rs n x)) ≡ true =
+      sym (lawful_here version c s (upto n rs) f well lawful (get_or rs n x)) ∙ may in
       subst (λ (l : List model.Record). (all_lawful version s l ≡ true) × Follows d s l) (upto_more n rs x h) (
         lawful_push version s (upto n rs) (record_of (get_or rs n x)) lawful ok,
-        follows_step version c s (upto n rs) f well lawful d (get_or rs n x) ok (subst (λ k. Takes c d (s.next + k, k) (get_or rs n x)) (sym (length-upto n rs inside)) t),
+        follows_step version c s (upto n rs) f well lawful d (get_or rs n x) ok
+            (subst (λ k. Takes c d (s.next + k, k) (get_or rs n x)) (sym (length-upto n rs inside)) t),
       )
 
   open_units : filter (λ u. is_open_in (get nat_eq c.outcomes u)) (keys c.outcomes) ≡ (run s (upto n rs)).units
   open_units =
       filter_same (λ u. is_open_in (get nat_eq c.outcomes u)) (λ u. is_open (run s (upto n rs)) u) (keys c.outcomes)
-      (each_of (λ u. is_open_in (get nat_eq c.outcomes u) ≡ is_open (run s (upto n rs)) u) (open_here version c s (upto n rs) f well lawful) (keys c.outcomes))
+      (each_of (λ u. is_open_in (get nat_eq c.outcomes u) ≡ is_open (run s (upto n rs)) u)
+      (open_here version c s (upto n rs) f well lawful) (keys c.outcomes))
       ∙ ap (filter (λ u. is_open (run s (upto n rs)) u)) f.units ∙ open_again version s (upto n rs) well lawful
 
-  front_here : lawful_front version s (map record_of rs) ≡ upto n rs → IsAnalysis version s (map record_of rs) (record { lawful = n; catalogue = c })
+  front_here : lawful_front version s (map record_of rs) ≡ upto n rs
+      → IsAnalysis version s (map record_of rs) (record { lawful = n; catalogue = c })
   front_here e = record {
     lawful = sym (ap length e ∙ length-upto n rs inside);
     outcomes = λ u. f.outcomes u ∙ ap (λ k. outcome s k u) (sym e);
@@ -88,8 +106,12 @@ module _ (version : Version) (c : Catalogue) (s : State) (rs : List Record) (n :
       whole : upto n rs ≡ map record_of rs
       whole = ap (map record_of) (all rs n h)
 
-  pub ends_unlawful : (x : Record) → n < length rs → may_take version c (get_or rs n x) ≡ false → IsAnalysis version s (map record_of rs) (record { lawful = n; catalogue = c })
-  ends_unlawful x h may = front_here (ap (lawful_front version s) (sym whole) ∙ front_stops version s (upto n rs) (record_of (get_or rs n x)) (map record_of (drop (suc n) rs)) lawful (sym (lawful_here version c s (upto n rs) f well lawful (get_or rs n x)) ∙ may))
+  pub ends_unlawful : (x : Record) → n < length rs → may_take version c (get_or rs n x) ≡ false
+      → IsAnalysis version s (map record_of rs) (record { lawful = n; catalogue = c })
+  ends_unlawful x h may =
+      front_here (ap (lawful_front version s) (sym whole)
+      ∙ front_stops version s (upto n rs) (record_of (get_or rs n x)) (map record_of (drop (suc n) rs)) lawful
+      (sym (lawful_here version c s (upto n rs) f well lawful (get_or rs n x)) ∙ may))
     where
       parts : (rs : List Record) (n : ℕ) → n < length rs → take n rs ++ get_or rs n x ∷ drop (suc n) rs ≡ rs
       parts [] n h = let no : ⊥ = omega (arith, h) in absurd no
@@ -97,16 +119,22 @@ module _ (version : Version) (c : Catalogue) (s : State) (rs : List Record) (n :
       parts (y ∷ rs) (suc n) h = ap (λ l. y ∷ l) (parts rs n (omega (arith, h)))
 
       whole : upto n rs ++ record_of (get_or rs n x) ∷ map record_of (drop (suc n) rs) ≡ map record_of rs
-      whole = sym (map-append record_of (take n rs) (get_or rs n x ∷ drop (suc n) rs)) ∙ ap (map record_of) (parts rs n h)
+      whole = sym (map-append record_of (take n rs) (get_or rs n x ∷ drop (suc n) rs))
+          ∙ ap (map record_of) (parts rs n h)
 
-  pub one_on : (d : Catalogue) (r : Record) → r ≡ get_or rs n r → n < length rs → may_take version c r ≡ true → Takes c d (s.next + n, n) r → (all_lawful version s (upto (n + 1) rs) ≡ true) × Follows d s (upto (n + 1) rs)
-  one_on d r e h may t = one_further d r h (sym (ap (may_take version c) e) ∙ may) (subst (Takes c d (s.next + n, n)) e t)
+  pub one_on : (d : Catalogue) (r : Record) → r ≡ get_or rs n r → n < length rs → may_take version c r ≡ true
+      → Takes c d (s.next + n, n) r → (all_lawful version s (upto (n + 1) rs) ≡ true) × Follows d s (upto (n + 1) rs)
+  one_on d r e h may t = one_further d r h (sym (ap (may_take version c) e) ∙ may)
+      (subst (Takes c d (s.next + n, n)) e t)
 
-  pub ends_at_one : (r : Record) → r ≡ get_or rs n r → n < length rs → may_take version c r ≡ false → IsAnalysis version s (map record_of rs) (record { lawful = n; catalogue = c })
+  pub ends_at_one : (r : Record) → r ≡ get_or rs n r → n < length rs → may_take version c r ≡ false
+      → IsAnalysis version s (map record_of rs) (record { lawful = n; catalogue = c })
   ends_at_one r e h may = ends_unlawful r h (sym (ap (may_take version c) e) ∙ may)
 
 -- where an analysis goes on
-pub goes_on : (version : Version) (c : Catalogue) (s : State) (rs : List Record) (n : ℕ) → n ≤ length rs → IsAnalysis version s (upto n rs) (record { lawful = n; catalogue = c }) → (all_lawful version s (upto n rs) ≡ true) × Follows c s (upto n rs)
+pub goes_on : (version : Version) (c : Catalogue) (s : State) (rs : List Record) (n : ℕ) → n ≤ length rs
+    → IsAnalysis version s (upto n rs) (record { lawful = n; catalogue = c })
+    → (all_lawful version s (upto n rs) ≡ true) × Follows c s (upto n rs)
 goes_on version c s rs n inside a =
     let all = lawful_throughout version s (upto n rs) (sym a.lawful ∙ sym (length-upto n rs inside)) in
     (all.0, subst (Follows c s) all.1 a.catalogue)

@@ -1,5 +1,6 @@
 -- The lawful beginning of a list, and what an analysis of the list says of it.
-use Rattle.std.proofs.Common.{◌≡◌, ◌≤◌, ℕ, Bool, true, false, cond, List, [], ◌∷◌, ◌++◌, length, map, take, refl, sym, ap, subst, ◌∙◌, arith, length-append}
+use Rattle.std.proofs.Common.{◌≡◌, ◌≤◌, ℕ, Bool, true, false, cond, List, [], ◌∷◌, ◌++◌, length, map, take, refl, sym}
+use Rattle.std.proofs.Common.{ap, subst, ◌∙◌, arith, length-append}
 use Rattle.std.specs.Prelude.{nat_lt, ⊤}
 use Rattle.std.proofs.lemmas.Bool.{and_from, lt-ltb, le-ltb}
 use Rattle.std.proofs.Math.Seq.{take-append_seam}
@@ -32,21 +33,26 @@ pub parted : (version : Version) (s : State) (rs : List Record) → IsParted ver
 parted version s [] = record { more = []; whole = refl; lawful = refl; stop = tt }
 parted version s (r ∷ rs) = at (is_lawful version s r) refl (parted version (step s r) rs)
   where
-    at : (b : Bool) → is_lawful version s r ≡ b → IsParted version (step s r) rs (lawful_front version (step s r) rs) → IsParted version s (r ∷ rs) (cond (is_lawful version s r) (r ∷ lawful_front version (step s r) rs) [])
+    at : (b : Bool) → is_lawful version s r ≡ b → IsParted version (step s r) rs (lawful_front version (step s r) rs)
+        → IsParted version s (r ∷ rs) (cond (is_lawful version s r) (r ∷ lawful_front version (step s r) rs) [])
     at true e p =
         let it : IsParted version s (r ∷ rs) (r ∷ lawful_front version (step s r) rs) = record {
           more = p.more;
           whole = ap (λ (qs : List Record). r ∷ qs) p.whole;
-          lawful = and_from (is_lawful version s r) (all_lawful version (step s r) (lawful_front version (step s r) rs)) e p.lawful;
+          lawful = and_from (is_lawful version s r) (all_lawful version (step s r) (lawful_front version (step s r) rs))
+              e p.lawful;
           stop = p.stop;
         } in
-        subst (λ (b : Bool). IsParted version s (r ∷ rs) (cond b (r ∷ lawful_front version (step s r) rs) [])) (sym e) it
+        subst (λ (b : Bool). IsParted version s (r ∷ rs) (cond b (r ∷ lawful_front version (step s r) rs) [])) (sym e)
+        it
     at false e p =
         let it : IsParted version s (r ∷ rs) [] = record { more = r ∷ rs; whole = refl; lawful = refl; stop = e } in
-        subst (λ (b : Bool). IsParted version s (r ∷ rs) (cond b (r ∷ lawful_front version (step s r) rs) [])) (sym e) it
+        subst (λ (b : Bool). IsParted version s (r ∷ rs) (cond b (r ∷ lawful_front version (step s r) rs) [])) (sym e)
+        it
 
 -- so many records from the front are the lawful ones
-taken : (version : Version) (s : State) (rs : List Record) → take (length (lawful_front version s rs)) rs ≡ lawful_front version s rs
+taken : (version : Version) (s : State) (rs : List Record)
+    → take (length (lawful_front version s rs)) rs ≡ lawful_front version s rs
 taken version s rs =
     let kept = lawful_front version s rs in
     let p = parted version s rs in
@@ -58,18 +64,23 @@ is_more (r ∷ rs) = true
 
 pub more_is : (kept more : List Record) → nat_lt (length kept) (length (kept ++ more)) ≡ is_more more
 more_is kept [] = le-ltb (length kept) (length (kept ++ [])) (omega (arith, length-append kept []))
-more_is kept (r ∷ more) = lt-ltb (length kept) (length (kept ++ r ∷ more)) (omega (arith, length-append kept (r ∷ more)))
+more_is kept (r ∷ more) = lt-ltb (length kept) (length (kept ++ r ∷ more))
+    (omega (arith, length-append kept (r ∷ more)))
 
 -- so are so many of the code's own records
-pub kept_is : (version : Version) (s : State) (all kept : List Own) (n : ℕ) → kept ≡ take n all → n ≡ length (lawful_front version s (map record_of all)) → map record_of kept ≡ lawful_front version s (map record_of all)
+pub kept_is : (version : Version) (s : State) (all kept : List Own) (n : ℕ) → kept ≡ take n all
+    → n ≡ length (lawful_front version s (map record_of all))
+    → map record_of kept ≡ lawful_front version s (map record_of all)
 kept_is version s all kept n is count =
     let rs = map record_of all in
     ap (map record_of) is ∙ sym (take-map record_of n all) ∙ ap (λ (k : ℕ). take k rs) count ∙ taken version s rs
 
 -- what is said of a list is said of its lawful beginning
-pub analysis_of_front : (version : Version) (s : State) (rs : List Record) (a : Analysis) → IsAnalysis version s rs a → IsAnalysis version s (lawful_front version s rs) a
+pub analysis_of_front : (version : Version) (s : State) (rs : List Record) (a : Analysis) → IsAnalysis version s rs a
+    → IsAnalysis version s (lawful_front version s rs) a
 analysis_of_front version s rs a is =
-    let same : lawful_front version s rs ≡ lawful_front version s (lawful_front version s rs) = sym (front_whole version s (lawful_front version s rs) (parted version s rs).lawful) in
+    let same : lawful_front version s rs ≡ lawful_front version s (lawful_front version s rs) =
+    sym (front_whole version s (lawful_front version s rs) (parted version s rs).lawful) in
     record {
       lawful = is.lawful ∙ ap length same;
       outcomes = λ u. is.outcomes u ∙ ap (λ (xs : List Record). outcome s xs u) same;
@@ -81,16 +92,25 @@ analysis_of_front version s rs a is =
     }
 
 -- what is said of lawful records is said of the beginning of a list that begins with them
-pub analysis_of_beginning : (version : Version) (s : State) (rs more : List Record) (all : List Own) (a : Analysis) → all_lawful version s rs ≡ true → IsAnalysis version s rs a → map record_of all ≡ rs ++ more → (a.lawful ≤ length all) × IsAnalysis version s (map record_of (take a.lawful all)) a
+pub analysis_of_beginning : (version : Version) (s : State) (rs more : List Record) (all : List Own) (a : Analysis)
+    → all_lawful version s rs ≡ true → IsAnalysis version s rs a → map record_of all ≡ rs ++ more
+    → (a.lawful ≤ length all) × IsAnalysis version s (map record_of (take a.lawful all)) a
 analysis_of_beginning version s rs more all a lawful is whole =
     let count : a.lawful ≡ length rs = is.lawful ∙ ap length (front_whole version s rs lawful) in
-    let first : map record_of (take a.lawful all) ≡ rs = sym (take-map record_of a.lawful all) ∙ ap (take a.lawful) whole ∙ ap (λ n. take n (rs ++ more)) count ∙ take-append_seam rs more in
-    (omega (arith, count, ap length whole, length-append rs more, length-map all record_of), subst (λ (xs : List Record). IsAnalysis version s xs a) (sym first) is)
+    let first : map record_of (take a.lawful all) ≡ rs =
+    sym (take-map record_of a.lawful all) ∙ ap (take a.lawful) whole ∙ ap (λ n. take n (rs ++ more)) count
+    ∙ take-append_seam rs more in (
+      omega (arith, count, ap length whole, length-append rs more, length-map all record_of),
+      subst (λ (xs : List Record). IsAnalysis version s xs a) (sym first) is,
+    )
 
 -- what is said of lawful records by the rules of one version is said by another's in which they are lawful
-analysis_elsewhere : (version other : Version) (s : State) (rs : List Record) (a : Analysis) → all_lawful version s rs ≡ true → all_lawful other s rs ≡ true → IsAnalysis version s rs a → IsAnalysis other s rs a
+analysis_elsewhere : (version other : Version) (s : State) (rs : List Record) (a : Analysis)
+    → all_lawful version s rs ≡ true → all_lawful other s rs ≡ true → IsAnalysis version s rs a
+    → IsAnalysis other s rs a
 analysis_elsewhere version other s rs a lawful again is =
-    let same : lawful_front version s rs ≡ lawful_front other s rs = front_whole version s rs lawful ∙ sym (front_whole other s rs again) in
+    let same : lawful_front version s rs ≡ lawful_front other s rs =
+    front_whole version s rs lawful ∙ sym (front_whole other s rs again) in
     record {
       lawful = is.lawful ∙ ap length same;
       outcomes = λ u. is.outcomes u ∙ ap (λ (xs : List Record). outcome s xs u) same;
@@ -102,9 +122,12 @@ analysis_elsewhere version other s rs a lawful again is =
     }
 
 -- what is lawful in any version is so in version 2, and so is what is said of it
-pub lawful_in_two : VersionTwoIsWider → (version : Version) (s : State) (rs : List Record) → all_lawful version s rs ≡ true → all_lawful Two s rs ≡ true
+pub lawful_in_two : VersionTwoIsWider → (version : Version) (s : State) (rs : List Record)
+    → all_lawful version s rs ≡ true → all_lawful Two s rs ≡ true
 lawful_in_two wider One s rs lawful = wider s rs lawful
 lawful_in_two wider Two s rs lawful = lawful
 
-pub analysis_is_wider : VersionTwoIsWider → (version : Version) (s : State) (rs : List Record) (a : Analysis) → all_lawful version s rs ≡ true → IsAnalysis version s rs a → IsAnalysis Two s rs a
-analysis_is_wider wider version s rs a lawful is = analysis_elsewhere version Two s rs a lawful (lawful_in_two wider version s rs lawful) is
+pub analysis_is_wider : VersionTwoIsWider → (version : Version) (s : State) (rs : List Record) (a : Analysis)
+    → all_lawful version s rs ≡ true → IsAnalysis version s rs a → IsAnalysis Two s rs a
+analysis_is_wider wider version s rs a lawful is =
+    analysis_elsewhere version Two s rs a lawful (lawful_in_two wider version s rs lawful) is

@@ -7,7 +7,8 @@ use Rattle.rq_model.specs.States.{State}
 use Rattle.rq_model.specs.Machine.{is_open, closed_units, step}
 use Rattle.rq_model.proofs.Lists.{by_cases}
 use Rattle.rq_record.specs.declared.record.Record.{Record}
-use Rattle.rq_record.specs.declared.record.Record.TheVariants.{Define, Register, Deregister, Begin, Enqueue, Dequeue, Commit, Abort, Checkpoint, Kill}
+use Rattle.rq_record.specs.declared.record.Record.TheVariants.{Define, Register, Deregister, Begin, Enqueue, Dequeue}
+use Rattle.rq_record.specs.declared.record.Record.TheVariants.{Commit, Abort, Checkpoint, Kill}
 use Rattle.rq_record.specs.Views.{record_of}
 use Rattle.rq_catalog.specs.declared.judge.Judge.{Judge}
 use Rattle.rq_catalog.specs.Catalogues.{names_after, errors_after, registered_after, greatest_by}
@@ -16,10 +17,20 @@ use Rattle.rq_catalog.proofs.Keep.{names_step, errors_step, registrants_step, gr
 use Rattle.rq_catalog.proofs.Runs.{any_push}
 
 -- a unit that is closed is open no more, and the others are as before
-closed_step : (unit u : ℕ) (units : List ℕ) → cond (nat_eq unit u) false (list_any (λ v. v == u) units) ≡ list_any (λ v. v == u) (closed_units unit units)
+closed_step : (unit u : ℕ) (units : List ℕ) → cond (nat_eq unit u) false (list_any (λ v. v == u) units)
+    ≡ list_any (λ v. v == u) (closed_units unit units)
 closed_step unit u [] = by_cases (nat_eq unit u) (λ b. cond b false false ≡ false) (λ _. refl) (λ _. refl)
 closed_step unit u (v ∷ units) =
-    grind (arith, closed_step unit u units, eqb-true unit u, eqb-true v u, eqb-true v unit, cases_Bool (nat_eq unit u), cases_Bool (v == u), cases_Bool (v == unit))
+    grind (
+      arith,
+      closed_step unit u units,
+      eqb-true unit u,
+      eqb-true v u,
+      eqb-true v unit,
+      cases_Bool (nat_eq unit u),
+      cases_Bool (v == u),
+      cases_Bool (v == unit),
+    )
 
 open_step : (s : State) (r : Record) (u : ℕ) → open_after r u (is_open s u) ≡ is_open (step s (record_of r)) u
 open_step s (Begin unit) u = cond_or (is_open s u) (nat_eq unit.0 u) ∙ sym (any_push (λ v. v == u) s.units unit.0)

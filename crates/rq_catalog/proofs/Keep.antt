@@ -1,5 +1,6 @@
 -- A lawful record keeps the agreement of the catalogue with the run.
-use Rattle.std.proofs.Common.{◌≡◌, ℕ, suc, ◌+◌, ◌-◌, ◌<◌, ◌≤◌, Bool, true, false, cond, not, ◌&&◌, ◌||◌, List, [], ◌∷◌, ◌++◌, length, Option, Some, None, map, refl, sym, ap, ◌∙◌, subst, arith}
+use Rattle.std.proofs.Common.{◌≡◌, ℕ, suc, ◌+◌, ◌-◌, ◌<◌, ◌≤◌, Bool, true, false, cond, not, ◌&&◌, ◌||◌, List, [], ◌∷◌}
+use Rattle.std.proofs.Common.{◌++◌, length, Option, Some, None, map, refl, sym, ap, ◌∙◌, subst, arith}
 use Rattle.std.specs.Prelude.{◌==◌, nat_lt, nat_eq, if◌then◌else◌, option_map}
 use Rattle.std.specs.List.{filter, list_any, AllByRecursion}
 use Rattle.std.specs.Str.{bytes_eq}
@@ -11,7 +12,8 @@ use Rattle.rq_model.specs.Records as model
 use Rattle.rq_model.specs.Records.{Version, no_queue}
 use Rattle.rq_model.specs.States.{State, Definition, Registrant, Element, Note, is_registrant, put, registrant_before}
 use Rattle.rq_model.specs.Machine as machine
-use Rattle.rq_model.specs.Machine.{is_lawful, all_lawful, lawful_front, is_open, is_registered, is_known, is_limit, step, run, outcome_from, outcome, begins}
+use Rattle.rq_model.specs.Machine.{is_lawful, all_lawful, lawful_front, is_open, is_registered, is_known, is_limit}
+use Rattle.rq_model.specs.Machine.{step, run, outcome_from, outcome, begins}
 use Rattle.rq_model.specs.Queues.{Op, is_engaged, is_marked, engages, touches, touching_from, touching}
 use Rattle.rq_model.specs.WellFormed.{IsWellFormed}
 use Rattle.rq_model.proofs.Lists.{by_cases, each_weaker}
@@ -19,7 +21,8 @@ use Rattle.rq_model.proofs.WellFormedRuns.{any_put}
 use Rattle.rq_model.proofs.Decided.{any_map, element_homes, note_queues, registrant_queues}
 use Rattle.rq_model.proofs.Kept.{runs_are_well_formed}
 use Rattle.rq_record.specs.declared.record.Record.{Record}
-use Rattle.rq_record.specs.declared.record.Record.TheVariants.{Define, Register, Deregister, Begin, Enqueue, Dequeue, Commit, Abort, Checkpoint, Kill}
+use Rattle.rq_record.specs.declared.record.Record.TheVariants.{Define, Register, Deregister, Begin, Enqueue, Dequeue}
+use Rattle.rq_record.specs.declared.record.Record.TheVariants.{Commit, Abort, Checkpoint, Kill}
 use Rattle.rq_record.specs.Views.{record_of}
 use Rattle.rq_catalog.specs.declared.outcome.Outcome.{Outcome}
 use Rattle.rq_catalog.specs.declared.outcome.Outcome.TheVariants.{Committed, Aborted, Open}
@@ -27,8 +30,11 @@ use Rattle.rq_catalog.specs.declared.catalogue.Catalogue.{Catalogue}
 use Rattle.rq_catalog.specs.Lists.{is_engaged_in, numbered, place_and_index}
 use Rattle.rq_state.specs.Orders.{listed}
 use Rattle.rq_catalog.specs.Outcomes.{outcome_of}
-use Rattle.rq_catalog.specs.Catalogues.{key_eq, names_after, defines, errors_after, registered_after, greatest_by, outcome_after, committed_after, aborted_after, engaged_after, touches_in, Takes, Follows}
-use Rattle.rq_catalog.proofs.Runs.{run_push, any_push, first, from_push, is_open_outcome, open_by_outcome, unseen, touching_push}
+use Rattle.rq_catalog.specs.Catalogues.{key_eq, names_after, defines, errors_after, registered_after, greatest_by}
+use Rattle.rq_catalog.specs.Catalogues.{outcome_after, committed_after, aborted_after, engaged_after, touches_in, Takes}
+use Rattle.rq_catalog.specs.Catalogues.{Follows}
+use Rattle.rq_catalog.proofs.Runs.{run_push, any_push, first, from_push, is_open_outcome, open_by_outcome, unseen}
+use Rattle.rq_catalog.proofs.Runs.{touching_push}
 use Rattle.rq_catalog.proofs.Lawfulness.{count}
 use Rattle.rq_catalog.proofs.Seen.{entries_step}
 use Rattle.rq_catalog.proofs.Engaged.{or_false, any_holds, engaged_step}
@@ -59,8 +65,13 @@ cond_or_first a false = refl
 
 -- Names and registrants.
 
-pub names_step : (t : State) (r : Record) (n : List ℕ) → names_after r n (list_any (λ (d : Definition). bytes_eq d.name n) t.definitions) ≡ list_any (λ (d : Definition). bytes_eq d.name n) (step t (record_of r)).definitions
-names_step t (Define limit error name) n = cond_or (list_any (λ (d : Definition). bytes_eq d.name n) t.definitions) (bytes_eq name n) ∙ sym (any_push (λ (d : Definition). bytes_eq d.name n) t.definitions (record { limit = limit; error = error.0; name = name }))
+pub names_step : (t : State) (r : Record) (n : List ℕ)
+    → names_after r n (list_any (λ (d : Definition). bytes_eq d.name n) t.definitions)
+    ≡ list_any (λ (d : Definition). bytes_eq d.name n) (step t (record_of r)).definitions
+names_step t (Define limit error name) n =
+    cond_or (list_any (λ (d : Definition). bytes_eq d.name n) t.definitions) (bytes_eq name n)
+    ∙ sym (any_push (λ (d : Definition). bytes_eq d.name n) t.definitions
+    (record { limit = limit; error = error.0; name = name }))
 names_step t (Register queue name) n = refl
 names_step t (Deregister queue name) n = refl
 names_step t (Begin unit) n = refl
@@ -71,8 +82,11 @@ names_step t (Abort unit) n = refl
 names_step t (Checkpoint bytes) n = refl
 names_step t (Kill queue element) n = refl
 
-pub errors_step : (t : State) (r : Record) → errors_after r (map (λ (d : Definition). d.error) t.definitions) ≡ map (λ (d : Definition). d.error) (step t (record_of r)).definitions
-errors_step t (Define limit error name) = sym (map-append (λ (d : Definition). d.error) t.definitions (record { limit = limit; error = error.0; name = name } ∷ []))
+pub errors_step : (t : State) (r : Record) → errors_after r (map (λ (d : Definition). d.error) t.definitions)
+    ≡ map (λ (d : Definition). d.error) (step t (record_of r)).definitions
+errors_step t (Define limit error name) =
+    sym (map-append (λ (d : Definition). d.error) t.definitions
+    (record { limit = limit; error = error.0; name = name } ∷ []))
 errors_step t (Register queue name) = refl
 errors_step t (Deregister queue name) = refl
 errors_step t (Begin unit) = refl
@@ -85,39 +99,61 @@ errors_step t (Kill queue element) = refl
 
 module _ (q : ℕ) (n : List ℕ) (k : ℕ × List ℕ) where
   key_parts : key_eq (q, n) k ≡ true → (q ≡ k.0) × (n ≡ k.1)
-  key_parts h = let p = and_parts (nat_eq q k.0) (pointwise nat_eq n k.1) h in (eqb-true q k.0 p.0, (bytes_eq-Decides n k.1).0 p.1)
+  key_parts h = let p = and_parts (nat_eq q k.0) (pointwise nat_eq n k.1) h in
+      (eqb-true q k.0 p.0, (bytes_eq-Decides n k.1).0 p.1)
 
   -- a registrant of both keys
   same_key : (r : Registrant) → is_registrant q n r ≡ true → is_registrant k.0 k.1 r ≡ true → key_eq (q, n) k ≡ true
   same_key r a b =
       let x = and_parts (r.queue == q) (bytes_eq r.name n) a in
       let y = and_parts (r.queue == k.0) (bytes_eq r.name k.1) b in
-      and_from (nat_eq q k.0) (pointwise nat_eq n k.1) (eq-eqb q k.0 (sym (eqb-true r.queue q x.0) ∙ eqb-true r.queue k.0 y.0))
+      and_from (nat_eq q k.0) (pointwise nat_eq n k.1)
+      (eq-eqb q k.0 (sym (eqb-true r.queue q x.0) ∙ eqb-true r.queue k.0 y.0))
       ((bytes_eq-Decides n k.1).1 (sym ((bytes_eq-Decides r.name n).0 x.1) ∙ (bytes_eq-Decides r.name k.1).0 y.1))
 
-  deregistered_step : (rs : List Registrant) → cond (key_eq (q, n) k) false (list_any (is_registrant k.0 k.1) rs) ≡ list_any (is_registrant k.0 k.1) (filter (λ r. not (is_registrant q n r)) rs)
-  deregistered_step rs = by_cases (key_eq (q, n) k) (λ b. key_eq (q, n) k ≡ b → cond b false (list_any (is_registrant k.0 k.1) rs) ≡ list_any (is_registrant k.0 k.1) (filter (λ r. not (is_registrant q n r)) rs))
-      (λ _ e. sym (gone (key_parts e) rs)) (λ _ e. sym (any_filter (is_registrant k.0 k.1) (λ r. not (is_registrant q n r)) (λ r p. ap not (other e r p)) rs)) refl
+  deregistered_step : (rs : List Registrant) → cond (key_eq (q, n) k) false (list_any (is_registrant k.0 k.1) rs)
+      ≡ list_any (is_registrant k.0 k.1) (filter (λ r. not (is_registrant q n r)) rs)
+  deregistered_step rs = by_cases (key_eq (q, n) k)
+      (λ b. key_eq (q, n) k ≡ b → cond b false (list_any (is_registrant k.0 k.1) rs)
+      ≡ list_any (is_registrant k.0 k.1) (filter (λ r. not (is_registrant q n r)) rs))
+      (λ _ e. sym (gone (key_parts e) rs))
+      (λ _ e. sym (any_filter (is_registrant k.0 k.1) (λ r. not (is_registrant q n r))
+      (λ r p. ap not (other e r p)) rs)) refl
     where
       other : key_eq (q, n) k ≡ false → (r : Registrant) → is_registrant k.0 k.1 r ≡ true → is_registrant q n r ≡ false
-      other e r p = by_cases (is_registrant q n r) (λ b. is_registrant q n r ≡ b → b ≡ false) (λ _ h. absurd (false≢true (sym e ∙ same_key r h p))) (λ _ _. refl) refl
+      other e r p = by_cases (is_registrant q n r) (λ b. is_registrant q n r ≡ b → b ≡ false)
+          (λ _ h. absurd (false≢true (sym e ∙ same_key r h p))) (λ _ _. refl) refl
 
-      gone : (q ≡ k.0) × (n ≡ k.1) → (rs : List Registrant) → list_any (is_registrant k.0 k.1) (filter (λ r. not (is_registrant q n r)) rs) ≡ false
-      gone e rs = ap (λ l. l) (subst (λ m. list_any (is_registrant k.0 m) (filter (λ r. not (is_registrant q n r)) rs) ≡ false) e.1 (subst (λ p. list_any (is_registrant p n) (filter (λ r. not (is_registrant q n r)) rs) ≡ false) e.0 (none (is_registrant q n) rs)))
+      gone : (q ≡ k.0) × (n ≡ k.1) → (rs : List Registrant)
+          → list_any (is_registrant k.0 k.1) (filter (λ r. not (is_registrant q n r)) rs) ≡ false
+      gone e rs = ap (λ l. l)
+          (subst (λ m. list_any (is_registrant k.0 m) (filter (λ r. not (is_registrant q n r)) rs) ≡ false) e.1
+          (subst (λ p. list_any (is_registrant p n) (filter (λ r. not (is_registrant q n r)) rs) ≡ false) e.0
+          (none (is_registrant q n) rs)))
         where
           none : (p : Registrant → Bool) (rs : List Registrant) → list_any p (filter (λ r. not (p r)) rs) ≡ false
           none p [] = refl
           none p (r ∷ rs) = grind (arith, none p rs, cases_Bool (p r))
 
-  registered_step : (rs : List Registrant) → cond (key_eq (q, n) k) true (list_any (is_registrant k.0 k.1) rs) ≡ list_any (is_registrant k.0 k.1) (machine.registered q n rs)
+  registered_step : (rs : List Registrant) → cond (key_eq (q, n) k) true (list_any (is_registrant k.0 k.1) rs)
+      ≡ list_any (is_registrant k.0 k.1) (machine.registered q n rs)
   registered_step rs =
-      by_cases (list_any (is_registrant q n) rs) (λ b. list_any (is_registrant q n) rs ≡ b → cond (key_eq (q, n) k) true (list_any (is_registrant k.0 k.1) rs) ≡ list_any (is_registrant k.0 k.1) (if b then rs else put registrant_before (record { queue = q; name = n; last = None }) rs))
-      (λ _ e. by_cases (key_eq (q, n) k) (λ b. key_eq (q, n) k ≡ b → cond b true (list_any (is_registrant k.0 k.1) rs) ≡ list_any (is_registrant k.0 k.1) rs)
-      (λ _ h. let p = key_parts h in sym (subst (λ m. list_any (is_registrant k.0 m) rs ≡ true) p.1 (subst (λ l. list_any (is_registrant l n) rs ≡ true) p.0 e))) (λ _ _. refl) refl)
-      (λ _ _. cond_or_first (list_any (is_registrant k.0 k.1) rs) (key_eq (q, n) k) ∙ sym (any_put (is_registrant k.0 k.1) registrant_before (record { queue = q; name = n; last = None }) rs))
+      by_cases (list_any (is_registrant q n) rs)
+      (λ b. list_any (is_registrant q n) rs ≡ b → cond (key_eq (q, n) k) true (list_any (is_registrant k.0 k.1) rs)
+      ≡ list_any (is_registrant k.0 k.1)
+      (if b then rs else put registrant_before (record { queue = q; name = n; last = None }) rs))
+      (λ _ e. by_cases (key_eq (q, n) k)
+      (λ b. key_eq (q, n) k ≡ b → cond b true (list_any (is_registrant k.0 k.1) rs)
+      ≡ list_any (is_registrant k.0 k.1) rs)
+      (λ _ h. let p = key_parts h in
+      sym (subst (λ m. list_any (is_registrant k.0 m) rs ≡ true) p.1
+      (subst (λ l. list_any (is_registrant l n) rs ≡ true) p.0 e))) (λ _ _. refl) refl)
+      (λ _ _. cond_or_first (list_any (is_registrant k.0 k.1) rs) (key_eq (q, n) k)
+      ∙ sym (any_put (is_registrant k.0 k.1) registrant_before (record { queue = q; name = n; last = None }) rs))
       refl
 
-pub registrants_step : (t : State) (r : Record) (k : ℕ × List ℕ) → registered_after r k (is_registered t k.0 k.1) ≡ is_registered (step t (record_of r)) k.0 k.1
+pub registrants_step : (t : State) (r : Record) (k : ℕ × List ℕ)
+    → registered_after r k (is_registered t k.0 k.1) ≡ is_registered (step t (record_of r)) k.0 k.1
 registrants_step t (Register queue name) k = registered_step queue.0 name k t.registrants
 registrants_step t (Deregister queue name) k = deregistered_step queue.0 name k t.registrants
 registrants_step t (Commit unit) k = sym (any_map (machine.told unit.0 t.notes) (is_registrant k.0 k.1) t.registrants)
@@ -174,78 +210,136 @@ first_open (machine.Committed place) = refl
 first_open (machine.Aborted place) = refl
 first_open machine.Open = refl
 
-opened : (b : Bool) (o : machine.Outcome) → is_open_outcome (if b then Some o else None) ≡ true → (b ≡ true) × (o ≡ machine.Open)
+opened : (b : Bool) (o : machine.Outcome) → is_open_outcome (if b then Some o else None) ≡ true
+    → (b ≡ true) × (o ≡ machine.Open)
 opened true machine.Open h = (refl, refl)
 opened true (machine.Committed place) h = absurd (false≢true h)
 opened true (machine.Aborted place) h = absurd (false≢true h)
 opened false o h = absurd (false≢true h)
 
 module _ (s : State) (xs : List model.Record) (u : ℕ) where
-  outcome_push : (m : model.Record) → outcome s (xs ++ m ∷ []) u ≡ (if is_open s u || (list_any (begins u) xs || begins u m) then Some (first (outcome_from s.next u xs) (outcome_from (s.next + length xs) u (m ∷ []))) else None)
+  outcome_push : (m : model.Record) → outcome s (xs ++ m ∷ []) u
+      ≡ (if is_open s u || (list_any (begins u) xs || begins u m) then Some
+      (first (outcome_from s.next u xs) (outcome_from (s.next + length xs) u (m ∷ []))) else None)
   outcome_push m = λ i. if is_open s u || any_push (begins u) xs m i then Some (from_push s.next u xs m i) else None
 
   -- a record that neither begins nor closes the unit
-  outcome_same : (m : model.Record) → begins u m ≡ false → outcome_from (s.next + length xs) u (m ∷ []) ≡ machine.Open → outcome s xs u ≡ outcome s (xs ++ m ∷ []) u
-  outcome_same m b o = sym (outcome_push m ∙ (λ i. if is_open s u || (list_any (begins u) xs || b i) then Some (first (outcome_from s.next u xs) (o i)) else None)
-      ∙ (λ i. if is_open s u || or_false (list_any (begins u) xs) i then Some (first_open (outcome_from s.next u xs) i) else None))
+  outcome_same : (m : model.Record) → begins u m ≡ false → outcome_from (s.next + length xs) u (m ∷ []) ≡ machine.Open
+      → outcome s xs u ≡ outcome s (xs ++ m ∷ []) u
+  outcome_same m b o =
+      sym (outcome_push m
+      ∙ (λ i. if is_open s u || (list_any (begins u) xs || b i) then Some
+      (first (outcome_from s.next u xs) (o i)) else None)
+      ∙ (λ i. if is_open s u || or_false (list_any (begins u) xs) i then Some
+      (first_open (outcome_from s.next u xs) i) else None))
 
-outcomes_step : (version : Version) (s : State) (xs : List model.Record) (r : Record) (u : ℕ) (old : Option Outcome) → IsWellFormed s → all_lawful version s xs ≡ true → is_lawful version (run s xs) (record_of r) ≡ true
-    → option_map outcome_of old ≡ outcome s xs u → option_map outcome_of (outcome_after (s.next + length xs) r u old) ≡ outcome s (xs ++ record_of r ∷ []) u
+outcomes_step : (version : Version) (s : State) (xs : List model.Record) (r : Record) (u : ℕ) (old : Option Outcome)
+    → IsWellFormed s → all_lawful version s xs ≡ true → is_lawful version (run s xs) (record_of r) ≡ true
+    → option_map outcome_of old ≡ outcome s xs u → option_map outcome_of (outcome_after (s.next + length xs) r u old)
+    ≡ outcome s (xs ++ record_of r ∷ []) u
 outcomes_step version s xs (Begin unit) u old well lawful ok e =
-    by_cases (nat_eq unit.0 u) (λ b. nat_eq unit.0 u ≡ b → option_map outcome_of (cond b (Some Open) old) ≡ outcome s (xs ++ model.Begin unit.0 ∷ []) u)
+    by_cases (nat_eq unit.0 u) (λ b. nat_eq unit.0 u ≡ b
+    → option_map outcome_of (cond b (Some Open) old) ≡ outcome s (xs ++ model.Begin unit.0 ∷ []) u)
     (λ _ h. sym (outcome_push s xs u (model.Begin unit.0)
-    ∙ (λ i. if is_open s u || (list_any (begins u) xs || h i) then Some (first (unseen version s xs s.next u well lawful (subst (λ v. (run s xs).greatest < v) (eqb-true unit.0 u h) (ltb-true (run s xs).greatest unit.0 ok)) i) machine.Open) else None)
+    ∙ (λ i. if is_open s u || (list_any (begins u) xs || h i) then Some
+    (first (unseen version s xs s.next u well lawful
+    (subst (λ v. (run s xs).greatest < v) (eqb-true unit.0 u h) (ltb-true (run s xs).greatest unit.0 ok)) i)
+    machine.Open) else None)
     ∙ ap (λ b. if b then Some machine.Open else None) (or_true (list_any (begins u) xs) (is_open s u))))
     (λ _ h. e ∙ outcome_same s xs u (model.Begin unit.0) h refl)
     refl
 outcomes_step version s xs (Commit unit) u old well lawful ok e =
-    by_cases (nat_eq unit.0 u) (λ b. nat_eq unit.0 u ≡ b → option_map outcome_of (cond b (Some (Committed (s.next + length xs))) old) ≡ outcome s (xs ++ model.Commit unit.0 ∷ []) u)
-    (λ _ h. let p = opened (is_open s u || list_any (begins u) xs) (outcome_from s.next u xs) (sym (open_by_outcome version s xs u well lawful) ∙ subst (λ v. is_open (run s xs) v ≡ true) (eqb-true unit.0 u h) ok) in
+    by_cases (nat_eq unit.0 u) (λ b. nat_eq unit.0 u ≡ b
+    → option_map outcome_of (cond b (Some (Committed (s.next + length xs))) old)
+    ≡ outcome s (xs ++ model.Commit unit.0 ∷ []) u)
+    (λ _ h. let p = opened (is_open s u || list_any (begins u) xs) (outcome_from s.next u xs)
+    (sym (open_by_outcome version s xs u well lawful)
+    ∙ subst (λ v. is_open (run s xs) v ≡ true) (eqb-true unit.0 u h) ok) in
     sym (outcome_push s xs u (model.Commit unit.0)
-    ∙ (λ i. if is_open s u || or_false (list_any (begins u) xs) i then Some (first (p.1 i) (if h i then machine.Committed (s.next + length xs) else machine.Open)) else None)
+    ∙ (λ i. if is_open s u || or_false (list_any (begins u) xs) i then Some
+    (first (p.1 i) (if h i then machine.Committed (s.next + length xs) else machine.Open)) else None)
     ∙ ap (λ b. if b then Some (machine.Committed (s.next + length xs)) else None) p.0))
-    (λ _ h. e ∙ outcome_same s xs u (model.Commit unit.0) refl (ap (λ b. if b then machine.Committed (s.next + length xs) else machine.Open) h))
+    (λ _ h. e ∙ outcome_same s xs u (model.Commit unit.0) refl
+    (ap (λ b. if b then machine.Committed (s.next + length xs) else machine.Open) h))
     refl
 outcomes_step version s xs (Abort unit) u old well lawful ok e =
-    by_cases (nat_eq unit.0 u) (λ b. nat_eq unit.0 u ≡ b → option_map outcome_of (cond b (Some (Aborted (s.next + length xs))) old) ≡ outcome s (xs ++ model.Abort unit.0 ∷ []) u)
-    (λ _ h. let p = opened (is_open s u || list_any (begins u) xs) (outcome_from s.next u xs) (sym (open_by_outcome version s xs u well lawful) ∙ subst (λ v. is_open (run s xs) v ≡ true) (eqb-true unit.0 u h) ok) in
+    by_cases (nat_eq unit.0 u) (λ b. nat_eq unit.0 u ≡ b
+    → option_map outcome_of (cond b (Some (Aborted (s.next + length xs))) old)
+    ≡ outcome s (xs ++ model.Abort unit.0 ∷ []) u)
+    (λ _ h. let p = opened (is_open s u || list_any (begins u) xs) (outcome_from s.next u xs)
+    (sym (open_by_outcome version s xs u well lawful)
+    ∙ subst (λ v. is_open (run s xs) v ≡ true) (eqb-true unit.0 u h) ok) in
     sym (outcome_push s xs u (model.Abort unit.0)
-    ∙ (λ i. if is_open s u || or_false (list_any (begins u) xs) i then Some (first (p.1 i) (if h i then machine.Aborted (s.next + length xs) else machine.Open)) else None)
+    ∙ (λ i. if is_open s u || or_false (list_any (begins u) xs) i then Some
+    (first (p.1 i) (if h i then machine.Aborted (s.next + length xs) else machine.Open)) else None)
     ∙ ap (λ b. if b then Some (machine.Aborted (s.next + length xs)) else None) p.0))
-    (λ _ h. e ∙ outcome_same s xs u (model.Abort unit.0) refl (ap (λ b. if b then machine.Aborted (s.next + length xs) else machine.Open) h))
+    (λ _ h. e ∙ outcome_same s xs u (model.Abort unit.0) refl
+    (ap (λ b. if b then machine.Aborted (s.next + length xs) else machine.Open) h))
     refl
-outcomes_step version s xs (Define limit error name) u old well lawful ok e = e ∙ outcome_same s xs u (model.Define limit error.0 name) refl refl
-outcomes_step version s xs (Register queue name) u old well lawful ok e = e ∙ outcome_same s xs u (model.Register queue.0 name) refl refl
-outcomes_step version s xs (Deregister queue name) u old well lawful ok e = e ∙ outcome_same s xs u (model.Deregister queue.0 name) refl refl
-outcomes_step version s xs (Enqueue priority queue unit by payload) u old well lawful ok e = e ∙ outcome_same s xs u (model.Enqueue unit.0 queue.0 priority by payload) refl refl
-outcomes_step version s xs (Dequeue unit queue by) u old well lawful ok e = e ∙ outcome_same s xs u (model.Dequeue unit.0 queue.0 by) refl refl
-outcomes_step version s xs (Checkpoint bytes) u old well lawful ok e = e ∙ outcome_same s xs u (model.Checkpoint bytes) refl refl
-outcomes_step version s xs (Kill queue element) u old well lawful ok e = e ∙ outcome_same s xs u (model.Kill queue.0 element.0) refl refl
+outcomes_step version s xs (Define limit error name) u old well lawful ok e =
+    e ∙ outcome_same s xs u (model.Define limit error.0 name) refl refl
+outcomes_step version s xs (Register queue name) u old well lawful ok e =
+    e ∙ outcome_same s xs u (model.Register queue.0 name) refl refl
+outcomes_step version s xs (Deregister queue name) u old well lawful ok e =
+    e ∙ outcome_same s xs u (model.Deregister queue.0 name) refl refl
+outcomes_step version s xs (Enqueue priority queue unit by payload) u old well lawful ok e =
+    e ∙ outcome_same s xs u (model.Enqueue unit.0 queue.0 priority by payload) refl refl
+outcomes_step version s xs (Dequeue unit queue by) u old well lawful ok e =
+    e ∙ outcome_same s xs u (model.Dequeue unit.0 queue.0 by) refl refl
+outcomes_step version s xs (Checkpoint bytes) u old well lawful ok e =
+    e ∙ outcome_same s xs u (model.Checkpoint bytes) refl refl
+outcomes_step version s xs (Kill queue element) u old well lawful ok e =
+    e ∙ outcome_same s xs u (model.Kill queue.0 element.0) refl refl
 
 -- Engagement.
 
 -- queues that are engaged are defined
 engaged_at_first : (s : State) (q u : ℕ) → IsWellFormed s → is_engaged s q u ≡ true → q < length s.definitions
 engaged_at_first s q u well h =
-    by_cases (list_any (λ (e : Element). (e.home == q) && is_marked u e.mark) s.elements) (λ b. list_any (λ (e : Element). (e.home == q) && is_marked u e.mark) s.elements ≡ b → (b || list_any (λ (n : Note). (n.queue == q) && (n.unit == u)) s.notes) ≡ true → q < length s.definitions)
-    (λ _ e _. any_holds (λ (e : Element). e.home < length s.definitions) (q < length s.definitions) (λ (e : Element). (e.home == q) && is_marked u e.mark)
-    (λ e p k. subst (λ v. v < length s.definitions) (eqb-true e.home q (and_parts (e.home == q) (is_marked u e.mark) p).0) k) s.elements (element_homes s well) e)
-    (λ _ _ o. any_holds (λ (n : Note). n.queue < length s.definitions) (q < length s.definitions) (λ (n : Note). (n.queue == q) && (n.unit == u))
-    (λ n p k. subst (λ v. v < length s.definitions) (eqb-true n.queue q (and_parts (n.queue == q) (n.unit == u) p).0) k) s.notes (note_queues s well) o)
+    by_cases (list_any (λ (e : Element). (e.home == q) && is_marked u e.mark) s.elements)
+    (λ b. list_any (λ (e : Element). (e.home == q) && is_marked u e.mark) s.elements ≡ b
+    → (b || list_any (λ (n : Note). (n.queue == q) && (n.unit == u)) s.notes) ≡ true → q < length s.definitions)
+    (λ _ e _. any_holds (λ (e : Element). e.home < length s.definitions) (q < length s.definitions)
+    (λ (e : Element). (e.home == q) && is_marked u e.mark)
+    (λ e p k. subst (λ v. v < length s.definitions)
+    (eqb-true e.home q (and_parts (e.home == q) (is_marked u e.mark) p).0) k) s.elements (element_homes s well) e)
+    (λ _ _ o. any_holds (λ (n : Note). n.queue < length s.definitions) (q < length s.definitions)
+    (λ (n : Note). (n.queue == q) && (n.unit == u))
+    (λ n p k. subst (λ v. v < length s.definitions) (eqb-true n.queue q (and_parts (n.queue == q) (n.unit == u) p).0) k)
+    s.notes (note_queues s well) o)
     refl h
 
 grow : (s : State) (xs : List model.Record) → length s.definitions ≤ length (run s xs).definitions
 grow s xs = omega (arith, ap length (run_definitions s xs), length-append s.definitions (defined_by xs))
 
-engaged_later : (version : Version) (s : State) (xs : List model.Record) (q u : ℕ) → all_lawful version s xs ≡ true → list_any (engages q u) xs ≡ true → q < length (run s xs).definitions
+engaged_later : (version : Version) (s : State) (xs : List model.Record) (q u : ℕ) → all_lawful version s xs ≡ true
+    → list_any (engages q u) xs ≡ true → q < length (run s xs).definitions
 engaged_later version s [] q u lawful h = absurd (false≢true h)
 engaged_later version s (x ∷ xs) q u lawful h =
-    by_cases (engages q u x) (λ b. engages q u x ≡ b → (b || list_any (engages q u) xs) ≡ true → q < length (run (step s x) xs).definitions)
-    (λ _ e _. at x e (and_parts (is_lawful version s x) (all_lawful version (step s x) xs) lawful).0 (grow s (x ∷ xs))) (λ _ _ o. engaged_later version (step s x) xs q u (and_parts (is_lawful version s x) (all_lawful version (step s x) xs) lawful).1 o) refl h
+    by_cases (engages q u x) (λ b. engages q u x ≡ b → (b || list_any (engages q u) xs) ≡ true
+    → q < length (run (step s x) xs).definitions)
+    (λ _ e _. at x e (and_parts (is_lawful version s x) (all_lawful version (step s x) xs) lawful).0 (grow s (x ∷ xs)))
+    (λ _ _ o. engaged_later version (step s x) xs q u
+    (and_parts (is_lawful version s x) (all_lawful version (step s x) xs) lawful).1 o) refl h
   where
-    at : (x : model.Record) → engages q u x ≡ true → is_lawful version s x ≡ true → length s.definitions ≤ length (run s (x ∷ xs)).definitions → q < length (run s (x ∷ xs)).definitions
-    at (model.Enqueue v k priority by payload) e l g = omega (arith, g, ltb-true k (length s.definitions) (and_parts (machine.is_defined s k) (is_open s v && is_known s k by) l).0, eqb-true k q (and_parts (v == u) (k == q) e).1)
-    at (model.Dequeue v k by) e l g = omega (arith, g, ltb-true k (length s.definitions) (and_parts (machine.is_defined s k) (is_open s v && is_known s k by) l).0, eqb-true k q (and_parts (v == u) (k == q) e).1)
+    at : (x : model.Record) → engages q u x ≡ true → is_lawful version s x ≡ true
+        → length s.definitions ≤ length (run s (x ∷ xs)).definitions → q < length (run s (x ∷ xs)).definitions
+    at (model.Enqueue v k priority by payload) e l g =
+        omega (
+          arith,
+          g,
+          ltb-true k (length s.definitions)
+              (and_parts (machine.is_defined s k) (is_open s v && is_known s k by) l).0,
+          eqb-true k q (and_parts (v == u) (k == q) e).1,
+        )
+    at (model.Dequeue v k by) e l g =
+        omega (
+          arith,
+          g,
+          ltb-true k (length s.definitions)
+              (and_parts (machine.is_defined s k) (is_open s v && is_known s k by) l).0,
+          eqb-true k q (and_parts (v == u) (k == q) e).1,
+        )
     at (model.Define limit error name) e l g = absurd (false≢true e)
     at (model.Register k name) e l g = absurd (false≢true e)
     at (model.Deregister k name) e l g = absurd (false≢true e)
@@ -255,71 +349,118 @@ engaged_later version s (x ∷ xs) q u lawful h =
     at (model.Checkpoint bytes) e l g = absurd (false≢true e)
     at (model.Kill k i) e l g = absurd (false≢true e)
 
-engaged_defined : (version : Version) (s : State) (xs : List model.Record) (q u : ℕ) → IsWellFormed s → all_lawful version s xs ≡ true → (is_engaged s q u || list_any (engages q u) xs) ≡ true → q < length (run s xs).definitions
+engaged_defined : (version : Version) (s : State) (xs : List model.Record) (q u : ℕ) → IsWellFormed s
+    → all_lawful version s xs ≡ true → (is_engaged s q u || list_any (engages q u) xs) ≡ true
+    → q < length (run s xs).definitions
 engaged_defined version s xs q u well lawful h =
-    by_cases (is_engaged s q u) (λ b. is_engaged s q u ≡ b → (b || list_any (engages q u) xs) ≡ true → q < length (run s xs).definitions)
-    (λ _ e _. omega (arith, grow s xs, engaged_at_first s q u well e)) (λ _ _ o. engaged_later version s xs q u lawful o) refl h
+    by_cases (is_engaged s q u) (λ b. is_engaged s q u ≡ b → (b || list_any (engages q u) xs) ≡ true
+    → q < length (run s xs).definitions)
+    (λ _ e _. omega (arith, grow s xs, engaged_at_first s q u well e))
+    (λ _ _ o. engaged_later version s xs q u lawful o) refl h
 
 -- Touch.
 
-numbered_push : (s : State) (xs : List model.Record) (m : model.Record) (q : ℕ) → numbered s (xs ++ m ∷ []) q ≡ (if touches s xs q m then numbered s xs q ++ (s.next + length xs, length xs) ∷ [] else numbered s xs q)
+numbered_push : (s : State) (xs : List model.Record) (m : model.Record) (q : ℕ)
+    → numbered s (xs ++ m ∷ []) q
+    ≡ (if touches s xs q m then numbered s xs q ++ (s.next + length xs, length xs) ∷ [] else numbered s xs q)
 numbered_push s xs m q =
     ap (map (place_and_index s.next)) (touching_push s.next s [] xs m q)
-    ∙ map-append (place_and_index s.next) (touching s xs q) (if touches s xs q m then record { place = s.next + length xs; does = m } ∷ [] else [])
-    ∙ by_cases (touches s xs q m) (λ b. map (place_and_index s.next) (touching s xs q) ++ map (place_and_index s.next) (if b then record { place = s.next + length xs; does = m } ∷ [] else []) ≡ (if b then numbered s xs q ++ (s.next + length xs, length xs) ∷ [] else numbered s xs q))
-    (λ _. ap (λ (n : ℕ). numbered s xs q ++ (s.next + length xs, n) ∷ []) (minus s.next (length xs))) (λ _. append-nil (numbered s xs q))
+    ∙ map-append (place_and_index s.next) (touching s xs q)
+    (if touches s xs q m then record { place = s.next + length xs; does = m } ∷ [] else [])
+    ∙ by_cases (touches s xs q m)
+    (λ b. map (place_and_index s.next) (touching s xs q)
+    ++ map (place_and_index s.next) (if b then record { place = s.next + length xs; does = m } ∷ [] else [])
+    ≡ (if b then numbered s xs q ++ (s.next + length xs, length xs) ∷ [] else numbered s xs q))
+    (λ _. ap (λ (n : ℕ). numbered s xs q ++ (s.next + length xs, n) ∷ []) (minus s.next (length xs)))
+    (λ _. append-nil (numbered s xs q))
   where
     minus : (a b : ℕ) → a + b - a ≡ b
     minus a b = omega arith
 
 below_more : (k q n : ℕ) → nat_lt k n ≡ true → ((k == q) && nat_lt q n) ≡ (k == q)
-below_more k q n h = by_cases (k == q) (λ b. (k == q) ≡ b → (b && nat_lt q n) ≡ b) (λ _ e. subst (λ v. nat_lt v n ≡ true) (eqb-true k q e) h) (λ _ _. refl) refl
+below_more k q n h = by_cases (k == q) (λ b. (k == q) ≡ b → (b && nat_lt q n) ≡ b)
+    (λ _ e. subst (λ v. nat_lt v n ≡ true) (eqb-true k q e) h) (λ _ _. refl) refl
 
-module _ (version : Version) (c : Catalogue) (s : State) (xs : List model.Record) (f : Follows c s xs) (well : IsWellFormed s) (lawful : all_lawful version s xs ≡ true) where
-  kill_defined : (v : Version) (k i : ℕ) → is_lawful v (run s xs) (model.Kill k i) ≡ true → nat_lt k (length (run s xs).definitions) ≡ true
+module _ (version : Version) (c : Catalogue) (s : State) (xs : List model.Record) (f : Follows c s xs)
+    (well : IsWellFormed s) (lawful : all_lawful version s xs ≡ true) where
+  kill_defined : (v : Version) (k i : ℕ) → is_lawful v (run s xs) (model.Kill k i) ≡ true
+      → nat_lt k (length (run s xs).definitions) ≡ true
   kill_defined model.One k i h = absurd (false≢true h)
   kill_defined model.Two k i h = h
 
-  touches_step : (r : Record) (q : ℕ) → is_lawful version (run s xs) (record_of r) ≡ true → (touches_in c r q && nat_lt q (length c.touching.items)) ≡ touches s xs q (record_of r)
+  touches_step : (r : Record) (q : ℕ) → is_lawful version (run s xs) (record_of r) ≡ true
+      → (touches_in c r q && nat_lt q (length c.touching.items)) ≡ touches s xs q (record_of r)
   touches_step r q ok = ap (λ n. touches_in c r q && nat_lt q n) (f.queues ∙ count c s xs f) ∙ at r ok
     where
-      closing : (u : ℕ) → is_open (run s xs) u ≡ true → (is_engaged_in (get nat_eq c.engaged u) q && nat_lt q (length (run s xs).definitions)) ≡ (is_engaged s q u || list_any (engages q u) xs)
-      closing u l = ap (λ b. b && nat_lt q (length (run s xs).definitions)) (f.engaged u q ∙ ap (λ b. b && (is_engaged s q u || list_any (engages q u) xs)) l)
-          ∙ by_cases (is_engaged s q u || list_any (engages q u) xs) (λ b. (is_engaged s q u || list_any (engages q u) xs) ≡ b → (b && nat_lt q (length (run s xs).definitions)) ≡ b) (λ _ e. lt-ltb q (length (run s xs).definitions) (engaged_defined version s xs q u well lawful e)) (λ _ _. refl) refl
+      closing : (u : ℕ) → is_open (run s xs) u ≡ true
+          → (is_engaged_in (get nat_eq c.engaged u) q && nat_lt q (length (run s xs).definitions))
+          ≡ (is_engaged s q u || list_any (engages q u) xs)
+      closing u l = ap (λ b. b && nat_lt q (length (run s xs).definitions))
+          (f.engaged u q ∙ ap (λ b. b && (is_engaged s q u || list_any (engages q u) xs)) l)
+          ∙ by_cases (is_engaged s q u || list_any (engages q u) xs)
+          (λ b. (is_engaged s q u || list_any (engages q u) xs) ≡ b
+          → (b && nat_lt q (length (run s xs).definitions)) ≡ b)
+          (λ _ e. lt-ltb q (length (run s xs).definitions) (engaged_defined version s xs q u well lawful e))
+          (λ _ _. refl) refl
 
-      at : (r : Record) → is_lawful version (run s xs) (record_of r) ≡ true → (touches_in c r q && nat_lt q (length (run s xs).definitions)) ≡ touches s xs q (record_of r)
+      at : (r : Record) → is_lawful version (run s xs) (record_of r) ≡ true
+          → (touches_in c r q && nat_lt q (length (run s xs).definitions)) ≡ touches s xs q (record_of r)
       at (Register queue name) l = below_more queue.0 q (length (run s xs).definitions) l
-      at (Deregister queue name) l = below_more queue.0 q (length (run s xs).definitions) (registered_defined queue.0 name l)
+      at (Deregister queue name) l = below_more queue.0 q (length (run s xs).definitions)
+          (registered_defined queue.0 name l)
         where
-          registered_defined : (k : ℕ) (name : List ℕ) → is_registered (run s xs) k name ≡ true → nat_lt k (length (run s xs).definitions) ≡ true
+          registered_defined : (k : ℕ) (name : List ℕ) → is_registered (run s xs) k name ≡ true
+              → nat_lt k (length (run s xs).definitions) ≡ true
           registered_defined k name h = lt-ltb k (length (run s xs).definitions)
-              (any_holds (λ (r : Registrant). r.queue < length (run s xs).definitions) (k < length (run s xs).definitions) (is_registrant k name)
-              (λ r p b. subst (λ v. v < length (run s xs).definitions) (eqb-true r.queue k (and_parts (r.queue == k) (bytes_eq r.name name) p).0) b) (run s xs).registrants (registrant_queues (run s xs) (runs_are_well_formed version s xs well lawful)) h)
-      at (Enqueue priority queue unit by payload) l = below_more queue.0 q (length (run s xs).definitions) (and_parts (machine.is_defined (run s xs) queue.0) (is_open (run s xs) unit.0 && is_known (run s xs) queue.0 by) l).0
-      at (Dequeue unit queue by) l = below_more queue.0 q (length (run s xs).definitions) (and_parts (machine.is_defined (run s xs) queue.0) (is_open (run s xs) unit.0 && is_known (run s xs) queue.0 by) l).0
+              (any_holds (λ (r : Registrant). r.queue < length (run s xs).definitions)
+              (k < length (run s xs).definitions) (is_registrant k name)
+              (λ r p b. subst (λ v. v < length (run s xs).definitions)
+              (eqb-true r.queue k (and_parts (r.queue == k) (bytes_eq r.name name) p).0) b) (run s xs).registrants
+              (registrant_queues (run s xs) (runs_are_well_formed version s xs well lawful)) h)
+      at (Enqueue priority queue unit by payload) l =
+          below_more queue.0 q (length (run s xs).definitions)
+          (and_parts (machine.is_defined (run s xs) queue.0)
+          (is_open (run s xs) unit.0 && is_known (run s xs) queue.0 by) l).0
+      at (Dequeue unit queue by) l = below_more queue.0 q (length (run s xs).definitions)
+          (and_parts (machine.is_defined (run s xs) queue.0)
+          (is_open (run s xs) unit.0 && is_known (run s xs) queue.0 by) l).0
       at (Commit unit) l = closing unit.0 l
       at (Abort unit) l = closing unit.0 l
       at (Define limit error name) l = refl
       at (Begin unit) l = refl
       at (Checkpoint bytes) l = refl
-      at (Kill queue element) l = below_more queue.0 q (length (run s xs).definitions) (kill_defined version queue.0 element.0 l)
+      at (Kill queue element) l = below_more queue.0 q (length (run s xs).definitions)
+          (kill_defined version queue.0 element.0 l)
 
   -- a lawful record keeps the agreement
-  pub follows_step : (d : Catalogue) (r : Record) → is_lawful version (run s xs) (record_of r) ≡ true → Takes c d (s.next + length xs, length xs) r → Follows d s (xs ++ record_of r ∷ [])
+  pub follows_step : (d : Catalogue) (r : Record) → is_lawful version (run s xs) (record_of r) ≡ true
+      → Takes c d (s.next + length xs, length xs) r → Follows d s (xs ++ record_of r ∷ [])
   follows_step d r ok t = record {
-    names = λ n. t.names n ∙ ap (names_after r n) (f.names n) ∙ names_step (run s xs) r n ∙ ap (λ (z : State). list_any (λ (d : Definition). bytes_eq d.name n) z.definitions) back;
-    errors = t.errors ∙ ap (errors_after r) f.errors ∙ errors_step (run s xs) r ∙ ap (λ (z : State). map (λ (d : Definition). d.error) z.definitions) back;
-    registrants = λ k. t.registrants k ∙ ap (registered_after r k) (f.registrants k) ∙ registrants_step (run s xs) r k ∙ ap (λ z. is_registered z k.0 k.1) back;
-    greatest = t.greatest ∙ ap (greatest_by r) f.greatest ∙ greatest_step (run s xs) r ∙ ap (λ (z : State). z.greatest) back;
-    outcomes = λ u. ap (option_map outcome_of) (t.outcomes u) ∙ outcomes_step version s xs r u (get nat_eq c.outcomes u) well lawful ok (f.outcomes u);
-    units = ap keys_of t.entries ∙ entries_step version s xs well lawful (s.next + length xs) r c.outcomes.entries ok f.units;
-    committed = t.committed ∙ ap (committed_after r) f.committed ∙ committed_step (run s xs) r ∙ ap (λ (z : State). z.committed) back;
-    aborted = t.aborted ∙ ap (aborted_after r) f.aborted ∙ aborted_step (run s xs) r ∙ ap (λ (z : State). z.aborted) back;
-    engaged = λ u q. t.engaged u q ∙ ap (engaged_after r u q) (f.engaged u q) ∙ engaged_step version s xs r u q well lawful ok ∙ ap (λ z. is_open z u && (is_engaged s q u || list_any (engages q u) (xs ++ record_of r ∷ []))) back;
+    names = λ n. t.names n ∙ ap (names_after r n) (f.names n) ∙ names_step (run s xs) r n
+        ∙ ap (λ (z : State). list_any (λ (d : Definition). bytes_eq d.name n) z.definitions) back;
+    errors = t.errors ∙ ap (errors_after r) f.errors ∙ errors_step (run s xs) r
+        ∙ ap (λ (z : State). map (λ (d : Definition). d.error) z.definitions) back;
+    registrants = λ k. t.registrants k ∙ ap (registered_after r k) (f.registrants k) ∙ registrants_step (run s xs) r k
+        ∙ ap (λ z. is_registered z k.0 k.1) back;
+    greatest = t.greatest ∙ ap (greatest_by r) f.greatest ∙ greatest_step (run s xs) r
+        ∙ ap (λ (z : State). z.greatest) back;
+    outcomes = λ u. ap (option_map outcome_of) (t.outcomes u)
+        ∙ outcomes_step version s xs r u (get nat_eq c.outcomes u) well lawful ok (f.outcomes u);
+    units = ap keys_of t.entries ∙ entries_step version s xs well lawful
+        (s.next + length xs) r c.outcomes.entries ok f.units;
+    committed = t.committed ∙ ap (committed_after r) f.committed ∙ committed_step (run s xs) r
+        ∙ ap (λ (z : State). z.committed) back;
+    aborted = t.aborted ∙ ap (aborted_after r) f.aborted ∙ aborted_step (run s xs) r
+        ∙ ap (λ (z : State). z.aborted) back;
+    engaged = λ u q. t.engaged u q ∙ ap (engaged_after r u q) (f.engaged u q)
+        ∙ engaged_step version s xs r u q well lawful ok
+        ∙ ap (λ z. is_open z u && (is_engaged s q u || list_any (engages q u) (xs ++ record_of r ∷ []))) back;
     queues = t.queues ∙ ap (λ n. n + defines r) f.queues ∙ longer r c.errors.items ∙ ap length (sym t.errors);
     touching = λ q. t.touching q
-        ∙ ap (λ b. if b then listed c.touching.items q ++ (s.next + length xs, length xs) ∷ [] else listed c.touching.items q) (touches_step r q ok)
-        ∙ ap (λ l. if touches s xs q (record_of r) then l ++ (s.next + length xs, length xs) ∷ [] else l) (f.touching q) ∙ sym (numbered_push s xs (record_of r) q);
+        ∙ ap (λ b. if b then listed c.touching.items q ++ (s.next + length xs, length xs)
+        ∷ [] else listed c.touching.items q) (touches_step r q ok)
+        ∙ ap (λ l. if touches s xs q (record_of r) then l ++ (s.next + length xs, length xs) ∷ [] else l) (f.touching q)
+        ∙ sym (numbered_push s xs (record_of r) q);
   }
     where
       back : step (run s xs) (record_of r) ≡ run s (xs ++ record_of r ∷ [])
@@ -339,18 +480,29 @@ module _ (version : Version) (c : Catalogue) (s : State) (xs : List model.Record
 
 -- Places.
 
-places_rise : (place : ℕ) (s : State) (before rs : List model.Record) (q : ℕ) → AllByRecursion (λ (op : Op). op.place < place + length rs) (touching_from place s before rs q)
+places_rise : (place : ℕ) (s : State) (before rs : List model.Record) (q : ℕ)
+    → AllByRecursion (λ (op : Op). op.place < place + length rs) (touching_from place s before rs q)
 places_rise place s before [] q = tt
 places_rise place s before (r ∷ rs) q =
-    by_cases (touches s before q r) (λ b. AllByRecursion (λ (op : Op). op.place < place + length (r ∷ rs)) (if b then record { place = place; does = r } ∷ touching_from (place + 1) s (before ++ r ∷ []) rs q else touching_from (place + 1) s (before ++ r ∷ []) rs q))
-    (λ _. (here place (length rs), up (places_rise (place + 1) s (before ++ r ∷ []) rs q))) (λ _. up (places_rise (place + 1) s (before ++ r ∷ []) rs q))
+    by_cases (touches s before q r)
+    (λ b. AllByRecursion (λ (op : Op). op.place < place + length (r ∷ rs))
+    (if b then record { place = place; does = r }
+    ∷ touching_from (place + 1) s (before ++ r ∷ []) rs q else touching_from (place + 1) s (before ++ r ∷ []) rs q))
+    (λ _. (here place (length rs), up (places_rise (place + 1) s (before ++ r ∷ []) rs q)))
+    (λ _. up (places_rise (place + 1) s (before ++ r ∷ []) rs q))
   where
     here : (a b : ℕ) → a < a + suc b
     here a b = omega arith
 
-    up : AllByRecursion (λ (op : Op). op.place < place + 1 + length rs) (touching_from (place + 1) s (before ++ r ∷ []) rs q) → AllByRecursion (λ (op : Op). op.place < place + length (r ∷ rs)) (touching_from (place + 1) s (before ++ r ∷ []) rs q)
-    up = each_weaker (λ (op : Op). op.place < place + 1 + length rs) (λ (op : Op). op.place < place + length (r ∷ rs)) (λ op l. omega (arith, l)) (touching_from (place + 1) s (before ++ r ∷ []) rs q)
+    up : AllByRecursion (λ (op : Op). op.place < place + 1 + length rs)
+        (touching_from (place + 1) s (before ++ r ∷ []) rs q)
+        → AllByRecursion (λ (op : Op). op.place < place + length (r ∷ rs))
+        (touching_from (place + 1) s (before ++ r ∷ []) rs q)
+    up = each_weaker (λ (op : Op). op.place < place + 1 + length rs) (λ (op : Op). op.place < place + length (r ∷ rs))
+        (λ op l. omega (arith, l)) (touching_from (place + 1) s (before ++ r ∷ []) rs q)
 
-pub places_below : (c : Catalogue) (s : State) (xs : List model.Record) → Follows c s xs → (q : ℕ) → AllByRecursion (λ (p : ℕ × ℕ). p.0 < s.next + length xs) (listed c.touching.items q)
+pub places_below : (c : Catalogue) (s : State) (xs : List model.Record) → Follows c s xs → (q : ℕ)
+    → AllByRecursion (λ (p : ℕ × ℕ). p.0 < s.next + length xs) (listed c.touching.items q)
 places_below c s xs f q = subst (λ l. AllByRecursion (λ (p : ℕ × ℕ). p.0 < s.next + length xs) l) (sym (f.touching q))
-    (each_map (λ (op : Op). op.place < s.next + length xs) (λ (p : ℕ × ℕ). p.0 < s.next + length xs) (place_and_index s.next) (λ op l. l) (touching s xs q) (places_rise s.next s [] xs q))
+    (each_map (λ (op : Op). op.place < s.next + length xs) (λ (p : ℕ × ℕ). p.0 < s.next + length xs)
+    (place_and_index s.next) (λ op l. l) (touching s xs q) (places_rise s.next s [] xs q))

@@ -1,5 +1,6 @@
 -- What the catalogue takes is what is lawful.
-use Rattle.std.proofs.Common.{◌≡◌, ℕ, suc, zero, ◌≤◌, Bool, true, false, not, ◌&&◌, ◌||◌, List, [], ◌∷◌, length, Option, Some, None, map, refl, sym, ap, ◌∙◌, subst, arith}
+use Rattle.std.proofs.Common.{◌≡◌, ℕ, suc, zero, ◌≤◌, Bool, true, false, not, ◌&&◌, ◌||◌, List, [], ◌∷◌, length, Option}
+use Rattle.std.proofs.Common.{Some, None, map, refl, sym, ap, ◌∙◌, subst, arith}
 use Rattle.std.specs.Prelude.{◌==◌, nat_lt, nat_le, nat_eq, if◌then◌else◌, option_map, slice_index_or}
 use Rattle.std.proofs.lemmas.Bool.{eqb-true, eqb-false, le-leb}
 use Rattle.std.proofs.lemmas.List.{length-map}
@@ -8,12 +9,14 @@ use Rattle.rq_model.specs.Records as model
 use Rattle.rq_model.specs.Records.{Version, One, Two, no_queue}
 use Rattle.rq_model.specs.States.{State, Definition, definition_at}
 use Rattle.rq_model.specs.Machine as machine
-use Rattle.rq_model.specs.Machine.{is_lawful, all_lawful, lawful_front, is_open, is_registered, is_known, may_be_error, is_limit, step, run, outcome_from, outcome, begins}
+use Rattle.rq_model.specs.Machine.{is_lawful, all_lawful, lawful_front, is_open, is_registered, is_known, may_be_error}
+use Rattle.rq_model.specs.Machine.{is_limit, step, run, outcome_from, outcome, begins}
 use Rattle.rq_model.specs.WellFormed.{IsWellFormed}
 use Rattle.rq_model.proofs.Lists.{by_cases}
 use Rattle.rq_model.specs.Records.{By}
 use Rattle.rq_record.specs.declared.record.Record.{Record}
-use Rattle.rq_record.specs.declared.record.Record.TheVariants.{Define, Register, Deregister, Begin, Enqueue, Dequeue, Commit, Abort, Checkpoint, Kill}
+use Rattle.rq_record.specs.declared.record.Record.TheVariants.{Define, Register, Deregister, Begin, Enqueue, Dequeue}
+use Rattle.rq_record.specs.declared.record.Record.TheVariants.{Commit, Abort, Checkpoint, Kill}
 use Rattle.rq_record.specs.Views.{record_of}
 use Rattle.rq_catalog.specs.declared.outcome.Outcome.{Outcome}
 use Rattle.rq_catalog.specs.declared.outcome.Outcome.TheVariants.{Committed, Aborted, Open}
@@ -24,10 +27,12 @@ use Rattle.rq_catalog.proofs.Runs.{is_open_outcome, open_by_outcome}
 
 -- Lawfulness.
 
-pub count : (c : Catalogue) (s : State) (xs : List model.Record) → Follows c s xs → length c.errors.items ≡ length (run s xs).definitions
+pub count : (c : Catalogue) (s : State) (xs : List model.Record) → Follows c s xs
+    → length c.errors.items ≡ length (run s xs).definitions
 count c s xs f = ap length f.errors ∙ length-map (run s xs).definitions (λ (d : Definition). d.error)
 
-error_at : (ds : List Definition) (q : ℕ) → slice_index_or (map (λ (d : Definition). d.error) ds) q no_queue ≡ (definition_at ds q).error
+error_at : (ds : List Definition) (q : ℕ) → slice_index_or (map (λ (d : Definition). d.error) ds) q no_queue
+    ≡ (definition_at ds q).error
 error_at [] q = refl
 error_at (d ∷ ds) zero = refl
 error_at (d ∷ ds) (suc q) = error_at ds q
@@ -38,15 +43,21 @@ open_as (Some Open) = refl
 open_as (Some (Committed place)) = refl
 open_as (Some (Aborted place)) = refl
 
-known_as : (c : Catalogue) (s : State) (xs : List model.Record) (q : ℕ) (by : Option By) → Follows c s xs → is_known_in c q by ≡ is_known (run s xs) q by
+known_as : (c : Catalogue) (s : State) (xs : List model.Record) (q : ℕ) (by : Option By) → Follows c s xs
+    → is_known_in c q by ≡ is_known (run s xs) q by
 known_as c s xs q None f = refl
 known_as c s xs q (Some by) f = f.registrants (q, by.name)
 
-limit_as : (a b c : Bool) (limit : ℕ) → (if limit == 0 then a else nat_le limit 1000 && (b && c)) ≡ (((limit == 0) && a) || (nat_le 1 limit && (nat_le limit 1000 && (b && c))))
+limit_as : (a b c : Bool) (limit : ℕ) → (if limit == 0 then a else nat_le limit 1000 && (b && c))
+    ≡ (((limit == 0) && a) || (nat_le 1 limit && (nat_le limit 1000 && (b && c))))
 limit_as a b c limit =
-    by_cases (limit == 0) (λ z. (limit == 0) ≡ z → (if z then a else nat_le limit 1000 && (b && c)) ≡ ((z && a) || (nat_le 1 limit && (nat_le limit 1000 && (b && c)))))
-    (λ _ e. subst (λ (n : ℕ). a ≡ (a || (nat_le 1 n && (nat_le n 1000 && (b && c))))) (sym (eqb-true limit 0 e)) (or_false a))
-    (λ _ e. let some : 1 ≤ limit = positive limit (eqb-false limit 0 e) in ap (λ x. x && (nat_le limit 1000 && (b && c))) (sym (le-leb 1 limit some)))
+    by_cases (limit == 0) (λ z. (limit == 0) ≡ z
+    → (if z then a else nat_le limit 1000 && (b && c))
+    ≡ ((z && a) || (nat_le 1 limit && (nat_le limit 1000 && (b && c)))))
+    (λ _ e. subst (λ (n : ℕ). a ≡ (a || (nat_le 1 n && (nat_le n 1000 && (b && c))))) (sym (eqb-true limit 0 e))
+    (or_false a))
+    (λ _ e. let some : 1 ≤ limit = positive limit (eqb-false limit 0 e) in
+    ap (λ x. x && (nat_le limit 1000 && (b && c))) (sym (le-leb 1 limit some)))
     refl
   where
     or_false : (b : Bool) → b ≡ (b || false)
@@ -57,33 +68,40 @@ limit_as a b c limit =
     positive zero h = absurd (h refl)
     positive (suc n) h = omega arith
 
-module _ (version : Version) (c : Catalogue) (s : State) (xs : List model.Record) (f : Follows c s xs) (well : IsWellFormed s) (lawful : all_lawful version s xs ≡ true) where
+module _ (version : Version) (c : Catalogue) (s : State) (xs : List model.Record) (f : Follows c s xs)
+    (well : IsWellFormed s) (lawful : all_lawful version s xs ≡ true) where
   defined_here : (q : ℕ) → nat_lt q (length c.errors.items) ≡ nat_lt q (length (run s xs).definitions)
   defined_here q = ap (nat_lt q) (count c s xs f)
 
   pub open_here : (u : ℕ) → is_open_in (get nat_eq c.outcomes u) ≡ is_open (run s xs) u
-  open_here u = open_as (get nat_eq c.outcomes u) ∙ ap is_open_outcome (f.outcomes u) ∙ sym (open_by_outcome version s xs u well lawful)
+  open_here u = open_as (get nat_eq c.outcomes u) ∙ ap is_open_outcome (f.outcomes u)
+      ∙ sym (open_by_outcome version s xs u well lawful)
 
   error_here : (v : Version) (error : ℕ) → may_be_error_in v c error ≡ may_be_error v (run s xs) error
-  error_here One error = ap (λ n. n == no_queue) (ap (λ l. slice_index_or l error no_queue) f.errors ∙ error_at (run s xs).definitions error)
+  error_here One error = ap (λ n. n == no_queue)
+      (ap (λ l. slice_index_or l error no_queue) f.errors ∙ error_at (run s xs).definitions error)
   error_here Two error = refl
 
   limit_here : (limit error : ℕ) → is_limit_in version c limit error ≡ is_limit version (run s xs) limit error
   limit_here limit error =
       limit_as (error == no_queue) (nat_lt error (length c.errors.items)) (may_be_error_in version c error) limit
-      ∙ (λ i. ((limit == 0) && (error == no_queue)) || (nat_le 1 limit && (nat_le limit 1000 && (defined_here error i && error_here version error i))))
+      ∙ (λ i. ((limit == 0) && (error == no_queue))
+      || (nat_le 1 limit && (nat_le limit 1000 && (defined_here error i && error_here version error i))))
 
-  kill_here : (v : Version) (queue : ℕ) (element : ℕ) → may_kill_in v c queue ≡ is_lawful v (run s xs) (model.Kill queue element)
+  kill_here : (v : Version) (queue : ℕ) (element : ℕ)
+      → may_kill_in v c queue ≡ is_lawful v (run s xs) (model.Kill queue element)
   kill_here One queue element = refl
   kill_here Two queue element = defined_here queue
 
   operation_here : (u q : ℕ) (by : Option By)
-      → (nat_lt q (length c.errors.items) && (is_open_in (get nat_eq c.outcomes u) && is_known_in c q by)) ≡ (machine.is_defined (run s xs) q && (is_open (run s xs) u && is_known (run s xs) q by))
+      → (nat_lt q (length c.errors.items) && (is_open_in (get nat_eq c.outcomes u) && is_known_in c q by))
+      ≡ (machine.is_defined (run s xs) q && (is_open (run s xs) u && is_known (run s xs) q by))
   operation_here u q by = λ i. defined_here q i && (open_here u i && known_as c s xs q by f i)
 
   -- what the catalogue takes is what is lawful
   pub lawful_here : (r : Record) → may_take version c r ≡ is_lawful version (run s xs) (record_of r)
-  lawful_here (Define limit error name) = λ i. limit_here limit error.0 i && (nat_lt (count c s xs f i) 4096 && not (f.names name i))
+  lawful_here (Define limit error name) =
+      λ i. limit_here limit error.0 i && (nat_lt (count c s xs f i) 4096 && not (f.names name i))
   lawful_here (Register queue name) = defined_here queue.0
   lawful_here (Deregister queue name) = f.registrants (queue.0, name)
   lawful_here (Begin unit) = ap (λ g. nat_lt g unit.0) f.greatest

@@ -1,5 +1,6 @@
 -- A queue that is named twice is listed once.
-use Rattle.std.proofs.Common.{◌≡◌, ℕ, suc, ◌<◌, ◌-◌, ◌+◌, ◌++◌, Bool, true, false, not, ◌&&◌, ◌||◌, List, [], ◌∷◌, length, refl, sym, ap, ◌∙◌, arith, take, slice_get, get_or}
+use Rattle.std.proofs.Common.{◌≡◌, ℕ, suc, ◌<◌, ◌-◌, ◌+◌, ◌++◌, Bool, true, false, not, ◌&&◌, ◌||◌, List, [], ◌∷◌}
+use Rattle.std.proofs.Common.{length, refl, sym, ap, ◌∙◌, arith, take, slice_get, get_or}
 use Rattle.std.specs.Prelude.{◌==◌, if◌then◌else◌}
 use Rattle.std.specs.List.{list_any, AllByRecursion}
 use Rattle.std.specs.Option.{option_map_or}
@@ -18,15 +19,18 @@ ends_push place op [] h = eq-eqb op.0 place h
 ends_push place op (p ∷ []) h = eq-eqb op.0 place h
 ends_push place op (p ∷ q ∷ ops) h = more place p q (ops ++ op ∷ []) ∙ ends_push place op (q ∷ ops) h
 
-pub ends_below : (place : ℕ) (ops : List (ℕ × ℕ)) → AllByRecursion (λ (p : ℕ × ℕ). p.0 < place) ops → ends_at place ops ≡ false
+pub ends_below : (place : ℕ) (ops : List (ℕ × ℕ)) → AllByRecursion (λ (p : ℕ × ℕ). p.0 < place) ops
+    → ends_at place ops ≡ false
 ends_below place [] h = refl
 ends_below place (p ∷ []) h = ne_eqb p.0 place (λ e. omega (arith, h.0, e))
 ends_below place (p ∷ q ∷ ops) h = more place p q ops ∙ ends_below place (q ∷ ops) h.1
 
 pub once : (op : ℕ × ℕ) (A : List (ℕ × ℕ)) (a b t : Bool) → AllByRecursion (λ (p : ℕ × ℕ). p.0 < op.0) A
-    → (if b && (t && not (ends_at op.0 (if a && t then A ++ op ∷ [] else A))) then (if a && t then A ++ op ∷ [] else A) ++ op ∷ [] else (if a && t then A ++ op ∷ [] else A))
+    → (if b && (t && not (ends_at op.0 (if a && t then A ++ op ∷ [] else A))) then (if a && t then A ++ op ∷ [] else A)
+    ++ op ∷ [] else (if a && t then A ++ op ∷ [] else A))
     ≡ (if (a || b) && t then A ++ op ∷ [] else A)
-once op A true true true h = ap (λ e. if not e then (A ++ op ∷ []) ++ op ∷ [] else A ++ op ∷ []) (ends_push op.0 op A refl)
+once op A true true true h =
+    ap (λ e. if not e then (A ++ op ∷ []) ++ op ∷ [] else A ++ op ∷ []) (ends_push op.0 op A refl)
 once op A true false true h = refl
 once op A true true false h = refl
 once op A true false false h = refl
@@ -37,17 +41,21 @@ once op A false false false h = refl
 
 pub any_append : {X : Type 0} (p : X → Bool) (xs : List X) (x : X) → list_any p (xs ++ x ∷ []) ≡ (list_any p xs || p x)
 any_append p [] x = by_cases (p x) (λ b. (b || false) ≡ b) (λ _. refl) (λ _. refl)
-any_append p (y ∷ xs) x = by_cases (p y) (λ b. (b || list_any p (xs ++ x ∷ [])) ≡ ((b || list_any p xs) || p x)) (λ _. refl) (λ _. any_append p xs x)
+any_append p (y ∷ xs) x = by_cases (p y) (λ b. (b || list_any p (xs ++ x ∷ [])) ≡ ((b || list_any p xs) || p x))
+    (λ _. refl) (λ _. any_append p xs x)
 
 up : (i : ℕ) → i + 1 ≡ suc i
 up i = omega arith
 
 -- a turn of the loop over the queues
-pub next_queue : (op : ℕ × ℕ) (A mid new : List (ℕ × ℕ)) (queues : List ℕ) (i d q : ℕ) (t : Bool) → i < length queues → AllByRecursion (λ (p : ℕ × ℕ). p.0 < op.0) A
+pub next_queue : (op : ℕ × ℕ) (A mid new : List (ℕ × ℕ)) (queues : List ℕ) (i d q : ℕ) (t : Bool) → i < length queues
+    → AllByRecursion (λ (p : ℕ × ℕ). p.0 < op.0) A
     → mid ≡ (if list_any (λ v. v == q) (take i queues) && t then A ++ op ∷ [] else A)
     → new ≡ (if (get_or queues i d == q) && (t && not (ends_at op.0 mid)) then mid ++ op ∷ [] else mid)
     → new ≡ (if list_any (λ v. v == q) (take (i + 1) queues) && t then A ++ op ∷ [] else A)
 next_queue op A mid new queues i d q t h below m n =
     n ∙ ap (λ l. if (get_or queues i d == q) && (t && not (ends_at op.0 l)) then l ++ op ∷ [] else l) m
     ∙ once op A (list_any (λ v. v == q) (take i queues)) (get_or queues i d == q) t below
-    ∙ ap (λ b. if b && t then A ++ op ∷ [] else A) (sym (ap (list_any (λ v. v == q)) (ap (λ k. take k queues) (up i) ∙ take-suc queues i d h) ∙ any_append (λ v. v == q) (take i queues) (get_or queues i d)))
+    ∙ ap (λ b. if b && t then A ++ op ∷ [] else A)
+    (sym (ap (list_any (λ v. v == q)) (ap (λ k. take k queues) (up i) ∙ take-suc queues i d h)
+    ∙ any_append (λ v. v == q) (take i queues) (get_or queues i d)))

@@ -5,7 +5,8 @@ use Rattle.rq_pool.specs.Ledger.{times, times_in, Ledger}
 use Rattle.rq_exchange.proofs.Steps.{times_append}
 
 -- what the calling thread took over is added to what the first worker took
-pub started : (x : ℕ) (first left : List ℕ) (others : List (List ℕ)) (deal : List (List ℕ)) → Ledger deal (first ∷ others) left → times_in x ((first ++ left) ∷ others) ≡ times_in x deal
+pub started : (x : ℕ) (first left : List ℕ) (others : List (List ℕ)) (deal : List (List ℕ))
+    → Ledger deal (first ∷ others) left → times_in x ((first ++ left) ∷ others) ≡ times_in x deal
 started x first left others deal ledger = omega (
   arith,
   ledger x,

@@ -5,10 +5,13 @@ use Rattle.std.proofs.lemmas.List.{get_or_append_left}
 use Rattle.std.proofs.Math.Seq.{get_or-append_seam}
 
 -- what holds of all holds of all but the last, and of the last
-pub all_but_last : {X : Type 0} (P : X → Type 0) (xs ys : List X) (x : X) → xs ≡ ys ++ x ∷ [] → All P xs → All P ys × P x
+pub all_but_last : {X : Type 0} (P : X → Type 0) (xs ys : List X) (x : X) → xs ≡ ys ++ x ∷ [] → All P xs
+    → All P ys × P x
 all_but_last P xs ys x e all = (
-  (λ k d lt. subst P (ap (λ l. slice_index_or l k d) e ∙ get_or_append_left ys (x ∷ []) d k lt) (all k d (omega (arith, lt, long)))),
-  subst P (ap (λ l. slice_index_or l (length ys) x) e ∙ get_or-append_seam ys x [] x) (all (length ys) x (omega (arith, long))),
+  (λ k d lt. subst P (ap (λ l. slice_index_or l k d) e ∙ get_or_append_left ys (x ∷ []) d k lt)
+      (all k d (omega (arith, lt, long)))),
+  subst P (ap (λ l. slice_index_or l (length ys) x) e ∙ get_or-append_seam ys x [] x)
+      (all (length ys) x (omega (arith, long))),
 )
   where
     long : length xs ≡ length ys + 1

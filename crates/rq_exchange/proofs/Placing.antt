@@ -1,5 +1,6 @@
 -- What the threads redid, as it is put in its places.
-use Rattle.std.proofs.Common.{◌≡◌, ℕ, ◌<◌, List, [], ◌∷◌, All, length, map, refl, sym, ap, ◌∙◌, subst, arith, Vec, Global}
+use Rattle.std.proofs.Common.{◌≡◌, ℕ, ◌<◌, List, [], ◌∷◌, All, length, map, refl, sym, ap, ◌∙◌, subst, arith, Vec}
+use Rattle.std.proofs.Common.{Global}
 use Rattle.std.specs.Prelude.{slice_index_or}
 use Rattle.std.proofs.lemmas.List.{get_or-map, length-map}
 use Rattle.rq_model.specs.Machine.{run}
@@ -18,11 +19,13 @@ use Rattle.rq_exchange.proofs.Wholes.{whole}
 use Rattle.rq_exchange.proofs.Working.{each_keeps}
 
 -- the queues of all threads
-pub queues_are : (ks : List Kept) → map (λ (done : Vec Redone Global). map queue_of done.items) (map (λ (k : Kept). k.done) ks) ≡ map (λ (k : Kept). redone_in k.done.items) ks
+pub queues_are : (ks : List Kept) → map (λ (done : Vec Redone Global). map queue_of done.items)
+    (map (λ (k : Kept). k.done) ks) ≡ map (λ (k : Kept). redone_in k.done.items) ks
 queues_are [] = refl
 queues_are (k ∷ ks) = ap (λ l. redone_in k.done.items ∷ l) (queues_are ks)
 
-module _ (job : Job) (chain : Chain) (tasks : List ℕ) (kept : List Kept) (keep : HaveKept job chain tasks kept) (all : List (Vec Redone Global)) (is : all ≡ map (λ k. k.done) kept) where
+module _ (job : Job) (chain : Chain) (tasks : List ℕ) (kept : List Kept) (keep : HaveKept job chain tasks kept)
+    (all : List (Vec Redone Global)) (is : all ≡ map (λ k. k.done) kept) where
   many : length all ≡ length kept
   many = ap length is ∙ length-map kept (λ (k : Kept). k.done)
 
@@ -30,8 +33,10 @@ module _ (job : Job) (chain : Chain) (tasks : List ℕ) (kept : List Kept) (keep
   all_done i v lt =
       let inside : i < length kept = omega (arith, lt, many) in
       let one = some_of kept i inside in
-      let from : slice_index_or all i v ≡ (slice_index_or kept i one).done = ap (λ l. slice_index_or l i v) is ∙ get_or-map (λ (k : Kept). k.done) kept i one v inside in
-      subst (λ (done : Vec Redone Global). All (IsRedone job) done.items) (sym from) (each_keeps job chain keep.starts kept keep.keep i one inside).1.done
+      let from : slice_index_or all i v ≡ (slice_index_or kept i one).done =
+      ap (λ l. slice_index_or l i v) is ∙ get_or-map (λ (k : Kept). k.done) kept i one v inside in
+      subst (λ (done : Vec Redone Global). All (IsRedone job) done.items) (sym from)
+      (each_keeps job chain keep.starts kept keep.keep i one inside).1.done
 
   pub all_within : (n : ℕ) → n ≡ length job.definitions.now → All (λ done. All (λ d. d.queue < n) done.items) all
   all_within n e i v lt j d l = omega (arith, (all_done i v lt j d l).0, e)
@@ -39,7 +44,11 @@ module _ (job : Job) (chain : Chain) (tasks : List ℕ) (kept : List Kept) (keep
   pub all_parts : All (λ done. All (IsPart (run job.state.now (records_of job))) done.items) all
   all_parts i v lt j d l = (all_done i v lt j d l).1
 
-  pub all_there : IsChainOf job chain → AreBare job.sources.now (length job.definitions.now) tasks → AreSettled chain kept → (x : ℕ) → x < length job.definitions.now → 0 < times_in x (map (λ (done : Vec Redone Global). map queue_of done.items) all)
+  pub all_there : IsChainOf job chain → AreBare job.sources.now (length job.definitions.now) tasks
+      → AreSettled chain kept → (x : ℕ) → x < length job.definitions.now
+      → 0 < times_in x (map (λ (done : Vec Redone Global). map queue_of done.items) all)
   all_there web are settled x near =
-      let one : times_in x (map (λ (done : Vec Redone Global). map queue_of done.items) all) ≡ 1 = ap (times_in x) (ap (map (λ (done : Vec Redone Global). map queue_of done.items)) is ∙ queues_are kept) ∙ whole job chain web tasks are kept keep settled x near in
+      let one : times_in x (map (λ (done : Vec Redone Global). map queue_of done.items) all) ≡ 1 =
+      ap (times_in x) (ap (map (λ (done : Vec Redone Global). map queue_of done.items)) is ∙ queues_are kept)
+      ∙ whole job chain web tasks are kept keep settled x near in
       omega (arith, one)

@@ -1,5 +1,6 @@
 -- The queues that wait for nobody, one queue more.
-use Rattle.std.proofs.Common.{◌≡◌, ◌⊎◌, ℕ, zero, suc, ◌+◌, ◌<◌, cond, eqb, eq-eqb, List, [], ◌∷◌, ◌++◌, length, length-append, refl, sym, ap, ◌∙◌, subst, arith, inl, inr, Vec, Global}
+use Rattle.std.proofs.Common.{◌≡◌, ◌⊎◌, ℕ, zero, suc, ◌+◌, ◌<◌, cond, eqb, eq-eqb, List, [], ◌∷◌, ◌++◌, length}
+use Rattle.std.proofs.Common.{length-append, refl, sym, ap, ◌∙◌, subst, arith, inl, inr, Vec, Global}
 use Rattle.std.proofs.lemmas.Bool.{ne_eqb}
 use Rattle.rq_state.specs.Orders.{listed}
 use Rattle.rq_pool.specs.Ledger.{times}
@@ -27,7 +28,12 @@ module _ (sources : List (Vec ℕ Global)) where
     }
       where
         below : (x : ℕ) → x < m + 1 → length (listed sources x) ≡ 0 → x < m
-        below x lt none = elim (same_or x m) [ inl e ↦ absurd (let z : length (listed sources m) ≡ 0 = ap (λ y. length (listed sources y)) (sym e) ∙ none in omega (arith, some, z)) | inr e ↦ omega (arith, lt, e) ]
+        below x lt none = elim (same_or x m) [
+          | inl e ↦ absurd (let z : length (listed sources m) ≡ 0 =
+              ap (λ y. length (listed sources y)) (sym e) ∙ none in omega (arith, some, z))
+          | inr e ↦ omega
+              (arith, lt, e)
+        ]
 
     pub bare_more : (after : List ℕ) → listed sources m ≡ [] → after ≡ tasks ++ m ∷ [] → AreBare sources (m + 1) after
     bare_more after bare e = subst (AreBare sources (m + 1)) (sym e) (record {
@@ -36,18 +42,22 @@ module _ (sources : List (Vec ℕ Global)) where
       few = omega (arith, length-append tasks (m ∷ []), are.few);
     })
       where
-        go : (x : ℕ) → x < m + 1 → length (listed sources x) ≡ 0 → ((m ≡ x) ⊎ (m ≡ x → ⊥)) → times x tasks + cond (eqb m x) 1 0 ≡ 1
+        go : (x : ℕ) → x < m + 1 → length (listed sources x) ≡ 0 → ((m ≡ x) ⊎ (m ≡ x → ⊥))
+            → times x tasks + cond (eqb m x) 1 0 ≡ 1
         go x lt none (inl is) =
-            let before : times x tasks ≡ 0 = zero_or (times x tasks) (λ stands. omega (arith, (are.no_other x stands).0, is)) in
+            let before : times x tasks ≡ 0 =
+            zero_or (times x tasks) (λ stands. omega (arith, (are.no_other x stands).0, is)) in
             (λ i. before i + cond (eq-eqb m x is i) 1 0)
         go x lt none (inr other) =
             let before : times x tasks ≡ 1 = are.once x (omega (arith, lt, other)) none in
             (λ i. before i + cond (ne_eqb m x other i) 1 0)
 
-        other : (x : ℕ) → ((m ≡ x) ⊎ (m ≡ x → ⊥)) → 0 < times x (tasks ++ m ∷ []) → (x < m + 1) × (listed sources x ≡ [])
+        other : (x : ℕ) → ((m ≡ x) ⊎ (m ≡ x → ⊥)) → 0 < times x (tasks ++ m ∷ [])
+            → (x < m + 1) × (listed sources x ≡ [])
         other x (inl is) stands = (omega (arith, is), ap (listed sources) (sym is) ∙ bare)
         other x (inr apart) stands =
-            let same : times x (tasks ++ m ∷ []) ≡ times x tasks + 0 = times_more x m tasks ∙ ap (λ b. times x tasks + cond b 1 0) (ne_eqb m x apart) in
+            let same : times x (tasks ++ m ∷ []) ≡ times x tasks + 0 =
+            times_more x m tasks ∙ ap (λ b. times x tasks + cond b 1 0) (ne_eqb m x apart) in
             let old = are.no_other x (omega (arith, same, stands)) in
             (omega (arith, old.0), old.1)
 

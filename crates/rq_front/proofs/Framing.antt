@@ -1,5 +1,6 @@
 -- The parts of the frame at a place, and what its digest is taken over.
-use Rattle.std.proofs.Common.{◌≡◌, ℕ, ◌+◌, ◌-◌, ◌≤◌, ◌<◌, false, ltb, List, ◌++◌, length, take, drop, get_or, refl, sym, ap, ◌∙◌, arith}
+use Rattle.std.proofs.Common.{◌≡◌, ℕ, ◌+◌, ◌-◌, ◌≤◌, ◌<◌, false, ltb, List, ◌++◌, length, take, drop, get_or, refl, sym}
+use Rattle.std.proofs.Common.{ap, ◌∙◌, arith}
 use Rattle.std.specs.Int.{w32, to_be_bytes}
 use Rattle.std.specs.Prelude.{◌↔◌, slice_range}
 use Rattle.std.proofs.lemmas.Bool.{le-ltb}
@@ -27,16 +28,19 @@ pub body_long : (bytes : List ℕ) → HasFrame bytes → length (body_in bytes)
 body_long bytes frame = omega (arith, length-take (stated bytes) (drop 4 bytes), length-drop 4 bytes, frame.room)
 
 -- the length and the body
-front_is : (bytes : List ℕ) → IsBytes bytes → HasFrame bytes → take (4 + stated bytes) bytes ≡ to_be_bytes w32 (length (body_in bytes)) ++ body_in bytes
+front_is : (bytes : List ℕ) → IsBytes bytes → HasFrame bytes
+    → take (4 + stated bytes) bytes ≡ to_be_bytes w32 (length (body_in bytes)) ++ body_in bytes
 front_is bytes fits frame =
     let long : ltb (length bytes) 4 ≡ false = le-ltb _ _ (omega (arith, frame.room)) in
     let read = reads_u32.takes bytes (stated bytes, drop 4 bytes) fits (rw long refl) in
-    let four : take 4 bytes ≡ to_be_bytes w32 (length (body_in bytes)) = ap (take 4) read.parts ∙ ap (to_be_bytes w32) (sym (body_long bytes frame)) in
+    let four : take 4 bytes ≡ to_be_bytes w32 (length (body_in bytes)) =
+    ap (take 4) read.parts ∙ ap (to_be_bytes w32) (sym (body_long bytes frame)) in
     take-add 4 (stated bytes) bytes ∙ ap (λ (x : List ℕ). x ++ body_in bytes) four
 
 -- the 32 bytes before the frame, the length and the body
 head_is : (b : List ℕ) (at len : ℕ) → IsBytes b → 32 ≤ at → HasFrame (drop at b) → len ≡ stated (drop at b)
-    → slice_range b (at - 32) (at + 4 + len) ≡ before at b ++ (to_be_bytes w32 (length (body_in (drop at b))) ++ body_in (drop at b))
+    → slice_range b (at - 32) (at + 4 + len)
+    ≡ before at b ++ (to_be_bytes w32 (length (body_in (drop at b))) ++ body_in (drop at b))
 head_is b at len fits low frame is =
     let from = drop (at - 32) b in
     let size : at + 4 + len - (at - 32) ≡ 32 + (4 + stated (drop at b)) = omega (arith, is) in
@@ -47,15 +51,20 @@ head_is b at len fits low frame is =
     ∙ ap (λ (x : List ℕ). before at b ++ x) (front_is (drop at b) (bytes_behind at b fits) frame)
 
 -- the 32 bytes behind the body
-sum_is : (b : List ℕ) (at len : ℕ) → len ≡ stated (drop at b) → slice_range b (at + 4 + len) (at + 36 + len) ≡ digest_in (drop at b)
+sum_is : (b : List ℕ) (at len : ℕ) → len ≡ stated (drop at b)
+    → slice_range b (at + 4 + len) (at + 36 + len) ≡ digest_in (drop at b)
 sum_is b at len is =
     let size : at + 36 + len - (at + 4 + len) ≡ 32 = omega arith in
     let place : at + 4 + len ≡ at + (4 + stated (drop at b)) = omega (arith, is) in
-    ap (λ (k : ℕ). take k (drop (at + 4 + len) b)) size ∙ ap (λ (k : ℕ). take 32 (drop k b)) place ∙ ap (take 32) (sym (drop-drop (4 + stated (drop at b)) at b))
+    ap (λ (k : ℕ). take k (drop (at + 4 + len) b)) size ∙ ap (λ (k : ℕ). take 32 (drop k b)) place
+    ∙ ap (take 32) (sym (drop-drop (4 + stated (drop at b)) at b))
 
 pub right_exactly : (b : List ℕ) (at len : ℕ) → IsBytes b → 32 ≤ at → HasFrame (drop at b) → len ≡ stated (drop at b)
-    → (sha256 (slice_range b (at - 32) (at + 4 + len)) ≡ slice_range b (at + 4 + len) (at + 36 + len)) ↔ HasRightFrame (before at b) (drop at b)
+    → (sha256 (slice_range b (at - 32) (at + 4 + len)) ≡ slice_range b (at + 4 + len) (at + 36 + len))
+    ↔ HasRightFrame (before at b) (drop at b)
 right_exactly b at len fits low frame is =
     let head = head_is b at len fits low frame is in
-    let sum = sum_is b at len is in
-    (λ same. record { whole = frame; right = sym sum ∙ sym same ∙ ap sha256 head }, λ right. ap sha256 head ∙ sym right.right ∙ sym sum)
+    let sum = sum_is b at len is in (
+      λ same. record { whole = frame; right = sym sum ∙ sym same ∙ ap sha256 head },
+      λ right. ap sha256 head ∙ sym right.right ∙ sym sum,
+    )

@@ -1,6 +1,8 @@
 -- The blocks of a padded message, from where its bytes stand.
-use Rattle.std.proofs.Common.{◌≡◌, ◌≢◌, ℕ, zero, suc, ◌+◌, ◌-◌, ◌*◌, ◌/◌, ◌%◌, ◌≤◌, ◌<◌, List, [], length, take, drop, refl, sym, ap, ◌∙◌, arith, slice_index, slice_set, inl, inr}
-use Rattle.std.proofs.lemmas.List.{length-take, length-drop, drop-take, drop-drop, take-take, get_or-set_same, get_or-set_other}
+use Rattle.std.proofs.Common.{◌≡◌, ◌≢◌, ℕ, zero, suc, ◌+◌, ◌-◌, ◌*◌, ◌/◌, ◌%◌, ◌≤◌, ◌<◌, List, [], length, take, drop}
+use Rattle.std.proofs.Common.{refl, sym, ap, ◌∙◌, arith, slice_index, slice_set, inl, inr}
+use Rattle.std.proofs.lemmas.List.{length-take, length-drop, drop-take, drop-drop, take-take, get_or-set_same}
+use Rattle.std.proofs.lemmas.List.{get_or-set_other}
 use Rattle.std.proofs.lemmas.Bool.{cases_lt}
 use Rattle.sha2.specs.Sha256.{hash_after, compress, initial_hash_256, padded_message}
 use Rattle.sha2.proofs.Absorbing256.{hash_after_next}
@@ -14,21 +16,26 @@ pub length-text : (b : List ℕ) (m : Message) → m.start + m.len ≤ length b 
 length-text b m le = omega (arith, length-take (m.start + m.len - m.start) (drop m.start b), length-drop m.start b)
 
 -- a block that is whole in the message
-pub block_of_text : (b : List ℕ) (m : Message) (k from : ℕ) (x : List ℕ) → m.start + m.len ≤ length b → k * 64 + 64 ≤ m.len → from ≡ m.start + k * 64
+pub block_of_text : (b : List ℕ) (m : Message) (k from : ℕ) (x : List ℕ) → m.start + m.len ≤ length b
+    → k * 64 + 64 ≤ m.len → from ≡ m.start + k * 64
     → x ≡ take (from + 64 - from) (drop from b) → x ≡ take 64 (drop (k * 64) (padded_message (text b m)))
 block_of_text b m k from x le fits at e =
     let long = length-text b m le in
     let width : from + 64 - from ≡ 64 = omega arith in
     let span : m.start + m.len - m.start ≡ k * 64 + (m.len - k * 64) = omega arith in
     let inner : drop (k * 64) (text b m) ≡ take (m.len - k * 64) (drop (k * 64) (drop m.start b)) =
-    ap (λ (n : ℕ). drop (k * 64) (take n (drop m.start b))) span ∙ drop-take (k * 64) (m.len - k * 64) (drop m.start b) in
-    let there : drop (k * 64) (drop m.start b) ≡ drop from b = drop-drop (k * 64) m.start b ∙ ap (λ (n : ℕ). drop n b) (sym at) in
+    ap (λ (n : ℕ). drop (k * 64) (take n (drop m.start b))) span
+    ∙ drop-take (k * 64) (m.len - k * 64) (drop m.start b) in
+    let there : drop (k * 64) (drop m.start b) ≡ drop from b =
+    drop-drop (k * 64) m.start b ∙ ap (λ (n : ℕ). drop n b) (sym at) in
     let cut = take-take 64 (m.len - k * 64) (drop from b) (omega arith) in
     e ∙ ap (λ (n : ℕ). take n (drop from b)) width
-    ∙ sym (block_whole (text b m) k (omega (arith, long)) ∙ ap (take 64) (inner ∙ ap (take (m.len - k * 64)) there) ∙ cut)
+    ∙ sym (block_whole (text b m) k (omega (arith, long)) ∙ ap (take 64) (inner ∙ ap (take (m.len - k * 64)) there)
+    ∙ cut)
 
 -- how many blocks a lane's message has
-pub blocks_of_lane : (b : List ℕ) (l : Lane) → Fills b l → l.due - l.born ≡ l.message.len / 64 + (l.message.len % 64 + 72) / 64
+pub blocks_of_lane : (b : List ℕ) (l : Lane) → Fills b l
+    → l.due - l.born ≡ l.message.len / 64 + (l.message.len % 64 + 72) / 64
 blocks_of_lane b l f =
     let long = length-text b l.message (omega (arith, f.within)) in
     omega (arith, f.count, padded_blocks (text b l.message), long)
@@ -39,7 +46,8 @@ pub block_first_tail : (b : List ℕ) (l : Lane) (k : ℕ) → Fills b l → k �
 block_first_tail b l k f at =
     let long = length-text b l.message (omega (arith, f.within)) in
     let n = l.message.len in
-    let t = block_tail (text b l.message) l.tail (n / 64) 0 (n % 64 + (119 - n % 64) % 64 + 9) (omega (arith, long)) f.tail (omega arith) in
+    let t = block_tail (text b l.message) l.tail (n / 64) 0 (n % 64 + (119 - n % 64) % 64 + 9)
+    (omega (arith, long)) f.tail (omega arith) in
     let place : (n / 64 + 0) * 64 ≡ k * 64 = omega arith in
     sym (ap (λ (i : ℕ). take 64 (drop i (padded_message (text b l.message)))) (sym place) ∙ t)
 
@@ -50,12 +58,14 @@ block_second_tail b l k f above below =
     let long = length-text b l.message (omega (arith, f.within)) in
     let count = blocks_of_lane b l f in
     let n = l.message.len in
-    let t = block_tail (text b l.message) l.tail (n / 64) 1 (n % 64 + (119 - n % 64) % 64 + 9) (omega (arith, long)) f.tail (omega (arith, count)) in
+    let t = block_tail (text b l.message) l.tail (n / 64) 1 (n % 64 + (119 - n % 64) % 64 + 9)
+    (omega (arith, long)) f.tail (omega (arith, count)) in
     let place : (n / 64 + 1) * 64 ≡ k * 64 = omega (arith, count) in
     sym (ap (λ (i : ℕ). take 64 (drop i (padded_message (text b l.message)))) (sym place) ∙ t)
 
 -- one more block
-pub runs_on : (b : List ℕ) (l : Lane) (clock : ℕ) (words block next : List ℕ) → HasTakenIn b l clock words → clock < l.due
+pub runs_on : (b : List ℕ) (l : Lane) (clock : ℕ) (words block next : List ℕ) → HasTakenIn b l clock words
+    → clock < l.due
     → block ≡ block_at b l clock → next ≡ compress words block → HasTakenIn b l (clock + 1) next
 runs_on b l clock words block next r lt at e =
     let p = padded_message (text b l.message) in
@@ -64,7 +74,8 @@ runs_on b l clock words block next r lt at e =
       fills = r.fills;
       begun = omega (arith, r.begun);
       ending = omega arith;
-      hash = e ∙ ap (λ (w : List ℕ). compress w block) r.hash ∙ ap (compress (hash_after initial_hash_256 p (clock - l.born))) at
+      hash = e ∙ ap (λ (w : List ℕ). compress w block) r.hash
+          ∙ ap (compress (hash_after initial_hash_256 p (clock - l.born))) at
           ∙ sym (hash_after_next initial_hash_256 p (clock - l.born)) ∙ ap (hash_after initial_hash_256 p) (sym count);
     }
 
@@ -82,17 +93,21 @@ below_eight P p0 p1 p2 p3 p4 p5 p6 p7 (suc (suc (suc (suc (suc (suc (suc (suc n)
 
 -- word i of a lane stands in row i
 pub word_of_lane : (hash : List (List ℕ)) (j i : ℕ) → i < 8 → slice_index (lane j hash) i ≡ word_in hash i j
-word_of_lane hash j = below_eight (λ i. slice_index (lane j hash) i ≡ word_in hash i j) refl refl refl refl refl refl refl refl
+word_of_lane hash j = below_eight (λ i. slice_index (lane j hash) i ≡ word_in hash i j) refl refl refl refl refl refl
+    refl refl
 
 -- a row that was set, and the others
-pub row-set_same : (hash : List (List ℕ)) (i k : ℕ) (row : List ℕ) → i < length hash → word_in (slice_set hash i row) i k ≡ slice_index row k
+pub row-set_same : (hash : List (List ℕ)) (i k : ℕ) (row : List ℕ) → i < length hash
+    → word_in (slice_set hash i row) i k ≡ slice_index row k
 row-set_same hash i k row low = ap (λ (x : List ℕ). slice_index x k) (get_or-set_same hash i row [] low)
 
-pub row-set_other : (hash : List (List ℕ)) (i r k : ℕ) (row : List ℕ) → r ≢ i → word_in (slice_set hash i row) r k ≡ word_in hash r k
+pub row-set_other : (hash : List (List ℕ)) (i r k : ℕ) (row : List ℕ) → r ≢ i
+    → word_in (slice_set hash i row) r k ≡ word_in hash r k
 row-set_other hash i r k row ne = ap (λ (x : List ℕ). slice_index x k) (get_or-set_other hash i r row [] ne)
 
 -- the words of another lane, where a row keeps its own
-pub other_words : (hash : List (List ℕ)) (i r k : ℕ) (row : List ℕ) → i < length hash → slice_index row k ≡ word_in hash i k → word_in (slice_set hash i row) r k ≡ word_in hash r k
+pub other_words : (hash : List (List ℕ)) (i r k : ℕ) (row : List ℕ) → i < length hash
+    → slice_index row k ≡ word_in hash i k → word_in (slice_set hash i row) r k ≡ word_in hash r k
 other_words hash i r k row low same =
     elim (cases_lt r i) [
       | inl a ↦ row-set_other hash i r k row (omega arith)

@@ -17,10 +17,12 @@ pub both_put : (old mid new : Option (List ℕ)) → AppendsSome old mid → App
 both_put old mid new (a, p) (b, q) = (a ++ b, Appends-trans old mid new a b p q)
 
 -- a text whose end is known behind another
-pub put_last : (old mid new : Option (List ℕ)) (put text last whole : List ℕ) → Appends old mid put → Appends mid new whole → whole ≡ text ++ last
+pub put_last : (old mid new : Option (List ℕ)) (put text last whole : List ℕ) → Appends old mid put
+    → Appends mid new whole → whole ≡ text ++ last
     → Appends old new ((put ++ text) ++ last)
 put_last old mid new put text last whole p q e =
-    subst (λ (t : List ℕ). Appends old new t) (ap (λ (t : List ℕ). put ++ t) e ∙ sym (append_assoc put text last)) (Appends-trans old mid new put whole p q)
+    subst (λ (t : List ℕ). Appends old new t) (ap (λ (t : List ℕ). put ++ t) e ∙ sym (append_assoc put text last))
+    (Appends-trans old mid new put whole p q)
 
 -- the line of an end is that of the restart whose end it is
 pub same_line : (r : Restarted) (end : End) (reason : List ℕ) → IsEndOf r (front_end_of end)

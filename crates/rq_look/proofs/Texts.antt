@@ -1,5 +1,6 @@
 -- Appending text to HTML.
-use Rattle.std.proofs.Common.{◌≡◌, ◌∙◌, ◌++◌, ℕ, true, List, [], Result, Ok, Err, refl, sym, ap, if◌then◌else◌, is_ok, OnOk, codes}
+use Rattle.std.proofs.Common.{◌≡◌, ◌∙◌, ◌++◌, ℕ, true, List, [], Result, Ok, Err, refl, sym, ap, if◌then◌else◌, is_ok}
+use Rattle.std.proofs.Common.{OnOk, codes}
 use Rattle.std.specs.Prelude.{encode_utf8_all}
 use Rattle.std.specs.List.{list_all}
 use Rattle.std.proofs.lemmas.List.{append-nil, append_assoc}
@@ -8,7 +9,9 @@ use Rattle.std.proofs.lemmas.Str.{encodes-append}
 use Rattle.rq_look.specs.Markup.{is_text, AppendsText}
 
 -- what was appended spells such characters
-pub appended : {A E : Type 0} (r : Result A E) (old new put : List ℕ) (cs : List ℕ) → new ≡ (if is_ok r then old ++ put else old) → encode_utf8_all cs ≡ put → list_all is_text cs ≡ true → OnOk r (AppendsText old new)
+pub appended : {A E : Type 0} (r : Result A E) (old new put : List ℕ) (cs : List ℕ)
+    → new ≡ (if is_ok r then old ++ put else old) → encode_utf8_all cs ≡ put → list_all is_text cs ≡ true
+    → OnOk r (AppendsText old new)
 appended (Ok x) old new put cs e s t = (cs, e ∙ ap (λ p. old ++ p) (sym s), t)
 appended (Err x) old new put cs e s t = tt
 
@@ -20,7 +23,8 @@ nothing old = ([], sym (append-nil old), refl)
 pub both : (old new last : List ℕ) → AppendsText old new → AppendsText new last → AppendsText old last
 both old new last (cs, e, t) (ds, f, u) = (
   cs ++ ds,
-  f ∙ ap (λ b. b ++ encode_utf8_all ds) e ∙ append_assoc old (encode_utf8_all cs) (encode_utf8_all ds) ∙ ap (λ b. old ++ b) (sym (encodes-append cs ds)),
+  f ∙ ap (λ b. b ++ encode_utf8_all ds) e ∙ append_assoc old (encode_utf8_all cs) (encode_utf8_all ds)
+      ∙ ap (λ b. old ++ b) (sym (encodes-append cs ds)),
   list_all-append is_text cs ds ∙ rw (t, u) refl,
 )
 

@@ -1,5 +1,6 @@
 -- A closed log, and what stands of it while its tail is written.
-use Rattle.std.proofs.Common.{◌≡◌, ℕ, ◌+◌, ◌-◌, ◌<◌, ◌≤◌, true, List, [], ◌∷◌, ◌++◌, length, map, take, drop, refl, sym, ap, subst, ◌∙◌, arith}
+use Rattle.std.proofs.Common.{◌≡◌, ℕ, ◌+◌, ◌-◌, ◌<◌, ◌≤◌, true, List, [], ◌∷◌, ◌++◌, length, map, take, drop, refl, sym}
+use Rattle.std.proofs.Common.{ap, subst, ◌∙◌, arith}
 use Rattle.std.proofs.Math.Seq.{take-length, take-append-add}
 use Rattle.std.proofs.lemmas.List.{append-nil, length-append, length-take, take-append-drop}
 use Rattle.sha2.specs.Sha256.{sha256}
@@ -25,12 +26,19 @@ record AreAborted (s t : State) (count : ℕ) : Type 0 where
   pub committed : t.committed ≡ s.committed
   pub aborted : t.aborted ≡ s.aborted + count
 
-are_aborted : (us : List ℕ) (s : State) → s.units ≡ us → Ordered (λ a b. a < b) us → AreAborted s (run s (map Abort us)) (length us)
+are_aborted : (us : List ℕ) (s : State) → s.units ≡ us → Ordered (λ a b. a < b) us
+    → AreAborted s (run s (map Abort us)) (length us)
 are_aborted [] s is rise = record { units = is; next = omega arith; committed = refl; aborted = omega arith }
 are_aborted (u ∷ us) s is rise =
     let left : (step s (Abort u)).units ≡ us = ap (closed_units u) is ∙ first_closed u us rise in
     let more = are_aborted us (step s (Abort u)) left rise.1 in
-    record { units = more.units; next = omega (arith, more.next); committed = more.committed; aborted = omega (arith, more.aborted) }
+    record {
+      units = more.units;
+      next = omega (arith, more.next);
+      committed = more.committed;
+      aborted =
+          omega (arith, more.aborted);
+    }
 
 -- lawful records, and the aborts of the units that are open after them
 record AreEnded (version : Version) (rs : List Record) : Type 0 where
@@ -47,21 +55,27 @@ are_ended version rs lawful =
     let all = take-length xs in
     let joined = run_join empty rs xs in
     record {
-      lawful = lawful_join version empty rs xs lawful (subst (λ (ys : List Record). all_lawful version s ys ≡ true) all harmless.0);
+      lawful = lawful_join version empty rs xs lawful
+          (subst (λ (ys : List Record). all_lawful version s ys ≡ true) all harmless.0);
       state = ap final joined ∙ subst (λ (ys : List Record). final (run s ys) ≡ final s) all harmless.1;
-      numbers = subst (λ (t : State). AreAborted s t (length s.units)) (sym joined) (are_aborted s.units s refl keeps.units_rise);
+      numbers = subst (λ (t : State). AreAborted s t (length s.units)) (sym joined)
+          (are_aborted s.units s refl keeps.units_rise);
     }
 
 -- a closed log is the log of the front's records and the aborts
-spelt : (b closed : List ℕ) (version : Version) (rs : List Record) (rest : List ℕ) → IsClosed b closed → IsFront b version rs rest → closed ≡ log_of version (rs ++ aborts (run empty rs))
+spelt : (b closed : List ℕ) (version : Version) (rs : List Record) (rest : List ℕ) → IsClosed b closed
+    → IsFront b version rs rest → closed ≡ log_of version (rs ++ aborts (run empty rs))
 spelt b closed version rs rest (tail, h) front =
     let one = one_front b h.version version h.records rs h.rest rest h.front front in
     let two = one_front b h.aborts.version version h.aborts.records rs h.aborts.rest rest h.aborts.front front in
-    let tail_is : tail ≡ frames_of (last_of (sha256 (magic version)) rs) (aborts (run empty rs)) = h.aborts.bytes ∙ (λ i. frames_of (last_of (sha256 (magic (two.0 i))) (two.1 i)) (aborts (run empty (two.1 i)))) in
+    let tail_is : tail ≡ frames_of (last_of (sha256 (magic version)) rs) (aborts (run empty rs)) =
+    h.aborts.bytes
+    ∙ (λ i. frames_of (last_of (sha256 (magic (two.0 i))) (two.1 i)) (aborts (run empty (two.1 i)))) in
     h.bytes ∙ (λ i. log_of (one.0 i) (one.1 i) ++ tail_is i) ∙ sym (log_joins version rs (aborts (run empty rs)))
 
 pub one_closed : OneClosed
-one_closed b x y (tail, h) k = spelt b x h.version h.records h.rest (tail, h) h.front ∙ sym (spelt b y h.version h.records h.rest k h.front)
+one_closed b x y (tail, h) k = spelt b x h.version h.records h.rest (tail, h) h.front
+    ∙ sym (spelt b y h.version h.records h.rest k h.front)
 
 pub closed_front : ClosedFront
 closed_front b closed version rs rest h short front =
@@ -74,7 +88,8 @@ closed_front b closed version rs rest h short front =
       whole = spelt b closed version rs rest h front;
       longest = front_stops version empty (sha256 (magic version)) bytes [] (rs ++ xs) (Ends Whole)
           (record {
-            records = each_append (IsRecord version) rs xs begins.records (aborts_are version rs begins.records begins.lawful);
+            records = each_append (IsRecord version) rs xs begins.records
+                (aborts_are version rs begins.records begins.lawful);
             lawful = (are_ended version rs begins.lawful).lawful;
             whole = sym (append-nil bytes);
           })
@@ -82,7 +97,8 @@ closed_front b closed version rs rest h short front =
     }
 
 -- the restart of a closed log
-whole : (b closed : List ℕ) (r : Restarted) → IsClosed b closed → length closed ≤ log_limit → IsRestart b r → IsRestart closed (when_closed r (length closed))
+whole : (b closed : List ℕ) (r : Restarted) → IsClosed b closed → length closed ≤ log_limit → IsRestart b r
+    → IsRestart closed (when_closed r (length closed))
 whole b closed r h short restart =
     let rs = restart.records in
     let s = run empty rs in
@@ -101,32 +117,63 @@ whole b closed r h short restart =
       front = closed_front b closed restart.version rs restart.rest h short restart.front;
       ends = refl;
       answer = ap (λ (z : Restarted). when_closed z n) restart.answer
-          ∙ (λ i. record { state = sym ended.state i; records = next i; used = used i; total = n; why = Ends Whole; committed = sym ended.numbers.committed i; aborted = aborted i; cut_off = none i });
+          ∙ (λ i. record {
+            state = sym ended.state i;
+            records = next i;
+            used = used i;
+            total = n;
+            why = Ends Whole;
+            committed = sym ended.numbers.committed i;
+            aborted = aborted i;
+            cut_off = none i;
+          });
     }
 
 -- a beginning of a closed log that holds the front
-crash : (b closed : List ℕ) (r : Restarted) (n : ℕ) → IsClosed b closed → length closed ≤ log_limit → IsRestart b r → r.used ≤ n → HaveSameQueues b (take n closed)
+crash : (b closed : List ℕ) (r : Restarted) (n : ℕ) → IsClosed b closed → length closed ≤ log_limit → IsRestart b r
+    → r.used ≤ n → HaveSameQueues b (take n closed)
 crash b closed r n (tail, h) short restart low =
     let front = log_of h.version h.records in
     let k = n - r.used in
     let part = take k tail in
     let used = used_long b h.version h.records h.rest r h.front restart in
     let parts : tail ≡ part ++ drop k tail = sym (take-append-drop k tail) in
-    let room : length (front ++ part) ≤ log_limit = omega (arith, short, ap length h.bytes, length-append front tail, length-append front part, length-take k tail) in
-    let here : take n closed ≡ front ++ part = ap (λ (m : ℕ). take m closed) (omega (arith, low, used)) ∙ ap (take (length front + k)) h.bytes ∙ take-append-add front tail k in
-    let after = crash_in_the_tail b tail part (drop k tail) h.version h.records h.rest r h.front h.aborts parts room restart in
+    let room : length (front ++ part) ≤ log_limit =
+    omega (
+      arith,
+      short,
+      ap length h.bytes,
+      length-append front tail,
+      length-append front part,
+      length-take k tail,
+    ) in
+    let here : take n closed ≡ front ++ part =
+    ap (λ (m : ℕ). take m closed) (omega (arith, low, used)) ∙ ap (take (length front + k)) h.bytes
+    ∙ take-append-add front tail k in
+    let after = crash_in_the_tail b tail part (drop k tail) h.version h.records h.rest r h.front h.aborts parts room
+    restart in
     let (queues, told) = restart_lines b r restart in
-    subst (HaveSameQueues b) (sym here) (r, after.again, queues, told, lines_report (front ++ part) after.again queues after.restart ((after.lines queues).1 told.lines))
+    subst (HaveSameQueues b) (sym here) (
+      r,
+      after.again,
+      queues,
+      told,
+      lines_report (front ++ part) after.again queues after.restart
+          ((after.lines queues).1 told.lines),
+    )
 
 -- a closed log, closed again
-again : (b closed twice : List ℕ) → IsClosed b closed → length closed ≤ log_limit → IsClosed closed twice → twice ≡ closed
+again : (b closed twice : List ℕ) → IsClosed b closed → length closed ≤ log_limit → IsClosed closed twice
+    → twice ≡ closed
 again b closed twice (tail, h) short k =
     let version = h.version in
     let rs = h.records in
     let all = rs ++ aborts (run empty rs) in
     let front = closed_front b closed version rs h.rest (tail, h) short h.front in
     let ended = are_ended version rs h.front.longest.begins.lawful in
-    let none : [] ≡ frames_of (last_of (sha256 (magic version)) all) (aborts (run empty all)) = sym (ap (λ (us : List ℕ). frames_of (last_of (sha256 (magic version)) all) (map Abort us)) ended.numbers.units) in
+    let none : [] ≡ frames_of (last_of (sha256 (magic version)) all) (aborts (run empty all)) =
+    sym (ap (λ (us : List ℕ). frames_of (last_of (sha256 (magic version)) all) (map Abort us))
+    ended.numbers.units) in
     let itself : IsClosed closed closed = (
       [],
       record {

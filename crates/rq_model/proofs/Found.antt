@@ -1,5 +1,6 @@
 -- Of bytes with a header the front is found, and why it ends.
-use Rattle.std.proofs.Common.{◌≡◌, ◌⊎◌, inl, inr, ℕ, zero, suc, ◌+◌, ◌≤◌, true, false, List, [], ◌∷◌, ◌++◌, length, take, drop, Option, Some, None, refl, sym, ap, subst, ◌∙◌, arith}
+use Rattle.std.proofs.Common.{◌≡◌, ◌⊎◌, inl, inr, ℕ, zero, suc, ◌+◌, ◌≤◌, true, false, List, [], ◌∷◌, ◌++◌, length}
+use Rattle.std.proofs.Common.{take, drop, Option, Some, None, refl, sym, ap, subst, ◌∙◌, arith}
 use Rattle.std.specs.Str.{bytes_eq}
 use Rattle.std.proofs.lemmas.Bool.{and_from, cases_lt, cases_Bool}
 use Rattle.std.proofs.lemmas.List.{take_at, length-append, take-append-drop, nil_from_length}
@@ -7,7 +8,9 @@ use Rattle.std.proofs.lemmas.Slice.Eq.{bytes_eq-Decides}
 use Rattle.sha2.specs.Sha256.{sha256}
 use Rattle.rq_model.specs.Records.{Record, Version}
 use Rattle.rq_model.specs.Spelling.{body_of, IsRecord, Spells}
-use Rattle.rq_model.specs.Frames.{log_limit, digest, frame, magic, HasHeader, AreBytes, last_of, stated, body_in, digest_in, HasRightFrame, Rest, Whole, Cut, Length, Digest, IsRest, bodies_of, header, log_of}
+use Rattle.rq_model.specs.Frames.{log_limit, digest, frame, magic, HasHeader, AreBytes, last_of, stated, body_in}
+use Rattle.rq_model.specs.Frames.{digest_in, HasRightFrame, Rest, Whole, Cut, Length, Digest, IsRest, bodies_of, header}
+use Rattle.rq_model.specs.Frames.{log_of}
 use Rattle.rq_model.specs.States.{State, empty}
 use Rattle.rq_model.specs.Machine.{is_lawful, all_lawful, step, run}
 use Rattle.rq_model.specs.Fronts.{Begins, Why, Ends, Form, Law, IsWhy, IsFront, Restarted, restarted, IsRestart}
@@ -34,7 +37,8 @@ spells_or_not version body fits = read (record_read version body) refl
   where
     read : (o : Option (Record × List ℕ)) → record_read version body ≡ o → SpellsOrNot version body
     read (Some x) e = inl (x.0, spelled_by body x (reads_record version) fits e)
-    read None e = inr (λ r its. let clash : ◌≡◌ {A = Option (Record × List ℕ)} None (Some (r, [])) = sym e ∙ read_again body r (reads_record version) its.0 its.1 in absurd cc)
+    read None e = inr (λ r its. let clash : ◌≡◌ {A = Option (Record × List ℕ)} None (Some (r, [])) =
+        sym e ∙ read_again body r (reads_record version) its.0 its.1 in absurd cc)
 
 -- a frame stands there whose digest is right, or one line says what follows
 found_frame : (p bytes : List ℕ) → HasRightFrame p bytes ⊎ ((why : Rest) × IsRest p bytes why)
@@ -54,8 +58,21 @@ found_frame p bytes = elim (cases_lt 0 (length bytes)) [
                           | inl short ↦ inr (Cut, (some, inr ((one, under), short)))
                           | inr room ↦
                               elim (cases_Bool (bytes_eq (digest_in bytes) (digest p (body_in bytes)))) [
-                                | inl same ↦ inl (record { whole = record { in_range = (one, under); room = room }; right = (bytes_eq-Decides (digest_in bytes) (digest p (body_in bytes))).0 same })
-                                | inr other ↦ inr (Digest, (record { in_range = (one, under); room = room }, λ same. no_true (sym ((bytes_eq-Decides (digest_in bytes) (digest p (body_in bytes))).1 same) ∙ other)))
+                                | inl same ↦ inl
+                                    (record {
+                                      whole = record { in_range = (one, under); room = room };
+                                      right =
+                                          (bytes_eq-Decides (digest_in bytes) (digest p (body_in bytes))).0 same;
+                                    })
+                                | inr other ↦ inr (
+                                  Digest,
+                                  (
+                                    record { in_range = (one, under); room = room },
+                                    λ same. no_true
+                                        (sym ((bytes_eq-Decides (digest_in bytes) (digest p (body_in bytes))).1 same)
+                                        ∙ other),
+                                  ),
+                                )
                               ]
                         ]
                   ]
@@ -74,11 +91,20 @@ record Found (version : Version) (s : State) (p bytes : List ℕ) : Type 0 where
   pub begins : Begins version s p bytes records rest
   pub ends : IsWhy version (run s records) (last_of p records) rest why
 
-nothing_found : (version : Version) (s : State) (p bytes : List ℕ) (why : Why) → IsWhy version s p bytes why → Found version s p bytes
-nothing_found version s p bytes why ends = record { records = []; rest = bytes; why = why; begins = record { records = tt; lawful = refl; whole = refl }; ends = ends }
+nothing_found : (version : Version) (s : State) (p bytes : List ℕ) (why : Why) → IsWhy version s p bytes why
+    → Found version s p bytes
+nothing_found version s p bytes why ends =
+    record {
+      records = [];
+      rest = bytes;
+      why = why;
+      begins = record { records = tt; lawful = refl; whole = refl };
+      ends = ends;
+    }
 
 -- one record more
-found_first : (version : Version) (s : State) (p bytes after : List ℕ) (r : Record) → IsRecord version r → is_lawful version s r ≡ true → bytes ≡ frame p (body_of r) ++ after
+found_first : (version : Version) (s : State) (p bytes after : List ℕ) (r : Record) → IsRecord version r
+    → is_lawful version s r ≡ true → bytes ≡ frame p (body_of r) ++ after
     → Found version (step s r) (digest p (body_of r)) after → Found version s p bytes
 found_first version s p bytes after r is lawful whole more = record {
   records = r ∷ more.records;
@@ -87,26 +113,40 @@ found_first version s p bytes after r is lawful whole more = record {
   begins = record {
     records = (is, more.begins.records);
     lawful = and_from (is_lawful version s r) (all_lawful version (step s r) more.records) lawful more.begins.lawful;
-    whole = whole ∙ ap (λ (z : List ℕ). frame p (body_of r) ++ z) more.begins.whole ∙ sym (frames_assoc p (body_of r) (bodies_of more.records) more.rest);
+    whole = whole ∙ ap (λ (z : List ℕ). frame p (body_of r) ++ z) more.begins.whole
+        ∙ sym (frames_assoc p (body_of r) (bodies_of more.records) more.rest);
   };
   ends = more.ends;
 }
 
-found : (n : ℕ) (version : Version) (s : State) (p bytes : List ℕ) → length bytes ≤ n → AreBytes bytes → Found version s p bytes
-found zero version s p bytes few fits = nothing_found version s p bytes (Ends Whole) (nil_from_length bytes (omega (arith, few)))
+found : (n : ℕ) (version : Version) (s : State) (p bytes : List ℕ) → length bytes ≤ n → AreBytes bytes
+    → Found version s p bytes
+found zero version s p bytes few fits =
+    nothing_found version s p bytes (Ends Whole) (nil_from_length bytes (omega (arith, few)))
 found (suc n) version s p bytes few fits = elim (found_frame p bytes) [
   | inr stop ↦ nothing_found version s p bytes (Ends stop.0) stop.1
   | inl right ↦
-      elim (spells_or_not version (body_in bytes) (IsBytes-take (stated bytes) (drop 4 bytes) (IsBytes-drop 4 bytes fits))) [
+      elim (spells_or_not version (body_in bytes)
+      (IsBytes-take (stated bytes) (drop 4 bytes) (IsBytes-drop 4 bytes fits))) [
         | inr none ↦ nothing_found version s p bytes Form (right, none)
         | inl (r, spelled) ↦
             elim (cases_Bool (is_lawful version s r)) [
               | inr unlawful ↦ nothing_found version s p bytes Law (right, r, spelled, unlawful)
               | inl lawful ↦
                   let after = drop (36 + stated bytes) bytes in
-                  let framed : bytes ≡ frame p (body_of r) ++ after = (frame_at p bytes fits right).0 ∙ ap (λ (z : List ℕ). frame p z ++ after) spelled.1 in
-                  let shorter : length after ≤ n = omega (arith, few, ap length framed, length-append (frame p (body_of r)) after, frame_long p (body_of r)) in
-                  found_first version s p bytes after r spelled.0 lawful framed (found n version (step s r) (digest p (body_of r)) after shorter (IsBytes-drop (36 + stated bytes) bytes fits))
+                  let framed : bytes ≡ frame p (body_of r) ++ after =
+                  (frame_at p bytes fits right).0 ∙ ap (λ (z : List ℕ). frame p z ++ after) spelled.1 in
+                  let shorter : length after ≤ n =
+                  omega (
+                    arith,
+                    few,
+                    ap length framed,
+                    length-append (frame p (body_of r)) after,
+                    frame_long p (body_of r),
+                  ) in
+                  found_first version s p bytes after r spelled.0 lawful framed
+                  (found n version (step s r) (digest p (body_of r)) after shorter
+                  (IsBytes-drop (36 + stated bytes) bytes fits))
             ]
       ]
 ]
@@ -119,7 +159,8 @@ pub record HasFront (version : Version) (b : List ℕ) : Type 0 where
   pub front : IsFront b version records rest
   pub ends : IsWhy version (run empty records) (last_of (sha256 (magic version)) records) rest why
 
-pub has_front : (version : Version) (b : List ℕ) → AreBytes b → length b ≤ log_limit → HasHeader version b → HasFront version b
+pub has_front : (version : Version) (b : List ℕ) → AreBytes b → length b ≤ log_limit → HasHeader version b
+    → HasFront version b
 has_front version b fits short head =
     let start = sha256 (magic version) in
     let bytes = drop 40 b in
@@ -142,20 +183,37 @@ every_log_has_report version b fits short head =
     let f = has_front version b fits short head in
     front_has_report b version f.records f.rest f.why f.front f.ends
 
-pub front_restart : (b : List ℕ) (version : Version) (records : List Record) (rest : List ℕ) → AreBytes b → IsFront b version records rest → (r : Restarted) × IsRestart b r
+pub front_restart : (b : List ℕ) (version : Version) (records : List Record) (rest : List ℕ) → AreBytes b
+    → IsFront b version records rest → (r : Restarted) × IsRestart b r
 front_restart b version records rest fits front =
-    let head : HasHeader version b = ap (take 40) front.whole ∙ take_at (header version) front.bytes 40 (header_long version) in
-    let f = has_front version b fits front.short head in
-    (restarted (run empty f.records) (length f.rest) (length b) f.why, record { version = version; records = f.records; rest = f.rest; why = f.why; front = f.front; ends = f.ends; answer = refl })
+    let head : HasHeader version b = ap (take 40) front.whole
+    ∙ take_at (header version) front.bytes 40 (header_long version) in
+    let f = has_front version b fits front.short head in (
+      restarted (run empty f.records) (length f.rest) (length b) f.why,
+      record {
+        version = version;
+        records = f.records;
+        rest = f.rest;
+        why = f.why;
+        front = f.front;
+        ends = f.ends;
+        answer = refl;
+      },
+    )
 
-pub lines_report : (b : List ℕ) (r : Restarted) (queues : List ℕ) → IsRestart b r → IsQueueText r.state queues → HasReport b r queues
-lines_report b r queues restart lines = record { restart = restart; lines = lines; report = (r, restart, (queues, lines, refl)) }
+pub lines_report : (b : List ℕ) (r : Restarted) (queues : List ℕ) → IsRestart b r → IsQueueText r.state queues
+    → HasReport b r queues
+lines_report b r queues restart lines =
+    record { restart = restart; lines = lines; report = (r, restart, (queues, lines, refl)) }
 
 -- what a restart answers has queue lines
 pub restart_lines : (b : List ℕ) (r : Restarted) → IsRestart b r → (queues : List ℕ) × HasReport b r queues
 restart_lines b r restart =
-    let keeps = runs_are_well_formed restart.version empty restart.records empty_is_well_formed restart.front.longest.begins.lawful in
-    let ended : IsWellFormed r.state = subst IsWellFormed (sym (ap (λ (z : Restarted). z.state) restart.answer)) (final_kept restart.version (run empty restart.records) keeps) in
+    let keeps = runs_are_well_formed restart.version empty restart.records empty_is_well_formed
+    restart.front.longest.begins.lawful in
+    let ended : IsWellFormed r.state =
+    subst IsWellFormed (sym (ap (λ (z : Restarted). z.state) restart.answer))
+    (final_kept restart.version (run empty restart.records) keeps) in
     let (queues, lines, made) = is_text r ended in
     (queues, lines_report b r queues restart lines)
 
@@ -163,5 +221,11 @@ pub crash_says_the_same : CrashSaysTheSame
 crash_says_the_same b tail part missing version records rest fits front tailed parts short =
     let (r, restart) = front_restart b version records rest fits front in
     let (queues, told) = restart_lines b r restart in
-    let closed = crash_in_the_tail b tail part missing version records rest r front tailed parts short restart in
-    (r, closed.again, queues, told, lines_report (log_of version records ++ part) closed.again queues closed.restart ((closed.lines queues).1 told.lines))
+    let closed = crash_in_the_tail b tail part missing version records rest r front tailed parts short restart in (
+      r,
+      closed.again,
+      queues,
+      told,
+      lines_report (log_of version records ++ part) closed.again queues closed.restart
+          ((closed.lines queues).1 told.lines),
+    )

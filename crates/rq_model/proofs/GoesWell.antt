@@ -1,13 +1,16 @@
 -- The redo of each queue goes well.
-use Rattle.std.proofs.Common.{◌≡◌, ◌≢◌, ℕ, ◌+◌, ◌<◌, ◌≤◌, ◌^◌, Bool, true, false, cond, List, [], ◌∷◌, ◌++◌, length, refl, sym, ap, ◌∙◌, subst, arith}
+use Rattle.std.proofs.Common.{◌≡◌, ◌≢◌, ℕ, ◌+◌, ◌<◌, ◌≤◌, ◌^◌, Bool, true, false, cond, List, [], ◌∷◌, ◌++◌, length}
+use Rattle.std.proofs.Common.{refl, sym, ap, ◌∙◌, subst, arith}
 use Rattle.std.specs.Prelude.{◌==◌}
 use Rattle.std.specs.List.{AllByRecursion}
 use Rattle.std.proofs.lemmas.Bool.{and_parts, and_from, eqb-true, lt-ltb, lt-leb}
-use Rattle.rq_model.specs.Records.{Record, Define, Register, Deregister, Begin, Enqueue, Dequeue, Commit, Abort, Checkpoint, Kill, Version}
+use Rattle.rq_model.specs.Records.{Record, Define, Register, Deregister, Begin, Enqueue, Dequeue, Commit, Abort}
+use Rattle.rq_model.specs.Records.{Checkpoint, Kill, Version}
 use Rattle.rq_model.specs.States.{Element, Definition, State, definition_at}
 use Rattle.rq_model.specs.WellFormed.{Ordered, IsWellFormed, IsElement, IsNote}
 use Rattle.rq_model.specs.Machine.{is_lawful, all_lawful, step}
-use Rattle.rq_model.specs.Queues.{Part, defined_by, Op, touches, touching_from, Move, transfers_at, transfers, arrivals_of, arrivals, elements_at}
+use Rattle.rq_model.specs.Queues.{Part, defined_by, Op, touches, touching_from, Move, transfers_at, transfers}
+use Rattle.rq_model.specs.Queues.{arrivals_of, arrivals, elements_at}
 use Rattle.rq_model.specs.Redo.{act, receive, before as before_place, from as from_place}
 use Rattle.rq_model.specs.Ready.{IsOf, IsReady, AreNew, GoesWell, RedoGoesWell, GoesOn}
 use Rattle.rq_model.proofs.Lists.{each_weaker, each_passes, each_filter}
@@ -16,26 +19,35 @@ use Rattle.rq_model.proofs.Steps.{core, Knows, known_by, step_part}
 use Rattle.rq_model.proofs.Sound.{agree_from, same_definitions, knows_step, knows_start}
 use Rattle.rq_model.proofs.WellFormedRuns.{sound}
 use Rattle.rq_model.proofs.Kept.{runs_are_well_formed}
-use Rattle.rq_model.proofs.ByQueue.{Since, At, OpsSince, arrivals_at, arrivals_of-append, arrivals_since, ops_since, receive-append, before_all, from_none, since_before, since_from}
+use Rattle.rq_model.proofs.ByQueue.{Since, At, OpsSince, arrivals_at, arrivals_of-append, arrivals_since, ops_since}
+use Rattle.rq_model.proofs.ByQueue.{receive-append, before_all, from_none, since_before, since_from}
 use Rattle.rq_model.proofs.Apart.{Apart, are_new, new_append}
 
 -- what an operation meets, where these arrivals come first and those later
 abbrev Meets : Part → Op → List Op → List Move × List Move → Type 0
-Meets p op ops ms = AreNew ms.0 p.elements × (IsReady op.place op.does (receive ms.0 p) × GoesWell (act op.place op.does (receive ms.0 p)) ops ms.1)
+Meets p op ops ms = AreNew ms.0 p.elements
+    × (IsReady op.place op.does (receive ms.0 p) × GoesWell (act op.place op.does (receive ms.0 p)) ops ms.1)
 
 -- One arrival or one operation at a time.
 
-arrives : (p : Part) (op : Op) (ops : List Op) (m : Move) (ms : List Move) → m.place < op.place → GoesWell p (op ∷ ops) (m ∷ ms)
+arrives : (p : Part) (op : Op) (ops : List Op) (m : Move) (ms : List Move) → m.place < op.place
+    → GoesWell p (op ∷ ops) (m ∷ ms)
     → AllByRecursion (λ e. e.id ≢ m.element.id) p.elements × GoesWell (receive (m ∷ []) p) (op ∷ ops) ms
 arrives p op ops m ms l h =
     let met : Meets p op ops (m ∷ before_place op.place ms, from_place op.place ms)
-    = subst (Meets p op ops) (λ i. (cond (lt-ltb m.place op.place l i) (m ∷ before_place op.place ms) (before_place op.place ms), cond (lt-leb op.place m.place l i) (m ∷ from_place op.place ms) (from_place op.place ms))) h in
+    = subst (Meets p op ops)
+    (λ i. (
+      cond (lt-ltb m.place op.place l i) (m ∷ before_place op.place ms) (before_place op.place ms),
+      cond (lt-leb op.place m.place l i) (m ∷ from_place op.place ms) (from_place op.place ms),
+    )) h in
     (met.0.0, (met.0.1, met.1))
 
-acts : (p : Part) (op : Op) (ops : List Op) (ms : List Move) → AllByRecursion (λ m. op.place ≤ m.place) ms → GoesWell p (op ∷ ops) ms
+acts : (p : Part) (op : Op) (ops : List Op) (ms : List Move) → AllByRecursion (λ m. op.place ≤ m.place) ms
+    → GoesWell p (op ∷ ops) ms
     → IsReady op.place op.does p × GoesWell (act op.place op.does p) ops ms
 acts p op ops ms l h =
-    let met : Meets p op ops ([], ms) = subst (Meets p op ops) (λ i. (since_before op.place ms l i, since_from op.place ms l i)) h in
+    let met : Meets p op ops ([], ms) =
+    subst (Meets p op ops) (λ i. (since_before op.place ms l i, since_from op.place ms l i)) h in
     met.1
 
 pub goes_on : GoesOn
@@ -43,17 +55,27 @@ goes_on = record { arrives = arrives; acts = acts; ends = λ p m ms h. h }
 
 -- The run.
 
-first_goes : (b : Bool) (place : ℕ) (r : Record) (p : Part) (ops : List Op) (ms : List Move) → Since place ms → (b ≡ true → IsReady place r p)
+first_goes : (b : Bool) (place : ℕ) (r : Record) (p : Part) (ops : List Op) (ms : List Move) → Since place ms
+    → (b ≡ true → IsReady place r p)
     → GoesWell (cond b (act place r p) p) ops ms → GoesWell p (cond b (record { place = place; does = r } ∷ ops) ops) ms
-first_goes true place r p ops ms l ready h = subst (Meets p (record { place = place; does = r }) ops) (λ i. (sym (since_before place ms l) i, sym (since_from place ms l) i)) (tt, (ready refl, h))
+first_goes true place r p ops ms l ready h =
+    subst (Meets p (record { place = place; does = r }) ops)
+    (λ i. (sym (since_before place ms l) i, sym (since_from place ms l) i)) (tt, (ready refl, h))
 first_goes false place r p ops ms l ready h = h
 
-absorb_goes : (n : ℕ) (p : Part) (ops : List Op) (now later : List Move) → At n now → OpsSince (n + 1) ops → AreNew now p.elements → GoesWell (receive now p) ops later → GoesWell p ops (now ++ later)
+absorb_goes : (n : ℕ) (p : Part) (ops : List Op) (now later : List Move) → At n now → OpsSince (n + 1) ops
+    → AreNew now p.elements → GoesWell (receive now p) ops later → GoesWell p ops (now ++ later)
 absorb_goes n p [] now later a l new h = new_append now later p.elements new h
 absorb_goes n p (op ∷ ops) now later a l new h =
-    subst (Meets p op ops) (λ i. (sym (before_all n now later op.place a (omega (arith, l.0))) i, sym (from_none n now later op.place a (omega (arith, l.0))) i)) (
+    subst (Meets p op ops)
+    (λ i. (
+      sym (before_all n now later op.place a (omega (arith, l.0))) i,
+      sym (from_none n now later op.place a (omega (arith, l.0))) i,
+    )) (
       new_append now (before_place op.place later) p.elements new h.0,
-      subst (λ (q : Part). IsReady op.place op.does q × GoesWell (act op.place op.does q) ops (from_place op.place later)) (sym (receive-append now (before_place op.place later) p)) h.1,
+      subst (λ (q : Part). IsReady op.place op.does q
+          × GoesWell (act op.place op.does q) ops (from_place op.place later))
+          (sym (receive-append now (before_place op.place later) p)) h.1,
     )
 
 is_of : (s₀ : State) (past : List Record) (q : ℕ) (r : Record) → touches s₀ past q r ≡ true → IsOf q r
@@ -68,26 +90,39 @@ is_of s₀ past q (Abort unit) h = tt
 is_of s₀ past q (Checkpoint bytes) h = tt
 is_of s₀ past q (Kill k element) h = eqb-true k q h
 
-ready : (d : Definition) (s : State) (q n : ℕ) (r : Record) → IsWellFormed s → s.next + (n + 1) < 2 ^ 64 → IsOf q r → IsReady s.next r (core d s q)
+ready : (d : Definition) (s : State) (q n : ℕ) (r : Record) → IsWellFormed s → s.next + (n + 1) < 2 ^ 64 → IsOf q r
+    → IsReady s.next r (core d s q)
 ready d s q n r well fits named = record {
   of_queue = named;
   homes = each_passes (λ e. e.home ≡ q) (λ e. e.home == q) (λ e t. eqb-true e.home q t) s.elements;
-  older = each_filter (λ e. e.id < s.next) (λ e. e.home == q) s.elements (each_weaker (IsElement s) (λ e. e.id < s.next) (λ e h. h.id) s.elements well.elements);
-  room = each_filter (λ e. e.attempts + 1 < 2 ^ 64) (λ e. e.home == q) s.elements (each_weaker (IsElement s) (λ e. e.attempts + 1 < 2 ^ 64) (λ e h. let a : e.attempts ≤ s.next = h.attempts in omega (arith, fits)) s.elements well.elements);
-  notes = each_filter (λ n. n.last.place < s.next) (λ n. n.queue == q) s.notes (each_weaker (IsNote s) (λ n. n.last.place < s.next) (λ n h. h.last.place) s.notes well.notes);
+  older = each_filter (λ e. e.id < s.next) (λ e. e.home == q) s.elements
+      (each_weaker (IsElement s) (λ e. e.id < s.next) (λ e h. h.id) s.elements well.elements);
+  room = each_filter (λ e. e.attempts + 1 < 2 ^ 64) (λ e. e.home == q) s.elements
+      (each_weaker (IsElement s) (λ e. e.attempts + 1 < 2 ^ 64)
+      (λ e h. let a : e.attempts ≤ s.next = h.attempts in omega (arith, fits)) s.elements well.elements);
+  notes = each_filter (λ n. n.last.place < s.next) (λ n. n.queue == q) s.notes
+      (each_weaker (IsNote s) (λ n. n.last.place < s.next) (λ n h. h.last.place) s.notes well.notes);
 }
 
 rising_apart : (es : List Element) → Ordered (λ e f. e.id < f.id) es → Apart es
-rising_apart es h = ordered_weaker (λ (e f : Element). e.id < f.id) (λ (e f : Element). e.id ≢ f.id) (λ e f l k. absurd (let n : ⊥ = omega (arith, l, k) in n)) es h
+rising_apart es h = ordered_weaker (λ (e f : Element). e.id < f.id) (λ (e f : Element). e.id ≢ f.id)
+    (λ e f l k. absurd (let n : ⊥ = omega (arith, l, k) in n)) es h
 
-goes : (version : Version) (s₀ : State) (past : List Record) (s : State) (rs : List Record) (q : ℕ) (d : Definition) → definition_at (s.definitions ++ defined_by rs) q ≡ d
+goes : (version : Version) (s₀ : State) (past : List Record) (s : State) (rs : List Record) (q : ℕ) (d : Definition)
+    → definition_at (s.definitions ++ defined_by rs) q ≡ d
     → IsWellFormed s → Knows (known_by s₀ past q) q s → all_lawful version s rs ≡ true → s.next + length rs < 2 ^ 64
     → GoesWell (core d s q) (touching_from s.next s₀ past rs q) (arrivals s rs q)
 goes version s₀ past s [] q d e well knows lawful fits = tt
 goes version s₀ past s (r ∷ rs) q d e well knows lawful fits =
     subst (GoesWell (core d s q) (touching_from s.next s₀ past (r ∷ rs) q)) (sym come)
-    (first_goes (touches s₀ past q r) s.next r (core d s q) ops (now ++ rest) (subst (Since s.next) come (arrivals_since s (r ∷ rs) q)) (λ t. ready d s q (length rs) r well (omega (arith, fits)) (is_of s₀ past q r t))
-    (absorb_goes s.next acted ops now rest (arrivals_at s r q) (ops_since (s.next + 1) s₀ (past ++ r ∷ []) rs q) new (subst (λ (p : Part). GoesWell p ops rest) same (goes version s₀ (past ++ r ∷ []) (step s r) rs q d (ap (λ ds. definition_at ds q) (same_definitions s r rs) ∙ e) well_then (knows_step s₀ past q s r knows) lawful_parts.1 (omega (arith, fits))))))
+    (first_goes (touches s₀ past q r) s.next r (core d s q) ops (now ++ rest)
+    (subst (Since s.next) come (arrivals_since s (r ∷ rs) q))
+    (λ t. ready d s q (length rs) r well (omega (arith, fits)) (is_of s₀ past q r t))
+    (absorb_goes s.next acted ops now rest (arrivals_at s r q) (ops_since (s.next + 1) s₀ (past ++ r ∷ []) rs q) new
+    (subst (λ (p : Part). GoesWell p ops rest) same
+    (goes version s₀ (past ++ r ∷ []) (step s r) rs q d
+    (ap (λ ds. definition_at ds q) (same_definitions s r rs) ∙ e) well_then
+    (knows_step s₀ past q s r knows) lawful_parts.1 (omega (arith, fits))))))
   where
     now : List Move
     now = arrivals_of q (transfers_at s r)
@@ -108,7 +143,8 @@ goes version s₀ past s (r ∷ rs) q d e well knows lawful fits =
     lawful_parts = and_parts (is_lawful version s r) (all_lawful version (step s r) rs) lawful
 
     agree : AllByRecursion (λ e. (e.home == q) ≡ true → definition_at s.definitions e.home ≡ d) s.elements
-    agree = subst (λ c. AllByRecursion (λ (e : Element). (e.home == q) ≡ true → definition_at s.definitions e.home ≡ c) s.elements) e (agree_from s (defined_by (r ∷ rs)) q (sound s well))
+    agree = subst (λ c. AllByRecursion (λ (e : Element). (e.home == q) ≡ true → definition_at s.definitions e.home ≡ c)
+        s.elements) e (agree_from s (defined_by (r ∷ rs)) q (sound s well))
 
     same : core d (step s r) q ≡ receive now acted
     same = step_part s₀ past d s r q agree (sound s well).rising knows
@@ -117,7 +153,12 @@ goes version s₀ past s (r ∷ rs) q d e well knows lawful fits =
     well_then = runs_are_well_formed version s (r ∷ []) well (and_from (is_lawful version s r) true lawful_parts.0 refl)
 
     new : AreNew now acted.elements
-    new = (are_new now acted.elements (subst (λ (p : Part). Apart p.elements) same (rising_apart (elements_at q (step s r).elements) (ordered_filter (λ (e f : Element). e.id < f.id) (λ e. e.home == q) (step s r).elements well_then.elements_rise)))).0
+    new = (are_new now acted.elements
+        (subst (λ (p : Part). Apart p.elements) same
+        (rising_apart (elements_at q (step s r).elements)
+        (ordered_filter (λ (e f : Element). e.id < f.id) (λ e. e.home == q)
+        (step s r).elements well_then.elements_rise)))).0
 
 pub redo_goes_well : RedoGoesWell
-redo_goes_well version s rs q well lawful fits = goes version s [] s rs q (definition_at (s.definitions ++ defined_by rs) q) refl well (knows_start s q) lawful fits
+redo_goes_well version s rs q well lawful fits =
+    goes version s [] s rs q (definition_at (s.definitions ++ defined_by rs) q) refl well (knows_start s q) lawful fits

@@ -1,5 +1,6 @@
 -- The longest lawful beginning; a queue that is decided.
-use Rattle.std.proofs.Common.{◌≡◌, ◌≤◌, true, false, cond, List, [], ◌∷◌, ◌++◌, length, refl, sym, ap, subst, ◌∙◌, arith}
+use Rattle.std.proofs.Common.{◌≡◌, ◌≤◌, true, false, cond, List, [], ◌∷◌, ◌++◌, length, refl, sym, ap, subst, ◌∙◌}
+use Rattle.std.proofs.Common.{arith}
 use Rattle.std.proofs.lemmas.Bool.{and_parts, and_from}
 use Rattle.std.proofs.lemmas.List.{length-append}
 use Rattle.rq_model.specs.Records.{Record, Version}
@@ -10,7 +11,8 @@ use Rattle.rq_model.specs.Laws.{IsLawfulFront, LawfulFrontIsLongest, QueueIsDeci
 use Rattle.rq_model.proofs.Lists.{by_cases}
 use Rattle.rq_model.proofs.ByQueue.{projection}
 
-longer : (version : Version) (s : State) (r : Record) (rs front : List Record) → is_lawful version s r ≡ true → IsLawfulFront version (step s r) rs front → IsLawfulFront version s (r ∷ rs) (r ∷ front)
+longer : (version : Version) (s : State) (r : Record) (rs front : List Record) → is_lawful version s r ≡ true
+    → IsLawfulFront version (step s r) rs front → IsLawfulFront version s (r ∷ rs) (r ∷ front)
 longer version s r rs front lawful more = record {
   lawful = and_from (is_lawful version s r) (all_lawful version (step s r) front) lawful more.lawful;
   begins = (more.begins.0, ap (λ xs. r ∷ xs) more.begins.1);
@@ -20,14 +22,20 @@ longer version s r rs front lawful more = record {
     first : (a b : Record) (as' bs : List Record) → a ∷ as' ≡ b ∷ bs → (a ≡ b) × (as' ≡ bs)
     first a b as' bs e = (cc, cc)
 
-    longest : (others after : List Record) → all_lawful version s others ≡ true → r ∷ rs ≡ others ++ after → length others ≤ length (r ∷ front)
+    longest : (others after : List Record) → all_lawful version s others ≡ true → r ∷ rs ≡ others ++ after
+        → length others ≤ length (r ∷ front)
     longest [] after h e = omega arith
     longest (o ∷ os) after h e =
         let same = first r o rs (os ++ after) e in
         let rest = (and_parts (is_lawful version s o) (all_lawful version (step s o) os) h).1 in
-        omega (arith, more.longest os after (subst (λ (x : Record). all_lawful version (step s x) os ≡ true) (sym same.0) rest) same.1)
+        omega (
+          arith,
+          more.longest os after
+              (subst (λ (x : Record). all_lawful version (step s x) os ≡ true) (sym same.0) rest) same.1,
+        )
 
-none : (version : Version) (s : State) (r : Record) (rs : List Record) → is_lawful version s r ≡ false → IsLawfulFront version s (r ∷ rs) []
+none : (version : Version) (s : State) (r : Record) (rs : List Record) → is_lawful version s r ≡ false
+    → IsLawfulFront version s (r ∷ rs) []
 none version s r rs unlawful = record { lawful = refl; begins = (r ∷ rs, refl); longest = longest }
   where
     first : (a b : Record) (as' bs : List Record) → a ∷ as' ≡ b ∷ bs → a ≡ b
@@ -36,19 +44,32 @@ none version s r rs unlawful = record { lawful = refl; begins = (r ∷ rs, refl)
     no_true : true ≡ false → ⊥
     no_true e = cc
 
-    longest : (others after : List Record) → all_lawful version s others ≡ true → r ∷ rs ≡ others ++ after → length others ≤ 0
+    longest : (others after : List Record) → all_lawful version s others ≡ true → r ∷ rs ≡ others ++ after
+        → length others ≤ 0
     longest [] after h e = omega arith
-    longest (o ∷ os) after h e = absurd (no_true (sym (and_parts (is_lawful version s o) (all_lawful version (step s o) os) h).0 ∙ ap (is_lawful version s) (sym (first r o rs (os ++ after) e)) ∙ unlawful))
+    longest (o ∷ os) after h e =
+        absurd (no_true (sym (and_parts (is_lawful version s o) (all_lawful version (step s o) os) h).0
+        ∙ ap (is_lawful version s) (sym (first r o rs (os ++ after) e)) ∙ unlawful))
 
 pub lawful_front_is_longest : LawfulFrontIsLongest
-lawful_front_is_longest version s [] = record { lawful = refl; begins = ([], refl); longest = λ others after h e. omega (arith, ap length e, length-append others after) }
+lawful_front_is_longest version s [] =
+    record {
+      lawful = refl;
+      begins = ([], refl);
+      longest =
+          λ others after h e. omega (arith, ap length e, length-append others after);
+    }
 lawful_front_is_longest version s (r ∷ rs) =
-    by_cases (is_lawful version s r) (λ b. IsLawfulFront version s (r ∷ rs) (cond b (r ∷ lawful_front version (step s r) rs) []))
-    (λ lawful. longer version s r rs (lawful_front version (step s r) rs) lawful (lawful_front_is_longest version (step s r) rs))
+    by_cases (is_lawful version s r)
+    (λ b. IsLawfulFront version s (r ∷ rs) (cond b (r ∷ lawful_front version (step s r) rs) []))
+    (λ lawful. longer version s r rs (lawful_front version (step s r) rs) lawful
+    (lawful_front_is_longest version (step s r) rs))
     (λ unlawful. none version s r rs unlawful)
 
 pub queue_is_decided : QueueIsDecided
 queue_is_decided v w s t rs us queue sound_s sound_t lawful_s lawful_t part touch arrive =
     let a = projection v s rs queue sound_s lawful_s in
-    let b = projection w t us queue sound_t lawful_t in
-    (sym a.0 ∙ (λ i. redone (part i) (touch i) (arrive i)) ∙ b.0, sym a.1 ∙ (λ i. all_sent (part i) (touch i) (arrive i)) ∙ b.1)
+    let b = projection w t us queue sound_t lawful_t in (
+      sym a.0 ∙ (λ i. redone (part i) (touch i) (arrive i)) ∙ b.0,
+      sym a.1 ∙ (λ i. all_sent (part i) (touch i) (arrive i)) ∙ b.1,
+    )

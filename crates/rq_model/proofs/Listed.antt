@@ -1,5 +1,6 @@
 -- A listing is made by putting elements in order, so each answer has a text.
-use Rattle.std.proofs.Common.{◌≡◌, ◌⊎◌, inl, inr, ℕ, ◌+◌, ◌<◌, ◌≤◌, Bool, true, false, cond, List, [], ◌∷◌, ◌++◌, refl, sym, ap, ◌∙◌, arith}
+use Rattle.std.proofs.Common.{◌≡◌, ◌⊎◌, inl, inr, ℕ, ◌+◌, ◌<◌, ◌≤◌, Bool, true, false, cond, List, [], ◌∷◌, ◌++◌, refl}
+use Rattle.std.proofs.Common.{sym, ap, ◌∙◌, arith}
 use Rattle.std.specs.Prelude.{◌&&◌, not, nat_lt, nat_le, ◌==◌, ◌≢◌, filter, ◌||◌}
 use Rattle.std.specs.List.{AllByRecursion}
 use Rattle.std.proofs.lemmas.Bool.{and_from, le-leb, eq-eqb, lt-ltb, cases_lt}
@@ -25,11 +26,15 @@ in_filter p x (y ∷ xs) =
 
 filter_in : (p : Element → Bool) (x : Element) (xs : List Element) → IsIn x xs → p x ≡ true → IsIn x (filter p xs)
 filter_in p x [] h t = absurd h
-filter_in p x (y ∷ xs) (inl e) t = by_cases (p y) (λ b. IsIn x (cond b (y ∷ filter p xs) (filter p xs))) (λ _. inl e) (λ f. absurd (two_ways (sym t ∙ ap p e ∙ f)))
+filter_in p x (y ∷ xs) (inl e) t =
+    by_cases (p y) (λ b. IsIn x (cond b (y ∷ filter p xs) (filter p xs))) (λ _. inl e)
+    (λ f. absurd (two_ways (sym t ∙ ap p e ∙ f)))
   where
     two_ways : true ≡ false → ⊥
     two_ways e = cc
-filter_in p x (y ∷ xs) (inr i) t = by_cases (p y) (λ b. IsIn x (cond b (y ∷ filter p xs) (filter p xs))) (λ _. inr (filter_in p x xs i t)) (λ _. filter_in p x xs i t)
+filter_in p x (y ∷ xs) (inr i) t =
+    by_cases (p y) (λ b. IsIn x (cond b (y ∷ filter p xs) (filter p xs))) (λ _. inr (filter_in p x xs i t))
+    (λ _. filter_in p x xs i t)
 
 in_append : (x : Element) (xs ys : List Element) → IsIn x (xs ++ ys) → IsIn x xs ⊎ IsIn x ys
 in_append x [] ys h = inr h
@@ -45,19 +50,24 @@ append_right : (x : Element) (xs ys : List Element) → IsIn x ys → IsIn x (xs
 append_right x [] ys h = h
 append_right x (z ∷ xs) ys h = inr (append_right x xs ys h)
 
-in_put : (before : Element → Element → Bool) (x e : Element) (xs : List Element) → IsIn x (put before e xs) → (x ≡ e) ⊎ IsIn x xs
+in_put : (before : Element → Element → Bool) (x e : Element) (xs : List Element) → IsIn x (put before e xs)
+    → (x ≡ e) ⊎ IsIn x xs
 in_put before x e xs h =
     elim (in_append x (filter (λ y. before y e) xs) (e ∷ filter (λ y. not (before y e)) xs) h) [
       | inl a ↦ inr (in_filter (λ y. before y e) x xs a).0
       | inr b ↦ elim b [ inl same ↦ inl same | inr c ↦ inr (in_filter (λ y. not (before y e)) x xs c).0 ]
     ]
 
-put_in : (before : Element → Element → Bool) (x e : Element) (xs : List Element) → (x ≡ e) ⊎ IsIn x xs → IsIn x (put before e xs)
-put_in before x e xs (inl same) = append_right x (filter (λ y. before y e) xs) (e ∷ filter (λ y. not (before y e)) xs) (inl same)
+put_in : (before : Element → Element → Bool) (x e : Element) (xs : List Element) → (x ≡ e) ⊎ IsIn x xs
+    → IsIn x (put before e xs)
+put_in before x e xs (inl same) = append_right x (filter (λ y. before y e) xs) (e ∷ filter (λ y. not (before y e)) xs)
+    (inl same)
 put_in before x e xs (inr i) =
     elim (both (before x e)) [
-      | inl t ↦ append_left x (filter (λ y. before y e) xs) (e ∷ filter (λ y. not (before y e)) xs) (filter_in (λ y. before y e) x xs i t)
-      | inr f ↦ append_right x (filter (λ y. before y e) xs) (e ∷ filter (λ y. not (before y e)) xs) (inr (filter_in (λ y. not (before y e)) x xs i (ap not f)))
+      | inl t ↦ append_left x (filter (λ y. before y e) xs) (e ∷ filter (λ y. not (before y e)) xs)
+          (filter_in (λ y. before y e) x xs i t)
+      | inr f ↦ append_right x (filter (λ y. before y e) xs) (e ∷ filter (λ y. not (before y e)) xs)
+          (inr (filter_in (λ y. not (before y e)) x xs i (ap not f)))
     ]
   where
     both : (b : Bool) → (b ≡ true) ⊎ (b ≡ false)
@@ -66,7 +76,8 @@ put_in before x e xs (inr i) =
 
 order_in : (x : Element) (es : List Element) → IsIn x (in_order es) → IsIn x es
 order_in x [] h = h
-order_in x (e ∷ es) h = elim (in_put comes_first x e (in_order es) h) [ inl same ↦ inl same | inr i ↦ inr (order_in x es i) ]
+order_in x (e ∷ es) h = elim (in_put comes_first x e (in_order es) h)
+    [ inl same ↦ inl same | inr i ↦ inr (order_in x es i) ]
 
 in_ordered : (x : Element) (es : List Element) → IsIn x es → IsIn x (in_order es)
 in_ordered x [] h = h
@@ -77,14 +88,17 @@ each_ordered : (P : Element → Type 0) (es : List Element) → AllByRecursion P
 each_ordered P [] h = tt
 each_ordered P (e ∷ es) h =
     let others = each_ordered P es h.1 in
-    each_append P (filter (λ y. comes_first y e) (in_order es)) (e ∷ filter (λ y. not (comes_first y e)) (in_order es)) (each_filter P (λ y. comes_first y e) (in_order es) others)
+    each_append P (filter (λ y. comes_first y e) (in_order es)) (e ∷ filter (λ y. not (comes_first y e)) (in_order es))
+    (each_filter P (λ y. comes_first y e) (in_order es) others)
     (h.0, each_filter P (λ y. not (comes_first y e)) (in_order es) others)
 
 -- The order.
 
-first_by : (e f : Element) → (f.priority < e.priority) ⊎ ((f.priority ≡ e.priority) × (e.id ≤ f.id)) → comes_first e f ≡ true
+first_by : (e f : Element) → (f.priority < e.priority) ⊎ ((f.priority ≡ e.priority) × (e.id ≤ f.id))
+    → comes_first e f ≡ true
 first_by e f (inl p) = ap (λ b. b || ((f.priority == e.priority) && nat_le e.id f.id)) (lt-ltb f.priority e.priority p)
-first_by e f (inr p) = or_right (nat_lt f.priority e.priority) ((f.priority == e.priority) && nat_le e.id f.id) (and_from (f.priority == e.priority) (nat_le e.id f.id) (eq-eqb f.priority e.priority p.0) (le-leb e.id f.id p.1))
+first_by e f (inr p) = or_right (nat_lt f.priority e.priority) ((f.priority == e.priority) && nat_le e.id f.id)
+    (and_from (f.priority == e.priority) (nat_le e.id f.id) (eq-eqb f.priority e.priority p.0) (le-leb e.id f.id p.1))
   where
     or_right : (a b : Bool) → b ≡ true → (a || b) ≡ true
     or_right true b h = refl
@@ -93,8 +107,13 @@ first_by e f (inr p) = or_right (nat_lt f.priority e.priority) ((f.priority == e
 first_trans : (e f g : Element) → comes_first e f ≡ true → comes_first f g ≡ true → comes_first e g ≡ true
 first_trans e f g h k =
     elim (first_is e f h) [
-      | inl p ↦ elim (first_is f g k) [ inl q ↦ first_by e g (inl (omega (arith, p, q))) | inr q ↦ first_by e g (inl (omega (arith, p, q.0))) ]
-      | inr p ↦ elim (first_is f g k) [ inl q ↦ first_by e g (inl (omega (arith, p.0, q))) | inr q ↦ first_by e g (inr (omega (arith, p.0, q.0), omega (arith, p.1, q.1))) ]
+      | inl p ↦ elim (first_is f g k)
+          [ inl q ↦ first_by e g (inl (omega (arith, p, q))) | inr q ↦ first_by e g (inl (omega (arith, p, q.0))) ]
+      | inr p ↦ elim (first_is f g k) [
+        | inl q ↦ first_by e g (inl (omega (arith, p.0, q)))
+        | inr q ↦ first_by e g
+            (inr (omega (arith, p.0, q.0), omega (arith, p.1, q.1)))
+      ]
     ]
 
 first_total : (e f : Element) → comes_first f e ≡ false → comes_first e f ≡ true
@@ -117,20 +136,27 @@ first_total e f h =
 
 all_first : (es : List Element) → Ordered (λ a b. comes_first a b ≡ true) (in_order es)
 all_first [] = tt
-all_first (e ∷ es) = ordered_put comes_first first_trans e (in_order es) (all_first es) (each_of (λ y. comes_first y e ≡ false → comes_first e y ≡ true) (λ y. first_total e y) (in_order es))
+all_first (e ∷ es) = ordered_put comes_first first_trans e (in_order es) (all_first es)
+    (each_of (λ y. comes_first y e ≡ false → comes_first e y ≡ true) (λ y. first_total e y) (in_order es))
 
 abbrev Differ : Element → Element → Type 0
 Differ e f = e.id ≢ f.id
 
 -- two halves of a list of distinct ids have no id in common
-apart : (p : Element → Bool) (es : List Element) → Ordered Differ es → AllByRecursion (λ a. AllByRecursion (Differ a) (filter (λ y. not (p y)) es)) (filter p es)
+apart : (p : Element → Bool) (es : List Element) → Ordered Differ es
+    → AllByRecursion (λ a. AllByRecursion (Differ a) (filter (λ y. not (p y)) es)) (filter p es)
 apart p [] h = tt
 apart p (e ∷ es) h =
-    by_cases (p e) (λ b. AllByRecursion (λ a. AllByRecursion (Differ a) (cond (not b) (e ∷ filter (λ y. not (p y)) es) (filter (λ y. not (p y)) es))) (cond b (e ∷ filter p es) (filter p es)))
+    by_cases (p e)
+    (λ b. AllByRecursion (λ a. AllByRecursion (Differ a)
+    (cond (not b) (e ∷ filter (λ y. not (p y)) es) (filter (λ y. not (p y)) es)))
+    (cond b (e ∷ filter p es) (filter p es)))
     (λ _. (each_filter (Differ e) (λ y. not (p y)) es h.0, apart p es h.1))
-    (λ _. each_weaker (λ a. Differ e a × AllByRecursion (Differ a) (filter (λ y. not (p y)) es)) (λ a. Differ a e × AllByRecursion (Differ a) (filter (λ y. not (p y)) es))
+    (λ _. each_weaker (λ a. Differ e a × AllByRecursion (Differ a) (filter (λ y. not (p y)) es))
+    (λ a. Differ a e × AllByRecursion (Differ a) (filter (λ y. not (p y)) es))
     (λ a k. (λ same. k.0 (sym same), k.1)) (filter p es)
-    (each_both (Differ e) (λ a. AllByRecursion (Differ a) (filter (λ y. not (p y)) es)) (filter p es) (each_filter (Differ e) p es h.0) (apart p es h.1)))
+    (each_both (Differ e) (λ a. AllByRecursion (Differ a) (filter (λ y. not (p y)) es)) (filter p es)
+    (each_filter (Differ e) p es h.0) (apart p es h.1)))
 
 all_differ : (es : List Element) → Ordered Differ es → Ordered Differ (in_order es)
 all_differ [] h = tt
@@ -138,31 +164,50 @@ all_differ (e ∷ es) h =
     let others = all_differ es h.1 in
     let from_e = each_ordered (Differ e) es h.0 in
     let p : Element → Bool = λ y. comes_first y e in
-    ordered_append Differ (filter p (in_order es)) (e ∷ filter (λ y. not (p y)) (in_order es)) (ordered_filter Differ p (in_order es) others)
-    (each_filter (Differ e) (λ y. not (p y)) (in_order es) from_e, ordered_filter Differ (λ y. not (p y)) (in_order es) others)
-    (each_weaker (λ a. Differ e a × AllByRecursion (Differ a) (filter (λ y. not (p y)) (in_order es))) (λ a. Differ a e × AllByRecursion (Differ a) (filter (λ y. not (p y)) (in_order es)))
+    ordered_append Differ (filter p (in_order es)) (e ∷ filter (λ y. not (p y)) (in_order es))
+    (ordered_filter Differ p (in_order es) others) (
+      each_filter (Differ e) (λ y. not (p y)) (in_order es) from_e,
+      ordered_filter Differ (λ y. not (p y)) (in_order es) others,
+    )
+    (each_weaker (λ a. Differ e a × AllByRecursion (Differ a) (filter (λ y. not (p y)) (in_order es)))
+    (λ a. Differ a e × AllByRecursion (Differ a) (filter (λ y. not (p y)) (in_order es)))
     (λ a k. (λ same. k.0 (sym same), k.1)) (filter p (in_order es))
-    (each_both (Differ e) (λ a. AllByRecursion (Differ a) (filter (λ y. not (p y)) (in_order es))) (filter p (in_order es)) (each_filter (Differ e) p (in_order es) from_e) (apart p (in_order es) others)))
+    (each_both (Differ e) (λ a. AllByRecursion (Differ a) (filter (λ y. not (p y)) (in_order es)))
+    (filter p (in_order es)) (each_filter (Differ e) p (in_order es) from_e) (apart p (in_order es) others)))
 
-both_ordered : (es : List Element) → Ordered (λ a b. comes_first a b ≡ true) es → Ordered Differ es → Ordered Precedes es
+both_ordered : (es : List Element) → Ordered (λ a b. comes_first a b ≡ true) es → Ordered Differ es
+    → Ordered Precedes es
 both_ordered [] h k = tt
 both_ordered (e ∷ es) h k = (each_both (λ b. comes_first e b ≡ true) (Differ e) es h.0 k.0, both_ordered es h.1 k.1)
 
 rising_differ : (es : List Element) → Ordered (λ e f. e.id < f.id) es → Ordered Differ es
 rising_differ [] h = tt
-rising_differ (e ∷ es) h = (each_weaker (λ f. e.id < f.id) (Differ e) (λ f lt same. omega (arith, lt, same)) es h.0, rising_differ es h.1)
+rising_differ (e ∷ es) h =
+    (each_weaker (λ f. e.id < f.id) (Differ e) (λ f lt same. omega (arith, lt, same)) es h.0, rising_differ es h.1)
 
-is_listing : (queue : ℕ) (es : List Element) → Ordered (λ e f. e.id < f.id) es → IsListing queue es (in_order (filter (is_free_at queue) es))
+is_listing : (queue : ℕ) (es : List Element) → Ordered (λ e f. e.id < f.id) es
+    → IsListing queue es (in_order (filter (is_free_at queue) es))
 is_listing queue es h =
     let free = filter (is_free_at queue) es in
     record {
-      in_order = both_ordered (in_order free) (all_first free) (all_differ free (ordered_filter Differ (is_free_at queue) es (rising_differ es h)));
-      members = λ e. (λ i. in_filter (is_free_at queue) e es (order_in e free i), λ k. in_ordered e free (filter_in (is_free_at queue) e es k.0 k.1));
+      in_order = both_ordered (in_order free) (all_first free)
+          (all_differ free (ordered_filter Differ (is_free_at queue) es (rising_differ es h)));
+      members = λ e. (
+        λ i. in_filter (is_free_at queue) e es (order_in e free i),
+        λ k. in_ordered e free (filter_in (is_free_at queue) e es k.0 k.1),
+      );
     }
 
-are_lines : (queue : ℕ) (ds : List Definition) (s : State) → Ordered (λ e f. e.id < f.id) s.elements → AreQueueLines queue ds s (queues_made queue ds s)
+are_lines : (queue : ℕ) (ds : List Definition) (s : State) → Ordered (λ e f. e.id < f.id) s.elements
+    → AreQueueLines queue ds s (queues_made queue ds s)
 are_lines queue [] s h = refl
-are_lines queue (d ∷ ds) s h = (in_order (filter (is_free_at queue) s.elements), queues_made (queue + 1) ds s, is_listing queue s.elements h, are_lines (queue + 1) ds s h, refl)
+are_lines queue (d ∷ ds) s h = (
+  in_order (filter (is_free_at queue) s.elements),
+  queues_made (queue + 1) ds s,
+  is_listing queue s.elements h,
+  are_lines (queue + 1) ds s h,
+  refl,
+)
 
 pub is_text : (r : Restarted) → IsWellFormed r.state → IsText r (text_made r)
 is_text r h = (queues_made 0 r.state.definitions r.state, are_lines 0 r.state.definitions r.state h.elements_rise, refl)

@@ -1,15 +1,21 @@
 -- The law of records: what is read of a body is spelled so, and what is spelled so is read again.
-use Rattle.std.proofs.Common.{◌≡◌, ℕ, ◌≤◌, false, eqb, List, ◌∷◌, ◌++◌, length, Option, Some, None, refl, sym, ap, arith}
+use Rattle.std.proofs.Common.{◌≡◌, ℕ, ◌≤◌, false, eqb, List, ◌∷◌, ◌++◌, length, Option, Some, None, refl, sym, ap}
+use Rattle.std.proofs.Common.{arith}
 use Rattle.std.specs.Prelude.{IsTrue, nat_le, ◌&&◌, drop}
 use Rattle.std.specs.Int.{w64, to_be_bytes}
 use Rattle.std.proofs.lemmas.Bool.{and_parts, eqb-true, ne_eqb, leb-true, le-leb}
 use Rattle.rq_bytes.specs.Readers.{Reader, number, piece, ◌then◌, made, tested, tagged}
 use Rattle.rq_bytes.specs.Reads.{Reads, Any, End}
 use Rattle.rq_bytes.proofs.Single.{reads_byte, reads_piece, reads_u16, reads_u32, reads_u64, reads_all}
-use Rattle.rq_bytes.proofs.Together.{reads_then, reads_tested, reads_alone, alike, TakesBehind, at_byte, in_case, in_no_case, again_made, reads_tagged}
-use Rattle.rq_model.specs.Records.{By, Record, Define, Register, Deregister, Begin, Enqueue, Dequeue, Commit, Abort, Checkpoint, Kill, Version, One, Two}
+use Rattle.rq_bytes.proofs.Together.{reads_then, reads_tested, reads_alone, alike, TakesBehind, at_byte, in_case}
+use Rattle.rq_bytes.proofs.Together.{in_no_case, again_made, reads_tagged}
+use Rattle.rq_model.specs.Records.{By, Record, Define, Register, Deregister, Begin, Enqueue, Dequeue, Commit, Abort}
+use Rattle.rq_model.specs.Records.{Checkpoint, Kill, Version, One, Two}
 use Rattle.rq_model.specs.Spelling.{is_name, who, IsWho, body_of, IsRecord}
-use Rattle.rq_model.specs.RecordReading.{name_left, at_most, is_zero, nobody, somebody, who_behind, who_read, define_read, registration_read, unit_read, enqueue_read, dequeue_read, checkpoint_read, kill_read, define_of, register_of, deregister_of, enqueue_of, dequeue_of, kill_of, kind_read, record_read}
+use Rattle.rq_model.specs.RecordReading.{name_left, at_most, is_zero, nobody, somebody, who_behind, who_read}
+use Rattle.rq_model.specs.RecordReading.{define_read, registration_read, unit_read, enqueue_read, dequeue_read}
+use Rattle.rq_model.specs.RecordReading.{checkpoint_read, kill_read, define_of, register_of, deregister_of, enqueue_of}
+use Rattle.rq_model.specs.RecordReading.{dequeue_of, kill_of, kind_read, record_read}
 
 -- a name has 1 to 64 bytes
 pub name_long : (name : List ℕ) → IsTrue (is_name name) → (1 ≤ length name) × (length name ≤ 64)
@@ -24,22 +30,26 @@ reads_name_left = alike (λ name. IsTrue (is_name name)) (λ name h. h.1) (λ na
 
 pub reads_at_most : (limit : ℕ) → Reads (λ (bytes : List ℕ). length bytes ≤ limit) (λ bytes. bytes) End (at_most limit)
 unfolding at_most
-reads_at_most limit = alike (λ bytes. length bytes ≤ limit) (λ bytes h. leb-true _ _ h.1) (λ bytes h. (tt, le-leb _ _ h)) (reads_tested reads_all)
+reads_at_most limit = alike (λ bytes. length bytes ≤ limit) (λ bytes h. leb-true _ _ h.1)
+    (λ bytes h. (tt, le-leb _ _ h)) (reads_tested reads_all)
 
 named : TakesBehind IsWho who Any (λ n. made somebody (tested is_name (piece n) then number 8))
 named n bytes x fits e = at_byte n somebody (reads_then (reads_tested (reads_piece n)) reads_u64)
     (λ y h. ((h.0.1, h.1), ap (λ (size : ℕ). size ∷ (y.0 ++ to_be_bytes w64 y.1)) (sym h.0.0))) bytes x fits e
 
-who_again : (by : Option By) (rest : List ℕ) → IsWho by → Any rest → tagged who_behind (who by ++ rest) ≡ Some (by, rest)
+who_again : (by : Option By) (rest : List ℕ) → IsWho by → Any rest
+    → tagged who_behind (who by ++ rest) ≡ Some (by, rest)
 who_again None rest h ends = again_made nobody (reads_tested {test = is_zero} reads_u64) 0 rest (omega arith, refl) ends
 who_again (Some by) rest h ends =
     let long = name_long by.name h.0 in
     let some : eqb (length by.name) 0 ≡ false = ne_eqb _ _ (λ (e : length by.name ≡ 0). omega arith) in
-    rw some (again_made somebody (reads_then (reads_tested (reads_piece (length by.name))) reads_u64) (by.name, by.tag) rest ((refl, h.0), h.1) ends)
+    rw some (again_made somebody (reads_then (reads_tested (reads_piece (length by.name))) reads_u64)
+    (by.name, by.tag) rest ((refl, h.0), h.1) ends)
 
 pub reads_who : Reads IsWho who Any who_read
 unfolding who_read
-reads_who = reads_tagged (in_case 0 nobody (reads_tested reads_u64) (λ tag h. (tt, ap (λ (t : ℕ). 0 ∷ to_be_bytes w64 t) (eqb-true tag 0 h.1))) named) who_again
+reads_who = reads_tagged (in_case 0 nobody (reads_tested reads_u64)
+    (λ tag h. (tt, ap (λ (t : ℕ). 0 ∷ to_be_bytes w64 t) (eqb-true tag 0 h.1))) named) who_again
 
 -- The fields of each kind, to the end of the body.
 
@@ -48,7 +58,8 @@ ReadsFields version make reader = Reads (λ x. IsRecord version (make x)) (λ x.
 
 reads_define : (version : Version) → ReadsFields version define_of define_read
 unfolding define_read
-reads_define version = alike _ (λ x h. (h.0, h.1.0, h.1.1)) (λ x h. (h.0, (h.1, h.2))) (reads_then reads_u16 (reads_then reads_u32 reads_name_left))
+reads_define version = alike _ (λ x h. (h.0, h.1.0, h.1.1)) (λ x h. (h.0, (h.1, h.2)))
+    (reads_then reads_u16 (reads_then reads_u32 reads_name_left))
 
 reads_registration : (version : Version) → ReadsFields version register_of registration_read
 unfolding registration_read
@@ -60,12 +71,14 @@ reads_unit version = reads_alone reads_u64
 
 reads_enqueue : (version : Version) → ReadsFields version enqueue_of enqueue_read
 unfolding enqueue_read
-reads_enqueue version = alike _ (λ x h. (h.0, h.1.0, h.1.1.0, h.1.1.1.0, h.1.1.1.1)) (λ x h. (h.0, (h.1, (h.2, (h.3, h.4)))))
+reads_enqueue version = alike _ (λ x h. (h.0, h.1.0, h.1.1.0, h.1.1.1.0, h.1.1.1.1))
+    (λ x h. (h.0, (h.1, (h.2, (h.3, h.4)))))
     (reads_then reads_u64 (reads_then reads_u32 (reads_then reads_byte (reads_then reads_who (reads_at_most 65535)))))
 
 reads_dequeue : (version : Version) → ReadsFields version dequeue_of dequeue_read
 unfolding dequeue_read
-reads_dequeue version = alike _ (λ x h. (h.0, h.1.0, h.1.1)) (λ x h. (h.0, (h.1, h.2))) (reads_alone (reads_then reads_u64 (reads_then reads_u32 reads_who)))
+reads_dequeue version = alike _ (λ x h. (h.0, h.1.0, h.1.1)) (λ x h. (h.0, (h.1, h.2)))
+    (reads_alone (reads_then reads_u64 (reads_then reads_u32 reads_who)))
 
 reads_checkpoint : (version : Version) → ReadsFields version Checkpoint checkpoint_read
 unfolding checkpoint_read
@@ -90,14 +103,19 @@ record_takes version =
     (in_case 9 Checkpoint (reads_checkpoint version) (λ x h. (h, refl))
     (in_case 10 kill_of (reads_kill version) (λ x h. (h, refl)) in_no_case)))))))))
 
-record_again : (version : Version) (r : Record) (rest : List ℕ) → IsRecord version r → End rest → tagged (kind_read version) (body_of r ++ rest) ≡ Some (r, rest)
+record_again : (version : Version) (r : Record) (rest : List ℕ) → IsRecord version r → End rest
+    → tagged (kind_read version) (body_of r ++ rest) ≡ Some (r, rest)
 unfolding kind_read
-record_again version (Define limit error name) rest = again_made define_of (reads_define version) (limit, (error, name)) rest
+record_again version (Define limit error name) rest =
+    again_made define_of (reads_define version) (limit, (error, name)) rest
 record_again version (Register queue name) rest = again_made register_of (reads_registration version) (queue, name) rest
-record_again version (Deregister queue name) rest = again_made deregister_of (reads_registration version) (queue, name) rest
+record_again version (Deregister queue name) rest =
+    again_made deregister_of (reads_registration version) (queue, name) rest
 record_again version (Begin unit) rest = again_made Begin (reads_unit version) unit rest
-record_again version (Enqueue unit queue priority by payload) rest = again_made enqueue_of (reads_enqueue version) (unit, (queue, (priority, (by, payload)))) rest
-record_again version (Dequeue unit queue by) rest = again_made dequeue_of (reads_dequeue version) (unit, (queue, by)) rest
+record_again version (Enqueue unit queue priority by payload) rest =
+    again_made enqueue_of (reads_enqueue version) (unit, (queue, (priority, (by, payload)))) rest
+record_again version (Dequeue unit queue by) rest =
+    again_made dequeue_of (reads_dequeue version) (unit, (queue, by)) rest
 record_again version (Commit unit) rest = again_made Commit (reads_unit version) unit rest
 record_again version (Abort unit) rest = again_made Abort (reads_unit version) unit rest
 record_again version (Checkpoint bytes) rest = again_made Checkpoint (reads_checkpoint version) bytes rest

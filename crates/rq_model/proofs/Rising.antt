@@ -14,10 +14,19 @@ use Rattle.rq_model.proofs.WellFormedRuns.{sound}
 
 earlier_of : (t u : Transfer) → Precedes t u → earlier t.move u.move ≡ true
 earlier_of t u (inl l) = grind (arith, lt-ltb t.move.place u.move.place l)
-earlier_of t u (inr l) = grind (arith, eq-eqb t.move.place u.move.place l.0, lt-ltb t.move.element.id u.move.element.id l.1, cases_Bool (nat_lt t.move.place u.move.place))
+earlier_of t u (inr l) =
+    grind (
+      arith,
+      eq-eqb t.move.place u.move.place l.0,
+      lt-ltb t.move.element.id u.move.element.id l.1,
+      cases_Bool (nat_lt t.move.place u.move.place),
+    )
 
-some_rise : (version : Version) (s : State) (rs : List Record) (p : Transfer → Bool) → IsWellFormed s → all_lawful version s rs ≡ true → Rise (map (λ (t : Transfer). t.move) (filter p (transfers s rs)))
-some_rise version s rs p well lawful = ordered_map Precedes (λ (m n : Move). earlier m n ≡ true) (λ (t : Transfer). t.move) earlier_of (filter p (transfers s rs)) (ordered_filter Precedes p (transfers s rs) (order version s rs (sound s well) lawful))
+some_rise : (version : Version) (s : State) (rs : List Record) (p : Transfer → Bool) → IsWellFormed s
+    → all_lawful version s rs ≡ true → Rise (map (λ (t : Transfer). t.move) (filter p (transfers s rs)))
+some_rise version s rs p well lawful =
+    ordered_map Precedes (λ (m n : Move). earlier m n ≡ true) (λ (t : Transfer). t.move) earlier_of
+    (filter p (transfers s rs)) (ordered_filter Precedes p (transfers s rs) (order version s rs (sound s well) lawful))
 
 pub moves_rise : MovesRise
 moves_rise version s rs queue well lawful = some_rise version s rs (λ t. t.from == queue) well lawful

@@ -1,12 +1,18 @@
 -- What returns to a queue at an ABORT and what arrives there is put in in any order.
-use Rattle.std.proofs.Common.{◌≡◌, ◌≢◌, inl, inr, ℕ, ◌+◌, ◌<◌, ◌≤◌, Bool, true, false, cond, List, [], ◌∷◌, ◌++◌, map, refl, sym, ap, subst, ◌∙◌, arith}
+use Rattle.std.proofs.Common.{◌≡◌, ◌≢◌, inl, inr, ℕ, ◌+◌, ◌<◌, ◌≤◌, Bool, true, false, cond, List, [], ◌∷◌, ◌++◌, map}
+use Rattle.std.proofs.Common.{refl, sym, ap, subst, ◌∙◌, arith}
 use Rattle.std.specs.Prelude.{◌==◌, ◌&&◌, not, if◌then◌else◌, IsPermutation}
 use Rattle.std.specs.List.{AllByRecursion, filter, sum_by}
-use Rattle.std.proofs.lemmas.Bool.{eqb-true, eqb-false, false_from_ne_true, false≢true, lt-ltb, ltb-true, eq-eqb, ne_eqb, cases_Bool, cases_order}
+use Rattle.std.proofs.lemmas.Bool.{eqb-true, eqb-false, false_from_ne_true, false≢true, lt-ltb, ltb-true, eq-eqb}
+use Rattle.std.proofs.lemmas.Bool.{ne_eqb, cases_Bool, cases_order}
 use Rattle.std.proofs.lemmas.List.Sums.{sum_by-cons, sum_by-append}
-use Rattle.std.proofs.lemmas.List.Sorted.{IsPermutation-refl, IsPermutation-sym, IsPermutation-trans, IsPermutation-cons, IsPermutation-middle, IsPermutation-append_left, IsPermutation-append_right, IsPermutation-filter_both, sum_by-IsPermutation, All-permutation}
+use Rattle.std.proofs.lemmas.List.Sorted.{IsPermutation-refl, IsPermutation-sym, IsPermutation-trans}
+use Rattle.std.proofs.lemmas.List.Sorted.{IsPermutation-cons, IsPermutation-middle, IsPermutation-append_left}
+use Rattle.std.proofs.lemmas.List.Sorted.{IsPermutation-append_right, IsPermutation-filter_both, sum_by-IsPermutation}
+use Rattle.std.proofs.lemmas.List.Sorted.{All-permutation}
 use Rattle.std.proofs.lemmas.List.Elements.{All-from_recursion, recursion_from_All}
-use Rattle.rq_model.specs.States.{Mark, Free, Fresh, Held, Element, Definition, State, definition_at, put, id_before, is_fresh, is_held}
+use Rattle.rq_model.specs.States.{Mark, Free, Fresh, Held, Element, Definition, State, definition_at, put, id_before}
+use Rattle.rq_model.specs.States.{is_fresh, is_held}
 use Rattle.rq_model.specs.Machine.{leaves, moved, returned, step}
 use Rattle.rq_model.specs.Records.{Abort}
 use Rattle.rq_model.specs.WellFormed.{Ordered, IsIn}
@@ -58,7 +64,10 @@ one_same id e same = ap (λ b. cond b 1 0) (eq-eqb e.id id same)
 -- none has an id that is not counted
 none_counted : (id : ℕ) (es : List Element) → count id es ≡ 0 → AllByRecursion (λ e. e.id ≢ id) es
 none_counted id [] h = tt
-none_counted id (e ∷ es) h = (λ same. omega (arith, h, count_first id e es, one_same id e same), none_counted id es (omega (arith, h, count_first id e es)))
+none_counted id (e ∷ es) h = (
+  λ same. omega (arith, h, count_first id e es, one_same id e same),
+  none_counted id es (omega (arith, h, count_first id e es)),
+)
 
 not_counted : (id : ℕ) (es : List Element) → AllByRecursion (λ e. e.id ≢ id) es → count id es ≡ 0
 unfolding count
@@ -70,7 +79,8 @@ rising_once [] h id = omega (arith, not_counted id [] tt)
 rising_once (e ∷ es) h id = elim (cases_Bool (e.id == id)) [
   | inl same ↦
       let is : e.id ≡ id = eqb-true e.id id same in
-      let none = not_counted id es (each_weaker (λ f. e.id < f.id) (λ f. f.id ≢ id) (λ f lt eq. omega (arith, lt, eq, is)) es h.0) in
+      let none = not_counted id es
+      (each_weaker (λ f. e.id < f.id) (λ f. f.id ≢ id) (λ f lt eq. omega (arith, lt, eq, is)) es h.0) in
       omega (arith, count_first id e es, one_same id e is, none)
   | inr other ↦ omega (arith, count_first id e es, one_other id e (eqb-false e.id id other), rising_once es h.1 id)
 ]
@@ -91,16 +101,23 @@ each_shuffles [] es = IsPermutation-refl es
 each_shuffles (x ∷ xs) es =
     IsPermutation-trans (x ∷ (xs ++ es)) (xs ++ put id_before x es) (put_each xs (put id_before x es))
     (IsPermutation-trans (x ∷ (xs ++ es)) (xs ++ x ∷ es) (xs ++ put id_before x es)
-    (IsPermutation-sym (xs ++ x ∷ es) (x ∷ (xs ++ es)) (IsPermutation-middle xs x es)) (IsPermutation-append_right xs (x ∷ es) (put id_before x es) (put_shuffles x es)))
+    (IsPermutation-sym (xs ++ x ∷ es) (x ∷ (xs ++ es)) (IsPermutation-middle xs x es))
+    (IsPermutation-append_right xs (x ∷ es) (put id_before x es) (put_shuffles x es)))
     (each_shuffles xs (put id_before x es))
 
 rising_before : (es : List Element) → Rising es → Ordered (λ e f. id_before e f ≡ true) es
 rising_before [] h = tt
-rising_before (e ∷ es) h = (each_weaker (λ f. e.id < f.id) (λ f. id_before e f ≡ true) (λ f l. lt-ltb e.id f.id l) es h.0, rising_before es h.1)
+rising_before (e ∷ es) h = (
+  each_weaker (λ f. e.id < f.id) (λ f. id_before e f ≡ true) (λ f l. lt-ltb e.id f.id l) es h.0,
+  rising_before es h.1,
+)
 
 before_rising : (es : List Element) → Ordered (λ e f. id_before e f ≡ true) es → Rising es
 before_rising [] h = tt
-before_rising (e ∷ es) h = (each_weaker (λ f. id_before e f ≡ true) (λ f. e.id < f.id) (λ f l. ltb-true e.id f.id l) es h.0, before_rising es h.1)
+before_rising (e ∷ es) h = (
+  each_weaker (λ f. id_before e f ≡ true) (λ f. e.id < f.id) (λ f l. ltb-true e.id f.id l) es h.0,
+  before_rising es h.1,
+)
 
 before_trans : (a b c : Element) → id_before a b ≡ true → id_before b c ≡ true → id_before a c ≡ true
 before_trans a b c h k = lt-ltb a.id c.id (omega (arith, ltb-true a.id b.id h, ltb-true b.id c.id k))
@@ -108,42 +125,64 @@ before_trans a b c h k = lt-ltb a.id c.id (omega (arith, ltb-true a.id b.id h, l
 before_total : (x y : Element) → y.id ≢ x.id → id_before y x ≡ false → id_before x y ≡ true
 before_total x y differ not_before = elim (cases_order x.id y.id) [
   | inl same ↦ absurd (differ (sym same))
-  | inr order ↦ elim order [ inl less ↦ lt-ltb x.id y.id less | inr more ↦ absurd (no_true (sym (lt-ltb y.id x.id more) ∙ not_before)) ]
+  | inr order ↦ elim order
+      [ inl less ↦ lt-ltb x.id y.id less | inr more ↦ absurd (no_true (sym (lt-ltb y.id x.id more) ∙ not_before)) ]
 ]
   where
     no_true : true ≡ false → ⊥
     no_true e = cc
 
-rising_put : (x : Element) (es : List Element) → Rising es → AllByRecursion (λ y. y.id ≢ x.id) es → Rising (put id_before x es)
+rising_put : (x : Element) (es : List Element) → Rising es → AllByRecursion (λ y. y.id ≢ x.id) es
+    → Rising (put id_before x es)
 rising_put x es rising differ =
-    before_rising (put id_before x es) (ordered_put id_before before_trans x es (rising_before es rising) (each_weaker (λ y. y.id ≢ x.id) (λ y. id_before y x ≡ false → id_before x y ≡ true) (before_total x) es differ))
+    before_rising (put id_before x es)
+    (ordered_put id_before before_trans x es (rising_before es rising)
+    (each_weaker (λ y. y.id ≢ x.id) (λ y. id_before y x ≡ false → id_before x y ≡ true) (before_total x) es differ))
 
 rising_each : (xs es : List Element) → Once (xs ++ es) → Rising es → Rising (put_each xs es)
 rising_each [] es once rising = rising
 rising_each (x ∷ xs) es once rising =
     rising_each xs (put id_before x es)
-    (λ id. omega (arith, once id, count_first id x (xs ++ es), count_both id xs es, count_both id xs (put id_before x es), count_shuffled id (x ∷ es) (put id_before x es) (put_shuffles x es), count_first id x es))
-    (rising_put x es rising (none_counted x.id es (omega (arith, once x.id, count_first x.id x (xs ++ es), count_both x.id xs es, one_itself x))))
+    (λ id. omega (
+      arith,
+      once id,
+      count_first id x (xs ++ es),
+      count_both id xs es,
+      count_both id xs (put id_before x es),
+      count_shuffled id (x ∷ es) (put id_before x es) (put_shuffles x es),
+      count_first id x es,
+    ))
+    (rising_put x es rising
+    (none_counted x.id es
+    (omega (arith, once x.id, count_first x.id x (xs ++ es), count_both x.id xs es, one_itself x))))
 
 -- Two rising lists of the same members are one.
 
 each_itself : (es : List Element) → AllByRecursion (λ e. IsIn e es) es
 each_itself [] = tt
-each_itself (e ∷ es) = (inl refl, each_weaker (λ f. IsIn f es) (λ f. IsIn f (e ∷ es)) (λ f i. inr i) es (each_itself es))
+each_itself (e ∷ es) =
+    (inl refl, each_weaker (λ f. IsIn f es) (λ f. IsIn f (e ∷ es)) (λ f i. inr i) es (each_itself es))
 
 in_shuffled : (xs ys : List Element) → IsPermutation xs ys → (e : Element) → IsIn e xs → IsIn e ys
-in_shuffled xs ys same e i = all_in (λ f. IsIn f ys) e xs (recursion_from_All (λ f. IsIn f ys) xs (All-permutation (λ f. IsIn f ys) ys xs (IsPermutation-sym xs ys same) (All-from_recursion (λ f. IsIn f ys) ys (each_itself ys)))) i
+in_shuffled xs ys same e i = all_in (λ f. IsIn f ys) e xs
+    (recursion_from_All (λ f. IsIn f ys) xs
+    (All-permutation (λ f. IsIn f ys) ys xs (IsPermutation-sym xs ys same)
+    (All-from_recursion (λ f. IsIn f ys) ys (each_itself ys)))) i
 
 same_rising : (xs ys : List Element) → Rising xs → Rising ys → IsPermutation xs ys → xs ≡ ys
-same_rising xs ys rx ry same = same_order (λ e f. e.id < f.id) (λ e f h k. omega (arith, h, k)) xs ys rx ry (in_shuffled xs ys same) (in_shuffled ys xs (IsPermutation-sym xs ys same))
+same_rising xs ys rx ry same = same_order (λ e f. e.id < f.id) (λ e f h k. omega (arith, h, k)) xs ys rx ry
+    (in_shuffled xs ys same) (in_shuffled ys xs (IsPermutation-sym xs ys same))
 
 -- the order in which elements are put in makes no difference
-put_shuffled : (xs ys es : List Element) → IsPermutation xs ys → Once (xs ++ es) → Rising es → put_each xs es ≡ put_each ys es
+put_shuffled : (xs ys es : List Element) → IsPermutation xs ys → Once (xs ++ es) → Rising es
+    → put_each xs es ≡ put_each ys es
 put_shuffled xs ys es same once rising =
     let both = IsPermutation-append_left es xs ys same in
     same_rising (put_each xs es) (put_each ys es) (rising_each xs es once rising)
     (rising_each ys es (λ id. omega (arith, once id, count_shuffled id (xs ++ es) (ys ++ es) both)) rising)
-    (IsPermutation-trans (put_each xs es) (xs ++ es) (put_each ys es) (IsPermutation-sym (xs ++ es) (put_each xs es) (each_shuffles xs es)) (IsPermutation-trans (xs ++ es) (ys ++ es) (put_each ys es) both (each_shuffles ys es)))
+    (IsPermutation-trans (put_each xs es) (xs ++ es) (put_each ys es)
+    (IsPermutation-sym (xs ++ es) (put_each xs es) (each_shuffles xs es))
+    (IsPermutation-trans (xs ++ es) (ys ++ es) (put_each ys es) both (each_shuffles ys es)))
 
 -- What an ABORT leaves in a queue is what it leaves alone and what returns, put in.
 
@@ -151,9 +190,11 @@ put_each-append : (xs ys es : List Element) → put_each (xs ++ ys) es ≡ put_e
 put_each-append [] ys es = refl
 put_each-append (x ∷ xs) ys es = put_each-append xs ys (put id_before x es)
 
-put_each_behind : (xs : List Element) (z : Element) (es : List Element) → AllByRecursion (λ x. z.id < x.id) xs → put_each xs (z ∷ es) ≡ z ∷ put_each xs es
+put_each_behind : (xs : List Element) (z : Element) (es : List Element) → AllByRecursion (λ x. z.id < x.id) xs
+    → put_each xs (z ∷ es) ≡ z ∷ put_each xs es
 put_each_behind [] z es h = refl
-put_each_behind (x ∷ xs) z es h = ap (put_each xs) (put_behind x z es h.0) ∙ put_each_behind xs z (put id_before x es) h.1
+put_each_behind (x ∷ xs) z es h = ap (put_each xs) (put_behind x z es h.0)
+    ∙ put_each_behind xs z (put id_before x es) h.1
 
 put_moves : (ms : List Move) (es : List Element) → put_each (map (λ m. m.element) ms) es ≡ put_all ms es
 put_moves [] es = refl
@@ -181,23 +222,32 @@ module _ (u : ℕ) (d : Definition) where
       no_true : {X : Type 0} → false ≡ true → X
       no_true h = absurd (false≢true h)
 
-      stay : (leaves d u e ≡ false) → (b : Bool) → is_held u e.mark ≡ false → is_fresh u e.mark ≡ b → is_marked u e.mark ≡ b → Fate e
+      stay : (leaves d u e ≡ false) → (b : Bool) → is_held u e.mark ≡ false → is_fresh u e.mark ≡ b
+          → is_marked u e.mark ≡ b → Fate e
       stay l true held fresh marked = Goes (ap not marked) (λ i. held i && not (l i)) (λ i. not (fresh i) && not (l i))
-      stay l false held fresh marked = Stays (ap not marked) (λ i. held i && not (l i)) (λ i. not (fresh i) && not (l i)) held
+      stay l false held fresh marked = Stays (ap not marked) (λ i. held i && not (l i))
+          (λ i. not (fresh i) && not (l i)) held
 
-      held_one : (b : Bool) → leaves d u e ≡ b → is_held u e.mark ≡ true → is_fresh u e.mark ≡ false → is_marked u e.mark ≡ true → Fate e
-      held_one true l held fresh marked = Goes (ap not marked) (λ i. held i && not (l i)) (λ i. not (fresh i) && not (l i))
-      held_one false l held fresh marked = Returns (ap not marked) (λ i. held i && not (l i)) (λ i. not (fresh i) && not (l i))
+      held_one : (b : Bool) → leaves d u e ≡ b → is_held u e.mark ≡ true → is_fresh u e.mark ≡ false
+          → is_marked u e.mark ≡ true → Fate e
+      held_one true l held fresh marked =
+          Goes (ap not marked) (λ i. held i && not (l i)) (λ i. not (fresh i) && not (l i))
+      held_one false l held fresh marked =
+          Returns (ap not marked) (λ i. held i && not (l i)) (λ i. not (fresh i) && not (l i))
 
       not_leaving : is_held u e.mark ≡ false → leaves d u e ≡ false
       not_leaving held = false_from_ne_true (leaves d u e) (λ t. no_true (sym held ∙ leaves_held d u e t))
 
       by_mark : (m : Mark) → e.mark ≡ m → Fate e
-      by_mark Free is = let held : is_held u e.mark ≡ false = ap (is_held u) is in stay (not_leaving held) false held (ap (is_fresh u) is) (ap (is_marked u) is)
-      by_mark (Fresh v) is = let held : is_held u e.mark ≡ false = ap (is_held u) is in stay (not_leaving held) (v == u) held (ap (is_fresh u) is) (ap (is_marked u) is)
+      by_mark Free is = let held : is_held u e.mark ≡ false = ap (is_held u) is in
+          stay (not_leaving held) false held (ap (is_fresh u) is) (ap (is_marked u) is)
+      by_mark (Fresh v) is = let held : is_held u e.mark ≡ false = ap (is_held u) is in
+          stay (not_leaving held) (v == u) held (ap (is_fresh u) is) (ap (is_marked u) is)
       by_mark (Held v) is = elim (cases_Bool (v == u)) [
-        | inl own ↦ held_one (leaves d u e) refl (ap (is_held u) is ∙ own) (ap (is_fresh u) is) (ap (is_marked u) is ∙ own)
-        | inr other ↦ let held : is_held u e.mark ≡ false = ap (is_held u) is ∙ other in stay (not_leaving held) false held (ap (is_fresh u) is) (ap (is_marked u) is ∙ other)
+        | inl own ↦ held_one (leaves d u e) refl (ap (is_held u) is ∙ own) (ap (is_fresh u) is)
+            (ap (is_marked u) is ∙ own)
+        | inr other ↦ let held : is_held u e.mark ≡ false = ap (is_held u) is ∙ other in
+            stay (not_leaving held) false held (ap (is_fresh u) is) (ap (is_marked u) is ∙ other)
       ]
 
   abbrev Joins : List Element → Type 0
@@ -205,23 +255,33 @@ module _ (u : ℕ) (d : Definition) where
 
   one_more : (e : Element) (es : List Element) → Rising (e ∷ es) → Joins es → Fate e → Joins (e ∷ es)
   one_more e es rising joined (Stays s r k held) =
-      (λ i. put_each (map (returned u) (cond (r i) (e ∷ filter returns es) (filter returns es))) (cond (s i) (e ∷ filter stays es) (filter stays es)))
-      ∙ put_each_behind (map (returned u) (filter returns es)) e (filter stays es) (each_map (λ f. e.id < f.id) (λ f. e.id < f.id) (returned u) (λ f l. subst (λ n. e.id < n) (sym (returned_id u f)) l) (filter returns es) (each_filter (λ f. e.id < f.id) returns es rising.0))
+      (λ i. put_each (map (returned u) (cond (r i) (e ∷ filter returns es) (filter returns es)))
+      (cond (s i) (e ∷ filter stays es) (filter stays es)))
+      ∙ put_each_behind (map (returned u) (filter returns es)) e (filter stays es)
+      (each_map (λ f. e.id < f.id) (λ f. e.id < f.id) (returned u)
+      (λ f l. subst (λ n. e.id < n) (sym (returned_id u f)) l) (filter returns es)
+      (each_filter (λ f. e.id < f.id) returns es rising.0))
       ∙ (λ i. sym (returned_same u e held) i ∷ joined i)
       ∙ (λ i. map (returned u) (cond (sym k i) (e ∷ filter is_kept es) (filter is_kept es)))
   one_more e es rising joined (Returns s r k) =
       let me = returned u e in
-      let above : AllByRecursion (λ f. me.id < f.id) (filter stays es) = subst (λ n. AllByRecursion (λ f. n < f.id) (filter stays es)) (sym (returned_id u e)) (each_filter (λ f. e.id < f.id) stays es rising.0) in
+      let above : AllByRecursion (λ f. me.id < f.id) (filter stays es) =
+      subst (λ n. AllByRecursion (λ f. n < f.id) (filter stays es)) (sym (returned_id u e))
+      (each_filter (λ f. e.id < f.id) stays es rising.0) in
       let behind : AllByRecursion (λ f. me.id < f.id) (map (returned u) (filter returns es)) =
       subst (λ n. AllByRecursion (λ f. n < f.id) (map (returned u) (filter returns es))) (sym (returned_id u e))
-      (each_map (λ f. e.id < f.id) (λ f. e.id < f.id) (returned u) (λ f l. subst (λ n. e.id < n) (sym (returned_id u f)) l) (filter returns es) (each_filter (λ f. e.id < f.id) returns es rising.0)) in
-      (λ i. put_each (map (returned u) (cond (r i) (e ∷ filter returns es) (filter returns es))) (cond (s i) (e ∷ filter stays es) (filter stays es)))
+      (each_map (λ f. e.id < f.id) (λ f. e.id < f.id) (returned u)
+      (λ f l. subst (λ n. e.id < n) (sym (returned_id u f)) l) (filter returns es)
+      (each_filter (λ f. e.id < f.id) returns es rising.0)) in
+      (λ i. put_each (map (returned u) (cond (r i) (e ∷ filter returns es) (filter returns es)))
+      (cond (s i) (e ∷ filter stays es) (filter stays es)))
       ∙ ap (put_each (map (returned u) (filter returns es))) (put_first me (filter stays es) above)
       ∙ put_each_behind (map (returned u) (filter returns es)) me (filter stays es) behind
       ∙ (λ i. me ∷ joined i)
       ∙ (λ i. map (returned u) (cond (sym k i) (e ∷ filter is_kept es) (filter is_kept es)))
   one_more e es rising joined (Goes s r k) =
-      (λ i. put_each (map (returned u) (cond (r i) (e ∷ filter returns es) (filter returns es))) (cond (s i) (e ∷ filter stays es) (filter stays es)))
+      (λ i. put_each (map (returned u) (cond (r i) (e ∷ filter returns es) (filter returns es)))
+      (cond (s i) (e ∷ filter stays es) (filter stays es)))
       ∙ joined
       ∙ (λ i. map (returned u) (cond (sym k i) (e ∷ filter is_kept es) (filter is_kept es)))
 
@@ -230,25 +290,42 @@ module _ (u : ℕ) (d : Definition) where
   joins (e ∷ es) rising = one_more e es rising (joins es rising.1) (fate e)
 
 -- what is in the queue after the ABORT
-after_abort : (s : State) (unit queue : ℕ) → IsSound s → put_each (returning s unit queue ++ arriving s unit queue) (left_alone s unit queue) ≡ elements_at queue (step s (Abort unit)).elements
+after_abort : (s : State) (unit queue : ℕ) → IsSound s
+    → put_each (returning s unit queue ++ arriving s unit queue) (left_alone s unit queue)
+    ≡ elements_at queue (step s (Abort unit)).elements
 after_abort s unit queue sound =
     let d = definition_at s.definitions queue in
     put_each-append (returning s unit queue) (arriving s unit queue) (left_alone s unit queue)
-    ∙ ap (put_each (arriving s unit queue)) (joins unit d (elements_at queue s.elements) (ordered_filter (λ (e f : Element). e.id < f.id) (λ e. e.home == queue) s.elements sound.rising))
-    ∙ put_moves (arrivals_of queue (transfers_at s (Abort unit))) (map (returned unit) (filter (is_kept unit d) (elements_at queue s.elements)))
+    ∙ ap (put_each (arriving s unit queue))
+    (joins unit d (elements_at queue s.elements)
+    (ordered_filter (λ (e f : Element). e.id < f.id) (λ e. e.home == queue) s.elements sound.rising))
+    ∙ put_moves (arrivals_of queue (transfers_at s (Abort unit)))
+    (map (returned unit) (filter (is_kept unit d) (elements_at queue s.elements)))
     ∙ sym (abort_elements d s unit queue (agree_here s queue sound) sound.rising)
 
 aborted_rising : (s : State) (unit queue : ℕ) → IsSound s → Rising (elements_at queue (step s (Abort unit)).elements)
 aborted_rising s unit queue sound =
     ordered_filter (λ (e f : Element). e.id < f.id) (λ e. e.home == queue) (step s (Abort unit)).elements
-    (rising_map (λ e. if leaves (definition_at s.definitions e.home) unit e then moved (definition_at s.definitions e.home) e else returned unit e) (λ e. gone_id (leaves (definition_at s.definitions e.home) unit e) (definition_at s.definitions e.home) unit e)
-    (filter (λ e. not (is_fresh unit e.mark)) s.elements) (ordered_filter (λ (e f : Element). e.id < f.id) (λ e. not (is_fresh unit e.mark)) s.elements sound.rising))
+    (rising_map (λ e. if leaves (definition_at s.definitions e.home) unit e then moved
+    (definition_at s.definitions e.home) e else returned unit e)
+    (λ e. gone_id (leaves (definition_at s.definitions e.home) unit e) (definition_at s.definitions e.home) unit e)
+    (filter (λ e. not (is_fresh unit e.mark)) s.elements)
+    (ordered_filter (λ (e f : Element). e.id < f.id) (λ e. not (is_fresh unit e.mark)) s.elements sound.rising))
 
 pub any_order : AnyOrder
 any_order s unit queue shuffled sound same =
     let all = returning s unit queue ++ arriving s unit queue in
     let left = left_alone s unit queue in
     let after = after_abort s unit queue sound in
-    let once : Once (all ++ left) = λ id. omega (arith, rising_once (elements_at queue (step s (Abort unit)).elements) (aborted_rising s unit queue sound) id, ap (count id) after, count_shuffled id (all ++ left) (put_each all left) (each_shuffles all left)) in
-    let rising : Rising left = ordered_filter (λ (e f : Element). e.id < f.id) (λ e. not (is_marked unit e.mark)) (elements_at queue s.elements) (ordered_filter (λ (e f : Element). e.id < f.id) (λ e. e.home == queue) s.elements sound.rising) in
+    let once : Once (all ++ left) =
+    λ id. omega (
+      arith,
+      rising_once (elements_at queue (step s (Abort unit)).elements)
+          (aborted_rising s unit queue sound) id,
+      ap (count id) after,
+      count_shuffled id (all ++ left) (put_each all left) (each_shuffles all left),
+    ) in
+    let rising : Rising left = ordered_filter (λ (e f : Element). e.id < f.id) (λ e. not (is_marked unit e.mark))
+    (elements_at queue s.elements)
+    (ordered_filter (λ (e f : Element). e.id < f.id) (λ e. e.home == queue) s.elements sound.rising) in
     sym (put_shuffled all shuffled left same once rising) ∙ after

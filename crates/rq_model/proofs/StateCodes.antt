@@ -1,22 +1,27 @@
 -- A well-formed state's spelling is read again, and spells no other state.
-use Rattle.std.proofs.Common.{◌≡◌, inl, inr, ℕ, ◌+◌, ◌^◌, ◌<◌, ◌≤◌, true, List, [], ◌∷◌, length, Option, Some, None, sym, subst, ◌∙◌, arith}
+use Rattle.std.proofs.Common.{◌≡◌, inl, inr, ℕ, ◌+◌, ◌^◌, ◌<◌, ◌≤◌, true, List, [], ◌∷◌, length, Option, Some, None}
+use Rattle.std.proofs.Common.{sym, subst, ◌∙◌, arith}
 use Rattle.std.specs.Prelude.{IfSome, ◌==◌}
 use Rattle.std.specs.List.{list_any, AllByRecursion}
 use Rattle.std.proofs.lemmas.Bool.{eqb-true, and_parts}
 use Rattle.rq_model.specs.Records.{Version}
-use Rattle.rq_model.specs.States.{Mark, Free, Fresh, Held, Kind, Enqueued, Dequeued, Element, Last, Note, Definition, Registrant, State, is_registrant}
+use Rattle.rq_model.specs.States.{Mark, Free, Fresh, Held, Kind, Enqueued, Dequeued, Element, Last, Note, Definition}
+use Rattle.rq_model.specs.States.{Registrant, State, is_registrant}
 use Rattle.std.specs.Str.{bytes_eq}
-use Rattle.rq_model.specs.WellFormed.{Ordered, unit_is_open, IsElement, IsElementOf, IsLast, IsRegistrant, IsNote, AreDefinitions, IsWellFormed}
+use Rattle.rq_model.specs.WellFormed.{Ordered, unit_is_open, IsElement, IsElementOf, IsLast, IsRegistrant, IsNote}
+use Rattle.rq_model.specs.WellFormed.{AreDefinitions, IsWellFormed}
 use Rattle.rq_model.specs.StateSpelling.{FitsDefinition, FitsRegistrant, FitsElement, FitsNote, Fits, SpellsState}
 use Rattle.rq_model.specs.StateReading.{AreFew}
 use Rattle.rq_model.proofs.Lists.{each_weaker, each_both}
 use Rattle.rq_bytes.proofs.Together.{reads_alone, spells_one}
-use Rattle.rq_model.proofs.StateReaders.{IsDefinitionSpelled, IsWideElement, IsWideLast, IsRegistrantSpelled, IsWideMark, IsElementSpelled, IsNoteSpelled, IsSpelled, reads_state}
+use Rattle.rq_model.proofs.StateReaders.{IsDefinitionSpelled, IsWideElement, IsWideLast, IsRegistrantSpelled}
+use Rattle.rq_model.proofs.StateReaders.{IsWideMark, IsElementSpelled, IsNoteSpelled, IsSpelled, reads_state}
 use Rattle.rq_model.proofs.Texts.{either}
 
 -- A well-formed state's members have these widths.
 
-any_of : (P : ℕ → Type 0) (unit : ℕ) (units : List ℕ) → AllByRecursion P units → list_any (λ v. v == unit) units ≡ true → P unit
+any_of : (P : ℕ → Type 0) (unit : ℕ) (units : List ℕ) → AllByRecursion P units → list_any (λ v. v == unit) units ≡ true
+    → P unit
 any_of P unit [] h e = absurd cc
 any_of P unit (v ∷ units) h e =
     elim (either (v == unit) (list_any (λ v. v == unit) units) e) [
@@ -26,44 +31,57 @@ any_of P unit (v ∷ units) h e =
 
 wide_mark : (s : State) (mark : Mark) → IsWellFormed s → Fits s → unit_is_open s mark → IsWideMark mark
 wide_mark s Free h f o = tt
-wide_mark s (Fresh u) h f o = omega (arith, (any_of (λ v. (1 ≤ v) × (v ≤ s.greatest)) u s.units h.units o).1, f.greatest)
+wide_mark s (Fresh u) h f o =
+    omega (arith, (any_of (λ v. (1 ≤ v) × (v ≤ s.greatest)) u s.units h.units o).1, f.greatest)
 wide_mark s (Held u) h f o = omega (arith, (any_of (λ v. (1 ≤ v) × (v ≤ s.greatest)) u s.units h.units o).1, f.greatest)
 
-wide_element : (kind : Kind) (place : ℕ) (element : Option ℕ) → place ≤ 4294967295 → IsElementOf kind place element → IsWideElement element
+wide_element : (kind : Kind) (place : ℕ) (element : Option ℕ) → place ≤ 4294967295 → IsElementOf kind place element
+    → IsWideElement element
 wide_element Enqueued place element le h = subst IsWideElement (sym h) (omega (arith, le))
 wide_element Dequeued place None le h = tt
 wide_element Dequeued place (Some id) le h = omega (arith, le, h)
 
 wide_last : (s : State) (l : Last) → s.next ≤ 4294967295 → IsLast s l → l.tag < 2 ^ 64 → IsWideLast l
-wide_last s l le h t = (omega (arith, le, h.place), t, wide_element l.kind l.place l.element (omega (arith, le, h.place)) h.element)
+wide_last s l le h t =
+    (omega (arith, le, h.place), t, wide_element l.kind l.place l.element (omega (arith, le, h.place)) h.element)
 
-wide_optional : (s : State) (last : Option Last) → s.next ≤ 4294967295 → IfSome last (IsLast s) → IfSome last (λ l. l.tag < 2 ^ 64) → IfSome last IsWideLast
+wide_optional : (s : State) (last : Option Last) → s.next ≤ 4294967295 → IfSome last (IsLast s)
+    → IfSome last (λ l. l.tag < 2 ^ 64) → IfSome last IsWideLast
 wide_optional s None le h t = tt
 wide_optional s (Some l) le h t = wide_last s l le h t
 
-spelled_definitions : (number : ℕ) (ds : List Definition) → number + length ds ≤ 4096 → AreDefinitions number ds → AllByRecursion FitsDefinition ds → AllByRecursion IsDefinitionSpelled ds
+spelled_definitions : (number : ℕ) (ds : List Definition) → number + length ds ≤ 4096 → AreDefinitions number ds
+    → AllByRecursion FitsDefinition ds → AllByRecursion IsDefinitionSpelled ds
 spelled_definitions number [] le h f = tt
 spelled_definitions number (d ∷ ds) le h f = (
-  elim h.0 [ inl none ↦ (omega (arith, none.0), omega (arith, none.1), f.0) | inr some ↦ (omega (arith, some.1), omega (arith, some.2, le), f.0) ],
+  elim h.0 [
+    | inl none ↦ (omega (arith, none.0), omega (arith, none.1), f.0)
+    | inr some ↦
+        (omega (arith, some.1), omega (arith, some.2, le), f.0)
+  ],
   spelled_definitions (number + 1) ds (omega (arith, le)) h.1 f.1,
 )
 
 -- as many as fit below a number
-few : {X : Type 0} (key : X → ℕ) (low high : ℕ) (xs : List X) → low ≤ high → Ordered (λ x y. key x < key y) xs → AllByRecursion (λ x. low ≤ key x) xs → AllByRecursion (λ x. key x < high) xs → low + length xs ≤ high
+few : {X : Type 0} (key : X → ℕ) (low high : ℕ) (xs : List X) → low ≤ high → Ordered (λ x y. key x < key y) xs
+    → AllByRecursion (λ x. low ≤ key x) xs → AllByRecursion (λ x. key x < high) xs → low + length xs ≤ high
 few key low high [] le up above below = omega (arith, le)
 few key low high (x ∷ xs) le up above below =
-    let others = few key (key x + 1) high xs (omega (arith, below.0)) up.1 (each_weaker (λ y. key x < key y) (λ y. key x + 1 ≤ key y) (λ y lt. omega (arith, lt)) xs up.0) below.1 in
+    let others = few key (key x + 1) high xs (omega (arith, below.0)) up.1
+    (each_weaker (λ y. key x < key y) (λ y. key x + 1 ≤ key y) (λ y lt. omega (arith, lt)) xs up.0) below.1 in
     omega (arith, others, above.0)
 
 -- a note's queue is a registrant's, which is defined
 note_queue : (s : State) (n : Note) → IsWellFormed s → IsNote s n → n.queue < 2 ^ 32
 note_queue s n w h = omega (arith, w.few, queue_of s.registrants w.registrants h.registrant)
   where
-    queue_of : (rs : List Registrant) → AllByRecursion (IsRegistrant s) rs → list_any (is_registrant n.queue n.name) rs ≡ true → n.queue < length s.definitions
+    queue_of : (rs : List Registrant) → AllByRecursion (IsRegistrant s) rs
+        → list_any (is_registrant n.queue n.name) rs ≡ true → n.queue < length s.definitions
     queue_of [] r e = absurd cc
     queue_of (r ∷ rs) h e =
         elim (either (is_registrant n.queue n.name r) (list_any (is_registrant n.queue n.name) rs) e) [
-          | inl here ↦ subst (λ (q : ℕ). q < length s.definitions) (eqb-true r.queue n.queue (and_parts (r.queue == n.queue) (bytes_eq r.name n.name) here).0) h.0.queue
+          | inl here ↦ subst (λ (q : ℕ). q < length s.definitions)
+              (eqb-true r.queue n.queue (and_parts (r.queue == n.queue) (bytes_eq r.name n.name) here).0) h.0.queue
           | inr there ↦ queue_of rs h.1 there
         ]
 
@@ -75,8 +93,19 @@ are_few s w le =
       definitions = omega (arith, w.few);
       units = omega (arith, le, w.counts);
       registrants = omega (arith, le, w.registrants_few);
-      elements = omega (arith, le, few (λ (e : Element). e.id) 0 s.next s.elements (omega arith) w.elements_rise (each_weaker (λ e. e.id < s.next) (λ e. 0 ≤ e.id) (λ e x. omega arith) s.elements ids) ids);
-      notes = omega (arith, le, few (λ (n : Note). n.last.place) 0 s.next s.notes (omega arith) w.notes_rise (each_weaker (λ n. n.last.place < s.next) (λ n. 0 ≤ n.last.place) (λ n x. omega arith) s.notes places) places);
+      elements = omega (
+        arith,
+        le,
+        few (λ (e : Element). e.id) 0 s.next s.elements (omega arith) w.elements_rise
+            (each_weaker (λ e. e.id < s.next) (λ e. 0 ≤ e.id) (λ e x. omega arith) s.elements ids) ids,
+      );
+      notes = omega (
+        arith,
+        le,
+        few (λ (n : Note). n.last.place) 0 s.next s.notes (omega arith) w.notes_rise
+            (each_weaker (λ n. n.last.place < s.next) (λ n. 0 ≤ n.last.place) (λ n x. omega arith) s.notes places)
+            places,
+      );
     }
 
 pub is_spelled : (version : Version) (s : State) (bytes : List ℕ) → SpellsState version s bytes → IsSpelled s
@@ -90,26 +119,57 @@ is_spelled version s bytes h =
       greatest = h.fits.greatest;
       committed = omega (arith, le, w.counts);
       aborted = omega (arith, le, w.counts);
-      definitions = (counts.definitions, spelled_definitions 0 s.definitions (omega (arith, defined)) w.definitions h.fits.definitions);
-      units = (counts.units, each_weaker (λ u. (1 ≤ u) × (u ≤ s.greatest)) (λ u. u < 2 ^ 64) (λ u x. omega (arith, x.1, h.fits.greatest)) s.units w.units);
+      definitions = (
+        counts.definitions,
+        spelled_definitions 0 s.definitions
+            (omega (arith, defined)) w.definitions h.fits.definitions,
+      );
+      units = (
+        counts.units,
+        each_weaker (λ u. (1 ≤ u) × (u ≤ s.greatest)) (λ u. u < 2 ^ 64)
+            (λ u x. omega (arith, x.1, h.fits.greatest)) s.units w.units,
+      );
       registrants = (
         counts.registrants,
-        each_weaker (λ r. IsRegistrant s r × FitsRegistrant r) IsRegistrantSpelled (λ r x. (omega (arith, x.0.queue, defined), x.1.0, wide_optional s r.last le x.0.last x.1.1))
+        each_weaker (λ r. IsRegistrant s r × FitsRegistrant r) IsRegistrantSpelled
+            (λ r x. (omega (arith, x.0.queue, defined), x.1.0, wide_optional s r.last le x.0.last x.1.1))
             s.registrants (each_both (IsRegistrant s) FitsRegistrant s.registrants w.registrants h.fits.registrants),
       );
       elements = (
         counts.elements,
         each_weaker (λ e. IsElement s e × FitsElement e) IsElementSpelled
-            (λ e x. record { id = omega (arith, le, x.0.id); home = omega (arith, x.0.home, defined); origin = omega (arith, x.0.origin, defined); priority = x.1.0; attempts = omega (arith, le, x.0.attempts); mark = wide_mark s e.mark w h.fits x.0.unit; payload = omega (arith, x.1.1) })
+            (λ e x. record {
+              id = omega (arith, le, x.0.id);
+              home = omega (arith, x.0.home, defined);
+              origin =
+                  omega (arith, x.0.origin, defined);
+              priority = x.1.0;
+              attempts = omega (arith, le, x.0.attempts);
+              mark =
+                  wide_mark s e.mark w h.fits x.0.unit;
+              payload = omega (arith, x.1.1);
+            })
             s.elements (each_both (IsElement s) FitsElement s.elements w.elements h.fits.elements),
       );
       notes = (
         counts.notes,
         each_weaker (λ n. IsNote s n × FitsNote n) IsNoteSpelled
-            (λ n x. (omega (arith, (any_of (λ v. (1 ≤ v) × (v ≤ s.greatest)) n.unit s.units w.units x.0.unit).1, h.fits.greatest), note_queue s n w x.0, x.1.0, wide_last s n.last le x.0.last x.1.1))
+            (λ n x. (
+              omega (
+                arith,
+                (any_of (λ v. (1 ≤ v) × (v ≤ s.greatest)) n.unit s.units w.units x.0.unit).1,
+                h.fits.greatest,
+              ),
+              note_queue s n w x.0,
+              x.1.0,
+              wide_last s n.last le x.0.last x.1.1,
+            ))
             s.notes (each_both (IsNote s) FitsNote s.notes w.notes h.fits.notes),
       );
     }
 
-pub one_state : (one two : Version) (s t : State) (bytes : List ℕ) → SpellsState one s bytes → SpellsState two t bytes → s ≡ t
-one_state one two s t bytes h k = spells_one (reads_alone reads_state) s t (is_spelled one s bytes h) (is_spelled two t bytes k) (sym h.spelling ∙ k.spelling)
+pub one_state : (one two : Version) (s t : State) (bytes : List ℕ) → SpellsState one s bytes → SpellsState two t bytes
+    → s ≡ t
+one_state one two s t bytes h k =
+    spells_one (reads_alone reads_state) s t (is_spelled one s bytes h) (is_spelled two t bytes k)
+    (sym h.spelling ∙ k.spelling)

@@ -1,23 +1,40 @@
 -- The worked facts about formats, by computing.
-use Rattle.std.proofs.Common.{◌≡◌, inl, inr, ⊎_elim, ℕ, zero, suc, ◌+◌, ◌<◌, ◌≤◌, List, [], ◌∷◌, ◌++◌, length, refl, subst, arith}
+use Rattle.std.proofs.Common.{◌≡◌, inl, inr, ⊎_elim, ℕ, zero, suc, ◌+◌, ◌<◌, ◌≤◌, List, [], ◌∷◌, ◌++◌, length, refl}
+use Rattle.std.proofs.Common.{subst, arith}
 use Rattle.std.specs.Prelude.{replicate, Some, None}
 use Rattle.std.specs.Fmt.{digits}
 use Rattle.std.specs.List.{range_with_len}
 use Rattle.std.proofs.lemmas.Bool.{false≢true}
 use Rattle.std.proofs.lemmas.List.{take_at, length-append, append-nil}
 use Rattle.sha2.specs.Sha256.{sha256}
-use Rattle.rq_model.specs.Frames.{magic, header, frame, digest, digest_in, body_in, AreBytes, IsBodyLength, stated, HasFrame, IsRest, Whole, Cut, Length, Digest, before}
+use Rattle.rq_model.specs.Frames.{magic, header, frame, digest, digest_in, body_in, AreBytes, IsBodyLength, stated}
+use Rattle.rq_model.specs.Frames.{HasFrame, IsRest, Whole, Cut, Length, Digest, before}
 use Rattle.rq_model.specs.Records.{One}
 use Rattle.rq_model.specs.States.{definition_at}
 use Rattle.rq_model.specs.WorkedMachine.{busy}
-use Rattle.rq_model.specs.WorkedFormats.{WorkedNames, WorkedBodies, WorkedWidths, WorkedFrames, AllRests, WorkedStates, WorkedMembers, WorkedLines, one_body, two_framed}
+use Rattle.rq_model.specs.WorkedFormats.{WorkedNames, WorkedBodies, WorkedWidths, WorkedFrames, AllRests, WorkedStates}
+use Rattle.rq_model.specs.WorkedFormats.{WorkedMembers, WorkedLines, one_body, two_framed}
 use Rattle.rq_model.proofs.Runs.{length-sha256, right_at, stops}
 
 pub names : WorkedNames
 names = record { none = refl; bytes = refl; lengths = refl }
 
 pub bodies : WorkedBodies
-bodies = record { define = refl; register = refl; deregister = refl; begin = refl; enqueue = refl; enqueue_nobody = refl; dequeue = refl; dequeue_nobody = refl; commit = refl; abort = refl; checkpoint = refl; kill = refl }
+bodies = record {
+  define = refl;
+  register = refl;
+  deregister = refl;
+  begin = refl;
+  enqueue = refl;
+  enqueue_nobody =
+      refl;
+  dequeue = refl;
+  dequeue_nobody = refl;
+  commit = refl;
+  abort = refl;
+  checkpoint = refl;
+  kill = refl;
+}
 
 pub widths : WorkedWidths
 widths = record {
@@ -61,8 +78,10 @@ widths = record {
 }
 
 -- a frame that states n, in so many bytes
-frame_of : (xs : List ℕ) (n long : ℕ) → stated xs ≡ n → length xs ≡ long → 1 ≤ n → n ≤ 268435456 → 36 + n ≤ long → HasFrame xs
-frame_of xs n long is has one most room = record { in_range = (omega (arith, is, one), omega (arith, is, most)); room = omega (arith, is, has, room) }
+frame_of : (xs : List ℕ) (n long : ℕ) → stated xs ≡ n → length xs ≡ long → 1 ≤ n → n ≤ 268435456 → 36 + n ≤ long
+    → HasFrame xs
+frame_of xs n long is has one most room =
+    record { in_range = (omega (arith, is, one), omega (arith, is, most)); room = omega (arith, is, has, room) }
 
 room_in : (xs : List ℕ) (n long : ℕ) → stated xs ≡ n → length xs ≡ long → long < 36 + n → HasFrame xs → ⊥
 room_in xs n long is has short h = omega (arith, is, has, short, h.room)
@@ -86,7 +105,8 @@ framed = record {
   started = refl;
   header_one = refl;
   header_two = refl;
-  has_header = take_at (header One) (7 ∷ []) 40 (omega (arith, length-append (magic One) (sha256 (magic One)), length-sha256 (magic One)));
+  has_header = take_at (header One) (7 ∷ []) 40
+      (omega (arith, length-append (magic One) (sha256 (magic One)), length-sha256 (magic One)));
   bytes = bytes;
   no_byte = λ h. omega (arith, h 0);
   log = refl;
@@ -99,20 +119,29 @@ framed = record {
   empty_frame = λ h. omega (arith, h.in_range.0, nothing_stated);
   bodies = (((omega arith, omega arith), tt), λ h. omega (arith, h.0.0));
   before_34 = refl;
-  no_frame = record { within = omega arith; run = stops (before 40 (range_with_len 0 40)) [] [] [] Whole tt refl refl; follows = refl };
+  no_frame = record {
+    within = omega arith;
+    run = stops (before 40 (range_with_len 0 40)) [] [] [] Whole tt refl refl;
+    follows = refl;
+  };
 }
   where
     bytes : AreBytes (255 ∷ [])
     bytes zero = omega arith
     bytes (suc i) = omega arith
 
-cut_after : (p xs : List ℕ) (n long : ℕ) → stated xs ≡ n → length xs ≡ long → 1 ≤ n → n ≤ 268435456 → 0 < long → long < 36 + n → IsRest p xs Cut
-cut_after p xs n long is has one most some short = (omega (arith, has, some), inr ((omega (arith, is, one), omega (arith, is, most)), omega (arith, is, has, short)))
+cut_after : (p xs : List ℕ) (n long : ℕ) → stated xs ≡ n → length xs ≡ long → 1 ≤ n → n ≤ 268435456 → 0 < long
+    → long < 36 + n → IsRest p xs Cut
+cut_after p xs n long is has one most some short =
+    (omega (arith, has, some), inr ((omega (arith, is, one), omega (arith, is, most)), omega (arith, is, has, short)))
 
-not_cut : (p xs : List ℕ) (n long : ℕ) → stated xs ≡ n → length xs ≡ long → 4 ≤ long → 36 + n ≤ long → IsRest p xs Cut → ⊥
-not_cut p xs n long is has four room h = ⊎_elim (λ few. omega (arith, few, has, four)) (λ short. omega (arith, is, has, room, short.1)) h.1
+not_cut : (p xs : List ℕ) (n long : ℕ) → stated xs ≡ n → length xs ≡ long → 4 ≤ long → 36 + n ≤ long → IsRest p xs Cut
+    → ⊥
+not_cut p xs n long is has four room h =
+    ⊎_elim (λ few. omega (arith, few, has, four)) (λ short. omega (arith, is, has, room, short.1)) h.1
 
-out_after : (p xs : List ℕ) (n long : ℕ) → stated xs ≡ n → length xs ≡ long → 4 ≤ long → (IsBodyLength n → ⊥) → IsRest p xs Length
+out_after : (p xs : List ℕ) (n long : ℕ) → stated xs ≡ n → length xs ≡ long → 4 ≤ long → (IsBodyLength n → ⊥)
+    → IsRest p xs Length
 out_after p xs n long is has four out = (omega (arith, has, four), λ range. out (subst IsBodyLength is range))
 
 right_after : (p : List ℕ) → IsRest p (frame p one_body) Digest → ⊥
@@ -128,7 +157,8 @@ rests p = record {
   nothing_cut = λ h. omega (arith, h.0);
   one_byte = (omega arith, inl (omega arith));
   three_bytes = (omega arith, inl (omega arith));
-  frame_cut = cut_after p (0 ∷ 0 ∷ 0 ∷ 2 ∷ replicate 33 0) 2 37 refl refl (omega arith) (omega arith) (omega arith) (omega arith);
+  frame_cut = cut_after p (0 ∷ 0 ∷ 0 ∷ 2 ∷ replicate 33 0) 2 37 refl refl (omega arith) (omega arith) (omega arith)
+      (omega arith);
   frame_not_cut = not_cut p (0 ∷ 0 ∷ 0 ∷ 2 ∷ replicate 34 0) 2 38 refl refl (omega arith) (omega arith);
   out_not_cut = λ h. ⊎_elim (λ few. omega (arith, few)) (λ short. omega (arith, short.0.0)) h.1;
   out_of_range = out_after p (0 ∷ 0 ∷ 0 ∷ 0 ∷ []) 0 4 refl refl (omega arith) (λ range. omega (arith, range.0));
@@ -182,8 +212,23 @@ limit_two = refl
 
 pub members : WorkedMembers
 members = record {
-  an_element = record { id = omega arith; home = omega (arith, two_queues); origin = omega (arith, two_queues); attempts = omega arith; limit = inl refl; unit = refl };
-  limited = record { id = omega arith; home = omega (arith, two_queues); origin = omega (arith, two_queues); attempts = omega arith; limit = inr (omega (arith, limit_two)); unit = refl };
+  an_element = record {
+    id = omega arith;
+    home = omega (arith, two_queues);
+    origin = omega (arith, two_queues);
+    attempts = omega arith;
+    limit = inl refl;
+    unit = refl;
+  };
+  limited = record {
+    id = omega arith;
+    home = omega (arith, two_queues);
+    origin = omega (arith, two_queues);
+    attempts =
+        omega arith;
+    limit = inr (omega (arith, limit_two));
+    unit = refl;
+  };
   element_id = λ h. omega (arith, h.id);
   element_home = λ h. omega (arith, h.home, two_queues);
   element_origin = λ h. omega (arith, h.origin, two_queues);
@@ -204,7 +249,21 @@ members = record {
   queues = λ s h. h.few;
   greatest_next = record {
     next = omega arith;
-    keeps = record { few = omega arith; names = tt; definitions = tt; units = tt; units_rise = tt; counts = omega arith; registrants = tt; registrants_rise = tt; registrants_few = omega arith; elements = tt; elements_rise = tt; notes = tt; notes_rise = tt };
+    keeps = record {
+      few = omega arith;
+      names = tt;
+      definitions = tt;
+      units = tt;
+      units_rise = tt;
+      counts = omega arith;
+      registrants = tt;
+      registrants_rise = tt;
+      registrants_few = omega arith;
+      elements = tt;
+      elements_rise = tt;
+      notes = tt;
+      notes_rise = tt;
+    };
     fits = record { greatest = omega arith; definitions = tt; registrants = tt; elements = tt; notes = tt };
     deep = tt;
     spelling = refl;
@@ -220,4 +279,17 @@ members = record {
 
 pub lines : WorkedLines
 unfolding digits
-lines = record { hex = refl; payloads = refl; errors = refl; elements = refl; reasons = refl; first_line = refl; second_line = refl; queue = refl; element_free = refl; by_enqueue = refl; by_dequeue = refl; by_none = refl }
+lines = record {
+  hex = refl;
+  payloads = refl;
+  errors = refl;
+  elements = refl;
+  reasons = refl;
+  first_line = refl;
+  second_line = refl;
+  queue = refl;
+  element_free = refl;
+  by_enqueue = refl;
+  by_dequeue = refl;
+  by_none = refl;
+}

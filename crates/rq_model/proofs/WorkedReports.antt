@@ -1,12 +1,14 @@
 -- The worked logs, by computation.
-use Rattle.std.proofs.Common.{◌≡◌, ℕ, ◌+◌, ◌≤◌, ◌^◌, true, List, [], ◌∷◌, ◌++◌, length, refl, sym, ap, subst, ◌∙◌, arith}
+use Rattle.std.proofs.Common.{◌≡◌, ℕ, ◌+◌, ◌≤◌, ◌^◌, true, List, [], ◌∷◌, ◌++◌, length, refl, sym, ap, subst, ◌∙◌}
+use Rattle.std.proofs.Common.{arith}
 use Rattle.std.specs.Prelude.{take, drop, codes, nat_le, nat_lt, Bool, false, ◌&&◌, Option, Some, None}
 use Rattle.std.specs.List.{AllByRecursion, list_all}
 use Rattle.std.proofs.lemmas.Bool.{and_parts, leb-true, ltb-true}
 use Rattle.std.proofs.lemmas.List.{length-append, append-nil, take_all}
 use Rattle.sha2.specs.Sha256.{sha256}
 use Rattle.std.specs.Fmt.{digits}
-use Rattle.rq_model.specs.Records.{By, Record, Define, Register, Deregister, Begin, Enqueue, Dequeue, Commit, Abort, Checkpoint, Kill, Version, One, Two}
+use Rattle.rq_model.specs.Records.{By, Record, Define, Register, Deregister, Begin, Enqueue, Dequeue, Commit, Abort}
+use Rattle.rq_model.specs.Records.{Checkpoint, Kill, Version, One, Two}
 use Rattle.rq_model.specs.Spelling.{is_name, IsWho, body_of, IsRecord}
 use Rattle.rq_model.specs.Frames.{body_in, digest, frame, log_limit, magic, header, frames_of, last_of, log_of, Whole}
 use Rattle.rq_model.specs.States.{State, empty}
@@ -16,7 +18,11 @@ use Rattle.rq_model.specs.WellFormed.{IsWellFormed}
 use Rattle.rq_model.specs.Fronts.{Ends, Law, IsFront, IsWhy, Why, restarted}
 use Rattle.rq_model.specs.Reports.{IsReport}
 use Rattle.rq_model.specs.Checkpoints.{TrueAt}
-use Rattle.rq_model.specs.WorkedLogs.{text_made, ann, jobs, unlawful_log, UnlawfulLogs, one_element_log, best_first_log, second_abort_log, arrival_log, return_and_arrival_log, own_fresh_log, place_not_commit_log, deregister_log, before_the_checkpoint, checkpoint_log, checkpoint_cut_log, error_of_error_log, kill_log, WorkedLogs, WorkedBytes, WorkedCheckpoint}
+use Rattle.rq_model.specs.WorkedLogs.{text_made, ann, jobs, unlawful_log, UnlawfulLogs, one_element_log, best_first_log}
+use Rattle.rq_model.specs.WorkedLogs.{second_abort_log, arrival_log, return_and_arrival_log, own_fresh_log}
+use Rattle.rq_model.specs.WorkedLogs.{place_not_commit_log, deregister_log, before_the_checkpoint, checkpoint_log}
+use Rattle.rq_model.specs.WorkedLogs.{checkpoint_cut_log, error_of_error_log, kill_log, WorkedLogs, WorkedBytes}
+use Rattle.rq_model.specs.WorkedLogs.{WorkedCheckpoint}
 use Rattle.rq_model.proofs.Runs.{frame_long, frame_reads, right_at}
 use Rattle.rq_model.proofs.Bodies.{body_fits}
 use Rattle.rq_model.proofs.Longest.{front_stops, frames_of_join}
@@ -32,15 +38,21 @@ worked_bytes = record { define = refl; enqueue = refl; dequeue = refl; nothing =
 pub final_kept : (version : Version) (s : State) → IsWellFormed s → IsWellFormed (final s)
 final_kept version s h =
     let all : take (length (aborts s)) (aborts s) ≡ aborts s = take_all (length (aborts s)) (aborts s) (omega arith) in
-    runs_are_well_formed version s (aborts s) h (subst (λ (rs : List Record). all_lawful version s rs ≡ true) all (crash_is_harmless version s (length (aborts s)) h).0)
+    runs_are_well_formed version s (aborts s) h
+    (subst (λ (rs : List Record). all_lawful version s rs ≡ true) all
+    (crash_is_harmless version s (length (aborts s)) h).0)
 
 -- where the front and its end are known, so is the report
-pub front_says : (b : List ℕ) (version : Version) (rs : List Record) (rest : List ℕ) (why : Why) → IsFront b version rs rest → IsWhy version (run empty rs) (last_of (sha256 (magic version)) rs) rest why
+pub front_says : (b : List ℕ) (version : Version) (rs : List Record) (rest : List ℕ) (why : Why)
+    → IsFront b version rs rest → IsWhy version (run empty rs) (last_of (sha256 (magic version)) rs) rest why
     → IsReport b (text_made (restarted (run empty rs) (length rest) (length b) why))
 front_says b version rs rest why front ends =
     let r = restarted (run empty rs) (length rest) (length b) why in
-    let keeps = runs_are_well_formed version empty rs empty_is_well_formed front.longest.begins.lawful in
-    (r, record { version = version; records = rs; rest = rest; why = why; front = front; ends = ends; answer = refl }, is_text r (final_kept version (run empty rs) keeps))
+    let keeps = runs_are_well_formed version empty rs empty_is_well_formed front.longest.begins.lawful in (
+      r,
+      record { version = version; records = rs; rest = rest; why = why; front = front; ends = ends; answer = refl },
+      is_text r (final_kept version (run empty rs) keeps),
+    )
 
 -- the bytes of a log are the header's and each frame's
 unfoldable pub size : List Record → ℕ
@@ -50,19 +62,33 @@ size (r ∷ rs) = 36 + length (body_of r) + size rs
 frames_size : (p : List ℕ) (rs : List Record) → length (frames_of p rs) ≡ size rs
 unfolding size
 frames_size p [] = refl
-frames_size p (r ∷ rs) = omega (arith, length-append (frame p (body_of r)) (frames_of (digest p (body_of r)) rs), frame_long p (body_of r), frames_size (digest p (body_of r)) rs)
+frames_size p (r ∷ rs) =
+    omega (
+      arith,
+      length-append (frame p (body_of r)) (frames_of (digest p (body_of r)) rs),
+      frame_long p (body_of r),
+      frames_size (digest p (body_of r)) rs,
+    )
 
 pub log_size : (version : Version) (rs : List Record) → length (log_of version rs) ≡ 40 + size rs
-log_size version rs = omega (arith, length-append (header version) (frames_of (sha256 (magic version)) rs), header_long version, frames_size (sha256 (magic version)) rs)
+log_size version rs =
+    omega (
+      arith,
+      length-append (header version) (frames_of (sha256 (magic version)) rs),
+      header_long version,
+      frames_size (sha256 (magic version)) rs,
+    )
 
-pub whole_front : (version : Version) (rs : List Record) → AllByRecursion (IsRecord version) rs → all_lawful version empty rs ≡ true → 40 + size rs ≤ log_limit → IsFront (log_of version rs) version rs []
+pub whole_front : (version : Version) (rs : List Record) → AllByRecursion (IsRecord version) rs
+    → all_lawful version empty rs ≡ true → 40 + size rs ≤ log_limit → IsFront (log_of version rs) version rs []
 whole_front version rs are lawful short =
     let bytes = frames_of (sha256 (magic version)) rs in
     record {
       short = omega (arith, log_size version rs, short);
       bytes = bytes;
       whole = refl;
-      longest = front_stops version empty (sha256 (magic version)) bytes [] rs (Ends Whole) (record { records = are; lawful = lawful; whole = sym (append-nil bytes) }) refl;
+      longest = front_stops version empty (sha256 (magic version)) bytes [] rs (Ends Whole)
+          (record { records = are; lawful = lawful; whole = sym (append-nil bytes) }) refl;
     }
 
 -- a test for records
@@ -75,7 +101,9 @@ is_record version (Define limit error name) = nat_lt limit (2 ^ 16) && (nat_lt e
 is_record version (Register queue name) = nat_lt queue (2 ^ 32) && is_name name
 is_record version (Deregister queue name) = nat_lt queue (2 ^ 32) && is_name name
 is_record version (Begin unit) = nat_lt unit (2 ^ 64)
-is_record version (Enqueue unit queue priority by payload) = nat_lt unit (2 ^ 64) && (nat_lt queue (2 ^ 32) && (nat_lt priority (2 ^ 8) && (is_who by && nat_le (length payload) 65535)))
+is_record version (Enqueue unit queue priority by payload) =
+    nat_lt unit (2 ^ 64)
+    && (nat_lt queue (2 ^ 32) && (nat_lt priority (2 ^ 8) && (is_who by && nat_le (length payload) 65535)))
 is_record version (Dequeue unit queue by) = nat_lt unit (2 ^ 64) && (nat_lt queue (2 ^ 32) && is_who by)
 is_record version (Commit unit) = nat_lt unit (2 ^ 64)
 is_record version (Abort unit) = nat_lt unit (2 ^ 64)
@@ -86,7 +114,8 @@ is_record Two (Kill queue element) = nat_lt queue (2 ^ 32) && nat_lt element (2 
 who_passes : (by : Option By) → is_who by ≡ true → IsWho by
 unfolding is_who
 who_passes None h = tt
-who_passes (Some by) h = let both = and_parts (is_name by.name) (nat_lt by.tag (2 ^ 64)) h in (both.0, ltb-true by.tag (2 ^ 64) both.1)
+who_passes (Some by) h = let both = and_parts (is_name by.name) (nat_lt by.tag (2 ^ 64)) h in
+    (both.0, ltb-true by.tag (2 ^ 64) both.1)
 
 pub passes : (version : Version) (r : Record) → is_record version r ≡ true → IsRecord version r
 unfolding is_record
@@ -94,15 +123,24 @@ passes version (Define limit error name) h =
     let a = and_parts (nat_lt limit (2 ^ 16)) (nat_lt error (2 ^ 32) && is_name name) h in
     let b = and_parts (nat_lt error (2 ^ 32)) (is_name name) a.1 in
     (ltb-true limit (2 ^ 16) a.0, ltb-true error (2 ^ 32) b.0, b.1)
-passes version (Register queue name) h = let a = and_parts (nat_lt queue (2 ^ 32)) (is_name name) h in (ltb-true queue (2 ^ 32) a.0, a.1)
-passes version (Deregister queue name) h = let a = and_parts (nat_lt queue (2 ^ 32)) (is_name name) h in (ltb-true queue (2 ^ 32) a.0, a.1)
+passes version (Register queue name) h = let a = and_parts (nat_lt queue (2 ^ 32)) (is_name name) h in
+    (ltb-true queue (2 ^ 32) a.0, a.1)
+passes version (Deregister queue name) h = let a = and_parts (nat_lt queue (2 ^ 32)) (is_name name) h in
+    (ltb-true queue (2 ^ 32) a.0, a.1)
 passes version (Begin unit) h = ltb-true unit (2 ^ 64) h
 passes version (Enqueue unit queue priority by payload) h =
-    let a = and_parts (nat_lt unit (2 ^ 64)) (nat_lt queue (2 ^ 32) && (nat_lt priority (2 ^ 8) && (is_who by && nat_le (length payload) 65535))) h in
-    let b = and_parts (nat_lt queue (2 ^ 32)) (nat_lt priority (2 ^ 8) && (is_who by && nat_le (length payload) 65535)) a.1 in
+    let a = and_parts (nat_lt unit (2 ^ 64))
+    (nat_lt queue (2 ^ 32) && (nat_lt priority (2 ^ 8) && (is_who by && nat_le (length payload) 65535))) h in
+    let b = and_parts (nat_lt queue (2 ^ 32)) (nat_lt priority (2 ^ 8) && (is_who by && nat_le (length payload) 65535))
+    a.1 in
     let c = and_parts (nat_lt priority (2 ^ 8)) (is_who by && nat_le (length payload) 65535) b.1 in
-    let d = and_parts (is_who by) (nat_le (length payload) 65535) c.1 in
-    (ltb-true unit (2 ^ 64) a.0, ltb-true queue (2 ^ 32) b.0, ltb-true priority (2 ^ 8) c.0, who_passes by d.0, leb-true (length payload) 65535 d.1)
+    let d = and_parts (is_who by) (nat_le (length payload) 65535) c.1 in (
+      ltb-true unit (2 ^ 64) a.0,
+      ltb-true queue (2 ^ 32) b.0,
+      ltb-true priority (2 ^ 8) c.0,
+      who_passes by d.0,
+      leb-true (length payload) 65535 d.1,
+    )
 passes version (Dequeue unit queue by) h =
     let a = and_parts (nat_lt unit (2 ^ 64)) (nat_lt queue (2 ^ 32) && is_who by) h in
     let b = and_parts (nat_lt queue (2 ^ 32)) (is_who by) a.1 in
@@ -111,17 +149,24 @@ passes version (Commit unit) h = ltb-true unit (2 ^ 64) h
 passes version (Abort unit) h = ltb-true unit (2 ^ 64) h
 passes version (Checkpoint bytes) h = leb-true (length bytes) 268435455 h
 passes One (Kill queue element) h = absurd cc
-passes Two (Kill queue element) h = let a = and_parts (nat_lt queue (2 ^ 32)) (nat_lt element (2 ^ 64)) h in (ltb-true queue (2 ^ 32) a.0, ltb-true element (2 ^ 64) a.1)
+passes Two (Kill queue element) h = let a = and_parts (nat_lt queue (2 ^ 32)) (nat_lt element (2 ^ 64)) h in
+    (ltb-true queue (2 ^ 32) a.0, ltb-true element (2 ^ 64) a.1)
 
-pub all_pass : (version : Version) (rs : List Record) → list_all (is_record version) rs ≡ true → AllByRecursion (IsRecord version) rs
+pub all_pass : (version : Version) (rs : List Record) → list_all (is_record version) rs ≡ true
+    → AllByRecursion (IsRecord version) rs
 all_pass version [] h = tt
-all_pass version (r ∷ rs) h = let both = and_parts (is_record version r) (list_all (is_record version) rs) h in (passes version r both.0, all_pass version rs both.1)
+all_pass version (r ∷ rs) h = let both = and_parts (is_record version r) (list_all (is_record version) rs) h in
+    (passes version r both.0, all_pass version rs both.1)
 
-pub log_says : (version : Version) (rs : List Record) (text : List ℕ) → list_all (is_record version) rs ≡ true → all_lawful version empty rs ≡ true → nat_le (40 + size rs) log_limit ≡ true
+pub log_says : (version : Version) (rs : List Record) (text : List ℕ) → list_all (is_record version) rs ≡ true
+    → all_lawful version empty rs ≡ true → nat_le (40 + size rs) log_limit ≡ true
     → text_made (restarted (run empty rs) 0 (40 + size rs) (Ends Whole)) ≡ text → IsReport (log_of version rs) text
 log_says version rs text are lawful short made =
-    let made_of : text_made (restarted (run empty rs) 0 (length (log_of version rs)) (Ends Whole)) ≡ text = ap (λ (n : ℕ). text_made (restarted (run empty rs) 0 n (Ends Whole))) (log_size version rs) ∙ made in
-    subst (IsReport (log_of version rs)) made_of (front_says (log_of version rs) version rs [] (Ends Whole) (whole_front version rs (all_pass version rs are) lawful (leb-true (40 + size rs) log_limit short)) refl)
+    let made_of : text_made (restarted (run empty rs) 0 (length (log_of version rs)) (Ends Whole)) ≡ text =
+    ap (λ (n : ℕ). text_made (restarted (run empty rs) 0 n (Ends Whole))) (log_size version rs) ∙ made in
+    subst (IsReport (log_of version rs)) made_of
+    (front_says (log_of version rs) version rs [] (Ends Whole)
+    (whole_front version rs (all_pass version rs are) lawful (leb-true (40 + size rs) log_limit short)) refl)
 
 pub worked_logs : WorkedLogs
 unfolding size is_who is_record digits
@@ -148,8 +193,12 @@ worked_logs = record {
 }
 
 -- where a record is not lawful, the front ends before it
-unlawful_says : (version : Version) (rs : List Record) (r : Record) (after : List Record) (text : List ℕ) → list_all (is_record version) (rs ++ r ∷ []) ≡ true → all_lawful version empty rs ≡ true → is_lawful version (run empty rs) r ≡ false
-    → nat_le (40 + size (rs ++ r ∷ after)) log_limit ≡ true → text_made (restarted (run empty rs) (size (r ∷ after)) (40 + size (rs ++ r ∷ after)) Law) ≡ text → IsReport (log_of version (rs ++ r ∷ after)) text
+unlawful_says : (version : Version) (rs : List Record) (r : Record) (after : List Record) (text : List ℕ)
+    → list_all (is_record version) (rs ++ r ∷ []) ≡ true → all_lawful version empty rs ≡ true
+    → is_lawful version (run empty rs) r ≡ false
+    → nat_le (40 + size (rs ++ r ∷ after)) log_limit ≡ true
+    → text_made (restarted (run empty rs) (size (r ∷ after)) (40 + size (rs ++ r ∷ after)) Law) ≡ text
+    → IsReport (log_of version (rs ++ r ∷ after)) text
 unlawful_says version rs r after text are lawful not_lawful short made =
     let start = sha256 (magic version) in
     let p = last_of start rs in
@@ -160,14 +209,18 @@ unlawful_says version rs r after text are lawful not_lawful short made =
     let more = frames_of (digest p (body_of r)) after in
     let fit = body_fits version r all.1.0 in
     let body_is : body_in rest ≡ body_of r = (frame_reads p (body_of r) more fit).body_is in
-    let ends : IsWhy version (run empty rs) p rest Law = (right_at p (body_of r) more fit, r, (all.1.0, body_is), not_lawful) in
+    let ends : IsWhy version (run empty rs) p rest Law =
+    (right_at p (body_of r) more fit, r, (all.1.0, body_is), not_lawful) in
     let front : IsFront b version rs rest = record {
       short = omega (arith, log_size version (rs ++ r ∷ after), leb-true (40 + size (rs ++ r ∷ after)) log_limit short);
       bytes = bytes;
       whole = refl;
-      longest = front_stops version empty start bytes rest rs Law (record { records = all.0; lawful = lawful; whole = frames_of_join start rs (r ∷ after) }) ends;
+      longest = front_stops version empty start bytes rest rs Law
+          (record { records = all.0; lawful = lawful; whole = frames_of_join start rs (r ∷ after) }) ends;
     } in
-    let made_of : text_made (restarted (run empty rs) (length rest) (length b) Law) ≡ text = (λ i. text_made (restarted (run empty rs) (frames_size p (r ∷ after) i) (log_size version (rs ++ r ∷ after) i) Law)) ∙ made in
+    let made_of : text_made (restarted (run empty rs) (length rest) (length b) Law) ≡ text =
+    (λ i. text_made (restarted (run empty rs) (frames_size p (r ∷ after) i)
+    (log_size version (rs ++ r ∷ after) i) Law)) ∙ made in
     subst (IsReport b) made_of (front_says b version rs rest Law front ends)
 
 pub unlawful_logs : UnlawfulLogs
@@ -176,24 +229,49 @@ unlawful_logs = record {
   commit_of_nobody = unlawful_says One (take 1 unlawful_log) (Commit 7) (Begin 1 ∷ []) _ refl refl refl refl refl;
   unit_zero = unlawful_says One [] (Begin 0) [] _ refl refl refl refl refl;
   error_queue_undefined = unlawful_says One [] (Define 1 0 (codes "a")) [] _ refl refl refl refl refl;
-  error_of_error = unlawful_says One (take 2 error_of_error_log) (Define 1 1 jobs) (drop 3 error_of_error_log) _ refl refl refl refl refl;
+  error_of_error = unlawful_says One (take 2 error_of_error_log) (Define 1 1 jobs)
+      (drop 3 error_of_error_log) _ refl refl refl refl refl;
   kill = unlawful_says Two [] (Kill 0 0) [] _ refl refl refl refl refl;
 }
 
 -- the checkpoint inside a unit is true
-pub true_log : (after : List Record) → list_all (is_record One) (before_the_checkpoint ++ Checkpoint (state_bytes (run empty before_the_checkpoint)) ∷ after) ≡ true → all_lawful One empty (before_the_checkpoint ++ Checkpoint (state_bytes (run empty before_the_checkpoint)) ∷ after) ≡ true
-    → nat_le (40 + size (before_the_checkpoint ++ Checkpoint (state_bytes (run empty before_the_checkpoint)) ∷ after)) log_limit ≡ true → TrueAt (log_of One (before_the_checkpoint ++ Checkpoint (state_bytes (run empty before_the_checkpoint)) ∷ after)) 447
+pub true_log : (after : List Record)
+    → list_all (is_record One)
+    (before_the_checkpoint ++ Checkpoint (state_bytes (run empty before_the_checkpoint)) ∷ after) ≡ true
+    → all_lawful One empty (before_the_checkpoint ++ Checkpoint (state_bytes (run empty before_the_checkpoint)) ∷ after)
+    ≡ true
+    → nat_le (40 + size (before_the_checkpoint ++ Checkpoint (state_bytes (run empty before_the_checkpoint)) ∷ after))
+    log_limit ≡ true
+    → TrueAt (log_of One (before_the_checkpoint ++ Checkpoint (state_bytes (run empty before_the_checkpoint))
+    ∷ after)) 447
 unfolding size
 true_log after are lawful short =
-    let rs = before_the_checkpoint ++ Checkpoint (state_bytes (run empty before_the_checkpoint)) ∷ after in
-    (before_the_checkpoint, state_bytes (run empty before_the_checkpoint), record { version = One; after = after; rest = []; front = whole_front One rs (all_pass One rs are) lawful (leb-true (40 + size rs) log_limit short); there = sym (log_size One before_the_checkpoint) }, refl)
+    let rs = before_the_checkpoint ++ Checkpoint (state_bytes (run empty before_the_checkpoint)) ∷ after in (
+      before_the_checkpoint,
+      state_bytes (run empty before_the_checkpoint),
+      record {
+        version = One;
+        after = after;
+        rest = [];
+        front =
+            whole_front One rs (all_pass One rs are) lawful (leb-true (40 + size rs) log_limit short);
+        there =
+            sym (log_size One before_the_checkpoint);
+      },
+      refl,
+    )
 
 pub worked_checkpoint : WorkedCheckpoint
 unfolding size is_who is_record digits
 worked_checkpoint = record {
-  a = let (r, restart, text) = worked_logs.checkpoint_true in (r, true_is_same (log_of One checkpoint_log) 447 r (true_log (Commit 2 ∷ []) refl refl refl) restart, text);
-  b = let (r, restart, text) = worked_logs.checkpoint_cut_off in (r, true_is_same (log_of One checkpoint_cut_log) 447 r (true_log [] refl refl refl) restart, text);
+  a = let (r, restart, text) = worked_logs.checkpoint_true in
+      (r, true_is_same (log_of One checkpoint_log) 447 r (true_log (Commit 2 ∷ []) refl refl refl) restart, text);
+  b = let (r, restart, text) = worked_logs.checkpoint_cut_off in
+      (r, true_is_same (log_of One checkpoint_cut_log) 447 r (true_log [] refl refl refl) restart, text);
 }
 
-pub front_has_report : (b : List ℕ) (version : Version) (rs : List Record) (rest : List ℕ) (why : Why) → IsFront b version rs rest → IsWhy version (run empty rs) (last_of (sha256 (magic version)) rs) rest why → (text : List ℕ) × IsReport b text
-front_has_report b version rs rest why front ends = (text_made (restarted (run empty rs) (length rest) (length b) why), front_says b version rs rest why front ends)
+pub front_has_report : (b : List ℕ) (version : Version) (rs : List Record) (rest : List ℕ) (why : Why)
+    → IsFront b version rs rest → IsWhy version (run empty rs) (last_of (sha256 (magic version)) rs) rest why
+    → (text : List ℕ) × IsReport b text
+front_has_report b version rs rest why front ends =
+    (text_made (restarted (run empty rs) (length rest) (length b) why), front_says b version rs rest why front ends)

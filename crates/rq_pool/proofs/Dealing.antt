@@ -1,8 +1,11 @@
 -- A seat that has taken nothing, and the lists that a room is made of.
-use Rattle.std.proofs.Common.{All, drop, reverse, zero, ◌≡◌, ℕ, suc, ◌+◌, ◌<◌, ◌≤◌, List, [], ◌∷◌, ◌++◌, Vec, length, get_or, take, map, replicate, sum_by, Some, slice_get, vec_items, vec_len, sym, refl, ap, ◌∙◌, arith}
+use Rattle.std.proofs.Common.{All, drop, reverse, zero, ◌≡◌, ℕ, suc, ◌+◌, ◌<◌, ◌≤◌, List, [], ◌∷◌, ◌++◌, Vec, length}
+use Rattle.std.proofs.Common.{get_or, take, map, replicate, sum_by, Some, slice_get, vec_items, vec_len, sym, refl, ap}
+use Rattle.std.proofs.Common.{◌∙◌, arith}
 use Rattle.std.specs.Global.{Global}
 use Rattle.std.specs.Vec.{with_items}
-use Rattle.std.proofs.lemmas.List.{length-map, length-replicate, with_items_is, take_more, replicate-append-replicate, map-append, reverse-append, nil_from_length}
+use Rattle.std.proofs.lemmas.List.{length-map, length-replicate, with_items_is, take_more, replicate-append-replicate}
+use Rattle.std.proofs.lemmas.List.{map-append, reverse-append, nil_from_length}
 use Rattle.std.proofs.lemmas.List.Sums.{sum_by-cons}
 use Rattle.std.proofs.lemmas.List.Folds.{sum_by-replicate}
 use Rattle.std.proofs.lemmas.Option.{slice_get_within, get_or_from_slice_get}
@@ -12,7 +15,8 @@ use Rattle.rq_pool.specs.declared.deque.DealRule.{DealRule}
 use Rattle.rq_pool.specs.declared.deck.Deck.{Deck}
 use Rattle.rq_pool.specs.Ledger.{size}
 use Rattle.rq_pool.specs.Passes.{parts_of}
-use Rattle.rq_pool.specs.Decks.{DeckId, list_in, deck_id, deck_list, owner_id, IsStocked, IsOpen, filled, owner_count, dealt_length}
+use Rattle.rq_pool.specs.Decks.{DeckId, list_in, deck_id, deck_list, owner_id, IsStocked, IsOpen, filled, owner_count}
+use Rattle.rq_pool.specs.Decks.{dealt_length}
 use Rattle.rq_pool.specs.declared.seat.Place.{Place}
 use Rattle.rq_pool.specs.declared.seat.Place.TheVariants.{Alone, Beside}
 use Rattle.rq_pool.specs.Holdings.{Holds}
@@ -21,67 +25,93 @@ use Rattle.rq_pool.specs.Rooms.{IsPlaceBeside}
 use Rattle.rq_pool.proofs.Taking.{get_map, map_map}
 use Rattle.rq_pool.proofs.Lists.{nothing_at, first_of_drop}
 
-pub begun : (ids : List DeckId) (number : ℕ) (deque : (ℕ × ℕ) × Global) (v : Share) (stolens : List (List ℕ)) (taken : List ℕ) → slice_get ids number ≡ Some (deque, v.dealt) → stolens ≡ replicate (length ids) []
+pub begun : (ids : List DeckId) (number : ℕ) (deque : (ℕ × ℕ) × Global) (v : Share) (stolens : List (List ℕ))
+    (taken : List ℕ) → slice_get ids number ≡ Some (deque, v.dealt) → stolens ≡ replicate (length ids) []
     → v.parts + length ids ≡ 256 → v.taken ≡ [] → taken ≡ [] → Holds (map list_in ids) number v stolens taken
-begun ids number deque v stolens taken own fresh parts none bare = let inside : number < length ids = slice_get_within ids number (deque, v.dealt) own in let count = length-map ids list_in in record {
-  numbered = omega arith;
-  dealt = get_map list_in ids number (deque, v.dealt) [] inside ∙ ap list_in (get_or_from_slice_get ids number (deque, v.dealt) (deque, v.dealt) own);
-  parts = omega arith;
-  same = ap length fresh ∙ length-replicate (length ids) [] ∙ sym count;
-  counts = λ h. (let t = ap (sum_by h) bare in let w = ap (sum_by h) none in let s = ap (sum_by (sum_by h)) fresh ∙ sum_by-replicate (sum_by h) (length ids) [] in omega arith);
-  within = λ h. (let w = ap (sum_by h) none in omega arith);
-  least = λ h j. (let s = ap (λ l. sum_by h (get_or l j [])) fresh ∙ ap (sum_by h) (nothing_at (length ids) j) in omega arith);
-  untouched = ap (λ l. get_or l number []) fresh ∙ nothing_at (length ids) number;
-}
+begun ids number deque v stolens taken own fresh parts none bare = let inside : number < length ids =
+    slice_get_within ids number (deque, v.dealt) own in let count = length-map ids list_in in record {
+      numbered = omega arith;
+      dealt = get_map list_in ids number (deque, v.dealt) [] inside
+          ∙ ap list_in (get_or_from_slice_get ids number (deque, v.dealt) (deque, v.dealt) own);
+      parts = omega arith;
+      same = ap length fresh ∙ length-replicate (length ids) [] ∙ sym count;
+      counts = λ h. (let t = ap (sum_by h) bare in let w = ap (sum_by h) none in let s =
+          ap (sum_by (sum_by h)) fresh ∙ sum_by-replicate (sum_by h) (length ids) [] in omega arith);
+      within = λ h. (let w = ap (sum_by h) none in omega arith);
+      least = λ h j. (let s = ap (λ l. sum_by h (get_or l j [])) fresh ∙ ap (sum_by h) (nothing_at (length ids) j) in
+          omega arith);
+      untouched = ap (λ l. get_or l number []) fresh ∙ nothing_at (length ids) number;
+    }
 
 -- the source of one deque more
-pub one_more_source : (ids done : List DeckId) (j : ℕ) (x : DeckId) → j < length ids → done ≡ take j ids → x ≡ get_or ids j x → done ++ x ∷ [] ≡ take (j + 1) ids
-one_more_source ids done j x inside e is = ap (λ l. l ++ x ∷ []) e ∙ ap (λ y. take j ids ++ y ∷ []) is ∙ sym (take_more ids j x inside)
+pub one_more_source : (ids done : List DeckId) (j : ℕ) (x : DeckId) → j < length ids → done ≡ take j ids
+    → x ≡ get_or ids j x → done ++ x ∷ [] ≡ take (j + 1) ids
+one_more_source ids done j x inside e is =
+    ap (λ l. l ++ x ∷ []) e ∙ ap (λ y. take j ids ++ y ∷ []) is ∙ sym (take_more ids j x inside)
 
-pub one_more_empty : (n : ℕ) (xss : List (List ℕ)) (xs : List ℕ) → xss ≡ replicate n [] → xs ≡ [] → xss ++ xs ∷ [] ≡ replicate (n + 1) []
-one_more_empty n xss xs e none = ap (λ l. l ++ xs ∷ []) e ∙ ap (λ x. replicate n [] ++ x ∷ []) none ∙ replicate-append-replicate n 1 []
+pub one_more_empty : (n : ℕ) (xss : List (List ℕ)) (xs : List ℕ) → xss ≡ replicate n [] → xs ≡ []
+    → xss ++ xs ∷ [] ≡ replicate (n + 1) []
+one_more_empty n xss xs e none = ap (λ l. l ++ xs ∷ []) e ∙ ap (λ x. replicate n [] ++ x ∷ []) none
+    ∙ replicate-append-replicate n 1 []
 
 -- the next owner is that of the next deque
-pub next_owner : (ids : List DeckId) (k : ℕ) (rest : List (Worker ℕ Global Share DealRule)) (owner : Worker ℕ Global Share DealRule) → drop k ids ≡ reverse (map owner_id (rest ++ owner ∷ []))
+pub next_owner : (ids : List DeckId) (k : ℕ) (rest : List (Worker ℕ Global Share DealRule))
+    (owner : Worker ℕ Global Share DealRule) → drop k ids ≡ reverse (map owner_id (rest ++ owner ∷ []))
     → (slice_get ids k ≡ Some (owner_id owner)) × (drop (suc k) ids ≡ reverse (map owner_id rest))
-next_owner ids k rest owner e = first_of_drop ids k (owner_id owner) (reverse (map owner_id rest)) (e ∙ ap reverse (map-append owner_id rest (owner ∷ [])) ∙ reverse-append (map owner_id rest) (owner_id owner ∷ []))
+next_owner ids k rest owner e = first_of_drop ids k (owner_id owner) (reverse (map owner_id rest))
+    (e ∙ ap reverse (map-append owner_id rest (owner ∷ [])) ∙ reverse-append (map owner_id rest) (owner_id owner ∷ []))
 
 -- each of the lists is no longer than all together
-pub each_short : (lists : List (Vec ℕ Global)) (n : ℕ) → size (map vec_items lists) ≤ n → (k : ℕ) (d : Vec ℕ Global) → k < length lists → length (get_or lists k d).items ≤ n
+pub each_short : (lists : List (Vec ℕ Global)) (n : ℕ) → size (map vec_items lists) ≤ n → (k : ℕ) (d : Vec ℕ Global)
+    → k < length lists → length (get_or lists k d).items ≤ n
 each_short [] n all k d lt = absurd (omega arith)
 each_short (v ∷ vs) n all zero d lt = omega (arith, sum_by-cons length v.items (map vec_items vs))
-each_short (v ∷ vs) n all (suc k) d lt = each_short vs n (omega (arith, sum_by-cons length v.items (map vec_items vs))) k d (omega arith)
+each_short (v ∷ vs) n all (suc k) d lt =
+    each_short vs n (omega (arith, sum_by-cons length v.items (map vec_items vs))) k d (omega arith)
 
 -- a deck whose passes are all dealt is ready to take them back
 pub opened : (n : ℕ) (deck : Deck) → IsStocked n 0 deck → IsOpen n 0 deck
-opened n deck s = let bare : deck.passes.items ≡ [] = nil_from_length deck.passes.items (sym deck.passes.ok.0 ∙ s.count) in record {
-  passes = λ k d lt. absurd (let l = ap length bare in omega arith);
-  parts = ap (sum_by parts_of) bare;
-  count = s.count;
-  reserved = s.reserved;
-  owner = λ o e. absurd (let c = ap owner_count (sym s.owner ∙ e) in omega arith);
-}
+opened n deck s = let bare : deck.passes.items ≡ [] =
+    nil_from_length deck.passes.items (sym deck.passes.ok.0 ∙ s.count) in record {
+      passes = λ k d lt. absurd (let l = ap length bare in omega arith);
+      parts = ap (sum_by parts_of) bare;
+      count = s.count;
+      reserved = s.reserved;
+      owner = λ o e. absurd (let c = ap owner_count (sym s.owner ∙ e) in omega arith);
+    }
 
 pub none_filled : (n : ℕ) (decks : List Deck) → All (IsStocked n 0) decks → sum_by filled decks ≡ 0
 none_filled n [] all = refl
-none_filled n (d ∷ ds) all = let none = ap owner_count (all 0 d (omega arith)).owner in omega (arith, sum_by-cons filled d ds, none_filled n ds (λ k e lt. all (suc k) e (omega arith)))
+none_filled n (d ∷ ds) all = let none = ap owner_count (all 0 d (omega arith)).owner in
+    omega (arith, sum_by-cons filled d ds, none_filled n ds (λ k e lt. all (suc k) e (omega arith)))
 
 -- the lists of the deques are those that were dealt
 pub same_lists : (decks : List Deck) → map list_in (map deck_id decks) ≡ map deck_list decks
 same_lists decks = map_map deck_id list_in decks
 
 -- there are as many of them
-pub as_many : (decks : List Deck) (lists : Vec (Vec ℕ Global) Global) → map deck_list decks ≡ map vec_items lists.items → length decks ≡ vec_len lists
-as_many decks lists e = sym (length-map decks deck_list) ∙ ap length e ∙ length-map lists.items vec_items ∙ sym lists.ok.0
+pub as_many : (decks : List Deck) (lists : Vec (Vec ℕ Global) Global) → map deck_list decks ≡ map vec_items lists.items
+    → length decks ≡ vec_len lists
+as_many decks lists e = sym (length-map decks deck_list) ∙ ap length e ∙ length-map lists.items vec_items
+    ∙ sym lists.ok.0
 
 -- decks that were lent as a slice are the slice, where each is still the deck that it was
-pub as_lent : (decks : Vec Deck Global) (new : List Deck) → map deck_id new ≡ map deck_id decks.items → (with_items decks new).items ≡ new
-as_lent decks new same = with_items_is decks new (let s = ap length same in let l = decks.ok.0 in omega (arith, length-map new deck_id, length-map decks.items deck_id))
+pub as_lent : (decks : Vec Deck Global) (new : List Deck) → map deck_id new ≡ map deck_id decks.items
+    → (with_items decks new).items ≡ new
+as_lent decks new same = with_items_is decks new
+    (let s = ap length same in let l = decks.ok.0 in
+    omega (arith, length-map new deck_id, length-map decks.items deck_id))
 
 -- how many numbers all decks were dealt
 pub dealt_total : (decks : List Deck) → sum_by dealt_length decks ≡ size (map list_in (map deck_id decks))
 dealt_total [] = refl
-dealt_total (d ∷ ds) = omega (arith, sum_by-cons dealt_length d ds, dealt_total ds, sum_by-cons length d.list.items (map list_in (map deck_id ds)))
+dealt_total (d ∷ ds) =
+    omega (
+      arith,
+      sum_by-cons dealt_length d ds,
+      dealt_total ds,
+      sum_by-cons length d.list.items (map list_in (map deck_id ds)),
+    )
 
 -- a seat of a room reaches the deques of the room
 pub reached_at : (ids : List DeckId) (place : Place) → IsPlaceBeside ids place → reach_at place ≡ ids

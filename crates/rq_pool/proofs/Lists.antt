@@ -1,44 +1,54 @@
 -- Facts of lists that std does not have.
-use Rattle.std.proofs.Common.{◌≡◌, ℕ, zero, suc, ◌-◌, ◌<◌, List, [], ◌∷◌, ◌++◌, All, length, get_or, drop, map, reverse, replicate, sum, sum_by, Some, slice_get, sym, refl, ap, ◌∙◌, subst, arith, append_assoc}
+use Rattle.std.proofs.Common.{◌≡◌, ℕ, zero, suc, ◌-◌, ◌<◌, List, [], ◌∷◌, ◌++◌, All, length, get_or, drop, map, reverse}
+use Rattle.std.proofs.Common.{replicate, sum, sum_by, Some, slice_get, sym, refl, ap, ◌∙◌, subst, arith, append_assoc}
 use mathlib.Core.Logic.{dite}
 use native.Mathlib.Decide.{ℕ_discrete}
-use Rattle.std.proofs.lemmas.List.{map-append, reverse-append, length-append, length-reverse, get_or-reverse, get_or_push, get_or_append_left}
+use Rattle.std.proofs.lemmas.List.{map-append, reverse-append, length-append, length-reverse, get_or-reverse}
+use Rattle.std.proofs.lemmas.List.{get_or_push, get_or_append_left}
 use Rattle.std.proofs.lemmas.List.Sums.{sum_by-cons, sum-map}
 use Rattle.std.proofs.lemmas.List.Sorted.{sum_by-IsPermutation, IsPermutation-reverse}
 
 module _ {X : Type 0} (P : X → Type 0) (xs : List X) where
   pub all_reverse : All P xs → All P (reverse xs)
-  all_reverse all k d lt = let l = length-reverse xs in subst P (sym (get_or-reverse xs k d (omega arith))) (all (length xs - 1 - k) d (omega arith))
+  all_reverse all k d lt = let l = length-reverse xs in
+      subst P (sym (get_or-reverse xs k d (omega arith))) (all (length xs - 1 - k) d (omega arith))
 
   pub all_last : (x : X) → All P (xs ++ x ∷ []) → P x
-  all_last x all = subst P (get_or_push xs x x (length xs) refl) (all (length xs) x (omega (arith, length-append xs (x ∷ []))))
+  all_last x all = subst P (get_or_push xs x x (length xs) refl)
+      (all (length xs) x (omega (arith, length-append xs (x ∷ []))))
 
   pub all_front : (x : X) → All P (xs ++ x ∷ []) → All P xs
-  all_front x all k d lt = subst P (get_or_append_left xs (x ∷ []) d k lt) (all k d (omega (arith, length-append xs (x ∷ []))))
+  all_front x all k d lt = subst P (get_or_append_left xs (x ∷ []) d k lt)
+      (all k d (omega (arith, length-append xs (x ∷ []))))
 
   pub all_push : (x : X) → All P xs → P x → All P (xs ++ x ∷ [])
   all_push x all mine k d lt = dite (ℕ_discrete k (length xs))
       (λ e. subst P (sym (get_or_push xs x d k (sym e))) mine)
-      (λ ne. let l = length-append xs (x ∷ []) in let less : k < length xs = omega arith in subst P (sym (get_or_append_left xs (x ∷ []) d k less)) (all k d less))
+      (λ ne. let l = length-append xs (x ∷ []) in let less : k < length xs = omega arith in
+      subst P (sym (get_or_append_left xs (x ∷ []) d k less)) (all k d less))
 
 pub map-reverse : {A B : Type 0} (f : A → B) (xs : List A) → map f (reverse xs) ≡ reverse (map f xs)
 map-reverse f [] = refl
-map-reverse f (x ∷ xs) = ap (map f) (reverse-append (x ∷ []) xs) ∙ map-append f (reverse xs) (x ∷ []) ∙ ap (λ l. l ++ f x ∷ []) (map-reverse f xs) ∙ sym (reverse-append (f x ∷ []) (map f xs))
+map-reverse f (x ∷ xs) = ap (map f) (reverse-append (x ∷ []) xs) ∙ map-append f (reverse xs) (x ∷ [])
+    ∙ ap (λ l. l ++ f x ∷ []) (map-reverse f xs) ∙ sym (reverse-append (f x ∷ []) (map f xs))
 
 pub sum_by-reverse : {A : Type 0} (h : A → ℕ) (xs : List A) → sum_by h (reverse xs) ≡ sum_by h xs
 sum_by-reverse h xs = sum_by-IsPermutation h xs (reverse xs) (IsPermutation-reverse xs)
 
 pub sum_by-map : {A B : Type 0} (f : B → ℕ) (g : A → B) (xs : List A) → sum_by f (map g xs) ≡ sum_by (λ x. f (g x)) xs
 sum_by-map f g [] = refl
-sum_by-map f g (x ∷ xs) = omega (arith, sum_by-cons f (g x) (map g xs), sum_by-cons (λ y. f (g y)) x xs, sum_by-map f g xs)
+sum_by-map f g (x ∷ xs) =
+    omega (arith, sum_by-cons f (g x) (map g xs), sum_by-cons (λ y. f (g y)) x xs, sum_by-map f g xs)
 
 -- the sums of lists whose values under f are the same
 pub sum_by_same : {A : Type 0} (f : A → ℕ) (xs ys : List A) → map f xs ≡ map f ys → sum_by f xs ≡ sum_by f ys
 sum_by_same f xs ys e = sym (sum-map f xs) ∙ ap sum e ∙ sum-map f ys
 
 -- one more at the front of what is to come is one more behind
-pub one_more_behind : {A : Type 0} (before : List A) (x : A) (after : List A) → (before ++ x ∷ []) ++ reverse after ≡ before ++ reverse (after ++ x ∷ [])
-one_more_behind before x after = append_assoc before (x ∷ []) (reverse after) ∙ ap (λ l. before ++ l) (sym (reverse-append after (x ∷ [])))
+pub one_more_behind : {A : Type 0} (before : List A) (x : A) (after : List A)
+    → (before ++ x ∷ []) ++ reverse after ≡ before ++ reverse (after ++ x ∷ [])
+one_more_behind before x after = append_assoc before (x ∷ []) (reverse after)
+    ∙ ap (λ l. before ++ l) (sym (reverse-append after (x ∷ [])))
 
 pub nothing_at : {A : Type 0} (n j : ℕ) → get_or (replicate {A = List A} n []) j [] ≡ []
 nothing_at zero j = refl
@@ -46,7 +56,8 @@ nothing_at (suc n) zero = refl
 nothing_at (suc n) (suc j) = nothing_at n j
 
 -- what stands first of what is dropped to stands there
-pub first_of_drop : {A : Type 0} (xs : List A) (k : ℕ) (y : A) (ys : List A) → drop k xs ≡ y ∷ ys → (slice_get xs k ≡ Some y) × (drop (suc k) xs ≡ ys)
+pub first_of_drop : {A : Type 0} (xs : List A) (k : ℕ) (y : A) (ys : List A) → drop k xs ≡ y ∷ ys
+    → (slice_get xs k ≡ Some y) × (drop (suc k) xs ≡ ys)
 first_of_drop [] zero y ys e = absurd (cc)
 first_of_drop [] (suc k) y ys e = absurd (cc)
 first_of_drop (x ∷ xs) zero y ys e = let head : x ≡ y = cc in let tail : xs ≡ ys = cc in (ap Some head, tail)

@@ -1,5 +1,7 @@
 -- What a take changes of what a seat has.
-use Rattle.std.proofs.Common.{◌≡◌, ◌≢◌, ℕ, zero, suc, ◌+◌, ◌<◌, ◌≤◌, List, [], ◌∷◌, ◌++◌, length, get_or, set, map, sum_by, Bool, true, false, T, cond, ◌==◌, sym, refl, ap, ◌∙◌, subst, arith, length-set, get_or-set_same, get_or-set_other}
+use Rattle.std.proofs.Common.{◌≡◌, ◌≢◌, ℕ, zero, suc, ◌+◌, ◌<◌, ◌≤◌, List, [], ◌∷◌, ◌++◌, length, get_or, set, map}
+use Rattle.std.proofs.Common.{sum_by, Bool, true, false, T, cond, ◌==◌, sym, refl, ap, ◌∙◌, subst, arith, length-set}
+use Rattle.std.proofs.Common.{get_or-set_same, get_or-set_other}
 use mathlib.Core.Logic.{dite}
 use native.Mathlib.Decide.{ℕ_discrete}
 use Rattle.std.proofs.Math.Dec.{eqb_refl}
@@ -12,7 +14,8 @@ use Rattle.rq_pool.proofs.Rules.{length_sum}
 
 module _ (lists : List (List ℕ)) (number : ℕ) where
   -- the owner popped x
-  pub popped : (v w : Share) (stolens : List (List ℕ)) (taken : List ℕ) (x : ℕ) → Holds lists number v stolens taken → Taken v (x ∷ []) w → Holds lists number w stolens (taken ++ x ∷ [])
+  pub popped : (v w : Share) (stolens : List (List ℕ)) (taken : List ℕ) (x : ℕ) → Holds lists number v stolens taken
+      → Taken v (x ∷ []) w → Holds lists number w stolens (taken ++ x ∷ [])
   popped v w stolens taken x s t = subst (λ u. Holds lists number u stolens (taken ++ x ∷ [])) (sym t.0) (record {
     numbered = s.numbered;
     dealt = s.dealt;
@@ -25,43 +28,80 @@ module _ (lists : List (List ℕ)) (number : ℕ) where
   })
 
   -- what was stolen from the deque j is now ys, which is as before with xs
-  pub stole : (v : Share) (stolens : List (List ℕ)) (taken xs ys : List ℕ) (j : ℕ) → Holds lists number v stolens taken → j ≢ number → j < length stolens → ys ≡ get_or stolens j [] ++ xs → ((h : ℕ → ℕ) → sum_by h ys ≤ sum_by h (get_or lists j []))
+  pub stole : (v : Share) (stolens : List (List ℕ)) (taken xs ys : List ℕ) (j : ℕ) → Holds lists number v stolens taken
+      → j ≢ number → j < length stolens → ys ≡ get_or stolens j [] ++ xs
+      → ((h : ℕ → ℕ) → sum_by h ys ≤ sum_by h (get_or lists j []))
       → Holds lists number v (set stolens j ys) (taken ++ xs)
   stole v stolens taken xs ys j s other inside is less = record {
     numbered = s.numbered;
     dealt = s.dealt;
     parts = s.parts;
     same = length-set stolens j ys ∙ s.same;
-    counts = λ h. (let c = s.counts h in let e = ap (sum_by h) is in omega (arith, sum_by-append h taken xs, sum_by-append h (get_or stolens j []) xs, sum_by-set (sum_by h) stolens j ys [] inside));
+    counts = λ h. (let c = s.counts h in let e = ap (sum_by h) is in
+        omega (
+          arith,
+          sum_by-append h taken xs,
+          sum_by-append h (get_or stolens j []) xs,
+          sum_by-set (sum_by h) stolens j ys [] inside,
+        ));
     within = s.within;
     least = λ h k. dite (ℕ_discrete k j)
-        (λ e. subst (λ (m : ℕ). sum_by h (get_or (set stolens j ys) m []) ≤ sum_by h (get_or lists m [])) (sym e) (subst (λ (l : List ℕ). sum_by h l ≤ sum_by h (get_or lists j [])) (sym (get_or-set_same stolens j ys [] inside)) (less h)))
-        (λ ne. subst (λ (l : List ℕ). sum_by h l ≤ sum_by h (get_or lists k [])) (sym (get_or-set_other stolens j k ys [] ne)) (s.least h k));
+        (λ e. subst (λ (m : ℕ). sum_by h (get_or (set stolens j ys) m []) ≤ sum_by h (get_or lists m [])) (sym e)
+        (subst (λ (l : List ℕ). sum_by h l ≤ sum_by h (get_or lists j []))
+        (sym (get_or-set_same stolens j ys [] inside)) (less h)))
+        (λ ne. subst (λ (l : List ℕ). sum_by h l ≤ sum_by h (get_or lists k []))
+        (sym (get_or-set_other stolens j k ys [] ne)) (s.least h k));
     untouched = get_or-set_other stolens j number ys [] (λ e. other (sym e)) ∙ s.untouched;
   }
 
 module _ (h : ℕ → ℕ) where
   -- each of the ss weighs no more than its like of the ls, and one has `extra` to spare
-  spread : (ss ls : List (List ℕ)) → length ss ≡ length ls → ((j : ℕ) → sum_by h (get_or ss j []) ≤ sum_by h (get_or ls j [])) → sum_by (sum_by h) ss ≤ sum_by (sum_by h) ls
+  spread : (ss ls : List (List ℕ)) → length ss ≡ length ls
+      → ((j : ℕ) → sum_by h (get_or ss j []) ≤ sum_by h (get_or ls j [])) → sum_by (sum_by h) ss ≤ sum_by (sum_by h) ls
   spread [] ls e least = omega arith
   spread (s ∷ ss) [] e least = absurd (omega arith)
-  spread (s ∷ ss) (l ∷ ls) e least = omega (arith, least 0, spread ss ls (omega arith) (λ j. least (suc j)), sum_by-cons (sum_by h) s ss, sum_by-cons (sum_by h) l ls)
+  spread (s ∷ ss) (l ∷ ls) e least =
+      omega (
+        arith,
+        least 0,
+        spread ss ls (omega arith) (λ j. least (suc j)),
+        sum_by-cons (sum_by h) s ss,
+        sum_by-cons (sum_by h) l ls,
+      )
 
-  spread_one : (ss ls : List (List ℕ)) (number extra : ℕ) → length ss ≡ length ls → ((j : ℕ) → sum_by h (get_or ss j []) ≤ sum_by h (get_or ls j [])) → number < length ls
-      → extra + sum_by h (get_or ss number []) ≤ sum_by h (get_or ls number []) → extra + sum_by (sum_by h) ss ≤ sum_by (sum_by h) ls
+  spread_one : (ss ls : List (List ℕ)) (number extra : ℕ) → length ss ≡ length ls
+      → ((j : ℕ) → sum_by h (get_or ss j []) ≤ sum_by h (get_or ls j [])) → number < length ls
+      → extra + sum_by h (get_or ss number []) ≤ sum_by h (get_or ls number [])
+      → extra + sum_by (sum_by h) ss ≤ sum_by (sum_by h) ls
   spread_one ss [] number extra e least inside one = absurd (omega arith)
   spread_one [] (l ∷ ls) number extra e least inside one = absurd (omega arith)
-  spread_one (s ∷ ss) (l ∷ ls) zero extra e least inside one = omega (arith, spread ss ls (omega arith) (λ j. least (suc j)), sum_by-cons (sum_by h) s ss, sum_by-cons (sum_by h) l ls)
-  spread_one (s ∷ ss) (l ∷ ls) (suc number) extra e least inside one = omega (arith, least 0, spread_one ss ls number extra (omega arith) (λ j. least (suc j)) (omega arith) one, sum_by-cons (sum_by h) s ss, sum_by-cons (sum_by h) l ls)
+  spread_one (s ∷ ss) (l ∷ ls) zero extra e least inside one =
+      omega (
+        arith,
+        spread ss ls (omega arith) (λ j. least (suc j)),
+        sum_by-cons (sum_by h) s ss,
+        sum_by-cons (sum_by h) l ls,
+      )
+  spread_one (s ∷ ss) (l ∷ ls) (suc number) extra e least inside one =
+      omega (
+        arith,
+        least 0,
+        spread_one ss ls number extra (omega arith) (λ j. least (suc j)) (omega arith) one,
+        sum_by-cons (sum_by h) s ss,
+        sum_by-cons (sum_by h) l ls,
+      )
 
 -- a seat has taken nothing more often than it was dealt
-bounded : (lists : List (List ℕ)) (number : ℕ) (v : Share) (stolens : List (List ℕ)) (taken : List ℕ) → Holds lists number v stolens taken → (h : ℕ → ℕ) → sum_by h taken ≤ sum_by (sum_by h) lists
-bounded lists number v stolens taken s h = let c = s.counts h in let u = ap (sum_by h) s.untouched in let d = ap (sum_by h) s.dealt in let w = s.within h in
+bounded : (lists : List (List ℕ)) (number : ℕ) (v : Share) (stolens : List (List ℕ)) (taken : List ℕ)
+    → Holds lists number v stolens taken → (h : ℕ → ℕ) → sum_by h taken ≤ sum_by (sum_by h) lists
+bounded lists number v stolens taken s h = let c = s.counts h in let u = ap (sum_by h) s.untouched in let d =
+    ap (sum_by h) s.dealt in let w = s.within h in
     omega (arith, spread_one h stolens lists number (sum_by h v.taken) s.same (s.least h) s.numbered (omega arith))
 
 lengths : (xss : List (List ℕ)) → sum_by (sum_by (λ _. 1)) xss ≡ size xss
 lengths [] = refl
-lengths (xs ∷ xss) = omega (arith, length_sum xs, lengths xss, sum_by-cons (sum_by (λ (_ : ℕ). 1)) xs xss, sum_by-cons length xs xss)
+lengths (xs ∷ xss) =
+    omega (arith, length_sum xs, lengths xss, sum_by-cons (sum_by (λ (_ : ℕ). 1)) xs xss, sum_by-cons length xs xss)
 
 counted : (b : Bool) → T b → cond {A = ℕ} b 1 0 ≡ 1
 counted true always = refl
@@ -71,12 +111,21 @@ itself_once : (x : ℕ) → cond {A = ℕ} (x == x) 1 0 ≡ 1
 itself_once x = counted (x == x) (eqb_refl x)
 
 -- so it has taken no more numbers than there are
-pub no_more : (lists : List (List ℕ)) (number : ℕ) (v : Share) (stolens : List (List ℕ)) (taken : List ℕ) → Holds lists number v stolens taken → length taken ≤ size lists
-no_more lists number v stolens taken s = omega (arith, bounded lists number v stolens taken s (λ _. 1), length_sum taken, lengths lists)
+pub no_more : (lists : List (List ℕ)) (number : ℕ) (v : Share) (stolens : List (List ℕ)) (taken : List ℕ)
+    → Holds lists number v stolens taken → length taken ≤ size lists
+no_more lists number v stolens taken s =
+    omega (arith, bounded lists number v stolens taken s (λ _. 1), length_sum taken, lengths lists)
 
 -- and what it took last is one of them
-pub of_the_deal : (lists : List (List ℕ)) (number : ℕ) (v : Share) (stolens : List (List ℕ)) (taken : List ℕ) (x : ℕ) → Holds lists number v stolens (taken ++ x ∷ []) → 0 < times_in x lists
-of_the_deal lists number v stolens taken x s = omega (arith, bounded lists number v stolens (taken ++ x ∷ []) s (λ y. cond (y == x) 1 0), itself_once x, sum_by_push (λ y. cond (y == x) 1 0) taken x)
+pub of_the_deal : (lists : List (List ℕ)) (number : ℕ) (v : Share) (stolens : List (List ℕ)) (taken : List ℕ) (x : ℕ)
+    → Holds lists number v stolens (taken ++ x ∷ []) → 0 < times_in x lists
+of_the_deal lists number v stolens taken x s =
+    omega (
+      arith,
+      bounded lists number v stolens (taken ++ x ∷ []) s (λ y. cond (y == x) 1 0),
+      itself_once x,
+      sum_by_push (λ y. cond (y == x) 1 0) taken x,
+    )
 
 module _ {A B : Type 0} (f : A → B) where
   pub map_same : (xs : List A) (j : ℕ) (y d : A) → f y ≡ f (get_or xs j d) → map f (set xs j y) ≡ map f xs

@@ -18,43 +18,65 @@ use Rattle.rq_model.proofs.WellFormedRuns.{sound}
 use Rattle.rq_queue.specs.Case.{IsCase, AreRising}
 
 places : (s : State) (r : Record) → AllByRecursion (λ (t : Transfer). t.move.place ≡ s.next) (transfers_at s r)
-places s (Abort u) = each_map (λ (_ : Element). ⊤) (λ (t : Transfer). t.move.place ≡ s.next) (λ e. record { from = e.home; move = record { place = s.next; element = moved (definition_at s.definitions e.home) e } }) (λ e h. refl)
+places s (Abort u) = each_map (λ (_ : Element). ⊤) (λ (t : Transfer). t.move.place ≡ s.next)
+    (λ e. record {
+      from = e.home;
+      move =
+          record { place = s.next; element = moved (definition_at s.definitions e.home) e };
+    }) (λ e h. refl)
     (filter (λ e. leaves (definition_at s.definitions e.home) u e) s.elements) (each_of (λ _. ⊤) (λ _. tt) _)
 places s r = tt
 
 since : (s : State) (rs : List Record) → AllByRecursion (λ (t : Transfer). s.next ≤ t.move.place) (transfers s rs)
 since s [] = tt
 since s (r ∷ rs) = each_append (λ (t : Transfer). s.next ≤ t.move.place) (transfers_at s r) (transfers (step s r) rs)
-    (each_weaker (λ (t : Transfer). t.move.place ≡ s.next) (λ (t : Transfer). s.next ≤ t.move.place) (λ t h. omega arith) (transfers_at s r) (places s r))
-    (each_weaker (λ (t : Transfer). s.next + 1 ≤ t.move.place) (λ (t : Transfer). s.next ≤ t.move.place) (λ t h. omega arith) (transfers (step s r) rs) (since (step s r) rs))
+    (each_weaker (λ (t : Transfer). t.move.place ≡ s.next) (λ (t : Transfer). s.next ≤ t.move.place)
+    (λ t h. omega arith) (transfers_at s r) (places s r))
+    (each_weaker (λ (t : Transfer). s.next + 1 ≤ t.move.place) (λ (t : Transfer). s.next ≤ t.move.place)
+    (λ t h. omega arith) (transfers (step s r) rs) (since (step s r) rs))
 
 abbrev NoLater : Transfer → Transfer → Type 0
 NoLater t u = t.move.place ≤ u.move.place
 
 at_once : (n : ℕ) (ts : List Transfer) → AllByRecursion (λ (t : Transfer). t.move.place ≡ n) ts → Ordered NoLater ts
 at_once n [] h = tt
-at_once n (t ∷ ts) h = (each_weaker (λ (u : Transfer). u.move.place ≡ n) (λ (u : Transfer). t.move.place ≤ u.move.place) (λ u e. omega (arith, h.0)) ts h.1, at_once n ts h.1)
+at_once n (t ∷ ts) h = (
+  each_weaker (λ (u : Transfer). u.move.place ≡ n) (λ (u : Transfer). t.move.place ≤ u.move.place)
+      (λ u e. omega (arith, h.0)) ts h.1,
+  at_once n ts h.1,
+)
 
 rise : (s : State) (rs : List Record) → Ordered NoLater (transfers s rs)
 rise s [] = tt
-rise s (r ∷ rs) = ordered_append NoLater (transfers_at s r) (transfers (step s r) rs) (at_once s.next (transfers_at s r) (places s r)) (rise (step s r) rs)
-    (each_weaker (λ (t : Transfer). t.move.place ≡ s.next) (λ (t : Transfer). AllByRecursion (λ (u : Transfer). t.move.place ≤ u.move.place) (transfers (step s r) rs))
-    (λ t e. each_weaker (λ (u : Transfer). s.next + 1 ≤ u.move.place) (λ (u : Transfer). t.move.place ≤ u.move.place) (λ u l. omega arith) (transfers (step s r) rs) (since (step s r) rs))
+rise s (r ∷ rs) = ordered_append NoLater (transfers_at s r) (transfers (step s r) rs)
+    (at_once s.next (transfers_at s r) (places s r)) (rise (step s r) rs)
+    (each_weaker (λ (t : Transfer). t.move.place ≡ s.next)
+    (λ (t : Transfer). AllByRecursion (λ (u : Transfer). t.move.place ≤ u.move.place) (transfers (step s r) rs))
+    (λ t e. each_weaker (λ (u : Transfer). s.next + 1 ≤ u.move.place) (λ (u : Transfer). t.move.place ≤ u.move.place)
+    (λ u l. omega arith) (transfers (step s r) rs) (since (step s r) rs))
     (transfers_at s r) (places s r))
 
 pub arrivals_rise : (s : State) (rs : List Record) (q : ℕ) → AreRising (arrivals s rs q)
-arrivals_rise s rs q = ordered_map NoLater (λ (m n : Move). m.place ≤ n.place) (λ (t : Transfer). t.move) (λ t u h. h) (filter (λ t. t.move.element.home == q) (transfers s rs))
+arrivals_rise s rs q = ordered_map NoLater (λ (m n : Move). m.place ≤ n.place) (λ (t : Transfer). t.move) (λ t u h. h)
+    (filter (λ t. t.move.element.home == q) (transfers s rs))
     (ordered_filter NoLater (λ (t : Transfer). t.move.element.home == q) (transfers s rs) (rise s rs))
 
-pub redone_part : Projection → (version : Version) (s : State) (rs : List Record) (p : Part) (ops : List Op) (ms : List Move) → IsCase version s rs p ops ms → redone p ops ms ≡ part_of (run s rs) p.queue
-redone_part law version s rs p ops ms c = (λ i. redone (c.is_part i) (c.are_ops i) (c.are_arrivals i)) ∙ (law version s rs p.queue (sound s c.well) c.lawful).0
+pub redone_part : Projection → (version : Version) (s : State) (rs : List Record) (p : Part) (ops : List Op)
+    (ms : List Move) → IsCase version s rs p ops ms → redone p ops ms ≡ part_of (run s rs) p.queue
+redone_part law version s rs p ops ms c = (λ i. redone (c.is_part i) (c.are_ops i) (c.are_arrivals i))
+    ∙ (law version s rs p.queue (sound s c.well) c.lawful).0
 
-pub sent_moves : Projection → (version : Version) (s : State) (rs : List Record) (p : Part) (ops : List Op) (ms : List Move) → IsCase version s rs p ops ms → all_sent p ops ms ≡ moves s rs p.queue
-sent_moves law version s rs p ops ms c = (λ i. all_sent (c.is_part i) (c.are_ops i) (c.are_arrivals i)) ∙ (law version s rs p.queue (sound s c.well) c.lawful).1
+pub sent_moves : Projection → (version : Version) (s : State) (rs : List Record) (p : Part) (ops : List Op)
+    (ms : List Move) → IsCase version s rs p ops ms → all_sent p ops ms ≡ moves s rs p.queue
+sent_moves law version s rs p ops ms c = (λ i. all_sent (c.is_part i) (c.are_ops i) (c.are_arrivals i))
+    ∙ (law version s rs p.queue (sound s c.well) c.lawful).1
 
-pub goes_well : RedoGoesWell → (version : Version) (s : State) (rs : List Record) (p : Part) (ops : List Op) (ms : List Move) → IsCase version s rs p ops ms → GoesWell p ops ms
+pub goes_well : RedoGoesWell → (version : Version) (s : State) (rs : List Record) (p : Part) (ops : List Op)
+    (ms : List Move) → IsCase version s rs p ops ms → GoesWell p ops ms
 goes_well law version s rs p ops ms c =
-    let there : GoesWell (part_of (with_definitions s rs) p.queue) (touching s rs p.queue) (arrivals s rs p.queue) = law version s rs p.queue c.well c.lawful c.fits in
+    let there : GoesWell (part_of (with_definitions s rs) p.queue) (touching s rs p.queue) (arrivals s rs p.queue) =
+    law version s rs p.queue c.well c.lawful c.fits in
     subst (λ (q : Part). GoesWell q ops ms) (sym c.is_part)
     (subst (λ (os : List Op). GoesWell (part_of (with_definitions s rs) p.queue) os ms) (sym c.are_ops)
-    (subst (λ (ns : List Move). GoesWell (part_of (with_definitions s rs) p.queue) (touching s rs p.queue) ns) (sym c.are_arrivals) there))
+    (subst (λ (ns : List Move). GoesWell (part_of (with_definitions s rs) p.queue) (touching s rs p.queue) ns)
+    (sym c.are_arrivals) there))

@@ -1,5 +1,6 @@
 -- What is done to the notes of a queue.
-use Rattle.std.proofs.Common.{◌≡◌, ◌≢◌, ℕ, ◌<◌, ◌==◌, Bool, true, false, cond, not, ◌&&◌, ◌||◌, if◌then◌else◌, List, [], ◌∷◌, ◌++◌, Option, Some, None, map, refl, sym, ap, ◌∙◌, subst, arith, append_assoc}
+use Rattle.std.proofs.Common.{◌≡◌, ◌≢◌, ℕ, ◌<◌, ◌==◌, Bool, true, false, cond, not, ◌&&◌, ◌||◌, if◌then◌else◌, List, []}
+use Rattle.std.proofs.Common.{◌∷◌, ◌++◌, Option, Some, None, map, refl, sym, ap, ◌∙◌, subst, arith, append_assoc}
 use Rattle.std.specs.Cmp.{IsTotalOrder}
 use Rattle.std.specs.List.{filter, list_any, AllByRecursion}
 use Rattle.std.specs.Global.{Vec}
@@ -17,49 +18,75 @@ use Rattle.std.proofs.lemmas.List.Folds.{list_any-append}
 use Rattle.rq_model.specs.States.{Note, Registrant, put, is_note_of}
 use Rattle.rq_model.specs.Machine.{told, latest}
 use Rattle.rq_model.specs.WellFormed.{Ordered}
-use Rattle.rq_model.proofs.Lists.{by_cases, each_weaker, each_of, each_both, each_append, each_filter, each_passes, filter_all, filter_none, filter_same, filter_map_as}
+use Rattle.rq_model.proofs.Lists.{by_cases, each_weaker, each_of, each_both, each_append, each_filter, each_passes}
+use Rattle.rq_model.proofs.Lists.{filter_all, filter_none, filter_same, filter_map_as}
 use Rattle.rq_model.proofs.Merged.{ordered_append, ordered_filter}
 use Rattle.rq_state.proofs.InOrder.{ordered_weaker, ordered_map}
 use Rattle.rq_state.specs.Orders.{place_before}
-use Rattle.rq_queue.specs.Noted.{by_place, Apart, Rises, NoteEntry, AreByPlace, has_place, list_of, filed, is_own, has_own, left, Among, Drawn}
+use Rattle.rq_queue.specs.Noted.{by_place, Apart, Rises, NoteEntry, AreByPlace, has_place, list_of, filed, is_own}
+use Rattle.rq_queue.specs.Noted.{has_own, left, Among, Drawn}
 use Rattle.rq_queue.specs.declared.whose.Whose.{Whose}
-use Rattle.rq_queue.proofs.NotesInOrder.{put_in_any_order, each_back, each_front, each_filtered, filter_sorted, sorted_from, apart_from, apart_into}
+use Rattle.rq_queue.proofs.NotesInOrder.{put_in_any_order, each_back, each_front, each_filtered, filter_sorted}
+use Rattle.rq_queue.proofs.NotesInOrder.{sorted_from, apart_from, apart_into}
 use Rattle.rq_queue.proofs.Registered.{number_same}
 use Rattle.rq_queue.proofs.Roll.{removed, appended}
 
 -- A list that rises is by place.
 
-rises_put : (x : Note) (xs : List Note) → AllByRecursion (λ y. x.last.place < y.last.place) xs → put place_before x xs ≡ x ∷ xs
-rises_put x xs h = λ i. filter_none (λ y. place_before y x) xs (each_weaker (λ y. x.last.place < y.last.place) (λ y. place_before y x ≡ false) (λ y l. le-ltb y.last.place x.last.place (omega (arith, l))) xs h) i
-    ++ x ∷ filter_all (λ y. not (place_before y x)) xs (each_weaker (λ y. x.last.place < y.last.place) (λ y. not (place_before y x) ≡ true) (λ y l. ap not (le-ltb y.last.place x.last.place (omega (arith, l)))) xs h) i
+rises_put : (x : Note) (xs : List Note) → AllByRecursion (λ y. x.last.place < y.last.place) xs
+    → put place_before x xs ≡ x ∷ xs
+rises_put x xs h = λ i. filter_none (λ y. place_before y x) xs
+    (each_weaker (λ y. x.last.place < y.last.place) (λ y. place_before y x ≡ false)
+    (λ y l. le-ltb y.last.place x.last.place (omega (arith, l))) xs h) i
+    ++ x ∷ filter_all (λ y. not (place_before y x)) xs
+    (each_weaker (λ y. x.last.place < y.last.place) (λ y. not (place_before y x) ≡ true)
+    (λ y l. ap not (le-ltb y.last.place x.last.place (omega (arith, l)))) xs h) i
 
 pub rises_sorted : (xs : List Note) → Rises xs → by_place xs ≡ xs
 rises_sorted [] h = refl
 rises_sorted (x ∷ xs) h = ap (put place_before x) (rises_sorted xs h.1) ∙ rises_put x xs h.0
 
 pub rises_apart : (ns : List Note) → Rises ns → Apart ns
-rises_apart ns h = ordered_weaker (λ (a b : Note). a.last.place < b.last.place) (λ (a b : Note). a.last.place ≢ b.last.place) (λ a b l e. absurd (let no : ⊥ = omega (arith, l, e) in no)) ns h
+rises_apart ns h = ordered_weaker (λ (a b : Note). a.last.place < b.last.place)
+    (λ (a b : Note). a.last.place ≢ b.last.place) (λ a b l e. absurd (let no : ⊥ = omega (arith, l, e) in no)) ns h
 
 -- the notes of lines by place
 pub values_rise : (es : List NoteEntry) → AreByPlace es → Rises (values_of es)
-values_rise es h = ordered_map (λ (a b : Note). a.last.place < b.last.place) (λ (e : NoteEntry). e.1) es (through es h.placed h.rising)
+values_rise es h = ordered_map (λ (a b : Note). a.last.place < b.last.place) (λ (e : NoteEntry). e.1) es
+    (through es h.placed h.rising)
   where
-    through : (es : List NoteEntry) → AllByRecursion (λ (e : NoteEntry). e.0 ≡ e.1.last.place) es → Ordered (λ (a b : NoteEntry). a.0 < b.0) es → Ordered (λ (a b : NoteEntry). a.1.last.place < b.1.last.place) es
+    through : (es : List NoteEntry) → AllByRecursion (λ (e : NoteEntry). e.0 ≡ e.1.last.place) es
+        → Ordered (λ (a b : NoteEntry). a.0 < b.0) es
+        → Ordered (λ (a b : NoteEntry). a.1.last.place < b.1.last.place) es
     through [] p r = tt
-    through (x ∷ es) p r = (each_weaker (λ (e : NoteEntry). (x.0 < e.0) × (e.0 ≡ e.1.last.place)) (λ (e : NoteEntry). x.1.last.place < e.1.last.place) (λ e h. omega (arith, p.0, h.0, h.1)) es (each_both (λ (e : NoteEntry). x.0 < e.0) (λ (e : NoteEntry). e.0 ≡ e.1.last.place) es r.0 p.1), through es p.1 r.1)
+    through (x ∷ es) p r = (
+      each_weaker (λ (e : NoteEntry). (x.0 < e.0) × (e.0 ≡ e.1.last.place))
+          (λ (e : NoteEntry). x.1.last.place < e.1.last.place) (λ e h. omega (arith, p.0, h.0, h.1)) es
+          (each_both (λ (e : NoteEntry). x.0 < e.0) (λ (e : NoteEntry). e.0 ≡ e.1.last.place) es r.0 p.1),
+      through es p.1 r.1,
+    )
 
 pub filtered_by_place : (p : NoteEntry → Bool) (es : List NoteEntry) → AreByPlace es → AreByPlace (filter p es)
-filtered_by_place p es h = record { placed = each_filter (λ (e : NoteEntry). e.0 ≡ e.1.last.place) p es h.placed; rising = ordered_filter (λ (a b : NoteEntry). a.0 < b.0) p es h.rising }
+filtered_by_place p es h =
+    record {
+      placed = each_filter (λ (e : NoteEntry). e.0 ≡ e.1.last.place) p es h.placed;
+      rising =
+          ordered_filter (λ (a b : NoteEntry). a.0 < b.0) p es h.rising;
+    }
 
 -- One more, behind all others.
 
 is_less : (a b : ℕ) → a < b → nat_cmp a b ≡ Less
 is_less a b h = ap (λ t. cond t Less (cond (a == b) Equal Greater)) (lt-ltb a b h)
 
-pub added_last : (n : Note) (es : List NoteEntry) → AreByPlace es → AllByRecursion (λ (m : Note). m.last.place < n.last.place) (values_of es) → insert_entry nat_cmp es n.last.place n ≡ es ++ (n.last.place, n) ∷ []
+pub added_last : (n : Note) (es : List NoteEntry) → AreByPlace es
+    → AllByRecursion (λ (m : Note). m.last.place < n.last.place) (values_of es)
+    → insert_entry nat_cmp es n.last.place n ≡ es ++ (n.last.place, n) ∷ []
 added_last n es h l = appended nat_cmp nat_cmp_total n.last.place n es (less es h.placed l)
   where
-    less : (es : List NoteEntry) → AllByRecursion (λ (e : NoteEntry). e.0 ≡ e.1.last.place) es → AllByRecursion (λ (m : Note). m.last.place < n.last.place) (values_of es) → AllByRecursion (λ (e : NoteEntry). nat_cmp e.0 n.last.place ≡ Less) es
+    less : (es : List NoteEntry) → AllByRecursion (λ (e : NoteEntry). e.0 ≡ e.1.last.place) es
+        → AllByRecursion (λ (m : Note). m.last.place < n.last.place) (values_of es)
+        → AllByRecursion (λ (e : NoteEntry). nat_cmp e.0 n.last.place ≡ Less) es
     less [] p l = tt
     less (x ∷ es) p l = (is_less x.0 n.last.place (omega (arith, p.0, l.0)), less es p.1 l.1)
 
@@ -67,13 +94,18 @@ pub values_last : (n : Note) (es : List NoteEntry) → values_of (es ++ (n.last.
 values_last n [] = refl
 values_last n (x ∷ es) = ap (λ (ns : List Note). x.1 ∷ ns) (values_last n es)
 
-pub last_by_place : (n : Note) (es : List NoteEntry) → AreByPlace es → AllByRecursion (λ (m : Note). m.last.place < n.last.place) (values_of es) → AreByPlace (es ++ (n.last.place, n) ∷ [])
+pub last_by_place : (n : Note) (es : List NoteEntry) → AreByPlace es
+    → AllByRecursion (λ (m : Note). m.last.place < n.last.place) (values_of es)
+    → AreByPlace (es ++ (n.last.place, n) ∷ [])
 last_by_place n es h l = record {
   placed = each_append (λ (e : NoteEntry). e.0 ≡ e.1.last.place) es ((n.last.place, n) ∷ []) h.placed (refl, tt);
-  rising = ordered_append (λ (a b : NoteEntry). a.0 < b.0) es ((n.last.place, n) ∷ []) h.rising (tt, tt) (below es h.placed l);
+  rising = ordered_append (λ (a b : NoteEntry). a.0 < b.0) es ((n.last.place, n) ∷ []) h.rising (tt, tt)
+      (below es h.placed l);
 }
   where
-    below : (es : List NoteEntry) → AllByRecursion (λ (e : NoteEntry). e.0 ≡ e.1.last.place) es → AllByRecursion (λ (m : Note). m.last.place < n.last.place) (values_of es) → AllByRecursion (λ (a : NoteEntry). AllByRecursion (λ (b : NoteEntry). a.0 < b.0) ((n.last.place, n) ∷ [])) es
+    below : (es : List NoteEntry) → AllByRecursion (λ (e : NoteEntry). e.0 ≡ e.1.last.place) es
+        → AllByRecursion (λ (m : Note). m.last.place < n.last.place) (values_of es)
+        → AllByRecursion (λ (a : NoteEntry). AllByRecursion (λ (b : NoteEntry). a.0 < b.0) ((n.last.place, n) ∷ [])) es
     below [] p l = tt
     below (x ∷ es) p l = ((omega (arith, p.0, l.0), tt), below es p.1 l.1)
 
@@ -87,7 +119,8 @@ has_more : (p : ℕ) (xs ys : List ℕ) → has_place p xs ≡ true → has_plac
 has_more p xs ys h = list_any-append (λ q. q == p) xs ys ∙ ap (λ b. b || list_any (λ q. q == p) ys) h
 
 has_last : (p : ℕ) (xs : List ℕ) → has_place p (xs ++ p ∷ []) ≡ true
-has_last p xs = list_any-append (λ q. q == p) xs (p ∷ []) ∙ (ap (λ b. list_any (λ q. q == p) xs || (b || false)) (eq-eqb p p refl) ∙ or_true (list_any (λ q. q == p) xs))
+has_last p xs = list_any-append (λ q. q == p) xs (p ∷ [])
+    ∙ (ap (λ b. list_any (λ q. q == p) xs || (b || false)) (eq-eqb p p refl) ∙ or_true (list_any (λ q. q == p) xs))
 
 is_equal : (o : Ordering) → is_eq o ≡ true → o ≡ Equal
 is_equal Less h = absurd (false≢true h)
@@ -99,28 +132,51 @@ module _ {K : Type 0} (R : K → K → Ordering) (total : IsTotalOrder R) (key :
   abbrev pub IsFiled : List (K × Vec ℕ) → NoteEntry → Type 0
   IsFiled index e = has_place e.0 (filed R (key e.1) index) ≡ true
 
-  tied : (a b : K) (index : List (K × Vec ℕ)) → is_eq (R a b) ≡ true → lookup (is_at (R a)) index ≡ lookup (is_at (R b)) index
+  tied : (a b : K) (index : List (K × Vec ℕ)) → is_eq (R a b) ≡ true
+      → lookup (is_at (R a)) index ≡ lookup (is_at (R b)) index
   tied a b [] t = refl
-  tied a b (x ∷ index) t = λ i. cond (is_eq (total.congr a b x.0 (is_equal (R a b) t) i)) (Some x.1) (tied a b index t i)
+  tied a b (x ∷ index) t = λ i. cond (is_eq (total.congr a b x.0 (is_equal (R a b) t) i)) (Some x.1)
+      (tied a b index t i)
 
   -- a list of the key k that is one place longer
-  still_filed : (k : K) (p : ℕ) (old new : List (K × Vec ℕ)) → ((q : K) → filed R q new ≡ filed R q old ++ (if is_eq (R k q) then p ∷ [] else [])) → (es : List NoteEntry) → AllByRecursion (IsFiled old) es → AllByRecursion (IsFiled new) es
-  still_filed k p old new more es h = each_weaker (IsFiled old) (IsFiled new) (λ e f. ap (has_place e.0) (more (key e.1)) ∙ has_more e.0 (filed R (key e.1) old) (if is_eq (R k (key e.1)) then p ∷ [] else []) f) es h
+  still_filed : (k : K) (p : ℕ) (old new : List (K × Vec ℕ))
+      → ((q : K) → filed R q new ≡ filed R q old ++ (if is_eq (R k q) then p ∷ [] else [])) → (es : List NoteEntry)
+      → AllByRecursion (IsFiled old) es → AllByRecursion (IsFiled new) es
+  still_filed k p old new more es h =
+      each_weaker (IsFiled old) (IsFiled new)
+      (λ e f. ap (has_place e.0) (more (key e.1))
+      ∙ has_more e.0 (filed R (key e.1) old) (if is_eq (R k (key e.1)) then p ∷ [] else []) f) es h
 
-  newly_filed : (k : K) (p : ℕ) (old new : List (K × Vec ℕ)) → ((q : K) → filed R q new ≡ filed R q old ++ (if is_eq (R k q) then p ∷ [] else [])) → has_place p (filed R k new) ≡ true
-  newly_filed k p old new more = ap (has_place p) (more k ∙ ap (λ (o : Ordering). filed R k old ++ (if is_eq o then p ∷ [] else [])) (tied_itself total k)) ∙ has_last p (filed R k old)
+  newly_filed : (k : K) (p : ℕ) (old new : List (K × Vec ℕ))
+      → ((q : K) → filed R q new ≡ filed R q old ++ (if is_eq (R k q) then p ∷ [] else []))
+      → has_place p (filed R k new) ≡ true
+  newly_filed k p old new more = ap (has_place p)
+      (more k ∙ ap (λ (o : Ordering). filed R k old ++ (if is_eq o then p ∷ [] else [])) (tied_itself total k))
+      ∙ has_last p (filed R k old)
 
-  pub filed_last : (n : Note) (k : K) (p : ℕ) → k ≡ key n → p ≡ n.last.place → (old new : List (K × Vec ℕ)) → ((q : K) → filed R q new ≡ filed R q old ++ (if is_eq (R k q) then p ∷ [] else [])) → (es : List NoteEntry) → AllByRecursion (IsFiled old) es → AllByRecursion (IsFiled new) (es ++ (n.last.place, n) ∷ [])
-  filed_last n k p at here old new more es h = each_append (IsFiled new) es ((n.last.place, n) ∷ []) (still_filed k p old new more es h) ((λ i. has_place (sym here i) (filed R (sym at i) new)) ∙ newly_filed k p old new more, tt)
+  pub filed_last : (n : Note) (k : K) (p : ℕ) → k ≡ key n → p ≡ n.last.place → (old new : List (K × Vec ℕ))
+      → ((q : K) → filed R q new ≡ filed R q old ++ (if is_eq (R k q) then p ∷ [] else [])) → (es : List NoteEntry)
+      → AllByRecursion (IsFiled old) es → AllByRecursion (IsFiled new) (es ++ (n.last.place, n) ∷ [])
+  filed_last n k p at here old new more es h =
+      each_append (IsFiled new) es ((n.last.place, n) ∷ []) (still_filed k p old new more es h)
+      ((λ i. has_place (sym here i) (filed R (sym at i) new)) ∙ newly_filed k p old new more, tt)
 
   module _ (k : K) (own : Note → Bool) (same : (n : Note) → is_eq (R k (key n)) ≡ own n) where
     -- all places of the key's notes stand under it
-    pub all_filed : (index : List (K × Vec ℕ)) (es : List NoteEntry) → AllByRecursion (IsFiled index) es → AllByRecursion (λ (e : NoteEntry). own e.1 ≡ true → has_place e.0 (filed R k index) ≡ true) es
-    all_filed index es h = each_weaker (IsFiled index) (λ (e : NoteEntry). own e.1 ≡ true → has_place e.0 (filed R k index) ≡ true) (λ e f t. ap (λ (v : Option (Vec ℕ)). has_place e.0 (list_of v)) (tied k (key e.1) index (same e.1 ∙ t)) ∙ f) es h
+    pub all_filed : (index : List (K × Vec ℕ)) (es : List NoteEntry) → AllByRecursion (IsFiled index) es
+        → AllByRecursion (λ (e : NoteEntry). own e.1 ≡ true → has_place e.0 (filed R k index) ≡ true) es
+    all_filed index es h = each_weaker (IsFiled index)
+        (λ (e : NoteEntry). own e.1 ≡ true → has_place e.0 (filed R k index) ≡ true)
+        (λ e f t. ap (λ (v : Option (Vec ℕ)). has_place e.0 (list_of v)) (tied k (key e.1) index (same e.1 ∙ t)) ∙ f) es
+        h
 
     -- without the key's list, those of the others
-    pub others_filed : (old new : List (K × Vec ℕ)) → ((q : K) → filed R q new ≡ (if is_eq (R k q) then [] else filed R q old)) → (es : List NoteEntry) → AllByRecursion (IsFiled old) es → AllByRecursion (IsFiled new) (filter (λ (e : NoteEntry). not (own e.1)) es)
-    others_filed old new less es h = each_filtered (IsFiled old) (IsFiled new) (λ (e : NoteEntry). not (own e.1)) (λ e f t. ap (has_place e.0) (less (key e.1) ∙ ap (λ b. if b then [] else filed R (key e.1) old) (same e.1 ∙ not-true (own e.1) t)) ∙ f) es h
+    pub others_filed : (old new : List (K × Vec ℕ))
+        → ((q : K) → filed R q new ≡ (if is_eq (R k q) then [] else filed R q old)) → (es : List NoteEntry)
+        → AllByRecursion (IsFiled old) es → AllByRecursion (IsFiled new) (filter (λ (e : NoteEntry). not (own e.1)) es)
+    others_filed old new less es h = each_filtered (IsFiled old) (IsFiled new) (λ (e : NoteEntry). not (own e.1))
+        (λ e f t. ap (has_place e.0)
+        (less (key e.1) ∙ ap (λ b. if b then [] else filed R (key e.1) old) (same e.1 ∙ not-true (own e.1) t)) ∙ f) es h
 
 -- One place.
 
@@ -128,57 +184,96 @@ not_here : (k m n : ℕ) → m < n → is_eq (nat_cmp k n) ≡ true → is_eq (n
 not_here k m n l t = grind (arith, nat_tests)
 
 -- what stands at the place is what is found there
-found : (k : ℕ) (es : List NoteEntry) → Ordered (λ (a b : NoteEntry). a.0 < b.0) es → AllByRecursion (λ (e : NoteEntry). is_eq (nat_cmp k e.0) ≡ true → lookup (is_at (nat_cmp k)) es ≡ Some e.1) es
+found : (k : ℕ) (es : List NoteEntry) → Ordered (λ (a b : NoteEntry). a.0 < b.0) es
+    → AllByRecursion (λ (e : NoteEntry). is_eq (nat_cmp k e.0) ≡ true → lookup (is_at (nat_cmp k)) es ≡ Some e.1) es
 found k [] h = tt
 found k (x ∷ es) h = (
   λ t. ap (λ b. cond b (Some x.1) (lookup (is_at (nat_cmp k)) es)) t,
-  each_weaker (λ (e : NoteEntry). (x.0 < e.0) × (is_eq (nat_cmp k e.0) ≡ true → lookup (is_at (nat_cmp k)) es ≡ Some e.1)) (λ (e : NoteEntry). is_eq (nat_cmp k e.0) ≡ true → lookup (is_at (nat_cmp k)) (x ∷ es) ≡ Some e.1)
+  each_weaker (λ (e : NoteEntry). (x.0 < e.0)
+      × (is_eq (nat_cmp k e.0) ≡ true → lookup (is_at (nat_cmp k)) es ≡ Some e.1))
+      (λ (e : NoteEntry). is_eq (nat_cmp k e.0) ≡ true → lookup (is_at (nat_cmp k)) (x ∷ es) ≡ Some e.1)
       (λ e f t. ap (λ b. cond b (Some x.1) (lookup (is_at (nat_cmp k)) es)) (not_here k x.0 e.0 f.0 t) ∙ f.1 t) es
-      (each_both (λ (e : NoteEntry). x.0 < e.0) (λ (e : NoteEntry). is_eq (nat_cmp k e.0) ≡ true → lookup (is_at (nat_cmp k)) es ≡ Some e.1) es h.0 (found k es h.1)),
+      (each_both (λ (e : NoteEntry). x.0 < e.0)
+      (λ (e : NoteEntry). is_eq (nat_cmp k e.0) ≡ true → lookup (is_at (nat_cmp k)) es ≡ Some e.1) es h.0
+      (found k es h.1)),
 )
 
-own_there : (whose : Whose) (k : ℕ) (b : Bool) (es : List NoteEntry) → Ordered (λ (x y : NoteEntry). x.0 < y.0) es → has_own whose (lookup (is_at (nat_cmp k)) es) ≡ b → AllByRecursion (λ (e : NoteEntry). (k == e.0) ≡ true → is_own whose e.1 ≡ b) es
-own_there whose k b es h o = each_weaker (λ (e : NoteEntry). is_eq (nat_cmp k e.0) ≡ true → lookup (is_at (nat_cmp k)) es ≡ Some e.1) (λ (e : NoteEntry). (k == e.0) ≡ true → is_own whose e.1 ≡ b)
+own_there : (whose : Whose) (k : ℕ) (b : Bool) (es : List NoteEntry) → Ordered (λ (x y : NoteEntry). x.0 < y.0) es
+    → has_own whose (lookup (is_at (nat_cmp k)) es) ≡ b
+    → AllByRecursion (λ (e : NoteEntry). (k == e.0) ≡ true → is_own whose e.1 ≡ b) es
+own_there whose k b es h o =
+    each_weaker (λ (e : NoteEntry). is_eq (nat_cmp k e.0) ≡ true → lookup (is_at (nat_cmp k)) es ≡ Some e.1)
+    (λ (e : NoteEntry). (k == e.0) ≡ true → is_own whose e.1 ≡ b)
     (λ e f t. sym (ap (has_own whose) (f (number_same k e.0 ∙ t))) ∙ o) es (found k es h)
 
 -- none of theirs stands there
-pub none_drawn : (whose : Whose) (k : ℕ) (es : List NoteEntry) → AreByPlace es → has_own whose (lookup (is_at (nat_cmp k)) es) ≡ false → es ≡ left whose (k ∷ []) es
+pub none_drawn : (whose : Whose) (k : ℕ) (es : List NoteEntry) → AreByPlace es
+    → has_own whose (lookup (is_at (nat_cmp k)) es) ≡ false → es ≡ left whose (k ∷ []) es
 none_drawn whose k es h o = sym (filter_all (λ (e : NoteEntry). not (has_place e.0 (k ∷ []) && is_own whose e.1)) es
-    (each_weaker (λ (e : NoteEntry). (k == e.0) ≡ true → is_own whose e.1 ≡ false) (λ (e : NoteEntry). not (has_place e.0 (k ∷ []) && is_own whose e.1) ≡ true)
-    (λ e f. by_cases (k == e.0) (λ b. not ((b || false) && is_own whose e.1) ≡ true) (λ t. ap not (f t)) (λ _. refl)) es (own_there whose k false es h.rising o)))
+    (each_weaker (λ (e : NoteEntry). (k == e.0) ≡ true → is_own whose e.1 ≡ false)
+    (λ (e : NoteEntry). not (has_place e.0 (k ∷ []) && is_own whose e.1) ≡ true)
+    (λ e f. by_cases (k == e.0) (λ b. not ((b || false) && is_own whose e.1) ≡ true) (λ t. ap not (f t)) (λ _. refl)) es
+    (own_there whose k false es h.rising o)))
 
 -- one of theirs stands there
-pub one_drawn : (whose : Whose) (k : ℕ) (es : List NoteEntry) → AreByPlace es → has_own whose (lookup (is_at (nat_cmp k)) es) ≡ true → remove_entry (is_at (nat_cmp k)) es ≡ left whose (k ∷ []) es
-one_drawn whose k es h o = removed nat_cmp nat_cmp_total k es (ordered_weaker (λ (a b : NoteEntry). a.0 < b.0) (λ (a b : NoteEntry). nat_cmp a.0 b.0 ≡ Less) (λ a b l. is_less a.0 b.0 l) es h.rising)
-    ∙ filter_same (λ (e : NoteEntry). not (is_eq (nat_cmp k e.0))) (λ (e : NoteEntry). not (has_place e.0 (k ∷ []) && is_own whose e.1)) es
-    (each_weaker (λ (e : NoteEntry). (k == e.0) ≡ true → is_own whose e.1 ≡ true) (λ (e : NoteEntry). not (is_eq (nat_cmp k e.0)) ≡ not (has_place e.0 (k ∷ []) && is_own whose e.1))
-    (λ e f. ap not (number_same k e.0) ∙ by_cases (k == e.0) (λ b. not b ≡ not ((b || false) && is_own whose e.1)) (λ t. ap not (sym (f t))) (λ _. refl)) es (own_there whose k true es h.rising o))
+pub one_drawn : (whose : Whose) (k : ℕ) (es : List NoteEntry) → AreByPlace es
+    → has_own whose (lookup (is_at (nat_cmp k)) es) ≡ true
+    → remove_entry (is_at (nat_cmp k)) es ≡ left whose (k ∷ []) es
+one_drawn whose k es h o = removed nat_cmp nat_cmp_total k es
+    (ordered_weaker (λ (a b : NoteEntry). a.0 < b.0) (λ (a b : NoteEntry). nat_cmp a.0 b.0 ≡ Less)
+    (λ a b l. is_less a.0 b.0 l) es h.rising)
+    ∙ filter_same (λ (e : NoteEntry). not (is_eq (nat_cmp k e.0)))
+    (λ (e : NoteEntry). not (has_place e.0 (k ∷ []) && is_own whose e.1)) es
+    (each_weaker (λ (e : NoteEntry). (k == e.0) ≡ true → is_own whose e.1 ≡ true)
+    (λ (e : NoteEntry). not (is_eq (nat_cmp k e.0)) ≡ not (has_place e.0 (k ∷ []) && is_own whose e.1))
+    (λ e f. ap not (number_same k e.0) ∙ by_cases (k == e.0) (λ b. not b ≡ not ((b || false) && is_own whose e.1))
+    (λ t. ap not (sym (f t))) (λ _. refl)) es (own_there whose k true es h.rising o))
 
 value_is : (a b : Note) → Some a ≡ Some b → a ≡ b
 value_is a b h = cc
 
-taken_out : (t : ℕ → Bool) (es : List NoteEntry) (n : Note) → lookup t es ≡ Some n → Among n (values_of es) (values_of (remove_entry t es))
+taken_out : (t : ℕ → Bool) (es : List NoteEntry) (n : Note) → lookup t es ≡ Some n
+    → Among n (values_of es) (values_of (remove_entry t es))
 taken_out t [] n h = absurd (cc)
-taken_out t (x ∷ es) n h = by_cases (t x.0) (λ b. cond b (Some x.1) (lookup t es) ≡ Some n → Among n (x.1 ∷ values_of es) (values_of (cond b es (x ∷ remove_entry t es))))
-    (λ _ k. record { front = []; back = values_of es; whole_is = ap (λ (m : Note). m ∷ values_of es) (value_is x.1 n k); others_are = refl })
+taken_out t (x ∷ es) n h = by_cases (t x.0)
+    (λ b. cond b (Some x.1) (lookup t es) ≡ Some n
+    → Among n (x.1 ∷ values_of es) (values_of (cond b es (x ∷ remove_entry t es))))
+    (λ _ k. record {
+      front = [];
+      back = values_of es;
+      whole_is = ap (λ (m : Note). m ∷ values_of es) (value_is x.1 n k);
+      others_are = refl;
+    })
     (λ _ k. behind (taken_out t es n k)) h
   where
-    behind : Among n (values_of es) (values_of (remove_entry t es)) → Among n (x.1 ∷ values_of es) (x.1 ∷ values_of (remove_entry t es))
-    behind a = record { front = x.1 ∷ a.front; back = a.back; whole_is = ap (λ (ns : List Note). x.1 ∷ ns) a.whole_is; others_are = ap (λ (ns : List Note). x.1 ∷ ns) a.others_are }
+    behind : Among n (values_of es) (values_of (remove_entry t es))
+        → Among n (x.1 ∷ values_of es) (x.1 ∷ values_of (remove_entry t es))
+    behind a = record {
+      front = x.1 ∷ a.front;
+      back = a.back;
+      whole_is = ap (λ (ns : List Note). x.1 ∷ ns) a.whole_is;
+      others_are = ap (λ (ns : List Note). x.1 ∷ ns) a.others_are;
+    }
 
 not_there : (t : ℕ → Bool) (es : List NoteEntry) → lookup t es ≡ None → remove_entry t es ≡ es
 not_there t [] h = refl
-not_there t (x ∷ es) h = by_cases (t x.0) (λ b. cond b (Some x.1) (lookup t es) ≡ None → cond b es (x ∷ remove_entry t es) ≡ x ∷ es) (λ _ k. absurd (cc)) (λ _ k. ap (λ (r : List NoteEntry). x ∷ r) (not_there t es k)) h
+not_there t (x ∷ es) h = by_cases (t x.0)
+    (λ b. cond b (Some x.1) (lookup t es) ≡ None → cond b es (x ∷ remove_entry t es) ≡ x ∷ es)
+    (λ _ k. absurd (cc)) (λ _ k. ap (λ (r : List NoteEntry). x ∷ r) (not_there t es k)) h
 
-pub drawn_one : (whose : Whose) (t : ℕ → Bool) (es : List NoteEntry) (o : Option Note) → o ≡ lookup t es → has_own whose (lookup t es) ≡ true → Drawn whose o es (remove_entry t es)
+pub drawn_one : (whose : Whose) (t : ℕ → Bool) (es : List NoteEntry) (o : Option Note) → o ≡ lookup t es
+    → has_own whose (lookup t es) ≡ true → Drawn whose o es (remove_entry t es)
 drawn_one whose t es None h own = not_there t es (sym h)
 drawn_one whose t es (Some n) h own = (ap (has_own whose) h ∙ own, taken_out t es n (sym h))
 
 -- One place after another.
 
-filter_then : {X : Type 0} (p q r : X → Bool) → ((x : X) → r x ≡ (q x && p x)) → (xs : List X) → filter p (filter q xs) ≡ filter r xs
+filter_then : {X : Type 0} (p q r : X → Bool) → ((x : X) → r x ≡ (q x && p x)) → (xs : List X)
+    → filter p (filter q xs) ≡ filter r xs
 filter_then p q r h [] = refl
-filter_then p q r h (x ∷ xs) = by_cases (q x) (λ b. r x ≡ (b && p x) → filter p (cond b (x ∷ filter q xs) (filter q xs)) ≡ cond (r x) (x ∷ filter r xs) (filter r xs))
+filter_then p q r h (x ∷ xs) = by_cases (q x)
+    (λ b. r x ≡ (b && p x) → filter p (cond b (x ∷ filter q xs) (filter q xs))
+    ≡ cond (r x) (x ∷ filter r xs) (filter r xs))
     (λ _ e. λ i. cond (sym e i) (x ∷ filter_then p q r h xs i) (filter_then p q r h xs i))
     (λ _ e. filter_then p q r h xs ∙ ap (λ b. cond b (x ∷ filter r xs) (filter r xs)) (sym e)) (h x)
 
@@ -192,18 +287,26 @@ tests false true false = refl
 tests false false true = refl
 tests false false false = refl
 
-pub left_more : (whose : Whose) (k : ℕ) (ps : List ℕ) (es : List NoteEntry) → left whose ps (left whose (k ∷ []) es) ≡ left whose (k ∷ ps) es
-left_more whose k ps es = filter_then (λ (e : NoteEntry). not (has_place e.0 ps && is_own whose e.1)) (λ (e : NoteEntry). not (has_place e.0 (k ∷ []) && is_own whose e.1)) (λ (e : NoteEntry). not (has_place e.0 (k ∷ ps) && is_own whose e.1))
+pub left_more : (whose : Whose) (k : ℕ) (ps : List ℕ) (es : List NoteEntry)
+    → left whose ps (left whose (k ∷ []) es) ≡ left whose (k ∷ ps) es
+left_more whose k ps es = filter_then (λ (e : NoteEntry). not (has_place e.0 ps && is_own whose e.1))
+    (λ (e : NoteEntry). not (has_place e.0 (k ∷ []) && is_own whose e.1))
+    (λ (e : NoteEntry). not (has_place e.0 (k ∷ ps) && is_own whose e.1))
     (λ e. tests (k == e.0) (has_place e.0 ps) (is_own whose e.1)) es
 
-pub left_by_place : (whose : Whose) (k : ℕ) (es new : List NoteEntry) → new ≡ left whose (k ∷ []) es → AreByPlace es → AreByPlace new
-left_by_place whose k es new h o = subst AreByPlace (sym h) (filtered_by_place (λ (e : NoteEntry). not (has_place e.0 (k ∷ []) && is_own whose e.1)) es o)
+pub left_by_place : (whose : Whose) (k : ℕ) (es new : List NoteEntry) → new ≡ left whose (k ∷ []) es → AreByPlace es
+    → AreByPlace new
+left_by_place whose k es new h o =
+    subst AreByPlace (sym h)
+    (filtered_by_place (λ (e : NoteEntry). not (has_place e.0 (k ∷ []) && is_own whose e.1)) es o)
 
 pub left_none : (whose : Whose) (es : List NoteEntry) → left whose [] es ≡ es
-left_none whose es = filter_all (λ (e : NoteEntry). not (has_place e.0 [] && is_own whose e.1)) es (each_of (λ (e : NoteEntry). not (has_place e.0 [] && is_own whose e.1) ≡ true) (λ e. refl) es)
+left_none whose es = filter_all (λ (e : NoteEntry). not (has_place e.0 [] && is_own whose e.1)) es
+    (each_of (λ (e : NoteEntry). not (has_place e.0 [] && is_own whose e.1) ≡ true) (λ e. refl) es)
 
 -- a note goes to the end of those that were drawn
-module _ (n : Note) (drawn whole others : List Note) (among : Among n whole others) (apart : Apart (drawn ++ whole)) where
+module _ (n : Note) (drawn whole others : List Note) (among : Among n whole others)
+    (apart : Apart (drawn ++ whole)) where
   in_front : drawn ++ whole ≡ (drawn ++ among.front) ++ n ∷ among.back
   in_front = ap (λ (ns : List Note). drawn ++ ns) among.whole_is ∙ sym (append_assoc drawn among.front (n ∷ among.back))
 
@@ -214,7 +317,10 @@ module _ (n : Note) (drawn whole others : List Note) (among : Among n whole othe
   before = subst Apart in_front apart
 
   after : Apart (drawn ++ n ∷ others)
-  after = apart_into drawn n others (subst (AllByRecursion (λ z. n.last.place ≢ z.last.place)) rest_is (apart_from (drawn ++ among.front) n among.back before).0) (subst Apart rest_is (apart_from (drawn ++ among.front) n among.back before).1)
+  after = apart_into drawn n others
+      (subst (AllByRecursion (λ z. n.last.place ≢ z.last.place)) rest_is
+      (apart_from (drawn ++ among.front) n among.back before).0)
+      (subst Apart rest_is (apart_from (drawn ++ among.front) n among.back before).1)
 
   pub drawn_apart : Apart ((drawn ++ n ∷ []) ++ others)
   drawn_apart = subst Apart (sym (append_assoc drawn (n ∷ []) others)) after
@@ -235,39 +341,59 @@ and_false : (a : Bool) → (a && false) ≡ false
 and_false true = refl
 and_false false = refl
 
-module _ (whose : Whose) (ps : List ℕ) (es : List NoteEntry) (all : AllByRecursion (λ (e : NoteEntry). is_own whose e.1 ≡ true → has_place e.0 ps ≡ true) es) where
+module _ (whose : Whose) (ps : List ℕ) (es : List NoteEntry)
+    (all : AllByRecursion (λ (e : NoteEntry). is_own whose e.1 ≡ true → has_place e.0 ps ≡ true) es) where
   pub left_all : left whose ps es ≡ filter (λ (e : NoteEntry). not (is_own whose e.1)) es
-  left_all = filter_same (λ (e : NoteEntry). not (has_place e.0 ps && is_own whose e.1)) (λ (e : NoteEntry). not (is_own whose e.1)) es
-      (each_weaker (λ (e : NoteEntry). is_own whose e.1 ≡ true → has_place e.0 ps ≡ true) (λ (e : NoteEntry). not (has_place e.0 ps && is_own whose e.1) ≡ not (is_own whose e.1))
-      (λ e f. by_cases (is_own whose e.1) (λ b. not (has_place e.0 ps && b) ≡ not b) (λ t. ap (λ a. not (a && true)) (f t)) (λ _. ap not (and_false (has_place e.0 ps)))) es all)
+  left_all = filter_same (λ (e : NoteEntry). not (has_place e.0 ps && is_own whose e.1))
+      (λ (e : NoteEntry). not (is_own whose e.1)) es
+      (each_weaker (λ (e : NoteEntry). is_own whose e.1 ≡ true → has_place e.0 ps ≡ true)
+      (λ (e : NoteEntry). not (has_place e.0 ps && is_own whose e.1) ≡ not (is_own whose e.1))
+      (λ e f. by_cases (is_own whose e.1) (λ b. not (has_place e.0 ps && b) ≡ not b)
+      (λ t. ap (λ a. not (a && true)) (f t)) (λ _. ap not (and_false (has_place e.0 ps)))) es all)
 
   pub values_left : values_of (left whose ps es) ≡ filter (λ (n : Note). not (is_own whose n)) (values_of es)
-  values_left = ap values_of left_all ∙ sym (filter_map_as (λ (n : Note). not (is_own whose n)) (λ (e : NoteEntry). not (is_own whose e.1)) (λ (e : NoteEntry). e.1) (λ (e : NoteEntry). e.1) (λ e. refl) (λ e _. refl) es)
+  values_left = ap values_of left_all
+      ∙ sym (filter_map_as (λ (n : Note). not (is_own whose n)) (λ (e : NoteEntry). not (is_own whose e.1))
+      (λ (e : NoteEntry). e.1) (λ (e : NoteEntry). e.1) (λ e. refl) (λ e _. refl) es)
 
   -- those that were drawn, by place, are theirs
-  pub values_drawn : (drawn : List Note) → AllByRecursion (λ (n : Note). is_own whose n ≡ true) drawn → Apart (drawn ++ values_of (left whose ps es)) → by_place (drawn ++ values_of (left whose ps es)) ≡ values_of es → by_place drawn ≡ filter (is_own whose) (values_of es)
+  pub values_drawn : (drawn : List Note) → AllByRecursion (λ (n : Note). is_own whose n ≡ true) drawn
+      → Apart (drawn ++ values_of (left whose ps es)) → by_place (drawn ++ values_of (left whose ps es)) ≡ values_of es
+      → by_place drawn ≡ filter (is_own whose) (values_of es)
   values_drawn drawn own apart together =
       let others = values_of (left whose ps es) in
       let foreign : AllByRecursion (λ (n : Note). is_own whose n ≡ false) others
-      = subst (AllByRecursion (λ (n : Note). is_own whose n ≡ false)) (sym values_left) (each_passes (λ (n : Note). is_own whose n ≡ false) (λ (n : Note). not (is_own whose n)) (λ n t. not-true (is_own whose n) t) (values_of es)) in
+      = subst (AllByRecursion (λ (n : Note). is_own whose n ≡ false)) (sym values_left)
+      (each_passes (λ (n : Note). is_own whose n ≡ false) (λ (n : Note). not (is_own whose n))
+      (λ n t. not-true (is_own whose n) t) (values_of es)) in
       sym (ap (filter (is_own whose)) (sym together) ∙ (filter_sorted (is_own whose) (drawn ++ others) apart
       ∙ ap by_place (filter-append (is_own whose) drawn others
-      ∙ ((λ i. filter_all (is_own whose) drawn own i ++ filter_none (is_own whose) others foreign i) ∙ append-nil drawn))))
+      ∙ ((λ i. filter_all (is_own whose) drawn own i ++ filter_none (is_own whose) others foreign i)
+      ∙ append-nil drawn))))
 
 -- A registrant hears what its notes of the unit say, whatever other notes there are.
 
-pub told_own : (unit : ℕ) (ns : List Note) (rs : List Registrant) → map (told unit (filter (λ n. n.unit == unit) ns)) rs ≡ map (told unit ns) rs
+pub told_own : (unit : ℕ) (ns : List Note) (rs : List Registrant)
+    → map (told unit (filter (λ n. n.unit == unit) ns)) rs ≡ map (told unit ns) rs
 told_own unit ns [] = refl
-told_own unit ns (r ∷ rs) = λ i. record { queue = r.queue; name = r.name; last = latest r.last (twice ns i) } ∷ told_own unit ns rs i
+told_own unit ns (r ∷ rs) = λ i. record { queue = r.queue; name = r.name; last = latest r.last (twice ns i) }
+    ∷ told_own unit ns rs i
   where
-    twice : (ns : List Note) → filter (λ n. (n.unit == unit) && is_note_of r.queue r.name n) (filter (λ n. n.unit == unit) ns) ≡ filter (λ n. (n.unit == unit) && is_note_of r.queue r.name n) ns
+    twice : (ns : List Note) → filter (λ n. (n.unit == unit) && is_note_of r.queue r.name n)
+        (filter (λ n. n.unit == unit) ns) ≡ filter (λ n. (n.unit == unit) && is_note_of r.queue r.name n) ns
     twice [] = refl
-    twice (n ∷ ns) = by_cases (n.unit == unit) (λ b. (n.unit == unit) ≡ b → filter (λ n. (n.unit == unit) && is_note_of r.queue r.name n) (cond b (n ∷ filter (λ n. n.unit == unit) ns) (filter (λ n. n.unit == unit) ns))
-        ≡ cond (b && is_note_of r.queue r.name n) (n ∷ filter (λ n. (n.unit == unit) && is_note_of r.queue r.name n) ns) (filter (λ n. (n.unit == unit) && is_note_of r.queue r.name n) ns))
-        (λ _ t. ap (λ b. cond (b && is_note_of r.queue r.name n) (n ∷ filter (λ n. (n.unit == unit) && is_note_of r.queue r.name n) (filter (λ n. n.unit == unit) ns)) (filter (λ n. (n.unit == unit) && is_note_of r.queue r.name n) (filter (λ n. n.unit == unit) ns))) t
+    twice (n ∷ ns) = by_cases (n.unit == unit)
+        (λ b. (n.unit == unit) ≡ b → filter (λ n. (n.unit == unit) && is_note_of r.queue r.name n)
+        (cond b (n ∷ filter (λ n. n.unit == unit) ns) (filter (λ n. n.unit == unit) ns))
+        ≡ cond (b && is_note_of r.queue r.name n) (n ∷ filter (λ n. (n.unit == unit) && is_note_of r.queue r.name n) ns)
+        (filter (λ n. (n.unit == unit) && is_note_of r.queue r.name n) ns))
+        (λ _ t. ap (λ b. cond (b && is_note_of r.queue r.name n)
+        (n ∷ filter (λ n. (n.unit == unit) && is_note_of r.queue r.name n) (filter (λ n. n.unit == unit) ns))
+        (filter (λ n. (n.unit == unit) && is_note_of r.queue r.name n) (filter (λ n. n.unit == unit) ns))) t
         ∙ ap (λ (xs : List Note). cond (is_note_of r.queue r.name n) (n ∷ xs) xs) (twice ns))
         (λ _ _. twice ns) refl
 
-pub above_all : (xs : List Note) (n : Note) (ys : List Note) → Rises (xs ++ n ∷ ys) → AllByRecursion (λ m. m.last.place < n.last.place) xs
+pub above_all : (xs : List Note) (n : Note) (ys : List Note) → Rises (xs ++ n ∷ ys)
+    → AllByRecursion (λ m. m.last.place < n.last.place) xs
 above_all [] n ys h = tt
 above_all (x ∷ xs) n ys h = ((each_back (λ z. x.last.place < z.last.place) xs (n ∷ ys) h.0).0, above_all xs n ys h.1)

@@ -1,5 +1,6 @@
 -- Lists of elements by unit.
-use Rattle.std.proofs.Common.{◌≡◌, ◌≢◌, ℕ, Bool, true, cond, List, [], ◌∷◌, ◌++◌, Some, None, refl, sym, ap, ◌∙◌, subst, arith, append_assoc}
+use Rattle.std.proofs.Common.{◌≡◌, ◌≢◌, ℕ, Bool, true, cond, List, [], ◌∷◌, ◌++◌, Some, None, refl, sym, ap, ◌∙◌, subst}
+use Rattle.std.proofs.Common.{arith, append_assoc}
 use Rattle.std.specs.List.{AllByRecursion}
 use Rattle.std.specs.Global.{Vec}
 use Rattle.std.specs.Map.{lookup, remove_entry}
@@ -19,7 +20,8 @@ use Rattle.rq_queue.proofs.Sorting.{sorted_from, sorted_swapped, apart_swapped, 
 abbrev pub Lists : Type 0
 Lists = List (ℕ × Vec Element)
 
-behind_more : (list whole others more : List Element) → Among list whole others → Among list (more ++ whole) (more ++ others)
+behind_more : (list whole others more : List Element) → Among list whole others
+    → Among list (more ++ whole) (more ++ others)
 behind_more list whole others more a = record {
   front = more ++ a.front;
   back = a.back;
@@ -30,34 +32,56 @@ behind_more list whole others more a = record {
 value_is : {X : Type 0} (a b : X) → Some a ≡ Some b → a ≡ b
 value_is a b h = cc
 
-pub taken_out : (t : ℕ → Bool) (es : Lists) (v : Vec Element) → lookup t es ≡ Some v → Among v.items (items_of es) (items_of (remove_entry t es))
+pub taken_out : (t : ℕ → Bool) (es : Lists) (v : Vec Element) → lookup t es ≡ Some v
+    → Among v.items (items_of es) (items_of (remove_entry t es))
 taken_out t [] v h = absurd (cc)
-taken_out t (x ∷ es) v h = by_cases (t x.0) (λ b. cond b (Some x.1) (lookup t es) ≡ Some v → Among v.items (x.1.items ++ items_of es) (items_of (cond b es (x ∷ remove_entry t es))))
-    (λ _ k. record { front = []; back = items_of es; whole_is = ap (λ (w : Vec Element). w.items ++ items_of es) (value_is x.1 v k); others_are = refl })
+taken_out t (x ∷ es) v h = by_cases (t x.0)
+    (λ b. cond b (Some x.1) (lookup t es) ≡ Some v
+    → Among v.items (x.1.items ++ items_of es) (items_of (cond b es (x ∷ remove_entry t es))))
+    (λ _ k. record {
+      front = [];
+      back = items_of es;
+      whole_is =
+          ap (λ (w : Vec Element). w.items ++ items_of es) (value_is x.1 v k);
+      others_are = refl;
+    })
     (λ _ k. behind_more v.items (items_of es) (items_of (remove_entry t es)) x.1.items (taken_out t es v k)) h
 
 pub not_there : (t : ℕ → Bool) (es : Lists) → lookup t es ≡ None → remove_entry t es ≡ es
 not_there t [] h = refl
-not_there t (x ∷ es) h = by_cases (t x.0) (λ b. cond b (Some x.1) (lookup t es) ≡ None → cond b es (x ∷ remove_entry t es) ≡ x ∷ es) (λ _ k. absurd (cc)) (λ _ k. ap (λ (r : Lists). x ∷ r) (not_there t es k)) h
+not_there t (x ∷ es) h = by_cases (t x.0)
+    (λ b. cond b (Some x.1) (lookup t es) ≡ None → cond b es (x ∷ remove_entry t es) ≡ x ∷ es)
+    (λ _ k. absurd (cc)) (λ _ k. ap (λ (r : Lists). x ∷ r) (not_there t es k)) h
 
-pub put_in : (k : ℕ) (es : Lists) (w : Vec Element) → lookup (is_at (nat_cmp k)) es ≡ None → Among w.items (items_of (insert_entry nat_cmp es k w)) (items_of es)
+pub put_in : (k : ℕ) (es : Lists) (w : Vec Element) → lookup (is_at (nat_cmp k)) es ≡ None
+    → Among w.items (items_of (insert_entry nat_cmp es k w)) (items_of es)
 put_in k [] w h = record { front = []; back = []; whole_is = refl; others_are = refl }
 put_in k (x ∷ es) w h = at (put_in k es w) (nat_cmp k x.0) h
   where
-    at : (lookup (is_at (nat_cmp k)) es ≡ None → Among w.items (items_of (insert_entry nat_cmp es k w)) (items_of es)) → (o : Ordering) → cond (is_eq o) (Some x.1) (lookup (is_at (nat_cmp k)) es) ≡ None → Among w.items (items_of (match_ordering o ((k, w) ∷ x ∷ es) ((x.0, w) ∷ es) (x ∷ insert_entry nat_cmp es k w))) (items_of (x ∷ es))
+    at : (lookup (is_at (nat_cmp k)) es ≡ None → Among w.items (items_of (insert_entry nat_cmp es k w)) (items_of es))
+        → (o : Ordering) → cond (is_eq o) (Some x.1) (lookup (is_at (nat_cmp k)) es) ≡ None
+        → Among w.items
+        (items_of (match_ordering o ((k, w) ∷ x ∷ es) ((x.0, w) ∷ es) (x ∷ insert_entry nat_cmp es k w)))
+        (items_of (x ∷ es))
     at later Less h = record { front = []; back = items_of (x ∷ es); whole_is = refl; others_are = refl }
     at later Equal h = absurd (cc)
     at later Greater h = behind_more w.items (items_of (insert_entry nat_cmp es k w)) (items_of es) x.1.items (later h)
 
-pub each_left : {K X : Type 0} (P : K × X → Type 0) (t : K → Bool) (es : List (K × X)) → AllByRecursion P es → AllByRecursion P (remove_entry t es)
+pub each_left : {K X : Type 0} (P : K × X → Type 0) (t : K → Bool) (es : List (K × X)) → AllByRecursion P es
+    → AllByRecursion P (remove_entry t es)
 each_left P t [] h = tt
-each_left P t (x ∷ es) h = by_cases (t x.0) (λ b. AllByRecursion P (cond b es (x ∷ remove_entry t es))) (λ _. h.1) (λ _. (h.0, each_left P t es h.1))
+each_left P t (x ∷ es) h = by_cases (t x.0) (λ b. AllByRecursion P (cond b es (x ∷ remove_entry t es))) (λ _. h.1)
+    (λ _. (h.0, each_left P t es h.1))
 
-pub each_in : (P : ℕ × Vec Element → Type 0) (k : ℕ) (es : Lists) (w : Vec Element) → lookup (is_at (nat_cmp k)) es ≡ None → P (k, w) → AllByRecursion P es → AllByRecursion P (insert_entry nat_cmp es k w)
+pub each_in : (P : ℕ × Vec Element → Type 0) (k : ℕ) (es : Lists) (w : Vec Element)
+    → lookup (is_at (nat_cmp k)) es ≡ None → P (k, w) → AllByRecursion P es
+    → AllByRecursion P (insert_entry nat_cmp es k w)
 each_in P k [] w h p a = (p, tt)
 each_in P k (x ∷ es) w h p a = at (λ n. each_in P k es w n p a.1) (nat_cmp k x.0) h
   where
-    at : (lookup (is_at (nat_cmp k)) es ≡ None → AllByRecursion P (insert_entry nat_cmp es k w)) → (o : Ordering) → cond (is_eq o) (Some x.1) (lookup (is_at (nat_cmp k)) es) ≡ None → AllByRecursion P (match_ordering o ((k, w) ∷ x ∷ es) ((x.0, w) ∷ es) (x ∷ insert_entry nat_cmp es k w))
+    at : (lookup (is_at (nat_cmp k)) es ≡ None → AllByRecursion P (insert_entry nat_cmp es k w)) → (o : Ordering)
+        → cond (is_eq o) (Some x.1) (lookup (is_at (nat_cmp k)) es) ≡ None
+        → AllByRecursion P (match_ordering o ((k, w) ∷ x ∷ es) ((x.0, w) ∷ es) (x ∷ insert_entry nat_cmp es k w))
     at later Less h = (p, a)
     at later Equal h = absurd (cc)
     at later Greater h = (a.0, later h)
@@ -65,13 +89,18 @@ each_in P k (x ∷ es) w h p a = at (λ n. each_in P k es w n p a.1) (nat_cmp k 
 pub same_key : (k n : ℕ) → is_eq (nat_cmp k n) ≡ true → k ≡ n
 same_key k n h = grind (arith)
 
-pub found_of : (k : ℕ) (es : Lists) (v : Vec Element) → lookup (is_at (nat_cmp k)) es ≡ Some v → AllByRecursion IsOfUnit es → AllByRecursion (λ x. is_marked k x.mark ≡ true) v.items
+pub found_of : (k : ℕ) (es : Lists) (v : Vec Element) → lookup (is_at (nat_cmp k)) es ≡ Some v
+    → AllByRecursion IsOfUnit es → AllByRecursion (λ x. is_marked k x.mark ≡ true) v.items
 found_of k [] v h a = absurd (cc)
-found_of k (x ∷ es) v h a = by_cases (is_eq (nat_cmp k x.0)) (λ b. is_eq (nat_cmp k x.0) ≡ b → cond b (Some x.1) (lookup (is_at (nat_cmp k)) es) ≡ Some v → AllByRecursion (λ x. is_marked k x.mark ≡ true) v.items)
-    (λ _ t e. subst (λ (w : Vec Element). AllByRecursion (λ x. is_marked k x.mark ≡ true) w.items) (value_is x.1 v e) (subst (λ (n : ℕ). AllByRecursion (λ x. is_marked n x.mark ≡ true) x.1.items) (sym (same_key k x.0 t)) a.0))
+found_of k (x ∷ es) v h a = by_cases (is_eq (nat_cmp k x.0))
+    (λ b. is_eq (nat_cmp k x.0) ≡ b → cond b (Some x.1) (lookup (is_at (nat_cmp k)) es) ≡ Some v
+    → AllByRecursion (λ x. is_marked k x.mark ≡ true) v.items)
+    (λ _ t e. subst (λ (w : Vec Element). AllByRecursion (λ x. is_marked k x.mark ≡ true) w.items) (value_is x.1 v e)
+    (subst (λ (n : ℕ). AllByRecursion (λ x. is_marked n x.mark ≡ true) x.1.items) (sym (same_key k x.0 t)) a.0))
     (λ _ t e. found_of k es v e a.1) refl h
 
-pub stowed_of : (k : ℕ) (old es : Lists) (list : List Element) (w : Vec Element) (e : Element) → Among list (items_of old) (items_of es) → lookup (is_at (nat_cmp k)) es ≡ None → w.items ≡ list ++ e ∷ []
+pub stowed_of : (k : ℕ) (old es : Lists) (list : List Element) (w : Vec Element) (e : Element)
+    → Among list (items_of old) (items_of es) → lookup (is_at (nat_cmp k)) es ≡ None → w.items ≡ list ++ e ∷ []
     → Stowed e old (insert_entry nat_cmp es k w)
 stowed_of k old es list w e out n i =
     let in_again = put_in k es w n in
@@ -87,35 +116,49 @@ stowed_of k old es list w e out n i =
     }
 
 -- what stowing does to the elements by number: `free` are the others
-module _ (law : PutInAnyOrder) (e : Element) (free : List Element) (old new : Lists) (s : Stowed e old new) (apart : Apart (e ∷ free ++ items_of old)) where
+module _ (law : PutInAnyOrder) (e : Element) (free : List Element) (old new : Lists) (s : Stowed e old new)
+    (apart : Apart (e ∷ free ++ items_of old)) where
   -- the old ones with the unit's list in front
   old_front : Apart (s.list ++ (free ++ (s.front ++ s.back)))
   old_front = subst Apart (ap (λ (x : List Element). s.list ++ x) (append_assoc free s.front s.back))
-      (apart_swapped (free ++ s.front) s.list s.back (subst Apart (ap (λ (x : List Element). free ++ x) s.before ∙ sym (append_assoc free s.front (s.list ++ s.back))) apart.1))
+      (apart_swapped (free ++ s.front) s.list s.back
+      (subst Apart (ap (λ (x : List Element). free ++ x) s.before
+      ∙ sym (append_assoc free s.front (s.list ++ s.back))) apart.1))
 
   old_sorted : sorted (free ++ items_of old) ≡ sorted (s.list ++ (free ++ (s.front ++ s.back)))
-  old_sorted = ap (λ (x : List Element). sorted (free ++ x)) s.before ∙ (ap sorted (sym (append_assoc free s.front (s.list ++ s.back)))
-      ∙ (sorted_swapped law (free ++ s.front) s.list s.back (subst Apart (ap (λ (x : List Element). free ++ x) s.before ∙ sym (append_assoc free s.front (s.list ++ s.back))) apart.1)
+  old_sorted = ap (λ (x : List Element). sorted (free ++ x)) s.before
+      ∙ (ap sorted (sym (append_assoc free s.front (s.list ++ s.back)))
+      ∙ (sorted_swapped law (free ++ s.front) s.list s.back
+      (subst Apart (ap (λ (x : List Element). free ++ x) s.before
+      ∙ sym (append_assoc free s.front (s.list ++ s.back))) apart.1)
       ∙ ap (λ (x : List Element). sorted (s.list ++ x)) (append_assoc free s.front s.back)))
 
   -- e differs from all of them
   other : AllByRecursion (λ z. e.id ≢ z.id) (s.list ++ (free ++ (s.front ++ s.back)))
-  other = subst (AllByRecursion (λ (z : Element). e.id ≢ z.id)) (ap (λ (x : List Element). s.list ++ x) (append_assoc free s.front s.back))
-      (each_swapped (λ (z : Element). e.id ≢ z.id) (free ++ s.front) s.list s.back (subst (AllByRecursion (λ (z : Element). e.id ≢ z.id)) (ap (λ (x : List Element). free ++ x) s.before ∙ sym (append_assoc free s.front (s.list ++ s.back))) apart.0))
+  other = subst (AllByRecursion (λ (z : Element). e.id ≢ z.id))
+      (ap (λ (x : List Element). s.list ++ x) (append_assoc free s.front s.back))
+      (each_swapped (λ (z : Element). e.id ≢ z.id) (free ++ s.front) s.list s.back
+      (subst (AllByRecursion (λ (z : Element). e.id ≢ z.id))
+      (ap (λ (x : List Element). free ++ x) s.before ∙ sym (append_assoc free s.front (s.list ++ s.back))) apart.0))
 
   -- with e at the end of the list
   new_front : Apart (s.list ++ e ∷ (free ++ (s.front ++ s.back)))
   new_front = apart_into s.list e (free ++ (s.front ++ s.back)) other old_front
 
   as_new : s.list ++ e ∷ (free ++ (s.front ++ s.back)) ≡ (s.list ++ e ∷ []) ++ ((free ++ s.left) ++ s.right)
-  as_new = ap (λ (x : List Element). s.list ++ e ∷ (free ++ x)) s.rest ∙ (ap (λ (x : List Element). s.list ++ e ∷ x) (sym (append_assoc free s.left s.right)) ∙ sym (append_assoc s.list (e ∷ []) ((free ++ s.left) ++ s.right)))
+  as_new = ap (λ (x : List Element). s.list ++ e ∷ (free ++ x)) s.rest
+      ∙ (ap (λ (x : List Element). s.list ++ e ∷ x) (sym (append_assoc free s.left s.right))
+      ∙ sym (append_assoc s.list (e ∷ []) ((free ++ s.left) ++ s.right)))
 
   new_is : (free ++ s.left) ++ ((s.list ++ e ∷ []) ++ s.right) ≡ free ++ items_of new
   new_is = append_assoc free s.left ((s.list ++ e ∷ []) ++ s.right) ∙ ap (λ (x : List Element). free ++ x) (sym s.after)
 
   pub stowed_apart : Apart (free ++ items_of new)
-  stowed_apart = subst Apart new_is (apart_swapped (s.list ++ e ∷ []) (free ++ s.left) s.right (subst Apart as_new new_front))
+  stowed_apart = subst Apart new_is
+      (apart_swapped (s.list ++ e ∷ []) (free ++ s.left) s.right (subst Apart as_new new_front))
 
   pub stowed_sorted : sorted (free ++ items_of new) ≡ put id_before e (sorted (free ++ items_of old))
-  stowed_sorted = ap sorted (sym new_is) ∙ (sym (sorted_swapped law (s.list ++ e ∷ []) (free ++ s.left) s.right (subst Apart as_new new_front))
-      ∙ (ap sorted (sym as_new) ∙ (sorted_from law s.list e (free ++ (s.front ++ s.back)) new_front ∙ ap (put id_before e) (sym old_sorted))))
+  stowed_sorted = ap sorted (sym new_is)
+      ∙ (sym (sorted_swapped law (s.list ++ e ∷ []) (free ++ s.left) s.right (subst Apart as_new new_front))
+      ∙ (ap sorted (sym as_new)
+      ∙ (sorted_from law s.list e (free ++ (s.front ++ s.back)) new_front ∙ ap (put id_before e) (sym old_sorted))))

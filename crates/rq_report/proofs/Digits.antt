@@ -1,5 +1,6 @@
 -- The digits of bytes, as the library `hex` has them and as a report has them.
-use Rattle.std.proofs.Common.{◌≡◌, inl, inr, ℕ, zero, suc, ◌/◌, ◌%◌, ◌<◌, Bool, true, false, ◌&&◌, List, [], ◌∷◌, refl, arith, Fits, w8}
+use Rattle.std.proofs.Common.{◌≡◌, inl, inr, ℕ, zero, suc, ◌/◌, ◌%◌, ◌<◌, Bool, true, false, ◌&&◌, List, [], ◌∷◌, refl}
+use Rattle.std.proofs.Common.{arith, Fits, w8}
 use Rattle.std.specs.Prelude.{slice_index, slice_index_or, ◌==◌, nat_lt}
 use Rattle.std.specs.Fmt.{digit_glyph}
 use Rattle.std.specs.List.{flat_map, list_all}
@@ -21,17 +22,20 @@ same_below (suc n) d h below =
     let parts = and_parts (slice_index lower_digits n == digit_glyph false n) (are_same n) h in
     elim (cases_lt d n) [
       | inl less ↦ same_below n d parts.1 less
-      | inr top ↦ let e : d ≡ n = omega (arith, top, below) in rw e (eqb-true (slice_index lower_digits n) (digit_glyph false n) parts.0)
+      | inr top ↦ let e : d ≡ n = omega (arith, top, below) in
+          rw e (eqb-true (slice_index lower_digits n) (digit_glyph false n) parts.0)
     ]
 
 ascii_test : (bytes : List ℕ) → list_all (λ b. nat_lt b 128) bytes ≡ true → IsAscii bytes
 ascii_test [] h = IsAscii-nil
-ascii_test (b ∷ bytes) h = let parts = and_parts (nat_lt b 128) (list_all (λ b. nat_lt b 128) bytes) h in IsAscii-cons b bytes (ltb-true b 128 parts.0) (ascii_test bytes parts.1)
+ascii_test (b ∷ bytes) h = let parts = and_parts (nat_lt b 128) (list_all (λ b. nat_lt b 128) bytes) h in
+    IsAscii-cons b bytes (ltb-true b 128 parts.0) (ascii_test bytes parts.1)
 
 pub ascii_digits : (bytes : List ℕ) → IsAscii (encode_lower bytes)
 ascii_digits bytes = IsAscii-encode_with lower_digits bytes (ascii_test lower_digits refl)
 
-pub digits_are : (bytes : List ℕ) → ((i : ℕ) → Fits w8 (slice_index_or bytes i 0)) → encode_lower bytes ≡ flat_map hex_of bytes
+pub digits_are : (bytes : List ℕ) → ((i : ℕ) → Fits w8 (slice_index_or bytes i 0))
+    → encode_lower bytes ≡ flat_map hex_of bytes
 unfolding encode_with
 digits_are [] h = refl
 digits_are (b ∷ bytes) h =

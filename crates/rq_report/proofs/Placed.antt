@@ -1,5 +1,6 @@
 -- What is put for place after place.
-use Rattle.std.proofs.Common.{◌≡◌, ℕ, ◌+◌, ◌<◌, ◌≤◌, Bool, cond, List, [], ◌∷◌, ◌++◌, length, map, drop, refl, sym, ap, ◌∙◌, append_assoc}
+use Rattle.std.proofs.Common.{◌≡◌, ℕ, ◌+◌, ◌<◌, ◌≤◌, Bool, cond, List, [], ◌∷◌, ◌++◌, length, map, drop, refl, sym, ap}
+use Rattle.std.proofs.Common.{◌∙◌, append_assoc}
 use Rattle.std.specs.Prelude.{slice_index_or, filter}
 use Rattle.std.specs.List.{flat_map}
 use Rattle.std.proofs.Math.ListN.{drop_of_length-le}
@@ -7,18 +8,27 @@ use Rattle.std.proofs.lemmas.List.{drop_more, append-nil}
 use Rattle.rq_model.proofs.Lists.{by_cases}
 
 -- one place more
-pub placed_more : {X : Type 0} (f : ℕ → List X) (places : List ℕ) (i d : ℕ) (done news whole : List X) → i < length places → news ≡ done ++ f (slice_index_or places i d) → done ++ flat_map f (drop i places) ≡ whole → news ++ flat_map f (drop (i + 1) places) ≡ whole
+pub placed_more : {X : Type 0} (f : ℕ → List X) (places : List ℕ) (i d : ℕ) (done news whole : List X)
+    → i < length places → news ≡ done ++ f (slice_index_or places i d) → done ++ flat_map f (drop i places) ≡ whole
+    → news ++ flat_map f (drop (i + 1) places) ≡ whole
 placed_more f places i d done news whole l n h =
-    ap (λ v. v ++ flat_map f (drop (i + 1) places)) n ∙ append_assoc done (f (slice_index_or places i d)) (flat_map f (drop (i + 1) places)) ∙ ap (λ v. done ++ flat_map f v) (sym (drop_more places i d l)) ∙ h
+    ap (λ v. v ++ flat_map f (drop (i + 1) places)) n
+    ∙ append_assoc done (f (slice_index_or places i d)) (flat_map f (drop (i + 1) places))
+    ∙ ap (λ v. done ++ flat_map f v) (sym (drop_more places i d l)) ∙ h
 
 -- all places
-pub placed_all : {X : Type 0} (f : ℕ → List X) (places : List ℕ) (i : ℕ) (done whole : List X) → length places ≤ i → done ++ flat_map f (drop i places) ≡ whole → done ≡ whole
-placed_all f places i done whole l h = sym (append-nil done) ∙ ap (λ v. done ++ flat_map f v) (sym (drop_of_length-le places l)) ∙ h
+pub placed_all : {X : Type 0} (f : ℕ → List X) (places : List ℕ) (i : ℕ) (done whole : List X) → length places ≤ i
+    → done ++ flat_map f (drop i places) ≡ whole → done ≡ whole
+placed_all f places i done whole l h = sym (append-nil done)
+    ∙ ap (λ v. done ++ flat_map f v) (sym (drop_of_length-le places l)) ∙ h
 
-pub flat_of_map : {X Y Z : Type 0} (f : Y → List Z) (g : X → Y) (xs : List X) → flat_map (λ x. f (g x)) xs ≡ flat_map f (map g xs)
+pub flat_of_map : {X Y Z : Type 0} (f : Y → List Z) (g : X → Y) (xs : List X)
+    → flat_map (λ x. f (g x)) xs ≡ flat_map f (map g xs)
 flat_of_map f g [] = refl
 flat_of_map f g (x ∷ xs) = ap (λ v. f (g x) ++ v) (flat_of_map f g xs)
 
 pub flat_of_filter : {X : Type 0} (p : X → Bool) (xs : List X) → flat_map (λ x. filter p (x ∷ [])) xs ≡ filter p xs
 flat_of_filter p [] = refl
-flat_of_filter p (x ∷ xs) = by_cases (p x) (λ b. cond b (x ∷ []) [] ++ flat_map (λ y. filter p (y ∷ [])) xs ≡ cond b (x ∷ filter p xs) (filter p xs)) (λ _. ap (λ v. x ∷ v) (flat_of_filter p xs)) (λ _. flat_of_filter p xs)
+flat_of_filter p (x ∷ xs) = by_cases (p x)
+    (λ b. cond b (x ∷ []) [] ++ flat_map (λ y. filter p (y ∷ [])) xs ≡ cond b (x ∷ filter p xs) (filter p xs))
+    (λ _. ap (λ v. x ∷ v) (flat_of_filter p xs)) (λ _. flat_of_filter p xs)

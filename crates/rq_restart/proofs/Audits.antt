@@ -1,12 +1,14 @@
 -- What is found on the way through the front is its audit.
-use Rattle.std.proofs.Common.{◌≡◌, ℕ, ◌+◌, ◌<◌, ◌≤◌, Bool, true, List, [], ◌∷◌, ◌++◌, length, refl, sym, ap, subst, ◌∙◌, arith, inl, inr}
+use Rattle.std.proofs.Common.{◌≡◌, ℕ, ◌+◌, ◌<◌, ◌≤◌, Bool, true, List, [], ◌∷◌, ◌++◌, length, refl, sym, ap, subst, ◌∙◌}
+use Rattle.std.proofs.Common.{arith, inl, inr}
 use Rattle.std.specs.Prelude.{◌↔◌, map, Result, Ok, Err, IfOk, IfErr}
 use Rattle.std.specs.Global.{Vec}
 use Rattle.std.specs.Str.{bytes_eq}
 use Rattle.std.specs.List.{AllByRecursion}
 use Rattle.std.proofs.lemmas.List.{length-append, take_all}
 use Rattle.std.proofs.lemmas.Slice.Eq.{bytes_eq-Decides}
-use Rattle.rq_model.specs.Records.{Record, Define, Register, Deregister, Begin, Enqueue, Dequeue, Commit, Abort, Checkpoint, Kill, Version}
+use Rattle.rq_model.specs.Records.{Record, Define, Register, Deregister, Begin, Enqueue, Dequeue, Commit, Abort}
+use Rattle.rq_model.specs.Records.{Checkpoint, Kill, Version}
 use Rattle.rq_model.specs.Spelling.{body_of, IsRecord}
 use Rattle.rq_model.specs.Frames.{IsBodyLength, frame, digest, frames_of, log_of, magic, start, header, log_limit}
 use Rattle.rq_model.specs.States.{State, empty}
@@ -38,20 +40,30 @@ record IsFound (s : State) (at : ℕ) (rs : List Record) (x : Audited) : Type 0 
   pub whole : rs ≡ before ++ Checkpoint kept ∷ after
   pub is : x ≡ audit_at s at before kept
 
-later : (s : State) (at : ℕ) (r : Record) (rs : List Record) (x : Audited) → IsFound (step s r) (at + 36 + length (body_of r)) rs x → IsFound s at (r ∷ rs) x
-later s at r rs x f = record { before = r ∷ f.before; kept = f.kept; after = f.after; whole = ap (λ (qs : List Record). r ∷ qs) f.whole; is = f.is }
+later : (s : State) (at : ℕ) (r : Record) (rs : List Record) (x : Audited)
+    → IsFound (step s r) (at + 36 + length (body_of r)) rs x → IsFound s at (r ∷ rs) x
+later s at r rs x f =
+    record {
+      before = r ∷ f.before;
+      kept = f.kept;
+      after = f.after;
+      whole = ap (λ (qs : List Record). r ∷ qs) f.whole;
+      is = f.is;
+    }
 
 found : (s : State) (at : ℕ) (rs : List Record) (x : Audited) → IsIn x (audits s at rs) → IsFound s at rs x
 found s at [] x h = absurd h
 found s at (Checkpoint kept ∷ rs) x h = elim h [
   | inl is ↦ record { before = []; kept = kept; after = rs; whole = refl; is = is }
-  | inr more ↦ later s at (Checkpoint kept) rs x (found (step s (Checkpoint kept)) (at + 36 + length (body_of (Checkpoint kept))) rs x more)
+  | inr more ↦ later s at (Checkpoint kept) rs x
+      (found (step s (Checkpoint kept)) (at + 36 + length (body_of (Checkpoint kept))) rs x more)
 ]
 found s at (Define limit error name ∷ rs) x h = later s at (Define limit error name) rs x (found _ _ rs x h)
 found s at (Register queue name ∷ rs) x h = later s at (Register queue name) rs x (found _ _ rs x h)
 found s at (Deregister queue name ∷ rs) x h = later s at (Deregister queue name) rs x (found _ _ rs x h)
 found s at (Begin unit ∷ rs) x h = later s at (Begin unit) rs x (found _ _ rs x h)
-found s at (Enqueue unit queue priority by payload ∷ rs) x h = later s at (Enqueue unit queue priority by payload) rs x (found _ _ rs x h)
+found s at (Enqueue unit queue priority by payload ∷ rs) x h =
+    later s at (Enqueue unit queue priority by payload) rs x (found _ _ rs x h)
 found s at (Dequeue unit queue by ∷ rs) x h = later s at (Dequeue unit queue by) rs x (found _ _ rs x h)
 found s at (Commit unit ∷ rs) x h = later s at (Commit unit) rs x (found _ _ rs x h)
 found s at (Abort unit ∷ rs) x h = later s at (Abort unit) rs x (found _ _ rs x h)
@@ -62,14 +74,18 @@ in_behind x [] ys h = h
 in_behind x (y ∷ xs) ys h = inr (in_behind x xs ys h)
 
 -- each checkpoint among the records is found
-pub audits_have : (s : State) (at : ℕ) (before : List Record) (kept : List ℕ) (after : List Record) → IsIn (audit_at s at before kept) (audits s at (before ++ Checkpoint kept ∷ after))
+pub audits_have : (s : State) (at : ℕ) (before : List Record) (kept : List ℕ) (after : List Record)
+    → IsIn (audit_at s at before kept) (audits s at (before ++ Checkpoint kept ∷ after))
 audits_have s at [] kept after = inl refl
-audits_have s at (r ∷ before) kept after = in_behind _ (audit_of s at r) _ (audits_have (step s r) (at + 36 + length (body_of r)) before kept after)
+audits_have s at (r ∷ before) kept after =
+    in_behind _ (audit_of s at r) _ (audits_have (step s r) (at + 36 + length (body_of r)) before kept after)
 
 -- they rise
-from_place : (s : State) (at low : ℕ) (rs : List Record) → low < at → AllByRecursion (λ x. low < x.offset) (audits s at rs)
+from_place : (s : State) (at low : ℕ) (rs : List Record) → low < at
+    → AllByRecursion (λ x. low < x.offset) (audits s at rs)
 from_place s at low [] h = tt
-from_place s at low (Checkpoint kept ∷ rs) h = (h, from_place (step s (Checkpoint kept)) (at + 36 + length (body_of (Checkpoint kept))) low rs (omega (arith, h)))
+from_place s at low (Checkpoint kept ∷ rs) h =
+    (h, from_place (step s (Checkpoint kept)) (at + 36 + length (body_of (Checkpoint kept))) low rs (omega (arith, h)))
 from_place s at low (Define limit error name ∷ rs) h = from_place _ _ low rs (omega (arith, h))
 from_place s at low (Register queue name ∷ rs) h = from_place _ _ low rs (omega (arith, h))
 from_place s at low (Deregister queue name ∷ rs) h = from_place _ _ low rs (omega (arith, h))
@@ -82,8 +98,10 @@ from_place s at low (Kill queue element ∷ rs) h = from_place _ _ low rs (omega
 
 rises : (s : State) (at : ℕ) (rs : List Record) → Ordered (λ x y. x.offset < y.offset) (audits s at rs)
 rises s at [] = tt
-rises s at (Checkpoint kept ∷ rs) =
-    (from_place (step s (Checkpoint kept)) (at + 36 + length (body_of (Checkpoint kept))) at rs (omega arith), rises (step s (Checkpoint kept)) (at + 36 + length (body_of (Checkpoint kept))) rs)
+rises s at (Checkpoint kept ∷ rs) = (
+  from_place (step s (Checkpoint kept)) (at + 36 + length (body_of (Checkpoint kept))) at rs (omega arith),
+  rises (step s (Checkpoint kept)) (at + 36 + length (body_of (Checkpoint kept))) rs,
+)
 rises s at (Define limit error name ∷ rs) = rises _ _ rs
 rises s at (Register queue name ∷ rs) = rises _ _ rs
 rises s at (Deregister queue name ∷ rs) = rises _ _ rs
@@ -95,18 +113,22 @@ rises s at (Abort unit ∷ rs) = rises _ _ rs
 rises s at (Kill queue element ∷ rs) = rises _ _ rs
 
 -- a record at a place of the records is the only one
-same_split : (at : ℕ) (xs ys as' bs : List Record) (r q : Record) → xs ++ r ∷ as' ≡ ys ++ q ∷ bs → past at xs ≡ past at ys → (xs ≡ ys) × (r ≡ q)
+same_split : (at : ℕ) (xs ys as' bs : List Record) (r q : Record) → xs ++ r ∷ as' ≡ ys ++ q ∷ bs
+    → past at xs ≡ past at ys → (xs ≡ ys) × (r ≡ q)
 same_split at [] [] as' bs r q e p = (refl, ap (head_or r) e)
   where
     head_or : Record → List Record → Record
     head_or d [] = d
     head_or d (x ∷ xs) = x
-same_split at [] (y ∷ ys) as' bs r q e p = absurd (let more = past_grows (at + 36 + length (body_of y)) ys in omega (arith, p, more))
-same_split at (x ∷ xs) [] as' bs r q e p = absurd (let more = past_grows (at + 36 + length (body_of x)) xs in omega (arith, p, more))
+same_split at [] (y ∷ ys) as' bs r q e p =
+    absurd (let more = past_grows (at + 36 + length (body_of y)) ys in omega (arith, p, more))
+same_split at (x ∷ xs) [] as' bs r q e p =
+    absurd (let more = past_grows (at + 36 + length (body_of x)) xs in omega (arith, p, more))
 same_split at (x ∷ xs) (y ∷ ys) as' bs r q e p =
     let first : x ≡ y = ap (head_or x) e in
     let rest : xs ++ r ∷ as' ≡ ys ++ q ∷ bs = ap tail_of e in
-    let place : past (at + 36 + length (body_of x)) xs ≡ past (at + 36 + length (body_of x)) ys = p ∙ ap (λ (z : Record). past (at + 36 + length (body_of z)) ys) (sym first) in
+    let place : past (at + 36 + length (body_of x)) xs ≡ past (at + 36 + length (body_of x)) ys =
+    p ∙ ap (λ (z : Record). past (at + 36 + length (body_of z)) ys) (sym first) in
     let more = same_split (at + 36 + length (body_of x)) xs ys as' bs r q rest place in
     (λ i. first i ∷ more.0 i, more.1)
   where
@@ -120,7 +142,8 @@ same_split at (x ∷ xs) (y ∷ ys) as' bs r q e p =
 
 -- The place of a record is the length of the log before it.
 
-frames_size : (version : Version) → FrameIsRight → RecordHasOneBody → (p : List ℕ) (at : ℕ) (rs : List Record) → AllByRecursion (IsRecord version) rs → length (frames_of p rs) + at ≡ past at rs
+frames_size : (version : Version) → FrameIsRight → RecordHasOneBody → (p : List ℕ) (at : ℕ) (rs : List Record)
+    → AllByRecursion (IsRecord version) rs → length (frames_of p rs) + at ≡ past at rs
 frames_size version right one p at [] h = omega arith
 frames_size version right one p at (r ∷ rs) h =
     let body = body_of r in
@@ -128,10 +151,17 @@ frames_size version right one p at (r ∷ rs) h =
     let more = frames_size version right one (digest p body) (at + 36 + length body) rs h.1 in
     omega (arith, more, frame_long right p body fits, length-append (frame p body) (frames_of (digest p body) rs))
 
-log_size : (version : Version) → FrameIsRight → RecordHasOneBody → LogEnds → (rs : List Record) → AllByRecursion (IsRecord version) rs → length (log_of version rs) ≡ past 40 rs
+log_size : (version : Version) → FrameIsRight → RecordHasOneBody → LogEnds → (rs : List Record)
+    → AllByRecursion (IsRecord version) rs → length (log_of version rs) ≡ past 40 rs
 log_size version right one ends rs h =
     let size : length (start version) ≡ 32 = (ends version []).2 in
-    omega (arith, size, length-append (magic version) (start version), length-append (header version) (frames_of (start version) rs), frames_size version right one (start version) 40 rs h)
+    omega (
+      arith,
+      size,
+      length-append (magic version) (start version),
+      length-append (header version) (frames_of (start version) rs),
+      frames_size version right one (start version) 40 rs h,
+    )
 
 -- what the audit rests on
 pub record AuditLaws : Type 0 where
@@ -141,25 +171,36 @@ pub record AuditLaws : Type 0 where
   pub front : OneFront
 
 -- a checkpoint of the front stands where it is found
-stands : (version : Version) → AuditLaws → (b : List ℕ) (rs : List Record) (rest : List ℕ) (before : List Record) (kept : List ℕ) (after : List Record) → IsFront b version rs rest → rs ≡ before ++ Checkpoint kept ∷ after → HasCheckpoint b (past 40 before) before kept
+stands : (version : Version) → AuditLaws
+    → (b : List ℕ) (rs : List Record) (rest : List ℕ) (before : List Record) (kept : List ℕ) (after : List Record)
+    → IsFront b version rs rest → rs ≡ before ++ Checkpoint kept ∷ after → HasCheckpoint b (past 40 before) before kept
 stands version laws b rs rest before kept after front is =
-    let here : IsFront b version (before ++ Checkpoint kept ∷ after) rest = subst (λ (qs : List Record). IsFront b version qs rest) is front in
+    let here : IsFront b version (before ++ Checkpoint kept ∷ after) rest =
+    subst (λ (qs : List Record). IsFront b version qs rest) is front in
     record {
       version = version;
       after = after;
       rest = rest;
       front = here;
-      there = sym (log_size version laws.right laws.body laws.ends before (each_cut (IsRecord version) before (Checkpoint kept ∷ after) here.longest.begins.records).0);
+      there = sym (log_size version laws.right laws.body laws.ends before
+          (each_cut (IsRecord version) before (Checkpoint kept ∷ after) here.longest.begins.records).0);
     }
 
 -- and is the only one that stands there
-only : (version : Version) → AuditLaws → (b : List ℕ) (rs : List Record) (rest : List ℕ) (before : List Record) (kept : List ℕ) (after : List Record) (offset : ℕ) (records : List Record) (other : List ℕ) → IsFront b version rs rest
-    → rs ≡ before ++ Checkpoint kept ∷ after → offset ≡ past 40 before → HasCheckpoint b offset records other → (records ≡ before) × (other ≡ kept)
+only : (version : Version) → AuditLaws
+    → (b : List ℕ) (rs : List Record) (rest : List ℕ) (before : List Record) (kept : List ℕ) (after : List Record)
+    (offset : ℕ) (records : List Record) (other : List ℕ) → IsFront b version rs rest
+    → rs ≡ before ++ Checkpoint kept ∷ after → offset ≡ past 40 before → HasCheckpoint b offset records other
+    → (records ≡ before) × (other ≡ kept)
 only version laws b rs rest before kept after offset records other front is place h =
     let one = laws.front b h.version version (records ++ Checkpoint other ∷ h.after) rs h.rest rest h.front front in
-    let again : IsFront b version (records ++ Checkpoint other ∷ h.after) h.rest = subst (λ (v : Version). IsFront b v (records ++ Checkpoint other ∷ h.after) h.rest) one.0 h.front in
-    let size : length (log_of version records) ≡ past 40 records = log_size version laws.right laws.body laws.ends records (each_cut (IsRecord version) records (Checkpoint other ∷ h.after) again.longest.begins.records).0 in
-    let same : past 40 records ≡ past 40 before = sym size ∙ ap (λ (v : Version). length (log_of v records)) (sym one.0) ∙ sym h.there ∙ place in
+    let again : IsFront b version (records ++ Checkpoint other ∷ h.after) h.rest =
+    subst (λ (v : Version). IsFront b v (records ++ Checkpoint other ∷ h.after) h.rest) one.0 h.front in
+    let size : length (log_of version records) ≡ past 40 records =
+    log_size version laws.right laws.body laws.ends records
+    (each_cut (IsRecord version) records (Checkpoint other ∷ h.after) again.longest.begins.records).0 in
+    let same : past 40 records ≡ past 40 before =
+    sym size ∙ ap (λ (v : Version). length (log_of v records)) (sym one.0) ∙ sym h.there ∙ place in
     let both = same_split 40 records before h.after after (Checkpoint other) (Checkpoint kept) (one.1 ∙ is) same in
     (both.0, ap kept_or both.1)
   where
@@ -168,16 +209,26 @@ only version laws b rs rest before kept after offset records other front is plac
     kept_or r = []
 
 -- the test of a checkpoint tells whether it is true
-tells : (version : Version) → AuditLaws → (b : List ℕ) (rs : List Record) (rest : List ℕ) (before : List Record) (kept : List ℕ) (after : List Record) (offset : ℕ) → IsFront b version rs rest → rs ≡ before ++ Checkpoint kept ∷ after → offset ≡ past 40 before
+tells : (version : Version) → AuditLaws
+    → (b : List ℕ) (rs : List Record) (rest : List ℕ) (before : List Record) (kept : List ℕ) (after : List Record)
+    (offset : ℕ) → IsFront b version rs rest → rs ≡ before ++ Checkpoint kept ∷ after → offset ≡ past 40 before
     → (bytes_eq kept (state_bytes (run empty before)) ≡ true) ↔ TrueAt b offset
 tells version laws b rs rest before kept after offset front is place = (
-  λ t. (before, kept, subst (λ (n : ℕ). HasCheckpoint b n before kept) (sym place) (stands version laws b rs rest before kept after front is), (bytes_eq-Decides kept (state_bytes (run empty before))).0 t),
+  λ t. (
+    before,
+    kept,
+    subst (λ (n : ℕ). HasCheckpoint b n before kept) (sym place)
+        (stands version laws b rs rest before kept after front is),
+    (bytes_eq-Decides kept (state_bytes (run empty before))).0 t,
+  ),
   λ t. (let same = only version laws b rs rest before kept after offset t.0 t.1 front is place t.2 in
-      let spelled : kept ≡ state_bytes (run empty before) = sym same.1 ∙ t.3 ∙ ap (λ (qs : List Record). state_bytes (run empty qs)) same.0 in
+      let spelled : kept ≡ state_bytes (run empty before) =
+      sym same.1 ∙ t.3 ∙ ap (λ (qs : List Record). state_bytes (run empty qs)) same.0 in
       (bytes_eq-Decides kept (state_bytes (run empty before))).1 spelled),
 )
 
-pub is_audit : (version : Version) → AuditLaws → (b : List ℕ) (rs : List Record) (rest : List ℕ) → IsFront b version rs rest → IsAudit b (audits empty 40 rs)
+pub is_audit : (version : Version) → AuditLaws → (b : List ℕ) (rs : List Record) (rest : List ℕ)
+    → IsFront b version rs rest → IsAudit b (audits empty 40 rs)
 is_audit version laws b rs rest front = record {
   version = version;
   records = rs;
@@ -188,34 +239,50 @@ is_audit version laws b rs rest front = record {
   truths = truths;
 }
   where
-    to : (n : ℕ) → (x : Audited) × IsIn x (audits empty 40 rs) × (x.offset ≡ n) → (earlier : List Record) × (kept : List ℕ) × HasCheckpoint b n earlier kept
+    to : (n : ℕ) → (x : Audited) × IsIn x (audits empty 40 rs) × (x.offset ≡ n)
+        → (earlier : List Record) × (kept : List ℕ) × HasCheckpoint b n earlier kept
     to n (x, h, e) =
         let f = found empty 40 rs x h in
-        let place : past 40 f.before ≡ n = sym (ap (λ (a : Audited). a.offset) f.is) ∙ e in
-        (f.before, f.kept, subst (λ (m : ℕ). HasCheckpoint b m f.before f.kept) place (stands version laws b rs rest f.before f.kept f.after front f.whole))
+        let place : past 40 f.before ≡ n = sym (ap (λ (a : Audited). a.offset) f.is) ∙ e in (
+          f.before,
+          f.kept,
+          subst (λ (m : ℕ). HasCheckpoint b m f.before f.kept) place
+              (stands version laws b rs rest f.before f.kept f.after front f.whole),
+        )
 
-    from : (n : ℕ) → (earlier : List Record) × (kept : List ℕ) × HasCheckpoint b n earlier kept → (x : Audited) × IsIn x (audits empty 40 rs) × (x.offset ≡ n)
+    from : (n : ℕ) → (earlier : List Record) × (kept : List ℕ) × HasCheckpoint b n earlier kept
+        → (x : Audited) × IsIn x (audits empty 40 rs) × (x.offset ≡ n)
     from n (earlier, kept, c) =
         let one = laws.front b c.version version (earlier ++ Checkpoint kept ∷ c.after) rs c.rest rest c.front front in
-        let again : IsFront b version (earlier ++ Checkpoint kept ∷ c.after) c.rest = subst (λ (v : Version). IsFront b v (earlier ++ Checkpoint kept ∷ c.after) c.rest) one.0 c.front in
-        let size : length (log_of version earlier) ≡ past 40 earlier = log_size version laws.right laws.body laws.ends earlier (each_cut (IsRecord version) earlier (Checkpoint kept ∷ c.after) again.longest.begins.records).0 in
-        let place : n ≡ past 40 earlier = c.there ∙ ap (λ (v : Version). length (log_of v earlier)) one.0 ∙ size in
-        (audit_at empty 40 earlier kept, subst (λ (qs : List Record). IsIn (audit_at empty 40 earlier kept) (audits empty 40 qs)) one.1 (audits_have empty 40 earlier kept c.after), sym place)
+        let again : IsFront b version (earlier ++ Checkpoint kept ∷ c.after) c.rest =
+        subst (λ (v : Version). IsFront b v (earlier ++ Checkpoint kept ∷ c.after) c.rest) one.0 c.front in
+        let size : length (log_of version earlier) ≡ past 40 earlier =
+        log_size version laws.right laws.body laws.ends earlier
+        (each_cut (IsRecord version) earlier (Checkpoint kept ∷ c.after) again.longest.begins.records).0 in
+        let place : n ≡ past 40 earlier = c.there ∙ ap (λ (v : Version). length (log_of v earlier)) one.0 ∙ size in (
+          audit_at empty 40 earlier kept,
+          subst (λ (qs : List Record). IsIn (audit_at empty 40 earlier kept) (audits empty 40 qs)) one.1
+              (audits_have empty 40 earlier kept c.after),
+          sym place,
+        )
 
     truths : (x : Audited) → IsIn x (audits empty 40 rs) → (x.truth ≡ true) ↔ TrueAt b x.offset
     truths x h =
         let f = found empty 40 rs x h in
         let place : x.offset ≡ past 40 f.before = ap (λ (a : Audited). a.offset) f.is in
         let truth : x.truth ≡ bytes_eq f.kept (state_bytes (run empty f.before)) = ap (λ (a : Audited). a.truth) f.is in
-        subst (λ (t : Bool). (t ≡ true) ↔ TrueAt b x.offset) (sym truth) (tells version laws b rs rest f.before f.kept f.after x.offset front f.whole place)
+        subst (λ (t : Bool). (t ≡ true) ↔ TrueAt b x.offset) (sym truth)
+        (tells version laws b rs rest f.before f.kept f.after x.offset front f.whole place)
 
 -- what is found in the front of a log, or no memory
-pub audits_are : (b : List ℕ) → length b ≤ log_limit → IsHeaded b → (result : Result (Vec (ℕ × Bool)) Fault) → IfOk result (λ v. IsAudit b (map audited_of v.items)) → IfErr result (λ e. e ≡ Resources) → Audits b result
+pub audits_are : (b : List ℕ) → length b ≤ log_limit → IsHeaded b → (result : Result (Vec (ℕ × Bool)) Fault)
+    → IfOk result (λ v. IsAudit b (map audited_of v.items)) → IfErr result (λ e. e ≡ Resources) → Audits b result
 audits_are b short head (Ok v) is refused = (short, head, is)
 audits_are b short head (Err e) is refused = subst (λ (f : Fault). Refused b f) (sym refused) tt
 
 -- the share from the first record to the last is the audit
-pub found_whole : (b : List ℕ) (rs : List Record) (n : ℕ) (result : Result (Vec (ℕ × Bool)) Fault) → length rs ≤ n → IsAudit b (audits empty 40 rs) → FindsShare rs 0 n result
+pub found_whole : (b : List ℕ) (rs : List Record) (n : ℕ) (result : Result (Vec (ℕ × Bool)) Fault) → length rs ≤ n
+    → IsAudit b (audits empty 40 rs) → FindsShare rs 0 n result
     → IfOk result (λ v. IsAudit b (map audited_of v.items)) × IfErr result (λ e. e ≡ Resources)
 found_whole b rs n (Ok v) all is h = (subst (IsAudit b) (sym (h ∙ ap (audits empty 40) (take_all n rs all))) is, tt)
 found_whole b rs n (Err e) all is h = (tt, h)

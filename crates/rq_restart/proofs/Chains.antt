@@ -1,5 +1,6 @@
 -- Where the frames of a chain stand.
-use Rattle.std.proofs.Common.{◌≡◌, ℕ, ◌+◌, ◌≤◌, List, [], ◌∷◌, ◌++◌, length, drop, refl, sym, ap, ◌∙◌, append_assoc, arith, Some, None}
+use Rattle.std.proofs.Common.{◌≡◌, ℕ, ◌+◌, ◌≤◌, List, [], ◌∷◌, ◌++◌, length, drop, refl, sym, ap, ◌∙◌, append_assoc}
+use Rattle.std.proofs.Common.{arith, Some, None}
 use Rattle.std.specs.Prelude.{slice_get}
 use Rattle.std.specs.Int.{w32, to_be_bytes}
 use Rattle.std.proofs.lemmas.List.{drop_at, drop-drop, length-append, length-drop, length-take}
@@ -13,7 +14,8 @@ behind at [] = at
 behind at (body ∷ bodies) = behind (at + 36 + length body) bodies
 
 -- a frame is its body and 36 bytes, since it is a right one
-pub frame_long : FrameIsRight → (p body : List ℕ) → IsBodyLength (length body) → length (frame p body) ≡ 36 + length body
+pub frame_long : FrameIsRight → (p body : List ℕ) → IsBodyLength (length body)
+    → length (frame p body) ≡ 36 + length body
 frame_long right p body fits =
     let bytes : List ℕ = frame p body ++ [] in
     let it = right p body [] fits in
@@ -22,16 +24,32 @@ frame_long right p body fits =
     let size : length (body_in bytes) ≡ length body = ap length it.1 in
     let front : List ℕ = to_be_bytes w32 (length body) in
     let four : length front ≡ 4 = refl in
-    omega (arith, it.0.whole.room, sum, size, four, length-take 32 (drop (4 + n) bytes), length-drop (4 + n) bytes, length-take n (drop 4 bytes), length-drop 4 bytes, length-append (frame p body) [], length-append front (body ++ digest p body), length-append body (digest p body))
+    omega (
+      arith,
+      it.0.whole.room,
+      sum,
+      size,
+      four,
+      length-take 32 (drop (4 + n) bytes),
+      length-drop (4 + n) bytes,
+      length-take n (drop 4 bytes),
+      length-drop 4 bytes,
+      length-append (frame p body) [],
+      length-append front (body ++ digest p body),
+      length-append body (digest p body),
+    )
 
 -- behind the first frame stand the others
-next : FrameIsRight → (b : List ℕ) (at : ℕ) (p body : List ℕ) (bodies : List (List ℕ)) (rest : List ℕ) → IsBodyLength (length body) → drop at b ≡ frames p (body ∷ bodies) ++ rest
+next : FrameIsRight → (b : List ℕ) (at : ℕ) (p body : List ℕ) (bodies : List (List ℕ)) (rest : List ℕ)
+    → IsBodyLength (length body) → drop at b ≡ frames p (body ∷ bodies) ++ rest
     → drop (at + 36 + length body) b ≡ frames (digest p body) bodies ++ rest
 next right b at p body bodies rest fits is =
     let others : List ℕ = frames (digest p body) bodies ++ rest in
     let place : at + (36 + length body) ≡ at + 36 + length body = omega arith in
-    let parts : drop at b ≡ frame p body ++ others = is ∙ append_assoc (frame p body) (frames (digest p body) bodies) rest in
-    ap (λ (n : ℕ). drop n b) (sym place) ∙ sym (drop-drop (36 + length body) at b) ∙ ap (drop (36 + length body)) parts ∙ drop_at (frame p body) others (36 + length body) (frame_long right p body fits)
+    let parts : drop at b ≡ frame p body ++ others =
+    is ∙ append_assoc (frame p body) (frames (digest p body) bodies) rest in
+    ap (λ (n : ℕ). drop n b) (sym place) ∙ sym (drop-drop (36 + length body) at b) ∙ ap (drop (36 + length body)) parts
+    ∙ drop_at (frame p body) others (36 + length body) (frame_long right p body fits)
 
 -- where so many frames end, and that they are so many
 pub record AreBehind (b : List ℕ) (at : ℕ) (bodies : List (List ℕ)) (rest : List ℕ) : Type 0 where
@@ -39,18 +57,31 @@ pub record AreBehind (b : List ℕ) (at : ℕ) (bodies : List (List ℕ)) (rest 
   pub within : behind at bodies ≤ length b
   pub few : at + length bodies ≤ behind at bodies
 
-pub are_behind : FrameIsRight → (b : List ℕ) (at : ℕ) (p : List ℕ) (bodies : List (List ℕ)) (rest : List ℕ) → AreBodies bodies → at ≤ length b → drop at b ≡ frames p bodies ++ rest → AreBehind b at bodies rest
+pub are_behind : FrameIsRight → (b : List ℕ) (at : ℕ) (p : List ℕ) (bodies : List (List ℕ)) (rest : List ℕ)
+    → AreBodies bodies → at ≤ length b → drop at b ≡ frames p bodies ++ rest → AreBehind b at bodies rest
 are_behind right b at p [] rest fits low is = record { rest_is = is; within = low; few = omega arith }
 are_behind right b at p (body ∷ bodies) rest fits low is =
     let others : List ℕ = frames (digest p body) bodies ++ rest in
-    let parts : drop at b ≡ frame p body ++ others = is ∙ append_assoc (frame p body) (frames (digest p body) bodies) rest in
+    let parts : drop at b ≡ frame p body ++ others =
+    is ∙ append_assoc (frame p body) (frames (digest p body) bodies) rest in
     let size : length (drop at b) ≡ length (frame p body ++ others) = ap length parts in
-    let room : at + 36 + length body ≤ length b = omega (arith, size, low, length-append (frame p body) others, frame_long right p body fits.0, length-drop at b) in
-    let more = are_behind right b (at + 36 + length body) (digest p body) bodies rest fits.1 room (next right b at p body bodies rest fits.0 is) in
+    let room : at + 36 + length body ≤ length b =
+    omega (
+      arith,
+      size,
+      low,
+      length-append (frame p body) others,
+      frame_long right p body fits.0,
+      length-drop at b,
+    ) in
+    let more = are_behind right b (at + 36 + length body) (digest p body) bodies rest fits.1 room
+    (next right b at p body bodies rest fits.0 is) in
     record { rest_is = more.rest_is; within = more.within; few = omega (arith, more.few) }
 
 -- the span of the body behind so many others
-pub span_at : (at : ℕ) (bodies : List (List ℕ)) (body : List ℕ) (more : List (List ℕ)) → slice_get (spans_from at (bodies ++ body ∷ more)) (length bodies) ≡ Some (record { start = behind at bodies + 4; len = length body })
+pub span_at : (at : ℕ) (bodies : List (List ℕ)) (body : List ℕ) (more : List (List ℕ))
+    → slice_get (spans_from at (bodies ++ body ∷ more)) (length bodies)
+    ≡ Some (record { start = behind at bodies + 4; len = length body })
 span_at at [] body more = refl
 span_at at (b ∷ bodies) body more = span_at (at + 36 + length b) bodies body more
 

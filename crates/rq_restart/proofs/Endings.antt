@@ -1,5 +1,6 @@
 -- The front of a log, and the aborts behind it.
-use Rattle.std.proofs.Common.{◌≡◌, ℕ, ◌+◌, ◌-◌, ◌*◌, ◌/◌, ◌<◌, ◌≤◌, List, get_or, [], ◌∷◌, ◌++◌, length, map, take, drop, refl, sym, ap, subst, ◌∙◌, append_assoc, arith}
+use Rattle.std.proofs.Common.{◌≡◌, ℕ, ◌+◌, ◌-◌, ◌*◌, ◌/◌, ◌<◌, ◌≤◌, List, get_or, [], ◌∷◌, ◌++◌, length, map, take}
+use Rattle.std.proofs.Common.{drop, refl, sym, ap, subst, ◌∙◌, append_assoc, arith}
 use Rattle.std.specs.Int.{w32, to_be_bytes}
 use Rattle.std.proofs.lemmas.List.{append-nil, drop_more, take_at, drop_at, length-append, length-take, length-drop}
 use Rattle.rq_model.specs.Records.{Record, Abort, Version}
@@ -22,8 +23,10 @@ use Rattle.rq_restart.specs.declared.tails.Ending.{Ending}
 use Rattle.rq_restart.proofs.Starts.{started, whole_front}
 
 -- the 32 bytes that end here
-pub before_is : (kept last rest : List ℕ) (place : ℕ) → length last ≡ 32 → place ≡ length kept + 32 → before place (kept ++ (last ++ rest)) ≡ last
-before_is kept last rest place long is = ap (take 32) (drop_at kept (last ++ rest) (place - 32) (omega (arith, is))) ∙ take_at last rest 32 long
+pub before_is : (kept last rest : List ℕ) (place : ℕ) → length last ≡ 32 → place ≡ length kept + 32
+    → before place (kept ++ (last ++ rest)) ≡ last
+before_is kept last rest place long is = ap (take 32) (drop_at kept (last ++ rest) (place - 32) (omega (arith, is)))
+    ∙ take_at last rest 32 long
 
 -- the last 32 bytes of one frame more
 pub record IsFramed (old new p body : List ℕ) : Type 0 where
@@ -35,18 +38,30 @@ framed old new p body is =
     let d = digest p body in
     let size : List ℕ = to_be_bytes w32 (length body) in
     let kept : List ℕ = old ++ (size ++ body) in
-    let apart : new ≡ kept ++ (d ++ []) = is ∙ ap (λ (z : List ℕ). old ++ z) (sym (append_assoc size body d)) ∙ sym (append_assoc old (size ++ body) d) ∙ ap (λ (z : List ℕ). kept ++ z) (sym (append-nil d)) in
+    let apart : new ≡ kept ++ (d ++ []) = is ∙ ap (λ (z : List ℕ). old ++ z) (sym (append_assoc size body d))
+    ∙ sym (append_assoc old (size ++ body) d) ∙ ap (λ (z : List ℕ). kept ++ z) (sym (append-nil d)) in
     let long : length d ≡ 32 = length-sha256 (p ++ (size ++ body)) in
-    let here : length new ≡ length kept + 32 = omega (arith, ap length apart, length-append kept (d ++ []), length-append d [], long) in
-    record { long = omega (arith, here); last = ap (before (length new)) apart ∙ before_is kept d [] (length new) long here }
+    let here : length new ≡ length kept + 32 =
+    omega (arith, ap length apart, length-append kept (d ++ []), length-append d [], long) in
+    record {
+      long = omega (arith, here);
+      last =
+          ap (before (length new)) apart ∙ before_is kept d [] (length new) long here;
+    }
 
 -- of the aborts of units, one is written, and the others are still to come
-pub one_written : (us : List UnitNo) (i : ℕ) (d : UnitNo) (out new p last whole : List ℕ) → i < length us → out ++ frames_of p (map Abort (map unit_of (drop i us))) ≡ whole
-    → new ≡ out ++ frame p (body_of (Abort (unit_of (get_or us i d)))) → last ≡ digest p (body_of (Abort (unit_of (get_or us i d)))) → new ++ frames_of last (map Abort (map unit_of (drop (i + 1) us))) ≡ whole
+pub one_written : (us : List UnitNo) (i : ℕ) (d : UnitNo) (out new p last whole : List ℕ) → i < length us
+    → out ++ frames_of p (map Abort (map unit_of (drop i us))) ≡ whole
+    → new ≡ out ++ frame p (body_of (Abort (unit_of (get_or us i d))))
+    → last ≡ digest p (body_of (Abort (unit_of (get_or us i d))))
+    → new ++ frames_of last (map Abort (map unit_of (drop (i + 1) us))) ≡ whole
 one_written us i d out new p last whole lt so_far wrote end =
     let body = body_of (Abort (unit_of (get_or us i d))) in
     let others = frames_of (digest p body) (map Abort (map unit_of (drop (i + 1) us))) in
-    (λ k. wrote k ++ frames_of (end k) (map Abort (map unit_of (drop (i + 1) us)))) ∙ append_assoc out (frame p body) others ∙ ap (λ (vs : List UnitNo). out ++ frames_of p (map Abort (map unit_of vs))) (sym (drop_more us i d lt)) ∙ so_far
+    (λ k. wrote k ++ frames_of (end k) (map Abort (map unit_of (drop (i + 1) us))))
+    ∙ append_assoc out (frame p body) others
+    ∙ ap (λ (vs : List UnitNo). out ++ frames_of p (map Abort (map unit_of vs))) (sym (drop_more us i d lt))
+    ∙ so_far
 
 -- the frames of aborts have 45 bytes each
 pub aborts_long : (p : List ℕ) (us : List ℕ) → length (frames_of p (map Abort us)) ≡ 45 * length us
@@ -54,7 +69,13 @@ aborts_long p [] = refl
 aborts_long p (u ∷ us) =
     let body = body_of (Abort u) in
     let nine : length body ≡ 9 = refl in
-    omega (arith, length-append (frame p body) (frames_of (digest p body) (map Abort us)), frame_long p body, nine, aborts_long (digest p body) us)
+    omega (
+      arith,
+      length-append (frame p body) (frames_of (digest p body) (map Abort us)),
+      frame_long p body,
+      nine,
+      aborts_long (digest p body) us,
+    )
 
 -- of a log and where its front ends: the bytes up to there, the last 32 of them, and what closes it
 pub record IsFrontOf (version : Version) (b : List ℕ) (rs : List Record) (end : ℕ) : Type 0 where
@@ -62,7 +83,9 @@ pub record IsFrontOf (version : Version) (b : List ℕ) (rs : List Record) (end 
   pub bytes : take end b ≡ log_of version rs
   pub last : before end b ≡ last_of (start version) rs
 
-pub front_of : (version : Version) → LogEnds → (b : List ℕ) (rs : List Record) (end : ℕ) (why : Why) → length b ≤ log_limit → HasHeader version b → IsFrontFrom version empty b 40 rs end why → IsFrontOf version b rs end
+pub front_of : (version : Version) → LogEnds → (b : List ℕ) (rs : List Record) (end : ℕ) (why : Why)
+    → length b ≤ log_limit → HasHeader version b → IsFrontFrom version empty b 40 rs end why
+    → IsFrontOf version b rs end
 front_of version law b rs end why short head h =
     let front = whole_front version b rs end why (started version law b head) short h in
     let rest : List ℕ = drop end b in
@@ -70,15 +93,18 @@ front_of version law b rs end why short head h =
     let whole : b ≡ log ++ rest = front_whole b version rs rest front in
     let long : length log ≡ end = omega (arith, ap length whole, length-append log rest, length-drop end b, h.within) in
     let ends = law version rs in
-    let apart : b ≡ ends.0 ++ (last_of (start version) rs ++ rest) = whole ∙ ap (λ (z : List ℕ). z ++ rest) ends.1 ∙ append_assoc ends.0 (last_of (start version) rs) rest in
-    let here : end ≡ length ends.0 + 32 = omega (arith, long, ap length ends.1, length-append ends.0 (last_of (start version) rs), ends.2) in
+    let apart : b ≡ ends.0 ++ (last_of (start version) rs ++ rest) =
+    whole ∙ ap (λ (z : List ℕ). z ++ rest) ends.1 ∙ append_assoc ends.0 (last_of (start version) rs) rest in
+    let here : end ≡ length ends.0 + 32 =
+    omega (arith, long, ap length ends.1, length-append ends.0 (last_of (start version) rs), ends.2) in
     record {
       front = front;
       bytes = ap (take end) whole ∙ take_at log rest end long;
       last = ap (before end) apart ∙ before_is ends.0 (last_of (start version) rs) rest end ends.2 here;
     }
 
-pub closed_by : (version : Version) (b tail : List ℕ) (rs : List Record) (end : ℕ) → IsFrontOf version b rs end → tail ≡ frames_of (last_of (start version) rs) (aborts (run empty rs)) → IsClosedBy b tail (take end b ++ tail)
+pub closed_by : (version : Version) (b tail : List ℕ) (rs : List Record) (end : ℕ) → IsFrontOf version b rs end
+    → tail ≡ frames_of (last_of (start version) rs) (aborts (run empty rs)) → IsClosedBy b tail (take end b ++ tail)
 closed_by version b tail rs end h is = record {
   version = version;
   records = rs;
@@ -89,27 +115,53 @@ closed_by version b tail rs end h is = record {
 }
 
 -- how long it is then
-pub closed_long : (version : Version) (b : List ℕ) (rs : List Record) (end : ℕ) (tail : List ℕ) → end ≤ length b → tail ≡ frames_of (last_of (start version) rs) (aborts (run empty rs)) → length (take end b ++ tail) ≡ end + 45 * length (run empty rs).units
-closed_long version b rs end tail within is = omega (arith, within, length-append (take end b) tail, length-take end b, ap length is, aborts_long (last_of (start version) rs) (run empty rs).units)
+pub closed_long : (version : Version) (b : List ℕ) (rs : List Record) (end : ℕ) (tail : List ℕ) → end ≤ length b
+    → tail ≡ frames_of (last_of (start version) rs) (aborts (run empty rs))
+    → length (take end b ++ tail) ≡ end + 45 * length (run empty rs).units
+closed_long version b rs end tail within is =
+    omega (
+      arith,
+      within,
+      length-append (take end b) tail,
+      length-take end b,
+      ap length is,
+      aborts_long (last_of (start version) rs) (run empty rs).units,
+    )
 
 -- more units are open than there is room for, so the log stays open
-pub too_large : (version : Version) → LogEnds → (b : List ℕ) (rs : List Record) (end : ℕ) (why : Why) (units : List ℕ) (count : ℕ) → length b ≤ log_limit → HasHeader version b → IsFrontFrom version empty b 40 rs end why
-    → units ≡ (run empty rs).units → count ≡ length units → (4294967295 - end) / 45 < count → StaysOpen b faults.TooLarge
+pub too_large : (version : Version) → LogEnds
+    → (b : List ℕ) (rs : List Record) (end : ℕ) (why : Why) (units : List ℕ) (count : ℕ) → length b ≤ log_limit
+    → HasHeader version b → IsFrontFrom version empty b 40 rs end why
+    → units ≡ (run empty rs).units → count ≡ length units → (4294967295 - end) / 45 < count
+    → StaysOpen b faults.TooLarge
 too_large version law b rs end why units count short head h are_open count_is more =
     let tail = frames_of (last_of (start version) rs) (aborts (run empty rs)) in
     let long = closed_long version b rs end tail h.within refl in
-    let many : count ≡ length (run empty rs).units = count_is ∙ ap length are_open in
-    ((short, (version, head)), take end b ++ tail, (tail, closed_by version b tail rs end (front_of version law b rs end why short head h) refl), omega (arith, long, many, more))
+    let many : count ≡ length (run empty rs).units = count_is ∙ ap length are_open in (
+      (short, (version, head)),
+      take end b ++ tail,
+      (tail, closed_by version b tail rs end (front_of version law b rs end why short head h) refl),
+      omega (arith, long, many, more),
+    )
 
 -- no more are, so this closes it
-pub is_ending : (version : Version) → LogEnds → (b : List ℕ) (rs : List Record) (e : Ending) (why : Why) (units : List ℕ) (count : ℕ) → length b ≤ log_limit → HasHeader version b → IsFrontFrom version empty b 40 rs e.end why
-    → units ≡ (run empty rs).units → count ≡ length units → count ≤ (4294967295 - e.end) / 45 → e.tail.items ≡ frames_of (before e.end b) (map Abort units) → IsEnding b e
+pub is_ending : (version : Version) → LogEnds
+    → (b : List ℕ) (rs : List Record) (e : Ending) (why : Why) (units : List ℕ) (count : ℕ) → length b ≤ log_limit
+    → HasHeader version b → IsFrontFrom version empty b 40 rs e.end why
+    → units ≡ (run empty rs).units → count ≡ length units → count ≤ (4294967295 - e.end) / 45
+    → e.tail.items ≡ frames_of (before e.end b) (map Abort units) → IsEnding b e
 is_ending version law b rs e why units count short head h are_open count_is fits wrote =
     let front = front_of version law b rs e.end why short head h in
-    let is : e.tail.items ≡ frames_of (last_of (start version) rs) (aborts (run empty rs)) = wrote ∙ (λ i. frames_of (front.last i) (map Abort (are_open i))) in
+    let is : e.tail.items ≡ frames_of (last_of (start version) rs) (aborts (run empty rs)) =
+    wrote ∙ (λ i. frames_of (front.last i) (map Abort (are_open i))) in
     let long = closed_long version b rs e.end e.tail.items h.within is in
     let many : count ≡ length (run empty rs).units = count_is ∙ ap length are_open in
-    record { log = (short, (version, head)); closed = closed_by version b e.tail.items rs e.end front is; room = omega (arith, long, many, fits, h.within, short) }
+    record {
+      log = (short, (version, head));
+      closed = closed_by version b e.tail.items rs e.end front is;
+      room =
+          omega (arith, long, many, fits, h.within, short);
+    }
 
 -- refused memory leaves it open
 pub no_memory : (b : List ℕ) (e : Fault) → e ≡ faults.Resources → StaysOpen b e

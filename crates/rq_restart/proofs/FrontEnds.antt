@@ -14,8 +14,11 @@ use Rattle.rq_restart.specs.Views.{why_of}
 use Rattle.rq_restart.specs.declared.ends.FrontEnd.{FrontEnd}
 use Rattle.rq_restart.proofs.Starts.{is_restart}
 
-pub found : (version : Version) → LogEnds → NumbersAfter → EmptyIsWellFormed → (b : List ℕ) (rs : List Record) (end : ℕ) (why : Why) → length b ≤ log_limit → HasHeader version b → IsFrontFrom version empty b 40 rs end why
-    → (e : FrontEnd) → e.records ≡ length rs → e.used ≡ end → e.total ≡ length b → why_of e.why ≡ why → FindsEnd b (Ok e)
+pub found : (version : Version) → LogEnds → NumbersAfter → EmptyIsWellFormed
+    → (b : List ℕ) (rs : List Record) (end : ℕ) (why : Why) → length b ≤ log_limit → HasHeader version b
+    → IsFrontFrom version empty b 40 rs end why
+    → (e : FrontEnd) → e.records ≡ length rs → e.used ≡ end → e.total ≡ length b → why_of e.why ≡ why
+    → FindsEnd b (Ok e)
 found version law after well b rs end why short head h e records used total same =
     let r = restarted (run empty rs) (length b - end) (length b) why in
     let next : (run empty rs).next ≡ 0 + length rs = (after version empty rs well h.longest.begins.lawful).next in

@@ -23,31 +23,46 @@ pub within : (k : Keeper) (all : List Own) (n : ℕ) → IsCount k all n → n �
 within k all n count =
     let rs = map record_of all in
     let p = parted (version_of k.version) k.state rs in
-    omega (arith, count, ap length p.whole, length-append (lawful_front (version_of k.version) k.state rs) p.more, length-map all record_of)
+    omega (
+      arith,
+      count,
+      ap length p.whole,
+      length-append (lawful_front (version_of k.version) k.state rs) p.more,
+      length-map all record_of,
+    )
 
-pub lawful_again : VersionTwoIsWider → (k : Keeper) (all : List Own) (n : ℕ) → IsCount k all n → all_lawful Two k.state (map record_of (take n all)) ≡ true
+pub lawful_again : VersionTwoIsWider → (k : Keeper) (all : List Own) (n : ℕ) → IsCount k all n
+    → all_lawful Two k.state (map record_of (take n all)) ≡ true
 lawful_again wider k all n count =
     let own = version_of k.version in
     let rs = map record_of all in
-    ap (all_lawful Two k.state) (kept_is own k.state all (take n all) n refl count) ∙ lawful_in_two wider own k.state (lawful_front own k.state rs) (parted own k.state rs).lawful
+    ap (all_lawful Two k.state) (kept_is own k.state all (take n all) n refl count)
+    ∙ lawful_in_two wider own k.state (lawful_front own k.state rs) (parted own k.state rs).lawful
 
-pub analysed_again : VersionTwoIsWider → (k : Keeper) (all : List Own) (n : ℕ) (a : Analysis) → IsCount k all n → IsAnalysis (version_of k.version) k.state (map record_of all) a → IsAnalysis Two k.state (map record_of (take n all)) a
+pub analysed_again : VersionTwoIsWider → (k : Keeper) (all : List Own) (n : ℕ) (a : Analysis) → IsCount k all n
+    → IsAnalysis (version_of k.version) k.state (map record_of all) a
+    → IsAnalysis Two k.state (map record_of (take n all)) a
 analysed_again wider k all n a count is =
     let own = version_of k.version in
     let rs = map record_of all in
     subst (λ (xs : List Record). IsAnalysis Two k.state xs a) (sym (kept_is own k.state all (take n all) n refl count))
-    (analysis_is_wider wider own k.state (lawful_front own k.state rs) a (parted own k.state rs).lawful (analysis_of_front own k.state rs a is))
+    (analysis_is_wider wider own k.state (lawful_front own k.state rs) a (parted own k.state rs).lawful
+    (analysis_of_front own k.state rs a is))
 
-pub further : (k : Keeper) (all : List Own) (n : ℕ) (next : State) → IsCount k all n → k.state.next + length (map record_of all) ≤ 4294967295 → next ≡ run k.state (map record_of (take n all))
+pub further : (k : Keeper) (all : List Own) (n : ℕ) (next : State) → IsCount k all n
+    → k.state.next + length (map record_of all) ≤ 4294967295 → next ≡ run k.state (map record_of (take n all))
     → StandsFurther k (map record_of all) (record k { state = next }) n
 further k all n next count few is = record {
   taken = λ version base taken h. record {
     rules = h.rules;
     lawful = lawful_join version base taken (take n rs) h.lawful
-        (subst (λ (s : State). all_lawful version s (take n rs) ≡ true) h.state (subst (λ (v : Version). all_lawful v k.state (take n rs) ≡ true) h.rules lawful));
-    state = is ∙ ap (run k.state) (sym (take-map record_of n all)) ∙ ap (λ (s : State). run s (take n rs)) h.state ∙ sym (run_join base taken (take n rs));
+        (subst (λ (s : State). all_lawful version s (take n rs) ≡ true) h.state
+        (subst (λ (v : Version). all_lawful v k.state (take n rs) ≡ true) h.rules lawful));
+    state = is ∙ ap (run k.state) (sym (take-map record_of n all)) ∙ ap (λ (s : State). run s (take n rs)) h.state
+        ∙ sym (run_join base taken (take n rs));
   };
-  count = λ version base taken h. subst (λ (s : State). n ≡ length (lawful_front version s rs)) h.state (subst (λ (v : Version). n ≡ length (lawful_front v k.state rs)) h.rules count);
+  count = λ version base taken h. subst (λ (s : State). n ≡ length (lawful_front version s rs)) h.state
+      (subst (λ (v : Version). n ≡ length (lawful_front v k.state rs)) h.rules count);
   few = few;
 }
   where

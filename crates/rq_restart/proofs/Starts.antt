@@ -1,5 +1,6 @@
 -- The start of a log, and its restart.
-use Rattle.std.proofs.Common.{◌≡◌, ℕ, ◌+◌, ◌-◌, ◌≤◌, List, [], ◌++◌, length, take, drop, refl, sym, ap, subst, ◌∙◌, append_assoc, arith}
+use Rattle.std.proofs.Common.{◌≡◌, ℕ, ◌+◌, ◌-◌, ◌≤◌, List, [], ◌++◌, length, take, drop, refl, sym, ap, subst, ◌∙◌}
+use Rattle.std.proofs.Common.{append_assoc, arith}
 use Rattle.std.proofs.lemmas.List.{take_at, drop_at, take-append-drop, length-append, length-take, length-drop}
 use Rattle.rq_model.specs.Records.{Record, Version}
 use Rattle.rq_model.specs.Frames.{log_limit, magic, start, header, HasHeader, before, last_of, IsFrameRun}
@@ -26,8 +27,10 @@ started version ends b h =
     let size : length (start version) ≡ 32 = (ends version []).2 in
     let rest : List ℕ = drop 40 b in
     let whole : b ≡ header version ++ rest = sym (take-append-drop 40 b) ∙ ap (λ (z : List ℕ). z ++ rest) h in
-    let parts : b ≡ magic version ++ (start version ++ rest) = whole ∙ append_assoc (magic version) (start version) rest in
-    let behind_magic : drop 8 b ≡ start version ++ rest = ap (drop 8) parts ∙ drop_at (magic version) (start version ++ rest) 8 refl in
+    let parts : b ≡ magic version ++ (start version ++ rest) =
+    whole ∙ append_assoc (magic version) (start version) rest in
+    let behind_magic : drop 8 b ≡ start version ++ rest =
+    ap (drop 8) parts ∙ drop_at (magic version) (start version ++ rest) 8 refl in
     let long : length (take 40 b) ≡ length (header version) = ap length h in
     record {
       long = omega (arith, long, size, length-take 40 b, length-append (magic version) (start version));
@@ -36,7 +39,8 @@ started version ends b h =
     }
 
 -- the front behind the header is the front of the log
-pub whole_front : (version : Version) (b : List ℕ) (rs : List Record) (end : ℕ) (why : Why) → IsStarted version b → length b ≤ log_limit → IsFrontFrom version empty b 40 rs end why → IsFront b version rs (drop end b)
+pub whole_front : (version : Version) (b : List ℕ) (rs : List Record) (end : ℕ) (why : Why) → IsStarted version b
+    → length b ≤ log_limit → IsFrontFrom version empty b 40 rs end why → IsFront b version rs (drop end b)
 whole_front version b rs end why start_is short h = record {
   short = short;
   bytes = drop 40 b;
@@ -45,12 +49,23 @@ whole_front version b rs end why start_is short h = record {
 }
 
 -- the chain behind the header
-pub log_chain : (version : Version) → LogEnds → (b : List ℕ) (c : Chain) → length b ≤ log_limit → HasHeader version b → IsFrameRun b 40 (bodies_at b c.spans.items) c.end (rest_of c.rest)
-    → c.spans.items ≡ spans_from 40 (bodies_at b c.spans.items) → All (λ s. s.start + s.len ≤ length b) c.spans.items → IsChain b 40 c
-log_chain version ends b c short head run spans inside = record { short = short; after = omega arith; within = (started version ends b head).long; run = run; spans = spans; inside = inside }
+pub log_chain : (version : Version) → LogEnds → (b : List ℕ) (c : Chain) → length b ≤ log_limit → HasHeader version b
+    → IsFrameRun b 40 (bodies_at b c.spans.items) c.end (rest_of c.rest)
+    → c.spans.items ≡ spans_from 40 (bodies_at b c.spans.items) → All (λ s. s.start + s.len ≤ length b) c.spans.items
+    → IsChain b 40 c
+log_chain version ends b c short head run spans inside =
+    record {
+      short = short;
+      after = omega arith;
+      within = (started version ends b head).long;
+      run = run;
+      spans = spans;
+      inside = inside;
+    }
 
 -- the front behind the header, and what is answered of it, are the restart
-pub is_restart : (version : Version) → LogEnds → (b : List ℕ) (rs : List Record) (end : ℕ) (why : Why) (r : Restarted) → length b ≤ log_limit → HasHeader version b → IsFrontFrom version empty b 40 rs end why
+pub is_restart : (version : Version) → LogEnds → (b : List ℕ) (rs : List Record) (end : ℕ) (why : Why) (r : Restarted)
+    → length b ≤ log_limit → HasHeader version b → IsFrontFrom version empty b 40 rs end why
     → r ≡ restarted (run empty rs) (length b - end) (length b) why → IsRestart b r
 is_restart version law b rs end why r short head h is =
     let start_is = started version law b head in
@@ -60,18 +75,26 @@ is_restart version law b rs end why r short head h is =
       rest = drop end b;
       why = why;
       front = whole_front version b rs end why start_is short h;
-      ends = subst (λ (p : List ℕ). IsWhy version (run empty rs) (last_of p rs) (drop end b) why) start_is.chained h.ends;
+      ends = subst (λ (p : List ℕ). IsWhy version (run empty rs) (last_of p rs) (drop end b) why) start_is.chained
+          h.ends;
       answer = is ∙ ap (λ (n : ℕ). restarted (run empty rs) n (length b) why) (sym (length-drop end b));
     }
 
 -- so is what closing the front answers
-pub restarts : (version : Version) → LogEnds → (b : List ℕ) (rs : List Record) (end : ℕ) (why : Why) → length b ≤ log_limit → HasHeader version b → IsFrontFrom version empty b 40 rs end why
-    → (result : Result Restarted Fault) → IfOk result (λ r. r ≡ restarted (run empty rs) (length b - end) (length b) why) → IfErr result (λ e. e ≡ Resources) → Restarts b result
-restarts version law b rs end why short head h (Ok r) is refused = (short, (version, head), is_restart version law b rs end why r short head h is)
+pub restarts : (version : Version) → LogEnds → (b : List ℕ) (rs : List Record) (end : ℕ) (why : Why)
+    → length b ≤ log_limit → HasHeader version b → IsFrontFrom version empty b 40 rs end why
+    → (result : Result Restarted Fault)
+    → IfOk result (λ r. r ≡ restarted (run empty rs) (length b - end) (length b) why)
+    → IfErr result (λ e. e ≡ Resources) → Restarts b result
+restarts version law b rs end why short head h (Ok r) is refused =
+    (short, (version, head), is_restart version law b rs end why r short head h is)
 restarts version law b rs end why short head h (Err e) is refused = subst (λ (f : Fault). Refused b f) (sym refused) tt
 
 -- and the state behind the front is the one that is found
-pub finds : (version : Version) → LogEnds → (b : List ℕ) (rs : List Record) (end : ℕ) (why : Why) → length b ≤ log_limit → HasHeader version b → IsFrontFrom version empty b 40 rs end why
-    → (result : Result State Fault) → IfOk result (λ s. s ≡ run empty rs) → IfErr result (λ e. e ≡ Resources) → FindsState b result
-finds version law b rs end why short head h (Ok s) is refused = (version, rs, drop end b, whole_front version b rs end why (started version law b head) short h, is)
+pub finds : (version : Version) → LogEnds → (b : List ℕ) (rs : List Record) (end : ℕ) (why : Why) → length b ≤ log_limit
+    → HasHeader version b → IsFrontFrom version empty b 40 rs end why
+    → (result : Result State Fault) → IfOk result (λ s. s ≡ run empty rs) → IfErr result (λ e. e ≡ Resources)
+    → FindsState b result
+finds version law b rs end why short head h (Ok s) is refused =
+    (version, rs, drop end b, whole_front version b rs end why (started version law b head) short h, is)
 finds version law b rs end why short head h (Err e) is refused = subst (λ (f : Fault). Refused b f) (sym refused) tt

@@ -33,12 +33,17 @@ bytes_same a = (bytes_eq-Decides a a).1 refl
 
 not_same : (x y n : List ℕ) → bytes_eq x n ≡ true → bytes_eq x y ≡ false → bytes_eq y n ≡ false
 not_same x y n e d = by_cases (bytes_eq y n) (λ b. bytes_eq y n ≡ b → bytes_eq y n ≡ false)
-    (λ _ k. absurd (false≢true (sym d ∙ ap (bytes_eq x) (bytes_are y n k ∙ sym (bytes_are x n e)) ∙ bytes_same x))) (λ _ k. k) refl
+    (λ _ k. absurd (false≢true (sym d ∙ ap (bytes_eq x) (bytes_are y n k ∙ sym (bytes_are x n e)) ∙ bytes_same x)))
+    (λ _ k. k) refl
 
 differ_few : (ns : List (List ℕ)) → Differ ns → (n : List ℕ) → number_of (λ a. bytes_eq a n) ns ≤ 1
 differ_few [] h n = omega arith
-differ_few (x ∷ xs) h n = by_cases (bytes_eq x n) (λ b. bytes_eq x n ≡ b → (if b then 1 else 0) + number_of (λ a. bytes_eq a n) xs ≤ 1)
-    (λ _ e. let none : number_of (λ a. bytes_eq a n) xs ≡ 0 = none_of (λ a. bytes_eq a n) xs (each_weaker (λ y. bytes_eq x y ≡ false) (λ y. bytes_eq y n ≡ false) (λ y d. not_same x y n e d) xs h.0) in omega (arith, none))
+differ_few (x ∷ xs) h n = by_cases (bytes_eq x n)
+    (λ b. bytes_eq x n ≡ b → (if b then 1 else 0) + number_of (λ a. bytes_eq a n) xs ≤ 1)
+    (λ _ e. let none : number_of (λ a. bytes_eq a n) xs ≡ 0 =
+    none_of (λ a. bytes_eq a n) xs
+    (each_weaker (λ y. bytes_eq x y ≡ false) (λ y. bytes_eq y n ≡ false) (λ y d. not_same x y n e d) xs h.0) in
+    omega (arith, none))
     (λ _ _. omega (arith, differ_few xs h.1 n)) refl
 
 few_differ : (ns : List (List ℕ)) → ((n : List ℕ) → number_of (λ a. bytes_eq a n) ns ≤ 1) → Differ ns
@@ -46,7 +51,8 @@ few_differ [] h = tt
 few_differ (x ∷ xs) h = (
   each_self (λ y. bytes_eq x y ≡ false) xs xs (λ w m. m)
       (λ w m. by_cases (bytes_eq x w) (λ b. (if b then 1 else 0) + number_of (λ a. bytes_eq a w) xs ≤ 1 → b ≡ false)
-      (λ _ k. let some : 1 ≤ number_of (λ a. bytes_eq a w) xs = some_of (λ a. bytes_eq a w) xs w m (bytes_same w) in let no : ⊥ = omega (arith, k, some) in absurd no)
+      (λ _ k. let some : 1 ≤ number_of (λ a. bytes_eq a w) xs = some_of (λ a. bytes_eq a w) xs w m (bytes_same w) in
+      let no : ⊥ = omega (arith, k, some) in absurd no)
       (λ _ _. refl) (h w)),
   few_differ xs (λ n. fewer (if bytes_eq x n then 1 else 0) (number_of (λ a. bytes_eq a n) xs) (h n)),
 )
@@ -55,7 +61,10 @@ few_differ (x ∷ xs) h = (
     fewer a b l = omega (arith, l)
 
 differ_moved : (xs ys : List (List ℕ)) → IsPermutation xs ys → Differ xs → Differ ys
-differ_moved xs ys moved h = few_differ ys (λ n. subst (λ (m : ℕ). m ≤ 1) (sym (number_sum (λ a. bytes_eq a n) ys ∙ sum_by-IsPermutation (λ a. if bytes_eq a n then 1 else 0) xs ys moved ∙ sym (number_sum (λ a. bytes_eq a n) xs))) (differ_few xs h n))
+differ_moved xs ys moved h = few_differ ys
+    (λ n. subst (λ (m : ℕ). m ≤ 1)
+    (sym (number_sum (λ a. bytes_eq a n) ys ∙ sum_by-IsPermutation (λ a. if bytes_eq a n then 1 else 0) xs ys moved
+    ∙ sym (number_sum (λ a. bytes_eq a n) xs))) (differ_few xs h n))
 
 -- Sorted names differ where each is before the next.
 
@@ -68,7 +77,8 @@ before_differs a b h = sym (is_eq-slice_cmp a b) ∙ not_both (slice_cmp nat_cmp
     not_both Greater h = refl
 
 differs_before : (a b : List ℕ) → bytes_eq a b ≡ false → name_before b a ≡ false → name_before a b ≡ true
-differs_before a b d h = ap is_lt turned ∙ one_left (slice_cmp nat_cmp b a) h (ap is_eq (sym turned) ∙ is_eq-slice_cmp a b ∙ d)
+differs_before a b d h = ap is_lt turned
+    ∙ one_left (slice_cmp nat_cmp b a) h (ap is_eq (sym turned) ∙ is_eq-slice_cmp a b ∙ d)
   where
     turned : slice_cmp nat_cmp a b ≡ ordering_reverse (slice_cmp nat_cmp b a)
     turned = nat_list_cmp_total.antisymm a b
@@ -78,11 +88,13 @@ differs_before a b d h = ap is_lt turned ∙ one_left (slice_cmp nat_cmp b a) h 
     one_left Equal h k = sym k
     one_left Greater h k = refl
 
-ordered_both : {X : Type 0} (R S T : X → X → Type 0) → ((a b : X) → R a b → S a b → T a b) → (xs : List X) → Ordered R xs → Ordered S xs → Ordered T xs
+ordered_both : {X : Type 0} (R S T : X → X → Type 0) → ((a b : X) → R a b → S a b → T a b) → (xs : List X)
+    → Ordered R xs → Ordered S xs → Ordered T xs
 ordered_both R S T f [] h k = tt
 ordered_both R S T f (x ∷ xs) h k = (each_two (R x) (S x) (T x) (f x) xs h.0 k.0, ordered_both R S T f xs h.1 k.1)
   where
-    each_two : {X : Type 0} (P Q U : X → Type 0) → ((x : X) → P x → Q x → U x) → (xs : List X) → AllByRecursion P xs → AllByRecursion Q xs → AllByRecursion U xs
+    each_two : {X : Type 0} (P Q U : X → Type 0) → ((x : X) → P x → Q x → U x) → (xs : List X) → AllByRecursion P xs
+        → AllByRecursion Q xs → AllByRecursion U xs
     each_two P Q U f [] h k = tt
     each_two P Q U f (x ∷ xs) h k = (f x h.0 k.0, each_two P Q U f xs h.1 k.1)
 
@@ -90,9 +102,13 @@ name_is_order : IsStrictWeakOrder name_before
 name_is_order = ranks_by nat_list_cmp_total (λ (n : List ℕ). n)
 
 -- a strict rise of what a sort leaves tells whether the names differ
-pub names_told : (xs ys : List (List ℕ)) (r : Bool) → IsPermutation xs ys → IsSorted (slice_cmp nat_cmp) ys → IsAllAdjacentAnswer (λ a b t. t ≡ name_before a b) ys r → IsTrue r ↔ Differ xs
+pub names_told : (xs ys : List (List ℕ)) (r : Bool) → IsPermutation xs ys → IsSorted (slice_cmp nat_cmp) ys
+    → IsAllAdjacentAnswer (λ a b t. t ≡ name_before a b) ys r → IsTrue r ↔ Differ xs
 names_told xs ys r moved sorted answer =
     let told = rises_by name_before name_is_order ys r answer in (
-      λ e. differ_moved ys xs (IsPermutation-sym xs ys moved) (ordered_weaker (λ a b. name_before a b ≡ true) (λ a b. bytes_eq a b ≡ false) before_differs ys (told.0 e)),
-      λ d. told.1 (ordered_both (λ a b. bytes_eq a b ≡ false) (λ a b. name_before b a ≡ false) (λ a b. name_before a b ≡ true) differs_before ys (differ_moved xs ys moved d) (pairwise name_before name_is_order ys sorted)),
+      λ e. differ_moved ys xs (IsPermutation-sym xs ys moved)
+          (ordered_weaker (λ a b. name_before a b ≡ true) (λ a b. bytes_eq a b ≡ false) before_differs ys (told.0 e)),
+      λ d. told.1 (ordered_both (λ a b. bytes_eq a b ≡ false) (λ a b. name_before b a ≡ false)
+          (λ a b. name_before a b ≡ true) differs_before ys (differ_moved xs ys moved d)
+          (pairwise name_before name_is_order ys sorted)),
     )

@@ -5,13 +5,15 @@ use Rattle.std.proofs.lemmas.Option.{same_Some}
 use Rattle.rq_model.specs.Records.{Version}
 use Rattle.rq_model.specs.States.{Last, Registrant, State}
 use Rattle.rq_model.specs.WellFormed.{IsWellFormed}
-use Rattle.rq_model.specs.StateSpelling.{state_bytes, FitsDefinition, FitsRegistrant, FitsElement, FitsNote, Fits, SpellsState}
+use Rattle.rq_model.specs.StateSpelling.{state_bytes, FitsDefinition, FitsRegistrant, FitsElement, FitsNote, Fits}
+use Rattle.rq_model.specs.StateSpelling.{SpellsState}
 use Rattle.rq_bytes.specs.Readers.{alone, after_of}
 use Rattle.rq_bytes.specs.Reads.{IsBytes}
 use Rattle.rq_bytes.proofs.Together.{reads_alone, spelled_by, read_again}
 use Rattle.rq_model.specs.StateReading.{state_read}
 use Rattle.rq_model.proofs.Lists.{each_weaker}
-use Rattle.rq_model.proofs.StateReaders.{IsDefinitionSpelled, IsWideLast, IsRegistrantSpelled, IsElementSpelled, IsNoteSpelled, IsSpelled, reads_state}
+use Rattle.rq_model.proofs.StateReaders.{IsDefinitionSpelled, IsWideLast, IsRegistrantSpelled, IsElementSpelled}
+use Rattle.rq_model.proofs.StateReaders.{IsNoteSpelled, IsSpelled, reads_state}
 use Rattle.rq_model.proofs.StateCodes.{is_spelled}
 use Rattle.rq_record.specs.declared.fault.Fault.{Fault}
 use Rattle.rq_record.specs.declared.fault.Fault.TheVariants as faults
@@ -33,11 +35,13 @@ fits s h = record {
   greatest = h.greatest;
   definitions = each_weaker IsDefinitionSpelled FitsDefinition (λ d x. x.2) s.definitions h.definitions.1;
   registrants = each_weaker IsRegistrantSpelled FitsRegistrant optional_tag s.registrants h.registrants.1;
-  elements = each_weaker IsElementSpelled FitsElement (λ e x. (x.priority, omega (arith, x.payload))) s.elements h.elements.1;
+  elements = each_weaker IsElementSpelled FitsElement
+      (λ e x. (x.priority, omega (arith, x.payload))) s.elements h.elements.1;
   notes = each_weaker IsNoteSpelled FitsNote (λ n x. (x.2, x.3.1)) s.notes h.notes.1;
 }
 
-again : (version : Version) (s : State) (bytes : List ℕ) → SpellsState version s bytes → alone state_read bytes ≡ Some (s, [])
+again : (version : Version) (s : State) (bytes : List ℕ) → SpellsState version s bytes
+    → alone state_read bytes ≡ Some (s, [])
 again version s bytes h = read_again bytes s (reads_alone reads_state) (is_spelled version s bytes h) h.spelling
 
 pub kept_well : (version : Version) (s : State) → KeepsAll version s → IsWellFormed s
@@ -69,45 +73,67 @@ spells_keeps version s bytes h =
       notes = record { notes = w.notes; notes_rise = w.notes_rise };
     }
 
-no_state : (version : Version) (bytes : List ℕ) → alone state_read bytes ≡ None → (s : State) → SpellsState version s bytes → ⊥
-no_state version bytes nothing s h = let clash : ◌≡◌ {A = Option (State × List ℕ)} None (Some (s, [])) = sym nothing ∙ again version s bytes h in absurd cc
+no_state : (version : Version) (bytes : List ℕ) → alone state_read bytes ≡ None → (s : State)
+    → SpellsState version s bytes → ⊥
+no_state version bytes nothing s h = let clash : ◌≡◌ {A = Option (State × List ℕ)} None (Some (s, [])) =
+    sym nothing ∙ again version s bytes h in absurd cc
 
 -- bytes without the form spell no state
-pub not_formed : (version : Version) (bytes : List ℕ) → None ≡ after_of (form_read bytes) → (s : State) → SpellsState version s bytes → ⊥
-not_formed version bytes nothing = no_state version bytes (none (alone state_read bytes) (nothing ∙ form_is.after bytes))
+pub not_formed : (version : Version) (bytes : List ℕ) → None ≡ after_of (form_read bytes) → (s : State)
+    → SpellsState version s bytes → ⊥
+not_formed version bytes nothing =
+    no_state version bytes (none (alone state_read bytes) (nothing ∙ form_is.after bytes))
   where
     none : (o : Option (State × List ℕ)) → None ≡ after_of o → o ≡ None
     none (Some s) e = absurd cc
     none None e = refl
 
-spelled : (bytes : List ℕ) (s : State × List ℕ) → IsBytes bytes → alone state_read bytes ≡ Some s → (t : State) × Fits t × (bytes ≡ state_bytes t)
-spelled bytes s byte is = let taken = spelled_by bytes s (reads_alone reads_state) byte is in (s.0, fits s.0 taken.0, taken.1)
+spelled : (bytes : List ℕ) (s : State × List ℕ) → IsBytes bytes → alone state_read bytes ≡ Some s
+    → (t : State) × Fits t × (bytes ≡ state_bytes t)
+spelled bytes s byte is = let taken = spelled_by bytes s (reads_alone reads_state) byte is in
+    (s.0, fits s.0 taken.0, taken.1)
 
-formed : (bytes : List ℕ) → IsBytes bytes → Some [] ≡ after_of (form_read bytes) → (s : State) × Fits s × (bytes ≡ state_bytes s)
+formed : (bytes : List ℕ) → IsBytes bytes → Some [] ≡ after_of (form_read bytes)
+    → (s : State) × Fits s × (bytes ≡ state_bytes s)
 formed bytes byte is = from (alone state_read bytes) refl (is ∙ form_is.after bytes)
   where
-    from : (o : Option (State × List ℕ)) → alone state_read bytes ≡ o → Some [] ≡ after_of o → (s : State) × Fits s × (bytes ≡ state_bytes s)
+    from : (o : Option (State × List ℕ)) → alone state_read bytes ≡ o → Some [] ≡ after_of o
+        → (s : State) × Fits s × (bytes ≡ state_bytes s)
     from (Some s) e h = spelled bytes s byte e
     from None e h = absurd cc
 
 -- nor do those that are not read
-pub not_read : (version : Version) (bytes : List ℕ) (e : Fault) → IsBytes bytes → Some [] ≡ after_of (form_read bytes) → FailsAsCheckpoint e (alone state_read bytes) → ReadsState version bytes (Err e)
+pub not_read : (version : Version) (bytes : List ℕ) (e : Fault) → IsBytes bytes → Some [] ≡ after_of (form_read bytes)
+    → FailsAsCheckpoint e (alone state_read bytes) → ReadsState version bytes (Err e)
 not_read version bytes faults.BadCheckpoint byte form nothing = no_state version bytes nothing
 not_read version bytes faults.Resources byte form nothing = formed bytes byte form
 not_read version bytes e byte form nothing = absurd nothing
 
 -- nor do bytes of which something else is read
-pub not_kept : (version : Version) (bytes : List ℕ) (t : State) (e : Fault) → IsBytes bytes → alone state_read bytes ≡ Some (t, []) → TellsWhether {A = Unit {0}} (KeepsAll version t) (Err e) → ReadsState version bytes (Err e)
-not_kept version bytes t faults.BadCheckpoint byte is told = λ s h. let same : ◌≡◌ {A = State × List ℕ} (s, []) (t, []) = same_Some _ _ (sym (again version s bytes h) ∙ is) in told (subst (KeepsAll version) (λ i. (same i).0) (spells_keeps version s bytes h))
+pub not_kept : (version : Version) (bytes : List ℕ) (t : State) (e : Fault) → IsBytes bytes
+    → alone state_read bytes ≡ Some (t, []) → TellsWhether {A = Unit {0}} (KeepsAll version t) (Err e)
+    → ReadsState version bytes (Err e)
+not_kept version bytes t faults.BadCheckpoint byte is told =
+    λ s h. let same : ◌≡◌ {A = State × List ℕ} (s, []) (t, []) = same_Some _ _ (sym (again version s bytes h) ∙ is) in
+    told (subst (KeepsAll version) (λ i. (same i).0) (spells_keeps version s bytes h))
 not_kept version bytes t faults.Resources byte is told = spelled bytes (t, []) byte is
 not_kept version bytes t e byte is told = absurd told
 
 -- where there is no room for what is read and keeps it all
-pub not_built : (version : Version) (bytes : List ℕ) (t : State) (e : Fault) → IsBytes bytes → alone state_read bytes ≡ Some (t, []) → e ≡ faults.Resources → ReadsState version bytes (Err e)
-not_built version bytes t e byte is refused = subst (λ (f : Fault). ReadsState version bytes (Err f)) (sym refused) (spelled bytes (t, []) byte is)
+pub not_built : (version : Version) (bytes : List ℕ) (t : State) (e : Fault) → IsBytes bytes
+    → alone state_read bytes ≡ Some (t, []) → e ≡ faults.Resources → ReadsState version bytes (Err e)
+not_built version bytes t e byte is refused =
+    subst (λ (f : Fault). ReadsState version bytes (Err f)) (sym refused) (spelled bytes (t, []) byte is)
 
 -- what is read and keeps it all is spelled by the bytes
-pub is_read : (version : Version) (bytes : List ℕ) (t : State) → IsBytes bytes → alone state_read bytes ≡ Some (t, []) → KeepsAll version t → SpellsState version t bytes
+pub is_read : (version : Version) (bytes : List ℕ) (t : State) → IsBytes bytes → alone state_read bytes ≡ Some (t, [])
+    → KeepsAll version t → SpellsState version t bytes
 is_read version bytes t byte is k =
     let taken = spelled_by bytes (t, []) (reads_alone reads_state) byte is in
-    record { next = k.numbers.next; keeps = kept_well version t k; fits = fits t taken.0; deep = k.definitions.deep; spelling = taken.1 }
+    record {
+      next = k.numbers.next;
+      keeps = kept_well version t k;
+      fits = fits t taken.0;
+      deep = k.definitions.deep;
+      spelling = taken.1;
+    }

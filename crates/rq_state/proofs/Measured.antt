@@ -9,7 +9,8 @@ use Rattle.rq_state.specs.Views.{unit_of}
 
 eight_each : (units : List ℕ) → length (flat_map (to_be_bytes w64) units) ≡ 8 * length units
 eight_each [] = omega arith
-eight_each (u ∷ us) = ap length (flat_map-cons (to_be_bytes w64) u us) ∙ length-append (to_be_bytes w64 u) (flat_map (to_be_bytes w64) us) ∙ omega (arith, eight_each us)
+eight_each (u ∷ us) = ap length (flat_map-cons (to_be_bytes w64) u us)
+    ∙ length-append (to_be_bytes w64 u) (flat_map (to_be_bytes w64) us) ∙ omega (arith, eight_each us)
 
 -- a unit takes eight bytes
 pub units_measured : (units : List UnitNo) → length (flat_map (to_be_bytes w64) (map unit_of units)) ≡ 8 * length units

@@ -16,29 +16,38 @@ at_next R [] h k d l = let no : ⊥ = omega (arith, l) in absurd no
 at_next R (x ∷ []) h k d l = let no : ⊥ = omega (arith, l) in absurd no
 at_next R (x ∷ y ∷ ys) h zero d l = h.0.0
 at_next R (x ∷ y ∷ ys) h (suc k) d l =
-    subst (λ m. R (slice_index_or (y ∷ ys) k d) (slice_index_or (x ∷ y ∷ ys) m d)) (sym (after k)) (at_next R (y ∷ ys) h.1 k d (omega (arith, l)))
+    subst (λ m. R (slice_index_or (y ∷ ys) k d) (slice_index_or (x ∷ y ∷ ys) m d)) (sym (after k))
+    (at_next R (y ∷ ys) h.1 k d (omega (arith, l)))
 
 -- and back, where the order goes through
-pub from_next : {X : Type 0} (R : X → X → Type 0) → ((x y z : X) → R x y → R y z → R x z) → (xs : List X) → AllAdjacentBelow R xs (length xs) → Ordered R xs
+pub from_next : {X : Type 0} (R : X → X → Type 0) → ((x y z : X) → R x y → R y z → R x z) → (xs : List X)
+    → AllAdjacentBelow R xs (length xs) → Ordered R xs
 from_next R through [] h = tt
 from_next R through (x ∷ []) h = (tt, tt)
 from_next R through (x ∷ y ∷ ys) h =
-    let others : Ordered R (y ∷ ys) = from_next R through (y ∷ ys) (λ k d l. subst (λ m. R (slice_index_or (y ∷ ys) k d) (slice_index_or (x ∷ y ∷ ys) m d)) (after k) (h (suc k) d (omega (arith, l)))) in
+    let others : Ordered R (y ∷ ys) =
+    from_next R through (y ∷ ys)
+    (λ k d l. subst (λ m. R (slice_index_or (y ∷ ys) k d) (slice_index_or (x ∷ y ∷ ys) m d)) (after k)
+    (h (suc k) d (omega (arith, l)))) in
     let first : R x y = h 0 x (omega arith) in
     ((first, each_weaker (R y) (R x) (λ z r. through x y z first r) ys others.0), others)
 
 -- an order's test goes through
-pub goes_through : {X : Type 0} (before : X → X → Bool) → IsStrictWeakOrder before → (x y z : X) → before x y ≡ true → before y z ≡ true → before x z ≡ true
+pub goes_through : {X : Type 0} (before : X → X → Bool) → IsStrictWeakOrder before → (x y z : X) → before x y ≡ true
+    → before y z ≡ true → before x z ≡ true
 goes_through before order x y z p q =
-    by_cases (before x z) (λ b. before x z ≡ b → before x z ≡ true) (λ _ e. e) (λ _ e. absurd (false≢true (sym (order.chain x z y e (order.one_way y z q)) ∙ p))) refl_of
+    by_cases (before x z) (λ b. before x z ≡ b → before x z ≡ true) (λ _ e. e)
+    (λ _ e. absurd (false≢true (sym (order.chain x z y e (order.one_way y z q)) ∙ p))) refl_of
   where
     refl_of : before x z ≡ before x z
     refl_of = λ i. before x z
 
-pub ordered_unmap : {X Y : Type 0} (R : Y → Y → Type 0) (f : X → Y) (xs : List X) → Ordered R (map f xs) → Ordered (λ a b. R (f a) (f b)) xs
+pub ordered_unmap : {X Y : Type 0} (R : Y → Y → Type 0) (f : X → Y) (xs : List X) → Ordered R (map f xs)
+    → Ordered (λ a b. R (f a) (f b)) xs
 ordered_unmap R f [] h = tt
 ordered_unmap R f (x ∷ xs) h = (each_back (R (f x)) f xs h.0, ordered_unmap R f xs h.1)
   where
-    each_back : {X Y : Type 0} (P : Y → Type 0) (f : X → Y) (xs : List X) → AllByRecursion P (map f xs) → AllByRecursion (λ x. P (f x)) xs
+    each_back : {X Y : Type 0} (P : Y → Type 0) (f : X → Y) (xs : List X) → AllByRecursion P (map f xs)
+        → AllByRecursion (λ x. P (f x)) xs
     each_back P f [] h = tt
     each_back P f (x ∷ xs) h = (h.0, each_back P f xs h.1)

@@ -2,14 +2,19 @@
 use Rattle.std.proofs.Common.{◌≡◌, ℕ, suc, ◌-◌, ◌+◌, ◌≤◌, ◌<◌, List, ◌∷◌, Option, Some, None, refl, sym, ap, ◌∙◌, arith}
 use Rattle.std.specs.Prelude.{⊤}
 use Rattle.std.proofs.lemmas.Option.{same_Some}
-use Rattle.rq_bytes.specs.Readers.{Reader, ◌>>=◌, number, ending, ◌then◌, made, alone, members, counted_members, after_of}
-use Rattle.rq_model.specs.StateReading.{definition_read, registrant_read, element_read, note_read, whole_state, state_read}
+use Rattle.rq_bytes.specs.Readers.{Reader, ◌>>=◌, number, ending, ◌then◌, made, alone, members, counted_members}
+use Rattle.rq_bytes.specs.Readers.{after_of}
+use Rattle.rq_model.specs.StateReading.{definition_read, registrant_read, element_read, note_read, whole_state}
+use Rattle.rq_model.specs.StateReading.{state_read}
 use Rattle.rq_state.specs.Reading.{passed, form_read}
 
 -- the members that are left, where the first is there or is missing
-one_more : {X : Type 0} (reader : Reader X) (n : ℕ) (bytes : List ℕ) (first : Option (⊤ × List ℕ)) → passed reader bytes ≡ first → passed (members reader (suc n)) bytes ≡ (first >>= λ x. passed (members reader n) x.1)
+one_more : {X : Type 0} (reader : Reader X) (n : ℕ) (bytes : List ℕ) (first : Option (⊤ × List ℕ))
+    → passed reader bytes ≡ first → passed (members reader (suc n)) bytes
+    ≡ (first >>= λ x. passed (members reader n) x.1)
 unfolding members
-one_more {X} reader n bytes first e = at_first (reader bytes) refl ∙ ap (λ (o : Option (⊤ × List ℕ)). o >>= λ x. passed (members reader n) x.1) e
+one_more {X} reader n bytes first e = at_first (reader bytes) refl
+    ∙ ap (λ (o : Option (⊤ × List ℕ)). o >>= λ x. passed (members reader n) x.1) e
   where
     more : X → List X × List ℕ → Option (List X × List ℕ)
     more x ys = Some (x ∷ ys.0, ys.1)
@@ -17,30 +22,40 @@ one_more {X} reader n bytes first e = at_first (reader bytes) refl ∙ ap (λ (o
     none_of : List X × List ℕ → Option (⊤ × List ℕ)
     none_of ys = Some (tt, ys.1)
 
-    others : (x : X) (ms : Option (List X × List ℕ)) → ((ms >>= λ ys. more x ys) >>= λ ys. none_of ys) ≡ (ms >>= λ ys. none_of ys)
+    others : (x : X) (ms : Option (List X × List ℕ))
+        → ((ms >>= λ ys. more x ys) >>= λ ys. none_of ys) ≡ (ms >>= λ ys. none_of ys)
     others x (Some ms) = refl
     others x None = refl
 
-    at_first : (o : Option (X × List ℕ)) → reader bytes ≡ o → passed (members reader (suc n)) bytes ≡ (passed reader bytes >>= λ x. passed (members reader n) x.1)
+    at_first : (o : Option (X × List ℕ)) → reader bytes ≡ o
+        → passed (members reader (suc n)) bytes ≡ (passed reader bytes >>= λ x. passed (members reader n) x.1)
     at_first (Some x) e = rw e (others x.0 (members reader n x.1))
     at_first None e = rw e refl
 
 -- what passing so many members gives is the total
-pub record Passing {X : Type 0} (reader : Reader X) (n : ℕ) (bytes : List ℕ) (total : Option (⊤ × List ℕ)) : Type 0 where
+pub record Passing {X : Type 0} (reader : Reader X) (n : ℕ) (bytes : List ℕ)
+    (total : Option (⊤ × List ℕ)) : Type 0 where
   pub left : passed (members reader n) bytes ≡ total
 
-pub passes_on : {X : Type 0} {reader : Reader X} {count i : ℕ} {bytes : List ℕ} {total : Option (⊤ × List ℕ)} (x : X) (after : List ℕ) → Passing reader (count - i) bytes total → i < count → Some (x, after) ≡ reader bytes
+pub passes_on : {X : Type 0} {reader : Reader X} {count i : ℕ} {bytes : List ℕ} {total : Option (⊤ × List ℕ)} (x : X)
+    (after : List ℕ) → Passing reader (count - i) bytes total → i < count → Some (x, after) ≡ reader bytes
     → Passing reader (count - (i + 1)) after total
 passes_on {X} {reader} {count} {i} {bytes} x after so_far lt h =
     let k : count - i ≡ suc (count - (i + 1)) = omega arith in
-    record { left = sym (one_more reader (count - (i + 1)) bytes (Some (tt, after)) (rw (← h) refl)) ∙ ap (λ (n : ℕ). passed (members reader n) bytes) (sym k) ∙ so_far.left }
+    record {
+      left = sym (one_more reader (count - (i + 1)) bytes (Some (tt, after)) (rw (← h) refl))
+          ∙ ap (λ (n : ℕ). passed (members reader n) bytes) (sym k) ∙ so_far.left;
+    }
 
-pub stops : {X : Type 0} {reader : Reader X} {count i : ℕ} {bytes : List ℕ} {total : Option (⊤ × List ℕ)} → Passing reader (count - i) bytes total → i < count → None ≡ reader bytes → None ≡ total
+pub stops : {X : Type 0} {reader : Reader X} {count i : ℕ} {bytes : List ℕ} {total : Option (⊤ × List ℕ)}
+    → Passing reader (count - i) bytes total → i < count → None ≡ reader bytes → None ≡ total
 stops {X} {reader} {count} {i} {bytes} so_far lt h =
     let k : count - i ≡ suc (count - (i + 1)) = omega arith in
-    sym (one_more reader (count - (i + 1)) bytes None (rw (← h) refl)) ∙ ap (λ (n : ℕ). passed (members reader n) bytes) (sym k) ∙ so_far.left
+    sym (one_more reader (count - (i + 1)) bytes None (rw (← h) refl))
+    ∙ ap (λ (n : ℕ). passed (members reader n) bytes) (sym k) ∙ so_far.left
 
-pub is_past : {X : Type 0} {reader : Reader X} {count i : ℕ} {bytes : List ℕ} {total : Option (⊤ × List ℕ)} → Passing reader (count - i) bytes total → count ≤ i → Some (tt, bytes) ≡ total
+pub is_past : {X : Type 0} {reader : Reader X} {count i : ℕ} {bytes : List ℕ} {total : Option (⊤ × List ℕ)}
+    → Passing reader (count - i) bytes total → count ≤ i → Some (tt, bytes) ≡ total
 unfolding members
 is_past {X} {reader} {count} {i} {bytes} so_far le =
     let k : count - i ≡ 0 = omega arith in
@@ -57,15 +72,20 @@ pub record SamePlace {X Y : Type 0} (r : Reader X) (s : Reader Y) : Type 0 where
 same : {X : Type 0} (r : Reader X) → SamePlace r r
 same r = record { after = λ bytes. refl }
 
-same_bind : {X Y A B : Type 0} (f : X × List ℕ → Option (A × List ℕ)) (g : Y × List ℕ → Option (B × List ℕ)) (o : Option (X × List ℕ)) (p : Option (Y × List ℕ)) → after_of o ≡ after_of p
-    → ((x : X × List ℕ) (y : Y × List ℕ) → x.1 ≡ y.1 → after_of (f x) ≡ after_of (g y)) → after_of (o >>= f) ≡ after_of (p >>= g)
+same_bind : {X Y A B : Type 0} (f : X × List ℕ → Option (A × List ℕ)) (g : Y × List ℕ → Option (B × List ℕ))
+    (o : Option (X × List ℕ)) (p : Option (Y × List ℕ)) → after_of o ≡ after_of p
+    → ((x : X × List ℕ) (y : Y × List ℕ) → x.1 ≡ y.1 → after_of (f x) ≡ after_of (g y))
+    → after_of (o >>= f) ≡ after_of (p >>= g)
 same_bind f g (Some x) (Some y) e h = h x y (same_Some _ _ e)
 same_bind f g None None e h = refl
 same_bind f g o p e h = absurd cc
 
-same_then : {X Y A B : Type 0} {r : Reader X} {s : Reader Y} {q : Reader A} {t : Reader B} → SamePlace r s → SamePlace q t → SamePlace (r then q) (s then t)
+same_then : {X Y A B : Type 0} {r : Reader X} {s : Reader Y} {q : Reader A} {t : Reader B} → SamePlace r s
+    → SamePlace q t → SamePlace (r then q) (s then t)
 same_then {X} {Y} {A} {B} {r} {s} {q} {t} h k = record {
-  after = λ bytes. same_bind _ _ (r bytes) (s bytes) (h.after bytes) (λ x y e. same_bind _ _ (q x.1) (t y.1) (ap (λ (c : List ℕ). after_of (q c)) e ∙ k.after y.1) (λ u v d. ap Some d));
+  after = λ bytes. same_bind _ _ (r bytes) (s bytes) (h.after bytes)
+      (λ x y e. same_bind _ _ (q x.1) (t y.1) (ap (λ (c : List ℕ). after_of (q c)) e ∙ k.after y.1)
+      (λ u v d. ap Some d));
 }
 
 same_made : {X Y : Type 0} (f : X → Y) (r : Reader X) → SamePlace (made f r) r
@@ -83,11 +103,17 @@ into_made {X} {Y} {Z} {r} {s} f h = record { after = λ bytes. h.after bytes ∙
 
 same_alone : {X Y : Type 0} {r : Reader X} {s : Reader Y} → SamePlace r s → SamePlace (alone r) (alone s)
 same_alone {X} {Y} {r} {s} h = record {
-  after = λ bytes. same_bind _ _ (r bytes) (s bytes) (h.after bytes) (λ x y e. same_bind _ _ (ending x.1) (ending y.1) (ap (λ (c : List ℕ). after_of (ending c)) e) (λ u v d. ap Some d));
+  after = λ bytes. same_bind _ _ (r bytes) (s bytes) (h.after bytes)
+      (λ x y e. same_bind _ _ (ending x.1) (ending y.1) (ap (λ (c : List ℕ). after_of (ending c)) e)
+      (λ u v d. ap Some d));
 }
 
 -- the form is there where a state is read
 pub form_is : SamePlace form_read (alone state_read)
 unfolding form_read state_read
-form_is = same_alone (into_made whole_state (same_then (same (number 8)) (same_then (same (number 8)) (same_then (same (number 8)) (same_then (same (number 8))
-    (same_then (past (counted_members definition_read)) (same_then (past (counted_members (number 8))) (same_then (past (counted_members registrant_read)) (same_then (past (counted_members element_read)) (past (counted_members note_read)))))))))))
+form_is = same_alone (into_made whole_state
+    (same_then (same (number 8)) (same_then (same (number 8)) (same_then (same (number 8)) (same_then (same (number 8))
+    (same_then (past (counted_members definition_read))
+    (same_then (past (counted_members (number 8)))
+    (same_then (past (counted_members registrant_read))
+    (same_then (past (counted_members element_read)) (past (counted_members note_read)))))))))))

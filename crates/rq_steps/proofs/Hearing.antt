@@ -1,5 +1,6 @@
 -- Registrants in order: where a new one goes, and which one hears of a note.
-use Rattle.std.proofs.Common.{◌≡◌, ℕ, zero, suc, ◌<◌, ◌≤◌, Bool, true, false, cond, not, ◌&&◌, ◌==◌, List, [], ◌∷◌, ◌++◌, length, map, Ok, Err, None, refl, sym, ap, ◌∙◌, arith, inl, inr, if◌then◌else◌}
+use Rattle.std.proofs.Common.{◌≡◌, ℕ, zero, suc, ◌<◌, ◌≤◌, Bool, true, false, cond, not, ◌&&◌, ◌==◌, List, [], ◌∷◌}
+use Rattle.std.proofs.Common.{◌++◌, length, map, Ok, Err, None, refl, sym, ap, ◌∙◌, arith, inl, inr, if◌then◌else◌}
 use Rattle.std.specs.Prelude.{slice_index_or, slice_set}
 use Rattle.std.specs.List.{filter, insert, AllByRecursion}
 use Rattle.std.specs.List.Sorted.{IsBinarySearchResult, IsPartitionPoint, IsSortedBy}
@@ -24,17 +25,20 @@ use Rattle.rq_steps.specs.Hearing.{heard_of}
 
 -- Lists.
 
-each_at : {X : Type 0} (P : X → Type 0) (xs : List X) → ((k : ℕ) (d : X) → k < length xs → P (slice_index_or xs k d)) → AllByRecursion P xs
+each_at : {X : Type 0} (P : X → Type 0) (xs : List X) → ((k : ℕ) (d : X) → k < length xs → P (slice_index_or xs k d))
+    → AllByRecursion P xs
 each_at P [] h = tt
 each_at P (x ∷ xs) h = (h 0 x (omega arith), each_at P xs (λ k d l. h (suc k) d (omega (arith, l))))
 
-one_of : {X : Type 0} (P : X → Type 0) (xs : List X) (i : ℕ) (d : X) → i < length xs → AllByRecursion P xs → P (slice_index_or xs i d)
+one_of : {X : Type 0} (P : X → Type 0) (xs : List X) (i : ℕ) (d : X) → i < length xs → AllByRecursion P xs
+    → P (slice_index_or xs i d)
 one_of P [] i d l h = let no : ⊥ = omega (arith, l) in absurd no
 one_of P (x ∷ xs) zero d l h = h.0
 one_of P (x ∷ xs) (suc i) d l h = one_of P xs i d (omega (arith, l)) h.1
 
 -- a member that is there, whatever stands for one that is not
-pub any_default : {X : Type 0} (xs : List X) (i : ℕ) (d e : X) → i < length xs → slice_index_or xs i d ≡ slice_index_or xs i e
+pub any_default : {X : Type 0} (xs : List X) (i : ℕ) (d e : X) → i < length xs
+    → slice_index_or xs i d ≡ slice_index_or xs i e
 any_default [] i d e l = let no : ⊥ = omega (arith, l) in absurd no
 any_default (x ∷ xs) zero d e l = refl
 any_default (x ∷ xs) (suc i) d e l = any_default xs i d e (omega (arith, l))
@@ -47,14 +51,19 @@ put_at : {X : Type 0} (before : X → X → Bool) (x : X) (xs : List X) (i : ℕ
 put_at before x [] zero l below above = refl
 put_at before x [] (suc i) l below above = let no : ⊥ = omega (arith, l) in absurd no
 put_at before x (y ∷ ys) zero l below above =
-    let none : AllByRecursion (λ z. before z x ≡ false) (y ∷ ys) = each_at (λ z. before z x ≡ false) (y ∷ ys) (λ k d m. above k d (omega arith) m) in
+    let none : AllByRecursion (λ z. before z x ≡ false) (y ∷ ys) =
+    each_at (λ z. before z x ≡ false) (y ∷ ys) (λ k d m. above k d (omega arith) m) in
     λ i. sym (filter_none (λ z. before z x) (y ∷ ys) none) i
-    ++ x ∷ sym (filter_all (λ z. not (before z x)) (y ∷ ys) (each_weaker (λ z. before z x ≡ false) (λ z. not (before z x) ≡ true) (λ z m. ap not m) (y ∷ ys) none)) i
+    ++ x ∷ sym (filter_all (λ z. not (before z x)) (y ∷ ys)
+    (each_weaker (λ z. before z x ≡ false) (λ z. not (before z x) ≡ true) (λ z m. ap not m) (y ∷ ys) none)) i
 put_at {X} before x (y ∷ ys) (suc i) l below above =
     let front = filter (λ z. before z x) ys in
     let back = filter (λ z. not (before z x)) ys in
-    let later : insert ys i x ≡ put before x ys = put_at before x ys i (omega (arith, l)) (λ k d m. below (suc k) d (omega (arith, m))) (λ k d m n. above (suc k) d (omega (arith, m)) (omega (arith, n))) in
-    ap (λ (zs : List X). y ∷ zs) later ∙ ap (λ b. cond b (y ∷ front) front ++ x ∷ cond (not b) (y ∷ back) back) (sym (below 0 y (omega arith)))
+    let later : insert ys i x ≡ put before x ys =
+    put_at before x ys i (omega (arith, l)) (λ k d m. below (suc k) d (omega (arith, m)))
+    (λ k d m n. above (suc k) d (omega (arith, m)) (omega (arith, n))) in
+    ap (λ (zs : List X). y ∷ zs) later ∙ ap (λ b. cond b (y ∷ front) front ++ x ∷ cond (not b) (y ∷ back) back)
+    (sym (below 0 y (omega arith)))
 
 -- Keys.
 
@@ -70,28 +79,36 @@ number_same : (a b : ℕ) → is_eq (nat_cmp a b) ≡ (a == b)
 number_same a b = grind (arith, nat_tests)
 
 note_is : (n : Note) (r : Registrant) → is_eq (key_cmp (n.queue, n.name) (key_of r)) ≡ is_note_of r.queue r.name n
-note_is n r = sym (tied_then (nat_cmp n.queue r.queue) (slice_cmp nat_cmp n.name r.name)) ∙ (λ i. number_same n.queue r.queue i && is_eq-slice_cmp n.name r.name i)
+note_is n r = sym (tied_then (nat_cmp n.queue r.queue) (slice_cmp nat_cmp n.name r.name))
+    ∙ (λ i. number_same n.queue r.queue i && is_eq-slice_cmp n.name r.name i)
 
 abbrev InOrder : List Registrant → Type 0
 InOrder rs = Ordered (λ a b. registrant_before a b ≡ true) rs
 
 -- what a search that finds nothing says of the others
-sides : (k : ℕ × List ℕ) (rs : List Registrant) (i : ℕ) → IsBinarySearchResult (λ y. key_cmp (key_of y) k) rs (Err i) → InOrder rs → IsPartitionPoint (λ y. key_cmp (key_of y) k ≡ Less) (λ y. key_cmp (key_of y) k ≡ Greater) rs i
+sides : (k : ℕ × List ℕ) (rs : List Registrant) (i : ℕ) → IsBinarySearchResult (λ y. key_cmp (key_of y) k) rs (Err i)
+    → InOrder rs → IsPartitionPoint (λ y. key_cmp (key_of y) k ≡ Less) (λ y. key_cmp (key_of y) k ≡ Greater) rs i
 sides k rs i result up = result (searchable_from_sorted key_total key_of rs k sorted)
   where
     order : IsStrictWeakOrder (λ x y. is_lt (key_cmp (key_of x) (key_of y)))
     order = ranks_by key_total key_of
 
     sorted : IsSortedBy (λ x y. is_lt (key_cmp (key_of x) (key_of y))) rs
-    sorted = λ k d low lt. at_next (λ x y. is_lt (key_cmp (key_of y) (key_of x)) ≡ false) rs (ordered_weaker (λ a b. registrant_before a b ≡ true) (λ x y. is_lt (key_cmp (key_of y) (key_of x)) ≡ false) (λ x y h. order.one_way x y (is_lt-key_cmp x y ∙ h)) rs up) k d lt
+    sorted = λ k d low lt. at_next (λ x y. is_lt (key_cmp (key_of y) (key_of x)) ≡ false) rs
+        (ordered_weaker (λ a b. registrant_before a b ≡ true) (λ x y. is_lt (key_cmp (key_of y) (key_of x)) ≡ false)
+        (λ x y h. order.one_way x y (is_lt-key_cmp x y ∙ h)) rs up) k d lt
 
 -- REGISTER
 
-pub still_registered : (queue : ℕ) (name : List ℕ) (rs : List Registrant) (i : ℕ) → i < length rs → IsBinarySearchResult (λ y. key_cmp (key_of y) (queue, name)) rs (Ok i) → InOrder rs → rs ≡ registered queue name rs
+pub still_registered : (queue : ℕ) (name : List ℕ) (rs : List Registrant) (i : ℕ) → i < length rs
+    → IsBinarySearchResult (λ y. key_cmp (key_of y) (queue, name)) rs (Ok i) → InOrder rs
+    → rs ≡ registered queue name rs
 still_registered queue name rs i l result up =
-    ap (λ b. if b then rs else put registrant_before (record { queue = queue; name = name; last = None }) rs) (registrants_searched rs queue name (Ok i) l result up)
+    ap (λ b. if b then rs else put registrant_before (record { queue = queue; name = name; last = None }) rs)
+    (registrants_searched rs queue name (Ok i) l result up)
 
-pub newly_registered : (queue : ℕ) (name : List ℕ) (rs : List Registrant) (i : ℕ) → i ≤ length rs → IsBinarySearchResult (λ y. key_cmp (key_of y) (queue, name)) rs (Err i) → InOrder rs
+pub newly_registered : (queue : ℕ) (name : List ℕ) (rs : List Registrant) (i : ℕ) → i ≤ length rs
+    → IsBinarySearchResult (λ y. key_cmp (key_of y) (queue, name)) rs (Err i) → InOrder rs
     → insert rs i (record { queue = queue; name = name; last = None }) ≡ registered queue name rs
 newly_registered queue name rs i l result up =
     let new : Registrant = record { queue = queue; name = name; last = None } in
@@ -106,63 +123,108 @@ newly_registered queue name rs i l result up =
 hears_not : (n : Note) (r : Registrant) → is_eq (key_cmp (n.queue, n.name) (key_of r)) ≡ false → heard_of n r ≡ r
 hears_not n r h = ap (λ b. if b then record r { last = later r.last n.last } else r) (sym (note_is n r) ∙ h)
 
-nobody : (n : Note) (rs : List Registrant) → AllByRecursion (λ r. is_eq (key_cmp (n.queue, n.name) (key_of r)) ≡ false) rs → map (heard_of n) rs ≡ rs
-nobody n rs h = map_all (heard_of n) rs (each_weaker (λ r. is_eq (key_cmp (n.queue, n.name) (key_of r)) ≡ false) (λ r. heard_of n r ≡ r) (λ r m. hears_not n r m) rs h)
+nobody : (n : Note) (rs : List Registrant)
+    → AllByRecursion (λ r. is_eq (key_cmp (n.queue, n.name) (key_of r)) ≡ false) rs → map (heard_of n) rs ≡ rs
+nobody n rs h = map_all (heard_of n) rs
+    (each_weaker (λ r. is_eq (key_cmp (n.queue, n.name) (key_of r)) ≡ false) (λ r. heard_of n r ≡ r)
+    (λ r m. hears_not n r m) rs h)
 
-pub nobody_hears : (n : Note) (rs : List Registrant) (i : ℕ) → IsBinarySearchResult (λ y. key_cmp (key_of y) (n.queue, n.name)) rs (Err i) → InOrder rs → rs ≡ map (heard_of n) rs
-nobody_hears n rs i result up = sym (nobody n rs (each_at (λ r. is_eq (key_cmp (n.queue, n.name) (key_of r)) ≡ false) rs (λ k d l. at k d l)))
+pub nobody_hears : (n : Note) (rs : List Registrant) (i : ℕ)
+    → IsBinarySearchResult (λ y. key_cmp (key_of y) (n.queue, n.name)) rs (Err i) → InOrder rs
+    → rs ≡ map (heard_of n) rs
+nobody_hears n rs i result up =
+    sym (nobody n rs (each_at (λ r. is_eq (key_cmp (n.queue, n.name) (key_of r)) ≡ false) rs (λ k d l. at k d l)))
   where
-    both : IsPartitionPoint (λ y. key_cmp (key_of y) (n.queue, n.name) ≡ Less) (λ y. key_cmp (key_of y) (n.queue, n.name) ≡ Greater) rs i
+    both : IsPartitionPoint (λ y. key_cmp (key_of y) (n.queue, n.name) ≡ Less)
+        (λ y. key_cmp (key_of y) (n.queue, n.name) ≡ Greater) rs i
     both = sides (n.queue, n.name) rs i result up
 
-    at : (k : ℕ) (d : Registrant) → k < length rs → is_eq (key_cmp (n.queue, n.name) (key_of (slice_index_or rs k d))) ≡ false
+    at : (k : ℕ) (d : Registrant) → k < length rs
+        → is_eq (key_cmp (n.queue, n.name) (key_of (slice_index_or rs k d))) ≡ false
     at k d l = elim (cases_lt k i) [
-      | inl below ↦ ap is_eq (turned (key_of (slice_index_or rs k d)) (n.queue, n.name) Less (both.0 k d (omega arith) below))
+      | inl below ↦ ap is_eq
+          (turned (key_of (slice_index_or rs k d)) (n.queue, n.name) Less (both.0 k d (omega arith) below))
       | inr above ↦ ap is_eq (turned (key_of (slice_index_or rs k d)) (n.queue, n.name) Greater (both.1 k d above l))
     ]
 
-pub one_hears : (n : Note) (rs : List Registrant) (i : ℕ) (new : Registrant) → i < length rs → IsBinarySearchResult (λ y. key_cmp (key_of y) (n.queue, n.name)) rs (Ok i) → InOrder rs
-    → ((d : Registrant) → new ≡ record (slice_index_or rs i d) { last = later (slice_index_or rs i d).last n.last }) → slice_set rs i new ≡ map (heard_of n) rs
+pub one_hears : (n : Note) (rs : List Registrant) (i : ℕ) (new : Registrant) → i < length rs
+    → IsBinarySearchResult (λ y. key_cmp (key_of y) (n.queue, n.name)) rs (Ok i) → InOrder rs
+    → ((d : Registrant) → new ≡ record (slice_index_or rs i d) { last = later (slice_index_or rs i d).last n.last })
+    → slice_set rs i new ≡ map (heard_of n) rs
 one_hears n [] i new l result up is = let no : ⊥ = omega (arith, l) in absurd no
 one_hears n (x ∷ xs) zero new l result up is =
     let same : key_cmp (key_of x) (n.queue, n.name) ≡ Equal = result x in
-    let own : is_note_of x.queue x.name n ≡ true = sym (note_is n x) ∙ ap is_eq (turned (key_of x) (n.queue, n.name) Equal same) in
+    let own : is_note_of x.queue x.name n ≡ true =
+    sym (note_is n x) ∙ ap is_eq (turned (key_of x) (n.queue, n.name) Equal same) in
     let others : AllByRecursion (λ r. is_eq (key_cmp (n.queue, n.name) (key_of r)) ≡ false) xs
-    = each_weaker (λ y. registrant_before x y ≡ true) (λ y. is_eq (key_cmp (n.queue, n.name) (key_of y)) ≡ false) (λ y m. ap is_eq (sym (key_total.congr (key_of x) (n.queue, n.name) (key_of y) same) ∙ is_less (key_cmp (key_of x) (key_of y)) (is_lt-key_cmp x y ∙ m))) xs up.0 in
-    λ j. (is x ∙ ap (λ b. if b then record x { last = later x.last n.last } else x) (sym own)) j ∷ sym (nobody n xs others) j
+    = each_weaker (λ y. registrant_before x y ≡ true) (λ y. is_eq (key_cmp (n.queue, n.name) (key_of y)) ≡ false)
+    (λ y m. ap is_eq (sym (key_total.congr (key_of x) (n.queue, n.name) (key_of y) same)
+    ∙ is_less (key_cmp (key_of x) (key_of y)) (is_lt-key_cmp x y ∙ m))) xs up.0 in
+    λ j. (is x ∙ ap (λ b. if b then record x { last = later x.last n.last } else x) (sym own)) j
+    ∷ sym (nobody n xs others) j
 one_hears n (x ∷ xs) (suc i) new l result up is =
     let z = slice_index_or xs i x in
     let within : i < length xs = omega (arith, l) in
     let same : key_cmp (key_of z) (n.queue, n.name) ≡ Equal = result x in
-    let less : key_cmp (key_of x) (key_of z) ≡ Less = is_less (key_cmp (key_of x) (key_of z)) (is_lt-key_cmp x z ∙ one_of (λ y. registrant_before x y ≡ true) xs i x within up.0) in
-    let other : is_eq (key_cmp (n.queue, n.name) (key_of x)) ≡ false = ap is_eq (sym (key_total.congr (key_of z) (n.queue, n.name) (key_of x) same) ∙ turned (key_of x) (key_of z) Less less) in
+    let less : key_cmp (key_of x) (key_of z) ≡ Less =
+    is_less (key_cmp (key_of x) (key_of z))
+    (is_lt-key_cmp x z ∙ one_of (λ y. registrant_before x y ≡ true) xs i x within up.0) in
+    let other : is_eq (key_cmp (n.queue, n.name) (key_of x)) ≡ false =
+    ap is_eq (sym (key_total.congr (key_of z) (n.queue, n.name) (key_of x) same)
+    ∙ turned (key_of x) (key_of z) Less less) in
     λ j. sym (hears_not n x other) j ∷ one_hears n xs i new within (λ d. result d) up.1 (λ d. is d) j
 
 same_key : (n : Note) (r : Registrant) → key_of (heard_of n r) ≡ key_of r
-same_key n r = by_cases (is_note_of r.queue r.name n) (λ b. key_of (if b then record r { last = later r.last n.last } else r) ≡ key_of r) (λ _. refl) (λ _. refl)
+same_key n r = by_cases (is_note_of r.queue r.name n)
+    (λ b. key_of (if b then record r { last = later r.last n.last } else r) ≡ key_of r) (λ _. refl) (λ _. refl)
 
 -- they stay in order
 pub in_order_still : (n : Note) (rs : List Registrant) → InOrder rs → InOrder (map (heard_of n) rs)
-in_order_still n rs up = ordered_map (λ a b. registrant_before a b ≡ true) (λ a b. registrant_before a b ≡ true) (heard_of n)
-    (λ a b h. sym (is_lt-key_cmp (heard_of n a) (heard_of n b)) ∙ ((λ i. is_lt (key_cmp (same_key n a i) (same_key n b i))) ∙ (is_lt-key_cmp a b ∙ h))) rs up
+in_order_still n rs up = ordered_map (λ a b. registrant_before a b ≡ true) (λ a b. registrant_before a b ≡ true)
+    (heard_of n)
+    (λ a b h. sym (is_lt-key_cmp (heard_of n a) (heard_of n b))
+    ∙ ((λ i. is_lt (key_cmp (same_key n a i) (same_key n b i))) ∙ (is_lt-key_cmp a b ∙ h))) rs up
 
 -- The notes of a unit.
 
 abbrev mine : ℕ → Registrant → Note → Bool
 mine unit r n = (n.unit == unit) && is_note_of r.queue r.name n
 
-told_one : (unit : ℕ) (n : Note) (rest : List Note) (r : Registrant) → (n.unit == unit) ≡ true → told unit rest (heard_of n r) ≡ told unit (n ∷ rest) r
-told_one unit n rest r u = by_cases (is_note_of r.queue r.name n) (λ b. told unit rest (if b then record r { last = later r.last n.last } else r)
-    ≡ record { queue = r.queue; name = r.name; last = latest r.last (if b then n ∷ filter (mine unit r) rest else filter (mine unit r) rest) }) (λ _. refl) (λ _. refl)
-    ∙ ap (λ b. record { queue = r.queue; name = r.name; last = latest r.last (if b && is_note_of r.queue r.name n then n ∷ filter (mine unit r) rest else filter (mine unit r) rest) }) (sym u)
+told_one : (unit : ℕ) (n : Note) (rest : List Note) (r : Registrant) → (n.unit == unit) ≡ true
+    → told unit rest (heard_of n r) ≡ told unit (n ∷ rest) r
+told_one unit n rest r u = by_cases (is_note_of r.queue r.name n)
+    (λ b. told unit rest (if b then record r { last = later r.last n.last } else r)
+    ≡ record {
+      queue = r.queue;
+      name = r.name;
+      last =
+          latest r.last (if b then n ∷ filter (mine unit r) rest else filter (mine unit r) rest);
+    }) (λ _. refl)
+    (λ _. refl)
+    ∙ ap (λ b. record {
+      queue = r.queue;
+      name = r.name;
+      last =
+          latest r.last (if b && is_note_of r.queue r.name n then n
+          ∷ filter (mine unit r) rest else filter (mine unit r) rest);
+    }) (sym u)
 
-pub told_more : (unit : ℕ) (n : Note) (rest : List Note) (rs : List Registrant) → (n.unit == unit) ≡ true → map (told unit rest) (map (heard_of n) rs) ≡ map (told unit (n ∷ rest)) rs
+pub told_more : (unit : ℕ) (n : Note) (rest : List Note) (rs : List Registrant) → (n.unit == unit) ≡ true
+    → map (told unit rest) (map (heard_of n) rs) ≡ map (told unit (n ∷ rest)) rs
 told_more unit n rest [] u = refl
 told_more unit n rest (r ∷ rs) u = λ i. told_one unit n rest r u i ∷ told_more unit n rest rs u i
 
-pub told_same : (unit : ℕ) (n : Note) (rest : List Note) (rs : List Registrant) → (n.unit == unit) ≡ false → map (told unit rest) rs ≡ map (told unit (n ∷ rest)) rs
+pub told_same : (unit : ℕ) (n : Note) (rest : List Note) (rs : List Registrant) → (n.unit == unit) ≡ false
+    → map (told unit rest) rs ≡ map (told unit (n ∷ rest)) rs
 told_same unit n rest [] u = refl
-told_same unit n rest (r ∷ rs) u = λ i. ap (λ b. record { queue = r.queue; name = r.name; last = latest r.last (if b && is_note_of r.queue r.name n then n ∷ filter (mine unit r) rest else filter (mine unit r) rest) }) (sym u) i ∷ told_same unit n rest rs u i
+told_same unit n rest (r ∷ rs) u =
+    λ i. ap (λ b. record {
+      queue = r.queue;
+      name = r.name;
+      last =
+          latest r.last (if b && is_note_of r.queue r.name n then n
+          ∷ filter (mine unit r) rest else filter (mine unit r) rest);
+    }) (sym u) i ∷ told_same unit n rest rs u i
 
 pub told_none : (unit : ℕ) (rs : List Registrant) → map (told unit []) rs ≡ rs
 told_none unit [] = refl

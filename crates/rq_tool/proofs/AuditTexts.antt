@@ -23,7 +23,8 @@ audit_read b bytes (Ok found) same h = elim same [
 ]
 audit_read b bytes (Err e) same h = refused_read b bytes e same h
 
-pub audit_some : (bytes : List ℕ) (result : Found) → Audits bytes result → IfOk result (λ found. (b : List ℕ) × IsAudit b (map audited_of found.items))
+pub audit_some : (bytes : List ℕ) (result : Found) → Audits bytes result
+    → IfOk result (λ found. (b : List ℕ) × IsAudit b (map audited_of found.items))
 audit_some bytes (Ok found) h = (bytes, h.2)
 audit_some bytes (Err e) h = tt
 
@@ -41,10 +42,12 @@ audit_fault bytes (Err faults.ReadFailed) h = absurd h
 audit_fault bytes (Err faults.WriteFailed) h = absurd h
 
 -- what is written of an audit is written of its bytes
-pub written_audit : (b text : List ℕ) (found : List Audited) (before after : ℕ) (old new : Option (List ℕ)) (result : Result (Unit {0}) Fault) → IsRunnable b → IsAudit b found → text ≡ flat_map audit_line found
+pub written_audit : (b text : List ℕ) (found : List Audited) (before after : ℕ) (old new : Option (List ℕ))
+    (result : Result (Unit {0}) Fault) → IsRunnable b → IsAudit b found → text ≡ flat_map audit_line found
     → Delivers before after old new text result → AuditsLog b old new result
 written_audit b text found before after old new (Ok done) log is spelled w = (log, text, (found, is, spelled), w.1)
-written_audit b text found before after old new (Err faults.WriteFailed) log is spelled w = (log, text, (found, is, spelled), w.1)
+written_audit b text found before after old new (Err faults.WriteFailed) log is spelled w =
+    (log, text, (found, is, spelled), w.1)
 written_audit b text found before after old new (Err faults.Resources) log is spelled w = absurd w
 written_audit b text found before after old new (Err faults.Form) log is spelled w = absurd w
 written_audit b text found before after old new (Err faults.NotALog) log is spelled w = absurd w
@@ -55,10 +58,12 @@ written_audit b text found before after old new (Err faults.NoCheckpoint) log is
 written_audit b text found before after old new (Err (faults.Script n)) log is spelled w = absurd w
 written_audit b text found before after old new (Err faults.ReadFailed) log is spelled w = absurd w
 
-pub written_audit_only : (b text : List ℕ) (found : List Audited) (before after : ℕ) (old new : Option (List ℕ)) (result : Result (Unit {0}) Fault) → IsAudit b found → text ≡ flat_map audit_line found
+pub written_audit_only : (b text : List ℕ) (found : List Audited) (before after : ℕ) (old new : Option (List ℕ))
+    (result : Result (Unit {0}) Fault) → IsAudit b found → text ≡ flat_map audit_line found
     → Delivers before after old new text result → AuditsOnly old new result
 written_audit_only b text found before after old new (Ok done) is spelled w = (b, text, (found, is, spelled), w.1)
-written_audit_only b text found before after old new (Err faults.WriteFailed) is spelled w = (b, text, (found, is, spelled), w.1)
+written_audit_only b text found before after old new (Err faults.WriteFailed) is spelled w =
+    (b, text, (found, is, spelled), w.1)
 written_audit_only b text found before after old new (Err faults.Resources) is spelled w = absurd w
 written_audit_only b text found before after old new (Err faults.Form) is spelled w = absurd w
 written_audit_only b text found before after old new (Err faults.NotALog) is spelled w = absurd w

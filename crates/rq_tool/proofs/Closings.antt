@@ -15,7 +15,8 @@ use Rattle.rq_tool.proofs.Told.{IsSame, refused_read}
 abbrev Found : Type 0
 Found = Result (Vec ℕ) Fault
 
-closed : ClosedStands → (bytes : List ℕ) (log : Vec ℕ) → AreBytes bytes → Closes bytes (Ok log) → IsClosedLog bytes log.items
+closed : ClosedStands → (bytes : List ℕ) (log : Vec ℕ) → AreBytes bytes → Closes bytes (Ok log)
+    → IsClosedLog bytes log.items
 closed law bytes log fits h = record { log = h.0; is = h.1; short = h.2; stands = law bytes log.items fits h.1 h.2 }
 
 too_large : (b bytes : List ℕ) → IsSame b bytes → Closes bytes (Err faults.TooLarge) → IsTooLargeToClose b
@@ -25,7 +26,8 @@ too_large b bytes same h = elim same [
 ]
 
 -- what is closed of the bytes is closed of those that the reader had
-pub closed_read : ClosedStands → (b bytes : List ℕ) (result : Found) → AreBytes bytes → IsSame b bytes → Closes bytes result → ClosesRead b result
+pub closed_read : ClosedStands → (b bytes : List ℕ) (result : Found) → AreBytes bytes → IsSame b bytes
+    → Closes bytes result → ClosesRead b result
 closed_read law b bytes (Ok log) fits same h = elim same [
   | inl is ↦ subst (λ (z : List ℕ). IsClosedLog z log.items) is (closed law bytes log fits h)
   | inr long ↦ absurd (omega (arith, h.0.0, long.1))
@@ -41,7 +43,8 @@ closed_read law b bytes (Err (faults.Script n)) fits same h = absurd h
 closed_read law b bytes (Err faults.ReadFailed) fits same h = absurd h
 closed_read law b bytes (Err faults.WriteFailed) fits same h = absurd h
 
-pub closed_some : ClosedStands → (bytes : List ℕ) (result : Found) → AreBytes bytes → Closes bytes result → IfOk result (λ log. (b : List ℕ) × IsClosedLog b log.items)
+pub closed_some : ClosedStands → (bytes : List ℕ) (result : Found) → AreBytes bytes → Closes bytes result
+    → IfOk result (λ log. (b : List ℕ) × IsClosedLog b log.items)
 closed_some law bytes (Ok log) fits h = (bytes, closed law bytes log fits h)
 closed_some law bytes (Err e) fits h = tt
 
@@ -84,7 +87,8 @@ refused_early (faults.Script n) h = h
 refused_early faults.WriteFailed h = h
 
 -- what is written of a closed log is written of its bytes
-pub written_closed : (b log : List ℕ) (before after : ℕ) (old new : Option (List ℕ)) (result : Result (Unit {0}) Fault) → IsClosedLog b log → Delivers before after old new log result → ClosesLog b old new result
+pub written_closed : (b log : List ℕ) (before after : ℕ) (old new : Option (List ℕ)) (result : Result (Unit {0}) Fault)
+    → IsClosedLog b log → Delivers before after old new log result → ClosesLog b old new result
 written_closed b log before after old new (Ok done) is w = (log, is, w.1)
 written_closed b log before after old new (Err faults.WriteFailed) is w = (log, is, w.1)
 written_closed b log before after old new (Err faults.Resources) is w = absurd w
@@ -97,7 +101,9 @@ written_closed b log before after old new (Err faults.NoCheckpoint) is w = absur
 written_closed b log before after old new (Err (faults.Script n)) is w = absurd w
 written_closed b log before after old new (Err faults.ReadFailed) is w = absurd w
 
-pub written_closed_only : (b log : List ℕ) (before after : ℕ) (old new : Option (List ℕ)) (result : Result (Unit {0}) Fault) → IsClosedLog b log → Delivers before after old new log result → ClosesOnly old new result
+pub written_closed_only : (b log : List ℕ) (before after : ℕ) (old new : Option (List ℕ))
+    (result : Result (Unit {0}) Fault) → IsClosedLog b log → Delivers before after old new log result
+    → ClosesOnly old new result
 written_closed_only b log before after old new (Ok done) is w = (b, log, is, w.1)
 written_closed_only b log before after old new (Err faults.WriteFailed) is w = (b, log, is, w.1)
 written_closed_only b log before after old new (Err faults.Resources) is w = absurd w

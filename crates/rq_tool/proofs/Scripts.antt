@@ -14,7 +14,8 @@ use Rattle.rq_tool.proofs.Told.{IsSame}
 abbrev MakesLog : Version → List ℕ → Result (Vec ℕ) Fault → Type 0
 MakesLog version = Made version (λ v. v.items)
 
-made : (version : Version) (script : List ℕ) (result : Result (Vec ℕ) Fault) → length script ≤ log_limit → MakesLog version script result → MakesRead version script result
+made : (version : Version) (script : List ℕ) (result : Result (Vec ℕ) Fault) → length script ≤ log_limit
+    → MakesLog version script result → MakesRead version script result
 made version script (Ok log) short h = (short, h)
 made version script (Err faults.TooLong) short h = inr (short, h)
 made version script (Err faults.TooLarge) short h = (short, h)
@@ -28,23 +29,27 @@ made version script (Err faults.NoCheckpoint) short h = absurd h
 made version script (Err faults.WriteFailed) short h = absurd h
 
 -- a script of lawful length was read whole
-pub made_read : (version : Version) (b script : List ℕ) (result : Result (Vec ℕ) Fault) → IsSame b script → length script ≤ log_limit → MakesLog version script result → MakesRead version b result
+pub made_read : (version : Version) (b script : List ℕ) (result : Result (Vec ℕ) Fault) → IsSame b script
+    → length script ≤ log_limit → MakesLog version script result → MakesRead version b result
 made_read version b script result same short h = elim same [
   | inl is ↦ subst (λ (x : List ℕ). MakesRead version x result) is (made version script result short h)
   | inr long ↦ (let no : ⊥ = omega (arith, long.1, short) in absurd no)
 ]
 
-pub long_script : (version : Version) (b script : List ℕ) → IsSame b script → log_limit < length script → MakesRead version b (Err faults.TooLong)
+pub long_script : (version : Version) (b script : List ℕ) → IsSame b script → log_limit < length script
+    → MakesRead version b (Err faults.TooLong)
 long_script version b script same long = elim same [
   | inl is ↦ inl (subst (λ (x : List ℕ). log_limit < length x) is long)
   | inr both ↦ inl both.0
 ]
 
-pub made_some : (version : Version) (script : List ℕ) (result : Result (Vec ℕ) Fault) → length script ≤ log_limit → MakesLog version script result → IfOk result (λ log. (script : List ℕ) × IsLogOf version script log.items)
+pub made_some : (version : Version) (script : List ℕ) (result : Result (Vec ℕ) Fault) → length script ≤ log_limit
+    → MakesLog version script result → IfOk result (λ log. (script : List ℕ) × IsLogOf version script log.items)
 made_some version script (Ok log) short h = (script, (short, h))
 made_some version script (Err e) short h = tt
 
-pub made_fault : (version : Version) (script : List ℕ) (result : Result (Vec ℕ) Fault) → MakesLog version script result → IfErr result IsMakeFault
+pub made_fault : (version : Version) (script : List ℕ) (result : Result (Vec ℕ) Fault) → MakesLog version script result
+    → IfErr result IsMakeFault
 made_fault version script (Ok log) h = tt
 made_fault version script (Err faults.TooLong) h = tt
 made_fault version script (Err faults.TooLarge) h = tt
@@ -58,7 +63,9 @@ made_fault version script (Err faults.NoCheckpoint) h = absurd h
 made_fault version script (Err faults.WriteFailed) h = absurd h
 
 -- what is written of a log is written of its script
-pub written_log : (version : Version) (b log : List ℕ) (before after : ℕ) (old new : Option (List ℕ)) (result : Result (Unit {0}) Fault) → IsLogOf version b log → Delivers before after old new log result → Makes version b old new result
+pub written_log : (version : Version) (b log : List ℕ) (before after : ℕ) (old new : Option (List ℕ))
+    (result : Result (Unit {0}) Fault) → IsLogOf version b log → Delivers before after old new log result
+    → Makes version b old new result
 written_log version b log before after old new (Ok done) is w = (log, is, w.1)
 written_log version b log before after old new (Err faults.WriteFailed) is w = (log, is, w.1)
 written_log version b log before after old new (Err faults.Resources) is w = absurd w
@@ -71,7 +78,9 @@ written_log version b log before after old new (Err faults.NoCheckpoint) is w = 
 written_log version b log before after old new (Err (faults.Script n)) is w = absurd w
 written_log version b log before after old new (Err faults.ReadFailed) is w = absurd w
 
-pub written_log_only : (version : Version) (b log : List ℕ) (before after : ℕ) (old new : Option (List ℕ)) (result : Result (Unit {0}) Fault) → IsLogOf version b log → Delivers before after old new log result → MakesOnly version old new result
+pub written_log_only : (version : Version) (b log : List ℕ) (before after : ℕ) (old new : Option (List ℕ))
+    (result : Result (Unit {0}) Fault) → IsLogOf version b log → Delivers before after old new log result
+    → MakesOnly version old new result
 written_log_only version b log before after old new (Ok done) is w = (b, log, is, w.1)
 written_log_only version b log before after old new (Err faults.WriteFailed) is w = (b, log, is, w.1)
 written_log_only version b log before after old new (Err faults.Resources) is w = absurd w

@@ -15,14 +15,18 @@ use Rattle.rq_tool.specs.Streams.{IsOneOf, ReadsAll, ReadsOn, TakesInput, TakesS
 use Rattle.rq_tool.specs.Headline.{RestartsRead, Runs, WritesOnly}
 
 -- what a reader gave, and what it gives next
-pub reads_on : (old mid new : Option (List ℕ)) (before bytes after more : List ℕ) → ReadsOn old before mid bytes → after ≡ bytes ++ more → Consumes mid new more → ReadsOn old before new after
-reads_on old mid new before bytes after more h is more_taken = λ first taken. subst (Consumes first new) (sym is) (Consumes-trans first mid new bytes more (h first taken) more_taken)
+pub reads_on : (old mid new : Option (List ℕ)) (before bytes after more : List ℕ) → ReadsOn old before mid bytes
+    → after ≡ bytes ++ more → Consumes mid new more → ReadsOn old before new after
+reads_on old mid new before bytes after more h is more_taken =
+    λ first taken. subst (Consumes first new) (sym is)
+    (Consumes-trans first mid new bytes more (h first taken) more_taken)
 
 pub takes_on : (old mid new : Option (List ℕ)) → TakesSome old mid → TakesSome mid new → TakesSome old new
 takes_on old mid new h more = (h.0 ++ more.0, Consumes-trans old mid new h.0 more.0 h.1 more.1)
 
 -- what was taken up to the end, or as far as a log may go and one byte more
-pub all_taken : {A : Type 0} (old new : Option (List ℕ)) (bytes : List ℕ) (result : Result A Fault) → ReadsAll old new bytes → TakesInput old new result
+pub all_taken : {A : Type 0} (old new : Option (List ℕ)) (bytes : List ℕ) (result : Result A Fault)
+    → ReadsAll old new bytes → TakesInput old new result
 all_taken old new bytes (Ok x) h = (bytes, h)
 all_taken old new bytes (Err faults.ReadFailed) h = (bytes, h.0)
 all_taken old new bytes (Err faults.Resources) h = (bytes, h.0)
@@ -36,7 +40,8 @@ all_taken old new bytes (Err (faults.Script n)) h = (bytes, h)
 all_taken old new bytes (Err faults.WriteFailed) h = (bytes, h)
 
 -- some bytes were taken where a read or memory was refused
-pub some_taken : (A : Type 0) (old new : Option (List ℕ)) (e : Fault) → IsOneOf faults.ReadFailed faults.Resources e → TakesSome old new → TakesInput {A = A} old new (Err e)
+pub some_taken : (A : Type 0) (old new : Option (List ℕ)) (e : Fault) → IsOneOf faults.ReadFailed faults.Resources e
+    → TakesSome old new → TakesInput {A = A} old new (Err e)
 some_taken A old new e which h = elim which [
   | inl is ↦ subst (λ (f : Fault). TakesInput {A = A} old new (Err f)) (sym is) h
   | inr is ↦ subst (λ (f : Fault). TakesInput {A = A} old new (Err f)) (sym is) h
@@ -68,7 +73,8 @@ same_refused b (faults.Script n) h = absurd h
 same_refused b faults.ReadFailed h = absurd h
 same_refused b faults.WriteFailed h = absurd h
 
-long_refused : (b bytes : List ℕ) (e : Fault) → log_limit < length b → log_limit < length bytes → Refused bytes e → RestartsRead b (Err e)
+long_refused : (b bytes : List ℕ) (e : Fault) → log_limit < length b → log_limit < length bytes → Refused bytes e
+    → RestartsRead b (Err e)
 long_refused b bytes faults.TooLong long more h = long
 long_refused b bytes faults.NotALog long more h = absurd (omega (arith, h.0, more))
 long_refused b bytes faults.Resources long more h = tt
@@ -93,12 +99,15 @@ restarted_read b bytes r same h = elim same [
   | inr long ↦ absurd (omega (arith, h.0, long.1))
 ]
 
-pub result_read : (b bytes : List ℕ) (result : Result Restarted Fault) → IsSame b bytes → Restarts bytes result → RestartsRead b result
+pub result_read : (b bytes : List ℕ) (result : Result Restarted Fault) → IsSame b bytes → Restarts bytes result
+    → RestartsRead b result
 result_read b bytes (Ok r) same h = restarted_read b bytes r same h
 result_read b bytes (Err e) same h = refused_read b bytes e same h
 
 -- what is written of a restart is written of its bytes
-pub written_runs : (b : List ℕ) (r : Restarted) (before after : ℕ) (old new : Option (List ℕ)) (result : Result (Unit {0}) Fault) → RestartsRead b (Ok r) → Reports r before after old new result → Runs b old new result
+pub written_runs : (b : List ℕ) (r : Restarted) (before after : ℕ) (old new : Option (List ℕ))
+    (result : Result (Unit {0}) Fault) → RestartsRead b (Ok r) → Reports r before after old new result
+    → Runs b old new result
 written_runs b r before after old new (Ok done) read w = (read.0, w.0, (r, read.1, w.1), w.3)
 written_runs b r before after old new (Err faults.WriteFailed) read w = (read.0, w.0, (r, read.1, w.1), w.3)
 written_runs b r before after old new (Err faults.Resources) read w = w.1
@@ -111,7 +120,9 @@ written_runs b r before after old new (Err faults.NoCheckpoint) read w = absurd 
 written_runs b r before after old new (Err (faults.Script n)) read w = absurd w
 written_runs b r before after old new (Err faults.ReadFailed) read w = absurd w
 
-pub written_only : (b : List ℕ) (r : Restarted) (before after : ℕ) (old new : Option (List ℕ)) (result : Result (Unit {0}) Fault) → IsRestart b r → Reports r before after old new result → WritesOnly old new result
+pub written_only : (b : List ℕ) (r : Restarted) (before after : ℕ) (old new : Option (List ℕ))
+    (result : Result (Unit {0}) Fault) → IsRestart b r → Reports r before after old new result
+    → WritesOnly old new result
 written_only b r before after old new (Ok done) is w = (b, w.0, (r, is, w.1), w.3)
 written_only b r before after old new (Err faults.WriteFailed) is w = (b, w.0, (r, is, w.1), w.3)
 written_only b r before after old new (Err faults.Resources) is w = (tt, w.1)

@@ -20,18 +20,21 @@ Law = (b upgraded : List ℕ) → AreBytes b → IsUpgraded b upgraded → SaysT
 abbrev Found : Type 0
 Found = Result (Vec ℕ) Fault
 
-upgraded : Law → (bytes : List ℕ) (log : Vec ℕ) → AreBytes bytes → Upgrades bytes (Ok log) → IsUpgradedLog bytes log.items
+upgraded : Law → (bytes : List ℕ) (log : Vec ℕ) → AreBytes bytes → Upgrades bytes (Ok log)
+    → IsUpgradedLog bytes log.items
 upgraded law bytes log fits h = record { log = h.0; is = h.1; same = law bytes log.items fits h.1; short = h.2 }
 
 -- what is upgraded of the bytes is upgraded of those that the reader had
-pub upgraded_read : Law → (b bytes : List ℕ) (result : Found) → AreBytes bytes → IsSame b bytes → Upgrades bytes result → UpgradesRead b result
+pub upgraded_read : Law → (b bytes : List ℕ) (result : Found) → AreBytes bytes → IsSame b bytes → Upgrades bytes result
+    → UpgradesRead b result
 upgraded_read law b bytes (Ok log) fits same h = elim same [
   | inl is ↦ subst (λ (z : List ℕ). IsUpgradedLog z log.items) is (upgraded law bytes log fits h)
   | inr long ↦ absurd (omega (arith, h.0.0, long.1))
 ]
 upgraded_read law b bytes (Err e) fits same h = refused_read b bytes e same h
 
-pub upgraded_some : Law → (bytes : List ℕ) (result : Found) → AreBytes bytes → Upgrades bytes result → IfOk result (λ log. (b : List ℕ) × IsUpgradedLog b log.items)
+pub upgraded_some : Law → (bytes : List ℕ) (result : Found) → AreBytes bytes → Upgrades bytes result
+    → IfOk result (λ log. (b : List ℕ) × IsUpgradedLog b log.items)
 upgraded_some law bytes (Ok log) fits h = (bytes, upgraded law bytes log fits h)
 upgraded_some law bytes (Err e) fits h = tt
 
@@ -49,7 +52,9 @@ upgraded_fault bytes (Err faults.ReadFailed) h = absurd h
 upgraded_fault bytes (Err faults.WriteFailed) h = absurd h
 
 -- what is written of an upgraded log is written of its bytes
-pub written_upgraded : (b log : List ℕ) (before after : ℕ) (old new : Option (List ℕ)) (result : Result (Unit {0}) Fault) → IsUpgradedLog b log → Delivers before after old new log result → UpgradesLog b old new result
+pub written_upgraded : (b log : List ℕ) (before after : ℕ) (old new : Option (List ℕ))
+    (result : Result (Unit {0}) Fault) → IsUpgradedLog b log → Delivers before after old new log result
+    → UpgradesLog b old new result
 written_upgraded b log before after old new (Ok done) is w = (log, is, w.1)
 written_upgraded b log before after old new (Err faults.WriteFailed) is w = (log, is, w.1)
 written_upgraded b log before after old new (Err faults.Resources) is w = absurd w
@@ -62,7 +67,9 @@ written_upgraded b log before after old new (Err faults.NoCheckpoint) is w = abs
 written_upgraded b log before after old new (Err (faults.Script n)) is w = absurd w
 written_upgraded b log before after old new (Err faults.ReadFailed) is w = absurd w
 
-pub written_upgraded_only : (b log : List ℕ) (before after : ℕ) (old new : Option (List ℕ)) (result : Result (Unit {0}) Fault) → IsUpgradedLog b log → Delivers before after old new log result → UpgradesOnly old new result
+pub written_upgraded_only : (b log : List ℕ) (before after : ℕ) (old new : Option (List ℕ))
+    (result : Result (Unit {0}) Fault) → IsUpgradedLog b log → Delivers before after old new log result
+    → UpgradesOnly old new result
 written_upgraded_only b log before after old new (Ok done) is w = (b, log, is, w.1)
 written_upgraded_only b log before after old new (Err faults.WriteFailed) is w = (b, log, is, w.1)
 written_upgraded_only b log before after old new (Err faults.Resources) is w = absurd w

@@ -1,5 +1,7 @@
 -- Bytes in hexadecimal.
-use Rattle.std.proofs.Common.{◌≡◌, ℕ, zero, suc, ◌+◌, ◌*◌, ◌/◌, ◌%◌, ◌-◌, ◌<◌, ◌≤◌, Bool, true, false, cond, leb, ◌&&◌, List, [], ◌∷◌, ◌++◌, length, Option, Some, None, refl, sym, ap, subst, ◌∙◌, arith, inl, inr, append_assoc}
+use Rattle.std.proofs.Common.{◌≡◌, ℕ, zero, suc, ◌+◌, ◌*◌, ◌/◌, ◌%◌, ◌-◌, ◌<◌, ◌≤◌, Bool, true, false, cond, leb, ◌&&◌}
+use Rattle.std.proofs.Common.{List, [], ◌∷◌, ◌++◌, length, Option, Some, None, refl, sym, ap, subst, ◌∙◌, arith, inl}
+use Rattle.std.proofs.Common.{inr, append_assoc}
 use Rattle.std.proofs.lemmas.List.{length-append}
 use Rattle.std.specs.List.{flat_map}
 use Rattle.std.specs.Fmt.{digit_glyph}
@@ -28,15 +30,19 @@ pub record Decoded (text front rest : List ℕ) : Type 0 where
   pub lengths : length text ≡ 2 * length front + length rest
   pub bytes : pairs_of text ≡ (pairs_of rest >>= λ more. Some (front ++ more))
 
-bytes_more : (front : List ℕ) (b : ℕ) (o : Option (List ℕ)) → ((o >>= λ bytes. Some (b ∷ bytes)) >>= λ more. Some (front ++ more)) ≡ (o >>= λ more. Some ((front ++ b ∷ []) ++ more))
+bytes_more : (front : List ℕ) (b : ℕ) (o : Option (List ℕ))
+    → ((o >>= λ bytes. Some (b ∷ bytes)) >>= λ more. Some (front ++ more))
+    ≡ (o >>= λ more. Some ((front ++ b ∷ []) ++ more))
 bytes_more front b None = refl
 bytes_more front b (Some more) = ap (λ (l : List ℕ). Some l) (sym (append_assoc front (b ∷ []) more))
 
-pub decoded_more : (text front rest after : List ℕ) (h l b : ℕ) → Decoded text front rest → rest ≡ h ∷ l ∷ after → pair_of h l ≡ Some b → Decoded text (front ++ b ∷ []) after
+pub decoded_more : (text front rest after : List ℕ) (h l b : ℕ) → Decoded text front rest → rest ≡ h ∷ l ∷ after
+    → pair_of h l ≡ Some b → Decoded text (front ++ b ∷ []) after
 decoded_more text front rest after h l b d e p = record {
   lengths = omega (arith, d.lengths, ap length e, length-append front (b ∷ []));
   bytes = d.bytes ∙ ap (λ (r : List ℕ). pairs_of r >>= λ more. Some (front ++ more)) e
-      ∙ ap (λ (o : Option ℕ). (o >>= λ x. pairs_of after >>= λ bytes. Some (x ∷ bytes)) >>= λ more. Some (front ++ more)) p
+      ∙ ap (λ (o : Option ℕ). (o >>= λ x. pairs_of after >>= λ bytes. Some (x ∷ bytes)) >>=
+      λ more. Some (front ++ more)) p
       ∙ bytes_more front b (pairs_of after);
 }
 
@@ -48,7 +54,8 @@ glyph_low d lt = rw (lt-ltb d 10 lt) refl
 glyph_high : (d : ℕ) → 10 ≤ d → digit_glyph false d ≡ 87 + d
 glyph_high d le = rw (le-ltb d 10 le) refl
 
-digit_by : (b h : ℕ) (x y z : Bool) → (leb 48 b && leb b 57) ≡ x → (leb 97 b && leb b 102) ≡ y → cond x (Some (b - 48)) (cond y (Some (b - 87)) None) ≡ Some h → (h < 16) × (digit_glyph false h ≡ b)
+digit_by : (b h : ℕ) (x y z : Bool) → (leb 48 b && leb b 57) ≡ x → (leb 97 b && leb b 102) ≡ y
+    → cond x (Some (b - 48)) (cond y (Some (b - 87)) None) ≡ Some h → (h < 16) × (digit_glyph false h ≡ b)
 digit_by b h true y z p q e =
     let s = and_parts (leb 48 b) (leb b 57) p in
     let low : 48 ≤ b = leb-true 48 b s.0 in
@@ -69,8 +76,15 @@ digit_takes b h e = digit_by b h _ _ true refl refl e
 digit_again : (d : ℕ) → d < 16 → digit_of (digit_glyph false d) ≡ Some d
 digit_again d lt =
     elim (cases_lt d 10) [
-      | inl low ↦ rw (glyph_low d low, le-leb 48 (48 + d) (omega arith), le-leb (48 + d) 57 (omega arith)) (ap (λ (n : ℕ). Some n) (omega arith))
-      | inr high ↦ rw (glyph_high d high, le-leb 48 (87 + d) (omega arith), lt-leb (87 + d) 57 (omega arith), le-leb 97 (87 + d) (omega arith), le-leb (87 + d) 102 (omega arith)) (ap (λ (n : ℕ). Some n) (omega arith))
+      | inl low ↦ rw (glyph_low d low, le-leb 48 (48 + d) (omega arith), le-leb (48 + d) 57 (omega arith))
+          (ap (λ (n : ℕ). Some n) (omega arith))
+      | inr high ↦ rw (
+        glyph_high d high,
+        le-leb 48 (87 + d) (omega arith),
+        lt-leb (87 + d) 57 (omega arith),
+        le-leb 97 (87 + d) (omega arith),
+        le-leb (87 + d) 102 (omega arith),
+      ) (ap (λ (n : ℕ). Some n) (omega arith))
     ]
 
 pair_takes : (high low b : ℕ) → pair_of high low ≡ Some b → (b < 256) × (reports.hex_of b ≡ high ∷ low ∷ [])
@@ -83,7 +97,8 @@ pair_takes high low b e =
     let upper : b / 16 ≡ h.0 = omega (arith, p.0, q.0, whole) in
     let lower : b % 16 ≡ l.0 = omega (arith, p.0, q.0, whole) in (
       omega (arith, p.0, q.0, whole),
-      ap (λ (x : ℕ). digit_glyph false x ∷ digit_glyph false (b % 16) ∷ []) upper ∙ ap (λ (x : ℕ). digit_glyph false h.0 ∷ digit_glyph false x ∷ []) lower
+      ap (λ (x : ℕ). digit_glyph false x ∷ digit_glyph false (b % 16) ∷ []) upper
+          ∙ ap (λ (x : ℕ). digit_glyph false h.0 ∷ digit_glyph false x ∷ []) lower
           ∙ ap (λ (x : ℕ). x ∷ digit_glyph false l.0 ∷ []) p.1 ∙ ap (λ (x : ℕ). high ∷ x ∷ []) q.1,
     )
 
@@ -98,8 +113,10 @@ byte_more : (b : ℕ) (bytes : List ℕ) → b < 256 → AreBytes bytes → AreB
 byte_more b bytes lt are zero = lt
 byte_more b bytes lt are (suc i) = are i
 
-pub pairs_takes : (text bytes : List ℕ) → pairs_of text ≡ Some bytes → (text ≡ flat_map reports.hex_of bytes) × AreBytes bytes
-pairs_takes [] bytes e = let nothing : [] ≡ bytes = some_is [] bytes e in subst (λ (l : List ℕ). ([] ≡ flat_map reports.hex_of l) × AreBytes l) nothing (refl, no_bytes)
+pub pairs_takes : (text bytes : List ℕ) → pairs_of text ≡ Some bytes
+    → (text ≡ flat_map reports.hex_of bytes) × AreBytes bytes
+pairs_takes [] bytes e = let nothing : [] ≡ bytes = some_is [] bytes e in
+    subst (λ (l : List ℕ). ([] ≡ flat_map reports.hex_of l) × AreBytes l) nothing (refl, no_bytes)
 pairs_takes (h ∷ []) bytes e = absurd cc
 pairs_takes (h ∷ l ∷ rest) bytes e =
     let b = bind_some (pair_of h l) (λ x. pairs_of rest >>= λ more. Some (x ∷ more)) bytes e in
@@ -107,8 +124,10 @@ pairs_takes (h ∷ l ∷ rest) bytes e =
     let whole : b.0 ∷ m.0 ≡ bytes = some_is (b.0 ∷ m.0) bytes m.2 in
     let p = pair_takes h l b.0 b.1 in
     let more = pairs_takes rest m.0 m.1 in
-    subst (λ (x : List ℕ). (h ∷ l ∷ rest ≡ flat_map reports.hex_of x) × AreBytes x) whole
-    (ap (λ (x : List ℕ). h ∷ l ∷ x) more.0 ∙ ap (λ (x : List ℕ). x ++ flat_map reports.hex_of m.0) (sym p.1), byte_more b.0 m.0 p.0 more.1)
+    subst (λ (x : List ℕ). (h ∷ l ∷ rest ≡ flat_map reports.hex_of x) × AreBytes x) whole (
+      ap (λ (x : List ℕ). h ∷ l ∷ x) more.0 ∙ ap (λ (x : List ℕ). x ++ flat_map reports.hex_of m.0) (sym p.1),
+      byte_more b.0 m.0 p.0 more.1,
+    )
 
 pub pairs_again : (bytes : List ℕ) → AreBytes bytes → pairs_of (flat_map reports.hex_of bytes) ≡ Some bytes
 pairs_again [] fit = refl

@@ -1,11 +1,13 @@
 -- The front of a log of records, some of which may be unlawful.
-use Rattle.std.proofs.Common.{◌≡◌, ◌+◌, ◌≤◌, Bool, true, false, List, [], ◌∷◌, ◌++◌, length, refl, sym, ap, subst, ◌∙◌, append_assoc, arith}
+use Rattle.std.proofs.Common.{◌≡◌, ◌+◌, ◌≤◌, Bool, true, false, List, [], ◌∷◌, ◌++◌, length, refl, sym, ap, subst, ◌∙◌}
+use Rattle.std.proofs.Common.{append_assoc, arith}
 use Rattle.std.specs.Prelude.{nat_lt}
 use Rattle.std.specs.List.{AllByRecursion}
 use Rattle.std.proofs.lemmas.List.{append-nil, length-append, map-append}
 use Rattle.rq_model.specs.Records.{Record, Version}
 use Rattle.rq_model.specs.Spelling.{IsRecord, body_of}
-use Rattle.rq_model.specs.Frames.{frames, start, header, bodies_of, frames_of, last_of, log_of, AreBodies, IsBodyLength, IsRun, Whole}
+use Rattle.rq_model.specs.Frames.{frames, start, header, bodies_of, frames_of, last_of, log_of, AreBodies, IsBodyLength}
+use Rattle.rq_model.specs.Frames.{IsRun, Whole}
 use Rattle.rq_model.specs.LogLaws.{RunStops, RecordHasOneBody, RunGivesFront}
 use Rattle.rq_model.specs.States.{State, empty}
 use Rattle.rq_model.specs.Machine.{is_lawful, all_lawful, lawful_front, run}
@@ -17,15 +19,21 @@ use Rattle.rq_writer.specs.Fronts.{Splits, AreLogged}
 
 -- One record more.
 
-pub open_keeps : (version : Version) (s : State) (since rs : List Record) (r : Record) → Splits version s since false rs → Splits version s (since ++ r ∷ []) false (rs ++ r ∷ [])
+pub open_keeps : (version : Version) (s : State) (since rs : List Record) (r : Record) → Splits version s since false rs
+    → Splits version s (since ++ r ∷ []) false (rs ++ r ∷ [])
 open_keeps version s since rs r h = (h.0, ap (λ l. l ++ r ∷ []) h.1 ∙ append_assoc h.0 since (r ∷ []), h.2, h.3)
 
-pub ended_keeps : (version : Version) (s : State) (since rs : List Record) (r : Record) → Splits version s since true rs → Splits version s since true (rs ++ r ∷ [])
-ended_keeps version s since rs r h = (h.0, h.1, h.2 ++ r ∷ [], ap (λ l. l ++ r ∷ []) h.3 ∙ append_assoc h.0 (h.1 ∷ h.2) (r ∷ []), h.4, h.5, h.6)
+pub ended_keeps : (version : Version) (s : State) (since rs : List Record) (r : Record) → Splits version s since true rs
+    → Splits version s since true (rs ++ r ∷ [])
+ended_keeps version s since rs r h =
+    (h.0, h.1, h.2 ++ r ∷ [], ap (λ l. l ++ r ∷ []) h.3 ∙ append_assoc h.0 (h.1 ∷ h.2) (r ∷ []), h.4, h.5, h.6)
 
 -- The records behind the state are run as far as they are lawful.
-pub caught_up : (version : Version) (s : State) (since rs : List Record) → Splits version s since false rs → Splits version (run s (lawful_front version s since)) [] (nat_lt (length (lawful_front version s since)) (length since)) rs
-caught_up version s since rs h = subst (λ b. Splits version (run s front) [] b rs) (sym below) (at p.more p.whole p.stop)
+pub caught_up : (version : Version) (s : State) (since rs : List Record) → Splits version s since false rs
+    → Splits version (run s (lawful_front version s since))
+    [] (nat_lt (length (lawful_front version s since)) (length since)) rs
+caught_up version s since rs h = subst (λ b. Splits version (run s front) [] b rs) (sym below)
+    (at p.more p.whole p.stop)
   where
     front : List Record
     front = lawful_front version s since
@@ -45,16 +53,19 @@ caught_up version s since rs h = subst (λ b. Splits version (run s front) [] b 
     behind : (more : List Record) → since ≡ front ++ more → rs ≡ (h.0 ++ front) ++ more
     behind more whole = h.1 ∙ ap (λ l. h.0 ++ l) whole ∙ sym (append_assoc h.0 front more)
 
-    at : (more : List Record) → since ≡ front ++ more → Stops version (run s front) more → Splits version (run s front) [] (is_more more) rs
+    at : (more : List Record) → since ≡ front ++ more → Stops version (run s front) more
+        → Splits version (run s front) [] (is_more more) rs
     at [] whole stop = (h.0 ++ front, behind [] whole, lawful, state)
     at (r ∷ more) whole stop = (h.0 ++ front, r, more, behind (r ∷ more) whole, lawful, stop, state)
 
 -- How many there are.
 
 records_few : (version : Version) (rs : List Record) → length rs ≤ length (log_of version rs)
-records_few version rs = omega (arith, frames_many (start version) rs, length-append (header version) (frames_of (start version) rs))
+records_few version rs =
+    omega (arith, frames_many (start version) rs, length-append (header version) (frames_of (start version) rs))
 
-pub open_fits : (version : Version) (s : State) (since rs : List Record) → Splits version s since false rs → AreLogged version rs → s.next + length since ≤ 4294967295
+pub open_fits : (version : Version) (s : State) (since rs : List Record) → Splits version s since false rs
+    → AreLogged version rs → s.next + length since ≤ 4294967295
 open_fits version s since rs h logged =
     let next : s.next ≡ 0 + length h.0 = ap (λ t. t.next) h.3 ∙ next_run empty h.0 in
     omega (arith, next, ap length h.1, length-append h.0 since, records_few version rs, logged.fits)
@@ -63,17 +74,32 @@ pub state_fits : (version : Version) (rs : List Record) (s : State) → IsStateO
 state_fits version rs s h =
     let next : s.next ≡ 0 + length h.0 = ap (λ t. t.next) h.3 ∙ next_run empty h.0 in
     let whole = h.2.longest.begins.whole in
-    omega (arith, next, frames_many (start version) h.0, ap length whole, length-append (frames_of (start version) h.0) h.1, ap length h.2.whole, length-append (header version) h.2.bytes, h.2.short)
+    omega (
+      arith,
+      next,
+      frames_many (start version) h.0,
+      ap length whole,
+      length-append (frames_of (start version) h.0) h.1,
+      ap length h.2.whole,
+      length-append (header version) h.2.bytes,
+      h.2.short,
+    )
 
 -- The front.
 
-are_bodies : (version : Version) → RecordHasOneBody → (rs : List Record) → AllByRecursion (IsRecord version) rs → AreBodies (bodies_of rs)
-are_bodies version one rs h = each_map (IsRecord version) (λ body. IsBodyLength (length body)) body_of (λ r is. (one version r (body_of r) (body_of r) (is, refl) (is, refl)).1) rs h
+are_bodies : (version : Version) → RecordHasOneBody → (rs : List Record) → AllByRecursion (IsRecord version) rs
+    → AreBodies (bodies_of rs)
+are_bodies version one rs h = each_map (IsRecord version) (λ body. IsBodyLength (length body)) body_of
+    (λ r is. (one version r (body_of r) (body_of r) (is, refl) (is, refl)).1) rs h
 
-whole_run : (version : Version) → RunStops → RecordHasOneBody → (rs : List Record) → AllByRecursion (IsRecord version) rs → IsRun (start version) (frames_of (start version) rs) (bodies_of rs) []
-whole_run version stops one rs h = stops (start version) (frames_of (start version) rs) [] (bodies_of rs) Whole (are_bodies version one rs h) (sym (append-nil (frames_of (start version) rs))) refl
+whole_run : (version : Version) → RunStops → RecordHasOneBody → (rs : List Record)
+    → AllByRecursion (IsRecord version) rs → IsRun (start version) (frames_of (start version) rs) (bodies_of rs) []
+whole_run version stops one rs h =
+    stops (start version) (frames_of (start version) rs) [] (bodies_of rs) Whole (are_bodies version one rs h)
+    (sym (append-nil (frames_of (start version) rs))) refl
 
-all_are_front : (version : Version) → RunStops → RecordHasOneBody → RunGivesFront → (rs : List Record) (s : State) → AreLogged version rs → all_lawful version empty rs ≡ true → s ≡ run empty rs → IsStateOf version rs s
+all_are_front : (version : Version) → RunStops → RecordHasOneBody → RunGivesFront → (rs : List Record) (s : State)
+    → AreLogged version rs → all_lawful version empty rs ≡ true → s ≡ run empty rs → IsStateOf version rs s
 all_are_front version stops one gives rs s logged lawful e = (
   rs,
   [],
@@ -81,25 +107,40 @@ all_are_front version stops one gives rs s logged lawful e = (
     short = logged.fits;
     bytes = frames_of (start version) rs;
     whole = refl;
-    longest = gives.used version empty (start version) (frames_of (start version) rs) [] rs Whole (whole_run version stops one rs logged.records) refl logged.records lawful;
+    longest = gives.used version empty (start version) (frames_of (start version) rs) [] rs Whole
+        (whole_run version stops one rs logged.records) refl logged.records lawful;
   },
   e,
 )
 
-some_are_front : (version : Version) → RunStops → RecordHasOneBody → RunGivesFront → (done : List Record) (first : Record) (more : List Record) (s : State) → AreLogged version (done ++ first ∷ more) → all_lawful version empty done ≡ true → is_lawful version s first ≡ false → s ≡ run empty done → IsStateOf version (done ++ first ∷ more) s
+some_are_front : (version : Version) → RunStops → RecordHasOneBody → RunGivesFront
+    → (done : List Record) (first : Record) (more : List Record) (s : State) → AreLogged version (done ++ first ∷ more)
+    → all_lawful version empty done ≡ true → is_lawful version s first ≡ false → s ≡ run empty done
+    → IsStateOf version (done ++ first ∷ more) s
 some_are_front version stops one gives done first more s logged lawful unlawful e =
     let rs = done ++ first ∷ more in
     let bytes = frames_of (start version) rs in
     let are = each_cut (IsRecord version) done (first ∷ more) logged.records in
-    let run_is : IsRun (start version) bytes (bodies_of done ++ body_of first ∷ bodies_of more) [] = subst (λ bodies. IsRun (start version) bytes bodies []) (map-append body_of done (first ∷ more)) (whole_run version stops one rs logged.records) in
-    let ends = gives.law version empty (start version) bytes [] done (body_of first) (bodies_of more) first run_is are.0 lawful
-    (are.1.0, refl) (subst (λ t. is_lawful version t first ≡ false) e unlawful) in
-    (done, frames (last_of (start version) done) (body_of first ∷ bodies_of more) ++ [], record { short = logged.fits; bytes = bytes; whole = refl; longest = ends.0 }, e)
+    let run_is : IsRun (start version) bytes (bodies_of done ++ body_of first ∷ bodies_of more) [] =
+    subst (λ bodies. IsRun (start version) bytes bodies []) (map-append body_of done (first ∷ more))
+    (whole_run version stops one rs logged.records) in
+    let ends = gives.law version empty (start version) bytes [] done (body_of first)
+    (bodies_of more) first run_is are.0 lawful
+    (are.1.0, refl) (subst (λ t. is_lawful version t first ≡ false) e unlawful) in (
+      done,
+      frames (last_of (start version) done) (body_of first ∷ bodies_of more) ++ [],
+      record { short = logged.fits; bytes = bytes; whole = refl; longest = ends.0 },
+      e,
+    )
 
 -- where nothing stands behind the state, it is that after the front
-pub split_is_state : (version : Version) → RunStops → RecordHasOneBody → RunGivesFront → (s : State) (ended : Bool) (rs : List Record) → Splits version s [] ended rs → AreLogged version rs → IsStateOf version rs s
+pub split_is_state : (version : Version) → RunStops → RecordHasOneBody → RunGivesFront
+    → (s : State) (ended : Bool) (rs : List Record) → Splits version s [] ended rs → AreLogged version rs
+    → IsStateOf version rs s
 split_is_state version stops one gives s false rs h logged =
     let same : rs ≡ h.0 = h.1 ∙ append-nil h.0 in
-    all_are_front version stops one gives rs s logged (subst (λ l. all_lawful version empty l ≡ true) (sym same) h.2) (subst (λ l. s ≡ run empty l) (sym same) h.3)
+    all_are_front version stops one gives rs s logged (subst (λ l. all_lawful version empty l ≡ true) (sym same) h.2)
+    (subst (λ l. s ≡ run empty l) (sym same) h.3)
 split_is_state version stops one gives s true rs h logged =
-    subst (λ l. IsStateOf version l s) (sym h.3) (some_are_front version stops one gives h.0 h.1 h.2 s (subst (AreLogged version) h.3 logged) h.4 h.5 h.6)
+    subst (λ l. IsStateOf version l s) (sym h.3)
+    (some_are_front version stops one gives h.0 h.1 h.2 s (subst (AreLogged version) h.3 logged) h.4 h.5 h.6)

@@ -2,7 +2,17 @@ use Rattle.std.proofs.Common.{refl}
 use Rattle.rq_model.proofs.worked_machine.Goals as goal
 
 pub returns-clause-law : goal.returns-clause-law
-returns-clause-law c = record { lawful = refl; unlawful = refl; lawful_two = refl; unlawful_two = refl; queue_4096 = refl; queue_4097 = refl; front = refl }
+returns-clause-law c =
+    record {
+      lawful = refl;
+      unlawful = refl;
+      lawful_two = refl;
+      unlawful_two = refl;
+      queue_4096 = refl;
+      queue_4097 =
+          refl;
+      front = refl;
+    }
 
 pub returns-clause-steps : goal.returns-clause-steps
 returns-clause-steps c = record {
@@ -32,7 +42,19 @@ returns-clause-steps c = record {
 }
 
 pub returns-clause-orders : goal.returns-clause-orders
-returns-clause-orders c = record { names = refl; registrants = refl; moves = refl; merged = refl; best_of_1 = refl; best_of_0 = refl; best_of_2 = refl; put_between = refl; no_definition = refl; second_definition = refl }
+returns-clause-orders c =
+    record {
+      names = refl;
+      registrants = refl;
+      moves = refl;
+      merged = refl;
+      best_of_1 = refl;
+      best_of_0 = refl;
+      best_of_2 = refl;
+      put_between = refl;
+      no_definition = refl;
+      second_definition = refl;
+    }
 
 pub returns-clause-queues : goal.returns-clause-queues
 returns-clause-queues c = record {

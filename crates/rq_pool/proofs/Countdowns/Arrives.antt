@@ -4,5 +4,6 @@ use Rattle.rq_pool.specs.declared.countdown.view.View.{View}
 use Rattle.rq_pool.specs.Countdowns.Rule.{told, told_of, lasts, after, made_of}
 use Rattle.rq_pool.proofs.Countdowns.Totals.{total_append}
 
-pub lasts_after : {T K : Type 0} (v : View T K) (i : ℕ) (x : T) (ys : Option (List T)) → lasts (after v i x ys) ≡ lasts v + told_of ys
+pub lasts_after : {T K : Type 0} (v : View T K) (i : ℕ) (x : T) (ys : Option (List T))
+    → lasts (after v i x ys) ≡ lasts v + told_of ys
 lasts_after v i x ys = let q = total_append told v.made (made_of i x ys ∷ []) in omega arith

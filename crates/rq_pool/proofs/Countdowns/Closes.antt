@@ -1,5 +1,6 @@
 -- The histories of several passes, taken from the end.
-use Rattle.std.proofs.Common.{◌≡◌, ℕ, zero, suc, ◌+◌, ◌<◌, List, [], ◌∷◌, ◌++◌, map, length, length-append, get_or, sym, refl, ap, ◌∙◌, subst, arith, append_assoc, All}
+use Rattle.std.proofs.Common.{◌≡◌, ℕ, zero, suc, ◌+◌, ◌<◌, List, [], ◌∷◌, ◌++◌, map, length, length-append, get_or, sym}
+use Rattle.std.proofs.Common.{refl, ap, ◌∙◌, subst, arith, append_assoc, All}
 use Rattle.rq_pool.specs.declared.countdown.view.View.{View}
 use Rattle.rq_pool.specs.Countdowns.Phases.{total}
 use Rattle.rq_pool.specs.Countdowns.Rule.{parts}
@@ -19,10 +20,12 @@ module _ {A : Type 0} where
   get_end (y ∷ xs) x d (suc k) e = get_end xs x d k (omega arith)
 
   pub all_front : (P : A → Type 0) (l xs : List A) (x : A) → l ≡ xs ++ x ∷ [] → All P l → All P xs
-  all_front P l xs x e all k d near = subst P (get_front xs x d k near) (subst (All P) e all k d (let q = length-append xs (x ∷ []) in omega arith))
+  all_front P l xs x e all k d near =
+      subst P (get_front xs x d k near) (subst (All P) e all k d (let q = length-append xs (x ∷ []) in omega arith))
 
   pub all_end : (P : A → Type 0) (l xs : List A) (x : A) → l ≡ xs ++ x ∷ [] → All P l → P x
-  all_end P l xs x e all = subst P (get_end xs x x (length xs) refl) (subst (All P) e all (length xs) x (let q = length-append xs (x ∷ []) in omega arith))
+  all_end P l xs x e all = subst P (get_end xs x x (length xs) refl)
+      (subst (All P) e all (length xs) x (let q = length-append xs (x ∷ []) in omega arith))
 
 module _ {A T K : Type 0} (g : A → View T K) where
   parts_snoc : (xs : List A) (x : A) → total parts (map g (xs ++ x ∷ [])) ≡ total parts (map g xs) + parts (g x)
@@ -31,31 +34,40 @@ module _ {A T K : Type 0} (g : A → View T K) where
 
   made_snoc : (xs : List A) (x : A) → all_made (map g (xs ++ x ∷ [])) ≡ all_made (map g xs) ++ (g x).made
   made_snoc [] x = append_none (g x).made
-  made_snoc (y ∷ xs) x = ap (λ l. (g y).made ++ l) (made_snoc xs x) ∙ sym (append_assoc (g y).made (all_made (map g xs)) (g x).made)
+  made_snoc (y ∷ xs) x = ap (λ l. (g y).made ++ l) (made_snoc xs x)
+      ∙ sym (append_assoc (g y).made (all_made (map g xs)) (g x).made)
 
   refused_snoc : (xs : List A) (x : A) → all_refused (map g (xs ++ x ∷ [])) ≡ all_refused (map g xs) ++ (g x).refused
   refused_snoc [] x = append_none (g x).refused
-  refused_snoc (y ∷ xs) x = ap (λ l. (g y).refused ++ l) (refused_snoc xs x) ∙ sym (append_assoc (g y).refused (all_refused (map g xs)) (g x).refused)
+  refused_snoc (y ∷ xs) x = ap (λ l. (g y).refused ++ l) (refused_snoc xs x)
+      ∙ sym (append_assoc (g y).refused (all_refused (map g xs)) (g x).refused)
 
   -- what is left of the passes, and v, which has what the others made, make up all passes
   abbrev pub Holds : List A → View T K → List A → Type 0
-  Holds xs v all = (total parts (map g xs) + v.parts ≡ total parts (map g all)) × (all_made (map g xs) ++ v.made ≡ all_made (map g all)) × (all_refused (map g xs) ++ v.refused ≡ all_refused (map g all))
+  Holds xs v all = (total parts (map g xs) + v.parts ≡ total parts (map g all))
+      × (all_made (map g xs) ++ v.made ≡ all_made (map g all))
+      × (all_refused (map g xs) ++ v.refused ≡ all_refused (map g all))
 
   pub begins : (all xs : List A) (x : A) (v : View T K) → all ≡ xs ++ x ∷ [] → v ≡ g x → Holds xs v all
   begins all xs x v e is = (
     (let a = ap (λ l. total parts (map g l)) e in let b = parts_snoc xs x in let d = ap parts is in omega arith),
     ap (λ (y : View T K). all_made (map g xs) ++ y.made) is ∙ sym (ap (λ l. all_made (map g l)) e ∙ made_snoc xs x),
-    ap (λ (y : View T K). all_refused (map g xs) ++ y.refused) is ∙ sym (ap (λ l. all_refused (map g l)) e ∙ refused_snoc xs x),
+    ap (λ (y : View T K). all_refused (map g xs) ++ y.refused) is
+        ∙ sym (ap (λ l. all_refused (map g l)) e ∙ refused_snoc xs x),
   )
 
-  pub goes_on : (all ys xs : List A) (x : A) (v w : View T K) → ys ≡ xs ++ x ∷ [] → w.parts ≡ v.parts + (g x).parts → w.made ≡ (g x).made ++ v.made → w.refused ≡ (g x).refused ++ v.refused → Holds ys v all → Holds xs w all
+  pub goes_on : (all ys xs : List A) (x : A) (v w : View T K) → ys ≡ xs ++ x ∷ [] → w.parts ≡ v.parts + (g x).parts
+      → w.made ≡ (g x).made ++ v.made → w.refused ≡ (g x).refused ++ v.refused → Holds ys v all → Holds xs w all
   goes_on all ys xs x v w e p m r h = (
     (let a = ap (λ l. total parts (map g l)) e in let b = parts_snoc xs x in let d = h.0 in omega arith),
-    ap (λ l. all_made (map g xs) ++ l) m ∙ sym (append_assoc (all_made (map g xs)) (g x).made v.made) ∙ sym (ap (λ l. all_made (map g l) ++ v.made) e ∙ ap (λ l. l ++ v.made) (made_snoc xs x)) ∙ h.1,
-    ap (λ l. all_refused (map g xs) ++ l) r ∙ sym (append_assoc (all_refused (map g xs)) (g x).refused v.refused) ∙ sym (ap (λ l. all_refused (map g l) ++ v.refused) e ∙ ap (λ l. l ++ v.refused) (refused_snoc xs x)) ∙ h.2,
+    ap (λ l. all_made (map g xs) ++ l) m ∙ sym (append_assoc (all_made (map g xs)) (g x).made v.made)
+        ∙ sym (ap (λ l. all_made (map g l) ++ v.made) e ∙ ap (λ l. l ++ v.made) (made_snoc xs x)) ∙ h.1,
+    ap (λ l. all_refused (map g xs) ++ l) r ∙ sym (append_assoc (all_refused (map g xs)) (g x).refused v.refused)
+        ∙ sym (ap (λ l. all_refused (map g l) ++ v.refused) e ∙ ap (λ l. l ++ v.refused) (refused_snoc xs x)) ∙ h.2,
   )
 
-  pub ends : (all xs : List A) (v : View T K) → length xs ≡ 0 → Holds xs v all → (v.parts ≡ total parts (map g all)) × (v.made ≡ all_made (map g all)) × (v.refused ≡ all_refused (map g all))
+  pub ends : (all xs : List A) (v : View T K) → length xs ≡ 0 → Holds xs v all
+      → (v.parts ≡ total parts (map g all)) × (v.made ≡ all_made (map g all)) × (v.refused ≡ all_refused (map g all))
   ends all [] v e h = ((let a = h.0 in omega arith), h.1, h.2)
   ends all (x ∷ xs) v e h = absurd (omega arith)
 

@@ -1,9 +1,11 @@
 -- The slots of the last, while it empties one after the other.
-use Rattle.std.proofs.Common.{◌≡◌, ℕ, zero, suc, ◌+◌, ◌<◌, List, [], ◌∷◌, ◌++◌, map, length, drop, take, replicate, sym, refl, ap, ◌∙◌, subst, arith, Option, Some, None, append_assoc}
+use Rattle.std.proofs.Common.{◌≡◌, ℕ, zero, suc, ◌+◌, ◌<◌, List, [], ◌∷◌, ◌++◌, map, length, drop, take, replicate, sym}
+use Rattle.std.proofs.Common.{refl, ap, ◌∙◌, subst, arith, Option, Some, None, append_assoc}
 use Rattle.atomic_table.specs.Table.{rest}
 use Rattle.rq_pool.specs.Countdowns.Phases.{numbered, contents}
 
-numbered_snoc : {S : Type 0} (xs : List S) (k n : ℕ) (x : S) → k + length xs ≡ n → numbered k (xs ++ x ∷ []) ≡ numbered k xs ++ (n, x) ∷ []
+numbered_snoc : {S : Type 0} (xs : List S) (k n : ℕ) (x : S) → k + length xs ≡ n
+    → numbered k (xs ++ x ∷ []) ≡ numbered k xs ++ (n, x) ∷ []
 numbered_snoc [] k n x e = let q : k ≡ n = omega arith in λ j. (q j, x) ∷ []
 numbered_snoc (y ∷ xs) k n x e = ap (λ l. (k, y) ∷ l) (numbered_snoc xs (suc k) n x (omega arith))
 
@@ -19,20 +21,30 @@ module _ {T : Type 0} where
   abbrev pub left : List T → ℕ → List (ℕ × Option T)
   left ys i = numbered i (map Some (drop i ys)) ++ numbered 0 (replicate i None)
 
-  next_at : (ys : List T) (i : ℕ) → i < length ys → (y : T) × (drop i ys ≡ y ∷ drop (suc i) ys) × (take (suc i) ys ≡ take i ys ++ y ∷ [])
+  next_at : (ys : List T) (i : ℕ) → i < length ys
+      → (y : T) × (drop i ys ≡ y ∷ drop (suc i) ys) × (take (suc i) ys ≡ take i ys ++ y ∷ [])
   next_at [] i h = absurd (omega arith)
   next_at (y ∷ ys) zero h = (y, refl, refl)
   next_at (y ∷ ys) (suc i) h = let q = next_at ys i (omega arith) in (q.0, q.1, ap (λ l. y ∷ l) q.2)
 
   abbrev Next : List T → ℕ → List (ℕ × Option T) → ℕ → Type 0
-  Next ys i c j = (y : T) × (c ≡ (i, Some y) ∷ rest c) × (rest c ++ (i, None) ∷ [] ≡ left ys j) × (take j ys ≡ take i ys ++ y ∷ [])
+  Next ys i c j = (y : T) × (c ≡ (i, Some y) ∷ rest c) × (rest c ++ (i, None) ∷ [] ≡ left ys j)
+      × (take j ys ≡ take i ys ++ y ∷ [])
 
-  pub after_one : (ys : List T) (i j : ℕ) → suc i ≡ j → i < length ys → (c : List (ℕ × Option T)) → c ≡ left ys i → Next ys i c j
-  after_one ys i j e near c is = subst (Next ys i c) e (let at = next_at ys i near in let y : T = at.0 in let nones : List (ℕ × Option T) = numbered 0 (replicate i None) in let more : List (ℕ × Option T) = numbered (suc i) (map Some (drop (suc i) ys)) in
-      let whole : c ≡ (i, Some y) ∷ (more ++ nones) = is ∙ ap (λ (l : List T). numbered i (map Some l) ++ nones) at.1 in let tail : rest c ≡ more ++ nones = ap rest whole in (
+  pub after_one : (ys : List T) (i j : ℕ) → suc i ≡ j → i < length ys → (c : List (ℕ × Option T)) → c ≡ left ys i
+      → Next ys i c j
+  after_one ys i j e near c is = subst (Next ys i c) e
+      (let at = next_at ys i near in let y : T = at.0 in let nones : List (ℕ × Option T) =
+      numbered 0 (replicate i None) in let more : List (ℕ × Option T) = numbered (suc i) (map Some (drop (suc i) ys)) in
+      let whole : c ≡ (i, Some y) ∷ (more ++ nones) = is ∙ ap (λ (l : List T). numbered i (map Some l) ++ nones) at.1 in
+      let tail : rest c ≡ more ++ nones = ap rest whole in (
         y,
         whole ∙ (λ k. (i, Some y) ∷ sym tail k),
-        ap (λ l. l ++ (i, None) ∷ []) tail ∙ append_assoc more nones ((i, None) ∷ []) ∙ ap (λ l. more ++ l) (sym (numbered_snoc (replicate i None) 0 i None (let q = replicate_long {S = Option T} i None in omega arith)) ∙ ap (numbered 0) (sym (replicate_snoc i None))),
+        ap (λ l. l ++ (i, None) ∷ []) tail ∙ append_assoc more nones ((i, None) ∷ [])
+            ∙ ap (λ l. more ++ l)
+            (sym (numbered_snoc (replicate i None) 0 i None
+            (let q = replicate_long {S = Option T} i None in omega arith))
+            ∙ ap (numbered 0) (sym (replicate_snoc i None))),
         at.2,
       ))
 
@@ -57,7 +69,8 @@ module _ {T : Type 0} where
   take_whole (y ∷ ys) = ap (λ l. y ∷ l) (take_whole ys)
 
   pub none_left : (ys : List T) (n : ℕ) → length ys ≡ n → left ys n ≡ numbered 0 (replicate n None)
-  none_left ys n e = subst (λ n. left ys n ≡ numbered 0 (replicate n None)) e (ap (λ (l : List T). numbered (length ys) (map Some l) ++ numbered 0 (replicate (length ys) None)) (drop_all ys))
+  none_left ys n e = subst (λ n. left ys n ≡ numbered 0 (replicate n None)) e
+      (ap (λ (l : List T). numbered (length ys) (map Some l) ++ numbered 0 (replicate (length ys) None)) (drop_all ys))
 
   pub contents_numbered : (ys : List T) (k : ℕ) → contents (numbered k (map Some ys)) ≡ ys
   contents_numbered [] k = refl

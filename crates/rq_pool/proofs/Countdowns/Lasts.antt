@@ -1,5 +1,6 @@
 -- From what the views have of the arrivals answered Last to what the histories have.
-use Rattle.std.proofs.Common.{◌≡◌, ℕ, ◌<◌, List, [], ◌∷◌, All, length, length-append, Option, Some, None, slice_index_or, sym, refl, ap, ◌∙◌, arith}
+use Rattle.std.proofs.Common.{◌≡◌, ℕ, ◌<◌, List, [], ◌∷◌, All, length, length-append, Option, Some, None}
+use Rattle.std.proofs.Common.{slice_index_or, sym, refl, ap, ◌∙◌, arith}
 use Rattle.std.specs.Option.{ForSome, ForNone}
 use Rattle.rq_pool.specs.declared.countdown.fits.Fits.{Ghosts}
 use Rattle.rq_pool.specs.declared.countdown.arrival.Entry.{Entry}
@@ -21,7 +22,8 @@ module _ {T : Type 0} where
 
   lasts_in : (es : List (Entry T)) → total told (made_in es) ≡ length (last_lists es)
   lasts_in [] = refl
-  lasts_in (e ∷ es) = let a = total_append told (made_by e.source e.outbox e.answer) (made_in es) in let b = by_answer e.source e.outbox e.answer in
+  lasts_in (e ∷ es) = let a = total_append told (made_by e.source e.outbox e.answer) (made_in es) in let b =
+      by_answer e.source e.outbox e.answer in
       let l = length-append (if_last e.answer) (last_lists es) in let r = lasts_in es in omega arith
 
 none_in : {A : Type 0} (xs : List A) → length xs ≡ 0 → xs ≡ []
@@ -32,6 +34,8 @@ module _ {T K : Type 0} {g : Ghosts T K} where
   of_pass : (p : Pass T K g) → length (last_lists p.diary) ≡ lasts p.seat.me.0
   of_pass p = sym (lasts_in p.diary) ∙ ap (total told) p.told.0
 
-  pub tells_last : (ps : List (Pass T K g)) (o : Option ℕ) → ForSome o (λ k. (k < length ps) × ((d : Pass T K g) → lasts (slice_index_or ps k d).seat.me.0 ≡ 1)) → ForNone o (All (λ p. lasts p.seat.me.0 ≡ 0) ps) → TellsLast ps o
+  pub tells_last : (ps : List (Pass T K g)) (o : Option ℕ)
+      → ForSome o (λ k. (k < length ps) × ((d : Pass T K g) → lasts (slice_index_or ps k d).seat.me.0 ≡ 1))
+      → ForNone o (All (λ p. lasts p.seat.me.0 ≡ 0) ps) → TellsLast ps o
   tells_last ps (Some k) some none = ((some k refl).0, λ d. of_pass (slice_index_or ps k d) ∙ (some k refl).1 d)
   tells_last ps None some none = λ k d near. none_in _ (of_pass (slice_index_or ps k d) ∙ none refl k d near)

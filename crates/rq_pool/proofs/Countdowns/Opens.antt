@@ -1,5 +1,6 @@
 -- The table at the start.
-use Rattle.std.proofs.Common.{◌≡◌, ℕ, zero, suc, ◌<◌, List, [], ◌∷◌, map, get_or, set, replicate, sym, refl, ap, ◌∙◌, subst, inl, arith, Option, Some, None}
+use Rattle.std.proofs.Common.{◌≡◌, ℕ, zero, suc, ◌<◌, List, [], ◌∷◌, map, get_or, set, replicate, sym, refl, ap, ◌∙◌}
+use Rattle.std.proofs.Common.{subst, inl, arith, Option, Some, None}
 use mathlib.Core.Option.{some, some-injective, some-ne-none}
 use lib.ListN.{get_elem?}
 use Rattle.atomic_table.specs.Table.{opening}
@@ -14,7 +15,8 @@ module _ {T : Type 0} where
   clear_only (suc n) zero p e = sym (some-injective clear p e)
   clear_only (suc n) (suc i) p e = clear_only n i p e
 
-  at_home : (n : ℕ) (nothing : Option T) → nothing ≡ None → map some (replicate n nothing) ≡ map place (replicate n clear)
+  at_home : (n : ℕ) (nothing : Option T) → nothing ≡ None
+      → map some (replicate n nothing) ≡ map place (replicate n clear)
   at_home zero nothing is = refl
   at_home (suc n) nothing is = λ j. some (is j) ∷ at_home n nothing is j
 
@@ -39,11 +41,20 @@ module _ {T K : Type 0} (fits : K → ℕ → T → Type 0) (terms : Terms K) wh
   clear_source : (i : ℕ) → AtSource (fits terms.key) (first ∷ []) i clear
   clear_source i = record { standing = refl; done = refl; holding = λ x e. absurd (some-ne-none x (sym e)) }
 
-  first_knows : (ps : List (Phase T)) → 0 < terms.passes → (j : ℕ) (v : View T K) → get_elem? (first ∷ []) j ≡ some v → Knows terms.key ps v
-  first_knows ps some_pass zero v e = subst (Knows terms.key ps) (some-injective first v e) record { same_key = λ _. refl; idle = λ z. absurd (omega arith); set_before = λ k i g. absurd (some-ne-none i (sym g)) }
+  first_knows : (ps : List (Phase T)) → 0 < terms.passes → (j : ℕ) (v : View T K) → get_elem? (first ∷ []) j ≡ some v
+      → Knows terms.key ps v
+  first_knows ps some_pass zero v e =
+      subst (Knows terms.key ps) (some-injective first v e)
+      record {
+        same_key = λ _. refl;
+        idle = λ z. absurd (omega arith);
+        set_before =
+            λ k i g. absurd (some-ne-none i (sym g));
+      }
   first_knows ps some_pass (suc j) v e = absurd (some-ne-none v (sym e))
 
-  pub starts : (n : ℕ) (ws : List ℕ) → 0 < n → 0 < terms.passes → ws ≡ n ∷ replicate n 0 → Held fits terms (opening ws (replicate n None) first)
+  pub starts : (n : ℕ) (ws : List ℕ) → 0 < n → 0 < terms.passes → ws ≡ n ∷ replicate n 0
+      → Held fits terms (opening ws (replicate n None) first)
   starts n ws some_source some_pass is = record {
     phases = replicate n clear;
     words_are = is ∙ (λ j. sym (all_wait T n) j ∷ no_flag T n j);
@@ -51,10 +62,16 @@ module _ {T K : Type 0} (fits : K → ℕ → T → Type 0) (terms : Terms K) wh
     all_parts = (let q : total parts (first ∷ []) ≡ terms.passes = omega arith in q);
     each_source = λ i p e. subst (AtSource (fits terms.key) (first ∷ []) i) (sym (clear_only n i p e)) (clear_source i);
     each_pass = first_knows (replicate n clear) some_pass;
-    told_once = inl record { waiting = (let q = all_wait T n in omega arith); nobody = refl; none_shut = λ i p e. ap is_shut (clear_only n i p e) };
+    told_once = inl record {
+      waiting = (let q = all_wait T n in omega arith);
+      nobody = refl;
+      none_shut =
+          λ i p e. ap is_shut (clear_only n i p e);
+    };
   }
 
-  pub starts_set : (n m : ℕ) (ws : List ℕ) → suc n ≡ m → 0 < n → 0 < terms.passes → ws ≡ set (replicate m 0) 0 n → Held fits terms (opening ws (replicate n None) first)
+  pub starts_set : (n m : ℕ) (ws : List ℕ) → suc n ≡ m → 0 < n → 0 < terms.passes → ws ≡ set (replicate m 0) 0 n
+      → Held fits terms (opening ws (replicate n None) first)
   starts_set n m ws e some_source some_pass is = starts n ws some_source some_pass (is ∙ with_count n m e)
 
 pub some_same : {A : Type 0} (P : A → Type 0) (a b : A) → Some a ≡ Some b → P a → P b

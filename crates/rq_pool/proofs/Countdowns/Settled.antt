@@ -26,7 +26,10 @@ told_lists (m ∷ ms) = add_some m.told (told_lists ms)
 
 -- For each source that has an arrival, exactly one was not answered Twice. Where some source has none, nobody was told Last and all that was kept is at home.
 -- Else one was told Last, and was given what was kept, in the order of the sources
-pub record SettledViews {T : Type 0} (n : ℕ) (made : List (Made T)) (refused : List ℕ) (arrived : ℕ) (home : List T) : Type 0 where
-  pub once : (i : ℕ) → i < n → ((kept_for i made ≡ []) × ((k : ℕ) → get_elem? refused k ≢ some i)) ⊎ ((x : T) × (kept_for i made ≡ x ∷ []))
+pub record SettledViews {T : Type 0} (n : ℕ) (made : List (Made T)) (refused : List ℕ) (arrived : ℕ)
+    (home : List T) : Type 0 where
+  pub once : (i : ℕ) → i < n → ((kept_for i made ≡ []) × ((k : ℕ) → get_elem? refused k ≢ some i))
+      ⊎ ((x : T) × (kept_for i made ≡ x ∷ []))
   pub arrivals : arrived ≡ length (kept_from 0 n made)
-  pub outcome : ((arrived < n) × (told_lists made ≡ []) × (home ≡ kept_from 0 n made)) ⊎ ((arrived ≡ n) × (told_lists made ≡ kept_from 0 n made ∷ []) × (home ≡ []))
+  pub outcome : ((arrived < n) × (told_lists made ≡ []) × (home ≡ kept_from 0 n made))
+      ⊎ ((arrived ≡ n) × (told_lists made ≡ kept_from 0 n made ∷ []) × (home ≡ []))

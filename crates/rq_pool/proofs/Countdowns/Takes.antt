@@ -1,5 +1,6 @@
 -- An act that takes all slots in order.
-use Rattle.std.proofs.Common.{◌≡◌, ℕ, zero, suc, List, [], ◌∷◌, ◌++◌, map, length, drop, set, sym, refl, ap, ◌∙◌, subst, arith}
+use Rattle.std.proofs.Common.{◌≡◌, ℕ, zero, suc, List, [], ◌∷◌, ◌++◌, map, length, drop, set, sym, refl, ap, ◌∙◌, subst}
+use Rattle.std.proofs.Common.{arith}
 use mathlib.Core.Option.{some, none, some-injective, some-ne-none}
 use mathlib.Core.Option as maybe
 use lib.ListN.{get_elem?}
@@ -31,20 +32,24 @@ module _ {S : Type 0} where
   out_past (h ∷ hs) zero e = absurd (let q : suc (length hs) ≡ 0 = ap length e in omega arith)
   out_past (h ∷ hs) (suc k) e = ap (λ l. h ∷ l) (out_past hs k e)
 
-  at_drop : (hs : List (maybe.Option S)) (k : ℕ) (h : maybe.Option S) (r : List (maybe.Option S)) → drop k hs ≡ h ∷ r → (get_elem? (out_from (suc k) hs) k ≡ some h) × (drop (suc k) hs ≡ r) × (set (out_from (suc k) hs) k none ≡ out_from k hs)
+  at_drop : (hs : List (maybe.Option S)) (k : ℕ) (h : maybe.Option S) (r : List (maybe.Option S)) → drop k hs ≡ h ∷ r
+      → (get_elem? (out_from (suc k) hs) k ≡ some h) × (drop (suc k) hs ≡ r)
+      × (set (out_from (suc k) hs) k none ≡ out_from k hs)
   at_drop [] zero h r e = absurd (let q : 0 ≡ suc (length r) = ap length e in omega arith)
   at_drop [] (suc k) h r e = absurd (let q : 0 ≡ suc (length r) = ap length e in omega arith)
   at_drop (g ∷ hs) zero h r e = (ap some (ap (first_of h) e), ap rest_of e, refl)
   at_drop (g ∷ hs) (suc k) h r e = let q = at_drop hs k h r e in (q.0, q.1, ap (λ l. g ∷ l) q.2)
 
   pub taking : (xs : List S) (hs : List (maybe.Option S)) (c : List (ℕ × S)) (k : ℕ) → drop k hs ≡ map some xs
-      → Valid hs c (take_all k xs) × (homes_after hs c (take_all k xs) ≡ out_from k hs) × (carried_after c (take_all k xs) ≡ numbered k xs ++ c)
+      → Valid hs c (take_all k xs) × (homes_after hs c (take_all k xs) ≡ out_from k hs)
+      × (carried_after c (take_all k xs) ≡ numbered k xs ++ c)
   taking [] hs c k e = (tt, sym (out_past hs k e), refl)
-  taking (x ∷ xs) hs c k e = let here = at_drop hs k (some x) (map some xs) e in let q = taking xs hs c (suc k) here.1 in (
-    (q.0, subst (λ l. get_elem? l k ≡ some (some x)) (sym q.1) here.0),
-    ap (λ l. set l k none) q.1 ∙ here.2,
-    ap (λ l. (k, x) ∷ l) q.2,
-  )
+  taking (x ∷ xs) hs c k e = let here = at_drop hs k (some x) (map some xs) e in let q =
+      taking xs hs c (suc k) here.1 in (
+        (q.0, subst (λ l. get_elem? l k ≡ some (some x)) (sym q.1) here.0),
+        ap (λ l. set l k none) q.1 ∙ here.2,
+        ap (λ l. (k, x) ∷ l) q.2,
+      )
 
   pub all_out : (hs : List (maybe.Option S)) → out_from 0 hs ≡ map (λ _. none) hs
   all_out [] = refl

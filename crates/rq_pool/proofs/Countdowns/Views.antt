@@ -12,22 +12,28 @@ use Rattle.rq_pool.specs.Countdowns.Rule.{stands_at, made_for, HasMade, SomeView
 use Rattle.rq_pool.proofs.Countdowns.Totals.{total_set, inside}
 
 module _ {T : Type 0} where
-  pub set_still : (ps : List (Phase T)) (i : ℕ) (q : Phase T) → i < length ps → flag q ≡ 1 → (j : ℕ) → IsSet ps j → IsSet (set ps i q) j
-  set_still ps i q near is j old = dite (ℕ_discrete j i) (λ (same : j ≡ i). subst (IsSet (set ps i q)) (sym same) (q, set_here ps i q near, is)) (λ other. (old.0, set_else ps i j q other ∙ old.1, old.2))
+  pub set_still : (ps : List (Phase T)) (i : ℕ) (q : Phase T) → i < length ps → flag q ≡ 1 → (j : ℕ) → IsSet ps j
+      → IsSet (set ps i q) j
+  set_still ps i q near is j old =
+      dite (ℕ_discrete j i) (λ (same : j ≡ i). subst (IsSet (set ps i q)) (sym same) (q, set_here ps i q near, is))
+      (λ other. (old.0, set_else ps i j q other ∙ old.1, old.2))
 
 module _ {T K : Type 0} where
-  pub some_set : (P : List (Made T) → Type 0) (views : List (View T K)) (id : ℕ) (v w : View T K) → get_elem? views id ≡ some v → (P v.made → P w.made) → SomeView P views → SomeView P (set views id w)
+  pub some_set : (P : List (Made T) → Type 0) (views : List (View T K)) (id : ℕ) (v w : View T K)
+      → get_elem? views id ≡ some v → (P v.made → P w.made) → SomeView P views → SomeView P (set views id w)
   some_set P views id v w at grows (j, u, e, has) = dite (ℕ_discrete j id)
       (λ same. let is : u ≡ v = some-injective u v (sym e ∙ ap (get_elem? views) same ∙ at) in
       (id, w, set_here views id w (inside views id v at), grows (subst (λ (y : View T K). P y.made) is has)))
       (λ other. (j, u, set_else views id j w other ∙ e, has))
 
   -- a total that the step does not change
-  pub same_total : (f : View T K → ℕ) (views : List (View T K)) (id : ℕ) (v w : View T K) → get_elem? views id ≡ some v → f w ≡ f v → total f (set views id w) ≡ total f views
+  pub same_total : (f : View T K → ℕ) (views : List (View T K)) (id : ℕ) (v w : View T K) → get_elem? views id ≡ some v
+      → f w ≡ f v → total f (set views id w) ≡ total f views
   same_total f views id v w at e = let q = total_set f views id v w at in omega arith
 
   -- a source that the step does not concern
-  pub source_else : (fit : ℕ → T → Type 0) (views : List (View T K)) (id : ℕ) (v w : View T K) (i : ℕ) (p : Phase T) → get_elem? views id ≡ some v → stands_at i w ≡ stands_at i v → made_for i w ≡ made_for i v
+  pub source_else : (fit : ℕ → T → Type 0) (views : List (View T K)) (id : ℕ) (v w : View T K) (i : ℕ) (p : Phase T)
+      → get_elem? views id ≡ some v → stands_at i w ≡ stands_at i v → made_for i w ≡ made_for i v
       → ((x : T) → HasMade i x v.made → HasMade i x w.made) → AtSource fit views i p → AtSource fit (set views id w) i p
   source_else fit views id v w i p at a b grows h = record {
     standing = same_total (stands_at i) views id v w at a ∙ h.standing;
@@ -35,7 +41,12 @@ module _ {T K : Type 0} where
     holding = λ x e. let had = h.holding x e in (had.0, some_set (HasMade i x) views id v w at (grows x) had.1);
   }
 
-  pub passes_set : (key : K) (ps ps' : List (Phase T)) (views : List (View T K)) (id : ℕ) (w : View T K) → ((j : ℕ) → IsSet ps j → IsSet ps' j) → Knows key ps' w
-      → ((j : ℕ) (u : View T K) → get_elem? views j ≡ some u → Knows key ps u) → (j : ℕ) (u : View T K) → get_elem? (set views id w) j ≡ some u → Knows key ps' u
-  passes_set key ps ps' views id w still mine each j u e = ⊎_elim (λ (t : (j ≡ id) × (w ≡ u)). subst (λ (y : View T K). Knows key ps' y) t.1 mine)
-      (λ (t : (j ≢ id) × (get_elem? views j ≡ some u)). let old = each j u t.1 in record { same_key = old.same_key; idle = old.idle; set_before = λ k i at. still i (old.set_before k i at) }) (at_set views id j w u e)
+  pub passes_set : (key : K) (ps ps' : List (Phase T)) (views : List (View T K)) (id : ℕ) (w : View T K)
+      → ((j : ℕ) → IsSet ps j → IsSet ps' j) → Knows key ps' w
+      → ((j : ℕ) (u : View T K) → get_elem? views j ≡ some u → Knows key ps u) → (j : ℕ) (u : View T K)
+      → get_elem? (set views id w) j ≡ some u → Knows key ps' u
+  passes_set key ps ps' views id w still mine each j u e =
+      ⊎_elim (λ (t : (j ≡ id) × (w ≡ u)). subst (λ (y : View T K). Knows key ps' y) t.1 mine)
+      (λ (t : (j ≢ id) × (get_elem? views j ≡ some u)). let old = each j u t.1 in
+      record { same_key = old.same_key; idle = old.idle; set_before = λ k i at. still i (old.set_before k i at) })
+      (at_set views id j w u e)

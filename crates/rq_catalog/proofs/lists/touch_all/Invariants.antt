@@ -7,4 +7,7 @@ use Rattle.rq_catalog.proofs.lists.touch_all.Given as goal
 abbrev pub invariant-loop-queue : goal.invariant-loop-queue
 invariant-loop-queue l =
     (length l.touching.items ≡ length l.fn.touching.items)
-    × ((q : ℕ) → listed l.touching.items q ≡ (if list_any (λ v. v == q) (take l.queue-index l.queues) && nat_lt q (length l.fn.touching.items) then listed l.fn.touching.items q ++ l.op ∷ [] else listed l.fn.touching.items q))
+    × ((q : ℕ) → listed l.touching.items q
+    ≡ (if list_any (λ v. v == q) (take l.queue-index l.queues)
+    && nat_lt q (length l.fn.touching.items) then listed l.fn.touching.items q ++ l.op
+    ∷ [] else listed l.fn.touching.items q))

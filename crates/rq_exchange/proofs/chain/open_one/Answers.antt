@@ -4,12 +4,23 @@ use Rattle.rq_exchange.proofs.Sources.{sources_few}
 use Rattle.rq_exchange.proofs.chain.open_one.Goals as goal
 
 pub overflow_cast-sources : goal.overflow_cast-sources
-overflow_cast-sources c = omega (arith, ap length c.sources_of-sources.ensures, sources_few c.args.job.now c.args.queue c.requires.job c.requires.queue)
+overflow_cast-sources c =
+    omega (
+      arith,
+      ap length c.sources_of-sources.ensures,
+      sources_few c.args.job.now c.args.queue c.requires.job c.requires.queue,
+    )
 
 pub open-requires-clause-sources : goal.open-requires-clause-sources
 open-requires-clause-sources c =
-    let some : 0 < length c.sources_of-sources.result.now = search rules in
-    (some, omega (arith, ap length c.sources_of-sources.ensures, sources_few c.args.job.now c.args.queue c.requires.job c.requires.queue))
+    let some : 0 < length c.sources_of-sources.result.now = search rules in (
+      some,
+      omega (
+        arith,
+        ap length c.sources_of-sources.ensures,
+        sources_few c.args.job.now c.args.queue c.requires.job c.requires.queue,
+      ),
+    )
 
 pub returns-clause-opened : goal.returns-clause-opened
 returns-clause-opened c =
@@ -22,6 +33,9 @@ returns-clause-opened c =
       more_is = c.in_ok-push-2.ensures.items;
       slot_is = search rules;
       fed = omega (arith, some, ap length c.sources_of-sources.ensures);
-      keyed = (opened.countdown.0 ∙ ap length c.sources_of-sources.ensures, ap (λ (k : Target). k.due) opened.countdown.1 ∙ c.target_of-target.ensures);
+      keyed = (
+        opened.countdown.0 ∙ ap length c.sources_of-sources.ensures,
+        ap (λ (k : Target). k.due) opened.countdown.1 ∙ c.target_of-target.ensures,
+      );
       fresh = record { own = opened.own; count = opened.count; passes = opened.countdown.2; blank = opened.fresh };
     })

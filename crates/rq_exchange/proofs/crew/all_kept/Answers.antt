@@ -15,18 +15,23 @@ dealt : (g : _) (c : In_ok-room g) (x : ℕ) → times_in x (deal_of c.in_ok-roo
 dealt g c x = ap (times_in x) c.in_ok-room.ensures.deal ∙ c.in_ok-lists.ensures.deal x
 
 pub run_seats-requires-clause-workers : goal.run_seats-requires-clause-workers
-run_seats-requires-clause-workers g c κs within = c.in_ok-workers.ensures.workers c.args.chain.now c.in_ok-room.room (λ k d lt. (c.in_ok-room.ensures.seats k d lt, c.in_ok-room.ensures.fresh k d lt)) c.requires.rows
+run_seats-requires-clause-workers g c κs within =
+    c.in_ok-workers.ensures.workers c.args.chain.now c.in_ok-room.room
+    (λ k d lt. (c.in_ok-room.ensures.seats k d lt, c.in_ok-room.ensures.fresh k d lt)) c.requires.rows
 
 pub run_seats-requires-clause-bare : goal.run_seats-requires-clause-bare
 run_seats-requires-clause-bare g c κs within = λ x h.
-    waits_for_nobody c.args.job.now c.args.tasks.now x c.requires.job c.requires.tasks (subst (λ n. 0 < n) (dealt g (goal.at.run_seats-requires-clause-bare g c).In_ok-room x) h)
+    waits_for_nobody c.args.job.now c.args.tasks.now x c.requires.job c.requires.tasks
+    (subst (λ n. 0 < n) (dealt g (goal.at.run_seats-requires-clause-bare g c).In_ok-room x) h)
 
 pub returns-in_err-seats-clause-refused : goal.returns-in_err-seats-clause-refused
 returns-in_err-seats-clause-refused g c =
-    let why : c.in_err-seats.field-0.0 ≡ Resources = c.in_err-seats.ensures.refused c.args.job.now c.args.chain.now c.in_ok-room.room c.in_ok-ended.ensures.1 in
+    let why : c.in_err-seats.field-0.0 ≡ Resources =
+    c.in_err-seats.ensures.refused c.args.job.now c.args.chain.now c.in_ok-room.room c.in_ok-ended.ensures.1 in
     search rules
 
-back : (g : _) (c : In_ok-seats g) → AreHandedBack c.args.job.now c.args.chain.now c.in_ok-room.room (length c.in_ok-ended.ended.items) c.in_ok-seats.seats.items c.in_ok-seats.kept.items
+back : (g : _) (c : In_ok-seats g) → AreHandedBack c.args.job.now c.args.chain.now c.in_ok-room.room
+    (length c.in_ok-ended.ended.items) c.in_ok-seats.seats.items c.in_ok-seats.kept.items
 back g c = c.in_ok-seats.ensures.back c.args.job.now c.args.chain.now c.in_ok-room.room c.in_ok-ended.ensures.1
 
 pub close-left-requires-clause-seats : goal.close-left-requires-clause-seats
@@ -35,32 +40,64 @@ close-left-requires-clause-seats g c = (back g (goal.at.close-left-requires-clau
 pub close-left-requires-clause-all : goal.close-left-requires-clause-all
 close-left-requires-clause-all g c =
     let h = back g (goal.at.close-left-requires-clause-all g c).In_ok-seats in
-    omega (arith, h.each, c.in_ok-ended.ensures.0, c.in_ok-workers.ensures.count, c.in_ok-room.ensures.count.0, c.in_ok-room.ensures.count.1, c.in_ok-room.seats.ok.0, c.in_ok-seats.seats.ok.0)
+    omega (
+      arith,
+      h.each,
+      c.in_ok-ended.ensures.0,
+      c.in_ok-workers.ensures.count,
+      c.in_ok-room.ensures.count.0,
+      c.in_ok-room.ensures.count.1,
+      c.in_ok-room.seats.ok.0,
+      c.in_ok-seats.seats.ok.0,
+    )
 
 -- the first thread has what it took
-first : (g : _) (c : In_ok-seats g) (k : Kept) → 0 < length c.in_ok-seats.kept.items → k ≡ slice_index_or c.in_ok-seats.kept.items 0 k → (s : List ℕ) × HasKept c.args.job.now c.args.chain.now s k
+first : (g : _) (c : In_ok-seats g) (k : Kept) → 0 < length c.in_ok-seats.kept.items
+    → k ≡ slice_index_or c.in_ok-seats.kept.items 0 k → (s : List ℕ) × HasKept c.args.job.now c.args.chain.now s k
 first g c k some is =
     let h = back g c in
-    let one = each_keeps c.args.job.now c.args.chain.now (map taken_of c.in_ok-seats.seats.items) c.in_ok-seats.kept.items h.keep 0 k some in
+    let one = each_keeps c.args.job.now c.args.chain.now
+    (map taken_of c.in_ok-seats.seats.items) c.in_ok-seats.kept.items h.keep 0 k some in
     (one.0, subst (HasKept c.args.job.now c.args.chain.now one.0) (sym is) one.1)
 
 -- as many threads as rows of passes
 threads : (g : _) (c : In_ok-seats g) → length c.in_ok-seats.kept.items ≡ length c.args.rows.items
-threads g c = omega (arith, (back g c).many, c.in_ok-ended.ensures.0, c.in_ok-workers.ensures.count, c.in_ok-room.ensures.count.1, c.in_ok-room.seats.ok.0, c.in_ok-lists.ensures.count, c.len.ensures, c.args.rows.ok.0)
+threads g c = omega (
+  arith,
+  (back g c).many,
+  c.in_ok-ended.ensures.0,
+  c.in_ok-workers.ensures.count,
+  c.in_ok-room.ensures.count.1,
+  c.in_ok-room.seats.ok.0,
+  c.in_ok-lists.ensures.count,
+  c.len.ensures,
+  c.args.rows.ok.0,
+)
 
 pub open-requires-clause-short : goal.open-requires-clause-short
-open-requires-clause-short g c = omega (arith, c.in_ok-lists.ensures.size, c.requires.tasks.few, c.requires.job.tables, c.requires.job.few)
+open-requires-clause-short g c =
+    omega (arith, c.in_ok-lists.ensures.size, c.requires.tasks.few, c.requires.job.tables, c.requires.job.few)
 
 pub paired-requires : goal.paired-requires
-paired-requires g c = omega (arith, c.in_ok-room.ensures.count.1, c.in_ok-room.seats.ok.0, c.in_ok-lists.ensures.count, c.len.ensures, c.args.rows.ok.0)
+paired-requires g c =
+    omega (
+      arith,
+      c.in_ok-room.ensures.count.1,
+      c.in_ok-room.seats.ok.0,
+      c.in_ok-lists.ensures.count,
+      c.len.ensures,
+      c.args.rows.ok.0,
+    )
 
 pub index_mut-requires : goal.index_mut-requires
-index_mut-requires g c = omega (arith, threads g (goal.at.index_mut-requires g c).In_ok-seats, c.requires.count.0, c.in_ok-seats.kept.ok.0)
+index_mut-requires g c =
+    omega (arith, threads g (goal.at.index_mut-requires g c).In_ok-seats, c.requires.count.0, c.in_ok-seats.kept.ok.0)
 
 pub finish-requires-clause-passes : goal.finish-requires-clause-passes
 finish-requires-clause-passes g c =
     let d = (goal.at.finish-requires-clause-passes g c).In_ok-seats in
-    (first g d c.index_mut.result.now (omega (arith, threads g d, c.requires.count.0)) c.index_mut.ensures.value).1.passes
+    (first g d c.index_mut.result.now (omega (arith, threads g d, c.requires.count.0))
+    c.index_mut.ensures.value).1.passes
 
 pub finish-requires-clause-done : goal.finish-requires-clause-done
 finish-requires-clause-done g c =
@@ -73,7 +110,8 @@ finish-requires-clause-bare g c = λ x h.
     let ledger = c.close-left.ensures.ledger x in
     let left : times x c.left.result.now ≡ times x (left_of c.close-left.result) = ap (times x) c.left.ensures.left in
     let deal = dealt g at.In_ok-room x in
-    waits_for_nobody c.args.job.now c.args.tasks.now x c.requires.job c.requires.tasks (omega (arith, ledger, left, deal, h))
+    waits_for_nobody c.args.job.now c.args.tasks.now x c.requires.job c.requires.tasks
+    (omega (arith, ledger, left, deal, h))
 
 pub returns-clause-kept : goal.returns-clause-kept
 returns-clause-kept g c =
@@ -81,9 +119,17 @@ returns-clause-kept g c =
     let d = at.In_ok-seats in
     let left = c.left.result.now in
     let deal = deal_of c.in_ok-room.room in
-    taken_over c.args.job.now c.args.chain.now (map taken_of c.in_ok-seats.seats.items) c.in_ok-seats.kept.items left c.args.tasks.now deal c.index_mut.result.now c.finish.new.kept (back g d).keep (omega (arith, threads g d, c.requires.count.0)) c.index_mut.ensures.value
-    (λ s keeps. record { passes = c.in_ok-finish.ensures.passes; done = c.in_ok-finish.ensures.done; follows = c.in_ok-finish.ensures.follows s keeps.follows })
-    (subst (λ (z : List (List ℕ) × List ℕ). Ledger deal z.0 z.1) (λ i. (c.close-left.ensures.takens i, sym c.left.ensures.left i)) c.close-left.ensures.ledger)
+    taken_over c.args.job.now c.args.chain.now (map taken_of c.in_ok-seats.seats.items) c.in_ok-seats.kept.items left
+    c.args.tasks.now deal c.index_mut.result.now c.finish.new.kept (back g d).keep
+    (omega (arith, threads g d, c.requires.count.0)) c.index_mut.ensures.value
+    (λ s keeps. record {
+      passes = c.in_ok-finish.ensures.passes;
+      done = c.in_ok-finish.ensures.done;
+      follows =
+          c.in_ok-finish.ensures.follows s keeps.follows;
+    })
+    (subst (λ (z : List (List ℕ) × List ℕ). Ledger deal z.0 z.1)
+    (λ i. (c.close-left.ensures.takens i, sym c.left.ensures.left i)) c.close-left.ensures.ledger)
     (dealt g at.In_ok-room)
 
 pub returns-clause-count : goal.returns-clause-count

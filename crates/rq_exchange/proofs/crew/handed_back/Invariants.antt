@@ -6,4 +6,5 @@ use Rattle.rq_exchange.specs.Workers.{Works, AreHandedBack}
 use Rattle.rq_exchange.proofs.crew.handed_back.Given as goal
 
 abbrev pub invariant-loop-one : goal.invariant-loop-one
-invariant-loop-one l = (job : Job) (chain : Chain) (room : Room) → All (Works job chain room) l.fn.ended.items → AreHandedBack job chain room (length l.yielded) l.seats.items l.all.items
+invariant-loop-one l = (job : Job) (chain : Chain) (room : Room) → All (Works job chain room) l.fn.ended.items
+    → AreHandedBack job chain room (length l.yielded) l.seats.items l.all.items

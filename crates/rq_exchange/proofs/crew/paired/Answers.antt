@@ -13,20 +13,29 @@ loop-seat-preserved c =
     let i = c.loop-seat.invariant in
     let seat = c.in-Some.seat in
     let passes = c.in-Some-pop.passes in
-    let one_seat : length c.loop-seat.seats.items ≡ length c.pop.new.self.items + 1 = ap length c.in-Some.ensures.items ∙ length-append c.pop.new.self.items (seat ∷ []) in
-    let one_row : length c.loop-seat.rows.items ≡ length c.pop-in-Some.new.self.items + 1 = ap length c.in-Some-pop.ensures.items ∙ length-append c.pop-in-Some.new.self.items (passes ∷ []) in
+    let one_seat : length c.loop-seat.seats.items ≡ length c.pop.new.self.items + 1 =
+    ap length c.in-Some.ensures.items ∙ length-append c.pop.new.self.items (seat ∷ []) in
+    let one_row : length c.loop-seat.rows.items ≡ length c.pop-in-Some.new.self.items + 1 =
+    ap length c.in-Some-pop.ensures.items ∙ length-append c.pop-in-Some.new.self.items (passes ∷ []) in
     let worker : Worker = record { seat = seat; passes = passes } in
-    let one_worker : length c.push.new.self.items ≡ length c.loop-seat.workers.items + 1 = ap length c.in_ok-push.ensures.items ∙ length-append c.loop-seat.workers.items (worker ∷ []) in (
+    let one_worker : length c.push.new.self.items ≡ length c.loop-seat.workers.items + 1 =
+    ap length c.in_ok-push.ensures.items ∙ length-append c.loop-seat.workers.items (worker ∷ []) in (
       omega (arith, i.0, one_seat, one_row),
       omega (arith, i.1, one_seat, one_worker),
       λ chain room seats rows.
           let all = i.2 chain room seats rows in
-          let a = all_but_last (λ (s : Seat). IsSeatOf room s × (taken_of s ≡ [])) c.loop-seat.seats.items c.pop.new.self.items seat c.in-Some.ensures.items all.0 in
-          let b = all_but_last (λ r. ArePasses chain r.items × All (λ p. history_of p ≡ []) r.items) c.loop-seat.rows.items c.pop-in-Some.new.self.items passes c.in-Some-pop.ensures.items all.1 in (
+          let a = all_but_last (λ (s : Seat). IsSeatOf room s × (taken_of s ≡ [])) c.loop-seat.seats.items
+          c.pop.new.self.items seat c.in-Some.ensures.items all.0 in
+          let b = all_but_last (λ r. ArePasses chain r.items × All (λ p. history_of p ≡ []) r.items)
+          c.loop-seat.rows.items c.pop-in-Some.new.self.items passes c.in-Some-pop.ensures.items all.1 in (
             a.0,
             b.0,
-            subst (λ (ws : List Worker). All (λ w. IsSeatOf room w.seat × (taken_of w.seat ≡ []) × ArePasses chain w.passes.items × All (λ p. history_of p ≡ []) w.passes.items) ws) (sym c.in_ok-push.ensures.items)
-                (All-push (λ (w : Worker). IsSeatOf room w.seat × (taken_of w.seat ≡ []) × ArePasses chain w.passes.items × All (λ p. history_of p ≡ []) w.passes.items) c.loop-seat.workers.items worker all.2 (a.1.0, a.1.1, b.1.0, b.1.1)),
+            subst (λ (ws : List Worker). All (λ w. IsSeatOf room w.seat × (taken_of w.seat ≡ [])
+                × ArePasses chain w.passes.items × All (λ p. history_of p ≡ []) w.passes.items) ws)
+                (sym c.in_ok-push.ensures.items)
+                (All-push (λ (w : Worker). IsSeatOf room w.seat × (taken_of w.seat ≡ [])
+                × ArePasses chain w.passes.items × All (λ p. history_of p ≡ []) w.passes.items)
+                c.loop-seat.workers.items worker all.2 (a.1.0, a.1.1, b.1.0, b.1.1)),
           ),
     )
 

@@ -10,10 +10,12 @@ abbrev pub invariant-loop-seat : goal.invariant-loop-seat
 invariant-loop-seat l =
     (length l.rows.items ≡ length l.seats.items)
     × (length l.workers.items + length l.seats.items ≡ length l.fn.seats.items)
-    × ((chain : Chain) (room : Room) → All (λ s. IsSeatOf room s × (taken_of s ≡ [])) l.fn.seats.items → All (λ r. ArePasses chain r.items × All (λ p. history_of p ≡ []) r.items) l.fn.rows.items
+    × ((chain : Chain) (room : Room) → All (λ s. IsSeatOf room s × (taken_of s ≡ [])) l.fn.seats.items
+    → All (λ r. ArePasses chain r.items × All (λ p. history_of p ≡ []) r.items) l.fn.rows.items
     → All (λ s. IsSeatOf room s × (taken_of s ≡ [])) l.seats.items
     × All (λ r. ArePasses chain r.items × All (λ p. history_of p ≡ []) r.items) l.rows.items
-    × All (λ w. IsSeatOf room w.seat × (taken_of w.seat ≡ []) × ArePasses chain w.passes.items × All (λ p. history_of p ≡ []) w.passes.items) l.workers.items)
+    × All (λ w. IsSeatOf room w.seat × (taken_of w.seat ≡ []) × ArePasses chain w.passes.items
+    × All (λ p. history_of p ≡ []) w.passes.items) l.workers.items)
 
 abbrev pub decreases-loop-seat : goal.decreases-loop-seat
 decreases-loop-seat l = length l.seats.items

@@ -11,7 +11,8 @@ pub returns-clause-fields : goal.returns-clause-fields
 returns-clause-fields c =
     let s = c.args.state.now in
     let rs : List Record = map record_of c.args.records.now in
-    let after : AreAfter s rs (run s rs) = c.numbers_after.ensures Two s rs c.next.ensures.well_formed c.requires.lawful in
+    let after : AreAfter s rs (run s rs) =
+    c.numbers_after.ensures Two s rs c.next.ensures.well_formed c.requires.lawful in
     let front : lawful_front Two s rs ≡ rs = front_whole Two s rs c.requires.lawful in
     let many : length rs ≡ length c.args.records.now = length-map c.args.records.now record_of in
     record {

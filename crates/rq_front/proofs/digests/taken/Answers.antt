@@ -24,10 +24,14 @@ frames-preserved c = λ ms h.
       | then-has_turn w ↦
           let one = w.take.ensures (ms ++ before) held in
           let more = turn_taken t spans c.frames.i d (omega arith) (sym c.has_turn.ensures ∙ w.if-has_turn.true) in
-          let whole : (ms ++ before) ++ message_of (get_or spans c.frames.i d) ∷ [] ≡ ms ++ of_turn t (take (c.frames.i + 1) spans) =
-          append_assoc ms before (message_of (get_or spans c.frames.i d) ∷ []) ∙ ap (λ (xs : List Message). ms ++ xs) (sym more) in
+          let whole : (ms ++ before) ++ message_of (get_or spans c.frames.i d) ∷ []
+          ≡ ms ++ of_turn t (take (c.frames.i + 1) spans) =
+          append_assoc ms before (message_of (get_or spans c.frames.i d) ∷ [])
+          ∙ ap (λ (xs : List Message). ms ++ xs) (sym more) in
           subst (λ (l : Lanes 8). AccountsFor b l (ms ++ of_turn t (take (c.frames.i + 1) spans))) (sym w.lanes-is)
-          (subst (AccountsFor b w.take.new.self) whole (subst (λ (m : Message). AccountsFor b w.take.new.self ((ms ++ before) ++ m ∷ [])) w.message_at-message.ensures one))
+          (subst (AccountsFor b w.take.new.self) whole
+          (subst (λ (m : Message). AccountsFor b w.take.new.self ((ms ++ before) ++ m ∷ []))
+          w.message_at-message.ensures one))
       | else-has_turn w ↦
           let same = turn_passed t spans c.frames.i d (omega arith) (sym c.has_turn.ensures ∙ w.if-has_turn.false) in
           subst (λ (l : Lanes 8). AccountsFor b l (ms ++ of_turn t (take (c.frames.i + 1) spans))) (sym w.lanes-is)
@@ -37,4 +41,5 @@ frames-preserved c = λ ms h.
 pub returns : goal.returns
 returns c = λ ms h.
     let whole = take_all c.frames.i c.args.spans.now (omega arith) in
-    subst (λ (xs : List Span). AccountsFor c.args.bytes.now c.frames.lanes (ms ++ of_turn c.args.first xs)) whole (c.frames.invariant ms h)
+    subst (λ (xs : List Span). AccountsFor c.args.bytes.now c.frames.lanes (ms ++ of_turn c.args.first xs)) whole
+    (c.frames.invariant ms h)

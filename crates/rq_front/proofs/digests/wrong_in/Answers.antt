@@ -7,13 +7,21 @@ use Rattle.rq_front.specs.Walks.{IsRight, IsSpanOf}
 use Rattle.rq_front.proofs.digests.wrong_in.Goals as goal
 
 pub wrong_in_part-requires : goal.wrong_in_part-requires
-wrong_in_part-requires c = All-take (IsSpanOf c.args.bytes.now) _ _ (All-drop (IsSpanOf c.args.bytes.now) c.parts.done c.args.spans.now c.requires)
+wrong_in_part-requires c = All-take (IsSpanOf c.args.bytes.now) _ _
+    (All-drop (IsSpanOf c.args.bytes.now) c.parts.done c.args.spans.now c.requires)
 
 pub parts-preserved : goal.parts-preserved
-parts-preserved c = (omega arith, more_parts c.args.bytes.now c.args.spans.now c.parts.done _ _ (omega arith) c.parts.invariant.1 c.in_default.ensures.none)
+parts-preserved c = (
+  omega arith,
+  more_parts c.args.bytes.now c.args.spans.now c.parts.done _ _
+      (omega arith) c.parts.invariant.1 c.in_default.ensures.none,
+)
 
 pub returns-in-Some-clause-some : goal.returns-in-Some-clause-some
-returns-in-Some-clause-some c = first_in_part c.args.bytes.now c.args.spans.now c.parts.done _ c.in-Some.place c.parts.invariant.0 c.parts.invariant.1 c.in-Some.ensures.some
+returns-in-Some-clause-some c =
+    first_in_part c.args.bytes.now c.args.spans.now c.parts.done _ c.in-Some.place c.parts.invariant.0
+    c.parts.invariant.1 c.in-Some.ensures.some
 
 pub returns-clause-none : goal.returns-clause-none
-returns-clause-none c = subst (All (IsRight c.args.bytes.now)) (take_all c.parts.done c.args.spans.now (omega arith)) c.parts.invariant.1
+returns-clause-none c = subst (All (IsRight c.args.bytes.now))
+    (take_all c.parts.done c.args.spans.now (omega arith)) c.parts.invariant.1

@@ -4,4 +4,5 @@ use Rattle.rq_front.proofs.Framing.{log_long}
 use Rattle.rq_front.proofs.headers.has_header.Goals as goal
 
 pub returns-then-bytes-lt-HEADER_LEN : goal.returns-then-bytes-lt-HEADER_LEN
-returns-then-bytes-lt-HEADER_LEN c = (λ t. cc, λ e. absurd (omega (arith, log_long (version_of c.args.version) c.args.bytes.now e)))
+returns-then-bytes-lt-HEADER_LEN c =
+    (λ t. cc, λ e. absurd (omega (arith, log_long (version_of c.args.version) c.args.bytes.now e)))

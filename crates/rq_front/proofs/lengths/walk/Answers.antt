@@ -12,7 +12,8 @@ frames-preserved c =
     let b = c.args.bytes.now in
     let end = c.frames.end in
     let s : Span = record { start = end + 4; len = c.in-Ok.len } in
-    let here : HasFrame (drop end b) × (s.len ≡ stated (drop end b)) = subst (λ (x : List ℕ). HasFrame x × (s.len ≡ stated x)) c.behind.ensures c.in-Ok.ensures.ok in
+    let here : HasFrame (drop end b) × (s.len ≡ stated (drop end b)) =
+    subst (λ (x : List ℕ). HasFrame x × (s.len ≡ stated x)) c.behind.ensures c.in-Ok.ensures.ok in
     let pushed : c.push.new.self.items ≡ c.frames.spans.items ++ s ∷ [] = c.in_ok-push-in-Ok.ensures.items in
     let walk = walk_more b c.args.from c.frames.spans.items end s c.frames.invariant.walk refl here.1 here.0 in
     let place : end + 36 + s.len ≡ end + (36 + s.len) = omega arith in
@@ -23,4 +24,5 @@ frames-preserved c =
     }
 
 pub returns-in-Err-clause-rest : goal.returns-in-Err-clause-rest
-returns-in-Err-clause-rest c = λ p. subst (λ (x : List ℕ). IsRest p x (rest_of c.in-Err.rest)) c.behind.ensures (c.in-Err.ensures.err p)
+returns-in-Err-clause-rest c = λ p. subst (λ (x : List ℕ). IsRest p x (rest_of c.in-Err.rest)) c.behind.ensures
+    (c.in-Err.ensures.err p)

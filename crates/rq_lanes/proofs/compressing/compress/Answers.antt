@@ -23,7 +23,8 @@ unfolding rounds
 schedule-init g c j low =
     let b = slice_index_or c.args.blocks.now j [] in
     let h = lane j c.args.state in
-    let window = IsWindow_first b (window j c.load.w) (length-map c.load.w _ ∙ c.load.invariant.0) (λ k lt. c.load.invariant.1 j k low (omega arith)) in
+    let window = IsWindow_first b (window j c.load.w) (length-map c.load.w _ ∙ c.load.invariant.0)
+    (λ k lt. c.load.invariant.1 j k low (omega arith)) in
     let s1 = c.first_four_steps-v.ensures j low b h window refl in
     let s2 = c.first_four_steps-v-2.ensures j low b h window s1 in
     let s3 = c.first_four_steps-v-3.ensures j low b h window s2 in

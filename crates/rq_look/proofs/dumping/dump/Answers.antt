@@ -12,5 +12,6 @@ returns-clause-last g c =
       records.0 ++ text,
       closing.0,
       closing.1,
-      put_last (held c.args.output.now) (held c.put_records.new.output) (held c.finish.new.output) records.0 text closing.0 _ records.1 c.in_ok-finish.ensures.0 closing.2,
+      put_last (held c.args.output.now) (held c.put_records.new.output)
+          (held c.finish.new.output) records.0 text closing.0 _ records.1 c.in_ok-finish.ensures.0 closing.2,
     )

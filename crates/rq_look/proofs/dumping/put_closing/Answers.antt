@@ -9,5 +9,6 @@ returns-in_ok-put_end-clause-closing c = λ b r is e.
     let line : List ℕ = end_line r reason in (
       line,
       subst (λ (j : Bool). IsClosing b j line) (sym c.if-wanted.false) (r, reason, is, refl),
-      c.in_ok-put_end.ensures ∙ ap (λ (t : List ℕ). string_bytes c.args.text.now ++ t) (same_line r c.args.end.now reason e),
+      c.in_ok-put_end.ensures ∙ ap (λ (t : List ℕ). string_bytes c.args.text.now ++ t)
+          (same_line r c.args.end.now reason e),
     )

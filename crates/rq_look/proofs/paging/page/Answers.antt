@@ -9,5 +9,7 @@ returns-clause-whole g c =
     let queues = c.in_ok-put_queues.ensures.only in
     let text = string_bytes c.put_queues.new.text in (
       queues.0 ++ text,
-      put_last (held c.args.output.now) (held c.put_queues.new.output) (held c.finish.new.output) queues.0 text page_foot _ queues.1 c.in_ok-finish.ensures.0 c.in_ok-put_foot.ensures,
+      put_last (held c.args.output.now) (held c.put_queues.new.output)
+          (held c.finish.new.output) queues.0 text page_foot _ queues.1 c.in_ok-finish.ensures.0
+          c.in_ok-put_foot.ensures,
     )

@@ -7,7 +7,8 @@ loop-placed-preserved g c =
     let held = g.W.Write.contents in
     let inv = c.loop-placed.invariant in
     let told = c.in_ok-count.ensures in (
-      both_put (held c.args.output.now) (held c.loop-placed.output) (held c.tell_record.new.output) inv.0 (told.only.0, told.only.1),
+      both_put (held c.args.output.now) (held c.loop-placed.output) (held c.tell_record.new.output) inv.0
+          (told.only.0, told.only.1),
       λ t e.
           let before = inv.1 (omega (arith, t, c.saturating_add-told.ensures)) e in
           let here = told.nothing (omega (arith, t, c.saturating_add-told.ensures)) before.1 in

@@ -6,4 +6,5 @@ use Rattle.rq_look.proofs.telling.tell_front.Given as goal
 abbrev pub invariant-loop-placed : goal.invariant-loop-placed
 invariant-loop-placed g l =
     AppendsSome (g.W.Write.contents l.fn.output) (g.W.Write.contents l.output)
-    × (l.told ≡ 0 → string_bytes l.fn.text ≡ [] → (g.W.Write.contents l.output ≡ g.W.Write.contents l.fn.output) × (string_bytes l.text ≡ []))
+    × (l.told ≡ 0 → string_bytes l.fn.text ≡ []
+    → (g.W.Write.contents l.output ≡ g.W.Write.contents l.fn.output) × (string_bytes l.text ≡ []))

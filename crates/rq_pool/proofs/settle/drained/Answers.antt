@@ -12,9 +12,23 @@ returns-clause-room c = let inv = c.loop-x.invariant in (
 )
 
 pub push_reserved-requires : goal.push_reserved-requires
-push_reserved-requires c = let inv = c.loop-x.invariant in let before = worker_view c.loop-x.owner in let few = c.in-Some.ensures.taken.1 (λ _. 1) in let d = ap length inv.dealt in let k = inv.capacity in let l = inv.len in let fit = c.requires.reserved in
-    omega (arith, length_sum (before.taken ++ c.in-Some.x ∷ []), length_sum before.dealt, length-append before.taken (c.in-Some.x ∷ []))
+push_reserved-requires c = let inv = c.loop-x.invariant in let before = worker_view c.loop-x.owner in let few =
+    c.in-Some.ensures.taken.1 (λ _. 1) in let d = ap length inv.dealt in let k = inv.capacity in let l = inv.len in
+    let fit = c.requires.reserved in
+    omega (
+      arith,
+      length_sum (before.taken ++ c.in-Some.x ∷ []),
+      length_sum before.dealt,
+      length-append before.taken (c.in-Some.x ∷ []),
+    )
 
 pub loop-x-smaller : goal.loop-x-smaller
-loop-x-smaller c = let before = worker_view c.loop-x.owner in let after = worker_view c.pop.new.owner in let got = c.in-Some.ensures.taken in let few = got.1 (λ _. 1) in let t = ap (λ v. length v.taken) got.0 in let d = ap (λ v. length v.dealt) got.0 in
-    omega (arith, length_sum (before.taken ++ c.in-Some.x ∷ []), length_sum before.dealt, length-append before.taken (c.in-Some.x ∷ []))
+loop-x-smaller c = let before = worker_view c.loop-x.owner in let after = worker_view c.pop.new.owner in let got =
+    c.in-Some.ensures.taken in let few = got.1 (λ _. 1) in let t = ap (λ v. length v.taken) got.0 in let d =
+    ap (λ v. length v.dealt) got.0 in
+    omega (
+      arith,
+      length_sum (before.taken ++ c.in-Some.x ∷ []),
+      length_sum before.dealt,
+      length-append before.taken (c.in-Some.x ∷ []),
+    )

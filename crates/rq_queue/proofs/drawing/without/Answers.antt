@@ -12,8 +12,11 @@ loop-place-preserved c =
     let es = c.loop-place.all.entries in
     let here : i < length places = omega (arith, c.loop-place-test.true) in
     record {
-      by_place = left_by_place whose (get_or places i 0) es c.draw.new.all.entries c.draw.ensures.left c.loop-place.invariant.by_place;
-      rest = ap (left whose (drop (i + 1) places)) c.draw.ensures.left ∙ (left_more whose (get_or places i 0) (drop (i + 1) places) es ∙ (ap (λ (ps : List ℕ). left whose ps es) (sym (drop_more places i 0 here)) ∙ c.loop-place.invariant.rest));
+      by_place = left_by_place whose (get_or places i 0) es c.draw.new.all.entries c.draw.ensures.left
+          c.loop-place.invariant.by_place;
+      rest = ap (left whose (drop (i + 1) places)) c.draw.ensures.left
+          ∙ (left_more whose (get_or places i 0) (drop (i + 1) places) es
+          ∙ (ap (λ (ps : List ℕ). left whose ps es) (sym (drop_more places i 0 here)) ∙ c.loop-place.invariant.rest));
     }
 
 pub returns : goal.returns
@@ -21,4 +24,6 @@ returns c =
     let i = c.loop-place.place-index in
     let places = c.args.places.now in
     let whose = c.args.whose.now in
-    sym (left_none whose c.loop-place.all.entries) ∙ (ap (λ (ps : List ℕ). left whose ps c.loop-place.all.entries) (sym (drop_all i places (omega (arith, c.loop-place-test.false)))) ∙ c.loop-place.invariant.rest)
+    sym (left_none whose c.loop-place.all.entries)
+    ∙ (ap (λ (ps : List ℕ). left whose ps c.loop-place.all.entries)
+    (sym (drop_all i places (omega (arith, c.loop-place-test.false)))) ∙ c.loop-place.invariant.rest)

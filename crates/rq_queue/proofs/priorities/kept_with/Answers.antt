@@ -10,5 +10,7 @@ pub returns-clause-known : goal.returns-clause-known
 returns-clause-known c = λ es apart known.
     let e = c.args.e.now in
     let old = c.in-Some.by_id.entries in
-    subst (λ (m : List (ℕ × ℕ)). AllByRecursion (IsKnown m) (e ∷ es)) (sym (c.in_ok-insert.ensures.entries ∙ ap (λ (k : ℕ × ℕ). insert_entry nat_cmp old k.1 k.0) c.key-priority.ensures))
+    subst (λ (m : List (ℕ × ℕ)). AllByRecursion (IsKnown m) (e ∷ es))
+    (sym (c.in_ok-insert.ensures.entries
+    ∙ ap (λ (k : ℕ × ℕ). insert_entry nat_cmp old k.1 k.0) c.key-priority.ensures))
     (known_with e es old apart (subst (λ (o : Option (BTreeMap ℕ ℕ)). AreKnown o es) c.in-Some.is known))

@@ -13,8 +13,10 @@ act-requires c =
     let here : c.loop-done.done < length c.args.ops.now = omega arith in
     let later : op.place ≤ c.args.until = omega arith in
     record {
-      ready = (op_well c.redo_goes_well.ensures.steps c.loop-done.part c.args.ops.now c.loop-done.done op ms here c.index-ops-done.is
-          (each_weaker (λ m. c.args.until ≤ m.place) (λ m. op.place ≤ m.place) (λ m k. omega arith) ms c.requires.well.1)
+      ready = (op_well c.redo_goes_well.ensures.steps c.loop-done.part c.args.ops.now c.loop-done.done op ms here
+          c.index-ops-done.is
+          (each_weaker (λ m. c.args.until ≤ m.place) (λ m. op.place ≤ m.place)
+          (λ m k. omega arith) ms c.requires.well.1)
           (c.loop-done.invariant.well ms c.requires.well.1 c.requires.well.2)).0;
     }
 
@@ -24,14 +26,20 @@ loop-done-preserved c =
     let op = c.index-ops-done.result in
     let here : done < length c.args.ops.now = omega arith in
     let later : op.place ≤ c.args.until = omega arith in
-    let since : (ms : List Move) → AllByRecursion (λ m. c.args.until ≤ m.place) ms → AllByRecursion (λ m. op.place ≤ m.place) ms
+    let since : (ms : List Move) → AllByRecursion (λ m. c.args.until ≤ m.place) ms
+    → AllByRecursion (λ m. op.place ≤ m.place) ms
     = λ ms h. each_weaker (λ m. c.args.until ≤ m.place) (λ m. op.place ≤ m.place) (λ m k. omega arith) ms h in
     record {
       bound = omega arith;
-      well = λ ms h w. subst (λ (p : Part). GoesWell p (drop (done + 1) c.args.ops.now) ms) (sym c.in_ok-part.ensures.part)
-          ((op_well c.redo_goes_well.ensures.steps c.loop-done.part c.args.ops.now done op ms here c.index-ops-done.is (since ms h) (c.loop-done.invariant.well ms h w)).1);
+      well = λ ms h w. subst (λ (p : Part). GoesWell p (drop (done + 1) c.args.ops.now) ms)
+          (sym c.in_ok-part.ensures.part)
+          ((op_well c.redo_goes_well.ensures.steps c.loop-done.part c.args.ops.now done op ms here c.index-ops-done.is
+          (since ms h) (c.loop-done.invariant.well ms h w)).1);
       redone = λ ms h. c.loop-done.invariant.redone ms h
-          ∙ op_done c.redo_steps.ensures c.loop-done.part c.in_ok-part.part c.args.ops.now done op ms here c.index-ops-done.is c.in_ok-part.ensures.part (since ms h);
+          ∙ op_done c.redo_steps.ensures c.loop-done.part c.in_ok-part.part c.args.ops.now done op ms here
+          c.index-ops-done.is c.in_ok-part.ensures.part (since ms h);
       sent = λ ms h. c.loop-done.invariant.sent ms h
-          ∙ op_sent c.redo_steps.ensures c.loop-done.part c.in_ok-part.part c.args.ops.now done op ms c.loop-done.sent.items c.act.new.sent.items here c.index-ops-done.is c.in_ok-part.ensures.part c.in_ok-part.ensures.sent (since ms h);
+          ∙ op_sent c.redo_steps.ensures c.loop-done.part c.in_ok-part.part c.args.ops.now done op ms
+          c.loop-done.sent.items c.act.new.sent.items here c.index-ops-done.is c.in_ok-part.ensures.part
+          c.in_ok-part.ensures.sent (since ms h);
     }

@@ -4,13 +4,18 @@ use Rattle.rq_queue.proofs.Cases.{goes_well, arrivals_rise, redone_part, sent_mo
 use Rattle.rq_queue.proofs.redoing.redo.Goals as goal
 
 pub redo_in_order-requires-clause-well : goal.redo_in_order-requires-clause-well
-redo_in_order-requires-clause-well c = goes_well c.redo_goes_well.ensures.well c.requires.0 c.requires.1 c.requires.2 c.args.part c.args.ops.now c.args.arrivals.items c.requires.3
+redo_in_order-requires-clause-well c =
+    goes_well c.redo_goes_well.ensures.well c.requires.0 c.requires.1 c.requires.2 c.args.part c.args.ops.now
+    c.args.arrivals.items c.requires.3
 
 pub redo_in_order-requires-clause-rising : goal.redo_in_order-requires-clause-rising
-redo_in_order-requires-clause-rising c = subst AreRising (sym c.requires.3.are_arrivals) (arrivals_rise c.requires.1 c.requires.2 c.args.part.queue)
+redo_in_order-requires-clause-rising c =
+    subst AreRising (sym c.requires.3.are_arrivals) (arrivals_rise c.requires.1 c.requires.2 c.args.part.queue)
 
 pub returns-clause-part : goal.returns-clause-part
-returns-clause-part c = λ version s rs k. c.in_ok-redone.ensures.part ∙ redone_part c.projection.ensures version s rs c.args.part c.args.ops.now c.args.arrivals.items k
+returns-clause-part c = λ version s rs k. c.in_ok-redone.ensures.part
+    ∙ redone_part c.projection.ensures version s rs c.args.part c.args.ops.now c.args.arrivals.items k
 
 pub returns-clause-moves : goal.returns-clause-moves
-returns-clause-moves c = λ version s rs k. c.in_ok-redone.ensures.sent ∙ sent_moves c.projection.ensures version s rs c.args.part c.args.ops.now c.args.arrivals.items k
+returns-clause-moves c = λ version s rs k. c.in_ok-redone.ensures.sent
+    ∙ sent_moves c.projection.ensures version s rs c.args.part c.args.ops.now c.args.arrivals.items k

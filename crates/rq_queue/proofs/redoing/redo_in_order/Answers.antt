@@ -13,41 +13,61 @@ pub catch_up-requires-clause-well : goal.catch_up-requires-clause-well
 catch_up-requires-clause-well c =
     let m = c.in-Some.arrival in
     let left = reverse c.pop.new.self.items in
-    let back : reverse c.loop-arrival.coming.items ≡ m ∷ left = popped c.loop-arrival.coming.items c.pop.new.self.items m c.in-Some.ensures.items in
+    let back : reverse c.loop-arrival.coming.items ≡ m ∷ left =
+    popped c.loop-arrival.coming.items c.pop.new.self.items m c.in-Some.ensures.items in
     let since : AllByRecursion (λ n. c.place.result ≤ n.place) (m ∷ left)
-    = (omega arith, each_weaker (λ n. m.place ≤ n.place) (λ n. c.place.result ≤ n.place) (λ n h. omega arith) left (subst AreRising back c.loop-arrival.invariant.rising).0) in
+    = (
+      omega arith,
+      each_weaker (λ n. m.place ≤ n.place) (λ n. c.place.result ≤ n.place) (λ n h. omega arith) left
+          (subst AreRising back c.loop-arrival.invariant.rising).0,
+    ) in
     let well : GoesWell c.loop-arrival.part (drop c.loop-arrival.done c.args.ops.now) (m ∷ left)
-    = subst (GoesWell c.loop-arrival.part (drop c.loop-arrival.done c.args.ops.now)) back c.loop-arrival.invariant.well in
+    = subst (GoesWell c.loop-arrival.part (drop c.loop-arrival.done c.args.ops.now)) back
+    c.loop-arrival.invariant.well in
     (m ∷ left, since, well)
 
 pub receive-requires : goal.receive-requires
 receive-requires c =
     let m = c.in-Some.arrival in
     let left = reverse c.pop.new.self.items in
-    let back : reverse c.loop-arrival.coming.items ≡ m ∷ left = popped c.loop-arrival.coming.items c.pop.new.self.items m c.in-Some.ensures.items in
+    let back : reverse c.loop-arrival.coming.items ≡ m ∷ left =
+    popped c.loop-arrival.coming.items c.pop.new.self.items m c.in-Some.ensures.items in
     let since : AllByRecursion (λ n. c.place.result ≤ n.place) (m ∷ left)
-    = (omega arith, each_weaker (λ n. m.place ≤ n.place) (λ n. c.place.result ≤ n.place) (λ n h. omega arith) left (subst AreRising back c.loop-arrival.invariant.rising).0) in
+    = (
+      omega arith,
+      each_weaker (λ n. m.place ≤ n.place) (λ n. c.place.result ≤ n.place) (λ n h. omega arith) left
+          (subst AreRising back c.loop-arrival.invariant.rising).0,
+    ) in
     let well : GoesWell c.loop-arrival.part (drop c.loop-arrival.done c.args.ops.now) (m ∷ left)
-    = subst (GoesWell c.loop-arrival.part (drop c.loop-arrival.done c.args.ops.now)) back c.loop-arrival.invariant.well in
+    = subst (GoesWell c.loop-arrival.part (drop c.loop-arrival.done c.args.ops.now)) back
+    c.loop-arrival.invariant.well in
     let rest_ops = drop c.in_ok-caught.next c.args.ops.now in
     let stops : (op : Op) (ops : List Op) → rest_ops ≡ op ∷ ops → m.place < op.place
     = λ op ops e. let s : c.place.result < op.place = c.in_ok-caught.ensures.stops op ops e in omega arith in
-    let then = arrived_well c.redo_goes_well.ensures.steps c.in_ok-caught.caught rest_ops m left stops (c.in_ok-caught.ensures.well (m ∷ left) since well) in
+    let then = arrived_well c.redo_goes_well.ensures.steps c.in_ok-caught.caught rest_ops m left stops
+    (c.in_ok-caught.ensures.well (m ∷ left) since well) in
     record { new = then.0 }
 
 pub loop-arrival-preserved : goal.loop-arrival-preserved
 loop-arrival-preserved c =
     let m = c.in-Some.arrival in
     let left = reverse c.pop.new.self.items in
-    let back : reverse c.loop-arrival.coming.items ≡ m ∷ left = popped c.loop-arrival.coming.items c.pop.new.self.items m c.in-Some.ensures.items in
+    let back : reverse c.loop-arrival.coming.items ≡ m ∷ left =
+    popped c.loop-arrival.coming.items c.pop.new.self.items m c.in-Some.ensures.items in
     let since : AllByRecursion (λ n. c.place.result ≤ n.place) (m ∷ left)
-    = (omega arith, each_weaker (λ n. m.place ≤ n.place) (λ n. c.place.result ≤ n.place) (λ n h. omega arith) left (subst AreRising back c.loop-arrival.invariant.rising).0) in
+    = (
+      omega arith,
+      each_weaker (λ n. m.place ≤ n.place) (λ n. c.place.result ≤ n.place) (λ n h. omega arith) left
+          (subst AreRising back c.loop-arrival.invariant.rising).0,
+    ) in
     let well : GoesWell c.loop-arrival.part (drop c.loop-arrival.done c.args.ops.now) (m ∷ left)
-    = subst (GoesWell c.loop-arrival.part (drop c.loop-arrival.done c.args.ops.now)) back c.loop-arrival.invariant.well in
+    = subst (GoesWell c.loop-arrival.part (drop c.loop-arrival.done c.args.ops.now)) back
+    c.loop-arrival.invariant.well in
     let rest_ops = drop c.in_ok-caught.next c.args.ops.now in
     let stops : (op : Op) (ops : List Op) → rest_ops ≡ op ∷ ops → m.place < op.place
     = λ op ops e. let s : c.place.result < op.place = c.in_ok-caught.ensures.stops op ops e in omega arith in
-    let then = arrived_well c.redo_goes_well.ensures.steps c.in_ok-caught.caught rest_ops m left stops (c.in_ok-caught.ensures.well (m ∷ left) since well) in
+    let then = arrived_well c.redo_goes_well.ensures.steps c.in_ok-caught.caught rest_ops m left stops
+    (c.in_ok-caught.ensures.well (m ∷ left) since well) in
     record {
       bound = c.in_ok-caught.ensures.bound;
       rising = (subst AreRising back c.loop-arrival.invariant.rising).1;
@@ -58,8 +78,10 @@ loop-arrival-preserved c =
           ∙ ((arrived c.redo_steps.ensures c.in_ok-caught.caught rest_ops m left stops).0
           ∙ ap (λ (q : Part). redone q rest_ops left) (sym c.in_ok-part.ensures.part))));
       sent = c.loop-arrival.invariant.sent
-          ∙ (ap (λ (ms : List Move). c.loop-arrival.sent.items ++ all_sent c.loop-arrival.part (drop c.loop-arrival.done c.args.ops.now) ms) back
+          ∙ (ap (λ (ms : List Move). c.loop-arrival.sent.items
+          ++ all_sent c.loop-arrival.part (drop c.loop-arrival.done c.args.ops.now) ms) back
           ∙ (c.in_ok-caught.ensures.sent (m ∷ left) since
-          ∙ ap (λ (x : List Move). c.catch_up.new.sent.items ++ x) ((arrived c.redo_steps.ensures c.in_ok-caught.caught rest_ops m left stops).1
+          ∙ ap (λ (x : List Move). c.catch_up.new.sent.items ++ x)
+          ((arrived c.redo_steps.ensures c.in_ok-caught.caught rest_ops m left stops).1
           ∙ ap (λ (q : Part). all_sent q rest_ops left) (sym c.in_ok-part.ensures.part))));
     }

@@ -12,6 +12,8 @@ invariant-loop-arrival l = record {
   bound : l.done ≤ length l.ops;
   rising : AreRising (reverse l.coming.items);
   well : GoesWell l.part (drop l.done l.ops) (reverse l.coming.items);
-  redone : redo_words.redone l.fn.part l.ops l.fn.arrivals.items ≡ redo_words.redone l.part (drop l.done l.ops) (reverse l.coming.items);
-  sent : redo_words.all_sent l.fn.part l.ops l.fn.arrivals.items ≡ l.sent.items ++ redo_words.all_sent l.part (drop l.done l.ops) (reverse l.coming.items);
+  redone : redo_words.redone l.fn.part l.ops l.fn.arrivals.items
+      ≡ redo_words.redone l.part (drop l.done l.ops) (reverse l.coming.items);
+  sent : redo_words.all_sent l.fn.part l.ops l.fn.arrivals.items
+      ≡ l.sent.items ++ redo_words.all_sent l.part (drop l.done l.ops) (reverse l.coming.items);
 }

@@ -14,10 +14,13 @@ loop-n-preserved c =
     let here : i < length notes = omega (arith, c.loop-n-test.true) in
     ap (map (told unit (drop (i + 1) notes))) c.in_ok-now.ensures.done
     ∙ (told_more unit n (drop (i + 1) notes) c.loop-n.now
-    ∙ (ap (λ (ns : List Note). map (told unit ns) c.loop-n.now) (ap (λ (m : Note). m ∷ drop (i + 1) notes) c.n-item.is ∙ sym (drop_more notes i n here)) ∙ c.loop-n.invariant))
+    ∙ (ap (λ (ns : List Note). map (told unit ns) c.loop-n.now)
+    (ap (λ (m : Note). m ∷ drop (i + 1) notes) c.n-item.is ∙ sym (drop_more notes i n here)) ∙ c.loop-n.invariant))
 
 pub returns-clause-done : goal.returns-clause-done
 returns-clause-done c =
     let i = c.loop-n.n-index in
     let notes = c.args.notes.now in
-    sym (told_none c.args.unit.0 c.loop-n.now) ∙ (ap (λ (ns : List Note). map (told c.args.unit.0 ns) c.loop-n.now) (sym (drop_all i notes (omega (arith, c.loop-n-test.false)))) ∙ c.loop-n.invariant)
+    sym (told_none c.args.unit.0 c.loop-n.now)
+    ∙ (ap (λ (ns : List Note). map (told c.args.unit.0 ns) c.loop-n.now)
+    (sym (drop_all i notes (omega (arith, c.loop-n-test.false)))) ∙ c.loop-n.invariant)

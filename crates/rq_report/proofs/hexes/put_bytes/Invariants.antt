@@ -5,7 +5,8 @@ use Rattle.rq_report.proofs.hexes.put_bytes.Given as goal
 
 -- the digits so far, and those of the rest, are the digits of all
 abbrev pub invariant-loop-rest : goal.invariant-loop-rest
-invariant-loop-rest l = string_bytes l.text ++ flat_map hex_of l.rest ≡ string_bytes l.fn.text ++ flat_map hex_of l.bytes
+invariant-loop-rest l = string_bytes l.text ++ flat_map hex_of l.rest
+    ≡ string_bytes l.fn.text ++ flat_map hex_of l.bytes
 
 abbrev pub decreases-loop-rest : goal.decreases-loop-rest
 decreases-loop-rest l = length l.rest

@@ -5,8 +5,10 @@ use Rattle.rq_report.proofs.hexes.put_through.Goals as goal
 
 pub unreachable-requires-in_default-from_utf8 : goal.unreachable-requires-in_default-from_utf8
 unreachable-requires-in_default-from_utf8 c =
-    absurd (c.in_default-from_utf8.ensures.cases.0 (rw (c.in-Ok.ensures.written) (IsUtf8-from_ascii _ (ascii_digits c.args.bytes.now))))
+    absurd (c.in_default-from_utf8.ensures.cases.0
+    (rw (c.in-Ok.ensures.written) (IsUtf8-from_ascii _ (ascii_digits c.args.bytes.now))))
 
 pub returns : goal.returns
 returns c =
-    c.in_ok-push_str.ensures.bytes ∙ ap (λ x. string_bytes c.args.text.now ++ x) (c.in-Ok-from_utf8.ensures.cases.0 ∙ c.in-Ok.ensures.written ∙ digits_are c.args.bytes.now c.type_inv.bytes)
+    c.in_ok-push_str.ensures.bytes ∙ ap (λ x. string_bytes c.args.text.now ++ x)
+    (c.in-Ok-from_utf8.ensures.cases.0 ∙ c.in-Ok.ensures.written ∙ digits_are c.args.bytes.now c.type_inv.bytes)

@@ -8,5 +8,8 @@ use Rattle.rq_report.proofs.report.put_registrants.Given as goal
 -- the lines so far, and those of the places that are left, are the lines of all places
 abbrev pub invariant-loop-place : goal.invariant-loop-place
 invariant-loop-place l =
-    (x : model.Registrant) → string_bytes l.text ++ flat_map (λ place. registrant_line (slice_index_or l.state.registrants place x)) (drop l.place-index l.place-items)
-    ≡ string_bytes l.fn.text ++ flat_map (λ place. registrant_line (slice_index_or l.state.registrants place x)) l.place-items
+    (x : model.Registrant) → string_bytes l.text
+    ++ flat_map (λ place. registrant_line (slice_index_or l.state.registrants place x))
+    (drop l.place-index l.place-items)
+    ≡ string_bytes l.fn.text ++ flat_map (λ place. registrant_line (slice_index_or l.state.registrants place x))
+    l.place-items

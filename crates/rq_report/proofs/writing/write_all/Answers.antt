@@ -10,6 +10,8 @@ loop-rest-preserved g c =
     let piece : List ℕ = take n c.loop-rest.rest.now in (
       c.in_ok-written.ensures.ok ∙ inv.0,
       inv.1 ++ piece,
-      front_grows c.args.text.now inv.1 c.loop-rest.rest.now n inv.2 ∙ ap (λ (x : List ℕ). (inv.1 ++ piece) ++ x) (sym c.split_at.ensures.back),
-      appends_more (held c.args.output.now) (held c.loop-rest.output) (held c.write.new.self) inv.1 piece inv.3 c.in_ok-written.ensures.bytes,
+      front_grows c.args.text.now inv.1 c.loop-rest.rest.now n inv.2
+          ∙ ap (λ (x : List ℕ). (inv.1 ++ piece) ++ x) (sym c.split_at.ensures.back),
+      appends_more (held c.args.output.now) (held c.loop-rest.output)
+          (held c.write.new.self) inv.1 piece inv.3 c.in_ok-written.ensures.bytes,
     )

@@ -6,7 +6,8 @@ use Rattle.rq_report.proofs.writing.write_all.Given as goal
 abbrev pub invariant-loop-rest : goal.invariant-loop-rest
 invariant-loop-rest g l =
     let held = g.W.Output.contents in
-    (g.W.Output.faults l.output ≡ g.W.Output.faults l.fn.output) × (front : List ℕ) × (l.text ≡ front ++ l.rest) × Appends (held l.fn.output) (held l.output) front
+    (g.W.Output.faults l.output ≡ g.W.Output.faults l.fn.output) × (front : List ℕ) × (l.text ≡ front ++ l.rest)
+    × Appends (held l.fn.output) (held l.output) front
 
 abbrev pub decreases-loop-rest : goal.decreases-loop-rest
 decreases-loop-rest g l = length l.rest

@@ -7,4 +7,6 @@ use Rattle.rq_report.proofs.writing.write_pieces.Given as goal
 abbrev pub invariant-loop-piece : goal.invariant-loop-piece
 invariant-loop-piece g l =
     let held = g.W.Output.contents in
-    (g.W.Output.faults l.output ≡ g.W.Output.faults l.fn.output) × (front : List ℕ) × (flat_map string_bytes l.pieces ≡ front ++ flat_map string_bytes (drop l.piece-index l.pieces)) × Appends (held l.fn.output) (held l.output) front
+    (g.W.Output.faults l.output ≡ g.W.Output.faults l.fn.output) × (front : List ℕ)
+    × (flat_map string_bytes l.pieces ≡ front ++ flat_map string_bytes (drop l.piece-index l.pieces))
+    × Appends (held l.fn.output) (held l.output) front

@@ -6,4 +6,5 @@ use Rattle.rq_restart.proofs.before.fields_before.Goals as goal
 
 pub of_ordered-requires : goal.of_ordered-requires
 of_ordered-requires g c = subst IsWellFormed (sym c.requires.fields)
-    (well_formed_at (map record_of c.args.records.now) c.args.from c.runs_are_well_formed.ensures.start c.runs_are_well_formed.ensures.runs c.requires.lawful)
+    (well_formed_at (map record_of c.args.records.now) c.args.from c.runs_are_well_formed.ensures.start
+    c.runs_are_well_formed.ensures.runs c.requires.lawful)

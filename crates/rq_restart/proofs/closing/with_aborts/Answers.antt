@@ -9,7 +9,16 @@ use Rattle.rq_restart.proofs.closing.with_aborts.Goals as goal
 pub returns-clause-records : goal.returns-clause-records
 returns-clause-records c =
     let before = map record_of c.args.records.items in
-    c.in_ok-append_aborts.ensures.records ∙ ap (λ (us : List UnitNo). before ++ map model.Abort (map unit_of us)) c.deref.ensures.value ∙ ap (λ (us : List ℕ). before ++ map model.Abort us) c.in_ok-units.ensures.units
+    c.in_ok-append_aborts.ensures.records
+    ∙ ap (λ (us : List UnitNo). before ++ map model.Abort (map unit_of us)) c.deref.ensures.value
+    ∙ ap (λ (us : List ℕ). before ++ map model.Abort us) c.in_ok-units.ensures.units
 
 pub returns-clause-count : goal.returns-clause-count
-returns-clause-count c = omega (arith, c.len.ensures, c.in_ok-units.units.ok.0, length-map c.in_ok-units.units.items unit_of, ap length c.in_ok-units.ensures.units)
+returns-clause-count c =
+    omega (
+      arith,
+      c.len.ensures,
+      c.in_ok-units.units.ok.0,
+      length-map c.in_ok-units.units.items unit_of,
+      ap length c.in_ok-units.ensures.units,
+    )

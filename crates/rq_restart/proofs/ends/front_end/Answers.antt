@@ -15,6 +15,8 @@ returns g c =
     let b = c.args.bytes.now in
     let head = c.in_ok-version.ensures.header in
     let stop = c.in_ok-why.ensures.stops version (c.new-pass.ensures b head) in
-    let front = front_is version c.frames_join.ensures.end c.one_front.ensures.stops b c.finish.new.self (why_of c.in_ok-why.why) head stop in
-    found version c.frames_join.ensures.end c.numbers_after.ensures c.runs_are_well_formed.ensures.start b stop.0 c.finish.new.self.place (why_of c.in_ok-why.why) c.in_ok-version.ensures.short head front
+    let front = front_is version c.frames_join.ensures.end c.one_front.ensures.stops b c.finish.new.self
+    (why_of c.in_ok-why.why) head stop in
+    found version c.frames_join.ensures.end c.numbers_after.ensures c.runs_are_well_formed.ensures.start b stop.0
+    c.finish.new.self.place (why_of c.in_ok-why.why) c.in_ok-version.ensures.short head front
     _ (omega (arith, stop.1.count)) refl refl refl

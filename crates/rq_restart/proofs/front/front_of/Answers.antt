@@ -7,16 +7,22 @@ use Rattle.rq_restart.specs.Readings.{AreApart}
 use Rattle.rq_restart.proofs.front.front_of.Goals as goal
 
 -- what is known of the chain's bodies
-known : (g : _) (c : goal.After-settled g) → IsKnownOfBodies (version_of c.args.version) c.args.state.now (bodies_at c.args.bytes.now c.args.found.now.spans.items) c.in_ok-known.known
+known : (g : _) (c : goal.After-settled g)
+    → IsKnownOfBodies (version_of c.args.version) c.args.state.now
+    (bodies_at c.args.bytes.now c.args.found.now.spans.items) c.in_ok-known.known
 known g c =
-    let apart = subst (λ (ss : List Span). AreApart (version_of c.args.version) (bodies_at c.args.bytes.now ss) c.in_ok-parts.parts) c.deref.ensures.value c.in_ok-parts.ensures.parts in
+    let apart = subst (λ (ss : List Span). AreApart (version_of c.args.version)
+    (bodies_at c.args.bytes.now ss) c.in_ok-parts.parts) c.deref.ensures.value c.in_ok-parts.ensures.parts in
     c.in_ok-known.ensures (bodies_at c.args.bytes.now c.args.found.now.spans.items) apart
 
 pub returns-clause-front : goal.returns-clause-front
-returns-clause-front g c = λ place chain. c.settled.ensures.front (version_of c.args.version) c.args.state.now c.args.bytes.now place chain (known g c)
+returns-clause-front g c = λ place chain. c.settled.ensures.front (version_of c.args.version) c.args.state.now
+    c.args.bytes.now place chain (known g c)
 
 pub returns-clause-bodies : goal.returns-clause-bodies
-returns-clause-bodies g c = c.settled.ensures.bodies (version_of c.args.version) c.args.state.now (bodies_at c.args.bytes.now c.args.found.now.spans.items) (known g c)
+returns-clause-bodies g c = c.settled.ensures.bodies (version_of c.args.version) c.args.state.now
+    (bodies_at c.args.bytes.now c.args.found.now.spans.items) (known g c)
 
 pub returns-clause-analysis : goal.returns-clause-analysis
-returns-clause-analysis g c = c.settled.ensures.analysis (version_of c.args.version) c.args.state.now (bodies_at c.args.bytes.now c.args.found.now.spans.items) (known g c)
+returns-clause-analysis g c = c.settled.ensures.analysis (version_of c.args.version) c.args.state.now
+    (bodies_at c.args.bytes.now c.args.found.now.spans.items) (known g c)

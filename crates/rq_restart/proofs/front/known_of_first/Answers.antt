@@ -12,16 +12,24 @@ pub returns-then-len-count-clause-known : goal.returns-then-len-count-clause-kno
 returns-then-len-count-clause-known c = λ bodies known.
     let n = c.args.count in
     let rs = map record_of c.args.known.records.items in
-    let all : take n rs ≡ rs = take_all n rs (omega (arith, c.len.ensures, c.if-len-count.true, length-map c.args.known.records.items record_of)) in
-    record { read = subst (λ (xs : List model.Record). AreRead (version_of c.args.version) (take n bodies) xs) all (read_fewer (version_of c.args.version) n bodies rs known.read); analysis = known.analysis }
+    let all : take n rs ≡ rs = take_all n rs
+    (omega (arith, c.len.ensures, c.if-len-count.true, length-map c.args.known.records.items record_of)) in
+    record {
+      read = subst (λ (xs : List model.Record). AreRead (version_of c.args.version) (take n bodies) xs) all
+          (read_fewer (version_of c.args.version) n bodies rs known.read);
+      analysis = known.analysis;
+    }
 
 pub returns-clause-known : goal.returns-clause-known
 returns-clause-known c = λ bodies known.
     let n = c.args.count in
     let s = c.args.state.now in
     let all = c.args.known.records.items in
-    let first : take n (map record_of all) ≡ map record_of c.truncate.new.self.items = take-map record_of n all ∙ ap (map record_of) (sym c.truncate.ensures.items) in
+    let first : take n (map record_of all) ≡ map record_of c.truncate.new.self.items =
+    take-map record_of n all ∙ ap (map record_of) (sym c.truncate.ensures.items) in
     record {
-      read = subst (λ (xs : List model.Record). AreRead (version_of c.args.version) (take n bodies) xs) first (read_fewer (version_of c.args.version) n bodies (map record_of all) known.read);
-      analysis = subst (λ (xs : List Record). IsAnalysis (version_of c.args.version) s (map record_of xs) c.in_ok-analysis.analysis) c.deref.ensures.value c.in_ok-analysis.ensures.analysis;
+      read = subst (λ (xs : List model.Record). AreRead (version_of c.args.version) (take n bodies) xs) first
+          (read_fewer (version_of c.args.version) n bodies (map record_of all) known.read);
+      analysis = subst (λ (xs : List Record). IsAnalysis (version_of c.args.version) s
+          (map record_of xs) c.in_ok-analysis.analysis) c.deref.ensures.value c.in_ok-analysis.ensures.analysis;
     }

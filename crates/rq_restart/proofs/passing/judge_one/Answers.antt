@@ -11,12 +11,24 @@ use Rattle.rq_restart.proofs.passing.judge_one.Goals.{then-is_lawful, else-is_la
 pub returns-after-is_lawful-clause-verdict : goal.returns-after-is_lawful-clause-verdict
 returns-after-is_lawful-clause-verdict c = λ version s stands.
     let r = record_of c.in-Ok.record in
-    let spells : Spells version r c.args.body.now = subst (λ (v : records.Version). Spells v r c.args.body.now) (c.version.ensures version s stands) c.in-Ok.ensures.decodes in
+    let spells : Spells version r c.args.body.now =
+    subst (λ (v : records.Version). Spells v r c.args.body.now)
+    (c.version.ensures version s stands) c.in-Ok.ensures.decodes in
     let is = c.in_ok-is_lawful-in-Ok.ensures.lawful version s stands in
     let there = c.in_ok-is_lawful-in-Ok.ensures.stands version s stands in
     elim c.if-is_lawful.branch [
-      | then-is_lawful w ↦ subst (IsVerdict version s c.args.body.now c.take.new.self) (sym w.result-is)
-          (r, spells, sym is ∙ w.if-is_lawful.true, subst (λ (b : Bool). StandsIn version c.take.new.self (if b then step s r else s)) w.if-is_lawful.true there)
-      | else-is_lawful w ↦ subst (IsVerdict version s c.args.body.now c.take.new.self) (sym w.result-is)
-          (subst (λ (b : Bool). StandsIn version c.take.new.self (if b then step s r else s)) w.if-is_lawful.false there, r, spells, sym is ∙ w.if-is_lawful.false)
+      | then-is_lawful w ↦ subst (IsVerdict version s c.args.body.now c.take.new.self) (sym w.result-is) (
+        r,
+        spells,
+        sym is ∙ w.if-is_lawful.true,
+        subst (λ (b : Bool). StandsIn version c.take.new.self (if b then step s r else s)) w.if-is_lawful.true
+            there,
+      )
+      | else-is_lawful w ↦ subst (IsVerdict version s c.args.body.now c.take.new.self) (sym w.result-is) (
+        subst (λ (b : Bool). StandsIn version c.take.new.self (if b then step s r else s)) w.if-is_lawful.false
+            there,
+        r,
+        spells,
+        sym is ∙ w.if-is_lawful.false,
+      )
     ]

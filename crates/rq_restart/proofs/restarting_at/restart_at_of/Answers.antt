@@ -15,4 +15,6 @@ pub returns : goal.returns
 returns g c =
     let begun = c.in_ok-begun.ensures in
     let front = c.in_ok-front.front in
-    restarts_at c.args.bytes.now c.args.offset c.in_ok-begun.begun (map record_of front.records.items) front.end (why_of front.why) begun (c.in_ok-front.ensures.front c.args.offset begun.chain) c.close.result c.close.ensures.answer c.close.ensures.refused
+    restarts_at c.args.bytes.now c.args.offset c.in_ok-begun.begun (map record_of front.records.items) front.end
+    (why_of front.why) begun (c.in_ok-front.ensures.front c.args.offset begun.chain) c.close.result
+    c.close.ensures.answer c.close.ensures.refused

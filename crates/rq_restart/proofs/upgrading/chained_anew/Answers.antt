@@ -12,7 +12,8 @@ begun : (c : In_ok-header_of) → c.header_of.new.out.items ≡ header Two
 begun c = c.in_ok-header_of.ensures ∙ ap (λ (z : List ℕ). z ++ header Two) c.in_ok-out.ensures.items
 
 next : (c : In-loop) → IsNext c.args.bytes.now c.loop.at (c.args.count - (c.loop.counter + 1))
-next c = next_at c.args.bytes.now c.loop.at (c.args.count - c.loop.counter) (c.args.count - (c.loop.counter + 1)) (omega (arith, c.loop-test.true)) c.loop.invariant.chained.stand
+next c = next_at c.args.bytes.now c.loop.at (c.args.count - c.loop.counter) (c.args.count - (c.loop.counter + 1))
+    (omega (arith, c.loop-test.true)) c.loop.invariant.chained.stand
 
 pub loop-init : goal.loop-init
 loop-init c =
@@ -54,8 +55,10 @@ loop-preserved c =
     let is = framed old new last body c.in_ok-append_next.ensures.bytes in
     record {
       some = is.long;
-      chained = one_chained b c.loop.at left more (c.loop.at + (36 + length body)) old last whole body new (before (length new) new)
-          (omega (arith, c.loop-test.true)) c.loop.invariant.chained c.body_at-body.ensures refl c.in_ok-append_next.ensures.bytes is.last;
+      chained = one_chained b c.loop.at left more (c.loop.at + (36 + length body)) old last whole body new
+          (before (length new) new)
+          (omega (arith, c.loop-test.true)) c.loop.invariant.chained c.body_at-body.ensures refl
+          c.in_ok-append_next.ensures.bytes is.last;
     }
 
 pub returns-clause-chained : goal.returns-clause-chained
@@ -63,4 +66,5 @@ returns-clause-chained c =
     let b = c.args.bytes.now in
     let out = c.loop.out.items in
     let whole = header Two ++ frames (start Two) (bodies_in c.args.count (drop 40 b)) in
-    all_chained b c.loop.at (c.args.count - c.loop.counter) out (before (length out) out) whole (omega (arith, c.loop-test.false)) c.loop.invariant.chained
+    all_chained b c.loop.at (c.args.count - c.loop.counter) out (before (length out) out) whole
+    (omega (arith, c.loop-test.false)) c.loop.invariant.chained

@@ -8,5 +8,6 @@ use Rattle.rq_restart.proofs.upgrading.chained_anew.Given as goal
 abbrev pub invariant-loop : goal.invariant-loop
 invariant-loop l = record {
   some : 32 ≤ length l.out.items;
-  chained : IsRechained l.bytes l.at (l.count - l.counter) l.out.items (before (length l.out.items) l.out.items) (header Two ++ frames (start Two) (bodies_in l.count (drop 40 l.bytes)));
+  chained : IsRechained l.bytes l.at (l.count - l.counter) l.out.items (before (length l.out.items) l.out.items)
+      (header Two ++ frames (start Two) (bodies_in l.count (drop 40 l.bytes)));
 }

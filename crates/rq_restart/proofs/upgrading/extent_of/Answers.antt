@@ -11,4 +11,5 @@ returns-clause-extent g c =
     let is = c.in_ok-version.ensures in
     let rs = map record_of front.records.items in
     let count : c.len.result ≡ length rs = omega (arith, c.len.ensures, length-map front.records.items record_of) in
-    is_extent (version_of c.in_ok-version.version) c.frames_join.ensures.end c.args.bytes.now rs _ (why_of front.why) refl is.short is.header is.front count
+    is_extent (version_of c.in_ok-version.version) c.frames_join.ensures.end c.args.bytes.now rs _
+    (why_of front.why) refl is.short is.header is.front count

@@ -4,4 +4,6 @@ use Rattle.rq_model.specs.States as model
 use Rattle.rq_state.proofs.copies.registrants_copied.Given as goal
 
 abbrev pub invariant-loop-place : goal.invariant-loop-place
-invariant-loop-place l = (x : model.Registrant) → l.copies.items ++ map (λ place. slice_index_or l.state.registrants place x) (drop l.place-index l.places) ≡ map (λ place. slice_index_or l.state.registrants place x) l.places
+invariant-loop-place l = (x : model.Registrant)
+    → l.copies.items ++ map (λ place. slice_index_or l.state.registrants place x) (drop l.place-index l.places)
+    ≡ map (λ place. slice_index_or l.state.registrants place x) l.places

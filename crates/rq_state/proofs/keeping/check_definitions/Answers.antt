@@ -17,14 +17,18 @@ returns-in_err-kept c =
     let p = err_from_is_err_and c.from_residual.result c.from_residual.ensures.1 in
     let s = state_of c.args.fields.now in
     let told = rw c.deref.ensures.value at c.are_definitions.ensures in
-    rw (p.1, p.2) (tells_not (IsTrue c.are_definitions.result) (KeepsDefinitions (version_of c.args.version) s) c.in_err-kept.field-0.0 (λ k. told ∙ (definitions_tested 0 s.definitions).1 k.numbered) c.in_err-kept.ensures)
+    rw (p.1, p.2) (tells_not (IsTrue c.are_definitions.result)
+    (KeepsDefinitions (version_of c.args.version) s) c.in_err-kept.field-0.0
+    (λ k. told ∙ (definitions_tested 0 s.definitions).1 k.numbered) c.in_err-kept.ensures)
 
 pub returns-in_err-kept-2 : goal.returns-in_err-kept-2
 returns-in_err-kept-2 c =
     let p = err_from_is_err_and c.from_residual-in_err-kept-2.result c.from_residual-in_err-kept-2.ensures.1 in
     let s = state_of c.args.fields.now in
     let told = rw c.deref-2.ensures.value at c.are_deep_for.ensures in
-    rw (p.1, p.2) (tells_not (IsTrue c.are_deep_for.result) (KeepsDefinitions (version_of c.args.version) s) c.in_err-kept-2.field-0.0 (λ k. told ∙ (deep_tested (version_of c.args.version) s).1 k.deep) c.in_err-kept-2.ensures)
+    rw (p.1, p.2) (tells_not (IsTrue c.are_deep_for.result)
+    (KeepsDefinitions (version_of c.args.version) s) c.in_err-kept-2.field-0.0
+    (λ k. told ∙ (deep_tested (version_of c.args.version) s).1 k.deep) c.in_err-kept-2.ensures)
 
 pub returns : goal.returns
 returns c =
@@ -39,4 +43,5 @@ returns c =
       deep = (deep_tested (version_of c.args.version) s).0 (sym deep ∙ c.in_ok-kept-2.ensures);
       names = ordered_unmap (λ a b. bytes_eq a b ≡ false) (λ (d : Definition). d.name) s.definitions (differ.0 t);
     })
-    (λ k. differ.1 (ordered_map (λ a b. bytes_eq a b ≡ false) (λ (d : Definition). d.name) s.definitions k.names)) c.kept-3.ensures
+    (λ k. differ.1 (ordered_map (λ a b. bytes_eq a b ≡ false) (λ (d : Definition). d.name) s.definitions k.names))
+    c.kept-3.ensures

@@ -12,4 +12,5 @@ returns c =
     let rise = rw c.deref.ensures.value at (c.do_elements_rise.ensures.0 c.in_ok-kept.ensures) in
     let tested = elements_tested (state_of f) f.elements.items in
     tells_from (IsTrue c.are_elements.result) (KeepsElements (state_of f)) c.kept-2.result
-    (λ t. record { elements = tested.0 (sym c.are_elements.ensures ∙ t); elements_rise = rise }) (λ k. c.are_elements.ensures ∙ tested.1 k.elements) c.kept-2.ensures
+    (λ t. record { elements = tested.0 (sym c.are_elements.ensures ∙ t); elements_rise = rise })
+    (λ k. c.are_elements.ensures ∙ tested.1 k.elements) c.kept-2.ensures

@@ -12,4 +12,5 @@ returns c =
     let rise = rw c.deref.ensures.value at (c.do_registrants_rise.ensures.0 c.in_ok-kept.ensures) in
     let tested = registrants_tested (state_of f) f.registrants.items in
     tells_from (IsTrue c.are_registrants.result) (KeepsRegistrants (state_of f)) c.kept-2.result
-    (λ t. record { registrants = tested.0 (sym c.are_registrants.ensures ∙ t); registrants_rise = rise }) (λ k. c.are_registrants.ensures ∙ tested.1 k.registrants) c.kept-2.ensures
+    (λ t. record { registrants = tested.0 (sym c.are_registrants.ensures ∙ t); registrants_rise = rise })
+    (λ k. c.are_registrants.ensures ∙ tested.1 k.registrants) c.kept-2.ensures

@@ -14,7 +14,9 @@ use Rattle.rq_state.proofs.keeping.check_units.Goals as goal
 pub returns : goal.returns
 returns c =
     let f = c.args.fields.now in
-    let told : c.are_units.result ≡ list_all (unit_test f.greatest) (map unit_of f.units.items) = c.are_units.ensures ∙ sym (list_all-map (unit_test f.greatest) unit_of c.deref-2.result.now) ∙ ap (λ (us : List UnitNo). list_all (unit_test f.greatest) (map unit_of us)) c.deref-2.ensures.value in
+    let told : c.are_units.result ≡ list_all (unit_test f.greatest) (map unit_of f.units.items) =
+    c.are_units.ensures ∙ sym (list_all-map (unit_test f.greatest) unit_of c.deref-2.result.now)
+    ∙ ap (λ (us : List UnitNo). list_all (unit_test f.greatest) (map unit_of us)) c.deref-2.ensures.value in
     let rise = rw c.deref.ensures.value at (c.do_units_rise.ensures.0 c.in_ok-kept.ensures) in
     let tested = units_tested f.greatest (map unit_of f.units.items) in
     tells_from (IsTrue c.are_units.result) (KeepsUnits (state_of f)) c.kept-2.result

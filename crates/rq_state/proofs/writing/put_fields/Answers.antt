@@ -13,9 +13,17 @@ put_members-requires c = are_few (state_of c.args.fields.now) c.requires.well_fo
 pub returns : goal.returns
 returns c =
     let s = state_of c.args.fields.now in
-    let defined : c.put_definitions.new.out.items ≡ c.put_numbers.new.out.items ++ counted definition_bytes s.definitions = c.in_ok-put_definitions.ensures ∙ ap (λ ds. c.put_numbers.new.out.items ++ counted definition_bytes ds) c.deref.ensures.value in
-    let open_units : c.put_units.new.out.items ≡ c.put_definitions.new.out.items ++ counted (to_be_bytes w64) s.units = c.in_ok-put_units.ensures ∙ ap (λ us. c.put_definitions.new.out.items ++ counted (to_be_bytes w64) (map unit_of us)) c.deref-2.ensures.value in
-    joined_all c.args.out.now.items c.put_numbers.new.out.items c.put_definitions.new.out.items c.put_units.new.out.items c.put_members.new.out.items
+    let defined : c.put_definitions.new.out.items
+    ≡ c.put_numbers.new.out.items ++ counted definition_bytes s.definitions =
+    c.in_ok-put_definitions.ensures ∙ ap (λ ds. c.put_numbers.new.out.items ++ counted definition_bytes ds)
+    c.deref.ensures.value in
+    let open_units : c.put_units.new.out.items ≡ c.put_definitions.new.out.items ++ counted (to_be_bytes w64) s.units =
+    c.in_ok-put_units.ensures
+    ∙ ap (λ us. c.put_definitions.new.out.items ++ counted (to_be_bytes w64) (map unit_of us))
+    c.deref-2.ensures.value in
+    joined_all c.args.out.now.items c.put_numbers.new.out.items c.put_definitions.new.out.items
+    c.put_units.new.out.items c.put_members.new.out.items
     (to_be_bytes w64 s.next) (to_be_bytes w64 s.greatest) (to_be_bytes w64 s.committed) (to_be_bytes w64 s.aborted)
-    (counted definition_bytes s.definitions) (counted (to_be_bytes w64) s.units) (counted registrant_bytes s.registrants ++ (counted element_bytes s.elements ++ counted note_bytes s.notes))
+    (counted definition_bytes s.definitions) (counted (to_be_bytes w64) s.units)
+    (counted registrant_bytes s.registrants ++ (counted element_bytes s.elements ++ counted note_bytes s.notes))
     c.put_members.result c.in_ok-put_numbers.ensures defined open_units c.put_members.ensures

@@ -5,4 +5,5 @@ use Rattle.rq_model.specs.States as model
 use Rattle.rq_steps.proofs.elements.all_freed.Given as goal
 
 abbrev pub invariant-loop-e : goal.invariant-loop-e
-invariant-loop-e l = l.e-items ≡ map (λ e. if model.is_fresh l.unit.0 e.mark then machine.marked model.Free e else e) (take l.e-index l.fn.elements.items) ++ drop l.e-index l.fn.elements.items
+invariant-loop-e l = l.e-items ≡ map (λ e. if model.is_fresh l.unit.0 e.mark then machine.marked model.Free e else e)
+    (take l.e-index l.fn.elements.items) ++ drop l.e-index l.fn.elements.items

@@ -8,11 +8,14 @@ pub returns-in_default : goal.returns-in_default
 returns-in_default c =
     first_place c.args.queue.0 c.args.elements.now c.args.place c.requires.there
     (ap (is_free_at c.args.queue.0) (sym c.at-new.ensures) ∙ (sym c.is_free_at.ensures ∙ c.if-not-is_free_at.false))
-    (subst (IsBestAmong c.args.queue.0 c.args.elements.now (take c.args.place c.args.elements.now)) c.in_default.is c.requires.best)
+    (subst (IsBestAmong c.args.queue.0 c.args.elements.now (take c.args.place c.args.elements.now)) c.in_default.is
+    c.requires.best)
 
 pub returns : goal.returns
 returns c =
     better_place c.args.queue.0 c.args.elements.now c.args.place c.in-Some.old c.requires.there
     (ap (is_free_at c.args.queue.0) (sym c.at-new.ensures) ∙ (sym c.is_free_at.ensures ∙ c.if-not-is_free_at.false))
-    ((λ i. comes_first (sym c.at.ensures i) (sym c.at-new.ensures i)) ∙ (sym c.comes_first.ensures ∙ c.if-comes_first.false))
-    (subst (IsBestAmong c.args.queue.0 c.args.elements.now (take c.args.place c.args.elements.now)) c.in-Some.is c.requires.best)
+    ((λ i. comes_first (sym c.at.ensures i) (sym c.at-new.ensures i))
+    ∙ (sym c.comes_first.ensures ∙ c.if-comes_first.false))
+    (subst (IsBestAmong c.args.queue.0 c.args.elements.now (take c.args.place c.args.elements.now)) c.in-Some.is
+    c.requires.best)

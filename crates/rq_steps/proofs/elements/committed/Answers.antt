@@ -7,5 +7,8 @@ use Rattle.rq_steps.proofs.elements.committed.Goals as goal
 
 pub returns : goal.returns
 returns c =
-    let kept : c.retain.new.self.items ≡ filter (λ (e : model.Element). not (model.is_held c.args.unit.0 e.mark)) c.args.elements.items = filter_same _ _ _ (λ x b f' k. search rules) _ _ c.retain.ensures.filtered in
-    c.all_freed.ensures ∙ ap (map (λ (e : model.Element). if model.is_fresh c.args.unit.0 e.mark then machine.marked model.Free e else e)) kept
+    let kept : c.retain.new.self.items ≡ filter (λ (e : model.Element). not (model.is_held c.args.unit.0 e.mark))
+    c.args.elements.items = filter_same _ _ _ (λ x b f' k. search rules) _ _ c.retain.ensures.filtered in
+    c.all_freed.ensures
+    ∙ ap (map (λ (e : model.Element). if model.is_fresh c.args.unit.0 e.mark then machine.marked model.Free e else
+    e)) kept

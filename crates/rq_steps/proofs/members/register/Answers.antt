@@ -14,7 +14,8 @@ returns-in-Ok-clause-registered c =
     let name = c.args.name.now in
     let up = subst (Ordered (λ a b. registrant_before a b ≡ true)) (sym c.deref.ensures.value) c.requires in
     subst (λ (rs : List Registrant). rs ≡ registered q name rs) c.deref.ensures.value
-    (still_registered q name c.deref.result.now c.in-Ok.field-0 c.in-Ok.ensures.bound (c.in-Ok.ensures.position key_of (answers_always _ _ _ (λ f a r g h. search rules))) up)
+    (still_registered q name c.deref.result.now c.in-Ok.field-0 c.in-Ok.ensures.bound
+    (c.in-Ok.ensures.position key_of (answers_always _ _ _ (λ f a r g h. search rules))) up)
 
 pub returns-in_ok-insert-in-Err-clause-registered :
     goal.returns-in_ok-insert-in-Err-clause-registered
@@ -24,5 +25,7 @@ returns-in_ok-insert-in-Err-clause-registered c =
     let place = c.in-Err.place in
     let up = subst (Ordered (λ a b. registrant_before a b ≡ true)) (sym c.deref.ensures.value) c.requires in
     c.in_ok-insert-in-Err.ensures.items
-    ∙ subst (λ (rs : List Registrant). insert rs place (record { queue = q; name = name; last = None }) ≡ registered q name rs) c.deref.ensures.value
-    (newly_registered q name c.deref.result.now place c.in-Err.ensures.bound (c.in-Err.ensures.position key_of (answers_always _ _ _ (λ f a r g h. search rules))) up)
+    ∙ subst (λ (rs : List Registrant). insert rs place (record { queue = q; name = name; last = None })
+    ≡ registered q name rs) c.deref.ensures.value
+    (newly_registered q name c.deref.result.now place c.in-Err.ensures.bound
+    (c.in-Err.ensures.position key_of (answers_always _ _ _ (λ f a r g h. search rules))) up)

@@ -24,18 +24,27 @@ loop-note-preserved c =
     let rs = c.loop-note.registrants.items in
     let here : i < length notes = omega (arith, c.loop-note-test.true) in
     let on : map (told unit (n ∷ rest)) rs ≡ map (told unit notes) c.args.registrants.now.items
-    = ap (λ (ns : List Note). map (told unit ns) rs) (ap (λ (m : Note). m ∷ rest) c.note-item.is ∙ sym (drop_more notes i n here)) ∙ c.loop-note.invariant.0 in
+    = ap (λ (ns : List Note). map (told unit ns) rs)
+    (ap (λ (m : Note). m ∷ rest) c.note-item.is ∙ sym (drop_more notes i n here)) ∙ c.loop-note.invariant.0 in
     elim c.if-is_by.branch [
       | then-is_by w ↦
-          let now : c.if-is_by.registrants.items ≡ map (heard_of n) rs = ap (λ v. v.items) w.registrants-is ∙ w.hear.ensures in
-          (ap (map (told unit rest)) now ∙ (told_more unit n rest rs (sym c.is_by.ensures ∙ w.if-is_by.true) ∙ on), subst (Ordered (λ a b. registrant_before a b ≡ true)) (sym now) (in_order_still n rs c.loop-note.invariant.1))
+          let now : c.if-is_by.registrants.items ≡ map (heard_of n) rs =
+          ap (λ v. v.items) w.registrants-is ∙ w.hear.ensures in (
+            ap (map (told unit rest)) now ∙ (told_more unit n rest rs (sym c.is_by.ensures ∙ w.if-is_by.true) ∙ on),
+            subst (Ordered (λ a b. registrant_before a b ≡ true)) (sym now)
+                (in_order_still n rs c.loop-note.invariant.1),
+          )
       | else-is_by w ↦
-          let now : c.if-is_by.registrants.items ≡ rs = ap (λ v. v.items) w.registrants-is in
-          (ap (map (told unit rest)) now ∙ (told_same unit n rest rs (sym c.is_by.ensures ∙ w.if-is_by.false) ∙ on), subst (Ordered (λ a b. registrant_before a b ≡ true)) (sym now) c.loop-note.invariant.1)
+          let now : c.if-is_by.registrants.items ≡ rs = ap (λ v. v.items) w.registrants-is in (
+            ap (map (told unit rest)) now ∙ (told_same unit n rest rs (sym c.is_by.ensures ∙ w.if-is_by.false) ∙ on),
+            subst (Ordered (λ a b. registrant_before a b ≡ true)) (sym now) c.loop-note.invariant.1,
+          )
     ]
 
 pub returns : goal.returns
 returns c =
     let i = c.loop-note.note-index in
     let notes = c.args.notes.now in
-    sym (told_none c.args.unit.0 c.loop-note.registrants.items) ∙ (ap (λ (ns : List Note). map (told c.args.unit.0 ns) c.loop-note.registrants.items) (sym (drop_all i notes (omega (arith, c.loop-note-test.false)))) ∙ c.loop-note.invariant.0)
+    sym (told_none c.args.unit.0 c.loop-note.registrants.items)
+    ∙ (ap (λ (ns : List Note). map (told c.args.unit.0 ns) c.loop-note.registrants.items)
+    (sym (drop_all i notes (omega (arith, c.loop-note-test.false)))) ∙ c.loop-note.invariant.0)

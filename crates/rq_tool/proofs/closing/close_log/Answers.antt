@@ -10,8 +10,10 @@ returns-clause-closes g c = λ b is.
     let faults = g.O.Output.faults in
     let old = contents c.args.output.now in
     let new = contents c.write_all.new.output in
-    let wrote = subst (λ (xs : List ℕ). Delivers (faults c.args.output.now) (faults c.write_all.new.output) old new xs c.write_all.result) c.deref.ensures.value c.write_all.ensures in
-    written_closed b c.in_ok-log.log.items (faults c.args.output.now) (faults c.write_all.new.output) old new c.write_all.result (c.in_ok-log.ensures.told b is) wrote
+    let wrote = subst (λ (xs : List ℕ). Delivers (faults c.args.output.now)
+    (faults c.write_all.new.output) old new xs c.write_all.result) c.deref.ensures.value c.write_all.ensures in
+    written_closed b c.in_ok-log.log.items (faults c.args.output.now)
+    (faults c.write_all.new.output) old new c.write_all.result (c.in_ok-log.ensures.told b is) wrote
 
 pub returns-clause-quiet : goal.returns-clause-quiet
 returns-clause-quiet g c =
@@ -20,10 +22,13 @@ returns-clause-quiet g c =
     let old = contents c.args.output.now in
     let new = contents c.write_all.new.output in
     let some = c.in_ok-log.ensures.some in
-    let wrote = subst (λ (xs : List ℕ). Delivers (faults c.args.output.now) (faults c.write_all.new.output) old new xs c.write_all.result) c.deref.ensures.value c.write_all.ensures in
-    written_closed_only some.0 c.in_ok-log.log.items (faults c.args.output.now) (faults c.write_all.new.output) old new c.write_all.result some.1 wrote
+    let wrote = subst (λ (xs : List ℕ). Delivers (faults c.args.output.now)
+    (faults c.write_all.new.output) old new xs c.write_all.result) c.deref.ensures.value c.write_all.ensures in
+    written_closed_only some.0 c.in_ok-log.log.items (faults c.args.output.now)
+    (faults c.write_all.new.output) old new c.write_all.result some.1 wrote
 
 pub returns-clause-takes : goal.returns-clause-takes
 returns-clause-takes g c =
     let taken = c.in_ok-log.ensures.takes in
-    all_taken (g.I.Input.remaining c.args.input.now) (g.I.Input.remaining c.read_and_close.new.input) taken.0 c.write_all.result taken.1
+    all_taken (g.I.Input.remaining c.args.input.now)
+    (g.I.Input.remaining c.read_and_close.new.input) taken.0 c.write_all.result taken.1

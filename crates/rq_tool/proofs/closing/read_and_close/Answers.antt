@@ -18,14 +18,18 @@ returns-in_err-bytes-clause-refused g c =
 pub returns-clause-told : goal.returns-clause-told
 returns-clause-told g c = λ b is.
     let bytes = c.in_ok-bytes.bytes.items in
-    let same = same_read b bytes (g.I.Input.remaining c.args.input.now) (g.I.Input.remaining c.read_log.new.input) is c.in_ok-bytes.ensures.bytes in
-    closed_read c.closed_logs.ensures.stands b bytes c.closed.result (subst AreBytes c.deref.ensures.value c.are_bytes.ensures) same c.closed.ensures
+    let same = same_read b bytes (g.I.Input.remaining c.args.input.now)
+    (g.I.Input.remaining c.read_log.new.input) is c.in_ok-bytes.ensures.bytes in
+    closed_read c.closed_logs.ensures.stands b bytes c.closed.result
+    (subst AreBytes c.deref.ensures.value c.are_bytes.ensures) same c.closed.ensures
 
 pub returns-clause-some : goal.returns-clause-some
-returns-clause-some g c = closed_some c.closed_logs.ensures.stands c.in_ok-bytes.bytes.items c.closed.result (subst AreBytes c.deref.ensures.value c.are_bytes.ensures) c.closed.ensures
+returns-clause-some g c = closed_some c.closed_logs.ensures.stands c.in_ok-bytes.bytes.items c.closed.result
+    (subst AreBytes c.deref.ensures.value c.are_bytes.ensures) c.closed.ensures
 
 pub returns-clause-refused : goal.returns-clause-refused
 returns-clause-refused g c = closed_fault c.in_ok-bytes.bytes.items c.closed.result c.closed.ensures
 
 pub returns-clause-takes : goal.returns-clause-takes
-returns-clause-takes g c = all_taken (g.I.Input.remaining c.args.input.now) (g.I.Input.remaining c.read_log.new.input) c.in_ok-bytes.bytes.items c.closed.result c.in_ok-bytes.ensures.bytes
+returns-clause-takes g c = all_taken (g.I.Input.remaining c.args.input.now)
+    (g.I.Input.remaining c.read_log.new.input) c.in_ok-bytes.bytes.items c.closed.result c.in_ok-bytes.ensures.bytes

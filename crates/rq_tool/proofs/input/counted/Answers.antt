@@ -9,7 +9,9 @@ loop-total-preserved g c =
     record {
       faults = first_of (search rules, grind (arith, common_steps));
       count =
-          counts_on (remaining c.args.input.now) (remaining c.loop-total.input) (remaining c.read.new.self) c.args.read c.loop-total.total c.in_ok-more.more c.read.new.piece c.loop-total.invariant.count c.in_ok-more.ensures.bytes.0 c.in_ok-more.ensures.bound;
+          counts_on (remaining c.args.input.now) (remaining c.loop-total.input)
+          (remaining c.read.new.self) c.args.read c.loop-total.total c.in_ok-more.more c.read.new.piece
+          c.loop-total.invariant.count c.in_ok-more.ensures.bytes.0 c.in_ok-more.ensures.bound;
       limit = first_of (search rules, grind (arith, common_steps));
       piece = first_of (search rules, grind (arith, common_steps));
     }

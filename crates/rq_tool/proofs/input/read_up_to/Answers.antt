@@ -10,7 +10,8 @@ returns-in_err-count-clause-partly g c =
     let remaining = g.I.Input.remaining in
     let old = remaining c.args.input.now in
     let new = remaining c.read_more.new.input in
-    let some = takes_on old (remaining c.loop-input.input) new c.loop-input.invariant.some c.in_err-count.ensures.partly in
+    let some = takes_on old (remaining c.loop-input.input) new c.loop-input.invariant.some
+    c.in_err-count.ensures.partly in
     let answer : c.from_residual.result ≡ Err c.in_err-count.field-0.0 = search rules in
     subst (λ (r : Result (Unit {0}) Fault). IfErr r (λ _. TakesSome old new)) (sym answer) some
 
@@ -23,7 +24,8 @@ loop-input-preserved g c =
     let more = c.in_ok-count.ensures.bytes in
     record {
       faults = search rules;
-      read = reads_on old mid new c.args.bytes.now.items c.loop-input.bytes.items c.read_more.new.bytes.items more.0 c.loop-input.invariant.read more.1 more.3;
+      read = reads_on old mid new c.args.bytes.now.items c.loop-input.bytes.items c.read_more.new.bytes.items more.0
+          c.loop-input.invariant.read more.1 more.3;
       some = takes_on old mid new c.loop-input.invariant.some (more.0, more.3);
       limit = search rules;
       piece = search rules;

@@ -9,27 +9,48 @@ use Rattle.rq_writer.proofs.Steps.{long_log, framed_from}
 use Rattle.rq_writer.proofs.log.append.Goals as goal
 
 -- a body of either version fits into a frame
-body_fits : (r : Record) → RecordHasOneBody → ((version : Version) → HasKind version r → Spells version r (body_of r)) → IsBodyLength (length (body_of r))
+body_fits : (r : Record) → RecordHasOneBody → ((version : Version) → HasKind version r → Spells version r (body_of r))
+    → IsBodyLength (length (body_of r))
 body_fits r one spelled = (one Two r (body_of r) (body_of r) (spelled Two tt) (spelled Two tt)).1
 
 pub framed_len-requires-clause-body : goal.framed_len-requires-clause-body
 framed_len-requires-clause-body c =
-    let body = c.deref-2.ensures.value ∙ c.in_ok-encode.ensures.bytes ∙ ap (λ (l : List ℕ). l ++ body_of (record_of c.args.r.now)) c.new-body.ensures.items in
-    subst (λ (l : List ℕ). length l ≤ 268435456) (sym body) (body_fits (record_of c.args.r.now) c.one_spelling.ensures.body c.in_ok-encode.ensures.spelled).1
+    let body = c.deref-2.ensures.value ∙ c.in_ok-encode.ensures.bytes
+    ∙ ap (λ (l : List ℕ). l ++ body_of (record_of c.args.r.now)) c.new-body.ensures.items in
+    subst (λ (l : List ℕ). length l ≤ 268435456) (sym body)
+    (body_fits (record_of c.args.r.now) c.one_spelling.ensures.body c.in_ok-encode.ensures.spelled).1
 
 pub frame-requires : goal.frame-requires
 frame-requires c =
-    let body = c.deref-3.ensures.value ∙ c.in_ok-encode.ensures.bytes ∙ ap (λ (l : List ℕ). l ++ body_of (record_of c.args.r.now)) c.new-body.ensures.items in
-    subst (λ (l : List ℕ). IsBodyLength (length l)) (sym body) (body_fits (record_of c.args.r.now) c.one_spelling.ensures.body c.in_ok-encode.ensures.spelled)
+    let body = c.deref-3.ensures.value ∙ c.in_ok-encode.ensures.bytes
+    ∙ ap (λ (l : List ℕ). l ++ body_of (record_of c.args.r.now)) c.new-body.ensures.items in
+    subst (λ (l : List ℕ). IsBodyLength (length l)) (sym body)
+    (body_fits (record_of c.args.r.now) c.one_spelling.ensures.body c.in_ok-encode.ensures.spelled)
 
 pub returns-then-framed_len-gt4294967295 : goal.returns-then-framed_len-gt4294967295
 returns-then-framed_len-gt4294967295 c =
-    let body = c.deref-2.ensures.value ∙ c.in_ok-encode.ensures.bytes ∙ ap (λ (l : List ℕ). l ++ body_of (record_of c.args.r.now)) c.new-body.ensures.items in
+    let body = c.deref-2.ensures.value ∙ c.in_ok-encode.ensures.bytes
+    ∙ ap (λ (l : List ℕ). l ++ body_of (record_of c.args.r.now)) c.new-body.ensures.items in
     long_log c.args.out.now.items c.args.last.now (body_of (record_of c.args.r.now))
-    (omega (arith, c.if-framed_len-gt4294967295.true, c.framed_len.ensures, ap length c.deref.ensures.value, ap length body))
+    (omega (
+      arith,
+      c.if-framed_len-gt4294967295.true,
+      c.framed_len.ensures,
+      ap length c.deref.ensures.value,
+      ap length body,
+    ))
 
 pub returns : goal.returns
 returns c =
-    framed_from c.args.out.now.items c.frame.new.out.items c.args.last.now c.deref-3.result.now (record_of c.args.r.now) c.frame.result c.frame.ensures
-    (c.deref-3.ensures.value ∙ c.in_ok-encode.ensures.bytes ∙ ap (λ (l : List ℕ). l ++ body_of (record_of c.args.r.now)) c.new-body.ensures.items)
-    (omega (arith, c.if-framed_len-gt4294967295.false, c.framed_len.ensures, ap length c.deref.ensures.value, ap length c.deref-2.ensures.value, ap length c.deref-3.ensures.value))
+    framed_from c.args.out.now.items c.frame.new.out.items c.args.last.now c.deref-3.result.now
+    (record_of c.args.r.now) c.frame.result c.frame.ensures
+    (c.deref-3.ensures.value ∙ c.in_ok-encode.ensures.bytes
+    ∙ ap (λ (l : List ℕ). l ++ body_of (record_of c.args.r.now)) c.new-body.ensures.items)
+    (omega (
+      arith,
+      c.if-framed_len-gt4294967295.false,
+      c.framed_len.ensures,
+      ap length c.deref.ensures.value,
+      ap length c.deref-2.ensures.value,
+      ap length c.deref-3.ensures.value,
+    ))

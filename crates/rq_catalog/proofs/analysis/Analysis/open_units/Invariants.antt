@@ -7,7 +7,8 @@ use Rattle.rq_catalog.proofs.analysis.Analysis.open_units.Given as goal
 abbrev pub invariant-loop-place : goal.invariant-loop-place
 invariant-loop-place l =
     (l.place ≤ length (keys l.self.catalogue.outcomes))
-    × (map unit_of l.units.items ≡ filter (λ u. is_open_in (get nat_eq l.self.catalogue.outcomes u)) (take l.place (keys l.self.catalogue.outcomes)))
+    × (map unit_of l.units.items ≡ filter (λ u. is_open_in (get nat_eq l.self.catalogue.outcomes u))
+    (take l.place (keys l.self.catalogue.outcomes)))
 
 abbrev pub decreases-loop-place : goal.decreases-loop-place
 decreases-loop-place l = length (keys l.self.catalogue.outcomes) - l.place

@@ -15,22 +15,28 @@ pub first_wrong-requires-clause-inside : goal.first_wrong-requires-clause-inside
 first_wrong-requires-clause-inside g c κs within =
     let h = c.requires.walk.1 in
     let all = All-from_recursion (IsSpanOf c.args.bytes.now) c.args.self.found.spans.items
-    (walk_spans c.args.bytes.now c.requires.walk.0 c.args.self.found.spans.items c.args.self.found.end (omega (arith, h.after)) h.walk) in
+    (walk_spans c.args.bytes.now c.requires.walk.0 c.args.self.found.spans.items c.args.self.found.end
+    (omega (arith, h.after)) h.walk) in
     subst (All (IsSpanOf c.args.bytes.now)) (sym c.deref.ensures.value) all
 
 -- the run up to the first wrong span
-cut_found : RightIsFrame → RunStops → (b : List ℕ) (from : ℕ) (spans : List Span) (end place : ℕ) (s : Span) → IsBytes b → from ≤ length b → IsWalk b from spans end
+cut_found : RightIsFrame → RunStops → (b : List ℕ) (from : ℕ) (spans : List Span) (end place : ℕ) (s : Span) → IsBytes b
+    → from ≤ length b → IsWalk b from spans end
     → IsFirstWrong b spans place → s ≡ get_or spans place s → Found b from (take place spans) (s.start - 4) model.Digest
 cut_found law stops b from spans end place s bytes le walk first is =
-    let cut : IsCut b from spans place s = subst (IsCut b from spans place) (sym is) (walk_cut b from spans end place s walk first.within) in
+    let cut : IsCut b from spans place s =
+    subst (IsCut b from spans place) (sym is) (walk_cut b from spans end place s walk first.within) in
     let wrong : IsRight b s → ⊥ = λ right. first.wrong s (subst (IsRight b) is right) in
-    found law stops b from (take place spans) (s.start - 4) model.Digest bytes le cut.walk first.before (cut.frame, λ same. wrong (record { whole = cut.frame; right = same }))
+    found law stops b from (take place spans) (s.start - 4) model.Digest bytes le cut.walk first.before
+    (cut.frame, λ same. wrong (record { whole = cut.frame; right = same }))
 
 pub overflow_sub-found : goal.overflow_sub-found
 overflow_sub-found g c =
     let h = c.requires.walk.1 in
-    let first = subst (λ (ss : List Span). IsFirstWrong c.args.bytes.now ss c.in-Some.place) c.deref.ensures.value c.in-Some.ensures.some in
-    let cut = walk_cut c.args.bytes.now c.requires.walk.0 c.args.self.found.spans.items c.args.self.found.end c.in-Some.place c.index.result.now h.walk first.within in
+    let first = subst (λ (ss : List Span). IsFirstWrong c.args.bytes.now ss c.in-Some.place) c.deref.ensures.value
+    c.in-Some.ensures.some in
+    let cut = walk_cut c.args.bytes.now c.requires.walk.0 c.args.self.found.spans.items c.args.self.found.end
+    c.in-Some.place c.index.result.now h.walk first.within in
     let low = rw (← c.index.ensures) at cut.low in
     omega (arith, low)
 
@@ -41,9 +47,11 @@ returns-in-Some g c = λ from h.
     let place = c.in-Some.place in
     let bytes : IsBytes b = λ i. omega (arith, c.type_inv.bytes i) in
     let first = subst (λ (ss : List Span). IsFirstWrong b ss place) c.deref.ensures.value c.in-Some.ensures.some in
-    let it = cut_found c.frames_are_right.ensures.frame c.one_run.ensures.stops b from walked.spans.items walked.end place c.index.result.now bytes h.within h.walk first c.index.ensures in
+    let it = cut_found c.frames_are_right.ensures.frame c.one_run.ensures.stops b from walked.spans.items walked.end
+    place c.index.result.now bytes h.within h.walk first c.index.ensures in
     let kept : c.truncate.new.self.items ≡ take place walked.spans.items = c.truncate.ensures.items in
-    let many : length (take place walked.spans.items) ≡ place = omega (arith, first.within, length-take place walked.spans.items) in
+    let many : length (take place walked.spans.items) ≡ place =
+    omega (arith, first.within, length-take place walked.spans.items) in
     record {
       run = rw kept it.run;
       spans = rw kept it.are;
@@ -58,5 +66,13 @@ returns-in_default g c = λ from h.
     let walked = c.args.self.found in
     let bytes : IsBytes b = λ i. omega (arith, c.type_inv.bytes i) in
     let right = subst (All (IsRight b)) c.deref.ensures.value c.in_default.ensures.none in
-    let it = found c.frames_are_right.ensures.frame c.one_run.ensures.stops b from walked.spans.items walked.end (rest_of walked.rest) bytes h.within h.walk right (h.rest (model.before walked.end b)) in
-    record { run = it.run; spans = it.are; inside = it.inside; few = it.few; front = sym (take_all (length walked.spans.items) walked.spans.items (omega arith)) }
+    let it = found c.frames_are_right.ensures.frame c.one_run.ensures.stops b from walked.spans.items walked.end
+    (rest_of walked.rest) bytes h.within h.walk right (h.rest (model.before walked.end b)) in
+    record {
+      run = it.run;
+      spans = it.are;
+      inside = it.inside;
+      few = it.few;
+      front =
+          sym (take_all (length walked.spans.items) walked.spans.items (omega arith));
+    }

@@ -6,6 +6,7 @@ pub lanes-preserved : goal.lanes-preserved
 lanes-preserved g c = (
   search rules,
   λ k words lt run below.
-      more_blocks c.args.bytes.now c.args.self.now.lanes c.args.clock c.lanes.blocks c.lanes.j c.block.result k words (omega arith)
+      more_blocks c.args.bytes.now c.args.self.now.lanes c.args.clock c.lanes.blocks c.lanes.j c.block.result k words
+      (omega arith)
       c.block.ensures (λ ws low r d. c.lanes.invariant.1 k ws low r d) lt run below,
 )

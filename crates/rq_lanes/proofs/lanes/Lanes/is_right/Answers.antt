@@ -11,6 +11,7 @@ returns g c = λ truth r late.
     let l = held c.args.self.now.lanes c.args.j in
     record {
       within = r.fills.within;
-      digest = ap (λ (p : ℕ). slice_range b p (p + 32)) (omega (arith, r.fills.within)) ∙ c.stands_at.ensures truth (omega (arith, r.fills.within)) ∙ c.digest_of-digest.ensures
+      digest = ap (λ (p : ℕ). slice_range b p (p + 32)) (omega (arith, r.fills.within))
+          ∙ c.stands_at.ensures truth (omega (arith, r.fills.within)) ∙ c.digest_of-digest.ensures
           ∙ ended b l c.args.self.now.clock (lane c.args.j c.args.self.now.hash) r late;
     }

@@ -14,4 +14,5 @@ returns g c = λ ms h free.
     let count = c.blocks_of-count.ensures (text b m) (length-text b m (omega (arith, within))) in
     let fills = c.of.ensures.fills (omega (arith, count)) in
     let run = starts b l s.clock _ fills c.of.ensures.born (omega (arith, c.of.ensures.due)) c.restart.ensures.lane in
-    placed b s ms c.restart.new.hash c.args.j l m (omega arith) free c.of.ensures.busy c.of.ensures.message run c.restart.ensures.others h
+    placed b s ms c.restart.new.hash c.args.j l m
+    (omega arith) free c.of.ensures.busy c.of.ensures.message run c.restart.ensures.others h

@@ -12,45 +12,84 @@ use Rattle.rq_pool.proofs.Countdowns.Gathers.{contents_numbered}
 use Rattle.rq_pool.proofs.countdown.Countdown.arrive.Goals as goal
 
 pub invariant_of-pass : goal.invariant_of-pass
-invariant_of-pass g c = let was = c.args.pass.now.seat.me.0 in let s = c.args.source in let x = c.args.outbox in let set = c.claim.ensures.set c.if-not-claim.true in let ids = ap (λ z. z.slots) c.claim.ensures.own.0 in
-    let more = c.noted.ensures.entry ∙ (λ j. c.args.pass.now.diary ++ entry s (c.of-shown.ensures j) (Twice x) ∷ []) in record {
-      told = tells _ _ s x (Twice x) more _ _ _ _ c.args.pass.now.told (ap (λ m. m.0.made) set ∙ sym (append_none was.made)) (ap (λ m. m.0.refused) set);
+invariant_of-pass g c = let was = c.args.pass.now.seat.me.0 in let s = c.args.source in let x = c.args.outbox in
+    let set = c.claim.ensures.set c.if-not-claim.true in let ids = ap (λ z. z.slots) c.claim.ensures.own.0 in
+    let more = c.noted.ensures.entry ∙ (λ j. c.args.pass.now.diary ++ entry s (c.of-shown.ensures j) (Twice x) ∷ []) in
+    record {
+      told = tells _ _ s x (Twice x) more _ _ _ _ c.args.pass.now.told
+          (ap (λ m. m.0.made) set ∙ sym (append_none was.made)) (ap (λ m. m.0.refused) set);
       gave_back = gives _ _ s x (Twice x) more c.args.pass.now.gave_back refl;
       rests = (ap (λ m. m.0.at) set, ap (λ m. m.0.parts) set ∙ c.args.pass.now.rests.1);
-      has_room = λ v e. let r = c.args.pass.now.has_room v e in (ap (λ m. lasts m.0) set ∙ r.0, ap (λ m. m.1) set ∙ r.1, r.2, (let q = r.3 in omega (arith, ids)));
-      was_last = λ e. let r = c.args.pass.now.was_last e in (ap (λ m. lasts m.0) set ∙ r.0, ap (λ m. m.1) set ∙ r.1 ∙ ap (λ n. numbered 0 (replicate n None)) (sym ids));
+      has_room = λ v e. let r = c.args.pass.now.has_room v e in
+          (ap (λ m. lasts m.0) set ∙ r.0, ap (λ m. m.1) set ∙ r.1, r.2, (let q = r.3 in omega (arith, ids)));
+      was_last = λ e. let r = c.args.pass.now.was_last e in
+          (ap (λ m. lasts m.0) set ∙ r.0, ap (λ m. m.1) set ∙ r.1 ∙ ap (λ n. numbered 0 (replicate n None)) (sym ids));
     }
 
 pub invariant_of-pass-then-not-hand_in : goal.invariant_of-pass-then-not-hand_in
-invariant_of-pass-then-not-hand_in g c = let was = c.args.pass.now.seat.me.0 in let s = c.args.source in let x = c.args.outbox in let cl = c.claim.ensures.clear c.if-not-claim.false in let other = c.hand_in.ensures.other c.if-not-hand_in.true in
-    let whole = other ∙ (λ j. (after (cl.1 j).0 s x None, [])) in let more = lasts_after was s x None in let ids = ap (λ z. z.slots) (c.hand_in.ensures.own.0 ∙ c.claim.ensures.own.0) in record {
-      told = tells _ _ s x NotLast (c.noted-then-not-hand_in.ensures.entry ∙ (λ j. c.args.pass.now.diary ++ entry s (c.of-shown.ensures j) NotLast ∷ [])) _ _ _ _ c.args.pass.now.told (ap (λ m. m.0.made) whole) (ap (λ m. m.0.refused) whole ∙ sym (append_none was.refused));
-      gave_back = gives _ _ s x NotLast (c.noted-then-not-hand_in.ensures.entry ∙ (λ j. c.args.pass.now.diary ++ entry s (c.of-shown.ensures j) NotLast ∷ [])) c.args.pass.now.gave_back refl;
+invariant_of-pass-then-not-hand_in g c = let was = c.args.pass.now.seat.me.0 in let s = c.args.source in let x =
+    c.args.outbox in let cl = c.claim.ensures.clear c.if-not-claim.false in let other =
+    c.hand_in.ensures.other c.if-not-hand_in.true in
+    let whole = other ∙ (λ j. (after (cl.1 j).0 s x None, [])) in let more = lasts_after was s x None in let ids =
+    ap (λ z. z.slots) (c.hand_in.ensures.own.0 ∙ c.claim.ensures.own.0) in record {
+      told = tells _ _ s x NotLast
+          (c.noted-then-not-hand_in.ensures.entry
+          ∙ (λ j. c.args.pass.now.diary ++ entry s (c.of-shown.ensures j) NotLast ∷ [])) _ _ _ _ c.args.pass.now.told
+          (ap (λ m. m.0.made) whole) (ap (λ m. m.0.refused) whole ∙ sym (append_none was.refused));
+      gave_back = gives _ _ s x NotLast
+          (c.noted-then-not-hand_in.ensures.entry
+          ∙ (λ j. c.args.pass.now.diary ++ entry s (c.of-shown.ensures j) NotLast ∷ [])) c.args.pass.now.gave_back refl;
       rests = (ap (λ m. m.0.at) whole, ap (λ m. m.0.parts) whole ∙ c.args.pass.now.rests.1);
-      has_room = λ v e. let r = c.args.pass.now.has_room v e in (ap (λ m. lasts m.0) whole ∙ (let q = cl.0 in omega (arith, more)), ap (λ m. m.1) whole, r.2, (let q = r.3 in omega (arith, ids)));
+      has_room = λ v e. let r = c.args.pass.now.has_room v e in (
+        ap (λ m. lasts m.0) whole ∙ (let q = cl.0 in omega (arith, more)),
+        ap (λ m. m.1) whole,
+        r.2,
+        (let q = r.3 in omega (arith, ids)),
+      );
       was_last = λ e. absurd (let q = (c.args.pass.now.was_last e).0 in let z = cl.0 in omega arith);
     }
 
 pub gather-requires-clause-slots : goal.gather-requires-clause-slots
-gather-requires-clause-slots g c = let hl = c.hand_in.ensures.last c.if-not-hand_in.false in let ys = hl.1.0 in let m = ap (λ m. m.1) hl.1.3 in let same = ap contents m ∙ contents_numbered ys 0 in
+gather-requires-clause-slots g c = let hl = c.hand_in.ensures.last c.if-not-hand_in.false in let ys = hl.1.0 in let m =
+    ap (λ m. m.1) hl.1.3 in let same = ap contents m ∙ contents_numbered ys 0 in
     (ap length same ∙ hl.1.1 ∙ c.args.self.now.sized.1, m ∙ ap (λ l. numbered 0 (map Some l)) (sym same))
 
 pub invariant_of-pass-in-Some : goal.invariant_of-pass-in-Some
-invariant_of-pass-in-Some g c = let was = c.args.pass.now.seat.me.0 in let s = c.args.source in let x = c.args.outbox in let cl = c.claim.ensures.clear c.if-not-claim.false in let hl = c.hand_in.ensures.last c.if-not-hand_in.false in let ys = hl.1.0 in
-    let whole = ap (λ m. m.0) c.gather.ensures.own.2 ∙ ap (λ m. m.0) hl.1.3 ∙ (λ j. after (cl.1 j).0 s x (Some ys)) in let more = lasts_after was s x (Some ys) in
-    let room = c.gather.new.room in let same = c.gather.ensures.room ∙ ap (λ m. contents m.1) hl.1.3 ∙ contents_numbered ys 0 in
-    let ids = ap (λ z. z.slots) (c.gather.ensures.own.0 ∙ c.hand_in.ensures.own.0 ∙ c.claim.ensures.own.0 ∙ c.requires.own.0) in record {
-      told = tells _ _ s x (Last room) (c.noted-in-Some.ensures.entry ∙ (λ j. c.args.pass.now.diary ++ entry s (c.of-shown.ensures j) (Last room) ∷ [])) _ _ _ _ c.args.pass.now.told (ap (λ v. v.made) whole ∙ (λ j. was.made ++ made_of s x (Some (sym same j)) ∷ []))
+invariant_of-pass-in-Some g c = let was = c.args.pass.now.seat.me.0 in let s = c.args.source in let x = c.args.outbox in
+    let cl = c.claim.ensures.clear c.if-not-claim.false in let hl = c.hand_in.ensures.last c.if-not-hand_in.false in
+    let ys = hl.1.0 in
+    let whole = ap (λ m. m.0) c.gather.ensures.own.2 ∙ ap (λ m. m.0) hl.1.3 ∙ (λ j. after (cl.1 j).0 s x (Some ys)) in
+    let more = lasts_after was s x (Some ys) in
+    let room = c.gather.new.room in let same =
+    c.gather.ensures.room ∙ ap (λ m. contents m.1) hl.1.3 ∙ contents_numbered ys 0 in
+    let ids = ap (λ z. z.slots) (c.gather.ensures.own.0 ∙ c.hand_in.ensures.own.0 ∙ c.claim.ensures.own.0
+    ∙ c.requires.own.0) in record {
+      told = tells _ _ s x (Last room)
+          (c.noted-in-Some.ensures.entry
+          ∙ (λ j. c.args.pass.now.diary ++ entry s (c.of-shown.ensures j) (Last room) ∷ [])) _ _ _ _
+          c.args.pass.now.told (ap (λ v. v.made) whole ∙ (λ j. was.made ++ made_of s x (Some (sym same j)) ∷ []))
           (ap (λ v. v.refused) whole ∙ sym (append_none was.refused));
-      gave_back = gives _ _ s x (Last room) (c.noted-in-Some.ensures.entry ∙ (λ j. c.args.pass.now.diary ++ entry s (c.of-shown.ensures j) (Last room) ∷ [])) c.args.pass.now.gave_back refl;
+      gave_back = gives _ _ s x (Last room)
+          (c.noted-in-Some.ensures.entry
+          ∙ (λ j. c.args.pass.now.diary ++ entry s (c.of-shown.ensures j) (Last room) ∷ [])) c.args.pass.now.gave_back
+          refl;
       rests = (ap (λ v. v.at) whole, ap (λ v. v.parts) whole ∙ c.args.pass.now.rests.1);
       has_room = λ v e. absurd (let q = ap told_of (sym c.take.ensures.after ∙ e) in omega arith);
-      was_last = λ e. (ap lasts whole ∙ (let q = cl.0 in omega (arith, more)), ap (λ m. m.1) c.gather.ensures.own.2 ∙ ap (λ n. numbered 0 (replicate n None)) (sym (ids ∙ c.args.self.now.sized.1)));
+      was_last = λ e. (
+        ap lasts whole ∙ (let q = cl.0 in omega (arith, more)),
+        ap (λ m. m.1) c.gather.ensures.own.2 ∙ ap (λ n. numbered 0 (replicate n None))
+            (sym (ids ∙ c.args.self.now.sized.1)),
+      );
     }
 
 pub returns-clause-answer : goal.returns-clause-answer
-returns-clause-answer g c = let s = c.args.source in let x = c.args.outbox in let cl = c.claim.ensures.clear c.if-not-claim.false in let hl = c.hand_in.ensures.last c.if-not-hand_in.false in let ys = hl.1.0 in
+returns-clause-answer g c = let s = c.args.source in let x = c.args.outbox in let cl =
+    c.claim.ensures.clear c.if-not-claim.false in let hl = c.hand_in.ensures.last c.if-not-hand_in.false in let ys =
+    hl.1.0 in
     let whole = ap (λ m. m.0) c.gather.ensures.own.2 ∙ ap (λ m. m.0) hl.1.3 ∙ (λ j. after (cl.1 j).0 s x (Some ys)) in
     let same = c.gather.ensures.room ∙ ap (λ m. contents m.1) hl.1.3 ∙ contents_numbered ys 0 in
-    subst (Answered (g.T.Fits.fits c.args.self.now.table.shared.key.key) c.args.self.now.sources x) (sym c.noted-in-Some.ensures.answer)
-    (ap length same ∙ hl.1.1 ∙ c.args.self.now.sized.1, subst (Fit (g.T.Fits.fits c.args.self.now.table.shared.key.key)) (sym same) hl.1.2)
+    subst (Answered (g.T.Fits.fits c.args.self.now.table.shared.key.key) c.args.self.now.sources x)
+    (sym c.noted-in-Some.ensures.answer) (
+      ap length same ∙ hl.1.1 ∙ c.args.self.now.sized.1,
+      subst (Fit (g.T.Fits.fits c.args.self.now.table.shared.key.key)) (sym same) hl.1.2,
+    )

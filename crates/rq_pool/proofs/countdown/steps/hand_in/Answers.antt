@@ -8,10 +8,20 @@ pub fetch_sub-requires : goal.fetch_sub-requires
 fetch_sub-requires g c = let was = c.place.ensures.slot.0 in (
   search rules,
   omega arith,
-  counts g.T.Fits.fits c.args.board.now.key _ _ _ c.args.source c.args.outbox (search rules) (ap (λ v. v.at) was ∙ c.requires.at.0)
+  counts g.T.Fits.fits c.args.board.now.key _ _ _ c.args.source c.args.outbox (search rules)
+      (ap (λ v. v.at) was ∙ c.requires.at.0)
       (subst (λ v. 0 < v.parts) (sym was) c.requires.at.1) c.place.ensures.slot.1 c.requires.key.1,
 )
 
 pub returns-clause-last : goal.returns-clause-last
-returns-clause-last g c = λ hit. let was = c.place.ensures.slot.0 in let told = (c.fetch_sub.ensures.2 c.args.source c.args.outbox c.place.ensures.slot.1).1 (eqb-true _ _ hit) in let ys = told.1.0 in
-    (ap lasts (sym was) ∙ told.0, (ys, told.1.1, told.1.2 c.args.board.now.key.key (ap (λ v. v.key) was ∙ c.requires.key.0), told.1.3 ∙ (λ j. (after (was j) c.args.source c.args.outbox (Some ys), numbered 0 (map Some ys)))))
+returns-clause-last g c = λ hit. let was = c.place.ensures.slot.0 in let told =
+    (c.fetch_sub.ensures.2 c.args.source c.args.outbox c.place.ensures.slot.1).1 (eqb-true _ _ hit) in let ys =
+    told.1.0 in (
+      ap lasts (sym was) ∙ told.0,
+      (
+        ys,
+        told.1.1,
+        told.1.2 c.args.board.now.key.key (ap (λ v. v.key) was ∙ c.requires.key.0),
+        told.1.3 ∙ (λ j. (after (was j) c.args.source c.args.outbox (Some ys), numbered 0 (map Some ys))),
+      ),
+    )

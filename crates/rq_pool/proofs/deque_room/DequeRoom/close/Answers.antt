@@ -1,4 +1,5 @@
-use Rattle.std.proofs.Common.{◌≡◌, ◌≤◌, ◌+◌, All, length, map, sum_by, vec_len, vec_items, vec_capacity, ap, sym, subst, ◌∙◌, arith}
+use Rattle.std.proofs.Common.{◌≡◌, ◌≤◌, ◌+◌, All, length, map, sum_by, vec_len, vec_items, vec_capacity, ap, sym, subst}
+use Rattle.std.proofs.Common.{◌∙◌, arith}
 use Rattle.rq_pool.specs.Ledger.{size}
 use Rattle.rq_pool.specs.Decks.{IsComplete, deck_id, deck_list, list_in, taken_weight, dealt_weight, dealt_length}
 use Rattle.rq_pool.specs.Rooms.{lists_of}
@@ -12,18 +13,23 @@ emptied-requires-clause-all c = let same = c.gathered.ensures.same ∙ ap (map d
     subst (All IsComplete) (sym (as_lent c.into_decks-decks.result c.gathered.new.decks same)) c.gathered.ensures.decks
 
 pub emptied-requires-clause-reserved : goal.emptied-requires-clause-reserved
-emptied-requires-clause-reserved c = let new = c.gathered.new.decks in let left = c.args.self.left in let reserved = c.args.self.reserved in
+emptied-requires-clause-reserved c = let new = c.gathered.new.decks in let left = c.args.self.left in let reserved =
+    c.args.self.reserved in
     let same = c.gathered.ensures.same ∙ ap (map deck_id) c.as_mut_slice.ensures.value in
-    subst (λ ds. vec_len left + sum_by dealt_length ds ≤ vec_capacity left) (sym (as_lent c.into_decks-decks.result new same))
-    (let none : vec_len left ≡ 0 = left.ok.0 ∙ ap length reserved.2 in let fit = reserved.3 in let e = dealt_total new ∙ ap (λ ids. size (map list_in ids)) (same ∙ c.into_decks-decks.ensures.same) in omega arith)
+    subst (λ ds. vec_len left + sum_by dealt_length ds ≤ vec_capacity left)
+    (sym (as_lent c.into_decks-decks.result new same))
+    (let none : vec_len left ≡ 0 = left.ok.0 ∙ ap length reserved.2 in let fit = reserved.3 in let e =
+    dealt_total new ∙ ap (λ ids. size (map list_in ids)) (same ∙ c.into_decks-decks.ensures.same) in omega arith)
 
 pub returns-clause-ledger : goal.returns-clause-ledger
-returns-clause-ledger c = let new = c.gathered.new.decks in let old = c.args.self.left.items in let left = c.emptied.new.left.items in
+returns-clause-ledger c = let new = c.gathered.new.decks in let old = c.args.self.left.items in let left =
+    c.emptied.new.left.items in
     let same = c.gathered.ensures.same ∙ ap (map deck_id) c.as_mut_slice.ensures.value in
     let dealt = ap (map list_in) (sym (same ∙ c.into_decks-decks.ensures.same)) ∙ same_lists new in
     ledger_of (lists_of c.args.self) (map vec_items c.gathered.new.takens.items) left
     (λ h. settled_all (sum_by (taken_weight h) new) (sum_by h left) (sum_by (dealt_weight h) new) (sum_by h old) _ _
-    (subst (λ ds. sum_by (taken_weight h) ds + sum_by h left ≡ sum_by (dealt_weight h) ds + sum_by h old) (as_lent c.into_decks-decks.result new same) (c.emptied.ensures.sums h))
+    (subst (λ ds. sum_by (taken_weight h) ds + sum_by h left ≡ sum_by (dealt_weight h) ds + sum_by h old)
+    (as_lent c.into_decks-decks.result new same) (c.emptied.ensures.sums h))
     (ap (sum_by h) c.args.self.reserved.2)
     (c.gathered.ensures.weight h ∙ ap (sum_by (sum_by h)) (sym c.gathered.ensures.takens))
     (ap (sum_by (sum_by h)) dealt ∙ sum_by-map (sum_by h) deck_list new))

@@ -15,34 +15,56 @@ use Rattle.rq_queue.proofs.elements.Elements.abort.Goals as goal
 
 pub all_returned-requires-clause-room : goal.all_returned-requires-clause-room
 all_returned-requires-clause-room c =
-    each_listed c.any_order.ensures.order c.self.inside.free.entries c.self.inside.marked.entries c.taken-marked.result.0.entries c.taken-marked.result.1.items c.taken-marked.ensures.among c.self.invariant.apart (λ (e : Element). e.attempts + 1 < 2 ^ 64)
-    (each_unsorted (λ (e : Element). e.attempts + 1 < 2 ^ 64) (values_of c.self.inside.free.entries ++ items_of c.self.inside.marked.entries) (subst (AllByRecursion (λ (e : Element). e.attempts + 1 < 2 ^ 64)) (sym c.self.view_is) c.requires))
+    each_listed c.any_order.ensures.order c.self.inside.free.entries c.self.inside.marked.entries
+    c.taken-marked.result.0.entries c.taken-marked.result.1.items c.taken-marked.ensures.among
+    c.self.invariant.apart (λ (e : Element). e.attempts + 1 < 2 ^ 64)
+    (each_unsorted (λ (e : Element). e.attempts + 1 < 2 ^ 64)
+    (values_of c.self.inside.free.entries ++ items_of c.self.inside.marked.entries)
+    (subst (AllByRecursion (λ (e : Element). e.attempts + 1 < 2 ^ 64)) (sym c.self.view_is) c.requires))
 
 pub in_order-requires : goal.in_order-requires
-in_order-requires c = subst (λ (xs : List Element). Ordered (λ (e f : Element). e.id < f.id) (sorted xs)) (sym c.in_ok-free.ensures.leaving)
-    (chosen_rise c.any_order.ensures.order c.self.inside.free.entries c.self.inside.marked.entries c.taken-marked.result.0.entries c.taken-marked.result.1.items c.taken-marked.ensures.among c.self.invariant.apart (leaves c.args.home.now c.args.unit.0))
+in_order-requires c = subst (λ (xs : List Element). Ordered (λ (e f : Element). e.id < f.id) (sorted xs))
+    (sym c.in_ok-free.ensures.leaving)
+    (chosen_rise c.any_order.ensures.order c.self.inside.free.entries c.self.inside.marked.entries
+    c.taken-marked.result.0.entries c.taken-marked.result.1.items c.taken-marked.ensures.among
+    c.self.invariant.apart (leaves c.args.home.now c.args.unit.0))
 
 pub invariant_of-result : goal.invariant_of-result
 invariant_of-result c =
-    let done = aborted c.any_order.ensures.order c.args.home.now c.args.unit.0 c.self.inside.free.entries c.in_ok-free.free.entries c.self.inside.marked.entries c.taken-marked.result.0.entries c.taken-marked.result.1.items
-    c.self.invariant.keyed c.taken-marked.ensures.among c.taken-marked.ensures.absent c.taken-marked.ensures.of_units c.self.invariant.apart c.in_ok-free.ensures.freed in
+    let done = aborted c.any_order.ensures.order c.args.home.now c.args.unit.0 c.self.inside.free.entries
+    c.in_ok-free.free.entries c.self.inside.marked.entries c.taken-marked.result.0.entries
+    c.taken-marked.result.1.items
+    c.self.invariant.keyed c.taken-marked.ensures.among c.taken-marked.ensures.absent c.taken-marked.ensures.of_units
+    c.self.invariant.apart c.in_ok-free.ensures.freed in
     record {
       keyed = done.0.0;
       of_units = c.taken-marked.ensures.of_units;
       apart = done.0.1;
-      known = subst (AreKnown c.self.inside.priorities) (sym done.1) (known_staying c.self.inside.priorities c.args.home.now c.args.unit.0 (elements_inside c.self.inside) c.self.invariant.known);
+      known = subst (AreKnown c.self.inside.priorities) (sym done.1)
+          (known_staying c.self.inside.priorities c.args.home.now c.args.unit.0
+          (elements_inside c.self.inside) c.self.invariant.known);
     }
 
 pub returns-clause-kept : goal.returns-clause-kept
 returns-clause-kept c =
-    (aborted c.any_order.ensures.order c.args.home.now c.args.unit.0 c.self.inside.free.entries c.in_ok-free.free.entries c.self.inside.marked.entries c.taken-marked.result.0.entries c.taken-marked.result.1.items
-    c.self.invariant.keyed c.taken-marked.ensures.among c.taken-marked.ensures.absent c.taken-marked.ensures.of_units c.self.invariant.apart c.in_ok-free.ensures.freed).1
+    (aborted c.any_order.ensures.order c.args.home.now c.args.unit.0 c.self.inside.free.entries
+    c.in_ok-free.free.entries c.self.inside.marked.entries c.taken-marked.result.0.entries
+    c.taken-marked.result.1.items
+    c.self.invariant.keyed c.taken-marked.ensures.among c.taken-marked.ensures.absent c.taken-marked.ensures.of_units
+    c.self.invariant.apart c.in_ok-free.ensures.freed).1
     ∙ ap (staying c.args.home.now c.args.unit.0) c.self.view_is
 
 pub returns-clause-sent : goal.returns-clause-sent
 returns-clause-sent c =
-    let gone : filter (leaves c.args.home.now c.args.unit.0) (sorted (values_of c.self.inside.free.entries ++ items_of c.self.inside.marked.entries)) ≡ sorted (filter (leaves c.args.home.now c.args.unit.0) c.taken-marked.result.1.items)
-    = departed c.any_order.ensures.order c.args.home.now c.args.unit.0 c.self.inside.free.entries c.self.inside.marked.entries c.taken-marked.result.0.entries c.taken-marked.result.1.items
-    c.self.invariant.keyed c.taken-marked.ensures.among c.taken-marked.ensures.absent c.taken-marked.ensures.of_units c.self.invariant.apart in
-    c.in_ok-send.ensures.sent ∙ ap (λ (xs : List Element). c.args.sent.now.items ++ sent_from c.args.place c.args.home.now xs)
-    (c.in_order.ensures ∙ (ap sorted c.in_ok-free.ensures.leaving ∙ (sym gone ∙ ap (filter (leaves c.args.home.now c.args.unit.0)) c.self.view_is)))
+    let gone : filter (leaves c.args.home.now c.args.unit.0)
+    (sorted (values_of c.self.inside.free.entries ++ items_of c.self.inside.marked.entries))
+    ≡ sorted (filter (leaves c.args.home.now c.args.unit.0) c.taken-marked.result.1.items)
+    = departed c.any_order.ensures.order c.args.home.now c.args.unit.0 c.self.inside.free.entries
+    c.self.inside.marked.entries c.taken-marked.result.0.entries c.taken-marked.result.1.items
+    c.self.invariant.keyed c.taken-marked.ensures.among c.taken-marked.ensures.absent c.taken-marked.ensures.of_units
+    c.self.invariant.apart in
+    c.in_ok-send.ensures.sent
+    ∙ ap (λ (xs : List Element). c.args.sent.now.items ++ sent_from c.args.place c.args.home.now xs)
+    (c.in_order.ensures
+    ∙ (ap sorted c.in_ok-free.ensures.leaving
+    ∙ (sym gone ∙ ap (filter (leaves c.args.home.now c.args.unit.0)) c.self.view_is)))

@@ -10,27 +10,37 @@ use Rattle.rq_queue.proofs.Sorting.{apart_front, each_front}
 use Rattle.rq_queue.proofs.elements.Elements.kill.Goals as goal
 
 pub known-requires-clause-known : goal.known-requires-clause-known
-known-requires-clause-known c = known_unsorted c.self.inside.priorities (values_of c.self.inside.free.entries ++ items_of c.self.inside.marked.entries) c.self.invariant.known
+known-requires-clause-known c = known_unsorted c.self.inside.priorities
+    (values_of c.self.inside.free.entries ++ items_of c.self.inside.marked.entries) c.self.invariant.known
 
 pub without-requires-clause-apart : goal.without-requires-clause-apart
-without-requires-clause-apart c = apart_front (values_of c.self.inside.free.entries) (items_of c.self.inside.marked.entries) c.self.invariant.apart
+without-requires-clause-apart c =
+    apart_front (values_of c.self.inside.free.entries) (items_of c.self.inside.marked.entries) c.self.invariant.apart
 
 pub without-requires-clause-known : goal.without-requires-clause-known
-without-requires-clause-known c = each_front (IsKnown c.in_ok-by_id.by_id.entries) (values_of c.self.inside.free.entries) (items_of c.self.inside.marked.entries) c.in_ok-by_id.ensures.known
+without-requires-clause-known c =
+    each_front (IsKnown c.in_ok-by_id.by_id.entries) (values_of c.self.inside.free.entries)
+    (items_of c.self.inside.marked.entries) c.in_ok-by_id.ensures.known
 
 pub invariant_of-result : goal.invariant_of-result
 invariant_of-result c =
-    let done = kill_done c.args.queue.0 c.args.id.0 c.self.inside.free.entries c.without.result.entries c.self.inside.marked.entries c.self.invariant.keyed c.self.invariant.of_units c.self.invariant.apart
-    (subst (AllByRecursion (λ (x : Element). x.home ≡ c.args.queue.0)) (sym c.self.view_is) c.requires) c.without.ensures.others in
+    let done = kill_done c.args.queue.0 c.args.id.0 c.self.inside.free.entries c.without.result.entries
+    c.self.inside.marked.entries c.self.invariant.keyed c.self.invariant.of_units c.self.invariant.apart
+    (subst (AllByRecursion (λ (x : Element). x.home ≡ c.args.queue.0)) (sym c.self.view_is) c.requires)
+    c.without.ensures.others in
     record {
       keyed = c.without.ensures.keyed;
       of_units = c.self.invariant.of_units;
       apart = done.1;
-      known = subst (AllByRecursion (IsKnown c.in_ok-by_id.by_id.entries)) (sym done.0) (known_killed c.in_ok-by_id.by_id.entries c.args.queue.0 c.args.id.0 (values_of c.self.inside.free.entries ++ items_of c.self.inside.marked.entries) c.in_ok-by_id.ensures.known);
+      known = subst (AllByRecursion (IsKnown c.in_ok-by_id.by_id.entries)) (sym done.0)
+          (known_killed c.in_ok-by_id.by_id.entries c.args.queue.0 c.args.id.0
+          (values_of c.self.inside.free.entries ++ items_of c.self.inside.marked.entries) c.in_ok-by_id.ensures.known);
     }
 
 pub returns-clause-done : goal.returns-clause-done
 returns-clause-done c =
-    (kill_done c.args.queue.0 c.args.id.0 c.self.inside.free.entries c.without.result.entries c.self.inside.marked.entries c.self.invariant.keyed c.self.invariant.of_units c.self.invariant.apart
-    (subst (AllByRecursion (λ (x : Element). x.home ≡ c.args.queue.0)) (sym c.self.view_is) c.requires) c.without.ensures.others).0
+    (kill_done c.args.queue.0 c.args.id.0 c.self.inside.free.entries c.without.result.entries
+    c.self.inside.marked.entries c.self.invariant.keyed c.self.invariant.of_units c.self.invariant.apart
+    (subst (AllByRecursion (λ (x : Element). x.home ≡ c.args.queue.0)) (sym c.self.view_is) c.requires)
+    c.without.ensures.others).0
     ∙ ap (killed c.args.queue.0 c.args.id.0) c.self.view_is

@@ -11,6 +11,9 @@ use Rattle.rq_queue.proofs.elements.Elements.list.Goals as goal
 pub returns-clause-listed : goal.returns-clause-listed
 returns-clause-listed c =
     let all = values_of c.self.inside.free.entries ++ items_of c.self.inside.marked.entries in
-    let listed : c.in_ok-all.all.items ≡ all = c.in_ok-all.ensures.listed ∙ ap (λ (xs : List Element). xs ++ items_of c.self.inside.marked.entries) c.in_ok-free.ensures.listed in
+    let listed : c.in_ok-all.all.items ≡ all =
+    c.in_ok-all.ensures.listed ∙ ap (λ (xs : List Element). xs ++ items_of c.self.inside.marked.entries)
+    c.in_ok-free.ensures.listed in
     subst (λ (xs : List Element). IsPermutation c.args.self xs) (sym listed)
-    (subst (λ (xs : List Element). IsPermutation xs all) c.self.view_is (IsPermutation-sym all (sorted all) (same_elements all)))
+    (subst (λ (xs : List Element). IsPermutation xs all) c.self.view_is
+    (IsPermutation-sym all (sorted all) (same_elements all)))

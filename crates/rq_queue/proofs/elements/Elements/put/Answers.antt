@@ -16,14 +16,21 @@ invariant_of-result c =
     let e = c.args.e in
     let free = values_of c.self.inside.free.entries in
     let held = items_of c.self.inside.marked.entries in
-    let others : AllByRecursion (λ (x : Element). e.id ≢ x.id) (free ++ held) = others_of e (free ++ held) (subst (AllByRecursion (λ (x : Element). x.id ≢ e.id)) (sym c.self.view_is) c.requires) in
-    let here : AllByRecursion (λ (x : Element). e.id ≢ x.id) free = each_front (λ (x : Element). e.id ≢ x.id) free held others in
-    let done = put_among c.any_order.ensures.order e (values_of c.in_ok-free-in-None.free.entries) free held (c.in_ok-free-in-None.ensures.among c.self.invariant.keyed here) (others, c.self.invariant.apart) in
+    let others : AllByRecursion (λ (x : Element). e.id ≢ x.id) (free ++ held) =
+    others_of e (free ++ held)
+    (subst (AllByRecursion (λ (x : Element). x.id ≢ e.id)) (sym c.self.view_is) c.requires) in
+    let here : AllByRecursion (λ (x : Element). e.id ≢ x.id) free =
+    each_front (λ (x : Element). e.id ≢ x.id) free held others in
+    let done = put_among c.any_order.ensures.order e (values_of c.in_ok-free-in-None.free.entries) free held
+    (c.in_ok-free-in-None.ensures.among c.self.invariant.keyed here) (others, c.self.invariant.apart) in
     record {
       keyed = c.in_ok-free-in-None.ensures.keyed c.self.invariant.keyed here;
       of_units = c.self.invariant.of_units;
       apart = done.1;
-      known = subst (AreKnown c.in_ok-priorities.priorities) (sym done.0) (known_put c.in_ok-priorities.priorities e (sorted (free ++ held)) (c.in_ok-priorities.ensures.known (sorted (free ++ held)) (each_sorted (λ (x : Element). e.id ≢ x.id) (free ++ held) others) c.self.invariant.known));
+      known = subst (AreKnown c.in_ok-priorities.priorities) (sym done.0)
+          (known_put c.in_ok-priorities.priorities e (sorted (free ++ held))
+          (c.in_ok-priorities.ensures.known (sorted (free ++ held))
+          (each_sorted (λ (x : Element). e.id ≢ x.id) (free ++ held) others) c.self.invariant.known));
     }
 
 pub invariant_of-result-in-Some : goal.invariant_of-result-in-Some
@@ -31,13 +38,20 @@ invariant_of-result-in-Some c =
     let e = c.args.e in
     let free = values_of c.self.inside.free.entries in
     let held = items_of c.self.inside.marked.entries in
-    let others : AllByRecursion (λ (x : Element). e.id ≢ x.id) (free ++ held) = others_of e (free ++ held) (subst (AllByRecursion (λ (x : Element). x.id ≢ e.id)) (sym c.self.view_is) c.requires) in
+    let others : AllByRecursion (λ (x : Element). e.id ≢ x.id) (free ++ held) =
+    others_of e (free ++ held)
+    (subst (AllByRecursion (λ (x : Element). x.id ≢ e.id)) (sym c.self.view_is) c.requires) in
     record {
       keyed = c.self.invariant.keyed;
       of_units = c.in_ok-marked-in-Some.ensures.of_units;
-      apart = stowed_apart c.any_order.ensures.order e free c.self.inside.marked.entries c.in_ok-marked-in-Some.marked.entries c.in_ok-marked-in-Some.ensures.stowed (others, c.self.invariant.apart);
-      known = subst (AreKnown c.in_ok-priorities.priorities) (sym (stowed_sorted c.any_order.ensures.order e free c.self.inside.marked.entries c.in_ok-marked-in-Some.marked.entries c.in_ok-marked-in-Some.ensures.stowed (others, c.self.invariant.apart)))
-          (known_put c.in_ok-priorities.priorities e (sorted (free ++ held)) (c.in_ok-priorities.ensures.known (sorted (free ++ held)) (each_sorted (λ (x : Element). e.id ≢ x.id) (free ++ held) others) c.self.invariant.known));
+      apart = stowed_apart c.any_order.ensures.order e free c.self.inside.marked.entries
+          c.in_ok-marked-in-Some.marked.entries c.in_ok-marked-in-Some.ensures.stowed (others, c.self.invariant.apart);
+      known = subst (AreKnown c.in_ok-priorities.priorities)
+          (sym (stowed_sorted c.any_order.ensures.order e free c.self.inside.marked.entries
+          c.in_ok-marked-in-Some.marked.entries c.in_ok-marked-in-Some.ensures.stowed (others, c.self.invariant.apart)))
+          (known_put c.in_ok-priorities.priorities e (sorted (free ++ held))
+          (c.in_ok-priorities.ensures.known (sorted (free ++ held))
+          (each_sorted (λ (x : Element). e.id ≢ x.id) (free ++ held) others) c.self.invariant.known));
     }
 
 pub returns-in_ok-free-in-None-clause-done : goal.returns-in_ok-free-in-None-clause-done
@@ -45,9 +59,13 @@ returns-in_ok-free-in-None-clause-done c =
     let e = c.args.e in
     let free = values_of c.self.inside.free.entries in
     let held = items_of c.self.inside.marked.entries in
-    let others : AllByRecursion (λ (x : Element). e.id ≢ x.id) (free ++ held) = others_of e (free ++ held) (subst (AllByRecursion (λ (x : Element). x.id ≢ e.id)) (sym c.self.view_is) c.requires) in
-    let here : AllByRecursion (λ (x : Element). e.id ≢ x.id) free = each_front (λ (x : Element). e.id ≢ x.id) free held others in
-    (put_among c.any_order.ensures.order e (values_of c.in_ok-free-in-None.free.entries) free held (c.in_ok-free-in-None.ensures.among c.self.invariant.keyed here) (others, c.self.invariant.apart)).0
+    let others : AllByRecursion (λ (x : Element). e.id ≢ x.id) (free ++ held) =
+    others_of e (free ++ held)
+    (subst (AllByRecursion (λ (x : Element). x.id ≢ e.id)) (sym c.self.view_is) c.requires) in
+    let here : AllByRecursion (λ (x : Element). e.id ≢ x.id) free =
+    each_front (λ (x : Element). e.id ≢ x.id) free held others in
+    (put_among c.any_order.ensures.order e (values_of c.in_ok-free-in-None.free.entries) free held
+    (c.in_ok-free-in-None.ensures.among c.self.invariant.keyed here) (others, c.self.invariant.apart)).0
     ∙ ap (put id_before e) c.self.view_is
 
 pub returns-in_ok-marked-in-Some-clause-done : goal.returns-in_ok-marked-in-Some-clause-done
@@ -55,6 +73,9 @@ returns-in_ok-marked-in-Some-clause-done c =
     let e = c.args.e in
     let free = values_of c.self.inside.free.entries in
     let held = items_of c.self.inside.marked.entries in
-    let others : AllByRecursion (λ (x : Element). e.id ≢ x.id) (free ++ held) = others_of e (free ++ held) (subst (AllByRecursion (λ (x : Element). x.id ≢ e.id)) (sym c.self.view_is) c.requires) in
-    stowed_sorted c.any_order.ensures.order e free c.self.inside.marked.entries c.in_ok-marked-in-Some.marked.entries c.in_ok-marked-in-Some.ensures.stowed (others, c.self.invariant.apart)
+    let others : AllByRecursion (λ (x : Element). e.id ≢ x.id) (free ++ held) =
+    others_of e (free ++ held)
+    (subst (AllByRecursion (λ (x : Element). x.id ≢ e.id)) (sym c.self.view_is) c.requires) in
+    stowed_sorted c.any_order.ensures.order e free c.self.inside.marked.entries c.in_ok-marked-in-Some.marked.entries
+    c.in_ok-marked-in-Some.ensures.stowed (others, c.self.invariant.apart)
     ∙ ap (put id_before e) c.self.view_is

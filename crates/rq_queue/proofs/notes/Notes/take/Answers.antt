@@ -9,7 +9,8 @@ use Rattle.rq_state.proofs.InOrder.{key_cmp}
 use Rattle.rq_queue.specs.Noted.{Apart, NoteEntry, AreKept, by_place, filed, has_place, left}
 use Rattle.rq_queue.specs.declared.whose.Whose.TheVariants.{OfUnit}
 use Rattle.rq_queue.proofs.NotesInOrder.{rising_sorted}
-use Rattle.rq_queue.proofs.Noting.{all_filed, others_filed, left_all, values_left, values_drawn, filtered_by_place, apart_front}
+use Rattle.rq_queue.proofs.Noting.{all_filed, others_filed, left_all, values_left, values_drawn, filtered_by_place}
+use Rattle.rq_queue.proofs.Noting.{apart_front}
 use Rattle.rq_queue.proofs.Registered.{same_number}
 use Rattle.rq_queue.proofs.notes.Notes.take.Goals as goal
 
@@ -20,16 +21,24 @@ invariant_of-notes c =
     let unit = c.args.unit in
     let own = λ (n : Note). n.unit == unit.0 in
     let others : c.in_ok-all.all.entries ≡ filter (λ (e : NoteEntry). not (own e.1)) es
-    = c.in_ok-all.ensures.left ∙ (ap (λ (ps : List ℕ). left (OfUnit unit) ps es) (c.deref.ensures.value ∙ c.unfiled-units.ensures.places)
-    ∙ left_all (OfUnit unit) (filed nat_cmp unit.0 notes.units.entries) es (all_filed nat_cmp nat_cmp_total (λ (m : Note). m.unit) unit.0 own (λ n. same_number unit.0 n.unit) notes.units.entries es c.self.invariant.by_unit)) in
-    subst (λ (xs : List NoteEntry). AreKept xs c.unfiled-units.result.0.entries notes.names.entries) (sym others) (record {
+    = c.in_ok-all.ensures.left
+    ∙ (ap (λ (ps : List ℕ). left (OfUnit unit) ps es) (c.deref.ensures.value ∙ c.unfiled-units.ensures.places)
+    ∙ left_all (OfUnit unit) (filed nat_cmp unit.0 notes.units.entries) es
+    (all_filed nat_cmp nat_cmp_total (λ (m : Note). m.unit) unit.0 own
+    (λ n. same_number unit.0 n.unit) notes.units.entries es c.self.invariant.by_unit)) in
+    subst (λ (xs : List NoteEntry). AreKept xs c.unfiled-units.result.0.entries notes.names.entries) (sym others)
+    (record {
       by_place = filtered_by_place (λ (e : NoteEntry). not (own e.1)) es c.self.invariant.by_place;
-      by_unit = others_filed nat_cmp nat_cmp_total (λ (m : Note). m.unit) unit.0 own (λ n. same_number unit.0 n.unit) notes.units.entries c.unfiled-units.result.0.entries c.unfiled-units.ensures.others es c.self.invariant.by_unit;
-      by_name = each_filter (λ (e : NoteEntry). has_place e.0 (filed key_cmp (e.1.queue, e.1.name) notes.names.entries) ≡ true) (λ (e : NoteEntry). not (own e.1)) es c.self.invariant.by_name;
+      by_unit = others_filed nat_cmp nat_cmp_total (λ (m : Note). m.unit) unit.0 own
+          (λ n. same_number unit.0 n.unit) notes.units.entries c.unfiled-units.result.0.entries
+          c.unfiled-units.ensures.others es c.self.invariant.by_unit;
+      by_name = each_filter (λ (e : NoteEntry). has_place e.0 (filed key_cmp (e.1.queue, e.1.name) notes.names.entries)
+          ≡ true) (λ (e : NoteEntry). not (own e.1)) es c.self.invariant.by_name;
     })
 
 pub in_order-requires : goal.in_order-requires
-in_order-requires c = rising_sorted c.in_ok-all.own.items (apart_front c.in_ok-all.own.items (values_of c.in_ok-all.all.entries) c.in_ok-all.ensures.apart)
+in_order-requires c = rising_sorted c.in_ok-all.own.items
+    (apart_front c.in_ok-all.own.items (values_of c.in_ok-all.all.entries) c.in_ok-all.ensures.apart)
 
 pub returns-clause-others : goal.returns-clause-others
 returns-clause-others c =
@@ -37,8 +46,11 @@ returns-clause-others c =
     let es = notes.all.entries in
     let unit = c.args.unit in
     let own = λ (n : Note). n.unit == unit.0 in
-    ap values_of (c.in_ok-all.ensures.left ∙ ap (λ (ps : List ℕ). left (OfUnit unit) ps es) (c.deref.ensures.value ∙ c.unfiled-units.ensures.places))
-    ∙ (values_left (OfUnit unit) (filed nat_cmp unit.0 notes.units.entries) es (all_filed nat_cmp nat_cmp_total (λ (m : Note). m.unit) unit.0 own (λ n. same_number unit.0 n.unit) notes.units.entries es c.self.invariant.by_unit)
+    ap values_of (c.in_ok-all.ensures.left
+    ∙ ap (λ (ps : List ℕ). left (OfUnit unit) ps es) (c.deref.ensures.value ∙ c.unfiled-units.ensures.places))
+    ∙ (values_left (OfUnit unit) (filed nat_cmp unit.0 notes.units.entries) es
+    (all_filed nat_cmp nat_cmp_total (λ (m : Note). m.unit) unit.0 own
+    (λ n. same_number unit.0 n.unit) notes.units.entries es c.self.invariant.by_unit)
     ∙ ap (closed_notes unit.0) c.self.view_is)
 
 pub returns-clause-taken : goal.returns-clause-taken
@@ -49,8 +61,13 @@ returns-clause-taken c =
     let own = λ (n : Note). n.unit == unit.0 in
     let drawn = c.in_ok-all.own.items in
     let rest : c.in_ok-all.all.entries ≡ left (OfUnit unit) (filed nat_cmp unit.0 notes.units.entries) es
-    = c.in_ok-all.ensures.left ∙ ap (λ (ps : List ℕ). left (OfUnit unit) ps es) (c.deref.ensures.value ∙ c.unfiled-units.ensures.places) in
+    = c.in_ok-all.ensures.left ∙ ap (λ (ps : List ℕ). left (OfUnit unit) ps es)
+    (c.deref.ensures.value ∙ c.unfiled-units.ensures.places) in
     c.in_order.ensures
-    ∙ (values_drawn (OfUnit unit) (filed nat_cmp unit.0 notes.units.entries) es (all_filed nat_cmp nat_cmp_total (λ (m : Note). m.unit) unit.0 own (λ n. same_number unit.0 n.unit) notes.units.entries es c.self.invariant.by_unit)
-    drawn c.in_ok-all.ensures.own (subst (λ (xs : List NoteEntry). Apart (drawn ++ values_of xs)) rest c.in_ok-all.ensures.apart) (ap (λ (xs : List NoteEntry). by_place (drawn ++ values_of xs)) (sym rest) ∙ c.in_ok-all.ensures.together)
+    ∙ (values_drawn (OfUnit unit) (filed nat_cmp unit.0 notes.units.entries) es
+    (all_filed nat_cmp nat_cmp_total (λ (m : Note). m.unit) unit.0 own
+    (λ n. same_number unit.0 n.unit) notes.units.entries es c.self.invariant.by_unit)
+    drawn c.in_ok-all.ensures.own
+    (subst (λ (xs : List NoteEntry). Apart (drawn ++ values_of xs)) rest c.in_ok-all.ensures.apart)
+    (ap (λ (xs : List NoteEntry). by_place (drawn ++ values_of xs)) (sym rest) ∙ c.in_ok-all.ensures.together)
     ∙ ap (filter own) c.self.view_is)

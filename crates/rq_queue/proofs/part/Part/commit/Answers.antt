@@ -11,6 +11,14 @@ returns-clause-done c =
     let unit = c.args.unit.0 in
     let part = c.self.inside in
     let heard : c.in_ok-self-inside.field-0 ≡ map (told unit part.notes) part.registrants
-    = c.in_ok-self-inside.ensures.done ∙ (ap (λ (ns : List Note). map (told unit ns) part.registrants) (c.deref.ensures.value ∙ c.in_ok-notes.ensures.taken) ∙ told_own unit part.notes part.registrants) in
-    (λ i. record { queue = part.queue.0; definition = part.definition; elements = c.in_ok-self-inside-2.ensures.done i; registrants = heard i; notes = c.in_ok-notes.ensures.others i })
+    = c.in_ok-self-inside.ensures.done
+    ∙ (ap (λ (ns : List Note). map (told unit ns) part.registrants)
+    (c.deref.ensures.value ∙ c.in_ok-notes.ensures.taken) ∙ told_own unit part.notes part.registrants) in
+    (λ i. record {
+      queue = part.queue.0;
+      definition = part.definition;
+      elements = c.in_ok-self-inside-2.ensures.done i;
+      registrants = heard i;
+      notes = c.in_ok-notes.ensures.others i;
+    })
     ∙ ap (act 0 (Commit unit)) c.self.view_is

@@ -6,12 +6,16 @@ use Rattle.rq_queue.proofs.part.Part.of.Goals as goal
 
 pub of-requires : goal.of-requires
 of-requires c = subst (Ordered (λ (e f : Element). e.id < f.id)) (sym c.in_ok-elements.ensures.elements)
-    (ordered_filter (λ (e f : Element). e.id < f.id) (λ e. e.home == c.args.queue.0) c.args.state.now.elements c.is_well_formed.ensures.elements_rise)
+    (ordered_filter (λ (e f : Element). e.id < f.id)
+    (λ e. e.home == c.args.queue.0) c.args.state.now.elements c.is_well_formed.ensures.elements_rise)
 
 pub of-requires-2 : goal.of-requires-2
-of-requires-2 c = subst (Ordered (λ (r t : Registrant). registrant_before r t ≡ true)) (sym c.in_ok-registrants.ensures.registrants)
-    (ordered_filter (λ (r t : Registrant). registrant_before r t ≡ true) (λ r. r.queue == c.args.queue.0) c.args.state.now.registrants c.is_well_formed.ensures.registrants_rise)
+of-requires-2 c = subst (Ordered (λ (r t : Registrant). registrant_before r t ≡ true))
+    (sym c.in_ok-registrants.ensures.registrants)
+    (ordered_filter (λ (r t : Registrant). registrant_before r t ≡ true)
+    (λ r. r.queue == c.args.queue.0) c.args.state.now.registrants c.is_well_formed.ensures.registrants_rise)
 
 pub of-requires-3 : goal.of-requires-3
 of-requires-3 c = subst (Ordered (λ (n m : Note). n.last.place < m.last.place)) (sym c.in_ok-notes.ensures.notes)
-    (ordered_filter (λ (n m : Note). n.last.place < m.last.place) (λ n. n.queue == c.args.queue.0) c.args.state.now.notes c.is_well_formed.ensures.notes_rise)
+    (ordered_filter (λ (n m : Note). n.last.place < m.last.place)
+    (λ n. n.queue == c.args.queue.0) c.args.state.now.notes c.is_well_formed.ensures.notes_rise)

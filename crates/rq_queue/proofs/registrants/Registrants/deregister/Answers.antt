@@ -13,12 +13,15 @@ use Rattle.rq_queue.proofs.registrants.Registrants.deregister.Goals as goal
 pub invariant_of-result : goal.invariant_of-result
 invariant_of-result c =
     let k = c.in_ok-key.key in
-    subst IsRoll (sym (c.remove.ensures.entries ∙ removed key_cmp key_total k c.self.inside.lasts.entries c.self.invariant))
-    (ordered_filter (λ (a b : RollEntry). key_cmp a.0 b.0 ≡ Less) (λ (e : RollEntry). not (is_eq (key_cmp k e.0))) c.self.inside.lasts.entries c.self.invariant)
+    subst IsRoll (sym (c.remove.ensures.entries
+    ∙ removed key_cmp key_total k c.self.inside.lasts.entries c.self.invariant))
+    (ordered_filter (λ (a b : RollEntry). key_cmp a.0 b.0 ≡ Less)
+    (λ (e : RollEntry). not (is_eq (key_cmp k e.0))) c.self.inside.lasts.entries c.self.invariant)
 
 pub returns-clause-done : goal.returns-clause-done
 returns-clause-done c =
     let es = c.self.inside.lasts.entries in
     ap (map registrant_of) c.remove.ensures.entries
     ∙ (deregistered_then c.in_ok-key.key es c.self.invariant
-    ∙ (ap (λ (k : ℕ × List ℕ). deregistered k.0 k.1 (map registrant_of es)) c.in_ok-key.ensures.key ∙ ap (deregistered c.args.queue.0 c.args.name.now) c.self.view_is))
+    ∙ (ap (λ (k : ℕ × List ℕ). deregistered k.0 k.1 (map registrant_of es)) c.in_ok-key.ensures.key
+    ∙ ap (deregistered c.args.queue.0 c.args.name.now) c.self.view_is))

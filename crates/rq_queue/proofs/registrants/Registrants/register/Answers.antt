@@ -13,14 +13,18 @@ pub returns-then-contains_key-clause-done : goal.returns-then-contains_key-claus
 returns-then-contains_key-clause-done c =
     let es = c.self.inside.lasts.entries in
     sym c.self.view_is ∙ (still_registered c.in_ok-key.key es (sym c.contains_key.ensures ∙ c.if-contains_key.true)
-    ∙ (ap (λ (k : ℕ × List ℕ). registered k.0 k.1 (map registrant_of es)) c.in_ok-key.ensures.key ∙ ap (registered c.args.queue.0 c.args.name.now) c.self.view_is))
+    ∙ (ap (λ (k : ℕ × List ℕ). registered k.0 k.1 (map registrant_of es)) c.in_ok-key.ensures.key
+    ∙ ap (registered c.args.queue.0 c.args.name.now) c.self.view_is))
 
 pub invariant_of-result : goal.invariant_of-result
-invariant_of-result c = subst IsRoll (sym c.in_ok-insert.ensures.entries) (up_inserted key_cmp key_total c.in_ok-key.key c.none.result c.self.inside.lasts.entries c.self.invariant)
+invariant_of-result c = subst IsRoll (sym c.in_ok-insert.ensures.entries)
+    (up_inserted key_cmp key_total c.in_ok-key.key c.none.result c.self.inside.lasts.entries c.self.invariant)
 
 pub returns-clause-done : goal.returns-clause-done
 returns-clause-done c =
     let es = c.self.inside.lasts.entries in
-    ap (map registrant_of) (c.in_ok-insert.ensures.entries ∙ ap (λ (l : Option Last). insert_entry key_cmp es c.in_ok-key.key l) c.none.ensures)
+    ap (map registrant_of) (c.in_ok-insert.ensures.entries
+    ∙ ap (λ (l : Option Last). insert_entry key_cmp es c.in_ok-key.key l) c.none.ensures)
     ∙ (newly_registered c.in_ok-key.key es c.self.invariant (sym c.contains_key.ensures ∙ c.if-contains_key.false)
-    ∙ (ap (λ (k : ℕ × List ℕ). registered k.0 k.1 (map registrant_of es)) c.in_ok-key.ensures.key ∙ ap (registered c.args.queue.0 c.args.name.now) c.self.view_is))
+    ∙ (ap (λ (k : ℕ × List ℕ). registered k.0 k.1 (map registrant_of es)) c.in_ok-key.ensures.key
+    ∙ ap (registered c.args.queue.0 c.args.name.now) c.self.view_is))

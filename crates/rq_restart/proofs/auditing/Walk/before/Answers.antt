@@ -8,7 +8,8 @@ use Rattle.rq_restart.proofs.auditing.Walk.before.Goals as goal
 
 pub returns-clause-walk : goal.returns-clause-walk
 returns-clause-walk c =
-    let state : state_of c.into_fields.result ≡ run empty (take c.args.place (map record_of c.args.records.now)) = c.into_fields.ensures.fields ∙ c.requires.state in
+    let state : state_of c.into_fields.result ≡ run empty (take c.args.place (map record_of c.args.records.now)) =
+    c.into_fields.ensures.fields ∙ c.requires.state in
     record {
       within = omega arith;
       state = state;

@@ -5,4 +5,5 @@ use Rattle.rq_state.specs.Tests.{element_test}
 use Rattle.rq_state.proofs.keeping.lists.are_elements.Given as goal
 
 abbrev pub invariant-loop-element : goal.invariant-loop-element
-invariant-loop-element l = list_all (element_test (state_of l.fields)) (drop l.element-index l.fields.elements.items) ≡ list_all (element_test (state_of l.fields)) l.fields.elements.items
+invariant-loop-element l = list_all (element_test (state_of l.fields)) (drop l.element-index l.fields.elements.items)
+    ≡ list_all (element_test (state_of l.fields)) l.fields.elements.items

@@ -5,4 +5,5 @@ use Rattle.rq_state.specs.Tests.{note_test}
 use Rattle.rq_state.proofs.keeping.lists.are_notes.Given as goal
 
 abbrev pub invariant-loop-note : goal.invariant-loop-note
-invariant-loop-note l = list_all (note_test (state_of l.fields)) (drop l.note-index l.fields.notes.items) ≡ list_all (note_test (state_of l.fields)) l.fields.notes.items
+invariant-loop-note l = list_all (note_test (state_of l.fields)) (drop l.note-index l.fields.notes.items)
+    ≡ list_all (note_test (state_of l.fields)) l.fields.notes.items

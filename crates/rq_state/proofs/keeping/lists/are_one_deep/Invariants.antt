@@ -4,4 +4,5 @@ use Rattle.rq_state.specs.Tests.{depth_test}
 use Rattle.rq_state.proofs.keeping.lists.are_one_deep.Given as goal
 
 abbrev pub invariant-loop-definition : goal.invariant-loop-definition
-invariant-loop-definition l = list_all (depth_test l.definitions) (drop l.definition-index l.definitions) ≡ list_all (depth_test l.definitions) l.definitions
+invariant-loop-definition l = list_all (depth_test l.definitions) (drop l.definition-index l.definitions)
+    ≡ list_all (depth_test l.definitions) l.definitions

@@ -5,4 +5,5 @@ use Rattle.rq_state.specs.Views.{unit_of}
 use Rattle.rq_state.proofs.keeping.lists.are_units.Given as goal
 
 abbrev pub invariant-loop-unit : goal.invariant-loop-unit
-invariant-loop-unit l = list_all (λ unit. unit_test l.greatest (unit_of unit)) (drop l.unit-index l.units) ≡ list_all (λ unit. unit_test l.greatest (unit_of unit)) l.units
+invariant-loop-unit l = list_all (λ unit. unit_test l.greatest (unit_of unit)) (drop l.unit-index l.units)
+    ≡ list_all (λ unit. unit_test l.greatest (unit_of unit)) l.units

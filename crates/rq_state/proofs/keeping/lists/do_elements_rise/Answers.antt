@@ -6,4 +6,5 @@ use Rattle.rq_state.proofs.Rises.{rises_by_number}
 use Rattle.rq_state.proofs.keeping.lists.do_elements_rise.Goals as goal
 
 pub returns : goal.returns
-returns c = rises_by_number (λ (e : Element). e.id) c.args.elements.now _ (c.is_sorted_by.ensures.cases (λ e f. nat_lt e.id f.id) (answers_always _ _ _ (λ f a r g h. search rules)))
+returns c = rises_by_number (λ (e : Element). e.id) c.args.elements.now _
+    (c.is_sorted_by.ensures.cases (λ e f. nat_lt e.id f.id) (answers_always _ _ _ (λ f a r g h. search rules)))

@@ -6,4 +6,5 @@ use Rattle.rq_state.proofs.Passing.{Passing}
 use Rattle.rq_state.proofs.reading.form.pass_definitions.Given as goal
 
 abbrev pub invariant-loop : goal.invariant-loop
-invariant-loop l = Passing definition_read (l.count - l.counter) l.bytes (passed (members definition_read l.count) l.fn.bytes)
+invariant-loop l = Passing definition_read (l.count - l.counter) l.bytes
+    (passed (members definition_read l.count) l.fn.bytes)

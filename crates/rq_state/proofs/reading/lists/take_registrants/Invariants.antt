@@ -5,4 +5,5 @@ use Rattle.rq_state.proofs.Loop.{Taking}
 use Rattle.rq_state.proofs.reading.lists.take_registrants.Given as goal
 
 abbrev pub invariant-loop : goal.invariant-loop
-invariant-loop l = Taking registrant_read l.members.items (l.count - l.counter) l.bytes (members registrant_read l.count l.fn.bytes)
+invariant-loop l = Taking registrant_read l.members.items (l.count - l.counter) l.bytes
+    (members registrant_read l.count l.fn.bytes)

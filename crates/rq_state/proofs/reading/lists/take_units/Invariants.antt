@@ -5,4 +5,5 @@ use Rattle.rq_state.proofs.Loop.{Taking}
 use Rattle.rq_state.proofs.reading.lists.take_units.Given as goal
 
 abbrev pub invariant-loop : goal.invariant-loop
-invariant-loop l = Taking (number 8) (map unit_of l.members.items) (l.count - l.counter) l.bytes (members (number 8) l.count l.fn.bytes)
+invariant-loop l = Taking (number 8) (map unit_of l.members.items) (l.count - l.counter) l.bytes
+    (members (number 8) l.count l.fn.bytes)

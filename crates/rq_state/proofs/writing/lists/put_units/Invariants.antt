@@ -5,4 +5,5 @@ use Rattle.rq_state.specs.Views.{unit_of}
 use Rattle.rq_state.proofs.writing.lists.put_units.Given as goal
 
 abbrev pub invariant-loop-member : goal.invariant-loop-member
-invariant-loop-member l = l.out.items ≡ l.fn.out.items ++ (to_be_bytes w32 (length l.members) ++ flat_map (to_be_bytes w64) (map unit_of (take l.member-index l.members)))
+invariant-loop-member l = l.out.items ≡ l.fn.out.items
+    ++ (to_be_bytes w32 (length l.members) ++ flat_map (to_be_bytes w64) (map unit_of (take l.member-index l.members)))

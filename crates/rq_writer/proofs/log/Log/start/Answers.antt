@@ -6,10 +6,14 @@ use Rattle.rq_writer.proofs.log.Log.start.Goals as goal
 
 pub last_32-last-requires : goal.last_32-last-requires
 last_32-last-requires c =
-    let made = c.in_ok-header_of.ensures ∙ ap (λ (l : List ℕ). l ++ header (version_of c.args.version)) c.new-out.ensures.items in
+    let made = c.in_ok-header_of.ensures
+    ∙ ap (λ (l : List ℕ). l ++ header (version_of c.args.version)) c.new-out.ensures.items in
     omega (arith, header_length (version_of c.args.version), ap length made, ap length c.deref.ensures.value)
 
 pub returns : goal.returns
 returns c =
-    let made = c.in_ok-header_of.ensures ∙ ap (λ (l : List ℕ). l ++ header (version_of c.args.version)) c.new-out.ensures.items in
-    starts (version_of c.args.version) c.frames_join.ensures.end _ made (c.last_32-last.ensures ∙ ap (λ (l : List ℕ). drop (length l - 32) l) c.deref.ensures.value) (c.start-front.ensures (version_of c.args.version))
+    let made = c.in_ok-header_of.ensures
+    ∙ ap (λ (l : List ℕ). l ++ header (version_of c.args.version)) c.new-out.ensures.items in
+    starts (version_of c.args.version) c.frames_join.ensures.end _ made
+    (c.last_32-last.ensures ∙ ap (λ (l : List ℕ). drop (length l - 32) l) c.deref.ensures.value)
+    (c.start-front.ensures (version_of c.args.version))
