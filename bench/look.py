@@ -11,7 +11,7 @@ output and refused memory are tried. With --scripts, so many more logs are made,
 and a check of a log of so many MiB are timed beside a restart and an audit.
 """
 from __future__ import annotations
-import json, os, random, resource, subprocess, sys
+import json, os, random, resource, shutil, subprocess, sys
 from html.parser import HTMLParser
 
 from agree import SHAPES
@@ -276,6 +276,12 @@ def refusals(look: str, log: str, folder: str) -> None:
     check("no log", said(look, "dump", look), (1, f"rqlook: {look}: not a log\n"))
     check("a page nowhere", said(look, "page", log, "/no/such"), (3, "rqlook: /no/such: No such file or directory (os error 2)\n"))
     check("a page over its log", said(look, "page", log, os.path.join(folder, ".", os.path.basename(log)))[0], 2)
+    with open(log, "rb") as source:
+        check("a page over standard input's file", said(look, "page", "-", log, stdin=source)[0], 2)
+    aside = os.path.join(folder, "look.aside")
+    os.makedirs(aside, exist_ok=True)
+    shutil.copy(log, os.path.join(aside, "-"))
+    check("a page of a file that is named -", said(look, "page", "./-", "-", cwd=aside)[0], 0)
     check("the version", told(look, "--version")[0], 0)
     little = lambda: resource.setrlimit(resource.RLIMIT_AS, (48 << 20, 48 << 20))
     big = os.path.join(folder, "look.big")
