@@ -1,4 +1,3 @@
 pub mod Hearing
 pub mod InPlace
 pub mod Best
-pub mod WellFormed
