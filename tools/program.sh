@@ -59,7 +59,7 @@ build_program() {
 build() {
     rm -f "$program"
     : > "$log"
-    echo "$name: proving and building first, which takes about twenty minutes on four free cores; see $log" >&2
+    echo "$name: proving and building first, which takes some half an hour on four free cores; see $log" >&2
     prove_libraries || refuse 'not proved'
     build_program || refuse 'not built'
 }
