@@ -14,9 +14,8 @@ ghost use Rattle.rq_state.specs.Views.{id_of};
 use crate::departures::{in_order, send};
 use crate::moves::Move;
 use crate::priorities::{kept_with, known, without};
-use crate::shelves::{
-    all_freed, all_returned, free_list, freed, mapped, parted, stow, taken, with_marked,
-};
+use crate::shelves::{all_freed, all_returned, free_list, freed, mapped, parted, stow, taken};
+use crate::shelves::{with_marked};
 use rq_record::{ElemId, Fault, KeptPayload, QueueNo, UnitNo};
 use rq_state::{Definition, Element, Mark};
 use std::alloc::Global;
@@ -69,8 +68,8 @@ impl Elements {
         ensures done { IfOk result (λ v. v ≡ items.items) }
         ensures refused { IfErr result (λ e. e ≡ Resources) }
     {
-        let (entries, marked) = parted(alloc, items)?;
-        let free = mapped(alloc, entries)?;
+        let (list, marked) = parted(alloc, items)?;
+        let free = mapped(alloc, list)?;
         Ok(Elements {
             free,
             marked,
