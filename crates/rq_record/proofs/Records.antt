@@ -1,7 +1,6 @@
 -- What is kept of a body answers for it.
 use Rattle.std.proofs.Common.{◌≡◌, ℕ, List, [], Option, Some, None, refl}
 use Rattle.std.specs.Prelude.{Result, Ok, Err, IsSome}
-use Rattle.std.specs.Option.{unwrap_or}
 use Rattle.rq_bytes.specs.Reads.{IsBytes}
 use Rattle.rq_bytes.proofs.Together.{spelled_by, read_again}
 use Rattle.rq_model.specs.Records.{Record, Version}
@@ -19,11 +18,11 @@ spelled : (version : Version) (body : List ℕ) (read : Option (Record × List �
 spelled version body (Some x) fits e some = (x.0, spelled_by body x (reads_record version) fits e)
 spelled version body None fits e some = absurd cc
 
-pub is_decoded : (version : Version) (body : List ℕ) (kept : Option (Result code.Record Fault)) → IsBytes body
-    → KeepsRead record_of kept (record_read version body) → Decodes version body (unwrap_or kept (Err faults.Form))
-is_decoded version body None fits none = λ r s.
+pub is_decoded : (version : Version) (body : List ℕ) (kept : Result code.Record Fault) → IsBytes body
+    → KeepsRead record_of kept (record_read version body) → Decodes version body kept
+is_decoded version body (Ok r) fits read = spelled_by body (record_of r, []) (reads_record version) fits read
+is_decoded version body (Err faults.Form) fits none = λ r s.
     let again = read_again body r (reads_record version) s.0 s.1 in absurd cc
-is_decoded version body (Some (Ok r)) fits read = spelled_by body (record_of r, []) (reads_record version) fits read
-is_decoded version body (Some (Err faults.Resources)) fits some =
+is_decoded version body (Err faults.Resources) fits some =
     spelled version body (record_read version body) fits refl some
-is_decoded version body (Some (Err _)) fits given = absurd given
+is_decoded version body (Err _) fits given = absurd given

@@ -8,13 +8,13 @@ use Rattle.rq_record.specs.declared.fault.Fault.{Fault}
 use Rattle.rq_record.specs.declared.fault.Fault.TheVariants as faults
 use Rattle.rq_record.specs.declared.record.Record.{Record}
 
--- None where nothing is read; else what is read, seen by view, unless there was no memory for it
+-- what is read, seen by view, or Form where nothing is; memory runs out only where something is
 abbrev pub KeepsRead : {X Y : Type 0}
-    → (X → Y) → Option (Result X Fault) → Option (Y × List ℕ) → Type 0
-KeepsRead view None read = read ≡ None
-KeepsRead view (Some (Ok x)) read = read ≡ Some (view x, [])
-KeepsRead view (Some (Err faults.Resources)) read = IsSome read
-KeepsRead view (Some (Err _)) read = ⊥
+    → (X → Y) → Result X Fault → Option (Y × List ℕ) → Type 0
+KeepsRead view (Ok x) read = read ≡ Some (view x, [])
+KeepsRead view (Err faults.Form) read = read ≡ None
+KeepsRead view (Err faults.Resources) read = IsSome read
+KeepsRead view (Err _) read = ⊥
 
 -- what decode_in answers: the record that the body spells, or Form where it spells none; memory
 -- runs out only where it spells one

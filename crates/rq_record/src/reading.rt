@@ -1,5 +1,5 @@
-//! From bytes to a record. `None` answers bytes that spell none, before memory is asked for; it
-//! becomes the fault at one place, in `decode_lent`.
+//! From bytes to a record. `None`, or `Form` where memory may be asked for as well, answers bytes
+//! that spell none, and is found before memory is asked for.
 
 ghost use Rattle.std.specs.Prelude.{◌≡◌, ◌+◌, ◌≤◌, [], length, slice_range, option_map};
 ghost use Rattle.rq_bytes.specs.Readers.{made};
@@ -25,10 +25,13 @@ use rq_bytes::Cursor;
 use std::alloc::Global;
 
 #[tactic(auto, unfolding(rq_model::specs::RecordReading::name_left))]
-fn name_left(bytes: Cursor<'_>) -> Option<Name>
-    ensures { option_map (λ n. (n, [])) result ≡ name_left bytes.entry }
+fn name_left(alloc: Global, bytes: Cursor<'_>) -> Result<KeptName, Fault>
+    ensures { KeepsRead (λ n. n) result (name_left bytes.entry) }
 {
-    Name::new(bytes.rest())
+    match Name::new(bytes.rest()) {
+        Some(name) => KeptName::of(alloc, &name),
+        None => Err(Fault::Form),
+    }
 }
 
 #[tactic(auto, unfolding(rq_model::specs::RecordReading::who_read))]
@@ -49,44 +52,44 @@ fn who(bytes: &mut Cursor<'_>) -> Option<Option<By>>
 }
 
 #[tactic(auto, unfolding(rq_model::specs::RecordReading::define_read))]
-fn define(alloc: Global, bytes: Cursor<'_>) -> Option<Result<Record, Fault>>
+fn define(alloc: Global, bytes: Cursor<'_>) -> Result<Record, Fault>
     ensures { KeepsRead record_of result (made define_of define_read bytes.entry) }
 {
     let mut bytes = bytes;
-    let limit = bytes.u16()?;
-    let error = bytes.u32()?;
-    let name = name_left(bytes)?;
-    Some(KeptName::of(alloc, &name).map(|name| Record::Define {
+    let limit = bytes.u16().ok_or(Fault::Form)?;
+    let error = bytes.u32().ok_or(Fault::Form)?;
+    let name = name_left(alloc, bytes)?;
+    Ok(Record::Define {
         limit,
         error: QueueNo(error),
         name,
-    }))
+    })
 }
 
 #[tactic(auto, unfolding(rq_model::specs::RecordReading::registration_read))]
-fn register(alloc: Global, bytes: Cursor<'_>) -> Option<Result<Record, Fault>>
+fn register(alloc: Global, bytes: Cursor<'_>) -> Result<Record, Fault>
     ensures { KeepsRead record_of result (made register_of registration_read bytes.entry) }
 {
     let mut bytes = bytes;
-    let queue = bytes.u32()?;
-    let name = name_left(bytes)?;
-    Some(KeptName::of(alloc, &name).map(|name| Record::Register {
+    let queue = bytes.u32().ok_or(Fault::Form)?;
+    let name = name_left(alloc, bytes)?;
+    Ok(Record::Register {
         queue: QueueNo(queue),
         name,
-    }))
+    })
 }
 
 #[tactic(auto, unfolding(rq_model::specs::RecordReading::registration_read))]
-fn deregister(alloc: Global, bytes: Cursor<'_>) -> Option<Result<Record, Fault>>
+fn deregister(alloc: Global, bytes: Cursor<'_>) -> Result<Record, Fault>
     ensures { KeepsRead record_of result (made deregister_of registration_read bytes.entry) }
 {
     let mut bytes = bytes;
-    let queue = bytes.u32()?;
-    let name = name_left(bytes)?;
-    Some(KeptName::of(alloc, &name).map(|name| Record::Deregister {
+    let queue = bytes.u32().ok_or(Fault::Form)?;
+    let name = name_left(alloc, bytes)?;
+    Ok(Record::Deregister {
         queue: QueueNo(queue),
         name,
-    }))
+    })
 }
 
 #[tactic(auto, unfolding(rq_model::specs::RecordReading::unit_read))]
@@ -105,89 +108,83 @@ fn payload(
     log: &LentLog,
     end: usize,
     bytes: Cursor<'_>,
-) -> Option<Result<KeptPayload, Fault>>
+) -> Result<KeptPayload, Fault>
     ensures { KeepsRead (λ p. p) result (at_most 65535 bytes.entry) }
 {
-    KeptPayload::lent(alloc, log, end, bytes.rest()).transpose()
+    match KeptPayload::lent(alloc, log, end, bytes.rest())? {
+        Some(payload) => Ok(payload),
+        None => Err(Fault::Form),
+    }
 }
 
 #[tactic(auto, unfolding(rq_model::specs::RecordReading::enqueue_read))]
-fn enqueue(
-    alloc: Global,
-    log: &LentLog,
-    end: usize,
-    bytes: Cursor<'_>,
-) -> Option<Result<Record, Fault>>
+fn enqueue(alloc: Global, log: &LentLog, end: usize, bytes: Cursor<'_>) -> Result<Record, Fault>
     ensures { KeepsRead record_of result (made enqueue_of enqueue_read bytes.entry) }
 {
     let mut bytes = bytes;
-    let unit = bytes.u64()?;
-    let queue = bytes.u32()?;
-    let priority = bytes.u8()?;
-    let by = who(&mut bytes)?;
+    let unit = bytes.u64().ok_or(Fault::Form)?;
+    let queue = bytes.u32().ok_or(Fault::Form)?;
+    let priority = bytes.u8().ok_or(Fault::Form)?;
+    let by = who(&mut bytes).ok_or(Fault::Form)?;
     let payload = payload(alloc, log, end, bytes)?;
-    Some(payload.and_then(|payload| {
-        Ok(Record::Enqueue {
-            priority,
-            queue: QueueNo(queue),
-            unit: UnitNo(unit),
-            by: KeptBy::of(alloc, &by)?,
-            payload,
-        })
-    }))
+    Ok(Record::Enqueue {
+        priority,
+        queue: QueueNo(queue),
+        unit: UnitNo(unit),
+        by: KeptBy::of(alloc, &by)?,
+        payload,
+    })
 }
 
 #[tactic(auto, unfolding(rq_model::specs::RecordReading::dequeue_read))]
-fn dequeue(alloc: Global, bytes: Cursor<'_>) -> Option<Result<Record, Fault>>
+fn dequeue(alloc: Global, bytes: Cursor<'_>) -> Result<Record, Fault>
     ensures { KeepsRead record_of result (made dequeue_of dequeue_read bytes.entry) }
 {
     let mut bytes = bytes;
-    let unit = bytes.u64()?;
-    let queue = bytes.u32()?;
-    let by = who(&mut bytes)?;
-    bytes.end()?;
-    Some(KeptBy::of(alloc, &by).map(|by| Record::Dequeue {
+    let unit = bytes.u64().ok_or(Fault::Form)?;
+    let queue = bytes.u32().ok_or(Fault::Form)?;
+    let by = who(&mut bytes).ok_or(Fault::Form)?;
+    bytes.end().ok_or(Fault::Form)?;
+    Ok(Record::Dequeue {
         unit: UnitNo(unit),
         queue: QueueNo(queue),
-        by,
-    }))
+        by: KeptBy::of(alloc, &by)?,
+    })
 }
 
 #[tactic(auto, unfolding(rq_model::specs::RecordReading::at_most))]
-fn check_bytes(alloc: Global, bytes: Cursor<'_>) -> Option<Result<CheckBytes, Fault>>
+fn check_bytes(alloc: Global, bytes: Cursor<'_>) -> Result<CheckBytes, Fault>
     ensures { KeepsRead (λ b. b) result (at_most 268435455 bytes.entry) }
 {
     let bytes = bytes.rest();
     if bytes.len() > 268_435_455 {
-        return None;
+        return Err(Fault::Form);
     }
-    match Vec::from_slice(alloc, bytes) {
-        Ok(kept) => Some(Ok(CheckBytes::new(kept)?)),
-        Err(refused) => Some(Err(refused.into())),
-    }
+    let kept = Vec::from_slice(alloc, bytes)?;
+    CheckBytes::new(kept).ok_or(Fault::Form)
 }
 
 #[tactic(auto, unfolding(rq_model::specs::RecordReading::checkpoint_read))]
-fn checkpoint(alloc: Global, bytes: Cursor<'_>) -> Option<Result<Record, Fault>>
+fn checkpoint(alloc: Global, bytes: Cursor<'_>) -> Result<Record, Fault>
     ensures { KeepsRead record_of result (made Checkpoint checkpoint_read bytes.entry) }
 {
-    let kept = check_bytes(alloc, bytes)?;
-    Some(kept.map(|bytes| Record::Checkpoint { bytes }))
+    let bytes = check_bytes(alloc, bytes)?;
+    Ok(Record::Checkpoint { bytes })
 }
 
 #[tactic(auto, unfolding(rq_model::specs::RecordReading::kill_read))]
-fn kill(version: Version, bytes: Cursor<'_>) -> Option<Record>
-    ensures { option_map (λ r. (record_of r, [])) result
-        ≡ made kill_of (kill_read (version_of version)) bytes.entry }
+fn kill(version: Version, bytes: Cursor<'_>) -> Result<Record, Fault>
+    ensures { KeepsRead record_of result
+        (made kill_of (kill_read (version_of version)) bytes.entry) }
 {
     if version == Version::One {
-        return None;
+        return Err(Fault::Form);
     }
     let mut bytes = bytes;
-    let queue = bytes.u32()?;
-    let element = bytes.u64()?;
-    bytes.end()?;
-    Some(Record::Kill {
+    let queue = bytes.u32().ok_or(Fault::Form)?;
+    let element = bytes.u64().ok_or(Fault::Form)?;
+    bytes.end().ok_or(Fault::Form)?;
+    Ok(Record::Kill {
         queue: QueueNo(queue),
         element: ElemId(element),
     })
@@ -201,21 +198,27 @@ fn of_kind(
     end: usize,
     kind: u8,
     bytes: Cursor<'_>,
-) -> Option<Result<Record, Fault>>
+) -> Result<Record, Fault>
     ensures { KeepsRead record_of result (kind_read (version_of version) kind bytes.entry) }
 {
     match kind {
         1 => define(alloc, bytes),
         2 => register(alloc, bytes),
         3 => deregister(alloc, bytes),
-        4 => Some(Ok(Record::Begin { unit: unit(bytes)? })),
+        4 => Ok(Record::Begin {
+            unit: unit(bytes).ok_or(Fault::Form)?,
+        }),
         5 => enqueue(alloc, log, end, bytes),
         6 => dequeue(alloc, bytes),
-        7 => Some(Ok(Record::Commit { unit: unit(bytes)? })),
-        8 => Some(Ok(Record::Abort { unit: unit(bytes)? })),
+        7 => Ok(Record::Commit {
+            unit: unit(bytes).ok_or(Fault::Form)?,
+        }),
+        8 => Ok(Record::Abort {
+            unit: unit(bytes).ok_or(Fault::Form)?,
+        }),
         9 => checkpoint(alloc, bytes),
-        10 => Some(Ok(kill(version, bytes)?)),
-        _ => None,
+        10 => kill(version, bytes),
+        _ => Err(Fault::Form),
     }
 }
 
@@ -226,11 +229,11 @@ fn record(
     log: &LentLog,
     end: usize,
     body: &[u8],
-) -> Option<Result<Record, Fault>>
+) -> Result<Record, Fault>
     ensures { KeepsRead record_of result (record_read (version_of version) body.now) }
 {
     let mut bytes = Cursor::new(body);
-    let kind = bytes.u8()?;
+    let kind = bytes.u8().ok_or(Fault::Form)?;
     of_kind(alloc, version, log, end, kind, bytes)
 }
 
@@ -244,7 +247,7 @@ fn decode_lent(
 ) -> Result<Record, Fault>
     ensures decodes { Decodes (version_of version) body.now result }
 {
-    record(alloc, version, log, end, body).unwrap_or(Err(Fault::Form))
+    record(alloc, version, log, end, body)
 }
 
 /// The record that `len` bytes of a log from `start` on spell: `decode_in` of that body.

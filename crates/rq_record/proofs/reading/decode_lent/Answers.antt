@@ -3,6 +3,4 @@ use Rattle.rq_record.proofs.Records.{is_decoded}
 use Rattle.rq_record.proofs.reading.decode_lent.Goals as goal
 
 pub returns : goal.returns
-returns c =
-    rw c.unwrap_or.ensures
-    (record { decodes = is_decoded _ _ _ (λ i. omega (arith, c.type_inv.body i)) c.record.ensures })
+returns c = record { decodes = is_decoded _ _ _ (λ i. omega (arith, c.type_inv.body i)) c.record.ensures }
