@@ -6,7 +6,7 @@ ghost use Rattle.rq_record.specs.declared.fault.Fault.TheVariants.{Resources};
 
 use crate::fault::Fault;
 use crate::kept_name::KeptName;
-use crate::record::By;
+use crate::record::{By, LentBy};
 use std::alloc::Global;
 use std::marker::Model;
 
@@ -42,10 +42,22 @@ impl KeptBy {
         ensures nobody { by.now ≡ None → IsOk result }
     {
         match by {
+            None => KeptBy::of_lent(alloc, None),
+            Some(by) => KeptBy::of_lent(alloc, Some(by.lent())),
+        }
+    }
+
+    /// The same of who is lent.
+    pub(crate) fn of_lent(alloc: Global, by: Option<LentBy<'_>>) -> Result<KeptBy, Fault>
+        ensures kept { IfOk result (λ k. k ≡ by.entry) }
+        ensures refused { IfErr result (λ e. e ≡ Resources) }
+        ensures nobody { by.entry ≡ None → IsOk result }
+    {
+        match by {
             None => Ok(KeptBy { somebody: None }),
             Some(by) => {
                 let somebody = Somebody {
-                    name: KeptName::of(alloc, &by.name)?,
+                    name: KeptName::of_lent(alloc, by.name)?,
                     tag: by.tag,
                 };
                 Ok(KeptBy {

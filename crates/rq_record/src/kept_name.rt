@@ -5,7 +5,7 @@ ghost use Rattle.rq_model.specs.Spelling.{is_name};
 ghost use Rattle.rq_record.specs.declared.fault.Fault.TheVariants.{Resources};
 
 use crate::fault::Fault;
-use crate::name::{Name, padded, text_of};
+use crate::name::{LentName, Name, padded, text_of};
 use std::alloc::Global;
 use std::marker::Model;
 
@@ -40,6 +40,15 @@ impl KeptName {
         ensures refused { IfErr result (λ e. e ≡ Resources) }
         ensures short { length name.now ≤ 14 → IsOk result }
     {
+        KeptName::of_lent(alloc, name.lent())
+    }
+
+    /// The same of a name that is lent.
+    pub(crate) fn of_lent(alloc: Global, name: LentName<'_>) -> Result<KeptName, Fault>
+        ensures kept { IfOk result (λ n. n ≡ name.entry) }
+        ensures refused { IfErr result (λ e. e ≡ Resources) }
+        ensures short { length name.entry ≤ 14 → IsOk result }
+    {
         let bytes = name.bytes();
         let form = if bytes.len() <= 14 {
             Form::Short {
@@ -47,7 +56,7 @@ impl KeptName {
                 bytes: padded(bytes),
             }
         } else {
-            Form::Long(Box::new(alloc, *name)?)
+            Form::Long(Box::new(alloc, Name::of_checked(bytes))?)
         };
         Ok(KeptName { form })
     }

@@ -119,6 +119,54 @@ impl Name {
     {
         text_of(self.bytes())
     }
+
+    /// The same name, lent.
+    pub(crate) fn lent(&self) -> LentName<'_>
+        ensures { result ≡ self.now }
+    {
+        LentName {
+            bytes: self.bytes(),
+        }
+    }
+}
+
+/// The bytes of a name where they stand: a name that is kept in fewer bytes than a `Name` has is
+/// not copied into one before.
+#[derive(Drop)]
+pub(crate) struct LentName<'a> {
+    bytes: &'a [u8],
+}
+
+impl<'a> Model for LentName<'a> {
+    ghost use Rattle.std.specs.Prelude.{ℕ, List, IsTrue};
+    ghost use Rattle.rq_model.specs.Spelling.{is_name};
+
+    ghost Value = { List ℕ };
+
+    ghost view = { λ n. n.bytes.now };
+
+    ghost invariant = { λ n. IsTrue (is_name n.bytes.now) };
+}
+
+impl<'a> LentName<'a> {
+    /// The name of these bytes; none where they are none.
+    pub(crate) fn new(bytes: &'a [u8]) -> Option<LentName<'a>>
+        ensures { result ≡ (if is_name bytes.now then Some bytes.now else None) }
+    {
+        if is_name_bytes(bytes) {
+            Some(LentName { bytes })
+        } else {
+            None
+        }
+    }
+
+    /// The bytes of the name, 1 to 64, and that they are a name.
+    pub(crate) fn bytes(self) -> &'a [u8]
+        ensures bytes { result.now ≡ self.entry }
+        ensures name { IsTrue (is_name self.entry) }
+    {
+        self.bytes
+    }
 }
 
 impl PartialEq for Name {

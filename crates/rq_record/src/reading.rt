@@ -18,8 +18,8 @@ use crate::kept_by::KeptBy;
 use crate::kept_name::KeptName;
 use crate::kept_payload::KeptPayload;
 use crate::lent_log::LentLog;
-use crate::name::Name;
-use crate::record::{By, ElemId, QueueNo, Record, UnitNo};
+use crate::name::LentName;
+use crate::record::{ElemId, LentBy, QueueNo, Record, UnitNo};
 use crate::version::Version;
 use rq_bytes::Cursor;
 use std::alloc::Global;
@@ -28,14 +28,14 @@ use std::alloc::Global;
 fn name_left(alloc: Global, bytes: Cursor<'_>) -> Result<KeptName, Fault>
     ensures { KeepsRead (λ n. n) result (name_left bytes.entry) }
 {
-    match Name::new(bytes.rest()) {
-        Some(name) => KeptName::of(alloc, &name),
+    match LentName::new(bytes.rest()) {
+        Some(name) => KeptName::of_lent(alloc, name),
         None => Err(Fault::Form),
     }
 }
 
 #[tactic(auto, unfolding(rq_model::specs::RecordReading::who_read))]
-fn who(bytes: &mut Cursor<'_>) -> Option<Option<By>>
+fn who<'a>(bytes: &mut Cursor<'a>) -> Option<Option<LentBy<'a>>>
     ensures { option_map (λ x. (x, bytes.new)) result ≡ who_read bytes.old }
 {
     match bytes.u8()? {
@@ -44,9 +44,9 @@ fn who(bytes: &mut Cursor<'_>) -> Option<Option<By>>
             if tag == 0 { Some(None) } else { None }
         }
         size => {
-            let name = Name::new(bytes.piece(size as usize)?)?;
+            let name = LentName::new(bytes.piece(size as usize)?)?;
             let tag = bytes.u64()?;
-            Some(Some(By { name, tag }))
+            Some(Some(LentBy { name, tag }))
         }
     }
 }
@@ -131,7 +131,7 @@ fn enqueue(alloc: Global, log: &LentLog, end: usize, bytes: Cursor<'_>) -> Resul
         priority,
         queue: QueueNo(queue),
         unit: UnitNo(unit),
-        by: KeptBy::of(alloc, &by)?,
+        by: KeptBy::of_lent(alloc, by)?,
         payload,
     })
 }
@@ -148,7 +148,7 @@ fn dequeue(alloc: Global, bytes: Cursor<'_>) -> Result<Record, Fault>
     Ok(Record::Dequeue {
         unit: UnitNo(unit),
         queue: QueueNo(queue),
-        by: KeptBy::of(alloc, &by)?,
+        by: KeptBy::of_lent(alloc, by)?,
     })
 }
 

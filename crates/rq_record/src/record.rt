@@ -1,10 +1,12 @@
 //! The ten kinds of record, and the numbers that they name things by.
 
+ghost use Rattle.std.specs.Prelude.{◌≡◌};
+
 use crate::check_bytes::CheckBytes;
 use crate::kept_by::KeptBy;
 use crate::kept_name::KeptName;
 use crate::kept_payload::KeptPayload;
-use crate::name::Name;
+use crate::name::{LentName, Name};
 use std::marker::Model;
 
 /// The number of a queue: its place among the DEFINE records, counted from 0.
@@ -44,6 +46,33 @@ impl Model for By {
     ghost inverse = { λ v. record { name = v.name; tag = v.tag } };
 
     ghost inverse_ok = { λ b h. refl };
+}
+
+impl By {
+    /// The same, lent.
+    pub(crate) fn lent(&self) -> LentBy<'_>
+        ensures { result ≡ self.now }
+    {
+        LentBy {
+            name: self.name.lent(),
+            tag: self.tag,
+        }
+    }
+}
+
+/// The same as a `By`, whose name stands elsewhere.
+#[derive(Drop)]
+pub(crate) struct LentBy<'a> {
+    pub(crate) name: LentName<'a>,
+    pub(crate) tag: u64,
+}
+
+impl<'a> Model for LentBy<'a> {
+    ghost use Rattle.rq_model.specs.Records as model;
+
+    ghost Value = { model.By };
+
+    ghost view = { λ b. record { name = b.name; tag = b.tag } };
 }
 
 // A restart holds all records at once.
