@@ -130,8 +130,8 @@ impl Name {
     }
 }
 
-/// The bytes of a name where they stand: a name that is kept in fewer bytes than a `Name` has is
-/// not copied into one before.
+/// A name where its bytes stand. What is read is kept from here, and is not copied into the 65
+/// bytes of a `Name` before.
 #[derive(Drop)]
 pub(crate) struct LentName<'a> {
     bytes: &'a [u8],

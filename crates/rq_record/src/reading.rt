@@ -1,5 +1,6 @@
-//! From bytes to a record. `None`, or `Form` where memory may be asked for as well, answers bytes
-//! that spell none, and is found before memory is asked for.
+//! From bytes to a record. Each kind's function answers the record or its fault in one `Result`:
+//! `Form` for bytes that spell none, which is found before memory is asked for. What reads a part
+//! and takes no memory answers an `Option`.
 
 ghost use Rattle.std.specs.Prelude.{◌≡◌, ◌+◌, ◌≤◌, [], length, slice_range, option_map};
 ghost use Rattle.rq_bytes.specs.Readers.{made};

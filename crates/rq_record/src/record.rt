@@ -60,7 +60,7 @@ impl By {
     }
 }
 
-/// The same as a `By`, whose name stands elsewhere.
+/// What a `By` says, with its name where its bytes stand.
 #[derive(Drop)]
 pub(crate) struct LentBy<'a> {
     pub(crate) name: LentName<'a>,
