@@ -173,7 +173,7 @@ none_to_kill id by_id es n h =
     sym (filter_all (λ e. not (e.id == id)) es
     (each_weaker (IsKnown by_id) (λ e. not (e.id == id) ≡ true) (no_such id by_id n) es h))
 
-equal_rank : (p i q j : ℕ) → is_eq (key_cmp (record { 0 = p }, i) (record { 0 = q }, j)) ≡ true → (p ≡ q) × (i ≡ j)
+pub equal_rank : (p i q j : ℕ) → is_eq (key_cmp (record { 0 = p }, i) (record { 0 = q }, j)) ≡ true → (p ≡ q) × (i ≡ j)
 equal_rank p i q j h = (grind (arith), grind (arith))
 
 rank_equal : (p i : ℕ) → is_eq (key_cmp (record { 0 = p }, i) (record { 0 = p }, i)) ≡ true

@@ -11,3 +11,4 @@ pub mod Noting
 pub mod Steps
 pub mod Cases
 pub mod Known
+pub mod Building

@@ -14,7 +14,9 @@ ghost use Rattle.rq_state.specs.Views.{id_of};
 use crate::departures::{in_order, send};
 use crate::moves::Move;
 use crate::priorities::{kept_with, known, without};
-use crate::shelves::{all_freed, all_returned, free_list, freed, stow, taken, with_marked};
+use crate::shelves::{
+    all_freed, all_returned, free_list, freed, mapped, parted, stow, taken, with_marked,
+};
 use rq_record::{ElemId, Fault, KeptPayload, QueueNo, UnitNo};
 use rq_state::{Definition, Element, Mark};
 use std::alloc::Global;
@@ -67,13 +69,13 @@ impl Elements {
         ensures done { IfOk result (λ v. v ≡ items.items) }
         ensures refused { IfErr result (λ e. e ≡ Resources) }
     {
-        let mut coming = items;
-        coming.reverse();
-        let mut all = Elements::none(alloc);
-        while let Some(e) = coming.pop() {
-            all = all.push(alloc, e)?;
-        }
-        Ok(all)
+        let (entries, marked) = parted(alloc, items)?;
+        let free = mapped(alloc, entries)?;
+        Ok(Elements {
+            free,
+            marked,
+            priorities: None,
+        })
     }
 
     /// All of them, in some order.

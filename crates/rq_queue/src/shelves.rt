@@ -4,11 +4,13 @@ ghost use Rattle.std.specs.Prelude.{◌≡◌, ◌≢◌, ◌+◌, ◌<◌, ◌^
 ghost use Rattle.std.specs.Prelude.{None, IfOk, IfErr};
 ghost use Rattle.std.specs.BTreeMap.{is_at};
 ghost use Rattle.std.specs.List.{AllByRecursion};
+ghost use Rattle.std.specs.List.Sorted.{IsPermutation};
 ghost use Rattle.std.specs.Map.{lookup, values_of};
 ghost use Rattle.std.specs.Ordering.{nat_cmp};
 ghost use Rattle.rq_model.specs.Machine as machine;
 ghost use Rattle.rq_model.specs.Queues as queues;
 ghost use Rattle.rq_model.specs.States as model;
+ghost use Rattle.rq_model.specs.WellFormed.{Ordered};
 ghost use Rattle.rq_queue.specs.Kept.{items_of, IsKeyed, IsOfUnit, Stowed, Among, Frees, unheld};
 ghost use Rattle.rq_queue.specs.Kept.{staying};
 ghost use Rattle.rq_record.specs.declared.fault.Fault.TheVariants.{Resources};
@@ -59,6 +61,52 @@ pub fn stow(
     list.push(e)?;
     others.insert(unit.0, list)?;
     Ok(others)
+}
+
+/// Parts elements: Free ones under their keys, the others with their units.
+pub fn parted(
+    alloc: Global,
+    items: Vec<Element>,
+) -> Result<
+    (
+        Vec<((Reverse<u8>, u64), Element)>,
+        BTreeMap<u64, Vec<Element>>,
+    ),
+    Fault,
+>
+    ensures keyed { IfOk result (λ r. AllByRecursion IsKeyed r.0.items) }
+    ensures of_units { IfOk result (λ r. AllByRecursion IsOfUnit r.1.entries) }
+    ensures all { IfOk result (λ r. IsPermutation items.items
+        (values_of r.0.items ++ items_of r.1.entries)) }
+    ensures refused { IfErr result (λ e. e ≡ Resources) }
+{
+    let mut free = Vec::new(alloc);
+    free.reserve_exact(items.len())?;
+    let mut marked = BTreeMap::new(alloc);
+    for e in items {
+        match e.unit() {
+            None => {
+                let key = e.key();
+                free.push(((Reverse(key.0), key.1), e))?;
+            }
+            Some(unit) => marked = stow(alloc, marked, unit, e)?,
+        }
+    }
+    Ok((free, marked))
+}
+
+/// The map of Free elements whose ids differ. It is made at once, so that its nodes are full.
+pub fn mapped(
+    alloc: Global,
+    entries: Vec<((Reverse<u8>, u64), Element)>,
+) -> Result<BTreeMap<(Reverse<u8>, u64), Element>, Fault>
+    requires keyed { AllByRecursion IsKeyed entries.items }
+    requires apart { Ordered (λ (e f : model.Element). e.id ≢ f.id) (values_of entries.items) }
+    ensures all { IfOk result (λ m. IsPermutation entries.items m.entries) }
+    ensures refused { IfErr result (λ e. e ≡ Resources) }
+{
+    let free = entries.into_iter().collect(alloc)?;
+    Ok(free)
 }
 
 /// Puts a Free element under its key.
@@ -141,6 +189,7 @@ pub fn free_list(
     ensures refused { IfErr result (λ e. e ≡ Resources) }
 {
     let mut all = Vec::new(alloc);
+    all.reserve_exact(free.len())?;
     for e in free.into_values() {
         all.push(e)?;
     }

@@ -1,14 +1,34 @@
-use Rattle.std.proofs.Common.{◌<◌, ◌++◌, sym, ap, ◌∙◌, subst, List, reverse}
-use Rattle.rq_model.specs.States.{Element}
-use Rattle.rq_model.specs.WellFormed.{Ordered}
-use Rattle.rq_queue.proofs.Doing.{popped, above_all}
+use Rattle.std.proofs.Common.{◌++◌}
+use Rattle.std.specs.Map.{values_of}
+use Rattle.rq_queue.specs.Kept.{items_of}
+use Rattle.rq_queue.proofs.Building.{keyed_moved, mapped_too, parted_apart, parted_sorted}
+use Rattle.rq_queue.proofs.Sorting.{apart_front}
 use Rattle.rq_queue.proofs.elements.Elements.of.Goals as goal
 
-pub push-requires : goal.push-requires
-push-requires c =
-    let e = c.in-Some.e in
-    let left = c.pop.new.self.items in
-    above_all c.loop-e.all e (reverse left)
-    (subst (Ordered (λ (e f : Element). e.id < f.id))
-    (sym c.loop-e.invariant ∙ ap (λ (xs : List Element). c.loop-e.all ++ xs)
-    (popped c.loop-e.coming.items left e c.in-Some.ensures.items)) c.requires)
+pub mapped-requires-clause-apart : goal.mapped-requires-clause-apart
+mapped-requires-clause-apart c =
+    let free = values_of c.in_ok-entries.entries.items in
+    let held = items_of c.in_ok-entries.marked.entries in
+    apart_front free held
+    (parted_apart c.args.items.items c.requires (free ++ held) c.in_ok-entries.ensures.all)
+
+pub invariant_of-result : goal.invariant_of-result
+invariant_of-result c =
+    let entries = c.in_ok-entries.entries.items in
+    let free = c.in_ok-free.free.entries in
+    let held = items_of c.in_ok-entries.marked.entries in
+    record {
+      keyed = keyed_moved entries free c.in_ok-free.ensures.all c.in_ok-entries.ensures.keyed;
+      of_units = c.in_ok-entries.ensures.of_units;
+      apart = parted_apart c.args.items.items c.requires (values_of free ++ held)
+          (mapped_too c.args.items.items held entries free c.in_ok-entries.ensures.all c.in_ok-free.ensures.all);
+      known = tt;
+    }
+
+pub returns-clause-done : goal.returns-clause-done
+returns-clause-done c =
+    let free = c.in_ok-free.free.entries in
+    let held = items_of c.in_ok-entries.marked.entries in
+    parted_sorted c.args.items.items c.requires (values_of free ++ held)
+    (mapped_too c.args.items.items held c.in_ok-entries.entries.items free c.in_ok-entries.ensures.all
+    c.in_ok-free.ensures.all)

@@ -1,0 +1,229 @@
+-- The elements of a queue, out of a list: parted, and the map of the Free ones made at once.
+use Rattle.std.proofs.Common.{◌≡◌, ◌≢◌, ℕ, ◌<◌, ◌==◌, Bool, true, false, List, [], ◌∷◌, ◌++◌, refl, sym, ap, ◌∙◌}
+use Rattle.std.proofs.Common.{subst, arith, append_assoc, cond, Some, None}
+use Rattle.std.specs.BTreeMap.{BTreeMap, IsFromIterResult}
+use Rattle.std.specs.Cmp.{IsEquivalence, IsTotalOrder, nat_cmp_total, on_total, back_total}
+use Rattle.std.specs.List.{AllByRecursion, IsDistinct}
+use Rattle.std.specs.List.Sorted.{IsPermutation}
+use Rattle.std.specs.Map.{keys_of, lookup, remove_entry, values_of}
+use Rattle.std.specs.Ordering.{eq_by_cmp}
+use Rattle.std.specs.declared.cmp.Reverse.{Reverse}
+use Rattle.std.proofs.lemmas.Bool.{eq-eqb, eqb-true, eqb-false, lt-ltb}
+use Rattle.std.proofs.lemmas.Cmp.{eq_by_cmp_equiv, then_total}
+use Rattle.std.proofs.lemmas.List.{map-append}
+use Rattle.std.proofs.lemmas.List.Elements.{All-from_recursion, recursion_from_All}
+use Rattle.std.proofs.lemmas.List.Sorted.{All-permutation, IsPermutation-append_comm, IsPermutation-append_left}
+use Rattle.std.proofs.lemmas.List.Sorted.{IsPermutation-append_right, IsPermutation-cons, IsPermutation-map}
+use Rattle.std.proofs.lemmas.List.Sorted.{IsPermutation-middle, IsPermutation-sym, IsPermutation-to_front}
+use Rattle.std.proofs.lemmas.List.Sorted.{IsPermutation-refl, IsPermutation-swap, IsPermutation-trans}
+use Rattle.std.proofs.lemmas.Map.{lookup-remove_entry}
+use Rattle.std.proofs.lemmas.Map.Keys.{IsDistinct-IsPermutation, IsDistinct-from_sorted, IsDistinct-tail}
+use Rattle.std.proofs.lemmas.Map.Entries.{lookup_head}
+use Rattle.std.proofs.lemmas.Map.Made.{update_all_none}
+use Rattle.rq_model.specs.States.{Element, id_before}
+use Rattle.rq_model.specs.WellFormed.{Ordered}
+use Rattle.rq_model.proofs.Apart.{Apart}
+use Rattle.rq_model.proofs.Lists.{by_cases, each_append, each_weaker}
+use Rattle.rq_state.proofs.InOrder.{number_is_order, ordered_weaker}
+use Rattle.rq_state.proofs.Whole.{whole_permuted}
+use Rattle.rq_queue.specs.Kept.{items_of, IsKeyed, Stowed}
+use Rattle.rq_queue.specs.Sorted.{sorted}
+use Rattle.rq_queue.proofs.Doing.{Entry, key_cmp}
+use Rattle.rq_queue.proofs.Known.{equal_rank}
+use Rattle.rq_queue.proofs.Units.{Lists}
+
+-- one element more, among those that are Free and those that units mark
+one_more : (e : Element) (ys front back : List Element) → IsPermutation ys (front ++ back)
+    → IsPermutation (ys ++ e ∷ []) (front ++ e ∷ back)
+one_more e ys front back h =
+    IsPermutation-trans (ys ++ e ∷ []) (e ∷ ys) (front ++ e ∷ back) (IsPermutation-to_front ys e)
+    (IsPermutation-trans (e ∷ ys) (e ∷ (front ++ back)) (front ++ e ∷ back) (IsPermutation-cons e ys (front ++ back) h)
+    (IsPermutation-sym (front ++ e ∷ back) (e ∷ (front ++ back)) (IsPermutation-middle front e back)))
+
+pub free_more : (ys : List Element) (ps : List Entry) (held : List Element) (p : Entry)
+    → IsPermutation ys (values_of ps ++ held) → IsPermutation (ys ++ p.1 ∷ []) (values_of (ps ++ p ∷ []) ++ held)
+free_more ys ps held p h = subst (IsPermutation (ys ++ p.1 ∷ []))
+    (sym (ap (λ (xs : List Element). xs ++ held) (map-append (λ (x : Entry). x.1) ps (p ∷ []))
+    ∙ append_assoc (values_of ps) (p.1 ∷ []) held))
+    (one_more p.1 ys (values_of ps) held h)
+
+-- a key, as an element gives it
+abbrev pub key_of : ℕ × ℕ → Reverse ℕ × ℕ
+key_of k = (record { 0 = k.0 }, k.1)
+
+pub keyed_more : (ps : List Entry) (p : Entry) → AllByRecursion IsKeyed ps → IsKeyed p
+    → AllByRecursion IsKeyed (ps ++ p ∷ [])
+keyed_more ps p h k = each_append IsKeyed ps (p ∷ []) h (k, tt)
+
+between : (a b c : List Element) → IsPermutation (a ++ (b ++ c)) (b ++ (a ++ c))
+between a b c = subst (λ xs. IsPermutation xs (b ++ (a ++ c))) (append_assoc a b c)
+    (subst (λ xs. IsPermutation ((a ++ b) ++ c) xs) (append_assoc b a c)
+    (IsPermutation-append_left c (a ++ b) (b ++ a) (IsPermutation-append_comm a b)))
+
+joined : (a b c d : List Element) → (a ++ (b ++ c)) ++ d ≡ a ++ (b ++ (c ++ d))
+joined a b c d = append_assoc a (b ++ c) d ∙ ap (λ xs. a ++ xs) (append_assoc b c d)
+
+pub marked_more : (ys free : List Element) (old new : Lists) (e : Element) → Stowed e old new
+    → IsPermutation ys (free ++ items_of old) → IsPermutation (ys ++ e ∷ []) (free ++ items_of new)
+marked_more ys free old new e s h =
+    subst (IsPermutation (ys ++ e ∷ []))
+    (joined free s.left s.list (e ∷ s.right)
+    ∙ ap (λ (xs : List Element). free ++ (s.left ++ xs)) (sym (append_assoc s.list (e ∷ []) s.right))
+    ∙ ap (λ (xs : List Element). free ++ xs) (sym s.after))
+    (one_more e ys (free ++ (s.left ++ s.list)) s.right
+    (subst (IsPermutation ys) (sym (joined free s.left s.list s.right))
+    (IsPermutation-trans ys (free ++ items_of old) (free ++ here) h
+    (IsPermutation-append_right free (items_of old) here same))))
+  where
+    here : List Element
+    here = s.left ++ (s.list ++ s.right)
+
+    same : IsPermutation (items_of old) here
+    same = subst (λ (xs : List Element). IsPermutation xs here) (sym s.before)
+        (IsPermutation-trans (s.front ++ (s.list ++ s.back)) (s.list ++ (s.front ++ s.back)) here
+        (between s.front s.list s.back)
+        (subst (λ (xs : List Element). IsPermutation (s.list ++ xs) here) (sym s.rest)
+        (between s.list s.left s.right)))
+
+-- keys differ where ids do
+key_total : IsTotalOrder key_cmp
+key_total = then_total (on_total (λ (k : Reverse ℕ × ℕ). k.0.0) (back_total nat_cmp_total))
+    (on_total (λ (k : Reverse ℕ × ℕ). k.1) nat_cmp_total)
+
+unlike : (x y : Entry) → IsKeyed x → IsKeyed y → x.1.id ≢ y.1.id → eq_by_cmp key_cmp x.0 y.0 ≡ false
+unlike x y j k n = by_cases (eq_by_cmp key_cmp x.0 y.0) (λ b. eq_by_cmp key_cmp x.0 y.0 ≡ b → b ≡ false)
+    (λ _ t. absurd (n (sym (ap (λ (q : Reverse ℕ × ℕ). q.1) j.0)
+    ∙ (equal_rank x.0.0.0 x.0.1 y.0.0.0 y.0.1 t).1 ∙ ap (λ (q : Reverse ℕ × ℕ). q.1) k.0))) (λ _ _. refl) refl
+
+distinct_keys : (es : List Entry) → AllByRecursion IsKeyed es → Apart (values_of es)
+    → IsDistinct (eq_by_cmp key_cmp) (keys_of es)
+unfolding IsDistinct
+distinct_keys [] keyed apart = tt
+distinct_keys (x ∷ es) keyed apart = (others es keyed.1 apart.0, distinct_keys es keyed.1 apart.1)
+  where
+    others : (ys : List Entry) → AllByRecursion IsKeyed ys → AllByRecursion (λ y. x.1.id ≢ y.id) (values_of ys)
+        → AllByRecursion (λ k. eq_by_cmp key_cmp x.0 k ≡ false) (keys_of ys)
+    others [] k n = tt
+    others (y ∷ ys) k n = (unlike x y keyed.0 k.0 n.0, others ys k.1 n.1)
+
+-- entries whose keys differ are those that stand under the same keys, in some order
+abbrev is_same : Reverse ℕ × ℕ → Reverse ℕ × ℕ → Bool
+is_same = eq_by_cmp key_cmp
+
+same_laws : IsEquivalence is_same
+same_laws = eq_by_cmp_equiv key_total
+
+one_key : (x y : Reverse ℕ × ℕ) → is_same x y ≡ true → x ≡ y
+one_key x y t = let parts = equal_rank x.0.0 x.1 y.0.0 y.1 t in λ i. (record { 0 = parts.0 i }, parts.1 i)
+
+keys_without : (P : Reverse ℕ × ℕ → Type 0) (t : Reverse ℕ × ℕ → Bool) (es : List Entry)
+    → AllByRecursion P (keys_of es) → AllByRecursion P (keys_of (remove_entry t es))
+keys_without P t [] h = tt
+keys_without P t (e ∷ es) h = by_cases (t e.0)
+    (λ b. AllByRecursion P (keys_of (cond b es (e ∷ remove_entry t es)))) (λ _. h.1)
+    (λ _. (h.0, keys_without P t es h.1))
+
+distinct_without : (t : Reverse ℕ × ℕ → Bool) (es : List Entry) → IsDistinct is_same (keys_of es)
+    → IsDistinct is_same (keys_of (remove_entry t es))
+unfolding IsDistinct
+distinct_without t [] h = tt
+distinct_without t (e ∷ es) h = by_cases (t e.0)
+    (λ b. IsDistinct is_same (keys_of (cond b es (e ∷ remove_entry t es)))) (λ _. h.1)
+    (λ _. (keys_without (λ k. is_same e.0 k ≡ false) t es h.0, distinct_without t es h.1))
+
+pulled : (k : Reverse ℕ × ℕ) (v : Element) (es : List Entry) → lookup (is_same k) es ≡ Some v
+    → IsPermutation es ((k, v) ∷ remove_entry (is_same k) es)
+pulled k v [] h = absurd (cc)
+pulled k v (e ∷ es) h =
+    let more = remove_entry (is_same k) es in
+    by_cases (is_same k e.0)
+    (λ b. is_same k e.0 ≡ b → cond b (Some e.1) (lookup (is_same k) es) ≡ Some v
+    → IsPermutation (e ∷ es) ((k, v) ∷ cond b es (e ∷ more)))
+    (λ _ t f. subst (λ (x : Entry). IsPermutation (e ∷ es) (x ∷ es)) (itself t f) (IsPermutation-refl (e ∷ es)))
+    (λ _ n f. IsPermutation-trans (e ∷ es) (e ∷ (k, v) ∷ more) ((k, v) ∷ e ∷ more)
+    (IsPermutation-cons e es ((k, v) ∷ more) (pulled k v es f))
+    (IsPermutation-swap (e ∷ (k, v) ∷ more) ((k, v) ∷ e ∷ more) 0 1 (omega arith) (omega arith) refl)) refl h
+  where
+    some_is : (a b : Element) → Some a ≡ Some b → a ≡ b
+    some_is a b h = cc
+
+    itself : is_same k e.0 ≡ true → Some e.1 ≡ Some v → e ≡ (k, v)
+    itself t f = λ i. (sym (one_key k e.0 t) i, some_is e.1 v f i)
+
+same_found : (es fs : List Entry) → IsDistinct is_same (keys_of es) → IsDistinct is_same (keys_of fs)
+    → ((k : Reverse ℕ × ℕ) → lookup (is_same k) es ≡ lookup (is_same k) fs) → IsPermutation es fs
+same_found [] [] c d h = IsPermutation-refl []
+same_found [] (y ∷ ys) c d h =
+    let f : None ≡ Some y.1 = h y.0 ∙ lookup_head (is_same y.0) y ys (same_laws.refl y.0) in absurd (cc)
+same_found (x ∷ xs) fs c d h =
+    let k = x.0 in
+    let others = remove_entry (is_same k) fs in
+    let gone : remove_entry (is_same k) (x ∷ xs) ≡ xs =
+    ap (λ b. cond b xs (x ∷ remove_entry (is_same k) xs)) (same_laws.refl k) in
+    IsPermutation-trans (x ∷ xs) (x ∷ others) fs
+    (IsPermutation-cons x xs others
+    (same_found xs others (IsDistinct-tail is_same k (keys_of xs) c) (distinct_without (is_same k) fs d)
+    (λ q. ap (lookup (is_same q)) (sym gone)
+    ∙ lookup-remove_entry same_laws (is_same k) (same_laws.congr k) q (x ∷ xs) c
+    ∙ ap (cond (is_same k q) None) (h q)
+    ∙ sym (lookup-remove_entry same_laws (is_same k) (same_laws.congr k) q fs d))))
+    (IsPermutation-sym fs (x ∷ others)
+    (pulled k x.1 fs (sym (h k) ∙ lookup_head (is_same k) x xs (same_laws.refl k))))
+
+pub made_of : (es : List Entry) (m : BTreeMap (Reverse ℕ × ℕ) Element) → AllByRecursion IsKeyed es
+    → Apart (values_of es) → IsFromIterResult key_cmp es m → IsPermutation es m.entries
+made_of es m keyed apart made =
+    let differ = distinct_keys es keyed apart in
+    same_found es m.entries differ (IsDistinct-from_sorted key_cmp (keys_of m.entries) made.1)
+    (λ k. sym (made.0 k ∙ update_all_none same_laws is_same (λ _ _. refl) es k differ))
+
+-- ids differ in any order
+differing : (xs : List Element) → Apart xs → IsDistinct (λ (a b : Element). a.id == b.id) xs
+unfolding IsDistinct
+differing [] h = tt
+differing (x ∷ xs) h = (
+  each_weaker (λ y. x.id ≢ y.id) (λ y. (x.id == y.id) ≡ false)
+      (λ y n. by_cases (x.id == y.id) (λ b. (x.id == y.id) ≡ b → b ≡ false)
+      (λ _ t. absurd (n (eqb-true x.id y.id t))) (λ _ _. refl) refl) xs h.0,
+  differing xs h.1,
+)
+
+apart_again : (xs : List Element) → IsDistinct (λ (a b : Element). a.id == b.id) xs → Apart xs
+unfolding IsDistinct
+apart_again [] h = tt
+apart_again (x ∷ xs) h = (
+  each_weaker (λ y. (x.id == y.id) ≡ false) (λ y. x.id ≢ y.id) (λ y f. eqb-false x.id y.id f) xs h.0,
+  apart_again xs h.1,
+)
+
+apart_moved : (xs ys : List Element) → IsPermutation xs ys → Apart xs → Apart ys
+apart_moved xs ys same h = apart_again ys
+    (IsDistinct-IsPermutation (λ (a b : Element). a.id == b.id) flips xs ys same (differing xs h))
+  where
+    flips : (x y : Element) → (x.id == y.id) ≡ (y.id == x.id)
+    flips x y = by_cases (x.id == y.id) (λ b. (x.id == y.id) ≡ b → b ≡ (y.id == x.id))
+        (λ _ t. sym (eq-eqb y.id x.id (sym (eqb-true x.id y.id t))))
+        (λ _ f. by_cases (y.id == x.id) (λ b. (y.id == x.id) ≡ b → false ≡ b)
+        (λ _ t. absurd (eqb-false x.id y.id f (sym (eqb-true y.id x.id t)))) (λ _ _. refl) refl) refl
+
+-- elements by number, in the order of the containers
+module _ (items : List Element) (rising : Ordered (λ (e f : Element). e.id < f.id) items) where
+  pub parted_apart : (all : List Element) → IsPermutation items all → Apart all
+  parted_apart all same = apart_moved items all same
+      (ordered_weaker (λ (e f : Element). e.id < f.id) (λ (e f : Element). e.id ≢ f.id)
+      (λ e f l s. absurd (omega (arith, l, s))) items rising)
+
+  pub parted_sorted : (all : List Element) → IsPermutation items all → sorted all ≡ items
+  parted_sorted all same = whole_permuted id_before (number_is_order (λ (e : Element). e.id)) items all
+      (ordered_weaker (λ (e f : Element). e.id < f.id) (λ (e f : Element). id_before e f ≡ true)
+      (λ e f l. lt-ltb e.id f.id l) items rising) same
+
+pub keyed_moved : (ps es : List Entry) → IsPermutation ps es → AllByRecursion IsKeyed ps → AllByRecursion IsKeyed es
+keyed_moved ps es same h =
+    recursion_from_All IsKeyed es (All-permutation IsKeyed ps es same (All-from_recursion IsKeyed ps h))
+
+pub mapped_too : (items held : List Element) (ps es : List Entry) → IsPermutation items (values_of ps ++ held)
+    → IsPermutation ps es → IsPermutation items (values_of es ++ held)
+mapped_too items held ps es all same = IsPermutation-trans items (values_of ps ++ held) (values_of es ++ held) all
+    (IsPermutation-append_left held (values_of ps) (values_of es)
+    (IsPermutation-map (λ (e : Entry). e.1) ps es same))
