@@ -1,23 +1,17 @@
 -- The parts of the frame at a place, and what its digest is taken over.
-use Rattle.std.proofs.Common.{◌≡◌, ℕ, ◌+◌, ◌-◌, ◌≤◌, ◌<◌, false, ltb, List, ◌++◌, length, take, drop, get_or, refl, sym}
+use Rattle.std.proofs.Common.{◌≡◌, ℕ, ◌+◌, ◌-◌, ◌≤◌, ◌<◌, false, ltb, List, ◌++◌, length, take, drop, refl, sym}
 use Rattle.std.proofs.Common.{ap, ◌∙◌, arith}
 use Rattle.std.specs.Int.{w32, to_be_bytes}
 use Rattle.std.specs.Prelude.{◌↔◌, slice_range}
 use Rattle.std.proofs.lemmas.Bool.{le-ltb}
-use Rattle.std.proofs.lemmas.List.{length-take, length-drop, drop-drop, get_or-drop}
+use Rattle.std.proofs.lemmas.List.{length-take, length-drop, drop-drop}
 use Rattle.std.proofs.Math.Seq.{take-add}
 use Rattle.sha2.specs.Sha256.{sha256}
-use Rattle.rq_bytes.proofs.Single.{reads_u32}
+use Rattle.rq_bytes.specs.Reads.{IsBytes}
+use Rattle.rq_bytes.proofs.Single.{reads_u32, IsBytes-drop}
 use Rattle.rq_model.specs.Records.{Version, One, Two}
 use Rattle.rq_model.specs.Frames.{stated, body_in, digest_in, HasFrame, HasRightFrame, HasHeader, before, magic}
 use Rattle.rq_model.proofs.Runs.{length-sha256}
-
--- each is a byte
-abbrev pub IsBytes : List ℕ → Type 0
-IsBytes bytes = (i : ℕ) → get_or bytes i 0 < 256
-
-pub bytes_behind : (at : ℕ) (b : List ℕ) → IsBytes b → IsBytes (drop at b)
-bytes_behind at b fits i = rw get_or-drop (fits (at + i))
 
 -- bytes that begin with the header are 40 at least
 pub log_long : (version : Version) (b : List ℕ) → HasHeader version b → 40 ≤ length b
@@ -48,7 +42,7 @@ head_is b at len fits low frame is =
     let past : drop 32 from ≡ drop at b = drop-drop 32 (at - 32) b ∙ ap (λ (k : ℕ). drop k b) place in
     ap (λ (k : ℕ). take k from) size ∙ take-add 32 (4 + stated (drop at b)) from
     ∙ ap (λ (x : List ℕ). before at b ++ take (4 + stated (drop at b)) x) past
-    ∙ ap (λ (x : List ℕ). before at b ++ x) (front_is (drop at b) (bytes_behind at b fits) frame)
+    ∙ ap (λ (x : List ℕ). before at b ++ x) (front_is (drop at b) (IsBytes-drop at b fits) frame)
 
 -- the 32 bytes behind the body
 sum_is : (b : List ℕ) (at len : ℕ) → len ≡ stated (drop at b)

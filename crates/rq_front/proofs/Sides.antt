@@ -12,7 +12,8 @@ use Rattle.rq_lanes.specs.Messages as lanes
 use Rattle.rq_lanes.specs.declared.lanes.Message.{Message}
 use Rattle.rq_front.specs.Walks.{IsRight, IsSpanOf, has_turn, message_of}
 use Rattle.rq_front.specs.declared.spans.Span.{Span}
-use Rattle.rq_front.proofs.Framing.{IsBytes, right_exactly}
+use Rattle.rq_bytes.specs.Reads.{IsBytes}
+use Rattle.rq_front.proofs.Framing.{right_exactly}
 
 -- where the lanes find the digest right, it is right
 one_right : (b : List ℕ) → IsBytes b → (s : Span) → IsSpanOf b s → lanes.HasDigestBehind b (message_of s) → IsRight b s

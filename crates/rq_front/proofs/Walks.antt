@@ -12,7 +12,8 @@ use Rattle.rq_model.proofs.Runs.{frame_long}
 use Rattle.rq_front.specs.Chains.{body_at, bodies_at, spans_from}
 use Rattle.rq_front.specs.Walks.{IsWalk, IsRight, IsSpanOf}
 use Rattle.rq_front.specs.declared.spans.Span.{Span}
-use Rattle.rq_front.proofs.Framing.{IsBytes, bytes_behind}
+use Rattle.rq_bytes.specs.Reads.{IsBytes}
+use Rattle.rq_bytes.proofs.Single.{IsBytes-drop}
 
 -- one more span
 pub walk_more : (b : List ℕ) (at : ℕ) (spans : List Span) (end : ℕ) (s : Span) → IsWalk b at spans end
@@ -68,7 +69,7 @@ stepped law b at s bytes start size right =
     let one_len : s.start + s.len - s.start ≡ n = omega (arith, size) in
     let body : body_at b s ≡ body_in here = ap (λ k. take k (drop s.start b)) one_len
     ∙ ap (λ k. take n (drop k b)) start ∙ ap (take n) (sym (drop-drop 4 at b)) in
-    let framed = law p here (bytes_behind at b bytes) right in
+    let framed = law p here (IsBytes-drop at b bytes) right in
     let long : length (body_at b s) ≡ s.len = ap length body ∙ framed.2 ∙ sym size in
     let behind : drop (36 + n) here ≡ framed.0 =
     ap (drop (36 + n)) framed.1 ∙ drop_at (frame p (body_in here)) framed.0 (36 + n)

@@ -14,8 +14,8 @@ use Rattle.rq_model.specs.Records.{Checkpoint, Kill, Version, One, Two}
 use Rattle.rq_model.specs.Spelling.{is_name, who, IsWho, body_of, IsRecord}
 use Rattle.rq_model.specs.RecordReading.{name_left, at_most, is_zero, nobody, somebody, who_behind, who_read}
 use Rattle.rq_model.specs.RecordReading.{define_read, registration_read, unit_read, enqueue_read, dequeue_read}
-use Rattle.rq_model.specs.RecordReading.{checkpoint_read, kill_read, define_of, register_of, deregister_of, enqueue_of}
-use Rattle.rq_model.specs.RecordReading.{dequeue_of, kill_of, kind_read, record_read}
+use Rattle.rq_model.specs.RecordReading.{checkpoint_read, kill_read, define_from, register_from, deregister_from, enqueue_from}
+use Rattle.rq_model.specs.RecordReading.{dequeue_from, kill_from, record_behind, record_read}
 
 -- a name has 1 to 64 bytes
 pub name_long : (name : List ℕ) → IsTrue (is_name name) → (1 ≤ length name) × (length name ≤ 64)
@@ -56,12 +56,12 @@ reads_who = reads_tagged (in_case 0 nobody (reads_tested reads_u64)
 abbrev pub ReadsFields : {X : Type 0} → Version → (X → Record) → Reader X → Type 0
 ReadsFields version make reader = Reads (λ x. IsRecord version (make x)) (λ x. drop 1 (body_of (make x))) End reader
 
-reads_define : (version : Version) → ReadsFields version define_of define_read
+reads_define : (version : Version) → ReadsFields version define_from define_read
 unfolding define_read
 reads_define version = alike _ (λ x h. (h.0, h.1.0, h.1.1)) (λ x h. (h.0, (h.1, h.2)))
     (reads_then reads_u16 (reads_then reads_u32 reads_name_left))
 
-reads_registration : (version : Version) → ReadsFields version register_of registration_read
+reads_registration : (version : Version) → ReadsFields version register_from registration_read
 unfolding registration_read
 reads_registration version = reads_then reads_u32 reads_name_left
 
@@ -69,13 +69,13 @@ reads_unit : (version : Version) → ReadsFields version Begin unit_read
 unfolding unit_read
 reads_unit version = reads_alone reads_u64
 
-reads_enqueue : (version : Version) → ReadsFields version enqueue_of enqueue_read
+reads_enqueue : (version : Version) → ReadsFields version enqueue_from enqueue_read
 unfolding enqueue_read
 reads_enqueue version = alike _ (λ x h. (h.0, h.1.0, h.1.1.0, h.1.1.1.0, h.1.1.1.1))
     (λ x h. (h.0, (h.1, (h.2, (h.3, h.4)))))
     (reads_then reads_u64 (reads_then reads_u32 (reads_then reads_byte (reads_then reads_who (reads_at_most 65535)))))
 
-reads_dequeue : (version : Version) → ReadsFields version dequeue_of dequeue_read
+reads_dequeue : (version : Version) → ReadsFields version dequeue_from dequeue_read
 unfolding dequeue_read
 reads_dequeue version = alike _ (λ x h. (h.0, h.1.0, h.1.1)) (λ x h. (h.0, (h.1, h.2)))
     (reads_alone (reads_then reads_u64 (reads_then reads_u32 reads_who)))
@@ -84,42 +84,42 @@ reads_checkpoint : (version : Version) → ReadsFields version Checkpoint checkp
 unfolding checkpoint_read
 reads_checkpoint version = reads_at_most 268435455
 
-reads_kill : (version : Version) → ReadsFields version kill_of (kill_read version)
+reads_kill : (version : Version) → ReadsFields version kill_from (kill_read version)
 unfolding kill_read
 reads_kill One = record { takes = λ bytes x fits e. absurd cc; again = λ x rest fits ends. absurd fits }
 reads_kill Two = reads_alone (reads_then reads_u32 reads_u64)
 
-record_takes : (version : Version) → TakesBehind (IsRecord version) body_of End (kind_read version)
-unfolding kind_read
+record_takes : (version : Version) → TakesBehind (IsRecord version) body_of End (record_behind version)
+unfolding record_behind
 record_takes version =
-    in_case 1 define_of (reads_define version) (λ x h. (h, refl))
-    (in_case 2 register_of (reads_registration version) (λ x h. (h, refl))
-    (in_case 3 deregister_of (reads_registration version) (λ x h. (h, refl))
+    in_case 1 define_from (reads_define version) (λ x h. (h, refl))
+    (in_case 2 register_from (reads_registration version) (λ x h. (h, refl))
+    (in_case 3 deregister_from (reads_registration version) (λ x h. (h, refl))
     (in_case 4 Begin (reads_unit version) (λ x h. (h, refl))
-    (in_case 5 enqueue_of (reads_enqueue version) (λ x h. (h, refl))
-    (in_case 6 dequeue_of (reads_dequeue version) (λ x h. (h, refl))
+    (in_case 5 enqueue_from (reads_enqueue version) (λ x h. (h, refl))
+    (in_case 6 dequeue_from (reads_dequeue version) (λ x h. (h, refl))
     (in_case 7 Commit (reads_unit version) (λ x h. (h, refl))
     (in_case 8 Abort (reads_unit version) (λ x h. (h, refl))
     (in_case 9 Checkpoint (reads_checkpoint version) (λ x h. (h, refl))
-    (in_case 10 kill_of (reads_kill version) (λ x h. (h, refl)) in_no_case)))))))))
+    (in_case 10 kill_from (reads_kill version) (λ x h. (h, refl)) in_no_case)))))))))
 
 record_again : (version : Version) (r : Record) (rest : List ℕ) → IsRecord version r → End rest
-    → tagged (kind_read version) (body_of r ++ rest) ≡ Some (r, rest)
-unfolding kind_read
+    → tagged (record_behind version) (body_of r ++ rest) ≡ Some (r, rest)
+unfolding record_behind
 record_again version (Define limit error name) rest =
-    again_made define_of (reads_define version) (limit, (error, name)) rest
-record_again version (Register queue name) rest = again_made register_of (reads_registration version) (queue, name) rest
+    again_made define_from (reads_define version) (limit, (error, name)) rest
+record_again version (Register queue name) rest = again_made register_from (reads_registration version) (queue, name) rest
 record_again version (Deregister queue name) rest =
-    again_made deregister_of (reads_registration version) (queue, name) rest
+    again_made deregister_from (reads_registration version) (queue, name) rest
 record_again version (Begin unit) rest = again_made Begin (reads_unit version) unit rest
 record_again version (Enqueue unit queue priority by payload) rest =
-    again_made enqueue_of (reads_enqueue version) (unit, (queue, (priority, (by, payload)))) rest
+    again_made enqueue_from (reads_enqueue version) (unit, (queue, (priority, (by, payload)))) rest
 record_again version (Dequeue unit queue by) rest =
-    again_made dequeue_of (reads_dequeue version) (unit, (queue, by)) rest
+    again_made dequeue_from (reads_dequeue version) (unit, (queue, by)) rest
 record_again version (Commit unit) rest = again_made Commit (reads_unit version) unit rest
 record_again version (Abort unit) rest = again_made Abort (reads_unit version) unit rest
 record_again version (Checkpoint bytes) rest = again_made Checkpoint (reads_checkpoint version) bytes rest
-record_again version (Kill queue element) rest = again_made kill_of (reads_kill version) (queue, element) rest
+record_again version (Kill queue element) rest = again_made kill_from (reads_kill version) (queue, element) rest
 
 pub reads_record : (version : Version) → Reads (IsRecord version) body_of End (record_read version)
 unfolding record_read

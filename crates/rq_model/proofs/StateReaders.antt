@@ -15,9 +15,9 @@ use Rattle.rq_model.specs.States.{Mark, Free, Fresh, Held, Kind, Enqueued, Deque
 use Rattle.rq_model.specs.States.{Registrant, State}
 use Rattle.rq_model.specs.StateSpelling.{name_bytes, element_number, kind_byte, definition_bytes, last_bytes}
 use Rattle.rq_model.specs.StateSpelling.{registrant_bytes, mark_bytes, element_bytes, note_bytes, state_bytes}
-use Rattle.rq_model.specs.StateReading.{name_read, element_of, id_read, always, kind_read, mark_read, operation_read}
-use Rattle.rq_model.specs.StateReading.{last_of, last_read, definition_of, definition_read, registrant_from}
-use Rattle.rq_model.specs.StateReading.{registrant_read, whole_element, element_read, note_of, note_read, whole_state}
+use Rattle.rq_model.specs.StateReading.{name_read, id_from, id_read, always, kind_read, mark_read, operation_read}
+use Rattle.rq_model.specs.StateReading.{last_from, last_read, definition_from, definition_read, registrant_from}
+use Rattle.rq_model.specs.StateReading.{registrant_read, element_from, element_read, note_from, note_read, state_from}
 use Rattle.rq_model.specs.StateReading.{state_read}
 use Rattle.rq_model.proofs.RecordReaders.{name_long}
 
@@ -70,8 +70,8 @@ unfolding name_read
 reads_name = alike _ (λ name h. h.1) (λ name h. let long = name_long name h in (omega (arith, long.1), h))
     (reads_tested (reads_sized reads_byte))
 
-element_is : (n : ℕ) → n < 2 ^ 64 → IsWideElement (element_of n)
-    × (to_be_bytes w64 n ≡ to_be_bytes w64 (element_number (element_of n)))
+element_is : (n : ℕ) → n < 2 ^ 64 → IsWideElement (id_from n)
+    × (to_be_bytes w64 n ≡ to_be_bytes w64 (element_number (id_from n)))
 element_is n lt = at_test (eqb n 18446744073709551615) refl
   where
     at_test : (b : Bool) → eqb n 18446744073709551615 ≡ b
@@ -84,14 +84,14 @@ element_is n lt = at_test (eqb n 18446744073709551615) refl
       refl,
     )
 
-element_again : (e : Option ℕ) → IsWideElement e → (element_number e < 2 ^ 64) × (element_of (element_number e) ≡ e)
+element_again : (e : Option ℕ) → IsWideElement e → (element_number e < 2 ^ 64) × (id_from (element_number e) ≡ e)
 element_again None h = (omega arith, refl)
 element_again (Some n) h =
     (omega (arith, h), rw (ne_eqb n 18446744073709551615 (λ (e : n ≡ 18446744073709551615). omega (arith, e, h))) refl)
 
 reads_id : Reads IsWideElement (λ e. to_be_bytes w64 (element_number e)) Any id_read
 unfolding id_read
-reads_id = reads_made element_of element_number element_is element_again reads_u64
+reads_id = reads_made id_from element_number element_is element_again reads_u64
 
 kind_again : (k : Kind) (rest : List ℕ) → Unit {0} → Any rest
     → tagged (case 1 (made (always Enqueued) nothing) (case 2 (made (always Dequeued) nothing) no_case))
@@ -126,8 +126,8 @@ reads_operation = alike _ (λ x h. (h.0, h.1.0, h.1.1)) (λ x h. (h.0, (h.1, h.2
 reads_last : Reads (λ l. IfSome l IsWideLast) last_bytes Any last_read
 unfolding last_read operation_bytes
 reads_last = reads_tagged (in_case 0 (always None) reads_nothing (λ x h. (tt, refl))
-    (in_case 1 (last_of Enqueued) reads_operation (λ x h. (h, refl))
-    (in_case 2 (last_of Dequeued) reads_operation (λ x h. (h, refl)) in_no_case))) again
+    (in_case 1 (last_from Enqueued) reads_operation (λ x h. (h, refl))
+    (in_case 2 (last_from Dequeued) reads_operation (λ x h. (h, refl)) in_no_case))) again
   where
     again : (l : Option Last) (rest : List ℕ) → IfSome l IsWideLast → Any rest
         → last_read (last_bytes l ++ rest) ≡ Some (l, rest)
@@ -136,15 +136,15 @@ reads_last = reads_tagged (in_case 0 (always None) reads_nothing (λ x h. (tt, r
       where
         of_kind : (k : Kind) → l.kind ≡ k → last_read (last_bytes (Some l) ++ rest) ≡ Some (Some l, rest)
         of_kind Enqueued is =
-            rw is (again_made (last_of Enqueued) reads_operation (l.place, (l.tag, l.element)) rest h ends)
+            rw is (again_made (last_from Enqueued) reads_operation (l.place, (l.tag, l.element)) rest h ends)
         of_kind Dequeued is =
-            rw is (again_made (last_of Dequeued) reads_operation (l.place, (l.tag, l.element)) rest h ends)
+            rw is (again_made (last_from Dequeued) reads_operation (l.place, (l.tag, l.element)) rest h ends)
 
 -- Members.
 
 pub reads_definition : Reads IsDefinitionSpelled definition_bytes Any definition_read
 unfolding definition_read
-reads_definition = reads_made definition_of (λ d. (d.limit, (d.error, d.name))) (λ x h. ((h.0, h.1.0, h.1.1), refl))
+reads_definition = reads_made definition_from (λ d. (d.limit, (d.error, d.name))) (λ x h. ((h.0, h.1.0, h.1.1), refl))
     (λ d h. ((h.0, (h.1, h.2)), refl)) (reads_then reads_u16 (reads_then reads_u32 reads_name))
 
 pub reads_registrant : Reads IsRegistrantSpelled registrant_bytes Any registrant_read
@@ -154,7 +154,7 @@ reads_registrant = reads_made registrant_from (λ r. (r.queue, (r.name, r.last))
 
 pub reads_element : Reads IsElementSpelled element_bytes Any element_read
 unfolding element_read
-reads_element = reads_made whole_element
+reads_element = reads_made element_from
     (λ e. (e.id, (e.home, (e.origin, (e.priority, (e.attempts, (e.mark, e.payload)))))))
     (λ x h. (
       record {
@@ -177,7 +177,7 @@ reads_element = reads_made whole_element
 
 pub reads_note : Reads IsNoteSpelled note_bytes Any note_read
 unfolding note_read
-reads_note = reads_made note_of
+reads_note = reads_made note_from
     (λ n. (n.last.place, (n.unit, (n.queue, (n.name, (n.last.kind, (n.last.tag, n.last.element)))))))
     (λ x h. ((h.1.0, h.1.1.0, h.1.1.1.0, (h.0, h.1.1.1.1.1.0, h.1.1.1.1.1.1)), refl))
     (λ n h. ((h.3.0, (h.0, (h.1, (h.2, (tt, (h.3.1, h.3.2)))))), refl))
@@ -187,7 +187,7 @@ reads_note = reads_made note_of
 
 pub reads_state : Reads IsSpelled state_bytes Any state_read
 unfolding state_read
-reads_state = reads_made whole_state
+reads_state = reads_made state_from
     (λ s. (
       s.next,
       (s.greatest, (s.committed, (s.aborted, (s.definitions, (s.units, (s.registrants, (s.elements, s.notes))))))),

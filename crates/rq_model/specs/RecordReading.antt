@@ -60,34 +60,34 @@ kill_read Two bytes = alone (number 4 then number 8) bytes
 
 -- The record of these fields.
 
-abbrev pub define_of : ℕ × (ℕ × List ℕ) → Record
-define_of x = Define x.0 x.1.0 x.1.1
+abbrev pub define_from : ℕ × (ℕ × List ℕ) → Record
+define_from x = Define x.0 x.1.0 x.1.1
 
-abbrev pub register_of : ℕ × List ℕ → Record
-register_of x = Register x.0 x.1
+abbrev pub register_from : ℕ × List ℕ → Record
+register_from x = Register x.0 x.1
 
-abbrev pub deregister_of : ℕ × List ℕ → Record
-deregister_of x = Deregister x.0 x.1
+abbrev pub deregister_from : ℕ × List ℕ → Record
+deregister_from x = Deregister x.0 x.1
 
-abbrev pub enqueue_of : ℕ × (ℕ × (ℕ × (Option By × List ℕ))) → Record
-enqueue_of x = Enqueue x.0 x.1.0 x.1.1.0 x.1.1.1.0 x.1.1.1.1
+abbrev pub enqueue_from : ℕ × (ℕ × (ℕ × (Option By × List ℕ))) → Record
+enqueue_from x = Enqueue x.0 x.1.0 x.1.1.0 x.1.1.1.0 x.1.1.1.1
 
-abbrev pub dequeue_of : ℕ × (ℕ × Option By) → Record
-dequeue_of x = Dequeue x.0 x.1.0 x.1.1
+abbrev pub dequeue_from : ℕ × (ℕ × Option By) → Record
+dequeue_from x = Dequeue x.0 x.1.0 x.1.1
 
-abbrev pub kill_of : ℕ × ℕ → Record
-kill_of x = Kill x.0 x.1
+abbrev pub kill_from : ℕ × ℕ → Record
+kill_from x = Kill x.0 x.1
 
 -- the record behind its kind
-unfoldable pub kind_read : Version → ℕ → Reader Record
-kind_read version =
-    case 1 (made define_of define_read) (case 2 (made register_of registration_read)
-    (case 3 (made deregister_of registration_read) (case 4 (made Begin unit_read)
-    (case 5 (made enqueue_of enqueue_read) (case 6 (made dequeue_of dequeue_read)
+unfoldable pub record_behind : Version → ℕ → Reader Record
+record_behind version =
+    case 1 (made define_from define_read) (case 2 (made register_from registration_read)
+    (case 3 (made deregister_from registration_read) (case 4 (made Begin unit_read)
+    (case 5 (made enqueue_from enqueue_read) (case 6 (made dequeue_from dequeue_read)
     (case 7 (made Commit unit_read) (case 8 (made Abort unit_read)
     (case 9 (made Checkpoint checkpoint_read)
-    (case 10 (made kill_of (kill_read version)) no_case)))))))))
+    (case 10 (made kill_from (kill_read version)) no_case)))))))))
 
 -- the record that a body of the version spells
 unfoldable pub record_read : Version → Reader Record
-record_read version = tagged (kind_read version)
+record_read version = tagged (record_behind version)

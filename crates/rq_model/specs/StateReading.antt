@@ -13,11 +13,11 @@ unfoldable pub name_read : Reader (List ℕ)
 name_read = tested is_name (sized byte)
 
 -- 18446744073709551615 stands for none
-abbrev pub element_of : ℕ → Option ℕ
-element_of n = if n == 18446744073709551615 then None else Some n
+abbrev pub id_from : ℕ → Option ℕ
+id_from n = if n == 18446744073709551615 then None else Some n
 
 unfoldable pub id_read : Reader (Option ℕ)
-id_read = made element_of (number 8)
+id_read = made id_from (number 8)
 
 -- one value, whatever is read
 abbrev pub always : {X : Type 0} → X → ⊤ → X
@@ -35,21 +35,21 @@ mark_read = tagged (case 0 (made (always Free) nothing)
 unfoldable pub operation_read : Reader (ℕ × (ℕ × Option ℕ))
 operation_read = number 8 then number 8 then id_read
 
-abbrev pub last_of : Kind → ℕ × (ℕ × Option ℕ) → Option Last
-last_of kind x = Some (record { place = x.0; kind = kind; tag = x.1.0; element = x.1.1 })
+abbrev pub last_from : Kind → ℕ × (ℕ × Option ℕ) → Option Last
+last_from kind x = Some (record { place = x.0; kind = kind; tag = x.1.0; element = x.1.1 })
 
 unfoldable pub last_read : Reader (Option Last)
 last_read = tagged (case 0 (made (always None) nothing)
-    (case 1 (made (last_of Enqueued) operation_read)
-    (case 2 (made (last_of Dequeued) operation_read) no_case)))
+    (case 1 (made (last_from Enqueued) operation_read)
+    (case 2 (made (last_from Dequeued) operation_read) no_case)))
 
 -- Members.
 
-abbrev pub definition_of : ℕ × (ℕ × List ℕ) → Definition
-definition_of x = record { limit = x.0; error = x.1.0; name = x.1.1 }
+abbrev pub definition_from : ℕ × (ℕ × List ℕ) → Definition
+definition_from x = record { limit = x.0; error = x.1.0; name = x.1.1 }
 
 unfoldable pub definition_read : Reader Definition
-definition_read = made definition_of (number 2 then number 4 then name_read)
+definition_read = made definition_from (number 2 then number 4 then name_read)
 
 abbrev pub registrant_from : ℕ × (List ℕ × Option Last) → Registrant
 registrant_from x = record { queue = x.0; name = x.1.0; last = x.1.1 }
@@ -57,8 +57,8 @@ registrant_from x = record { queue = x.0; name = x.1.0; last = x.1.1 }
 unfoldable pub registrant_read : Reader Registrant
 registrant_read = made registrant_from (number 4 then name_read then last_read)
 
-abbrev pub whole_element : ℕ × (ℕ × (ℕ × (ℕ × (ℕ × (Mark × List ℕ))))) → Element
-whole_element x = record {
+abbrev pub element_from : ℕ × (ℕ × (ℕ × (ℕ × (ℕ × (Mark × List ℕ))))) → Element
+element_from x = record {
   id = x.0;
   home = x.1.0;
   origin = x.1.1.0;
@@ -69,11 +69,11 @@ whole_element x = record {
 }
 
 unfoldable pub element_read : Reader Element
-element_read = made whole_element (number 8 then number 4 then number 4 then byte then number 8
+element_read = made element_from (number 8 then number 4 then number 4 then byte then number 8
     then mark_read then sized (number 2))
 
-abbrev pub note_of : ℕ × (ℕ × (ℕ × (List ℕ × (Kind × (ℕ × Option ℕ))))) → Note
-note_of x = record {
+abbrev pub note_from : ℕ × (ℕ × (ℕ × (List ℕ × (Kind × (ℕ × Option ℕ))))) → Note
+note_from x = record {
   unit = x.1.0;
   queue = x.1.1.0;
   name = x.1.1.1.0;
@@ -86,7 +86,7 @@ note_of x = record {
 }
 
 unfoldable pub note_read : Reader Note
-note_read = made note_of (number 8 then number 8 then number 4 then name_read then kind_read
+note_read = made note_from (number 8 then number 8 then number 4 then name_read then kind_read
     then number 8 then id_read)
 
 -- Four numbers and five lists.
@@ -94,8 +94,8 @@ note_read = made note_of (number 8 then number 8 then number 4 then name_read th
 abbrev pub Lists : Type 0
 Lists = List Definition × (List ℕ × (List Registrant × (List Element × List Note)))
 
-abbrev pub whole_state : ℕ × (ℕ × (ℕ × (ℕ × Lists))) → State
-whole_state x = record {
+abbrev pub state_from : ℕ × (ℕ × (ℕ × (ℕ × Lists))) → State
+state_from x = record {
   next = x.0;
   greatest = x.1.0;
   committed = x.1.1.0;
@@ -108,7 +108,7 @@ whole_state x = record {
 }
 
 unfoldable pub state_read : Reader State
-state_read = made whole_state (number 8 then number 8 then number 8 then number 8
+state_read = made state_from (number 8 then number 8 then number 8 then number 8
     then counted_members definition_read then counted_members (number 8)
     then counted_members registrant_read then counted_members element_read
     then counted_members note_read)

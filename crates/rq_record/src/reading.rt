@@ -5,11 +5,11 @@
 ghost use Rattle.std.specs.Prelude.{◌≡◌, ◌+◌, ◌≤◌, [], length, slice_range, option_map};
 ghost use Rattle.rq_bytes.specs.Readers.{made};
 ghost use Rattle.rq_model.specs.Records.{One, Checkpoint};
-ghost use Rattle.rq_model.specs.RecordReading.{name_left, who_read, define_of, define_read};
-ghost use Rattle.rq_model.specs.RecordReading.{register_of, deregister_of, registration_read};
-ghost use Rattle.rq_model.specs.RecordReading.{unit_read, enqueue_of, enqueue_read, dequeue_of};
-ghost use Rattle.rq_model.specs.RecordReading.{dequeue_read, checkpoint_read, kill_of, kill_read};
-ghost use Rattle.rq_model.specs.RecordReading.{at_most, kind_read, record_read};
+ghost use Rattle.rq_model.specs.RecordReading.{name_left, who_read, define_from, define_read};
+ghost use Rattle.rq_model.specs.RecordReading.{register_from, deregister_from, registration_read};
+ghost use Rattle.rq_model.specs.RecordReading.{unit_read, enqueue_from, enqueue_read, dequeue_from};
+ghost use Rattle.rq_model.specs.RecordReading.{dequeue_read, checkpoint_read, kill_from, kill_read};
+ghost use Rattle.rq_model.specs.RecordReading.{at_most, record_behind, record_read};
 ghost use Rattle.rq_record.specs.Reading.{KeepsRead, Decodes};
 ghost use Rattle.rq_record.specs.Views.{record_of, version_of};
 
@@ -54,7 +54,7 @@ fn who<'a>(bytes: &mut Cursor<'a>) -> Option<Option<LentBy<'a>>>
 
 #[tactic(auto, unfolding(rq_model::specs::RecordReading::define_read))]
 fn define(alloc: Global, bytes: Cursor<'_>) -> Result<Record, Fault>
-    ensures { KeepsRead record_of result (made define_of define_read bytes.entry) }
+    ensures { KeepsRead record_of result (made define_from define_read bytes.entry) }
 {
     let mut bytes = bytes;
     let limit = bytes.u16().ok_or(Fault::Form)?;
@@ -69,7 +69,7 @@ fn define(alloc: Global, bytes: Cursor<'_>) -> Result<Record, Fault>
 
 #[tactic(auto, unfolding(rq_model::specs::RecordReading::registration_read))]
 fn register(alloc: Global, bytes: Cursor<'_>) -> Result<Record, Fault>
-    ensures { KeepsRead record_of result (made register_of registration_read bytes.entry) }
+    ensures { KeepsRead record_of result (made register_from registration_read bytes.entry) }
 {
     let mut bytes = bytes;
     let queue = bytes.u32().ok_or(Fault::Form)?;
@@ -82,7 +82,7 @@ fn register(alloc: Global, bytes: Cursor<'_>) -> Result<Record, Fault>
 
 #[tactic(auto, unfolding(rq_model::specs::RecordReading::registration_read))]
 fn deregister(alloc: Global, bytes: Cursor<'_>) -> Result<Record, Fault>
-    ensures { KeepsRead record_of result (made deregister_of registration_read bytes.entry) }
+    ensures { KeepsRead record_of result (made deregister_from registration_read bytes.entry) }
 {
     let mut bytes = bytes;
     let queue = bytes.u32().ok_or(Fault::Form)?;
@@ -120,7 +120,7 @@ fn payload(
 
 #[tactic(auto, unfolding(rq_model::specs::RecordReading::enqueue_read))]
 fn enqueue(alloc: Global, log: &LentLog, end: usize, bytes: Cursor<'_>) -> Result<Record, Fault>
-    ensures { KeepsRead record_of result (made enqueue_of enqueue_read bytes.entry) }
+    ensures { KeepsRead record_of result (made enqueue_from enqueue_read bytes.entry) }
 {
     let mut bytes = bytes;
     let unit = bytes.u64().ok_or(Fault::Form)?;
@@ -139,7 +139,7 @@ fn enqueue(alloc: Global, log: &LentLog, end: usize, bytes: Cursor<'_>) -> Resul
 
 #[tactic(auto, unfolding(rq_model::specs::RecordReading::dequeue_read))]
 fn dequeue(alloc: Global, bytes: Cursor<'_>) -> Result<Record, Fault>
-    ensures { KeepsRead record_of result (made dequeue_of dequeue_read bytes.entry) }
+    ensures { KeepsRead record_of result (made dequeue_from dequeue_read bytes.entry) }
 {
     let mut bytes = bytes;
     let unit = bytes.u64().ok_or(Fault::Form)?;
@@ -176,7 +176,7 @@ fn checkpoint(alloc: Global, bytes: Cursor<'_>) -> Result<Record, Fault>
 #[tactic(auto, unfolding(rq_model::specs::RecordReading::kill_read))]
 fn kill(version: Version, bytes: Cursor<'_>) -> Result<Record, Fault>
     ensures { KeepsRead record_of result
-        (made kill_of (kill_read (version_of version)) bytes.entry) }
+        (made kill_from (kill_read (version_of version)) bytes.entry) }
 {
     if version == Version::One {
         return Err(Fault::Form);
@@ -191,7 +191,7 @@ fn kill(version: Version, bytes: Cursor<'_>) -> Result<Record, Fault>
     })
 }
 
-#[tactic(auto, unfolding(rq_model::specs::RecordReading::kind_read))]
+#[tactic(auto, unfolding(rq_model::specs::RecordReading::record_behind))]
 fn of_kind(
     alloc: Global,
     version: Version,
@@ -200,7 +200,7 @@ fn of_kind(
     kind: u8,
     bytes: Cursor<'_>,
 ) -> Result<Record, Fault>
-    ensures { KeepsRead record_of result (kind_read (version_of version) kind bytes.entry) }
+    ensures { KeepsRead record_of result (record_behind (version_of version) kind bytes.entry) }
 {
     match kind {
         1 => define(alloc, bytes),

@@ -4,7 +4,7 @@ use Rattle.std.specs.Prelude.{⊤}
 use Rattle.std.proofs.lemmas.Option.{same_Some}
 use Rattle.rq_bytes.specs.Readers.{Reader, ◌>>=◌, number, ending, ◌then◌, made, alone, members, counted_members}
 use Rattle.rq_bytes.specs.Readers.{after_of}
-use Rattle.rq_model.specs.StateReading.{definition_read, registrant_read, element_read, note_read, whole_state}
+use Rattle.rq_model.specs.StateReading.{definition_read, registrant_read, element_read, note_read, state_from}
 use Rattle.rq_model.specs.StateReading.{state_read}
 use Rattle.rq_state.specs.Reading.{passed, form_read}
 
@@ -111,7 +111,7 @@ same_alone {X} {Y} {r} {s} h = record {
 -- the form is there where a state is read
 pub form_is : SamePlace form_read (alone state_read)
 unfolding form_read state_read
-form_is = same_alone (into_made whole_state
+form_is = same_alone (into_made state_from
     (same_then (same (number 8)) (same_then (same (number 8)) (same_then (same (number 8)) (same_then (same (number 8))
     (same_then (past (counted_members definition_read))
     (same_then (past (counted_members (number 8)))

@@ -2,9 +2,9 @@
 //! what is left, and nobody reads on.
 
 ghost use Rattle.std.specs.Prelude.{◌≡◌, ◌≤◌, length, option_map, IfSome, Some};
-ghost use Rattle.rq_model.specs.StateReading.{name_read, definition_read, element_of, id_read};
-ghost use Rattle.rq_model.specs.StateReading.{kind_read, operation_read, last_of, last_read};
-ghost use Rattle.rq_model.specs.StateReading.{registrant_read, mark_read, whole_element};
+ghost use Rattle.rq_model.specs.StateReading.{name_read, definition_read, id_from, id_read};
+ghost use Rattle.rq_model.specs.StateReading.{kind_read, operation_read, last_from, last_read};
+ghost use Rattle.rq_model.specs.StateReading.{registrant_read, mark_read, element_from};
 ghost use Rattle.rq_model.specs.StateReading.{element_read, note_read};
 ghost use Rattle.rq_bytes.specs.Readers.{number, made};
 ghost use Rattle.rq_state.specs.Views.{mark_of, kind_of, id_of, unit_of};
@@ -55,8 +55,8 @@ fn take_kind(bytes: &mut Cursor<'_>) -> Option<OpKind>
     }
 }
 
-fn element_of(n: u64) -> Option<ElemId>
-    ensures { id_of result ≡ element_of n }
+fn id_from(n: u64) -> Option<ElemId>
+    ensures { id_of result ≡ id_from n }
 {
     if n == u64::MAX { None } else { Some(ElemId(n)) }
 }
@@ -66,13 +66,13 @@ fn take_id(bytes: &mut Cursor<'_>) -> Option<Option<ElemId>>
     ensures { option_map (λ x. (id_of x, bytes.new)) result ≡ id_read bytes.old }
 {
     let n = bytes.u64()?;
-    Some(element_of(n))
+    Some(id_from(n))
 }
 
 #[tactic(auto, unfolding(rq_model::specs::StateReading::operation_read))]
 fn take_operation(kind: OpKind, bytes: &mut Cursor<'_>) -> Option<Last>
     ensures { option_map (λ x. (Some x, bytes.new)) result
-        ≡ made (last_of (kind_of kind)) operation_read bytes.old }
+        ≡ made (last_from (kind_of kind)) operation_read bytes.old }
 {
     let place = bytes.u64()?;
     let tag = bytes.u64()?;
@@ -141,7 +141,7 @@ pub(crate) fn element_fields<'a>(
     bytes: &mut Cursor<'a>,
 ) -> Option<(u64, u32, u32, u8, u64, Mark, &'a [u8])>
     ensures fields { option_map (λ x. (
-      whole_element
+      element_from
           (x.0, (x.1, (x.2, (x.3, (x.4, (mark_of x.5, x.6.now)))))),
       bytes.new,
     )) result

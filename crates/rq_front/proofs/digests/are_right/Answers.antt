@@ -1,7 +1,7 @@
 use Rattle.std.proofs.Common.{◌++◌, [], List, true, false, map, arith}
 use Rattle.std.specs.List.{filter}
 use Rattle.rq_lanes.specs.declared.lanes.Message.{Message}
-use Rattle.rq_front.proofs.Framing.{IsBytes}
+use Rattle.rq_bytes.specs.Reads.{IsBytes}
 use Rattle.rq_front.proofs.Sides.{both_turns_right}
 use Rattle.rq_front.specs.Walks.{has_turn, message_of}
 use Rattle.rq_front.proofs.digests.are_right.Goals as goal
