@@ -279,19 +279,28 @@ def queues_told(n: int) -> Records:
     yield from (checkpoint(spelled((4096 + at, 0, 0, 0), names, [])) for at in range(n // 4096))
 
 
-def units_told(n: int) -> Records:
-    """4,096 elements, and n / 4,096 checkpoints that have their number right and tell of as many others; a dozen units between two."""
-    count = 4096
+def told_between(n: int, count: int, units: int) -> Records:
+    """So many elements, and n / count checkpoints that have their number right and tell of as many others; so many units between two."""
     yield from filled(count)
     place, told = count + 3, [(2 + at, b"b") for at in range(count)]
     for at in range(n // count):
-        for unit in range(2 + 12 * at, 14 + 12 * at):
+        for unit in range(2 + units * at, 2 + units * (at + 1)):
             yield begin(unit)
             yield dequeue(unit, 0)
             yield abort(unit)
-        place += 36
-        yield checkpoint(spelled((place, 13 + 12 * at, 1, 12 + 12 * at), [b"jobs"], told))
+        place += 3 * units
+        yield checkpoint(spelled((place, 1 + units * (at + 1), 1, units * (at + 1)), [b"jobs"], told))
         place += 1
+
+
+def units_told(n: int) -> Records:
+    """4,096 elements, which few records between two checkpoints go over one by one."""
+    return told_between(n, 4096, 12)
+
+
+def many_told(n: int) -> Records:
+    """16,384 elements, with too many records between two checkpoints for that, and too few to be worth a queue put together."""
+    return told_between(n, 16384, 60)
 
 
 def chained(n: int) -> Records:
@@ -338,7 +347,7 @@ def killed_and_new(n: int) -> Records:
 
 RESTARTED = [open_units, one_unit, units_in_turn, one_registrant, strangers_go, noted_and_gone, last_go_first]
 RESTARTED += [retried, all_retried, moved, all_moved, all_queues, spread]
-AUDITED = [true_checkpoints, false_checkpoints, junk_checkpoints, empty_checkpoints, counting_checkpoints, one_told, wide_checkpoints, queues_told, units_told]
+AUDITED = [true_checkpoints, false_checkpoints, junk_checkpoints, empty_checkpoints, counting_checkpoints, one_told, wide_checkpoints, queues_told, units_told, many_told]
 IN_VERSION_TWO = [chained, all_killed, none_killed, killed_and_new]
 SHAPES = {shape.__name__: shape for shape in RESTARTED + IN_VERSION_TWO + AUDITED}
 
