@@ -101,6 +101,7 @@ esac
 
 is_current || build_once
 # Most of a restart's memory is touched once. Pages of 2 MiB, where the kernel gives them on request, cost fewer faults. A block
-# of 512 KiB or more goes back to the system as soon as it is freed: glibc would raise that bound to 32 MiB by itself.
-export GLIBC_TUNABLES="${GLIBC_TUNABLES:-glibc.malloc.hugetlb=1:glibc.malloc.mmap_threshold=524288}"
+# of 512 KiB or more goes back to the system as soon as it is freed: glibc would raise that bound to 32 MiB by itself. Up to 16 MiB
+# of smaller ones stay: an audit makes a state for each checkpoint that may be true, and needs as much again for the next one.
+export GLIBC_TUNABLES="${GLIBC_TUNABLES:-glibc.malloc.hugetlb=1:glibc.malloc.mmap_threshold=524288:glibc.malloc.trim_threshold=16777216}"
 exec "$program" "$@"

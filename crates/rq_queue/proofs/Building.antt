@@ -1,14 +1,15 @@
 -- The elements of a queue, out of a list: parted, and the map of the Free ones made at once.
 use Rattle.std.proofs.Common.{◌≡◌, ◌≢◌, ℕ, ◌<◌, ◌==◌, Bool, true, false, List, [], ◌∷◌, ◌++◌, refl, sym, ap, ◌∙◌}
-use Rattle.std.proofs.Common.{subst, arith, append_assoc, cond, Some, None}
+use Rattle.std.proofs.Common.{subst, arith, append_assoc, cond, Some, None, map, length, ◌+◌, ◌-◌, ◌≤◌, ◌⊎◌, ⊎_elim}
+use Rattle.std.specs.Prelude.{slice_index_or}
 use Rattle.std.specs.BTreeMap.{BTreeMap, IsFromIterResult}
 use Rattle.std.specs.Cmp.{IsEquivalence, IsTotalOrder, nat_cmp_total, on_total, back_total}
 use Rattle.std.specs.List.{AllByRecursion, IsDistinct}
 use Rattle.std.specs.List.Sorted.{IsPermutation}
 use Rattle.std.specs.Map.{keys_of, lookup, remove_entry, values_of}
-use Rattle.std.specs.Ordering.{eq_by_cmp}
+use Rattle.std.specs.Ordering.{eq_by_cmp, is_eq}
 use Rattle.std.specs.declared.cmp.Reverse.{Reverse}
-use Rattle.std.proofs.lemmas.Bool.{eq-eqb, eqb-true, eqb-false, lt-ltb}
+use Rattle.std.proofs.lemmas.Bool.{cases_order, eq-eqb, eqb-true, eqb-false, lt-ltb}
 use Rattle.std.proofs.lemmas.Cmp.{eq_by_cmp_equiv, then_total}
 use Rattle.std.proofs.lemmas.List.{map-append}
 use Rattle.std.proofs.lemmas.List.Elements.{All-from_recursion, recursion_from_All}
@@ -20,7 +21,7 @@ use Rattle.std.proofs.lemmas.Map.{lookup-remove_entry}
 use Rattle.std.proofs.lemmas.Map.Keys.{IsDistinct-IsPermutation, IsDistinct-from_sorted, IsDistinct-tail}
 use Rattle.std.proofs.lemmas.Map.Entries.{lookup_head}
 use Rattle.std.proofs.lemmas.Map.Made.{update_all_none}
-use Rattle.rq_model.specs.States.{Element, id_before}
+use Rattle.rq_model.specs.States.{Element, id_before, is_free}
 use Rattle.rq_model.specs.WellFormed.{Ordered}
 use Rattle.rq_model.proofs.Apart.{Apart}
 use Rattle.rq_model.proofs.Lists.{by_cases, each_append, each_weaker}
@@ -30,50 +31,26 @@ use Rattle.rq_queue.specs.Kept.{items_of, IsKeyed, Stowed}
 use Rattle.rq_queue.specs.Sorted.{sorted}
 use Rattle.rq_queue.proofs.Doing.{Entry, key_cmp}
 use Rattle.rq_queue.proofs.Known.{equal_rank}
+use Rattle.rq_queue.proofs.Sorting.{apart_front}
 use Rattle.rq_queue.proofs.Units.{Lists}
-
--- one element more, among those that are Free and those that units mark
-one_more : (e : Element) (ys front back : List Element) → IsPermutation ys (front ++ back)
-    → IsPermutation (ys ++ e ∷ []) (front ++ e ∷ back)
-one_more e ys front back h =
-    IsPermutation-trans (ys ++ e ∷ []) (e ∷ ys) (front ++ e ∷ back) (IsPermutation-to_front ys e)
-    (IsPermutation-trans (e ∷ ys) (e ∷ (front ++ back)) (front ++ e ∷ back) (IsPermutation-cons e ys (front ++ back) h)
-    (IsPermutation-sym (front ++ e ∷ back) (e ∷ (front ++ back)) (IsPermutation-middle front e back)))
-
-pub free_more : (ys : List Element) (ps : List Entry) (held : List Element) (p : Entry)
-    → IsPermutation ys (values_of ps ++ held) → IsPermutation (ys ++ p.1 ∷ []) (values_of (ps ++ p ∷ []) ++ held)
-free_more ys ps held p h = subst (IsPermutation (ys ++ p.1 ∷ []))
-    (sym (ap (λ (xs : List Element). xs ++ held) (map-append (λ (x : Entry). x.1) ps (p ∷ []))
-    ∙ append_assoc (values_of ps) (p.1 ∷ []) held))
-    (one_more p.1 ys (values_of ps) held h)
-
--- a key, as an element gives it
-abbrev pub key_of : ℕ × ℕ → Reverse ℕ × ℕ
-key_of k = (record { 0 = k.0 }, k.1)
-
-pub keyed_more : (ps : List Entry) (p : Entry) → AllByRecursion IsKeyed ps → IsKeyed p
-    → AllByRecursion IsKeyed (ps ++ p ∷ [])
-keyed_more ps p h k = each_append IsKeyed ps (p ∷ []) h (k, tt)
 
 between : (a b c : List Element) → IsPermutation (a ++ (b ++ c)) (b ++ (a ++ c))
 between a b c = subst (λ xs. IsPermutation xs (b ++ (a ++ c))) (append_assoc a b c)
     (subst (λ xs. IsPermutation ((a ++ b) ++ c) xs) (append_assoc b a c)
     (IsPermutation-append_left c (a ++ b) (b ++ a) (IsPermutation-append_comm a b)))
 
-joined : (a b c d : List Element) → (a ++ (b ++ c)) ++ d ≡ a ++ (b ++ (c ++ d))
-joined a b c d = append_assoc a (b ++ c) d ∙ ap (λ xs. a ++ xs) (append_assoc b c d)
-
-pub marked_more : (ys free : List Element) (old new : Lists) (e : Element) → Stowed e old new
-    → IsPermutation ys (free ++ items_of old) → IsPermutation (ys ++ e ∷ []) (free ++ items_of new)
-marked_more ys free old new e s h =
-    subst (IsPermutation (ys ++ e ∷ []))
-    (joined free s.left s.list (e ∷ s.right)
-    ∙ ap (λ (xs : List Element). free ++ (s.left ++ xs)) (sym (append_assoc s.list (e ∷ []) s.right))
-    ∙ ap (λ (xs : List Element). free ++ xs) (sym s.after))
-    (one_more e ys (free ++ (s.left ++ s.list)) s.right
-    (subst (IsPermutation ys) (sym (joined free s.left s.list s.right))
-    (IsPermutation-trans ys (free ++ items_of old) (free ++ here) h
-    (IsPermutation-append_right free (items_of old) here same))))
+-- an element that goes from a list to that of its unit
+pub marked_more : (items free rest : List Element) (old new : Lists) (e : Element) → Stowed e old new
+    → IsPermutation free (e ∷ rest) → IsPermutation items (free ++ items_of old)
+    → IsPermutation items (rest ++ items_of new)
+marked_more items free rest old new e s taken h =
+    IsPermutation-trans items (free ++ items_of old) (rest ++ items_of new) h
+    (IsPermutation-trans (free ++ items_of old) ((e ∷ rest) ++ items_of old) (rest ++ items_of new)
+    (IsPermutation-append_left (items_of old) free (e ∷ rest) taken)
+    (IsPermutation-trans (e ∷ (rest ++ items_of old)) (rest ++ e ∷ items_of old) (rest ++ items_of new)
+    (IsPermutation-sym (rest ++ e ∷ items_of old) (e ∷ (rest ++ items_of old))
+    (IsPermutation-middle rest e (items_of old)))
+    (IsPermutation-append_right rest (e ∷ items_of old) (items_of new) stowed)))
   where
     here : List Element
     here = s.left ++ (s.list ++ s.right)
@@ -84,6 +61,16 @@ marked_more ys free old new e s h =
         (between s.front s.list s.back)
         (subst (λ (xs : List Element). IsPermutation (s.list ++ xs) here) (sym s.rest)
         (between s.list s.left s.right)))
+
+    stowed : IsPermutation (e ∷ items_of old) (items_of new)
+    stowed = subst (IsPermutation (e ∷ items_of old))
+        (append_assoc s.left s.list (e ∷ s.right)
+        ∙ ap (λ (xs : List Element). s.left ++ xs) (sym (append_assoc s.list (e ∷ []) s.right)) ∙ sym s.after)
+        (IsPermutation-trans (e ∷ items_of old) (e ∷ ((s.left ++ s.list) ++ s.right)) ((s.left ++ s.list) ++ e ∷ s.right)
+        (IsPermutation-cons e (items_of old) ((s.left ++ s.list) ++ s.right)
+        (subst (IsPermutation (items_of old)) (sym (append_assoc s.left s.list s.right)) same))
+        (IsPermutation-sym ((s.left ++ s.list) ++ e ∷ s.right) (e ∷ ((s.left ++ s.list) ++ s.right))
+        (IsPermutation-middle (s.left ++ s.list) e s.right)))
 
 -- keys differ where ids do
 key_total : IsTotalOrder key_cmp
@@ -218,12 +205,60 @@ module _ (items : List Element) (rising : Ordered (λ (e f : Element). e.id < f.
       (ordered_weaker (λ (e f : Element). e.id < f.id) (λ (e f : Element). id_before e f ≡ true)
       (λ e f l. lt-ltb e.id f.id l) items rising) same
 
-pub keyed_moved : (ps es : List Entry) → IsPermutation ps es → AllByRecursion IsKeyed ps → AllByRecursion IsKeyed es
-keyed_moved ps es same h =
-    recursion_from_All IsKeyed es (All-permutation IsKeyed ps es same (All-from_recursion IsKeyed ps h))
+pub mapped_too : (items held list all : List Element) → IsPermutation items (list ++ held)
+    → IsPermutation list all → IsPermutation items (all ++ held)
+mapped_too items held list all same moved =
+    IsPermutation-trans items (list ++ held) (all ++ held) same (IsPermutation-append_left held list all moved)
 
-pub mapped_too : (items held : List Element) (ps es : List Entry) → IsPermutation items (values_of ps ++ held)
-    → IsPermutation ps es → IsPermutation items (values_of es ++ held)
-mapped_too items held ps es all same = IsPermutation-trans items (values_of ps ++ held) (values_of es ++ held) all
-    (IsPermutation-append_left held (values_of ps) (values_of es)
-    (IsPermutation-map (λ (e : Entry). e.1) ps es same))
+-- Free elements from a place on
+
+abbrev pub AreFreeFrom : ℕ → List Element → Type 0
+AreFreeFrom at es = (k : ℕ) (e : Element) → at ≤ k → k < length es → is_free (slice_index_or es k e).mark ≡ true
+
+pub all_free : (es : List Element) → AreFreeFrom 0 es → AllByRecursion (λ e. is_free e.mark ≡ true) es
+all_free es h = recursion_from_All (λ (e : Element). is_free e.mark ≡ true) es (λ k d u. h k d (omega arith) u)
+
+pub one_free : (at : ℕ) (es : List Element) → ((e : Element) → is_free (slice_index_or es at e).mark ≡ true)
+    → AreFreeFrom (at + 1) es → AreFreeFrom at es
+one_free at es here h k e l u = ⊎_elim
+    (λ (s : k ≡ at). subst (λ n. is_free (slice_index_or es n e).mark ≡ true) (sym s) (here e))
+    (λ (o : (k < at) ⊎ (at < k)). ⊎_elim (λ (b : k < at). absurd (omega (arith, b, l)))
+    (λ (b : at < k). h k e (omega (arith, b)) u) o) (cases_order k at)
+
+pub one_out : (at : ℕ) (es rest : List Element) → length rest + 1 ≡ length es
+    → (((e : Element) → at + 1 < length es → slice_index_or rest at e ≡ slice_index_or es (length es - 1) e)
+    × ((k : ℕ) (e : Element) → k ≢ at → k + 1 < length es → slice_index_or rest k e ≡ slice_index_or es k e))
+    → AreFreeFrom (at + 1) es → AreFreeFrom at rest
+one_out at es rest n by h k e l u = ⊎_elim
+    (λ (s : k ≡ at). subst (λ m. is_free (slice_index_or rest m e).mark ≡ true) (sym s)
+    (subst (λ (f : Element). is_free f.mark ≡ true) (sym (by.0 e (omega (arith, n, u, s))))
+    (h (length es - 1) e (omega (arith, n, u, s)) (omega (arith, n, u)))))
+    (λ (o : (k < at) ⊎ (at < k)). ⊎_elim (λ (b : k < at). absurd (omega (arith, b, l)))
+    (λ (b : at < k). subst (λ (f : Element). is_free f.mark ≡ true)
+    (sym (by.1 k e (λ s. absurd (omega (arith, b, s))) (omega (arith, n, u))))
+    (h k e (omega (arith, b)) (omega (arith, n, u)))) o) (cases_order k at)
+
+-- each under its key
+abbrev pub with_key : Element → Entry
+with_key e = ((record { 0 = e.priority }, e.id), e)
+
+pub with_keys : (es : List Element) → values_of (map with_key es) ≡ es
+with_keys [] = refl
+with_keys (e ∷ es) = ap (λ (xs : List Element). e ∷ xs) (with_keys es)
+
+pub all_keyed : (es : List Element) → AllByRecursion (λ e. is_free e.mark ≡ true) es
+    → AllByRecursion IsKeyed (map with_key es)
+all_keyed [] h = tt
+all_keyed (e ∷ es) h = ((refl, h.0), all_keyed es h.1)
+
+pub made_keyed : (es : List Element) (m : BTreeMap (Reverse ℕ × ℕ) Element)
+    → AllByRecursion (λ e. is_free e.mark ≡ true) es → Apart es → IsFromIterResult key_cmp (map with_key es) m
+    → AllByRecursion IsKeyed m.entries × IsPermutation es (values_of m.entries)
+made_keyed es m free apart made =
+    let ps = map with_key es in
+    let keyed = all_keyed es free in
+    let same = made_of ps m keyed (subst Apart (sym (with_keys es)) apart) made in (
+      recursion_from_All IsKeyed m.entries (All-permutation IsKeyed ps m.entries same (All-from_recursion IsKeyed ps keyed)),
+      subst (λ (xs : List Element). IsPermutation xs (values_of m.entries)) (with_keys es)
+          (IsPermutation-map (λ (e : Entry). e.1) ps m.entries same),
+    )

@@ -69,8 +69,8 @@ impl Elements {
         ensures done { IfOk result (λ v. v ≡ items.items) }
         ensures refused { IfErr result (λ e. e ≡ Resources) }
     {
-        let (entries, marked) = parted(alloc, items)?;
-        let free = mapped(alloc, entries)?;
+        let (list, marked) = parted(alloc, items)?;
+        let free = mapped(alloc, list)?;
         Ok(Elements {
             free,
             marked,

@@ -63,49 +63,48 @@ pub fn stow(
     Ok(others)
 }
 
-/// Parts elements: Free ones under their keys, the others with their units.
+/// Takes those that units mark out of elements, to stand with their units: Free ones are left.
 pub fn parted(
     alloc: Global,
     items: Vec<Element>,
-) -> Result<
-    (
-        Vec<((Reverse<u8>, u64), Element)>,
-        BTreeMap<u64, Vec<Element>>,
-    ),
-    Fault,
->
-    ensures keyed { IfOk result (λ r. AllByRecursion IsKeyed r.0.items) }
+) -> Result<(Vec<Element>, BTreeMap<u64, Vec<Element>>), Fault>
+    ensures free { IfOk result
+        (λ r. AllByRecursion (λ (e : model.Element). model.is_free e.mark ≡ true) r.0.items) }
     ensures of_units { IfOk result (λ r. AllByRecursion IsOfUnit r.1.entries) }
-    ensures all { IfOk result (λ r. IsPermutation items.items
-        (values_of r.0.items ++ items_of r.1.entries)) }
+    ensures all { IfOk result
+        (λ r. IsPermutation items.items (r.0.items ++ items_of r.1.entries)) }
     ensures refused { IfErr result (λ e. e ≡ Resources) }
 {
-    let mut free = Vec::new(alloc);
-    free.reserve_exact(items.len())?;
+    let mut free = items;
     let mut marked = BTreeMap::new(alloc);
-    for e in items {
-        match e.unit() {
-            None => {
-                let key = e.key();
-                free.push(((Reverse(key.0), key.1), e))?;
-            }
-            Some(unit) => marked = stow(alloc, marked, unit, e)?,
+    let mut at = free.len();
+    while at > 0 {
+        at -= 1;
+        if let Some(unit) = free[at].unit() {
+            let e = free.swap_remove(at);
+            marked = stow(alloc, marked, unit, e)?;
         }
     }
     Ok((free, marked))
 }
 
-/// The map of Free elements whose ids differ. It is made at once, so that its nodes are full.
+/// The map of Free elements of different ids. It is made at once, so that its nodes are full.
 pub fn mapped(
     alloc: Global,
-    entries: Vec<((Reverse<u8>, u64), Element)>,
+    list: Vec<Element>,
 ) -> Result<BTreeMap<(Reverse<u8>, u64), Element>, Fault>
-    requires keyed { AllByRecursion IsKeyed entries.items }
-    requires apart { Ordered (λ (e f : model.Element). e.id ≢ f.id) (values_of entries.items) }
-    ensures all { IfOk result (λ m. IsPermutation entries.items m.entries) }
+    requires free { AllByRecursion
+        (λ (e : model.Element). model.is_free e.mark ≡ true) list.items }
+    requires apart { Ordered (λ (e f : model.Element). e.id ≢ f.id) list.items }
+    ensures made { IfOk result (λ m. AllByRecursion IsKeyed m.entries
+        × IsPermutation list.items (values_of m.entries)) }
     ensures refused { IfErr result (λ e. e ≡ Resources) }
 {
-    let free = entries.into_iter().collect(alloc)?;
+    let keyed = list.into_iter().map(|e| {
+        let key = e.key();
+        ((Reverse(key.0), key.1), e)
+    });
+    let free = keyed.collect(alloc)?;
     Ok(free)
 }
 

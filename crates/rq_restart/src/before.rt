@@ -18,7 +18,7 @@ use std::marker::Sync;
 use std::thread::Threads;
 
 // A replay takes about as long for a member, or for a queue, as a step for so many members.
-const LOOKS: usize = 128;
+const LOOKS: usize = 80;
 
 /// The state before the record of a place: each queue is redone once.
 pub(crate) fn state_before<R: Threads + Sync>(

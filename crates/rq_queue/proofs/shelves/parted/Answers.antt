@@ -1,36 +1,31 @@
-use Rattle.std.proofs.Common.{rules, ◌≡◌, ◌++◌, ◌∷◌, [], true, List, sym, ap, subst}
-use Rattle.std.specs.List.{AllByRecursion}
+use Rattle.std.proofs.Common.{rules, ◌≡◌, ◌+◌, ◌-◌, ◌∷◌, length, arith, subst, sym}
 use Rattle.std.specs.List.Sorted.{IsPermutation}
-use Rattle.std.specs.Map.{values_of}
-use Rattle.rq_model.specs.States.{is_free}
-use Rattle.rq_queue.specs.Kept.{items_of, IsKeyed, IsOfUnit}
-use Rattle.rq_queue.proofs.Building.{free_more, key_of, keyed_more, marked_more}
-use Rattle.rq_queue.proofs.Doing.{Entry}
+use Rattle.std.proofs.lemmas.List.Sorted.{IsPermutation-swap_remove}
+use Rattle.rq_queue.proofs.Building.{AreFreeFrom, all_free, marked_more, one_out}
 use Rattle.rq_queue.proofs.shelves.parted.Goals as goal
 
-pub loop-e-preserved-in-Continue-branch-2 : goal.loop-e-preserved-in-Continue-branch-2
-loop-e-preserved-in-Continue-branch-2 c =
-    let e = c.in-Some.e in
-    let held = c.loop-e.marked.entries in
-    let p : Entry = (key_of c.key-key.result, e) in
-    let free : is_free e.mark ≡ true = search rules in
-    subst (λ (ps : List Entry). AllByRecursion IsKeyed ps × (AllByRecursion IsOfUnit held
-    × IsPermutation (c.loop-e.yielded ++ e ∷ []) (values_of ps ++ items_of held)))
-    (sym c.in_ok-push-in-None-unit.ensures.items) (
-      keyed_more c.loop-e.free.items p c.loop-e.invariant.0 (ap key_of c.key-key.ensures, free),
+pub loop-at-preserved-in-Some : goal.loop-at-preserved-in-Some
+loop-at-preserved-in-Some c =
+    let before = c.loop-at.invariant in
+    let at = c.loop-at.at - 1 in
+    let es = c.loop-at.free.items in
+    let rest = c.swap_remove-e.new.self.items in
+    let e = c.swap_remove-e.result in
+    let next : c.loop-at.at ≡ at + 1 = omega (arith, c.loop-at-test.true) in
+    let fewer : length rest + 1 ≡ length es = search rules in
+    let out : IsPermutation es (e ∷ rest) = subst (λ xs. IsPermutation es (e ∷ xs)) (sym c.swap_remove-e.ensures.items)
+    (IsPermutation-swap_remove es at e (omega (arith, next, before.0)) c.swap_remove-e.ensures.value) in (
+      omega (arith, next, before.0, fewer),
       (
-        c.loop-e.invariant.1.0,
-        free_more c.loop-e.yielded c.loop-e.free.items (items_of held) p c.loop-e.invariant.1.1,
+        one_out at es rest fewer (search rules) (subst (λ n. AreFreeFrom n es) next before.1.0),
+        (
+          c.in_ok-marked.ensures.of_units,
+          marked_more c.args.items.items es rest c.loop-at.marked.entries c.in_ok-marked.marked.entries e
+              c.in_ok-marked.ensures.stowed out before.1.1.1,
+        ),
       ),
     )
 
-pub loop-e-preserved : goal.loop-e-preserved
-loop-e-preserved c = (
-  c.loop-e.invariant.0,
-  (
-    c.in_ok-marked-in-Some-unit.ensures.of_units,
-    marked_more c.loop-e.yielded (values_of c.loop-e.free.items) c.loop-e.marked.entries
-        c.in_ok-marked-in-Some-unit.marked.entries c.in-Some.e c.in_ok-marked-in-Some-unit.ensures.stowed
-        c.loop-e.invariant.1.1,
-  ),
-)
+pub returns-clause-free : goal.returns-clause-free
+returns-clause-free c = all_free c.loop-at.free.items
+    (λ k e l u. c.loop-at.invariant.1.0 k e (omega (arith, c.loop-at-test.false, l)) u)
