@@ -7,15 +7,14 @@ use Rattle.std.specs.Cmp.{IsEquivalence, IsTotalOrder, nat_cmp_total, on_total, 
 use Rattle.std.specs.List.{AllByRecursion, IsDistinct}
 use Rattle.std.specs.List.Sorted.{IsPermutation}
 use Rattle.std.specs.Map.{keys_of, lookup, remove_entry, values_of}
-use Rattle.std.specs.Ordering.{eq_by_cmp, is_eq}
+use Rattle.std.specs.Ordering.{eq_by_cmp}
 use Rattle.std.specs.declared.cmp.Reverse.{Reverse}
 use Rattle.std.proofs.lemmas.Bool.{cases_order, eq-eqb, eqb-true, eqb-false, lt-ltb}
 use Rattle.std.proofs.lemmas.Cmp.{eq_by_cmp_equiv, then_total}
-use Rattle.std.proofs.lemmas.List.{map-append}
 use Rattle.std.proofs.lemmas.List.Elements.{All-from_recursion, recursion_from_All}
 use Rattle.std.proofs.lemmas.List.Sorted.{All-permutation, IsPermutation-append_comm, IsPermutation-append_left}
 use Rattle.std.proofs.lemmas.List.Sorted.{IsPermutation-append_right, IsPermutation-cons, IsPermutation-map}
-use Rattle.std.proofs.lemmas.List.Sorted.{IsPermutation-middle, IsPermutation-sym, IsPermutation-to_front}
+use Rattle.std.proofs.lemmas.List.Sorted.{IsPermutation-middle, IsPermutation-sym}
 use Rattle.std.proofs.lemmas.List.Sorted.{IsPermutation-refl, IsPermutation-swap, IsPermutation-trans}
 use Rattle.std.proofs.lemmas.Map.{lookup-remove_entry}
 use Rattle.std.proofs.lemmas.Map.Keys.{IsDistinct-IsPermutation, IsDistinct-from_sorted, IsDistinct-tail}
@@ -24,14 +23,13 @@ use Rattle.std.proofs.lemmas.Map.Made.{update_all_none}
 use Rattle.rq_model.specs.States.{Element, id_before, is_free}
 use Rattle.rq_model.specs.WellFormed.{Ordered}
 use Rattle.rq_model.proofs.Apart.{Apart}
-use Rattle.rq_model.proofs.Lists.{by_cases, each_append, each_weaker}
+use Rattle.rq_model.proofs.Lists.{by_cases, each_weaker}
 use Rattle.rq_state.proofs.InOrder.{number_is_order, ordered_weaker}
 use Rattle.rq_state.proofs.Whole.{whole_permuted}
 use Rattle.rq_queue.specs.Kept.{items_of, IsKeyed, Stowed}
 use Rattle.rq_queue.specs.Sorted.{sorted}
 use Rattle.rq_queue.proofs.Doing.{Entry, key_cmp}
 use Rattle.rq_queue.proofs.Known.{equal_rank}
-use Rattle.rq_queue.proofs.Sorting.{apart_front}
 use Rattle.rq_queue.proofs.Units.{Lists}
 
 between : (a b c : List Element) → IsPermutation (a ++ (b ++ c)) (b ++ (a ++ c))
@@ -66,7 +64,8 @@ marked_more items free rest old new e s taken h =
     stowed = subst (IsPermutation (e ∷ items_of old))
         (append_assoc s.left s.list (e ∷ s.right)
         ∙ ap (λ (xs : List Element). s.left ++ xs) (sym (append_assoc s.list (e ∷ []) s.right)) ∙ sym s.after)
-        (IsPermutation-trans (e ∷ items_of old) (e ∷ ((s.left ++ s.list) ++ s.right)) ((s.left ++ s.list) ++ e ∷ s.right)
+        (IsPermutation-trans (e ∷ items_of old) (e ∷ ((s.left ++ s.list) ++ s.right))
+        ((s.left ++ s.list) ++ e ∷ s.right)
         (IsPermutation-cons e (items_of old) ((s.left ++ s.list) ++ s.right)
         (subst (IsPermutation (items_of old)) (sym (append_assoc s.left s.list s.right)) same))
         (IsPermutation-sym ((s.left ++ s.list) ++ e ∷ s.right) (e ∷ ((s.left ++ s.list) ++ s.right))
@@ -218,13 +217,6 @@ AreFreeFrom at es = (k : ℕ) (e : Element) → at ≤ k → k < length es → i
 pub all_free : (es : List Element) → AreFreeFrom 0 es → AllByRecursion (λ e. is_free e.mark ≡ true) es
 all_free es h = recursion_from_All (λ (e : Element). is_free e.mark ≡ true) es (λ k d u. h k d (omega arith) u)
 
-pub one_free : (at : ℕ) (es : List Element) → ((e : Element) → is_free (slice_index_or es at e).mark ≡ true)
-    → AreFreeFrom (at + 1) es → AreFreeFrom at es
-one_free at es here h k e l u = ⊎_elim
-    (λ (s : k ≡ at). subst (λ n. is_free (slice_index_or es n e).mark ≡ true) (sym s) (here e))
-    (λ (o : (k < at) ⊎ (at < k)). ⊎_elim (λ (b : k < at). absurd (omega (arith, b, l)))
-    (λ (b : at < k). h k e (omega (arith, b)) u) o) (cases_order k at)
-
 pub one_out : (at : ℕ) (es rest : List Element) → length rest + 1 ≡ length es
     → (((e : Element) → at + 1 < length es → slice_index_or rest at e ≡ slice_index_or es (length es - 1) e)
     × ((k : ℕ) (e : Element) → k ≢ at → k + 1 < length es → slice_index_or rest k e ≡ slice_index_or es k e))
@@ -258,7 +250,8 @@ made_keyed es m free apart made =
     let ps = map with_key es in
     let keyed = all_keyed es free in
     let same = made_of ps m keyed (subst Apart (sym (with_keys es)) apart) made in (
-      recursion_from_All IsKeyed m.entries (All-permutation IsKeyed ps m.entries same (All-from_recursion IsKeyed ps keyed)),
+      recursion_from_All IsKeyed m.entries
+          (All-permutation IsKeyed ps m.entries same (All-from_recursion IsKeyed ps keyed)),
       subst (λ (xs : List Element). IsPermutation xs (values_of m.entries)) (with_keys es)
           (IsPermutation-map (λ (e : Entry). e.1) ps m.entries same),
     )

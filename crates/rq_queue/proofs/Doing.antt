@@ -9,7 +9,6 @@ use Rattle.std.specs.declared.cmp.Ordering.TheVariants.{Less}
 use Rattle.std.proofs.lemmas.Bool.Decides.{nat_tests}
 use Rattle.std.proofs.lemmas.Bool.{eq-eqb, lt-ltb}
 use Rattle.std.proofs.lemmas.List.{append-nil, reverse-append}
-use Rattle.rq_model.specs.WellFormed.{Ordered}
 use Rattle.std.proofs.lemmas.List.Elements.{filter-append}
 use Rattle.rq_model.specs.States.{Mark, Element, Free, Fresh, Held, put, id_before, is_free}
 use Rattle.rq_model.specs.Queues.{is_marked}
@@ -18,7 +17,7 @@ use Rattle.rq_model.specs.Laws.{PutInAnyOrder}
 use Rattle.rq_model.proofs.Lists.{each_weaker, each_append, filter_all, filter_none}
 use Rattle.rq_queue.specs.Sorted.{sorted}
 use Rattle.rq_queue.specs.Kept.{items_of, IsKeyed, IsOfUnit, Stowed}
-use Rattle.rq_queue.proofs.Sorting.{each_front, each_back, each_unsorted, held_sorted}
+use Rattle.rq_queue.proofs.Sorting.{each_front, each_unsorted, held_sorted}
 use Rattle.rq_model.proofs.Apart.{Apart}
 use Rattle.rq_queue.proofs.Firsts.{IsBehind, first_held, best_is, no_best}
 use Rattle.std.specs.BTreeMap.{insert_entry}
@@ -311,9 +310,3 @@ pass_less p xs e kept k t =
 -- the last of a list goes, and what is left is read backwards
 pub popped : {X : Type 0} (old new : List X) (x : X) → old ≡ new ++ x ∷ [] → reverse old ≡ x ∷ reverse new
 popped old new x h = ap reverse h ∙ reverse-append new (x ∷ [])
-
--- what stands before an element in a rising list has a smaller id
-pub above_all : (xs : List Element) (e : Element) (ys : List Element) → Ordered (λ e f. e.id < f.id) (xs ++ e ∷ ys)
-    → AllByRecursion (λ x. x.id < e.id) xs
-above_all [] e ys h = tt
-above_all (x ∷ xs) e ys h = ((each_back (λ z. x.id < z.id) xs (e ∷ ys) h.0).0, above_all xs e ys h.1)
