@@ -4,6 +4,7 @@ mod countdowns;
 mod courses;
 mod judges;
 mod lanes;
+mod plain;
 mod records;
 mod rooms;
 mod states;

@@ -1,72 +1,43 @@
 //! What the analysis of records tells.
 
+use super::plain::{NO_QUEUE, Plain, Who, records_of};
+use Plain::{Abort, Begin, Commit, Define, Dequeue, Enqueue, Register};
 use rq_catalog::{Outcome, analyse};
-use rq_record::{By, Fault, KeptBy, KeptName, KeptPayload, Name, QueueNo, Record, UnitNo};
+use rq_record::{QueueNo, UnitNo};
 use rq_state::State;
-use std::alloc::Global;
 use std::test::Fail;
 
-fn begin(unit: u64) -> Record {
-    Record::Begin { unit: UnitNo(unit) }
-}
+/// `ann` with a tag.
+const FIRST: Who = Some(("ann", 70));
 
-fn dequeue(alloc: Global, unit: u64, queue: u32, by: Option<By>) -> Result<Record, Fault> {
-    Ok(Record::Dequeue {
-        unit: UnitNo(unit),
-        queue: QueueNo(queue),
-        by: KeptBy::of(alloc, &by)?,
-    })
-}
+const SECOND: Who = Some(("ann", 71));
 
 /// An element of `jobs` goes to `dead` at its second abort, where `ann` finds it at its second
 /// look.
-fn arrival(alloc: Global) -> Result<Vec<Record>, Fail> {
-    let ann = Name::new(b"ann").ok_or("name")?;
-    let payload = KeptPayload::from_slice(alloc, b"a")?.ok_or("payload")?;
-    let none = QueueNo::NONE;
-    let records = vec![in alloc;
-        Record::Define {
-            limit: 0,
-            error: none,
-            name: KeptName::of(alloc, &Name::new(b"dead").ok_or("name")?)?
-        },
-        Record::Define {
-            limit: 2,
-            error: QueueNo(0),
-            name: KeptName::of(alloc, &Name::new(b"jobs").ok_or("name")?)?
-        },
-        Record::Register {
-            queue: QueueNo(0),
-            name: KeptName::of(alloc, &ann)?
-        },
-        begin(1),
-        Record::Enqueue {
-            unit: UnitNo(1),
-            queue: QueueNo(1),
-            priority: 5,
-            by: KeptBy::of(alloc, &None)?,
-            payload
-        },
-        Record::Commit { unit: UnitNo(1) },
-        begin(2),
-        dequeue(alloc, 2, 1, None)?,
-        Record::Abort { unit: UnitNo(2) },
-        begin(3),
-        dequeue(alloc, 3, 1, None)?,
-        begin(4),
-        dequeue(alloc, 4, 0, Some(By { name: ann, tag: 70 }))?,
-        Record::Commit { unit: UnitNo(4) },
-        Record::Abort { unit: UnitNo(3) },
-        begin(5),
-        dequeue(alloc, 5, 0, Some(By { name: ann, tag: 71 }))?,
-        Record::Commit { unit: UnitNo(5) },
-    ]?;
-    Ok(records)
-}
+const ARRIVAL: [Plain; 18] = [
+    Define(0, NO_QUEUE, "dead"),
+    Define(2, 0, "jobs"),
+    Register(0, "ann"),
+    Begin(1),
+    Enqueue(1, 1, None),
+    Commit(1),
+    Begin(2),
+    Dequeue(2, 1, None),
+    Abort(2),
+    Begin(3),
+    Dequeue(3, 1, None),
+    Begin(4),
+    Dequeue(4, 0, FIRST),
+    Commit(4),
+    Abort(3),
+    Begin(5),
+    Dequeue(5, 0, SECOND),
+    Commit(5),
+];
 
 #[test]
 fn outcomes_and_touched_queues(rt: HostRuntime) -> Result<(), Fail> {
-    let records = arrival(rt.alloc())?;
+    let records = records_of(rt.alloc(), &ARRIVAL)?;
     let start = State::empty(rt.alloc());
     let analysis = analyse(rt.alloc(), &start, &records)?;
     assert_eq!(rt; analysis.lawful(), 18);
@@ -95,14 +66,8 @@ fn outcomes_and_touched_queues(rt: HostRuntime) -> Result<(), Fail> {
 
 #[test]
 fn an_analysis_has_counts_and_open_units(rt: HostRuntime) -> Result<(), Fail> {
-    let records = vec![in rt.alloc();
-        Record::Begin { unit: UnitNo(1) },
-        Record::Begin { unit: UnitNo(2) },
-        Record::Begin { unit: UnitNo(4) },
-        Record::Commit { unit: UnitNo(2) },
-        Record::Begin { unit: UnitNo(5) },
-        Record::Abort { unit: UnitNo(1) },
-    ]?;
+    let table = [Begin(1), Begin(2), Begin(4), Commit(2), Begin(5), Abort(1)];
+    let records = records_of(rt.alloc(), &table)?;
     let analysis = analyse(rt.alloc(), &State::empty(rt.alloc()), &records)?;
     assert_eq!(rt; analysis.lawful(), 6);
     assert_eq!(rt; analysis.committed(), 1);

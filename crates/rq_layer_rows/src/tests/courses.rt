@@ -11,10 +11,12 @@ ghost use Rattle.rq_pool.specs.Ledger.{times};
 ghost use Rattle.rq_exchange.specs.Courses.{IsAlone, all_told, redone_by, redone_of, told_to};
 ghost use Rattle.rq_exchange.specs.Links.{naming};
 
+use super::plain::{NO_QUEUE, Plain, records_of};
+use Plain::{Abort, Begin, Commit, Define, Dequeue, Enqueue};
 use rq_catalog::analyse_in;
 use rq_exchange::{Course, replay_traced};
 use rq_pool::{Gate, Plan};
-use rq_record::{Fault, KeptBy, KeptName, KeptPayload, Name, QueueNo, Record, UnitNo, Version};
+use rq_record::{Fault, Record, Version};
 use rq_state::State;
 use std::alloc::Global;
 use std::sync::atomic::{AtomicU32, Ordering};
@@ -23,48 +25,24 @@ use std::thread::Threads;
 
 const QUEUES: usize = 5;
 
-fn define(alloc: Global, limit: u16, error: QueueNo, name: &[u8]) -> Result<Record, Fail> {
-    let name = KeptName::of(alloc, &Name::new(name).ok_or("name")?)?;
-    Ok(Record::Define { limit, error, name })
-}
-
-fn dequeue(alloc: Global, unit: u64, queue: u32) -> Result<Record, Fault> {
-    Ok(Record::Dequeue {
-        unit: UnitNo(unit),
-        queue: QueueNo(queue),
-        by: KeptBy::of(alloc, &None)?,
-    })
-}
-
 /// Two queues with one error queue, one whose error queue is the first of the two, and one with
 /// none. What leaves the last of the chain by an abort goes on to its end by two more.
-fn chained(alloc: Global) -> Result<Vec<Record>, Fail> {
-    let payload = KeptPayload::from_slice(alloc, b"a")?.ok_or("payload")?;
-    let unit = UnitNo(1);
-    let records = vec![in alloc;
-        define(alloc, 0, QueueNo::NONE, b"dead")?,
-        define(alloc, 1, QueueNo(0), b"first")?,
-        define(alloc, 1, QueueNo(0), b"second")?,
-        define(alloc, 1, QueueNo(1), b"chained")?,
-        define(alloc, 0, QueueNo::NONE, b"alone")?,
-        Record::Begin { unit },
-        Record::Enqueue {
-            unit,
-            queue: QueueNo(3),
-            priority: 5,
-            by: KeptBy::of(alloc, &None)?,
-            payload
-        },
-        Record::Commit { unit },
-        Record::Begin { unit: UnitNo(2) },
-        dequeue(alloc, 2, 3)?,
-        Record::Abort { unit: UnitNo(2) },
-        Record::Begin { unit: UnitNo(3) },
-        dequeue(alloc, 3, 1)?,
-        Record::Abort { unit: UnitNo(3) },
-    ]?;
-    Ok(records)
-}
+const CHAINED: [Plain; 14] = [
+    Define(0, NO_QUEUE, "dead"),
+    Define(1, 0, "first"),
+    Define(1, 0, "second"),
+    Define(1, 1, "chained"),
+    Define(0, NO_QUEUE, "alone"),
+    Begin(1),
+    Enqueue(1, 3, None),
+    Commit(1),
+    Begin(2),
+    Dequeue(2, 3, None),
+    Abort(2),
+    Begin(3),
+    Dequeue(3, 1, None),
+    Abort(3),
+];
 
 /// Records that are lawful from the start.
 #[derive(Drop)]
@@ -181,7 +159,7 @@ fn is_after(state: &State) -> bool {
 
 #[test]
 fn the_last_arrival_begins_an_error_queue(rt: HostRuntime) -> Result<(), Fail> {
-    let lawful = lawful_of(rt.alloc(), chained(rt.alloc())?)?;
+    let lawful = lawful_of(rt.alloc(), records_of(rt.alloc(), &CHAINED)?)?;
     assert_eq!(rt; lawful.records.len(), 14);
     for workers in [1, 2, 4] {
         let plan = Plan::new(workers, 1).ok_or("plan")?;

@@ -1,9 +1,11 @@
 //! What a judge says of records, one after the other.
 
-use rq_catalog::{Judge, analyse_in};
-use rq_record::{
-    By, CheckBytes, ElemId, KeptBy, KeptName, KeptPayload, Name, QueueNo, Record, UnitNo, Version,
+use super::plain::{NO_QUEUE, Plain, Who, define, record_of};
+use Plain::{
+    Abort, Begin, Checkpoint, Commit, Define, Dequeue, Deregister, Enqueue, Kill, Register,
 };
+use rq_catalog::{Judge, analyse_in};
+use rq_record::{Record, Version};
 use rq_state::State;
 use std::alloc::Global;
 use std::test::Fail;
@@ -19,11 +21,7 @@ enum Lawful {
 use Lawful::{InBoth, InNone, InTwo};
 
 /// A record, and where it is lawful.
-#[derive(Drop)]
-struct Case {
-    lawful: Lawful,
-    record: Record,
-}
+type Case = (Lawful, Plain);
 
 fn is_lawful_in(lawful: Lawful, version: Version) -> bool {
     match lawful {
@@ -33,216 +31,159 @@ fn is_lawful_in(lawful: Lawful, version: Version) -> bool {
     }
 }
 
-fn name(alloc: Global, bytes: &[u8]) -> Result<KeptName, Fail> {
-    Ok(KeptName::of(alloc, &Name::new(bytes).ok_or("name")?)?)
-}
-
-/// The registrant of the name with a tag, or nobody where it has no bytes.
-fn by(alloc: Global, bytes: &[u8]) -> Result<KeptBy, Fail> {
-    let by = match Name::new(bytes) {
-        Some(name) => Some(By { name, tag: 7 }),
-        None => None,
-    };
-    Ok(KeptBy::of(alloc, &by)?)
-}
-
-fn define(alloc: Global, limit: u16, error: u32, bytes: &[u8]) -> Result<Record, Fail> {
-    let (error, name) = (QueueNo(error), name(alloc, bytes)?);
-    Ok(Record::Define { limit, error, name })
-}
-
-fn register(alloc: Global, queue: u32, bytes: &[u8]) -> Result<Record, Fail> {
-    let (queue, name) = (QueueNo(queue), name(alloc, bytes)?);
-    Ok(Record::Register { queue, name })
-}
-
-fn deregister(alloc: Global, queue: u32, bytes: &[u8]) -> Result<Record, Fail> {
-    let (queue, name) = (QueueNo(queue), name(alloc, bytes)?);
-    Ok(Record::Deregister { queue, name })
-}
-
-fn enqueue(alloc: Global, unit: u64, queue: u32, who: &[u8]) -> Result<Record, Fail> {
-    Ok(Record::Enqueue {
-        unit: UnitNo(unit),
-        queue: QueueNo(queue),
-        priority: 5,
-        by: by(alloc, who)?,
-        payload: KeptPayload::from_slice(alloc, b"a")?.ok_or("payload")?,
-    })
-}
-
-fn dequeue(alloc: Global, unit: u64, queue: u32, who: &[u8]) -> Result<Record, Fail> {
-    Ok(Record::Dequeue {
-        unit: UnitNo(unit),
-        queue: QueueNo(queue),
-        by: by(alloc, who)?,
-    })
-}
-
-fn begin(unit: u64) -> Record {
-    Record::Begin { unit: UnitNo(unit) }
-}
-
-fn commit(unit: u64) -> Record {
-    Record::Commit { unit: UnitNo(unit) }
-}
-
-fn abort(unit: u64) -> Record {
-    Record::Abort { unit: UnitNo(unit) }
-}
-
-fn checkpoint(alloc: Global) -> Result<Record, Fail> {
-    let bytes = CheckBytes::new(Vec::new(alloc)).ok_or("bytes")?;
-    Ok(Record::Checkpoint { bytes })
-}
-
-fn kill(queue: u32, element: u64) -> Record {
-    Record::Kill {
-        queue: QueueNo(queue),
-        element: ElemId(element),
-    }
-}
-
-fn told(lawful: Lawful, record: Record) -> Case {
-    Case { lawful, record }
-}
-
-/// The first place where the judge of the version, or the catalogue over the lawful records and
-/// this one, does not say what stands beside the record. The judge goes on behind unlawful ones.
-fn first_wrong(alloc: Global, version: Version, cases: Vec<Case>) -> Result<Option<usize>, Fail> {
-    let mut judge = Judge::new(alloc, version);
+/// Whether the catalogue takes all of the records.
+fn are_lawful(alloc: Global, version: Version, records: &[Record]) -> Result<bool, Fail> {
     let start = State::empty(alloc);
-    let mut taken = Vec::new(alloc);
-    for (place, case) in cases.into_iter().enumerate() {
-        let want = is_lawful_in(case.lawful, version);
-        let says = judge.take(&case.record)?;
-        taken.push(case.record)?;
-        let analysis = analyse_in(alloc, version, &start, &taken)?;
-        let found = analysis.lawful() == taken.len();
-        if says != want || found != want {
+    let analysis = analyse_in(alloc, version, &start, records)?;
+    Ok(analysis.lawful() == records.len())
+}
+
+/// Whether the judge, and the catalogue over the lawful records and this one, say what stands
+/// beside the record. It is one of the lawful ones then, or it is not.
+fn agree(
+    alloc: Global,
+    version: Version,
+    judge: &mut Judge,
+    taken: &mut Vec<Record>,
+    case: &Case,
+) -> Result<bool, Fail> {
+    let want = is_lawful_in(case.0, version);
+    let next = record_of(alloc, &case.1)?;
+    let says = judge.take(&next)?;
+    taken.push(next)?;
+    let found = are_lawful(alloc, version, taken)?;
+    if !want {
+        taken.pop();
+    }
+    Ok(says == want && found == want)
+}
+
+/// The first place where they do not agree. The judge goes on behind unlawful records. What it
+/// borrows it need not drop at each of its ends.
+fn first_of(
+    alloc: Global,
+    version: Version,
+    judge: &mut Judge,
+    taken: &mut Vec<Record>,
+    cases: &[Case],
+) -> Result<Option<usize>, Fail> {
+    for (place, case) in cases.iter().enumerate() {
+        if !agree(alloc, version, judge, taken, case)? {
             return Ok(Some(place));
-        }
-        if !want {
-            taken.pop();
         }
     }
     Ok(None)
 }
 
-/// What stands for no queue.
-const NO_QUEUE: u32 = u32::MAX;
-
-fn definitions(alloc: Global) -> Result<Vec<Case>, Fail> {
-    let cases = vec![in alloc;
-        told(InNone, define(alloc, 1, 0, b"dead")?),
-        told(InBoth, define(alloc, 0, NO_QUEUE, b"dead")?),
-        told(InNone, define(alloc, 0, NO_QUEUE, b"dead")?),
-        told(InNone, define(alloc, 0, 0, b"jobs")?),
-        told(InNone, define(alloc, 1, NO_QUEUE, b"jobs")?),
-        told(InNone, define(alloc, 1, 1, b"jobs")?),
-        told(InNone, define(alloc, 1001, 0, b"jobs")?),
-        told(InBoth, define(alloc, 1000, 0, b"jobs")?),
-        told(InTwo, define(alloc, 1, 1, b"mail")?),
-        told(InBoth, define(alloc, 1, 0, b"post")?),
-        told(InBoth, checkpoint(alloc)?),
-    ]?;
-    Ok(cases)
+/// The first place where the judge of the version, or the catalogue, does not say what stands
+/// beside the record.
+fn first_wrong(alloc: Global, version: Version, cases: &[Case]) -> Result<Option<usize>, Fail> {
+    let mut judge = Judge::new(alloc, version);
+    let mut taken = Vec::new(alloc);
+    first_of(alloc, version, &mut judge, &mut taken, cases)
 }
 
-fn registrants(alloc: Global) -> Result<Vec<Case>, Fail> {
-    let cases = vec![in alloc;
-        told(InNone, register(alloc, 0, b"ann")?),
-        told(InBoth, define(alloc, 0, NO_QUEUE, b"jobs")?),
-        told(InBoth, define(alloc, 0, NO_QUEUE, b"mail")?),
-        told(InNone, deregister(alloc, 0, b"ann")?),
-        told(InBoth, register(alloc, 0, b"ann")?),
-        told(InBoth, register(alloc, 0, b"ann")?),
-        told(InNone, register(alloc, 2, b"ann")?),
-        told(InNone, deregister(alloc, 1, b"ann")?),
-        told(InNone, deregister(alloc, 0, b"bob")?),
-        told(InBoth, deregister(alloc, 0, b"ann")?),
-        told(InNone, deregister(alloc, 0, b"ann")?),
-    ]?;
-    Ok(cases)
-}
+const ANN: Who = Some(("ann", 7));
 
-fn operations(alloc: Global) -> Result<Vec<Case>, Fail> {
-    let cases = vec![in alloc;
-        told(InBoth, define(alloc, 0, NO_QUEUE, b"jobs")?),
-        told(InBoth, define(alloc, 0, NO_QUEUE, b"mail")?),
-        told(InBoth, register(alloc, 0, b"ann")?),
-        told(InNone, enqueue(alloc, 1, 0, b"")?),
-        told(InNone, dequeue(alloc, 1, 0, b"")?),
-        told(InBoth, begin(1)),
-        told(InBoth, enqueue(alloc, 1, 0, b"")?),
-        told(InBoth, enqueue(alloc, 1, 0, b"ann")?),
-        told(InNone, enqueue(alloc, 1, 0, b"bob")?),
-        told(InNone, enqueue(alloc, 1, 1, b"ann")?),
-        told(InNone, enqueue(alloc, 1, 2, b"")?),
-        told(InBoth, dequeue(alloc, 1, 0, b"")?),
-        told(InBoth, dequeue(alloc, 1, 1, b"")?),
-        told(InBoth, dequeue(alloc, 1, 0, b"ann")?),
-        told(InNone, dequeue(alloc, 1, 0, b"bob")?),
-        told(InNone, dequeue(alloc, 1, 2, b"")?),
-        told(InBoth, deregister(alloc, 0, b"ann")?),
-        told(InNone, enqueue(alloc, 1, 0, b"ann")?),
-        told(InNone, dequeue(alloc, 1, 0, b"ann")?),
-        told(InBoth, commit(1)),
-        told(InNone, enqueue(alloc, 1, 0, b"")?),
-    ]?;
-    Ok(cases)
-}
+const BOB: Who = Some(("bob", 7));
 
-fn units(alloc: Global) -> Result<Vec<Case>, Fail> {
-    let cases = vec![in alloc;
-        told(InNone, commit(1)),
-        told(InNone, abort(1)),
-        told(InNone, begin(0)),
-        told(InBoth, begin(5)),
-        told(InNone, begin(5)),
-        told(InNone, begin(4)),
-        told(InBoth, begin(6)),
-        told(InNone, commit(4)),
-        told(InBoth, commit(5)),
-        told(InNone, commit(5)),
-        told(InNone, abort(5)),
-        told(InNone, begin(5)),
-        told(InBoth, abort(6)),
-        told(InNone, abort(6)),
-        told(InNone, begin(6)),
-        told(InBoth, begin(u64::MAX)),
-    ]?;
-    Ok(cases)
-}
+const DEFINITIONS: [Case; 11] = [
+    (InNone, Define(1, 0, "dead")),
+    (InBoth, Define(0, NO_QUEUE, "dead")),
+    (InNone, Define(0, NO_QUEUE, "dead")),
+    (InNone, Define(0, 0, "jobs")),
+    (InNone, Define(1, NO_QUEUE, "jobs")),
+    (InNone, Define(1, 1, "jobs")),
+    (InNone, Define(1001, 0, "jobs")),
+    (InBoth, Define(1000, 0, "jobs")),
+    (InTwo, Define(1, 1, "mail")),
+    (InBoth, Define(1, 0, "post")),
+    (InBoth, Checkpoint),
+];
 
-fn kills(alloc: Global) -> Result<Vec<Case>, Fail> {
-    let cases = vec![in alloc;
-        told(InNone, kill(0, 0)),
-        told(InBoth, define(alloc, 0, NO_QUEUE, b"jobs")?),
-        told(InTwo, kill(0, 0)),
-        told(InTwo, kill(0, u64::MAX)),
-        told(InNone, kill(1, 0)),
-        told(InNone, kill(NO_QUEUE, 0)),
-        told(InBoth, begin(1)),
-        told(InTwo, kill(0, 2)),
-    ]?;
-    Ok(cases)
-}
+const REGISTRANTS: [Case; 11] = [
+    (InNone, Register(0, "ann")),
+    (InBoth, Define(0, NO_QUEUE, "jobs")),
+    (InBoth, Define(0, NO_QUEUE, "mail")),
+    (InNone, Deregister(0, "ann")),
+    (InBoth, Register(0, "ann")),
+    (InBoth, Register(0, "ann")),
+    (InNone, Register(2, "ann")),
+    (InNone, Deregister(1, "ann")),
+    (InNone, Deregister(0, "bob")),
+    (InBoth, Deregister(0, "ann")),
+    (InNone, Deregister(0, "ann")),
+];
+
+const OPERATIONS: [Case; 21] = [
+    (InBoth, Define(0, NO_QUEUE, "jobs")),
+    (InBoth, Define(0, NO_QUEUE, "mail")),
+    (InBoth, Register(0, "ann")),
+    (InNone, Enqueue(1, 0, None)),
+    (InNone, Dequeue(1, 0, None)),
+    (InBoth, Begin(1)),
+    (InBoth, Enqueue(1, 0, None)),
+    (InBoth, Enqueue(1, 0, ANN)),
+    (InNone, Enqueue(1, 0, BOB)),
+    (InNone, Enqueue(1, 1, ANN)),
+    (InNone, Enqueue(1, 2, None)),
+    (InBoth, Dequeue(1, 0, None)),
+    (InBoth, Dequeue(1, 1, None)),
+    (InBoth, Dequeue(1, 0, ANN)),
+    (InNone, Dequeue(1, 0, BOB)),
+    (InNone, Dequeue(1, 2, None)),
+    (InBoth, Deregister(0, "ann")),
+    (InNone, Enqueue(1, 0, ANN)),
+    (InNone, Dequeue(1, 0, ANN)),
+    (InBoth, Commit(1)),
+    (InNone, Enqueue(1, 0, None)),
+];
+
+const UNITS: [Case; 16] = [
+    (InNone, Commit(1)),
+    (InNone, Abort(1)),
+    (InNone, Begin(0)),
+    (InBoth, Begin(5)),
+    (InNone, Begin(5)),
+    (InNone, Begin(4)),
+    (InBoth, Begin(6)),
+    (InNone, Commit(4)),
+    (InBoth, Commit(5)),
+    (InNone, Commit(5)),
+    (InNone, Abort(5)),
+    (InNone, Begin(5)),
+    (InBoth, Abort(6)),
+    (InNone, Abort(6)),
+    (InNone, Begin(6)),
+    (InBoth, Begin(u64::MAX)),
+];
+
+const KILLS: [Case; 8] = [
+    (InNone, Kill(0, 0)),
+    (InBoth, Define(0, NO_QUEUE, "jobs")),
+    (InTwo, Kill(0, 0)),
+    (InTwo, Kill(0, u64::MAX)),
+    (InNone, Kill(1, 0)),
+    (InNone, Kill(NO_QUEUE, 0)),
+    (InBoth, Begin(1)),
+    (InTwo, Kill(0, 2)),
+];
+
+const TABLES: [(&str, &[Case]); 5] = [
+    ("definitions", &DEFINITIONS),
+    ("registrants", &REGISTRANTS),
+    ("operations", &OPERATIONS),
+    ("units", &UNITS),
+    ("kills", &KILLS),
+];
 
 #[test]
 fn a_judge_says_what_the_catalogue_says(rt: HostRuntime) -> Result<(), Fail> {
-    let alloc = rt.alloc();
-    for version in [Version::One, Version::Two] {
-        let wrong = first_wrong(alloc, version, definitions(alloc)?)?;
-        assert_eq!(rt; wrong, None, "definitions, {version:?}");
-        let wrong = first_wrong(alloc, version, registrants(alloc)?)?;
-        assert_eq!(rt; wrong, None, "registrants, {version:?}");
-        let wrong = first_wrong(alloc, version, operations(alloc)?)?;
-        assert_eq!(rt; wrong, None, "operations, {version:?}");
-        let wrong = first_wrong(alloc, version, units(alloc)?)?;
-        assert_eq!(rt; wrong, None, "units, {version:?}");
-        let wrong = first_wrong(alloc, version, kills(alloc)?)?;
-        assert_eq!(rt; wrong, None, "kills, {version:?}");
+    for (what, cases) in TABLES {
+        for version in [Version::One, Version::Two] {
+            let wrong = first_wrong(rt.alloc(), version, cases)?;
+            assert_eq!(rt; wrong, None, "{what}, {version:?}");
+        }
     }
     Ok(())
 }
@@ -253,7 +194,7 @@ fn a_judge_takes_4096_queues(rt: HostRuntime) -> Result<(), Fail> {
     assert!(rt; judge.version() == Version::Two);
     for number in 0..4097u32 {
         let name = format!(in rt.alloc(); "q{number}")?;
-        let next = define(rt.alloc(), 0, NO_QUEUE, name.as_bytes())?;
+        let next = define(rt.alloc(), 0, NO_QUEUE, &name)?;
         assert_eq!(rt; judge.take(&next)?, number < 4096, "queue {number}");
     }
     Ok(())

@@ -1,0 +1,117 @@
+//! Records as plain data. No record of a table is alive beside another while it is made: so a table
+//! is cheap to prove, and a list of records that may each be refused memory is dear.
+
+use rq_record::{
+    By, CheckBytes, ElemId, KeptBy, KeptName, KeptPayload, Name, QueueNo, Record, UnitNo,
+};
+use std::alloc::Global;
+use std::test::Fail;
+
+/// Whose an operation is: a registrant's, by its name and a tag, or nobody's.
+pub type Who = Option<(&'static str, u64)>;
+
+/// A record by its numbers and names. What is enqueued has priority 5 and is one byte.
+#[derive(Clone, Copy)]
+pub enum Plain {
+    Define(u16, u32, &'static str),
+    Register(u32, &'static str),
+    Deregister(u32, &'static str),
+    Begin(u64),
+    Enqueue(u64, u32, Who),
+    Dequeue(u64, u32, Who),
+    Commit(u64),
+    Abort(u64),
+    Checkpoint,
+    Kill(u32, u64),
+}
+
+/// What stands for no queue.
+pub const NO_QUEUE: u32 = u32::MAX;
+
+fn kept(alloc: Global, name: &str) -> Result<KeptName, Fail> {
+    let name = Name::new(name.as_bytes()).ok_or("name")?;
+    Ok(KeptName::of(alloc, &name)?)
+}
+
+fn by(alloc: Global, who: Who) -> Result<KeptBy, Fail> {
+    let by = match who {
+        Some((name, tag)) => {
+            let name = Name::new(name.as_bytes()).ok_or("name")?;
+            Some(By { name, tag })
+        }
+        None => None,
+    };
+    Ok(KeptBy::of(alloc, &by)?)
+}
+
+/// The definition of a queue.
+pub fn define(alloc: Global, limit: u16, error: u32, name: &str) -> Result<Record, Fail> {
+    let (error, name) = (QueueNo(error), kept(alloc, name)?);
+    Ok(Record::Define { limit, error, name })
+}
+
+fn register(alloc: Global, queue: u32, name: &str) -> Result<Record, Fail> {
+    let (queue, name) = (QueueNo(queue), kept(alloc, name)?);
+    Ok(Record::Register { queue, name })
+}
+
+fn deregister(alloc: Global, queue: u32, name: &str) -> Result<Record, Fail> {
+    let (queue, name) = (QueueNo(queue), kept(alloc, name)?);
+    Ok(Record::Deregister { queue, name })
+}
+
+fn enqueue(alloc: Global, unit: u64, queue: u32, who: Who) -> Result<Record, Fail> {
+    let by = by(alloc, who)?;
+    let payload = KeptPayload::from_slice(alloc, b"a")?.ok_or("payload")?;
+    let (unit, queue) = (UnitNo(unit), QueueNo(queue));
+    Ok(Record::Enqueue {
+        unit,
+        queue,
+        priority: 5,
+        by,
+        payload,
+    })
+}
+
+fn dequeue(alloc: Global, unit: u64, queue: u32, who: Who) -> Result<Record, Fail> {
+    let by = by(alloc, who)?;
+    let (unit, queue) = (UnitNo(unit), QueueNo(queue));
+    Ok(Record::Dequeue { unit, queue, by })
+}
+
+fn checkpoint(alloc: Global) -> Result<Record, Fail> {
+    let bytes = CheckBytes::new(Vec::new(alloc)).ok_or("bytes")?;
+    Ok(Record::Checkpoint { bytes })
+}
+
+fn kill(queue: u32, element: u64) -> Record {
+    Record::Kill {
+        queue: QueueNo(queue),
+        element: ElemId(element),
+    }
+}
+
+/// The record of these numbers and names.
+pub fn record_of(alloc: Global, plain: &Plain) -> Result<Record, Fail> {
+    match *plain {
+        Plain::Define(limit, error, name) => define(alloc, limit, error, name),
+        Plain::Register(queue, name) => register(alloc, queue, name),
+        Plain::Deregister(queue, name) => deregister(alloc, queue, name),
+        Plain::Begin(unit) => Ok(Record::Begin { unit: UnitNo(unit) }),
+        Plain::Enqueue(unit, queue, who) => enqueue(alloc, unit, queue, who),
+        Plain::Dequeue(unit, queue, who) => dequeue(alloc, unit, queue, who),
+        Plain::Commit(unit) => Ok(Record::Commit { unit: UnitNo(unit) }),
+        Plain::Abort(unit) => Ok(Record::Abort { unit: UnitNo(unit) }),
+        Plain::Checkpoint => checkpoint(alloc),
+        Plain::Kill(queue, element) => Ok(kill(queue, element)),
+    }
+}
+
+/// The records of a table.
+pub fn records_of(alloc: Global, table: &[Plain]) -> Result<Vec<Record>, Fail> {
+    let mut records = Vec::new(alloc);
+    for plain in table {
+        records.push(record_of(alloc, plain)?)?;
+    }
+    Ok(records)
+}
