@@ -9,16 +9,10 @@ usage: agree.py RQ [--seeds N] [--mib 1,4] [--folder DIR]
 from __future__ import annotations
 import os, subprocess
 from checkpoints import script
-from common import bodies_of, built_peer, chained, header_of, log_of, parsed, parser
+from common import COMPARED, PLANS, built_peer, log_of, parsed, parser, report, upgrade_agrees
 
-SHAPES = ["errors", "wide", "small", "names", "hot", "kib", "deep", "kills"]
-PLANS = [("1", "1000"), ("2", "1"), ("3", "1000"), ("7", "1000"), ("64", "1000")]
 # The shape of the log that has true checkpoints.
 CHECKPOINTS = "checkpoints"
-
-
-def report(words: list[str]) -> bytes:
-    return subprocess.run(words, check=True, capture_output=True).stdout
 
 
 def closed_report(program: str, peer: str, log: str, out: str) -> tuple[bool, bytes]:
@@ -26,41 +20,6 @@ def closed_report(program: str, peer: str, log: str, out: str) -> tuple[bool, by
     subprocess.run([program, "close", log, out, "2"], check=True)
     front, _, queues = report([peer, "restart", out]).split(b"\n", 2)
     return front.endswith(b", whole"), queues
-
-
-def front_of(log: str, used: int) -> bytes:
-    """The front of a log in version 2, made a second time."""
-    with open(log, "rb") as file:
-        return chained(header_of(2), bodies_of(file.read(used)))
-
-
-def upgraded(program: str, log: str, workers: str) -> tuple[str, bytes]:
-    """Where the upgraded log lies, and its bytes."""
-    out = f"{log}.upgraded"
-    subprocess.run([program, "upgrade", log, out, workers], check=True)
-    with open(out, "rb") as file:
-        return out, file.read()
-
-
-def upgrade_agrees(program: str, peer: str, log: str, want: bytes) -> bool:
-    """Whether the upgraded log is right, where this is the peer's report of the log; what was made is taken away."""
-    first, rest = want.split(b"\n", 1)
-    words = first.decode().split()
-    out, made = upgraded(program, log, "2")
-    again, twice = upgraded(program, out, "7")
-    whole = f"front {words[1]} records, {words[3]} of {words[3]} bytes, whole\n".encode() + rest
-    right = made == front_of(log, int(words[3])) and twice == made
-    right = right and report([peer, "restart", out]) == whole == report([program, "restart", out, "3", "1000"])
-    audit = report([program, "audit", log, "2"])
-    right = right and report([program, "audit", out, "2"]) == audit
-    for line in audit.decode().splitlines():
-        if line.endswith(" true"):
-            offset = line.split()[1]
-            old, new = (report([program, "restart-at", name, offset, "2", "1000"]) for name in (log, out))
-            right = right and new == whole and old.split(b"\n", 1)[1] == rest
-    os.remove(again)
-    os.remove(out)
-    return right
 
 
 def logs_of(program: str, peer: str, folder: str, shape: str, mib: int, seeds: range) -> list[str]:
@@ -81,7 +40,7 @@ def main() -> None:
     options = parsed(words)
     peer = built_peer(options.folder)
     compared = differing = 0
-    for shape in [*SHAPES, CHECKPOINTS]:
+    for shape in [*COMPARED, CHECKPOINTS]:
         for mib in options.mib.split(","):
             for log in logs_of(options.program, peer, options.folder, shape, int(mib), range(2, 2 + options.seeds)):
                 want = report([peer, "restart", log])

@@ -8,9 +8,7 @@ answer, its exit status with it, is compared with the first one's.
 from __future__ import annotations
 import os, random, subprocess
 
-from agree import PLANS, SHAPES
-from common import built_peer, log_of, parsed, parser
-from damaged import DAMAGES
+from common import COMPARED, DAMAGES, PLANS, built_peer, log_of, parsed, parser
 
 
 def answer(program: str, log: str, workers: str, grain: str) -> tuple[int, bytes]:
@@ -28,7 +26,7 @@ def main() -> None:
     draw = random.Random(1)
     path = os.path.join(options.folder, "builds")
     compared = differing = 0
-    for shape in SHAPES + ["big", "even"]:
+    for shape in COMPARED + ["big", "even"]:
         with open(log_of(peer, options.folder, shape, options.mib), "rb") as source:
             log = source.read()
         logs = [log] + [damage(log, draw) for damage in DAMAGES.values() for _ in range(options.damages)]

@@ -6,8 +6,8 @@ Makes two logs of the same work with `rq make`: one with 8 checkpoints, one with
 whole, the restart from the last of 8 checkpoints, the audit of 100.
 """
 from __future__ import annotations
-import os, random, subprocess, time
-from common import parsed, parser
+import os, random
+from common import parsed, parser, seconds
 
 
 def script(path: str, mib: int, checkpoints: int) -> None:
@@ -34,9 +34,10 @@ def script(path: str, mib: int, checkpoints: int) -> None:
 
 
 def timed(words: list[str]) -> tuple[float, bytes]:
-    begun = time.perf_counter()
-    out = subprocess.run(words, check=True, capture_output=True).stdout
-    return time.perf_counter() - begun, out
+    """The seconds of a command, and what it writes."""
+    pieces: list[bytes] = []
+    took, _ = seconds(words, take=pieces.append)
+    return took, b"".join(pieces)
 
 
 def main() -> None:

@@ -10,35 +10,7 @@ itself ends the front.
 from __future__ import annotations
 import os, random
 
-from agree import PLANS, SHAPES, report, upgrade_agrees
-from common import HEADER, bodies_of, built_peer, chained, log_of, parsed, parser
-
-NO_RECORD = b"\0" * 9
-UNLAWFUL = b"\7" + b"\xff" * 8  # the COMMIT of a unit that was never begun
-KILL = b"\x0a" + bytes(12)
-
-
-def with_bodies(log: bytes, draw: random.Random, *others: bytes) -> bytes:
-    """The log with other bodies in place of as many of its own."""
-    bodies = bodies_of(log)
-    for place, other in zip(draw.sample(range(len(bodies)), len(others)), others):
-        bodies[place] = other
-    return chained(log[:HEADER], bodies)
-
-
-def turned(log: bytes, draw: random.Random) -> bytes:
-    place = draw.randrange(HEADER, len(log))
-    return log[:place] + bytes([log[place] ^ 1 << draw.randrange(8)]) + log[place + 1:]
-
-
-DAMAGES = {
-    "cut": lambda log, draw: log[:draw.randrange(HEADER, len(log))],
-    "turned": turned,
-    "no record": lambda log, draw: with_bodies(log, draw, NO_RECORD),
-    "not lawful": lambda log, draw: with_bodies(log, draw, UNLAWFUL),
-    "both": lambda log, draw: with_bodies(log, draw, NO_RECORD, UNLAWFUL),
-    "a kill": lambda log, draw: with_bodies(log, draw, KILL),
-}
+from common import COMPARED, DAMAGES, PLANS, built_peer, log_of, parsed, parser, report, upgrade_agrees
 
 
 def main() -> None:
@@ -51,7 +23,7 @@ def main() -> None:
     draw = random.Random(1)
     compared = differing = 0
     ends: dict[str, int] = {}
-    for shape in SHAPES:
+    for shape in COMPARED:
         with open(log_of(peer, options.folder, shape, options.mib), "rb") as file:
             log = file.read()
         for name, damage in DAMAGES.items():

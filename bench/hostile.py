@@ -9,64 +9,15 @@ a table and each bound that is missed, and exits with 1 if any is. A run that ta
 as the limit.
 """
 from __future__ import annotations
-import hashlib, itertools, os, struct, subprocess, sys, time
+import hashlib, itertools, os, sys
 from collections.abc import Callable, Iterator
-from common import built_peer, parsed, parser
+
+from common import built_peer, header_of, parsed, parser, run, write_log
+from records import abort, begin, checkpoint, commit, define, dequeue, deregister, enqueue, kill, register, spelled
 
 GROWTH, TO_PEER, TO_RESTART, MEMORY = 2.6, 4.0, 3.0, 6.0
 # What is shorter tells more of the host than of the program.
 SHORT = 0.05
-NO_QUEUE = 0xFFFFFFFF
-
-
-def define(name: bytes, limit: int = 0, error: int = NO_QUEUE) -> bytes:
-    return b"\x01" + struct.pack(">HI", limit, error) + name
-
-
-def register(queue: int, name: bytes) -> bytes:
-    return b"\x02" + struct.pack(">I", queue) + name
-
-
-def deregister(queue: int, name: bytes) -> bytes:
-    return b"\x03" + struct.pack(">I", queue) + name
-
-
-def begin(unit: int) -> bytes:
-    return b"\x04" + struct.pack(">Q", unit)
-
-
-def enqueue(unit: int, queue: int, name: bytes = b"", tag: int = 0, payload: bytes = b"a") -> bytes:
-    return b"\x05" + struct.pack(">QIBB", unit, queue, 5, len(name)) + name + struct.pack(">Q", tag) + payload
-
-
-def dequeue(unit: int, queue: int, name: bytes = b"", tag: int = 0) -> bytes:
-    return b"\x06" + struct.pack(">QIB", unit, queue, len(name)) + name + struct.pack(">Q", tag)
-
-
-def commit(unit: int) -> bytes:
-    return b"\x07" + struct.pack(">Q", unit)
-
-
-def abort(unit: int) -> bytes:
-    return b"\x08" + struct.pack(">Q", unit)
-
-
-def checkpoint(told: bytes) -> bytes:
-    return b"\x09" + told
-
-
-def kill(queue: int, element: int) -> bytes:
-    return b"\x0a" + struct.pack(">IQ", queue, element)
-
-
-def spelled(counts: tuple[int, int, int, int], queues: list[bytes], elements: list[tuple[int, bytes]]) -> bytes:
-    """A state whose elements are Free in queue 0, with priority 5 and no attempt."""
-    definitions = b"".join(struct.pack(">HIB", 0, NO_QUEUE, len(name)) + name for name in queues)
-    members = b"".join(struct.pack(">QIIBQBH", id, 0, 0, 5, 0, 0, len(payload)) + payload for id, payload in elements)
-    lists = [struct.pack(">I", len(queues)), definitions, bytes(8), struct.pack(">I", len(elements)), members, bytes(4)]
-    return struct.pack(">QQQQ", *counts) + b"".join(lists)
-
-
 Records = Iterator[bytes]
 
 
@@ -352,18 +303,6 @@ IN_VERSION_TWO = [chained, all_killed, none_killed, killed_and_new]
 SHAPES = {shape.__name__: shape for shape in RESTARTED + IN_VERSION_TWO + AUDITED}
 
 
-def write_log(path: str, version: int, records: Records):
-    """The header, and a frame for each record."""
-    head = b"RQLOG\0\0" + bytes([version])
-    before = hashlib.sha256(head).digest()
-    with open(path, "wb") as log:
-        log.write(head + before)
-        for body in records:
-            framed = struct.pack(">I", len(body)) + body
-            before = hashlib.sha256(before + framed).digest()
-            log.write(framed + before)
-
-
 class Timed:
     """A command over one log: its best time, its greatest memory in bytes, and what it wrote."""
 
@@ -374,18 +313,13 @@ class Timed:
     def run(self):
         if self.was_stopped:
             return
-        begun = time.perf_counter()
-        done = subprocess.Popen(["timeout", str(self.limit), *self.words], stdout=subprocess.PIPE, stderr=subprocess.DEVNULL)
         digest = hashlib.sha256()
-        while piece := done.stdout.read(1 << 20):
-            digest.update(piece)
-        _, status, usage = os.wait4(done.pid, 0)
-        done.returncode = os.waitstatus_to_exitcode(status)
-        self.was_stopped = done.returncode == 124
-        if done.returncode not in (0, 124):
-            sys.exit(f"{' '.join(self.words)} ended with {done.returncode}")
-        self.best = min(self.best, time.perf_counter() - begun)
-        self.memory = max(self.memory, usage.ru_maxrss * 1024)
+        ended = run(["timeout", str(self.limit), *self.words], digest.update)
+        self.was_stopped = ended.status == 124
+        if ended.status not in (0, 124):
+            sys.exit(f"{' '.join(self.words)} ended with {ended.status}")
+        self.best = min(self.best, ended.seconds)
+        self.memory = max(self.memory, ended.memory * 1024)
         self.wrote = digest.hexdigest()
 
 
@@ -394,7 +328,7 @@ class Tried:
 
     def __init__(self, options, peer: str, name: str, records: int):
         self.log = log = os.path.join(options.folder, f"{name}.{records}")
-        write_log(log, 2 if SHAPES[name] in IN_VERSION_TWO else 1, SHAPES[name](records))
+        write_log(log, header_of(2 if SHAPES[name] in IN_VERSION_TWO else 1), SHAPES[name](records))
         self.bytes = os.path.getsize(log)
         workers = str(options.workers)
         self.peer = Timed([peer, "restart", log], options.limit)

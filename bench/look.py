@@ -14,9 +14,7 @@ from __future__ import annotations
 import json, os, random, resource, shutil, subprocess, sys
 from html.parser import HTMLParser
 
-from agree import SHAPES
-from common import HEADER, bodies_of, built_peer, chained, log_of, parsed, parser, seconds
-from damaged import NO_RECORD, UNLAWFUL
+from common import COMPARED, HEADER, NO_RECORD, UNLAWFUL, best, bodies_of, built_peer, chained, log_of, parsed, parser
 from looked import Stories, compact, is_hidden, line_of, records_of, shown
 from schema import report_misfits
 
@@ -298,19 +296,15 @@ def more_scripts(rq: str, look: str, peer: str, folder: str, count: int) -> None
     """So many logs, told as scripts and made again; none is kept."""
     path = os.path.join(folder, "look.once")
     for seed in range(1000, 1000 + count):
-        subprocess.run([peer, "gen", path, SHAPES[seed % len(SHAPES)], str(seed), "1"], check=True, stderr=subprocess.DEVNULL)
+        subprocess.run([peer, "gen", path, COMPARED[seed % len(COMPARED)], str(seed), "1"], check=True, stderr=subprocess.DEVNULL)
         same_script(rq, look, path, folder)
-
-
-def best(*words: str) -> float:
-    return min(seconds(list(words))[0] for _ in range(3))
 
 
 def speeds(rq: str, look: str, peer: str, folder: str, mib: int) -> None:
     for shape in ["small", "kib", "errors"]:
         log = log_of(peer, folder, shape, mib)
-        restart, audit = best(rq, "restart", log, "4", "1000"), best(rq, "audit", log, "4")
-        dump, found = best(look, "dump", log), best(look, "check", log)
+        restart, audit = best([rq, "restart", log, "4", "1000"]), best([rq, "audit", log, "4"])
+        dump, found = best([look, "dump", log]), best([look, "check", log])
         print(f"{shape}: dump {os.path.getsize(log) / dump / 1e6:.0f} MB/s ({dump:.2f} s), check {found:.2f} s, "
               f"{found / (restart + audit):.2f} of a restart ({restart:.2f} s) and an audit ({audit:.2f} s)", flush=True)
 
@@ -327,7 +321,7 @@ def main() -> int:
     rq, look, folder = options.program, options.look, options.folder
     peer = built_peer(folder)
     draw = random.Random(1)
-    for shape in SHAPES:
+    for shape in COMPARED:
         for seed in range(2, 2 + options.seeds):
             log = log_of(peer, folder, shape, options.mib, seed)
             with open(log, "rb") as source:

@@ -2,8 +2,9 @@
 from __future__ import annotations
 import bisect, json, unicodedata
 
-HEADER = 40
-NONE = 2**32 - 1
+from common import HEADER
+from records import NO_QUEUE
+
 SHOWN = 32
 # What nobody sees, or what changes how the text around it is shown: controls, format characters, separators of lines and paragraphs.
 HIDDEN = {"Cc", "Cf", "Zl", "Zp"}
@@ -36,7 +37,7 @@ def fields_of(body: bytes, queues: int) -> dict:
     if kind == "define":
         error = number(rest[2:6])
         it = {"queue": queues, "name": rest[6:].decode(), "limit": number(rest[:2])}
-        return it if error == NONE else it | {"error": error}
+        return it if error == NO_QUEUE else it | {"error": error}
     if kind in ("register", "deregister"):
         return {"queue": number(rest[:4]), "registrant": rest[4:].decode()}
     if kind == "enqueue":

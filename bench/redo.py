@@ -10,7 +10,7 @@ each queue has an error queue of its own, with one worker and with four, and ove
 built program itself, not the root script.
 """
 from __future__ import annotations
-import os, statistics, subprocess, tempfile
+import os, statistics, tempfile
 
 import common, layers
 

@@ -8,10 +8,8 @@ and then has nothing to redo. The differences of the three times are the digests
 redo of the queues, the report. Each time is the best of the runs, taken in turn; the ratios are to one worker.
 """
 from __future__ import annotations
-import hashlib, os
-from common import built_peer, log_of, parsed, parser, seconds
-
-HEADER = 40
+import os
+from common import HEADER, bodies_of, built_peer, log_of, parsed, parser, seconds, write_log
 
 
 def without_lengths(log: str) -> str:
@@ -31,16 +29,9 @@ def without_records(log: str) -> str:
     path = log + ".digests"
     if not os.path.exists(path):
         with open(log, "rb") as source:
-            data = bytearray(source.read())
-        data[HEADER + 4] = 0
-        view, at = memoryview(data), HEADER
-        while at < len(data):
-            end = at + 4 + int.from_bytes(view[at:at + 4], "big")
-            data[end:end + 32] = hashlib.sha256(view[at - 32:end]).digest()
-            at = end + 32
-        view.release()
-        with open(path, "wb") as out:
-            out.write(data)
+            data = source.read()
+        first, *others = bodies_of(data)
+        write_log(path, data[:HEADER], [b"\0" + first[1:], *others])
     return path
 
 

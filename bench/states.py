@@ -9,11 +9,10 @@ more: the difference to `make` without it is the state spelled once more, framed
 """
 from __future__ import annotations
 import hashlib, os
-from common import parsed, parser, seconds
+from common import HEADER, best, parsed, parser
 
 # What stands before the number of definitions in the bytes of a state: four numbers of 8 bytes.
 BEFORE_LISTS = 32
-HEADER = 40
 
 
 def script(path: str, payload: int, size: int, checkpoints: int) -> str:
@@ -44,11 +43,6 @@ def spoilt(log: str, data: bytes, frame: int, place: int) -> str:
     with open(path, "wb") as out:
         out.write(changed)
     return path
-
-
-def best(words: list[str], wanted: int = 0) -> float:
-    """The best wall seconds of three runs."""
-    return min(seconds(words, wanted)[0] for _ in range(3))
 
 
 def main() -> None:

@@ -8,12 +8,11 @@ frames anew, on one thread over OpenSSL: each digest is of the one before it, so
 """
 from __future__ import annotations
 import os
-from closing import Times, log_of, words_of
-from common import built_peer, parsed, seconds
+from common import Making, built_peer, making_words, open_log_of, parsed, seconds
 
 
 def main() -> None:
-    words = words_of()
+    words = making_words()
     words.add_argument("--without-sha", action="store_true")
     options = parsed(words)
     if options.without_sha:
@@ -21,9 +20,9 @@ def main() -> None:
     os.makedirs(options.memory, exist_ok=True)
     peer = built_peer(options.folder)
     for payload in (2000, 10):
-        log = log_of(options.folder, options.mib, payload)
+        log = open_log_of(options.folder, options.mib, payload)
         for workers in ("1", "2", "4"):
-            times, digests = Times("upgrade"), float("inf")
+            times, digests = Making("upgrade"), float("inf")
             for _ in range(options.rounds):
                 times.round(options.program, log, workers, options.folder, options.memory)
                 digests = min(digests, seconds([peer, "chain", log])[0])
