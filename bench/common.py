@@ -1,5 +1,5 @@
-"""What the scripts here share: the words of a command line, the peer, its logs and their frames, what damages them, what the
-program makes of them, and times."""
+"""What the scripts here share: the words of a command line, the peer, its logs and their frames, damages of them, what
+the program makes of them, and times."""
 from __future__ import annotations
 import argparse, hashlib, os, random, subprocess, sys, time
 from collections.abc import Callable, Iterable, Iterator

@@ -2,15 +2,15 @@
 """Restarts and audits logs that try to make them take the square of the log's length, each at n and at 2n records.
 
 usage: hostile.py RQ [--records N] [--runs N] [--workers N] [--limit SECONDS] [--folder DIR] [SHAPE ..]
-RQ is the built program. Each time is the best of the runs, taken in turn at both lengths and with the peer (peer.rs). The bounds:
-from n to 2n a restart and an audit grow at most 2.6 times; a restart takes at most 4 times as long as the peer; an audit at most
-3 times as long as a restart of the same log; neither holds more than 6 times the log in memory; the report is the peer's. Prints
-a table and each bound that is missed, and exits with 1 if any is. A run that takes longer than the limit is stopped, and counts
-as the limit.
+RQ is the built program. Each time is the best of the runs, taken in turn at both lengths and with the peer (peer.rs).
+The bounds: from n to 2n a restart and an audit grow at most 2.6 times; a restart takes at most 4 times as long as the
+peer; an audit at most 3 times as long as a restart of the same log; neither holds more than 6 times the log in memory;
+the report is the peer's. Prints a table and each bound that is missed, and exits with 1 if any is. A run that takes
+longer than the limit is stopped, and counts as the limit.
 """
 from __future__ import annotations
-import hashlib, itertools, os, sys
-from collections.abc import Callable, Iterator
+import hashlib, itertools, os, struct, sys
+from collections.abc import Callable, Iterable, Iterator
 
 from common import built_peer, header_of, parsed, parser, run, write_log
 from records import abort, begin, checkpoint, commit, define, dequeue, deregister, enqueue, kill, register, spelled
@@ -18,6 +18,12 @@ from records import abort, begin, checkpoint, commit, define, dequeue, deregiste
 GROWTH, TO_PEER, TO_RESTART, MEMORY = 2.6, 4.0, 3.0, 6.0
 # What is shorter tells more of the host than of the program.
 SHORT = 0.05
+# A long payload: the longest ones have 65,535 bytes.
+HEAVY = bytes(60000)
+
+HEAD = "| log of 2n | MiB | peer n | 2n | restart n | 2n | grows | to the peer "
+HEAD += "| audit n | 2n | grows | to the restart | memory / log |"
+
 Records = Iterator[bytes]
 
 
@@ -73,7 +79,8 @@ def noted_and_gone(n: int) -> Records:
     """A registrant comes, makes a note in the same unit, and goes, again and again."""
     yield define(b"jobs")
     yield begin(1)
-    yield from itertools.chain.from_iterable(itertools.repeat((register(0, b"ann"), enqueue(1, 0, b"ann", 1), deregister(0, b"ann")), n // 3))
+    come_and_go = (register(0, b"ann"), enqueue(1, 0, b"ann", 1), deregister(0, b"ann"))
+    yield from itertools.chain.from_iterable(itertools.repeat(come_and_go, n // 3))
     yield commit(1)
 
 
@@ -89,13 +96,16 @@ def last_go_first(n: int) -> Records:
     yield commit(1)
 
 
-def retried(n: int) -> Records:
-    """One element of 60,000 bytes is taken and comes back, unit by unit."""
-    yield define(b"jobs")
-    yield begin(1)
-    yield enqueue(1, 0, payload=bytes(60000))
-    yield commit(1)
-    for unit in range(2, n // 3):
+def unit_of(unit: int, operations: Iterable[bytes]) -> Records:
+    """A unit that commits."""
+    yield begin(unit)
+    yield from operations
+    yield commit(unit)
+
+
+def aborting(units: Iterable[int]) -> Records:
+    """Units of which each takes an element and aborts."""
+    for unit in units:
         yield begin(unit)
         yield dequeue(unit, 0)
         yield abort(unit)
@@ -104,18 +114,20 @@ def retried(n: int) -> Records:
 def filled(count: int) -> Records:
     """A queue with so many elements, which one unit put in."""
     yield define(b"jobs")
-    yield begin(1)
-    yield from itertools.repeat(enqueue(1, 0), count)
-    yield commit(1)
+    yield from unit_of(1, itertools.repeat(enqueue(1, 0), count))
+
+
+def retried(n: int) -> Records:
+    """One element of 60,000 bytes is taken and comes back, unit by unit."""
+    yield define(b"jobs")
+    yield from unit_of(1, [enqueue(1, 0, payload=HEAVY)])
+    yield from aborting(range(2, n // 3))
 
 
 def all_retried(n: int) -> Records:
     """Each unit takes one of many elements and aborts, so that the best one is always the same."""
     yield from filled(n // 2)
-    for unit in range(2, n // 6):
-        yield begin(unit)
-        yield dequeue(unit, 0)
-        yield abort(unit)
+    yield from aborting(range(2, n // 6))
 
 
 def moved(n: int) -> Records:
@@ -166,19 +178,36 @@ def spread(n: int) -> Records:
     yield commit(1)
 
 
+def told_between(place: int, steps: Iterable[int], work: Callable[[int], Iterable[bytes]],
+                 told: Callable[[int, int], bytes]) -> Records:
+    """Behind so many records those of each step, and a checkpoint behind each, made of its own number and the step."""
+    for step in steps:
+        for body in work(step):
+            yield body
+            place += 1
+        yield checkpoint(told(place, step))
+        place += 1
+
+
+def empty_unit(unit: int) -> Records:
+    return unit_of(unit, [])
+
+
+def taking_unit(unit: int) -> Records:
+    return unit_of(unit, [dequeue(unit, 0)])
+
+
+def none_told(place: int, unit: int) -> bytes:
+    """A checkpoint that has all right where so many units have committed, but tells of no element."""
+    return spelled((place, unit, unit, 0), [b"jobs"], [])
+
+
 def few_elements(n: int, told: Callable[[int, int, list[tuple[int, bytes]]], bytes]) -> Records:
     """64 elements and n / 32 checkpoints, with a unit between any two of them."""
     elements = [(2 + at, b"payload %08d" % at) for at in range(64)]
     yield define(b"jobs")
-    yield begin(1)
-    yield from (enqueue(1, 0, payload=payload) for _, payload in elements)
-    yield commit(1)
-    place = 67
-    for unit in range(2, n // 32):
-        yield begin(unit)
-        yield commit(unit)
-        yield checkpoint(told(place + 2, unit, elements))
-        place += 3
+    yield from unit_of(1, (enqueue(1, 0, payload=payload) for _, payload in elements))
+    yield from told_between(67, range(2, n // 32), empty_unit, lambda place, unit: told(place, unit, elements))
 
 
 def true_checkpoints(n: int) -> Records:
@@ -188,7 +217,10 @@ def true_checkpoints(n: int) -> Records:
 
 def false_checkpoints(n: int) -> Records:
     """Checkpoints that are right but for the last byte of the last payload."""
-    return few_elements(n, lambda place, unit, elements: spelled((place, unit, unit, 0), [b"jobs"], [*elements[:-1], (65, b"payload 00000000")]))
+    def told(place: int, unit: int, elements: list[tuple[int, bytes]]) -> bytes:
+        return spelled((place, unit, unit, 0), [b"jobs"], [*elements[:-1], (65, b"payload 00000000")])
+
+    return few_elements(n, told)
 
 
 def many_elements(n: int, told: Callable[[int], bytes]) -> Records:
@@ -230,32 +262,145 @@ def queues_told(n: int) -> Records:
     yield from (checkpoint(spelled((4096 + at, 0, 0, 0), names, [])) for at in range(n // 4096))
 
 
-def told_between(n: int, count: int, units: int) -> Records:
-    """So many elements, and n / count checkpoints that have their number right and tell of as many others; so many units between two."""
+def others_told(n: int, count: int, units: int) -> Records:
+    """So many elements, and n / count checkpoints that tell of as many others, with so many units between any two."""
+    elements = [(2 + at, b"b") for at in range(count)]
+
+    def told(place: int, first: int) -> bytes:
+        return spelled((place, first + units - 1, 1, first + units - 2), [b"jobs"], elements)
+
     yield from filled(count)
-    place, told = count + 3, [(2 + at, b"b") for at in range(count)]
-    for at in range(n // count):
-        for unit in range(2 + units * at, 2 + units * (at + 1)):
-            yield begin(unit)
-            yield dequeue(unit, 0)
-            yield abort(unit)
-        place += 3 * units
-        yield checkpoint(spelled((place, 1 + units * (at + 1), 1, units * (at + 1)), [b"jobs"], told))
-        place += 1
+    firsts = range(2, 2 + units * (n // count), units)
+    yield from told_between(3 + count, firsts, lambda first: aborting(range(first, first + units)), told)
 
 
 def units_told(n: int) -> Records:
     """4,096 elements, which few records between two checkpoints go over one by one."""
-    return told_between(n, 4096, 12)
+    return others_told(n, 4096, 12)
 
 
 def many_told(n: int) -> Records:
-    """16,384 elements, with too many records between two checkpoints for that, and too few to be worth a queue put together."""
-    return told_between(n, 16384, 60)
+    """16,384 elements, with too many records between two checkpoints for that, and too few for a queue put together."""
+    return others_told(n, 16384, 60)
+
+
+def own_number(n: int) -> Records:
+    """Many elements, and checkpoints that have their own number right and nothing else."""
+    return many_elements(n, lambda place: struct.pack(">Q", place) + bytes(44))
+
+
+def held_by_one(n: int) -> Records:
+    """Many elements, held by one unit, and checkpoints that tell of none."""
+    held = n // 3
+    yield from filled(held)
+    yield begin(2)
+    yield from itertools.repeat(dequeue(2, 0), held)
+    yield from (checkpoint(spelled((4 + 2 * held + at, 2, 1, 0), [b"jobs"], [], [2])) for at in range(n // 3))
+
+
+def units_between(n: int) -> Records:
+    """Many elements, of which a unit takes one between any two checkpoints, which tell of none."""
+    yield from filled(n // 3)
+    yield from told_between(3 + n // 3, range(2, n // 6), taking_unit, none_told)
+
+
+def empty_units_between(n: int) -> Records:
+    """Many elements, and a unit of no operation between any two checkpoints, which tell of none."""
+    yield from filled(n // 2)
+    yield from told_between(3 + n // 2, range(2, n // 6), empty_unit, none_told)
+
+
+def true_and_small(n: int) -> Records:
+    """No element, and a unit of no operation between any two checkpoints, which are true."""
+    yield define(b"jobs")
+    yield from told_between(1, range(1, n // 3), empty_unit, none_told)
+
+
+def others_deregister(n: int) -> Records:
+    """All notes are one registrant's; another one comes and goes between any two checkpoints, which tell of neither."""
+    yield define(b"jobs")
+    yield register(0, b"ann")
+    yield begin(1)
+    yield from itertools.repeat(dequeue(1, 0, b"ann", 1), n // 2)
+    yield from told_between(3 + n // 2, range(n // 6), lambda _: [register(0, b"bob"), deregister(0, b"bob")],
+                            lambda place, _: spelled((place, 1, 0, 0), [b"jobs"], [], [1]))
+
+
+def registrants(n: int) -> Records:
+    """Many registrants, and checkpoints that have all right but tell of none."""
+    yield define(b"jobs")
+    yield from (register(0, b"n%d" % number) for number in range(n // 2))
+    yield from (checkpoint(spelled((1 + n // 2 + at, 0, 0, 0), [b"jobs"], [])) for at in range(n // 2))
+
+
+def no_unit_told(n: int) -> Records:
+    """Many open units, and checkpoints that have all right but tell of none."""
+    yield define(b"jobs")
+    yield from (begin(1 + at) for at in range(n // 2))
+    yield from (checkpoint(spelled((1 + n // 2 + at, n // 2, 0, 0), [b"jobs"], [])) for at in range(n // 2))
+
+
+def heavy_below_light(n: int) -> Records:
+    """Light elements go before heavy ones, one by one, with a checkpoint behind each that tells of no element."""
+    heavy, light = n // 1024, n // 5
+    yield define(b"jobs")
+    yield begin(1)
+    yield from itertools.repeat(enqueue(1, 0, payload=HEAVY, priority=1), heavy)
+    yield from itertools.repeat(enqueue(1, 0, payload=b"", priority=2), light)
+    yield commit(1)
+    yield from told_between(3 + heavy + light, range(2, 2 + light), taking_unit, none_told)
+
+
+def in_vain(n: int) -> Records:
+    """Heavy elements, and 512 checkpoints that tell of none; between two, as many take from an empty queue."""
+    heavy, queues = n // 1024, [b"jobs", b"none"]
+    yield from map(define, queues)
+    yield from unit_of(1, itertools.repeat(enqueue(1, 0, payload=HEAVY), heavy))
+    yield from told_between(4 + heavy, range(2, 514), lambda unit: unit_of(unit, [dequeue(unit, 1)] * heavy),
+                            lambda place, unit: spelled((place, unit, unit, 0), queues, []))
+
+
+def come_and_go(n: int) -> Records:
+    """Heavy elements, and 512 checkpoints that tell of none; between two, half as many light ones come and go."""
+    heavy, light, queues = n // 1024, n // 2048, [b"jobs", b"light"]
+
+    def coming_and_going(unit: int) -> Records:
+        yield from unit_of(unit, [enqueue(unit, 1, payload=b"")] * light)
+        yield from unit_of(unit + 1, [dequeue(unit + 1, 1)] * light)
+
+    yield from map(define, queues)
+    yield from unit_of(1, itertools.repeat(enqueue(1, 0, payload=HEAVY), heavy))
+    yield from told_between(4 + heavy, range(2, 1026, 2), coming_and_going,
+                            lambda place, unit: spelled((place, unit + 1, unit + 1, 0), queues, []))
+
+
+def without_payloads(n: int) -> Records:
+    """Heavy elements, and 256 checkpoints that tell of all of them but leave out the payloads."""
+    heavy = n // 1024
+    yield define(b"jobs")
+    yield from unit_of(1, itertools.repeat(enqueue(1, 0, payload=HEAVY), heavy))
+    elements = [(2 + at, b"") for at in range(heavy)]
+    yield from (checkpoint(spelled((3 + heavy + at, 1, 1, 0), [b"jobs"], elements)) for at in range(256))
+
+
+def element_missing(n: int) -> Records:
+    """4,096 queues, and n / 4,096 checkpoints that spell them and then tell of one element, which they do not have."""
+    names = [b"q%d" % queue for queue in range(4096)]
+    yield from map(define, names)
+    for at in range(n // 4096):
+        yield checkpoint(spelled((4096 + at, 0, 0, 0), names, [])[:-8] + struct.pack(">II", 1, 0))
+
+
+def other_elements(n: int) -> Records:
+    """Many elements, and 40 checkpoints that tell of as many with the same numbers and another priority."""
+    elements = [(2 + at, b"") for at in range(n // 32)]
+    yield from filled(n // 32)
+    for at in range(40):
+        yield checkpoint(spelled((3 + n // 32 + at, 1, 1, 0), [b"jobs"], elements, priority=9))
 
 
 def chained(n: int) -> Records:
-    """4,096 queues, each the error queue of the next, and elements that fall through all of them, one after the other."""
+    """4,096 queues, each the error queue of the next, and elements that fall through all of them, one after another."""
     yield define(b"q0")
     yield from (define(b"q%d" % queue, 1, queue - 1) for queue in range(1, 4096))
     unit = 0
@@ -298,7 +443,10 @@ def killed_and_new(n: int) -> Records:
 
 RESTARTED = [open_units, one_unit, units_in_turn, one_registrant, strangers_go, noted_and_gone, last_go_first]
 RESTARTED += [retried, all_retried, moved, all_moved, all_queues, spread]
-AUDITED = [true_checkpoints, false_checkpoints, junk_checkpoints, empty_checkpoints, counting_checkpoints, one_told, wide_checkpoints, queues_told, units_told, many_told]
+AUDITED = [true_checkpoints, false_checkpoints, junk_checkpoints, empty_checkpoints, counting_checkpoints, one_told]
+AUDITED += [wide_checkpoints, queues_told, units_told, many_told, own_number, held_by_one, units_between]
+AUDITED += [empty_units_between, true_and_small, others_deregister, registrants, no_unit_told, heavy_below_light]
+AUDITED += [in_vain, come_and_go, without_payloads, element_missing, other_elements]
 IN_VERSION_TWO = [chained, all_killed, none_killed, killed_and_new]
 SHAPES = {shape.__name__: shape for shape in RESTARTED + IN_VERSION_TWO + AUDITED}
 
@@ -365,7 +513,8 @@ def missed(name: str, small: Tried, large: Tried) -> list[str]:
     if large.restart.best > max(SHORT, TO_PEER * large.peer.best):
         found.append(f"{name}: the restart takes {large.restart.best / large.peer.best:.1f} times as long as the peer")
     if large.audit and large.audit.best > max(SHORT, TO_RESTART * large.restart.best):
-        found.append(f"{name}: the audit takes {large.audit.best / large.restart.best:.1f} times as long as the restart")
+        times = large.audit.best / large.restart.best
+        found.append(f"{name}: the audit takes {times:.1f} times as long as the restart")
     if large.memory() > MEMORY:
         found.append(f"{name}: {large.memory():.1f} times the log in memory")
     if not large.restart.was_stopped and large.restart.wrote != large.peer.wrote:
@@ -375,7 +524,8 @@ def missed(name: str, small: Tried, large: Tried) -> list[str]:
 
 def cells_of(small: Timed, large: Timed, beside: Timed) -> list[str]:
     """Both times, how they grow, and how the greater one stands to another's."""
-    return [f"{small.best:.2f}", f"{large.best:.2f}", f"{large.best / small.best:.1f}", f"{large.best / beside.best:.1f}"]
+    grows, times = large.best / small.best, large.best / beside.best
+    return [f"{small.best:.2f}", f"{large.best:.2f}", f"{grows:.1f}", f"{times:.1f}"]
 
 
 def main() -> int:
@@ -387,8 +537,9 @@ def main() -> int:
     words.add_argument("--limit", type=float, default=60)
     options = parsed(words)
     peer = built_peer(options.folder)
-    print(f"{options.records} and {2 * options.records} records, {options.workers} workers, best of {options.runs}; seconds\n")
-    print("| log of 2n | MiB | peer n | 2n | restart n | 2n | grows | to the peer | audit n | 2n | grows | to the restart | memory / log |")
+    sizes = f"{options.records} and {2 * options.records} records"
+    print(f"{sizes}, {options.workers} workers, best of {options.runs}; seconds\n")
+    print(HEAD)
     print("|---" * 13 + "|")
     told = []
     for name in options.shapes:
