@@ -53,7 +53,7 @@ READING = ["make LOG MADE", *READING_LOGS]
 # What these words stand for, where nothing else is said.
 USUAL = {"OFFSET": "40", "WORKERS": "1", "GRAIN": "1", "MADE": "made"}
 
-# Lines that have another number of words than their command, or none that there is.
+# Lines with too few words or too many, or with no command.
 NO_LINES = ["", "make", "make one.script", "make one.script made 1", "restart", "restart one.log 1"]
 NO_LINES += ["restart one.log 1 1 1", "restart-at two.log 447 1", "audit two.log", "audit two.log 1 1"]
 NO_LINES += ["close two.log 1", "close two.log made 1 1", "upgrade two.log 1", "upgrade two.log made 1 1"]
