@@ -21,7 +21,7 @@ ghost use Rattle.rq_restart.specs.Ends.{IsChain};
 ghost use Rattle.rq_restart.specs.Worth.{IsTallied, IsWithin, member_bytes, lost_by};
 
 use crate::before::fields_before;
-use crate::front::front_of;
+use crate::front::{Front, front_of};
 use crate::grain::{grain_of, plan_for};
 use crate::shares::audited;
 use crate::tally::Tally;
@@ -207,6 +207,14 @@ pub(crate) fn visit<R: Threads + Sync>(
     })
 }
 
+// The records of a front. What its analysis lists is as much again as a log of short frames, and an
+// audit needs none of it: so that goes here.
+fn records_alone(front: Front) -> Vec<Record>
+    ensures { result.items ≡ front.records.items }
+{
+    front.records
+}
+
 // The checkpoints among the records of the front, in the frames of the chain behind the header.
 fn checkpoints_of<R: Threads + Sync>(
     rt: &R,
@@ -236,7 +244,8 @@ fn checkpoints_of<R: Threads + Sync>(
         &State::empty(alloc),
         plan,
     )?;
-    audited(rt, alloc, &front.records, &found.spans, plan)
+    let records = records_alone(front);
+    audited(rt, alloc, &records, &found.spans, plan)
 }
 
 /// The checkpoints of the front of a log, rising: the offset of each, and whether it is true, which

@@ -1,4 +1,4 @@
-use Rattle.std.proofs.Common.{◌≡◌, true, List, length, map, drop, sym, subst, arith}
+use Rattle.std.proofs.Common.{◌≡◌, ◌∙◌, true, List, length, map, drop, sym, subst, arith}
 use Rattle.std.proofs.lemmas.List.{length-map}
 use Rattle.rq_model.specs.Machine.{all_lawful}
 use Rattle.rq_model.specs.States.{State, empty}
@@ -30,7 +30,7 @@ audited-requires-clause-framed g c κs within =
       lawful = lawful_in_two c.versions.ensures.two (version_of c.args.version) empty rs lawful;
       stand = stand;
     } in
-    subst (λ (xs : List Record). AreFramed (map record_of xs) c.deref-2.result.now) (sym c.deref.ensures.value)
+    subst (λ (xs : List Record). AreFramed (map record_of xs) c.deref-2.result.now) (sym (c.deref.ensures.value ∙ c.records_alone-records.ensures))
     (subst (AreFramed rs) (sym c.deref-2.ensures.value) framed)
 
 pub returns : goal.returns
@@ -56,7 +56,7 @@ returns g c =
     (started (version_of c.args.version) end b c.requires.header) c.requires.chain.short from) in
     let found : FindsShare rs 0 (length front.records.items) c.audited.result =
     subst (λ (xs : List Record). FindsShare (map record_of xs) 0 (length xs) c.audited.result)
-    c.deref.ensures.value c.audited.ensures in
+    (c.deref.ensures.value ∙ c.records_alone-records.ensures) c.audited.ensures in
     let whole = found_whole b rs (length front.records.items) c.audited.result
     (omega (arith, length-map front.records.items record_of)) is found in
     record { audit = whole.0; refused = whole.1 }
