@@ -16,7 +16,7 @@ pub frames-preserved : goal.frames-preserved
 frames-preserved c = λ ms h.
     let b = c.args.bytes.now in
     let d : Span = record { start = 0; len = 0 } in
-    let t = c.args.first in
+    let t = c.args.turn in
     let spans : List Span = c.args.spans.now in
     let before : List Message = of_turn t (take c.frames.i spans) in
     let held = c.frames.invariant ms h in
@@ -41,5 +41,5 @@ frames-preserved c = λ ms h.
 pub returns : goal.returns
 returns c = λ ms h.
     let whole = take_all c.frames.i c.args.spans.now (omega arith) in
-    subst (λ (xs : List Span). AccountsFor c.args.bytes.now c.frames.lanes (ms ++ of_turn c.args.first xs)) whole
+    subst (λ (xs : List Span). AccountsFor c.args.bytes.now c.frames.lanes (ms ++ of_turn c.args.turn xs)) whole
     (c.frames.invariant ms h)
