@@ -67,7 +67,7 @@ fn wrong_among(bytes: &[u8], spans: &[Span]) -> Option<usize>
     ensures some { IfSome result (IsFirstWrong bytes.now spans.now) }
 {
     for (i, span) in spans.iter().enumerate() {
-        if !is_right(bytes, span.start - 4, span.len) {
+        if !is_right(bytes, span.offset(), span.len) {
             return Some(i);
         }
     }
@@ -108,7 +108,7 @@ fn taken(given: Lanes<LANES>, bytes: &[u8], spans: &[Span], turn: Turn) -> Lanes
     'frames: for i in 0..spans.len() {
         let span = spans[i];
         if has_turn(turn, span) {
-            let message = message_at(bytes, span.start - 4, span.len);
+            let message = message_at(bytes, span.offset(), span.len);
             lanes.take(bytes, message);
         }
     }
