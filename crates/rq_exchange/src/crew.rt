@@ -85,7 +85,6 @@ fn work<G: Gate>(
     })
 }
 
-/// Follows what the workers left.
 fn finish<G: Gate>(
     alloc: Global,
     job: &Job,

@@ -86,7 +86,6 @@ pub(crate) fn counts(alloc: Global, r: &Restarted) -> Result<String, AllocError>
     Ok(text)
 }
 
-/// The report's text.
 pub(crate) fn report(alloc: Global, r: &Restarted) -> Result<String, AllocError>
     ensures { IfOk result (λ text. IsText r.now (string_bytes text)) }
 {
