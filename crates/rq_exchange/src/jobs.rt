@@ -31,7 +31,7 @@ pub(crate) struct Job<'a> {
     pub ranks: &'a [u32],
 }
 
-/// The operations at these places and indices.
+// The operations at these places and indices.
 fn ops_of<'a>(
     alloc: Global,
     records: &'a [Record],
@@ -63,7 +63,7 @@ impl Job<'_> {
         }
     }
 
-    /// The part of the queue before the records; that of a queue which they define is empty.
+    // The part of the queue before the records; that of a queue which they define is empty.
     fn part_before(&self, alloc: Global, queue: u32) -> Result<Part, Fault>
         requires job { IsJob self.now }
         requires defined { queue < length self.now.definitions.now }

@@ -36,7 +36,7 @@ fn put_registrants(text: &mut String, queue: QueueNo, state: &State) -> Result<(
     Ok(())
 }
 
-/// Puts a queue: its line, its free elements in order, its registrants by name.
+// Puts a queue: its line, its free elements in order, its registrants by name.
 fn put_queue(
     alloc: Global,
     text: &mut String,
