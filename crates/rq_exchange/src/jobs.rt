@@ -12,7 +12,6 @@ ghost use Rattle.rq_exchange.specs.Links.{at};
 ghost use Rattle.rq_exchange.specs.Chains.{AreBoxes, IsRedone};
 
 use crate::arrivals::{merged, opened};
-use crate::definitions::copied;
 use crate::outboxes::{Outbox, Redone};
 use rq_catalog::Analysis;
 use rq_queue::{Move, Op, Part, redo};
@@ -74,7 +73,7 @@ impl Job<'_> {
         if (queue as usize) < self.state.definition_count() {
             return Part::of(alloc, self.state, QueueNo(queue));
         }
-        let definition = copied(&self.definitions[queue as usize]);
+        let definition = self.definitions[queue as usize].copied();
         Ok(Part::new(alloc, QueueNo(queue), definition))
     }
 }

@@ -90,8 +90,7 @@ pub(crate) fn report(alloc: Global, r: &Restarted) -> Result<String, AllocError>
     ensures { IfOk result (λ text. IsText r.now (string_bytes text)) }
 {
     let state = r.state();
-    // This look says that the state is well formed, so that its elements differ in their numbers.
-    let _ = state.next();
+    state.is_well_formed();
     let mut text = counts(alloc, r)?;
     put_queues(alloc, &mut text, state, 0, state.definition_count())?;
     Ok(text)
