@@ -12,10 +12,10 @@ use std::rt::{Env, Files};
 use std::thread::Threads;
 use std::{env, io};
 
-/// The exit status of a line that is no command.
+// The exit status of a line that is no command.
 const USAGE: u8 = 2;
 
-/// Why the program ends before it is done.
+// Why the program ends before it is done.
 #[derive(Clone, Copy, Debug, PartialEq, Eq)]
 enum Stop {
     Usage,
@@ -36,7 +36,7 @@ fn main(rt: HostRuntime) -> ExitCode {
     }
 }
 
-/// Does the command of the arguments.
+// Does the command of the arguments.
 fn start<R>(rt: &R) -> Result<(), Stop>
 where
     R: Files + Env + Print + AllocGlobal + Threads + Sync,
@@ -58,7 +58,7 @@ where
     }
 }
 
-/// Arguments that are no text are no command; where memory ran out nothing is known of them.
+// Arguments that are no text are no command; where memory ran out nothing is known of them.
 fn unread(error: &io::Error) -> Stop {
     if error.kind() == ErrorKind::OutOfMemory {
         Stop::By(Fault::Resources)
@@ -67,7 +67,7 @@ fn unread(error: &io::Error) -> Stop {
     }
 }
 
-/// The fault of a file that can't be made.
+// The fault of a file that can't be made.
 fn unmade(error: &io::Error) -> Fault {
     if error.kind() == ErrorKind::OutOfMemory {
         Fault::Resources
@@ -76,7 +76,7 @@ fn unmade(error: &io::Error) -> Fault {
     }
 }
 
-/// Does the command on its files.
+// Does the command on its files.
 fn perform<R>(rt: &R, command: &Command<'_>) -> Result<(), Fault>
 where
     R: Files + Print + AllocGlobal + Threads + Sync,
@@ -92,7 +92,7 @@ where
     }
 }
 
-/// Writes what the command answers to standard output.
+// Writes what the command answers to standard output.
 fn print<R>(rt: &R, command: &Command<'_>, from: &str) -> Result<(), Fault>
 where
     R: Files + Print + AllocGlobal + Threads + Sync,
@@ -102,7 +102,7 @@ where
     rq_tool::act(rt, rt.alloc(), command, &mut input, &mut output, &Open)
 }
 
-/// Writes what the command answers to a file, which is made once all of it is there.
+// Writes what the command answers to a file, which is made once all of it is there.
 fn make_file<R>(rt: &R, command: &Command<'_>, from: &str, to: &str) -> Result<(), Fault>
 where
     R: Files + AllocGlobal + Threads + Sync,
@@ -120,7 +120,7 @@ where
     settled.map_err(|_| Fault::WriteFailed)
 }
 
-/// Opens a file for reading.
+// Opens a file for reading.
 fn open<R: Files>(rt: &R, path: &str) -> Result<OverRead<R::File>, Fault>
     ensures { IfOk result (λ it. it.faults ≡ 0) }
 {

@@ -150,7 +150,7 @@ impl Analysis {
         Ok(units)
     }
 
-    /// Adds the unit at a place of their list, where it is open.
+    // Adds the unit at a place of their list, where it is open.
     fn push_open(&self, place: usize, units: &mut Vec<UnitNo>) -> Result<(), Fault>
         requires { place < length (keys self.now.catalogue.outcomes) }
         ensures opened { OnOk result (map unit_of units.new.items ≡ (if is_open_at self.now place
@@ -164,7 +164,7 @@ impl Analysis {
         Ok(())
     }
 
-    /// The unit at a place of their list, where it is open.
+    // The unit at a place of their list, where it is open.
     fn open_at(&self, place: usize) -> Option<UnitNo>
         requires { place < length (keys self.now.catalogue.outcomes) }
         ensures { option_map unit_of result

@@ -36,8 +36,8 @@ pub(crate) struct Catalogue {
     pub(crate) touching: Vec<Vec<(u64, usize)>>,
 }
 
-/// Gives room back where many have gone. Half as many as are left must go then before it does so
-/// again, so it costs little beside what they cost.
+// Gives room back where many have gone. Half as many as are left must go then before it does so
+// again, so it costs little beside what they cost.
 fn give_back(registrants: &mut IndexSet<(u32, Name)>)
     ensures { (k : ℕ × List ℕ) →
         contains key_eq registrants.new k ≡ contains key_eq registrants.old k }

@@ -71,7 +71,7 @@ pub(crate) fn touch_all(
     Ok(())
 }
 
-/// Whether the last record that touches the queue has this place.
+// Whether the last record that touches the queue has this place.
 fn is_last(touching: &[Vec<(u64, usize)>], queue: u32, place: u64) -> bool
     ensures { result ≡ ends_at place (listed touching.now queue) }
 {
@@ -84,7 +84,7 @@ fn is_last(touching: &[Vec<(u64, usize)>], queue: u32, place: u64) -> bool
     }
 }
 
-/// Adds a record to those that touch the queue, unless the last of them has its place.
+// Adds a record to those that touch the queue, unless the last of them has its place.
 fn touch_once(
     touching: &mut Vec<Vec<(u64, usize)>>,
     queue: u32,

@@ -11,7 +11,7 @@ use rq_queue::Move;
 use rq_record::Fault;
 use std::alloc::Global;
 
-/// The order of moves: by place, and at one place by the element's id.
+// The order of moves: by place, and at one place by the element's id.
 #[derive(Clone, Copy)]
 struct Earlier;
 

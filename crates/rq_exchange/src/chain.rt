@@ -84,7 +84,7 @@ impl<'a> Listing<Aim<'a>, LinkedList<Move>> for Due {
         (queues.moves a.state.now (map record_of a.records.now)) a.sources.now };
 }
 
-/// The key of the countdown of a queue.
+// The key of the countdown of a queue.
 fn target_of(job: &Job, queue: u32) -> Target
     ensures { result.due ≡ due job.now queue }
 {
@@ -98,8 +98,8 @@ fn target_of(job: &Job, queue: u32) -> Target
     }
 }
 
-/// Opens the countdown of a queue that has sources, and answers where it stands; past the last
-/// where the queue has none.
+// Opens the countdown of a queue that has sources, and answers where it stands; past the last
+// where the queue has none.
 fn open_one(
     alloc: Global,
     job: &Job,

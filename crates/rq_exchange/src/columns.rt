@@ -21,7 +21,7 @@ pub(crate) fn bare<T: Drop>(alloc: Global, count: usize) -> Result<Vec<Vec<T>>, 
     Ok(lists)
 }
 
-/// Puts each thing of a row at the end of its column.
+// Puts each thing of a row at the end of its column.
 fn spread<T: Drop>(columns: &mut Vec<Vec<T>>, row: Vec<T>) -> Result<(), Fault>
     requires { length row.items ≡ length columns.old.items }
     ensures len { length columns.new.items ≡ length columns.old.items }

@@ -47,7 +47,7 @@ pub(crate) struct Ended {
     pub kept: Kept,
 }
 
-/// Takes until there is nothing to take, and follows what it takes.
+// Takes until there is nothing to take, and follows what it takes.
 fn work<G: Gate>(
     alloc: Global,
     job: &Job,
@@ -85,7 +85,6 @@ fn work<G: Gate>(
     })
 }
 
-/// Follows what the workers left.
 fn finish<G: Gate>(
     alloc: Global,
     job: &Job,
@@ -114,7 +113,7 @@ fn finish<G: Gate>(
     Ok(())
 }
 
-/// A worker for each seat.
+// A worker for each seat.
 fn run_seats<R: Threads + Sync, G: Gate + Sync>(
     rt: &R,
     alloc: Global,
@@ -141,7 +140,7 @@ fn run_seats<R: Threads + Sync, G: Gate + Sync>(
     )
 }
 
-/// A row of passes for each seat.
+// A row of passes for each seat.
 fn paired(
     alloc: Global,
     seats: Vec<Seat>,
@@ -164,7 +163,7 @@ fn paired(
     Ok(workers)
 }
 
-/// The seats of workers that all ended well, and what they have.
+// The seats of workers that all ended well, and what they have.
 fn handed_back(
     alloc: Global,
     ended: Vec<Result<Ended, Fault>>,

@@ -24,6 +24,20 @@ pub(crate) fn tasks_of(alloc: Global, sources: &[Vec<u32>]) -> Result<Vec<u32>, 
     Ok(tasks)
 }
 
+// A list for each worker, with no task in any.
+fn lists_for(alloc: Global, workers: usize) -> Result<Vec<Vec<u32>>, Fault>
+    ensures count { IfOk result (λ v. vec_len v ≡ workers) }
+    ensures empty { IfOk result (λ v. (x : ℕ) → times_in x (map vec_items v.items) ≡ 0) }
+    ensures size { IfOk result (λ v. size (map vec_items v.items) ≡ 0) }
+    ensures refused { IfErr result (λ e. e ≡ Resources) }
+{
+    let mut lists = Vec::new(alloc);
+    for _ in 0..workers {
+        lists.push(Vec::new(alloc))?;
+    }
+    Ok(lists)
+}
+
 /// Task i goes to list i modulo the workers.
 pub(crate) fn deal(alloc: Global, workers: usize, tasks: &[u32]) -> Result<Vec<Vec<u32>>, Fault>
     requires { 0 < workers }
@@ -33,10 +47,7 @@ pub(crate) fn deal(alloc: Global, workers: usize, tasks: &[u32]) -> Result<Vec<V
     ensures size { IfOk result (λ v. size (map vec_items v.items) ≡ length tasks.now) }
     ensures refused { IfErr result (λ e. e ≡ Resources) }
 {
-    let mut lists = Vec::new(alloc);
-    for _ in 0..workers {
-        lists.push(Vec::new(alloc))?;
-    }
+    let mut lists = lists_for(alloc, workers)?;
     for (i, queue) in tasks.iter().enumerate() {
         lists[i % workers].push(*queue)?;
     }

@@ -17,8 +17,8 @@ use rq_pool::{Gate, Pass};
 use rq_record::Fault;
 use std::alloc::Global;
 
-/// Redoes a queue and hands on what left it. Answers the queue to redo next, with what its sources
-/// handed in.
+// Redoes a queue and hands on what left it. Answers the queue to redo next, with what its sources
+// handed in.
 fn step<G: Gate>(
     alloc: Global,
     job: &Job,

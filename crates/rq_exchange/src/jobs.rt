@@ -12,7 +12,6 @@ ghost use Rattle.rq_exchange.specs.Links.{at};
 ghost use Rattle.rq_exchange.specs.Chains.{AreBoxes, IsRedone};
 
 use crate::arrivals::{merged, opened};
-use crate::definitions::copied;
 use crate::outboxes::{Outbox, Redone};
 use rq_catalog::Analysis;
 use rq_queue::{Move, Op, Part, redo};
@@ -31,7 +30,7 @@ pub(crate) struct Job<'a> {
     pub ranks: &'a [u32],
 }
 
-/// The operations at these places and indices.
+// The operations at these places and indices.
 fn ops_of<'a>(
     alloc: Global,
     records: &'a [Record],
@@ -63,7 +62,7 @@ impl Job<'_> {
         }
     }
 
-    /// The part of the queue before the records; that of a queue which they define is empty.
+    // The part of the queue before the records; that of a queue which they define is empty.
     fn part_before(&self, alloc: Global, queue: u32) -> Result<Part, Fault>
         requires job { IsJob self.now }
         requires defined { queue < length self.now.definitions.now }
@@ -74,7 +73,7 @@ impl Job<'_> {
         if (queue as usize) < self.state.definition_count() {
             return Part::of(alloc, self.state, QueueNo(queue));
         }
-        let definition = copied(&self.definitions[queue as usize]);
+        let definition = self.definitions[queue as usize].copied();
         Ok(Part::new(alloc, QueueNo(queue), definition))
     }
 }

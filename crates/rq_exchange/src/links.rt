@@ -11,7 +11,7 @@ use rq_record::Fault;
 use rq_state::Definition;
 use std::alloc::Global;
 
-/// The error queue of a queue.
+// The error queue of a queue.
 fn error_of(definition: &Definition) -> u32
     ensures { result ≡ definition.now.error }
 {
@@ -30,7 +30,7 @@ pub(crate) fn errors_of(alloc: Global, definitions: &[Definition]) -> Result<Vec
     Ok(errors)
 }
 
-/// Adds a place to the list of a number, where there is one. Answers how many were there before it.
+// Adds a place to the list of a number, where there is one. Answers how many were there before it.
 fn list(lists: &mut Vec<Vec<u32>>, number: u32, place: u32) -> Result<u32, Fault>
     requires few { number < length lists.old.items → length (listed lists.old.items number) ≤ 4096 }
     ensures len { length lists.new.items ≡ length lists.old.items }

@@ -17,7 +17,7 @@ use rq_pool::{Closing, Countdown, Pass};
 use rq_record::Fault;
 use std::alloc::Global;
 
-/// Closes each countdown with its passes.
+// Closes each countdown with its passes.
 fn close_all(
     alloc: Global,
     countdowns: Vec<Countdown<Outbox>>,
@@ -45,7 +45,7 @@ fn close_all(
     Ok(closings)
 }
 
-/// The passes of each thread, and what it redid.
+// The passes of each thread, and what it redid.
 fn apart(
     alloc: Global,
     kept: Vec<Kept>,

@@ -10,12 +10,12 @@ use std::fs::{File, Files, Metadata, OpenFile, OpenOptions};
 use std::os::unix::fs::{MetadataExt, OpenOptionsExt, chown};
 use std::{fs, io};
 
-/// The mode of a file while it is written that is to take the place of another: nobody else reads
-/// it, whoever may read that.
+// The mode of a file while it is written that is to take the place of another: nobody else reads
+// it, whoever may read that.
 const OWN_MODE: u32 = 0o600;
 
-/// Gives the file of this name the owner and the group of the old one, or the group alone, as far
-/// as the system lets us.
+// Gives the file of this name the owner and the group of the old one, or the group alone, as far
+// as the system lets us.
 fn give_to<R: Files>(rt: &R, name: &str, old: &Metadata) {
     let (owner, group) = (Some(old.uid()), Some(old.gid()));
     if chown(rt, name, owner, group).is_err() {

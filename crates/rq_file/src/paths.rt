@@ -9,10 +9,10 @@ use std::io::ErrorKind;
 use std::path::Path;
 use std::{fs, io};
 
-/// How many names are tried for a file: some may be left by runs that were killed.
+// How many names are tried for a file: some may be left by runs that were killed.
 const NAMES: u32 = 100;
 
-/// How many symbolic links are followed, one behind the other: as many as the system follows.
+// How many symbolic links are followed, one behind the other: as many as the system follows.
 const LINKS: u32 = 40;
 
 /// The folder that a path lies in.

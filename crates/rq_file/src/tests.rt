@@ -6,7 +6,7 @@ use std::io::{ErrorKind, Write};
 use std::os::unix::fs::symlink;
 use std::test::Fail;
 
-/// Whether nothing has the name.
+// Whether nothing has the name.
 fn is_free(rt: &HostRuntime, path: &str) -> bool {
     fs::symlink_metadata(rt, path).is_err()
 }

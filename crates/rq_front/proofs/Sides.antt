@@ -11,6 +11,8 @@ use Rattle.sha2.specs.Sha256.{sha256}
 use Rattle.rq_lanes.specs.Messages as lanes
 use Rattle.rq_lanes.specs.declared.lanes.Message.{Message}
 use Rattle.rq_front.specs.Walks.{IsRight, IsSpanOf, has_turn, message_of}
+use Rattle.rq_front.specs.declared.digests.Turn.{Turn}
+use Rattle.rq_front.specs.declared.digests.Turn.TheVariants.{First, Second}
 use Rattle.rq_front.specs.declared.spans.Span.{Span}
 use Rattle.rq_bytes.specs.Reads.{IsBytes}
 use Rattle.rq_front.proofs.Framing.{right_exactly}
@@ -44,27 +46,27 @@ each_of_both P [] ys h = (tt, h)
 each_of_both P (x ∷ xs) ys h = let rest = each_of_both P xs ys h.1 in ((h.0, rest.0), rest.1)
 
 -- each frame has a turn
-each_turn : (P : Span → Type 0) (spans : List Span) → AllByRecursion P (filter (has_turn true) spans)
-    → AllByRecursion P (filter (has_turn false) spans) → AllByRecursion P spans
+each_turn : (P : Span → Type 0) (spans : List Span) → AllByRecursion P (filter (has_turn First) spans)
+    → AllByRecursion P (filter (has_turn Second) spans) → AllByRecursion P spans
 each_turn P [] first second = tt
 each_turn P (s ∷ ss) first second =
     by_cases (nat_le 16384 s.len)
-    (λ t. AllByRecursion P (cond t (s ∷ filter (has_turn true) ss) (filter (has_turn true) ss))
-    → AllByRecursion P (cond (not t) (s ∷ filter (has_turn false) ss) (filter (has_turn false) ss))
+    (λ t. AllByRecursion P (cond t (s ∷ filter (has_turn First) ss) (filter (has_turn First) ss))
+    → AllByRecursion P (cond (not t) (s ∷ filter (has_turn Second) ss) (filter (has_turn Second) ss))
     → AllByRecursion P (s ∷ ss))
     (λ _ f r. (f.0, each_turn P ss f.1 r)) (λ _ f r. (r.0, each_turn P ss f r.1)) first second
 
 -- so where the lanes find the digests of both turns right, all are
 pub both_turns_right : (b : List ℕ) → IsBytes b → (spans : List Span) → All (IsSpanOf b) spans
     → All (lanes.HasDigestBehind b)
-    (map message_of (filter (has_turn true) spans) ++ map message_of (filter (has_turn false) spans))
+    (map message_of (filter (has_turn First) spans) ++ map message_of (filter (has_turn Second) spans))
     → All (IsRight b) spans
 both_turns_right b bytes spans are right =
-    let first : List Span = filter (has_turn true) spans in
-    let second : List Span = filter (has_turn false) spans in
+    let first : List Span = filter (has_turn First) spans in
+    let second : List Span = filter (has_turn Second) spans in
     let of : All (IsSpanOf b) (first ++ second) =
-    All-append (IsSpanOf b) first second (All-filter (has_turn true) (IsSpanOf b) spans are)
-    (All-filter (has_turn false) (IsSpanOf b) spans are) in
+    All-append (IsSpanOf b) first second (All-filter (has_turn First) (IsSpanOf b) spans are)
+    (All-filter (has_turn Second) (IsSpanOf b) spans are) in
     let both : All (IsRight b) (first ++ second) =
     all_right b bytes (first ++ second) of
     (subst (All (lanes.HasDigestBehind b)) (sym (map-append message_of first second)) right) in
@@ -72,10 +74,10 @@ both_turns_right b bytes spans are right =
     All-from_recursion (IsRight b) spans (each_turn (IsRight b) spans each.0 each.1)
 
 -- the messages of the frames up to a place that have a turn
-abbrev pub of_turn : Bool → List Span → List Message
+abbrev pub of_turn : Turn → List Span → List Message
 of_turn t spans = map message_of (filter (has_turn t) spans)
 
-turn_more : (t : Bool) (spans : List Span) (i : ℕ) (d : Span) → i < length spans
+turn_more : (t : Turn) (spans : List Span) (i : ℕ) (d : Span) → i < length spans
     → of_turn t (take (i + 1) spans) ≡ of_turn t (take i spans) ++ of_turn t (get_or spans i d ∷ [])
 turn_more t spans i d lt =
     ap (of_turn t) (take_more spans i d lt)
@@ -83,7 +85,7 @@ turn_more t spans i d lt =
     ∙ map-append message_of (filter (has_turn t) (take i spans)) (filter (has_turn t) (get_or spans i d ∷ []))
 
 -- one more of them
-pub turn_taken : (t : Bool) (spans : List Span) (i : ℕ) (d : Span) → i < length spans
+pub turn_taken : (t : Turn) (spans : List Span) (i : ℕ) (d : Span) → i < length spans
     → has_turn t (get_or spans i d) ≡ true
     → of_turn t (take (i + 1) spans) ≡ of_turn t (take i spans) ++ message_of (get_or spans i d) ∷ []
 turn_taken t spans i d lt its =
@@ -91,7 +93,7 @@ turn_taken t spans i d lt its =
     ∙ ap (λ (c : Bool). of_turn t (take i spans) ++ map message_of (cond c (get_or spans i d ∷ []) [])) its
 
 -- and one that has the other turn
-pub turn_passed : (t : Bool) (spans : List Span) (i : ℕ) (d : Span) → i < length spans
+pub turn_passed : (t : Turn) (spans : List Span) (i : ℕ) (d : Span) → i < length spans
     → has_turn t (get_or spans i d) ≡ false
     → of_turn t (take (i + 1) spans) ≡ of_turn t (take i spans)
 turn_passed t spans i d lt its =

@@ -169,7 +169,6 @@ walk_spans b at (s ∷ ss) end low h =
 pub record IsCut (b : List ℕ) (at : ℕ) (spans : List Span) (place : ℕ) (s : Span) : Type 0 where
   pub walk : IsWalk b at (take place spans) (s.start - 4)
   pub frame : HasFrame (drop (s.start - 4) b)
-  pub low : at + 4 ≤ s.start
 
 pub walk_cut : (b : List ℕ) (at : ℕ) (spans : List Span) (end place : ℕ) (d : Span) → IsWalk b at spans end
     → place < length spans
@@ -177,7 +176,7 @@ pub walk_cut : (b : List ℕ) (at : ℕ) (spans : List Span) (end place : ℕ) (
 walk_cut b at [] end place d h lt = absurd (omega arith)
 walk_cut b at (s ∷ ss) end zero d h lt =
     let here : s.start - 4 ≡ at = omega (arith, h.0) in
-    record { walk = here; frame = subst (λ n. HasFrame (drop n b)) (sym here) h.2; low = omega (arith, h.0) }
+    record { walk = here; frame = subst (λ n. HasFrame (drop n b)) (sym here) h.2 }
 walk_cut b at (s ∷ ss) end (suc place) d h lt =
     let rest = walk_cut b (at + 36 + s.len) ss end place d h.3 (omega arith) in
-    record { walk = (h.0, h.1, h.2, rest.walk); frame = rest.frame; low = omega (arith, rest.low) }
+    record { walk = (h.0, h.1, h.2, rest.walk); frame = rest.frame }

@@ -1,9 +1,11 @@
 -- A walk along the lengths of a log, before any digest is looked at.
-use Rattle.std.specs.Prelude.{◌≡◌, ℕ, ◌+◌, ◌*◌, ◌-◌, ◌≤◌, ◌<◌, Bool, true, false, not, nat_le, List}
+use Rattle.std.specs.Prelude.{◌≡◌, ℕ, ◌+◌, ◌*◌, ◌-◌, ◌≤◌, ◌<◌, Bool, not, nat_le, List}
 use Rattle.std.specs.Prelude.{[], ◌∷◌, length, take, drop, All}
 use Rattle.std.specs.List.{HoldsAt}
 use Rattle.rq_model.specs.Frames.{HasFrame, HasRightFrame, IsFrameRun, IsRest, stated, before}
 use Rattle.rq_lanes.specs.declared.lanes.Message.{Message}
+use Rattle.rq_front.specs.declared.digests.Turn.{Turn}
+use Rattle.rq_front.specs.declared.digests.Turn.TheVariants.{First, Second}
 use Rattle.rq_front.specs.declared.spans.Span.{Span}
 use Rattle.rq_front.specs.declared.spans.Chain.{Chain}
 use Rattle.rq_front.specs.declared.spans.Walk.{Walk}
@@ -35,9 +37,9 @@ abbrev pub message_of : Span → Message
 message_of s = message_at (s.start - 4) s.len
 
 -- whether a frame has the first turn in the lanes, which the long ones have, or the second
-abbrev pub has_turn : Bool → Span → Bool
-has_turn true s = nat_le 16384 s.len
-has_turn false s = not (nat_le 16384 s.len)
+abbrev pub has_turn : Turn → Span → Bool
+has_turn First s = nat_le 16384 s.len
+has_turn Second s = not (nat_le 16384 s.len)
 
 -- the span at this place is the first whose digest is wrong
 pub record IsFirstWrong (b : List ℕ) (spans : List Span) (place : ℕ) : Type 0 where

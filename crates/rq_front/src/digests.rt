@@ -40,6 +40,14 @@ struct Piece {
     to: usize,
 }
 
+// When the lanes are given a frame: long ones come first, since behind all others their lanes would
+// run on alone.
+#[derive(Clone, Copy, Debug)]
+enum Turn {
+    First,
+    Second,
+}
+
 // Whether the digest of the frame at a place is right. The 32 bytes before it, the length and the
 // body stand side by side.
 fn is_right(bytes: &[u8], at: usize, len: usize) -> bool
@@ -59,7 +67,7 @@ fn wrong_among(bytes: &[u8], spans: &[Span]) -> Option<usize>
     ensures some { IfSome result (IsFirstWrong bytes.now spans.now) }
 {
     for (i, span) in spans.iter().enumerate() {
-        if !is_right(bytes, span.start - 4, span.len) {
+        if !is_right(bytes, span.offset(), span.len) {
             return Some(i);
         }
     }
@@ -79,26 +87,28 @@ fn message_at(bytes: &[u8], at: usize, len: usize) -> Message
     }
 }
 
-// Whether a frame has its turn: long ones come first, since behind all others their lanes would run
-// on alone.
-fn has_turn(first: bool, span: Span) -> bool
-    ensures { result ≡ has_turn first span }
+// Whether a frame has this turn.
+fn has_turn(turn: Turn, span: Span) -> bool
+    ensures { result ≡ has_turn turn span }
 {
     let is_long = LONG_AMONG_OTHERS <= span.len;
-    if first { is_long } else { !is_long }
+    match turn {
+        Turn::First => is_long,
+        Turn::Second => !is_long,
+    }
 }
 
-// Gives the lanes the frames that have the first turn, or the second.
-fn taken(given: Lanes<LANES>, bytes: &[u8], spans: &[Span], first: bool) -> Lanes<LANES>
+// Gives the lanes the frames that have this turn.
+fn taken(given: Lanes<LANES>, bytes: &[u8], spans: &[Span], turn: Turn) -> Lanes<LANES>
     requires { All (IsSpanOf bytes.now) spans.now }
     ensures { (ms : List Message) → AccountsFor bytes.now given ms
-        → AccountsFor bytes.now result (ms ++ map message_of (filter (has_turn first) spans.now)) }
+        → AccountsFor bytes.now result (ms ++ map message_of (filter (has_turn turn) spans.now)) }
 {
     let mut lanes = given;
     'frames: for i in 0..spans.len() {
         let span = spans[i];
-        if has_turn(first, span) {
-            let message = message_at(bytes, span.start - 4, span.len);
+        if has_turn(turn, span) {
+            let message = message_at(bytes, span.offset(), span.len);
             lanes.take(bytes, message);
         }
     }
@@ -111,8 +121,8 @@ fn are_right(bytes: &[u8], spans: &[Span]) -> bool
     ensures { IsTrue result → All (IsRight bytes.now) spans.now }
 {
     let none: Lanes<LANES> = Lanes::new();
-    let some = taken(none, bytes, spans, true);
-    let all = taken(some, bytes, spans, false);
+    let some = taken(none, bytes, spans, Turn::First);
+    let all = taken(some, bytes, spans, Turn::Second);
     all.finish(bytes)
 }
 

@@ -62,7 +62,7 @@ impl Walk {
         let mut found = self.found;
         let alloc = *found.spans.allocator();
         if let Some(place) = first_wrong(rt, alloc, bytes, &found.spans, grain as usize) {
-            found.end = found.spans[place].start - 4;
+            found.end = found.spans[place].offset();
             found.rest = Rest::Digest;
             found.spans.truncate(place);
         }

@@ -13,12 +13,15 @@ pub use headers::version;
 pub use spans::{Chain, Rest, Span, Walk};
 pub use writing::{frame, header, header_of};
 
-// The name, the version and their digest.
-pub(crate) const HEADER_LEN: usize = 40;
+/// The bytes of a header: 8 of the name and the version, and 32 of their digest. The first frame of
+/// a log begins behind them.
+pub const HEADER_LEN: usize = 40;
 
-// A length, and the digest behind the body.
-pub(crate) const FRAME_LEN: usize = 36;
+/// The bytes of a frame beside its body: 4 of the body's length before it, and 32 of a digest behind
+/// it.
+pub const FRAME_LEN: usize = 36;
 
-pub(crate) const LOG_LIMIT: usize = 4_294_967_295;
+/// The most bytes that a log has.
+pub const LOG_LIMIT: usize = 4_294_967_295;
 
 pub(crate) const BODY_LIMIT: usize = 268_435_456;

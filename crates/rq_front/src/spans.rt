@@ -1,6 +1,6 @@
 //! A run of frames, and what follows it.
 
-ghost use Rattle.std.specs.Prelude.{◌≡◌};
+ghost use Rattle.std.specs.Prelude.{◌≡◌, ◌-◌};
 ghost use Rattle.rq_front.specs.Walks.{spans_of};
 
 /// Where the body of a frame stands in a log, in bytes. Its frame begins 4 bytes before it.
@@ -10,6 +10,16 @@ pub struct Span {
     pub start: usize,
     /// How many bytes it has.
     pub len: usize,
+}
+
+impl Span {
+    /// The place of the first byte of its frame: the body's length stands in the 4 bytes before the
+    /// body. 0 where fewer stand before it, which no frame has.
+    pub fn offset(self) -> usize
+        ensures { result ≡ self.start - 4 }
+    {
+        self.start.saturating_sub(4)
+    }
 }
 
 /// What follows the frames of a run; the first line that applies.

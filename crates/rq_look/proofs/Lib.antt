@@ -1,3 +1,4 @@
 mod Lists
 pub mod Texts
 pub mod Puts
+pub mod Scripts

@@ -1,6 +1,7 @@
 //! The frames of a log by their lengths.
 
-ghost use Rattle.std.specs.Prelude.{◌<◌, length, IfSome};
+ghost use Rattle.std.specs.Prelude.{◌≡◌, ◌+◌, ◌<◌, ◌≤◌, length, drop, take, MatchOption, IfSome};
+ghost use Rattle.rq_model.specs.Frames.{stated, body_in};
 
 use byteorder::{BigEndian, ByteOrder};
 
@@ -19,7 +20,9 @@ pub(crate) struct Frame<'a> {
 }
 
 /// The length that stands at the front of the bytes; none where there are fewer than four.
-pub(crate) fn stated_length(bytes: &[u8]) -> Option<usize> {
+pub(crate) fn stated_length(bytes: &[u8]) -> Option<usize>
+    ensures { MatchOption result (length bytes.now < 4) (λ n. n ≡ stated bytes.now) }
+{
     if bytes.len() < 4 {
         return None;
     }
@@ -28,7 +31,11 @@ pub(crate) fn stated_length(bytes: &[u8]) -> Option<usize> {
 
 /// The frame at the front of the bytes by its length alone, and what stands behind it.
 pub(crate) fn first_frame(bytes: &[u8]) -> Option<(Frame<'_>, &[u8])>
-    ensures { IfSome result (λ x. length x.1.now < length bytes.now) }
+    ensures frame { MatchOption result (length bytes.now < 36 + stated bytes.now)
+        (λ x. (x.0.body.now ≡ body_in bytes.now)
+        × (x.1.now ≡ drop (36 + stated bytes.now) bytes.now)
+        × (36 + stated bytes.now ≤ length bytes.now)) }
+    ensures shorter { IfSome result (λ x. length x.1.now < length bytes.now) }
 {
     let len = stated_length(bytes)?;
     if bytes.len() < FRAME_LEN || bytes.len() - FRAME_LEN < len {
@@ -63,7 +70,10 @@ pub(crate) struct Walk<'a> {
 
 impl<'a> Walk<'a> {
     /// Those behind the header, in the first `used` bytes.
-    pub(crate) fn of(bytes: &'a [u8], used: u64) -> Walk<'a> {
+    pub(crate) fn of(bytes: &'a [u8], used: u64) -> Walk<'a>
+        ensures { 40 ≤ used → used ≤ length bytes.now
+            → (result.rest.now ≡ drop 40 (take used bytes.now)) × (result.number ≡ 0) }
+    {
         let rest = match bytes.get(HEADER_LEN as usize..used as usize) {
             Some(rest) => rest,
             None => &[],
@@ -81,6 +91,9 @@ impl<'a> Iterator for Walk<'a> {
 
     ghost use Rattle.std.specs.Prelude.{length};
     ghost use Rattle.std.specs.Iterator.{at_most};
+    ghost use Rattle.rq_look.specs.Walks.{StepsOn};
+
+    ghost next_gives = { λ s r t. StepsOn s r t };
 
     ghost remaining = { λ s. at_most (length s.rest.now) };
 

@@ -42,7 +42,7 @@ impl fmt::Display for Misfit {
     }
 }
 
-/// What is left of a body, and at which of its bytes that begins.
+// What is left of a body, and at which of its bytes that begins.
 #[derive(Clone, Copy, Debug)]
 struct Rest<'a> {
     bytes: &'a [u8],

@@ -1,7 +1,11 @@
 //! Records with their places and the queues that they are about.
 
-ghost use Rattle.std.specs.Prelude.{◌≡◌, IfErr};
+ghost use Rattle.std.specs.Prelude.{◌≡◌, IfOk, IfErr};
+ghost use Rattle.rq_model.specs.Records.{Two};
+ghost use Rattle.rq_model.specs.Spelling.{Spells};
+ghost use Rattle.rq_record.specs.Views.{record_of};
 ghost use Rattle.rq_record.specs.declared.fault.Fault.TheVariants.{Resources};
+ghost use Rattle.rq_look.specs.Scripts.{by_in};
 
 use crate::frames::Placed;
 use rq_record::{By, ElemId, Fault, QueueNo, Record, UnitNo, Version, decode_in};
@@ -20,7 +24,10 @@ pub(crate) struct Numbered {
 impl Numbered {
     /// The record that the body spells. What has a record in version 1 has it in version 2 too.
     pub(crate) fn of(alloc: Global, placed: Placed<'_>, queues: u32) -> Result<Numbered, Fault>
-        ensures { IfErr result (λ e. e ≡ Resources) }
+        ensures spelled { IfOk result
+            (λ it. Spells Two (record_of it.record) placed.entry.body.now) }
+        ensures number { IfOk result (λ it. it.number ≡ placed.entry.number) }
+        ensures refused { IfErr result (λ e. e ≡ Resources) }
     {
         // Each body of a front is a record, so memory alone is refused.
         let Ok(record) = decode_in(alloc, Version::Two, placed.body) else {
@@ -69,8 +76,10 @@ pub(crate) fn unit_of(record: &Record) -> Option<UnitNo> {
 }
 
 /// The registrant that an operation names.
-pub(crate) fn by_of(record: &Record) -> Option<By> {
-    match record {
+pub(crate) fn by_of(r: &Record) -> Option<By>
+    ensures { result ≡ by_in (record_of r.now) }
+{
+    match r {
         Record::Enqueue { by, .. } | Record::Dequeue { by, .. } => by.by(),
         _ => None,
     }

@@ -1,122 +1,216 @@
 //! The script of a log.
 
-ghost use Rattle.std.specs.Prelude.{ℕ, List, IfOk, IfErr, OnOk};
+ghost use Rattle.std.specs.Prelude.{◌≡◌, ◌∷◌, ◌++◌, ℕ, List, true, false, IfOk, IfErr, OnOk};
+ghost use Rattle.std.specs.Prelude.{string_bytes};
+ghost use Rattle.std.specs.List.{flat_map};
+ghost use Rattle.std.specs.Fmt.{decimal};
 ghost use Rattle.std.specs.Io.KnownBytes.{Appends};
+ghost use Rattle.rq_model.specs.Fronts.{Restarted, IsRestart};
+ghost use Rattle.rq_model.specs.Frames.{AreBytes};
+ghost use Rattle.rq_model.specs.Records as model;
+ghost use Rattle.rq_model.specs.Records.{Two};
+ghost use Rattle.rq_model.specs.Spelling.{Spells};
+ghost use Rattle.rq_model.specs.Reports.{hex_of, payload_text, error_text};
+ghost use Rattle.rq_record.specs.Views.{record_of};
+ghost use Rattle.rq_writer.specs.Script.{record_text, who_name, who_tag, IsNamed, IsTellable};
 ghost use Rattle.rq_look.specs.Looks.{BreaksOff, IsKnownWhole, StaysUntold};
+ghost use Rattle.rq_look.specs.Scripts.{IsDash, IsLeft, LeavesBody, LeavesOut, PutsScript, by_in};
+ghost use Rattle.rq_look.specs.Scripts.{line_of};
 
 use crate::ends::{end_of, is_whole};
 use crate::frames::{Placed, Walk};
-use crate::numbered::{Numbered, by_of, kind_of};
+use crate::numbered::{Numbered, by_of};
 use crate::sheet::{finish, relieve};
 use crate::trouble::Trouble;
-use rq_record::{QueueNo, Record};
+use rq_record::{KeptBy, KeptName, QueueNo, Record, UnitNo};
 use rq_restart::Plan;
 use std::alloc::{AllocError, Global};
 use std::thread::Threads;
 use std::{fmt, io};
 
-fn put_hex(alloc: Global, text: &mut String, bytes: &[u8]) -> Result<(), AllocError> {
+fn put_digits(alloc: Global, text: &mut String, bytes: &[u8]) -> Result<(), AllocError>
+    ensures { OnOk result
+        (string_bytes text.new ≡ string_bytes text.old ++ flat_map hex_of bytes.now) }
+{
+    let digits = hex::encode(alloc, bytes)?;
+    text.push_str(digits.as_str())?;
+    Ok(())
+}
+
+fn put_hex(alloc: Global, text: &mut String, bytes: &[u8]) -> Result<(), AllocError>
+    ensures text { OnOk result
+        (string_bytes text.new ≡ string_bytes text.old ++ payload_text bytes.now) }
+    ensures bytes { AreBytes bytes.now }
+{
     if bytes.is_empty() {
         return text.push_str("-");
     }
-    text.push_str(hex::encode(alloc, bytes)?.as_str())
+    put_digits(alloc, text, bytes)
+}
+
+fn put_error(text: &mut String, error: QueueNo) -> Result<(), AllocError>
+    ensures { OnOk result (string_bytes text.new ≡ string_bytes text.old ++ error_text error.0) }
+{
+    let number = error.0;
+    if number == 4294967295 {
+        text.push_str("-")
+    } else {
+        write!(text, "{number}")
+    }
 }
 
 fn put_definition(
     text: &mut String,
-    name: &str,
+    name: &KeptName,
     limit: u16,
     error: QueueNo,
-) -> Result<(), AllocError> {
-    text.push_str(name)?;
-    put_number(text, limit as u64)?;
-    if error == QueueNo::NONE {
-        text.push_str(" -")
-    } else {
-        put_number(text, error.0 as u64)
-    }
+) -> Result<(), AllocError>
+    ensures { OnOk result (string_bytes text.new ≡ string_bytes text.old
+        ++ record_text (model.Define limit error.0 name.now)) }
+{
+    text.push_str("define ")?;
+    text.push_str(name.text())?;
+    write!(text, " {limit} ")?;
+    put_error(text, error)
 }
 
-fn put_number(text: &mut String, number: u64) -> Result<(), AllocError> {
-    write!(text, " {number}")
+fn put_named(
+    text: &mut String,
+    word: &str,
+    queue: QueueNo,
+    name: &KeptName,
+) -> Result<(), AllocError>
+    ensures { OnOk result (string_bytes text.new ≡ string_bytes text.old
+        ++ (word.now ++ (decimal queue.0 ++ (32 ∷ name.now)))) }
+{
+    let number = queue.0;
+    text.push_str(word)?;
+    write!(text, "{number} ")?;
+    text.push_str(name.text())
 }
 
-fn put_who(text: &mut String, record: &Record) -> Result<(), AllocError> {
-    text.push(' ')?;
-    match by_of(record) {
+fn put_unit(text: &mut String, word: &str, unit: UnitNo) -> Result<(), AllocError>
+    ensures { OnOk result
+        (string_bytes text.new ≡ string_bytes text.old ++ (word.now ++ decimal unit.0)) }
+{
+    let number = unit.0;
+    text.push_str(word)?;
+    write!(text, "{number}")
+}
+
+fn put_place(text: &mut String, word: &str, unit: UnitNo, queue: QueueNo) -> Result<(), AllocError>
+    ensures { OnOk result (string_bytes text.new ≡ string_bytes text.old
+        ++ (word.now ++ (decimal unit.0 ++ (32 ∷ decimal queue.0)))) }
+{
+    let (unit, queue) = (unit.0, queue.0);
+    text.push_str(word)?;
+    write!(text, "{unit} {queue}")
+}
+
+// Puts the registrant and the tag of an operation.
+fn put_who(text: &mut String, by: &KeptBy) -> Result<(), AllocError>
+    ensures { OnOk result (string_bytes text.new ≡ string_bytes text.old
+        ++ (32 ∷ (who_name by.now ++ (32 ∷ decimal (who_tag by.now))))) }
+{
+    match by.by() {
         Some(by) => {
+            let tag = by.tag;
+            text.push_str(" ")?;
             text.push_str(by.name.text())?;
-            put_number(text, by.tag)
+            write!(text, " {tag}")
         }
-        None => text.push_str("- 0"),
+        None => text.push_str(" - 0"),
     }
 }
 
-// Puts what stands behind the word.
-fn put_fields(alloc: Global, text: &mut String, record: &Record) -> Result<(), AllocError> {
-    match record {
-        Record::Define { limit, error, name } => {
-            text.push(' ')?;
-            put_definition(text, name.text(), *limit, *error)
-        }
-        Record::Register { queue, name } | Record::Deregister { queue, name } => {
-            put_number(text, queue.0 as u64)?;
-            text.push(' ')?;
-            text.push_str(name.text())
-        }
-        Record::Begin { unit } | Record::Commit { unit } | Record::Abort { unit } => {
-            put_number(text, unit.0)
-        }
+// Puts what an enqueue says of its element.
+fn put_element(
+    alloc: Global,
+    text: &mut String,
+    priority: u8,
+    by: &KeptBy,
+    payload: &[u8],
+) -> Result<(), AllocError>
+    ensures text { OnOk result (string_bytes text.new ≡ string_bytes text.old
+        ++ (32 ∷ (decimal priority ++ (32 ∷ (who_name by.now
+        ++ (32 ∷ (decimal (who_tag by.now) ++ (32 ∷ payload_text payload.now)))))))) }
+    ensures bytes { AreBytes payload.now }
+{
+    write!(text, " {priority}")?;
+    put_who(text, by)?;
+    text.push_str(" ")?;
+    put_hex(alloc, text, payload)
+}
+
+// Puts the record of a checkpoint, in hexadecimal.
+fn put_checkpoint(alloc: Global, text: &mut String, bytes: &[u8]) -> Result<(), AllocError>
+    ensures text { OnOk result (string_bytes text.new ≡ string_bytes text.old
+        ++ record_text (model.Checkpoint bytes.now)) }
+    ensures bytes { AreBytes bytes.now }
+{
+    text.push_str("checkpoint-hex ")?;
+    put_hex(alloc, text, bytes)
+}
+
+// Puts a record, but for the end of its line.
+fn put_record(alloc: Global, text: &mut String, r: &Record) -> Result<(), AllocError>
+    ensures text { OnOk result
+        (string_bytes text.new ≡ string_bytes text.old ++ record_text (record_of r.now)) }
+    ensures tellable { OnOk result
+        (IsNamed (by_in (record_of r.now)) → IsTellable (record_of r.now)) }
+{
+    match r {
+        Record::Define { limit, error, name } => put_definition(text, name, *limit, *error),
+        Record::Register { queue, name } => put_named(text, "register ", *queue, name),
+        Record::Deregister { queue, name } => put_named(text, "deregister ", *queue, name),
+        Record::Begin { unit } => put_unit(text, "begin ", *unit),
+        Record::Commit { unit } => put_unit(text, "commit ", *unit),
+        Record::Abort { unit } => put_unit(text, "abort ", *unit),
         Record::Enqueue {
             unit,
             queue,
             priority,
+            by,
             payload,
-            ..
         } => {
-            put_number(text, unit.0)?;
-            put_number(text, queue.0 as u64)?;
-            put_number(text, *priority as u64)?;
-            put_who(text, record)?;
-            text.push(' ')?;
-            put_hex(alloc, text, payload.bytes())
+            put_place(text, "enqueue ", *unit, *queue)?;
+            put_element(alloc, text, *priority, by, payload.bytes())
         }
-        Record::Dequeue { unit, queue, .. } => {
-            put_number(text, unit.0)?;
-            put_number(text, queue.0 as u64)?;
-            put_who(text, record)
+        Record::Dequeue { unit, queue, by } => {
+            put_place(text, "dequeue ", *unit, *queue)?;
+            put_who(text, by)
         }
-        Record::Checkpoint { bytes } => {
-            text.push(' ')?;
-            put_hex(alloc, text, bytes.bytes())
-        }
+        Record::Checkpoint { bytes } => put_checkpoint(alloc, text, bytes.bytes()),
         Record::Kill { queue, element } => {
-            put_number(text, queue.0 as u64)?;
-            put_number(text, element.0)
+            let (queue, element) = (queue.0, element.0);
+            write!(text, "kill {queue} {element}")
         }
     }
 }
 
 // Whether the operation names the registrant whom a script takes for nobody.
-fn is_untold(record: &Record) -> bool {
-    match by_of(record) {
+fn is_untold(r: &Record) -> bool
+    ensures dash { result ≡ true → IsDash (by_in (record_of r.now)) }
+    ensures named { result ≡ false → IsNamed (by_in (record_of r.now)) }
+{
+    match by_of(r) {
         Some(by) => by.name.text() == "-",
         None => false,
     }
 }
 
 fn put_line(alloc: Global, text: &mut String, it: &Numbered) -> Result<(), Trouble>
-    ensures { IfErr result BreaksOff }
+    ensures line { OnOk result
+        (string_bytes text.new ≡ string_bytes text.old ++ line_of (record_of it.now.record)) }
+    ensures tellable { OnOk result (IsTellable (record_of it.now.record)) }
+    ensures untold { IfErr result (IsLeft it.now.number (record_of it.now.record)) }
+    ensures refused { IfErr result BreaksOff }
 {
     if is_untold(&it.record) {
         return Err(Trouble::Untold(it.number));
     }
-    text.push_str(kind_of(&it.record))?;
-    if matches!(&it.record, Record::Checkpoint { .. }) {
-        text.push_str("-hex")?;
-    }
-    put_fields(alloc, text, &it.record)?;
-    text.push('\n')?;
+    put_record(alloc, text, &it.record)?;
+    text.push_str("\n")?;
     Ok(())
 }
 
@@ -126,8 +220,11 @@ fn put_placed<W: io::Write>(
     placed: Placed<'_>,
     output: &mut W,
 ) -> Result<(), Trouble>
-    ensures only { OnOk result
-        ((put : List ℕ) × Appends (W.contents output.old) (W.contents output.new) put) }
+    ensures line { OnOk result ((r : model.Record) × (put : List ℕ)
+        × Spells Two r placed.entry.body.now × IsTellable r
+        × Appends (W.contents output.old) (W.contents output.new) put
+        × (string_bytes text.old ++ line_of r ≡ put ++ string_bytes text.new)) }
+    ensures untold { IfErr result (LeavesBody placed.entry.number placed.entry.body.now) }
     ensures refused { IfErr result BreaksOff }
 {
     let it = Numbered::of(alloc, placed, 0)?;
@@ -142,8 +239,10 @@ fn put_records<W: io::Write>(
     used: u64,
     output: &mut W,
 ) -> Result<(), Trouble>
-    ensures only { OnOk result
-        ((put : List ℕ) × Appends (W.contents output.old) (W.contents output.new) put) }
+    requires { (r : Restarted) × IsRestart bytes.now r × (used ≡ r.used) }
+    ensures script { OnOk result
+        (PutsScript bytes.now (W.contents output.old) (W.contents output.new)) }
+    ensures untold { IfErr result (LeavesOut bytes.now) }
     ensures refused { IfErr result BreaksOff }
 {
     let mut text = String::new(alloc);
@@ -170,8 +269,9 @@ where
     R: Threads + Sync,
     W: io::Write,
     ensures script { IfOk result (IsKnownWhole bytes.now) }
-    ensures only { OnOk result
-        ((put : List ℕ) × Appends (W.contents output.old) (W.contents output.new) put) }
+    ensures told { OnOk result
+        (PutsScript bytes.now (W.contents output.old) (W.contents output.new)) }
+    ensures untold { IfErr result (LeavesOut bytes.now) }
     ensures refused { IfErr result
         (StaysUntold bytes.now (W.contents output.old) (W.contents output.new)) }
 {

@@ -1,5 +1,6 @@
 //! A countdown: sources arrive with an outbox each, and the pass whose arrival is the last takes
 //! them all.
+
 ghost use Rattle.std.specs.Prelude.{◌≡◌, ◌+◌, ◌<◌, ◌≤◌, [], ◌∷◌, ◌++◌, All, length, map, IfOk};
 ghost use Rattle.std.specs.Prelude.{IfErr, vec_capacity};
 ghost use Rattle.rq_record.specs.declared.fault.Fault.TheVariants.{Resources};

@@ -1,4 +1,5 @@
 //! A deque of the room: its passes before they are dealt out, and after they came back.
+
 ghost use Rattle.std.specs.Prelude.{◌≡◌, ℕ, ◌≤◌, ◌<◌, ◌+◌, ◌^◌, [], ◌∷◌, ◌++◌, length, All, IfOk};
 ghost use Rattle.std.specs.Prelude.{map, sum_by, Some, None, slice_index_or, vec_len, vec_capacity};
 ghost use Rattle.crossbeam_deque.specs.Handles.{worker_deque, worker_flavor, worker_view};

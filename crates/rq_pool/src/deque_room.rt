@@ -1,4 +1,5 @@
 //! The room of several seats: a stealing deque for each.
+
 ghost use Rattle.std.specs.Prelude.{◌≡◌, ℕ, ◌≤◌, ◌<◌, ◌+◌, ◌^◌, [], ◌∷◌, ◌++◌, length, IfOk, All};
 ghost use Rattle.std.specs.Prelude.{map, sum_by, vec_len, vec_items, vec_capacity};
 ghost use Rattle.rq_pool.specs.Ledger.{size};

@@ -1,4 +1,5 @@
 //! What is left of a room after the close.
+
 ghost use Rattle.std.specs.Prelude.{◌≡◌, ◌≤◌, ◌<◌, length, slice_get, Some};
 
 /// The numbers that nobody took, and what each seat took.

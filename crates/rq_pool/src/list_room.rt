@@ -1,4 +1,5 @@
 //! The room of one seat: a plain list, and no atomic step.
+
 ghost use Rattle.std.specs.Prelude.{◌≡◌, ◌≤◌, ◌<◌, ◌+◌, [], ◌∷◌, ◌++◌, length, IfOk, IfSome};
 ghost use Rattle.std.specs.Prelude.{IfNone, All, map, vec_len, vec_capacity};
 

@@ -1,4 +1,5 @@
 //! How the work is split.
+
 ghost use Rattle.std.specs.Prelude.{◌≡◌, ◌≤◌, ◌↔◌, IsSome, IfSome};
 
 /// How many workers redo the queues, 1 to 64, and how many frames of the log make one grain of the

@@ -1,4 +1,5 @@
 //! The room, of one seat or of several.
+
 ghost use Rattle.std.specs.Prelude.{◌≡◌, ◌≤◌, ◌∷◌, [], length, IfOk, IfErr, All, map, vec_len};
 ghost use Rattle.std.specs.Prelude.{vec_items};
 ghost use Rattle.rq_record.specs.declared.fault.Fault.TheVariants.{Resources};

@@ -1,4 +1,5 @@
 //! A seat of any room.
+
 ghost use Rattle.std.specs.Prelude.{◌≡◌, ◌<◌, [], ◌∷◌, ◌++◌, length, IfSome, IfNone};
 
 use crate::deck::Deck;

@@ -15,7 +15,7 @@ use rq_record::Fault;
 use std::alloc::Global;
 use std::collections::BTreeMap;
 
-/// Whether a note of theirs stands at the place.
+// Whether a note of theirs stands at the place.
 fn stands(all: &BTreeMap<u64, KeptNote>, place: u64, whose: &Whose) -> bool
     ensures { result ≡ has_own whose.now (lookup (is_at (nat_cmp place)) all.now.entries) }
 {
@@ -25,7 +25,7 @@ fn stands(all: &BTreeMap<u64, KeptNote>, place: u64, whose: &Whose) -> bool
     }
 }
 
-/// Takes the note at the place out, if it is one of theirs.
+// Takes the note at the place out, if it is one of theirs.
 fn draw(all: &mut BTreeMap<u64, KeptNote>, place: u64, whose: &Whose) -> Option<KeptNote>
     requires { AreByPlace all.old.entries }
     ensures left { all.new.entries ≡ left whose.now (place ∷ []) all.old.entries }

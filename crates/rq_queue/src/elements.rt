@@ -116,7 +116,7 @@ impl Elements {
         }
     }
 
-    /// Adds an element whose id is greater than those of the others.
+    // Adds an element whose id is greater than those of the others.
     fn push(self, alloc: Global, e: Element) -> Result<Elements, Fault>
         requires { AllByRecursion (λ (x : model.Element). x.id < e.id) self }
         ensures done { IfOk result (λ v. v ≡ self ++ e ∷ []) }

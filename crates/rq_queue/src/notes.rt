@@ -70,7 +70,7 @@ impl Notes {
         Ok(all)
     }
 
-    /// Adds a note whose place is greater than those of the others.
+    // Adds a note whose place is greater than those of the others.
     fn push(self, alloc: Global, n: Note) -> Result<Notes, Fault>
         requires { AllByRecursion (λ (m : model.Note). m.last.place < n.last.place) self }
         ensures done { IfOk result (λ v. v ≡ self ++ n ∷ []) }
@@ -162,7 +162,7 @@ impl Notes {
     }
 }
 
-/// The notes, by place.
+// The notes, by place.
 fn listed(alloc: Global, notes: BTreeMap<u64, KeptNote>) -> Result<Vec<Note>, Fault>
     ensures listed { IfOk result (λ v. v.items ≡ values_of notes.entries) }
     ensures refused { IfErr result (λ e. e ≡ Resources) }

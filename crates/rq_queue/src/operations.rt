@@ -30,7 +30,6 @@ impl Op<'_> {
         self.place
     }
 
-    /// The record.
     pub fn record(&self) -> &Record
         ensures { record_of result.now ≡ self.now.does }
     {

@@ -255,7 +255,7 @@ impl Part {
         self.follow(alloc, op.place(), op.record(), sent)
     }
 
-    /// Does what a record says, at a place.
+    // Does what a record says, at a place.
     fn follow(
         self,
         alloc: Global,

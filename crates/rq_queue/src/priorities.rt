@@ -34,7 +34,7 @@ pub fn kept_with(
     Ok(Some(by_id))
 }
 
-/// Adds the priorities of the elements of a list.
+// Adds the priorities of the elements of a list.
 fn listed(by_id: BTreeMap<u64, u8>, list: &[Element]) -> Result<BTreeMap<u64, u8>, Fault>
     ensures added { IfOk result (λ m. m.entries ≡ with_all list.now by_id.entries) }
     ensures refused { IfErr result (λ e. e ≡ Resources) }
@@ -47,7 +47,7 @@ fn listed(by_id: BTreeMap<u64, u8>, list: &[Element]) -> Result<BTreeMap<u64, u8
     Ok(by_id)
 }
 
-/// The priorities of the Free elements.
+// The priorities of the Free elements.
 fn of_free(
     alloc: Global,
     free: &BTreeMap<(Reverse<u8>, u64), Element>,
@@ -63,7 +63,7 @@ fn of_free(
     Ok(by_id)
 }
 
-/// Adds the priorities of the elements that units mark.
+// Adds the priorities of the elements that units mark.
 fn with_marked(
     by_id: BTreeMap<u64, u8>,
     marked: &BTreeMap<u64, Vec<Element>>,

@@ -19,8 +19,8 @@ use crate::part::Part;
 use rq_record::Fault;
 use std::alloc::Global;
 
-/// Does the operations from a place in the list on, as far as they stand at `until` or before. How
-/// many are done then.
+// Does the operations from a place in the list on, as far as they stand at `until` or before. How
+// many are done then.
 fn catch_up(
     alloc: Global,
     part: Part,
@@ -64,7 +64,7 @@ fn catch_up(
     Ok((part, done))
 }
 
-/// The part after the operations and the arrivals, and what left it.
+// The part after the operations and the arrivals, and what left it.
 fn redo_in_order(
     alloc: Global,
     part: Part,

@@ -60,7 +60,7 @@ impl Registrants {
         Ok(all)
     }
 
-    /// Adds a registrant that stands behind all others.
+    // Adds a registrant that stands behind all others.
     fn push(self, alloc: Global, r: Registrant) -> Result<Registrants, Fault>
         requires { AllByRecursion (λ x. model.registrant_before x r ≡ true) self }
         ensures done { IfOk result (λ v. v ≡ self ++ r ∷ []) }
@@ -112,7 +112,7 @@ impl Registrants {
         Ok(Registrants { lasts })
     }
 
-    /// A note reaches its registrant, if it is one of the unit.
+    // A note reaches its registrant, if it is one of the unit.
     fn hear_one(self, alloc: Global, unit: UnitNo, note: &KeptNote) -> Result<Registrants, Fault>
         ensures done { IfOk result (λ v. v ≡ map (heard unit.0 note.now) self) }
         ensures refused { IfErr result (λ e. e ≡ Resources) }
@@ -142,7 +142,7 @@ impl Registrants {
     }
 }
 
-/// The notes of the unit, one after another, reach the registrants.
+// The notes of the unit, one after another, reach the registrants.
 fn hear_all(
     alloc: Global,
     all: Registrants,
@@ -159,7 +159,7 @@ fn hear_all(
     Ok(now)
 }
 
-/// The registrants, in order.
+// The registrants, in order.
 fn listed(alloc: Global, lasts: BTreeMap<(u32, Called), KeptLast>) -> Result<Vec<Registrant>, Fault>
     ensures listed { IfOk result (λ v. v.items ≡ map registrant_of lasts.entries) }
     ensures refused { IfErr result (λ e. e ≡ Resources) }

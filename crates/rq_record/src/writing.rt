@@ -1,14 +1,18 @@
 //! From a record to bytes.
 
 ghost use Rattle.std.specs.Prelude.{OnOk};
+ghost use Rattle.rq_model.specs.Records as model;
 ghost use Rattle.rq_model.specs.Records.{Version, Two};
 ghost use Rattle.rq_model.specs.Spelling.{who, IsWho, body_of, IsRecord, Spells};
 ghost use Rattle.rq_record.specs.Views.{record_of};
 ghost use Rattle.rq_record.specs.Writing.{Puts, Appends, HasKind};
 
+use crate::check_bytes::CheckBytes;
 use crate::fault::Fault;
 use crate::kept_by::KeptBy;
-use crate::record::Record;
+use crate::kept_name::KeptName;
+use crate::kept_payload::KeptPayload;
+use crate::record::{ElemId, QueueNo, Record, UnitNo};
 use rq_bytes::{put, put_u8, put_u16, put_u32, put_u64};
 
 fn put_who(out: &mut Vec<u8>, by: &KeptBy) -> Result<(), Fault>
@@ -30,70 +34,143 @@ fn put_who(out: &mut Vec<u8>, by: &KeptBy) -> Result<(), Fault>
     Ok(())
 }
 
+fn put_define(out: &mut Vec<u8>, limit: u16, error: QueueNo, name: &KeptName) -> Result<(), Fault>
+    ensures bytes { Puts out.old.items out.new.items
+        (body_of (model.Define limit error.0 name.now)) result }
+    ensures fits { OnOk result (IsRecord Two (model.Define limit error.0 name.now)) }
+{
+    put_u8(out, 1)?;
+    put_u16(out, limit)?;
+    put_u32(out, error.0)?;
+    put(out, name.bytes())?;
+    Ok(())
+}
+
+fn put_register(out: &mut Vec<u8>, queue: QueueNo, name: &KeptName) -> Result<(), Fault>
+    ensures bytes { Puts out.old.items out.new.items
+        (body_of (model.Register queue.0 name.now)) result }
+    ensures fits { OnOk result (IsRecord Two (model.Register queue.0 name.now)) }
+{
+    put_u8(out, 2)?;
+    put_u32(out, queue.0)?;
+    put(out, name.bytes())?;
+    Ok(())
+}
+
+fn put_deregister(out: &mut Vec<u8>, queue: QueueNo, name: &KeptName) -> Result<(), Fault>
+    ensures bytes { Puts out.old.items out.new.items
+        (body_of (model.Deregister queue.0 name.now)) result }
+    ensures fits { OnOk result (IsRecord Two (model.Deregister queue.0 name.now)) }
+{
+    put_u8(out, 3)?;
+    put_u32(out, queue.0)?;
+    put(out, name.bytes())?;
+    Ok(())
+}
+
+fn put_begin(out: &mut Vec<u8>, unit: UnitNo) -> Result<(), Fault>
+    ensures bytes { Puts out.old.items out.new.items (body_of (model.Begin unit.0)) result }
+    ensures fits { OnOk result (IsRecord Two (model.Begin unit.0)) }
+{
+    put_u8(out, 4)?;
+    put_u64(out, unit.0)?;
+    Ok(())
+}
+
+fn put_enqueue(
+    out: &mut Vec<u8>,
+    unit: UnitNo,
+    queue: QueueNo,
+    priority: u8,
+    by: &KeptBy,
+    payload: &KeptPayload,
+) -> Result<(), Fault>
+    ensures bytes { Puts out.old.items out.new.items
+        (body_of (model.Enqueue unit.0 queue.0 priority by.now payload.now)) result }
+    ensures fits { OnOk result
+        (IsRecord Two (model.Enqueue unit.0 queue.0 priority by.now payload.now)) }
+{
+    put_u8(out, 5)?;
+    put_u64(out, unit.0)?;
+    put_u32(out, queue.0)?;
+    put_u8(out, priority)?;
+    put_who(out, by)?;
+    put(out, payload.bytes())?;
+    Ok(())
+}
+
+fn put_dequeue(out: &mut Vec<u8>, unit: UnitNo, queue: QueueNo, by: &KeptBy) -> Result<(), Fault>
+    ensures bytes { Puts out.old.items out.new.items
+        (body_of (model.Dequeue unit.0 queue.0 by.now)) result }
+    ensures fits { OnOk result (IsRecord Two (model.Dequeue unit.0 queue.0 by.now)) }
+{
+    put_u8(out, 6)?;
+    put_u64(out, unit.0)?;
+    put_u32(out, queue.0)?;
+    put_who(out, by)?;
+    Ok(())
+}
+
+fn put_commit(out: &mut Vec<u8>, unit: UnitNo) -> Result<(), Fault>
+    ensures bytes { Puts out.old.items out.new.items (body_of (model.Commit unit.0)) result }
+    ensures fits { OnOk result (IsRecord Two (model.Commit unit.0)) }
+{
+    put_u8(out, 7)?;
+    put_u64(out, unit.0)?;
+    Ok(())
+}
+
+fn put_abort(out: &mut Vec<u8>, unit: UnitNo) -> Result<(), Fault>
+    ensures bytes { Puts out.old.items out.new.items (body_of (model.Abort unit.0)) result }
+    ensures fits { OnOk result (IsRecord Two (model.Abort unit.0)) }
+{
+    put_u8(out, 8)?;
+    put_u64(out, unit.0)?;
+    Ok(())
+}
+
+fn put_checkpoint(out: &mut Vec<u8>, bytes: &CheckBytes) -> Result<(), Fault>
+    ensures bytes { Puts out.old.items out.new.items (body_of (model.Checkpoint bytes.now)) result }
+    ensures fits { OnOk result (IsRecord Two (model.Checkpoint bytes.now)) }
+{
+    put_u8(out, 9)?;
+    put(out, bytes.bytes())?;
+    Ok(())
+}
+
+fn put_kill(out: &mut Vec<u8>, queue: QueueNo, element: ElemId) -> Result<(), Fault>
+    ensures bytes { Puts out.old.items out.new.items
+        (body_of (model.Kill queue.0 element.0)) result }
+    ensures fits { OnOk result (IsRecord Two (model.Kill queue.0 element.0)) }
+{
+    put_u8(out, 10)?;
+    put_u32(out, queue.0)?;
+    put_u64(out, element.0)?;
+    Ok(())
+}
+
 fn put_body(out: &mut Vec<u8>, r: &Record) -> Result<(), Fault>
     ensures bytes { Puts out.old.items out.new.items (body_of (record_of r.now)) result }
     ensures fits { OnOk result (IsRecord Two (record_of r.now)) }
 {
     match r {
-        Record::Define { limit, error, name } => {
-            put_u8(out, 1)?;
-            put_u16(out, *limit)?;
-            put_u32(out, error.0)?;
-            put(out, name.bytes())?;
-        }
-        Record::Register { queue, name } => {
-            put_u8(out, 2)?;
-            put_u32(out, queue.0)?;
-            put(out, name.bytes())?;
-        }
-        Record::Deregister { queue, name } => {
-            put_u8(out, 3)?;
-            put_u32(out, queue.0)?;
-            put(out, name.bytes())?;
-        }
-        Record::Begin { unit } => {
-            put_u8(out, 4)?;
-            put_u64(out, unit.0)?;
-        }
+        Record::Define { limit, error, name } => put_define(out, *limit, *error, name),
+        Record::Register { queue, name } => put_register(out, *queue, name),
+        Record::Deregister { queue, name } => put_deregister(out, *queue, name),
+        Record::Begin { unit } => put_begin(out, *unit),
         Record::Enqueue {
             priority,
             queue,
             unit,
             by,
             payload,
-        } => {
-            put_u8(out, 5)?;
-            put_u64(out, unit.0)?;
-            put_u32(out, queue.0)?;
-            put_u8(out, *priority)?;
-            put_who(out, by)?;
-            put(out, payload.bytes())?;
-        }
-        Record::Dequeue { unit, queue, by } => {
-            put_u8(out, 6)?;
-            put_u64(out, unit.0)?;
-            put_u32(out, queue.0)?;
-            put_who(out, by)?;
-        }
-        Record::Commit { unit } => {
-            put_u8(out, 7)?;
-            put_u64(out, unit.0)?;
-        }
-        Record::Abort { unit } => {
-            put_u8(out, 8)?;
-            put_u64(out, unit.0)?;
-        }
-        Record::Checkpoint { bytes } => {
-            put_u8(out, 9)?;
-            put(out, bytes.bytes())?;
-        }
-        Record::Kill { queue, element } => {
-            put_u8(out, 10)?;
-            put_u32(out, queue.0)?;
-            put_u64(out, element.0)?;
-        }
+        } => put_enqueue(out, *unit, *queue, *priority, by, payload),
+        Record::Dequeue { unit, queue, by } => put_dequeue(out, *unit, *queue, by),
+        Record::Commit { unit } => put_commit(out, *unit),
+        Record::Abort { unit } => put_abort(out, *unit),
+        Record::Checkpoint { bytes } => put_checkpoint(out, bytes),
+        Record::Kill { queue, element } => put_kill(out, *queue, *element),
     }
-    Ok(())
 }
 
 /// Appends the one body of the record, which is its body in every version that has its kind.

@@ -57,7 +57,7 @@ fn put_error(text: &mut String, error: QueueNo) -> Result<(), AllocError>
     ensures { OnOk result (string_bytes text.new ≡ string_bytes text.old ++ error_text error.0) }
 {
     let number = error.0;
-    if number == 4294967295 {
+    if number == QueueNo::NONE.0 {
         text.push_str("-")
     } else {
         write!(text, "{number}")

@@ -22,7 +22,7 @@ fn is_free(e: &Element) -> bool
     }
 }
 
-/// Adds an element where it is free.
+// Adds an element where it is free.
 fn list<'a>(found: &mut Vec<&'a Element>, e: &'a Element) -> Result<(), AllocError>
     ensures { OnOk result (map (λ e. e.now) found.new.items
         ≡ map (λ e. e.now) found.old.items ++ filter (λ e. model.is_free e.mark) (e.now ∷ [])) }
@@ -33,7 +33,7 @@ fn list<'a>(found: &mut Vec<&'a Element>, e: &'a Element) -> Result<(), AllocErr
     Ok(())
 }
 
-/// The queue's free elements, in the order of their numbers.
+// The queue's free elements, in the order of their numbers.
 fn free_elements<'a>(
     alloc: Global,
     queue: QueueNo,
@@ -51,7 +51,7 @@ fn free_elements<'a>(
     Ok(found)
 }
 
-/// By what elements are put in order.
+// By what elements are put in order.
 fn rank(e: &Element) -> (Reverse<u8>, u64)
     ensures { result ≡ (record { 0 = e.now.priority }, e.now.id) }
 {

@@ -97,8 +97,7 @@ pub(crate) fn report_in_pieces<R: Threads + Sync>(
     ensures { IfOk result (λ pieces. IsText r.now (flat_map string_bytes pieces.items)) }
 {
     let state = r.state();
-    // This look says that the state is well formed, so that its elements differ in their numbers.
-    let _ = state.next();
+    state.is_well_formed();
     let mut pieces = vec![in alloc; counts(alloc, r)?]?;
     let count = count_of(r, plan);
     pieces.append(&mut queue_pieces(rt, alloc, state, 0, state.definition_count(), count)?)?;

@@ -36,7 +36,7 @@ fn put_registrants(text: &mut String, queue: QueueNo, state: &State) -> Result<(
     Ok(())
 }
 
-/// Puts a queue: its line, its free elements in order, its registrants by name.
+// Puts a queue: its line, its free elements in order, its registrants by name.
 fn put_queue(
     alloc: Global,
     text: &mut String,
@@ -86,13 +86,11 @@ pub(crate) fn counts(alloc: Global, r: &Restarted) -> Result<String, AllocError>
     Ok(text)
 }
 
-/// The report's text.
 pub(crate) fn report(alloc: Global, r: &Restarted) -> Result<String, AllocError>
     ensures { IfOk result (λ text. IsText r.now (string_bytes text)) }
 {
     let state = r.state();
-    // This look says that the state is well formed, so that its elements differ in their numbers.
-    let _ = state.next();
+    state.is_well_formed();
     let mut text = counts(alloc, r)?;
     put_queues(alloc, &mut text, state, 0, state.definition_count())?;
     Ok(text)

@@ -49,7 +49,7 @@ pub trait Output {
             (λ e. (e ≡ WriteFailed) × (faults self.new ≡ faults self.old + 1)) };
 }
 
-/// One read of a reader of std, tried again where it was interrupted.
+// One read of a reader of std, tried again where it was interrupted.
 fn read_some<R: Read>(inner: &mut R, piece: &mut [u8]) -> Result<usize, Fault>
     ensures bound { IfOk result (λ n. n ≤ length piece.new) }
     ensures bytes { ReadConsumes (R.remaining inner.old) (R.remaining inner.new) result piece.new }
@@ -65,8 +65,8 @@ fn read_some<R: Read>(inner: &mut R, piece: &mut [u8]) -> Result<usize, Fault>
     Err(Fault::ReadFailed)
 }
 
-/// One write to a writer of std, tried again where it was interrupted. One that takes none of some
-/// bytes has failed.
+// One write to a writer of std, tried again where it was interrupted. One that takes none of some
+// bytes has failed.
 fn write_some<W: Write>(inner: &mut W, piece: &[u8]) -> Result<usize, Fault>
     ensures bound { IfOk result (λ n. n ≤ length piece.now) }
     ensures some { IfOk result (λ n. 0 < length piece.now → 0 < n) }

@@ -187,7 +187,7 @@ pub(crate) fn visit<R: Threads + Sync>(
         return pass(walk, &records[place]);
     };
     let kept = bytes.bytes();
-    let offset = spans[place].start as u64 - 4;
+    let offset = spans[place].offset() as u64;
     if !may_spell(&walk, kept, place as u64) {
         walk.found.push((offset, false))?;
         return Ok(walk);

@@ -5,7 +5,7 @@ ghost use Rattle.rq_front.specs.Chains.{bodies_at};
 ghost use Rattle.rq_restart.specs.Checkpoints.{BeginsAt, kept_in, place_of};
 
 use crate::grain::grain_of;
-use rq_front::{Chain, Span, chain, version};
+use rq_front::{Chain, HEADER_LEN, Span, chain, version};
 use rq_pool::Plan;
 use rq_record::{Fault, Version};
 use rq_state::{State, read_in};
@@ -37,10 +37,10 @@ fn kept_in<'a>(bytes: &'a [u8], spans: &[Span]) -> Option<&'a [u8]>
 fn place_of(offset: u64, len: usize) -> usize
     ensures { result ≡ place_of offset len }
 {
-    if 40 <= offset && offset <= len as u64 {
+    if HEADER_LEN as u64 <= offset && offset <= len as u64 {
         offset as usize
     } else {
-        len.max(40)
+        len.max(HEADER_LEN)
     }
 }
 

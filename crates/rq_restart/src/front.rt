@@ -64,7 +64,7 @@ pub(crate) fn end_of(found: &Chain, read: usize, kept: usize) -> (usize, Why)
     match found.spans.get(kept) {
         Some(span) => {
             let why = if kept < read { Why::Law } else { Why::Form };
-            (span.start.saturating_sub(4), why)
+            (span.offset(), why)
         }
         None => (found.end, why_of(found.rest)),
     }

@@ -14,7 +14,7 @@ ghost use Rattle.rq_restart.specs.Passes.{AreJudged, HasPassedSome, IsVerdict, S
 use crate::front::end_of;
 use crate::restarted::Why;
 use rq_catalog::Judge;
-use rq_front::{Span, chain};
+use rq_front::{HEADER_LEN, Span, chain};
 use rq_record::{Fault, Version, decode_in};
 use std::alloc::Global;
 use std::marker::Sync;
@@ -129,7 +129,7 @@ impl Pass {
         Pass {
             judge: Judge::new(alloc, version),
             records: 0,
-            place: 40,
+            place: HEADER_LEN,
         }
     }
 

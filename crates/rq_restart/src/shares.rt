@@ -49,7 +49,7 @@ fn found_in_order<R: Threads + Sync>(
     Ok(walk.found)
 }
 
-// Where the frame of a record begins; 0 where none has the place.
+// Where the body of a record begins in the log; 0 where no record has the place.
 fn start_of(spans: &[Span], place: usize) -> usize {
     match spans.get(place) {
         Some(span) => span.start,

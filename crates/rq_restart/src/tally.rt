@@ -40,16 +40,28 @@ impl Tally {
         ensures refused { IfErr result (λ e. e ≡ Resources) }
     {
         match rec {
-            Record::Register { queue, name } => self.name(queue.0, name.name()),
+            Record::Register { queue, name } => {
+                self.count_registrant(queue.0, name.name())?;
+                Ok(0)
+            }
             Record::Deregister { queue, name } => Ok(self.forget(queue.0, name.name())),
-            Record::Begin { unit } => self.speak(unit.0),
+            Record::Begin { unit } => {
+                self.count_unit(unit.0)?;
+                Ok(0)
+            }
             Record::Enqueue {
                 unit,
                 queue,
                 by,
                 ..
-            } => self.operate(unit.0, queue.0, by),
-            Record::Dequeue { unit, queue, by } => self.operate(unit.0, queue.0, by),
+            } => {
+                self.count_operation(unit.0, queue.0, by)?;
+                Ok(0)
+            }
+            Record::Dequeue { unit, queue, by } => {
+                self.count_operation(unit.0, queue.0, by)?;
+                Ok(0)
+            }
             Record::Commit { unit } => Ok(self.close(unit.0)),
             Record::Abort { unit } => Ok(self.close(unit.0)),
             // Where the element is there and free it goes.
@@ -58,49 +70,46 @@ impl Tally {
         }
     }
 
-    // An operation of a unit on a queue.
-    fn operate(&mut self, unit: u64, queue: u32, by: &KeptBy) -> Result<u64, Fault>
+    // An operation on a queue speaks of its unit, and of the registrant that it names.
+    fn count_operation(&mut self, unit: u64, queue: u32, by: &KeptBy) -> Result<(), Fault>
         requires { IsWithin (2 ^ 64 - 2) self.old }
         ensures units { OnOk result ((u : ℕ) → of_unit self.new u
             ≡ cond (nat_eq unit u) (of_unit self.old unit + 1) (of_unit self.old u)) }
         ensures registrants { OnOk result
             ((k : ℕ × List ℕ) → of_registrant self.new k ≡ named_after queue by.now self.old k) }
-        ensures nothing { IfOk result (λ n. n ≡ 0) }
         ensures refused { IfErr result (λ e. e ≡ Resources) }
     {
         if let Some(by) = by.by() {
-            self.name(queue, by.name)?;
+            self.count_registrant(queue, by.name)?;
         }
-        self.speak(unit)
+        self.count_unit(unit)
     }
 
-    // A unit is spoken of.
-    fn speak(&mut self, unit: u64) -> Result<u64, Fault>
+    // A unit is spoken of once more.
+    fn count_unit(&mut self, unit: u64) -> Result<(), Fault>
         requires { of_unit self.old unit + 1 < 2 ^ 64 }
         ensures frame { self.new ≡ record self.old { units = self.new.units } }
         ensures units { OnOk result ((u : ℕ) → of_unit self.new u
             ≡ cond (nat_eq unit u) (of_unit self.old unit + 1) (of_unit self.old u)) }
-        ensures nothing { IfOk result (λ n. n ≡ 0) }
         ensures refused { IfErr result (λ e. e ≡ Resources) }
     {
         let count = self.units.get(&unit).copied().unwrap_or(0);
         self.units.insert(unit, count + 1)?;
-        Ok(0)
+        Ok(())
     }
 
-    // A registrant is spoken of.
-    fn name(&mut self, queue: u32, name: Name) -> Result<u64, Fault>
+    // A registrant is spoken of once more.
+    fn count_registrant(&mut self, queue: u32, name: Name) -> Result<(), Fault>
         requires { of_registrant self.old (queue, name) + 1 < 2 ^ 64 }
         ensures frame { self.new ≡ record self.old { registrants = self.new.registrants } }
         ensures registrants { OnOk result
             ((k : ℕ × List ℕ) → of_registrant self.new k ≡ cond (key_eq (queue, name) k)
             (of_registrant self.old (queue, name) + 1) (of_registrant self.old k)) }
-        ensures nothing { IfOk result (λ n. n ≡ 0) }
         ensures refused { IfErr result (λ e. e ≡ Resources) }
     {
         let count = self.registrants.get(&(queue, name)).copied().unwrap_or(0);
         self.registrants.insert((queue, name), count + 1)?;
-        Ok(0)
+        Ok(())
     }
 
     // A unit is closed. How often it was spoken of.

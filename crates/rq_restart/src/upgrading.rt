@@ -10,17 +10,12 @@ ghost use Rattle.rq_restart.specs.Upgrades.{HaveFrames, IsExtent, Upgrades, bodi
 use crate::framing::append_next;
 use crate::restarting::whole_front;
 use byteorder::{BigEndian, ByteOrder};
-use rq_front::header_of;
+use rq_front::{FRAME_LEN, HEADER_LEN, header_of};
 use rq_pool::Plan;
 use rq_record::{Fault, LentLog, Version};
 use std::alloc::Global;
 use std::marker::Sync;
 use std::thread::Threads;
-
-const HEADER_LEN: usize = 40;
-
-// What a frame has beside its body.
-const FRAME_LEN: usize = 36;
 
 // The version of a log, where its front ends, and how many records that has.
 #[derive(Clone, Copy)]

@@ -26,7 +26,7 @@ use std::io::Cursor;
 use std::test::Fail;
 use std::thread::Threads;
 
-/// The plans that every report is made with.
+// The plans that every report is made with.
 const PLANS: [(u32, u32); 8] = [
     (1, 1),
     (1, 1000),
@@ -38,11 +38,11 @@ const PLANS: [(u32, u32); 8] = [
     (64, 1000),
 ];
 
-/// Those that a log is restarted with which is damaged at each place in turn, or whose reads or
-/// writes fail one by one.
+// Those that a log is restarted with which is damaged at each place in turn, or whose reads or
+// writes fail one by one.
 const FEW_PLANS: [(u32, u32); 3] = [(1, 1), (2, 1000), (7, 1)];
 
-/// The lines, each ended by LF.
+// The lines, each ended by LF.
 fn lines(alloc: Global, lines: &[&str]) -> Result<Vec<u8>, Fail> {
     let mut bytes = Vec::new(alloc);
     for line in lines {
@@ -52,7 +52,7 @@ fn lines(alloc: Global, lines: &[&str]) -> Result<Vec<u8>, Fail> {
     Ok(bytes)
 }
 
-/// What a command answers to these bytes.
+// What a command answers to these bytes.
 fn answer<R: Threads + Sync + AllocGlobal>(
     rt: &R,
     command: &Command<'_>,
@@ -64,7 +64,7 @@ fn answer<R: Threads + Sync + AllocGlobal>(
     Ok(output.into_inner())
 }
 
-/// The log of a script, in a version.
+// The log of a script, in a version.
 fn log_in<R: Threads + Sync + AllocGlobal>(
     rt: &R,
     version: Version,
@@ -79,12 +79,12 @@ fn log_in<R: Threads + Sync + AllocGlobal>(
     Ok(answer(rt, &command, &script)?)
 }
 
-/// The log of a script, in version 1.
+// The log of a script, in version 1.
 fn log_of<R: Threads + Sync + AllocGlobal>(rt: &R, script: &[&str]) -> Result<Vec<u8>, Fail> {
     log_in(rt, Version::One, script)
 }
 
-/// Whether the log has this report under every plan.
+// Whether the log has this report under every plan.
 fn reports<R: Threads + Sync + AllocGlobal>(
     rt: &R,
     log: &[u8],
@@ -100,7 +100,7 @@ fn reports<R: Threads + Sync + AllocGlobal>(
     Ok(same)
 }
 
-/// Whether the script's log has so many bytes and this report, in a version.
+// Whether the script's log has so many bytes and this report, in a version.
 fn says_in<R: Threads + Sync + AllocGlobal>(
     rt: &R,
     version: Version,
@@ -112,7 +112,7 @@ fn says_in<R: Threads + Sync + AllocGlobal>(
     Ok(log.len() == bytes && reports(rt, &log, report)?)
 }
 
-/// Whether it is so in both versions.
+// Whether it is so in both versions.
 fn says<R: Threads + Sync + AllocGlobal>(
     rt: &R,
     script: &[&str],
@@ -124,7 +124,7 @@ fn says<R: Threads + Sync + AllocGlobal>(
     Ok(first && second)
 }
 
-/// How the restart of the bytes is refused, if it is.
+// How the restart of the bytes is refused, if it is.
 fn refusal<R: Threads + Sync + AllocGlobal>(rt: &R, log: &[u8]) -> Result<Option<Fault>, Fail> {
     let plan = Plan::new(2, 1).ok_or("plan")?;
     Ok(answer(rt, &Command::Restart { log: "log", plan }, log).err())

@@ -14,8 +14,8 @@ use std::io::Cursor;
 use std::test::Fail;
 use std::thread::Threads;
 
-/// An element of `jobs` goes to `dead` at its second abort, where `ann` finds it at its second
-/// look.
+// An element of `jobs` goes to `dead` at its second abort, where `ann` finds it at its second
+// look.
 const ARRIVAL: [&str; 18] = [
     "define dead 0 -",
     "define jobs 2 0",
@@ -37,7 +37,7 @@ const ARRIVAL: [&str; 18] = [
     "commit 5",
 ];
 
-/// A checkpoint with a unit open, which commits behind it.
+// A checkpoint with a unit open, which commits behind it.
 const CHECKPOINT: [&str; 10] = [
     "define jobs 0 -",
     "register 0 ann",
@@ -51,7 +51,7 @@ const CHECKPOINT: [&str; 10] = [
     "commit 2",
 ];
 
-/// The same, closed while the unit is open.
+// The same, closed while the unit is open.
 const CLOSED: [&str; 10] = [
     "define jobs 0 -",
     "register 0 ann",
@@ -70,7 +70,7 @@ const MAKE: Command<'static> = Command::Make {
     log: "log",
 };
 
-/// The lines, each ended by LF.
+// The lines, each ended by LF.
 fn lines(alloc: Global, lines: &[&str]) -> Result<Vec<u8>, Fail> {
     let mut bytes = Vec::new(alloc);
     for line in lines {
@@ -80,7 +80,7 @@ fn lines(alloc: Global, lines: &[&str]) -> Result<Vec<u8>, Fail> {
     Ok(bytes)
 }
 
-/// How a command ends, and nothing of what else is known of it.
+// How a command ends, and nothing of what else is known of it.
 fn acted<R, I, O>(rt: &R, command: &Command<'_>, input: &mut I, output: &mut O) -> Result<(), Fault>
 where
     R: Threads + Sync + AllocGlobal,
@@ -92,7 +92,7 @@ where
     act(rt, rt.alloc(), command, input, output, &Open)
 }
 
-/// Appends what a command answers to these bytes, and how it ends.
+// Appends what a command answers to these bytes, and how it ends.
 fn answer<R: Threads + Sync + AllocGlobal>(
     rt: &R,
     command: &Command<'_>,
@@ -105,7 +105,7 @@ fn answer<R: Threads + Sync + AllocGlobal>(
     (done, output.into_inner())
 }
 
-/// The log of a script.
+// The log of a script.
 fn log_of<R: Threads + Sync + AllocGlobal>(rt: &R, script: &[&str]) -> Result<Vec<u8>, Fail> {
     let script = lines(rt.alloc(), script)?;
     let (done, log) = answer(rt, &MAKE, &script, Vec::new(rt.alloc()));

@@ -46,7 +46,7 @@ impl State {
     }
 }
 
-/// Copies of the elements at these places.
+// Copies of the elements at these places.
 fn elements_copied(alloc: Global, state: &State, places: &[usize]) -> Result<Vec<Element>, Fault>
     requires { AllByRecursion (λ place. place < length state.now.elements) places.now }
     ensures copied { IfOk result (λ v. (x : model.Element) →
@@ -61,7 +61,7 @@ fn elements_copied(alloc: Global, state: &State, places: &[usize]) -> Result<Vec
     Ok(copies)
 }
 
-/// Copies of the registrants at these places.
+// Copies of the registrants at these places.
 fn registrants_copied(
     alloc: Global,
     state: &State,
@@ -80,7 +80,7 @@ fn registrants_copied(
     Ok(copies)
 }
 
-/// Copies of the notes at these places.
+// Copies of the notes at these places.
 fn notes_copied(alloc: Global, state: &State, places: &[usize]) -> Result<Vec<Note>, Fault>
     requires { AllByRecursion (λ place. place < length state.now.notes) places.now }
     ensures copied { IfOk result (λ v. (x : model.Note) →

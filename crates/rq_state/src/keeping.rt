@@ -26,13 +26,13 @@ use crate::state::Fields;
 use rq_record::{Fault, Name, Version};
 use std::alloc::Global;
 
-/// The greatest next record number that a spelling may have.
+// The greatest next record number that a spelling may have.
 const GREATEST_NEXT: u64 = 4_294_967_295;
 
-/// The most queues that may be defined.
+// The most queues that may be defined.
 const MOST_QUEUES: usize = 4096;
 
-/// No more queues and records than their bounds, and no more units and registrants than records.
+// No more queues and records than their bounds, and no more units and registrants than records.
 fn are_numbers(fields: &Fields) -> bool
     ensures { IsTrue result ↔ KeepsNumbers (state_of fields.now) }
 {
@@ -44,7 +44,7 @@ fn are_numbers(fields: &Fields) -> bool
         && fields.registrants.len() as u64 <= fields.next
 }
 
-/// The names of these queues, by number.
+// The names of these queues, by number.
 fn names_of(alloc: Global, definitions: &[Definition]) -> Result<Vec<Name>, Fault>
     ensures names { IfOk result
         (λ v. v.items ≡ map (λ (d : model.Definition). d.name) definitions.now) }
@@ -57,7 +57,7 @@ fn names_of(alloc: Global, definitions: &[Definition]) -> Result<Vec<Name>, Faul
     Ok(names)
 }
 
-/// Whether no two of these names are equal: none is then, once they are sorted, beside its like.
+// Whether no two of these names are equal: none is then, once they are sorted, beside its like.
 fn do_names_differ(mut names: Vec<Name>) -> bool
     ensures { IsTrue result ↔ Ordered (λ a b. bytes_eq a b ≡ false) names.items }
 {
@@ -65,7 +65,7 @@ fn do_names_differ(mut names: Vec<Name>) -> bool
     names.is_sorted_by(|one, next| one < next)
 }
 
-/// Goes on where it holds.
+// Goes on where it holds.
 fn kept(holds: bool) -> Result<(), Fault>
     ensures { TellsWhether (IsTrue holds) result }
 {

@@ -21,7 +21,9 @@ pub enum Mark {
 /// Which of the two operations of a unit on a queue.
 #[derive(Clone, Copy, PartialEq, Eq, Debug)]
 pub enum OpKind {
+    /// It put an element in.
     Enqueue,
+    /// It took the first free element, or found none.
     Dequeue,
 }
 
@@ -38,7 +40,9 @@ pub struct Element {
     pub priority: u8,
     /// How often an aborted unit gave it back since it is in its home.
     pub attempts: u64,
+    /// The bytes that its enqueue gave it, at most 65,535.
     pub payload: KeptPayload,
+    /// Which open unit put it in or took it out, if one did.
     pub mark: Mark,
 }
 
@@ -96,6 +100,7 @@ impl Element {
 pub struct Last {
     /// The record number of the operation.
     pub place: u64,
+    /// Whether it put an element in or took one out.
     pub kind: OpKind,
     /// The tag that the registrant gave with the operation.
     pub tag: u64,
@@ -141,10 +146,13 @@ impl Last {
 /// An operation of an open unit that named a registrant: its last one, should the unit commit.
 #[derive(Drop)]
 pub struct Note {
+    /// The open unit that the operation is in.
     pub unit: UnitNo,
+    /// The queue that the operation is on.
     pub queue: QueueNo,
     /// The registrant's name.
     pub name: Name,
+    /// The operation, to be the registrant's last once the unit commits.
     pub last: Last,
 }
 

@@ -28,11 +28,15 @@ pub struct Fields {
     pub committed: u64,
     /// How many units were aborted.
     pub aborted: u64,
+    /// The queues, each at the index that is its number.
     pub definitions: Vec<Definition>,
     /// The open units.
     pub units: Vec<UnitNo>,
+    /// Who is registered with any queue.
     pub registrants: Vec<Registrant>,
+    /// What is in any queue, with what open units put in or took out.
     pub elements: Vec<Element>,
+    /// What registrants did in the open units.
     pub notes: Vec<Note>,
 }
 

@@ -11,7 +11,7 @@ use crate::members::{Element, Note, Registrant};
 use rq_record::{Fault, QueueNo};
 use std::alloc::Global;
 
-/// A table without places.
+// A table without places.
 fn bare(alloc: Global, queues: usize) -> Result<Vec<Vec<usize>>, Fault>
     ensures len { IfOk result (λ table. length table.items ≡ queues) }
     ensures listed { IfOk result (λ table. (queue : ℕ) → listed table.items queue ≡ []) }
@@ -24,7 +24,7 @@ fn bare(alloc: Global, queues: usize) -> Result<Vec<Vec<usize>>, Fault>
     Ok(table)
 }
 
-/// Adds a place to those of a queue.
+// Adds a place to those of a queue.
 fn list(table: &mut Vec<Vec<usize>>, queue: QueueNo, place: usize) -> Result<(), Fault>
     requires { queue.0 < length table.old.items }
     ensures len { length table.new.items ≡ length table.old.items }

@@ -22,7 +22,7 @@ use rq_bytes::put_u64;
 use rq_record::Fault;
 use std::alloc::{AllocError, Global};
 
-/// The greatest length of a spelling, as a checkpoint record holds it behind its kind.
+// The greatest length of a spelling, as a checkpoint record holds it behind its kind.
 const BOUND: u128 = 268_435_455;
 
 /// The bytes of a checkpoint of this state, at most 268,435,455: four counts, then definitions by

@@ -13,7 +13,7 @@ ghost use Rattle.rq_steps.specs.Best.{element_at, given_back, IsBestAmong};
 use rq_record::{ElemId, Fault, KeptPayload, QueueNo, UnitNo};
 use rq_state::{Definition, Element, Mark};
 
-/// Whether the element is Free and in the queue.
+// Whether the element is Free and in the queue.
 fn is_free_at(e: &Element, queue: QueueNo) -> bool
     ensures { result ≡ machine.is_free_at queue.0 e.now }
 {
@@ -24,7 +24,7 @@ fn is_free_at(e: &Element, queue: QueueNo) -> bool
     free && e.home.0 == queue.0
 }
 
-/// Whether a KILL of the element in the queue takes this one out.
+// Whether a KILL of the element in the queue takes this one out.
 fn is_killed(e: &Element, queue: QueueNo, element: ElemId) -> bool
     ensures { result ≡ (machine.is_free_at queue.0 e.now && (e.now.id == element.0)) }
 {
@@ -58,7 +58,7 @@ pub(crate) fn added(
     Ok(elements)
 }
 
-/// Makes an element Free, if it is a Fresh one of the unit.
+// Makes an element Free, if it is a Fresh one of the unit.
 fn free(e: &mut Element, unit: UnitNo)
     ensures { e.new ≡ (if model.is_fresh unit.0 e.old.mark
         then machine.marked model.Free e.old else e.old) }
@@ -68,7 +68,7 @@ fn free(e: &mut Element, unit: UnitNo)
     }
 }
 
-/// The elements with the Fresh ones of the unit made Free.
+// The elements with the Fresh ones of the unit made Free.
 fn all_freed(elements: Vec<Element>, unit: UnitNo) -> Vec<Element>
     ensures { result.items ≡ map
         (λ e. if model.is_fresh unit.0 e.mark then machine.marked model.Free e else e)
@@ -90,8 +90,8 @@ pub(crate) fn committed(elements: Vec<Element>, unit: UnitNo) -> Vec<Element>
     all_freed(elements, unit)
 }
 
-/// As an ABORT of the unit leaves an element that is no Fresh one of it: where the unit holds it,
-/// Free with one attempt more, or in the error queue of its home.
+// As an ABORT of the unit leaves an element that is no Fresh one of it: where the unit holds it,
+// Free with one attempt more, or in the error queue of its home.
 fn give_back(e: &mut Element, unit: UnitNo, definitions: &[Definition])
     requires home { e.old.home < length definitions.now }
     requires room { e.old.attempts + 1 < 2 ^ 64 }
@@ -110,7 +110,7 @@ fn give_back(e: &mut Element, unit: UnitNo, definitions: &[Definition])
     e.mark = Mark::Free;
 }
 
-/// Elements, none of them a Fresh one of the unit, as an ABORT of the unit leaves them.
+// Elements, none of them a Fresh one of the unit, as an ABORT of the unit leaves them.
 fn all_given_back(elements: Vec<Element>, unit: UnitNo, definitions: &[Definition]) -> Vec<Element>
     requires homes { AllByRecursion (λ (e : model.Element). e.home < length definitions.now)
         elements.items }
@@ -142,14 +142,14 @@ pub(crate) fn aborted(
     all_given_back(elements, unit, definitions)
 }
 
-/// Whether the first of two comes before the second, or is it.
+// Whether the first of two comes before the second, or is it.
 fn comes_first(e: &Element, f: &Element) -> bool
     ensures { result ≡ machine.comes_first e.now f.now }
 {
     e.priority > f.priority || (e.priority == f.priority && e.id.0 <= f.id.0)
 }
 
-/// The element at a place.
+// The element at a place.
 fn at(elements: &[Element], place: usize) -> &Element
     requires { place < length elements.now }
     ensures { result.now ≡ element_at elements.now place }
@@ -157,7 +157,7 @@ fn at(elements: &[Element], place: usize) -> &Element
     &elements[place]
 }
 
-/// The place of the best of the queue, given the one before a place and the element there.
+// The place of the best of the queue, given the one before a place and the element there.
 fn better(elements: &[Element], best: Option<usize>, place: usize, queue: QueueNo) -> Option<usize>
     requires there { place < length elements.now }
     requires best { IsBestAmong queue.0 elements.now (take place elements.now) best }
@@ -176,7 +176,7 @@ fn better(elements: &[Element], best: Option<usize>, place: usize, queue: QueueN
     Some(place)
 }
 
-/// The place of the best element of the queue; none where none of it is Free.
+// The place of the best element of the queue; none where none of it is Free.
 fn best_place(elements: &[Element], queue: QueueNo) -> Option<usize>
     ensures { IsBestAmong queue.0 elements.now elements.now result }
 {

@@ -33,7 +33,7 @@ pub(crate) fn unnote(notes: &mut Vec<Note>, queue: QueueNo, name: &Name)
     notes.retain(|note| !note.is_of(queue, name));
 }
 
-/// Whether the registrant is of this queue and name.
+// Whether the registrant is of this queue and name.
 fn is_registrant(registrant: &Registrant, queue: QueueNo, name: &Name) -> bool
     ensures { result ≡ model.is_registrant queue.0 name.now registrant.now }
 {
@@ -105,7 +105,7 @@ pub(crate) fn register(
     }
 }
 
-/// The registrant of a note hears of it.
+// The registrant of a note hears of it.
 fn hear(registrants: &mut Vec<Registrant>, note: &Note)
     requires { Ordered (λ r t. model.registrant_before r t ≡ true) registrants.old.items }
     ensures { registrants.new.items ≡ map (heard_of note.now) registrants.old.items }

@@ -10,7 +10,7 @@ use crate::line::Command;
 use rq_restart::{Plan, Version};
 use rq_writer::decimal_number;
 
-/// The grain of a line that names none, in frames.
+// The grain of a line that names none, in frames.
 const GRAIN: u32 = 1000;
 
 fn small(word: &str) -> Option<u32>

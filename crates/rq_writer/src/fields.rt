@@ -6,7 +6,7 @@ ghost use Rattle.std.specs.List.{list_all};
 ghost use Rattle.rq_writer.specs.Reading.{Gives, name_of};
 ghost use Rattle.rq_writer.specs.Reading as spec;
 
-use rq_record::{By, Fault, Name};
+use rq_record::{By, Fault, Name, QueueNo};
 
 /// What stands before the first such byte, and what behind it.
 pub(crate) fn cut(byte: u8, bytes: &[u8]) -> Option<(&[u8], &[u8])>
@@ -108,7 +108,7 @@ pub(crate) fn error(bytes: &[u8]) -> Result<u32, Fault>
     ensures { Gives (λ x. x) result (spec.error_of bytes.now) }
 {
     if bytes == b"-".as_slice() {
-        return Ok(4294967295);
+        return Ok(QueueNo::NONE.0);
     }
     let n = number(4294967294, bytes)?;
     Ok(n as u32)

@@ -17,8 +17,8 @@ use rq_state::{State, spell};
 use std::alloc::Global;
 use std::thread::Threads;
 
-/// The state behind those of the records that are lawful in the version, each after those before
-/// it, and how many these are.
+// The state behind those of the records that are lawful in the version, each after those before
+// it, and how many these are.
 fn run_lawful<R: Threads + Sync>(
     rt: &R,
     alloc: Global,
@@ -77,7 +77,7 @@ impl Front {
         Ok(())
     }
 
-    /// Runs the records behind the state, as far as they are lawful.
+    // Runs the records behind the state, as far as they are lawful.
     fn catch_up<R: Threads + Sync>(
         &mut self,
         rt: &R,

@@ -9,7 +9,7 @@ ghost use Rattle.rq_writer.specs.Making.{HoldsRecords, RecordOf, Framed, LineMad
 use crate::front::Front;
 use crate::line::Line;
 use crate::reading::read_line;
-use rq_front::{frame, header_of};
+use rq_front::{FRAME_LEN, LOG_LIMIT, frame, header_of};
 use rq_pool::Plan;
 use rq_record::{Fault, Record, Version, encode};
 use std::alloc::Global;
@@ -23,7 +23,7 @@ pub(crate) struct Log {
     front: Front,
 }
 
-/// The record that a line adds. `Script` where the text is no line.
+// The record that a line adds. `Script` where the text is no line.
 fn record_at<R: Threads + Sync>(
     rt: &R,
     alloc: Global,
@@ -59,10 +59,10 @@ fn framed_len(out: &[u8], body: &[u8]) -> usize
     requires body { length body.now ≤ 268435456 }
     ensures { result ≡ length out.now + length body.now + 36 }
 {
-    out.len() + body.len() + 36
+    out.len() + body.len() + FRAME_LEN
 }
 
-/// Appends the frame of a record. `TooLong` where the log would pass 4,294,967,295 bytes.
+// Appends the frame of a record. `TooLong` where the log would pass 4,294,967,295 bytes.
 fn append(alloc: Global, out: &mut Vec<u8>, last: &[u8; 32], r: &Record) -> Result<(), Fault>
     requires { length out.old.items ≤ 4294967295 }
     ensures { Framed out.old.items out.new.items last.now (record_of r.now) result }
@@ -70,7 +70,7 @@ fn append(alloc: Global, out: &mut Vec<u8>, last: &[u8; 32], r: &Record) -> Resu
     rq_model::one_spelling();
     let mut body = Vec::new(alloc);
     encode(r, &mut body)?;
-    if framed_len(out, &body) > 4_294_967_295 {
+    if framed_len(out, &body) > LOG_LIMIT {
         return Err(Fault::TooLong);
     }
     frame(last, &body, out)

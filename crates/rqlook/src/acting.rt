@@ -10,14 +10,14 @@ use std::io::{self, ErrorKind, Printer};
 use std::rt::{Clock, Files};
 use std::thread::Threads;
 
-/// The grain of each plan, in frames.
+// The grain of each plan, in frames.
 const GRAIN: u32 = 1000;
 
 fn plan_of(words: &ArgMatches<'_>) -> Option<Plan> {
     Plan::new(words.get_one::<u32>("workers")?, GRAIN)
 }
 
-/// Prints what a check finds, unless it is to say nothing. Answers whether it finds nothing.
+// Prints what a check finds, unless it is to say nothing. Answers whether it finds nothing.
 fn check<R>(rt: &R, bytes: &[u8], plan: &Plan, quiet: bool) -> Result<bool, Trouble>
 where
     R: Print + AllocGlobal + Threads + Sync,
@@ -106,7 +106,7 @@ where
     }
 }
 
-/// Makes the page of a log. Its file is whole or as it was, and never the log.
+// Makes the page of a log. Its file is whole or as it was, and never the log.
 fn page<R>(rt: &R, bytes: &[u8], plan: &Plan, file: &str, to: &str) -> Result<bool, Failure>
 where
     R: Files + Print + AllocGlobal + Threads + Sync,

@@ -17,7 +17,7 @@ use std::rt::{Clock, Env, Files};
 use std::thread::Threads;
 use std::{env, io};
 
-/// The exit status where a finding was made.
+// The exit status where a finding was made.
 const FOUND: u8 = 1;
 
 fn main(rt: HostRuntime) -> ExitCode {
@@ -29,7 +29,7 @@ fn main(rt: HostRuntime) -> ExitCode {
     }
 }
 
-/// Does what the arguments ask for. False answers that something is wrong with the log.
+// Does what the arguments ask for. False answers that something is wrong with the log.
 fn start<R>(rt: &R, watch: Watch) -> Result<bool, Failure>
 where
     R: Files + Env + Input + Print + Eprint + Clock + AllocGlobal + Threads + Sync,
@@ -45,7 +45,7 @@ where
     }
 }
 
-/// Arguments that are no text are no command; where memory ran out nothing is known of them.
+// Arguments that are no text are no command; where memory ran out nothing is known of them.
 fn unread(error: io::Error) -> Failure {
     if error.kind() == io::ErrorKind::OutOfMemory {
         Failure::Memory
@@ -54,7 +54,7 @@ fn unread(error: io::Error) -> Failure {
     }
 }
 
-/// Prints the help or the version that was asked for, or refuses the words.
+// Prints the help or the version that was asked for, or refuses the words.
 fn asked<R: Print>(rt: &R, error: clap::Error) -> Result<bool, Failure> {
     if error.exit_code() == 0 {
         print!(rt; "{error}")?;

@@ -4,7 +4,7 @@ use clap::{Arg, ArgAction, ArgMatches, Command, Error, value_parser};
 use rq_look::{Subject, Wanted};
 use std::alloc::Global;
 
-/// The kinds of record.
+// The kinds of record.
 static KINDS: [&str; 10] = [
     "define",
     "register",

@@ -7,13 +7,13 @@ use rq_record::{QueueNo, UnitNo};
 use rq_state::State;
 use std::test::Fail;
 
-/// `ann` with a tag.
+// `ann` with a tag.
 const FIRST: Who = Some(("ann", 70));
 
 const SECOND: Who = Some(("ann", 71));
 
-/// An element of `jobs` goes to `dead` at its second abort, where `ann` finds it at its second
-/// look.
+// An element of `jobs` goes to `dead` at its second abort, where `ann` finds it at its second
+// look.
 const ARRIVAL: [Plain; 18] = [
     Define(0, NO_QUEUE, "dead"),
     Define(2, 0, "jobs"),

@@ -7,11 +7,11 @@ use std::alloc::{AllocError, Global};
 use std::test::Fail;
 use std::thread::Threads;
 
-/// How long the bodies are of a queue's definition, a unit's begin, an element and the unit's
-/// commit.
+// How long the bodies are of a queue's definition, a unit's begin, an element and the unit's
+// commit.
 const LENGTHS: [usize; 4] = [11, 9, 24, 9];
 
-/// The chain from a place of the log, where there may be one.
+// The chain from a place of the log, where there may be one.
 fn chain_from<R: Threads + Sync + AllocGlobal>(
     rt: &R,
     log: &[u8],
@@ -25,7 +25,7 @@ fn chain_from<R: Threads + Sync + AllocGlobal>(
     Ok(Some(found))
 }
 
-/// Where the bodies of a chain stand.
+// Where the bodies of a chain stand.
 fn places(alloc: Global, found: &Chain) -> Result<Vec<(usize, usize)>, AllocError> {
     let mut places = Vec::new(alloc);
     for span in &found.spans {

@@ -25,8 +25,8 @@ use std::thread::Threads;
 
 const QUEUES: usize = 5;
 
-/// Two queues with one error queue, one whose error queue is the first of the two, and one with
-/// none. What leaves the last of the chain by an abort goes on to its end by two more.
+// Two queues with one error queue, one whose error queue is the first of the two, and one with
+// none. What leaves the last of the chain by an abort goes on to its end by two more.
 const CHAINED: [Plain; 14] = [
     Define(0, NO_QUEUE, "dead"),
     Define(1, 0, "first"),
@@ -44,14 +44,14 @@ const CHAINED: [Plain; 14] = [
     Abort(3),
 ];
 
-/// Records that are lawful from the start.
+// Records that are lawful from the start.
 #[derive(Drop)]
 struct Lawful {
     records: Vec<Record>,
     ghost lawful: { all_lawful Two empty (map record_of records.items) ≡ true },
 }
 
-/// The records as far as they are lawful after the state.
+// The records as far as they are lawful after the state.
 fn lawful_front(
     alloc: Global,
     start: &State,
@@ -67,16 +67,16 @@ fn lawful_front(
     Ok(records)
 }
 
-/// The records as far as they are lawful from the start.
+// The records as far as they are lawful from the start.
 fn lawful_of(alloc: Global, records: Vec<Record>) -> Result<Lawful, Fault> {
     let start = State::empty(alloc);
     let records = lawful_front(alloc, &start, records)?;
     Ok(Lawful { records })
 }
 
-/// The state after the records, and how the replay went: one thread redid a queue, once, and no
-/// other did; of an error queue that queues lead to, this is the thread that was told Last, once,
-/// and nobody else was told so.
+// The state after the records, and how the replay went: one thread redid a queue, once, and no
+// other did; of an error queue that queues lead to, this is the thread that was told Last, once,
+// and nobody else was told so.
 fn traced<R: Threads + Sync + AllocGlobal, G: Gate + Sync>(
     rt: &R,
     lawful: &Lawful,
@@ -100,7 +100,7 @@ fn traced<R: Threads + Sync + AllocGlobal, G: Gate + Sync>(
     Ok((state, course))
 }
 
-/// As which each queue entered, counted from 1.
+// As which each queue entered, counted from 1.
 #[derive(Drop)]
 struct Entries {
     count: AtomicU32,
@@ -121,7 +121,7 @@ impl Entries {
         }
     }
 
-    /// Whether all entered, each once, and an error queue after the queues that lead to it.
+    // Whether all entered, each once, and an error queue after the queues that lead to it.
     fn are_in_order(&self) -> bool {
         let [dead, first, second, chained, alone] = &self.places;
         let [dead, first, second] = [of(dead), of(first), of(second)];
@@ -144,7 +144,7 @@ impl Gate for Entries {
     }
 }
 
-/// Whether these are the error queues, and the element has come to the end of its chain.
+// Whether these are the error queues, and the element has come to the end of its chain.
 fn is_after(state: &State) -> bool {
     let mut same = state.definition_count() == QUEUES && state.element_count() == 1;
     let errors = [u32::MAX, 0, 0, 1, u32::MAX];

@@ -10,7 +10,7 @@ use rq_state::State;
 use std::alloc::Global;
 use std::test::Fail;
 
-/// In which versions a record is lawful where it stands.
+// In which versions a record is lawful where it stands.
 #[derive(Clone, Copy, Debug)]
 enum Lawful {
     InBoth,
@@ -20,7 +20,7 @@ enum Lawful {
 
 use Lawful::{InBoth, InNone, InTwo};
 
-/// A record, and where it is lawful.
+// A record, and where it is lawful.
 type Case = (Lawful, Plain);
 
 fn is_lawful_in(lawful: Lawful, version: Version) -> bool {
@@ -31,15 +31,15 @@ fn is_lawful_in(lawful: Lawful, version: Version) -> bool {
     }
 }
 
-/// Whether the catalogue takes all of the records.
+// Whether the catalogue takes all of the records.
 fn are_lawful(alloc: Global, version: Version, records: &[Record]) -> Result<bool, Fail> {
     let start = State::empty(alloc);
     let analysis = analyse_in(alloc, version, &start, records)?;
     Ok(analysis.lawful() == records.len())
 }
 
-/// Whether the judge, and the catalogue over the lawful records and this one, say what stands
-/// beside the record. It is one of the lawful ones then, or it is not.
+// Whether the judge, and the catalogue over the lawful records and this one, say what stands
+// beside the record. It is one of the lawful ones then, or it is not.
 fn agree(
     alloc: Global,
     version: Version,
@@ -58,8 +58,8 @@ fn agree(
     Ok(says == want && found == want)
 }
 
-/// The first place where they do not agree. The judge goes on behind unlawful records. What it
-/// borrows it need not drop at each of its ends.
+// The first place where they do not agree. The judge goes on behind unlawful records. What it
+// borrows it need not drop at each of its ends.
 fn first_of(
     alloc: Global,
     version: Version,
@@ -75,8 +75,8 @@ fn first_of(
     Ok(None)
 }
 
-/// The first place where the judge of the version, or the catalogue, does not say what stands
-/// beside the record.
+// The first place where the judge of the version, or the catalogue, does not say what stands
+// beside the record.
 fn first_wrong(alloc: Global, version: Version, cases: &[Case]) -> Result<Option<usize>, Fail> {
     let mut judge = Judge::new(alloc, version);
     let mut taken = Vec::new(alloc);

@@ -13,7 +13,7 @@ pub struct Framed {
     pub ends: Vec<usize>,
 }
 
-/// Appends the frame of a body of `len` bytes, all of them `byte`.
+// Appends the frame of a body of `len` bytes, all of them `byte`.
 fn append(alloc: Global, framed: &mut Framed, len: usize, byte: u8) -> Result<(), Fail> {
     let body = Vec::from_elem(alloc, byte, len)?;
     if body.is_empty() || 2_000_000 < body.len() {
@@ -44,7 +44,7 @@ pub fn log_of_lengths(alloc: Global, lens: &[usize]) -> Result<Framed, Fail> {
     Ok(framed)
 }
 
-/// How many frames of a log are right, where a wrong digest follows them.
+// How many frames of a log are right, where a wrong digest follows them.
 fn right_before<R: Threads + Sync + AllocGlobal>(
     rt: &R,
     log: &[u8],
@@ -61,14 +61,14 @@ fn right_before<R: Threads + Sync + AllocGlobal>(
     }
 }
 
-/// Changes the last byte before a place, or changes it back.
+// Changes the last byte before a place, or changes it back.
 fn flip(log: &mut Vec<u8>, end: usize) {
     for byte in log.iter_mut().skip(end.saturating_sub(1)).take(1) {
         *byte ^= 0x41;
     }
 }
 
-/// Whether the first wrong digest is found, wherever it is among the frames of these lengths.
+// Whether the first wrong digest is found, wherever it is among the frames of these lengths.
 fn finds_each<R: Threads + Sync + AllocGlobal>(
     rt: &R,
     lens: &[usize],
@@ -88,7 +88,7 @@ fn finds_each<R: Threads + Sync + AllocGlobal>(
     Ok(true)
 }
 
-/// Twenty lengths from one on.
+// Twenty lengths from one on.
 fn lengths(alloc: Global, first: usize) -> Result<Vec<usize>, Fail> {
     let mut lens = Vec::new(alloc);
     for more in 0..20 {

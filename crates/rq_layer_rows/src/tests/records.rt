@@ -46,8 +46,8 @@ fn payloads_of_each_kind_of_length_are_kept(rt: HostRuntime) -> Result<(), Fail>
     Ok(())
 }
 
-/// The bytes of an element's payload of a length, between a byte before and a byte behind, as the
-/// body of its ENQUEUE has them.
+// The bytes of an element's payload of a length, between a byte before and a byte behind, as the
+// body of its ENQUEUE has them.
 fn body_among_others(alloc: Global, length: usize) -> Result<Vec<u8>, Fail> {
     let payload = Vec::from_elem(alloc, b'p', length)?;
     let record = Record::Enqueue {
@@ -64,8 +64,8 @@ fn body_among_others(alloc: Global, length: usize) -> Result<Vec<u8>, Fail> {
     Ok(bytes)
 }
 
-/// How many bytes the payload has that is read of a body among others, all of them as they were
-/// written, and how many more hold the lent log then.
+// How many bytes the payload has that is read of a body among others, all of them as they were
+// written, and how many more hold the lent log then.
 fn read_of(alloc: Global, bytes: &[u8], log: &ArcSlice<u8>) -> Result<(usize, usize), Fail> {
     let lent = LentLog::of(log)?;
     let before = ArcSlice::strong_count(log);

@@ -1,4 +1,5 @@
 //! An arrival as its pass remembers it.
+
 ghost use Rattle.std.specs.Prelude.{◌≡◌, [], ◌∷◌, ◌++◌};
 ghost use Rattle.rq_pool.specs.Countdowns.History.{entry};
 

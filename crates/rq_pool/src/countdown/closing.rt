@@ -1,4 +1,5 @@
 //! What is known once a countdown is closed.
+
 ghost use Rattle.std.specs.Prelude.{◌≡◌};
 
 use crate::countdown::arrival::Entry;

@@ -1,4 +1,5 @@
 //! How the passes of a countdown are made.
+
 ghost use Rattle.std.specs.Prelude.{◌≡◌, ◌<◌, ◌≤◌, [], All, length, Some, None, IfOk, IfErr};
 ghost use Rattle.std.specs.Prelude.{vec_capacity};
 ghost use Rattle.rq_record.specs.declared.fault.Fault.TheVariants.{Resources};

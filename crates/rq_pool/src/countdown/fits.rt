@@ -1,4 +1,5 @@
 //! What may be handed in at a source.
+
 ghost use Rattle.std.specs.Prelude.{ℕ};
 
 /// What a source hands in. Whether it fits a key at a source is for contracts alone: who arrives

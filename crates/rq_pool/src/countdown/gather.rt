@@ -1,4 +1,5 @@
 //! What the last does with the slots that it took.
+
 ghost use Rattle.std.specs.Prelude.{◌≡◌, ℕ, ◌+◌, ◌<◌, ◌≤◌, List, [], ◌∷◌, ◌++◌, length, map};
 ghost use Rattle.std.specs.Prelude.{replicate, Some, None, vec_capacity, vec_len};
 ghost use Rattle.atomic_table.specs.Table.{rest};

@@ -1,4 +1,5 @@
 //! The slots of a countdown that was closed.
+
 ghost use Rattle.std.specs.Prelude.{◌≡◌, ◌<◌, ◌≤◌, [], ◌++◌, length, vec_capacity, option_to_list};
 ghost use Rattle.std.specs.Slots.{slots_items, slots_len, IsFull};
 ghost use Rattle.rq_pool.specs.Countdowns.Phases.{somes};

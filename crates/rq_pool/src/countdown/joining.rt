@@ -1,4 +1,5 @@
 //! The passes of a countdown at its close, in one thread.
+
 ghost use Rattle.std.specs.Prelude.{◌≡◌, ◌<◌, [], All, map, length, slice_index_or, None};
 ghost use Rattle.std.specs.Option.{ForSome, ForNone};
 ghost use Rattle.rq_pool.specs.Countdowns.Rule.{parts, lasts};

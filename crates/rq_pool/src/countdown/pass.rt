@@ -1,4 +1,5 @@
 //! A pass of a countdown.
+
 ghost use Rattle.std.specs.Prelude.{◌≡◌, ◌≤◌, [], replicate, None, vec_capacity};
 ghost use Rattle.std.specs.Option.{ForSome, ForNone};
 ghost use Rattle.rq_pool.specs.Countdowns.Phases.{numbered};

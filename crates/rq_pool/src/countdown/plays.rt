@@ -1,4 +1,5 @@
 //! The rule of the table, and what each step on it tells. These types are for the proofs alone.
+
 ghost use Rattle.std.specs.Prelude.{ℕ, Some, None, []};
 ghost use Rattle.rq_pool.specs.Countdowns.Rule.{Held, view, claimed, counted, returned, both_of};
 ghost use Rattle.rq_pool.specs.Countdowns.Rule.{spent_view, left_of, right_of};

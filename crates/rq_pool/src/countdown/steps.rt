@@ -1,4 +1,5 @@
 //! The two steps of an arrival.
+
 ghost use Rattle.std.specs.Prelude.{◌≡◌, ◌≢◌, ℕ, ◌+◌, ◌<◌, ◌≤◌, [], ◌∷◌, ◌++◌, List, length};
 ghost use Rattle.std.specs.Prelude.{IsTrue, IsFalse, ◌^◌, map, replicate, Some, None};
 ghost use Rattle.rq_pool.specs.Countdowns.Rule.{view, after, lasts};

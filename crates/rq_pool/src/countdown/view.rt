@@ -1,4 +1,5 @@
 //! What a pass knows. No value of these types is made, but of `Terms`.
+
 use std::collections::LinkedList;
 
 /// An arrival that was not answered `Twice`. `told` has the outboxes where the answer was `Last`.

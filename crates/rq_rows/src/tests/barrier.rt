@@ -6,14 +6,14 @@ use std::io::Cursor;
 use std::sync::atomic::{AtomicBool, Ordering};
 use std::test::Fail;
 
-/// A queue that looks for the flag which the error queue of another one sets.
+// A queue that looks for the flag which the error queue of another one sets.
 #[derive(Drop)]
 struct Looking {
     error_there: AtomicBool,
     saw: AtomicBool,
 }
 
-/// Looks for a flag, up to 100,000,000 times.
+// Looks for a flag, up to 100,000,000 times.
 fn look(flag: &AtomicBool) -> bool {
     for _ in 0..100_000_000 {
         if flag.load(Ordering::SeqCst) {

@@ -12,7 +12,7 @@ use std::alloc::Global;
 use std::test::Fail;
 use std::thread::Threads;
 
-/// The state at the checkpoint: a unit is open that took one element and put in another.
+// The state at the checkpoint: a unit is open that took one element and put in another.
 fn state_at_checkpoint<R: Threads + Sync + AllocGlobal>(rt: &R) -> Result<State, Fail> {
     let log = log_of(rt, &CHECKPOINT[..9])?;
     let plan = Plan::new(1, 1).ok_or("plan")?;
@@ -70,7 +70,7 @@ fn what_belongs_to_a_queue_is_copied(rt: HostRuntime) -> Result<(), Fail> {
     Ok(())
 }
 
-/// A state's numbers, without members.
+// A state's numbers, without members.
 fn fields(alloc: Global) -> Fields {
     Fields {
         next: 0,

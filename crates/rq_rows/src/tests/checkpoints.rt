@@ -154,7 +154,7 @@ fn the_greatest_record_number(rt: HostRuntime) -> Result<(), Fail> {
     Ok(())
 }
 
-/// Records that take members out of a state, with a checkpoint behind each of them.
+// Records that take members out of a state, with a checkpoint behind each of them.
 const TAKEN_FROM: [&str; 26] = [
     "define dead 0 -",
     "define jobs 1 0",

@@ -13,7 +13,7 @@ const NO_UNIT: &str = "units 0 committed, 0 aborted, 0 cut off";
 
 const ONE_CUT_OFF: &str = "units 0 committed, 0 aborted, 1 cut off";
 
-/// The log with these bytes in place of those at the offset.
+// The log with these bytes in place of those at the offset.
 fn changed(mut log: Vec<u8>, offset: usize, bytes: &[u8]) -> Vec<u8> {
     let places = log.iter_mut().skip(offset);
     for (place, byte) in places.zip(bytes) {

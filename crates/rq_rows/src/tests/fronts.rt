@@ -9,17 +9,17 @@ use sha2::{Digest, Sha256};
 use std::test::Fail;
 use std::thread::Threads;
 
-/// What the state after the first eight lines of the script `CHECKPOINT` spells: its unit 2 is
-/// open, holds element 3, has put in element 7 and has a note of ann.
+// What the state after the first eight lines of the script `CHECKPOINT` spells: its unit 2 is
+// open, holds element 3, has put in element 7 and has a note of ann.
 const INSIDE_A_UNIT: &str =
     "checkpoint-hex 0000000000000008000000000000000200000000000000010000000000000000000000010000ffffffff046a6f6273000000010000000000000002000000010000000003616e6e0000000002000000000000000300000000000000000500000000000000000200000000000000020001610000000000000007000000000000000008000000000000000001000000000000000200016200000001000000000000000600000000000000020000000003616e6e02000000000000000a0000000000000003";
 
-/// Where the checkpoint's frame begins, and where the bytes stand that it has behind its kind.
+// Where the checkpoint's frame begins, and where the bytes stand that it has behind its kind.
 const FRAME: usize = 447;
 
 const SPELLED: usize = 452;
 
-/// How the audit of the bytes is refused, if it is.
+// How the audit of the bytes is refused, if it is.
 fn audit_refusal<R: Threads + Sync + AllocGlobal>(
     rt: &R,
     bytes: &[u8],
@@ -28,7 +28,7 @@ fn audit_refusal<R: Threads + Sync + AllocGlobal>(
     Ok(answer(rt, &Command::Audit { log: "log", plan }, bytes).err())
 }
 
-/// The script's first eight lines, and another.
+// The script's first eight lines, and another.
 fn behind_eight<R: Threads + Sync + AllocGlobal>(rt: &R, line: &str) -> Result<Vec<u8>, Fail> {
     let mut script = CHECKPOINT;
     script[8] = line;

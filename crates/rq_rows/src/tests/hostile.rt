@@ -6,17 +6,17 @@ use rq_tool::{Command, Fault, Plan};
 use std::test::Fail;
 use std::thread::Threads;
 
-/// Where the frames of the log end.
+// Where the frames of the log end.
 const ENDS: [usize; 14] = [
     87, 134, 178, 223, 283, 343, 388, 433, 491, 549, 594, 639, 700, 745,
 ];
 
-/// How many frames end at an offset or before it.
+// How many frames end at an offset or before it.
 fn frames_before(offset: usize) -> usize {
     ENDS.iter().filter(|end| **end <= offset).count()
 }
 
-/// Where so many frames end.
+// Where so many frames end.
 fn end_of(frames: usize) -> usize {
     match frames {
         0 => 40,
@@ -24,7 +24,7 @@ fn end_of(frames: usize) -> usize {
     }
 }
 
-/// What the report of each beginning of the script says behind its first line.
+// What the report of each beginning of the script says behind its first line.
 fn rests<R: Threads + Sync + AllocGlobal>(rt: &R) -> Result<Vec<Vec<u8>>, Fail> {
     let plan = Plan::new(1, 1000).ok_or("plan")?;
     let mut rests = Vec::new(rt.alloc());
@@ -42,8 +42,8 @@ fn rests<R: Threads + Sync + AllocGlobal>(rt: &R) -> Result<Vec<Vec<u8>>, Fail> 
     Ok(rests)
 }
 
-/// Whether the report of the bytes has a front of so many frames, and the other lines of these,
-/// whatever the plan is.
+// Whether the report of the bytes has a front of so many frames, and the other lines of these,
+// whatever the plan is.
 fn has_front<R: Threads + Sync + AllocGlobal>(
     rt: &R,
     bytes: &[u8],
@@ -96,8 +96,8 @@ fn every_beginning_has_the_front_of_its_whole_frames(rt: HostRuntime) -> Result<
     Ok(())
 }
 
-/// What stands after so many frames of the log of which one byte was changed: a length that is out
-/// of range, a length with fewer bytes than its frame, or a wrong digest.
+// What stands after so many frames of the log of which one byte was changed: a length that is out
+// of range, a length with fewer bytes than its frame, or a wrong digest.
 fn why_after(bytes: &[u8], frames: usize) -> Result<&'static str, Fail> {
     let rest = bytes.get(end_of(frames)..).ok_or("rest")?;
     let mut length = 0u64;

@@ -9,7 +9,7 @@ use std::str::from_utf8;
 use std::test::Fail;
 use std::thread::Threads;
 
-/// All records, a line each.
+// All records, a line each.
 const ALL: Wanted<'static> = Wanted {
     from: 0,
     unit: None,
@@ -25,7 +25,7 @@ fn plan() -> Option<Plan> {
     Plan::new(2, 1)
 }
 
-/// What a dump shows of the log.
+// What a dump shows of the log.
 fn dumped<R: Threads + Sync + AllocGlobal>(
     rt: &R,
     log: &[u8],
@@ -69,7 +69,7 @@ fn a_dump_shows_each_record_and_the_end(rt: HostRuntime) -> Result<(), Fail> {
     Ok(())
 }
 
-/// The last line of the dump of a log.
+// The last line of the dump of a log.
 fn ends<R: Threads + Sync + AllocGlobal>(rt: &R, log: &[u8], want: &str) -> Result<bool, Fail> {
     let none = Wanted { limit: 0, ..ALL };
     Ok(dumped(rt, log, &none)? == lines(rt.alloc(), &[want])?)
@@ -86,7 +86,7 @@ fn a_dump_says_why_the_front_ends(rt: HostRuntime) -> Result<(), Fail> {
     Ok(())
 }
 
-/// Two units, of which each puts in an element of a queue of its own.
+// Two units, of which each puts in an element of a queue of its own.
 const TWO_UNITS: [&str; 9] = [
     "define mail 0 -",
     "define jobs 0 -",
@@ -99,7 +99,7 @@ const TWO_UNITS: [&str; 9] = [
     "commit 2",
 ];
 
-/// The lines of the second one.
+// The lines of the second one.
 const OF_UNIT: [&str; 3] = [
     "283 5 begin unit 2",
     "328 6 enqueue unit 2 queue 1 priority 5 by ann tag 10 payload \"b\"",

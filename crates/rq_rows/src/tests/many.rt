@@ -9,8 +9,8 @@ use std::sync::atomic::{AtomicU64, Ordering};
 use std::test::Fail;
 use std::thread::Threads;
 
-/// The script's lines: queues `d0` to `d19`, then `q20` to `q199` whose elements go to them at
-/// their first abort.
+// The script's lines: queues `d0` to `d19`, then `q20` to `q199` whose elements go to them at
+// their first abort.
 fn script(alloc: Global) -> Result<Vec<String>, Fail> {
     let mut lines = Vec::new(alloc);
     for d in 0..20u32 {
@@ -41,7 +41,7 @@ fn script(alloc: Global) -> Result<Vec<String>, Fail> {
     Ok(lines)
 }
 
-/// 65,535 bytes for each tenth queue, nothing for the others.
+// 65,535 bytes for each tenth queue, nothing for the others.
 fn payload(alloc: Global, queue: u32) -> Result<String, Fail> {
     let mut text = String::new(alloc);
     if queue % 10 != 0 {
@@ -61,8 +61,8 @@ pub fn log<R: Threads + Sync + AllocGlobal>(rt: &R) -> Result<Vec<u8>, Fail> {
     log_of(rt, &words)
 }
 
-/// The lines of the report: each element of a queue that is no multiple of three and two ends in
-/// the queue of its number modulo 20, those of greater priority first.
+// The lines of the report: each element of a queue that is no multiple of three and two ends in
+// the queue of its number modulo 20, those of greater priority first.
 fn report(alloc: Global) -> Result<String, Fail> {
     let mut text = String::new(alloc);
     text.push_str("front 1220 records, 1239720 of 1239720 bytes, whole\n")?;
@@ -104,7 +104,7 @@ fn two_hundred_queues(rt: HostRuntime) -> Result<(), Fail> {
     Ok(())
 }
 
-/// How many times each queue entered.
+// How many times each queue entered.
 #[derive(Drop)]
 struct Entries {
     queues: Vec<AtomicU64>,

@@ -25,7 +25,7 @@ fn faults_have_texts_and_statuses(rt: HostRuntime) -> Result<(), Fail> {
     Ok(())
 }
 
-/// The first word of a command's line.
+// The first word of a command's line.
 fn word_of(command: &Command<'_>) -> &'static str {
     match command {
         Command::Make { .. } => "make",
@@ -38,7 +38,7 @@ fn word_of(command: &Command<'_>) -> &'static str {
     }
 }
 
-/// The first word of the command that the words give; nothing where they give none.
+// The first word of the command that the words give; nothing where they give none.
 fn known(words: &[&str]) -> &'static str {
     match command(words) {
         Some(command) => word_of(&command),

@@ -10,8 +10,8 @@ use std::alloc::Global;
 use std::test::Fail;
 use std::thread::Threads;
 
-/// Where pieces end: each record is one, some of several records, and all at once. No script has
-/// more than 20 lines.
+// Where pieces end: each record is one, some of several records, and all at once. No script has
+// more than 20 lines.
 const SINGLY: &[usize] = &[
     1, 2, 3, 4, 5, 6, 7, 8, 9, 10, 11, 12, 13, 14, 15, 16, 17, 18, 19, 20,
 ];
@@ -20,7 +20,7 @@ const IN_SOME: &[usize] = &[2, 7, 8, 8, 11, 20];
 
 const AT_ONCE: &[usize] = &[20];
 
-/// The records of a log of a version.
+// The records of a log of a version.
 fn records<R: Threads + Sync + AllocGlobal>(
     rt: &R,
     version: Version,
@@ -35,7 +35,7 @@ fn records<R: Threads + Sync + AllocGlobal>(
     Ok(records)
 }
 
-/// Whether the keeper takes all records, in pieces that end at these places.
+// Whether the keeper takes all records, in pieces that end at these places.
 fn takes_all<R: Threads + Sync + AllocGlobal>(
     rt: &R,
     keeper: &mut Keeper,
@@ -55,7 +55,7 @@ fn takes_all<R: Threads + Sync + AllocGlobal>(
     Ok(start == records.len())
 }
 
-/// What a state spells that has no more records than a log may have.
+// What a state spells that has no more records than a log may have.
 fn spelling(alloc: Global, state: &State) -> Result<Vec<u8>, Fail> {
     if state.next() > 4_294_967_295 {
         return Err("records".into());
@@ -63,7 +63,7 @@ fn spelling(alloc: Global, state: &State) -> Result<Vec<u8>, Fail> {
     Ok(spell(alloc, state)?)
 }
 
-/// What the state spells where the front of the log ends.
+// What the state spells where the front of the log ends.
 fn spelling_after<R: Threads + Sync + AllocGlobal>(
     rt: &R,
     log: &[u8],
@@ -72,7 +72,7 @@ fn spelling_after<R: Threads + Sync + AllocGlobal>(
     spelling(rt.alloc(), &front_state(rt, rt.alloc(), log, plan)?)
 }
 
-/// A state that spells nothing but the number of its next record.
+// A state that spells nothing but the number of its next record.
 fn state_before(alloc: Global, next: u64) -> Result<State, Fail> {
     let mut bytes = [0u8; 52];
     bytes[..8].copy_from_slice(&next.to_be_bytes());

@@ -8,9 +8,9 @@ use std::io::{Cursor, ErrorKind, Read, Write};
 use std::test::Fail;
 use std::thread::Threads;
 
-/// Gives at most 7 bytes a call. Each call that does not come after an interrupted one is
-/// interrupted, where that is asked for; the call of one number, from 1, those interrupted aside,
-/// fails.
+// Gives at most 7 bytes a call. Each call that does not come after an interrupted one is
+// interrupted, where that is asked for; the call of one number, from 1, those interrupted aside,
+// fails.
 #[derive(Drop)]
 struct Rough<'a> {
     inner: Cursor<&'a [u8]>,
@@ -47,7 +47,7 @@ impl<'a> Read for Rough<'a> {
     }
 }
 
-/// Takes at most 3 bytes a call, and is interrupted and fails as `Rough` is and does.
+// Takes at most 3 bytes a call, and is interrupted and fails as `Rough` is and does.
 #[derive(Drop)]
 struct Narrow {
     taken: Vec<u8>,
@@ -91,7 +91,7 @@ impl Write for Narrow {
     }
 }
 
-/// How a run ends that reads so, how many reads it made, and what it wrote.
+// How a run ends that reads so, how many reads it made, and what it wrote.
 fn run_from<R: Threads + Sync + AllocGlobal>(
     rt: &R,
     plan: &Plan,
@@ -103,7 +103,7 @@ fn run_from<R: Threads + Sync + AllocGlobal>(
     (done.err(), input.into_inner().calls, output.into_inner())
 }
 
-/// How a run ends that writes so, how many writes it made, and what these took.
+// How a run ends that writes so, how many writes it made, and what these took.
 fn run_into<R: Threads + Sync + AllocGlobal>(
     rt: &R,
     plan: &Plan,
@@ -117,7 +117,7 @@ fn run_into<R: Threads + Sync + AllocGlobal>(
     (done.err(), narrow.calls, narrow.taken)
 }
 
-/// The report of the log.
+// The report of the log.
 fn report_of<R: Threads + Sync + AllocGlobal>(rt: &R, log: &[u8]) -> Result<Vec<u8>, Fail> {
     let plan = Plan::new(1, 1000).ok_or("plan")?;
     Ok(answer(rt, &Command::Restart { log: "log", plan }, log)?)

@@ -9,15 +9,15 @@ use std::thread::Threads;
 
 const JOBS: &str = "queue 0 jobs limit 0 error -";
 
-/// What the elements are behind the first eight lines of `BEST_FIRST`, where the second unit is cut
-/// off.
+// What the elements are behind the first eight lines of `BEST_FIRST`, where the second unit is cut
+// off.
 const RETURNED: [&str; 3] = [
     "e 3 from 0 priority 9 attempts 1 62",
     "e 4 from 0 priority 9 attempts 0 63",
     "e 2 from 0 priority 1 attempts 0 61",
 ];
 
-/// The closed log, made by so many workers.
+// The closed log, made by so many workers.
 fn close<R: Threads + Sync + AllocGlobal>(
     rt: &R,
     log: &[u8],
@@ -32,7 +32,7 @@ fn close<R: Threads + Sync + AllocGlobal>(
     answer(rt, &command, log)
 }
 
-/// The log of some lines of a script and others behind them.
+// The log of some lines of a script and others behind them.
 fn log_with<'a, R: Threads + Sync + AllocGlobal>(
     rt: &R,
     script: &[&'a str],

@@ -9,7 +9,7 @@ use std::alloc::Global;
 use std::test::Fail;
 use std::thread::Threads;
 
-/// The payload of an element of the long log: 60,000 bytes, as two letters each.
+// The payload of an element of the long log: 60,000 bytes, as two letters each.
 fn payload(alloc: Global, element: u32) -> Result<String, Fail> {
     let mut text = String::new(alloc);
     let byte = format!(in alloc; "{element:02x}")?;
@@ -19,7 +19,7 @@ fn payload(alloc: Global, element: u32) -> Result<String, Fail> {
     Ok(text)
 }
 
-/// Three queues and 21 elements: more than 1 MiB, so that several threads make the report.
+// Three queues and 21 elements: more than 1 MiB, so that several threads make the report.
 fn long_script(alloc: Global) -> Result<Vec<String>, Fail> {
     let mut script = Vec::new(alloc);
     for queue in 0..3u32 {
@@ -35,7 +35,7 @@ fn long_script(alloc: Global) -> Result<Vec<String>, Fail> {
     Ok(script)
 }
 
-/// What the report of that log says: each queue with its elements, by number.
+// What the report of that log says: each queue with its elements, by number.
 fn long_report(alloc: Global) -> Result<Vec<String>, Fail> {
     let mut report = Vec::new(alloc);
     // A header of 40 bytes; three frames of 45, those of BEGIN and COMMIT of 45 and 21 of 60,059.
@@ -86,7 +86,7 @@ fn by_workers<R: Threads + Sync + AllocGlobal>(
     Ok(output.into_inner())
 }
 
-/// Whether every way to write the report writes this text.
+// Whether every way to write the report writes this text.
 fn all_write<R: Threads + Sync + AllocGlobal>(
     rt: &R,
     log: &[u8],

@@ -27,7 +27,7 @@ const THREE_REPORT: [&str; 7] = [
     "queue 2 c limit 0 error -",
 ];
 
-/// Two queues, of which each looks for the other's flag; a third may look for the first's.
+// Two queues, of which each looks for the other's flag; a third may look for the first's.
 #[derive(Drop)]
 struct Meeting {
     first: u32,
@@ -40,7 +40,7 @@ struct Meeting {
     third_saw: AtomicBool,
 }
 
-/// Looks for a flag, up to 100,000,000 times.
+// Looks for a flag, up to 100,000,000 times.
 fn look(flag: &AtomicBool) -> bool {
     for _ in 0..100_000_000 {
         if flag.load(Ordering::SeqCst) {
@@ -108,7 +108,7 @@ fn every_number_of_workers_reports_the_same(rt: HostRuntime) -> Result<(), Fail>
     Ok(())
 }
 
-/// When each of three queues entered, in nanoseconds.
+// When each of three queues entered, in nanoseconds.
 #[derive(Drop)]
 struct Entered<'a, R: Clock> {
     rt: &'a R,
@@ -126,7 +126,7 @@ impl<'a, R: Clock + Sync> Gate for Entered<'a, R> {
     }
 }
 
-/// Three queues, of which the second has 2,000 elements.
+// Three queues, of which the second has 2,000 elements.
 const ONE_IS_LONG: [&str; 4] = ["define a 0 -", "define b 0 -", "define c 0 -", "begin 1"];
 
 #[test]

@@ -9,7 +9,7 @@ use rq_tool::{Command, Fault, Plan};
 use std::test::Fail;
 use std::thread::Threads;
 
-/// The upgraded log, made by so many workers.
+// The upgraded log, made by so many workers.
 fn upgrade<R: Threads + Sync + AllocGlobal>(
     rt: &R,
     log: &[u8],

@@ -6,10 +6,10 @@ use std::alloc::Global;
 use std::test::Fail;
 use std::thread::Threads;
 
-/// A pass looks at so many bytes, and then at so many more.
+// A pass looks at so many bytes, and then at so many more.
 const WINDOW: usize = 16_777_216;
 
-/// A unit that puts in 260 elements of 65,535 bytes, and this line behind it.
+// A unit that puts in 260 elements of 65,535 bytes, and this line behind it.
 fn script(alloc: Global, last: &str) -> Result<Vec<String>, Fail> {
     let mut payload = String::new(alloc);
     for _ in 0..65_535 {
@@ -25,14 +25,14 @@ fn script(alloc: Global, last: &str) -> Result<Vec<String>, Fail> {
     Ok(lines)
 }
 
-/// The log of such a script.
+// The log of such a script.
 fn long_log<R: Threads + Sync + AllocGlobal>(rt: &R, last: &str) -> Result<Vec<u8>, Fail> {
     let made = script(rt.alloc(), last)?;
     let words: Vec<&str> = made.iter().map(|line| line.as_str()).collect(rt.alloc())?;
     log_of(rt, &words)
 }
 
-/// Whether the front has so many records and ends for this reason, by its end as by its restart.
+// Whether the front has so many records and ends for this reason, by its end as by its restart.
 fn ends<R: Threads + Sync + AllocGlobal>(
     rt: &R,
     log: &[u8],

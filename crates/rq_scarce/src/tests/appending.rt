@@ -16,7 +16,7 @@ pub enum What {
     Body,
 }
 
-/// What stands in the vector before.
+// What stands in the vector before.
 const BEFORE: [u8; 3] = *b"RQL";
 
 /// What is appended to a vector that is full, and what it has then with ample memory.
@@ -52,7 +52,7 @@ impl Appending {
     }
 }
 
-/// Whether so many bytes are appended, however little memory there is, or none.
+// Whether so many bytes are appended, however little memory there is, or none.
 fn appends<R: Threads + Sync + AllocGlobal>(
     rt: &R,
     what: What,

@@ -38,7 +38,7 @@ impl Acting<'_> {
     }
 }
 
-/// Whether the command writes this to the bytes, however little memory there is, or nothing.
+// Whether the command writes this to the bytes, however little memory there is, or nothing.
 fn acts<R: Threads + Sync + AllocGlobal>(
     rt: &R,
     command: Command<'_>,
@@ -126,8 +126,8 @@ fn a_close_is_whole_or_refused(rt: HostRuntime) -> Result<(), Fail> {
     Ok(())
 }
 
-/// Whether the script's log has so many bytes, and is made so, however little memory there is, or
-/// not at all.
+// Whether the script's log has so many bytes, and is made so, however little memory there is, or
+// not at all.
 fn makes<R: Threads + Sync + AllocGlobal>(
     rt: &R,
     script: &[&str],

@@ -2,20 +2,20 @@
 
 use std::alloc::{AllocError, Global};
 
-/// How many bytes a block of the store has: so few that the host does not take it from elsewhere.
+// How many bytes a block of the store has: so few that the host does not take it from elsewhere.
 const BLOCK: usize = 100_000;
 
-/// How many of them.
+// How many of them.
 const BLOCKS: usize = 16;
 
-/// The host keeps freed blocks of so many sizes apart for the next ones of their size: up to 1,032
-/// bytes, in steps of 16.
+// The host keeps freed blocks of so many sizes apart for the next ones of their size: up to 1,032
+// bytes, in steps of 16.
 const SIZES: usize = 64;
 
-/// It keeps so many of each size.
+// It keeps so many of each size.
 const KEPT: usize = 7;
 
-/// A block of a size that is not kept apart.
+// A block of a size that is not kept apart.
 const PIN: usize = 1_088;
 
 /// The host's memory, all of it taken but a store of which a round leaves a part.
@@ -88,7 +88,7 @@ pub fn take_all(alloc: Global, held: &mut Vec<Vec<u8>>) {
     }
 }
 
-/// Takes blocks of a size until one is refused, or there is no room for more.
+// Takes blocks of a size until one is refused, or there is no room for more.
 fn take_size(alloc: Global, held: &mut Vec<Vec<u8>>, size: usize) {
     for _ in held.len()..held.capacity() {
         match Vec::with_capacity(alloc, size) {
@@ -100,7 +100,7 @@ fn take_size(alloc: Global, held: &mut Vec<Vec<u8>>, size: usize) {
     }
 }
 
-/// Takes as many blocks of each small size as the host keeps apart.
+// Takes as many blocks of each small size as the host keeps apart.
 fn take_small(alloc: Global, held: &mut Vec<Vec<u8>>) {
     for place in 0..SIZES * KEPT {
         if let Ok(block) = Vec::with_capacity(alloc, 24 + 16 * (place / KEPT)) {

@@ -50,7 +50,7 @@ fn a_room_is_opened_or_refused(rt: HostRuntime) -> Result<(), Fail> {
     Ok(())
 }
 
-/// What the source of its number hands in.
+// What the source of its number hands in.
 #[derive(Drop)]
 struct Parcel {
     number: u32,

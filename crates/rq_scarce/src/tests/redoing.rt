@@ -29,8 +29,8 @@ fn dequeue(alloc: Global, unit: u64, queue: u32, by: Option<By>) -> Result<Recor
     })
 }
 
-/// An element leaves its queue by an abort, and its error queue by another, for the end of the
-/// chain, where a registrant that is still at work takes it.
+// An element leaves its queue by an abort, and its error queue by another, for the end of the
+// chain, where a registrant that is still at work takes it.
 fn chained(alloc: Global) -> Result<Vec<Record>, Fail> {
     let payload = KeptPayload::from_slice(alloc, b"a")?.ok_or("payload")?;
     let ann = Name::new(b"ann").ok_or("name")?;
@@ -65,14 +65,14 @@ fn chained(alloc: Global) -> Result<Vec<Record>, Fail> {
     Ok(records)
 }
 
-/// Records that are lawful from the start.
+// Records that are lawful from the start.
 #[derive(Drop)]
 struct Lawful {
     records: Vec<Record>,
     ghost lawful: { all_lawful Two empty (map record_of records.items) ≡ true },
 }
 
-/// The records as far as they are lawful after the state.
+// The records as far as they are lawful after the state.
 fn lawful_front(
     alloc: Global,
     start: &State,
@@ -88,14 +88,14 @@ fn lawful_front(
     Ok(records)
 }
 
-/// The records as far as they are lawful from the start.
+// The records as far as they are lawful from the start.
 fn lawful_of(alloc: Global, records: Vec<Record>) -> Result<Lawful, Fault> {
     let start = State::empty(alloc);
     let records = lawful_front(alloc, &start, records)?;
     Ok(Lawful { records })
 }
 
-/// The state after the records.
+// The state after the records.
 fn replayed<R: Threads + Sync + AllocGlobal>(
     rt: &R,
     lawful: &Lawful,
@@ -105,7 +105,7 @@ fn replayed<R: Threads + Sync + AllocGlobal>(
     replay(rt, rt.alloc(), &start, &lawful.records, plan, &Open)
 }
 
-/// The spelling of the state; nothing, where its next record number is past the greatest.
+// The spelling of the state; nothing, where its next record number is past the greatest.
 fn spelled(alloc: Global, state: &State) -> Result<Vec<u8>, Fail> {
     if state.next() > u64::from(u32::MAX) {
         return Ok(Vec::new(alloc));
@@ -144,14 +144,14 @@ impl Replaying {
     }
 }
 
-/// The spelling of the state after the records, as one worker has it with ample memory.
+// The spelling of the state after the records, as one worker has it with ample memory.
 fn wanted<R: Threads + Sync + AllocGlobal>(rt: &R, lawful: &Lawful) -> Result<Vec<u8>, Fail> {
     let alone = Plan::new(1, 1).ok_or("plan")?;
     spelled(rt.alloc(), &replayed(rt, lawful, &alone)?)
 }
 
-/// Whether the replay has the same state, however little memory there is, or none. No thread is
-/// started before: where no memory is left, each is refused.
+// Whether the replay has the same state, however little memory there is, or none. No thread is
+// started before: where no memory is left, each is refused.
 fn replays<R: Threads + Sync + AllocGlobal>(rt: &R, workers: u32) -> Result<bool, Fail> {
     let plan = Plan::new(workers, 1).ok_or("plan")?;
     let lawful = lawful_of(rt.alloc(), chained(rt.alloc())?)?;

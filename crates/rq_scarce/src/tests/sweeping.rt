@@ -10,13 +10,13 @@ use std::alloc::Global;
 use std::test::Fail;
 use std::thread::Threads;
 
-/// By how many bytes what a round leaves grows: less than any block takes.
+// By how many bytes what a round leaves grows: less than any block takes.
 const STEP: usize = 16;
 
-/// So many rounds without a refusal are enough.
+// So many rounds without a refusal are enough.
 const ENOUGH: u32 = 500;
 
-/// The most rounds.
+// The most rounds.
 const ROUNDS: usize = 20_000;
 
 /// A call, what it is lent, and its answer.
@@ -30,7 +30,7 @@ pub enum Call<'a> {
 }
 
 impl Call<'_> {
-    /// Makes what it is lent, and takes its last answer away.
+    // Makes what it is lent, and takes its last answer away.
     fn prepare(&mut self, alloc: Global) -> Result<(), Fail> {
         match self {
             Call::Act(acting) => acting.prepare(),
@@ -42,7 +42,7 @@ impl Call<'_> {
         Ok(())
     }
 
-    /// Calls, and keeps the answer.
+    // Calls, and keeps the answer.
     fn call<R: Threads + Sync + AllocGlobal>(&mut self, rt: &R) -> Result<(), Fault> {
         match self {
             Call::Act(acting) => acting.call(rt),
@@ -53,7 +53,7 @@ impl Call<'_> {
         }
     }
 
-    /// Whether the answer is that of ample memory.
+    // Whether the answer is that of ample memory.
     fn is_whole(&self, alloc: Global) -> Result<bool, Fail> {
         match self {
             Call::Act(acting) => Ok(acting.is_whole()),
@@ -64,7 +64,7 @@ impl Call<'_> {
         }
     }
 
-    /// Whether nothing is answered, and what was lent is as before.
+    // Whether nothing is answered, and what was lent is as before.
     fn is_untouched(&self) -> bool {
         match self {
             Call::Act(acting) => acting.is_untouched(),
@@ -76,19 +76,19 @@ impl Call<'_> {
     }
 }
 
-/// What the rounds came to.
+// What the rounds came to.
 #[derive(Drop)]
 struct Tally {
-    /// How many were refused, and left what was lent.
+    // How many were refused, and left what was lent.
     refused: u32,
-    /// How many were neither refused so nor answered.
+    // How many were neither refused so nor answered.
     wrong: u32,
-    /// How many of the last were answered one after the other.
+    // How many of the last were answered one after the other.
     last: u32,
 }
 
 impl Tally {
-    /// Counts one round.
+    // Counts one round.
     fn count(
         &mut self,
         alloc: Global,
@@ -109,13 +109,13 @@ impl Tally {
         Ok(())
     }
 
-    /// Whether some rounds were refused, the last ones answered, and none went wrong.
+    // Whether some rounds were refused, the last ones answered, and none went wrong.
     fn is_right(&self) -> bool {
         self.wrong == 0 && self.refused > 0 && self.last >= ENOUGH
     }
 }
 
-/// Calls where so many bytes are left.
+// Calls where so many bytes are left.
 fn round<R: Threads + Sync + AllocGlobal>(
     rt: &R,
     scarce: &mut Scarce,

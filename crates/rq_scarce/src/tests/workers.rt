@@ -10,7 +10,7 @@ use std::sync::{Mutex, Wait};
 use std::test::Fail;
 use std::thread::Threads;
 
-/// Six queues, with an element in each.
+// Six queues, with an element in each.
 const SIX: [&str; 14] = [
     "define a 0 -",
     "define b 0 -",
@@ -47,7 +47,7 @@ const SIX_REPORT: [&str; 14] = [
 
 const QUEUES: u32 = 6;
 
-/// Looks up to 100,000,000 times whether so many were counted.
+// Looks up to 100,000,000 times whether so many were counted.
 fn look(counted: &AtomicU32, least: u32) -> bool {
     for _ in 0..100_000_000 {
         if counted.load(Ordering::SeqCst) >= least {
@@ -57,12 +57,12 @@ fn look(counted: &AtomicU32, least: u32) -> bool {
     false
 }
 
-/// Counts one more, and tells how many there are then.
+// Counts one more, and tells how many there are then.
 fn count(counted: &AtomicU32) -> u32 {
     counted.fetch_add(1, Ordering::SeqCst).wrapping_add(1)
 }
 
-/// What the restart of six queues writes at a gate, and how it ends.
+// What the restart of six queues writes at a gate, and how it ends.
 fn restarted<R, G>(rt: &R, workers: u32, gate: &G) -> Result<(Result<(), Fault>, Vec<u8>), Fail>
 where
     R: Threads + Sync + AllocGlobal,
@@ -76,7 +76,7 @@ where
     Ok((done, output.into_inner()))
 }
 
-/// A gate where all memory is taken at the entry of a number, counted from 1.
+// A gate where all memory is taken at the entry of a number, counted from 1.
 #[derive(Drop)]
 struct Famine<'a, R: Wait> {
     rt: &'a R,
@@ -94,8 +94,8 @@ impl<R: Wait> Gate for Famine<'_, R> {
     }
 }
 
-/// Whether one worker that is refused memory at this entry enters no more, and its run writes
-/// nothing and says so.
+// Whether one worker that is refused memory at this entry enters no more, and its run writes
+// nothing and says so.
 fn stops_at<R: Threads + Wait + Sync + AllocGlobal>(rt: &R, at: u32) -> Result<bool, Fail> {
     let gate = Famine {
         rt,
@@ -118,8 +118,8 @@ fn who_is_refused_draws_no_more(rt: HostRuntime) -> Result<(), Fail> {
     Ok(())
 }
 
-/// A gate where the first who enters takes all memory once another is there, and that one gives it
-/// back a while later.
+// A gate where the first who enters takes all memory once another is there, and that one gives it
+// back a while later.
 #[derive(Drop)]
 struct Relief<'a, R: Wait> {
     rt: &'a R,
@@ -156,8 +156,8 @@ impl<R: Wait> Gate for Relief<'_, R> {
     }
 }
 
-/// One restart on two workers: how it ends, what it writes, how many entered in all, and how many
-/// while there was no memory.
+// One restart on two workers: how it ends, what it writes, how many entered in all, and how many
+// while there was no memory.
 fn relieved<R: Threads + Wait + Sync + AllocGlobal>(
     rt: &R,
 ) -> Result<(Result<(), Fault>, Vec<u8>, u32, u32), Fail> {

@@ -29,7 +29,7 @@ fn put_mark(out: &mut Vec<u8>, mark: Mark) -> Result<(), AllocError>
     }
 }
 
-/// The tag and the element of an operation, which end its spelling.
+// The tag and the element of an operation, which end its spelling.
 fn put_operation_end(out: &mut Vec<u8>, last: &Last) -> Result<(), AllocError>
     ensures { PutsSpelling out.old.items out.new.items
         (to_be_bytes w64 last.now.tag ++ to_be_bytes w64 (element_number last.now.element)) result }
@@ -99,7 +99,7 @@ pub(crate) fn put_element(out: &mut Vec<u8>, element: &Element) -> Result<(), Al
     put_element_end(out, element)
 }
 
-/// The kind, the tag and the element of a note's operation: its place stands in front.
+// The kind, the tag and the element of a note's operation: its place stands in front.
 fn put_done(out: &mut Vec<u8>, last: &Last) -> Result<(), AllocError>
     ensures { PutsSpelling out.old.items out.new.items
         (kind_byte last.now.kind ∷ (to_be_bytes w64 last.now.tag

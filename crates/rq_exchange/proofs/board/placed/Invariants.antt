@@ -4,9 +4,6 @@ use Rattle.rq_pool.specs.Ledger.{times_in}
 use Rattle.rq_exchange.specs.Boards.{IsPart, HasPart, queue_of}
 use Rattle.rq_exchange.proofs.board.placed.Given as goal
 
-abbrev pub invariant-loop : goal.invariant-loop
-invariant-loop l = length l.parts.items ≡ l.counter
-
 abbrev pub invariant-loop-done : goal.invariant-loop-done
 invariant-loop-done l =
     (length l.parts.items ≡ l.count)

@@ -11,9 +11,9 @@ loop-i-preserved c =
     let at : c.loop-i.i < length c.args.tasks.now = search rules in (
       i.0,
       (λ x. deal_more vec_items x c.loop-i.i k (get_or c.args.tasks.now c.loop-i.i 0) c.loop-i.lists.items
-          c.index_mut.result.now c.push-in-loop-i.new.self c.args.tasks.now
-          (i.1 x) lt at c.index_mut.ensures.value c.in_ok-push-2.ensures.items refl),
+          c.index_mut.result.now c.push.new.self c.args.tasks.now
+          (i.1 x) lt at c.index_mut.ensures.value c.in_ok-push.ensures.items refl),
       size_more vec_items c.loop-i.i k (get_or c.args.tasks.now c.loop-i.i 0) c.loop-i.lists.items
-          c.index_mut.result.now c.push-in-loop-i.new.self i.2 lt c.index_mut.ensures.value
-          c.in_ok-push-2.ensures.items,
+          c.index_mut.result.now c.push.new.self i.2 lt c.index_mut.ensures.value
+          c.in_ok-push.ensures.items,
     )

@@ -1,10 +1,10 @@
-use Rattle.std.proofs.Common.{◌≡◌, ◌∷◌, ◌++◌, ◌+◌, [], List, get_or, take, sym, ap, subst, ◌∙◌, append_assoc, arith}
+use Rattle.std.proofs.Common.{◌≡◌, ◌∷◌, ◌++◌, ◌+◌, [], ℕ, List, get_or, take, sym, ap, subst, ◌∙◌, append_assoc, arith}
 use Rattle.std.proofs.lemmas.List.{append-nil, take_all}
 use Rattle.rq_lanes.specs.Messages.{AccountsFor}
 use Rattle.rq_lanes.specs.declared.lanes.Message.{Message}
 use Rattle.rq_lanes.specs.declared.lanes.Lanes.{Lanes}
 use Rattle.rq_front.proofs.Sides.{of_turn, turn_taken, turn_passed}
-use Rattle.rq_front.specs.Walks.{message_of}
+use Rattle.rq_front.specs.Walks.{message_at, message_of}
 use Rattle.rq_front.specs.declared.spans.Span.{Span}
 use Rattle.rq_front.proofs.digests.taken.Goals as goal
 use Rattle.rq_front.proofs.digests.taken.Goals.{then-has_turn, else-has_turn}
@@ -16,7 +16,7 @@ pub frames-preserved : goal.frames-preserved
 frames-preserved c = λ ms h.
     let b = c.args.bytes.now in
     let d : Span = record { start = 0; len = 0 } in
-    let t = c.args.first in
+    let t = c.args.turn in
     let spans : List Span = c.args.spans.now in
     let before : List Message = of_turn t (take c.frames.i spans) in
     let held = c.frames.invariant ms h in
@@ -31,7 +31,8 @@ frames-preserved c = λ ms h.
           subst (λ (l : Lanes 8). AccountsFor b l (ms ++ of_turn t (take (c.frames.i + 1) spans))) (sym w.lanes-is)
           (subst (AccountsFor b w.take.new.self) whole
           (subst (λ (m : Message). AccountsFor b w.take.new.self ((ms ++ before) ++ m ∷ []))
-          w.message_at-message.ensures one))
+          (w.message_at-message.ensures
+          ∙ ap (λ (n : ℕ). message_at n (get_or spans c.frames.i d).len) w.offset.ensures) one))
       | else-has_turn w ↦
           let same = turn_passed t spans c.frames.i d (omega arith) (sym c.has_turn.ensures ∙ w.if-has_turn.false) in
           subst (λ (l : Lanes 8). AccountsFor b l (ms ++ of_turn t (take (c.frames.i + 1) spans))) (sym w.lanes-is)
@@ -41,5 +42,5 @@ frames-preserved c = λ ms h.
 pub returns : goal.returns
 returns c = λ ms h.
     let whole = take_all c.frames.i c.args.spans.now (omega arith) in
-    subst (λ (xs : List Span). AccountsFor c.args.bytes.now c.frames.lanes (ms ++ of_turn c.args.first xs)) whole
+    subst (λ (xs : List Span). AccountsFor c.args.bytes.now c.frames.lanes (ms ++ of_turn c.args.turn xs)) whole
     (c.frames.invariant ms h)

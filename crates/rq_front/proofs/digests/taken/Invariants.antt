@@ -7,4 +7,4 @@ use Rattle.rq_front.proofs.digests.taken.Given as goal
 
 abbrev pub invariant-frames : goal.invariant-frames
 invariant-frames l = (ms : List Message) → AccountsFor l.bytes l.fn.given ms
-    → AccountsFor l.bytes l.lanes (ms ++ map message_of (filter (has_turn l.first) (take l.i l.spans)))
+    → AccountsFor l.bytes l.lanes (ms ++ map message_of (filter (has_turn l.turn) (take l.i l.spans)))

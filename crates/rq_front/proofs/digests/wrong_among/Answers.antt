@@ -1,7 +1,8 @@
-use Rattle.std.proofs.Common.{refl, subst, arith}
+use Rattle.std.proofs.Common.{ℕ, drop, refl, subst, arith}
 use Rattle.std.specs.Prelude.{All}
 use Rattle.std.proofs.lemmas.List.{take_all}
 use Rattle.std.proofs.lemmas.List.Elements.{All-more}
+use Rattle.rq_model.specs.Frames.{HasRightFrame, before}
 use Rattle.rq_front.specs.Walks.{IsRight}
 use Rattle.rq_front.specs.declared.spans.Span.{Span}
 use Rattle.rq_front.proofs.digests.wrong_among.Goals as goal
@@ -10,7 +11,8 @@ pub loop-i-preserved : goal.loop-i-preserved
 loop-i-preserved c =
     let d : Span = record { start = 0; len = 0 } in
     All-more (IsRight c.args.bytes.now) c.args.spans.now c.loop-i.i d (omega arith) c.loop-i.invariant
-    (c.if-not-is_right.ensures.0 refl)
+    (subst (λ (n : ℕ). HasRightFrame (before n c.args.bytes.now) (drop n c.args.bytes.now)) c.offset.ensures
+    (c.if-not-is_right.ensures.0 refl))
 
 pub returns-clause-none : goal.returns-clause-none
 returns-clause-none c =

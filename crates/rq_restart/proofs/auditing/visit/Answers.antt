@@ -1,4 +1,4 @@
-use Rattle.std.proofs.Common.{◌≡◌, ℕ, ◌+◌, ◌-◌, ◌^◌, ◌≤◌, ◌<◌, Bool, List, length, map, take, false, refl, sym, ap}
+use Rattle.std.proofs.Common.{◌≡◌, ℕ, ◌+◌, ◌-◌, ◌^◌, ◌≤◌, ◌<◌, Bool, List, [], ◌∷◌, ◌++◌, length, map, take, false, refl, sym, ap}
 use Rattle.std.proofs.Common.{subst, ◌∙◌, arith}
 use Rattle.std.specs.Prelude.{slice_index_or, nat_eq, nat_lt, not, ◌&&◌}
 use Rattle.std.specs.Int.{w64, to_be_bytes}
@@ -83,14 +83,6 @@ bounds-spans-place g c =
     omega (arith, c.requires.there, length-map c.args.records.now record_of) in
     (c.requires.framed.stand c.args.place few).0
 
-pub overflow_sub-offset : goal.overflow_sub-offset
-overflow_sub-offset g c =
-    let few : c.args.place < length (map record_of c.args.records.now) =
-    omega (arith, c.requires.there, length-map c.args.records.now record_of) in
-    let none : Span = record { start = 0; len = 0 } in
-    let start = (c.requires.framed.stand c.args.place few).1 none in
-    omega (arith, start)
-
 pub returns-then-not-may_spell-clause-walk : goal.returns-then-not-may_spell-clause-walk
 returns-then-not-may_spell-clause-walk g c =
     let records = c.args.records.now in
@@ -122,7 +114,8 @@ returns-then-not-may_spell-clause-found g c = λ start so_far.
     ∙ ap (λ (z : List ℕ). starts_with nat_eq z (to_be_bytes w64 c.args.place)
     && not (nat_lt (length z) (least c.args.walk))) c.bytes-kept.ensures.bytes in
     subst (λ (xs : List (ℕ × Bool)). AreFound (map record_of records) start (c.args.place + 1) xs)
-    (sym c.in_ok-push.ensures.items)
+    (sym (c.in_ok-push.ensures.items
+    ∙ ap (λ (n : ℕ). c.args.walk.found.items ++ (n, false) ∷ []) c.offset-offset.ensures))
     (found_next records start c.args.place c.index-records-place.result c.in-Checkpoint.bytes c.args.walk.found.items
     (slice_index_or c.args.spans.now c.args.place none).start false
     (run empty (take c.args.place (map record_of records)))
@@ -163,7 +156,8 @@ returns-clause-found g c = λ start so_far.
     c.in_ok-truth.ensures.truth ∙ ap (λ (z : List ℕ). bytes_eq z (state_bytes (state_of c.in_ok-fields.fields)))
     c.bytes-kept.ensures.bytes in
     subst (λ (xs : List (ℕ × Bool)). AreFound (map record_of records) start (c.args.place + 1) xs)
-    (sym c.in_ok-push-2.ensures.items)
+    (sym (c.in_ok-push-2.ensures.items
+    ∙ ap (λ (n : ℕ). c.args.walk.found.items ++ (n, c.in_ok-truth.truth) ∷ []) c.offset-offset.ensures))
     (found_next records start c.args.place c.index-records-place.result c.in-Checkpoint.bytes c.args.walk.found.items
     (slice_index_or c.args.spans.now c.args.place none).start c.in_ok-truth.truth (state_of c.in_ok-fields.fields)
     c.requires.there c.index-records-place.is c.in-Checkpoint.is so_far

@@ -27,14 +27,14 @@ frame-requires c =
     subst (λ (l : List ℕ). IsBodyLength (length l)) (sym body)
     (body_fits (record_of c.args.r.now) c.one_spelling.ensures.body c.in_ok-encode.ensures.spelled)
 
-pub returns-then-framed_len-gt4294967295 : goal.returns-then-framed_len-gt4294967295
-returns-then-framed_len-gt4294967295 c =
+pub returns-then-framed_len-gt-LOG_LIMIT : goal.returns-then-framed_len-gt-LOG_LIMIT
+returns-then-framed_len-gt-LOG_LIMIT c =
     let body = c.deref-2.ensures.value ∙ c.in_ok-encode.ensures.bytes
     ∙ ap (λ (l : List ℕ). l ++ body_of (record_of c.args.r.now)) c.new-body.ensures.items in
     long_log c.args.out.now.items c.args.last.now (body_of (record_of c.args.r.now))
     (omega (
       arith,
-      c.if-framed_len-gt4294967295.true,
+      c.if-framed_len-gt-LOG_LIMIT.true,
       c.framed_len.ensures,
       ap length c.deref.ensures.value,
       ap length body,
@@ -48,7 +48,7 @@ returns c =
     ∙ ap (λ (l : List ℕ). l ++ body_of (record_of c.args.r.now)) c.new-body.ensures.items)
     (omega (
       arith,
-      c.if-framed_len-gt4294967295.false,
+      c.if-framed_len-gt-LOG_LIMIT.false,
       c.framed_len.ensures,
       ap length c.deref.ensures.value,
       ap length c.deref-2.ensures.value,

@@ -30,16 +30,6 @@ cut_found law stops b from spans end place s bytes le walk first is =
     found law stops b from (take place spans) (s.start - 4) model.Digest bytes le cut.walk first.before
     (cut.frame, λ same. wrong (record { whole = cut.frame; right = same }))
 
-pub overflow_sub-found : goal.overflow_sub-found
-overflow_sub-found g c =
-    let h = c.requires.walk.1 in
-    let first = subst (λ (ss : List Span). IsFirstWrong c.args.bytes.now ss c.in-Some.place) c.deref.ensures.value
-    c.in-Some.ensures.some in
-    let cut = walk_cut c.args.bytes.now c.requires.walk.0 c.args.self.found.spans.items c.args.self.found.end
-    c.in-Some.place c.index.result.now h.walk first.within in
-    let low = rw (← c.index.ensures) at cut.low in
-    omega (arith, low)
-
 pub returns-in-Some : goal.returns-in-Some
 returns-in-Some g c = λ from h.
     let b = c.args.bytes.now in
@@ -47,8 +37,9 @@ returns-in-Some g c = λ from h.
     let place = c.in-Some.place in
     let bytes : IsBytes b = λ i. omega (arith, c.type_inv.bytes i) in
     let first = subst (λ (ss : List Span). IsFirstWrong b ss place) c.deref.ensures.value c.in-Some.ensures.some in
-    let it = cut_found c.frames_are_right.ensures.frame c.one_run.ensures.stops b from walked.spans.items walked.end
-    place c.index.result.now bytes h.within h.walk first c.index.ensures in
+    let it = subst (λ (end : ℕ). Found b from (take place walked.spans.items) end model.Digest) (sym c.offset.ensures)
+    (cut_found c.frames_are_right.ensures.frame c.one_run.ensures.stops b from walked.spans.items walked.end place
+    c.index.result.now bytes h.within h.walk first c.index.ensures) in
     let kept : c.truncate.new.self.items ≡ take place walked.spans.items = c.truncate.ensures.items in
     let many : length (take place walked.spans.items) ≡ place =
     omega (arith, first.within, length-take place walked.spans.items) in

@@ -1,0 +1,212 @@
+-- A script under way.
+use Rattle.std.proofs.Common.{◌≡◌, ◌∙◌, ℕ, ◌+◌, ◌<◌, ◌≤◌, List, [], ◌∷◌, ◌++◌, length, take, drop, Option, Result, Ok}
+use Rattle.std.proofs.Common.{Err, OnOk, refl, sym, ap, subst, append_assoc, append-nil, arith}
+use Rattle.std.specs.Prelude.{min}
+use Rattle.std.specs.List.{AllByRecursion}
+use Rattle.std.specs.Io.KnownBytes.{Appends}
+use Rattle.std.proofs.KnownBytes.{Appends-nil, Appends-trans}
+use Rattle.std.proofs.lemmas.Grind.{flat_map-append}
+use Rattle.std.proofs.lemmas.List.{length-append, drop_at}
+use Rattle.rq_model.specs.Records.{Record, Version, One, Two}
+use Rattle.rq_model.specs.Spelling.{body_of, IsRecord, Spells}
+use Rattle.rq_model.specs.Frames.{digest, header, start, frames_of, log_of, stated, body_in}
+use Rattle.rq_model.specs.Fronts.{IsFront, IsRestart, Restarted}
+use Rattle.rq_model.proofs.Bodies.{body_fits, one_record}
+use Rattle.rq_model.proofs.Lists.{each_append}
+use Rattle.rq_model.proofs.Runs.{frame_reads}
+use Rattle.rq_model.proofs.Longest.{front_whole, used_is_front, used_long}
+use Rattle.rq_model.proofs.Restarts.{each_cut, frames_many, header_long}
+use Rattle.rq_model.proofs.Upgraded.{record_is_wider}
+use Rattle.rq_writer.specs.Script.{IsTellable}
+use Rattle.rq_look.specs.declared.trouble.Trouble.{Trouble}
+use Rattle.rq_look.specs.declared.trouble.Trouble.TheVariants.{Log, Output, Untold, NoQueue, Nothing}
+use Rattle.rq_look.specs.Scripts.{line_of, script_text, PutsScript, IsDash, by_in, LeavesBody, LeavesOut}
+
+-- some records of the front are told, in what is appended and in the text; the frames of the others are left
+pub record IsUnderWay (b rest : List ℕ) (number : ℕ) (text : List ℕ) (old now : Option (List ℕ)) : Type 0 where
+  pub version : Version
+  pub done : List Record
+  pub todo : List Record
+  pub behind : List ℕ
+  pub place : List ℕ
+  pub put : List ℕ
+  pub front : IsFront b version (done ++ todo) behind
+  pub tellable : AllByRecursion IsTellable done
+  pub left : rest ≡ frames_of place todo
+  pub counted : number ≡ length done
+  pub appends : Appends old now put
+  pub told : put ++ text ≡ script_text done
+
+-- a text behind a word
+pub put_behind : {A E : Type 0} (r : Result A E) (old mid new word put : List ℕ) → mid ≡ old ++ word
+    → OnOk r (new ≡ mid ++ put) → OnOk r (new ≡ old ++ (word ++ put))
+put_behind (Ok x) old mid new word put e h = h ∙ ap (λ (z : List ℕ). z ++ put) e ∙ append_assoc old word put
+put_behind (Err x) old mid new word put e h = tt
+
+-- the first `used` bytes hold the header
+pub used_fits : (b : List ℕ) (r : Restarted) → IsRestart b r → (40 ≤ r.used) × (r.used ≤ length b)
+used_fits b r h =
+    let long = used_long b h.version h.records h.rest r h.front h in
+    let log = length-append (header h.version) (frames_of (start h.version) h.records) in (
+      omega (arith, long, log, header_long h.version),
+      omega (
+        arith,
+        long,
+        ap length (front_whole b h.version h.records h.rest h.front),
+        length-append (log_of h.version h.records) h.rest,
+      ),
+    )
+
+-- no record is told yet
+pub begun : (b rest : List ℕ) (number : ℕ) (text : List ℕ) (old : Option (List ℕ)) (r : Restarted)
+    → IsRestart b r → rest ≡ drop 40 (take r.used b) → number ≡ 0 → text ≡ []
+    → IsUnderWay b rest number text old old
+begun b rest number text old r h left counted none = record {
+  version = h.version;
+  done = [];
+  todo = h.records;
+  behind = h.rest;
+  place = start h.version;
+  put = [];
+  front = h.front;
+  tellable = tt;
+  left = left ∙ ap (drop 40) (used_is_front b h.version h.records h.rest r h.front h).0
+      ∙ drop_at (header h.version) (frames_of (start h.version) h.records) 40 (header_long h.version);
+  counted = counted;
+  appends = Appends-nil old;
+  told = none;
+}
+
+-- the record of the next frame, and those behind it
+pub record IsNext (b : List ℕ) (version : Version) (done todo : List Record) (behind place rest : List ℕ) : Type 0 where
+  pub r : Record
+  pub others : List Record
+  pub is : Spells Two r (body_in rest)
+  pub front : IsFront b version (done ++ r ∷ others) behind
+  pub left : drop (36 + stated rest) rest ≡ frames_of (digest place (body_of r)) others
+
+as_two : (version : Version) (r : Record) → IsRecord version r → IsRecord Two r
+as_two One r h = (record_is_wider r (body_of r) (h, refl)).0
+as_two Two r h = h
+
+next_of : (b : List ℕ) (version : Version) (done todo : List Record) (behind place rest : List ℕ)
+    → IsFront b version (done ++ todo) behind → rest ≡ frames_of place todo → 36 + stated rest ≤ length rest
+    → IsNext b version done todo behind place rest
+next_of b version done [] behind place rest front left room =
+    let none : length rest ≡ 0 = ap length left in let no : ⊥ = omega (arith, room, none) in absurd no
+next_of b version done (r ∷ others) behind place rest front left room =
+    let is = (each_cut (IsRecord version) done (r ∷ others) front.longest.begins.records).1.0 in
+    let reads = frame_reads place (body_of r) (frames_of (digest place (body_of r)) others) (body_fits version r is) in
+    record {
+      r = r;
+      others = others;
+      is = (as_two version r is, ap body_in left ∙ reads.body_is);
+      front = front;
+      left = ap (λ (z : List ℕ). drop (36 + stated z) z) left ∙ reads.after_is;
+    }
+
+-- as many records as are told can be counted
+few : (b : List ℕ) (version : Version) (done todo : List Record) (behind : List ℕ)
+    → IsFront b version (done ++ todo) behind → length done ≤ 4294967295
+few b version done todo behind front = omega (
+  arith,
+  front.short,
+  ap length front.whole,
+  length-append (header version) front.bytes,
+  ap length front.longest.begins.whole,
+  length-append (frames_of (start version) (done ++ todo)) behind,
+  frames_many (start version) (done ++ todo),
+  length-append done todo,
+)
+
+-- one more is told
+told_more : (done : List Record) (r : Record) (put more text new : List ℕ) → put ++ text ≡ script_text done
+    → text ++ line_of r ≡ more ++ new → (put ++ more) ++ new ≡ script_text (done ++ r ∷ [])
+told_more done r put more text new told e =
+    append_assoc put more new ∙ ap (λ (z : List ℕ). put ++ z) (sym e) ∙ sym (append_assoc put text (line_of r))
+    ∙ ap (λ (z : List ℕ). z ++ line_of r) told
+    ∙ ap (λ (z : List ℕ). script_text done ++ z) (sym (append-nil (line_of r)))
+    ∙ sym (flat_map-append line_of done (r ∷ []))
+
+pub goes_on : (b rest : List ℕ) (number : ℕ) (text : List ℕ) (old now : Option (List ℕ)) (after : List ℕ) (count : ℕ)
+    (new : List ℕ) (last : Option (List ℕ)) (body more : List ℕ) (r : Record)
+    → IsUnderWay b rest number text old now → 36 + stated rest ≤ length rest → body ≡ body_in rest
+    → after ≡ drop (36 + stated rest) rest → count ≡ min (number + 1) 18446744073709551615
+    → Spells Two r body → IsTellable r → Appends now last more → text ++ line_of r ≡ more ++ new
+    → IsUnderWay b after count new old last
+goes_on b rest number text old now after count new last body more r u room body_is after_is count_is is told appends e =
+    let next = next_of b u.version u.done u.todo u.behind u.place rest u.front u.left room in
+    let same : r ≡ next.r =
+    one_record Two r next.r (body_in rest) (is.0, sym body_is ∙ is.1) next.is in
+    record {
+      version = u.version;
+      done = u.done ++ r ∷ [];
+      todo = next.others;
+      behind = u.behind;
+      place = digest u.place (body_of next.r);
+      put = u.put ++ more;
+      front = subst (λ (rs : List Record). IsFront b u.version rs u.behind)
+          (ap (λ (x : Record). u.done ++ x ∷ next.others) (sym same)
+          ∙ sym (append_assoc u.done (r ∷ []) next.others)) next.front;
+      tellable = each_append IsTellable u.done (r ∷ []) u.tellable (told, tt);
+      left = after_is ∙ next.left;
+      counted = omega (
+        arith,
+        count_is,
+        u.counted,
+        few b u.version u.done u.todo u.behind u.front,
+        length-append u.done (r ∷ []),
+      );
+      appends = Appends-trans old now last u.put more u.appends appends;
+      told = told_more u.done r u.put more text new u.told e;
+    }
+
+none_left : (b : List ℕ) (version : Version) (done todo : List Record) (behind place rest : List ℕ)
+    → IsFront b version (done ++ todo) behind → rest ≡ frames_of place todo → length rest < 36 + stated rest
+    → IsFront b version done behind
+none_left b version done [] behind place rest front left short =
+    subst (λ (rs : List Record). IsFront b version rs behind) (append-nil done) front
+none_left b version done (r ∷ others) behind place rest front left short =
+    let is = (each_cut (IsRecord version) done (r ∷ others) front.longest.begins.records).1.0 in
+    let reads = frame_reads place (body_of r) (frames_of (digest place (body_of r)) others) (body_fits version r is) in
+    let no : ⊥ = omega (arith, short, ap length left, ap stated left, reads.long, reads.stated_is) in
+    absurd no
+
+-- all records are told, once the text is written
+pub ended : (b rest : List ℕ) (number : ℕ) (text : List ℕ) (old now new : Option (List ℕ))
+    → IsUnderWay b rest number text old now → length rest < 36 + stated rest → Appends now new text
+    → PutsScript b old new
+ended b rest number text old now new u short appends = (
+  u.put ++ text,
+  (
+    u.version,
+    u.done,
+    u.behind,
+    none_left b u.version u.done u.todo u.behind u.place rest u.front u.left short,
+    u.tellable,
+    u.told,
+  ),
+  Appends-trans old now new u.put text u.appends appends,
+)
+
+-- the next one is not told
+pub left_out : (b rest : List ℕ) (number : ℕ) (text : List ℕ) (old now : Option (List ℕ)) (where_is : ℕ)
+    (body : List ℕ) (e : Trouble) → IsUnderWay b rest number text old now → 36 + stated rest ≤ length rest
+    → body ≡ body_in rest → where_is ≡ number → LeavesBody where_is body e → LeavesOut b e
+left_out b rest number text old now where_is body (Untold told) u room body_is place_is h =
+    let next = next_of b u.version u.done u.todo u.behind u.place rest u.front u.left room in
+    let same : h.0 ≡ next.r =
+    one_record Two h.0 next.r (body_in rest) (h.1.0, sym body_is ∙ h.1.1) next.is in (
+      u.version,
+      u.done,
+      next.r,
+      next.others,
+      u.behind,
+      next.front,
+      h.2 ∙ place_is ∙ u.counted,
+      subst (λ (x : Record). IsDash (by_in x)) same h.3,
+    )
+left_out b rest number text old now where_is body (Log fault) u room body_is place_is h = tt
+left_out b rest number text old now where_is body (Output error) u room body_is place_is h = tt
+left_out b rest number text old now where_is body (NoQueue queue) u room body_is place_is h = tt
+left_out b rest number text old now where_is body (Nothing subject) u room body_is place_is h = tt

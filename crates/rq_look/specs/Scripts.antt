@@ -1,0 +1,57 @@
+-- The script of a log.
+use Rattle.std.specs.Prelude.{◌≡◌, ℕ, ⊤, List, ◌∷◌, ◌++◌, length, codes, Option, Some, None}
+use Rattle.std.specs.List.{AllByRecursion, flat_map}
+use Rattle.std.specs.Io.KnownBytes.{Appends}
+use Rattle.rq_model.specs.Records.{By, Record, Enqueue, Dequeue, Version, Two}
+use Rattle.rq_model.specs.Spelling.{Spells}
+use Rattle.rq_model.specs.Fronts.{IsFront}
+use Rattle.rq_writer.specs.Script.{record_text, IsTellable}
+use Rattle.rq_look.specs.declared.trouble.Trouble.{Trouble}
+use Rattle.rq_look.specs.declared.trouble.Trouble.TheVariants.{Untold}
+
+-- the line of a record
+abbrev pub line_of : Record → List ℕ
+line_of r = record_text r ++ codes "\n"
+
+-- a line for each record, in order
+abbrev pub script_text : List Record → List ℕ
+script_text rs = flat_map line_of rs
+
+-- the front of b as a script tells it, which can tell each of its records
+abbrev pub IsScriptOf : List ℕ → List ℕ → Type 0
+IsScriptOf b text = (version : Version) × (records : List Record) × (rest : List ℕ)
+    × IsFront b version records rest × AllByRecursion IsTellable records
+    × (text ≡ script_text records)
+
+-- the script of b is appended
+abbrev pub PutsScript : List ℕ → Option (List ℕ) → Option (List ℕ) → Type 0
+PutsScript b old new = (text : List ℕ) × IsScriptOf b text × Appends old new text
+
+-- the registrant that a record names for an operation, if it names one
+abbrev pub by_in : Record → Option By
+by_in (Enqueue unit queue priority by payload) = by
+by_in (Dequeue unit queue by) = by
+by_in _ = None
+
+-- it is `-`, which a script takes for nobody
+abbrev pub IsDash : Option By → Type 0
+IsDash None = ⊥
+IsDash (Some by) = by.name ≡ codes "-"
+
+-- where a record is left untold, it is that of the number, and names `-`
+abbrev pub IsLeft : ℕ → Record → Trouble → Type 0
+IsLeft number r (Untold told) = (told ≡ number) × IsDash (by_in r)
+IsLeft number r _ = ⊤
+
+-- the same of the record that a body spells
+abbrev pub LeavesBody : ℕ → List ℕ → Trouble → Type 0
+LeavesBody number body (Untold told) = (r : Record) × Spells Two r body × (told ≡ number)
+    × IsDash (by_in r)
+LeavesBody number body _ = ⊤
+
+-- where a record is left untold, it is that of the number in the front of b, and names `-`
+abbrev pub LeavesOut : List ℕ → Trouble → Type 0
+LeavesOut b (Untold number) = (version : Version) × (before : List Record) × (r : Record)
+    × (after : List Record) × (rest : List ℕ) × IsFront b version (before ++ r ∷ after) rest
+    × (number ≡ length before) × IsDash (by_in r)
+LeavesOut b _ = ⊤
