@@ -14,7 +14,8 @@ use Rattle.rq_model.specs.Records.{Checkpoint, Kill, Version, One, Two}
 use Rattle.rq_model.specs.Spelling.{is_name, who, IsWho, body_of, IsRecord}
 use Rattle.rq_model.specs.RecordReading.{name_left, at_most, is_zero, nobody, somebody, who_behind, who_read}
 use Rattle.rq_model.specs.RecordReading.{define_read, registration_read, unit_read, enqueue_read, dequeue_read}
-use Rattle.rq_model.specs.RecordReading.{checkpoint_read, kill_read, define_from, register_from, deregister_from, enqueue_from}
+use Rattle.rq_model.specs.RecordReading.{checkpoint_read, kill_read, define_from, register_from, deregister_from}
+use Rattle.rq_model.specs.RecordReading.{enqueue_from}
 use Rattle.rq_model.specs.RecordReading.{dequeue_from, kill_from, record_behind, record_read}
 
 -- a name has 1 to 64 bytes
@@ -108,7 +109,8 @@ record_again : (version : Version) (r : Record) (rest : List ℕ) → IsRecord v
 unfolding record_behind
 record_again version (Define limit error name) rest =
     again_made define_from (reads_define version) (limit, (error, name)) rest
-record_again version (Register queue name) rest = again_made register_from (reads_registration version) (queue, name) rest
+record_again version (Register queue name) rest =
+    again_made register_from (reads_registration version) (queue, name) rest
 record_again version (Deregister queue name) rest =
     again_made deregister_from (reads_registration version) (queue, name) rest
 record_again version (Begin unit) rest = again_made Begin (reads_unit version) unit rest

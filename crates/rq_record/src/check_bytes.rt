@@ -1,23 +1,43 @@
 //! The bytes of a checkpoint record.
 
-ghost use Rattle.std.specs.Prelude.{◌≡◌, ◌≤◌, ◌↔◌, length, IsSome, IfSome};
+ghost use Rattle.std.specs.Prelude.{◌≡◌, ◌≤◌, ◌↔◌, length, IsSome, IfSome, IfOk, IfErr};
+ghost use Rattle.rq_record.specs.declared.fault.Fault.TheVariants.{Resources};
 
+use crate::fault::Fault;
+use crate::lent_log::LentLog;
+use std::alloc::Global;
 use std::marker::Model;
+use std::sync::ArcSlice;
 
-/// What stands in a checkpoint record behind its kind byte, at most 268,435,455 bytes.
+// A record has at most 268,435,456 bytes, and the first is its kind.
+const LIMIT: usize = 268_435_455;
+
+/// What stands in a checkpoint record behind its kind byte, at most 268,435,455 bytes: a part of
+/// the log where that is lent.
 #[derive(Drop)]
 pub struct CheckBytes {
-    bytes: Vec<u8>,
+    bytes: Kept,
+}
+
+#[derive(Drop)]
+enum Kept {
+    Own(Vec<u8>),
+    Part {
+        whole: ArcSlice<u8>,
+        start: u32,
+        len: u32,
+    },
 }
 
 impl Model for CheckBytes {
-    ghost use Rattle.std.specs.Prelude.{ℕ, List, ◌≤◌, length};
+    ghost use Rattle.std.specs.Prelude.{ℕ, List};
+    ghost use Rattle.rq_record.specs.KeptChecks.{told, FitsCheck};
 
     ghost Value = { List ℕ };
 
-    ghost view = { λ p. p.bytes.items };
+    ghost view = { λ p. told p.bytes };
 
-    ghost invariant = { λ p. length p.bytes.items ≤ 268435455 };
+    ghost invariant = { λ p. FitsCheck p.bytes };
 }
 
 impl CheckBytes {
@@ -26,10 +46,35 @@ impl CheckBytes {
         ensures bounded { IsSome result ↔ (length bytes.items ≤ 268435455) }
         ensures bytes { IfSome result (λ p. p ≡ bytes.items) }
     {
-        if bytes.len() > 268_435_455 {
+        if bytes.len() > LIMIT {
             return None;
         }
+        let bytes = Kept::Own(bytes);
         Some(CheckBytes { bytes })
+    }
+
+    // Bytes that may be the last ones before an end in a log that may be lent: then they are a part of
+    // it, and else a copy.
+    pub(crate) fn lent(
+        alloc: Global,
+        log: &LentLog,
+        end: usize,
+        bytes: &[u8],
+    ) -> Result<Option<CheckBytes>, Fault>
+        ensures bounded { IfOk result (λ p. IsSome p ↔ (length bytes.now ≤ 268435455)) }
+        ensures bytes { IfOk result (λ p. IfSome p (λ q. q ≡ bytes.now)) }
+        ensures refused { IfErr result
+            (λ e. (e ≡ Resources) × (length bytes.now ≤ 268435455)) }
+    {
+        if bytes.len() > LIMIT {
+            return Ok(None);
+        }
+        if let Some((whole, start)) = log.part_before(end, bytes)? {
+            let len = bytes.len() as u32;
+            let bytes = Kept::Part { whole, start, len };
+            return Ok(Some(CheckBytes { bytes }));
+        }
+        Ok(CheckBytes::new(Vec::from_slice(alloc, bytes)?))
     }
 
     /// The bytes, with their bound.
@@ -37,6 +82,11 @@ impl CheckBytes {
         ensures bytes { result.now ≡ self.now }
         ensures bounded { length self.now ≤ 268435455 }
     {
-        &self.bytes
+        match &self.bytes {
+            Kept::Own(bytes) => bytes,
+            Kept::Part { whole, start, len } => {
+                &whole.as_slice()[*start as usize..*start as usize + *len as usize]
+            }
+        }
     }
 }

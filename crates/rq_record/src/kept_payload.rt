@@ -58,31 +58,6 @@ fn inline(bytes: &[u8]) -> KeptPayload
     }
 }
 
-// The part of a log before an end, where it is lent and its part there is these bytes.
-fn part_before(lent: &LentLog, end: usize, bytes: &[u8]) -> Result<Option<KeptPayload>, Fault>
-    requires { length bytes.now ≤ 65535 }
-    ensures part { IfOk result (λ p. IfSome p (λ q. q ≡ bytes.now)) }
-    ensures refused { IfErr result (λ e. e ≡ Resources) }
-{
-    let Some(log) = &lent.log else {
-        return Ok(None);
-    };
-    if end < bytes.len() || log.len() < end || end > u32::MAX as usize {
-        return Ok(None);
-    }
-    let start = end - bytes.len();
-    if &log.as_slice()[start..end] != bytes {
-        return Ok(None);
-    }
-    Ok(Some(KeptPayload {
-        bytes: Bytes::Part {
-            whole: log.clone()?,
-            start: start as u32,
-            len: bytes.len() as u16,
-        },
-    }))
-}
-
 // Keeps so many bytes as a payload may have.
 fn kept(alloc: Global, bytes: &[u8]) -> Result<KeptPayload, Fault>
     requires { length bytes.now ≤ 65535 }
@@ -138,8 +113,10 @@ impl KeptPayload {
             (λ e. (e ≡ Resources) × (22 < length bytes.now) × (length bytes.now ≤ 65535)) }
     {
         if 22 < bytes.len() && bytes.len() <= 65535 {
-            if let Some(payload) = part_before(log, end, bytes)? {
-                return Ok(Some(payload));
+            if let Some((whole, start)) = log.part_before(end, bytes)? {
+                let len = bytes.len() as u16;
+                let bytes = Bytes::Part { whole, start, len };
+                return Ok(Some(KeptPayload { bytes }));
             }
         }
         KeptPayload::from_slice(alloc, bytes)

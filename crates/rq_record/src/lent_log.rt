@@ -1,7 +1,8 @@
 //! A log that lends its bytes.
 
-ghost use Rattle.std.specs.Prelude.{◌≡◌, Some, None, IfOk, IfErr};
+ghost use Rattle.std.specs.Prelude.{◌≡◌, Some, None, IfOk, IfErr, IfSome};
 ghost use Rattle.std.specs.Arc.{arc_slice_items};
+ghost use Rattle.rq_record.specs.LogParts.{IsPartOf};
 ghost use Rattle.rq_record.specs.declared.fault.Fault.TheVariants.{Resources};
 
 use crate::fault::Fault;
@@ -9,8 +10,8 @@ use std::marker::Model;
 use std::sync::ArcSlice;
 
 /// A log whose bytes the records that are read from it may share, or none. What is read does not
-/// depend on it: it spares the copies of long payloads, each of which then keeps the whole log in
-/// memory.
+/// depend on it: it spares the copies of checkpoints and of long payloads, each of which then keeps
+/// the whole log in memory.
 #[derive(Drop)]
 pub struct LentLog {
     pub(crate) log: Option<ArcSlice<u8>>,
@@ -26,7 +27,7 @@ impl Model for LentLog {
 }
 
 impl LentLog {
-    /// No log: each payload is a copy.
+    /// No log: each payload and each checkpoint is a copy.
     pub fn none() -> LentLog
         ensures none { result ≡ None }
     {
@@ -41,5 +42,27 @@ impl LentLog {
         Ok(LentLog {
             log: Some(log.clone()?),
         })
+    }
+
+    // The log and where its part before an end begins, where it is lent and that part is these bytes.
+    pub(crate) fn part_before(
+        &self,
+        end: usize,
+        bytes: &[u8],
+    ) -> Result<Option<(ArcSlice<u8>, u32)>, Fault>
+        ensures part { IfOk result (λ p. IfSome p (λ x. IsPartOf (arc_slice_items x.0) x.1 bytes.now)) }
+        ensures refused { IfErr result (λ e. e ≡ Resources) }
+    {
+        let Some(log) = &self.log else {
+            return Ok(None);
+        };
+        if end < bytes.len() || log.len() < end || end > u32::MAX as usize {
+            return Ok(None);
+        }
+        let start = end - bytes.len();
+        if &log.as_slice()[start..end] != bytes {
+            return Ok(None);
+        }
+        Ok(Some((log.clone()?, start as u32)))
     }
 }

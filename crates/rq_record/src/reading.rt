@@ -154,22 +154,25 @@ fn dequeue(alloc: Global, bytes: Cursor<'_>) -> Result<Record, Fault>
 }
 
 #[tactic(auto, unfolding(rq_model::specs::RecordReading::at_most))]
-fn check_bytes(alloc: Global, bytes: Cursor<'_>) -> Result<CheckBytes, Fault>
+fn check_bytes(
+    alloc: Global,
+    log: &LentLog,
+    end: usize,
+    bytes: Cursor<'_>,
+) -> Result<CheckBytes, Fault>
     ensures { KeepsRead (λ b. b) result (at_most 268435455 bytes.entry) }
 {
-    let bytes = bytes.rest();
-    if bytes.len() > 268_435_455 {
-        return Err(Fault::Form);
+    match CheckBytes::lent(alloc, log, end, bytes.rest())? {
+        Some(bytes) => Ok(bytes),
+        None => Err(Fault::Form),
     }
-    let kept = Vec::from_slice(alloc, bytes)?;
-    CheckBytes::new(kept).ok_or(Fault::Form)
 }
 
 #[tactic(auto, unfolding(rq_model::specs::RecordReading::checkpoint_read))]
-fn checkpoint(alloc: Global, bytes: Cursor<'_>) -> Result<Record, Fault>
+fn checkpoint(alloc: Global, log: &LentLog, end: usize, bytes: Cursor<'_>) -> Result<Record, Fault>
     ensures { KeepsRead record_of result (made Checkpoint checkpoint_read bytes.entry) }
 {
-    let bytes = check_bytes(alloc, bytes)?;
+    let bytes = check_bytes(alloc, log, end, bytes)?;
     Ok(Record::Checkpoint { bytes })
 }
 
@@ -217,7 +220,7 @@ fn of_kind(
         8 => Ok(Record::Abort {
             unit: unit(bytes).ok_or(Fault::Form)?,
         }),
-        9 => checkpoint(alloc, bytes),
+        9 => checkpoint(alloc, log, end, bytes),
         10 => kill(version, bytes),
         _ => Err(Fault::Form),
     }
@@ -253,7 +256,8 @@ fn decode_lent(
 
 /// The record that `len` bytes of a log from `start` on spell: `decode_in` of that body.
 ///
-/// Where the log is lent as well, a payload of more than 22 bytes is a part of it and no copy.
+/// Where the log is lent as well, a checkpoint, and a payload of more than 22 bytes, are parts of it
+/// and no copies.
 pub fn decode_at(
     alloc: Global,
     version: Version,

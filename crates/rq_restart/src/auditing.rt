@@ -2,6 +2,7 @@
 
 ghost use Rattle.std.specs.Prelude.{◌≡◌, ◌≤◌, ◌<◌, ◌+◌, ◌-◌, ◌^◌, ◌&&◌, ℕ, not, true, [], length};
 ghost use Rattle.std.specs.Prelude.{map, take, nat_eq, nat_lt, IfOk, IfErr};
+ghost use Rattle.std.specs.Arc.{arc_slice_items};
 ghost use Rattle.std.specs.Int.{w64, to_be_bytes};
 ghost use Rattle.std.specs.List.{starts_with};
 ghost use Rattle.std.specs.Str.{bytes_eq};
@@ -31,6 +32,7 @@ use rq_record::{Fault, LentLog, Record, Version};
 use rq_state::{Fields, State, fields_len, spell_fields};
 use std::alloc::Global;
 use std::marker::Sync;
+use std::sync::ArcSlice;
 use std::thread::Threads;
 
 // So many bytes of a checkpoint cost about as much as a record.
@@ -220,6 +222,7 @@ fn checkpoints_of<R: Threads + Sync>(
     rt: &R,
     alloc: Global,
     version: Version,
+    lent: &LentLog,
     bytes: &[u8],
     found: &Chain,
     plan: &Plan,
@@ -238,7 +241,7 @@ fn checkpoints_of<R: Threads + Sync>(
         rt,
         alloc,
         version,
-        &LentLog::none(),
+        lent,
         bytes,
         found,
         &State::empty(alloc),
@@ -246,6 +249,24 @@ fn checkpoints_of<R: Threads + Sync>(
     )?;
     let records = records_alone(front);
     audited(rt, alloc, &records, &found.spans, plan)
+}
+
+// The audit of a log that may be lent as well.
+fn audit_of<R: Threads + Sync>(
+    rt: &R,
+    alloc: Global,
+    lent: &LentLog,
+    bytes: &[u8],
+    plan: &Plan,
+) -> Result<Vec<(u64, bool)>, Fault>
+    ensures { Audits bytes.now result }
+{
+    rq_model::frames_join();
+    let found = chain(rt, alloc, bytes, 40, grain_of(plan))?;
+    let Some(version) = version(bytes) else {
+        return Err(Fault::NotALog);
+    };
+    checkpoints_of(rt, alloc, version, lent, bytes, &found, plan)
 }
 
 /// The checkpoints of the front of a log, rising: the offset of each, and whether it is true, which
@@ -261,10 +282,18 @@ pub fn audit<R: Threads + Sync>(
 ) -> Result<Vec<(u64, bool)>, Fault>
     ensures { Audits bytes.now result }
 {
-    rq_model::frames_join();
-    let found = chain(rt, alloc, bytes, 40, grain_of(plan))?;
-    let Some(version) = version(bytes) else {
-        return Err(Fault::NotALog);
-    };
-    checkpoints_of(rt, alloc, version, bytes, &found, plan)
+    audit_of(rt, alloc, &LentLog::none(), bytes, plan)
+}
+
+/// The audit of a log that is lent: `audit` of its bytes, of which no checkpoint is copied.
+pub fn audit_lent<R: Threads + Sync>(
+    rt: &R,
+    alloc: Global,
+    log: &ArcSlice<u8>,
+    plan: &Plan,
+) -> Result<Vec<(u64, bool)>, Fault>
+    ensures { Audits (arc_slice_items log.now) result }
+{
+    let lent = LentLog::of(log)?;
+    audit_of(rt, alloc, &lent, log.as_slice(), plan)
 }

@@ -22,7 +22,7 @@ mod tails;
 mod tally;
 mod upgrading;
 
-pub use auditing::audit;
+pub use auditing::{audit, audit_lent};
 pub use ends::{FrontEnd, front_end};
 pub use keeper::Keeper;
 pub use restarted::{Restarted, Why};

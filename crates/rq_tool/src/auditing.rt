@@ -4,17 +4,18 @@ ghost use Rattle.std.specs.Prelude.{◌≡◌, ℕ, ◌<◌, ◌++◌, List, Som
 ghost use Rattle.std.specs.Prelude.{string_bytes};
 ghost use Rattle.std.specs.List.{flat_map};
 ghost use Rattle.rq_model.specs.Checkpoints.{IsAudit};
-ghost use Rattle.rq_restart.specs.Audits.{audited_of};
+ghost use Rattle.rq_restart.specs.Audits.{Audits, audited_of};
 ghost use Rattle.rq_tool.specs.AuditTexts.{audit_line, AuditsLog, AuditsOnly, AuditsRead};
 ghost use Rattle.rq_tool.specs.Headline.{IsBeforeWriting};
 ghost use Rattle.rq_tool.specs.Streams.{ReadFaults, TakesInput, WriteFaults};
 
 use crate::input::read_log;
 use rq_report::{Input, Output, write_all};
-use rq_restart::{Fault, Plan, audit};
+use rq_restart::{Fault, Plan, audit_lent};
 use std::alloc::{AllocError, Global};
 use std::fmt::Write;
 use std::marker::Sync;
+use std::sync::ArcSlice;
 use std::thread::Threads;
 
 fn put_line(text: &mut String, offset: u64, truth: bool) -> Result<(), AllocError>
@@ -37,7 +38,20 @@ fn audit_text(alloc: Global, found: &[(u64, bool)]) -> Result<String, AllocError
     Ok(text)
 }
 
-// The audit of what the input gives; the bytes are let go.
+// The audit of the bytes that were read, which are then let go.
+fn audit_of_read<R: Threads + Sync>(
+    rt: &R,
+    alloc: Global,
+    bytes: Vec<u8>,
+    plan: &Plan,
+) -> Result<Vec<(u64, bool)>, Fault>
+    ensures { Audits bytes.items result }
+{
+    let log = ArcSlice::from_vec(bytes)?;
+    audit_lent(rt, alloc, &log, plan)
+}
+
+// The audit of what the input gives.
 fn read_and_audit<R, I>(
     rt: &R,
     alloc: Global,
@@ -55,7 +69,7 @@ where
     ensures faults { ReadFaults (I.faults input.old) (I.faults input.new) result }
 {
     let bytes = read_log(alloc, input)?;
-    audit(rt, alloc, &bytes, plan)
+    audit_of_read(rt, alloc, bytes, plan)
 }
 
 /// Reads the input to its end, but at most 4,294,967,296 bytes, and writes a line for each

@@ -30,7 +30,8 @@ audited-requires-clause-framed g c κs within =
       lawful = lawful_in_two c.versions.ensures.two (version_of c.args.version) empty rs lawful;
       stand = stand;
     } in
-    subst (λ (xs : List Record). AreFramed (map record_of xs) c.deref-2.result.now) (sym (c.deref.ensures.value ∙ c.records_alone-records.ensures))
+    subst (λ (xs : List Record). AreFramed (map record_of xs) c.deref-2.result.now)
+        (sym (c.deref.ensures.value ∙ c.records_alone-records.ensures))
     (subst (AreFramed rs) (sym c.deref-2.ensures.value) framed)
 
 pub returns : goal.returns

@@ -1,6 +1,6 @@
 use Rattle.rq_restart.proofs.Starts.{log_chain}
 use Rattle.rq_restart.proofs.Audits.{audits_are}
-use Rattle.rq_restart.proofs.auditing.audit.Goals as goal
+use Rattle.rq_restart.proofs.auditing.audit_of.Goals as goal
 
 pub checkpoints_of-requires-clause-chain : goal.checkpoints_of-requires-clause-chain
 checkpoints_of-requires-clause-chain g c κs within =
