@@ -30,23 +30,23 @@ pub(crate) fn errors_of(alloc: Global, definitions: &[Definition]) -> Result<Vec
     Ok(errors)
 }
 
-// Adds a place to the list of a number, where there is one. Answers how many were there before it.
-fn list(lists: &mut Vec<Vec<u32>>, number: u32, place: u32) -> Result<u32, Fault>
+// Adds a queue to the list of a number, where there is one. Answers how many were there before it.
+fn list(lists: &mut Vec<Vec<u32>>, number: u32, queue: u32) -> Result<u32, Fault>
     requires few { number < length lists.old.items → length (listed lists.old.items number) ≤ 4096 }
     ensures len { length lists.new.items ≡ length lists.old.items }
     ensures listed { OnOk result
         ((x : ℕ) → x < length lists.old.items → listed lists.new.items x ≡ (if number == x
-        then listed lists.old.items x ++ place ∷ [] else listed lists.old.items x)) }
+        then listed lists.old.items x ++ queue ∷ [] else listed lists.old.items x)) }
     ensures rank { IfOk result
         (λ r. number < length lists.old.items → r ≡ length (listed lists.old.items number)) }
     ensures refused { IfErr result (λ e. e ≡ Resources) }
 {
-    let place_of = number as usize;
-    if place_of >= lists.len() {
+    let index = number as usize;
+    if index >= lists.len() {
         return Ok(0);
     }
-    let rank = lists[place_of].len();
-    lists[place_of].push(place)?;
+    let rank = lists[index].len();
+    lists[index].push(queue)?;
     Ok(rank as u32)
 }
 
@@ -66,8 +66,8 @@ pub(crate) fn sources_of(
 {
     let mut lists = bare(alloc, count)?;
     let mut ranks = Vec::with_capacity(alloc, errors.len())?;
-    for place in 0..errors.len() {
-        let rank = list(&mut lists, errors[place], place as u32)?;
+    for queue in 0..errors.len() {
+        let rank = list(&mut lists, errors[queue], queue as u32)?;
         ranks.push(rank)?;
     }
     Ok((lists, ranks))

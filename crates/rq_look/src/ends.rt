@@ -3,7 +3,6 @@
 ghost use Rattle.std.specs.Prelude.{◌≡◌, ◌++◌, string_bytes, IfOk, IfErr, OnOk};
 ghost use Rattle.rq_model.specs.Fronts as fronts;
 ghost use Rattle.rq_model.specs.Fronts.{IsRestart};
-ghost use Rattle.rq_model.specs.Reports.{why_text};
 ghost use Rattle.rq_front.specs.Chains.{IsHeaded, Refused};
 ghost use Rattle.rq_record.specs.declared.fault.Fault.TheVariants.{Resources};
 ghost use Rattle.rq_restart.specs.FrontEnds.{IsEndOf};
@@ -16,6 +15,7 @@ use crate::misfits::misfit_of;
 use crate::rules::{Rule, broken};
 use rq_front::version;
 use rq_record::{Fault, Version, decode_in};
+use rq_report::why_word;
 use rq_restart::{FrontEnd, Plan, Restarted, Why, front_end, front_state};
 use rq_state::State;
 use sha2::{Digest, Sha256};
@@ -43,20 +43,6 @@ pub(crate) fn is_whole(why: Why) -> bool
     match why {
         Why::Whole => true,
         Why::Cut | Why::Length | Why::Chain | Why::Form | Why::Law => false,
-    }
-}
-
-/// The word for why a front ends.
-pub(crate) fn why_word(why: Why) -> &'static str
-    ensures { result.now ≡ why_text (why_of why) }
-{
-    match why {
-        Why::Whole => "whole",
-        Why::Cut => "cut",
-        Why::Length => "length",
-        Why::Chain => "chain",
-        Why::Form => "form",
-        Why::Law => "law",
     }
 }
 

@@ -7,15 +7,13 @@ use std::cmp::Reverse;
 use std::collections::{BTreeMap, BTreeSet};
 use std::fmt;
 
-/// What happens to an element, or to none.
+/// What happens to an element.
 #[derive(Clone, Copy, Debug, PartialEq, Eq)]
 pub(crate) enum Effect {
     /// A unit puts it in.
     Put,
     /// A unit takes it.
     Taken,
-    /// There is none to take, or to kill.
-    Nothing,
     /// It is free in a queue, for the unit that put it in has committed.
     Free(u32),
     /// It is gone, for the unit that took it has committed, or for it was killed.
@@ -30,18 +28,22 @@ pub(crate) enum Effect {
 
 /// What happens to which element.
 #[derive(Clone, Copy, Debug)]
-pub(crate) struct Event {
-    pub(crate) element: u64,
-    pub(crate) effect: Effect,
+pub(crate) enum Event {
+    /// There is none to take, or to kill.
+    NoElement,
+    /// This happens to the element of this number.
+    To(u64, Effect),
 }
 
 impl fmt::Display for Event {
     fn fmt<W: fmt::Write>(&self, f: &mut fmt::Formatter<W>) -> fmt::Result {
-        let element = self.element;
-        match self.effect {
+        let (element, effect) = match self {
+            Event::NoElement => return write!(f, "finds no element"),
+            Event::To(element, effect) => (*element, *effect),
+        };
+        match effect {
             Effect::Put => write!(f, "puts in element {element}"),
             Effect::Taken => write!(f, "takes element {element}"),
-            Effect::Nothing => write!(f, "finds no element"),
             Effect::Free(queue) => write!(f, "element {element} is free in queue {queue}"),
             Effect::Gone => write!(f, "element {element} is gone"),
             Effect::Undone => write!(f, "element {element} was not put in"),
@@ -130,10 +132,7 @@ impl Queues {
         self.kept.insert(element, kept)?;
         let fresh = true;
         self.own(unit, Owned { element, fresh })?;
-        Ok(Event {
-            element,
-            effect: Effect::Put,
-        })
+        Ok(Event::To(element, Effect::Put))
     }
 
     fn best_of(&mut self, queue: QueueNo) -> Option<u64> {
@@ -144,29 +143,21 @@ impl Queues {
 
     fn take(&mut self, unit: UnitNo, queue: QueueNo) -> Result<Event, AllocError> {
         let Some(element) = self.best_of(queue) else {
-            return Ok(Event {
-                element: u64::MAX,
-                effect: Effect::Nothing,
-            });
+            return Ok(Event::NoElement);
         };
         let fresh = false;
         self.own(unit, Owned { element, fresh })?;
-        Ok(Event {
-            element,
-            effect: Effect::Taken,
-        })
+        Ok(Event::To(element, Effect::Taken))
     }
 
     // A free element of the queue goes; one that a unit has, or another queue, stays.
     fn kill(&mut self, queue: QueueNo, element: ElemId) -> Event {
         let element = element.0;
-        let effect = if self.unshelve(queue, element) {
-            self.kept.remove(&element);
-            Effect::Gone
-        } else {
-            Effect::Nothing
-        };
-        Event { element, effect }
+        if !self.unshelve(queue, element) {
+            return Event::NoElement;
+        }
+        self.kept.remove(&element);
+        Event::To(element, Effect::Gone)
     }
 
     // Takes an element from the free ones of the queue, where it is one of them.
@@ -238,10 +229,7 @@ impl Queues {
             } else {
                 self.abort_one(owned)?
             };
-            events.push(Event {
-                element: owned.element,
-                effect,
-            })?;
+            events.push(Event::To(owned.element, effect))?;
         }
         Ok(())
     }

@@ -5,7 +5,7 @@ ghost use Rattle.std.specs.Io.KnownBytes.{Appends};
 ghost use Rattle.rq_look.specs.Looks.{IsBroken, IsLog, LacksStory, StaysWithoutStory};
 
 use crate::ends::{End, end_of, put_end};
-use crate::following::{Effect, Event, Queues};
+use crate::following::{Event, Queues};
 use crate::frames::{Placed, Walk};
 use crate::lines::put_record;
 use crate::numbered::{Numbered, queues_behind, unit_of};
@@ -39,7 +39,7 @@ impl fmt::Display for Subject {
 // Whether an event is of the subject; each event of a unit's record is.
 fn concerns(subject: Subject, event: &Event) -> bool {
     match subject {
-        Subject::Element(element) => event.element == element && event.effect != Effect::Nothing,
+        Subject::Element(told) => matches!(event, Event::To(element, _) if *element == told),
         Subject::Unit(_) => true,
     }
 }

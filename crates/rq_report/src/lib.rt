@@ -9,5 +9,6 @@ mod report;
 mod stream;
 mod writing;
 
+pub use lines::why_word;
 pub use stream::{Input, Output, OverRead, OverWrite};
 pub use writing::{write_all, write_report, write_report_by};

@@ -15,7 +15,8 @@ use rq_state::{Definition, Element, Last, OpKind, Registrant};
 use std::alloc::AllocError;
 use std::fmt::Write;
 
-fn why_word(why: Why) -> &'static str
+/// The word for why a front ends, as the first line of a report has it.
+pub fn why_word(why: Why) -> &'static str
     ensures { result.now ≡ why_text (why_of why) }
 {
     match why {

@@ -22,7 +22,7 @@ use Rattle.rq_model.specs.Frames.{log_limit}
 use Rattle.rq_restart.proofs.Starts.{started}
 use Rattle.rq_restart.specs.Ends.{IsChain, IsFrontFrom}
 use Rattle.rq_restart.specs.declared.checkpoint.Begun.{Begun}
-use Rattle.rq_restart.specs.Checkpoints.{BeginsAt, IsBegun, kept_of, kept_in, place_of}
+use Rattle.rq_restart.specs.Checkpoints.{BeginsAt, IsBegun, kept_of, kept_in, chain_start}
 use Rattle.rq_restart.specs.Restarts.{RestartsAt}
 
 no_right : (p bytes : List ℕ) (why : Rest) → IsRest p bytes why → HasRightFrame p bytes → ⊥
@@ -69,7 +69,7 @@ record IsPlace (b : List ℕ) (offset place : ℕ) : Type 0 where
   pub some : 40 ≤ offset → offset ≤ length b → place ≡ offset
   pub none : (40 ≤ offset → offset ≤ length b → ⊥) → place ≡ max (length b) 40
 
-is_place : (b : List ℕ) (offset : ℕ) → IsPlace b offset (place_of offset (length b))
+is_place : (b : List ℕ) (offset : ℕ) → IsPlace b offset (chain_start offset (length b))
 is_place b offset = at (nat_le 40 offset && nat_le offset (length b)) refl
   where
     at : (t : Bool) → (nat_le 40 offset && nat_le offset (length b)) ≡ t
@@ -91,11 +91,11 @@ is_place b offset = at (nat_le 40 offset && nat_le offset (length b)) refl
         no h = cc
 
 within : (b : List ℕ) (offset : ℕ) → 40 ≤ length b
-    → (40 ≤ place_of offset (length b)) × (place_of offset (length b) ≤ length b)
+    → (40 ≤ chain_start offset (length b)) × (chain_start offset (length b) ≤ length b)
 within b offset long =
     let where_is = is_place b offset in
     let past : (40 ≤ offset → offset ≤ length b → ⊥)
-    → (40 ≤ place_of offset (length b)) × (place_of offset (length b) ≤ length b) =
+    → (40 ≤ chain_start offset (length b)) × (chain_start offset (length b) ≤ length b) =
     λ h. (let e = where_is.none h in (omega (arith, e, long), omega (arith, e, long))) in
     elim (cases_lt offset 40) [
       | inl low ↦ past (λ h _. omega (arith, h, low))
@@ -107,10 +107,10 @@ within b offset long =
 
 -- where the first body is a checkpoint's, the place is the offset
 pub begun_at : FrameIsRight → (b : List ℕ) (offset : ℕ) (c : Chain) (kept : List ℕ)
-    → IsChain b (place_of offset (length b)) c → kept_in (bodies_at b c.spans.items) ≡ Some kept
+    → IsChain b (chain_start offset (length b)) c → kept_in (bodies_at b c.spans.items) ≡ Some kept
     → IsChain b offset c × IsCheckpointAt b offset kept
 begun_at right b offset c kept chain h =
-    let place = place_of offset (length b) in
+    let place = chain_start offset (length b) in
     let where_is = is_place b offset in
     let found = kept_first right (before place b) (drop place b) (bodies_at b c.spans.items)
     (drop c.end b) kept chain.run.run h in
@@ -131,11 +131,11 @@ begun_at right b offset c kept chain h =
     ]
 
 pub none_at : FrameIsRight → (b : List ℕ) (offset : ℕ) (c : Chain) (kept : List ℕ)
-    → IsChain b (place_of offset (length b)) c → kept_in (bodies_at b c.spans.items) ≡ None
+    → IsChain b (chain_start offset (length b)) c → kept_in (bodies_at b c.spans.items) ≡ None
     → IsCheckpointAt b offset kept → ⊥
 none_at right b offset c kept chain h is =
     let size = length-drop offset b in
-    let here : place_of offset (length b) ≡ offset =
+    let here : chain_start offset (length b) ≡ offset =
     (is_place b offset).some is.past_header (omega (arith, is.frame.whole.room, size)) in
     let chain_here : IsChain b offset c = subst (λ (n : ℕ). IsChain b n c) here chain in
     none_first right (before offset b) (drop offset b) (bodies_at b c.spans.items) (drop c.end b) kept
@@ -185,10 +185,10 @@ restarts_at b offset x rs end why begun h (Err e) is refused =
 
 -- the chain from that place
 pub chain_at : (version : Version) → LogEnds → (b : List ℕ) (offset place : ℕ) (c : Chain)
-    → place ≡ place_of offset (length b) → length b ≤ log_limit → HasHeader version b
+    → place ≡ chain_start offset (length b) → length b ≤ log_limit → HasHeader version b
     → IsFrameRun b place (bodies_at b c.spans.items) c.end (rest_of c.rest)
     → c.spans.items ≡ spans_from place (bodies_at b c.spans.items) → All (λ s. s.start + s.len ≤ length b) c.spans.items
-    → IsChain b (place_of offset (length b)) c
+    → IsChain b (chain_start offset (length b)) c
 chain_at version ends b offset place c is short head run spans inside =
     let bounds = within b offset (started version ends b head).long in
     subst (λ (n : ℕ). IsChain b n c) is

@@ -257,9 +257,9 @@ pub record HasGoneOn (version : Version) (b : List ℕ) (limit end : ℕ) (why :
 
 pub gone_on : (version : Version) → LogEnds → LogJoins → FramesJoin → FrameIsRight → RunGivesFront
     → (b part : List ℕ) (rs : List Record) (p : Pass) (limit : ℕ) (c : Chain) (j : Judge) (reach : Reach)
-    → length b ≤ log_limit → HasPassed version b rs p → p.place ≤ limit → limit ≤ length b → part ≡ take limit b
-    → IsFrameRun part p.place (bodies_at part c.spans.items) c.end (rest_of c.rest)
-    → c.spans.items ≡ spans_from p.place (bodies_at part c.spans.items)
+    → length b ≤ log_limit → HasPassed version b rs p → p.offset ≤ limit → limit ≤ length b → part ≡ take limit b
+    → IsFrameRun part p.offset (bodies_at part c.spans.items) c.end (rest_of c.rest)
+    → c.spans.items ≡ spans_from p.offset (bodies_at part c.spans.items)
     → All (λ s. s.start + s.len ≤ length part) c.spans.items
     → AreJudged version (run empty rs) (bodies_at part c.spans.items) j reach → (e : ℕ × Why)
     → e ≡ end_at c.spans.items c.end (rest_of c.rest) reach.read reach.lawful
@@ -267,7 +267,7 @@ pub gone_on : (version : Version) → LogEnds → LogJoins → FramesJoin → Fr
 gone_on version ends joins join right law b part rs p limit c j reach short has low high is walked spans inside are e
     e_is =
     let size : length part ≡ limit = omega (arith, ap length is, length-take limit b, high) in
-    let chain : IsChain part p.place c =
+    let chain : IsChain part p.offset c =
     record {
       short = omega (arith, size, high, short);
       after = omega (arith, has.passed.few);
@@ -277,9 +277,9 @@ gone_on version ends joins join right law b part rs p limit c j reach short has 
       spans = spans;
       inside = inside;
     } in
-    let front = front_in version right join law (run empty rs) part p.place c j reach chain are e e_is in
-    let it = further version ends joins join b rs are.kept p.place limit e.0 e.1 has.passed low high
-    (subst (λ (x : List ℕ). IsFrontFrom version (run empty rs) x p.place are.kept e.0 e.1) is front) in
+    let front = front_in version right join law (run empty rs) part p.offset c j reach chain are e e_is in
+    let it = further version ends joins join b rs are.kept p.offset limit e.0 e.1 has.passed low high
+    (subst (λ (x : List ℕ). IsFrontFrom version (run empty rs) x p.offset are.kept e.0 e.1) is front) in
     record {
       kept = rs ++ are.kept;
       passed = it.passed;
@@ -291,7 +291,7 @@ gone_on version ends joins join right law b part rs p limit c j reach short has 
 
 -- The start of a pass, and its end.
 
-pub starts : (version : Version) → LogEnds → (b : List ℕ) (p : Pass) → HasHeader version b → p.place ≡ 40
+pub starts : (version : Version) → LogEnds → (b : List ℕ) (p : Pass) → HasHeader version b → p.offset ≡ 40
     → p.records ≡ 0 → StandsIn version p.judge empty → HasPassedSome version b p
 starts version ends b p head place none judge =
     let is = started version ends b head in
@@ -312,22 +312,22 @@ starts version ends b p head place none judge =
     )
 
 -- a reason that stays holds of the whole log, and so does one that is found in the whole log
-pub stops_there : (version : Version) (b : List ℕ) (limit : ℕ) (p : Pass) (why : Why) → p.place ≤ limit
+pub stops_there : (version : Version) (b : List ℕ) (limit : ℕ) (p : Pass) (why : Why) → p.offset ≤ limit
     → limit ≤ length b → stays why ≡ true → StopsIn version b limit p why → StopsIn version b (length b) p why
 stops_there version b limit p why low high holds stop =
     let rs = stop.0 in
-    let whole : drop p.place (take limit b) ++ drop limit b ≡ drop p.place (take (length b) b) =
-    sym (behind_part b p.place limit low high) ∙ ap (drop p.place) (sym (take_all (length b) b (omega arith))) in (
+    let whole : drop p.offset (take limit b) ++ drop limit b ≡ drop p.offset (take (length b) b) =
+    sym (behind_part b p.offset limit low high) ∙ ap (drop p.offset) (sym (take_all (length b) b (omega arith))) in (
       rs,
       stop.1,
       subst (λ (x : List ℕ). IsWhy version (run empty rs) (last_of (start version) rs) x why) whole
-          (why_more version (run empty rs) (last_of (start version) rs) (drop p.place (take limit b))
+          (why_more version (run empty rs) (last_of (start version) rs) (drop p.offset (take limit b))
           (drop limit b) why holds stop.2),
     )
 
 -- so the front ends there
 pub front_is : (version : Version) → LogEnds → FrontStops → (b : List ℕ) (p : Pass) (why : Why) → HasHeader version b
-    → (stop : StopsIn version b (length b) p why) → IsFrontFrom version empty b 40 stop.0 p.place why
+    → (stop : StopsIn version b (length b) p why) → IsFrontFrom version empty b 40 stop.0 p.offset why
 front_is version ends stops b p why head stop =
     let rs = stop.0 in
     let has = stop.1.passed in
@@ -335,20 +335,20 @@ front_is version ends stops b p why head stop =
     let chained : start version ≡ before 40 b = sym is.chained in
     let size : length (header version) ≡ 40 =
     omega (arith, length-append (magic version) (start version), (ends version []).2) in
-    let parts : b ≡ header version ++ (frames_of (start version) rs ++ drop p.place b) =
-    has.whole ∙ append_assoc (header version) (frames_of (start version) rs) (drop p.place b) in
-    let behind : drop 40 b ≡ frames_of (start version) rs ++ drop p.place b =
-    ap (drop 40) parts ∙ drop_at (header version) (frames_of (start version) rs ++ drop p.place b) 40 size in
-    let all : drop p.place (take (length b) b) ≡ drop p.place b =
-    ap (drop p.place) (take_all (length b) b (omega arith)) in
-    let why_is : IsWhy version (run empty rs) (last_of (start version) rs) (drop p.place b) why =
+    let parts : b ≡ header version ++ (frames_of (start version) rs ++ drop p.offset b) =
+    has.whole ∙ append_assoc (header version) (frames_of (start version) rs) (drop p.offset b) in
+    let behind : drop 40 b ≡ frames_of (start version) rs ++ drop p.offset b =
+    ap (drop 40) parts ∙ drop_at (header version) (frames_of (start version) rs ++ drop p.offset b) 40 size in
+    let all : drop p.offset (take (length b) b) ≡ drop p.offset b =
+    ap (drop p.offset) (take_all (length b) b (omega arith)) in
+    let why_is : IsWhy version (run empty rs) (last_of (start version) rs) (drop p.offset b) why =
     subst (λ (x : List ℕ). IsWhy version (run empty rs) (last_of (start version) rs) x why) all stop.2 in
-    let begins : Begins version empty (start version) (drop 40 b) rs (drop p.place b) =
+    let begins : Begins version empty (start version) (drop 40 b) rs (drop p.offset b) =
     record { records = has.records; lawful = has.lawful; whole = behind } in
-    let longest = stops version empty (start version) (drop 40 b) (drop p.place b) rs why begins why_is in
+    let longest = stops version empty (start version) (drop 40 b) (drop p.offset b) rs why begins why_is in
     record {
       within = has.within;
       few = has.few;
-      longest = subst (λ (x : List ℕ). IsLongest version empty x (drop 40 b) rs (drop p.place b)) chained longest;
-      ends = subst (λ (x : List ℕ). IsWhy version (run empty rs) (last_of x rs) (drop p.place b) why) chained why_is;
+      longest = subst (λ (x : List ℕ). IsLongest version empty x (drop 40 b) rs (drop p.offset b)) chained longest;
+      ends = subst (λ (x : List ℕ). IsWhy version (run empty rs) (last_of x rs) (drop p.offset b) why) chained why_is;
     }

@@ -20,17 +20,17 @@ use Rattle.rq_restart.specs.declared.auditing.Walk.{Walk}
 use Rattle.rq_record.specs.declared.record.Record.{Record as Own}
 use Rattle.rq_restart.specs.Worth.{member_bytes, IsTallied, IsWithin, KeepsAllBut, Counts, lost_by}
 
--- a record whose frame stands at a place, in the state before it
+-- a record whose frame stands at an offset, in the state before it
 abbrev pub audit_of : State → ℕ → Record → List Audited
 audit_of s at (Checkpoint kept) = record { offset = at; truth = bytes_eq kept (state_bytes s) } ∷ []
 audit_of s at r = []
 
--- records whose frames stand from a place on
+-- records whose frames stand from an offset on
 abbrev pub audits : State → ℕ → List Record → List Audited
 audits s at [] = []
 audits s at (r ∷ rs) = audit_of s at r ++ audits (step s r) (at + 36 + length (body_of r)) rs
 
--- the place behind records whose frames stand from a place on
+-- the offset behind records whose frames stand from an offset on
 abbrev pub past : ℕ → List Record → ℕ
 past at [] = at
 past at (r ∷ rs) = past (at + 36 + length (body_of r)) rs

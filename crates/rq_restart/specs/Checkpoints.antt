@@ -37,6 +37,6 @@ BeginsAt b offset (Err NoCheckpoint) = HasNoCheckpoint b offset
 BeginsAt b offset (Err BadCheckpoint) = HasBadCheckpoint b offset
 BeginsAt b offset (Err e) = Refused b e
 
--- the offset, where it lies behind the header and in the bytes; else a place where no frame stands
-abbrev pub place_of : ℕ → ℕ → ℕ
-place_of offset len = if nat_le 40 offset && nat_le offset len then offset else max len 40
+-- the offset, where it lies behind the header and in the bytes; else one where no frame stands
+abbrev pub chain_start : ℕ → ℕ → ℕ
+chain_start offset len = if nat_le 40 offset && nat_le offset len then offset else max len 40

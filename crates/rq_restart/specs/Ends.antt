@@ -1,4 +1,4 @@
--- Where lawful records end, and why, counted from a place of the log and a state.
+-- Where lawful records end, and why, counted from an offset of the log and a state.
 use Rattle.std.specs.Prelude.{◌≡◌, ℕ, ◌+◌, ◌-◌, ◌≤◌, nat_lt, Bool, if◌then◌else◌, All, List, length}
 use Rattle.std.specs.Prelude.{drop, Option, Some, None, slice_get}
 use Rattle.rq_model.specs.Records.{Record, Version}
@@ -11,13 +11,13 @@ use Rattle.rq_front.specs.declared.spans.Chain.{Chain}
 use Rattle.rq_front.specs.declared.spans.Span.{Span}
 use Rattle.rq_front.specs.Chains.{bodies_at, rest_of, spans_from}
 
--- the chain of a log of lawful length, from a place on
-pub record IsChain (b : List ℕ) (place : ℕ) (c : Chain) : Type 0 where
+-- the chain of a log of lawful length, from an offset on
+pub record IsChain (b : List ℕ) (from : ℕ) (c : Chain) : Type 0 where
   pub short : length b ≤ log_limit
-  pub after : 40 ≤ place
-  pub within : place ≤ length b
-  pub run : IsFrameRun b place (bodies_at b c.spans.items) c.end (rest_of c.rest)
-  pub spans : c.spans.items ≡ spans_from place (bodies_at b c.spans.items)
+  pub after : 40 ≤ from
+  pub within : from ≤ length b
+  pub run : IsFrameRun b from (bodies_at b c.spans.items) c.end (rest_of c.rest)
+  pub spans : c.spans.items ≡ spans_from from (bodies_at b c.spans.items)
   pub inside : All (λ s. s.start + s.len ≤ length b) c.spans.items
 
 abbrev pub end_from : Option Span → ℕ → frames.Rest → Bool → ℕ × Why
@@ -28,10 +28,10 @@ end_from (Some span) end rest more = (span.start - 4, if more then Law else Form
 abbrev pub end_at : List Span → ℕ → frames.Rest → ℕ → ℕ → ℕ × Why
 end_at spans end rest read kept = end_from (slice_get spans kept) end rest (nat_lt kept read)
 
--- the longest list of lawful records from a place of b and a state, where it ends, and why
+-- the longest list of lawful records from an offset of b and a state, where it ends, and why
 pub record IsFrontFrom (version : Version) (s : State) (b : List ℕ)
-    (place : ℕ) (rs : List Record) (end : ℕ) (why : Why) : Type 0 where
+    (from : ℕ) (rs : List Record) (end : ℕ) (why : Why) : Type 0 where
   pub within : end ≤ length b
-  pub few : place + length rs ≤ end
-  pub longest : IsLongest version s (before place b) (drop place b) rs (drop end b)
-  pub ends : IsWhy version (run s rs) (last_of (before place b) rs) (drop end b) why
+  pub few : from + length rs ≤ end
+  pub longest : IsLongest version s (before from b) (drop from b) rs (drop end b)
+  pub ends : IsWhy version (run s rs) (last_of (before from b) rs) (drop end b) why

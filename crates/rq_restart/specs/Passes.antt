@@ -45,17 +45,17 @@ pub record AreJudged (version : Version) (s : State)
   pub stops : StopsAt version (run s kept) left (nat_lt reach.lawful reach.read)
   pub judge : StandsIn version j (run s kept)
 
--- frames of lawful records stand behind the header of b, and end at a place
-pub record IsPassed (version : Version) (b : List ℕ) (rs : List Record) (place : ℕ) : Type 0 where
-  pub within : place ≤ length b
-  pub few : 40 + length rs ≤ place
+-- frames of lawful records stand behind the header of b, and end at an offset
+pub record IsPassed (version : Version) (b : List ℕ) (rs : List Record) (end : ℕ) : Type 0 where
+  pub within : end ≤ length b
+  pub few : 40 + length rs ≤ end
   pub records : AllByRecursion (IsRecord version) rs
   pub lawful : all_lawful version empty rs ≡ true
-  pub whole : b ≡ log_of version rs ++ drop place b
+  pub whole : b ≡ log_of version rs ++ drop end b
 
 -- the pass has come behind these records, and so has its judge
 pub record HasPassed (version : Version) (b : List ℕ) (rs : List Record) (p : Pass) : Type 0 where
-  pub passed : IsPassed version b rs p.place
+  pub passed : IsPassed version b rs p.offset
   pub count : p.records ≡ length rs
   pub judge : StandsIn version p.judge (run empty rs)
 
@@ -66,7 +66,7 @@ HasPassedSome version b p = (rs : List Record) × HasPassed version b rs p
 -- for this reason no lawful record follows in the first bytes of b
 abbrev pub StopsIn : Version → List ℕ → ℕ → Pass → Why → Type 0
 StopsIn version b limit p why = (rs : List Record) × HasPassed version b rs p
-    × IsWhy version (run empty rs) (last_of (start version) rs) (drop p.place (take limit b)) why
+    × IsWhy version (run empty rs) (last_of (start version) rs) (drop p.offset (take limit b)) why
 
 -- more bytes do not take the reason away
 abbrev pub stays : Why → Bool

@@ -2,7 +2,7 @@
 
 ghost use Rattle.std.specs.Prelude.{◌≡◌, ◌≤◌, ◌+◌, length, option_map, All};
 ghost use Rattle.rq_front.specs.Chains.{bodies_at};
-ghost use Rattle.rq_restart.specs.Checkpoints.{BeginsAt, kept_in, place_of};
+ghost use Rattle.rq_restart.specs.Checkpoints.{BeginsAt, kept_in, chain_start};
 
 use crate::grain::grain_of;
 use rq_front::{Chain, HEADER_LEN, Span, chain, version};
@@ -34,8 +34,8 @@ fn kept_in<'a>(bytes: &'a [u8], spans: &[Span]) -> Option<&'a [u8]>
 }
 
 // The offset, where a frame may stand there; else the end of the bytes, where none stands.
-fn place_of(offset: u64, len: usize) -> usize
-    ensures { result ≡ place_of offset len }
+fn chain_start(offset: u64, len: usize) -> usize
+    ensures { result ≡ chain_start offset len }
 {
     if HEADER_LEN as u64 <= offset && offset <= len as u64 {
         offset as usize
@@ -56,8 +56,8 @@ pub(crate) fn begin_at<R: Threads + Sync>(
 {
     rq_model::frames_are_right();
     rq_model::frames_join();
-    let place = place_of(offset, bytes.len());
-    let found = chain(rt, alloc, bytes, place, grain_of(plan))?;
+    let start = chain_start(offset, bytes.len());
+    let found = chain(rt, alloc, bytes, start, grain_of(plan))?;
     let Some(kept) = kept_in(bytes, &found.spans) else {
         return Err(Fault::NoCheckpoint);
     };

@@ -86,9 +86,9 @@ where
     all.gather(alloc)
 }
 
-/// What a restart answers of a front of the version that begins in the state and ends at a place of
-/// `total` bytes: its open units are aborted, rising, and records and aborts are redone together.
-/// The counts are those before these aborts.
+/// What a restart answers of a front of the version that begins in the state and ends at an offset
+/// of `total` bytes: its open units are aborted, rising, and records and aborts are redone
+/// together. The counts are those before these aborts.
 pub(crate) fn close<R, G>(
     rt: &R,
     alloc: Global,

@@ -49,7 +49,7 @@ pub fn front_end<R: Threads + Sync>(
     let why = pass.finish(rt, alloc, bytes, grain_of(plan))?;
     Ok(FrontEnd {
         records: pass.records as u64,
-        used: pass.place as u64,
+        used: pass.offset as u64,
         total: bytes.len() as u64,
         why,
     })

@@ -8,14 +8,14 @@ use rq_front::frame;
 use rq_record::Fault;
 use sha2::{Digest, Sha256};
 
-/// The 32 bytes before a place.
-pub(crate) fn before(bytes: &[u8], place: usize) -> [u8; 32]
-    requires after { 32 ≤ place }
-    requires within { place ≤ length bytes.now }
-    ensures { result ≡ before place bytes.now }
+/// The 32 bytes before an offset.
+pub(crate) fn before(bytes: &[u8], offset: usize) -> [u8; 32]
+    requires after { 32 ≤ offset }
+    requires within { offset ≤ length bytes.now }
+    ensures { result ≡ before offset bytes.now }
 {
     let mut kept = [0; 32];
-    kept.copy_from_slice(&bytes[place - 32..place]);
+    kept.copy_from_slice(&bytes[offset - 32..offset]);
     kept
 }
 

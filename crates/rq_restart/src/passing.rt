@@ -39,12 +39,12 @@ struct Reach {
     lawful: usize,
 }
 
-/// How far a pass over a log has come: behind so many lawful records, to this place.
+/// How far a pass over a log has come: behind so many lawful records, to this offset.
 #[derive(Drop)]
 pub(crate) struct Pass {
     judge: Judge,
     pub(crate) records: usize,
-    pub(crate) place: usize,
+    pub(crate) offset: usize,
 }
 
 // What the judge makes of a body; the record of a lawful one it takes.
@@ -129,7 +129,7 @@ impl Pass {
         Pass {
             judge: Judge::new(alloc, version),
             records: 0,
-            place: HEADER_LEN,
+            offset: HEADER_LEN,
         }
     }
 
@@ -144,24 +144,24 @@ impl Pass {
     ) -> Result<Why, Fault>
         requires grain { 1 ≤ grain }
         requires short { length bytes.now ≤ log_limit }
-        requires after { self.old.place ≤ limit }
+        requires after { self.old.offset ≤ limit }
         requires within { limit ≤ length bytes.now }
         requires passes { (version : records.Version) × HasPassedSome version bytes.now self.old }
         ensures stops { IfOk result
             (λ why. (version : records.Version) → HasPassedSome version bytes.now self.old
             → StopsIn version bytes.now limit self.new (why_of why)) }
-        ensures place { IfOk result (λ why. self.new.place ≤ limit) }
+        ensures offset { IfOk result (λ why. self.new.offset ≤ limit) }
         ensures refused { IfErr result (λ e. e ≡ Resources) }
     {
         rq_model::frames_are_right();
         rq_model::frames_join();
         rq_model::one_front();
         let part = first(bytes, limit);
-        let found = chain(rt, alloc, part, self.place, grain)?;
+        let found = chain(rt, alloc, part, self.offset, grain)?;
         let reach = judge_each(alloc, &mut self.judge, part, &found.spans)?;
         let (end, why) = end_of(&found, reach.read, reach.lawful);
         self.records += reach.lawful;
-        self.place = end;
+        self.offset = end;
         Ok(why)
     }
 
@@ -181,11 +181,11 @@ impl Pass {
             → StopsIn version bytes.now (length bytes.now) self.new (why_of why)) }
         ensures refused { IfErr result (λ e. e ≡ Resources) }
     {
-        let mut limit = self.place;
+        let mut limit = self.offset;
         'windows: loop {
             // What is left of the last window is less than a frame: where it is long, its frame may
             // be longer still.
-            let more = WINDOW.max(limit - self.place);
+            let more = WINDOW.max(limit - self.offset);
             limit = limit.saturating_add(more).min(bytes.len());
             let why = self.go_on(rt, alloc, bytes, limit, grain)?;
             if limit == bytes.len() || stays(why) {

@@ -45,7 +45,7 @@ fn extent_of<R: Threads + Sync>(
     })
 }
 
-// The body of the frame at a place.
+// The body of the frame at an offset.
 fn body_at(bytes: &[u8], at: usize) -> &[u8]
     requires { HasFrame (drop at bytes.now) }
     ensures { result.now ≡ body_in (drop at bytes.now) }

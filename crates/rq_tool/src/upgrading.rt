@@ -40,8 +40,8 @@ where
 /// stood behind the front is dropped. No queue is redone for it.
 ///
 /// The upgraded log has the report of the log, but that all of its bytes are front. It has the same
-/// checkpoints at the same offsets, true where they were; and from each true one the same restart.
-/// To upgrade it again changes nothing.
+/// checkpoints at the same offsets, true where they were; and from each true one the same restart,
+/// again but that all bytes are front. To upgrade it again changes nothing.
 ///
 /// Nothing else is written. Refused as `run` is; with `WriteFailed` a beginning of the upgraded log
 /// is written, else nothing.

@@ -1,7 +1,8 @@
 //! The front's summary.
 
-use crate::ends::{End, is_whole, why_word};
+use crate::ends::{End, is_whole};
 use crate::paging::markup::put_text;
+use rq_report::why_word;
 use rq_restart::Restarted;
 use std::alloc::AllocError;
 use std::fmt::Write;

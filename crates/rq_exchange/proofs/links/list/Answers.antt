@@ -7,4 +7,4 @@ pub returns-clause-listed : goal.returns-clause-listed
 returns-clause-listed c = λ x _.
     let within : c.args.number < length c.args.lists.now.items = search rules in
     listed_push _ _ _ _ _ x within
-    (c.in_ok-push.ensures.items ∙ ap (λ (v : Vec ℕ). v.items ++ c.args.place ∷ []) c.index_mut.ensures.value)
+    (c.in_ok-push.ensures.items ∙ ap (λ (v : Vec ℕ). v.items ++ c.args.queue ∷ []) c.index_mut.ensures.value)

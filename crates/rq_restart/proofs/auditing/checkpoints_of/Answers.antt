@@ -31,7 +31,7 @@ audited-requires-clause-framed g c κs within =
       stand = stand;
     } in
     subst (λ (xs : List Record). AreFramed (map record_of xs) c.deref-2.result.now)
-        (sym (c.deref.ensures.value ∙ c.records_alone-records.ensures))
+    (sym (c.deref.ensures.value ∙ c.records_alone-records.ensures))
     (subst (AreFramed rs) (sym c.deref-2.ensures.value) framed)
 
 pub returns : goal.returns

@@ -13,8 +13,8 @@ pub returns-in_default : goal.returns-in_default
 returns-in_default g c =
     let b = c.args.bytes.now in
     let is = c.in_ok-found.ensures in
-    let chain = chain_at is.log.1.0 c.frames_join.ensures.end b c.args.offset c.place_of-place.result
-    c.in_ok-found.found c.place_of-place.ensures is.log.0 is.log.1.1 is.run is.spans is.inside in
+    let chain = chain_at is.log.1.0 c.frames_join.ensures.end b c.args.offset c.chain_start-start.result
+    c.in_ok-found.found c.chain_start-start.ensures is.log.0 is.log.1.1 is.run is.spans is.inside in
     let none = subst (λ (ss : List Span). kept_in (bodies_at b ss) ≡ None) c.deref.ensures.value
     (sym c.in_default.ensures) in (
       is.log.0,
@@ -31,8 +31,8 @@ returns-in_err-state g c =
     let b = c.args.bytes.now in
     let is = c.in_ok-found.ensures in
     let kept = c.in-Some.kept.now in
-    let chain = chain_at is.log.1.0 c.frames_join.ensures.end b c.args.offset c.place_of-place.result
-    c.in_ok-found.found c.place_of-place.ensures is.log.0 is.log.1.1 is.run is.spans is.inside in
+    let chain = chain_at is.log.1.0 c.frames_join.ensures.end b c.args.offset c.chain_start-start.result
+    c.in_ok-found.found c.chain_start-start.ensures is.log.0 is.log.1.1 is.run is.spans is.inside in
     let some = subst (λ (ss : List Span). kept_in (bodies_at b ss) ≡ Some kept) c.deref.ensures.value
     (sym c.in-Some.ensures) in
     let begun = begun_at c.frames_are_right.ensures.right b c.args.offset c.in_ok-found.found kept chain some in
@@ -46,8 +46,8 @@ returns g c =
     let b = c.args.bytes.now in
     let is = c.in_ok-found.ensures in
     let kept = c.in-Some.kept.now in
-    let chain = chain_at is.log.1.0 c.frames_join.ensures.end b c.args.offset c.place_of-place.result
-    c.in_ok-found.found c.place_of-place.ensures is.log.0 is.log.1.1 is.run is.spans is.inside in
+    let chain = chain_at is.log.1.0 c.frames_join.ensures.end b c.args.offset c.chain_start-start.result
+    c.in_ok-found.found c.chain_start-start.ensures is.log.0 is.log.1.1 is.run is.spans is.inside in
     let some = subst (λ (ss : List Span). kept_in (bodies_at b ss) ≡ Some kept) c.deref.ensures.value
     (sym c.in-Some.ensures) in
     let begun = begun_at c.frames_are_right.ensures.right b c.args.offset c.in_ok-found.found kept chain some in

@@ -18,5 +18,5 @@ returns g c =
     let front = front_is version c.frames_join.ensures.end c.one_front.ensures.stops b c.finish.new.self
     (why_of c.in_ok-why.why) head stop in
     found version c.frames_join.ensures.end c.numbers_after.ensures c.runs_are_well_formed.ensures.start b stop.0
-    c.finish.new.self.place (why_of c.in_ok-why.why) c.in_ok-version.ensures.short head front
+    c.finish.new.self.offset (why_of c.in_ok-why.why) c.in_ok-version.ensures.short head front
     _ (omega (arith, stop.1.count)) refl refl refl

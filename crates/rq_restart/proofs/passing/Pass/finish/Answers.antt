@@ -20,12 +20,12 @@ returns-then-limit-bytes-clause-stops g c = λ version passes.
           (λ (n : ℕ). StopsIn version b n c.go_on.new.self (why_of c.in_ok-why.why)) w.if-limit-bytes.true stop
       | then-limit-bytes-via-else-limit-bytes+then-stays w ↦
           stops_there version b c.min-limit.result c.go_on.new.self
-          (why_of c.in_ok-why.why) c.in_ok-why.ensures.place high (sym w.stays.ensures ∙ w.if-stays.true) stop
+          (why_of c.in_ok-why.why) c.in_ok-why.ensures.offset high (sym w.stays.ensures ∙ w.if-stays.true) stop
     ]
 
 pub windows-preserved : goal.windows-preserved
 windows-preserved g c = (
-  c.in_ok-why.ensures.place,
+  c.in_ok-why.ensures.offset,
   omega (arith, c.min-limit.ensures),
   λ version passes. let stop = c.in_ok-why.ensures.stops version (c.windows.invariant.2 version passes) in
       (stop.0, stop.1),

@@ -5,7 +5,7 @@ use Rattle.rq_restart.proofs.passing.Pass.finish.Given as goal
 
 abbrev pub invariant-windows : goal.invariant-windows
 invariant-windows g l =
-    (l.self.place ≤ l.limit)
+    (l.self.offset ≤ l.limit)
     × (l.limit ≤ length l.bytes)
     × ((version : Version) → HasPassedSome version l.bytes l.fn.self → HasPassedSome version l.bytes l.self)
 

@@ -32,8 +32,8 @@ returns-clause-stops g c = λ version passes.
     let it = further g c version passes.0 passes.1 in
     (it.kept, record { passed = it.passed; count = it.count; judge = it.judge }, it.ends)
 
-pub returns-clause-place : goal.returns-clause-place
-returns-clause-place g c = (further g c c.requires.passes.0 c.requires.passes.1.0 c.requires.passes.1.1).inside
+pub returns-clause-offset : goal.returns-clause-place
+returns-clause-offset g c = (further g c c.requires.passes.0 c.requires.passes.1.0 c.requires.passes.1.1).inside
 
 pub returns-in_err-found-clause-refused : goal.returns-in_err-found-clause-refused
 returns-in_err-found-clause-refused g c =
@@ -41,7 +41,7 @@ returns-in_err-found-clause-refused g c =
     let refused = subst (λ (x : List ℕ). Refused x c.in_err-found.field-0.0) c.first-part.ensures
     c.in_err-found.ensures.refused in
     let only = only_resources c.frames_join.ensures.end c.requires.passes.0 c.args.bytes.now c.requires.passes.1.0
-    c.args.self.now.place c.args.limit c.in_err-found.field-0.0 c.requires.short has.passed c.requires.after
+    c.args.self.now.offset c.args.limit c.in_err-found.field-0.0 c.requires.short has.passed c.requires.after
     c.requires.within refused in
     search (rules, only, c.from_residual.ensures)
 
