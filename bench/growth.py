@@ -2,7 +2,8 @@
 """Times restarts of logs of two lengths, and says how many times as long and as much memory the longer one takes.
 
 usage: growth.py RQ [--mib 16,256] [--workers 1,4] [--runs N] [--warm MIB] [--pool MIB] [--peer] [--folder DIR] [SHAPE ..]
-Each time is the best of the runs, of the shorter log the best of twice as many. Memory is the peak beside the log.
+Each time is the best of the runs. The two logs take turns: a log of 16 MiB that was just read stands in the processor's
+cache, which no log does that is found after a crash, so a longer one is read in between. Memory is the peak beside the log.
 A host may take back what its guest frees. Then the first to touch a page waits for it, and a long log touches many. --warm
 touches so many MiB right before each run. --pool sets so many MiB of 2 MiB pages aside, as root, which stay the guest's
 from run to run, and the programs take theirs of them; no memory is shown then, since the system counts those apart.
@@ -49,20 +50,22 @@ def touch(mib: int) -> None:
         room[at] = 1
 
 
-def best(words: list[str], runs: int, warm: int) -> tuple[float, int]:
-    """The least wall seconds of the runs, and the greatest peak memory in KiB."""
-    seen = []
-    for _ in range(runs):
-        if warm:
-            # in a process of its own, which gives all back
-            subprocess.run([sys.executable, __file__, "--touch", str(warm)], check=True)
-        seen.append(seconds(words))
+def timed(words: list[str], warm: int) -> tuple[float, int]:
+    """The wall seconds of a run, and its peak memory in KiB."""
+    if warm:
+        # in a process of its own, which gives all back
+        subprocess.run([sys.executable, __file__, "--touch", str(warm)], check=True)
+    return seconds(words)
+
+
+def best(seen: list[tuple[float, int]]) -> tuple[float, int]:
     return min(took for took, _ in seen), max(peak for _, peak in seen)
 
 
 def cell(words: list[str], logs: list[str], options) -> str:
-    runs = (2 * options.runs, options.runs)
-    short, long = (best([it.replace("LOG", log) for it in words], count, options.warm) for log, count in zip(logs, runs))
+    lines = [[it.replace("LOG", log) for it in words] for log in logs]
+    rounds = [[timed(line, options.warm) for line in lines] for _ in range(options.runs)]
+    short, long = (best(list(seen)) for seen in zip(*rounds))
     memory = "" if options.pool else f", {long[1] * 1024 / os.path.getsize(logs[1]):.2f}"
     return f"{short[0]:.3f} to {long[0]:.2f} s ({long[0] / short[0]:.1f}){memory}"
 

@@ -4,7 +4,6 @@ mod checkpoints;
 mod damage;
 mod fronts;
 mod hostile;
-mod looking;
 mod many;
 mod program;
 mod queues;

@@ -46,9 +46,17 @@ fn payloads_of_each_kind_of_length_are_kept(rt: HostRuntime) -> Result<(), Fail>
     Ok(())
 }
 
-// The bytes of an element's payload of a length, between a byte before and a byte behind, as the
-// body of its ENQUEUE has them.
-fn body_among_others(alloc: Global, length: usize) -> Result<Vec<u8>, Fail> {
+// The body of a record, between a byte before and a byte behind.
+fn among_others(alloc: Global, record: &Record) -> Result<Vec<u8>, Fail> {
+    let mut bytes = Vec::new(alloc);
+    bytes.push(0)?;
+    encode(record, &mut bytes)?;
+    bytes.push(0)?;
+    Ok(bytes)
+}
+
+// The body of an ENQUEUE with a payload of this length, among others.
+fn payload_among_others(alloc: Global, length: usize) -> Result<Vec<u8>, Fail> {
     let payload = Vec::from_elem(alloc, b'p', length)?;
     let record = Record::Enqueue {
         priority: 5,
@@ -57,15 +65,18 @@ fn body_among_others(alloc: Global, length: usize) -> Result<Vec<u8>, Fail> {
         by: KeptBy::of(alloc, &None)?,
         payload: KeptPayload::from_slice(alloc, &payload)?.ok_or("too long")?,
     };
-    let mut bytes = Vec::new(alloc);
-    bytes.push(0)?;
-    encode(&record, &mut bytes)?;
-    bytes.push(0)?;
-    Ok(bytes)
+    among_others(alloc, &record)
 }
 
-// How many bytes the payload has that is read of a body among others, all of them as they were
-// written, and how many more hold the lent log then.
+// The body of a checkpoint of this length, among others.
+fn checkpoint_among_others(alloc: Global, length: usize) -> Result<Vec<u8>, Fail> {
+    let bytes = Vec::from_elem(alloc, b'p', length)?;
+    let bytes = CheckBytes::new(bytes).ok_or("too long")?;
+    among_others(alloc, &Record::Checkpoint { bytes })
+}
+
+// How many bytes the payload or the checkpoint has that is read of a body among others, all of them
+// as they were written, and how many more hold the lent log then.
 fn read_of(alloc: Global, bytes: &[u8], log: &ArcSlice<u8>) -> Result<(usize, usize), Fail> {
     let lent = LentLog::of(log)?;
     let before = ArcSlice::strong_count(log);
@@ -74,20 +85,22 @@ fn read_of(alloc: Global, bytes: &[u8], log: &ArcSlice<u8>) -> Result<(usize, us
         return Err("no body".into());
     }
     let record = decode_at(alloc, Version::One, &lent, bytes, 1, len)?;
-    let Record::Enqueue { payload, .. } = &record else {
-        return Err("another record".into());
+    let read = match &record {
+        Record::Enqueue { payload, .. } => payload.bytes(),
+        Record::Checkpoint { bytes } => bytes.bytes(),
+        _ => return Err("another record".into()),
     };
-    if payload.bytes().iter().any(|byte| *byte != b'p') {
-        return Err("another payload".into());
+    if read.iter().any(|byte| *byte != b'p') {
+        return Err("other bytes".into());
     }
     let more = ArcSlice::strong_count(log).saturating_sub(before);
-    Ok((payload.bytes().len(), more))
+    Ok((read.len(), more))
 }
 
 #[test]
 fn a_long_payload_is_a_part_of_the_log_that_is_lent(rt: HostRuntime) -> Result<(), Fail> {
     for (length, more) in [(0, 0), (22, 0), (23, 1), (65_535, 1)] {
-        let bytes = body_among_others(rt.alloc(), length)?;
+        let bytes = payload_among_others(rt.alloc(), length)?;
         let log = ArcSlice::from_slice(rt.alloc(), &bytes)?;
         assert_eq!(rt; read_of(rt.alloc(), &bytes, &log)?, (length, more));
     }
@@ -95,13 +108,23 @@ fn a_long_payload_is_a_part_of_the_log_that_is_lent(rt: HostRuntime) -> Result<(
 }
 
 #[test]
-fn a_payload_that_is_no_part_of_the_log_that_is_lent_is_a_copy(
-    rt: HostRuntime,
-) -> Result<(), Fail> {
-    let bytes = body_among_others(rt.alloc(), 100)?;
+fn a_checkpoint_is_a_part_of_the_log_that_is_lent(rt: HostRuntime) -> Result<(), Fail> {
+    for length in [1, 52, 65_536] {
+        let bytes = checkpoint_among_others(rt.alloc(), length)?;
+        let log = ArcSlice::from_slice(rt.alloc(), &bytes)?;
+        assert_eq!(rt; read_of(rt.alloc(), &bytes, &log)?, (length, 1));
+    }
+    Ok(())
+}
+
+#[test]
+fn what_is_no_part_of_the_log_that_is_lent_is_a_copy(rt: HostRuntime) -> Result<(), Fail> {
+    let payload = payload_among_others(rt.alloc(), 100)?;
+    let checkpoint = checkpoint_among_others(rt.alloc(), 100)?;
     for other in [&[b'q'; 200][..], &[b'p'; 60][..], &[][..]] {
         let log = ArcSlice::from_slice(rt.alloc(), other)?;
-        assert_eq!(rt; read_of(rt.alloc(), &bytes, &log)?, (100, 0));
+        assert_eq!(rt; read_of(rt.alloc(), &payload, &log)?, (100, 0));
+        assert_eq!(rt; read_of(rt.alloc(), &checkpoint, &log)?, (100, 0));
     }
     Ok(())
 }

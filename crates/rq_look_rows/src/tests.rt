@@ -1,13 +1,37 @@
-//! What is shown of a log.
-
-use super::scripts::{ONE_ELEMENT, SECOND_ABORT};
-use super::{lines, log_of};
 use rq_look::{
     Plan, Subject, Trouble, Wanted, check, dump, page, report, report_json, script, story,
 };
+use rq_writer::make;
+use std::alloc::Global;
 use std::str::from_utf8;
 use std::test::Fail;
 use std::thread::Threads;
+
+// An element that is put in.
+const ONE_ELEMENT: [&str; 4] = [
+    "define jobs 0 -",
+    "begin 1",
+    "enqueue 1 0 5 - 0 61",
+    "commit 1",
+];
+
+// An element whose takers abort: two, and it moves to the error queue; and one there.
+const SECOND_ABORT: [&str; 14] = [
+    "define dead 0 -",
+    "define jobs 2 0",
+    "begin 5",
+    "enqueue 5 1 5 - 0 6869",
+    "commit 5",
+    "begin 6",
+    "dequeue 6 1 - 0",
+    "abort 6",
+    "begin 7",
+    "dequeue 7 1 - 0",
+    "abort 7",
+    "begin 8",
+    "dequeue 8 0 - 0",
+    "abort 8",
+];
 
 // All records, a line each.
 const ALL: Wanted<'static> = Wanted {
@@ -23,6 +47,20 @@ const ALL: Wanted<'static> = Wanted {
 
 fn plan() -> Option<Plan> {
     Plan::new(2, 1)
+}
+
+// The lines, each ended by LF.
+fn lines(alloc: Global, lines: &[&str]) -> Result<Vec<u8>, Fail> {
+    let mut text = lines.join(alloc, "\n")?;
+    text.push('\n')?;
+    Ok(text.into_bytes())
+}
+
+// The log of a script.
+fn log_of<R: Threads + Sync + AllocGlobal>(rt: &R, script: &[&str]) -> Result<Vec<u8>, Fail> {
+    let script = lines(rt.alloc(), script)?;
+    let plan = plan().ok_or("plan")?;
+    Ok(make(rt, rt.alloc(), &script, &plan)?)
 }
 
 // What a dump shows of the log.
@@ -186,7 +224,7 @@ fn a_report_is_shown_by_queue_and_as_json(rt: HostRuntime) -> Result<(), Fail> {
     assert!(rt; report(&rt, rt.alloc(), &log, &plan, Some(0), &mut text).is_ok());
     let want = [
         "queue 0 dead limit 0 error -",
-        "e 3 from 1 priority 5 attempts 1 61",
+        "e 3 from 1 priority 5 attempts 1 6869",
     ];
     assert!(rt; text == lines(rt.alloc(), &want)?);
     let mut json = Vec::new(rt.alloc());
@@ -227,15 +265,15 @@ fn a_story_follows_an_element(rt: HostRuntime) -> Result<(), Fail> {
     let told = story(&rt, rt.alloc(), &log, &plan, Subject::Element(3), &mut text);
     assert!(rt; told.is_ok());
     let want = [
-        "179 3 enqueue unit 1 queue 1 priority 5 by - payload \"a\": puts in element 3",
-        "239 4 commit unit 1: element 3 is free in queue 1",
-        "329 6 dequeue unit 2 queue 1 by -: takes element 3",
-        "387 7 abort unit 2: element 3 is back in queue 1, attempts 1",
-        "477 9 dequeue unit 3 queue 1 by -: takes element 3",
-        "535 10 abort unit 3: element 3 moves to queue 0",
-        "625 12 dequeue unit 4 queue 0 by -: takes element 3",
-        "683 13 abort unit 4: element 3 is back in queue 0, attempts 1",
-        "front ends behind 14 records, at 728 of 728 bytes, whole: nothing follows",
+        "179 3 enqueue unit 5 queue 1 priority 5 by - payload \"hi\": puts in element 3",
+        "240 4 commit unit 5: element 3 is free in queue 1",
+        "330 6 dequeue unit 6 queue 1 by -: takes element 3",
+        "388 7 abort unit 6: element 3 is back in queue 1, attempts 1",
+        "478 9 dequeue unit 7 queue 1 by -: takes element 3",
+        "536 10 abort unit 7: element 3 moves to queue 0",
+        "626 12 dequeue unit 8 queue 0 by -: takes element 3",
+        "684 13 abort unit 8: element 3 is back in queue 0, attempts 1",
+        "front ends behind 14 records, at 729 of 729 bytes, whole: nothing follows",
     ];
     assert!(rt; text == lines(rt.alloc(), &want)?);
     let none = story(&rt, rt.alloc(), &log, &plan, Subject::Unit(9), &mut text);
