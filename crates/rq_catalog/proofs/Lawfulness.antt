@@ -5,6 +5,7 @@ use Rattle.std.specs.Prelude.{◌==◌, nat_lt, nat_le, nat_eq, if◌then◌else
 use Rattle.std.proofs.lemmas.Bool.{eqb-true, eqb-false, le-leb}
 use Rattle.std.proofs.lemmas.List.{length-map}
 use Rattle.indexmap.specs.IndexMap.{get}
+use Rattle.indexmap.specs.IndexSet.{IndexSet, contains}
 use Rattle.rq_model.specs.Records as model
 use Rattle.rq_model.specs.Records.{Version, One, Two, no_queue}
 use Rattle.rq_model.specs.States.{State, Definition, definition_at}
@@ -22,7 +23,7 @@ use Rattle.rq_catalog.specs.declared.outcome.Outcome.{Outcome}
 use Rattle.rq_catalog.specs.declared.outcome.Outcome.TheVariants.{Committed, Aborted, Open}
 use Rattle.rq_catalog.specs.declared.catalogue.Catalogue.{Catalogue}
 use Rattle.rq_catalog.specs.Outcomes.{is_open_in, outcome_of}
-use Rattle.rq_catalog.specs.Catalogues.{is_known_in, is_limit_in, may_be_error_in, may_kill_in, may_take, Follows}
+use Rattle.rq_catalog.specs.Catalogues.{key_eq, is_known_in, is_limit_in, may_be_error_in, may_kill_in, may_take, Follows}
 use Rattle.rq_catalog.proofs.Runs.{is_open_outcome, open_by_outcome}
 
 -- Lawfulness.
@@ -43,10 +44,11 @@ open_as (Some Open) = refl
 open_as (Some (Committed place)) = refl
 open_as (Some (Aborted place)) = refl
 
-known_as : (c : Catalogue) (s : State) (xs : List model.Record) (q : ℕ) (by : Option By) → Follows c s xs
-    → is_known_in c q by ≡ is_known (run s xs) q by
-known_as c s xs q None f = refl
-known_as c s xs q (Some by) f = f.registrants (q, by.name)
+pub known_by : {S : Type 0} (registrants : IndexSet (ℕ × List ℕ) S) (s : State)
+    → ((k : ℕ × List ℕ) → contains key_eq registrants k ≡ is_registered s k.0 k.1) → (q : ℕ) (by : Option By)
+    → is_known_in registrants q by ≡ is_known s q by
+known_by registrants s same q None = refl
+known_by registrants s same q (Some by) = same (q, by.name)
 
 limit_as : (a b c : Bool) (limit : ℕ) → (if limit == 0 then a else nat_le limit 1000 && (b && c))
     ≡ (((limit == 0) && a) || (nat_le 1 limit && (nat_le limit 1000 && (b && c))))
@@ -94,9 +96,9 @@ module _ (version : Version) (c : Catalogue) (s : State) (xs : List model.Record
   kill_here Two queue element = defined_here queue
 
   operation_here : (u q : ℕ) (by : Option By)
-      → (nat_lt q (length c.errors.items) && (is_open_in (get nat_eq c.outcomes u) && is_known_in c q by))
+      → (nat_lt q (length c.errors.items) && (is_open_in (get nat_eq c.outcomes u) && is_known_in c.registrants q by))
       ≡ (machine.is_defined (run s xs) q && (is_open (run s xs) u && is_known (run s xs) q by))
-  operation_here u q by = λ i. defined_here q i && (open_here u i && known_as c s xs q by f i)
+  operation_here u q by = λ i. defined_here q i && (open_here u i && known_by c.registrants (run s xs) f.registrants q by i)
 
   -- what the catalogue takes is what is lawful
   pub lawful_here : (r : Record) → may_take version c r ≡ is_lawful version (run s xs) (record_of r)

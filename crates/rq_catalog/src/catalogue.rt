@@ -17,6 +17,7 @@ ghost use Rattle.rq_catalog.specs.Catalogues.{is_limit_in, may_be_error_in, may_
 
 use crate::lists::{engage, touch, touch_all};
 use crate::outcome::Outcome;
+use crate::registrants::{is_known, is_registered};
 use indexmap::{IndexMap, IndexSet};
 use rq_record::{Fault, KeptBy, Name, QueueNo, Record, Version};
 use std::alloc::Global;
@@ -61,19 +62,12 @@ impl Catalogue {
         matches!(self.outcomes.get(&unit), Some(Outcome::Open))
     }
 
-    fn is_registered(&self, queue: u32, name: Name) -> bool
-        ensures { result ≡ contains key_eq self.now.registrants (queue, name) }
+    fn may_engage(&self, unit: u64, queue: u32, by: &KeptBy) -> bool
+        ensures { result ≡ (nat_lt queue (length self.now.errors.items)
+            && (is_open_in (get nat_eq self.now.outcomes unit)
+            && is_known_in self.now.registrants queue by.now)) }
     {
-        self.registrants.contains(&(queue, name))
-    }
-
-    fn is_known(&self, queue: u32, by: &KeptBy) -> bool
-        ensures { result ≡ is_known_in self.now queue by.now }
-    {
-        match by.by() {
-            Some(by) => self.is_registered(queue, by.name),
-            None => true,
-        }
+        self.is_defined(queue) && self.is_open(unit) && is_known(&self.registrants, queue, by)
     }
 
     // An error queue of version 1 has none itself.
@@ -117,17 +111,17 @@ impl Catalogue {
                     && !self.names.contains(&name.name())
             }
             Record::Register { queue, .. } => self.is_defined(queue.0),
-            Record::Deregister { queue, name } => self.is_registered(queue.0, name.name()),
+            Record::Deregister { queue, name } => {
+                is_registered(&self.registrants, queue.0, name.name())
+            }
             Record::Begin { unit } => self.greatest < unit.0,
             Record::Enqueue {
                 unit,
                 queue,
                 by,
                 ..
-            } => self.is_defined(queue.0) && self.is_open(unit.0) && self.is_known(queue.0, by),
-            Record::Dequeue { unit, queue, by } => self.is_defined(queue.0)
-                && self.is_open(unit.0)
-                && self.is_known(queue.0, by),
+            } => self.may_engage(unit.0, queue.0, by),
+            Record::Dequeue { unit, queue, by } => self.may_engage(unit.0, queue.0, by),
             Record::Commit { unit } => self.is_open(unit.0),
             Record::Abort { unit } => self.is_open(unit.0),
             Record::Checkpoint { .. } => true,

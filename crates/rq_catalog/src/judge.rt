@@ -12,6 +12,7 @@ ghost use Rattle.rq_record.specs.Views.{record_of, version_of};
 ghost use Rattle.rq_record.specs.declared.fault.Fault.TheVariants.{Resources};
 ghost use Rattle.rq_catalog.specs.Judges.{KnowsState, StandsIn, KeepsStanding, Notes};
 
+use crate::registrants::{is_known, is_registered};
 use indexmap::IndexSet;
 use rq_record::{Fault, KeptBy, Name, QueueNo, Record, Version};
 use std::alloc::Global;
@@ -111,16 +112,13 @@ impl Judge {
         ensures { (s : State) → KnowsState self.now s
             → result ≡ machine.is_registered s queue.0 name }
     {
-        self.registrants.contains(&(queue.0, name))
+        is_registered(&self.registrants, queue.0, name)
     }
 
     fn is_known(&self, queue: QueueNo, by: &KeptBy) -> bool
         ensures { (s : State) → KnowsState self.now s → result ≡ machine.is_known s queue.0 by.now }
     {
-        match by.by() {
-            Some(by) => self.is_registered(queue, by.name),
-            None => true,
-        }
+        is_known(&self.registrants, queue.0, by)
     }
 
     fn may_engage(&self, unit: u64, queue: QueueNo, by: &KeptBy) -> bool

@@ -6,6 +6,7 @@ mod catalogue;
 mod judge;
 mod lists;
 mod outcome;
+mod registrants;
 mod start;
 
 pub use analysis::{Analysis, analyse, analyse_in, indices};
