@@ -23,7 +23,8 @@ use Rattle.rq_catalog.specs.declared.outcome.Outcome.{Outcome}
 use Rattle.rq_catalog.specs.declared.outcome.Outcome.TheVariants.{Committed, Aborted, Open}
 use Rattle.rq_catalog.specs.declared.catalogue.Catalogue.{Catalogue}
 use Rattle.rq_catalog.specs.Outcomes.{is_open_in, outcome_of}
-use Rattle.rq_catalog.specs.Catalogues.{key_eq, is_known_in, is_limit_in, may_be_error_in, may_kill_in, may_take, Follows}
+use Rattle.rq_catalog.specs.Catalogues.{key_eq, is_known_in, is_limit_in, may_be_error_in, may_kill_in, may_take}
+use Rattle.rq_catalog.specs.Catalogues.{Follows}
 use Rattle.rq_catalog.proofs.Runs.{is_open_outcome, open_by_outcome}
 
 -- Lawfulness.
@@ -70,40 +71,46 @@ limit_as a b c limit =
     positive zero h = absurd (h refl)
     positive (suc n) h = omega arith
 
+module _ (errors : List ℕ) (s : State) (same : errors ≡ map (λ (d : Definition). d.error) s.definitions) where
+  pub defined_by : (q : ℕ) → nat_lt q (length errors) ≡ machine.is_defined s q
+  defined_by q = ap (nat_lt q) (ap length same ∙ length-map s.definitions (λ (d : Definition). d.error))
+
+  error_by : (v : Version) (error : ℕ) → may_be_error_in v errors error ≡ may_be_error v s error
+  error_by One error =
+      ap (λ n. n == no_queue) (ap (λ l. slice_index_or l error no_queue) same ∙ error_at s.definitions error)
+  error_by Two error = refl
+
+  pub limit_by : (v : Version) (limit error : ℕ) → is_limit_in v errors limit error ≡ is_limit v s limit error
+  limit_by v limit error =
+      limit_as (error == no_queue) (nat_lt error (length errors)) (may_be_error_in v errors error) limit
+      ∙ (λ i. ((limit == 0) && (error == no_queue))
+      || (nat_le 1 limit && (nat_le limit 1000 && (defined_by error i && error_by v error i))))
+
+  pub kill_by : (v : Version) (queue element : ℕ)
+      → may_kill_in v errors queue ≡ is_lawful v s (model.Kill queue element)
+  kill_by One queue element = refl
+  kill_by Two queue element = defined_by queue
+
 module _ (version : Version) (c : Catalogue) (s : State) (xs : List model.Record) (f : Follows c s xs)
     (well : IsWellFormed s) (lawful : all_lawful version s xs ≡ true) where
-  defined_here : (q : ℕ) → nat_lt q (length c.errors.items) ≡ nat_lt q (length (run s xs).definitions)
-  defined_here q = ap (nat_lt q) (count c s xs f)
+  defined_here : (q : ℕ) → nat_lt q (length c.errors.items) ≡ machine.is_defined (run s xs) q
+  defined_here q = defined_by c.errors.items (run s xs) f.errors q
 
   pub open_here : (u : ℕ) → is_open_in (get nat_eq c.outcomes u) ≡ is_open (run s xs) u
   open_here u = open_as (get nat_eq c.outcomes u) ∙ ap is_open_outcome (f.outcomes u)
       ∙ sym (open_by_outcome version s xs u well lawful)
 
-  error_here : (v : Version) (error : ℕ) → may_be_error_in v c error ≡ may_be_error v (run s xs) error
-  error_here One error = ap (λ n. n == no_queue)
-      (ap (λ l. slice_index_or l error no_queue) f.errors ∙ error_at (run s xs).definitions error)
-  error_here Two error = refl
-
-  limit_here : (limit error : ℕ) → is_limit_in version c limit error ≡ is_limit version (run s xs) limit error
-  limit_here limit error =
-      limit_as (error == no_queue) (nat_lt error (length c.errors.items)) (may_be_error_in version c error) limit
-      ∙ (λ i. ((limit == 0) && (error == no_queue))
-      || (nat_le 1 limit && (nat_le limit 1000 && (defined_here error i && error_here version error i))))
-
-  kill_here : (v : Version) (queue : ℕ) (element : ℕ)
-      → may_kill_in v c queue ≡ is_lawful v (run s xs) (model.Kill queue element)
-  kill_here One queue element = refl
-  kill_here Two queue element = defined_here queue
-
   operation_here : (u q : ℕ) (by : Option By)
       → (nat_lt q (length c.errors.items) && (is_open_in (get nat_eq c.outcomes u) && is_known_in c.registrants q by))
       ≡ (machine.is_defined (run s xs) q && (is_open (run s xs) u && is_known (run s xs) q by))
-  operation_here u q by = λ i. defined_here q i && (open_here u i && known_by c.registrants (run s xs) f.registrants q by i)
+  operation_here u q by =
+      λ i. defined_here q i && (open_here u i && known_by c.registrants (run s xs) f.registrants q by i)
 
   -- what the catalogue takes is what is lawful
   pub lawful_here : (r : Record) → may_take version c r ≡ is_lawful version (run s xs) (record_of r)
   lawful_here (Define limit error name) =
-      λ i. limit_here limit error.0 i && (nat_lt (count c s xs f i) 4096 && not (f.names name i))
+      λ i. limit_by c.errors.items (run s xs) f.errors version limit error.0 i
+      && (nat_lt (count c s xs f i) 4096 && not (f.names name i))
   lawful_here (Register queue name) = defined_here queue.0
   lawful_here (Deregister queue name) = f.registrants (queue.0, name)
   lawful_here (Begin unit) = ap (λ g. nat_lt g unit.0) f.greatest
@@ -112,4 +119,4 @@ module _ (version : Version) (c : Catalogue) (s : State) (xs : List model.Record
   lawful_here (Commit unit) = open_here unit.0
   lawful_here (Abort unit) = open_here unit.0
   lawful_here (Checkpoint bytes) = refl
-  lawful_here (Kill queue element) = kill_here version queue.0 element.0
+  lawful_here (Kill queue element) = kill_by c.errors.items (run s xs) f.errors version queue.0 element.0

@@ -3,6 +3,7 @@
 
 mod analysis;
 mod catalogue;
+mod errors;
 mod judge;
 mod lists;
 mod outcome;
