@@ -141,8 +141,7 @@ impl Elements {
         ensures refused { IfErr result (λ e. e ≡ Resources) }
     {
         let e = Element::fresh(place, unit, queue, priority, payload.copied()?);
-        let all = self.push(alloc, e)?;
-        Ok(all)
+        self.push(alloc, e)
     }
 
     /// The best element becomes Held; all are in the queue. Its id, if there is one.

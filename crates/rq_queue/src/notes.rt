@@ -91,8 +91,7 @@ impl Notes {
         ensures listed { IfOk result (λ v. v.items ≡ self) }
         ensures refused { IfErr result (λ e. e ≡ Resources) }
     {
-        let all = listed(alloc, self.all)?;
-        Ok(all)
+        listed(alloc, self.all)
     }
 
     /// Adds the note of an operation, where somebody is named.

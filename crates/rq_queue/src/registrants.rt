@@ -78,8 +78,7 @@ impl Registrants {
         ensures listed { IfOk result (λ v. v.items ≡ self) }
         ensures refused { IfErr result (λ e. e ≡ Resources) }
     {
-        let all = listed(alloc, self.lasts)?;
-        Ok(all)
+        listed(alloc, self.lasts)
     }
 
     /// Registers a name, unless it is registered.
@@ -147,8 +146,7 @@ impl Registrants {
         ensures done { IfOk result (λ v. v ≡ map (machine.told unit.0 notes.now) self) }
         ensures refused { IfErr result (λ e. e ≡ Resources) }
     {
-        let all = hear_all(alloc, self, unit, notes)?;
-        Ok(all)
+        hear_all(alloc, self, unit, notes)
     }
 }
 
