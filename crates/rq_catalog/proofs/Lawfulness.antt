@@ -5,6 +5,7 @@ use Rattle.std.specs.Prelude.{◌==◌, nat_lt, nat_le, nat_eq, if◌then◌else
 use Rattle.std.proofs.lemmas.Bool.{eqb-true, eqb-false, le-leb}
 use Rattle.std.proofs.lemmas.List.{length-map}
 use Rattle.indexmap.specs.IndexMap.{get}
+use Rattle.indexmap.specs.IndexSet.{IndexSet, contains}
 use Rattle.rq_model.specs.Records as model
 use Rattle.rq_model.specs.Records.{Version, One, Two, no_queue}
 use Rattle.rq_model.specs.States.{State, Definition, definition_at}
@@ -22,7 +23,8 @@ use Rattle.rq_catalog.specs.declared.outcome.Outcome.{Outcome}
 use Rattle.rq_catalog.specs.declared.outcome.Outcome.TheVariants.{Committed, Aborted, Open}
 use Rattle.rq_catalog.specs.declared.catalogue.Catalogue.{Catalogue}
 use Rattle.rq_catalog.specs.Outcomes.{is_open_in, outcome_of}
-use Rattle.rq_catalog.specs.Catalogues.{is_known_in, is_limit_in, may_be_error_in, may_kill_in, may_take, Follows}
+use Rattle.rq_catalog.specs.Catalogues.{key_eq, is_known_in, is_limit_in, may_be_error_in, may_kill_in, may_take}
+use Rattle.rq_catalog.specs.Catalogues.{Follows}
 use Rattle.rq_catalog.proofs.Runs.{is_open_outcome, open_by_outcome}
 
 -- Lawfulness.
@@ -43,10 +45,11 @@ open_as (Some Open) = refl
 open_as (Some (Committed place)) = refl
 open_as (Some (Aborted place)) = refl
 
-known_as : (c : Catalogue) (s : State) (xs : List model.Record) (q : ℕ) (by : Option By) → Follows c s xs
-    → is_known_in c q by ≡ is_known (run s xs) q by
-known_as c s xs q None f = refl
-known_as c s xs q (Some by) f = f.registrants (q, by.name)
+pub known_by : {S : Type 0} (registrants : IndexSet (ℕ × List ℕ) S) (s : State)
+    → ((k : ℕ × List ℕ) → contains key_eq registrants k ≡ is_registered s k.0 k.1) → (q : ℕ) (by : Option By)
+    → is_known_in registrants q by ≡ is_known s q by
+known_by registrants s same q None = refl
+known_by registrants s same q (Some by) = same (q, by.name)
 
 limit_as : (a b c : Bool) (limit : ℕ) → (if limit == 0 then a else nat_le limit 1000 && (b && c))
     ≡ (((limit == 0) && a) || (nat_le 1 limit && (nat_le limit 1000 && (b && c))))
@@ -68,40 +71,46 @@ limit_as a b c limit =
     positive zero h = absurd (h refl)
     positive (suc n) h = omega arith
 
+module _ (errors : List ℕ) (s : State) (same : errors ≡ map (λ (d : Definition). d.error) s.definitions) where
+  pub defined_by : (q : ℕ) → nat_lt q (length errors) ≡ machine.is_defined s q
+  defined_by q = ap (nat_lt q) (ap length same ∙ length-map s.definitions (λ (d : Definition). d.error))
+
+  error_by : (v : Version) (error : ℕ) → may_be_error_in v errors error ≡ may_be_error v s error
+  error_by One error =
+      ap (λ n. n == no_queue) (ap (λ l. slice_index_or l error no_queue) same ∙ error_at s.definitions error)
+  error_by Two error = refl
+
+  pub limit_by : (v : Version) (limit error : ℕ) → is_limit_in v errors limit error ≡ is_limit v s limit error
+  limit_by v limit error =
+      limit_as (error == no_queue) (nat_lt error (length errors)) (may_be_error_in v errors error) limit
+      ∙ (λ i. ((limit == 0) && (error == no_queue))
+      || (nat_le 1 limit && (nat_le limit 1000 && (defined_by error i && error_by v error i))))
+
+  pub kill_by : (v : Version) (queue element : ℕ)
+      → may_kill_in v errors queue ≡ is_lawful v s (model.Kill queue element)
+  kill_by One queue element = refl
+  kill_by Two queue element = defined_by queue
+
 module _ (version : Version) (c : Catalogue) (s : State) (xs : List model.Record) (f : Follows c s xs)
     (well : IsWellFormed s) (lawful : all_lawful version s xs ≡ true) where
-  defined_here : (q : ℕ) → nat_lt q (length c.errors.items) ≡ nat_lt q (length (run s xs).definitions)
-  defined_here q = ap (nat_lt q) (count c s xs f)
+  defined_here : (q : ℕ) → nat_lt q (length c.errors.items) ≡ machine.is_defined (run s xs) q
+  defined_here q = defined_by c.errors.items (run s xs) f.errors q
 
   pub open_here : (u : ℕ) → is_open_in (get nat_eq c.outcomes u) ≡ is_open (run s xs) u
   open_here u = open_as (get nat_eq c.outcomes u) ∙ ap is_open_outcome (f.outcomes u)
       ∙ sym (open_by_outcome version s xs u well lawful)
 
-  error_here : (v : Version) (error : ℕ) → may_be_error_in v c error ≡ may_be_error v (run s xs) error
-  error_here One error = ap (λ n. n == no_queue)
-      (ap (λ l. slice_index_or l error no_queue) f.errors ∙ error_at (run s xs).definitions error)
-  error_here Two error = refl
-
-  limit_here : (limit error : ℕ) → is_limit_in version c limit error ≡ is_limit version (run s xs) limit error
-  limit_here limit error =
-      limit_as (error == no_queue) (nat_lt error (length c.errors.items)) (may_be_error_in version c error) limit
-      ∙ (λ i. ((limit == 0) && (error == no_queue))
-      || (nat_le 1 limit && (nat_le limit 1000 && (defined_here error i && error_here version error i))))
-
-  kill_here : (v : Version) (queue : ℕ) (element : ℕ)
-      → may_kill_in v c queue ≡ is_lawful v (run s xs) (model.Kill queue element)
-  kill_here One queue element = refl
-  kill_here Two queue element = defined_here queue
-
   operation_here : (u q : ℕ) (by : Option By)
-      → (nat_lt q (length c.errors.items) && (is_open_in (get nat_eq c.outcomes u) && is_known_in c q by))
+      → (nat_lt q (length c.errors.items) && (is_open_in (get nat_eq c.outcomes u) && is_known_in c.registrants q by))
       ≡ (machine.is_defined (run s xs) q && (is_open (run s xs) u && is_known (run s xs) q by))
-  operation_here u q by = λ i. defined_here q i && (open_here u i && known_as c s xs q by f i)
+  operation_here u q by =
+      λ i. defined_here q i && (open_here u i && known_by c.registrants (run s xs) f.registrants q by i)
 
   -- what the catalogue takes is what is lawful
   pub lawful_here : (r : Record) → may_take version c r ≡ is_lawful version (run s xs) (record_of r)
   lawful_here (Define limit error name) =
-      λ i. limit_here limit error.0 i && (nat_lt (count c s xs f i) 4096 && not (f.names name i))
+      λ i. limit_by c.errors.items (run s xs) f.errors version limit error.0 i
+      && (nat_lt (count c s xs f i) 4096 && not (f.names name i))
   lawful_here (Register queue name) = defined_here queue.0
   lawful_here (Deregister queue name) = f.registrants (queue.0, name)
   lawful_here (Begin unit) = ap (λ g. nat_lt g unit.0) f.greatest
@@ -110,4 +119,4 @@ module _ (version : Version) (c : Catalogue) (s : State) (xs : List model.Record
   lawful_here (Commit unit) = open_here unit.0
   lawful_here (Abort unit) = open_here unit.0
   lawful_here (Checkpoint bytes) = refl
-  lawful_here (Kill queue element) = kill_here version queue.0 element.0
+  lawful_here (Kill queue element) = kill_by c.errors.items (run s xs) f.errors version queue.0 element.0

@@ -21,12 +21,12 @@ abbrev pub open_in : Analysis → List ℕ
 open_in a = filter (λ unit. is_open_in (get nat_eq a.catalogue.outcomes unit))
     (keys a.catalogue.outcomes)
 
--- the unit at a place of their list
+-- the unit at an index in their list
 abbrev pub unit_at : Analysis → ℕ → ℕ
-unit_at a place = slice_index_or (keys a.catalogue.outcomes) place 0
+unit_at a index = slice_index_or (keys a.catalogue.outcomes) index 0
 
 abbrev pub is_open_at : Analysis → ℕ → Bool
-is_open_at a place = is_open_in (get nat_eq a.catalogue.outcomes (unit_at a place))
+is_open_at a index = is_open_in (get nat_eq a.catalogue.outcomes (unit_at a index))
 
 -- what the analysis has for a queue: places, and indices among the records
 abbrev pub touched : Analysis → ℕ → List (ℕ × ℕ)

@@ -4,7 +4,7 @@ use Rattle.std.specs.Prelude.{nat_lt, nat_le, nat_eq, if◌then◌else◌, List,
 use Rattle.std.specs.Prelude.{Option, Some, None, option_map, slice_index_or, map}
 use Rattle.std.specs.Cmp.Lexicographic.{pointwise}
 use Rattle.indexmap.specs.IndexMap.{get, insert_entry, keys}
-use Rattle.indexmap.specs.IndexSet.{contains}
+use Rattle.indexmap.specs.IndexSet.{IndexSet, contains}
 use Rattle.rq_model.specs.Records.{By, Version, One, Two, no_queue}
 use Rattle.rq_model.specs.Records as model
 use Rattle.rq_model.specs.States.{State, Definition}
@@ -27,41 +27,41 @@ use Rattle.rq_catalog.specs.declared.catalogue.Catalogue.{Catalogue}
 abbrev pub key_eq : ℕ × List ℕ → ℕ × List ℕ → Bool
 key_eq a b = nat_eq a.0 b.0 && pointwise nat_eq a.1 b.1
 
-abbrev pub is_known_in : Catalogue → ℕ → Option By → Bool
-is_known_in c queue None = true
-is_known_in c queue (Some by) = contains key_eq c.registrants (queue, by.name)
+abbrev pub is_known_in : {S : Type 0} → IndexSet (ℕ × List ℕ) S → ℕ → Option By → Bool
+is_known_in registrants queue None = true
+is_known_in registrants queue (Some by) = contains key_eq registrants (queue, by.name)
 
 -- an error queue of version 1 has none itself
-abbrev pub may_be_error_in : Version → Catalogue → ℕ → Bool
-may_be_error_in One c error = slice_index_or c.errors.items error no_queue == no_queue
-may_be_error_in Two c error = true
+abbrev pub may_be_error_in : Version → List ℕ → ℕ → Bool
+may_be_error_in One errors error = slice_index_or errors error no_queue == no_queue
+may_be_error_in Two errors error = true
 
-abbrev pub is_limit_in : Version → Catalogue → ℕ → ℕ → Bool
-is_limit_in version c limit error =
+abbrev pub is_limit_in : Version → List ℕ → ℕ → ℕ → Bool
+is_limit_in version errors limit error =
     if limit == 0 then error == no_queue
     else (nat_le limit 1000
-    && (nat_lt error (length c.errors.items) && may_be_error_in version c error))
+    && (nat_lt error (length errors) && may_be_error_in version errors error))
 
 -- version 1 has no KILL
-abbrev pub may_kill_in : Version → Catalogue → ℕ → Bool
-may_kill_in One c queue = false
-may_kill_in Two c queue = nat_lt queue (length c.errors.items)
+abbrev pub may_kill_in : Version → List ℕ → ℕ → Bool
+may_kill_in One errors queue = false
+may_kill_in Two errors queue = nat_lt queue (length errors)
 
 -- the record is lawful by the catalogue
 abbrev pub may_take : Version → Catalogue → Record → Bool
-may_take version c (Define limit error name) = is_limit_in version c limit error.0
+may_take version c (Define limit error name) = is_limit_in version c.errors.items limit error.0
     && (nat_lt (length c.errors.items) 4096 && not (contains (pointwise nat_eq) c.names name))
 may_take version c (Register queue name) = nat_lt queue.0 (length c.errors.items)
 may_take version c (Deregister queue name) = contains key_eq c.registrants (queue.0, name)
 may_take version c (Begin unit) = nat_lt c.greatest unit.0
 may_take version c (Enqueue priority queue unit by payload) = nat_lt queue.0 (length c.errors.items)
-    && (is_open_in (get nat_eq c.outcomes unit.0) && is_known_in c queue.0 by)
+    && (is_open_in (get nat_eq c.outcomes unit.0) && is_known_in c.registrants queue.0 by)
 may_take version c (Dequeue unit queue by) = nat_lt queue.0 (length c.errors.items)
-    && (is_open_in (get nat_eq c.outcomes unit.0) && is_known_in c queue.0 by)
+    && (is_open_in (get nat_eq c.outcomes unit.0) && is_known_in c.registrants queue.0 by)
 may_take version c (Commit unit) = is_open_in (get nat_eq c.outcomes unit.0)
 may_take version c (Abort unit) = is_open_in (get nat_eq c.outcomes unit.0)
 may_take version c (Checkpoint bytes) = true
-may_take version c (Kill queue element) = may_kill_in version c queue.0
+may_take version c (Kill queue element) = may_kill_in version c.errors.items queue.0
 
 -- What a record changes, field by field.
 

@@ -142,35 +142,35 @@ impl Analysis {
         ensures refused { IfErr result (λ e. e ≡ Resources) }
     {
         let mut units = Vec::new(alloc);
-        let mut place = 0;
-        while place < self.catalogue.outcomes.len() {
-            self.push_open(place, &mut units)?;
-            place += 1;
+        let mut index = 0;
+        while index < self.catalogue.outcomes.len() {
+            self.push_open(index, &mut units)?;
+            index += 1;
         }
         Ok(units)
     }
 
-    // Adds the unit at a place of their list, where it is open.
-    fn push_open(&self, place: usize, units: &mut Vec<UnitNo>) -> Result<(), Fault>
-        requires { place < length (keys self.now.catalogue.outcomes) }
-        ensures opened { OnOk result (map unit_of units.new.items ≡ (if is_open_at self.now place
-            then map unit_of units.old.items ++ unit_at self.now place ∷ []
+    // Adds the unit at an index in their list, where it is open.
+    fn push_open(&self, index: usize, units: &mut Vec<UnitNo>) -> Result<(), Fault>
+        requires { index < length (keys self.now.catalogue.outcomes) }
+        ensures opened { OnOk result (map unit_of units.new.items ≡ (if is_open_at self.now index
+            then map unit_of units.old.items ++ unit_at self.now index ∷ []
             else map unit_of units.old.items)) }
         ensures refused { IfErr result (λ e. e ≡ Resources) }
     {
-        if let Some(unit) = self.open_at(place) {
+        if let Some(unit) = self.open_at(index) {
             units.push(unit)?;
         }
         Ok(())
     }
 
-    // The unit at a place of their list, where it is open.
-    fn open_at(&self, place: usize) -> Option<UnitNo>
-        requires { place < length (keys self.now.catalogue.outcomes) }
+    // The unit at an index in their list, where it is open.
+    fn open_at(&self, index: usize) -> Option<UnitNo>
+        requires { index < length (keys self.now.catalogue.outcomes) }
         ensures { option_map unit_of result
-            ≡ (if is_open_at self.now place then Some (unit_at self.now place) else None) }
+            ≡ (if is_open_at self.now index then Some (unit_at self.now index) else None) }
     {
-        match self.catalogue.outcomes.get_index(place) {
+        match self.catalogue.outcomes.get_index(index) {
             Some((unit, Outcome::Open)) => Some(UnitNo(*unit)),
             _ => None,
         }

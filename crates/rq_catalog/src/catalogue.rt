@@ -13,10 +13,11 @@ ghost use Rattle.rq_catalog.specs.Lists.{is_engaged_in};
 ghost use Rattle.rq_state.specs.Orders.{listed};
 ghost use Rattle.rq_catalog.specs.Outcomes.{is_open_in};
 ghost use Rattle.rq_catalog.specs.Catalogues.{HasRoom, Takes, may_take, key_eq, is_known_in};
-ghost use Rattle.rq_catalog.specs.Catalogues.{is_limit_in, may_be_error_in, may_kill_in};
 
+use crate::errors::{is_defined, is_limit, may_kill};
 use crate::lists::{engage, touch, touch_all};
 use crate::outcome::Outcome;
+use crate::registrants::{is_known, is_registered};
 use indexmap::{IndexMap, IndexSet};
 use rq_record::{Fault, KeptBy, Name, QueueNo, Record, Version};
 use std::alloc::Global;
@@ -49,61 +50,20 @@ fn give_back(registrants: &mut IndexSet<(u32, Name)>)
 }
 
 impl Catalogue {
-    fn is_defined(&self, queue: u32) -> bool
-        ensures { result ≡ nat_lt queue (length self.now.errors.items) }
-    {
-        (queue as usize) < self.errors.len()
-    }
-
     fn is_open(&self, unit: u64) -> bool
         ensures { result ≡ is_open_in (get nat_eq self.now.outcomes unit) }
     {
         matches!(self.outcomes.get(&unit), Some(Outcome::Open))
     }
 
-    fn is_registered(&self, queue: u32, name: Name) -> bool
-        ensures { result ≡ contains key_eq self.now.registrants (queue, name) }
+    fn may_engage(&self, unit: u64, queue: u32, by: &KeptBy) -> bool
+        ensures { result ≡ (nat_lt queue (length self.now.errors.items)
+            && (is_open_in (get nat_eq self.now.outcomes unit)
+            && is_known_in self.now.registrants queue by.now)) }
     {
-        self.registrants.contains(&(queue, name))
-    }
-
-    fn is_known(&self, queue: u32, by: &KeptBy) -> bool
-        ensures { result ≡ is_known_in self.now queue by.now }
-    {
-        match by.by() {
-            Some(by) => self.is_registered(queue, by.name),
-            None => true,
-        }
-    }
-
-    // An error queue of version 1 has none itself.
-    fn may_be_error(&self, version: Version, error: u32) -> bool
-        requires { error < length self.now.errors.items }
-        ensures { result ≡ may_be_error_in (version_of version) self.now error }
-    {
-        match version {
-            Version::One => self.errors[error as usize] == QueueNo::NONE.0,
-            Version::Two => true,
-        }
-    }
-
-    fn is_limit(&self, version: Version, limit: u16, error: QueueNo) -> bool
-        ensures { result ≡ is_limit_in (version_of version) self.now limit error.0 }
-    {
-        if limit == 0 {
-            return error.0 == QueueNo::NONE.0;
-        }
-        limit <= 1000 && self.is_defined(error.0) && self.may_be_error(version, error.0)
-    }
-
-    // Version 1 has no KILL.
-    fn may_kill(&self, version: Version, queue: QueueNo) -> bool
-        ensures { result ≡ may_kill_in (version_of version) self.now queue.0 }
-    {
-        match version {
-            Version::One => false,
-            Version::Two => self.is_defined(queue.0),
-        }
+        is_defined(&self.errors, queue)
+            && self.is_open(unit)
+            && is_known(&self.registrants, queue, by)
     }
 
     /// Whether the record is lawful here, by the rules of the version.
@@ -112,26 +72,26 @@ impl Catalogue {
     {
         match next {
             Record::Define { limit, error, name } => {
-                self.is_limit(version, *limit, *error)
+                is_limit(version, &self.errors, *limit, *error)
                     && self.errors.len() < 4096
                     && !self.names.contains(&name.name())
             }
-            Record::Register { queue, .. } => self.is_defined(queue.0),
-            Record::Deregister { queue, name } => self.is_registered(queue.0, name.name()),
+            Record::Register { queue, .. } => is_defined(&self.errors, queue.0),
+            Record::Deregister { queue, name } => {
+                is_registered(&self.registrants, queue.0, name.name())
+            }
             Record::Begin { unit } => self.greatest < unit.0,
             Record::Enqueue {
                 unit,
                 queue,
                 by,
                 ..
-            } => self.is_defined(queue.0) && self.is_open(unit.0) && self.is_known(queue.0, by),
-            Record::Dequeue { unit, queue, by } => self.is_defined(queue.0)
-                && self.is_open(unit.0)
-                && self.is_known(queue.0, by),
+            } => self.may_engage(unit.0, queue.0, by),
+            Record::Dequeue { unit, queue, by } => self.may_engage(unit.0, queue.0, by),
             Record::Commit { unit } => self.is_open(unit.0),
             Record::Abort { unit } => self.is_open(unit.0),
             Record::Checkpoint { .. } => true,
-            Record::Kill { queue, .. } => self.may_kill(version, *queue),
+            Record::Kill { queue, .. } => may_kill(version, &self.errors, *queue),
         }
     }
 

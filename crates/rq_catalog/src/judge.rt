@@ -12,6 +12,8 @@ ghost use Rattle.rq_record.specs.Views.{record_of, version_of};
 ghost use Rattle.rq_record.specs.declared.fault.Fault.TheVariants.{Resources};
 ghost use Rattle.rq_catalog.specs.Judges.{KnowsState, StandsIn, KeepsStanding, Notes};
 
+use crate::errors::{is_defined, is_limit, may_kill};
+use crate::registrants::{is_known, is_registered};
 use indexmap::IndexSet;
 use rq_record::{Fault, KeptBy, Name, QueueNo, Record, Version};
 use std::alloc::Global;
@@ -104,23 +106,20 @@ impl Judge {
         ensures state { (s : State) → KnowsState self.now s
             → result ≡ machine.is_defined s queue.0 }
     {
-        (queue.0 as usize) < self.errors.len()
+        is_defined(&self.errors, queue.0)
     }
 
     fn is_registered(&self, queue: QueueNo, name: Name) -> bool
         ensures { (s : State) → KnowsState self.now s
             → result ≡ machine.is_registered s queue.0 name }
     {
-        self.registrants.contains(&(queue.0, name))
+        is_registered(&self.registrants, queue.0, name)
     }
 
     fn is_known(&self, queue: QueueNo, by: &KeptBy) -> bool
         ensures { (s : State) → KnowsState self.now s → result ≡ machine.is_known s queue.0 by.now }
     {
-        match by.by() {
-            Some(by) => self.is_registered(queue, by.name),
-            None => true,
-        }
+        is_known(&self.registrants, queue.0, by)
     }
 
     fn may_engage(&self, unit: u64, queue: QueueNo, by: &KeptBy) -> bool
@@ -130,37 +129,18 @@ impl Judge {
         self.is_defined(queue) && self.units.contains(&unit) && self.is_known(queue, by)
     }
 
-    // An error queue of version 1 has none itself.
-    fn may_be_error(&self, error: QueueNo) -> bool
-        requires { error.0 < length self.now.errors.items }
-        ensures { (s : State) → KnowsState self.now s
-            → result ≡ machine.may_be_error (version_of self.now.version) s error.0 }
-    {
-        match self.version {
-            Version::One => self.errors[error.0 as usize] == QueueNo::NONE.0,
-            Version::Two => true,
-        }
-    }
-
     fn is_limit(&self, limit: u16, error: QueueNo) -> bool
         ensures { (s : State) → KnowsState self.now s
             → result ≡ machine.is_limit (version_of self.now.version) s limit error.0 }
     {
-        if limit == 0 {
-            return error.0 == QueueNo::NONE.0;
-        }
-        limit <= 1000 && self.is_defined(error) && self.may_be_error(error)
+        is_limit(self.version, &self.errors, limit, error)
     }
 
-    // Version 1 has no KILL.
     fn may_kill(&self, queue: QueueNo) -> bool
         ensures { (s : State) (element : ℕ) → KnowsState self.now s
             → result ≡ machine.is_lawful (version_of self.now.version) s (Kill queue.0 element) }
     {
-        match self.version {
-            Version::One => false,
-            Version::Two => self.is_defined(queue),
-        }
+        may_kill(self.version, &self.errors, queue)
     }
 
     // Takes a record that is lawful.

@@ -3,9 +3,11 @@
 
 mod analysis;
 mod catalogue;
+mod errors;
 mod judge;
 mod lists;
 mod outcome;
+mod registrants;
 mod start;
 
 pub use analysis::{Analysis, analyse, analyse_in, indices};

@@ -1,4 +1,4 @@
--- The parts of the frame at a place, and what its digest is taken over.
+-- The parts of the frame at an offset, and what its digest is taken over.
 use Rattle.std.proofs.Common.{◌≡◌, ℕ, ◌+◌, ◌-◌, ◌≤◌, false, ltb, List, ◌++◌, length, take, drop, refl, sym}
 use Rattle.std.proofs.Common.{ap, ◌∙◌, arith}
 use Rattle.std.specs.Int.{w32, to_be_bytes}

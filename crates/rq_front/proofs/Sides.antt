@@ -73,7 +73,7 @@ both_turns_right b bytes spans are right =
     let each = each_of_both (IsRight b) first second (recursion_from_All (IsRight b) (first ++ second) both) in
     All-from_recursion (IsRight b) spans (each_turn (IsRight b) spans each.0 each.1)
 
--- the messages of the frames up to a place that have a turn
+-- the messages of the frames up to an index that have a turn
 abbrev pub of_turn : Turn → List Span → List Message
 of_turn t spans = map message_of (filter (has_turn t) spans)
 

@@ -166,17 +166,17 @@ walk_spans b at (s ∷ ss) end low h =
     )
 
 -- a walk, cut before one of its spans
-pub record IsCut (b : List ℕ) (at : ℕ) (spans : List Span) (place : ℕ) (s : Span) : Type 0 where
-  pub walk : IsWalk b at (take place spans) (s.start - 4)
+pub record IsCut (b : List ℕ) (at : ℕ) (spans : List Span) (index : ℕ) (s : Span) : Type 0 where
+  pub walk : IsWalk b at (take index spans) (s.start - 4)
   pub frame : HasFrame (drop (s.start - 4) b)
 
-pub walk_cut : (b : List ℕ) (at : ℕ) (spans : List Span) (end place : ℕ) (d : Span) → IsWalk b at spans end
-    → place < length spans
-    → IsCut b at spans place (get_or spans place d)
-walk_cut b at [] end place d h lt = absurd (omega arith)
+pub walk_cut : (b : List ℕ) (at : ℕ) (spans : List Span) (end index : ℕ) (d : Span) → IsWalk b at spans end
+    → index < length spans
+    → IsCut b at spans index (get_or spans index d)
+walk_cut b at [] end index d h lt = absurd (omega arith)
 walk_cut b at (s ∷ ss) end zero d h lt =
     let here : s.start - 4 ≡ at = omega (arith, h.0) in
     record { walk = here; frame = subst (λ n. HasFrame (drop n b)) (sym here) h.2 }
-walk_cut b at (s ∷ ss) end (suc place) d h lt =
-    let rest = walk_cut b (at + 36 + s.len) ss end place d h.3 (omega arith) in
+walk_cut b at (s ∷ ss) end (suc index) d h lt =
+    let rest = walk_cut b (at + 36 + s.len) ss end index d h.3 (omega arith) in
     record { walk = (h.0, h.1, h.2, rest.walk); frame = rest.frame }

@@ -16,7 +16,7 @@ body_at b s = slice_range b s.start (s.start + s.len)
 abbrev pub bodies_at : List ℕ → List Span → List (List ℕ)
 bodies_at b spans = map (body_at b) spans
 
--- the spans of bodies whose frames stand one after the other from a place
+-- the spans of bodies whose frames stand one after the other from an offset
 abbrev pub spans_from : ℕ → List (List ℕ) → List Span
 spans_from at [] = []
 spans_from at (body ∷ bodies) = record { start = at + 4; len = length body }

@@ -11,7 +11,7 @@ use Rattle.rq_front.specs.declared.spans.Chain.{Chain}
 use Rattle.rq_front.specs.declared.spans.Walk.{Walk}
 use Rattle.rq_front.specs.Chains.{bodies_at, rest_of, spans_from}
 
--- frames stand one after the other from a place to an end, their digests aside, with bodies at
+-- frames stand one after the other from an offset to an end, their digests aside, with bodies at
 -- these spans
 abbrev pub IsWalk : List ℕ → ℕ → List Span → ℕ → Type 0
 IsWalk b at [] end = end ≡ at
@@ -28,7 +28,7 @@ pub record IsSpanOf (b : List ℕ) (s : Span) : Type 0 where
 abbrev pub IsRight : List ℕ → Span → Type 0
 IsRight b s = HasRightFrame (before (s.start - 4) b) (drop (s.start - 4) b)
 
--- what the digest of the frame at a place is of: the 32 bytes before it, its length and its body
+-- what the digest of the frame at an offset is of: the 32 bytes before it, its length and its body
 abbrev pub message_at : ℕ → ℕ → Message
 message_at at len = record { start = at - 32; len = 36 + len }
 
@@ -41,27 +41,27 @@ abbrev pub has_turn : Turn → Span → Bool
 has_turn First s = nat_le 16384 s.len
 has_turn Second s = not (nat_le 16384 s.len)
 
--- the span at this place is the first whose digest is wrong
-pub record IsFirstWrong (b : List ℕ) (spans : List Span) (place : ℕ) : Type 0 where
-  pub within : place < length spans
-  pub before : All (IsRight b) (take place spans)
-  pub wrong : HoldsAt (λ s. IsRight b s → ⊥) spans place
+-- the span at this index is the first whose digest is wrong
+pub record IsFirstWrong (b : List ℕ) (spans : List Span) (index : ℕ) : Type 0 where
+  pub within : index < length spans
+  pub before : All (IsRight b) (take index spans)
+  pub wrong : HoldsAt (λ s. IsRight b s → ⊥) spans index
 
 abbrev pub HasFirstWrong : List ℕ → List Span → Type 0
-HasFirstWrong b spans = (place : ℕ) × IsFirstWrong b spans place
+HasFirstWrong b spans = (index : ℕ) × IsFirstWrong b spans index
 
 -- the spans of a walk
 abbrev pub spans_of : Walk → List Span
 spans_of w = w.found.spans.items
 
--- the walk along all lengths of b from a place on, and what follows it
+-- the walk along all lengths of b from an offset on, and what follows it
 pub record Walks (b : List ℕ) (from : ℕ) (w : Walk) : Type 0 where
   pub after : 40 ≤ from
   pub within : from ≤ length b
   pub walk : IsWalk b from w.found.spans.items w.found.end
   pub rest : (p : List ℕ) → IsRest p (drop w.found.end b) (rest_of w.found.rest)
 
--- the longest run of right frames from a place on, which is the front of a walk
+-- the longest run of right frames from an offset on, which is the front of a walk
 pub record IsChecked (b : List ℕ) (from : ℕ) (w : Walk) (c : Chain) : Type 0 where
   pub run : IsFrameRun b from (bodies_at b c.spans.items) c.end (rest_of c.rest)
   pub spans : c.spans.items ≡ spans_from from (bodies_at b c.spans.items)

@@ -48,7 +48,7 @@ enum Turn {
     Second,
 }
 
-// Whether the digest of the frame at a place is right. The 32 bytes before it, the length and the
+// Whether the digest of the frame at an offset is right. The 32 bytes before it, the length and the
 // body stand side by side.
 fn is_right(bytes: &[u8], at: usize, len: usize) -> bool
     requires after { 32 ≤ at }
@@ -74,7 +74,7 @@ fn wrong_among(bytes: &[u8], spans: &[Span]) -> Option<usize>
     None
 }
 
-// What the digest of the frame at a place is of, with the digest behind it.
+// What the digest of the frame at an offset is of, with the digest behind it.
 fn message_at(bytes: &[u8], at: usize, len: usize) -> Message
     requires after { 32 ≤ at }
     requires frame { HasFrame (drop at bytes.now) }
@@ -164,8 +164,8 @@ fn wrong_in(bytes: &[u8], spans: &[Span]) -> Option<usize>
     let mut done = 0;
     'parts: while done < spans.len() {
         let end = done + piece_of(&spans[done..], 1, PIECE_MOST);
-        if let Some(place) = wrong_in_part(bytes, &spans[done..end]) {
-            return Some(done + place);
+        if let Some(index) = wrong_in_part(bytes, &spans[done..end]) {
+            return Some(done + index);
         }
         done = end;
     }
@@ -220,7 +220,7 @@ pub(crate) fn first_wrong<R: Threads + Sync>(
     let Ok(pieces) = cut(alloc, spans, grain) else {
         return wrong_in(bytes, spans);
     };
-    let place = pieces.par_iter().with_min_len(1).position_first(
+    let index = pieces.par_iter().with_min_len(1).position_first(
         rt,
         |piece: &Piece| -> bool
             requires inside { All (IsSpanOf bytes.now) spans.now }
@@ -230,7 +230,7 @@ pub(crate) fn first_wrong<R: Threads + Sync>(
                 (All (IsRight bytes.entry.now) (spans_in spans.entry.now piece.now)) }
         { wrong_in(bytes, &spans[piece.from..piece.to]).is_some() },
     )?;
-    let start = pieces[place].from;
-    let place = wrong_in(bytes, &spans[start..])?;
-    Some(start + place)
+    let start = pieces[index].from;
+    let index = wrong_in(bytes, &spans[start..])?;
+    Some(start + index)
 }

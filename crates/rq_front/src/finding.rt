@@ -30,7 +30,7 @@ pub fn log_version(bytes: &[u8]) -> Result<Version, Fault>
     version(bytes).ok_or(Fault::NotALog)
 }
 
-/// The frames of a log from the place `from` on by their lengths alone, and what follows them.
+/// The frames of a log from the offset `from` on by their lengths alone, and what follows them.
 /// Whoever has work for the bodies that needs no digest does it while `Walk::checked` runs.
 ///
 /// `TooLong` answers more than 4,294,967,295 bytes, and otherwise `NotALog` bytes that begin with
@@ -61,16 +61,16 @@ impl Walk {
         one_run();
         let mut found = self.found;
         let alloc = *found.spans.allocator();
-        if let Some(place) = first_wrong(rt, alloc, bytes, &found.spans, grain as usize) {
-            found.end = found.spans[place].offset();
+        if let Some(index) = first_wrong(rt, alloc, bytes, &found.spans, grain as usize) {
+            found.end = found.spans[index].offset();
             found.rest = Rest::Digest;
-            found.spans.truncate(place);
+            found.spans.truncate(index);
         }
         found
     }
 }
 
-/// The longest run of right frames in a log from the place `from` on, and what follows it. Where
+/// The longest run of right frames in a log from the offset `from` on, and what follows it. Where
 /// the runtime gives threads, they check the digests in pieces of `grain` frames or more; the
 /// answer is the same for any number of them.
 ///

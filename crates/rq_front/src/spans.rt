@@ -6,15 +6,15 @@ ghost use Rattle.rq_front.specs.Walks.{spans_of};
 /// Where the body of a frame stands in a log, in bytes. Its frame begins 4 bytes before it.
 #[derive(Clone, Copy, Debug, PartialEq, Eq)]
 pub struct Span {
-    /// The place of its first byte.
+    /// The offset of its first byte.
     pub start: usize,
     /// How many bytes it has.
     pub len: usize,
 }
 
 impl Span {
-    /// The place of the first byte of its frame: the body's length stands in the 4 bytes before the
-    /// body. 0 where fewer stand before it, which no frame has.
+    /// The offset of its frame: the body's length stands in the 4 bytes before the body. 0 where
+    /// fewer stand before it, which no frame has.
     pub fn offset(self) -> usize
         ensures { result ≡ self.start - 4 }
     {
@@ -35,18 +35,18 @@ pub enum Rest {
     Digest,
 }
 
-/// The longest run of right frames from a place.
+/// The longest run of right frames from an offset.
 #[derive(Debug, Drop)]
 pub struct Chain {
     /// Where the bodies stand, in the order of the log.
     pub spans: Vec<Span>,
-    /// The place behind the last frame, in bytes.
+    /// The offset behind the last frame.
     pub end: usize,
     /// What follows there.
     pub rest: Rest,
 }
 
-/// The frames from a place on by their lengths alone: their digests are still to be looked at.
+/// The frames from an offset on by their lengths alone: their digests are still to be looked at.
 #[derive(Debug, Drop)]
 pub struct Walk {
     pub(crate) found: Chain,

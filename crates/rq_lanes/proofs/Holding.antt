@@ -78,12 +78,12 @@ new_lane : (lanes : List Lane) (j : ℕ) (l : Lane) → j < length lanes → hel
 new_lane lanes j l low = get_or-set_same lanes j l _ low
 
 -- a message in another lane stays there
-stays : (lanes : List Lane) (j : ℕ) (l : Lane) (m : Message) (at : IsInLane lanes m) → at.place ≢ j
+stays : (lanes : List Lane) (j : ℕ) (l : Lane) (m : Message) (at : IsInLane lanes m) → at.index ≢ j
     → IsInLane (slice_set lanes j l) m
 stays lanes j l m at ne =
-    let same = same_lane lanes j at.place l ne in
+    let same = same_lane lanes j at.index l ne in
     record {
-      place = at.place;
+      index = at.index;
       low = omega (arith, at.low, length-set lanes j l);
       busy = ap (λ (x : Lane). x.busy) same ∙ at.busy;
       same = ap (λ (x : Lane). x.message) same ∙ at.same;
@@ -108,7 +108,7 @@ module _ {n : ℕ} (b : List ℕ) (s : Lanes n) (ms : List Message) where
     ];
     known = λ truth. λ k d lt. elim (h.known truth k d lt) [
       | inl r ↦ inl r
-      | inr at ↦ elim (cases_eq at.place j) [
+      | inr at ↦ elim (cases_eq at.index j) [
         | inl e ↦
             let busy = sym (ap (λ (i : ℕ). (held s.lanes i).busy) e) ∙ at.busy in
             let is = sym (ap (λ (i : ℕ). (held s.lanes i).message) e) ∙ at.same in
@@ -142,7 +142,7 @@ module _ {n : ℕ} (b : List ℕ) (s : Lanes n) (ms : List Message) where
         known = λ truth. All-append Known ms (m ∷ [])
             (λ k d lt. elim (h.known truth k d lt) [
               | inl r ↦ inl r
-              | inr at ↦ elim (cases_eq at.place j) [
+              | inr at ↦ elim (cases_eq at.index j) [
                 | inl e ↦
                     let bad : false ≡ true = sym free ∙ sym (ap (λ (i : ℕ). (held s.lanes i).busy) e) ∙ at.busy in
                     cc
@@ -150,7 +150,7 @@ module _ {n : ℕ} (b : List ℕ) (s : Lanes n) (ms : List Message) where
               ]
             ])
             (All-cons Known m [] (inr (record {
-              place = j;
+              index = j;
               low = omega (arith, low, length-set s.lanes j l);
               busy = ap (λ (x : Lane). x.busy) here ∙ busy;
               same = ap (λ (x : Lane). x.message) here ∙ is;
@@ -183,5 +183,5 @@ module _ {n : ℕ} (b : List ℕ) (s : Lanes n) (ms : List Message) where
       → All (HasDigestBehind b) ms
   all_right truth idle h = λ k d lt. elim (h.known truth k d lt) [
     | inl r ↦ r
-    | inr at ↦ let bad : false ≡ true = sym (idle at.place at.low) ∙ at.busy in cc
+    | inr at ↦ let bad : false ≡ true = sym (idle at.index at.low) ∙ at.busy in cc
   ]

@@ -36,17 +36,17 @@ pub record HasTakenIn (b : List ℕ) (l : Lane) (clock : ℕ) (words : List ℕ)
   pub hash : words
       ≡ hash_after initial_hash_256 (padded_message (text b l.message)) (clock - l.born)
 
--- the lane at a place
+-- the lane at an index
 abbrev pub held : List Lane → ℕ → Lane
 held lanes j = get_or lanes j
     (record { message = record { start = 0; len = 0 }; born = 0; due = 0; busy = false; tail = [] })
 
 -- a lane has the message
 pub record IsInLane (lanes : List Lane) (m : Message) : Type 0 where
-  pub place : ℕ
-  pub low : place < length lanes
-  pub busy : (held lanes place).busy ≡ true
-  pub same : (held lanes place).message ≡ m
+  pub index : ℕ
+  pub low : index < length lanes
+  pub busy : (held lanes index).busy ≡ true
+  pub same : (held lanes index).message ≡ m
 
 -- of the messages that these lanes were given, each is right or in a lane, unless a wrong one was
 -- seen

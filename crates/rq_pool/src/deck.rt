@@ -12,11 +12,11 @@ use std::alloc::{AllocError, Global};
 
 /// A deque, the list that was dealt to it, and its owner and passes as far as no seat has them.
 #[derive(Drop)]
-pub struct Deck {
-    pub thief: Thief,
-    pub list: Vec<u32>,
-    pub owner: Option<Owner>,
-    pub passes: Vec<DequePass>,
+pub(crate) struct Deck {
+    pub(crate) thief: Thief,
+    pub(crate) list: Vec<u32>,
+    pub(crate) owner: Option<Owner>,
+    pub(crate) passes: Vec<DequePass>,
 }
 
 impl Deck {
@@ -24,7 +24,11 @@ impl Deck {
     ghost use Rattle.rq_pool.specs.Sources.{source_id, stolen};
 
     /// The deque of one list, with a pass for each seat, and its owner.
-    pub fn new(alloc: Global, list: Vec<u32>, seats: usize) -> Result<(Deck, Owner), AllocError>
+    pub(crate) fn new(
+        alloc: Global,
+        list: Vec<u32>,
+        seats: usize,
+    ) -> Result<(Deck, Owner), AllocError>
         requires { (seats ≤ 64) × (vec_len list < 2 ^ 32) }
         ensures deck { IfOk result
             (λ r. IsStocked seats seats r.0 × (r.0.list.items ≡ list.items)) }
@@ -46,7 +50,7 @@ impl Deck {
     }
 
     /// One pass of it, for a seat.
-    pub fn draw(&mut self, seats: usize, rest: usize) -> Result<Source, AllocError>
+    pub(crate) fn draw(&mut self, seats: usize, rest: usize) -> Result<Source, AllocError>
         requires { IsStocked seats (rest + 1) self.old }
         ensures same { deck_id self.new ≡ deck_id self.old }
         ensures deck { IfOk result (λ s. IsStocked seats rest self.new) }
@@ -64,7 +68,7 @@ impl Deck {
     ghost use Rattle.rq_pool.specs.Sources.{source_id, stolen};
 
     /// A pass of each deque, for a seat. After it, `rest` seats of n are to get theirs.
-    pub fn draw_all(
+    pub(crate) fn draw_all(
         alloc: Global,
         decks: &mut [Deck],
         n: usize,
@@ -102,7 +106,7 @@ impl Deck {
     }
 
     /// Takes in all passes of a seat, each to its deque. Of n seats, m did so before.
-    pub fn lay_all(decks: &mut [Deck], mut sources: Vec<Source>, n: usize, m: usize)
+    pub(crate) fn lay_all(decks: &mut [Deck], mut sources: Vec<Source>, n: usize, m: usize)
         requires own { map source_id sources.items ≡ map deck_id decks.old }
         requires decks { All (IsOpen n m) decks.old × (m < n) }
         ensures same { map deck_id decks.new ≡ map deck_id decks.old }
@@ -137,7 +141,7 @@ impl Deck {
     }
 
     /// Takes in the owner of the deque of this number.
-    pub fn seat_at(decks: &mut [Deck], number: usize, owner: Owner, n: usize, m: usize)
+    pub(crate) fn seat_at(decks: &mut [Deck], number: usize, owner: Owner, n: usize, m: usize)
         requires few { (n ≤ 64) × (number < length decks.old) }
         requires decks { All (IsOpen n m) decks.old }
         requires owner { (d : Deck) → IsOwnerOf n (slice_index_or decks.old number d) owner }
@@ -155,7 +159,7 @@ impl Deck {
     ghost use Rattle.rq_pool.specs.Decks.{IsComplete, taken_weight, dealt_weight, dealt_length};
 
     /// Empties all deques into `left`.
-    pub fn emptied(mut decks: Vec<Deck>, left: &mut Vec<u32>)
+    pub(crate) fn emptied(mut decks: Vec<Deck>, left: &mut Vec<u32>)
         requires all { All IsComplete decks.items }
         requires reserved { vec_len left.old + sum_by dealt_length decks.items
             ≤ vec_capacity left.old }

@@ -14,13 +14,13 @@ use std::collections::LinkedList;
 
 // A pass's parts of the right to know the whole, what was dealt, and what it took. No value of it
 // is made.
-pub struct Share {
-    pub parts: u64,
-    pub dealt: LinkedList<u32>,
-    pub taken: LinkedList<u32>,
+pub(crate) struct Share {
+    pub(crate) parts: u64,
+    pub(crate) dealt: LinkedList<u32>,
+    pub(crate) taken: LinkedList<u32>,
 }
 
-pub struct DealRule;
+pub(crate) struct DealRule;
 
 impl Protocol<u32, Share> for DealRule {
     ghost use Rattle.rq_pool.specs.Rules.{Balanced};
@@ -32,7 +32,7 @@ impl Protocol<u32, Share> for DealRule {
     ghost guest = { share 0 [] [] };
 }
 
-pub struct Puts;
+pub(crate) struct Puts;
 
 impl Outcome<u32, Share> for Puts {
     ghost use Rattle.rq_pool.specs.Rules.{Pushed};
@@ -40,7 +40,7 @@ impl Outcome<u32, Share> for Puts {
     ghost then = { Pushed };
 }
 
-pub struct Gets;
+pub(crate) struct Gets;
 
 impl Outcome<u32, Share> for Gets {
     ghost use Rattle.rq_pool.specs.Rules.{Taken, Emptied};
@@ -50,7 +50,7 @@ impl Outcome<u32, Share> for Gets {
     ghost empty = { Emptied };
 }
 
-pub struct Steals;
+pub(crate) struct Steals;
 
 impl Outcome<u32, Share> for Steals {
     ghost use Rattle.rq_pool.specs.Rules.{Taken};
@@ -58,7 +58,7 @@ impl Outcome<u32, Share> for Steals {
     ghost then = { Taken };
 }
 
-pub struct Parts;
+pub(crate) struct Parts;
 
 impl Split<Share> for Parts {
     ghost use Rattle.std.specs.Prelude.{◌-◌};
@@ -75,7 +75,7 @@ impl Join<Share> for Parts {
 }
 
 // All of a view goes to the new pass.
-pub struct Whole;
+pub(crate) struct Whole;
 
 impl Split<Share> for Whole {
     ghost left = { λ v. share 0 [] [] };
@@ -83,20 +83,20 @@ impl Split<Share> for Whole {
     ghost right = { λ v. v };
 }
 
-pub struct Over;
+pub(crate) struct Over;
 
 impl Lesson<u32, Share> for Over {
     ghost fact = { λ v items. v.parts ≤ 256 };
 }
 
-pub type Owner = Worker<u32, Global, Share, DealRule>;
+pub(crate) type Owner = Worker<u32, Global, Share, DealRule>;
 
-pub type Thief = Stealer<u32, Global, Share, DealRule>;
+pub(crate) type Thief = Stealer<u32, Global, Share, DealRule>;
 
-pub type DequePass = Pass<u32, Share>;
+pub(crate) type DequePass = Pass<u32, Share>;
 
 // A deque that holds the list. It has room for it from the start.
-pub fn dealt(alloc: Global, list: &[u32]) -> Result<Owner, AllocError>
+pub(crate) fn dealt(alloc: Global, list: &[u32]) -> Result<Owner, AllocError>
     requires { length list.now < 2 ^ 32 }
     ensures { IfOk result (λ w. (worker_flavor w ≡ 0) × (worker_view w ≡ share 256 list.now [])) }
 {
@@ -111,7 +111,7 @@ pub fn dealt(alloc: Global, list: &[u32]) -> Result<Owner, AllocError>
 }
 
 // A pass with one part.
-pub fn cut(owner: &mut Owner) -> DequePass
+pub(crate) fn cut(owner: &mut Owner) -> DequePass
     requires { 1 < (worker_view owner.old).parts }
     ensures same { (worker_deque owner.new ≡ worker_deque owner.old)
         × (worker_flavor owner.new ≡ worker_flavor owner.old) }
@@ -125,7 +125,7 @@ pub fn cut(owner: &mut Owner) -> DequePass
 }
 
 // The owner's pop.
-pub fn pop(owner: &mut Owner) -> Option<u32>
+pub(crate) fn pop(owner: &mut Owner) -> Option<u32>
     requires { (worker_flavor owner.old ≡ 0) × (0 < (worker_view owner.old).parts) }
     ensures same { (worker_deque owner.new ≡ worker_deque owner.old)
         × (worker_flavor owner.new ≡ 0) }
@@ -139,7 +139,7 @@ pub fn pop(owner: &mut Owner) -> Option<u32>
 }
 
 // One steal. One that must be tried again counts as none.
-pub fn steal_one(thief: &Thief, pass: &mut DequePass) -> Option<u32>
+pub(crate) fn steal_one(thief: &Thief, pass: &mut DequePass) -> Option<u32>
     requires { IsPassOf (stealer_deque thief.now) pass.old × (0 < (view pass.old).parts) }
     ensures same { IsPassOf (stealer_deque thief.now) pass.new }
     ensures taken { IfSome result (λ x. Taken (view pass.old) (x ∷ []) (view pass.new)) }
@@ -153,7 +153,7 @@ pub fn steal_one(thief: &Thief, pass: &mut DequePass) -> Option<u32>
 }
 
 // Takes in a pass with all that it took.
-pub fn gather(owner: &mut Owner, pass: DequePass)
+pub(crate) fn gather(owner: &mut Owner, pass: DequePass)
     requires { IsPassOf (worker_deque owner.old) pass × (0 < (worker_view owner.old).parts) }
     ensures same { (worker_deque owner.new ≡ worker_deque owner.old)
         × (worker_flavor owner.new ≡ worker_flavor owner.old) }
@@ -165,7 +165,7 @@ pub fn gather(owner: &mut Owner, pass: DequePass)
 
 /// Two owners of one deque have no more than all parts together. So there are no two whose parts
 /// are more.
-pub fn together(one: &mut Owner, mut two: Owner)
+pub(crate) fn together(one: &mut Owner, mut two: Owner)
     requires { (worker_deque two ≡ worker_deque one.old) × (0 < (worker_view one.old).parts) }
     ensures { (worker_view one.old).parts + (worker_view two).parts ≤ 256 }
 {

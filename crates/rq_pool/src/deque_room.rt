@@ -15,10 +15,10 @@ use std::alloc::{AllocError, Global};
 
 /// Its deques, and room for what is taken and what is left.
 #[derive(Drop)]
-pub struct DequeRoom {
-    pub vault: Vault,
-    pub takens: Vec<Vec<u32>>,
-    pub left: Vec<u32>,
+pub(crate) struct DequeRoom {
+    pub(crate) vault: Vault,
+    pub(crate) takens: Vec<Vec<u32>>,
+    pub(crate) left: Vec<u32>,
     ghost several: { (1 < length (reach vault.table.shared.key))
         × (length (reach vault.table.shared.key) ≤ 64) },
     ghost reserved: { (takens.items ≡ [])
@@ -152,7 +152,10 @@ impl DequeRoom {
     }
 
     /// A deque and a seat for each list.
-    pub fn open(alloc: Global, lists: Vec<Vec<u32>>) -> Result<(DequeRoom, Vec<Seat>), AllocError>
+    pub(crate) fn open(
+        alloc: Global,
+        lists: Vec<Vec<u32>>,
+    ) -> Result<(DequeRoom, Vec<Seat>), AllocError>
         requires seats { (1 < vec_len lists) × (vec_len lists ≤ 64) }
         requires short { size (map vec_items lists.items) ≤ 65536 }
         ensures deal { IfOk result (λ r. lists_of r.0 ≡ map vec_items lists.items) }
@@ -198,7 +201,7 @@ impl DequeRoom {
     }
 
     /// What the seats have taken, and what the deques still hold.
-    pub fn close(self, seats: Vec<Seat>) -> Left
+    pub(crate) fn close(self, seats: Vec<Seat>) -> Left
         requires seats { All (IsSeatBeside (ids_of self)) seats.items }
         requires all { vec_len seats ≡ length (ids_of self) }
         ensures takens { takens_of result ≡ map taken_of seats.items }

@@ -11,11 +11,11 @@ use crate::source::Source;
 
 /// The seat's own deque, a source for each deque of the room, and what the seat has taken.
 #[derive(Drop)]
-pub struct DequeSeat {
-    pub number: usize,
-    pub owner: Owner,
-    pub sources: Vec<Source>,
-    pub taken: Vec<u32>,
+pub(crate) struct DequeSeat {
+    pub(crate) number: usize,
+    pub(crate) owner: Owner,
+    pub(crate) sources: Vec<Source>,
+    pub(crate) taken: Vec<u32>,
     ghost fifo: { worker_flavor owner ≡ 0 },
 }
 
@@ -26,7 +26,7 @@ impl DequeSeat {
     ghost use Rattle.rq_pool.specs.Holdings.{Holds};
 
     /// A number of its own deque, or else one that it steals.
-    pub fn take(&mut self, room: &DequeRoom) -> Option<u32>
+    pub(crate) fn take(&mut self, room: &DequeRoom) -> Option<u32>
         requires seat { IsDequeSeat (ids_of room.now) self.old }
         ensures seat { IsDequeSeat (ids_of room.now) self.new }
         ensures some { IfSome result (λ x. self.new.taken.items ≡ self.old.taken.items ++ x ∷ []) }
@@ -95,7 +95,7 @@ impl DequeSeat {
     ghost use Rattle.rq_pool.specs.Decks.{IsOpen, deck_id, filled, taken_weight};
 
     /// Hands its deque and its passes in, and answers what it took. Of n seats, m did so before.
-    pub fn hand_in(self, decks: &mut [Deck], n: usize, m: usize) -> Vec<u32>
+    pub(crate) fn hand_in(self, decks: &mut [Deck], n: usize, m: usize) -> Vec<u32>
         requires few { (n ≤ 64) × (m < n) }
         requires seat { IsDequeSeat (map deck_id decks.old) self }
         requires decks { All (IsOpen n m) decks.old × (length decks.old ≡ n) }

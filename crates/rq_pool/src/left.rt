@@ -28,9 +28,9 @@ impl Left {
         self.takens.len()
     }
 
-    /// What the seat that was handed in at place `i`, counted from 0, has taken, in order.
+    /// What the seat that was handed in at index `i` has taken, in order.
     pub fn taken(&self, i: usize) -> &[u32]
-        requires place { i < length (takens_of self.now) }
+        requires index { i < length (takens_of self.now) }
         ensures taken { slice_get (takens_of self.now) i ≡ Some result.now }
     {
         self.takens[i].as_slice()

@@ -9,16 +9,16 @@ use std::alloc::{AllocError, Global};
 
 /// The list, and room for what its seat took.
 #[derive(Drop)]
-pub struct ListRoom {
-    pub list: Vec<u32>,
-    pub takens: Vec<Vec<u32>>,
+pub(crate) struct ListRoom {
+    pub(crate) list: Vec<u32>,
+    pub(crate) takens: Vec<Vec<u32>>,
     ghost reserved: { (takens.items ≡ []) × (1 ≤ vec_capacity takens) },
 }
 
 /// What the seat has taken, which is the list so far.
 #[derive(Drop)]
-pub struct ListSeat {
-    pub taken: Vec<u32>,
+pub(crate) struct ListSeat {
+    pub(crate) taken: Vec<u32>,
 }
 
 impl ListSeat {
@@ -26,7 +26,7 @@ impl ListSeat {
     ghost use Rattle.rq_pool.specs.Rooms.{IsListSeat};
 
     /// The next number of the list.
-    pub fn take(&mut self, list: &[u32]) -> Option<u32>
+    pub(crate) fn take(&mut self, list: &[u32]) -> Option<u32>
         requires seat { IsListSeat list.now self.old }
         ensures seat { IsListSeat list.now self.new }
         ensures some { IfSome result (λ x. self.new.taken.items ≡ self.old.taken.items ++ x ∷ []) }
@@ -35,9 +35,9 @@ impl ListSeat {
         ensures fewer { IfSome result (λ _. length self.old.taken.items < length list.now) }
         ensures alone { IfNone result (self.new.taken.items ≡ list.now) }
     {
-        let place = self.taken.len();
-        if place < list.len() {
-            let x = list[place];
+        let index = self.taken.len();
+        if index < list.len() {
+            let x = list[index];
             self.taken.push_reserved(x);
             return Some(x);
         }
@@ -50,7 +50,7 @@ impl ListRoom {
     ghost use Rattle.rq_pool.specs.Rooms.{IsSeatAlone, taken_of, left_of, takens_of};
 
     /// The room of this list, and its seat.
-    pub fn open(alloc: Global, list: Vec<u32>) -> Result<(ListRoom, Seat), AllocError>
+    pub(crate) fn open(alloc: Global, list: Vec<u32>) -> Result<(ListRoom, Seat), AllocError>
         ensures list { IfOk result (λ r. r.0.list.items ≡ list.items) }
         ensures seat { IfOk result (λ r. IsSeatAlone list.items r.1 × (taken_of r.1 ≡ [])) }
     {
@@ -63,7 +63,7 @@ impl ListRoom {
     }
 
     /// What the seat has taken, and the rest of the list.
-    pub fn close(self, mut seats: Vec<Seat>) -> Left
+    pub(crate) fn close(self, mut seats: Vec<Seat>) -> Left
         requires seats { All (IsSeatAlone self.list.items) seats.items }
         requires one { vec_len seats ≡ 1 }
         ensures takens { takens_of result ≡ map taken_of seats.items }

@@ -21,7 +21,7 @@ pub struct Room {
 /// Whether it has one seat: a plain list, without an atomic step, or a stealing deque for each
 /// seat.
 #[derive(Drop)]
-pub enum Body {
+pub(crate) enum Body {
     Single(ListRoom),
     Several(DequeRoom),
 }

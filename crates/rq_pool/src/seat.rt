@@ -17,7 +17,7 @@ pub struct Seat {
 
 /// Whether there are other seats.
 #[derive(Drop)]
-pub enum Place {
+pub(crate) enum Place {
     Alone(ListSeat),
     Beside(DequeSeat),
 }

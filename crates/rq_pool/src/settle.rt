@@ -41,7 +41,7 @@ fn drained(mut owner: Owner, left: &mut Vec<u32>)
 }
 
 /// What the owner and the passes took, and what is left, is what was dealt.
-pub fn settled(owner: Owner, passes: Vec<DequePass>, left: &mut Vec<u32>)
+pub(crate) fn settled(owner: Owner, passes: Vec<DequePass>, left: &mut Vec<u32>)
     requires own { (worker_flavor owner ≡ 0) × (0 < (worker_view owner).parts) }
     requires passes { All (IsPassOf (worker_deque owner)) passes.items }
     requires all { (worker_view owner).parts + sum_by parts_of passes.items ≡ 256 }

@@ -9,7 +9,7 @@ use atomic_table::{Table, TableRule};
 use std::alloc::{AllocError, Global};
 
 /// The seat that it is told of names the deques of all decks.
-pub struct VaultRule;
+pub(crate) struct VaultRule;
 
 impl TableRule<Vec<Deck>, (), Seat> for VaultRule {
     ghost use Rattle.rq_pool.specs.Vaults.{Kept};
@@ -21,14 +21,14 @@ impl TableRule<Vec<Deck>, (), Seat> for VaultRule {
 
 /// The decks of a room while their passes and owners are out.
 #[derive(Drop)]
-pub struct Vault {
-    pub table: Table<Vec<Deck>, (), Seat, VaultRule, Global>,
+pub(crate) struct Vault {
+    pub(crate) table: Table<Vec<Deck>, (), Seat, VaultRule, Global>,
     ghost one: { (table.shared.table_id.words ≡ 0) × (table.shared.table_id.slots ≡ 1) },
 }
 
 impl Vault {
     /// Locks the decks in.
-    pub fn new(alloc: Global, decks: Vec<Deck>, seat: &Seat) -> Result<Vault, AllocError>
+    pub(crate) fn new(alloc: Global, decks: Vec<Deck>, seat: &Seat) -> Result<Vault, AllocError>
         requires { Keeps (reach seat.now) decks }
         ensures { IfOk result (λ v. v.table.shared.key ≡ seat.now) }
     {
@@ -41,7 +41,7 @@ impl Vault {
     }
 
     /// Takes them out.
-    pub fn into_decks(self) -> Vec<Deck>
+    pub(crate) fn into_decks(self) -> Vec<Deck>
         ensures { Keeps (reach self.table.shared.key) result }
     {
         let Vault { table } = self;

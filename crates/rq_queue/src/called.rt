@@ -16,7 +16,7 @@ use std::marker::Model;
 /// The name of a registrant in 16 bytes, where a `Name` takes 65: the maps of a queue may have many
 /// keys, and a map whose keys come in order has room for about twice as many as it holds.
 #[derive(Drop)]
-pub struct Called {
+pub(crate) struct Called {
     name: KeptName,
 }
 
@@ -30,7 +30,7 @@ impl Model for Called {
 
 impl Called {
     /// The name itself.
-    pub fn name(&self) -> Name
+    pub(crate) fn name(&self) -> Name
         ensures { result ≡ self.now }
     {
         self.name.name()
@@ -38,7 +38,7 @@ impl Called {
 }
 
 /// The queue and name of a registrant, as a key that takes less memory. Refused with Resources.
-pub fn slim(alloc: Global, key: (u32, Name)) -> Result<(u32, Called), Fault>
+pub(crate) fn slim(alloc: Global, key: (u32, Name)) -> Result<(u32, Called), Fault>
     ensures key { IfOk result (λ k. k ≡ key) }
     ensures refused { IfErr result (λ e. e ≡ Resources) }
 {

@@ -12,7 +12,7 @@ use rq_record::Fault;
 use rq_state::{Definition, Element};
 
 /// Elements of distinct ids, by id.
-pub fn in_order(elements: Vec<Element>) -> Vec<Element>
+pub(crate) fn in_order(elements: Vec<Element>) -> Vec<Element>
     requires { Ordered (λ (e f : model.Element). e.id < f.id) (sorted elements.items) }
     ensures { result.items ≡ sorted elements.items }
 {
@@ -22,7 +22,7 @@ pub fn in_order(elements: Vec<Element>) -> Vec<Element>
 }
 
 /// Adds the elements to the moves, as they arrive in the error queue.
-pub fn send(
+pub(crate) fn send(
     leaving: Vec<Element>,
     place: u64,
     home: &Definition,

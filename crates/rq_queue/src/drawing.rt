@@ -38,7 +38,7 @@ fn draw(all: &mut BTreeMap<u64, KeptNote>, place: u64, whose: &Whose) -> Option<
 }
 
 /// The notes without theirs at these places.
-pub fn without(
+pub(crate) fn without(
     all: BTreeMap<u64, KeptNote>,
     places: &[u64],
     whose: &Whose,
@@ -54,7 +54,7 @@ pub fn without(
 }
 
 /// The notes without theirs at these places, and those.
-pub fn drawn(
+pub(crate) fn drawn(
     alloc: Global,
     all: BTreeMap<u64, KeptNote>,
     places: &[u64],
@@ -80,7 +80,7 @@ pub fn drawn(
 }
 
 /// Notes of distinct places, by place.
-pub fn in_order(notes: Vec<KeptNote>) -> Vec<KeptNote>
+pub(crate) fn in_order(notes: Vec<KeptNote>) -> Vec<KeptNote>
     requires { Rises (by_place notes.items) }
     ensures { result.items ≡ by_place notes.items }
 {

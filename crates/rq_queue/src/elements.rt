@@ -15,12 +15,11 @@ use crate::departures::{in_order, send};
 use crate::moves::Move;
 use crate::priorities::{kept_with, known, without};
 use crate::shelves::{
-    all_freed, all_returned, free_list, freed, mapped, parted, stow, taken, with_marked,
+    Rank, all_freed, all_returned, free_list, freed, mapped, parted, stow, taken, with_marked,
 };
 use rq_record::{ElemId, Fault, KeptPayload, QueueNo, UnitNo};
 use rq_state::{Definition, Element, Mark};
 use std::alloc::Global;
-use std::cmp::Reverse;
 use std::collections::BTreeMap;
 use std::marker::Model;
 
@@ -32,8 +31,8 @@ use std::marker::Model;
 /// priority. An entry may be of an element that has gone: it is only where to look. A queue without
 /// a KILL keeps none.
 #[derive(Drop)]
-pub struct Elements {
-    free: BTreeMap<(Reverse<u8>, u64), Element>,
+pub(crate) struct Elements {
+    free: BTreeMap<Rank, Element>,
     marked: BTreeMap<u64, Vec<Element>>,
     priorities: Option<BTreeMap<u64, u8>>,
 }
@@ -53,7 +52,7 @@ impl Model for Elements {
 
 impl Elements {
     /// No element.
-    pub fn none(alloc: Global) -> Elements
+    pub(crate) fn none(alloc: Global) -> Elements
         ensures { result ≡ [] }
     {
         Elements {
@@ -64,7 +63,7 @@ impl Elements {
     }
 
     /// These elements, whose ids rise.
-    pub fn of(alloc: Global, items: Vec<Element>) -> Result<Elements, Fault>
+    pub(crate) fn of(alloc: Global, items: Vec<Element>) -> Result<Elements, Fault>
         requires { Ordered (λ (e f : model.Element). e.id < f.id) items.items }
         ensures done { IfOk result (λ v. v ≡ items.items) }
         ensures refused { IfErr result (λ e. e ≡ Resources) }
@@ -79,7 +78,7 @@ impl Elements {
     }
 
     /// All of them, in some order.
-    pub fn list(self, alloc: Global) -> Result<Vec<Element>, Fault>
+    pub(crate) fn list(self, alloc: Global) -> Result<Vec<Element>, Fault>
         ensures listed { IfOk result (λ v. IsPermutation self v.items) }
         ensures refused { IfErr result (λ e. e ≡ Resources) }
     {
@@ -89,7 +88,7 @@ impl Elements {
     }
 
     /// Puts in an element of a new id.
-    pub fn put(self, alloc: Global, e: Element) -> Result<Elements, Fault>
+    pub(crate) fn put(self, alloc: Global, e: Element) -> Result<Elements, Fault>
         requires { AllByRecursion (λ (x : model.Element). x.id ≢ e.id) self }
         ensures done { IfOk result (λ v. v ≡ model.put model.id_before e self) }
         ensures refused { IfErr result (λ e. e ≡ Resources) }
@@ -127,7 +126,7 @@ impl Elements {
     }
 
     /// Adds a new element of a unit, with a payload of the same bytes.
-    pub fn add(
+    pub(crate) fn add(
         self,
         alloc: Global,
         place: u64,
@@ -142,12 +141,11 @@ impl Elements {
         ensures refused { IfErr result (λ e. e ≡ Resources) }
     {
         let e = Element::fresh(place, unit, queue, priority, payload.copied()?);
-        let all = self.push(alloc, e)?;
-        Ok(all)
+        self.push(alloc, e)
     }
 
     /// The best element becomes Held; all are in the queue. Its id, if there is one.
-    pub fn hold_best(
+    pub(crate) fn hold_best(
         self,
         alloc: Global,
         unit: UnitNo,
@@ -187,7 +185,7 @@ impl Elements {
     }
 
     /// Fresh ones of the unit become Free, Held ones go.
-    pub fn commit(self, alloc: Global, unit: UnitNo) -> Result<Elements, Fault>
+    pub(crate) fn commit(self, alloc: Global, unit: UnitNo) -> Result<Elements, Fault>
         ensures done { IfOk result (λ v. v ≡ machine.committed_elements unit.0 self) }
         ensures refused { IfErr result (λ e. e ≡ Resources) }
     {
@@ -202,7 +200,7 @@ impl Elements {
     }
 
     /// Fresh ones of the unit go. Held ones become Free with one attempt more, or leave.
-    pub fn abort(
+    pub(crate) fn abort(
         self,
         alloc: Global,
         place: u64,
@@ -230,7 +228,7 @@ impl Elements {
     }
 
     /// The Free element of that id goes, if there is one; all are in the queue.
-    pub fn kill(self, alloc: Global, queue: QueueNo, id: ElemId) -> Result<Elements, Fault>
+    pub(crate) fn kill(self, alloc: Global, queue: QueueNo, id: ElemId) -> Result<Elements, Fault>
         requires { AllByRecursion (λ (x : model.Element). x.home ≡ queue.0) self }
         ensures done { IfOk result (λ v. v ≡ machine.killed queue.0 id.0 self) }
         ensures refused { IfErr result (λ e. e ≡ Resources) }

@@ -12,7 +12,7 @@ use std::marker::Model;
 /// The last operation of a registrant, where there is one, in 16 bytes and 40 elsewhere: of many
 /// registrants that a log brings in most may have none yet.
 #[derive(Drop)]
-pub struct KeptLast {
+pub(crate) struct KeptLast {
     last: Option<Box<Last>>,
 }
 
@@ -28,14 +28,14 @@ impl Model for KeptLast {
 
 impl KeptLast {
     /// No operation. Takes no memory.
-    pub fn none() -> KeptLast
+    pub(crate) fn none() -> KeptLast
         ensures { result ≡ None }
     {
         KeptLast { last: None }
     }
 
     /// Keeps an operation. Refused with Resources.
-    pub fn of(alloc: Global, last: Option<Last>) -> Result<KeptLast, Fault>
+    pub(crate) fn of(alloc: Global, last: Option<Last>) -> Result<KeptLast, Fault>
         ensures kept { IfOk result (λ k. k ≡ last) }
         ensures refused { IfErr result (λ e. e ≡ Resources) }
     {
@@ -48,7 +48,7 @@ impl KeptLast {
     }
 
     /// The operation itself.
-    pub fn last(&self) -> Option<Last>
+    pub(crate) fn last(&self) -> Option<Last>
         ensures { result ≡ self.now }
     {
         match &self.last {
@@ -59,7 +59,7 @@ impl KeptLast {
 
     /// Of this operation and another one, that of greater place; at equal places this one. Refused
     /// with Resources.
-    pub fn later(&self, alloc: Global, other: &Last) -> Result<KeptLast, Fault>
+    pub(crate) fn later(&self, alloc: Global, other: &Last) -> Result<KeptLast, Fault>
         ensures later { IfOk result (λ k. k ≡ machine.later self.now other.now) }
         ensures refused { IfErr result (λ e. e ≡ Resources) }
     {

@@ -12,7 +12,7 @@ use std::marker::Model;
 /// A note in 8 bytes and 72 of its own, where a `Note` takes 120: a unit may make many, and a map
 /// whose keys come in order has room for about twice as many as it holds.
 #[derive(Drop)]
-pub struct KeptNote {
+pub(crate) struct KeptNote {
     held: Box<Held>,
 }
 
@@ -39,7 +39,7 @@ impl Model for KeptNote {
 
 impl KeptNote {
     /// Keeps the note. Refused with Resources.
-    pub fn of(alloc: Global, n: Note) -> Result<KeptNote, Fault>
+    pub(crate) fn of(alloc: Global, n: Note) -> Result<KeptNote, Fault>
         ensures kept { IfOk result (λ k. k ≡ n) }
         ensures refused { IfErr result (λ e. e ≡ Resources) }
     {
@@ -56,7 +56,7 @@ impl KeptNote {
     }
 
     /// The note itself.
-    pub fn note(&self) -> Note
+    pub(crate) fn note(&self) -> Note
         ensures { result ≡ self.now }
     {
         Note {
@@ -68,35 +68,35 @@ impl KeptNote {
     }
 
     /// The record number of its operation.
-    pub fn place(&self) -> u64
+    pub(crate) fn place(&self) -> u64
         ensures { result ≡ self.now.last.place }
     {
         self.held.last.place()
     }
 
     /// The queue and name of its registrant.
-    pub fn key(&self) -> (u32, Name)
+    pub(crate) fn key(&self) -> (u32, Name)
         ensures { result ≡ (self.now.queue, self.now.name) }
     {
         (self.held.queue.0, self.held.name.name())
     }
 
     /// Whether it is of the registrant.
-    pub fn is_of(&self, queue: QueueNo, name: &Name) -> bool
+    pub(crate) fn is_of(&self, queue: QueueNo, name: &Name) -> bool
         ensures { result ≡ model.is_note_of queue.0 name.now self.now }
     {
         self.held.queue.0 == queue.0 && self.held.name.bytes() == name.bytes()
     }
 
     /// Whether it is of the unit.
-    pub fn is_by(&self, unit: UnitNo) -> bool
+    pub(crate) fn is_by(&self, unit: UnitNo) -> bool
         ensures { result ≡ (self.now.unit == unit.0) }
     {
         self.held.unit.0 == unit.0
     }
 
     /// The operation.
-    pub fn last(&self) -> &Last
+    pub(crate) fn last(&self) -> &Last
         ensures { result.now ≡ self.now.last }
     {
         &self.held.last

@@ -24,7 +24,7 @@ use std::marker::Model;
 /// notes, so that the end of a unit and a DEREGISTER cost their own notes alone. Such a list may
 /// keep the place of a note that has gone: it is only where to look.
 #[derive(Drop)]
-pub struct Notes {
+pub(crate) struct Notes {
     all: BTreeMap<u64, KeptNote>,
     units: BTreeMap<u64, Vec<u64>>,
     names: BTreeMap<(u32, Called), Vec<u64>>,
@@ -45,7 +45,7 @@ impl Model for Notes {
 
 impl Notes {
     /// No note.
-    pub fn none(alloc: Global) -> Notes
+    pub(crate) fn none(alloc: Global) -> Notes
         ensures { result ≡ [] }
     {
         Notes {
@@ -56,7 +56,7 @@ impl Notes {
     }
 
     /// These notes, whose places rise.
-    pub fn of(alloc: Global, items: Vec<Note>) -> Result<Notes, Fault>
+    pub(crate) fn of(alloc: Global, items: Vec<Note>) -> Result<Notes, Fault>
         requires { Rises items.items }
         ensures done { IfOk result (λ v. v ≡ items.items) }
         ensures refused { IfErr result (λ e. e ≡ Resources) }
@@ -87,16 +87,15 @@ impl Notes {
     }
 
     /// All of them, by place.
-    pub fn list(self, alloc: Global) -> Result<Vec<Note>, Fault>
+    pub(crate) fn list(self, alloc: Global) -> Result<Vec<Note>, Fault>
         ensures listed { IfOk result (λ v. v.items ≡ self) }
         ensures refused { IfErr result (λ e. e ≡ Resources) }
     {
-        let all = listed(alloc, self.all)?;
-        Ok(all)
+        listed(alloc, self.all)
     }
 
     /// Adds the note of an operation, where somebody is named.
-    pub fn note(
+    pub(crate) fn note(
         self,
         alloc: Global,
         place: u64,
@@ -131,7 +130,7 @@ impl Notes {
     }
 
     /// The notes of the registrant go.
-    pub fn forget(self, alloc: Global, queue: QueueNo, name: &Name) -> Result<Notes, Fault>
+    pub(crate) fn forget(self, alloc: Global, queue: QueueNo, name: &Name) -> Result<Notes, Fault>
         ensures done { IfOk result (λ v. v ≡ machine.unnoted queue.0 name.now self) }
         ensures refused { IfErr result (λ e. e ≡ Resources) }
     {
@@ -146,7 +145,7 @@ impl Notes {
     }
 
     /// Takes the notes of the unit out. They come by place.
-    pub fn take(self, alloc: Global, unit: UnitNo) -> Result<(Notes, Vec<KeptNote>), Fault>
+    pub(crate) fn take(self, alloc: Global, unit: UnitNo) -> Result<(Notes, Vec<KeptNote>), Fault>
         ensures others { IfOk result (λ r. r.0 ≡ machine.closed_notes unit.0 self) }
         ensures taken { IfOk result (λ r. r.1.items ≡ filter (λ n. n.unit == unit.0) self) }
         ensures refused { IfErr result (λ e. e ≡ Resources) }

@@ -10,6 +10,7 @@ ghost use Rattle.rq_queue.specs.Kept.{items_of, IsKeyed};
 ghost use Rattle.rq_queue.specs.Priorities.{IsKnown, AreKnown, with_all};
 ghost use Rattle.rq_record.specs.declared.fault.Fault.TheVariants.{Resources};
 
+use crate::shelves::Rank;
 use rq_record::{ElemId, Fault};
 use rq_state::Element;
 use std::alloc::Global;
@@ -17,7 +18,7 @@ use std::cmp::Reverse;
 use std::collections::BTreeMap;
 
 /// Where priorities are kept, that of an element of a new id is kept too.
-pub fn kept_with(
+pub(crate) fn kept_with(
     priorities: Option<BTreeMap<u64, u8>>,
     e: &Element,
 ) -> Result<Option<BTreeMap<u64, u8>>, Fault>
@@ -48,10 +49,7 @@ fn listed(by_id: BTreeMap<u64, u8>, list: &[Element]) -> Result<BTreeMap<u64, u8
 }
 
 // The priorities of the Free elements.
-fn of_free(
-    alloc: Global,
-    free: &BTreeMap<(Reverse<u8>, u64), Element>,
-) -> Result<BTreeMap<u64, u8>, Fault>
+fn of_free(alloc: Global, free: &BTreeMap<Rank, Element>) -> Result<BTreeMap<u64, u8>, Fault>
     ensures added { IfOk result (λ m. m.entries ≡ with_all (values_of free.now.entries) []) }
     ensures refused { IfErr result (λ e. e ≡ Resources) }
 {
@@ -80,10 +78,10 @@ fn with_marked(
 }
 
 /// The priorities of all elements: those that are kept, or else collected now.
-pub fn known(
+pub(crate) fn known(
     alloc: Global,
     priorities: Option<BTreeMap<u64, u8>>,
-    free: &BTreeMap<(Reverse<u8>, u64), Element>,
+    free: &BTreeMap<Rank, Element>,
     marked: &BTreeMap<u64, Vec<Element>>,
 ) -> Result<BTreeMap<u64, u8>, Fault>
     requires apart { Ordered (λ (e f : model.Element). e.id ≢ f.id)
@@ -106,11 +104,11 @@ pub fn known(
 
 /// The Free elements without the one of that id, if there is one: its priority says where it
 /// stands.
-pub fn without(
-    free: BTreeMap<(Reverse<u8>, u64), Element>,
+pub(crate) fn without(
+    free: BTreeMap<Rank, Element>,
     by_id: &BTreeMap<u64, u8>,
     id: ElemId,
-) -> BTreeMap<(Reverse<u8>, u64), Element>
+) -> BTreeMap<Rank, Element>
     requires keyed { AllByRecursion IsKeyed free.entries }
     requires apart { Ordered (λ (e f : model.Element). e.id ≢ f.id) (values_of free.entries) }
     requires known { AllByRecursion (IsKnown by_id.now.entries) (values_of free.entries) }

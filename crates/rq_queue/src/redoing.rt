@@ -19,7 +19,7 @@ use crate::part::Part;
 use rq_record::Fault;
 use std::alloc::Global;
 
-// Does the operations from a place in the list on, as far as they stand at `until` or before. How
+// Does the operations from an index in the list on, as far as they stand at `until` or before. How
 // many are done then.
 fn catch_up(
     alloc: Global,

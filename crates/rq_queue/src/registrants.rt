@@ -19,7 +19,7 @@ use std::marker::Model;
 
 /// The registrants of a queue, by name: the last operation of each.
 #[derive(Drop)]
-pub struct Registrants {
+pub(crate) struct Registrants {
     lasts: BTreeMap<(u32, Called), KeptLast>,
 }
 
@@ -37,7 +37,7 @@ impl Model for Registrants {
 
 impl Registrants {
     /// No registrant.
-    pub fn none(alloc: Global) -> Registrants
+    pub(crate) fn none(alloc: Global) -> Registrants
         ensures { result ≡ [] }
     {
         Registrants {
@@ -46,7 +46,7 @@ impl Registrants {
     }
 
     /// These registrants, which are in order.
-    pub fn of(alloc: Global, items: Vec<Registrant>) -> Result<Registrants, Fault>
+    pub(crate) fn of(alloc: Global, items: Vec<Registrant>) -> Result<Registrants, Fault>
         requires { Ordered (λ r t. model.registrant_before r t ≡ true) items.items }
         ensures done { IfOk result (λ v. v ≡ items.items) }
         ensures refused { IfErr result (λ e. e ≡ Resources) }
@@ -74,16 +74,20 @@ impl Registrants {
     }
 
     /// All of them, in order.
-    pub fn list(self, alloc: Global) -> Result<Vec<Registrant>, Fault>
+    pub(crate) fn list(self, alloc: Global) -> Result<Vec<Registrant>, Fault>
         ensures listed { IfOk result (λ v. v.items ≡ self) }
         ensures refused { IfErr result (λ e. e ≡ Resources) }
     {
-        let all = listed(alloc, self.lasts)?;
-        Ok(all)
+        listed(alloc, self.lasts)
     }
 
     /// Registers a name, unless it is registered.
-    pub fn register(self, alloc: Global, queue: QueueNo, name: &Name) -> Result<Registrants, Fault>
+    pub(crate) fn register(
+        self,
+        alloc: Global,
+        queue: QueueNo,
+        name: &Name,
+    ) -> Result<Registrants, Fault>
         ensures done { IfOk result (λ v. v ≡ machine.registered queue.0 name.now self) }
         ensures refused { IfErr result (λ e. e ≡ Resources) }
     {
@@ -97,7 +101,7 @@ impl Registrants {
     }
 
     /// The name is registered no longer.
-    pub fn deregister(
+    pub(crate) fn deregister(
         self,
         alloc: Global,
         queue: QueueNo,
@@ -133,12 +137,16 @@ impl Registrants {
     }
 
     /// The notes of the unit among these reach the registrants.
-    pub fn hear(self, alloc: Global, unit: UnitNo, notes: &[KeptNote]) -> Result<Registrants, Fault>
+    pub(crate) fn hear(
+        self,
+        alloc: Global,
+        unit: UnitNo,
+        notes: &[KeptNote],
+    ) -> Result<Registrants, Fault>
         ensures done { IfOk result (λ v. v ≡ map (machine.told unit.0 notes.now) self) }
         ensures refused { IfErr result (λ e. e ≡ Resources) }
     {
-        let all = hear_all(alloc, self, unit, notes)?;
-        Ok(all)
+        hear_all(alloc, self, unit, notes)
     }
 }
 

@@ -21,8 +21,11 @@ use std::alloc::Global;
 use std::cmp::Reverse;
 use std::collections::BTreeMap;
 
+/// Where a Free element stands among the others: by priority, the greatest first, and then by id.
+pub(crate) type Rank = (Reverse<u8>, u64);
+
 /// Takes the list of a unit out.
-pub fn taken(
+pub(crate) fn taken(
     alloc: Global,
     marked: BTreeMap<u64, Vec<Element>>,
     unit: UnitNo,
@@ -41,7 +44,7 @@ pub fn taken(
 }
 
 /// Puts an element at the end of the list of its unit.
-pub fn stow(
+pub(crate) fn stow(
     alloc: Global,
     marked: BTreeMap<u64, Vec<Element>>,
     unit: UnitNo,
@@ -64,7 +67,7 @@ pub fn stow(
 }
 
 /// Takes those that units mark out of elements, to stand with their units: Free ones are left.
-pub fn parted(
+pub(crate) fn parted(
     alloc: Global,
     items: Vec<Element>,
 ) -> Result<(Vec<Element>, BTreeMap<u64, Vec<Element>>), Fault>
@@ -89,10 +92,7 @@ pub fn parted(
 }
 
 /// The map of Free elements of different ids. It is made at once, so that its nodes are full.
-pub fn mapped(
-    alloc: Global,
-    list: Vec<Element>,
-) -> Result<BTreeMap<(Reverse<u8>, u64), Element>, Fault>
+pub(crate) fn mapped(alloc: Global, list: Vec<Element>) -> Result<BTreeMap<Rank, Element>, Fault>
     requires free { AllByRecursion
         (λ (e : model.Element). model.is_free e.mark ≡ true) list.items }
     requires apart { Ordered (λ (e f : model.Element). e.id ≢ f.id) list.items }
@@ -109,10 +109,10 @@ pub fn mapped(
 }
 
 /// Puts a Free element under its key.
-pub fn freed(
-    free: BTreeMap<(Reverse<u8>, u64), Element>,
+pub(crate) fn freed(
+    free: BTreeMap<Rank, Element>,
     e: Element,
-) -> Result<BTreeMap<(Reverse<u8>, u64), Element>, Fault>
+) -> Result<BTreeMap<Rank, Element>, Fault>
     requires mark { model.is_free e.mark ≡ true }
     ensures among { IfOk result (λ m. AllByRecursion IsKeyed free.entries
         → AllByRecursion (λ x. e.id ≢ x.id) (values_of free.entries)
@@ -129,11 +129,11 @@ pub fn freed(
 }
 
 /// Puts what a COMMIT of the unit leaves of its elements under their keys.
-pub fn all_freed(
-    free: BTreeMap<(Reverse<u8>, u64), Element>,
+pub(crate) fn all_freed(
+    free: BTreeMap<Rank, Element>,
     list: Vec<Element>,
     unit: UnitNo,
-) -> Result<BTreeMap<(Reverse<u8>, u64), Element>, Fault>
+) -> Result<BTreeMap<Rank, Element>, Fault>
     ensures freed { IfOk result (λ m. (others : List model.Element) →
         Frees others free.entries (unheld unit.0 list.items) m.entries []) }
     ensures refused { IfErr result (λ e. e ≡ Resources) }
@@ -150,13 +150,13 @@ pub fn all_freed(
 
 /// Puts what an ABORT of the unit leaves of its elements under their keys. Those that leave the
 /// queue.
-pub fn all_returned(
+pub(crate) fn all_returned(
     alloc: Global,
-    free: BTreeMap<(Reverse<u8>, u64), Element>,
+    free: BTreeMap<Rank, Element>,
     list: Vec<Element>,
     unit: UnitNo,
     home: &Definition,
-) -> Result<(BTreeMap<(Reverse<u8>, u64), Element>, Vec<Element>), Fault>
+) -> Result<(BTreeMap<Rank, Element>, Vec<Element>), Fault>
     requires room { AllByRecursion (λ (e : model.Element). e.attempts + 1 < 2 ^ 64) list.items }
     requires of_unit { AllByRecursion
         (λ (e : model.Element). queues.is_marked unit.0 e.mark ≡ true) list.items }
@@ -180,10 +180,7 @@ pub fn all_returned(
 }
 
 /// The Free elements, best first.
-pub fn free_list(
-    alloc: Global,
-    free: BTreeMap<(Reverse<u8>, u64), Element>,
-) -> Result<Vec<Element>, Fault>
+pub(crate) fn free_list(alloc: Global, free: BTreeMap<Rank, Element>) -> Result<Vec<Element>, Fault>
     ensures listed { IfOk result (λ v. v.items ≡ values_of free.entries) }
     ensures refused { IfErr result (λ e. e ≡ Resources) }
 {
@@ -196,7 +193,7 @@ pub fn free_list(
 }
 
 /// Adds the elements of all units.
-pub fn with_marked(
+pub(crate) fn with_marked(
     elements: Vec<Element>,
     marked: BTreeMap<u64, Vec<Element>>,
 ) -> Result<Vec<Element>, Fault>

@@ -8,14 +8,14 @@ use rq_record::{Name, QueueNo, UnitNo};
 
 /// Those of a unit, or those of a registrant.
 #[derive(Clone, Copy)]
-pub enum Whose {
+pub(crate) enum Whose {
     OfUnit(UnitNo),
     OfRegistrant(QueueNo, Name),
 }
 
 impl Whose {
     /// Whether the note is one of them.
-    pub fn owns(&self, n: &KeptNote) -> bool
+    pub(crate) fn owns(&self, n: &KeptNote) -> bool
         ensures { result ≡ is_own self.now n.now }
     {
         match self {

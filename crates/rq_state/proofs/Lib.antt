@@ -1,7 +1,8 @@
-pub mod ByPlace
+pub mod ByIndex
 pub mod Distinct
 pub mod Grown
 pub mod InOrder
+pub mod Indices
 pub mod Joined
 pub mod Kept
 pub mod Listings
@@ -9,7 +10,6 @@ pub mod Loop
 pub mod Measured
 pub mod Neighbours
 pub mod Passing
-pub mod Places
 pub mod Rises
 pub mod Searched
 pub mod Sorts

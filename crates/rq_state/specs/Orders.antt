@@ -1,4 +1,4 @@
--- Lists in the model's order, and the places of a queue's members.
+-- Lists in the model's order, and the indices of a queue's members.
 use Rattle.std.specs.Prelude.{ℕ, ◌+◌, nat_lt, Bool, if◌then◌else◌, List, [], ◌∷◌, map}
 use Rattle.std.specs.Prelude.{slice_index_or}
 use Rattle.std.specs.Global.{Vec}
@@ -21,7 +21,7 @@ state_in_order s = record s {
   notes = put_in_order place_before s.notes;
 }
 
--- the places of those that pass the test, counted from n
+-- the indices of those that pass the test, counted from n
 abbrev pub places_of : {X : Type 0} → (X → Bool) → ℕ → List X → List ℕ
 places_of p n [] = []
 places_of p n (x ∷ xs) = if p x then n ∷ places_of p (n + 1) xs else places_of p (n + 1) xs

@@ -4,7 +4,7 @@ use Rattle.std.specs.Global.{Vec}
 use Rattle.rq_model.specs.States.{Element, Note, Registrant}
 use Rattle.rq_state.specs.Orders.{places_of, listed}
 
--- the tables have the places of each queue's members
+-- the tables have the indices of each queue's members
 pub record IsTabled (rs : List Registrant) (es : List Element) (ns : List Note)
     (registrant_table element_table note_table : List (Vec ℕ)) : Type 0 where
   pub registered : (queue : ℕ) →

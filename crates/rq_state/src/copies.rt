@@ -46,50 +46,50 @@ impl State {
     }
 }
 
-// Copies of the elements at these places.
-fn elements_copied(alloc: Global, state: &State, places: &[usize]) -> Result<Vec<Element>, Fault>
-    requires { AllByRecursion (λ place. place < length state.now.elements) places.now }
+// Copies of the elements at these indices.
+fn elements_copied(alloc: Global, state: &State, indices: &[usize]) -> Result<Vec<Element>, Fault>
+    requires { AllByRecursion (λ index. index < length state.now.elements) indices.now }
     ensures copied { IfOk result (λ v. (x : model.Element) →
-        v.items ≡ map (λ place. slice_index_or state.now.elements place x) places.now) }
+        v.items ≡ map (λ index. slice_index_or state.now.elements index x) indices.now) }
     ensures refused { IfErr result (λ e. e ≡ Resources) }
 {
-    let mut copies = Vec::with_capacity(alloc, places.len())?;
-    for place in places {
-        let element = state.element(*place);
+    let mut copies = Vec::with_capacity(alloc, indices.len())?;
+    for index in indices {
+        let element = state.element(*index);
         copies.push(element.copied()?)?;
     }
     Ok(copies)
 }
 
-// Copies of the registrants at these places.
+// Copies of the registrants at these indices.
 fn registrants_copied(
     alloc: Global,
     state: &State,
-    places: &[usize],
+    indices: &[usize],
 ) -> Result<Vec<Registrant>, Fault>
-    requires { AllByRecursion (λ place. place < length state.now.registrants) places.now }
+    requires { AllByRecursion (λ index. index < length state.now.registrants) indices.now }
     ensures copied { IfOk result (λ v. (x : model.Registrant) →
-        v.items ≡ map (λ place. slice_index_or state.now.registrants place x) places.now) }
+        v.items ≡ map (λ index. slice_index_or state.now.registrants index x) indices.now) }
     ensures refused { IfErr result (λ e. e ≡ Resources) }
 {
-    let mut copies = Vec::with_capacity(alloc, places.len())?;
-    for place in places {
-        let registrant = state.registrant(*place);
+    let mut copies = Vec::with_capacity(alloc, indices.len())?;
+    for index in indices {
+        let registrant = state.registrant(*index);
         copies.push(registrant.copied())?;
     }
     Ok(copies)
 }
 
-// Copies of the notes at these places.
-fn notes_copied(alloc: Global, state: &State, places: &[usize]) -> Result<Vec<Note>, Fault>
-    requires { AllByRecursion (λ place. place < length state.now.notes) places.now }
+// Copies of the notes at these indices.
+fn notes_copied(alloc: Global, state: &State, indices: &[usize]) -> Result<Vec<Note>, Fault>
+    requires { AllByRecursion (λ index. index < length state.now.notes) indices.now }
     ensures copied { IfOk result (λ v. (x : model.Note) →
-        v.items ≡ map (λ place. slice_index_or state.now.notes place x) places.now) }
+        v.items ≡ map (λ index. slice_index_or state.now.notes index x) indices.now) }
     ensures refused { IfErr result (λ e. e ≡ Resources) }
 {
-    let mut copies = Vec::with_capacity(alloc, places.len())?;
-    for place in places {
-        let note = state.note(*place);
+    let mut copies = Vec::with_capacity(alloc, indices.len())?;
+    for index in indices {
+        let note = state.note(*index);
         copies.push(note.copied())?;
     }
     Ok(copies)

@@ -1,4 +1,4 @@
-//! Looks at a state's members, place by place.
+//! Looks at a state's members, each by its index.
 
 ghost use Rattle.std.specs.Prelude.{◌≡◌, ◌<◌, ℕ, length, slice_index_or};
 ghost use Rattle.rq_model.specs.States as model;
@@ -15,13 +15,13 @@ impl State {
         self.definitions().len()
     }
 
-    /// The definition of the queue whose number is `place`.
-    pub fn definition(&self, place: usize) -> &Definition
-        requires { place < length self.now.definitions }
+    /// The definition of the queue whose number is `index`.
+    pub fn definition(&self, index: usize) -> &Definition
+        requires { index < length self.now.definitions }
         ensures { (x : model.Definition) →
-            result.now ≡ slice_index_or self.now.definitions place x }
+            result.now ≡ slice_index_or self.now.definitions index x }
     {
-        &self.definitions()[place]
+        &self.definitions()[index]
     }
 
     /// How many units are open.
@@ -31,12 +31,12 @@ impl State {
         self.units().len()
     }
 
-    /// The open unit at a place of their list.
-    pub fn unit(&self, place: usize) -> UnitNo
-        requires { place < length self.now.units }
-        ensures { (unit : ℕ) → result.0 ≡ slice_index_or self.now.units place unit }
+    /// The open unit at an index in their list.
+    pub fn unit(&self, index: usize) -> UnitNo
+        requires { index < length self.now.units }
+        ensures { (unit : ℕ) → result.0 ≡ slice_index_or self.now.units index unit }
     {
-        self.units()[place]
+        self.units()[index]
     }
 
     /// How many registrants there are, in all queues.
@@ -46,13 +46,13 @@ impl State {
         self.registrants().len()
     }
 
-    /// The registrant at a place of their list.
-    pub fn registrant(&self, place: usize) -> &Registrant
-        requires { place < length self.now.registrants }
+    /// The registrant at an index in their list.
+    pub fn registrant(&self, index: usize) -> &Registrant
+        requires { index < length self.now.registrants }
         ensures { (x : model.Registrant) →
-            result.now ≡ slice_index_or self.now.registrants place x }
+            result.now ≡ slice_index_or self.now.registrants index x }
     {
-        &self.registrants()[place]
+        &self.registrants()[index]
     }
 
     /// How many elements there are, in all queues and of every mark.
@@ -62,12 +62,12 @@ impl State {
         self.elements().len()
     }
 
-    /// The element at a place of their list.
-    pub fn element(&self, place: usize) -> &Element
-        requires { place < length self.now.elements }
-        ensures { (x : model.Element) → result.now ≡ slice_index_or self.now.elements place x }
+    /// The element at an index in their list.
+    pub fn element(&self, index: usize) -> &Element
+        requires { index < length self.now.elements }
+        ensures { (x : model.Element) → result.now ≡ slice_index_or self.now.elements index x }
     {
-        &self.elements()[place]
+        &self.elements()[index]
     }
 
     /// How many notes of open units there are.
@@ -77,11 +77,11 @@ impl State {
         self.notes().len()
     }
 
-    /// The note at a place of their list.
-    pub fn note(&self, place: usize) -> &Note
-        requires { place < length self.now.notes }
-        ensures { (x : model.Note) → result.now ≡ slice_index_or self.now.notes place x }
+    /// The note at an index in their list.
+    pub fn note(&self, index: usize) -> &Note
+        requires { index < length self.now.notes }
+        ensures { (x : model.Note) → result.now ≡ slice_index_or self.now.notes index x }
     {
-        &self.notes()[place]
+        &self.notes()[index]
     }
 }

@@ -207,9 +207,9 @@ impl State {
     /// Where a queue's elements stand in the list of elements, rising; none where no queue has the
     /// number.
     pub fn elements_of(&self, queue: QueueNo) -> &[usize]
-        ensures within { AllByRecursion (λ place. place < length self.now.elements) result.now }
+        ensures within { AllByRecursion (λ index. index < length self.now.elements) result.now }
         ensures elements { (e : model.Element) →
-            map (λ place. slice_index_or self.now.elements place e) result.now
+            map (λ index. slice_index_or self.now.elements index e) result.now
             ≡ elements_at queue.0 self.now.elements }
     {
         listed_at(&self.homes, queue)
@@ -218,9 +218,9 @@ impl State {
     /// Where a queue's registrants stand in the list of registrants, rising; none where no queue
     /// has the number.
     pub fn registrants_of(&self, queue: QueueNo) -> &[usize]
-        ensures within { AllByRecursion (λ place. place < length self.now.registrants) result.now }
+        ensures within { AllByRecursion (λ index. index < length self.now.registrants) result.now }
         ensures registrants { (r : model.Registrant) →
-            map (λ place. slice_index_or self.now.registrants place r) result.now
+            map (λ index. slice_index_or self.now.registrants index r) result.now
             ≡ registrants_at queue.0 self.now.registrants }
     {
         listed_at(&self.registered, queue)
@@ -229,9 +229,9 @@ impl State {
     /// Where a queue's notes stand in the list of notes, rising; none where no queue has the
     /// number.
     pub fn notes_of(&self, queue: QueueNo) -> &[usize]
-        ensures within { AllByRecursion (λ place. place < length self.now.notes) result.now }
+        ensures within { AllByRecursion (λ index. index < length self.now.notes) result.now }
         ensures notes { (n : model.Note) →
-            map (λ place. slice_index_or self.now.notes place n) result.now
+            map (λ index. slice_index_or self.now.notes index n) result.now
             ≡ notes_at queue.0 self.now.notes }
     {
         listed_at(&self.noted, queue)

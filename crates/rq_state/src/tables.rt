@@ -1,4 +1,4 @@
-//! Tables of places by queue.
+//! Tables of indices by queue.
 
 ghost use Rattle.std.specs.Prelude.{◌≡◌, ◌<◌, ◌==◌, ◌∷◌, ◌++◌, [], ℕ, length, if◌then◌else◌, IfOk};
 ghost use Rattle.std.specs.Prelude.{IfErr, OnOk};
@@ -11,7 +11,7 @@ use crate::members::{Element, Note, Registrant};
 use rq_record::{Fault, QueueNo};
 use std::alloc::Global;
 
-// A table without places.
+// A table without indices.
 fn bare(alloc: Global, queues: usize) -> Result<Vec<Vec<usize>>, Fault>
     ensures len { IfOk result (λ table. length table.items ≡ queues) }
     ensures listed { IfOk result (λ table. (queue : ℕ) → listed table.items queue ≡ []) }
@@ -24,19 +24,19 @@ fn bare(alloc: Global, queues: usize) -> Result<Vec<Vec<usize>>, Fault>
     Ok(table)
 }
 
-// Adds a place to those of a queue.
-fn list(table: &mut Vec<Vec<usize>>, queue: QueueNo, place: usize) -> Result<(), Fault>
+// Adds an index to those of a queue.
+fn list(table: &mut Vec<Vec<usize>>, queue: QueueNo, index: usize) -> Result<(), Fault>
     requires { queue.0 < length table.old.items }
     ensures len { length table.new.items ≡ length table.old.items }
     ensures listed { OnOk result ((q : ℕ) → listed table.new.items q ≡ (if queue.0 == q
-        then listed table.old.items q ++ place ∷ [] else listed table.old.items q)) }
+        then listed table.old.items q ++ index ∷ [] else listed table.old.items q)) }
     ensures refused { IfErr result (λ e. e ≡ Resources) }
 {
-    table[queue.0 as usize].push(place)?;
+    table[queue.0 as usize].push(index)?;
     Ok(())
 }
 
-/// The places of the elements of each queue.
+/// The indices of the elements of each queue.
 pub(crate) fn homes_of(
     alloc: Global,
     queues: usize,
@@ -48,13 +48,13 @@ pub(crate) fn homes_of(
     ensures refused { IfErr result (λ e. e ≡ Resources) }
 {
     let mut table = bare(alloc, queues)?;
-    for place in 0..elements.len() {
-        list(&mut table, elements[place].home(), place)?;
+    for index in 0..elements.len() {
+        list(&mut table, elements[index].home(), index)?;
     }
     Ok(table)
 }
 
-/// The places of the registrants of each queue.
+/// The indices of the registrants of each queue.
 pub(crate) fn registered_of(
     alloc: Global,
     queues: usize,
@@ -66,13 +66,13 @@ pub(crate) fn registered_of(
     ensures refused { IfErr result (λ e. e ≡ Resources) }
 {
     let mut table = bare(alloc, queues)?;
-    for place in 0..registrants.len() {
-        list(&mut table, registrants[place].queue(), place)?;
+    for index in 0..registrants.len() {
+        list(&mut table, registrants[index].queue(), index)?;
     }
     Ok(table)
 }
 
-/// The places of the notes of each queue.
+/// The indices of the notes of each queue.
 pub(crate) fn noted_of(
     alloc: Global,
     queues: usize,
@@ -84,8 +84,8 @@ pub(crate) fn noted_of(
     ensures refused { IfErr result (λ e. e ≡ Resources) }
 {
     let mut table = bare(alloc, queues)?;
-    for place in 0..notes.len() {
-        list(&mut table, notes[place].queue(), place)?;
+    for index in 0..notes.len() {
+        list(&mut table, notes[index].queue(), index)?;
     }
     Ok(table)
 }
@@ -95,7 +95,7 @@ pub(crate) fn listed_at(table: &[Vec<usize>], queue: QueueNo) -> &[usize]
     ensures { result.now ≡ listed table.now queue.0 }
 {
     match table.get(queue.0 as usize) {
-        Some(places) => places,
+        Some(indices) => indices,
         None => &[],
     }
 }

@@ -25,20 +25,20 @@ pub struct Entry<T> {
 }
 
 // What the note of an arrival is about.
-pub struct Told<T> {
+pub(crate) struct Told<T> {
     source: u32,
     outbox: Snapshot<T>,
     answer: Arrival<T>,
 }
 
-pub struct Enter;
+pub(crate) struct Enter;
 
 impl<T> Noting<Told<T>, Entry<T>> for Enter {
     ghost entry = { λ t. entry t.source t.outbox.value t.answer };
 }
 
 /// Remembers the arrival, and gives its answer.
-pub fn noted<T>(
+pub(crate) fn noted<T>(
     diary: &mut Diary<Entry<T>>,
     source: u32,
     outbox: Snapshot<T>,

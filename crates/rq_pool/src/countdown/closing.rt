@@ -19,7 +19,7 @@ pub struct Closing<T> {
 }
 
 // What the arrivals of a closing are made of: the passes that are handed in.
-pub struct Arrivals;
+pub(crate) struct Arrivals;
 
 impl<T: Fits> Listing<Vec<Pass<T>>, LinkedList<Entry<T>>> for Arrivals {
     ghost use Rattle.std.specs.Prelude.{map};

@@ -14,7 +14,7 @@ use rq_record::Fault;
 use std::alloc::Global;
 
 /// Room for all outboxes, for each pass.
-pub fn rooms<T: Drop>(alloc: Global, sources: u32, passes: u32) -> Result<Vec<Vec<T>>, Fault>
+pub(crate) fn rooms<T: Drop>(alloc: Global, sources: u32, passes: u32) -> Result<Vec<Vec<T>>, Fault>
     ensures rooms { IfOk result (λ r. (length r.items ≡ passes)
         × All (λ v. (v.items ≡ []) × (sources ≤ vec_capacity v)) r.items) }
     ensures refused { IfErr result (λ e. e ≡ Resources) }
@@ -27,7 +27,7 @@ pub fn rooms<T: Drop>(alloc: Global, sources: u32, passes: u32) -> Result<Vec<Ve
 }
 
 /// A seat and a room for each pass.
-pub fn deal<T: Fits>(
+pub(crate) fn deal<T: Fits>(
     board: &Board<T>,
     mut seat: Chair<T>,
     mut rooms: Vec<Vec<T>>,

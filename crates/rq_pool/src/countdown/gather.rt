@@ -25,7 +25,12 @@ fn take_one<T: Fits>(board: &Board<T>, seat: &mut Chair<T>, slot: usize) -> T
 }
 
 /// Moves the outboxes out of the slots into `room`, in order.
-pub fn gather<T: Fits>(board: &Board<T>, seat: &mut Chair<T>, sources: u32, room: &mut Vec<T>)
+pub(crate) fn gather<T: Fits>(
+    board: &Board<T>,
+    seat: &mut Chair<T>,
+    sources: u32,
+    room: &mut Vec<T>,
+)
     requires own { seat.old.table_id ≡ board.now.table_id }
     requires slots { (length (contents seat.old.me.1) ≡ sources)
         × (seat.old.me.1 ≡ numbered 0 (map Some (contents seat.old.me.1))) }

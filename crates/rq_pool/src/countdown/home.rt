@@ -18,7 +18,7 @@ fn keep<T>(home: &mut Vec<T>, found: Option<T>)
 }
 
 /// Moves what is in the slots into `home`, in order.
-pub fn empty<T: Drop>(mut closed: Closed<Option<T>, Global>, sources: u32, home: &mut Vec<T>)
+pub(crate) fn empty<T: Drop>(mut closed: Closed<Option<T>, Global>, sources: u32, home: &mut Vec<T>)
     requires { (slots_len closed.slots ≡ sources) × IsFull closed.slots
         × (sources ≤ vec_capacity home.old) × (home.old.items ≡ []) }
     ensures { home.new.items ≡ somes (slots_items closed.slots) }
@@ -30,7 +30,7 @@ pub fn empty<T: Drop>(mut closed: Closed<Option<T>, Global>, sources: u32, home:
 }
 
 /// Drops what is in the slots.
-pub fn discard<T: Drop>(mut closed: Closed<Option<T>, Global>, sources: u32)
+pub(crate) fn discard<T: Drop>(mut closed: Closed<Option<T>, Global>, sources: u32)
     requires { (slots_len closed.slots ≡ sources) × IsFull closed.slots }
 {
     for i in 0..sources as usize {

@@ -12,7 +12,7 @@ use crate::countdown::plays::{Glue, Return};
 use crate::countdown::steps::{Board, Chair};
 
 /// The pass that was told Last.
-pub fn find_last<T: Fits>(passes: &Vec<Pass<T>>) -> Option<usize>
+pub(crate) fn find_last<T: Fits>(passes: &Vec<Pass<T>>) -> Option<usize>
     ensures some { ForSome result (λ k. (k < length passes.now.items)
         × ((d : _) → lasts (slice_index_or passes.now.items k d).seat.me.0 ≡ 1)) }
     ensures none { ForNone result (All (λ p. lasts p.seat.me.0 ≡ 0) passes.now.items) }
@@ -46,7 +46,7 @@ fn retire<T: Fits>(board: &Board<T>, pass: Pass<T>) -> Chair<T>
 }
 
 /// One seat that has made all that the passes made.
-pub fn join_all<T: Fits>(board: &Board<T>, mut passes: Vec<Pass<T>>) -> Chair<T>
+pub(crate) fn join_all<T: Fits>(board: &Board<T>, mut passes: Vec<Pass<T>>) -> Chair<T>
     requires own { All (λ p. p.seat.table_id ≡ board.now.table_id) passes.items
         × (0 < board.now.table_id.words) × (0 < length passes.items) }
     ensures own { (result.table_id ≡ board.now.table_id)

@@ -9,7 +9,7 @@ use crate::countdown::view::{Terms, View};
 use atomic_table::{Join, Play, Split, TableRule};
 use std::marker::PhantomData;
 
-pub struct Counts<T> {
+pub(crate) struct Counts<T> {
     marker: PhantomData<T>,
 }
 
@@ -19,13 +19,13 @@ impl<T: Fits> TableRule<Option<T>, View<T, T::Key>, Terms<T::Key>> for Counts<T>
     ghost first = { λ k. view k.passes (Some k.key) None [] [] };
 }
 
-pub struct Claim;
+pub(crate) struct Claim;
 
 impl<T, K> Play<Option<T>, View<T, K>> for Claim {
     ghost then = { claimed };
 }
 
-pub struct Count<T> {
+pub(crate) struct Count<T> {
     marker: PhantomData<T>,
 }
 
@@ -33,13 +33,13 @@ impl<T: Fits> Play<Option<T>, View<T, T::Key>> for Count<T> {
     ghost then = { counted T.fits };
 }
 
-pub struct Return;
+pub(crate) struct Return;
 
 impl<T, K> Play<Option<T>, View<T, K>> for Return {
     ghost then = { returned };
 }
 
-pub struct Glue;
+pub(crate) struct Glue;
 
 impl<T, K> Join<View<T, K>> for Glue {
     ghost both = { both_of };
@@ -47,7 +47,7 @@ impl<T, K> Join<View<T, K>> for Glue {
     ghost spent = { spent_view };
 }
 
-pub struct Cut;
+pub(crate) struct Cut;
 
 impl<T, K> Split<View<T, K>> for Cut {
     ghost left = { left_of };

@@ -11,17 +11,17 @@ use crate::countdown::plays::{Claim, Count, Counts};
 use crate::countdown::view::{Terms, View};
 use atomic_table::{Seat, Shared};
 
-pub type Board<T> = Shared<
+pub(crate) type Board<T> = Shared<
     Option<T>,
     View<T, <T as Fits>::Key>,
     Terms<<T as Fits>::Key>,
     Counts<T>,
 >;
 
-pub type Chair<T> = Seat<Option<T>, View<T, <T as Fits>::Key>>;
+pub(crate) type Chair<T> = Seat<Option<T>, View<T, <T as Fits>::Key>>;
 
 /// Sets the source's flag. Where it was clear, the seat has the source's slot.
-pub fn claim<T: Fits>(board: &Board<T>, seat: &mut Chair<T>, source: u32) -> bool
+pub(crate) fn claim<T: Fits>(board: &Board<T>, seat: &mut Chair<T>, source: u32) -> bool
     requires own { (seat.old.table_id ≡ board.now.table_id)
         × (board.now.table_id.words ≡ board.now.table_id.slots + 1)
         × (source < board.now.table_id.slots) }
@@ -44,7 +44,7 @@ pub fn claim<T: Fits>(board: &Board<T>, seat: &mut Chair<T>, source: u32) -> boo
 }
 
 /// Puts the outbox into the slot that the seat has.
-pub fn place<T: Fits>(board: &Board<T>, seat: &mut Chair<T>, source: u32, outbox: T)
+pub(crate) fn place<T: Fits>(board: &Board<T>, seat: &mut Chair<T>, source: u32, outbox: T)
     requires { (seat.old.table_id ≡ board.now.table_id) × (seat.old.me.1 ≡ (source, None) ∷ []) }
     ensures own { (seat.new.table_id ≡ seat.old.table_id) × (seat.new.id ≡ seat.old.id) }
     ensures slot { (seat.new.me.0 ≡ seat.old.me.0) × (seat.new.me.1 ≡ (source, Some outbox) ∷ []) }
@@ -57,7 +57,12 @@ pub fn place<T: Fits>(board: &Board<T>, seat: &mut Chair<T>, source: u32, outbox
 
 /// Hands the outbox in and counts its source. Says whether the source was the last; then the seat
 /// has all slots.
-pub fn hand_in<T: Fits>(board: &Board<T>, seat: &mut Chair<T>, source: u32, outbox: T) -> bool
+pub(crate) fn hand_in<T: Fits>(
+    board: &Board<T>,
+    seat: &mut Chair<T>,
+    source: u32,
+    outbox: T,
+) -> bool
     requires own { (seat.old.table_id ≡ board.now.table_id)
         × (board.now.table_id.words ≡ board.now.table_id.slots + 1)
         × (source < board.now.table_id.slots) }

@@ -22,11 +22,11 @@ position_first-requires-clause-items g c κs within =
     (all_within c.in-Ok.pieces.items (length c.args.spans.now) c.in-Ok.ensures) in
     λ k d lt x e. (c.requires.inside, subst (IsWithin (length c.args.spans.now)) (sym e) (each k d lt))
 
-pub returns-in_err-place-clause-none : goal.returns-in_err-place-clause-none
-returns-in_err-place-clause-none g c =
+pub returns-in_err-index-clause-none : goal.returns-in_err-index-clause-none
+returns-in_err-index-clause-none g c =
     let b = c.args.bytes.now in
     let items = ap (λ (it : Iter Piece). iter_slice it) c.with_min_len.ensures.base ∙ c.par_iter.ensures in
-    let told = c.in_err-place.ensures in
+    let told = c.in_err-index.ensures in
     let zip = slice-AllZip told.0 c.in-Ok.pieces.items (told.2 ∙ items) (Tells b c.args.spans.now) told.1 told.3 in
     rw c.from_residual.ensures
     (none_wrong b c.args.spans.now 0 c.in-Ok.pieces.items told.1 c.in-Ok.ensures (All-nil (IsRight b)) zip
@@ -47,8 +47,8 @@ at_piece b spans ps it there k p same slice lt side told =
 pub index-requires : goal.index-requires
 index-requires g c =
     let d : Piece = record { from = 0; to = 0 } in
-    let found = at_piece c.args.bytes.now c.args.spans.now c.in-Ok.pieces.items _ _ c.in_ok-place.place d
-    c.with_min_len.ensures.base c.par_iter.ensures (omega arith) c.in-Ok.ensures c.in_ok-place.ensures in
+    let found = at_piece c.args.bytes.now c.args.spans.now c.in-Ok.pieces.items _ _ c.in_ok-index.index d
+    c.with_min_len.ensures.base c.par_iter.ensures (omega arith) c.in-Ok.ensures c.in_ok-index.ensures in
     omega (arith, found.0)
 
 -- it begins behind right spans
@@ -64,21 +64,21 @@ begins b spans ps it there k p same slice lt side told is =
 
 pub offset_bounds-spans-start : goal.offset_bounds-spans-start
 offset_bounds-spans-start g c = let p =
-    begins c.args.bytes.now c.args.spans.now c.in-Ok.pieces.items _ _ c.in_ok-place.place c.index.result.now
+    begins c.args.bytes.now c.args.spans.now c.in-Ok.pieces.items _ _ c.in_ok-index.index c.index.result.now
     c.with_min_len.ensures.base c.par_iter.ensures
-    (omega arith) c.in-Ok.ensures c.in_ok-place.ensures c.index.ensures in omega (arith, p.within)
+    (omega arith) c.in-Ok.ensures c.in_ok-index.ensures c.index.ensures in omega (arith, p.within)
 
 pub slice_bounds-wrong_in-count : goal.slice_bounds-wrong_in-count
 slice_bounds-wrong_in-count g c = let p =
-    begins c.args.bytes.now c.args.spans.now c.in-Ok.pieces.items _ _ c.in_ok-place.place c.index.result.now
+    begins c.args.bytes.now c.args.spans.now c.in-Ok.pieces.items _ _ c.in_ok-index.index c.index.result.now
     c.with_min_len.ensures.base c.par_iter.ensures
-    (omega arith) c.in-Ok.ensures c.in_ok-place.ensures c.index.ensures in omega (arith, p.within)
+    (omega arith) c.in-Ok.ensures c.in_ok-index.ensures c.index.ensures in omega (arith, p.within)
 
 pub slice_bounds-wrong_in-start : goal.slice_bounds-wrong_in-start
 slice_bounds-wrong_in-start g c = let p =
-    begins c.args.bytes.now c.args.spans.now c.in-Ok.pieces.items _ _ c.in_ok-place.place c.index.result.now
+    begins c.args.bytes.now c.args.spans.now c.in-Ok.pieces.items _ _ c.in_ok-index.index c.index.result.now
     c.with_min_len.ensures.base c.par_iter.ensures
-    (omega arith) c.in-Ok.ensures c.in_ok-place.ensures c.index.ensures in search (rules, p.within)
+    (omega arith) c.in-Ok.ensures c.in_ok-index.ensures c.index.ensures in search (rules, p.within)
 
 pub wrong_in-requires-2 : goal.wrong_in-requires-2
 wrong_in-requires-2 g c =
@@ -86,21 +86,21 @@ wrong_in-requires-2 g c =
     subst (All (IsSpanOf c.args.bytes.now)) (sym rest)
     (All-drop (IsSpanOf c.args.bytes.now) c.index.result.now.from c.args.spans.now c.requires.inside)
 
-pub returns-in_err-place-2-clause-none : goal.returns-in_err-place-2-clause-none
-returns-in_err-place-2-clause-none g c =
-    let p = begins c.args.bytes.now c.args.spans.now c.in-Ok.pieces.items _ _ c.in_ok-place.place c.index.result.now
+pub returns-in_err-index-2-clause-none : goal.returns-in_err-index-2-clause-none
+returns-in_err-index-2-clause-none g c =
+    let p = begins c.args.bytes.now c.args.spans.now c.in-Ok.pieces.items _ _ c.in_ok-index.index c.index.result.now
     c.with_min_len.ensures.base c.par_iter.ensures
-    (omega arith) c.in-Ok.ensures c.in_ok-place.ensures c.index.ensures in
+    (omega arith) c.in-Ok.ensures c.in_ok-index.ensures c.index.ensures in
     let rest = take_rest c.args.spans.now c.index.result.now.from in
-    let all = subst (All (IsRight c.args.bytes.now)) rest c.in_err-place-2.ensures.none in
+    let all = subst (All (IsRight c.args.bytes.now)) rest c.in_err-index-2.ensures.none in
     absurd (not_all_right c.args.bytes.now c.args.spans.now c.index.result.now.from p all)
 
 pub returns-clause-some : goal.returns-clause-some
 returns-clause-some g c =
-    let p = begins c.args.bytes.now c.args.spans.now c.in-Ok.pieces.items _ _ c.in_ok-place.place c.index.result.now
+    let p = begins c.args.bytes.now c.args.spans.now c.in-Ok.pieces.items _ _ c.in_ok-index.index c.index.result.now
     c.with_min_len.ensures.base c.par_iter.ensures
-    (omega arith) c.in-Ok.ensures c.in_ok-place.ensures c.index.ensures in
+    (omega arith) c.in-Ok.ensures c.in_ok-index.ensures c.index.ensures in
     let rest = take_rest c.args.spans.now c.index.result.now.from in
-    let first = subst (λ (ss : List Span). IsFirstWrong c.args.bytes.now ss c.in_ok-place-2.place) rest
-    c.in_ok-place-2.ensures.some in
-    first_of_all c.args.bytes.now c.args.spans.now c.index.result.now.from c.in_ok-place-2.place p first
+    let first = subst (λ (ss : List Span). IsFirstWrong c.args.bytes.now ss c.in_ok-index-2.index) rest
+    c.in_ok-index-2.ensures.some in
+    first_of_all c.args.bytes.now c.args.spans.now c.index.result.now.from c.in_ok-index-2.index p first

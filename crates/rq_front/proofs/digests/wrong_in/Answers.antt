@@ -19,7 +19,7 @@ parts-preserved c = (
 
 pub returns-in-Some-clause-some : goal.returns-in-Some-clause-some
 returns-in-Some-clause-some c =
-    first_in_part c.args.bytes.now c.args.spans.now c.parts.done _ c.in-Some.place c.parts.invariant.0
+    first_in_part c.args.bytes.now c.args.spans.now c.parts.done _ c.in-Some.index c.parts.invariant.0
     c.parts.invariant.1 c.in-Some.ensures.some
 
 pub returns-clause-none : goal.returns-clause-none

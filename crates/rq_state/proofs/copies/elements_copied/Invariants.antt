@@ -3,7 +3,7 @@ use Rattle.std.specs.Prelude.{slice_index_or}
 use Rattle.rq_model.specs.States as model
 use Rattle.rq_state.proofs.copies.elements_copied.Given as goal
 
-abbrev pub invariant-loop-place : goal.invariant-loop-place
-invariant-loop-place l = (x : model.Element)
-    → l.copies.items ++ map (λ place. slice_index_or l.state.elements place x) (drop l.place-index l.places)
-    ≡ map (λ place. slice_index_or l.state.elements place x) l.places
+abbrev pub invariant-loop-index : goal.invariant-loop-index
+invariant-loop-index l = (x : model.Element)
+    → l.copies.items ++ map (λ index. slice_index_or l.state.elements index x) (drop l.index-index l.indices)
+    ≡ map (λ index. slice_index_or l.state.elements index x) l.indices

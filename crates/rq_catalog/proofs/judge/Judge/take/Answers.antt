@@ -2,7 +2,7 @@ use Rattle.std.proofs.Common.{Bool, if◌then◌else◌, subst, sym, ap, ◌∙�
 use Rattle.rq_model.specs.Records as records
 use Rattle.rq_model.specs.Machine.{is_lawful, step}
 use Rattle.rq_record.specs.Views.{record_of, version_of}
-use Rattle.rq_catalog.specs.Judges.{StandsIn, KnowsState}
+use Rattle.rq_catalog.specs.Judges.{KnowsState}
 use Rattle.rq_catalog.proofs.Judges.{moves}
 use Rattle.rq_catalog.proofs.judge.Judge.take.Goals as goal
 

@@ -20,29 +20,29 @@ first_wrong-requires-clause-inside g c κs within =
     subst (All (IsSpanOf c.args.bytes.now)) (sym c.deref.ensures.value) all
 
 -- the run up to the first wrong span
-cut_found : RightIsFrame → RunStops → (b : List ℕ) (from : ℕ) (spans : List Span) (end place : ℕ) (s : Span) → IsBytes b
+cut_found : RightIsFrame → RunStops → (b : List ℕ) (from : ℕ) (spans : List Span) (end index : ℕ) (s : Span) → IsBytes b
     → from ≤ length b → IsWalk b from spans end
-    → IsFirstWrong b spans place → s ≡ get_or spans place s → Found b from (take place spans) (s.start - 4) model.Digest
-cut_found law stops b from spans end place s bytes le walk first is =
-    let cut : IsCut b from spans place s =
-    subst (IsCut b from spans place) (sym is) (walk_cut b from spans end place s walk first.within) in
+    → IsFirstWrong b spans index → s ≡ get_or spans index s → Found b from (take index spans) (s.start - 4) model.Digest
+cut_found law stops b from spans end index s bytes le walk first is =
+    let cut : IsCut b from spans index s =
+    subst (IsCut b from spans index) (sym is) (walk_cut b from spans end index s walk first.within) in
     let wrong : IsRight b s → ⊥ = λ right. first.wrong s (subst (IsRight b) is right) in
-    found law stops b from (take place spans) (s.start - 4) model.Digest bytes le cut.walk first.before
+    found law stops b from (take index spans) (s.start - 4) model.Digest bytes le cut.walk first.before
     (cut.frame, λ same. wrong (record { whole = cut.frame; right = same }))
 
 pub returns-in-Some : goal.returns-in-Some
 returns-in-Some g c = λ from h.
     let b = c.args.bytes.now in
     let walked = c.args.self.found in
-    let place = c.in-Some.place in
+    let index = c.in-Some.index in
     let bytes : IsBytes b = λ i. omega (arith, c.type_inv.bytes i) in
-    let first = subst (λ (ss : List Span). IsFirstWrong b ss place) c.deref.ensures.value c.in-Some.ensures.some in
-    let it = subst (λ (end : ℕ). Found b from (take place walked.spans.items) end model.Digest) (sym c.offset.ensures)
-    (cut_found c.frames_are_right.ensures.frame c.one_run.ensures.stops b from walked.spans.items walked.end place
+    let first = subst (λ (ss : List Span). IsFirstWrong b ss index) c.deref.ensures.value c.in-Some.ensures.some in
+    let it = subst (λ (end : ℕ). Found b from (take index walked.spans.items) end model.Digest) (sym c.offset.ensures)
+    (cut_found c.frames_are_right.ensures.frame c.one_run.ensures.stops b from walked.spans.items walked.end index
     c.index.result.now bytes h.within h.walk first c.index.ensures) in
-    let kept : c.truncate.new.self.items ≡ take place walked.spans.items = c.truncate.ensures.items in
-    let many : length (take place walked.spans.items) ≡ place =
-    omega (arith, first.within, length-take place walked.spans.items) in
+    let kept : c.truncate.new.self.items ≡ take index walked.spans.items = c.truncate.ensures.items in
+    let many : length (take index walked.spans.items) ≡ index =
+    omega (arith, first.within, length-take index walked.spans.items) in
     record {
       run = rw kept it.run;
       spans = rw kept it.are;

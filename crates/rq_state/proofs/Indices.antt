@@ -1,4 +1,4 @@
--- What stands at the places of those that pass a test.
+-- What stands at the indices of those that pass a test.
 use Rattle.std.proofs.Common.{◌≡◌, ℕ, suc, ◌+◌, ◌<◌, Bool, cond, List, [], ◌∷◌, length, map, refl, ap, ◌∙◌, arith}
 use Rattle.std.specs.Prelude.{slice_index_or, filter}
 use Rattle.std.specs.List.{AllByRecursion}
@@ -15,8 +15,8 @@ within_from p n (x ∷ xs) =
     by_cases (p x) (λ b. AllByRecursion (λ i. i < n + length (x ∷ xs))
     (cond b (n ∷ places_of p (n + 1) xs) (places_of p (n + 1) xs))) (λ _. (omega arith, rest)) (λ _. rest)
 
-pub places_within : {X : Type 0} (p : X → Bool) (xs : List X) → AllByRecursion (λ i. i < length xs) (places_of p 0 xs)
-places_within p xs = each_weaker (λ i. i < 0 + length xs) (λ i. i < length xs) (λ i h. omega (arith, h))
+pub indices_within : {X : Type 0} (p : X → Bool) (xs : List X) → AllByRecursion (λ i. i < length xs) (places_of p 0 xs)
+indices_within p xs = each_weaker (λ i. i < 0 + length xs) (λ i. i < length xs) (λ i h. omega (arith, h))
     (places_of p 0 xs) (within_from p 0 xs)
 
 are_from : {X : Type 0} (p : X → Bool) (f : ℕ → X) (d : X) (n : ℕ) (xs : List X)
@@ -35,9 +35,9 @@ are_from p f d n (x ∷ xs) h =
     next : (n k : ℕ) → n + 1 + k ≡ n + suc k
     next n k = omega arith
 
-pub places_are : {X : Type 0} (p : X → Bool) (xs : List X) (d : X)
+pub indices_are : {X : Type 0} (p : X → Bool) (xs : List X) (d : X)
     → map (λ i. slice_index_or xs i d) (places_of p 0 xs) ≡ filter p xs
-places_are p xs d = are_from p (λ i. slice_index_or xs i d) d 0 xs (λ k l. ap (λ i. slice_index_or xs i d) (none k))
+indices_are p xs d = are_from p (λ i. slice_index_or xs i d) d 0 xs (λ k l. ap (λ i. slice_index_or xs i d) (none k))
   where
     none : (k : ℕ) → 0 + k ≡ k
     none k = omega arith
