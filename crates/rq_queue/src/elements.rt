@@ -83,8 +83,7 @@ impl Elements {
         ensures refused { IfErr result (λ e. e ≡ Resources) }
     {
         let free = free_list(alloc, self.free)?;
-        let all = with_marked(free, self.marked)?;
-        Ok(all)
+        with_marked(free, self.marked)
     }
 
     /// Puts in an element of a new id.
@@ -121,8 +120,7 @@ impl Elements {
         ensures done { IfOk result (λ v. v ≡ self ++ e ∷ []) }
         ensures refused { IfErr result (λ e. e ≡ Resources) }
     {
-        let all = self.put(alloc, e)?;
-        Ok(all)
+        self.put(alloc, e)
     }
 
     /// Adds a new element of a unit, with a payload of the same bytes.

@@ -96,8 +96,7 @@ pub(crate) fn known(
         Some(by_id) => Ok(by_id),
         None => {
             let of_free = of_free(alloc, free)?;
-            let of_all = with_marked(of_free, marked)?;
-            Ok(of_all)
+            with_marked(of_free, marked)
         }
     }
 }

@@ -114,6 +114,5 @@ pub fn redo(
 {
     rq_model::projection();
     rq_model::redo_goes_well();
-    let (redone, moves) = redo_in_order(alloc, part, ops, arrivals)?;
-    Ok((redone, moves))
+    redo_in_order(alloc, part, ops, arrivals)
 }
