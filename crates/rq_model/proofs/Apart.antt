@@ -20,7 +20,7 @@ each_half P p (x ∷ xs) h = by_cases (p x)
     (cond b (x ∷ filter p xs) (filter p xs) ++ cond (not b) (x ∷ filter (λ y. not (p y)) xs)
     (filter (λ y. not (p y)) xs)) → AllByRecursion P (x ∷ xs))
     (λ _ k. (k.0, each_half P p xs k.1))
-    (λ _ k. let out = without P (filter p xs) x (filter (λ y. not (p y)) xs) k in (out.0, each_half P p xs out.1)) h
+    (λ _ k. let out = without P _ x _ k in (out.0, each_half P p xs out.1)) h
   where
     without : (P : Element → Type 0) (xs : List Element) (y : Element) (ys : List Element)
         → AllByRecursion P (xs ++ y ∷ ys) → P y × AllByRecursion P (xs ++ ys)
@@ -47,7 +47,7 @@ apart_halves p (x ∷ xs) h = by_cases (p x)
     (λ b. Apart (cond b (x ∷ filter p xs) (filter p xs)
     ++ cond (not b) (x ∷ filter (λ y. not (p y)) xs) (filter (λ y. not (p y)) xs)) → Apart (x ∷ xs))
     (λ _ k. (each_half (λ z. x.id ≢ z.id) p xs k.0, apart_halves p xs k.1))
-    (λ _ k. let out = middle (filter p xs) x (filter (λ y. not (p y)) xs) k in (
+    (λ _ k. let out = middle _ x _ k in (
       each_weaker (λ z. z.id ≢ x.id) (λ z. x.id ≢ z.id) (λ z n e. n (sym e)) xs
           (each_half (λ z. z.id ≢ x.id) p xs out.0),
       apart_halves p xs out.1,
@@ -57,8 +57,8 @@ apart_halves p (x ∷ xs) h = by_cases (p x)
 put_apart : (e : Element) (es : List Element) → Apart (put id_before e es)
     → AllByRecursion (λ z. z.id ≢ e.id) es × Apart es
 put_apart e es h =
-    let out = middle (filter (λ y. id_before y e) es) e (filter (λ y. not (id_before y e)) es) h in
-    (each_half (λ z. z.id ≢ e.id) (λ y. id_before y e) es out.0, apart_halves (λ y. id_before y e) es out.1)
+    let out = middle _ e _ h in
+    (each_half _ _ es out.0, apart_halves (λ y. id_before y e) es out.1)
 
 pub are_new : (ms : List Move) (es : List Element) → Apart (put_all ms es) → AreNew ms es × Apart es
 are_new [] es h = (tt, h)

@@ -2,13 +2,13 @@
 use Rattle.std.proofs.Common.{◌≡◌, ℕ, ◌+◌, ◌<◌, ◌≤◌, Bool, true, false, cond, List, [], ◌∷◌, ◌++◌, map, refl, sym, ap}
 use Rattle.std.proofs.Common.{◌∙◌, subst, arith}
 use Rattle.std.specs.Prelude.{◌==◌, nat_lt, nat_le, ⊤}
-use Rattle.std.specs.List.{filter, AllByRecursion}
+use Rattle.std.specs.List.{AllByRecursion}
 use Rattle.std.proofs.lemmas.Bool.{and_parts, lt-ltb, le-ltb, le-leb, lt-leb}
 use Rattle.std.proofs.lemmas.List.{append-nil, map-append}
 use Rattle.std.proofs.lemmas.List.Elements.{filter-append}
 use Rattle.rq_model.specs.Records.{Record, Abort, Version}
 use Rattle.rq_model.specs.States.{Element, Definition, State, definition_at, put, id_before}
-use Rattle.rq_model.specs.Machine.{is_lawful, all_lawful, leaves, moved, step, run}
+use Rattle.rq_model.specs.Machine.{is_lawful, all_lawful, step, run}
 use Rattle.rq_model.specs.Queues.{Part, defined_by, Op, touches, touching_from, Move, Transfer, transfers_at, transfers}
 use Rattle.rq_model.specs.Queues.{moves_of, arrivals_of, moves, arrivals}
 use Rattle.rq_model.specs.Redo.{act, sent, receive, put_all, before as before_place, from as from_place, redone}
@@ -31,48 +31,30 @@ abbrev pub OpsSince : ℕ → List Op → Type 0
 OpsSince n ops = AllByRecursion (λ op. n ≤ op.place) ops
 
 pub arrivals_at : (s : State) (r : Record) (q : ℕ) → At s.next (arrivals_of q (transfers_at s r))
-arrivals_at s r q = each_map (λ (t : Transfer). t.move.place ≡ s.next) (λ (m : Move). m.place ≡ s.next) (λ t. t.move)
-    (λ t h. h) (filter (λ t. t.move.element.home == q) (transfers_at s r))
-    (each_filter (λ t. t.move.place ≡ s.next) (λ t. t.move.element.home == q) (transfers_at s r) (places r))
+arrivals_at s r q = each_map _ _ _ (λ t h. h) _ (each_filter _ _ _ (places r))
   where
     places : (r : Record) → AllByRecursion (λ (t : Transfer). t.move.place ≡ s.next) (transfers_at s r)
-    places (Abort u) = each_map (λ (_ : Element). ⊤) (λ (t : Transfer). t.move.place ≡ s.next)
-        (λ e. record {
-          from = e.home;
-          move =
-              record { place = s.next; element = moved (definition_at s.definitions e.home) e };
-        }) (λ e h. refl)
-        (filter (λ e. leaves (definition_at s.definitions e.home) u e) s.elements) (each_of (λ _. ⊤) (λ _. tt) _)
+    places (Abort u) = each_map _ _ _ (λ e h. refl) _ (each_of (λ _. ⊤) (λ _. tt) _)
     places r = tt
 
 pub arrivals_of-append : (q : ℕ) (xs ys : List Transfer)
     → arrivals_of q (xs ++ ys) ≡ arrivals_of q xs ++ arrivals_of q ys
-arrivals_of-append q xs ys = ap (map (λ (t : Transfer). t.move))
-    (filter-append (λ (t : Transfer). t.move.element.home == q) xs ys)
-    ∙ map-append (λ (t : Transfer). t.move) (filter (λ t. t.move.element.home == q) xs)
-    (filter (λ t. t.move.element.home == q) ys)
+arrivals_of-append q xs ys = ap (map (λ (t : Transfer). t.move)) (filter-append _ xs ys) ∙ map-append _ _ _
 
 moves_of-append : (q : ℕ) (xs ys : List Transfer) → moves_of q (xs ++ ys) ≡ moves_of q xs ++ moves_of q ys
-moves_of-append q xs ys = ap (map (λ (t : Transfer). t.move)) (filter-append (λ (t : Transfer). t.from == q) xs ys)
-    ∙ map-append (λ (t : Transfer). t.move) (filter (λ t. t.from == q) xs) (filter (λ t. t.from == q) ys)
+moves_of-append q xs ys = ap (map (λ (t : Transfer). t.move)) (filter-append _ xs ys) ∙ map-append _ _ _
 
 pub arrivals_since : (s : State) (rs : List Record) (q : ℕ) → Since s.next (arrivals s rs q)
 arrivals_since s [] q = tt
-arrivals_since s (r ∷ rs) q = subst (Since s.next)
-    (sym (arrivals_of-append q (transfers_at s r) (transfers (step s r) rs)))
-    (each_append (λ m. s.next ≤ m.place) (arrivals_of q (transfers_at s r)) (arrivals_of q (transfers (step s r) rs))
-    (each_weaker (λ m. m.place ≡ s.next) (λ m. s.next ≤ m.place) (λ m e. omega arith) (arrivals_of q (transfers_at s r))
-    (arrivals_at s r q))
-    (each_weaker (λ m. s.next + 1 ≤ m.place) (λ m. s.next ≤ m.place) (λ m e. omega arith)
-    (arrivals_of q (transfers (step s r) rs)) (arrivals_since (step s r) rs q)))
+arrivals_since s (r ∷ rs) q = subst (Since s.next) (sym (arrivals_of-append q _ _))
+    (each_append _ _ _ (each_weaker _ _ (λ m e. omega arith) (arrivals_of q (transfers_at s r)) (arrivals_at s r q))
+    (each_weaker _ _ (λ m e. omega arith) _ (arrivals_since (step s r) rs q)))
 
 pub ops_since : (place : ℕ) (s : State) (before rs : List Record) (q : ℕ)
     → OpsSince place (touching_from place s before rs q)
 ops_since place s before [] q = tt
 ops_since place s before (r ∷ rs) q =
-    let rest : OpsSince place (touching_from (place + 1) s (before ++ r ∷ []) rs q) =
-    each_weaker (λ op. place + 1 ≤ op.place) (λ op. place ≤ op.place) (λ op l. omega arith)
-    (touching_from (place + 1) s (before ++ r ∷ []) rs q) (ops_since (place + 1) s (before ++ r ∷ []) rs q) in
+    let rest = each_weaker _ _ (λ op l. omega arith) _ (ops_since (place + 1) s (before ++ r ∷ []) rs q) in
     by_cases (touches s before q r)
     (λ b. OpsSince place
     (cond b (record { place = place; does = r } ∷ touching_from (place + 1) s (before ++ r ∷ []) rs q)
@@ -86,31 +68,19 @@ put_all-append [] ys es = refl
 put_all-append (x ∷ xs) ys es = put_all-append xs ys (put id_before x.element es)
 
 pub receive-append : (xs ys : List Move) (p : Part) → receive (xs ++ ys) p ≡ receive ys (receive xs p)
-receive-append xs ys p =
-    ap (λ (es : List Element). record {
-      queue = p.queue;
-      definition = p.definition;
-      elements = es;
-      registrants =
-          p.registrants;
-      notes = p.notes;
-    }) (put_all-append xs ys p.elements)
+receive-append xs ys p = grind (arith, put_all-append xs ys p.elements)
 
 pub before_all : (n : ℕ) (now later : List Move) (place : ℕ) → At n now → n < place
     → before_place place (now ++ later) ≡ now ++ before_place place later
 before_all n now later place h l = filter-append (λ m. nat_lt m.place place) now later
     ∙ ap (λ ms. ms ++ before_place place later)
-    (filter_all (λ m. nat_lt m.place place) now
-    (each_weaker (λ m. m.place ≡ n) (λ m. nat_lt m.place place ≡ true)
-    (λ m e. lt-ltb m.place place (omega arith)) now h))
+    (filter_all (λ m. nat_lt m.place place) now (each_weaker _ _ (λ m e. lt-ltb m.place place (omega arith)) now h))
 
 pub from_none : (n : ℕ) (now later : List Move) (place : ℕ) → At n now → n < place
     → from_place place (now ++ later) ≡ from_place place later
 from_none n now later place h l = filter-append (λ m. nat_le place m.place) now later
     ∙ ap (λ ms. ms ++ from_place place later)
-    (filter_none (λ m. nat_le place m.place) now
-    (each_weaker (λ m. m.place ≡ n) (λ m. nat_le place m.place ≡ false)
-    (λ m e. lt-leb place m.place (omega arith)) now h))
+    (filter_none (λ m. nat_le place m.place) now (each_weaker _ _ (λ m e. lt-leb place m.place (omega arith)) now h))
 
 absorb : (n : ℕ) (p : Part) (ops : List Op) (now later : List Move) → At n now → OpsSince (n + 1) ops
     → redone p ops (now ++ later) ≡ redone (receive now p) ops later
@@ -141,11 +111,10 @@ absorb_sent n p (op ∷ ops) now later h l =
 
 pub since_before : (place : ℕ) (ms : List Move) → Since place ms → before_place place ms ≡ []
 since_before place ms h = filter_none (λ m. nat_lt m.place place) ms
-    (each_weaker (λ m. place ≤ m.place) (λ m. nat_lt m.place place ≡ false) (λ m l. le-ltb m.place place l) ms h)
+    (each_weaker _ _ (λ m l. le-ltb m.place place l) ms h)
 
 pub since_from : (place : ℕ) (ms : List Move) → Since place ms → from_place place ms ≡ ms
-since_from place ms h = filter_all (λ m. nat_le place m.place) ms
-    (each_weaker (λ m. place ≤ m.place) (λ m. nat_le place m.place ≡ true) (λ m l. le-leb place m.place l) ms h)
+since_from place ms h = filter_all (λ m. nat_le place m.place) ms (each_weaker _ _ (λ m l. le-leb place m.place l) ms h)
 
 pub first_op : (b : Bool) (place : ℕ) (r : Record) (p : Part) (ops : List Op) (ms : List Move) → Since place ms
     → redone p (cond b (record { place = place; does = r } ∷ ops) ops) ms ≡ redone (cond b (act place r p) p) ops ms
@@ -175,10 +144,8 @@ project : (version : Version) (s₀ : State) (before : List Record) (s : State) 
 project version s₀ before s [] q d e sound knows lawful = refl
 project version s₀ before s (r ∷ rs) q d e sound knows lawful =
     ap (redone (core d s q) (touching_from s.next s₀ before (r ∷ rs) q)) come
-    ∙ first_op (touches s₀ before q r) s.next r (core d s q) ops (now ++ rest)
-    (subst (Since s.next) come (arrivals_since s (r ∷ rs) q))
-    ∙ absorb s.next (cond (touches s₀ before q r) (act s.next r (core d s q)) (core d s q)) ops now rest
-    (arrivals_at s r q) (ops_since (s.next + 1) s₀ (before ++ r ∷ []) rs q)
+    ∙ first_op _ _ r _ ops _ (subst (Since s.next) come (arrivals_since s (r ∷ rs) q))
+    ∙ absorb _ _ ops now rest (arrivals_at s r q) (ops_since (s.next + 1) s₀ (before ++ r ∷ []) rs q)
     ∙ ap (λ (p : Part). redone p ops rest) (sym (step_part s₀ before d s r q agree sound.rising knows))
     ∙ project version s₀ (before ++ r ∷ []) (step s r) rs q d
     (ap (λ ds. definition_at ds q) (same_definitions s r rs) ∙ e) (sound_step version s r lawful_parts.0 sound)
@@ -194,14 +161,13 @@ project version s₀ before s (r ∷ rs) q d e sound knows lawful =
     ops = touching_from (s.next + 1) s₀ (before ++ r ∷ []) rs q
 
     come : arrivals s (r ∷ rs) q ≡ now ++ rest
-    come = arrivals_of-append q (transfers_at s r) (transfers (step s r) rs)
+    come = arrivals_of-append q _ _
 
     lawful_parts : (is_lawful version s r ≡ true) × (all_lawful version (step s r) rs ≡ true)
-    lawful_parts = and_parts (is_lawful version s r) (all_lawful version (step s r) rs) lawful
+    lawful_parts = and_parts _ _ lawful
 
     agree : AllByRecursion (λ e. (e.home == q) ≡ true → definition_at s.definitions e.home ≡ d) s.elements
-    agree = subst (λ c. AllByRecursion (λ (e : Element). (e.home == q) ≡ true → definition_at s.definitions e.home ≡ c)
-        s.elements) e (agree_from s (defined_by (r ∷ rs)) q sound)
+    agree = grind (arith, e, agree_from s (defined_by (r ∷ rs)) q sound)
 
 project_moves : (version : Version) (s₀ : State) (before : List Record) (s : State) (rs : List Record) (q : ℕ)
     (d : Definition) → definition_at (s.definitions ++ defined_by rs) q ≡ d
@@ -210,11 +176,9 @@ project_moves : (version : Version) (s₀ : State) (before : List Record) (s : S
 project_moves version s₀ before s [] q d e sound knows lawful = refl
 project_moves version s₀ before s (r ∷ rs) q d e sound knows lawful =
     ap (all_sent (core d s q) (touching_from s.next s₀ before (r ∷ rs) q)) come
-    ∙ first_sent (touches s₀ before q r) s.next r (core d s q) ops (now ++ rest)
-    (subst (Since s.next) come (arrivals_since s (r ∷ rs) q))
+    ∙ first_sent _ _ r _ ops _ (subst (Since s.next) come (arrivals_since s (r ∷ rs) q))
     ∙ ap (λ (ms : List Move). cond (touches s₀ before q r) (sent s.next r (core d s q)) [] ++ ms)
-    (absorb_sent s.next (cond (touches s₀ before q r) (act s.next r (core d s q)) (core d s q)) ops now rest
-    (arrivals_at s r q) (ops_since (s.next + 1) s₀ (before ++ r ∷ []) rs q)
+    (absorb_sent _ _ ops now rest (arrivals_at s r q) (ops_since (s.next + 1) s₀ (before ++ r ∷ []) rs q)
     ∙ ap (λ (p : Part). all_sent p ops rest) (sym (step_part s₀ before d s r q agree sound.rising knows))
     ∙ project_moves version s₀ (before ++ r ∷ []) (step s r) rs q d
     (ap (λ ds. definition_at ds q) (same_definitions s r rs) ∙ e) (sound_step version s r lawful_parts.0 sound)
@@ -235,7 +199,7 @@ project_moves version s₀ before s (r ∷ rs) q d e sound knows lawful =
     come = arrivals_of-append q (transfers_at s r) (transfers (step s r) rs)
 
     lawful_parts : (is_lawful version s r ≡ true) × (all_lawful version (step s r) rs ≡ true)
-    lawful_parts = and_parts (is_lawful version s r) (all_lawful version (step s r) rs) lawful
+    lawful_parts = and_parts _ _ lawful
 
     agree : AllByRecursion (λ e. (e.home == q) ≡ true → definition_at s.definitions e.home ≡ d) s.elements
     agree = subst (λ c. AllByRecursion (λ (e : Element). (e.home == q) ≡ true → definition_at s.definitions e.home ≡ c)
@@ -243,8 +207,7 @@ project_moves version s₀ before s (r ∷ rs) q d e sound knows lawful =
 
 pub projection : Projection
 projection version s rs q sound lawful = (
-  project version s [] s rs q (definition_at (s.definitions ++ defined_by rs) q) refl sound (knows_start s q) lawful
+  project _ s [] s rs q _ refl sound (knows_start s q) lawful
       ∙ ap (λ (ds : List Definition). core (definition_at ds q) (run s rs) q) (sym (run_definitions s rs)),
-  project_moves version s [] s rs q (definition_at (s.definitions ++ defined_by rs) q) refl sound
-      (knows_start s q) lawful,
+  project_moves _ s [] s rs q _ refl sound (knows_start s q) lawful,
 )

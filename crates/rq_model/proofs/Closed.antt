@@ -17,7 +17,7 @@ use Rattle.rq_model.proofs.Crash.{crash_is_harmless, first_closed}
 use Rattle.rq_model.proofs.Kept.{runs_are_well_formed, empty_is_well_formed}
 use Rattle.rq_model.proofs.Longest.{one_front, front_stops, log_joins, used_long}
 use Rattle.rq_model.proofs.Restarts.{run_join, lawful_join, aborts_are, crash_in_the_tail}
-use Rattle.rq_model.proofs.Found.{front_restart, restart_lines, lines_report}
+use Rattle.rq_model.proofs.Found.{front_restart, restart_lines}
 
 -- the numbers after so many aborts, where no unit is open any more
 record AreAborted (s t : State) (count : ℕ) : Type 0 where
@@ -30,7 +30,7 @@ are_aborted : (us : List ℕ) (s : State) → s.units ≡ us → Ordered (λ a b
     → AreAborted s (run s (map Abort us)) (length us)
 are_aborted [] s is rise = record { units = is; next = omega arith; committed = refl; aborted = omega arith }
 are_aborted (u ∷ us) s is rise =
-    let left : (step s (Abort u)).units ≡ us = ap (closed_units u) is ∙ first_closed u us rise in
+    let left = ap (closed_units u) is ∙ first_closed u us rise in
     let more = are_aborted us (step s (Abort u)) left rise.1 in
     record {
       units = more.units;
@@ -67,9 +67,8 @@ spelt : (b closed : List ℕ) (version : Version) (rs : List Record) (rest : Lis
     → IsFront b version rs rest → closed ≡ log_of version (rs ++ aborts (run empty rs))
 spelt b closed version rs rest (tail, h) front =
     let one = one_front b h.version version h.records rs h.rest rest h.front front in
-    let two = one_front b h.aborts.version version h.aborts.records rs h.aborts.rest rest h.aborts.front front in
-    let tail_is : tail ≡ frames_of (last_of (sha256 (magic version)) rs) (aborts (run empty rs)) =
-    h.aborts.bytes
+    let two = one_front b _ _ _ rs _ rest h.aborts.front front in
+    let tail_is = h.aborts.bytes
     ∙ (λ i. frames_of (last_of (sha256 (magic (two.0 i))) (two.1 i)) (aborts (run empty (two.1 i)))) in
     h.bytes ∙ (λ i. log_of (one.0 i) (one.1 i) ++ tail_is i) ∙ sym (log_joins version rs (aborts (run empty rs)))
 
@@ -86,14 +85,13 @@ closed_front b closed version rs rest h short front =
       short = short;
       bytes = bytes;
       whole = spelt b closed version rs rest h front;
-      longest = front_stops version empty (sha256 (magic version)) bytes [] (rs ++ xs) (Ends Whole)
+      longest = front_stops _ empty _ bytes [] _ (Ends Whole)
           (record {
             records = each_append (IsRecord version) rs xs begins.records
                 (aborts_are version rs begins.records begins.lawful);
             lawful = (are_ended version rs begins.lawful).lawful;
             whole = sym (append-nil bytes);
-          })
-          refl;
+          }) refl;
     }
 
 -- the restart of a closed log
@@ -105,10 +103,10 @@ whole b closed r h short restart =
     let t = run empty (rs ++ aborts s) in
     let n = length closed in
     let ended = are_ended restart.version rs restart.front.longest.begins.lawful in
-    let next : s.next + length s.units ≡ t.next = sym ended.numbers.next in
+    let next = sym ended.numbers.next in
     let used : n ≡ n - 0 = omega arith in
-    let aborted : s.aborted + length s.units ≡ t.aborted = sym ended.numbers.aborted in
-    let none : 0 ≡ length t.units = sym (ap length ended.numbers.units) in
+    let aborted = sym ended.numbers.aborted in
+    let none = sym (ap length ended.numbers.units) in
     record {
       version = restart.version;
       records = rs ++ aborts s;
@@ -116,17 +114,7 @@ whole b closed r h short restart =
       why = Ends Whole;
       front = closed_front b closed restart.version rs restart.rest h short restart.front;
       ends = refl;
-      answer = ap (λ (z : Restarted). when_closed z n) restart.answer
-          ∙ (λ i. record {
-            state = sym ended.state i;
-            records = next i;
-            used = used i;
-            total = n;
-            why = Ends Whole;
-            committed = sym ended.numbers.committed i;
-            aborted = aborted i;
-            cut_off = none i;
-          });
+      answer = grind arith;
     }
 
 -- a beginning of a closed log that holds the front
@@ -137,7 +125,7 @@ crash b closed r n (tail, h) short restart low =
     let k = n - r.used in
     let part = take k tail in
     let used = used_long b h.version h.records h.rest r h.front restart in
-    let parts : tail ≡ part ++ drop k tail = sym (take-append-drop k tail) in
+    let parts = sym (take-append-drop k tail) in
     let room : length (front ++ part) ≤ log_limit =
     omega (
       arith,
@@ -147,20 +135,12 @@ crash b closed r n (tail, h) short restart low =
       length-append front part,
       length-take k tail,
     ) in
-    let here : take n closed ≡ front ++ part =
-    ap (λ (m : ℕ). take m closed) (omega (arith, low, used)) ∙ ap (take (length front + k)) h.bytes
+    let here = ap (λ (m : ℕ). take m closed) (omega (arith, low, used)) ∙ ap (take (length front + k)) h.bytes
     ∙ take-append-add front tail k in
     let after = crash_in_the_tail b tail part (drop k tail) h.version h.records h.rest r h.front h.aborts parts room
     restart in
     let (queues, told) = restart_lines b r restart in
-    subst (HaveSameQueues b) (sym here) (
-      r,
-      after.again,
-      queues,
-      told,
-      lines_report (front ++ part) after.again queues after.restart
-          ((after.lines queues).1 told.lines),
-    )
+    subst (HaveSameQueues b) (sym here) (grind arith)
 
 -- a closed log, closed again
 again : (b closed twice : List ℕ) → IsClosed b closed → length closed ≤ log_limit → IsClosed closed twice
@@ -171,9 +151,7 @@ again b closed twice (tail, h) short k =
     let all = rs ++ aborts (run empty rs) in
     let front = closed_front b closed version rs h.rest (tail, h) short h.front in
     let ended = are_ended version rs h.front.longest.begins.lawful in
-    let none : [] ≡ frames_of (last_of (sha256 (magic version)) all) (aborts (run empty all)) =
-    sym (ap (λ (us : List ℕ). frames_of (last_of (sha256 (magic version)) all) (map Abort us))
-    ended.numbers.units) in
+    let none = sym (grind arith) in
     let itself : IsClosed closed closed = (
       [],
       record {

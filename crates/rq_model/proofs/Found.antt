@@ -1,7 +1,6 @@
 -- Of bytes with a header the front is found, and why it ends.
 use Rattle.std.proofs.Common.{◌≡◌, ◌⊎◌, inl, inr, ℕ, zero, suc, ◌+◌, ◌≤◌, true, false, List, [], ◌∷◌, ◌++◌, length}
 use Rattle.std.proofs.Common.{take, drop, Option, Some, None, refl, sym, ap, subst, ◌∙◌, arith}
-use Rattle.std.specs.Str.{bytes_eq}
 use Rattle.std.proofs.lemmas.Bool.{and_from, cases_lt, cases_Bool}
 use Rattle.std.proofs.lemmas.List.{take_at, length-append, take-append-drop, nil_from_length}
 use Rattle.std.proofs.lemmas.Slice.Eq.{bytes_eq-Decides}
@@ -9,10 +8,9 @@ use Rattle.sha2.specs.Sha256.{sha256}
 use Rattle.rq_model.specs.Records.{Record, Version}
 use Rattle.rq_model.specs.Spelling.{body_of, IsRecord, Spells}
 use Rattle.rq_model.specs.Frames.{log_limit, digest, frame, magic, HasHeader, AreBytes, last_of, stated, body_in}
-use Rattle.rq_model.specs.Frames.{digest_in, HasRightFrame, Rest, Whole, Cut, Length, Digest, IsRest, bodies_of, header}
-use Rattle.rq_model.specs.Frames.{log_of}
+use Rattle.rq_model.specs.Frames.{HasRightFrame, Rest, Whole, Cut, Length, Digest, IsRest, header}
 use Rattle.rq_model.specs.States.{State, empty}
-use Rattle.rq_model.specs.Machine.{is_lawful, all_lawful, step, run}
+use Rattle.rq_model.specs.Machine.{is_lawful, step, run}
 use Rattle.rq_model.specs.Fronts.{Begins, Why, Ends, Form, Law, IsWhy, IsFront, Restarted, restarted, IsRestart}
 use Rattle.rq_model.specs.LogLaws.{EveryLogHasReport, HasReport, CrashSaysTheSame}
 use Rattle.rq_bytes.proofs.Single.{IsBytes-drop, IsBytes-take}
@@ -37,7 +35,7 @@ spells_or_not version body fits = read (record_read version body) refl
   where
     read : (o : Option (Record × List ℕ)) → record_read version body ≡ o → SpellsOrNot version body
     read (Some x) e = inl (x.0, spelled_by body x (reads_record version) fits e)
-    read None e = inr (λ r its. let clash : ◌≡◌ {A = Option (Record × List ℕ)} None (Some (r, [])) =
+    read None e = inr (λ r its. let clash =
         sym e ∙ read_again body r (reads_record version) its.0 its.1 in absurd cc)
 
 -- a frame stands there whose digest is right, or one line says what follows
@@ -57,19 +55,19 @@ found_frame p bytes = elim (cases_lt 0 (length bytes)) [
                         elim (cases_lt (length bytes) (36 + stated bytes)) [
                           | inl short ↦ inr (Cut, (some, inr ((one, under), short)))
                           | inr room ↦
-                              elim (cases_Bool (bytes_eq (digest_in bytes) (digest p (body_in bytes)))) [
+                              elim (cases_Bool _) [
                                 | inl same ↦ inl
                                     (record {
                                       whole = record { in_range = (one, under); room = room };
                                       right =
-                                          (bytes_eq-Decides (digest_in bytes) (digest p (body_in bytes))).0 same;
+                                          (bytes_eq-Decides _ _).0 same;
                                     })
                                 | inr other ↦ inr (
                                   Digest,
                                   (
                                     record { in_range = (one, under); room = room },
                                     λ same. no_true
-                                        (sym ((bytes_eq-Decides (digest_in bytes) (digest p (body_in bytes))).1 same)
+                                        (sym ((bytes_eq-Decides _ _).1 same)
                                         ∙ other),
                                   ),
                                 )
@@ -112,9 +110,9 @@ found_first version s p bytes after r is lawful whole more = record {
   why = more.why;
   begins = record {
     records = (is, more.begins.records);
-    lawful = and_from (is_lawful version s r) (all_lawful version (step s r) more.records) lawful more.begins.lawful;
+    lawful = and_from _ _ lawful more.begins.lawful;
     whole = whole ∙ ap (λ (z : List ℕ). frame p (body_of r) ++ z) more.begins.whole
-        ∙ sym (frames_assoc p (body_of r) (bodies_of more.records) more.rest);
+        ∙ sym (frames_assoc p _ _ _);
   };
   ends = more.ends;
 }
@@ -134,8 +132,7 @@ found (suc n) version s p bytes few fits = elim (found_frame p bytes) [
               | inr unlawful ↦ nothing_found version s p bytes Law (right, r, spelled, unlawful)
               | inl lawful ↦
                   let after = drop (36 + stated bytes) bytes in
-                  let framed : bytes ≡ frame p (body_of r) ++ after =
-                  (frame_at p bytes fits right).0 ∙ ap (λ (z : List ℕ). frame p z ++ after) spelled.1 in
+                  let framed = (frame_at p bytes fits right).0 ∙ ap (λ (z : List ℕ). frame p z ++ after) spelled.1 in
                   let shorter : length after ≤ n =
                   omega (
                     arith,
@@ -145,8 +142,7 @@ found (suc n) version s p bytes few fits = elim (found_frame p bytes) [
                     frame_long p (body_of r),
                   ) in
                   found_first version s p bytes after r spelled.0 lawful framed
-                  (found n version (step s r) (digest p (body_of r)) after shorter
-                  (IsBytes-drop (36 + stated bytes) bytes fits))
+                  (found n _ _ _ after shorter (IsBytes-drop (36 + stated bytes) bytes fits))
             ]
       ]
 ]
@@ -186,19 +182,10 @@ every_log_has_report version b fits short head =
 pub front_restart : (b : List ℕ) (version : Version) (records : List Record) (rest : List ℕ) → AreBytes b
     → IsFront b version records rest → (r : Restarted) × IsRestart b r
 front_restart b version records rest fits front =
-    let head : HasHeader version b = ap (take 40) front.whole
-    ∙ take_at (header version) front.bytes 40 (header_long version) in
+    let head = ap (take 40) front.whole ∙ take_at (header version) front.bytes 40 (header_long version) in
     let f = has_front version b fits front.short head in (
       restarted (run empty f.records) (length f.rest) (length b) f.why,
-      record {
-        version = version;
-        records = f.records;
-        rest = f.rest;
-        why = f.why;
-        front = f.front;
-        ends = f.ends;
-        answer = refl;
-      },
+      grind arith,
     )
 
 pub lines_report : (b : List ℕ) (r : Restarted) (queues : List ℕ) → IsRestart b r → IsQueueText r.state queues
@@ -211,8 +198,7 @@ pub restart_lines : (b : List ℕ) (r : Restarted) → IsRestart b r → (queues
 restart_lines b r restart =
     let keeps = runs_are_well_formed restart.version empty restart.records empty_is_well_formed
     restart.front.longest.begins.lawful in
-    let ended : IsWellFormed r.state =
-    subst IsWellFormed (sym (ap (λ (z : Restarted). z.state) restart.answer))
+    let ended = subst IsWellFormed (sym (ap (λ (z : Restarted). z.state) restart.answer))
     (final_kept restart.version (run empty restart.records) keeps) in
     let (queues, lines, made) = is_text r ended in
     (queues, lines_report b r queues restart lines)
@@ -226,6 +212,5 @@ crash_says_the_same b tail part missing version records rest fits front tailed p
       closed.again,
       queues,
       told,
-      lines_report (log_of version records ++ part) closed.again queues closed.restart
-          ((closed.lines queues).1 told.lines),
+      lines_report _ _ _ closed.restart ((closed.lines queues).1 told.lines),
     )

@@ -3,13 +3,13 @@ use Rattle.std.proofs.Common.{◌≡◌, ◌≢◌, ℕ, ◌+◌, ◌<◌, ◌�
 use Rattle.std.proofs.Common.{refl, sym, ap, ◌∙◌, subst, arith}
 use Rattle.std.specs.Prelude.{◌==◌}
 use Rattle.std.specs.List.{AllByRecursion}
-use Rattle.std.proofs.lemmas.Bool.{and_parts, and_from, eqb-true, lt-ltb, lt-leb}
+use Rattle.std.proofs.lemmas.Bool.{and_parts, and_from, eqb-true}
 use Rattle.rq_model.specs.Records.{Record, Define, Register, Deregister, Begin, Enqueue, Dequeue, Commit, Abort}
 use Rattle.rq_model.specs.Records.{Checkpoint, Kill, Version}
 use Rattle.rq_model.specs.States.{Element, Definition, State, definition_at}
 use Rattle.rq_model.specs.WellFormed.{Ordered, IsWellFormed, IsElement, IsNote}
 use Rattle.rq_model.specs.Machine.{is_lawful, all_lawful, step}
-use Rattle.rq_model.specs.Queues.{Part, defined_by, Op, touches, touching_from, Move, transfers_at, transfers}
+use Rattle.rq_model.specs.Queues.{Part, defined_by, Op, touches, touching_from, Move, transfers_at}
 use Rattle.rq_model.specs.Queues.{arrivals_of, arrivals, elements_at}
 use Rattle.rq_model.specs.Redo.{act, receive, before as before_place, from as from_place}
 use Rattle.rq_model.specs.Ready.{IsOf, IsReady, AreNew, GoesWell, RedoGoesWell, GoesOn}
@@ -33,21 +33,13 @@ Meets p op ops ms = AreNew ms.0 p.elements
 arrives : (p : Part) (op : Op) (ops : List Op) (m : Move) (ms : List Move) → m.place < op.place
     → GoesWell p (op ∷ ops) (m ∷ ms)
     → AllByRecursion (λ e. e.id ≢ m.element.id) p.elements × GoesWell (receive (m ∷ []) p) (op ∷ ops) ms
-arrives p op ops m ms l h =
-    let met : Meets p op ops (m ∷ before_place op.place ms, from_place op.place ms)
-    = subst (Meets p op ops)
-    (λ i. (
-      cond (lt-ltb m.place op.place l i) (m ∷ before_place op.place ms) (before_place op.place ms),
-      cond (lt-leb op.place m.place l i) (m ∷ from_place op.place ms) (from_place op.place ms),
-    )) h in
-    (met.0.0, (met.0.1, met.1))
+arrives p op ops m ms l h = grind arith
 
 acts : (p : Part) (op : Op) (ops : List Op) (ms : List Move) → AllByRecursion (λ m. op.place ≤ m.place) ms
     → GoesWell p (op ∷ ops) ms
     → IsReady op.place op.does p × GoesWell (act op.place op.does p) ops ms
 acts p op ops ms l h =
-    let met : Meets p op ops ([], ms) =
-    subst (Meets p op ops) (λ i. (since_before op.place ms l i, since_from op.place ms l i)) h in
+    let met = subst (Meets p op ops) (λ i. (since_before op.place ms l i, since_from op.place ms l i)) h in
     met.1
 
 pub goes_on : GoesOn
@@ -59,8 +51,7 @@ first_goes : (b : Bool) (place : ℕ) (r : Record) (p : Part) (ops : List Op) (m
     → (b ≡ true → IsReady place r p)
     → GoesWell (cond b (act place r p) p) ops ms → GoesWell p (cond b (record { place = place; does = r } ∷ ops) ops) ms
 first_goes true place r p ops ms l ready h =
-    subst (Meets p (record { place = place; does = r }) ops)
-    (λ i. (sym (since_before place ms l) i, sym (since_from place ms l) i)) (tt, (ready refl, h))
+    subst (Meets p _ ops) (λ i. (sym (since_before place ms l) i, sym (since_from place ms l) i)) (tt, (ready refl, h))
 first_goes false place r p ops ms l ready h = h
 
 absorb_goes : (n : ℕ) (p : Part) (ops : List Op) (now later : List Move) → At n now → OpsSince (n + 1) ops
@@ -72,7 +63,7 @@ absorb_goes n p (op ∷ ops) now later a l new h =
       sym (before_all n now later op.place a (omega (arith, l.0))) i,
       sym (from_none n now later op.place a (omega (arith, l.0))) i,
     )) (
-      new_append now (before_place op.place later) p.elements new h.0,
+      new_append now _ _ new h.0,
       subst (λ (q : Part). IsReady op.place op.does q
           × GoesWell (act op.place op.does q) ops (from_place op.place later))
           (sym (receive-append now (before_place op.place later) p)) h.1,
@@ -97,16 +88,15 @@ ready d s q n r well fits named = record {
   homes = each_passes (λ e. e.home ≡ q) (λ e. e.home == q) (λ e t. eqb-true e.home q t) s.elements;
   older = each_filter (λ e. e.id < s.next) (λ e. e.home == q) s.elements
       (each_weaker (IsElement s) (λ e. e.id < s.next) (λ e h. h.id) s.elements well.elements);
-  room = each_filter (λ e. e.attempts + 1 < 2 ^ 64) (λ e. e.home == q) s.elements
+  room = each_filter _ _ _
       (each_weaker (IsElement s) (λ e. e.attempts + 1 < 2 ^ 64)
-      (λ e h. let a : e.attempts ≤ s.next = h.attempts in omega (arith, fits)) s.elements well.elements);
-  notes = each_filter (λ n. n.last.place < s.next) (λ n. n.queue == q) s.notes
+      (λ e h. let a = h.attempts in omega (arith, fits)) s.elements well.elements);
+  notes = each_filter _ _ _
       (each_weaker (IsNote s) (λ n. n.last.place < s.next) (λ n h. h.last.place) s.notes well.notes);
 }
 
 rising_apart : (es : List Element) → Ordered (λ e f. e.id < f.id) es → Apart es
-rising_apart es h = ordered_weaker (λ (e f : Element). e.id < f.id) (λ (e f : Element). e.id ≢ f.id)
-    (λ e f l k. absurd (let n : ⊥ = omega (arith, l, k) in n)) es h
+rising_apart es h = ordered_weaker _ _ (λ e f l k. absurd (let n : ⊥ = omega (arith, l, k) in n)) es h
 
 goes : (version : Version) (s₀ : State) (past : List Record) (s : State) (rs : List Record) (q : ℕ) (d : Definition)
     → definition_at (s.definitions ++ defined_by rs) q ≡ d
@@ -114,7 +104,7 @@ goes : (version : Version) (s₀ : State) (past : List Record) (s : State) (rs :
     → GoesWell (core d s q) (touching_from s.next s₀ past rs q) (arrivals s rs q)
 goes version s₀ past s [] q d e well knows lawful fits = tt
 goes version s₀ past s (r ∷ rs) q d e well knows lawful fits =
-    subst (GoesWell (core d s q) (touching_from s.next s₀ past (r ∷ rs) q)) (sym come)
+    subst (GoesWell _ _) (sym come)
     (first_goes (touches s₀ past q r) s.next r (core d s q) ops (now ++ rest)
     (subst (Since s.next) come (arrivals_since s (r ∷ rs) q))
     (λ t. ready d s q (length rs) r well (omega (arith, fits)) (is_of s₀ past q r t))
@@ -134,13 +124,13 @@ goes version s₀ past s (r ∷ rs) q d e well knows lawful fits =
     ops = touching_from (s.next + 1) s₀ (past ++ r ∷ []) rs q
 
     come : arrivals s (r ∷ rs) q ≡ now ++ rest
-    come = arrivals_of-append q (transfers_at s r) (transfers (step s r) rs)
+    come = arrivals_of-append q _ _
 
     acted : Part
     acted = cond (touches s₀ past q r) (act s.next r (core d s q)) (core d s q)
 
     lawful_parts : (is_lawful version s r ≡ true) × (all_lawful version (step s r) rs ≡ true)
-    lawful_parts = and_parts (is_lawful version s r) (all_lawful version (step s r) rs) lawful
+    lawful_parts = and_parts _ _ lawful
 
     agree : AllByRecursion (λ e. (e.home == q) ≡ true → definition_at s.definitions e.home ≡ d) s.elements
     agree = subst (λ c. AllByRecursion (λ (e : Element). (e.home == q) ≡ true → definition_at s.definitions e.home ≡ c)
@@ -155,10 +145,7 @@ goes version s₀ past s (r ∷ rs) q d e well knows lawful fits =
     new : AreNew now acted.elements
     new = (are_new now acted.elements
         (subst (λ (p : Part). Apart p.elements) same
-        (rising_apart (elements_at q (step s r).elements)
-        (ordered_filter (λ (e f : Element). e.id < f.id) (λ e. e.home == q)
-        (step s r).elements well_then.elements_rise)))).0
+        (rising_apart (elements_at q (step s r).elements) (ordered_filter _ _ _ well_then.elements_rise)))).0
 
 pub redo_goes_well : RedoGoesWell
-redo_goes_well version s rs q well lawful fits =
-    goes version s [] s rs q (definition_at (s.definitions ++ defined_by rs) q) refl well (knows_start s q) lawful fits
+redo_goes_well version s rs q well lawful fits = goes _ s [] s rs q _ refl well (knows_start s q) lawful fits

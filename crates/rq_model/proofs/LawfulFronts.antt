@@ -1,7 +1,7 @@
 -- The longest lawful beginning; a queue that is decided.
-use Rattle.std.proofs.Common.{◌≡◌, ◌≤◌, true, false, cond, List, [], ◌∷◌, ◌++◌, length, refl, sym, ap, subst, ◌∙◌}
+use Rattle.std.proofs.Common.{◌≡◌, ◌≤◌, true, false, cond, List, [], ◌∷◌, ◌++◌, length, refl, sym, ap, ◌∙◌}
 use Rattle.std.proofs.Common.{arith}
-use Rattle.std.proofs.lemmas.Bool.{and_parts, and_from}
+use Rattle.std.proofs.lemmas.Bool.{and_from}
 use Rattle.std.proofs.lemmas.List.{length-append}
 use Rattle.rq_model.specs.Records.{Record, Version}
 use Rattle.rq_model.specs.States.{State}
@@ -14,42 +14,24 @@ use Rattle.rq_model.proofs.ByQueue.{projection}
 longer : (version : Version) (s : State) (r : Record) (rs front : List Record) → is_lawful version s r ≡ true
     → IsLawfulFront version (step s r) rs front → IsLawfulFront version s (r ∷ rs) (r ∷ front)
 longer version s r rs front lawful more = record {
-  lawful = and_from (is_lawful version s r) (all_lawful version (step s r) front) lawful more.lawful;
+  lawful = and_from _ _ lawful more.lawful;
   begins = (more.begins.0, ap (λ xs. r ∷ xs) more.begins.1);
   longest = longest;
 }
   where
-    first : (a b : Record) (as' bs : List Record) → a ∷ as' ≡ b ∷ bs → (a ≡ b) × (as' ≡ bs)
-    first a b as' bs e = (cc, cc)
-
     longest : (others after : List Record) → all_lawful version s others ≡ true → r ∷ rs ≡ others ++ after
         → length others ≤ length (r ∷ front)
     longest [] after h e = omega arith
-    longest (o ∷ os) after h e =
-        let same = first r o rs (os ++ after) e in
-        let rest = (and_parts (is_lawful version s o) (all_lawful version (step s o) os) h).1 in
-        omega (
-          arith,
-          more.longest os after
-              (subst (λ (x : Record). all_lawful version (step s x) os ≡ true) (sym same.0) rest) same.1,
-        )
+    longest (o ∷ os) after h e = grind arith
 
 none : (version : Version) (s : State) (r : Record) (rs : List Record) → is_lawful version s r ≡ false
     → IsLawfulFront version s (r ∷ rs) []
 none version s r rs unlawful = record { lawful = refl; begins = (r ∷ rs, refl); longest = longest }
   where
-    first : (a b : Record) (as' bs : List Record) → a ∷ as' ≡ b ∷ bs → a ≡ b
-    first a b as' bs e = cc
-
-    no_true : true ≡ false → ⊥
-    no_true e = cc
-
     longest : (others after : List Record) → all_lawful version s others ≡ true → r ∷ rs ≡ others ++ after
         → length others ≤ 0
     longest [] after h e = omega arith
-    longest (o ∷ os) after h e =
-        absurd (no_true (sym (and_parts (is_lawful version s o) (all_lawful version (step s o) os) h).0
-        ∙ ap (is_lawful version s) (sym (first r o rs (os ++ after) e)) ∙ unlawful))
+    longest (o ∷ os) after h e = grind arith
 
 pub lawful_front_is_longest : LawfulFrontIsLongest
 lawful_front_is_longest version s [] =
@@ -62,8 +44,7 @@ lawful_front_is_longest version s [] =
 lawful_front_is_longest version s (r ∷ rs) =
     by_cases (is_lawful version s r)
     (λ b. IsLawfulFront version s (r ∷ rs) (cond b (r ∷ lawful_front version (step s r) rs) []))
-    (λ lawful. longer version s r rs (lawful_front version (step s r) rs) lawful
-    (lawful_front_is_longest version (step s r) rs))
+    (λ lawful. longer _ s r rs _ lawful (lawful_front_is_longest version (step s r) rs))
     (λ unlawful. none version s r rs unlawful)
 
 pub queue_is_decided : QueueIsDecided

@@ -1,9 +1,8 @@
 -- A listing is made by putting elements in order, so each answer has a text.
-use Rattle.std.proofs.Common.{◌≡◌, ◌⊎◌, inl, inr, ℕ, ◌+◌, ◌<◌, ◌≤◌, Bool, true, false, cond, List, [], ◌∷◌, ◌++◌, refl}
+use Rattle.std.proofs.Common.{◌≡◌, ◌⊎◌, inl, inr, ℕ, ◌+◌, ◌<◌, Bool, true, false, cond, List, [], ◌∷◌, ◌++◌, refl}
 use Rattle.std.proofs.Common.{sym, ap, ◌∙◌, arith}
-use Rattle.std.specs.Prelude.{◌&&◌, not, nat_lt, nat_le, ◌==◌, ◌≢◌, filter, ◌||◌}
+use Rattle.std.specs.Prelude.{not, ◌≢◌, filter}
 use Rattle.std.specs.List.{AllByRecursion}
-use Rattle.std.proofs.lemmas.Bool.{and_from, le-leb, eq-eqb, lt-ltb, cases_lt}
 use Rattle.rq_model.specs.States.{Element, Definition, State, put}
 use Rattle.rq_model.specs.Machine.{comes_first, is_free_at}
 use Rattle.rq_model.specs.WellFormed.{Ordered, IsIn, IsWellFormed}
@@ -13,7 +12,6 @@ use Rattle.rq_model.specs.WorkedLogs.{in_order, queues_made, text_made}
 use Rattle.rq_model.proofs.Lists.{by_cases, each_of, each_both, each_weaker, each_append, each_filter}
 use Rattle.rq_model.proofs.WellFormedRuns.{ordered_put}
 use Rattle.rq_model.proofs.Merged.{ordered_append, ordered_filter}
-use Rattle.rq_model.proofs.Texts.{first_is}
 
 -- Members of filters and of lists that something was put into.
 
@@ -26,12 +24,7 @@ in_filter p x (y ∷ xs) =
 
 filter_in : (p : Element → Bool) (x : Element) (xs : List Element) → IsIn x xs → p x ≡ true → IsIn x (filter p xs)
 filter_in p x [] h t = absurd h
-filter_in p x (y ∷ xs) (inl e) t =
-    by_cases (p y) (λ b. IsIn x (cond b (y ∷ filter p xs) (filter p xs))) (λ _. inl e)
-    (λ f. absurd (two_ways (sym t ∙ ap p e ∙ f)))
-  where
-    two_ways : true ≡ false → ⊥
-    two_ways e = cc
+filter_in p x (y ∷ xs) (inl e) t = grind arith
 filter_in p x (y ∷ xs) (inr i) t =
     by_cases (p y) (λ b. IsIn x (cond b (y ∷ filter p xs) (filter p xs))) (λ _. inr (filter_in p x xs i t))
     (λ _. filter_in p x xs i t)
@@ -53,20 +46,18 @@ append_right x (z ∷ xs) ys h = inr (append_right x xs ys h)
 in_put : (before : Element → Element → Bool) (x e : Element) (xs : List Element) → IsIn x (put before e xs)
     → (x ≡ e) ⊎ IsIn x xs
 in_put before x e xs h =
-    elim (in_append x (filter (λ y. before y e) xs) (e ∷ filter (λ y. not (before y e)) xs) h) [
+    elim (in_append x _ _ h) [
       | inl a ↦ inr (in_filter (λ y. before y e) x xs a).0
       | inr b ↦ elim b [ inl same ↦ inl same | inr c ↦ inr (in_filter (λ y. not (before y e)) x xs c).0 ]
     ]
 
 put_in : (before : Element → Element → Bool) (x e : Element) (xs : List Element) → (x ≡ e) ⊎ IsIn x xs
     → IsIn x (put before e xs)
-put_in before x e xs (inl same) = append_right x (filter (λ y. before y e) xs) (e ∷ filter (λ y. not (before y e)) xs)
-    (inl same)
+put_in before x e xs (inl same) = append_right x (filter (λ y. before y e) xs) _ (inl same)
 put_in before x e xs (inr i) =
     elim (both (before x e)) [
-      | inl t ↦ append_left x (filter (λ y. before y e) xs) (e ∷ filter (λ y. not (before y e)) xs)
-          (filter_in (λ y. before y e) x xs i t)
-      | inr f ↦ append_right x (filter (λ y. before y e) xs) (e ∷ filter (λ y. not (before y e)) xs)
+      | inl t ↦ append_left x _ _ (filter_in (λ y. before y e) x xs i t)
+      | inr f ↦ append_right x (filter (λ y. before y e) xs) _
           (inr (filter_in (λ y. not (before y e)) x xs i (ap not f)))
     ]
   where
@@ -88,56 +79,20 @@ each_ordered : (P : Element → Type 0) (es : List Element) → AllByRecursion P
 each_ordered P [] h = tt
 each_ordered P (e ∷ es) h =
     let others = each_ordered P es h.1 in
-    each_append P (filter (λ y. comes_first y e) (in_order es)) (e ∷ filter (λ y. not (comes_first y e)) (in_order es))
-    (each_filter P (λ y. comes_first y e) (in_order es) others)
-    (h.0, each_filter P (λ y. not (comes_first y e)) (in_order es) others)
+    each_append P _ _ (each_filter P (λ y. comes_first y e) (in_order es) others) (h.0, each_filter P _ _ others)
 
 -- The order.
 
-first_by : (e f : Element) → (f.priority < e.priority) ⊎ ((f.priority ≡ e.priority) × (e.id ≤ f.id))
-    → comes_first e f ≡ true
-first_by e f (inl p) = ap (λ b. b || ((f.priority == e.priority) && nat_le e.id f.id)) (lt-ltb f.priority e.priority p)
-first_by e f (inr p) = or_right (nat_lt f.priority e.priority) ((f.priority == e.priority) && nat_le e.id f.id)
-    (and_from (f.priority == e.priority) (nat_le e.id f.id) (eq-eqb f.priority e.priority p.0) (le-leb e.id f.id p.1))
-  where
-    or_right : (a b : Bool) → b ≡ true → (a || b) ≡ true
-    or_right true b h = refl
-    or_right false b h = h
-
 first_trans : (e f g : Element) → comes_first e f ≡ true → comes_first f g ≡ true → comes_first e g ≡ true
-first_trans e f g h k =
-    elim (first_is e f h) [
-      | inl p ↦ elim (first_is f g k)
-          [ inl q ↦ first_by e g (inl (omega (arith, p, q))) | inr q ↦ first_by e g (inl (omega (arith, p, q.0))) ]
-      | inr p ↦ elim (first_is f g k) [
-        | inl q ↦ first_by e g (inl (omega (arith, p.0, q)))
-        | inr q ↦ first_by e g
-            (inr (omega (arith, p.0, q.0), omega (arith, p.1, q.1)))
-      ]
-    ]
+first_trans e f g h k = grind arith
 
 first_total : (e f : Element) → comes_first f e ≡ false → comes_first e f ≡ true
-first_total e f h =
-    elim (cases_lt f.priority e.priority) [
-      | inl p ↦ first_by e f (inl p)
-      | inr p ↦
-          elim (cases_lt e.priority f.priority) [
-            | inl q ↦ absurd (no_true (sym (first_by f e (inl q)) ∙ h))
-            | inr q ↦
-                elim (cases_lt e.id f.id) [
-                  | inl r ↦ first_by e f (inr (omega (arith, p, q), omega (arith, r)))
-                  | inr r ↦ absurd (no_true (sym (first_by f e (inr (omega (arith, p, q), r))) ∙ h))
-                ]
-          ]
-    ]
-  where
-    no_true : true ≡ false → ⊥
-    no_true e = cc
+first_total e f h = grind arith
 
 all_first : (es : List Element) → Ordered (λ a b. comes_first a b ≡ true) (in_order es)
 all_first [] = tt
 all_first (e ∷ es) = ordered_put comes_first first_trans e (in_order es) (all_first es)
-    (each_of (λ y. comes_first y e ≡ false → comes_first e y ≡ true) (λ y. first_total e y) (in_order es))
+    (each_of _ (λ y. first_total e y) (in_order es))
 
 abbrev Differ : Element → Element → Type 0
 Differ e f = e.id ≢ f.id
@@ -146,17 +101,12 @@ Differ e f = e.id ≢ f.id
 apart : (p : Element → Bool) (es : List Element) → Ordered Differ es
     → AllByRecursion (λ a. AllByRecursion (Differ a) (filter (λ y. not (p y)) es)) (filter p es)
 apart p [] h = tt
-apart p (e ∷ es) h =
-    by_cases (p e)
+apart p (e ∷ es) h = by_cases (p e)
     (λ b. AllByRecursion (λ a. AllByRecursion (Differ a)
     (cond (not b) (e ∷ filter (λ y. not (p y)) es) (filter (λ y. not (p y)) es)))
-    (cond b (e ∷ filter p es) (filter p es)))
-    (λ _. (each_filter (Differ e) (λ y. not (p y)) es h.0, apart p es h.1))
-    (λ _. each_weaker (λ a. Differ e a × AllByRecursion (Differ a) (filter (λ y. not (p y)) es))
-    (λ a. Differ a e × AllByRecursion (Differ a) (filter (λ y. not (p y)) es))
-    (λ a k. (λ same. k.0 (sym same), k.1)) (filter p es)
-    (each_both (Differ e) (λ a. AllByRecursion (Differ a) (filter (λ y. not (p y)) es)) (filter p es)
-    (each_filter (Differ e) p es h.0) (apart p es h.1)))
+    (cond b (e ∷ filter p es) (filter p es))) (λ _. (each_filter (Differ e) (λ y. not (p y)) es h.0, apart p es h.1))
+    (λ _. each_weaker _ _ (λ a k. (λ same. k.0 (sym same), k.1)) (filter p es)
+    (each_both _ _ _ (each_filter (Differ e) p es h.0) (apart p es h.1)))
 
 all_differ : (es : List Element) → Ordered Differ es → Ordered Differ (in_order es)
 all_differ [] h = tt
@@ -164,21 +114,15 @@ all_differ (e ∷ es) h =
     let others = all_differ es h.1 in
     let from_e = each_ordered (Differ e) es h.0 in
     let p : Element → Bool = λ y. comes_first y e in
-    ordered_append Differ (filter p (in_order es)) (e ∷ filter (λ y. not (p y)) (in_order es))
-    (ordered_filter Differ p (in_order es) others) (
-      each_filter (Differ e) (λ y. not (p y)) (in_order es) from_e,
-      ordered_filter Differ (λ y. not (p y)) (in_order es) others,
-    )
-    (each_weaker (λ a. Differ e a × AllByRecursion (Differ a) (filter (λ y. not (p y)) (in_order es)))
-    (λ a. Differ a e × AllByRecursion (Differ a) (filter (λ y. not (p y)) (in_order es)))
-    (λ a k. (λ same. k.0 (sym same), k.1)) (filter p (in_order es))
-    (each_both (Differ e) (λ a. AllByRecursion (Differ a) (filter (λ y. not (p y)) (in_order es)))
-    (filter p (in_order es)) (each_filter (Differ e) p (in_order es) from_e) (apart p (in_order es) others)))
+    ordered_append _ _ _ (ordered_filter Differ p (in_order es) others)
+    (each_filter _ _ _ from_e, ordered_filter Differ (λ y. not (p y)) (in_order es) others)
+    (each_weaker _ _ (λ a k. (λ same. k.0 (sym same), k.1)) (filter p (in_order es))
+    (each_both _ _ _ (each_filter (Differ e) p (in_order es) from_e) (apart p (in_order es) others)))
 
 both_ordered : (es : List Element) → Ordered (λ a b. comes_first a b ≡ true) es → Ordered Differ es
     → Ordered Precedes es
 both_ordered [] h k = tt
-both_ordered (e ∷ es) h k = (each_both (λ b. comes_first e b ≡ true) (Differ e) es h.0 k.0, both_ordered es h.1 k.1)
+both_ordered (e ∷ es) h k = (each_both _ _ es h.0 k.0, both_ordered es h.1 k.1)
 
 rising_differ : (es : List Element) → Ordered (λ e f. e.id < f.id) es → Ordered Differ es
 rising_differ [] h = tt

@@ -1,15 +1,14 @@
 -- What arrives is what leaves the sources, merged.
-use Rattle.std.proofs.Common.{◌≡◌, ◌≢◌, ℕ, ◌+◌, ◌<◌, ◌≤◌, ◌⊎◌, Bool, true, false, cond, ◌||◌, List, [], ◌∷◌, ◌++◌}
+use Rattle.std.proofs.Common.{◌≡◌, ◌≢◌, ℕ, ◌<◌, ◌≤◌, ◌⊎◌, Bool, true, false, cond, ◌||◌, List, [], ◌∷◌, ◌++◌}
 use Rattle.std.proofs.Common.{length, map, refl, sym, ap, ◌∙◌, subst, arith, inl, inr, length-append}
-use Rattle.std.specs.Prelude.{◌==◌, nat_lt}
+use Rattle.std.specs.Prelude.{◌==◌}
 use Rattle.std.specs.List.{filter, list_any, AllByRecursion}
 use Rattle.itertools.specs.List.{merge_by, merge_at}
-use Rattle.std.proofs.lemmas.Bool.{cases_Bool, and_parts, lt-ltb, le-ltb, le-leb, lt-leb, eq-eqb, ne_eqb, eqb-true}
-use Rattle.std.proofs.lemmas.Bool.Decides.{nat_tests}
+use Rattle.std.proofs.lemmas.Bool.{and_parts, ne_eqb, eqb-true}
 use Rattle.std.proofs.lemmas.List.{get_or_append_left}
 use Rattle.rq_model.specs.Records.{Record, Abort, Version}
-use Rattle.rq_model.specs.States.{Element, Definition, State, definition_at, no_definition}
-use Rattle.rq_model.specs.Machine.{is_lawful, all_lawful, leaves, moved, step}
+use Rattle.rq_model.specs.States.{Definition, State, definition_at}
+use Rattle.rq_model.specs.Machine.{all_lawful, step}
 use Rattle.rq_model.specs.Queues.{defined_by, Transfer, transfers_at, transfers, moves}
 use Rattle.rq_model.specs.WellFormed.{Ordered}
 use Rattle.rq_model.specs.Laws.{IsSound, move_before, merged, ArrivalsAreMerged}
@@ -41,13 +40,11 @@ merge_parts : {X : Type 0} (le : X → X → Bool) (p r : X → Bool) → ((x : 
 merge_parts le p r apart [] h = refl
 merge_parts {X} le p r apart (x ∷ xs) h =
     let rest = merge_parts le p r apart xs h.1 in
-    let left = merge_left le x (filter p xs) (filter r xs)
-    (each_filter (λ y. le x y ≡ true) r xs
-    (each_weaker (λ y. (le x y ≡ true) × (le y x ≡ false)) (λ y. le x y ≡ true) (λ y k. k.0) xs h.0)) in
-    let right = merge_right le (filter p xs) x (filter r xs)
-    (each_filter (λ y. le y x ≡ false) p xs
-    (each_weaker (λ y. (le x y ≡ true) × (le y x ≡ false)) (λ y. le y x ≡ false) (λ y k. k.1) xs h.0)) in
-    grind (arith, rest, left, right, apart x, cases_Bool (p x), cases_Bool (r x))
+    let left = merge_left le x (filter p xs) (filter r xs) (each_filter (λ y. le x y ≡ true) r xs
+    (each_weaker _ _ (λ y k. k.0) xs h.0)) in
+    let right = merge_right le (filter p xs) x (filter r xs) (each_filter (λ y. le y x ≡ false) p xs
+    (each_weaker _ _ (λ y k. k.1) xs h.0)) in
+    grind arith
 
 merge_map : {X Y : Type 0} (le : Y → Y → Bool) (f : X → Y) (xs ys : List X)
     → merge_by le (map f xs) (map f ys) ≡ map f (merge_by (λ x y. le (f x) (f y)) xs ys)
@@ -91,70 +88,33 @@ ordered_weaker R S h [] k = tt
 ordered_weaker R S h (x ∷ xs) k = (each_weaker (R x) (S x) (h x) xs k.0, ordered_weaker R S h xs k.1)
 
 places_at : (s : State) (r : Record) → AllByRecursion (λ (t : Transfer). t.move.place ≡ s.next) (transfers_at s r)
-places_at s (Abort u) = each_map (λ (e : Element). e.id ≡ e.id) (λ (t : Transfer). t.move.place ≡ s.next)
-    (λ e. record {
-      from = e.home;
-      move =
-          record { place = s.next; element = moved (definition_at s.definitions e.home) e };
-    }) (λ e h. refl)
-    (filter (λ e. leaves (definition_at s.definitions e.home) u e) s.elements)
-    (each_of (λ e. e.id ≡ e.id) (λ _. refl) _)
+places_at s (Abort u) = each_map _ _ _ (λ e h. refl) _ (each_of (λ e. e.id ≡ e.id) (λ _. refl) _)
 places_at s r = tt
 
 places_since : (s : State) (rs : List Record)
     → AllByRecursion (λ (t : Transfer). s.next ≤ t.move.place) (transfers s rs)
 places_since s [] = tt
-places_since s (r ∷ rs) = each_append (λ (t : Transfer). s.next ≤ t.move.place) (transfers_at s r)
-    (transfers (step s r) rs)
-    (each_weaker (λ (t : Transfer). t.move.place ≡ s.next) (λ t. s.next ≤ t.move.place) (λ t e. omega arith)
-    (transfers_at s r) (places_at s r))
-    (each_weaker (λ (t : Transfer). s.next + 1 ≤ t.move.place) (λ t. s.next ≤ t.move.place) (λ t e. omega arith)
-    (transfers (step s r) rs) (places_since (step s r) rs))
+places_since s (r ∷ rs) = each_append _ _ _ (each_weaker _ _ (λ t e. omega arith) (transfers_at s r) (places_at s r))
+    (each_weaker _ _ (λ t e. omega arith) (transfers (step s r) rs) (places_since (step s r) rs))
 
 order_at : (s : State) (r : Record) → IsSound s → Ordered Precedes (transfers_at s r)
-order_at s (Abort u) sound = ordered_map (λ (e f : Element). e.id < f.id) Precedes
-    (λ e. record {
-      from = e.home;
-      move =
-          record { place = s.next; element = moved (definition_at s.definitions e.home) e };
-    }) (λ e f l. inr (refl, l))
-    (filter (λ e. leaves (definition_at s.definitions e.home) u e) s.elements)
-    (ordered_filter (λ (e f : Element). e.id < f.id)
-    (λ e. leaves (definition_at s.definitions e.home) u e) s.elements sound.rising)
+order_at s (Abort u) sound = ordered_map _ _ _ (λ e f l. inr (refl, l)) _ (ordered_filter _ _ _ sound.rising)
 order_at s r sound = tt
 
 pub order : (version : Version) (s : State) (rs : List Record) → IsSound s → all_lawful version s rs ≡ true
     → Ordered Precedes (transfers s rs)
 order version s [] sound lawful = tt
 order version s (r ∷ rs) sound lawful =
-    let parts : (is_lawful version s r ≡ true) × (all_lawful version (step s r) rs ≡ true) =
-    and_parts (is_lawful version s r) (all_lawful version (step s r) rs) lawful in
-    ordered_append Precedes (transfers_at s r) (transfers (step s r) rs) (order_at s r sound)
+    let parts = and_parts _ _ lawful in
+    ordered_append _ _ _ (order_at s r sound)
     (order version (step s r) rs (sound_step version s r parts.0 sound) parts.1)
-    (each_weaker (λ (t : Transfer). t.move.place ≡ s.next) (λ t. AllByRecursion (Precedes t) (transfers (step s r) rs))
-    (λ t e. each_weaker (λ (u : Transfer). s.next + 1 ≤ u.move.place) (Precedes t) (λ u l. inl (omega arith))
-    (transfers (step s r) rs) (places_since (step s r) rs)) (transfers_at s r) (places_at s r))
+    (each_weaker _ _ (λ t e. each_weaker _ _ (λ u l. inl (omega arith)) (transfers (step s r) rs)
+    (places_since (step s r) rs)) (transfers_at s r) (places_at s r))
 
 precedes_before : (t u : Transfer) → Precedes t u
     → (move_before t.move u.move ≡ true) × (move_before u.move t.move ≡ false)
-precedes_before t u (inl l) = (
-  grind (arith, lt-ltb t.move.place u.move.place l),
-  grind (arith, le-ltb u.move.place t.move.place (omega arith), ne_eqb u.move.place t.move.place (λ e. omega arith)),
-)
-precedes_before t u (inr l) = (
-  grind (
-    arith,
-    eq-eqb t.move.place u.move.place l.0,
-    le-leb t.move.element.id u.move.element.id (omega (arith, l.1)),
-    cases_Bool (nat_lt t.move.place u.move.place),
-  ),
-  grind (
-    arith,
-    eq-eqb u.move.place t.move.place (sym l.0),
-    lt-leb u.move.element.id t.move.element.id l.1,
-    le-ltb u.move.place t.move.place (omega (arith, l.0)),
-  ),
-)
+precedes_before t u (inl l) = grind arith
+precedes_before t u (inr l) = grind arith
 
 -- Where the moves go.
 
@@ -164,17 +124,8 @@ goes_at : (s : State) (r : Record) (ds : List Definition)
     → AllByRecursion (λ (t : Transfer). (t.from < length ds) × (t.move.element.home ≡ (definition_at ds t.from).error))
     (transfers_at s r)
 goes_at s (Abort u) ds same longer sound =
-    each_map (λ (e : Element). e.home < length s.definitions)
-    (λ (t : Transfer). (t.from < length ds) × (t.move.element.home ≡ (definition_at ds t.from).error))
-    (λ e. record {
-      from = e.home;
-      move =
-          record { place = s.next; element = moved (definition_at s.definitions e.home) e };
-    })
-    (λ e l. (omega arith, ap (λ (d : Definition). d.error) (same e.home l)))
-    (filter (λ e. leaves (definition_at s.definitions e.home) u e) s.elements)
-    (each_filter (λ (e : Element). e.home < length s.definitions)
-    (λ e. leaves (definition_at s.definitions e.home) u e) s.elements sound.homes)
+    each_map _ _ _ (λ e l. (omega arith, ap (λ (d : Definition). d.error) (same e.home l))) _
+    (each_filter _ _ _ sound.homes)
 goes_at s r ds same longer sound = tt
 
 goes : (version : Version) (s : State) (rs : List Record) (ds : List Definition) → s.definitions ++ defined_by rs ≡ ds
@@ -183,12 +134,8 @@ goes : (version : Version) (s : State) (rs : List Record) (ds : List Definition)
     (transfers s rs)
 goes version s [] ds e sound lawful = tt
 goes version s (r ∷ rs) ds e sound lawful =
-    let parts : (is_lawful version s r ≡ true) × (all_lawful version (step s r) rs ≡ true) =
-    and_parts (is_lawful version s r) (all_lawful version (step s r) rs) lawful in
-    each_append (λ (t : Transfer). (t.from < length ds) × (t.move.element.home ≡ (definition_at ds t.from).error))
-    (transfers_at s r) (transfers (step s r) rs)
-    (goes_at s r ds (λ k l. sym (get_or_append_left s.definitions (defined_by (r ∷ rs)) no_definition k l)
-    ∙ ap (λ xs. definition_at xs k) e)
+    let parts = and_parts _ _ lawful in
+    each_append _ _ _ (goes_at s r ds (λ k l. sym (get_or_append_left _ _ _ k l) ∙ ap (λ xs. definition_at xs k) e)
     (omega (arith, length-append s.definitions (defined_by (r ∷ rs)), ap length e)) sound)
     (goes version (step s r) rs ds (same_definitions s r rs ∙ e) (sound_step version s r parts.0 sound) parts.1)
 
@@ -201,32 +148,21 @@ none_again : (k : ℕ) (ks : List ℕ) → AllByRecursion (λ v. k ≢ v) ks →
 none_again k [] h = refl
 none_again k (v ∷ ks) h = grind (arith, ne_eqb v k (λ e. h.0 (sym e)), none_again k ks h.1)
 
-swap_eqb : (a b : ℕ) → (a == b) ≡ (b == a)
-swap_eqb a b = grind (arith, nat_tests)
-
 merged_is : (s : State) (rs : List Record) (ks : List ℕ) → Ordered Precedes (transfers s rs) → Ordered (λ a b. a ≢ b) ks
     → merged s rs ks ≡ map (λ t. t.move) (filter (leaves_one ks) (transfers s rs))
 merged_is s rs [] o distinct =
     sym (ap (map (λ (t : Transfer). t.move))
     (filter_none (leaves_one []) (transfers s rs)
     (each_of (λ t. leaves_one [] t ≡ false) (λ _. refl) (transfers s rs))))
-merged_is s rs (k ∷ ks) o distinct =
-    ap (merge_by move_before (moves s rs k)) (merged_is s rs ks o distinct.1)
-    ∙ merge_map move_before (λ (t : Transfer). t.move) (filter (λ t. t.from == k) (transfers s rs))
-    (filter (leaves_one ks) (transfers s rs))
+merged_is s rs (k ∷ ks) o distinct = ap (merge_by move_before (moves s rs k)) (merged_is s rs ks o distinct.1)
+    ∙ merge_map _ _ _ (filter (leaves_one ks) (transfers s rs))
     ∙ ap (map (λ (t : Transfer). t.move))
-    (merge_parts (λ (t u : Transfer). move_before t.move u.move) (λ t. t.from == k) (leaves_one ks)
-    (λ t e. subst (λ f. list_any (λ v. v == f) ks ≡ false) (sym (eqb-true t.from k e)) (none_again k ks distinct.0))
-    (transfers s rs) (ordered_weaker Precedes _ precedes_before (transfers s rs) o)
-    ∙ filter_same (λ t. (t.from == k) || leaves_one ks t) (leaves_one (k ∷ ks)) (transfers s rs)
-    (each_of _ (λ (t : Transfer). ap (λ b. b || leaves_one ks t) (swap_eqb t.from k)) (transfers s rs)))
+    (merge_parts _ _ _ (λ t e. subst (λ f. list_any (λ v. v == f) ks ≡ false) (sym (eqb-true t.from k e))
+    (none_again k ks distinct.0)) (transfers s rs) (ordered_weaker Precedes _ precedes_before (transfers s rs) o)
+    ∙ grind arith)
 
 pub arrivals_are_merged : ArrivalsAreMerged
 arrivals_are_merged version s rs q ks sound lawful sources =
-    ap (map (λ (t : Transfer). t.move)) (filter_same (λ t. t.move.element.home == q) (leaves_one ks) (transfers s rs)
-    (each_weaker (λ (t : Transfer). (t.from < length (s.definitions ++ defined_by rs))
-    × (t.move.element.home ≡ (definition_at (s.definitions ++ defined_by rs) t.from).error))
-    (λ t. (t.move.element.home == q) ≡ leaves_one ks t)
-    (λ t h. ap (λ x. x == q) h.1 ∙ sources.exact t.from h.0) (transfers s rs)
-    (goes version s rs (s.definitions ++ defined_by rs) refl sound lawful)))
-    ∙ sym (merged_is s rs ks (order version s rs sound lawful) sources.each_once)
+    ap (map (λ (t : Transfer). t.move))
+    (filter_same _ _ _ (each_weaker _ _ (λ t h. ap (λ x. x == q) h.1 ∙ sources.exact t.from h.0) (transfers s rs)
+    (goes _ s rs _ refl sound lawful))) ∙ sym (merged_is s rs ks (order version s rs sound lawful) sources.each_once)

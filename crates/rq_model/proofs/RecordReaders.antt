@@ -1,9 +1,9 @@
 -- The law of records: what is read of a body is spelled so, and what is spelled so is read again.
-use Rattle.std.proofs.Common.{◌≡◌, ℕ, ◌≤◌, false, eqb, List, ◌∷◌, ◌++◌, length, Option, Some, None, refl, sym, ap}
+use Rattle.std.proofs.Common.{◌≡◌, ℕ, ◌≤◌, List, ◌∷◌, ◌++◌, length, Option, Some, None, refl, sym, ap}
 use Rattle.std.proofs.Common.{arith}
-use Rattle.std.specs.Prelude.{IsTrue, nat_le, ◌&&◌, drop}
+use Rattle.std.specs.Prelude.{IsTrue, drop}
 use Rattle.std.specs.Int.{w64, to_be_bytes}
-use Rattle.std.proofs.lemmas.Bool.{and_parts, eqb-true, ne_eqb, leb-true, le-leb}
+use Rattle.std.proofs.lemmas.Bool.{eqb-true, ne_eqb, leb-true, le-leb}
 use Rattle.rq_bytes.specs.Readers.{Reader, number, piece, ◌then◌, made, tested, tagged}
 use Rattle.rq_bytes.specs.Reads.{Reads, Any, End}
 use Rattle.rq_bytes.proofs.Single.{reads_byte, reads_piece, reads_u16, reads_u32, reads_u64, reads_all}
@@ -20,10 +20,7 @@ use Rattle.rq_model.specs.RecordReading.{dequeue_from, kill_from, record_behind,
 
 -- a name has 1 to 64 bytes
 pub name_long : (name : List ℕ) → IsTrue (is_name name) → (1 ≤ length name) × (length name ≤ 64)
-name_long name h =
-    let outer = and_parts (nat_le 1 (length name) && nat_le (length name) 64) _ h in
-    let inner = and_parts (nat_le 1 (length name)) (nat_le (length name) 64) outer.0 in
-    (leb-true _ _ inner.0, leb-true _ _ inner.1)
+name_long name h = grind arith
 
 pub reads_name_left : Reads (λ name. IsTrue (is_name name)) (λ name. name) End name_left
 unfolding name_left
@@ -43,7 +40,7 @@ who_again : (by : Option By) (rest : List ℕ) → IsWho by → Any rest
 who_again None rest h ends = again_made nobody (reads_tested {test = is_zero} reads_u64) 0 rest (omega arith, refl) ends
 who_again (Some by) rest h ends =
     let long = name_long by.name h.0 in
-    let some : eqb (length by.name) 0 ≡ false = ne_eqb _ _ (λ (e : length by.name ≡ 0). omega arith) in
+    let some = ne_eqb _ _ (λ (e : length by.name ≡ 0). omega arith) in
     rw some (again_made somebody (reads_then (reads_tested (reads_piece (length by.name))) reads_u64)
     (by.name, by.tag) rest ((refl, h.0), h.1) ends)
 

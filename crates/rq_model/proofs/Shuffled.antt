@@ -1,10 +1,10 @@
 -- What returns to a queue at an ABORT and what arrives there is put in in any order.
 use Rattle.std.proofs.Common.{◌≡◌, ◌≢◌, inl, inr, ℕ, ◌+◌, ◌<◌, ◌≤◌, Bool, true, false, cond, List, [], ◌∷◌, ◌++◌, map}
 use Rattle.std.proofs.Common.{refl, sym, ap, subst, ◌∙◌, arith}
-use Rattle.std.specs.Prelude.{◌==◌, ◌&&◌, not, if◌then◌else◌, IsPermutation}
+use Rattle.std.specs.Prelude.{◌==◌, ◌&&◌, not, IsPermutation}
 use Rattle.std.specs.List.{AllByRecursion, filter, sum_by}
 use Rattle.std.proofs.lemmas.Bool.{eqb-true, eqb-false, false_from_ne_true, false≢true, lt-ltb, ltb-true, eq-eqb}
-use Rattle.std.proofs.lemmas.Bool.{ne_eqb, cases_Bool, cases_order}
+use Rattle.std.proofs.lemmas.Bool.{ne_eqb, cases_Bool}
 use Rattle.std.proofs.lemmas.List.Sums.{sum_by-cons, sum_by-append}
 use Rattle.std.proofs.lemmas.List.Sorted.{IsPermutation-refl, IsPermutation-sym, IsPermutation-trans}
 use Rattle.std.proofs.lemmas.List.Sorted.{IsPermutation-cons, IsPermutation-middle, IsPermutation-append_left}
@@ -13,7 +13,7 @@ use Rattle.std.proofs.lemmas.List.Sorted.{All-permutation}
 use Rattle.std.proofs.lemmas.List.Elements.{All-from_recursion, recursion_from_All}
 use Rattle.rq_model.specs.States.{Mark, Free, Fresh, Held, Element, Definition, State, definition_at, put, id_before}
 use Rattle.rq_model.specs.States.{is_fresh, is_held}
-use Rattle.rq_model.specs.Machine.{leaves, moved, returned, step}
+use Rattle.rq_model.specs.Machine.{leaves, returned, step}
 use Rattle.rq_model.specs.Records.{Abort}
 use Rattle.rq_model.specs.WellFormed.{Ordered, IsIn}
 use Rattle.rq_model.specs.Queues.{Move, elements_at, is_marked, arrivals_of, transfers_at}
@@ -92,30 +92,29 @@ put_shuffles e es =
     let before : Element → Bool = λ y. id_before y e in
     let halves = filter before es in
     let others = filter (λ y. not (before y)) es in
-    IsPermutation-trans (e ∷ es) (e ∷ (halves ++ others)) (halves ++ e ∷ others)
-    (IsPermutation-cons e es (halves ++ others) (IsPermutation-filter_both before (λ y. not (before y)) (λ _. refl) es))
-    (IsPermutation-sym (halves ++ e ∷ others) (e ∷ (halves ++ others)) (IsPermutation-middle halves e others))
+    IsPermutation-trans _ _ _
+    (IsPermutation-cons e es (halves ++ others)
+    (IsPermutation-filter_both before (λ y. not (before y)) (λ _. refl) es))
+    (IsPermutation-sym _ _ (IsPermutation-middle halves e others))
 
 each_shuffles : (xs es : List Element) → IsPermutation (xs ++ es) (put_each xs es)
 each_shuffles [] es = IsPermutation-refl es
-each_shuffles (x ∷ xs) es =
-    IsPermutation-trans (x ∷ (xs ++ es)) (xs ++ put id_before x es) (put_each xs (put id_before x es))
-    (IsPermutation-trans (x ∷ (xs ++ es)) (xs ++ x ∷ es) (xs ++ put id_before x es)
-    (IsPermutation-sym (xs ++ x ∷ es) (x ∷ (xs ++ es)) (IsPermutation-middle xs x es))
+each_shuffles (x ∷ xs) es = IsPermutation-trans _ _ _
+    (IsPermutation-trans _ _ _ (IsPermutation-sym (xs ++ x ∷ es) (x ∷ (xs ++ es)) (IsPermutation-middle xs x es))
     (IsPermutation-append_right xs (x ∷ es) (put id_before x es) (put_shuffles x es)))
     (each_shuffles xs (put id_before x es))
 
 rising_before : (es : List Element) → Rising es → Ordered (λ e f. id_before e f ≡ true) es
 rising_before [] h = tt
 rising_before (e ∷ es) h = (
-  each_weaker (λ f. e.id < f.id) (λ f. id_before e f ≡ true) (λ f l. lt-ltb e.id f.id l) es h.0,
+  each_weaker _ _ (λ f l. lt-ltb e.id f.id l) es h.0,
   rising_before es h.1,
 )
 
 before_rising : (es : List Element) → Ordered (λ e f. id_before e f ≡ true) es → Rising es
 before_rising [] h = tt
 before_rising (e ∷ es) h = (
-  each_weaker (λ f. id_before e f ≡ true) (λ f. e.id < f.id) (λ f l. ltb-true e.id f.id l) es h.0,
+  each_weaker _ _ (λ f l. ltb-true e.id f.id l) es h.0,
   before_rising es h.1,
 )
 
@@ -123,21 +122,12 @@ before_trans : (a b c : Element) → id_before a b ≡ true → id_before b c �
 before_trans a b c h k = lt-ltb a.id c.id (omega (arith, ltb-true a.id b.id h, ltb-true b.id c.id k))
 
 before_total : (x y : Element) → y.id ≢ x.id → id_before y x ≡ false → id_before x y ≡ true
-before_total x y differ not_before = elim (cases_order x.id y.id) [
-  | inl same ↦ absurd (differ (sym same))
-  | inr order ↦ elim order
-      [ inl less ↦ lt-ltb x.id y.id less | inr more ↦ absurd (no_true (sym (lt-ltb y.id x.id more) ∙ not_before)) ]
-]
-  where
-    no_true : true ≡ false → ⊥
-    no_true e = cc
+before_total x y differ not_before = grind arith
 
 rising_put : (x : Element) (es : List Element) → Rising es → AllByRecursion (λ y. y.id ≢ x.id) es
     → Rising (put id_before x es)
-rising_put x es rising differ =
-    before_rising (put id_before x es)
-    (ordered_put id_before before_trans x es (rising_before es rising)
-    (each_weaker (λ y. y.id ≢ x.id) (λ y. id_before y x ≡ false → id_before x y ≡ true) (before_total x) es differ))
+rising_put x es rising differ = before_rising (put id_before x es)
+    (ordered_put id_before before_trans x es (rising_before es rising) (each_weaker _ _ (before_total x) es differ))
 
 rising_each : (xs es : List Element) → Once (xs ++ es) → Rising es → Rising (put_each xs es)
 rising_each [] es once rising = rising
@@ -160,8 +150,7 @@ rising_each (x ∷ xs) es once rising =
 
 each_itself : (es : List Element) → AllByRecursion (λ e. IsIn e es) es
 each_itself [] = tt
-each_itself (e ∷ es) =
-    (inl refl, each_weaker (λ f. IsIn f es) (λ f. IsIn f (e ∷ es)) (λ f i. inr i) es (each_itself es))
+each_itself (e ∷ es) = (inl refl, each_weaker _ _ (λ f i. inr i) es (each_itself es))
 
 in_shuffled : (xs ys : List Element) → IsPermutation xs ys → (e : Element) → IsIn e xs → IsIn e ys
 in_shuffled xs ys same e i = all_in (λ f. IsIn f ys) e xs
@@ -180,8 +169,7 @@ put_shuffled xs ys es same once rising =
     let both = IsPermutation-append_left es xs ys same in
     same_rising (put_each xs es) (put_each ys es) (rising_each xs es once rising)
     (rising_each ys es (λ id. omega (arith, once id, count_shuffled id (xs ++ es) (ys ++ es) both)) rising)
-    (IsPermutation-trans (put_each xs es) (xs ++ es) (put_each ys es)
-    (IsPermutation-sym (xs ++ es) (put_each xs es) (each_shuffles xs es))
+    (IsPermutation-trans _ _ _ (IsPermutation-sym (xs ++ es) (put_each xs es) (each_shuffles xs es))
     (IsPermutation-trans (xs ++ es) (ys ++ es) (put_each ys es) both (each_shuffles ys es)))
 
 -- What an ABORT leaves in a queue is what it leaves alone and what returns, put in.
@@ -298,19 +286,15 @@ after_abort s unit queue sound =
     put_each-append (returning s unit queue) (arriving s unit queue) (left_alone s unit queue)
     ∙ ap (put_each (arriving s unit queue))
     (joins unit d (elements_at queue s.elements)
-    (ordered_filter (λ (e f : Element). e.id < f.id) (λ e. e.home == queue) s.elements sound.rising))
+    (ordered_filter _ _ _ sound.rising))
     ∙ put_moves (arrivals_of queue (transfers_at s (Abort unit)))
-    (map (returned unit) (filter (is_kept unit d) (elements_at queue s.elements)))
+    _
     ∙ sym (abort_elements d s unit queue (agree_here s queue sound) sound.rising)
 
 aborted_rising : (s : State) (unit queue : ℕ) → IsSound s → Rising (elements_at queue (step s (Abort unit)).elements)
 aborted_rising s unit queue sound =
-    ordered_filter (λ (e f : Element). e.id < f.id) (λ e. e.home == queue) (step s (Abort unit)).elements
-    (rising_map (λ e. if leaves (definition_at s.definitions e.home) unit e then moved
-    (definition_at s.definitions e.home) e else returned unit e)
-    (λ e. gone_id (leaves (definition_at s.definitions e.home) unit e) (definition_at s.definitions e.home) unit e)
-    (filter (λ e. not (is_fresh unit e.mark)) s.elements)
-    (ordered_filter (λ (e f : Element). e.id < f.id) (λ e. not (is_fresh unit e.mark)) s.elements sound.rising))
+    ordered_filter _ _ _
+    (rising_map _ (λ e. gone_id _ (definition_at s.definitions e.home) unit e) _ (ordered_filter _ _ _ sound.rising))
 
 pub any_order : AnyOrder
 any_order s unit queue shuffled sound same =
@@ -320,12 +304,10 @@ any_order s unit queue shuffled sound same =
     let once : Once (all ++ left) =
     λ id. omega (
       arith,
-      rising_once (elements_at queue (step s (Abort unit)).elements)
+      rising_once _
           (aborted_rising s unit queue sound) id,
       ap (count id) after,
       count_shuffled id (all ++ left) (put_each all left) (each_shuffles all left),
     ) in
-    let rising : Rising left = ordered_filter (λ (e f : Element). e.id < f.id) (λ e. not (is_marked unit e.mark))
-    (elements_at queue s.elements)
-    (ordered_filter (λ (e f : Element). e.id < f.id) (λ e. e.home == queue) s.elements sound.rising) in
+    let rising : Rising left = ordered_filter _ _ _ (ordered_filter _ _ _ sound.rising) in
     sym (put_shuffled all shuffled left same once rising) ∙ after

@@ -5,17 +5,17 @@ use Rattle.std.specs.Prelude.{IfSome, ◌==◌}
 use Rattle.std.specs.List.{list_any, AllByRecursion}
 use Rattle.std.proofs.lemmas.Bool.{eqb-true, and_parts}
 use Rattle.rq_model.specs.Records.{Version}
-use Rattle.rq_model.specs.States.{Mark, Free, Fresh, Held, Kind, Enqueued, Dequeued, Element, Last, Note, Definition}
+use Rattle.rq_model.specs.States.{Mark, Free, Fresh, Held, Element, Last, Note, Definition}
 use Rattle.rq_model.specs.States.{Registrant, State, is_registrant}
 use Rattle.std.specs.Str.{bytes_eq}
-use Rattle.rq_model.specs.WellFormed.{Ordered, unit_is_open, IsElement, IsElementOf, IsLast, IsRegistrant, IsNote}
+use Rattle.rq_model.specs.WellFormed.{Ordered, unit_is_open, IsElement, IsLast, IsRegistrant, IsNote}
 use Rattle.rq_model.specs.WellFormed.{AreDefinitions, IsWellFormed}
 use Rattle.rq_model.specs.StateSpelling.{FitsDefinition, FitsRegistrant, FitsElement, FitsNote, Fits, SpellsState}
 use Rattle.rq_model.specs.StateReading.{AreFew}
 use Rattle.rq_model.proofs.Lists.{each_weaker, each_both}
 use Rattle.rq_bytes.proofs.Together.{reads_alone, spells_one}
-use Rattle.rq_model.proofs.StateReaders.{IsDefinitionSpelled, IsWideElement, IsWideLast, IsRegistrantSpelled}
-use Rattle.rq_model.proofs.StateReaders.{IsWideMark, IsElementSpelled, IsNoteSpelled, IsSpelled, reads_state}
+use Rattle.rq_model.proofs.StateReaders.{IsDefinitionSpelled, IsWideLast}
+use Rattle.rq_model.proofs.StateReaders.{IsWideMark, IsNoteSpelled, IsSpelled, reads_state}
 use Rattle.rq_model.proofs.Texts.{either}
 
 -- A well-formed state's members have these widths.
@@ -24,7 +24,7 @@ any_of : (P : ℕ → Type 0) (unit : ℕ) (units : List ℕ) → AllByRecursion
     → P unit
 any_of P unit [] h e = absurd cc
 any_of P unit (v ∷ units) h e =
-    elim (either (v == unit) (list_any (λ v. v == unit) units) e) [
+    elim (either _ _ e) [
       | inl here ↦ subst P (eqb-true v unit here) h.0
       | inr there ↦ any_of P unit units h.1 there
     ]
@@ -35,15 +35,8 @@ wide_mark s (Fresh u) h f o =
     omega (arith, (any_of (λ v. (1 ≤ v) × (v ≤ s.greatest)) u s.units h.units o).1, f.greatest)
 wide_mark s (Held u) h f o = omega (arith, (any_of (λ v. (1 ≤ v) × (v ≤ s.greatest)) u s.units h.units o).1, f.greatest)
 
-wide_element : (kind : Kind) (place : ℕ) (element : Option ℕ) → place ≤ 4294967295 → IsElementOf kind place element
-    → IsWideElement element
-wide_element Enqueued place element le h = subst IsWideElement (sym h) (omega (arith, le))
-wide_element Dequeued place None le h = tt
-wide_element Dequeued place (Some id) le h = omega (arith, le, h)
-
 wide_last : (s : State) (l : Last) → s.next ≤ 4294967295 → IsLast s l → l.tag < 2 ^ 64 → IsWideLast l
-wide_last s l le h t =
-    (omega (arith, le, h.place), t, wide_element l.kind l.place l.element (omega (arith, le, h.place)) h.element)
+wide_last s l le h t = grind arith
 
 wide_optional : (s : State) (last : Option Last) → s.next ≤ 4294967295 → IfSome last (IsLast s)
     → IfSome last (λ l. l.tag < 2 ^ 64) → IfSome last IsWideLast
@@ -54,11 +47,7 @@ spelled_definitions : (number : ℕ) (ds : List Definition) → number + length 
     → AllByRecursion FitsDefinition ds → AllByRecursion IsDefinitionSpelled ds
 spelled_definitions number [] le h f = tt
 spelled_definitions number (d ∷ ds) le h f = (
-  elim h.0 [
-    | inl none ↦ (omega (arith, none.0), omega (arith, none.1), f.0)
-    | inr some ↦
-        (omega (arith, some.1), omega (arith, some.2, le), f.0)
-  ],
+  grind arith,
   spelled_definitions (number + 1) ds (omega (arith, le)) h.1 f.1,
 )
 
@@ -68,7 +57,7 @@ few : {X : Type 0} (key : X → ℕ) (low high : ℕ) (xs : List X) → low ≤ 
 few key low high [] le up above below = omega (arith, le)
 few key low high (x ∷ xs) le up above below =
     let others = few key (key x + 1) high xs (omega (arith, below.0)) up.1
-    (each_weaker (λ y. key x < key y) (λ y. key x + 1 ≤ key y) (λ y lt. omega (arith, lt)) xs up.0) below.1 in
+    (each_weaker _ _ (λ y lt. omega (arith, lt)) xs up.0) below.1 in
     omega (arith, others, above.0)
 
 -- a note's queue is a registrant's, which is defined
@@ -79,7 +68,7 @@ note_queue s n w h = omega (arith, w.few, queue_of s.registrants w.registrants h
         → list_any (is_registrant n.queue n.name) rs ≡ true → n.queue < length s.definitions
     queue_of [] r e = absurd cc
     queue_of (r ∷ rs) h e =
-        elim (either (is_registrant n.queue n.name r) (list_any (is_registrant n.queue n.name) rs) e) [
+        elim (either _ _ e) [
           | inl here ↦ subst (λ (q : ℕ). q < length s.definitions)
               (eqb-true r.queue n.queue (and_parts (r.queue == n.queue) (bytes_eq r.name n.name) here).0) h.0.queue
           | inr there ↦ queue_of rs h.1 there
@@ -103,7 +92,7 @@ are_few s w le =
         arith,
         le,
         few (λ (n : Note). n.last.place) 0 s.next s.notes (omega arith) w.notes_rise
-            (each_weaker (λ n. n.last.place < s.next) (λ n. 0 ≤ n.last.place) (λ n x. omega arith) s.notes places)
+            (each_weaker _ _ (λ n x. omega arith) s.notes places)
             places,
       );
     }
@@ -126,18 +115,16 @@ is_spelled version s bytes h =
       );
       units = (
         counts.units,
-        each_weaker (λ u. (1 ≤ u) × (u ≤ s.greatest)) (λ u. u < 2 ^ 64)
-            (λ u x. omega (arith, x.1, h.fits.greatest)) s.units w.units,
+        each_weaker _ _ (λ u x. omega (arith, x.1, h.fits.greatest)) s.units w.units,
       );
       registrants = (
         counts.registrants,
-        each_weaker (λ r. IsRegistrant s r × FitsRegistrant r) IsRegistrantSpelled
-            (λ r x. (omega (arith, x.0.queue, defined), x.1.0, wide_optional s r.last le x.0.last x.1.1))
+        each_weaker _ _ (λ r x. (omega (arith, x.0.queue, defined), x.1.0, wide_optional s r.last le x.0.last x.1.1))
             s.registrants (each_both (IsRegistrant s) FitsRegistrant s.registrants w.registrants h.fits.registrants),
       );
       elements = (
         counts.elements,
-        each_weaker (λ e. IsElement s e × FitsElement e) IsElementSpelled
+        each_weaker _ _
             (λ e x. record {
               id = omega (arith, le, x.0.id);
               home = omega (arith, x.0.home, defined);
@@ -148,8 +135,8 @@ is_spelled version s bytes h =
               mark =
                   wide_mark s e.mark w h.fits x.0.unit;
               payload = omega (arith, x.1.1);
-            })
-            s.elements (each_both (IsElement s) FitsElement s.elements w.elements h.fits.elements),
+            }) s.elements
+            (each_both (IsElement s) FitsElement s.elements w.elements h.fits.elements),
       );
       notes = (
         counts.notes,
@@ -157,7 +144,7 @@ is_spelled version s bytes h =
             (λ n x. (
               omega (
                 arith,
-                (any_of (λ v. (1 ≤ v) × (v ≤ s.greatest)) n.unit s.units w.units x.0.unit).1,
+                (any_of _ _ _ w.units x.0.unit).1,
                 h.fits.greatest,
               ),
               note_queue s n w x.0,

@@ -1,9 +1,9 @@
 -- The law of states: what is read of a spelling is spelled so, and what is spelled so is read again.
-use Rattle.std.proofs.Common.{◌≡◌, ◌≢◌, ℕ, ◌^◌, ◌<◌, Bool, true, false, cond, eqb, List, [], ◌∷◌, ◌++◌, length, Option}
-use Rattle.std.proofs.Common.{Some, None, refl, ap, arith}
+use Rattle.std.proofs.Common.{◌≡◌, ℕ, ◌^◌, ◌<◌, List, [], ◌∷◌, ◌++◌, length, Option}
+use Rattle.std.proofs.Common.{Some, None, refl, arith}
 use Rattle.std.specs.Prelude.{IsTrue, IfSome}
 use Rattle.std.specs.Int.{w64, to_be_bytes}
-use Rattle.std.proofs.lemmas.Bool.{eqb-true, eqb-false, ne_eqb}
+use Rattle.std.proofs.lemmas.Bool.{ne_eqb}
 use Rattle.rq_bytes.specs.Readers.{nothing, made, tagged, case, no_case}
 use Rattle.rq_bytes.specs.Reads.{Reads, Any}
 use Rattle.rq_bytes.proofs.Single.{reads_byte, reads_u16, reads_u32, reads_u64, reads_nothing}
@@ -72,22 +72,11 @@ reads_name = alike _ (λ name h. h.1) (λ name h. let long = name_long name h in
 
 element_is : (n : ℕ) → n < 2 ^ 64 → IsWideElement (id_from n)
     × (to_be_bytes w64 n ≡ to_be_bytes w64 (element_number (id_from n)))
-element_is n lt = at_test (eqb n 18446744073709551615) refl
-  where
-    at_test : (b : Bool) → eqb n 18446744073709551615 ≡ b
-        → IsWideElement (cond b None (Some n))
-        × (to_be_bytes w64 n ≡ to_be_bytes w64 (element_number (cond b None (Some n))))
-    at_test true e = (tt, ap (to_be_bytes w64) (eqb-true n 18446744073709551615 e))
-    at_test false e = (
-      let other : n ≢ 18446744073709551615 = eqb-false n 18446744073709551615 e in
-          omega (arith, other, lt),
-      refl,
-    )
+element_is n lt = grind arith
 
 element_again : (e : Option ℕ) → IsWideElement e → (element_number e < 2 ^ 64) × (id_from (element_number e) ≡ e)
 element_again None h = (omega arith, refl)
-element_again (Some n) h =
-    (omega (arith, h), rw (ne_eqb n 18446744073709551615 (λ (e : n ≡ 18446744073709551615). omega (arith, e, h))) refl)
+element_again (Some n) h = (omega (arith, h), rw (ne_eqb n 18446744073709551615 (λ e. omega (arith, e, h))) refl)
 
 reads_id : Reads IsWideElement (λ e. to_be_bytes w64 (element_number e)) Any id_read
 unfolding id_read

@@ -1,6 +1,7 @@
 -- The records that touch a queue, by what stands before each.
-use Rattle.std.proofs.Common.{◌≡◌, inl, inr, ℕ, ◌+◌, ◌<◌, ◌≤◌, true, cond, List, [], ◌∷◌, ◌++◌, length, refl, sym, ap}
-use Rattle.std.proofs.Common.{subst, ◌∙◌, append_assoc, arith}
+use Rattle.std.proofs.Common.{rules}
+use Rattle.std.proofs.Common.{◌≡◌, inl, inr, ℕ, ◌+◌, ◌<◌, true, cond, List, [], ◌∷◌, ◌++◌, length, sym, ap}
+use Rattle.std.proofs.Common.{◌∙◌, append_assoc, arith}
 use Rattle.std.proofs.lemmas.List.{append-nil}
 use Rattle.rq_model.specs.Records.{Record}
 use Rattle.rq_model.specs.States.{State}
@@ -50,44 +51,23 @@ forth place s done (r ∷ rs) queue op =
     ])
     (λ _ i. there place s done rs r queue op (forth (place + 1) s (done ++ r ∷ []) rs queue op i))
 
--- the first of them
-first_in : (place : ℕ) (s : State) (done rs : List Record) (r : Record) (queue : ℕ) → touches s done queue r ≡ true
-    → IsIn (record { place = place; does = r }) (touching_from place s done (r ∷ rs) queue)
-first_in place s done rs r queue touched =
-    subst (λ b. IsIn (record { place = place; does = r })
-    (cond b (record { place = place; does = r } ∷ touching_from (place + 1) s (done ++ r ∷ []) rs queue)
-    (touching_from (place + 1) s (done ++ r ∷ []) rs queue))) (sym touched) (inl refl)
-
 later_in : (place : ℕ) (s : State) (done rs : List Record) (r : Record) (queue : ℕ) (op : Op)
     → IsIn op (touching_from (place + 1) s (done ++ r ∷ []) rs queue)
     → IsIn op (touching_from place s done (r ∷ rs) queue)
-later_in place s done rs r queue op i =
-    by_cases (touches s done queue r)
-    (λ b. IsIn op
-    (cond b (record { place = place; does = r } ∷ touching_from (place + 1) s (done ++ r ∷ []) rs queue)
-    (touching_from (place + 1) s (done ++ r ∷ []) rs queue)))
-    (λ _. inr i) (λ _. i)
+later_in place s done rs r queue op i = grind arith
 
 back : (place : ℕ) (s : State) (done rs : List Record) (queue : ℕ) (op : Op) → Touch place s done rs queue op
     → IsIn op (touching_from place s done rs queue)
 back place s done [] queue op ([], after, whole, at, touch) = absurd cc
 back place s done [] queue op (x ∷ before, after, whole, at, touch) = absurd cc
-back place s done (r ∷ rs) queue op ([], after, whole, at, touch) =
-    let same : r ≡ op.does = cc in
-    let is : record { place = place; does = r } ≡ op = λ i. record { place = place_is i; does = same i } in
-    let touched : touches s done queue r ≡ true = (λ i. touches s (sym (append-nil done) i) queue (same i)) ∙ touch in
-    subst (λ (o : Op). IsIn o (touching_from place s done (r ∷ rs) queue)) is (first_in place s done rs r queue touched)
-  where
-    place_is : place ≡ op.place
-    place_is = omega (arith, at)
+back place s done (r ∷ rs) queue op ([], after, whole, at, touch) = search rules
 back place s done (r ∷ rs) queue op (x ∷ before, after, whole, at, touch) =
     let same : r ≡ x = cc in
     let rest : rs ≡ before ++ op.does ∷ after = cc in
-    let joined : (done ++ r ∷ []) ++ before ≡ done ++ x ∷ before =
-    append_assoc done (r ∷ []) before ∙ ap (λ y. done ++ y ∷ before) same in
+    let joined = append_assoc done (r ∷ []) before ∙ ap (λ y. done ++ y ∷ before) same in
     later_in place s done rs r queue op
     (back (place + 1) s (done ++ r ∷ []) rs queue op
-    (before, after, rest, omega (arith, at), ap (λ (xs : List Record). touches s xs queue op.does) joined ∙ touch))
+    (grind arith))
 
 rising : (place : ℕ) (s : State) (done rs : List Record) (queue : ℕ)
     → Ordered (λ a b. a.place < b.place) (touching_from place s done rs queue)
@@ -97,8 +77,7 @@ rising place s done (r ∷ rs) queue =
     by_cases (touches s done queue r)
     (λ b. Ordered (λ (a c : Op). a.place < c.place) (cond b (record { place = place; does = r } ∷ rest) rest))
     (λ _. (
-      each_weaker (λ (op : Op). place + 1 ≤ op.place) (λ (op : Op). place < op.place)
-          (λ op l. omega (arith, l)) rest (ops_since (place + 1) s (done ++ r ∷ []) rs queue),
+      each_weaker _ _ (λ op l. omega (arith, l)) rest (ops_since (place + 1) s (done ++ r ∷ []) rs queue),
       rising (place + 1) s (done ++ r ∷ []) rs queue,
     ))
     (λ _. rising (place + 1) s (done ++ r ∷ []) rs queue)

@@ -7,9 +7,9 @@ use Rattle.std.specs.Fmt.{digits}
 use Rattle.std.proofs.lemmas.Bool.{leb-true}
 use Rattle.std.proofs.lemmas.List.{length-append, length-take}
 use Rattle.sha2.specs.Sha256.{sha256}
-use Rattle.rq_model.specs.Records.{Record, Define, Register, Deregister, Begin, Enqueue, Dequeue, Commit, Abort}
-use Rattle.rq_model.specs.Records.{Checkpoint, Kill, Version, One}
-use Rattle.rq_model.specs.Spelling.{body_of, IsRecord}
+use Rattle.rq_model.specs.Records.{Record, Commit, Abort}
+use Rattle.rq_model.specs.Records.{Checkpoint, Version, One}
+use Rattle.rq_model.specs.Spelling.{body_of}
 use Rattle.rq_model.specs.Frames.{log_limit, frame, magic, header, frames_of, last_of, log_of, IsBodyLength, stated}
 use Rattle.rq_model.specs.Frames.{Rest, Cut, Length, Digest, IsRest}
 use Rattle.rq_model.specs.States.{empty}
@@ -20,7 +20,7 @@ use Rattle.rq_model.specs.Reports.{IsReport}
 use Rattle.rq_model.specs.Checkpoints.{TrueAt}
 use Rattle.rq_model.specs.WorkedLogs.{text_made, one_element_log, best_first_log}
 use Rattle.rq_model.specs.WorkedEnds.{WorkedEnds, behind, false_log}
-use Rattle.rq_model.proofs.Runs.{frame_long, frame_reads, right_at, length-sha256}
+use Rattle.rq_model.proofs.Runs.{frame_long, frame_reads, length-sha256}
 use Rattle.rq_model.proofs.Longest.{front_stops, one_front}
 use Rattle.rq_model.proofs.WorkedReports.{size, log_size, is_who, is_record, all_pass, front_says, log_says}
 use Rattle.rq_model.proofs.WorkedReports.{whole_front, true_log}
@@ -44,22 +44,8 @@ ends_says version rs rest n why text are lawful long ends short made =
       longest = front_stops version empty start bytes rest rs (Ends why)
           (record { records = all_pass version rs are; lawful = lawful; whole = refl }) ends;
     } in
-    let made_of : text_made (restarted (run empty rs) (length rest) (length b) (Ends why)) ≡ text =
-    (λ i. text_made (restarted (run empty rs) (long i) (total i) (Ends why))) ∙ made in
+    let made_of = (λ i. text_made (restarted (run empty rs) (long i) (total i) (Ends why))) ∙ made in
     subst (IsReport b) made_of (front_says b version rs rest (Ends why) front ends)
-
--- no record of version 1 begins with 10
-no_ten : (r : Record) (more : List ℕ) → IsRecord One r → 10 ∷ more ≡ body_of r → ⊥
-no_ten (Define limit error name) more is e = cc
-no_ten (Register queue name) more is e = cc
-no_ten (Deregister queue name) more is e = cc
-no_ten (Begin unit) more is e = cc
-no_ten (Enqueue unit queue priority by payload) more is e = cc
-no_ten (Dequeue unit queue by) more is e = cc
-no_ten (Commit unit) more is e = cc
-no_ten (Abort unit) more is e = cc
-no_ten (Checkpoint bytes) more is e = cc
-no_ten (Kill queue element) more is e = is
 
 form_says : (text : List ℕ) → text_made (restarted empty 37 77 Form) ≡ text
     → IsReport (header One ++ (frame (sha256 (magic One)) (10 ∷ []) ++ [])) text
@@ -68,19 +54,9 @@ form_says text made =
     let rest = frame start (10 ∷ []) ++ [] in
     let b = header One ++ rest in
     let reads = frame_reads start (10 ∷ []) [] (omega arith, omega arith) in
-    let long : length rest ≡ 37 = reads.long in
-    let total : length b ≡ 77 =
-    omega (
-      arith,
-      length-append (header One) rest,
-      length-append (magic One) start,
-      length-sha256 (magic One),
-      long,
-    ) in
-    let ends : IsWhy One empty start rest Form = (
-      right_at start (10 ∷ []) [] (omega arith, omega arith),
-      λ r its. no_ten r [] its.0 (sym reads.body_is ∙ its.1),
-    ) in
+    let long = reads.long in
+    let total : length b ≡ 77 = omega (arith, length-append (header One) rest, length-sha256 (magic One)) in
+    let ends : IsWhy One empty start rest Form = grind arith in
     let front : IsFront b One [] rest = record {
       short = omega (arith, total);
       bytes = rest;

@@ -10,7 +10,7 @@ use Rattle.std.specs.Fmt.{digits}
 use Rattle.rq_model.specs.Records.{By, Record, Define, Register, Deregister, Begin, Enqueue, Dequeue, Commit, Abort}
 use Rattle.rq_model.specs.Records.{Checkpoint, Kill, Version, One, Two}
 use Rattle.rq_model.specs.Spelling.{is_name, IsWho, body_of, IsRecord}
-use Rattle.rq_model.specs.Frames.{body_in, digest, frame, log_limit, magic, header, frames_of, last_of, log_of, Whole}
+use Rattle.rq_model.specs.Frames.{digest, frame, log_limit, magic, header, frames_of, last_of, log_of, Whole}
 use Rattle.rq_model.specs.States.{State, empty}
 use Rattle.rq_model.specs.Machine.{is_lawful, all_lawful, run, final, aborts}
 use Rattle.rq_model.specs.StateSpelling.{state_bytes}
@@ -32,12 +32,12 @@ use Rattle.rq_model.proofs.Crash.{crash_is_harmless}
 use Rattle.rq_model.proofs.Listed.{is_text}
 
 pub worked_bytes : WorkedBytes
-worked_bytes = record { define = refl; enqueue = refl; dequeue = refl; nothing = refl; inside = refl; count = refl }
+worked_bytes = grind arith
 
 -- the state that a restart ends in is well formed
 pub final_kept : (version : Version) (s : State) → IsWellFormed s → IsWellFormed (final s)
 final_kept version s h =
-    let all : take (length (aborts s)) (aborts s) ≡ aborts s = take_all (length (aborts s)) (aborts s) (omega arith) in
+    let all = take_all (length (aborts s)) (aborts s) (omega arith) in
     runs_are_well_formed version s (aborts s) h
     (subst (λ (rs : List Record). all_lawful version s rs ≡ true) all
     (crash_is_harmless version s (length (aborts s)) h).0)
@@ -50,7 +50,7 @@ front_says b version rs rest why front ends =
     let r = restarted (run empty rs) (length rest) (length b) why in
     let keeps = runs_are_well_formed version empty rs empty_is_well_formed front.longest.begins.lawful in (
       r,
-      record { version = version; records = rs; rest = rest; why = why; front = front; ends = ends; answer = refl },
+      grind arith,
       is_text r (final_kept version (run empty rs) keeps),
     )
 
@@ -155,15 +155,14 @@ passes Two (Kill queue element) h = let a = and_parts (nat_lt queue (2 ^ 32)) (n
 pub all_pass : (version : Version) (rs : List Record) → list_all (is_record version) rs ≡ true
     → AllByRecursion (IsRecord version) rs
 all_pass version [] h = tt
-all_pass version (r ∷ rs) h = let both = and_parts (is_record version r) (list_all (is_record version) rs) h in
+all_pass version (r ∷ rs) h = let both = and_parts _ _ h in
     (passes version r both.0, all_pass version rs both.1)
 
 pub log_says : (version : Version) (rs : List Record) (text : List ℕ) → list_all (is_record version) rs ≡ true
     → all_lawful version empty rs ≡ true → nat_le (40 + size rs) log_limit ≡ true
     → text_made (restarted (run empty rs) 0 (40 + size rs) (Ends Whole)) ≡ text → IsReport (log_of version rs) text
 log_says version rs text are lawful short made =
-    let made_of : text_made (restarted (run empty rs) 0 (length (log_of version rs)) (Ends Whole)) ≡ text =
-    ap (λ (n : ℕ). text_made (restarted (run empty rs) 0 n (Ends Whole))) (log_size version rs) ∙ made in
+    let made_of = ap (λ (n : ℕ). text_made (restarted (run empty rs) 0 n (Ends Whole))) (log_size version rs) ∙ made in
     subst (IsReport (log_of version rs)) made_of
     (front_says (log_of version rs) version rs [] (Ends Whole)
     (whole_front version rs (all_pass version rs are) lawful (leb-true (40 + size rs) log_limit short)) refl)
@@ -208,18 +207,17 @@ unlawful_says version rs r after text are lawful not_lawful short made =
     let all = each_cut (IsRecord version) rs (r ∷ []) (all_pass version (rs ++ r ∷ []) are) in
     let more = frames_of (digest p (body_of r)) after in
     let fit = body_fits version r all.1.0 in
-    let body_is : body_in rest ≡ body_of r = (frame_reads p (body_of r) more fit).body_is in
+    let body_is = (frame_reads p (body_of r) more fit).body_is in
     let ends : IsWhy version (run empty rs) p rest Law =
     (right_at p (body_of r) more fit, r, (all.1.0, body_is), not_lawful) in
     let front : IsFront b version rs rest = record {
-      short = omega (arith, log_size version (rs ++ r ∷ after), leb-true (40 + size (rs ++ r ∷ after)) log_limit short);
+      short = omega (arith, log_size version (rs ++ r ∷ after), leb-true _ _ short);
       bytes = bytes;
       whole = refl;
       longest = front_stops version empty start bytes rest rs Law
           (record { records = all.0; lawful = lawful; whole = frames_of_join start rs (r ∷ after) }) ends;
     } in
-    let made_of : text_made (restarted (run empty rs) (length rest) (length b) Law) ≡ text =
-    (λ i. text_made (restarted (run empty rs) (frames_size p (r ∷ after) i)
+    let made_of = (λ i. text_made (restarted (run empty rs) (frames_size p (r ∷ after) i)
     (log_size version (rs ++ r ∷ after) i) Law)) ∙ made in
     subst (IsReport b) made_of (front_says b version rs rest Law front ends)
 
@@ -273,5 +271,4 @@ worked_checkpoint = record {
 pub front_has_report : (b : List ℕ) (version : Version) (rs : List Record) (rest : List ℕ) (why : Why)
     → IsFront b version rs rest → IsWhy version (run empty rs) (last_of (sha256 (magic version)) rs) rest why
     → (text : List ℕ) × IsReport b text
-front_has_report b version rs rest why front ends =
-    (text_made (restarted (run empty rs) (length rest) (length b) why), front_says b version rs rest why front ends)
+front_has_report b version rs rest why front ends = (text_made _, front_says b version rs rest why front ends)
