@@ -32,7 +32,7 @@ returns-clause-stops g c = λ version passes.
     let it = further g c version passes.0 passes.1 in
     (it.kept, record { passed = it.passed; count = it.count; judge = it.judge }, it.ends)
 
-pub returns-clause-offset : goal.returns-clause-place
+pub returns-clause-offset : goal.returns-clause-offset
 returns-clause-offset g c = (further g c c.requires.passes.0 c.requires.passes.1.0 c.requires.passes.1.1).inside
 
 pub returns-in_err-found-clause-refused : goal.returns-in_err-found-clause-refused
