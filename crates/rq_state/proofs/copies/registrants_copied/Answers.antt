@@ -1,13 +1,10 @@
 use Rattle.std.proofs.Common.{arith, ◌∙◌}
-use Rattle.std.specs.Prelude.{slice_index_or}
 use Rattle.rq_state.proofs.ByPlace.{copied_on, copied_all}
 use Rattle.rq_state.proofs.copies.registrants_copied.Goals as goal
 
 pub loop-place-preserved : goal.loop-place-preserved
-loop-place-preserved c = λ x. copied_on (λ place. slice_index_or c.args.state.now.registrants place x) _ _ _ _ _ _
-    (omega (arith, c.loop-place-test.true)) c.in_ok-push.ensures.items
+loop-place-preserved c = λ x. copied_on _ _ _ _ _ _ _ (omega arith) c.in_ok-push.ensures.items
     (c.copied.ensures ∙ c.registrant-registrant.ensures x) (c.loop-place.invariant x)
 
 pub returns-clause-copied : goal.returns-clause-copied
-returns-clause-copied c = λ x. copied_all (λ place. slice_index_or c.args.state.now.registrants place x) _ _ _
-    (omega (arith, c.loop-place-test.false)) (c.loop-place.invariant x)
+returns-clause-copied c = λ x. copied_all _ _ _ _ (omega arith) (c.loop-place.invariant x)
