@@ -9,23 +9,19 @@ within_from : {X : Type 0} (p : X → Bool) (n : ℕ) (xs : List X)
     → AllByRecursion (λ i. i < n + length xs) (places_of p n xs)
 within_from p n [] = tt
 within_from p n (x ∷ xs) =
-    let rest : AllByRecursion (λ i. i < n + length (x ∷ xs)) (places_of p (n + 1) xs) =
-    each_weaker (λ i. i < n + 1 + length xs) (λ i. i < n + length (x ∷ xs)) (λ i h. omega (arith, h))
-    (places_of p (n + 1) xs) (within_from p (n + 1) xs) in
+    let rest = each_weaker _ _ (λ i h. omega arith) _ (within_from p (n + 1) xs) in
     by_cases (p x) (λ b. AllByRecursion (λ i. i < n + length (x ∷ xs))
-    (cond b (n ∷ places_of p (n + 1) xs) (places_of p (n + 1) xs))) (λ _. (omega arith, rest)) (λ _. rest)
+    (cond b (n ∷ places_of p (n + 1) xs) (places_of p (n + 1) xs))) (λ _. grind arith) (λ _. rest)
 
 pub indices_within : {X : Type 0} (p : X → Bool) (xs : List X) → AllByRecursion (λ i. i < length xs) (places_of p 0 xs)
-indices_within p xs = each_weaker (λ i. i < 0 + length xs) (λ i. i < length xs) (λ i h. omega (arith, h))
-    (places_of p 0 xs) (within_from p 0 xs)
+indices_within p xs = each_weaker _ _ (λ i h. omega arith) _ (within_from p 0 xs)
 
 are_from : {X : Type 0} (p : X → Bool) (f : ℕ → X) (d : X) (n : ℕ) (xs : List X)
     → ((k : ℕ) → k < length xs → f (n + k) ≡ slice_index_or xs k d) → map f (places_of p n xs) ≡ filter p xs
 are_from p f d n [] h = refl
 are_from p f d n (x ∷ xs) h =
-    let first : f n ≡ x = ap f (same n) ∙ h 0 (omega arith) in
-    let rest : map f (places_of p (n + 1) xs) ≡ filter p xs =
-    are_from p f d (n + 1) xs (λ k l. ap f (next n k) ∙ h (suc k) (omega (arith, l))) in
+    let first = ap f (same n) ∙ h 0 (omega arith) in
+    let rest = are_from p f d (n + 1) xs (λ k l. ap f (next n k) ∙ h _ (omega arith)) in
     by_cases (p x) (λ b. map f (cond b (n ∷ places_of p (n + 1) xs) (places_of p (n + 1) xs))
     ≡ cond b (x ∷ filter p xs) (filter p xs)) (λ _ i. first i ∷ rest i) (λ _. rest)
   where
@@ -37,7 +33,4 @@ are_from p f d n (x ∷ xs) h =
 
 pub indices_are : {X : Type 0} (p : X → Bool) (xs : List X) (d : X)
     → map (λ i. slice_index_or xs i d) (places_of p 0 xs) ≡ filter p xs
-indices_are p xs d = are_from p (λ i. slice_index_or xs i d) d 0 xs (λ k l. ap (λ i. slice_index_or xs i d) (none k))
-  where
-    none : (k : ℕ) → 0 + k ≡ k
-    none k = omega arith
+indices_are p xs d = are_from p _ d 0 xs (λ k l. grind arith)

@@ -1,14 +1,12 @@
-use Rattle.std.specs.Prelude.{◌==◌}
-use Rattle.rq_model.specs.States as model
 use Rattle.rq_state.proofs.Indices.{indices_within, indices_are}
 use Rattle.rq_state.proofs.state.State.registrants_of.Goals as goal
 
 pub returns-clause-within : goal.returns-clause-within
 returns-clause-within c =
-    rw (c.listed_at.ensures, c.deref.ensures.value, c.self.invariant.1.registered c.args.queue.0, ← c.self.view_is)
-    (indices_within (λ (x : model.Registrant). x.queue == c.args.queue.0) c.self.inside.fields.registrants.items)
+    rw (c.listed_at.ensures, c.deref.ensures.value, c.self.invariant.1.registered _, ← c.self.view_is)
+    (indices_within _ c.self.inside.fields.registrants.items)
 
 pub returns-clause-registrants : goal.returns-clause-registrants
 returns-clause-registrants c =
-    λ d. rw (c.listed_at.ensures, c.deref.ensures.value, c.self.invariant.1.registered c.args.queue.0, ← c.self.view_is)
-    (indices_are (λ (x : model.Registrant). x.queue == c.args.queue.0) c.self.inside.fields.registrants.items d)
+    λ d. rw (c.listed_at.ensures, c.deref.ensures.value, c.self.invariant.1.registered _, ← c.self.view_is)
+    (indices_are _ c.self.inside.fields.registrants.items d)
