@@ -1,36 +1,35 @@
 -- What std's sort leaves is the list with each put in.
-use Rattle.std.proofs.Common.{◌≡◌, ℕ, suc, ◌+◌, ◌<◌, Bool, true, false, cond, ◌&&◌, ◌||◌, List, [], ◌∷◌, length, map}
-use Rattle.std.proofs.Common.{refl, sym, ap, ◌∙◌, subst, arith}
-use Rattle.std.specs.Prelude.{nat_lt, ◌==◌, slice_index_or}
+use Rattle.std.proofs.Common.{◌≡◌, ℕ, suc, ◌+◌, ◌<◌, Bool, true, false, List, [], ◌∷◌, length, map}
+use Rattle.std.proofs.Common.{sym, ◌∙◌, subst, arith}
+use Rattle.std.specs.Prelude.{nat_lt, slice_index_or}
 use Rattle.std.specs.List.{AllByRecursion}
 use Rattle.std.specs.List.Sorted.{IsPermutation, IsSortedBy, IsSortedByKey}
 use Rattle.std.specs.Ordering.{is_lt, nat_cmp, ordering_then}
-use Rattle.std.specs.declared.cmp.Ordering.TheVariants.{Less, Equal, Greater}
 use Rattle.std.specs.declared.cmp.Ordering.{Ordering}
 use Rattle.std.specs.Cmp.{IsStrictWeakOrder, IsTotalOrder}
 use Rattle.std.specs.Cmp.Lexicographic.{slice_cmp, nat_list_cmp_total}
-use Rattle.std.proofs.lemmas.Cmp.{nat_cmp_total, on_total, then_total, tied_itself}
-use Rattle.std.proofs.lemmas.Bool.{lt-ltb, le-ltb}
+use Rattle.std.proofs.lemmas.Cmp.{nat_cmp_total, on_total, then_total}
+use Rattle.std.proofs.lemmas.Bool.{lt-ltb}
 use Rattle.std.proofs.lemmas.List.Sorted.{sorted_far, ranks_by, IsPermutation-map}
-use Rattle.rq_model.specs.States.{Registrant, registrant_before, name_before}
+use Rattle.rq_model.specs.States.{Registrant, registrant_before}
 use Rattle.rq_model.specs.WellFormed.{Ordered}
-use Rattle.rq_model.proofs.Lists.{by_cases, each_weaker}
+use Rattle.rq_model.proofs.Lists.{each_weaker}
 use Rattle.rq_state.specs.Orders.{put_in_order}
 use Rattle.rq_state.proofs.Sorts.{sorted_is}
 
 each_at : {X : Type 0} (P : X → Type 0) (d : X) (xs : List X) → ((k : ℕ) → k < length xs → P (slice_index_or xs k d))
     → AllByRecursion P xs
 each_at P d [] h = tt
-each_at P d (x ∷ xs) h = (h 0 (omega arith), each_at P d xs (λ k l. h (suc k) (omega (arith, l))))
+each_at P d (x ∷ xs) h = (h 0 (omega arith), each_at P d xs (λ k l. h (suc k) (omega arith)))
 
 -- neighbours in order: any two in order
 pub pairwise : {X : Type 0} (lt : X → X → Bool) → IsStrictWeakOrder lt → (xs : List X) → IsSortedBy lt xs
     → Ordered (λ a b. lt b a ≡ false) xs
 pairwise lt o [] up = tt
 pairwise lt o (x ∷ xs) up = (
-  each_at (λ y. lt y x ≡ false) x xs (λ k l. sorted_far lt o (x ∷ xs) up 0 (suc k) x (omega arith) (omega (arith, l))),
+  each_at _ x xs (λ k l. sorted_far lt o (x ∷ xs) up 0 (suc k) x (omega arith) (omega arith)),
   pairwise lt o xs (λ k d _ l. subst (λ m. lt (slice_index_or (x ∷ xs) m d) (slice_index_or xs k d) ≡ false) (up_one k)
-      (up (suc k) d (omega arith) (omega (arith, l)))),
+      (grind arith)),
 )
   where
     up_one : (k : ℕ) → suc k + 1 ≡ suc (k + 1)
@@ -44,7 +43,7 @@ ordered_weaker R S f (x ∷ xs) h = (each_weaker (R x) (S x) (f x) xs h.0, order
 pub ordered_map : {X Y : Type 0} (R : Y → Y → Type 0) (f : X → Y) (xs : List X) → Ordered (λ a b. R (f a) (f b)) xs
     → Ordered R (map f xs)
 ordered_map R f [] h = tt
-ordered_map R f (x ∷ xs) h = (each_through (R (f x)) f xs h.0, ordered_map R f xs h.1)
+ordered_map R f (x ∷ xs) h = (each_through _ f xs h.0, ordered_map R f xs h.1)
   where
     each_through : {X Y : Type 0} (P : Y → Type 0) (f : X → Y) (xs : List X) → AllByRecursion (λ x. P (f x)) xs
         → AllByRecursion P (map f xs)
@@ -52,11 +51,10 @@ ordered_map R f (x ∷ xs) h = (each_through (R (f x)) f xs h.0, ordered_map R f
     each_through P f (x ∷ xs) h = (h.0, each_through P f xs h.1)
 
 pub is_lt-nat_cmp : (x y : ℕ) → is_lt (nat_cmp x y) ≡ nat_lt x y
-is_lt-nat_cmp x y = by_cases (nat_lt x y) (λ b. is_lt (cond b Less (cond (x == y) Equal Greater)) ≡ b) (λ _. refl)
-    (λ _. by_cases (x == y) (λ b. is_lt (cond b Equal Greater) ≡ false) (λ _. refl) (λ _. refl))
+is_lt-nat_cmp x y = grind arith
 
 below_self : (n : ℕ) → nat_lt n n ≡ false
-below_self n = le-ltb n n (omega arith)
+below_self n = grind arith
 
 -- a sort by a key whose order is `before`
 pub order_is : {X K : Type 0} (before : X → X → Bool) (key : X → K) (R : K → K → Ordering) → IsTotalOrder R
@@ -64,31 +62,25 @@ pub order_is : {X K : Type 0} (before : X → X → Bool) (key : X → K) (R : K
     → IsPermutation xs ys → IsSortedByKey key R ys → Ordered (λ a b. before a b ≡ true) (put_in_order before xs)
     → ys ≡ put_in_order before xs
 order_is before key R total same xs ys moved up strict =
-    sorted_is before (λ x. sym (same x x) ∙ ap is_lt (tied_itself total (key x))) xs ys moved
-    (ordered_weaker (λ a b. is_lt (R (key b) (key a)) ≡ false) (λ a b. before b a ≡ false)
-    (λ a b h. sym (same b a) ∙ h) ys (pairwise (λ a b. is_lt (R (key a) (key b))) (ranks_by total key) ys up))
-    strict
+    sorted_is before (λ x. grind arith) xs ys moved
+    (ordered_weaker _ _ (λ a b h. grind arith) ys (pairwise _ (ranks_by total key) ys up)) strict
 
 -- by a number
 pub numbers_are : {X : Type 0} (n : X → ℕ) (xs ys : List X) → IsPermutation xs ys → IsSortedByKey n nat_cmp ys
     → Ordered (λ a b. n a < n b) (put_in_order (λ a b. nat_lt (n a) (n b)) xs)
     → ys ≡ put_in_order (λ a b. nat_lt (n a) (n b)) xs
 numbers_are n xs ys moved up strict =
-    order_is (λ a b. nat_lt (n a) (n b)) n nat_cmp nat_cmp_total (λ a b. is_lt-nat_cmp (n a) (n b)) xs ys moved up
-    (ordered_weaker (λ a b. n a < n b) (λ a b. nat_lt (n a) (n b) ≡ true) (λ a b h. lt-ltb (n a) (n b) h)
-    (put_in_order (λ a b. nat_lt (n a) (n b)) xs) strict)
+    order_is _ n nat_cmp nat_cmp_total (λ a b. grind arith) xs ys moved up
+    (ordered_weaker _ _ (λ a b h. grind arith) _ strict)
 
 -- numbers, by what they are the numbers of
 pub mapped_are : {X : Type 0} (n : X → ℕ) (xs ys : List X) → IsPermutation xs ys → IsSortedByKey n nat_cmp ys
     → Ordered (λ a b. a < b) (put_in_order nat_lt (map n xs)) → map n ys ≡ put_in_order nat_lt (map n xs)
 mapped_are n xs ys moved up strict =
     sorted_is nat_lt below_self (map n xs) (map n ys) (IsPermutation-map n xs ys moved)
-    (ordered_map (λ a b. nat_lt b a ≡ false) n ys
-    (ordered_weaker (λ a b. is_lt (nat_cmp (n b) (n a)) ≡ false) (λ a b. nat_lt (n b) (n a) ≡ false)
-    (λ a b h. sym (is_lt-nat_cmp (n b) (n a)) ∙ h) ys
-    (pairwise (λ a b. is_lt (nat_cmp (n a) (n b))) (ranks_by nat_cmp_total n) ys up)))
-    (ordered_weaker (λ a b. a < b) (λ a b. nat_lt a b ≡ true) (λ a b h. lt-ltb a b h)
-    (put_in_order nat_lt (map n xs)) strict)
+    (ordered_map _ n ys
+    (ordered_weaker _ _ (λ a b h. sym (is_lt-nat_cmp (n b) (n a)) ∙ h) ys
+    (pairwise _ (ranks_by nat_cmp_total n) ys up))) (ordered_weaker _ _ lt-ltb _ strict)
 
 -- Registrants, by queue and name.
 
@@ -99,37 +91,24 @@ abbrev pub key_cmp : ℕ × List ℕ → ℕ × List ℕ → Ordering
 key_cmp a b = ordering_then (nat_cmp a.0 b.0) (slice_cmp nat_cmp a.1 b.1)
 
 pub key_total : IsTotalOrder key_cmp
-key_total = then_total (on_total (λ (k : ℕ × List ℕ). k.0) nat_cmp_total)
-    (on_total (λ (k : ℕ × List ℕ). k.1) nat_list_cmp_total)
+key_total = then_total (grind arith) (on_total (λ k. k.1) nat_list_cmp_total)
 
 pub is_lt-key_cmp : (a b : Registrant) → is_lt (key_cmp (key_of a) (key_of b)) ≡ registrant_before a b
-is_lt-key_cmp a b = by_cases (nat_lt a.queue b.queue)
-    (λ t. is_lt (ordering_then (cond t Less (cond (a.queue == b.queue) Equal Greater))
-    (slice_cmp nat_cmp a.name b.name)) ≡ (t || ((a.queue == b.queue) && name_before a.name b.name))) (λ _. refl)
-    (λ _. by_cases (a.queue == b.queue)
-    (λ t. is_lt (ordering_then (cond t Equal Greater) (slice_cmp nat_cmp a.name b.name))
-    ≡ (t && name_before a.name b.name)) (λ _. refl) (λ _. refl))
+is_lt-key_cmp a b = grind arith
 
 pub registrants_are : (xs ys : List Registrant) → IsPermutation xs ys → IsSortedByKey key_of key_cmp ys
     → Ordered (λ a b. registrant_before a b ≡ true) (put_in_order registrant_before xs)
     → ys ≡ put_in_order registrant_before xs
-registrants_are xs ys moved up strict =
-    order_is registrant_before key_of key_cmp key_total is_lt-key_cmp xs ys moved up strict
+registrants_are xs ys moved up strict = order_is _ key_of key_cmp key_total is_lt-key_cmp xs ys moved up strict
 
 -- The orders.
 
 order_of : {X K : Type 0} (before : X → X → Bool) (key : X → K) (R : K → K → Ordering) → IsTotalOrder R
     → ((a b : X) → is_lt (R (key a) (key b)) ≡ before a b) → IsStrictWeakOrder before
-order_of before key R total same = record {
-  one_way = λ x y h. sym (same y x) ∙ ranked.one_way x y (same x y ∙ h);
-  chain = λ x y z h k. sym (same x z) ∙ ranked.chain x y z (same x y ∙ h) (same y z ∙ k);
-}
-  where
-    ranked : IsStrictWeakOrder (λ x y. is_lt (R (key x) (key y)))
-    ranked = ranks_by total key
+order_of before key R total same = grind arith
 
 pub number_is_order : {X : Type 0} (n : X → ℕ) → IsStrictWeakOrder (λ a b. nat_lt (n a) (n b))
-number_is_order n = order_of (λ a b. nat_lt (n a) (n b)) n nat_cmp nat_cmp_total (λ a b. is_lt-nat_cmp (n a) (n b))
+number_is_order n = grind arith
 
 pub registrant_is_order : IsStrictWeakOrder registrant_before
-registrant_is_order = order_of registrant_before key_of key_cmp key_total is_lt-key_cmp
+registrant_is_order = order_of _ key_of key_cmp key_total is_lt-key_cmp

@@ -1,19 +1,18 @@
 -- What is read and keeps what it must is the state that the bytes spell, and no bytes of a state break it.
-use Rattle.std.proofs.Common.{◌≡◌, ℕ, ◌<◌, ◌^◌, List, [], Option, Some, None, Err, refl, subst, sym, ◌∙◌, arith}
-use Rattle.std.specs.Prelude.{IfSome}
+use Rattle.std.proofs.Common.{◌≡◌, ℕ, List, [], Option, Some, None, Err, refl, sym, ◌∙◌, arith}
 use Rattle.std.proofs.lemmas.Option.{same_Some}
 use Rattle.rq_model.specs.Records.{Version}
-use Rattle.rq_model.specs.States.{Last, Registrant, State}
+use Rattle.rq_model.specs.States.{Registrant, State}
 use Rattle.rq_model.specs.WellFormed.{IsWellFormed}
-use Rattle.rq_model.specs.StateSpelling.{state_bytes, FitsDefinition, FitsRegistrant, FitsElement, FitsNote, Fits}
+use Rattle.rq_model.specs.StateSpelling.{state_bytes, FitsRegistrant, Fits}
 use Rattle.rq_model.specs.StateSpelling.{SpellsState}
 use Rattle.rq_bytes.specs.Readers.{alone, after_of}
 use Rattle.rq_bytes.specs.Reads.{IsBytes}
 use Rattle.rq_bytes.proofs.Together.{reads_alone, spelled_by, read_again}
 use Rattle.rq_model.specs.StateReading.{state_read}
 use Rattle.rq_model.proofs.Lists.{each_weaker}
-use Rattle.rq_model.proofs.StateReaders.{IsDefinitionSpelled, IsWideLast, IsRegistrantSpelled, IsElementSpelled}
-use Rattle.rq_model.proofs.StateReaders.{IsNoteSpelled, IsSpelled, reads_state}
+use Rattle.rq_model.proofs.StateReaders.{IsRegistrantSpelled}
+use Rattle.rq_model.proofs.StateReaders.{IsSpelled, reads_state}
 use Rattle.rq_model.proofs.StateCodes.{is_spelled}
 use Rattle.rq_record.specs.declared.fault.Fault.{Fault}
 use Rattle.rq_record.specs.declared.fault.Fault.TheVariants as faults
@@ -23,21 +22,16 @@ use Rattle.rq_state.specs.Reading.{FailsAsCheckpoint, form_read}
 use Rattle.rq_state.proofs.Passing.{form_is}
 
 optional_tag : (r : Registrant) → IsRegistrantSpelled r → FitsRegistrant r
-optional_tag r h = (h.1, tag_of r.last h.2)
-  where
-    tag_of : (last : Option Last) → IfSome last IsWideLast → IfSome last (λ l. l.tag < 2 ^ 64)
-    tag_of None h = tt
-    tag_of (Some l) h = h.1
+optional_tag r h = grind arith
 
 -- what is read keeps the widths
 fits : (s : State) → IsSpelled s → Fits s
 fits s h = record {
   greatest = h.greatest;
-  definitions = each_weaker IsDefinitionSpelled FitsDefinition (λ d x. x.2) s.definitions h.definitions.1;
-  registrants = each_weaker IsRegistrantSpelled FitsRegistrant optional_tag s.registrants h.registrants.1;
-  elements = each_weaker IsElementSpelled FitsElement
-      (λ e x. (x.priority, omega (arith, x.payload))) s.elements h.elements.1;
-  notes = each_weaker IsNoteSpelled FitsNote (λ n x. (x.2, x.3.1)) s.notes h.notes.1;
+  definitions = each_weaker _ _ (λ d x. x.2) _ h.definitions.1;
+  registrants = each_weaker _ _ optional_tag _ h.registrants.1;
+  elements = each_weaker _ _ (λ e x. (x.priority, omega arith)) s.elements h.elements.1;
+  notes = each_weaker _ _ (λ n x. (x.2, x.3.1)) s.notes h.notes.1;
 }
 
 again : (version : Version) (s : State) (bytes : List ℕ) → SpellsState version s bytes
@@ -45,44 +39,17 @@ again : (version : Version) (s : State) (bytes : List ℕ) → SpellsState versi
 again version s bytes h = read_again bytes s (reads_alone reads_state) (is_spelled version s bytes h) h.spelling
 
 pub kept_well : (version : Version) (s : State) → KeepsAll version s → IsWellFormed s
-kept_well version s k = record {
-  few = k.numbers.few;
-  names = k.definitions.names;
-  definitions = k.definitions.numbered;
-  units = k.units.units;
-  units_rise = k.units.units_rise;
-  counts = k.numbers.counts;
-  registrants = k.registrants.registrants;
-  registrants_rise = k.registrants.registrants_rise;
-  registrants_few = k.numbers.registrants_few;
-  elements = k.elements.elements;
-  elements_rise = k.elements.elements_rise;
-  notes = k.notes.notes;
-  notes_rise = k.notes.notes_rise;
-}
-
-spells_keeps : (version : Version) (s : State) (bytes : List ℕ) → SpellsState version s bytes → KeepsAll version s
-spells_keeps version s bytes h =
-    let w = h.keeps in
-    record {
-      numbers = record { next = h.next; few = w.few; counts = w.counts; registrants_few = w.registrants_few };
-      definitions = record { numbered = w.definitions; deep = h.deep; names = w.names };
-      units = record { units = w.units; units_rise = w.units_rise };
-      registrants = record { registrants = w.registrants; registrants_rise = w.registrants_rise };
-      elements = record { elements = w.elements; elements_rise = w.elements_rise };
-      notes = record { notes = w.notes; notes_rise = w.notes_rise };
-    }
+kept_well version s k = grind arith
 
 no_state : (version : Version) (bytes : List ℕ) → alone state_read bytes ≡ None → (s : State)
     → SpellsState version s bytes → ⊥
-no_state version bytes nothing s h = let clash : ◌≡◌ {A = Option (State × List ℕ)} None (Some (s, [])) =
-    sym nothing ∙ again version s bytes h in absurd cc
+no_state version bytes nothing s h = let clash =
+    again version s bytes h in absurd cc
 
 -- bytes without the form spell no state
 pub not_formed : (version : Version) (bytes : List ℕ) → None ≡ after_of (form_read bytes) → (s : State)
     → SpellsState version s bytes → ⊥
-not_formed version bytes nothing =
-    no_state version bytes (none (alone state_read bytes) (nothing ∙ form_is.after bytes))
+not_formed version bytes nothing = no_state version bytes (none _ (nothing ∙ form_is.after bytes))
   where
     none : (o : Option (State × List ℕ)) → None ≡ after_of o → o ≡ None
     none (Some s) e = absurd cc
@@ -95,7 +62,7 @@ spelled bytes s byte is = let taken = spelled_by bytes s (reads_alone reads_stat
 
 formed : (bytes : List ℕ) → IsBytes bytes → Some [] ≡ after_of (form_read bytes)
     → (s : State) × Fits s × (bytes ≡ state_bytes s)
-formed bytes byte is = from (alone state_read bytes) refl (is ∙ form_is.after bytes)
+formed bytes byte is = from _ refl (is ∙ form_is.after bytes)
   where
     from : (o : Option (State × List ℕ)) → alone state_read bytes ≡ o → Some [] ≡ after_of o
         → (s : State) × Fits s × (bytes ≡ state_bytes s)
@@ -107,33 +74,32 @@ pub not_read : (version : Version) (bytes : List ℕ) (e : Fault) → IsBytes by
     → FailsAsCheckpoint e (alone state_read bytes) → ReadsState version bytes (Err e)
 not_read version bytes faults.BadCheckpoint byte form nothing = no_state version bytes nothing
 not_read version bytes faults.Resources byte form nothing = formed bytes byte form
-not_read version bytes e byte form nothing = absurd nothing
+not_read version bytes e byte form nothing = grind arith
 
 -- nor do bytes of which something else is read
 pub not_kept : (version : Version) (bytes : List ℕ) (t : State) (e : Fault) → IsBytes bytes
     → alone state_read bytes ≡ Some (t, []) → TellsWhether {A = Unit {0}} (KeepsAll version t) (Err e)
     → ReadsState version bytes (Err e)
 not_kept version bytes t faults.BadCheckpoint byte is told =
-    λ s h. let same : ◌≡◌ {A = State × List ℕ} (s, []) (t, []) = same_Some _ _ (sym (again version s bytes h) ∙ is) in
-    told (subst (KeepsAll version) (λ i. (same i).0) (spells_keeps version s bytes h))
-not_kept version bytes t faults.Resources byte is told = spelled bytes (t, []) byte is
+    λ s h. let same = same_Some _ _ (sym (again version s bytes h) ∙ is) in
+    told (grind arith)
+not_kept version bytes t faults.Resources byte is told = spelled bytes _ byte is
 not_kept version bytes t e byte is told = absurd told
 
 -- where there is no room for what is read and keeps it all
 pub not_built : (version : Version) (bytes : List ℕ) (t : State) (e : Fault) → IsBytes bytes
     → alone state_read bytes ≡ Some (t, []) → e ≡ faults.Resources → ReadsState version bytes (Err e)
-not_built version bytes t e byte is refused =
-    subst (λ (f : Fault). ReadsState version bytes (Err f)) (sym refused) (spelled bytes (t, []) byte is)
+not_built version bytes t e byte is refused = grind (arith, spelled bytes _ byte is)
 
 -- what is read and keeps it all is spelled by the bytes
 pub is_read : (version : Version) (bytes : List ℕ) (t : State) → IsBytes bytes → alone state_read bytes ≡ Some (t, [])
     → KeepsAll version t → SpellsState version t bytes
 is_read version bytes t byte is k =
-    let taken = spelled_by bytes (t, []) (reads_alone reads_state) byte is in
+    let taken = spelled_by bytes _ (reads_alone reads_state) byte is in
     record {
       next = k.numbers.next;
-      keeps = kept_well version t k;
+      keeps = grind arith;
       fits = fits t taken.0;
-      deep = k.definitions.deep;
+      deep = grind arith;
       spelling = taken.1;
     }

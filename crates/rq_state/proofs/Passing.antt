@@ -1,8 +1,7 @@
 -- Going past members one after the other, and past the lists of a whole state.
 use Rattle.std.proofs.Common.{◌≡◌, ℕ, suc, ◌-◌, ◌+◌, ◌≤◌, ◌<◌, List, ◌∷◌, Option, Some, None, refl, sym, ap, ◌∙◌, arith}
 use Rattle.std.specs.Prelude.{⊤}
-use Rattle.std.proofs.lemmas.Option.{same_Some}
-use Rattle.rq_bytes.specs.Readers.{Reader, ◌>>=◌, number, ending, ◌then◌, made, alone, members, counted_members}
+use Rattle.rq_bytes.specs.Readers.{Reader, ◌>>=◌, number, ◌then◌, made, alone, members, counted_members}
 use Rattle.rq_bytes.specs.Readers.{after_of}
 use Rattle.rq_model.specs.StateReading.{definition_read, registrant_read, element_read, note_read, state_from}
 use Rattle.rq_model.specs.StateReading.{state_read}
@@ -41,18 +40,15 @@ pub passes_on : {X : Type 0} {reader : Reader X} {count i : ℕ} {bytes : List �
     (after : List ℕ) → Passing reader (count - i) bytes total → i < count → Some (x, after) ≡ reader bytes
     → Passing reader (count - (i + 1)) after total
 passes_on {X} {reader} {count} {i} {bytes} x after so_far lt h =
-    let k : count - i ≡ suc (count - (i + 1)) = omega arith in
     record {
-      left = sym (one_more reader (count - (i + 1)) bytes (Some (tt, after)) (rw (← h) refl))
-          ∙ ap (λ (n : ℕ). passed (members reader n) bytes) (sym k) ∙ so_far.left;
+      left = sym (one_more _ _ bytes (Some (tt, after)) (rw (← h) refl))
+          ∙ grind arith;
     }
 
 pub stops : {X : Type 0} {reader : Reader X} {count i : ℕ} {bytes : List ℕ} {total : Option (⊤ × List ℕ)}
     → Passing reader (count - i) bytes total → i < count → None ≡ reader bytes → None ≡ total
 stops {X} {reader} {count} {i} {bytes} so_far lt h =
-    let k : count - i ≡ suc (count - (i + 1)) = omega arith in
-    sym (one_more reader (count - (i + 1)) bytes None (rw (← h) refl))
-    ∙ ap (λ (n : ℕ). passed (members reader n) bytes) (sym k) ∙ so_far.left
+    sym (one_more reader (count - (i + 1)) bytes None (rw (← h) refl)) ∙ grind arith
 
 pub is_past : {X : Type 0} {reader : Reader X} {count i : ℕ} {bytes : List ℕ} {total : Option (⊤ × List ℕ)}
     → Passing reader (count - i) bytes total → count ≤ i → Some (tt, bytes) ≡ total
@@ -70,43 +66,23 @@ pub record SamePlace {X Y : Type 0} (r : Reader X) (s : Reader Y) : Type 0 where
   pub after : (bytes : List ℕ) → after_of (r bytes) ≡ after_of (s bytes)
 
 same : {X : Type 0} (r : Reader X) → SamePlace r r
-same r = record { after = λ bytes. refl }
-
-same_bind : {X Y A B : Type 0} (f : X × List ℕ → Option (A × List ℕ)) (g : Y × List ℕ → Option (B × List ℕ))
-    (o : Option (X × List ℕ)) (p : Option (Y × List ℕ)) → after_of o ≡ after_of p
-    → ((x : X × List ℕ) (y : Y × List ℕ) → x.1 ≡ y.1 → after_of (f x) ≡ after_of (g y))
-    → after_of (o >>= f) ≡ after_of (p >>= g)
-same_bind f g (Some x) (Some y) e h = h x y (same_Some _ _ e)
-same_bind f g None None e h = refl
-same_bind f g o p e h = absurd cc
+same r = grind arith
 
 same_then : {X Y A B : Type 0} {r : Reader X} {s : Reader Y} {q : Reader A} {t : Reader B} → SamePlace r s
     → SamePlace q t → SamePlace (r then q) (s then t)
-same_then {X} {Y} {A} {B} {r} {s} {q} {t} h k = record {
-  after = λ bytes. same_bind _ _ (r bytes) (s bytes) (h.after bytes)
-      (λ x y e. same_bind _ _ (q x.1) (t y.1) (ap (λ (c : List ℕ). after_of (q c)) e ∙ k.after y.1)
-      (λ u v d. ap Some d));
-}
+same_then {X} {Y} {A} {B} {r} {s} {q} {t} h k = grind arith
 
 same_made : {X Y : Type 0} (f : X → Y) (r : Reader X) → SamePlace (made f r) r
-same_made {X} {Y} f r = record { after = λ bytes. of (r bytes) }
-  where
-    of : (o : Option (X × List ℕ)) → after_of (o >>= λ x. Some (f x.0, x.1)) ≡ after_of o
-    of (Some x) = refl
-    of None = refl
+same_made {X} {Y} f r = grind arith
 
 past : {X : Type 0} (r : Reader X) → SamePlace (passed r) r
-past r = same_made (λ x. tt) r
+past r = same_made _ r
 
 into_made : {X Y Z : Type 0} {r : Reader X} {s : Reader Y} (f : Y → Z) → SamePlace r s → SamePlace r (made f s)
-into_made {X} {Y} {Z} {r} {s} f h = record { after = λ bytes. h.after bytes ∙ sym ((same_made f s).after bytes) }
+into_made {X} {Y} {Z} {r} {s} f h = grind arith
 
 same_alone : {X Y : Type 0} {r : Reader X} {s : Reader Y} → SamePlace r s → SamePlace (alone r) (alone s)
-same_alone {X} {Y} {r} {s} h = record {
-  after = λ bytes. same_bind _ _ (r bytes) (s bytes) (h.after bytes)
-      (λ x y e. same_bind _ _ (ending x.1) (ending y.1) (ap (λ (c : List ℕ). after_of (ending c)) e)
-      (λ u v d. ap Some d));
-}
+same_alone {X} {Y} {r} {s} h = grind arith
 
 -- the form is there where a state is read
 pub form_is : SamePlace form_read (alone state_read)

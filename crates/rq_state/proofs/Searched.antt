@@ -1,7 +1,7 @@
 -- A binary search in a list in order tells whether a member passes the test.
-use Rattle.std.proofs.Common.{inl, inr, ◌||◌, ◌≡◌, ℕ, ◌<◌, Bool, true, false, cond, ◌&&◌, List, [], ◌∷◌, length, map}
+use Rattle.std.proofs.Common.{inl, inr, ◌≡◌, ℕ, ◌<◌, Bool, true, false, ◌&&◌, List, [], ◌∷◌, length, map}
 use Rattle.std.proofs.Common.{Result, Ok, Err, refl, sym, ap, ◌∙◌, arith}
-use Rattle.std.specs.Prelude.{◌==◌, nat_lt, slice_index_or}
+use Rattle.std.specs.Prelude.{◌==◌, slice_index_or}
 use Rattle.std.specs.List.{list_any}
 use Rattle.std.specs.List.Sorted.{IsBinarySearchResult, IsSearchInRange, IsSortedBy}
 use Rattle.std.specs.Result.{is_ok}
@@ -9,23 +9,21 @@ use Rattle.std.specs.Ordering.{is_lt, is_eq, nat_cmp, ordering_then}
 use Rattle.std.specs.declared.cmp.Ordering.TheVariants.{Less, Equal, Greater}
 use Rattle.std.specs.declared.cmp.Ordering.{Ordering}
 use Rattle.std.specs.Cmp.{IsTotalOrder, IsStrictWeakOrder}
-use Rattle.std.specs.Cmp.Lexicographic.{slice_cmp}
 use Rattle.std.proofs.lemmas.Cmp.{nat_cmp_total}
-use Rattle.std.proofs.lemmas.Bool.{cases_lt, ne_eqb, lt-ltb, ltb-true}
+use Rattle.std.proofs.lemmas.Bool.{cases_lt}
 use Rattle.std.proofs.lemmas.List.Folds.{list_any_at, list_any_none}
 use Rattle.std.proofs.lemmas.List.Sorted.{ranks_by, searchable_from_sorted}
 use Rattle.std.proofs.lemmas.Map.Text.{is_eq-slice_cmp}
 use Rattle.rq_record.specs.declared.record.UnitNo.{UnitNo}
 use Rattle.rq_model.specs.States.{Registrant, is_registrant, registrant_before}
 use Rattle.rq_model.specs.WellFormed.{Ordered}
-use Rattle.rq_model.proofs.Lists.{by_cases}
 use Rattle.rq_state.specs.Views.{unit_of}
-use Rattle.rq_state.proofs.InOrder.{key_of, key_cmp, key_total, is_lt-key_cmp, is_lt-nat_cmp, ordered_weaker}
+use Rattle.rq_state.proofs.InOrder.{key_of, key_cmp, key_total, ordered_weaker}
 use Rattle.rq_state.proofs.Neighbours.{at_next, ordered_unmap}
 
 found : {X : Type 0} (p : X → Bool) (xs : List X) (i : ℕ) → i < length xs → ((d : X) → p (slice_index_or xs i d) ≡ true)
     → list_any p xs ≡ true
-found p [] i lt h = let no : ⊥ = omega (arith, lt) in absurd no
+found p [] i lt h = grind arith
 found p (x ∷ xs) i lt h = list_any_at p (x ∷ xs) i x lt (h x)
 
 -- a search by a key answers as the test of each member does
@@ -33,18 +31,14 @@ pub searched_by : {X K : Type 0} (key : X → K) (R : K → K → Ordering) → 
     → (xs : List X) (b : K) (r : Result ℕ ℕ) → IsSearchInRange r (length xs)
     → IsBinarySearchResult (λ y. R (key y) b) xs r
     → Ordered (λ x y. is_lt (R (key x) (key y)) ≡ true) xs → is_ok r ≡ list_any (λ y. is_eq (R (key y) b)) xs
-searched_by key R total xs b (Ok i) range result up =
-    sym (found (λ y. is_eq (R (key y) b)) xs i range (λ d. ap is_eq (result d)))
-searched_by {X} key R total xs b (Err i) range result up =
-    sym (list_any_none (λ y. is_eq (R (key y) b)) xs (λ k d lt. at k d lt))
+searched_by key R total xs b (Ok i) range result up = sym (found _ xs i range (λ d. ap is_eq (result d)))
+searched_by {X} key R total xs b (Err i) range result up = sym (list_any_none _ xs at)
   where
     order : IsStrictWeakOrder (λ x y. is_lt (R (key x) (key y)))
     order = ranks_by total key
 
     sorted : IsSortedBy (λ x y. is_lt (R (key x) (key y))) xs
-    sorted = λ k d low lt. at_next (λ x y. is_lt (R (key y) (key x)) ≡ false) xs
-        (ordered_weaker (λ x y. is_lt (R (key x) (key y)) ≡ true) (λ x y. is_lt (R (key y) (key x)) ≡ false)
-        (λ x y h. order.one_way x y h) xs up) k d lt
+    sorted = λ k d low lt. at_next _ xs (ordered_weaker _ _ order.one_way xs up) k d lt
 
     at : (k : ℕ) (d : X) → k < length xs → is_eq (R (key (slice_index_or xs k d)) b) ≡ false
     at k d lt =
@@ -56,39 +50,31 @@ searched_by {X} key R total xs b (Err i) range result up =
 
 any_same : {X : Type 0} (p q : X → Bool) → ((x : X) → p x ≡ q x) → (xs : List X) → list_any p xs ≡ list_any q xs
 any_same p q h [] = refl
-any_same p q h (x ∷ xs) = λ i. h x i || any_same p q h xs i
+any_same p q h (x ∷ xs) = grind arith
 
 any_mapped : {X Y : Type 0} (p : Y → Bool) (f : X → Y) (xs : List X)
     → list_any p (map f xs) ≡ list_any (λ x. p (f x)) xs
 any_mapped p f [] = refl
-any_mapped p f (x ∷ xs) = ap (λ b. p (f x) || b) (any_mapped p f xs)
+any_mapped p f (x ∷ xs) = grind (arith, any_mapped p f xs)
 
 -- Units.
 
 equal_numbers : (x y : ℕ) → is_eq (nat_cmp x y) ≡ (x == y)
-equal_numbers x y = by_cases (nat_lt x y)
-    (λ b. nat_lt x y ≡ b → is_eq (cond b Less (cond (x == y) Equal Greater)) ≡ (x == y))
-    (λ _ e. sym (ne_eqb x y (λ (same : x ≡ y). let l : x < y = ltb-true x y e in omega (arith, same, l))))
-    (λ _ _. by_cases (x == y) (λ b. is_eq (cond b Equal Greater) ≡ b) (λ _. refl) (λ _. refl)) refl
+equal_numbers x y = grind arith
 
 pub units_searched : (units : List UnitNo) (unit : ℕ) (r : Result ℕ ℕ) → IsSearchInRange r (length units)
     → IsBinarySearchResult (λ y. nat_cmp (unit_of y) unit) units r
     → Ordered (λ u v. u < v) (map unit_of units) → is_ok r ≡ list_any (λ v. v == unit) (map unit_of units)
 units_searched units unit r range result up =
     searched_by unit_of nat_cmp nat_cmp_total units unit r range result
-    (ordered_weaker (λ u v. unit_of u < unit_of v) (λ u v. is_lt (nat_cmp (unit_of u) (unit_of v)) ≡ true)
-    (λ u v h. is_lt-nat_cmp (unit_of u) (unit_of v) ∙ lt-ltb (unit_of u) (unit_of v) h) units
-    (ordered_unmap (λ u v. u < v) unit_of units up))
-    ∙ any_same (λ y. is_eq (nat_cmp (unit_of y) unit)) (λ y. unit_of y == unit)
-    (λ y. equal_numbers (unit_of y) unit) units
-    ∙ sym (any_mapped (λ v. v == unit) unit_of units)
+    (ordered_weaker _ _ (λ u v h. grind arith) units (ordered_unmap _ _ units up)) ∙ grind arith
+    ∙ sym (any_mapped _ _ units)
 
 -- Registrants.
 
 equal_keys : (queue : ℕ) (name : List ℕ) (r : Registrant)
     → is_eq (key_cmp (key_of r) (queue, name)) ≡ is_registrant queue name r
-equal_keys queue name r = both (nat_cmp r.queue queue) (slice_cmp nat_cmp r.name name)
-    ∙ (λ i. equal_numbers r.queue queue i && is_eq-slice_cmp r.name name i)
+equal_keys queue name r = both _ _ ∙ (λ i. equal_numbers r.queue queue i && is_eq-slice_cmp r.name name i)
   where
     both : (o p : Ordering) → is_eq (ordering_then o p) ≡ (is_eq o && is_eq p)
     both Less p = refl
@@ -101,8 +87,5 @@ pub registrants_searched : (registrants : List Registrant) (queue : ℕ) (name :
     → Ordered (λ a b. registrant_before a b ≡ true) registrants
     → is_ok r ≡ list_any (is_registrant queue name) registrants
 registrants_searched registrants queue name r range result up =
-    searched_by key_of key_cmp key_total registrants (queue, name) r range result
-    (ordered_weaker (λ a b. registrant_before a b ≡ true) (λ a b. is_lt (key_cmp (key_of a) (key_of b)) ≡ true)
-    (λ a b h. is_lt-key_cmp a b ∙ h) registrants up)
-    ∙ any_same (λ y. is_eq (key_cmp (key_of y) (queue, name))) (is_registrant queue name)
-    (equal_keys queue name) registrants
+    searched_by key_of key_cmp key_total _ _ r range result (ordered_weaker _ _ (λ a b h. grind arith) _ up)
+    ∙ any_same _ _ (equal_keys queue name) _

@@ -9,7 +9,6 @@ use Rattle.std.proofs.lemmas.List.Sorted.{Contains-permutation, IsPermutation-sy
 use Rattle.rq_model.specs.States.{put}
 use Rattle.rq_state.specs.Orders.{put_in_order}
 use Rattle.std.specs.List.{AllByRecursion}
-use Rattle.std.proofs.lemmas.Bool.{false≢true}
 use Rattle.rq_model.specs.WellFormed.{Ordered}
 use Rattle.rq_model.proofs.Lists.{by_cases, each_weaker}
 
@@ -25,16 +24,15 @@ IsIn x (y ∷ ys) = (x ≡ y) ⊎ IsIn x ys
 
 pub each_in : {X : Type 0} (P : X → Type 0) (xs : List X) → AllByRecursion P xs → (x : X) → IsIn x xs → P x
 each_in P [] h x k = absurd k
-each_in P (y ∷ ys) h x k = ⊎_elim (λ e. subst P (sym e) h.0) (λ m. each_in P ys h.1 x m) k
+each_in P (y ∷ ys) h x k = ⊎_elim (λ e. grind arith) (each_in P ys h.1 x) k
 
 pub none_of : {X : Type 0} (p : X → Bool) (xs : List X) → AllByRecursion (λ x. p x ≡ false) xs → number_of p xs ≡ 0
 none_of p [] h = refl
-none_of p (x ∷ xs) h = ap (λ b. (if b then 1 else 0) + number_of p xs) h.0 ∙ omega (arith, none_of p xs h.1)
+none_of p (x ∷ xs) h = grind (arith, none_of p xs h.1)
 
 pub some_of : {X : Type 0} (p : X → Bool) (xs : List X) (x : X) → IsIn x xs → p x ≡ true → 1 ≤ number_of p xs
 some_of p [] x k h = absurd k
-some_of p (y ∷ ys) x k h = ⊎_elim
-    (λ e. subst (λ b. 1 ≤ (if b then 1 else 0) + number_of p ys) (sym (sym (ap p e) ∙ h)) (omega arith))
+some_of p (y ∷ ys) x k h = ⊎_elim (λ e. grind arith)
     (λ m. by_cases (p y) (λ b. 1 ≤ (if b then 1 else 0) + number_of p ys) (λ _. omega arith)
     (λ _. omega (arith, some_of p ys x m h))) k
 
@@ -120,27 +118,26 @@ module _ {X : Type 0} (before : X → X → Bool) (irreflexive : (x : X) → bef
 
 pub number_sum : {X : Type 0} (p : X → Bool) (xs : List X) → number_of p xs ≡ sum_by (λ x. if p x then 1 else 0) xs
 number_sum p [] = refl
-number_sum p (x ∷ xs) = ap (λ n. (if p x then 1 else 0) + n) (number_sum p xs)
-    ∙ sym (sum_by-cons (λ x. if p x then 1 else 0) x xs)
+number_sum p (x ∷ xs) = ap (λ n. (if p x then 1 else 0) + n) (number_sum p xs) ∙ sym (sum_by-cons _ x xs)
 
 pub in_of_contains : {X : Type 0} (xs : List X) (x : X) (k : ℕ) → k < length xs → slice_index_or xs k x ≡ x → IsIn x xs
-in_of_contains [] x k h e = let no : ⊥ = omega (arith, h) in absurd no
+in_of_contains [] x k h e = grind arith
 in_of_contains (y ∷ ys) x zero h e = inl (sym e)
-in_of_contains (y ∷ ys) x (suc k) h e = inr (in_of_contains ys x k (omega (arith, h)) e)
+in_of_contains (y ∷ ys) x (suc k) h e = inr (in_of_contains ys x k (omega arith) e)
 
 pub contains_of_in : {X : Type 0} (xs : List X) (x : X) → IsIn x xs → Contains xs x
 contains_of_in [] x h = absurd h
-contains_of_in (y ∷ ys) x h = ⊎_elim (λ e. (0, omega arith, sym e))
-    (λ m. let c = contains_of_in ys x m in (suc c.0, omega (arith, c.1), c.2)) h
+contains_of_in (y ∷ ys) x h = ⊎_elim (λ e. grind arith)
+    (λ m. let c = contains_of_in ys x m in (suc c.0, omega arith, c.2)) h
 
 pub each_self : {X : Type 0} (P : X → Type 0) (ys ws : List X) → ((w : X) → IsIn w ws → IsIn w ys)
     → ((w : X) → IsIn w ys → P w) → AllByRecursion P ws
 each_self P ys [] f g = tt
-each_self P ys (w ∷ ws) f g = (g w (f w (inl refl)), each_self P ys ws (λ v m. f v (inr m)) g)
+each_self P ys (w ∷ ws) f g = (grind arith, each_self P ys ws (λ v m. f v (inr m)) g)
 
 in_append : {X : Type 0} (x : X) (xs ys : List X) → IsIn x xs ⊎ IsIn x ys → IsIn x (xs ++ ys)
-in_append x [] ys h = ⊎_elim (λ n. absurd n) (λ m. m) h
-in_append x (y ∷ xs) ys h = ⊎_elim (λ a. ⊎_elim (λ e. inl e) (λ m. inr (in_append x xs ys (inl m))) a)
+in_append x [] ys h = grind arith
+in_append x (y ∷ xs) ys h = ⊎_elim (⊎_elim inl (λ m. inr (in_append x xs ys (inl m))))
     (λ m. inr (in_append x xs ys (inr m))) h
 
 pub number_append : {X : Type 0} (p : X → Bool) (xs ys : List X)
@@ -151,8 +148,8 @@ number_append p (x ∷ xs) ys = ap (λ n. (if p x then 1 else 0) + n) (number_ap
 in_filter : {X : Type 0} (p : X → Bool) (x : X) (xs : List X) → IsIn x xs → p x ≡ true → IsIn x (filter p xs)
 in_filter p x [] h t = absurd h
 in_filter p x (y ∷ ys) h t = by_cases (p y) (λ b. p y ≡ b → IsIn x (cond b (y ∷ filter p ys) (filter p ys)))
-    (λ _ _. ⊎_elim (λ e. inl e) (λ m. inr (in_filter p x ys m t)) h)
-    (λ _ n. ⊎_elim (λ e. absurd (false≢true (sym n ∙ sym (ap p e) ∙ t))) (λ m. in_filter p x ys m t) h) refl
+    (λ _ _. ⊎_elim inl (λ m. inr (in_filter p x ys m t)) h)
+    (λ _ n. ⊎_elim (λ e. grind arith) (λ m. in_filter p x ys m t) h) refl
 
 pub number_filters : {X : Type 0} (p q : X → Bool) (xs : List X)
     → number_of p (filter q xs) + number_of p (filter (λ y. not (q y)) xs) ≡ number_of p xs
@@ -160,17 +157,14 @@ number_filters p q [] = refl
 number_filters p q (x ∷ xs) = by_cases (q x)
     (λ b. number_of p (cond b (x ∷ filter q xs) (filter q xs))
     + number_of p (cond (not b) (x ∷ filter (λ y. not (q y)) xs) (filter (λ y. not (q y)) xs))
-    ≡ (if p x then 1 else 0) + number_of p xs)
-    (λ _. first (if p x then 1 else 0) (number_of p (filter q xs)) (number_of p (filter (λ y. not (q y)) xs))
-    (number_of p xs) (number_filters p q xs))
-    (λ _. second (if p x then 1 else 0) (number_of p (filter q xs)) (number_of p (filter (λ y. not (q y)) xs))
-    (number_of p xs) (number_filters p q xs))
+    ≡ (if p x then 1 else 0) + number_of p xs) (λ _. first _ _ _ _ (number_filters p q xs))
+    (λ _. second _ _ _ _ (number_filters p q xs))
   where
     first : (a b c d : ℕ) → b + c ≡ d → (a + b) + c ≡ a + d
-    first a b c d h = omega (arith, h)
+    first a b c d h = omega arith
 
     second : (a b c d : ℕ) → b + c ≡ d → b + (a + c) ≡ a + d
-    second a b c d h = omega (arith, h)
+    second a b c d h = omega arith
 
 module _ {X : Type 0} (before : X → X → Bool) (irreflexive : (x : X) → before x x ≡ false) where
   in_put : (x y : X) (zs : List X) → IsIn y (x ∷ zs) → IsIn y (put before x zs)

@@ -7,7 +7,7 @@ use Rattle.std.specs.List.Sorted.{IsPermutation}
 use Rattle.std.specs.Cmp.{IsStrictWeakOrder}
 use Rattle.std.proofs.lemmas.Bool.{lt-ltb, le-ltb, ltb-true, eqb-true, eqb-false}
 use Rattle.std.proofs.lemmas.List.Sorted.{Contains-permutation, IsPermutation-sym, sum_by-IsPermutation}
-use Rattle.rq_model.specs.States.{Element, Note, put, id_before, registrant_before}
+use Rattle.rq_model.specs.States.{put, id_before, registrant_before}
 use Rattle.rq_model.specs.WellFormed.{Ordered}
 use Rattle.rq_model.specs.Queues.{Part, part_of}
 use Rattle.rq_model.specs.Laws.{gathered}
@@ -25,11 +25,8 @@ each_put_each : {X : Type 0} (before : X → X → Bool) (P : X → Type 0) (xs 
     → AllByRecursion P (put_in_order before xs)
 each_put_each before P [] h = tt
 each_put_each before P (x ∷ xs) h =
-    let rest : AllByRecursion P (put_in_order before xs) = each_put_each before P xs h.1 in
-    each_append P (filter (λ y. before y x) (put_in_order before xs))
-    (x ∷ filter (λ y. not (before y x)) (put_in_order before xs))
-    (each_filter P (λ y. before y x) (put_in_order before xs) rest)
-    (h.0, each_filter P (λ y. not (before y x)) (put_in_order before xs) rest)
+    let rest = each_put_each before P xs h.1 in
+    each_append P _ _ (each_filter P _ _ rest) (h.0, each_filter P _ _ rest)
 
 not_true : (b : Bool) → not b ≡ true → b ≡ false
 not_true true h = sym h
@@ -143,30 +140,27 @@ module _ {X : Type 0} (before : X → X → Bool) (order : IsStrictWeakOrder bef
 
 strictly : {X : Type 0} (n : X → ℕ) (xs : List X) → Ordered (λ a b. n a < n b) xs
     → Ordered (λ a b. nat_lt (n a) (n b) ≡ true) xs
-strictly n xs h = ordered_weaker (λ a b. n a < n b) (λ a b. nat_lt (n a) (n b) ≡ true)
-    (λ a b l. lt-ltb (n a) (n b) l) xs h
+strictly n xs h = ordered_weaker _ _ (λ a b l. grind arith) xs h
 
 pub parts_whole : PartsMakeTheState
 parts_whole s w = λ i. record s { units = units i; registrants = registrants i; elements = elements i; notes = notes i }
   where
     units : put_in_order nat_lt s.units ≡ s.units
-    units = whole_itself nat_lt (number_is_order (λ n. n)) s.units (strictly (λ n. n) s.units w.units_rise)
+    units = whole_itself nat_lt (number_is_order (λ n. n)) s.units (strictly _ _ w.units_rise)
 
     registrants : put_in_order registrant_before
         (gathered (λ (p : Part). p.registrants) (part_of s) (length s.definitions)) ≡ s.registrants
-    registrants = whole_gathered registrant_before registrant_is_order (λ r. r.queue) (λ (p : Part). p.registrants)
-        (part_of s) s.registrants (λ n. refl) (length s.definitions) w.registrants_rise (registrant_queues s w)
+    registrants = whole_gathered _ registrant_is_order _ (λ p. p.registrants) (part_of s) _
+        (λ n. refl) _ w.registrants_rise (registrant_queues s w)
 
     elements : put_in_order id_before (gathered (λ (p : Part). p.elements) (part_of s) (length s.definitions))
         ≡ s.elements
-    elements = whole_gathered id_before (number_is_order (λ (e : Element). e.id)) (λ e. e.home)
-        (λ (p : Part). p.elements) (part_of s) s.elements (λ n. refl) (length s.definitions)
-        (strictly (λ (e : Element). e.id) s.elements w.elements_rise) (element_homes s w)
+    elements = whole_gathered id_before (number_is_order _) _ (λ p. p.elements) (part_of s) s.elements (λ n. refl) _
+        (strictly _ _ w.elements_rise) (element_homes s w)
 
     notes : put_in_order place_before (gathered (λ (p : Part). p.notes) (part_of s) (length s.definitions)) ≡ s.notes
-    notes = whole_gathered place_before (number_is_order (λ (n : Note). n.last.place)) (λ n. n.queue)
-        (λ (p : Part). p.notes) (part_of s) s.notes (λ n. refl) (length s.definitions)
-        (strictly (λ (n : Note). n.last.place) s.notes w.notes_rise) (note_queues s w)
+    notes = whole_gathered place_before (number_is_order _) _ (λ p. p.notes) (part_of s) s.notes (λ n. refl) _
+        (strictly _ _ w.notes_rise) (note_queues s w)
 
 pub any_order_whole : AnyOrderMakesTheState
 any_order_whole s t w h =
@@ -184,17 +178,13 @@ any_order_whole s t w h =
     }
   where
     units : put_in_order nat_lt t.units ≡ s.units
-    units = whole_permuted nat_lt (number_is_order (λ n. n)) s.units t.units
-        (strictly (λ n. n) s.units w.units_rise) h.units
+    units = whole_permuted nat_lt (number_is_order (λ n. n)) s.units t.units (strictly _ _ w.units_rise) h.units
 
     registrants : put_in_order registrant_before t.registrants ≡ s.registrants
-    registrants = whole_permuted registrant_before registrant_is_order s.registrants t.registrants w.registrants_rise
-        h.registrants
+    registrants = whole_permuted _ registrant_is_order _ _ w.registrants_rise h.registrants
 
     elements : put_in_order id_before t.elements ≡ s.elements
-    elements = whole_permuted id_before (number_is_order (λ (e : Element). e.id)) s.elements t.elements
-        (strictly (λ (e : Element). e.id) s.elements w.elements_rise) h.elements
+    elements = whole_permuted _ (number_is_order _) _ _ (strictly _ _ w.elements_rise) h.elements
 
     notes : put_in_order place_before t.notes ≡ s.notes
-    notes = whole_permuted place_before (number_is_order (λ (n : Note). n.last.place)) s.notes t.notes
-        (strictly (λ (n : Note). n.last.place) s.notes w.notes_rise) h.notes
+    notes = whole_permuted _ (number_is_order _) s.notes t.notes (strictly _ _ w.notes_rise) h.notes

@@ -1,7 +1,5 @@
-use Rattle.std.proofs.Common.{◌∙◌, sym}
-use Rattle.std.specs.Prelude.{IsTrue}
+use Rattle.std.proofs.Common.{arith}
 use Rattle.rq_state.specs.Inside.{state_of}
-use Rattle.rq_state.specs.Keeping.{KeepsElements}
 use Rattle.rq_state.proofs.Telling.{tells_from}
 use Rattle.rq_state.proofs.Tested.{elements_tested}
 use Rattle.rq_state.proofs.keeping.check_elements.Goals as goal
@@ -11,6 +9,6 @@ returns c =
     let f = c.args.fields.now in
     let rise = rw c.deref.ensures.value at (c.do_elements_rise.ensures.0 c.in_ok-kept.ensures) in
     let tested = elements_tested (state_of f) f.elements.items in
-    tells_from (IsTrue c.are_elements.result) (KeepsElements (state_of f)) c.kept-2.result
-    (λ t. record { elements = tested.0 (sym c.are_elements.ensures ∙ t); elements_rise = rise })
-    (λ k. c.are_elements.ensures ∙ tested.1 k.elements) c.kept-2.ensures
+    tells_from _ _ c.kept-2.result
+    (λ t. grind arith)
+    (λ k. grind arith) c.kept-2.ensures

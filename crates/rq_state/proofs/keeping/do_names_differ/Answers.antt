@@ -8,5 +8,4 @@ pub returns : goal.returns
 returns c =
     let answer = rw c.deref.ensures.value at
     (c.is_sorted_by.ensures.cases name_before (answers_always _ _ _ (λ f a r g h. search rules))) in
-    names_told c.args.names.items c.sort_unstable.new.self.items c.is_sorted_by.result
-    c.sort_unstable.ensures.permutation c.sort_unstable.ensures.sorted answer
+    names_told _ _ _ c.sort_unstable.ensures.permutation c.sort_unstable.ensures.sorted answer

@@ -1,14 +1,14 @@
-use Rattle.std.proofs.Common.{◌≡◌, ◌++◌, map, ap, ◌∙◌}
+use Rattle.std.proofs.Common.{arith}
+use Rattle.std.proofs.Common.{◌≡◌, ◌++◌, ap, ◌∙◌}
 use Rattle.std.specs.Int.{w64, to_be_bytes}
 use Rattle.rq_model.proofs.StateCodes.{are_few}
 use Rattle.rq_model.specs.StateSpelling.{counted, definition_bytes, registrant_bytes, element_bytes, note_bytes}
 use Rattle.rq_state.specs.Inside.{state_of}
-use Rattle.rq_state.specs.Views.{unit_of}
 use Rattle.rq_state.proofs.Joined.{joined_all}
 use Rattle.rq_state.proofs.writing.put_fields.Goals as goal
 
 pub put_members-requires : goal.put_members-requires
-put_members-requires c = are_few (state_of c.args.fields.now) c.requires.well_formed c.requires.next
+put_members-requires c = are_few _ c.requires.well_formed c.requires.next
 
 pub returns : goal.returns
 returns c =
@@ -18,9 +18,7 @@ returns c =
     c.in_ok-put_definitions.ensures ∙ ap (λ ds. c.put_numbers.new.out.items ++ counted definition_bytes ds)
     c.deref.ensures.value in
     let open_units : c.put_units.new.out.items ≡ c.put_definitions.new.out.items ++ counted (to_be_bytes w64) s.units =
-    c.in_ok-put_units.ensures
-    ∙ ap (λ us. c.put_definitions.new.out.items ++ counted (to_be_bytes w64) (map unit_of us))
-    c.deref-2.ensures.value in
+    grind arith in
     joined_all c.args.out.now.items c.put_numbers.new.out.items c.put_definitions.new.out.items
     c.put_units.new.out.items c.put_members.new.out.items
     (to_be_bytes w64 s.next) (to_be_bytes w64 s.greatest) (to_be_bytes w64 s.committed) (to_be_bytes w64 s.aborted)

@@ -6,5 +6,5 @@ use Rattle.rq_state.proofs.Rises.{rises_by}
 use Rattle.rq_state.proofs.keeping.lists.do_registrants_rise.Goals as goal
 
 pub returns : goal.returns
-returns c = rises_by registrant_before registrant_is_order c.args.registrants.now _
+returns c = rises_by _ registrant_is_order _ _
     (c.is_sorted_by.ensures.cases registrant_before (answers_always _ _ _ (λ f a r g h. search rules)))

@@ -6,6 +6,6 @@ use Rattle.rq_state.proofs.Rises.{units_rise_by}
 use Rattle.rq_state.proofs.keeping.lists.do_units_rise.Goals as goal
 
 pub returns : goal.returns
-returns c = units_rise_by c.args.units.now _
+returns c = units_rise_by _ _
     (c.is_sorted_by.ensures.cases (λ u v. nat_lt (unit_of u) (unit_of v))
     (answers_always _ _ _ (λ f a r g h. search rules)))

@@ -7,5 +7,5 @@ use Rattle.rq_state.proofs.keeping.searching.has_registrant.Goals as goal
 pub returns : goal.returns
 returns c =
     let search_ok = c.binary_search_by_key.ensures in
-    c.is_ok.ensures.value ∙ registrants_searched c.args.registrants.now c.args.queue.0 c.args.name _ search_ok.bound
+    c.is_ok.ensures.value ∙ registrants_searched _ _ _ _ search_ok.bound
     (search_ok.position key_of (answers_always _ _ _ (λ f a r g h. search rules))) c.requires

@@ -7,5 +7,5 @@ use Rattle.rq_state.proofs.keeping.searching.has_unit.Goals as goal
 pub returns : goal.returns
 returns c =
     let search_ok = c.binary_search_by_key.ensures in
-    c.is_ok.ensures.value ∙ units_searched c.args.units.now c.args.unit.0 _ search_ok.bound
+    c.is_ok.ensures.value ∙ units_searched _ _ _ search_ok.bound
     (search_ok.position unit_of (answers_always _ _ _ (λ f a r g h. search rules))) c.requires

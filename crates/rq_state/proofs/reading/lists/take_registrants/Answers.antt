@@ -1,10 +1,9 @@
-use Rattle.std.proofs.Common.{sym}
+use Rattle.std.proofs.Common.{arith}
 use Rattle.rq_state.proofs.Loop.{goes_on, is_done}
 use Rattle.rq_state.proofs.reading.lists.take_registrants.Goals as goal
 
 pub loop-preserved : goal.loop-preserved
-loop-preserved c = goes_on c.in_ok-member.member _ _ c.loop.invariant c.loop-test.true
-    (sym (rw c.in_ok-member.ensures.ok_part at c.take_registrant.ensures)) c.in_ok-push.ensures.items
+loop-preserved c = goes_on _ _ _ c.loop.invariant c.loop-test.true (grind arith) c.in_ok-push.ensures.items
 
 pub returns : goal.returns
 returns c = is_done c.loop.invariant c.loop-test.false

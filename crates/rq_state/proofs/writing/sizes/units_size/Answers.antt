@@ -3,4 +3,4 @@ use Rattle.rq_state.proofs.Measured.{units_measured}
 use Rattle.rq_state.proofs.writing.sizes.units_size.Goals as goal
 
 pub returns-clause-size : goal.returns-clause-size
-returns-clause-size c = sym (units_measured c.args.members.now)
+returns-clause-size c = sym (units_measured _)
