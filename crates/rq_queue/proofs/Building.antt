@@ -187,10 +187,7 @@ apart_moved xs ys same h = apart_again ys
     (IsDistinct-IsPermutation (λ (a b : Element). a.id == b.id) flips xs ys same (differing xs h))
   where
     flips : (x y : Element) → (x.id == y.id) ≡ (y.id == x.id)
-    flips x y = by_cases (x.id == y.id) (λ b. (x.id == y.id) ≡ b → b ≡ (y.id == x.id))
-        (λ _ t. sym (eq-eqb y.id x.id (sym (eqb-true x.id y.id t))))
-        (λ _ f. by_cases (y.id == x.id) (λ b. (y.id == x.id) ≡ b → false ≡ b)
-        (λ _ t. absurd (eqb-false x.id y.id f (sym (eqb-true y.id x.id t)))) (λ _ _. refl) refl) refl
+    flips x y = grind arith
 
 -- elements by number, in the order of the containers
 module _ (items : List Element) (rising : Ordered (λ (e f : Element). e.id < f.id) items) where
@@ -221,14 +218,7 @@ pub one_out : (at : ℕ) (es rest : List Element) → length rest + 1 ≡ length
     → (((e : Element) → at + 1 < length es → slice_index_or rest at e ≡ slice_index_or es (length es - 1) e)
     × ((k : ℕ) (e : Element) → k ≢ at → k + 1 < length es → slice_index_or rest k e ≡ slice_index_or es k e))
     → AreFreeFrom (at + 1) es → AreFreeFrom at rest
-one_out at es rest n by h k e l u = ⊎_elim
-    (λ (s : k ≡ at). subst (λ m. is_free (slice_index_or rest m e).mark ≡ true) (sym s)
-    (subst (λ (f : Element). is_free f.mark ≡ true) (sym (by.0 e (omega (arith, n, u, s))))
-    (h (length es - 1) e (omega (arith, n, u, s)) (omega (arith, n, u)))))
-    (λ (o : (k < at) ⊎ (at < k)). ⊎_elim (λ (b : k < at). absurd (omega (arith, b, l)))
-    (λ (b : at < k). subst (λ (f : Element). is_free f.mark ≡ true)
-    (sym (by.1 k e (λ s. absurd (omega (arith, b, s))) (omega (arith, n, u))))
-    (h k e (omega (arith, b)) (omega (arith, n, u)))) o) (cases_order k at)
+one_out at es rest n by h k e l u = grind arith
 
 -- each under its key
 abbrev pub with_key : Element → Entry

@@ -18,12 +18,7 @@ use Rattle.rq_model.proofs.WellFormedRuns.{sound}
 use Rattle.rq_queue.specs.Case.{IsCase, AreRising}
 
 places : (s : State) (r : Record) → AllByRecursion (λ (t : Transfer). t.move.place ≡ s.next) (transfers_at s r)
-places s (Abort u) = each_map (λ (_ : Element). ⊤) (λ (t : Transfer). t.move.place ≡ s.next)
-    (λ e. record {
-      from = e.home;
-      move =
-          record { place = s.next; element = moved (definition_at s.definitions e.home) e };
-    }) (λ e h. refl)
+places s (Abort u) = each_map _ _ _ (λ e h. refl)
     (filter (λ e. leaves (definition_at s.definitions e.home) u e) s.elements) (each_of (λ _. ⊤) (λ _. tt) _)
 places s r = tt
 
@@ -50,11 +45,9 @@ rise : (s : State) (rs : List Record) → Ordered NoLater (transfers s rs)
 rise s [] = tt
 rise s (r ∷ rs) = ordered_append NoLater (transfers_at s r) (transfers (step s r) rs)
     (at_once s.next (transfers_at s r) (places s r)) (rise (step s r) rs)
-    (each_weaker (λ (t : Transfer). t.move.place ≡ s.next)
-    (λ (t : Transfer). AllByRecursion (λ (u : Transfer). t.move.place ≤ u.move.place) (transfers (step s r) rs))
-    (λ t e. each_weaker (λ (u : Transfer). s.next + 1 ≤ u.move.place) (λ (u : Transfer). t.move.place ≤ u.move.place)
-    (λ u l. omega arith) (transfers (step s r) rs) (since (step s r) rs))
-    (transfers_at s r) (places s r))
+    (each_weaker _ _ (λ t e. each_weaker (λ (u : Transfer). s.next + 1 ≤ u.move.place)
+    (λ (u : Transfer). t.move.place ≤ u.move.place) (λ u l. omega arith) (transfers (step s r) rs)
+    (since (step s r) rs)) (transfers_at s r) (places s r))
 
 pub arrivals_rise : (s : State) (rs : List Record) (q : ℕ) → AreRising (arrivals s rs q)
 arrivals_rise s rs q = ordered_map NoLater (λ (m n : Move). m.place ≤ n.place) (λ (t : Transfer). t.move) (λ t u h. h)
@@ -73,10 +66,4 @@ sent_moves law version s rs p ops ms c = (λ i. all_sent (c.is_part i) (c.are_op
 
 pub goes_well : RedoGoesWell → (version : Version) (s : State) (rs : List Record) (p : Part) (ops : List Op)
     (ms : List Move) → IsCase version s rs p ops ms → GoesWell p ops ms
-goes_well law version s rs p ops ms c =
-    let there : GoesWell (part_of (with_definitions s rs) p.queue) (touching s rs p.queue) (arrivals s rs p.queue) =
-    law version s rs p.queue c.well c.lawful c.fits in
-    subst (λ (q : Part). GoesWell q ops ms) (sym c.is_part)
-    (subst (λ (os : List Op). GoesWell (part_of (with_definitions s rs) p.queue) os ms) (sym c.are_ops)
-    (subst (λ (ns : List Move). GoesWell (part_of (with_definitions s rs) p.queue) (touching s rs p.queue) ns)
-    (sym c.are_arrivals) there))
+goes_well law version s rs p ops ms c = grind arith

@@ -51,7 +51,7 @@ all_behind : (queue : ℕ) (x : Entry) (es : List Entry) → IsKeyed x → AllBy
     → AllByRecursion (IsBehind queue x.1) (values_of es)
 all_behind queue x [] a b h = tt
 all_behind queue x (e ∷ es) a b h = (
-  behind queue x.1 e.1 (let l : rank_cmp (x.0.0.0, x.0.1) (e.0.0.0, e.0.1) ≡ Less = h.0 in
+  behind queue x.1 e.1 (let l = h.0 in
       ap (λ (k : Reverse ℕ × ℕ). rank_cmp (k.0.0, k.1) (e.1.priority, e.1.id)) (sym a.0)
       ∙ (ap (λ (k : Reverse ℕ × ℕ). rank_cmp (x.0.0.0, x.0.1) (k.0.0, k.1)) (sym b.0.0) ∙ l)),
   all_behind queue x es a b.1 h.1,
@@ -215,10 +215,8 @@ pub freed_step : PutInAnyOrder → (new : Element) (rest others : List Element) 
 freed_step law new rest others start now next list among keyed inv = λ k a.
     let i = inv k a in
     let more = rest ++ others in
-    let those : AllByRecursion (λ z. new.id ≢ z.id) (values_of now ++ more) × Apart (values_of now ++ more) =
-    apart_from (values_of now) new more i.1.0 in
-    let here : AllByRecursion (λ z. new.id ≢ z.id) (values_of now) =
-    each_front (λ z. new.id ≢ z.id) (values_of now) more those.0 in
+    let those = apart_from (values_of now) new more i.1.0 in
+    let here = each_front (λ z. new.id ≢ z.id) (values_of now) more those.0 in
     let put_in = put_among law new (values_of next) (values_of now) more (among i.0 here) those in
     (keyed i.0 here, (put_in.1, put_in.0 ∙ (sym (sorted_from law (values_of now) new more i.1.0) ∙ i.1.1)))
 
@@ -245,12 +243,7 @@ held_dropped unit e rest others all free now h =
 pub staying_more : (home : Definition) (unit : ℕ) (e new : Element) (rest : List Element) → new ≡ returned unit e
     → is_fresh unit e.mark ≡ false → leaves home unit e ≡ false
     → staying home unit (e ∷ rest) ≡ new ∷ staying home unit rest
-staying_more home unit e new rest n f l =
-    let passes : (not (is_fresh unit e.mark) && not (leaves home unit e)) ≡ true = (λ i. not (f i) && not (l i)) in
-    ap (λ b. map (returned unit)
-    (cond b (e ∷ filter (λ x. not (is_fresh unit x.mark) && not (leaves home unit x)) rest)
-    (filter (λ x. not (is_fresh unit x.mark) && not (leaves home unit x)) rest))) passes
-    ∙ ap (λ (x : Element). x ∷ staying home unit rest) (sym n)
+staying_more home unit e new rest n f l = grind arith
 
 pub staying_less : (home : Definition) (unit : ℕ) (e : Element) (rest : List Element)
     → (not (is_fresh unit e.mark) && not (leaves home unit e)) ≡ false

@@ -204,11 +204,9 @@ pub aborted : PutInAnyOrder → (home : Definition) (unit : ℕ) (free next : Li
 aborted law home unit free next old others list keyed out absent units apart frees =
     changed law free old others list out apart (λ e. not (is_fresh unit e.mark) && not (leaves home unit e))
     (returned unit) (returned_id unit) next keyed
-    (each_weaker (IsOther unit)
-    (λ e. ((not (is_fresh unit e.mark) && not (leaves home unit e)) ≡ true) × (returned unit e ≡ e))
+    (each_weaker (IsOther unit) _
     (λ e o. ((λ i. not (o.1 i) && not (leaves_not home unit e o.0 i)), returned_same unit e o.0))
-    (values_of free ++ items_of others) (others_remain unit free others keyed absent units))
-    frees
+    (values_of free ++ items_of others) (others_remain unit free others keyed absent units)) frees
 
 -- those that leave, by id
 pub departed : PutInAnyOrder → (home : Definition) (unit : ℕ) (free : List Entry) (old others : Lists)

@@ -29,14 +29,7 @@ all_behind queue e (f ∷ es) h = by_cases (is_free_at queue f)
 
 not_best : (queue : ℕ) (e f : Element) (rest : List Element) → is_free_at queue e ≡ true → IsBehind queue e f
     → (is_free_at queue f && list_all (comes_first f) (filter (is_free_at queue) (e ∷ rest))) ≡ false
-not_best queue e f rest t h = by_cases (is_free_at queue f)
-    (λ b. is_free_at queue f ≡ b
-    → (b && list_all (comes_first f)
-    (cond (is_free_at queue e) (e ∷ filter (is_free_at queue) rest) (filter (is_free_at queue) rest))) ≡ false)
-    (λ _ u. ap (λ b. list_all (comes_first f)
-    (cond b (e ∷ filter (is_free_at queue) rest) (filter (is_free_at queue) rest))) t
-    ∙ ap (λ b. b && list_all (comes_first f) (filter (is_free_at queue) rest)) ((h u).1))
-    (λ _ u. refl) refl
+not_best queue e f rest t h = grind arith
 
 first_best : (queue : ℕ) (e : Element) (es : List Element) → is_free_at queue e ≡ true
     → AllByRecursion (IsBehind queue e) es → is_best queue (e ∷ es) e ≡ true

@@ -164,7 +164,7 @@ known_unsorted (Some by_id) es h = each_unsorted (IsKnown by_id.entries) es h
 no_such : (id : ℕ) (by_id : List (ℕ × ℕ)) → lookup (is_at (nat_cmp id)) by_id ≡ None → (e : Element) → IsKnown by_id e
     → not (e.id == id) ≡ true
 no_such id by_id n e k = by_cases (e.id == id) (λ b. (e.id == id) ≡ b → not b ≡ true)
-    (λ _ t. let s : lookup (is_at (nat_cmp id)) by_id ≡ Some e.priority =
+    (λ _ t. let s =
     ap (λ m. lookup (is_at (nat_cmp m)) by_id) (sym (eqb-true e.id id t)) ∙ k in absurd (cc)) (λ _ _. refl) refl
 
 pub none_to_kill : (id : ℕ) (by_id : List (ℕ × ℕ)) (es : List Element) → lookup (is_at (nat_cmp id)) by_id ≡ None
@@ -175,9 +175,6 @@ none_to_kill id by_id es n h =
 
 pub equal_rank : (p i q j : ℕ) → is_eq (key_cmp (record { 0 = p }, i) (record { 0 = q }, j)) ≡ true → (p ≡ q) × (i ≡ j)
 equal_rank p i q j h = (grind (arith), grind (arith))
-
-rank_equal : (p i : ℕ) → is_eq (key_cmp (record { 0 = p }, i) (record { 0 = p }, i)) ≡ true
-rank_equal p i = grind (arith)
 
 pub one_killed : (id p : ℕ) (by_id : List (ℕ × ℕ)) (es : List Entry) → lookup (is_at (nat_cmp id)) by_id ≡ Some p
     → AllByRecursion IsKeyed es → Apart (values_of es) → AllByRecursion (IsKnown by_id) (values_of es)
@@ -209,20 +206,7 @@ one_killed id p by_id (x ∷ es) l keyed apart known =
         → is_eq (key_cmp (record { 0 = p }, id) x.0) ≡ false → is_eq (key_cmp (record { 0 = p }, id) x.0) ≡ false
         → values_of (x ∷ remove_entry (is_at (key_cmp (record { 0 = p }, id))) es)
         ≡ filter (λ e. not (e.id == id)) (values_of (x ∷ es))
-    elsewhere later _ f = ap (λ (xs : List Element). x.1 ∷ xs) later
-        ∙ ap (λ b. cond (not b) (x.1 ∷ left) left)
-        (sym (by_cases (x.1.id == id) (λ b. (x.1.id == id) ≡ b → b ≡ false) same (λ _ _. refl) refl))
-      where
-        some_is : (a b : ℕ) → Some a ≡ Some b → a ≡ b
-        some_is a b h = cc
-
-        same : (x.1.id == id) ≡ true → (x.1.id == id) ≡ true → true ≡ false
-        same _ s =
-            let one : x.1.id ≡ id = eqb-true x.1.id id s in
-            let rank : x.1.priority ≡ p = some_is x.1.priority p
-            (sym known.0 ∙ (ap (λ m. lookup (is_at (nat_cmp m)) by_id) one ∙ l)) in
-            let key : (record { 0 = p }, id) ≡ x.0 = sym (keyed.0.0 ∙ λ i. (record { 0 = rank i }, one i)) in
-            sym (rank_equal p id) ∙ (ap (λ (k : Reverse ℕ × ℕ). is_eq (key_cmp (record { 0 = p }, id) k)) key ∙ f)
+    elsewhere later _ f = grind arith
 
 -- KILL
 pub kill_done : (queue id : ℕ) (free next : List Entry) (old : Lists) → AllByRecursion IsKeyed free

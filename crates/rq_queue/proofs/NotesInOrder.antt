@@ -61,13 +61,8 @@ put_two a b es l = first ∙ sym second
     high = filter_absorb gb ga gb_ga es
 
     first : put place_before a (put place_before b es) ≡ both
-    first =
-        (λ i. filter-append fa (filter fb es) (b ∷ filter gb es) i ++ a
-        ∷ filter-append ga (filter fb es) (b ∷ filter gb es) i)
-        ∙ (λ i. (filter fa (filter fb es) ++ cond (le-ltb b.last.place a.last.place (omega arith) i)
-        (b ∷ filter fa (filter gb es)) (filter fa (filter gb es))) ++ a
-        ∷ (filter ga (filter fb es) ++ cond (not (le-ltb b.last.place a.last.place (omega arith) i))
-        (b ∷ filter ga (filter gb es)) (filter ga (filter gb es))))
+    first = (λ i. filter-append fa (filter fb es) (b ∷ filter gb es) i ++ a
+        ∷ filter-append ga (filter fb es) (b ∷ filter gb es) i) ∙ grind arith
         ∙ (λ i. (low i ++ fa_gb i) ++ a ∷ (filter ga (filter fb es) ++ b ∷ (filter_comm ga gb es ∙ high) i))
         ∙ ap (λ xs. xs ++ a ∷ (filter ga (filter fb es) ++ b ∷ filter gb es)) (append-nil (filter fa es))
 
@@ -88,8 +83,7 @@ PutInAnyOrder = (a b : Note) (es : List Note) → a.last.place ≢ b.last.place
 
 pub put_in_any_order : PutInAnyOrder
 put_in_any_order a b es apart = ⊎_elim (λ (e : a.last.place ≡ b.last.place). absurd (apart e))
-    (λ (x : (a.last.place < b.last.place) ⊎ (b.last.place < a.last.place)).
-    ⊎_elim (λ (l : a.last.place < b.last.place). put_two a b es l)
+    (λ x. ⊎_elim (λ (l : a.last.place < b.last.place). put_two a b es l)
     (λ (l : b.last.place < a.last.place). sym (put_two b a es l)) x) (cases_order a.last.place b.last.place)
 
 pub each_filtered : {X : Type 0} (P Q : X → Type 0) (p : X → Bool) → ((x : X) → P x → p x ≡ true → Q x) → (xs : List X)

@@ -189,31 +189,23 @@ found : (k : ℕ) (es : List NoteEntry) → Ordered (λ (a b : NoteEntry). a.0 <
 found k [] h = tt
 found k (x ∷ es) h = (
   λ t. ap (λ b. cond b (Some x.1) (lookup (is_at (nat_cmp k)) es)) t,
-  each_weaker (λ (e : NoteEntry). (x.0 < e.0)
-      × (is_eq (nat_cmp k e.0) ≡ true → lookup (is_at (nat_cmp k)) es ≡ Some e.1))
-      (λ (e : NoteEntry). is_eq (nat_cmp k e.0) ≡ true → lookup (is_at (nat_cmp k)) (x ∷ es) ≡ Some e.1)
-      (λ e f t. ap (λ b. cond b (Some x.1) (lookup (is_at (nat_cmp k)) es)) (not_here k x.0 e.0 f.0 t) ∙ f.1 t) es
-      (each_both (λ (e : NoteEntry). x.0 < e.0)
-      (λ (e : NoteEntry). is_eq (nat_cmp k e.0) ≡ true → lookup (is_at (nat_cmp k)) es ≡ Some e.1) es h.0
-      (found k es h.1)),
+  each_weaker _ _ (λ e f t. ap (λ b. cond b (Some x.1) (lookup (is_at (nat_cmp k)) es)) (not_here k x.0 e.0 f.0 t)
+      ∙ f.1 t) es (each_both _ _ es h.0 (found k es h.1)),
 )
 
 own_there : (whose : Whose) (k : ℕ) (b : Bool) (es : List NoteEntry) → Ordered (λ (x y : NoteEntry). x.0 < y.0) es
     → has_own whose (lookup (is_at (nat_cmp k)) es) ≡ b
     → AllByRecursion (λ (e : NoteEntry). (k == e.0) ≡ true → is_own whose e.1 ≡ b) es
-own_there whose k b es h o =
-    each_weaker (λ (e : NoteEntry). is_eq (nat_cmp k e.0) ≡ true → lookup (is_at (nat_cmp k)) es ≡ Some e.1)
-    (λ (e : NoteEntry). (k == e.0) ≡ true → is_own whose e.1 ≡ b)
-    (λ e f t. sym (ap (has_own whose) (f (number_same k e.0 ∙ t))) ∙ o) es (found k es h)
+own_there whose k b es h o = each_weaker _ _ (λ e f t. sym (ap (has_own whose) (f (number_same k e.0 ∙ t))) ∙ o) es
+    (found k es h)
 
 -- none of theirs stands there
 pub none_drawn : (whose : Whose) (k : ℕ) (es : List NoteEntry) → AreByPlace es
     → has_own whose (lookup (is_at (nat_cmp k)) es) ≡ false → es ≡ left whose (k ∷ []) es
-none_drawn whose k es h o = sym (filter_all (λ (e : NoteEntry). not (has_place e.0 (k ∷ []) && is_own whose e.1)) es
-    (each_weaker (λ (e : NoteEntry). (k == e.0) ≡ true → is_own whose e.1 ≡ false)
-    (λ (e : NoteEntry). not (has_place e.0 (k ∷ []) && is_own whose e.1) ≡ true)
-    (λ e f. by_cases (k == e.0) (λ b. not ((b || false) && is_own whose e.1) ≡ true) (λ t. ap not (f t)) (λ _. refl)) es
-    (own_there whose k false es h.rising o)))
+none_drawn whose k es h o =
+    sym (filter_all (λ (e : NoteEntry). not (has_place e.0 (k ∷ []) && is_own whose e.1)) es
+    (each_weaker _ _ (λ e f. by_cases (k == e.0) (λ b. not ((b || false) && is_own whose e.1) ≡ true)
+    (λ t. ap not (f t)) (λ _. refl)) es (own_there whose k false es h.rising o)))
 
 -- one of theirs stands there
 pub one_drawn : (whose : Whose) (k : ℕ) (es : List NoteEntry) → AreByPlace es
@@ -222,12 +214,10 @@ pub one_drawn : (whose : Whose) (k : ℕ) (es : List NoteEntry) → AreByPlace e
 one_drawn whose k es h o = removed nat_cmp nat_cmp_total k es
     (ordered_weaker (λ (a b : NoteEntry). a.0 < b.0) (λ (a b : NoteEntry). nat_cmp a.0 b.0 ≡ Less)
     (λ a b l. is_less a.0 b.0 l) es h.rising)
-    ∙ filter_same (λ (e : NoteEntry). not (is_eq (nat_cmp k e.0)))
-    (λ (e : NoteEntry). not (has_place e.0 (k ∷ []) && is_own whose e.1)) es
-    (each_weaker (λ (e : NoteEntry). (k == e.0) ≡ true → is_own whose e.1 ≡ true)
-    (λ (e : NoteEntry). not (is_eq (nat_cmp k e.0)) ≡ not (has_place e.0 (k ∷ []) && is_own whose e.1))
-    (λ e f. ap not (number_same k e.0) ∙ by_cases (k == e.0) (λ b. not b ≡ not ((b || false) && is_own whose e.1))
-    (λ t. ap not (sym (f t))) (λ _. refl)) es (own_there whose k true es h.rising o))
+    ∙ filter_same _ _ es
+    (each_weaker _ _ (λ e f. ap not (number_same k e.0)
+    ∙ by_cases (k == e.0) (λ b. not b ≡ not ((b || false) && is_own whose e.1)) (λ t. ap not (sym (f t))) (λ _. refl))
+    es (own_there whose k true es h.rising o))
 
 value_is : (a b : Note) → Some a ≡ Some b → a ≡ b
 value_is a b h = cc
@@ -289,10 +279,7 @@ tests false false false = refl
 
 pub left_more : (whose : Whose) (k : ℕ) (ps : List ℕ) (es : List NoteEntry)
     → left whose ps (left whose (k ∷ []) es) ≡ left whose (k ∷ ps) es
-left_more whose k ps es = filter_then (λ (e : NoteEntry). not (has_place e.0 ps && is_own whose e.1))
-    (λ (e : NoteEntry). not (has_place e.0 (k ∷ []) && is_own whose e.1))
-    (λ (e : NoteEntry). not (has_place e.0 (k ∷ ps) && is_own whose e.1))
-    (λ e. tests (k == e.0) (has_place e.0 ps) (is_own whose e.1)) es
+left_more whose k ps es = filter_then _ _ _ (λ e. tests (k == e.0) (has_place e.0 ps) (is_own whose e.1)) es
 
 pub left_by_place : (whose : Whose) (k : ℕ) (es new : List NoteEntry) → new ≡ left whose (k ∷ []) es → AreByPlace es
     → AreByPlace new

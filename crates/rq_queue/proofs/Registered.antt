@@ -148,15 +148,7 @@ mine unit r n = (n.unit == unit) && is_note_of r.queue r.name n
 
 told_one : (unit : ℕ) (n : Note) (rest : List Note) (r : Registrant)
     → told unit rest (heard unit n r) ≡ told unit (n ∷ rest) r
-told_one unit n rest r = by_cases ((n.unit == unit) && is_note_of r.queue r.name n)
-    (λ b. told unit rest (if b then record r { last = later r.last n.last } else r)
-    ≡ record {
-      queue = r.queue;
-      name = r.name;
-      last =
-          latest r.last (if b then n ∷ filter (mine unit r) rest else filter (mine unit r) rest);
-    }) (λ _. refl)
-    (λ _. refl)
+told_one unit n rest r = grind arith
 
 pub told_more : (unit : ℕ) (n : Note) (rest : List Note) (rs : List Registrant)
     → map (told unit rest) (map (heard unit n) rs) ≡ map (told unit (n ∷ rest)) rs

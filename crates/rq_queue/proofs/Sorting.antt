@@ -45,10 +45,7 @@ without p x xs h = filter-append p (filter (λ y. id_before y x) xs) (x ∷ filt
 all_put : (p : Element → Bool) (x : Element) (xs : List Element)
     → list_all p (put id_before x xs) ≡ (p x && list_all p xs)
 all_put p x xs =
-    let a : list_all p (put id_before x xs)
-    ≡ (list_all p (filter (λ y. id_before y x) xs)
-    && (p x && list_all p (filter (λ y. not (id_before y x)) xs))) =
-    list_all-append p (filter (λ y. id_before y x) xs) (x ∷ filter (λ y. not (id_before y x)) xs) in
+    let a = list_all-append p (filter (λ y. id_before y x) xs) (x ∷ filter (λ y. not (id_before y x)) xs) in
     let b = split_all p (λ y. id_before y x) xs in
     grind (arith, a, b, cases_Bool (p x), cases_Bool (list_all p (filter (λ y. id_before y x) xs)))
 
@@ -180,9 +177,7 @@ held_id false unit e = refl
 pub held_sorted : (unit queue : ℕ) (xs : List Element)
     → best_held unit queue (sorted xs) ≡ sorted (best_held unit queue xs)
 held_sorted unit queue xs = map_same _ _ (sorted xs)
-    (each_of (λ e. cond (is_best queue (sorted xs) e) (marked (Held unit) e) e
-    ≡ cond (is_best queue xs e) (marked (Held unit) e) e)
-    (λ e. ap (λ b. cond b (marked (Held unit) e) e) (best_any_order queue xs e)) (sorted xs))
+    (each_of _ (λ e. ap (λ b. cond b (marked (Held unit) e) e) (best_any_order queue xs e)) (sorted xs))
     ∙ map_sorted (λ e. cond (is_best queue xs e) (marked (Held unit) e) e) (λ e. held_id (is_best queue xs e) unit e) xs
 
 -- a list of elements in front of another is put in element by element

@@ -1,3 +1,4 @@
+use Rattle.std.proofs.Common.{refl}
 use Rattle.std.proofs.Common.{◌≡◌, ◌<◌, ◌≤◌, drop, sym, ap, ◌∙◌, subst, arith, List, ◌∷◌, ◌++◌, reverse}
 use Rattle.std.specs.List.{AllByRecursion}
 use Rattle.rq_model.specs.Queues.{Part, Op, Move}
@@ -13,16 +14,14 @@ pub catch_up-requires-clause-well : goal.catch_up-requires-clause-well
 catch_up-requires-clause-well c =
     let m = c.in-Some.arrival in
     let left = reverse c.pop.new.self.items in
-    let back : reverse c.loop-arrival.coming.items ≡ m ∷ left =
-    popped c.loop-arrival.coming.items c.pop.new.self.items m c.in-Some.ensures.items in
+    let back = popped c.loop-arrival.coming.items c.pop.new.self.items m c.in-Some.ensures.items in
     let since : AllByRecursion (λ n. c.place.result ≤ n.place) (m ∷ left)
     = (
       omega arith,
       each_weaker (λ n. m.place ≤ n.place) (λ n. c.place.result ≤ n.place) (λ n h. omega arith) left
           (subst AreRising back c.loop-arrival.invariant.rising).0,
     ) in
-    let well : GoesWell c.loop-arrival.part (drop c.loop-arrival.done c.args.ops.now) (m ∷ left)
-    = subst (GoesWell c.loop-arrival.part (drop c.loop-arrival.done c.args.ops.now)) back
+    let well = subst (GoesWell c.loop-arrival.part (drop c.loop-arrival.done c.args.ops.now)) back
     c.loop-arrival.invariant.well in
     (m ∷ left, since, well)
 
@@ -30,16 +29,14 @@ pub receive-requires : goal.receive-requires
 receive-requires c =
     let m = c.in-Some.arrival in
     let left = reverse c.pop.new.self.items in
-    let back : reverse c.loop-arrival.coming.items ≡ m ∷ left =
-    popped c.loop-arrival.coming.items c.pop.new.self.items m c.in-Some.ensures.items in
+    let back = popped c.loop-arrival.coming.items c.pop.new.self.items m c.in-Some.ensures.items in
     let since : AllByRecursion (λ n. c.place.result ≤ n.place) (m ∷ left)
     = (
       omega arith,
       each_weaker (λ n. m.place ≤ n.place) (λ n. c.place.result ≤ n.place) (λ n h. omega arith) left
           (subst AreRising back c.loop-arrival.invariant.rising).0,
     ) in
-    let well : GoesWell c.loop-arrival.part (drop c.loop-arrival.done c.args.ops.now) (m ∷ left)
-    = subst (GoesWell c.loop-arrival.part (drop c.loop-arrival.done c.args.ops.now)) back
+    let well = subst (GoesWell c.loop-arrival.part (drop c.loop-arrival.done c.args.ops.now)) back
     c.loop-arrival.invariant.well in
     let rest_ops = drop c.in_ok-caught.next c.args.ops.now in
     let stops : (op : Op) (ops : List Op) → rest_ops ≡ op ∷ ops → m.place < op.place
@@ -52,16 +49,14 @@ pub loop-arrival-preserved : goal.loop-arrival-preserved
 loop-arrival-preserved c =
     let m = c.in-Some.arrival in
     let left = reverse c.pop.new.self.items in
-    let back : reverse c.loop-arrival.coming.items ≡ m ∷ left =
-    popped c.loop-arrival.coming.items c.pop.new.self.items m c.in-Some.ensures.items in
+    let back = popped c.loop-arrival.coming.items c.pop.new.self.items m c.in-Some.ensures.items in
     let since : AllByRecursion (λ n. c.place.result ≤ n.place) (m ∷ left)
     = (
       omega arith,
       each_weaker (λ n. m.place ≤ n.place) (λ n. c.place.result ≤ n.place) (λ n h. omega arith) left
           (subst AreRising back c.loop-arrival.invariant.rising).0,
     ) in
-    let well : GoesWell c.loop-arrival.part (drop c.loop-arrival.done c.args.ops.now) (m ∷ left)
-    = subst (GoesWell c.loop-arrival.part (drop c.loop-arrival.done c.args.ops.now)) back
+    let well = subst (GoesWell c.loop-arrival.part (drop c.loop-arrival.done c.args.ops.now)) back
     c.loop-arrival.invariant.well in
     let rest_ops = drop c.in_ok-caught.next c.args.ops.now in
     let stops : (op : Op) (ops : List Op) → rest_ops ≡ op ∷ ops → m.place < op.place

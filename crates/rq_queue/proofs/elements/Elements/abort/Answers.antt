@@ -1,3 +1,4 @@
+use Rattle.std.proofs.Common.{arith}
 use Rattle.std.proofs.Common.{◌≡◌, ◌+◌, ◌<◌, ◌^◌, ◌∙◌, ◌++◌, sym, ap, subst, List, filter}
 use Rattle.std.specs.List.{AllByRecursion}
 use Rattle.std.specs.Map.{values_of}
@@ -16,11 +17,10 @@ use Rattle.rq_queue.proofs.elements.Elements.abort.Goals as goal
 pub all_returned-requires-clause-room : goal.all_returned-requires-clause-room
 all_returned-requires-clause-room c =
     each_listed c.any_order.ensures.order c.self.inside.free.entries c.self.inside.marked.entries
-    c.taken-marked.result.0.entries c.taken-marked.result.1.items c.taken-marked.ensures.among
-    c.self.invariant.apart (λ (e : Element). e.attempts + 1 < 2 ^ 64)
-    (each_unsorted (λ (e : Element). e.attempts + 1 < 2 ^ 64)
-    (values_of c.self.inside.free.entries ++ items_of c.self.inside.marked.entries)
-    (subst (AllByRecursion (λ (e : Element). e.attempts + 1 < 2 ^ 64)) (sym c.self.view_is) c.requires))
+    c.taken-marked.result.0.entries c.taken-marked.result.1.items c.taken-marked.ensures.among c.self.invariant.apart
+    (λ (e : Element). e.attempts + 1 < 2 ^ 64)
+    (each_unsorted _ _ (subst (AllByRecursion (λ (e : Element). e.attempts + 1 < 2 ^ 64))
+    (sym c.self.view_is) c.requires))
 
 pub in_order-requires : goal.in_order-requires
 in_order-requires c = subst (λ (xs : List Element). Ordered (λ (e f : Element). e.id < f.id) (sorted xs))
@@ -56,10 +56,7 @@ returns-clause-kept c =
 
 pub returns-clause-sent : goal.returns-clause-sent
 returns-clause-sent c =
-    let gone : filter (leaves c.args.home.now c.args.unit.0)
-    (sorted (values_of c.self.inside.free.entries ++ items_of c.self.inside.marked.entries))
-    ≡ sorted (filter (leaves c.args.home.now c.args.unit.0) c.taken-marked.result.1.items)
-    = departed c.any_order.ensures.order c.args.home.now c.args.unit.0 c.self.inside.free.entries
+    let gone = departed c.any_order.ensures.order c.args.home.now c.args.unit.0 c.self.inside.free.entries
     c.self.inside.marked.entries c.taken-marked.result.0.entries c.taken-marked.result.1.items
     c.self.invariant.keyed c.taken-marked.ensures.among c.taken-marked.ensures.absent c.taken-marked.ensures.of_units
     c.self.invariant.apart in

@@ -1,3 +1,4 @@
+use Rattle.std.proofs.Common.{arith}
 use Rattle.std.proofs.Common.{◌≡◌, ◌++◌, ap, ◌∙◌, subst, sym}
 use Rattle.std.specs.List.{AllByRecursion}
 use Rattle.std.specs.Map.{values_of}
@@ -18,9 +19,7 @@ without-requires-clause-apart c =
     apart_front (values_of c.self.inside.free.entries) (items_of c.self.inside.marked.entries) c.self.invariant.apart
 
 pub without-requires-clause-known : goal.without-requires-clause-known
-without-requires-clause-known c =
-    each_front (IsKnown c.in_ok-by_id.by_id.entries) (values_of c.self.inside.free.entries)
-    (items_of c.self.inside.marked.entries) c.in_ok-by_id.ensures.known
+without-requires-clause-known c = each_front _ _ _ c.in_ok-by_id.ensures.known
 
 pub invariant_of-result : goal.invariant_of-result
 invariant_of-result c =
@@ -33,8 +32,7 @@ invariant_of-result c =
       of_units = c.self.invariant.of_units;
       apart = done.1;
       known = subst (AllByRecursion (IsKnown c.in_ok-by_id.by_id.entries)) (sym done.0)
-          (known_killed c.in_ok-by_id.by_id.entries c.args.queue.0 c.args.id.0
-          (values_of c.self.inside.free.entries ++ items_of c.self.inside.marked.entries) c.in_ok-by_id.ensures.known);
+          (known_killed _ _ _ _ c.in_ok-by_id.ensures.known);
     }
 
 pub returns-clause-done : goal.returns-clause-done

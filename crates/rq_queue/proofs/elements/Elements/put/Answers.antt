@@ -1,3 +1,5 @@
+use Rattle.std.proofs.Common.{arith}
+use Rattle.std.proofs.Common.{refl}
 use Rattle.std.proofs.Common.{◌≢◌, ◌∙◌, ◌++◌, sym, ap, subst}
 use Rattle.std.specs.List.{AllByRecursion}
 use Rattle.std.specs.Map.{values_of}
@@ -38,8 +40,7 @@ invariant_of-result-in-Some c =
     let e = c.args.e in
     let free = values_of c.self.inside.free.entries in
     let held = items_of c.self.inside.marked.entries in
-    let others : AllByRecursion (λ (x : Element). e.id ≢ x.id) (free ++ held) =
-    others_of e (free ++ held)
+    let others = others_of e (free ++ held)
     (subst (AllByRecursion (λ (x : Element). x.id ≢ e.id)) (sym c.self.view_is) c.requires) in
     record {
       keyed = c.self.invariant.keyed;
@@ -73,8 +74,7 @@ returns-in_ok-marked-in-Some-clause-done c =
     let e = c.args.e in
     let free = values_of c.self.inside.free.entries in
     let held = items_of c.self.inside.marked.entries in
-    let others : AllByRecursion (λ (x : Element). e.id ≢ x.id) (free ++ held) =
-    others_of e (free ++ held)
+    let others = others_of e (free ++ held)
     (subst (AllByRecursion (λ (x : Element). x.id ≢ e.id)) (sym c.self.view_is) c.requires) in
     stowed_sorted c.any_order.ensures.order e free c.self.inside.marked.entries c.in_ok-marked-in-Some.marked.entries
     c.in_ok-marked-in-Some.ensures.stowed (others, c.self.invariant.apart)

@@ -1,3 +1,5 @@
+use Rattle.std.proofs.Common.{arith}
+use Rattle.std.proofs.Common.{refl}
 use Rattle.std.proofs.Common.{◌≡◌, ℕ, true, not, filter, sym, ap, ◌∙◌, subst, List, [], if◌then◌else◌}
 use Rattle.std.specs.Map.{values_of}
 use Rattle.std.specs.Ordering.{is_eq, nat_cmp}
@@ -17,12 +19,9 @@ invariant_of-result c =
     let es = notes.all.entries in
     let k : ℕ × List ℕ = (c.args.queue.0, c.args.name.now) in
     let own = is_note_of c.args.queue.0 c.args.name.now in
-    let is_filed = λ (j : ℕ × List ℕ). (m : ℕ × List ℕ)
-    → filed key_cmp m c.unfiled-names.result.0.entries
+    let is_filed = λ (j : ℕ × List ℕ). (m : ℕ × List ℕ) → filed key_cmp m c.unfiled-names.result.0.entries
     ≡ (if is_eq (key_cmp j m) then [] else filed key_cmp m notes.names.entries) in
-    let others : c.without-all.result.entries ≡ filter (λ (e : NoteEntry). not (own e.1)) es
-    = c.without-all.ensures
-    ∙ (ap (λ (ps : List ℕ). left (OfRegistrant c.args.queue c.args.name.now) ps es)
+    let others = c.without-all.ensures ∙ (ap (λ (ps : List ℕ). left (OfRegistrant c.args.queue c.args.name.now) ps es)
     (c.deref.ensures.value
     ∙ (c.unfiled-names.ensures.places ∙ ap (λ (j : ℕ × List ℕ). filed key_cmp j notes.names.entries)
     c.in_ok-key.ensures.key))
@@ -32,8 +31,7 @@ invariant_of-result c =
     subst (λ (xs : List NoteEntry). AreKept xs notes.units.entries c.unfiled-names.result.0.entries) (sym others)
     (record {
       by_place = filtered_by_place (λ (e : NoteEntry). not (own e.1)) es c.self.invariant.by_place;
-      by_unit = each_filter (λ (e : NoteEntry). has_place e.0 (filed nat_cmp e.1.unit notes.units.entries) ≡ true)
-          (λ (e : NoteEntry). not (own e.1)) es c.self.invariant.by_unit;
+      by_unit = each_filter _ _ es c.self.invariant.by_unit;
       by_name = others_filed key_cmp key_total (λ (m : Note). (m.queue, m.name)) k own
           (note_at k) notes.names.entries c.unfiled-names.result.0.entries
           (subst is_filed c.in_ok-key.ensures.key c.unfiled-names.ensures.others) es c.self.invariant.by_name;

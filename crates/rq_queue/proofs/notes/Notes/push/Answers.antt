@@ -1,3 +1,4 @@
+use Rattle.std.proofs.Common.{arith}
 use Rattle.std.proofs.Common.{◌≡◌, ◌<◌, ◌++◌, ◌∷◌, [], sym, ap, ◌∙◌, subst, List}
 use Rattle.std.specs.BTreeMap.{insert_entry}
 use Rattle.std.specs.List.{AllByRecursion}
@@ -15,8 +16,7 @@ invariant_of-result c =
     let n = c.args.n in
     let notes = c.self.inside in
     let below = subst (AllByRecursion (λ (m : Note). m.last.place < n.last.place)) (sym c.self.view_is) c.requires in
-    let added : c.insert.new.self.entries ≡ notes.all.entries ++ (n.last.place, n) ∷ []
-    = c.in_ok-insert.ensures.entries
+    let added = c.in_ok-insert.ensures.entries
     ∙ ((λ i. insert_entry nat_cmp notes.all.entries (c.place-place.ensures i) (c.in_ok-kept.ensures.kept i))
     ∙ added_last n notes.all.entries c.self.invariant.by_place below) in
     subst (λ (es : List NoteEntry). AreKept es c.in_ok-units.units.entries c.in_ok-names.names.entries) (sym added)

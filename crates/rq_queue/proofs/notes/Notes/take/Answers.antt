@@ -1,3 +1,5 @@
+use Rattle.std.proofs.Common.{arith}
+use Rattle.std.proofs.Common.{refl}
 use Rattle.std.proofs.Common.{◌≡◌, ◌==◌, ◌++◌, ℕ, true, not, filter, sym, ap, ◌∙◌, subst, List}
 use Rattle.std.specs.Map.{values_of}
 use Rattle.std.specs.Ordering.{nat_cmp}
@@ -20,8 +22,7 @@ invariant_of-notes c =
     let es = notes.all.entries in
     let unit = c.args.unit in
     let own = λ (n : Note). n.unit == unit.0 in
-    let others : c.in_ok-all.all.entries ≡ filter (λ (e : NoteEntry). not (own e.1)) es
-    = c.in_ok-all.ensures.left
+    let others = c.in_ok-all.ensures.left
     ∙ (ap (λ (ps : List ℕ). left (OfUnit unit) ps es) (c.deref.ensures.value ∙ c.unfiled-units.ensures.places)
     ∙ left_all (OfUnit unit) (filed nat_cmp unit.0 notes.units.entries) es
     (all_filed nat_cmp nat_cmp_total (λ (m : Note). m.unit) unit.0 own
@@ -32,8 +33,7 @@ invariant_of-notes c =
       by_unit = others_filed nat_cmp nat_cmp_total (λ (m : Note). m.unit) unit.0 own
           (λ n. same_number unit.0 n.unit) notes.units.entries c.unfiled-units.result.0.entries
           c.unfiled-units.ensures.others es c.self.invariant.by_unit;
-      by_name = each_filter (λ (e : NoteEntry). has_place e.0 (filed key_cmp (e.1.queue, e.1.name) notes.names.entries)
-          ≡ true) (λ (e : NoteEntry). not (own e.1)) es c.self.invariant.by_name;
+      by_name = each_filter _ _ es c.self.invariant.by_name;
     })
 
 pub in_order-requires : goal.in_order-requires
@@ -60,8 +60,7 @@ returns-clause-taken c =
     let unit = c.args.unit in
     let own = λ (n : Note). n.unit == unit.0 in
     let drawn = c.in_ok-all.own.items in
-    let rest : c.in_ok-all.all.entries ≡ left (OfUnit unit) (filed nat_cmp unit.0 notes.units.entries) es
-    = c.in_ok-all.ensures.left ∙ ap (λ (ps : List ℕ). left (OfUnit unit) ps es)
+    let rest = c.in_ok-all.ensures.left ∙ ap (λ (ps : List ℕ). left (OfUnit unit) ps es)
     (c.deref.ensures.value ∙ c.unfiled-units.ensures.places) in
     c.in_order.ensures
     ∙ (values_drawn (OfUnit unit) (filed nat_cmp unit.0 notes.units.entries) es

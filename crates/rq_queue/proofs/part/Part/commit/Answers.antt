@@ -10,9 +10,7 @@ pub returns-clause-done : goal.returns-clause-done
 returns-clause-done c =
     let unit = c.args.unit.0 in
     let part = c.self.inside in
-    let heard : c.in_ok-self-inside.field-0 ≡ map (told unit part.notes) part.registrants
-    = c.in_ok-self-inside.ensures.done
-    ∙ (ap (λ (ns : List Note). map (told unit ns) part.registrants)
+    let heard = c.in_ok-self-inside.ensures.done ∙ (ap (λ (ns : List Note). map (told unit ns) part.registrants)
     (c.deref.ensures.value ∙ c.in_ok-notes.ensures.taken) ∙ told_own unit part.notes part.registrants) in
     (λ i. record {
       queue = part.queue.0;

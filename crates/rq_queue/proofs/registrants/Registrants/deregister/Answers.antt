@@ -1,3 +1,4 @@
+use Rattle.std.proofs.Common.{arith}
 use Rattle.std.proofs.Common.{sym, ap, ◌∙◌, subst, map, not, ℕ, List}
 use Rattle.std.specs.Ordering.{is_eq}
 use Rattle.std.specs.declared.cmp.Ordering.TheVariants.{Less}
@@ -15,8 +16,7 @@ invariant_of-result c =
     let k = c.in_ok-key.key in
     subst IsRoll (sym (c.remove.ensures.entries
     ∙ removed key_cmp key_total k c.self.inside.lasts.entries c.self.invariant))
-    (ordered_filter (λ (a b : RollEntry). key_cmp a.0 b.0 ≡ Less)
-    (λ (e : RollEntry). not (is_eq (key_cmp k e.0))) c.self.inside.lasts.entries c.self.invariant)
+    (ordered_filter _ _ _ c.self.invariant)
 
 pub returns-clause-done : goal.returns-clause-done
 returns-clause-done c =

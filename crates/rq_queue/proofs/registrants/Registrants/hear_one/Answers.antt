@@ -18,8 +18,7 @@ invariant_of-result c = subst IsRoll (sym c.in_ok-insert-in-Some.ensures.entries
 
 pub returns-in-None-clause-done : goal.returns-in-None-clause-done
 returns-in-None-clause-done c =
-    let none : lookup (is_at (key_cmp (c.args.note.now.queue, c.args.note.now.name))) c.self.inside.lasts.entries ≡ None
-    = subst (λ (k : ℕ × List ℕ). lookup (is_at (key_cmp k)) c.self.inside.lasts.entries ≡ None)
+    let none = subst (λ (k : ℕ × List ℕ). lookup (is_at (key_cmp k)) c.self.inside.lasts.entries ≡ None)
     (c.in_ok-key.ensures.key ∙ c.key.ensures) (sym c.in-None.ensures.value) in
     sym c.self.view_is ∙ (nobody_hears c.args.unit.0 c.args.note.now c.self.inside.lasts.entries none
     ∙ ap (map (heard c.args.unit.0 c.args.note.now)) c.self.view_is)
@@ -28,8 +27,7 @@ pub returns-in_ok-insert-in-Some-clause-done : goal.returns-in_ok-insert-in-Some
 returns-in_ok-insert-in-Some-clause-done c =
     let n = c.args.note.now in
     let w = c.in-Some.last.now in
-    let found : lookup (is_at (key_cmp (n.queue, n.name))) c.self.inside.lasts.entries ≡ Some w
-    = subst (λ (k : ℕ × List ℕ). lookup (is_at (key_cmp k)) c.self.inside.lasts.entries ≡ Some w)
+    let found = subst (λ (k : ℕ × List ℕ). lookup (is_at (key_cmp k)) c.self.inside.lasts.entries ≡ Some w)
     (c.in_ok-key.ensures.key ∙ c.key.ensures) (sym c.in-Some.ensures.value) in
     ap (map registrant_of) (c.in_ok-insert-in-Some.ensures.entries
     ∙ (λ i. insert_entry key_cmp c.self.inside.lasts.entries ((c.in_ok-key.ensures.key ∙ c.key.ensures) i)
