@@ -18,4 +18,4 @@ returns-clause-refused g c = audit_fault c.in_ok-bytes.bytes.items c.audit_of_re
 pub returns-clause-takes : goal.returns-clause-takes
 returns-clause-takes g c = all_taken (g.I.Input.remaining c.args.input.now)
     (g.I.Input.remaining c.read_log.new.input) c.in_ok-bytes.bytes.items c.audit_of_read.result
-        c.in_ok-bytes.ensures.bytes
+    c.in_ok-bytes.ensures.bytes
