@@ -55,7 +55,7 @@ fn change_of(it: &Numbered, effect: Effect) -> Option<(u32, bool)> {
             Record::Kill { queue, .. } => Some((queue.0, false)),
             _ => None,
         },
-        Effect::Put | Effect::Nothing | Effect::Undone => None,
+        Effect::Put | Effect::Undone => None,
     }
 }
 
@@ -94,7 +94,10 @@ impl Survey {
     // What happens to elements at a record.
     fn take_events(&mut self, it: &Numbered, events: &[Event], bin: u64) -> Result<(), AllocError> {
         for event in events {
-            if let Some((queue, grows)) = change_of(it, event.effect) {
+            let Event::To(_, effect) = event else {
+                continue;
+            };
+            if let Some((queue, grows)) = change_of(it, *effect) {
                 if let Some(depth) = self.depths.get_mut(queue as usize) {
                     depth.change(bin, grows)?;
                 }

@@ -1,10 +1,16 @@
-use Rattle.std.proofs.Common.{arith}
-use Rattle.std.proofs.Common.{◌∙◌}
+use Rattle.std.proofs.Common.{◌∙◌, []}
+use Rattle.std.specs.Prelude.{None}
 use Rattle.rq_model.specs.States as model
 use Rattle.rq_state.proofs.state.State.copied_notes_of.Goals as goal
 
 any : model.Note
-any = grind arith
+any = record {
+  unit = 0;
+  queue = 0;
+  name = [];
+  last =
+      record { place = 0; kind = model.Enqueued; tag = 0; element = None };
+}
 
 pub returns-clause-notes : goal.returns-clause-notes
 returns-clause-notes c = c.in_ok-copies.ensures.copied any ∙ c.notes_of.ensures.notes any
