@@ -1,9 +1,7 @@
 -- The blocks of a padded message, from where its bytes stand.
-use Rattle.std.proofs.Common.{◌≡◌, ◌≢◌, ℕ, zero, suc, ◌+◌, ◌-◌, ◌*◌, ◌/◌, ◌%◌, ◌≤◌, ◌<◌, List, [], length, take, drop}
-use Rattle.std.proofs.Common.{refl, sym, ap, ◌∙◌, arith, slice_index, slice_set, inl, inr}
-use Rattle.std.proofs.lemmas.List.{length-take, length-drop, drop-take, drop-drop, take-take, get_or-set_same}
-use Rattle.std.proofs.lemmas.List.{get_or-set_other}
-use Rattle.std.proofs.lemmas.Bool.{cases_lt}
+use Rattle.std.proofs.Common.{◌≡◌, ℕ, zero, suc, ◌+◌, ◌-◌, ◌*◌, ◌/◌, ◌%◌, ◌≤◌, ◌<◌, List, length, take, drop}
+use Rattle.std.proofs.Common.{refl, sym, ap, ◌∙◌, arith, slice_index}
+use Rattle.std.proofs.lemmas.List.{length-take, length-drop, drop-take, drop-drop, take-take}
 use Rattle.sha2.specs.Sha256.{hash_after, compress, initial_hash_256, padded_message}
 use Rattle.sha2.proofs.Absorbing256.{hash_after_next}
 use Rattle.rq_lanes.specs.Columns.{word_in, lane}
@@ -95,26 +93,3 @@ below_eight P p0 p1 p2 p3 p4 p5 p6 p7 (suc (suc (suc (suc (suc (suc (suc (suc n)
 pub word_of_lane : (hash : List (List ℕ)) (j i : ℕ) → i < 8 → slice_index (lane j hash) i ≡ word_in hash i j
 word_of_lane hash j = below_eight (λ i. slice_index (lane j hash) i ≡ word_in hash i j) refl refl refl refl refl refl
     refl refl
-
--- a row that was set, and the others
-pub row-set_same : (hash : List (List ℕ)) (i k : ℕ) (row : List ℕ) → i < length hash
-    → word_in (slice_set hash i row) i k ≡ slice_index row k
-row-set_same hash i k row low = ap (λ (x : List ℕ). slice_index x k) (get_or-set_same hash i row [] low)
-
-pub row-set_other : (hash : List (List ℕ)) (i r k : ℕ) (row : List ℕ) → r ≢ i
-    → word_in (slice_set hash i row) r k ≡ word_in hash r k
-row-set_other hash i r k row ne = ap (λ (x : List ℕ). slice_index x k) (get_or-set_other hash i r row [] ne)
-
--- the words of another lane, where a row keeps its own
-pub other_words : (hash : List (List ℕ)) (i r k : ℕ) (row : List ℕ) → i < length hash
-    → slice_index row k ≡ word_in hash i k → word_in (slice_set hash i row) r k ≡ word_in hash r k
-other_words hash i r k row low same =
-    elim (cases_lt r i) [
-      | inl a ↦ row-set_other hash i r k row (omega arith)
-      | inr b ↦ elim (cases_lt i r) [
-        | inl a ↦ row-set_other hash i r k row (omega arith)
-        | inr e ↦
-            let at : i ≡ r = omega arith in
-            rw (← at) (row-set_same hash i k row low ∙ same)
-      ]
-    ]

@@ -20,7 +20,7 @@ use Rattle.rq_model.proofs.Upgraded.{record_is_wider}
 use Rattle.rq_writer.specs.Script.{IsTellable}
 use Rattle.rq_look.specs.declared.trouble.Trouble.{Trouble}
 use Rattle.rq_look.specs.declared.trouble.Trouble.TheVariants.{Log, Output, Untold, NoQueue, Nothing}
-use Rattle.rq_look.specs.Scripts.{line_of, script_text, PutsScript, IsDash, by_in, LeavesBody, LeavesOut}
+use Rattle.rq_look.specs.Scripts.{script_line, script_text, PutsScript, IsDash, by_in, LeavesBody, LeavesOut}
 
 -- some records of the front are told, in what is appended and in the text; the frames of the others are left
 pub record IsUnderWay (b rest : List ℕ) (number : ℕ) (text : List ℕ) (old now : Option (List ℕ)) : Type 0 where
@@ -121,18 +121,18 @@ few b version done todo behind front = omega (
 
 -- one more is told
 told_more : (done : List Record) (r : Record) (put more text new : List ℕ) → put ++ text ≡ script_text done
-    → text ++ line_of r ≡ more ++ new → (put ++ more) ++ new ≡ script_text (done ++ r ∷ [])
+    → text ++ script_line r ≡ more ++ new → (put ++ more) ++ new ≡ script_text (done ++ r ∷ [])
 told_more done r put more text new told e =
-    append_assoc put more new ∙ ap (λ (z : List ℕ). put ++ z) (sym e) ∙ sym (append_assoc put text (line_of r))
-    ∙ ap (λ (z : List ℕ). z ++ line_of r) told
-    ∙ ap (λ (z : List ℕ). script_text done ++ z) (sym (append-nil (line_of r)))
-    ∙ sym (flat_map-append line_of done (r ∷ []))
+    append_assoc put more new ∙ ap (λ (z : List ℕ). put ++ z) (sym e) ∙ sym (append_assoc put text (script_line r))
+    ∙ ap (λ (z : List ℕ). z ++ script_line r) told
+    ∙ ap (λ (z : List ℕ). script_text done ++ z) (sym (append-nil (script_line r)))
+    ∙ sym (flat_map-append script_line done (r ∷ []))
 
 pub goes_on : (b rest : List ℕ) (number : ℕ) (text : List ℕ) (old now : Option (List ℕ)) (after : List ℕ) (count : ℕ)
     (new : List ℕ) (last : Option (List ℕ)) (body more : List ℕ) (r : Record)
     → IsUnderWay b rest number text old now → 36 + stated rest ≤ length rest → body ≡ body_in rest
     → after ≡ drop (36 + stated rest) rest → count ≡ min (number + 1) 18446744073709551615
-    → Spells Two r body → IsTellable r → Appends now last more → text ++ line_of r ≡ more ++ new
+    → Spells Two r body → IsTellable r → Appends now last more → text ++ script_line r ≡ more ++ new
     → IsUnderWay b after count new old last
 goes_on b rest number text old now after count new last body more r u room body_is after_is count_is is told appends e =
     let next = next_of b u.version u.done u.todo u.behind u.place rest u.front u.left room in

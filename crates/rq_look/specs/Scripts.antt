@@ -10,12 +10,12 @@ use Rattle.rq_look.specs.declared.trouble.Trouble.{Trouble}
 use Rattle.rq_look.specs.declared.trouble.Trouble.TheVariants.{Untold}
 
 -- the line of a record
-abbrev pub line_of : Record → List ℕ
-line_of r = record_text r ++ codes "\n"
+abbrev pub script_line : Record → List ℕ
+script_line r = record_text r ++ codes "\n"
 
 -- a line for each record, in order
 abbrev pub script_text : List Record → List ℕ
-script_text rs = flat_map line_of rs
+script_text rs = flat_map script_line rs
 
 -- the front of b as a script tells it, which can tell each of its records
 abbrev pub IsScriptOf : List ℕ → List ℕ → Type 0

@@ -5,9 +5,9 @@ use Rattle.rq_look.specs.declared.frames.Walk.{Walk}
 use Rattle.rq_look.specs.declared.frames.Placed.{Placed}
 
 -- the frame at the front of what is left, and what stands behind it; none where there is none
-abbrev pub StepsOn : Walk → Option Placed → Walk → Type 0
-StepsOn old None new = length old.rest.now < 36 + stated old.rest.now
-StepsOn old (Some placed) new = (36 + stated old.rest.now ≤ length old.rest.now)
+abbrev pub WalksOn : Walk → Option Placed → Walk → Type 0
+WalksOn old None new = length old.rest.now < 36 + stated old.rest.now
+WalksOn old (Some placed) new = (36 + stated old.rest.now ≤ length old.rest.now)
     × (placed.body.now ≡ body_in old.rest.now)
     × (new.rest.now ≡ drop (36 + stated old.rest.now) old.rest.now)
     × (placed.number ≡ old.number)

@@ -91,9 +91,9 @@ impl<'a> Iterator for Walk<'a> {
 
     ghost use Rattle.std.specs.Prelude.{length};
     ghost use Rattle.std.specs.Iterator.{at_most};
-    ghost use Rattle.rq_look.specs.Walks.{StepsOn};
+    ghost use Rattle.rq_look.specs.Walks.{WalksOn};
 
-    ghost next_gives = { λ s r t. StepsOn s r t };
+    ghost next_gives = { λ s r t. WalksOn s r t };
 
     ghost remaining = { λ s. at_most (length s.rest.now) };
 

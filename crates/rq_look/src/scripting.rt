@@ -15,7 +15,7 @@ ghost use Rattle.rq_record.specs.Views.{record_of};
 ghost use Rattle.rq_writer.specs.Script.{record_text, who_name, who_tag, IsNamed, IsTellable};
 ghost use Rattle.rq_look.specs.Looks.{BreaksOff, IsKnownWhole, StaysUntold};
 ghost use Rattle.rq_look.specs.Scripts.{IsDash, IsLeft, LeavesBody, LeavesOut, PutsScript, by_in};
-ghost use Rattle.rq_look.specs.Scripts.{line_of};
+ghost use Rattle.rq_look.specs.Scripts.{script_line};
 
 use crate::ends::{end_of, is_whole};
 use crate::frames::{Placed, Walk};
@@ -201,7 +201,7 @@ fn is_untold(r: &Record) -> bool
 
 fn put_line(alloc: Global, text: &mut String, it: &Numbered) -> Result<(), Trouble>
     ensures line { OnOk result
-        (string_bytes text.new ≡ string_bytes text.old ++ line_of (record_of it.now.record)) }
+        (string_bytes text.new ≡ string_bytes text.old ++ script_line (record_of it.now.record)) }
     ensures tellable { OnOk result (IsTellable (record_of it.now.record)) }
     ensures untold { IfErr result (IsLeft it.now.number (record_of it.now.record)) }
     ensures refused { IfErr result BreaksOff }
@@ -223,7 +223,7 @@ fn put_placed<W: io::Write>(
     ensures line { OnOk result ((r : model.Record) × (put : List ℕ)
         × Spells Two r placed.entry.body.now × IsTellable r
         × Appends (W.contents output.old) (W.contents output.new) put
-        × (string_bytes text.old ++ line_of r ≡ put ++ string_bytes text.new)) }
+        × (string_bytes text.old ++ script_line r ≡ put ++ string_bytes text.new)) }
     ensures untold { IfErr result (LeavesBody placed.entry.number placed.entry.body.now) }
     ensures refused { IfErr result BreaksOff }
 {

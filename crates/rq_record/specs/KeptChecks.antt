@@ -5,9 +5,9 @@ use Rattle.rq_record.specs.declared.check_bytes.Kept.{Kept}
 use Rattle.rq_record.specs.declared.check_bytes.Kept.TheVariants.{Own, Part}
 
 -- its own, or a part of what is shared
-abbrev pub told : Kept → List ℕ
-told (Own bytes) = bytes.items
-told (Part whole start len) = slice_range (arc_slice_items whole) start (start + len)
+abbrev pub check_bytes_of : Kept → List ℕ
+check_bytes_of (Own bytes) = bytes.items
+check_bytes_of (Part whole start len) = slice_range (arc_slice_items whole) start (start + len)
 
 -- no more than a checkpoint may have; the part is inside the whole
 abbrev pub FitsCheck : Kept → Type 0

@@ -31,11 +31,11 @@ enum Kept {
 
 impl Model for CheckBytes {
     ghost use Rattle.std.specs.Prelude.{ℕ, List};
-    ghost use Rattle.rq_record.specs.KeptChecks.{told, FitsCheck};
+    ghost use Rattle.rq_record.specs.KeptChecks.{check_bytes_of, FitsCheck};
 
     ghost Value = { List ℕ };
 
-    ghost view = { λ p. told p.bytes };
+    ghost view = { λ p. check_bytes_of p.bytes };
 
     ghost invariant = { λ p. FitsCheck p.bytes };
 }

@@ -3,7 +3,6 @@ use Rattle.std.proofs.Common.{◌≡◌, ℕ, List, [], Option, Some, None, Err,
 use Rattle.std.proofs.lemmas.Option.{same_Some}
 use Rattle.rq_model.specs.Records.{Version}
 use Rattle.rq_model.specs.States.{Registrant, State}
-use Rattle.rq_model.specs.WellFormed.{IsWellFormed}
 use Rattle.rq_model.specs.StateSpelling.{state_bytes, FitsRegistrant, Fits}
 use Rattle.rq_model.specs.StateSpelling.{SpellsState}
 use Rattle.rq_bytes.specs.Readers.{alone, after_of}
@@ -37,9 +36,6 @@ fits s h = record {
 again : (version : Version) (s : State) (bytes : List ℕ) → SpellsState version s bytes
     → alone state_read bytes ≡ Some (s, [])
 again version s bytes h = read_again bytes s (reads_alone reads_state) (is_spelled version s bytes h) h.spelling
-
-pub kept_well : (version : Version) (s : State) → KeepsAll version s → IsWellFormed s
-kept_well version s k = grind arith
 
 no_state : (version : Version) (bytes : List ℕ) → alone state_read bytes ≡ None → (s : State)
     → SpellsState version s bytes → ⊥

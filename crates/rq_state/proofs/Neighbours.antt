@@ -1,8 +1,7 @@
 -- Neighbours of a list in order.
-use Rattle.std.proofs.Common.{◌≡◌, ℕ, zero, suc, ◌+◌, Bool, true, List, [], ◌∷◌, length, map, subst, arith}
+use Rattle.std.proofs.Common.{◌≡◌, ℕ, zero, suc, ◌+◌, List, [], ◌∷◌, length, map, subst, arith}
 use Rattle.std.specs.Prelude.{slice_index_or}
 use Rattle.std.specs.List.{AllByRecursion, AllAdjacentBelow}
-use Rattle.std.specs.Cmp.{IsStrictWeakOrder}
 use Rattle.rq_model.specs.WellFormed.{Ordered}
 use Rattle.rq_model.proofs.Lists.{each_weaker}
 
@@ -27,11 +26,6 @@ from_next R through (x ∷ y ∷ ys) h =
     (grind arith)) in
     let first = h 0 x (omega arith) in
     ((first, each_weaker (R y) (R x) (λ z. grind arith) ys others.0), others)
-
--- an order's test goes through
-pub goes_through : {X : Type 0} (before : X → X → Bool) → IsStrictWeakOrder before → (x y z : X) → before x y ≡ true
-    → before y z ≡ true → before x z ≡ true
-goes_through before order x y z p q = grind arith
 
 pub ordered_unmap : {X Y : Type 0} (R : Y → Y → Type 0) (f : X → Y) (xs : List X) → Ordered R (map f xs)
     → Ordered (λ a b. R (f a) (f b)) xs
