@@ -12,7 +12,6 @@ use Rattle.indexmap.specs.IndexSet.{contains}
 use Rattle.rq_model.specs.States as model
 use Rattle.rq_model.specs.Machine as machine
 use Rattle.rq_model.specs.Machine.{is_open}
-use Rattle.rq_model.specs.States.{is_registrant}
 use Rattle.rq_model.specs.Queues.{is_engaged}
 use Rattle.rq_model.specs.WellFormed.{IsWellFormed}
 use Rattle.rq_model.proofs.Lists.{by_cases}

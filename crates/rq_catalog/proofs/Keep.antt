@@ -9,10 +9,10 @@ use Rattle.std.proofs.lemmas.Bool.{cases_Bool, and_parts, and_from, eqb-true, eq
 use Rattle.std.proofs.lemmas.List.{map-append, length-append, append-nil}
 use Rattle.indexmap.specs.IndexMap.{get}
 use Rattle.rq_model.specs.Records as model
-use Rattle.rq_model.specs.Records.{Version, no_queue}
+use Rattle.rq_model.specs.Records.{Version}
 use Rattle.rq_model.specs.States.{State, Definition, Registrant, Element, Note, is_registrant, put, registrant_before}
 use Rattle.rq_model.specs.Machine as machine
-use Rattle.rq_model.specs.Machine.{is_lawful, all_lawful, lawful_front, is_open, is_registered, is_known, is_limit}
+use Rattle.rq_model.specs.Machine.{is_lawful, all_lawful, is_open, is_registered, is_known}
 use Rattle.rq_model.specs.Machine.{step, run, outcome_from, outcome, begins}
 use Rattle.rq_model.specs.Queues.{Op, is_engaged, is_marked, engages, touches, touching_from, touching}
 use Rattle.rq_model.specs.WellFormed.{IsWellFormed}

@@ -10,8 +10,8 @@ use Rattle.rq_model.specs.Records as model
 use Rattle.rq_model.specs.Records.{Version, One, Two, no_queue}
 use Rattle.rq_model.specs.States.{State, Definition, definition_at}
 use Rattle.rq_model.specs.Machine as machine
-use Rattle.rq_model.specs.Machine.{is_lawful, all_lawful, lawful_front, is_open, is_registered, is_known, may_be_error}
-use Rattle.rq_model.specs.Machine.{is_limit, step, run, outcome_from, outcome, begins}
+use Rattle.rq_model.specs.Machine.{is_lawful, all_lawful, is_open, is_registered, is_known, may_be_error}
+use Rattle.rq_model.specs.Machine.{is_limit, run}
 use Rattle.rq_model.specs.WellFormed.{IsWellFormed}
 use Rattle.rq_model.proofs.Lists.{by_cases}
 use Rattle.rq_model.specs.Records.{By}

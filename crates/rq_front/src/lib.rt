@@ -17,8 +17,8 @@ pub use writing::{frame, header, header_of};
 /// a log begins behind them.
 pub const HEADER_LEN: usize = 40;
 
-/// The bytes of a frame beside its body: 4 of the body's length before it, and 32 of a digest behind
-/// it.
+/// The bytes of a frame beside its body: 4 of the body's length before it, and 32 of a digest
+/// behind it.
 pub const FRAME_LEN: usize = 36;
 
 /// The most bytes that a log has.

@@ -1,16 +1,16 @@
 -- What a case of the redo keeps.
-use Rattle.std.proofs.Common.{◌≡◌, ℕ, ◌+◌, ◌≤◌, ◌==◌, List, [], ◌∷◌, refl, sym, ◌∙◌, subst, arith}
+use Rattle.std.proofs.Common.{◌≡◌, ℕ, ◌+◌, ◌≤◌, ◌==◌, List, [], ◌∷◌, refl, ◌∙◌, arith}
 use Rattle.std.specs.Prelude.{⊤}
 use Rattle.std.specs.List.{filter, AllByRecursion}
 use Rattle.rq_model.specs.Records.{Record, Abort, Version}
-use Rattle.rq_model.specs.States.{Element, State, definition_at}
+use Rattle.rq_model.specs.States.{State, definition_at}
 use Rattle.rq_model.specs.WellFormed.{Ordered}
-use Rattle.rq_model.specs.Machine.{leaves, moved, step}
+use Rattle.rq_model.specs.Machine.{leaves, step}
 use Rattle.rq_model.specs.Queues.{Part, Op, Move, Transfer, transfers_at, transfers, arrivals}
 use Rattle.rq_model.proofs.Lists.{each_weaker, each_of, each_append, each_map}
 use Rattle.rq_model.proofs.Merged.{ordered_append, ordered_filter, ordered_map}
 use Rattle.rq_model.specs.Machine.{run}
-use Rattle.rq_model.specs.Queues.{part_of, moves, with_definitions, touching}
+use Rattle.rq_model.specs.Queues.{part_of, moves}
 use Rattle.rq_model.specs.Redo.{redone, all_sent}
 use Rattle.rq_model.specs.Laws.{Projection}
 use Rattle.rq_model.specs.Ready.{GoesWell, RedoGoesWell}

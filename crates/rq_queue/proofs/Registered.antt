@@ -15,7 +15,7 @@ use Rattle.std.proofs.lemmas.Bool.Decides.{nat_tests}
 use Rattle.std.proofs.lemmas.Cmp.{nat_list_cmp_total}
 use Rattle.std.proofs.lemmas.Map.Text.{is_eq-slice_cmp}
 use Rattle.rq_model.specs.States.{Last, Note, Registrant, put, registrant_before, is_registrant, is_note_of}
-use Rattle.rq_model.specs.Machine.{later, latest, registered, deregistered, told}
+use Rattle.rq_model.specs.Machine.{later, registered, deregistered, told}
 use Rattle.rq_model.specs.WellFormed.{Ordered}
 use Rattle.rq_model.proofs.Lists.{by_cases}
 use Rattle.rq_state.proofs.InOrder.{key_of, key_cmp, key_total, is_lt-key_cmp}

@@ -12,4 +12,5 @@ check_bytes_of (Part whole start len) = slice_range (arc_slice_items whole) star
 -- no more than a checkpoint may have; the part is inside the whole
 abbrev pub FitsCheck : Kept → Type 0
 FitsCheck (Own bytes) = length bytes.items ≤ 268435455
-FitsCheck (Part whole start len) = (start + len ≤ length (arc_slice_items whole)) × (len ≤ 268435455)
+FitsCheck (Part whole start len) = (start + len ≤ length (arc_slice_items whole))
+    × (len ≤ 268435455)

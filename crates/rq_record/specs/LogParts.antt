@@ -3,4 +3,5 @@ use Rattle.std.specs.Prelude.{ℕ, ◌+◌, ◌≤◌, ◌≡◌, List, length, 
 
 -- from this byte on stand those in the log
 abbrev pub IsPartOf : List ℕ → ℕ → List ℕ → Type 0
-IsPartOf log start bytes = (start + length bytes ≤ length log) × (slice_range log start (start + length bytes) ≡ bytes)
+IsPartOf log start bytes = (start + length bytes ≤ length log)
+    × (slice_range log start (start + length bytes) ≡ bytes)

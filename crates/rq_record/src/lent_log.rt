@@ -44,13 +44,14 @@ impl LentLog {
         })
     }
 
-    // The log and where its part before an end begins, where it is lent and that part is these bytes.
+    // The log and where its part before an end begins, where it is lent and the part is these bytes.
     pub(crate) fn part_before(
         &self,
         end: usize,
         bytes: &[u8],
     ) -> Result<Option<(ArcSlice<u8>, u32)>, Fault>
-        ensures part { IfOk result (λ p. IfSome p (λ x. IsPartOf (arc_slice_items x.0) x.1 bytes.now)) }
+        ensures part { IfOk result
+            (λ p. IfSome p (λ x. IsPartOf (arc_slice_items x.0) x.1 bytes.now)) }
         ensures refused { IfErr result (λ e. e ≡ Resources) }
     {
         let Some(log) = &self.log else {

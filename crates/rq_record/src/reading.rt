@@ -256,8 +256,8 @@ fn decode_lent(
 
 /// The record that `len` bytes of a log from `start` on spell: `decode_in` of that body.
 ///
-/// Where the log is lent as well, a checkpoint, and a payload of more than 22 bytes, are parts of it
-/// and no copies.
+/// Where the log is lent as well, a checkpoint, and a payload of more than 22 bytes, are parts of
+/// it and no copies.
 pub fn decode_at(
     alloc: Global,
     version: Version,

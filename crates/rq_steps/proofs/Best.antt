@@ -1,4 +1,4 @@
--- The best of a list of elements, found place by place.
+-- The best of a list of elements, found index by index.
 use Rattle.std.proofs.Common.{◌≡◌, ℕ, suc, zero, ◌+◌, ◌<◌, Bool, true, false, cond, ◌&&◌, List, [], ◌∷◌, length, map}
 use Rattle.std.proofs.Common.{take, set, option_map, Some, None, find, refl, sym, ap, ◌∙◌, subst, arith}
 use Rattle.std.specs.List.{filter, list_all, AllByRecursion}
@@ -23,39 +23,39 @@ before_all e f g h k = grind (arith, nat_tests)
 both_ways : (e f : Element) → comes_first e f ≡ true → comes_first f e ≡ true → f.id ≡ e.id
 both_ways e f h k = grind (arith, nat_tests)
 
--- Place by place.
+-- Index by index.
 
 abbrev Behind : ℕ → Element → Element → Type 0
 Behind queue e f = is_free_at queue f ≡ true → comes_first e f ≡ true
 
-one_more : (queue : ℕ) (es : List Element) (place : ℕ) → place < length es
-    → AllByRecursion (Behind queue (element_at es place)) (take place es)
-    → AllByRecursion (Behind queue (element_at es place)) (take (place + 1) es)
-one_more queue es place l h = subst (AllByRecursion (Behind queue (element_at es place)))
-    (sym (take_more es place (new_element 0 0 0 0 []) l))
-    (each_append (Behind queue (element_at es place)) (take place es) (element_at es place ∷ []) h
-    ((λ _. itself (element_at es place)), tt))
+one_more : (queue : ℕ) (es : List Element) (index : ℕ) → index < length es
+    → AllByRecursion (Behind queue (element_at es index)) (take index es)
+    → AllByRecursion (Behind queue (element_at es index)) (take (index + 1) es)
+one_more queue es index l h = subst (AllByRecursion (Behind queue (element_at es index)))
+    (sym (take_more es index (new_element 0 0 0 0 []) l))
+    (each_append (Behind queue (element_at es index)) (take index es) (element_at es index ∷ []) h
+    ((λ _. itself (element_at es index)), tt))
 
-pub first_place : (queue : ℕ) (es : List Element) (place : ℕ) → place < length es
-    → is_free_at queue (element_at es place) ≡ true → AllByRecursion (λ f. is_free_at queue f ≡ false) (take place es)
-    → Leads queue es (take (place + 1) es) place
-first_place queue es place l t h = record {
+pub first_index : (queue : ℕ) (es : List Element) (index : ℕ) → index < length es
+    → is_free_at queue (element_at es index) ≡ true → AllByRecursion (λ f. is_free_at queue f ≡ false) (take index es)
+    → Leads queue es (take (index + 1) es) index
+first_index queue es index l t h = record {
   there = l;
   free = t;
-  first = one_more queue es place l
-      (each_weaker (λ f. is_free_at queue f ≡ false) (Behind queue (element_at es place))
-      (λ f k u. absurd (true≢false (sym u ∙ k))) (take place es) h);
+  first = one_more queue es index l
+      (each_weaker (λ f. is_free_at queue f ≡ false) (Behind queue (element_at es index))
+      (λ f k u. absurd (true≢false (sym u ∙ k))) (take index es) h);
 }
 
-pub better_place : (queue : ℕ) (es : List Element) (place old : ℕ) → place < length es
-    → is_free_at queue (element_at es place) ≡ true → comes_first (element_at es old) (element_at es place) ≡ false
-    → Leads queue es (take place es) old → Leads queue es (take (place + 1) es) place
-better_place queue es place old l t b h = record {
+pub better_index : (queue : ℕ) (es : List Element) (index old : ℕ) → index < length es
+    → is_free_at queue (element_at es index) ≡ true → comes_first (element_at es old) (element_at es index) ≡ false
+    → Leads queue es (take index es) old → Leads queue es (take (index + 1) es) index
+better_index queue es index old l t b h = record {
   there = l;
   free = t;
-  first = one_more queue es place l (each_weaker (Behind queue (element_at es old)) (Behind queue (element_at es place))
-      (λ f k u. before_all (element_at es place) (element_at es old) f
-      (other_way (element_at es old) (element_at es place) b) (k u)) (take place es) h.first);
+  first = one_more queue es index l (each_weaker (Behind queue (element_at es old)) (Behind queue (element_at es index))
+      (λ f k u. before_all (element_at es index) (element_at es old) f
+      (other_way (element_at es old) (element_at es index) b) (k u)) (take index es) h.first);
 }
 
 -- None is Free.
@@ -102,22 +102,22 @@ each_at P [] k h l = absurd (omega (arith, l))
 each_at P (e ∷ es) zero h l = h.0
 each_at P (e ∷ es) (suc k) h l = each_at P es k h.1 (omega (arith, l))
 
-is_the_best : (queue : ℕ) (es : List Element) (place : ℕ) → Leads queue es es place
-    → is_best queue es (element_at es place) ≡ true
-is_the_best queue es place h =
-    ap (λ b. b && list_all (comes_first (element_at es place)) (filter (is_free_at queue) es)) h.free
-    ∙ all_kept (is_free_at queue) (comes_first (element_at es place)) es h.first
+is_the_best : (queue : ℕ) (es : List Element) (index : ℕ) → Leads queue es es index
+    → is_best queue es (element_at es index) ≡ true
+is_the_best queue es index h =
+    ap (λ b. b && list_all (comes_first (element_at es index)) (filter (is_free_at queue) es)) h.free
+    ∙ all_kept (is_free_at queue) (comes_first (element_at es index)) es h.first
 
 abbrev IsOnly : (Element → Bool) → Element → Element → Type 0
 IsOnly p e f = p f ≡ true → f.id ≡ e.id
 
-only_best : (queue : ℕ) (es : List Element) (place : ℕ) → Leads queue es es place
-    → AllByRecursion (IsOnly (is_best queue es) (element_at es place)) es
-only_best queue es place h = each_weaker (Behind queue (element_at es place))
-    (IsOnly (is_best queue es) (element_at es place))
+only_best : (queue : ℕ) (es : List Element) (index : ℕ) → Leads queue es es index
+    → AllByRecursion (IsOnly (is_best queue es) (element_at es index)) es
+only_best queue es index h = each_weaker (Behind queue (element_at es index))
+    (IsOnly (is_best queue es) (element_at es index))
     (λ f k t. let both = and_parts (is_free_at queue f) (list_all (comes_first f) (filter (is_free_at queue) es)) t in
-    both_ways (element_at es place) f (k both.0)
-    (each_at (λ g. is_free_at queue g ≡ true → comes_first f g ≡ true) es place
+    both_ways (element_at es index) f (k both.0)
+    (each_at (λ g. is_free_at queue g ≡ true → comes_first f g ≡ true) es index
     (kept_all (is_free_at queue) (comes_first f) es both.1) h.there h.free)) es h.first
 
 one_marked : (p : Element → Bool) (m : Mark) (es : List Element) (k : ℕ) → Ordered (λ (e f : Element). e.id < f.id) es
@@ -143,11 +143,11 @@ one_marked p m (e ∷ es) (suc k) r l t h =
     (λ _ u. let same = h.0 u in absurd (omega (arith, after, same))) (λ _ _. refl) refl in
     (λ i. stays i ∷ one_marked p m es k r.1 there t h.1 i)
 
-pub one_held : (unit queue : ℕ) (es : List Element) (place : ℕ) → Ordered (λ (e f : Element). e.id < f.id) es
-    → Leads queue es es place → set es place (marked (Held unit) (element_at es place)) ≡ best_held unit queue es
-one_held unit queue es place r h =
-    sym (one_marked (is_best queue es) (Held unit) es place r h.there (is_the_best queue es place h)
-    (only_best queue es place h))
+pub one_held : (unit queue : ℕ) (es : List Element) (index : ℕ) → Ordered (λ (e f : Element). e.id < f.id) es
+    → Leads queue es es index → set es index (marked (Held unit) (element_at es index)) ≡ best_held unit queue es
+one_held unit queue es index r h =
+    sym (one_marked (is_best queue es) (Held unit) es index r h.there (is_the_best queue es index h)
+    (only_best queue es index h))
 
 find_only : (p : Element → Bool) (e : Element) (es : List Element) (k : ℕ) → k < length es → p (element_at es k) ≡ true
     → AllByRecursion (IsOnly p e) es → option_map (λ (f : Element). f.id) (find p es) ≡ Some e.id
@@ -158,8 +158,8 @@ find_only p e (f ∷ es) (suc k) l t h =
     by_cases (p f) (λ b. p f ≡ b → option_map (λ (g : Element). g.id) (cond b (Some f) (find p es)) ≡ Some e.id)
     (λ _ u. ap (λ n. Some n) (h.0 u)) (λ _ _. find_only p e es k (omega (arith, l)) t h.1) refl
 
-pub one_best : (queue : ℕ) (es : List Element) (place : ℕ) → Leads queue es es place
-    → Some (element_at es place).id ≡ option_map (λ (f : Element). f.id) (best queue es)
-one_best queue es place h =
-    sym (find_only (is_best queue es) (element_at es place) es place h.there (is_the_best queue es place h)
-    (only_best queue es place h))
+pub one_best : (queue : ℕ) (es : List Element) (index : ℕ) → Leads queue es es index
+    → Some (element_at es index).id ≡ option_map (λ (f : Element). f.id) (best queue es)
+one_best queue es index h =
+    sym (find_only (is_best queue es) (element_at es index) es index h.there (is_the_best queue es index h)
+    (only_best queue es index h))

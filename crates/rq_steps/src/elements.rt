@@ -149,40 +149,40 @@ fn comes_first(e: &Element, f: &Element) -> bool
     e.priority > f.priority || (e.priority == f.priority && e.id.0 <= f.id.0)
 }
 
-// The element at a place.
-fn at(elements: &[Element], place: usize) -> &Element
-    requires { place < length elements.now }
-    ensures { result.now ≡ element_at elements.now place }
+// The element at an index.
+fn at(elements: &[Element], index: usize) -> &Element
+    requires { index < length elements.now }
+    ensures { result.now ≡ element_at elements.now index }
 {
-    &elements[place]
+    &elements[index]
 }
 
-// The place of the best of the queue, given the one before a place and the element there.
-fn better(elements: &[Element], best: Option<usize>, place: usize, queue: QueueNo) -> Option<usize>
-    requires there { place < length elements.now }
-    requires best { IsBestAmong queue.0 elements.now (take place elements.now) best }
-    ensures { IsBestAmong queue.0 elements.now (take (place + 1) elements.now) result }
+// The index of the best of the queue, given the one before an index and the element there.
+fn better(elements: &[Element], best: Option<usize>, index: usize, queue: QueueNo) -> Option<usize>
+    requires there { index < length elements.now }
+    requires best { IsBestAmong queue.0 elements.now (take index elements.now) best }
+    ensures { IsBestAmong queue.0 elements.now (take (index + 1) elements.now) result }
 {
-    let new = at(elements, place);
+    let new = at(elements, index);
     if !is_free_at(new, queue) {
         return best;
     }
     let Some(old) = best else {
-        return Some(place);
+        return Some(index);
     };
     if comes_first(at(elements, old), new) {
         return best;
     }
-    Some(place)
+    Some(index)
 }
 
-// The place of the best element of the queue; none where none of it is Free.
-fn best_place(elements: &[Element], queue: QueueNo) -> Option<usize>
+// The index of the best element of the queue; none where none of it is Free.
+fn best_index(elements: &[Element], queue: QueueNo) -> Option<usize>
     ensures { IsBestAmong queue.0 elements.now elements.now result }
 {
     let mut best = None;
-    for place in 0..elements.len() {
-        best = better(elements, best, place, queue);
+    for index in 0..elements.len() {
+        best = better(elements, best, index, queue);
     }
     best
 }
@@ -200,10 +200,10 @@ pub(crate) fn held(
         ≡ option_map (λ e. e.id) (machine.best queue.0 elements.items) }
 {
     let mut elements = elements;
-    let Some(place) = best_place(&elements, queue) else {
+    let Some(index) = best_index(&elements, queue) else {
         return (elements, None);
     };
-    let id = at(&elements, place).id();
-    elements[place].set_mark(Mark::Held(unit));
+    let id = at(&elements, index).id();
+    elements[index].set_mark(Mark::Held(unit));
     (elements, Some(id))
 }

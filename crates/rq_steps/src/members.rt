@@ -93,13 +93,13 @@ pub(crate) fn register(
 {
     match registrants.binary_search_by_key(&(queue.0, *name), |one| one.key()) {
         Ok(_) => Ok(()),
-        Err(place) => {
+        Err(index) => {
             let registrant = Registrant {
                 queue,
                 name: *name,
                 last: None,
             };
-            registrants.insert(place, registrant)?;
+            registrants.insert(index, registrant)?;
             Ok(())
         }
     }
@@ -110,9 +110,9 @@ fn hear(registrants: &mut Vec<Registrant>, note: &Note)
     requires { Ordered (λ r t. model.registrant_before r t ≡ true) registrants.old.items }
     ensures { registrants.new.items ≡ map (heard_of note.now) registrants.old.items }
 {
-    if let Ok(place) = registrants.binary_search_by_key(&note.key(), |one| one.key()) {
-        let last = Last::later(&registrants[place].last, note.last());
-        registrants[place].last = last;
+    if let Ok(index) = registrants.binary_search_by_key(&note.key(), |one| one.key()) {
+        let last = Last::later(&registrants[index].last, note.last());
+        registrants[index].last = last;
     }
 }
 

@@ -1,4 +1,3 @@
-use Rattle.std.proofs.Common.{refl}
 use Rattle.std.proofs.Common.{◌≡◌, ◌<◌, ◌≤◌, drop, sym, ap, ◌∙◌, subst, arith, List, ◌∷◌, ◌++◌, reverse}
 use Rattle.std.specs.List.{AllByRecursion}
 use Rattle.rq_model.specs.Queues.{Part, Op, Move}

@@ -19,18 +19,18 @@ returns-in_default-clause-best c = sym (none_best c.args.queue.0 c.args.elements
 
 pub returns-clause-held : goal.returns-clause-held
 returns-clause-held c =
-    let leads = subst (λ (es : List model.Element). Leads c.args.queue.0 es es c.in-Some.place) c.deref.ensures.value
+    let leads = subst (λ (es : List model.Element). Leads c.args.queue.0 es es c.in-Some.index) c.deref.ensures.value
     c.in-Some.ensures in
-    ap (set c.args.elements.items c.in-Some.place)
+    ap (set c.args.elements.items c.in-Some.index)
     (c.set_mark.ensures ∙ ap (marked (model.Held c.args.unit.0))
-    (get_or_read c.args.elements.items c.in-Some.place _ leads.there c.index_mut.ensures.value
+    (get_or_read c.args.elements.items c.in-Some.index _ leads.there c.index_mut.ensures.value
     (new_element 0 0 0 0 [])))
-    ∙ one_held c.args.unit.0 c.args.queue.0 c.args.elements.items c.in-Some.place c.requires leads
+    ∙ one_held c.args.unit.0 c.args.queue.0 c.args.elements.items c.in-Some.index c.requires leads
 
 pub returns-clause-best : goal.returns-clause-best
 returns-clause-best c =
-    let leads = subst (λ (es : List model.Element). Leads c.args.queue.0 es es c.in-Some.place) c.deref.ensures.value
+    let leads = subst (λ (es : List model.Element). Leads c.args.queue.0 es es c.in-Some.index) c.deref.ensures.value
     c.in-Some.ensures in
     ap (λ n. Some n) (c.id-id.ensures ∙ ap (λ (e : model.Element). e.id)
-    (c.at.ensures ∙ ap (λ (es : List model.Element). element_at es c.in-Some.place) c.deref-2.ensures.value))
-    ∙ one_best c.args.queue.0 c.args.elements.items c.in-Some.place leads
+    (c.at.ensures ∙ ap (λ (es : List model.Element). element_at es c.in-Some.index) c.deref-2.ensures.value))
+    ∙ one_best c.args.queue.0 c.args.elements.items c.in-Some.index leads

@@ -1,11 +1,9 @@
-use Rattle.std.proofs.Common.{arith}
-use Rattle.std.proofs.Common.{◌≡◌, ◌+◌, ◌<◌, ◌^◌, ◌∙◌, ◌++◌, sym, ap, subst, List, filter}
+use Rattle.std.proofs.Common.{◌+◌, ◌<◌, ◌^◌, ◌∙◌, ◌++◌, sym, ap, subst, List, filter}
 use Rattle.std.specs.List.{AllByRecursion}
-use Rattle.std.specs.Map.{values_of}
 use Rattle.rq_model.specs.States.{Element}
 use Rattle.rq_model.specs.Machine.{leaves}
 use Rattle.rq_model.specs.WellFormed.{Ordered}
-use Rattle.rq_queue.specs.Kept.{items_of, staying, sent_from}
+use Rattle.rq_queue.specs.Kept.{staying, sent_from}
 use Rattle.rq_queue.specs.Sorted.{sorted}
 use Rattle.rq_queue.proofs.Sorting.{each_unsorted}
 use Rattle.rq_queue.specs.Listed.{elements_inside}

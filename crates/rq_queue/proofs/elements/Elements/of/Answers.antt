@@ -1,4 +1,3 @@
-use Rattle.std.proofs.Common.{arith}
 use Rattle.std.proofs.Common.{◌++◌}
 use Rattle.std.specs.Map.{values_of}
 use Rattle.rq_queue.specs.Kept.{items_of}

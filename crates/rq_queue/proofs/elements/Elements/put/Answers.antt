@@ -1,5 +1,3 @@
-use Rattle.std.proofs.Common.{arith}
-use Rattle.std.proofs.Common.{refl}
 use Rattle.std.proofs.Common.{◌≢◌, ◌∙◌, ◌++◌, sym, ap, subst}
 use Rattle.std.specs.List.{AllByRecursion}
 use Rattle.std.specs.Map.{values_of}

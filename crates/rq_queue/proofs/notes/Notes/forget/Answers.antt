@@ -1,13 +1,11 @@
-use Rattle.std.proofs.Common.{arith}
-use Rattle.std.proofs.Common.{refl}
-use Rattle.std.proofs.Common.{◌≡◌, ℕ, true, not, filter, sym, ap, ◌∙◌, subst, List, [], if◌then◌else◌}
+use Rattle.std.proofs.Common.{◌≡◌, ℕ, not, sym, ap, ◌∙◌, subst, List, [], if◌then◌else◌}
 use Rattle.std.specs.Map.{values_of}
-use Rattle.std.specs.Ordering.{is_eq, nat_cmp}
+use Rattle.std.specs.Ordering.{is_eq}
 use Rattle.rq_model.specs.Machine.{unnoted}
 use Rattle.rq_model.specs.States.{Note, is_note_of}
 use Rattle.rq_model.proofs.Lists.{each_filter}
 use Rattle.rq_state.proofs.InOrder.{key_cmp, key_total}
-use Rattle.rq_queue.specs.Noted.{NoteEntry, AreKept, filed, has_place, left}
+use Rattle.rq_queue.specs.Noted.{NoteEntry, AreKept, filed, left}
 use Rattle.rq_queue.specs.declared.whose.Whose.TheVariants.{OfRegistrant}
 use Rattle.rq_queue.proofs.Noting.{all_filed, others_filed, left_all, values_left, filtered_by_place}
 use Rattle.rq_queue.proofs.Registered.{note_at}

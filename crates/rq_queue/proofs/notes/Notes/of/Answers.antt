@@ -1,4 +1,3 @@
-use Rattle.std.proofs.Common.{arith}
 use Rattle.std.proofs.Common.{◌++◌, sym, ap, ◌∙◌, subst, List, reverse}
 use Rattle.rq_model.specs.States.{Note}
 use Rattle.rq_queue.specs.Noted.{Rises}

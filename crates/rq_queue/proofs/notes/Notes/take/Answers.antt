@@ -1,14 +1,11 @@
-use Rattle.std.proofs.Common.{arith}
-use Rattle.std.proofs.Common.{refl}
-use Rattle.std.proofs.Common.{◌≡◌, ◌==◌, ◌++◌, ℕ, true, not, filter, sym, ap, ◌∙◌, subst, List}
+use Rattle.std.proofs.Common.{◌==◌, ◌++◌, ℕ, not, filter, sym, ap, ◌∙◌, subst, List}
 use Rattle.std.specs.Map.{values_of}
 use Rattle.std.specs.Ordering.{nat_cmp}
 use Rattle.std.proofs.lemmas.Cmp.{nat_cmp_total}
 use Rattle.rq_model.specs.Machine.{closed_notes}
 use Rattle.rq_model.specs.States.{Note}
 use Rattle.rq_model.proofs.Lists.{each_filter}
-use Rattle.rq_state.proofs.InOrder.{key_cmp}
-use Rattle.rq_queue.specs.Noted.{Apart, NoteEntry, AreKept, by_place, filed, has_place, left}
+use Rattle.rq_queue.specs.Noted.{Apart, NoteEntry, AreKept, by_place, filed, left}
 use Rattle.rq_queue.specs.declared.whose.Whose.TheVariants.{OfUnit}
 use Rattle.rq_queue.proofs.NotesInOrder.{rising_sorted}
 use Rattle.rq_queue.proofs.Noting.{all_filed, others_filed, left_all, values_left, values_drawn, filtered_by_place}

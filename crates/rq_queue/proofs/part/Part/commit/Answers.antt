@@ -1,4 +1,4 @@
-use Rattle.std.proofs.Common.{◌≡◌, ap, ◌∙◌, map, List}
+use Rattle.std.proofs.Common.{ap, ◌∙◌, map, List}
 use Rattle.rq_model.specs.Machine.{told}
 use Rattle.rq_model.specs.Records.{Commit}
 use Rattle.rq_model.specs.Redo.{act}

@@ -1,4 +1,3 @@
-use Rattle.std.proofs.Common.{arith}
 use Rattle.std.proofs.Common.{◌≡◌, ◌<◌, ◌==◌, true, sym, subst}
 use Rattle.rq_model.specs.States.{Element, Note, Registrant, registrant_before}
 use Rattle.rq_model.specs.WellFormed.{Ordered}

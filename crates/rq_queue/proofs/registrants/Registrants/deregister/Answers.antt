@@ -1,12 +1,8 @@
-use Rattle.std.proofs.Common.{arith}
-use Rattle.std.proofs.Common.{sym, ap, ◌∙◌, subst, map, not, ℕ, List}
-use Rattle.std.specs.Ordering.{is_eq}
-use Rattle.std.specs.declared.cmp.Ordering.TheVariants.{Less}
-use Rattle.std.proofs.Common.{◌≡◌}
+use Rattle.std.proofs.Common.{sym, ap, ◌∙◌, subst, map, ℕ, List}
 use Rattle.rq_model.specs.Machine.{deregistered}
 use Rattle.rq_model.proofs.Merged.{ordered_filter}
 use Rattle.rq_state.proofs.InOrder.{key_cmp, key_total}
-use Rattle.rq_queue.specs.Roll.{RollEntry, registrant_of, IsRoll}
+use Rattle.rq_queue.specs.Roll.{registrant_of, IsRoll}
 use Rattle.rq_queue.proofs.Roll.{removed}
 use Rattle.rq_queue.proofs.Registered.{deregistered_then}
 use Rattle.rq_queue.proofs.registrants.Registrants.deregister.Goals as goal

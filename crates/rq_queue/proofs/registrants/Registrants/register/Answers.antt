@@ -1,4 +1,3 @@
-use Rattle.std.proofs.Common.{arith}
 use Rattle.std.proofs.Common.{sym, ap, ◌∙◌, subst, ℕ, List, Option}
 use Rattle.std.specs.BTreeMap.{insert_entry}
 use Rattle.rq_model.specs.Machine.{registered}
