@@ -12,20 +12,20 @@ pub returns-in-Ok : goal.returns-in-Ok
 returns-in-Ok c =
     let rs = c.args.registrants.now.items in
     let n = c.args.note.now in
-    let place = c.in-Ok.place in
-    let within : place < length rs =
-    subst (λ (ys : List Registrant). place < length ys) c.deref.ensures.value c.in-Ok.ensures.bound in
-    let here : IsBinarySearchResult (λ y. key_cmp (key_of y) c.key.result) rs (Ok place)
-    = subst (λ (ys : List Registrant). IsBinarySearchResult (λ y. key_cmp (key_of y) c.key.result) ys (Ok place))
+    let index = c.in-Ok.index in
+    let within : index < length rs =
+    subst (λ (ys : List Registrant). index < length ys) c.deref.ensures.value c.in-Ok.ensures.bound in
+    let here : IsBinarySearchResult (λ y. key_cmp (key_of y) c.key.result) rs (Ok index)
+    = subst (λ (ys : List Registrant). IsBinarySearchResult (λ y. key_cmp (key_of y) c.key.result) ys (Ok index))
     c.deref.ensures.value (c.in-Ok.ensures.position key_of (answers_always _ _ _ (λ f a r g h. search rules))) in
-    let found : IsBinarySearchResult (λ y. key_cmp (key_of y) (n.queue, n.name)) rs (Ok place)
-    = subst (λ (k : ℕ × List ℕ). IsBinarySearchResult (λ y. key_cmp (key_of y) k) rs (Ok place)) c.key.ensures here in
-    one_hears n rs place _ within found c.requires (λ d.
-    let was : _ ≡ slice_index_or rs place d =
-    c.behind-registrants.view_is ∙ (c.index.ensures ∙ any_default rs place c.index.result.now d within) in
-    let becomes : _ ≡ slice_index_or rs place d =
+    let found : IsBinarySearchResult (λ y. key_cmp (key_of y) (n.queue, n.name)) rs (Ok index)
+    = subst (λ (k : ℕ × List ℕ). IsBinarySearchResult (λ y. key_cmp (key_of y) k) rs (Ok index)) c.key.ensures here in
+    one_hears n rs index _ within found c.requires (λ d.
+    let was : _ ≡ slice_index_or rs index d =
+    c.behind-registrants.view_is ∙ (c.index.ensures ∙ any_default rs index c.index.result.now d within) in
+    let becomes : _ ≡ slice_index_or rs index d =
     c.behind-registrants-in-Ok.view_is
-    ∙ (c.index_mut.ensures.value ∙ any_default rs place c.index_mut.result.now d within) in
+    ∙ (c.index_mut.ensures.value ∙ any_default rs index c.index_mut.result.now d within) in
     λ j. record {
       queue = (becomes j).queue;
       name = (becomes j).name;
@@ -36,11 +36,11 @@ pub returns-in_default : goal.returns-in_default
 returns-in_default c =
     let rs = c.args.registrants.now.items in
     let n = c.args.note.now in
-    let place = c.in_default.field-0 in
-    let here : IsBinarySearchResult (λ y. key_cmp (key_of y) c.key.result) rs (Err place)
-    = subst (λ (ys : List Registrant). IsBinarySearchResult (λ y. key_cmp (key_of y) c.key.result) ys (Err place))
+    let index = c.in_default.field-0 in
+    let here : IsBinarySearchResult (λ y. key_cmp (key_of y) c.key.result) rs (Err index)
+    = subst (λ (ys : List Registrant). IsBinarySearchResult (λ y. key_cmp (key_of y) c.key.result) ys (Err index))
     c.deref.ensures.value (c.in_default.ensures.position key_of
     (answers_always _ _ _ (λ f a r g h. search rules))) in
-    nobody_hears n rs place
-    (subst (λ (k : ℕ × List ℕ). IsBinarySearchResult (λ y. key_cmp (key_of y) k) rs (Err place)) c.key.ensures here)
+    nobody_hears n rs index
+    (subst (λ (k : ℕ × List ℕ). IsBinarySearchResult (λ y. key_cmp (key_of y) k) rs (Err index)) c.key.ensures here)
     c.requires

@@ -22,10 +22,10 @@ pub returns-in_ok-insert-in-Err-clause-registered :
 returns-in_ok-insert-in-Err-clause-registered c =
     let q = c.args.queue.0 in
     let name = c.args.name.now in
-    let place = c.in-Err.place in
+    let index = c.in-Err.index in
     let up = subst (Ordered (λ a b. registrant_before a b ≡ true)) (sym c.deref.ensures.value) c.requires in
     c.in_ok-insert-in-Err.ensures.items
-    ∙ subst (λ (rs : List Registrant). insert rs place (record { queue = q; name = name; last = None })
+    ∙ subst (λ (rs : List Registrant). insert rs index (record { queue = q; name = name; last = None })
     ≡ registered q name rs) c.deref.ensures.value
-    (newly_registered q name c.deref.result.now place c.in-Err.ensures.bound
+    (newly_registered q name c.deref.result.now index c.in-Err.ensures.bound
     (c.in-Err.ensures.position key_of (answers_always _ _ _ (λ f a r g h. search rules))) up)
