@@ -52,7 +52,7 @@ fn put_error(text: &mut String, error: QueueNo) -> Result<(), AllocError>
     ensures { OnOk result (string_bytes text.new ≡ string_bytes text.old ++ error_text error.0) }
 {
     let number = error.0;
-    if number == 4294967295 {
+    if number == QueueNo::NONE.0 {
         text.push_str("-")
     } else {
         write!(text, "{number}")
@@ -98,7 +98,12 @@ fn put_unit(text: &mut String, word: &str, unit: UnitNo) -> Result<(), AllocErro
     write!(text, "{number}")
 }
 
-fn put_place(text: &mut String, word: &str, unit: UnitNo, queue: QueueNo) -> Result<(), AllocError>
+fn put_unit_and_queue(
+    text: &mut String,
+    word: &str,
+    unit: UnitNo,
+    queue: QueueNo,
+) -> Result<(), AllocError>
     ensures { OnOk result (string_bytes text.new ≡ string_bytes text.old
         ++ (word.now ++ (decimal unit.0 ++ (32 ∷ decimal queue.0)))) }
 {
@@ -173,11 +178,11 @@ fn put_record(alloc: Global, text: &mut String, r: &Record) -> Result<(), AllocE
             by,
             payload,
         } => {
-            put_place(text, "enqueue ", *unit, *queue)?;
+            put_unit_and_queue(text, "enqueue ", *unit, *queue)?;
             put_element(alloc, text, *priority, by, payload.bytes())
         }
         Record::Dequeue { unit, queue, by } => {
-            put_place(text, "dequeue ", *unit, *queue)?;
+            put_unit_and_queue(text, "dequeue ", *unit, *queue)?;
             put_who(text, by)
         }
         Record::Checkpoint { bytes } => put_checkpoint(alloc, text, bytes.bytes()),
