@@ -36,10 +36,10 @@ all_told c queue = flat_map (λ es. es) (told_of c queue)
 
 -- one of the lists has it, once, and no other has it
 pub record IsAlone (x : ℕ) (lists : List (List ℕ)) : Type 0 where
-  pub place : ℕ
-  pub within : place < length lists
-  pub here : times x (slice_index_or lists place []) ≡ 1
-  pub nowhere_else : (k : ℕ) → k < length lists → k ≢ place
+  pub index : ℕ
+  pub within : index < length lists
+  pub here : times x (slice_index_or lists index []) ≡ 1
+  pub nowhere_else : (k : ℕ) → k < length lists → k ≢ index
       → times x (slice_index_or lists k []) ≡ 0
 
 -- Each queue is redone by one thread, once. What leaves a queue is handed in by the thread that

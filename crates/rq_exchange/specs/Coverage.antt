@@ -15,7 +15,7 @@ pub record Hand (T : Type 0) : Type 0 where
   pub diaries : List (List (Entry T))
 
 module _ {T : Type 0} where
-  -- the arrivals at the countdown that stands at this place; none where there is none
+  -- the arrivals at the countdown at this index; none where there is none
   abbrev pub told_at : List (List (Entry T)) → ℕ → List (Entry T)
   told_at diaries slot = slice_index_or diaries slot []
 
@@ -37,7 +37,7 @@ abbrev pub source_at : (ℕ → List ℕ) → ℕ → ℕ → ℕ
 source_at sources e i = slice_index_or (sources e) i 0
 
 -- How n queues stand to each other: the error queue of each, the queues whose error queue it is,
--- the place of its countdown among so many, and its place among the sources of its error queue
+-- the index of its countdown among so many, and its index among the sources of its error queue
 pub record Web : Type 0 where
   pub n : ℕ
   pub error : ℕ → ℕ

@@ -2,7 +2,7 @@
 use Rattle.std.specs.Prelude.{ℕ, ◌≡◌, ◌<◌, ◌==◌, List, length, slice_index_or}
 use Rattle.rq_state.specs.Orders.{places_of}
 
--- the number at a place
+-- the number at an index
 abbrev pub at : List ℕ → ℕ → ℕ
 at xs k = slice_index_or xs k 0
 

@@ -32,8 +32,8 @@ fn spread<T: Drop>(columns: &mut Vec<Vec<T>>, row: Vec<T>) -> Result<(), Fault>
 {
     let mut row = row;
     while let Some(one) = row.pop() {
-        let place = row.len();
-        columns[place].push(one)?;
+        let index = row.len();
+        columns[index].push(one)?;
     }
     Ok(())
 }

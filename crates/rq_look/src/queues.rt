@@ -59,8 +59,8 @@ pub(crate) fn free_elements(
     queue: QueueNo,
 ) -> Result<Vec<&Element>, AllocError> {
     let mut found = Vec::new(alloc);
-    for place in state.elements_of(queue) {
-        if let Some(e) = state.elements().get(*place) {
+    for index in state.elements_of(queue) {
+        if let Some(e) = state.elements().get(*index) {
             if e.mark == Mark::Free {
                 found.push(e)?;
             }
@@ -111,8 +111,8 @@ pub(crate) fn registrants_shown(
     queue: QueueNo,
 ) -> Result<Vec<RegistrantShown<'_>>, AllocError> {
     let mut found = Vec::new(alloc);
-    for place in state.registrants_of(queue) {
-        if let Some(r) = state.registrants().get(*place) {
+    for index in state.registrants_of(queue) {
+        if let Some(r) = state.registrants().get(*index) {
             found.push(registrant_shown(r))?;
         }
     }

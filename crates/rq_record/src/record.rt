@@ -9,7 +9,7 @@ use crate::kept_payload::KeptPayload;
 use crate::name::{LentName, Name};
 use std::marker::Model;
 
-/// The number of a queue: its place among the DEFINE records, counted from 0.
+/// The number of a queue: how many DEFINE records stand before its own.
 #[derive(Clone, Copy, PartialEq, Eq, PartialOrd, Ord, Hash, Debug)]
 pub struct QueueNo(pub u32);
 

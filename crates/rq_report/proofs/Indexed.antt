@@ -1,4 +1,4 @@
--- What is put for place after place.
+-- What is put for index after index.
 use Rattle.std.proofs.Common.{◌≡◌, ℕ, ◌+◌, ◌<◌, ◌≤◌, Bool, cond, List, [], ◌∷◌, ◌++◌, length, map, drop, refl, sym, ap}
 use Rattle.std.proofs.Common.{◌∙◌, append_assoc}
 use Rattle.std.specs.Prelude.{slice_index_or, filter}
@@ -7,20 +7,20 @@ use Rattle.std.proofs.Math.ListN.{drop_of_length-le}
 use Rattle.std.proofs.lemmas.List.{drop_more, append-nil}
 use Rattle.rq_model.proofs.Lists.{by_cases}
 
--- one place more
-pub placed_more : {X : Type 0} (f : ℕ → List X) (places : List ℕ) (i d : ℕ) (done news whole : List X)
-    → i < length places → news ≡ done ++ f (slice_index_or places i d) → done ++ flat_map f (drop i places) ≡ whole
-    → news ++ flat_map f (drop (i + 1) places) ≡ whole
-placed_more f places i d done news whole l n h =
-    ap (λ v. v ++ flat_map f (drop (i + 1) places)) n
-    ∙ append_assoc done (f (slice_index_or places i d)) (flat_map f (drop (i + 1) places))
-    ∙ ap (λ v. done ++ flat_map f v) (sym (drop_more places i d l)) ∙ h
+-- one index more
+pub indexed_more : {X : Type 0} (f : ℕ → List X) (indices : List ℕ) (i d : ℕ) (done news whole : List X)
+    → i < length indices → news ≡ done ++ f (slice_index_or indices i d) → done ++ flat_map f (drop i indices) ≡ whole
+    → news ++ flat_map f (drop (i + 1) indices) ≡ whole
+indexed_more f indices i d done news whole l n h =
+    ap (λ v. v ++ flat_map f (drop (i + 1) indices)) n
+    ∙ append_assoc done (f (slice_index_or indices i d)) (flat_map f (drop (i + 1) indices))
+    ∙ ap (λ v. done ++ flat_map f v) (sym (drop_more indices i d l)) ∙ h
 
--- all places
-pub placed_all : {X : Type 0} (f : ℕ → List X) (places : List ℕ) (i : ℕ) (done whole : List X) → length places ≤ i
-    → done ++ flat_map f (drop i places) ≡ whole → done ≡ whole
-placed_all f places i done whole l h = sym (append-nil done)
-    ∙ ap (λ v. done ++ flat_map f v) (sym (drop_of_length-le places l)) ∙ h
+-- all indices
+pub indexed_all : {X : Type 0} (f : ℕ → List X) (indices : List ℕ) (i : ℕ) (done whole : List X) → length indices ≤ i
+    → done ++ flat_map f (drop i indices) ≡ whole → done ≡ whole
+indexed_all f indices i done whole l h = sym (append-nil done)
+    ∙ ap (λ v. done ++ flat_map f v) (sym (drop_of_length-le indices l)) ∙ h
 
 pub flat_of_map : {X Y Z : Type 0} (f : Y → List Z) (g : X → Y) (xs : List X)
     → flat_map (λ x. f (g x)) xs ≡ flat_map f (map g xs)

@@ -1,5 +1,5 @@
 pub mod Ahead
 pub mod Digits
-pub mod Placed
+pub mod Indexed
 pub mod Queues
 pub mod Streams

@@ -28,10 +28,10 @@ parts_of : (ds : List Definition) (from middle to : ℕ) → from ≤ middle →
     → slice_range ds from middle ++ slice_range ds middle to ≡ slice_range ds from to
 parts_of ds from middle to low high =
     let sum : to - from ≡ (middle - from) + (to - middle) = omega (arith, low, high) in
-    let place : from + (middle - from) ≡ middle = omega (arith, low) in
+    let back : from + (middle - from) ≡ middle = omega (arith, low) in
     sym (ap (λ (n : ℕ). take n (drop from ds)) sum ∙ take-add (middle - from) (to - middle) (drop from ds)
     ∙ ap (λ (xs : List Definition). take (middle - from) (drop from ds) ++ take (to - middle) xs)
-    (drop-drop (middle - from) from ds ∙ ap (λ (n : ℕ). drop n ds) place))
+    (drop-drop (middle - from) from ds ∙ ap (λ (n : ℕ). drop n ds) back))
 
 -- the lines of some queues, and behind them those of the next ones
 pub both_are : (s : State) (from middle to : ℕ) (front back : List ℕ) → from ≤ middle → middle ≤ to

@@ -42,11 +42,11 @@ fn free_elements<'a>(
     ensures { IfOk result
         (λ v. map (λ e. e.now) v.items ≡ filter (is_free_at queue.0) state.now.elements) }
 {
-    let places = state.elements_of(queue);
+    let indices = state.elements_of(queue);
     let mut found = Vec::new(alloc);
-    found.reserve(places.len())?;
-    for place in places {
-        list(&mut found, state.element(*place))?;
+    found.reserve(indices.len())?;
+    for at in indices {
+        list(&mut found, state.element(*at))?;
     }
     Ok(found)
 }

@@ -30,8 +30,8 @@ fn put_registrants(text: &mut String, queue: QueueNo, state: &State) -> Result<(
     ensures { OnOk result (string_bytes text.new ≡ string_bytes text.old
         ++ flat_map registrant_line (filter (λ r. r.queue == queue.0) state.now.registrants)) }
 {
-    for place in state.registrants_of(queue) {
-        put_registrant(text, state.registrant(*place))?;
+    for at in state.registrants_of(queue) {
+        put_registrant(text, state.registrant(*at))?;
     }
     Ok(())
 }

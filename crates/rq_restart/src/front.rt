@@ -1,4 +1,4 @@
-//! The front of a log, from any state and place on.
+//! The front of a log, from any state and offset on.
 
 ghost use Rattle.std.specs.Prelude.{◌≡◌, ◌≤◌, ◌+◌, ◌++◌, ℕ, List, length, map, take, All, IfOk};
 ghost use Rattle.std.specs.Prelude.{IfErr};
@@ -56,7 +56,7 @@ fn why_of(rest: Rest) -> Why
     }
 }
 
-// Where the front ends, and why: behind `kept` frames of a chain, of which `read` were read.
+/// Where the front ends, and why: behind `kept` frames of a chain, of which `read` were read.
 pub(crate) fn end_of(found: &Chain, read: usize, kept: usize) -> (usize, Why)
     ensures { (result.0, why_of result.1)
         ≡ end_at found.now.spans.items found.now.end (rest_of found.now.rest) read kept }
@@ -105,10 +105,10 @@ fn known_of_first(
 
 // The front among the records that were read of a chain.
 fn settled(found: &Chain, known: Known) -> Front
-    ensures front { (version : records.Version) (s : model.State) (b : List ℕ) (place : ℕ) →
-        IsChain b place found.now
+    ensures front { (version : records.Version) (s : model.State) (b : List ℕ) (offset : ℕ) →
+        IsChain b offset found.now
         → IsKnownOfBodies version s (bodies_at b found.now.spans.items) known
-        → IsFrontFrom version s b place
+        → IsFrontFrom version s b offset
         (map record_of result.records.items) result.end (why_of result.why) }
     ensures bodies { (version : records.Version) (s : model.State) (bodies : List (List ℕ)) →
         IsKnownOfBodies version s bodies known → (left : List (List ℕ))
@@ -146,10 +146,10 @@ pub(crate) fn front_of<R: Threads + Sync>(
     state: &State,
     plan: &Plan,
 ) -> Result<Front, Fault>
-    requires chain { (place : ℕ) × IsChain bytes.now place found.now }
+    requires chain { (offset : ℕ) × IsChain bytes.now offset found.now }
     requires next { state.now.next ≤ 4294967295 }
-    ensures front { IfOk result (λ f. (place : ℕ) → IsChain bytes.now place found.now
-        → IsFrontFrom (version_of version) state.now bytes.now place
+    ensures front { IfOk result (λ f. (offset : ℕ) → IsChain bytes.now offset found.now
+        → IsFrontFrom (version_of version) state.now bytes.now offset
         (map record_of f.records.items) f.end (why_of f.why)) }
     ensures bodies { IfOk result
         (λ f. (left : List (List ℕ)) × (bodies_at bytes.now found.now.spans.items
@@ -219,12 +219,12 @@ pub(crate) fn front_of_walk<R: Threads + Sync>(
     state: &State,
     plan: &Plan,
 ) -> Result<Front, Fault>
-    requires walk { (place : ℕ) × Walks bytes.now place walk }
+    requires walk { (offset : ℕ) × Walks bytes.now offset walk }
     requires inside { All (λ s. s.start + s.len ≤ length bytes.now) (spans_of walk) }
     requires short { length bytes.now ≤ log_limit }
     requires next { state.now.next ≤ 4294967295 }
-    ensures front { IfOk result (λ f. (place : ℕ) → Walks bytes.now place walk
-        → IsFrontFrom (version_of version) state.now bytes.now place
+    ensures front { IfOk result (λ f. (offset : ℕ) → Walks bytes.now offset walk
+        → IsFrontFrom (version_of version) state.now bytes.now offset
         (map record_of f.records.items) f.end (why_of f.why)) }
     ensures analysis { IfOk result (λ f. IsAnalysis (version_of version) state.now
         (map record_of f.records.items) f.analysis) }

@@ -62,12 +62,12 @@ fn put_bar(text: &mut String, bin: &Bin, at: u64, most: u64) -> Result<(), Alloc
 
 fn put_bars(text: &mut String, bins: &[Bin]) -> Result<(), AllocError> {
     let most = most_of(bins);
-    let mut place = 0;
+    let mut index = 0;
     for bin in bins {
         if !bin.is_empty() {
-            put_bar(text, bin, step_at(place, WIDTH), most)?;
+            put_bar(text, bin, step_at(index, WIDTH), most)?;
         }
-        place = place.saturating_add(1);
+        index = index.saturating_add(1);
     }
     Ok(())
 }

@@ -30,7 +30,7 @@ pub(super) struct Survey {
     pub(super) begun: BTreeMap<u64, u64>,
 }
 
-/// The bin of a place of a log of so many bytes.
+/// The bin of an offset in a log of so many bytes.
 pub(super) fn bin_of(offset: u64, total: u64) -> u64 {
     along(offset, total, BINS).min(BINS - 1)
 }

@@ -12,12 +12,12 @@ flat_map f [] = []
 flat_map f (x ∷ xs) = f x ++ flat_map f xs
 
 module _ {T : Type 0} where
-  -- each outbox fits the source of its place
+  -- each outbox fits the source at its index
   abbrev pub Fit : (ℕ → T → Type 0) → List T → Type 0
   Fit fit ys = (i : ℕ) (y : T) → get_elem? ys i ≡ some y → fit i y
 
   -- Twice gives the outbox x back. Last gives an outbox for each of the n sources, each fitting its
-  -- place
+  -- own
   abbrev pub Answered : (ℕ → T → Type 0) → ℕ → T → Arrival T → Type 0
   Answered fit n x (Twice y) = y ≡ x
   Answered fit n x NotLast = Unit {0}

@@ -3,7 +3,7 @@ use Rattle.std.specs.List.{flat_map}
 use Rattle.std.specs.Prelude.{slice_index_or}
 use Rattle.rq_model.specs.States as model
 use Rattle.rq_report.proofs.Ahead.{filter_both}
-use Rattle.rq_report.proofs.Placed.{placed_more, placed_all, flat_of_map, flat_of_filter}
+use Rattle.rq_report.proofs.Indexed.{indexed_more, indexed_all, flat_of_map, flat_of_filter}
 use Rattle.rq_report.proofs.listing.free_elements.Goals as goal
 
 abbrev no_element : model.Element
@@ -12,19 +12,19 @@ no_element = record { id = 0; home = 0; origin = 0; priority = 0; attempts = 0; 
 abbrev free : model.Element → List model.Element
 free e = filter (λ e. model.is_free e.mark) (e ∷ [])
 
-pub loop-place-preserved : goal.loop-place-preserved
-loop-place-preserved c = λ x. placed_more (λ place. free (slice_index_or c.args.state.now.elements place x))
-    c.elements_of-places.result.now c.loop-place.place-index 0 _ _ _ (omega (arith, c.loop-place-test.true))
-    (c.in_ok-list.ensures ∙ ap (λ e. map (λ e. e.now) c.loop-place.found.items ++ free e) (c.element.ensures x))
-    (c.loop-place.invariant x)
+pub loop-at-preserved : goal.loop-at-preserved
+loop-at-preserved c = λ x. indexed_more (λ index. free (slice_index_or c.args.state.now.elements index x))
+    c.elements_of-indices.result.now c.loop-at.at-index 0 _ _ _ (omega (arith, c.loop-at-test.true))
+    (c.in_ok-list.ensures ∙ ap (λ e. map (λ e. e.now) c.loop-at.found.items ++ free e) (c.element.ensures x))
+    (c.loop-at.invariant x)
 
 pub returns : goal.returns
 returns c =
-    let places = c.elements_of-places.result.now in
+    let indices = c.elements_of-indices.result.now in
     let elements = c.args.state.now.elements in
-    let at = λ (place : ℕ). slice_index_or elements place no_element in
-    placed_all (λ place. free (at place)) places c.loop-place.place-index _ _ (omega (arith, c.loop-place-test.false))
-    (c.loop-place.invariant no_element)
-    ∙ flat_of_map free at places ∙ ap (flat_map free) (c.elements_of-places.ensures.elements no_element)
+    let at = λ (index : ℕ). slice_index_or elements index no_element in
+    indexed_all (λ index. free (at index)) indices c.loop-at.at-index _ _ (omega (arith, c.loop-at-test.false))
+    (c.loop-at.invariant no_element)
+    ∙ flat_of_map free at indices ∙ ap (flat_map free) (c.elements_of-indices.ensures.elements no_element)
     ∙ flat_of_filter (λ e. model.is_free e.mark) (filter (λ e. e.home == c.args.queue.0) elements)
     ∙ filter_both (λ e. model.is_free e.mark) (λ e. e.home == c.args.queue.0) elements

@@ -4,10 +4,10 @@ use Rattle.std.specs.Prelude.{slice_index_or}
 use Rattle.rq_model.specs.States as model
 use Rattle.rq_report.proofs.listing.free_elements.Given as goal
 
--- those found, and the free ones at the places that are left, are the free ones of all places
-abbrev pub invariant-loop-place : goal.invariant-loop-place
-invariant-loop-place l =
+-- those found, and the free ones at the indices that are left, are the free ones of all indices
+abbrev pub invariant-loop-at : goal.invariant-loop-at
+invariant-loop-at l =
     (x : model.Element) → map (λ e. e.now) l.found.items
-    ++ flat_map (λ place. filter (λ e. model.is_free e.mark) (slice_index_or l.state.elements place x ∷ []))
-    (drop l.place-index l.places)
-    ≡ flat_map (λ place. filter (λ e. model.is_free e.mark) (slice_index_or l.state.elements place x ∷ [])) l.places
+    ++ flat_map (λ index. filter (λ e. model.is_free e.mark) (slice_index_or l.state.elements index x ∷ []))
+    (drop l.at-index l.indices)
+    ≡ flat_map (λ index. filter (λ e. model.is_free e.mark) (slice_index_or l.state.elements index x ∷ [])) l.indices

@@ -5,11 +5,11 @@ use Rattle.rq_model.specs.States as model
 use Rattle.rq_model.specs.Reports.{registrant_line}
 use Rattle.rq_report.proofs.report.put_registrants.Given as goal
 
--- the lines so far, and those of the places that are left, are the lines of all places
-abbrev pub invariant-loop-place : goal.invariant-loop-place
-invariant-loop-place l =
+-- the lines so far, and those of the indices that are left, are the lines of all indices
+abbrev pub invariant-loop-at : goal.invariant-loop-at
+invariant-loop-at l =
     (x : model.Registrant) → string_bytes l.text
-    ++ flat_map (λ place. registrant_line (slice_index_or l.state.registrants place x))
-    (drop l.place-index l.place-items)
-    ≡ string_bytes l.fn.text ++ flat_map (λ place. registrant_line (slice_index_or l.state.registrants place x))
-    l.place-items
+    ++ flat_map (λ index. registrant_line (slice_index_or l.state.registrants index x))
+    (drop l.at-index l.at-items)
+    ≡ string_bytes l.fn.text ++ flat_map (λ index. registrant_line (slice_index_or l.state.registrants index x))
+    l.at-items

@@ -16,8 +16,8 @@ known g c =
     c.in_ok-known.ensures (bodies_at c.args.bytes.now c.args.found.now.spans.items) apart
 
 pub returns-clause-front : goal.returns-clause-front
-returns-clause-front g c = λ place chain. c.settled.ensures.front (version_of c.args.version) c.args.state.now
-    c.args.bytes.now place chain (known g c)
+returns-clause-front g c = λ offset chain. c.settled.ensures.front (version_of c.args.version) c.args.state.now
+    c.args.bytes.now offset chain (known g c)
 
 pub returns-clause-bodies : goal.returns-clause-bodies
 returns-clause-bodies g c = c.settled.ensures.bodies (version_of c.args.version) c.args.state.now

@@ -10,10 +10,10 @@ use Rattle.rq_restart.specs.Readings.{AreApart}
 use Rattle.rq_restart.proofs.front.front_of_walk.Goals as goal
 
 -- what is known of the bodies of the chain
-known : (g : _) (c : goal.After-drop-found-2 g) (place : ℕ) → Walks c.args.bytes.now place c.args.walk
+known : (g : _) (c : goal.After-drop-found-2 g) (offset : ℕ) → Walks c.args.bytes.now offset c.args.walk
     → IsKnownOfBodies (version_of c.args.version) c.args.state.now
     (bodies_at c.args.bytes.now c.check_meanwhile-found.result.0.spans.items) c.in_ok-known-2.known
-known g c place walks =
+known g c offset walks =
     let b = c.args.bytes.now in
     let s = c.args.state.now in
     let found = c.check_meanwhile-found.result.0 in
@@ -26,14 +26,14 @@ known g c place walks =
     let many : c.len.result ≡ length found.spans.items = omega (arith, c.len.ensures) in
     let same : take c.len.result (bodies_at b spans) ≡ bodies_at b found.spans.items =
     ap (λ (n : ℕ). take n (bodies_at b spans)) many ∙ take-map (body_at b) (length found.spans.items) spans
-    ∙ ap (bodies_at b) (sym (c.check_meanwhile-found.ensures.chain place walks).front) in
+    ∙ ap (bodies_at b) (sym (c.check_meanwhile-found.ensures.chain offset walks).front) in
     subst (λ (bodies : List (List ℕ)). IsKnownOfBodies (version_of c.args.version) s bodies c.in_ok-known-2.known) same
     first
 
-chain : (g : _) (c : goal.After-drop-found-2 g) (place : ℕ) → Walks c.args.bytes.now place c.args.walk
-    → IsChain c.args.bytes.now place c.check_meanwhile-found.result.0
-chain g c place walks =
-    let is = c.check_meanwhile-found.ensures.chain place walks in
+chain : (g : _) (c : goal.After-drop-found-2 g) (offset : ℕ) → Walks c.args.bytes.now offset c.args.walk
+    → IsChain c.args.bytes.now offset c.check_meanwhile-found.result.0
+chain g c offset walks =
+    let is = c.check_meanwhile-found.ensures.chain offset walks in
     record {
       short = c.requires.short;
       after = walks.after;
@@ -44,11 +44,11 @@ chain g c place walks =
     }
 
 pub returns-clause-front : goal.returns-clause-front
-returns-clause-front g c = λ place walks. c.settled.ensures.front (version_of c.args.version) c.args.state.now
-    c.args.bytes.now place (chain g c place walks) (known g c place walks)
+returns-clause-front g c = λ offset walks. c.settled.ensures.front (version_of c.args.version) c.args.state.now
+    c.args.bytes.now offset (chain g c offset walks) (known g c offset walks)
 
 pub returns-clause-analysis : goal.returns-clause-analysis
 returns-clause-analysis g c =
-    let place = c.requires.walk.0 in
+    let offset = c.requires.walk.0 in
     c.settled.ensures.analysis (version_of c.args.version) c.args.state.now
-    (bodies_at c.args.bytes.now c.check_meanwhile-found.result.0.spans.items) (known g c place c.requires.walk.1)
+    (bodies_at c.args.bytes.now c.check_meanwhile-found.result.0.spans.items) (known g c offset c.requires.walk.1)

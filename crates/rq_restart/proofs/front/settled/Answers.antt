@@ -13,7 +13,7 @@ use Rattle.rq_restart.proofs.Fronts.{front_from, bodies_kept}
 use Rattle.rq_restart.proofs.front.settled.Goals as goal
 
 pub returns-clause-front : goal.returns-clause-front
-returns-clause-front c = λ version s b place chain known.
+returns-clause-front c = λ version s b offset chain known.
     let found = c.args.found.now in
     let all = c.args.known.records.items in
     let rs = map record_of all in
@@ -27,10 +27,10 @@ returns-clause-front c = λ version s b place chain known.
     c.end_of-end.ensures
     ∙ ap (λ (n : ℕ). end_at found.spans.items found.end (rest_of found.rest) n c.lawful-kept.result) many
     ∙ ap (end_at found.spans.items found.end (rest_of found.rest) (length rs)) count in
-    subst (λ (xs : List model.Record). IsFrontFrom version s b place xs c.end_of-end.result.0
+    subst (λ (xs : List model.Record). IsFrontFrom version s b offset xs c.end_of-end.result.0
     (why_of c.end_of-end.result.1)) (sym kept)
     (front_from version c.frames_are_right.ensures.right c.frames_join.ensures.frames c.one_front.ensures.from_run s b
-    place found rs chain known.read (c.end_of-end.result.0, why_of c.end_of-end.result.1) end)
+    offset found rs chain known.read (c.end_of-end.result.0, why_of c.end_of-end.result.1) end)
 
 pub returns-clause-bodies : goal.returns-clause-bodies
 returns-clause-bodies c = λ version s bodies known.
