@@ -200,8 +200,8 @@ fn cut(alloc: Global, spans: &[Span], grain: usize) -> Result<Vec<Piece>, AllocE
     Ok(pieces)
 }
 
-// The first span whose frame has a wrong digest, looked for in pieces by several threads. Where
-// memory runs out for the pieces, it is one thread's work.
+/// The first span whose frame has a wrong digest, looked for in pieces by several threads. Where
+/// memory runs out for the pieces, it is one thread's work.
 pub(crate) fn first_wrong<R: Threads + Sync>(
     rt: &R,
     alloc: Global,

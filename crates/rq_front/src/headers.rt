@@ -10,7 +10,7 @@ use crate::HEADER_LEN;
 use rq_record::Version;
 use sha2::{Digest, Sha256};
 
-// The name of the format, and the version.
+/// The name of the format, and the version.
 pub(crate) fn magic(version: Version) -> [u8; 8]
     ensures { result ≡ frames.magic (version_of version) }
 {

@@ -11,7 +11,7 @@ const PADDING: [u8; 64] = [
     0,
 ];
 
-// How many blocks a padded message of `len` bytes has.
+/// How many blocks a padded message of `len` bytes has.
 pub(crate) fn blocks_of(len: usize) -> usize
     ensures { (m : List ℕ) → length m ≡ len → result * 64 ≡ length (padded_message m) }
 {

@@ -258,8 +258,8 @@ fn put_records<W: io::Write>(
     Ok(())
 }
 
-/// Writes the script from which the front of a log is made again, byte by byte, and answers whether
-/// that is the whole log.
+/// Writes the script of the front of a log, a line for each record, and answers whether that is the
+/// whole log.
 ///
 /// Refuses with `Untold` an operation of the registrant `-`, which no script tells, and then a
 /// beginning of the script is written; else as `dump` does.

@@ -12,8 +12,8 @@ use crossbeam_deque::{Pass, Steal, Stealer, Worker};
 use std::alloc::{AllocError, Global};
 use std::collections::LinkedList;
 
-// A pass's parts of the right to know the whole, what was dealt, and what it took. No value of it
-// is made.
+/// A pass's parts of the right to know the whole, what was dealt, and what it took. No value of it
+/// is made.
 pub(crate) struct Share {
     pub(crate) parts: u64,
     pub(crate) dealt: LinkedList<u32>,
@@ -95,7 +95,7 @@ pub(crate) type Thief = Stealer<u32, Global, Share, DealRule>;
 
 pub(crate) type DequePass = Pass<u32, Share>;
 
-// A deque that holds the list. It has room for it from the start.
+/// A deque that holds the list. It has room for it from the start.
 pub(crate) fn dealt(alloc: Global, list: &[u32]) -> Result<Owner, AllocError>
     requires { length list.now < 2 ^ 32 }
     ensures { IfOk result (λ w. (worker_flavor w ≡ 0) × (worker_view w ≡ share 256 list.now [])) }
@@ -110,7 +110,7 @@ pub(crate) fn dealt(alloc: Global, list: &[u32]) -> Result<Owner, AllocError>
     Ok(owner)
 }
 
-// A pass with one part.
+/// A pass with one part.
 pub(crate) fn cut(owner: &mut Owner) -> DequePass
     requires { 1 < (worker_view owner.old).parts }
     ensures same { (worker_deque owner.new ≡ worker_deque owner.old)
@@ -124,7 +124,7 @@ pub(crate) fn cut(owner: &mut Owner) -> DequePass
     owner.another::<Parts>()
 }
 
-// The owner's pop.
+/// The owner's pop.
 pub(crate) fn pop(owner: &mut Owner) -> Option<u32>
     requires { (worker_flavor owner.old ≡ 0) × (0 < (worker_view owner.old).parts) }
     ensures same { (worker_deque owner.new ≡ worker_deque owner.old)
@@ -138,7 +138,7 @@ pub(crate) fn pop(owner: &mut Owner) -> Option<u32>
     owner.pop_as::<Gets>()
 }
 
-// One steal. One that must be tried again counts as none.
+/// One steal. One that must be tried again counts as none.
 pub(crate) fn steal_one(thief: &Thief, pass: &mut DequePass) -> Option<u32>
     requires { IsPassOf (stealer_deque thief.now) pass.old × (0 < (view pass.old).parts) }
     ensures same { IsPassOf (stealer_deque thief.now) pass.new }
@@ -152,7 +152,7 @@ pub(crate) fn steal_one(thief: &Thief, pass: &mut DequePass) -> Option<u32>
     }
 }
 
-// Takes in a pass with all that it took.
+/// Takes in a pass with all that it took.
 pub(crate) fn gather(owner: &mut Owner, pass: DequePass)
     requires { IsPassOf (worker_deque owner.old) pass × (0 < (worker_view owner.old).parts) }
     ensures same { (worker_deque owner.new ≡ worker_deque owner.old)

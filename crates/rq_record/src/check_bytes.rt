@@ -53,8 +53,8 @@ impl CheckBytes {
         Some(CheckBytes { bytes })
     }
 
-    // Bytes that may be the last ones before an end in a log that may be lent: then they are a part
-    // of it, and else a copy.
+    /// Bytes that may be the last ones before an end in a log that may be lent: then they are a
+    /// part of it, and else a copy.
     pub(crate) fn lent(
         alloc: Global,
         log: &LentLog,

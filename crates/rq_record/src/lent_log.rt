@@ -44,7 +44,8 @@ impl LentLog {
         })
     }
 
-    // The log and where its part before an end begins, where it is lent and the part is these bytes.
+    /// The log and where its part before an end begins, where it is lent and the part is these
+    /// bytes.
     pub(crate) fn part_before(
         &self,
         end: usize,

@@ -78,9 +78,9 @@ fn tally_before(alloc: Global, records: &[Record], place: usize) -> Result<Tally
     Ok(tally)
 }
 
-// How far an audit of the records from one of them on has come: the last state that was made, and
-// the place of the record that it stands before; how often each unit and registrant was spoken of;
-// how many members of each list of that state may be gone since; and what was found.
+/// How far an audit of the records from one of them on has come: the last state that was made, and
+/// the place of the record that it stands before; how often each unit and registrant was spoken of;
+/// how many members of each list of that state may be gone since; and what was found.
 #[derive(Drop)]
 pub(crate) struct Walk {
     fields: Fields,

@@ -14,7 +14,7 @@ use std::alloc::Global;
 use std::marker::Sync;
 use std::thread::{Threads, join};
 
-// As many bodies are read by one thread, so that the restart of a small log starts none.
+/// As many bodies are read by one thread, so that the restart of a small log starts none.
 pub(crate) const FEW: usize = 1024;
 
 /// The records that the bodies of a chain spell, in two parts: the front one has those of the first

@@ -107,9 +107,9 @@ where
     restart_of(rt, alloc, &LentLog::none(), bytes, plan, gate)
 }
 
-/// The restart of a log that is lent: `restart` of its bytes. A payload of more than 22 bytes is a
-/// part of the log and no copy, so the log stays in memory as long as one such payload of the state
-/// does.
+/// The restart of a log that is lent: `restart` of its bytes. A checkpoint, and a payload of more
+/// than 22 bytes, are parts of the log and no copies, so the log stays in memory as long as one
+/// such payload of the state does.
 pub fn restart_lent<R, G>(
     rt: &R,
     alloc: Global,

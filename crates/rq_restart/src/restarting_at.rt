@@ -75,8 +75,8 @@ where
     restart_at_of(rt, alloc, &LentLog::none(), bytes, offset, plan, gate)
 }
 
-/// The restart from a checkpoint of a log that is lent: `restart_at` of its bytes. A payload of
-/// more than 22 bytes behind the checkpoint is a part of the log and no copy.
+/// The restart from a checkpoint of a log that is lent: `restart_at` of its bytes. Behind the
+/// checkpoint another one, and a payload of more than 22 bytes, are parts of the log and no copies.
 pub fn restart_lent_at<R, G>(
     rt: &R,
     alloc: Global,

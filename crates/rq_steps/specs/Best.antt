@@ -9,8 +9,8 @@ use Rattle.rq_model.specs.Machine.{is_free_at, comes_first, leaves, moved, retur
 abbrev pub element_at : List Element → ℕ → Element
 element_at elements index = slice_index_or elements index (new_element 0 0 0 0 [])
 
--- it stands at the index among all elements and is Free in the queue, and none of these that is Free
--- there comes before it
+-- it stands at the index among all elements and is Free in the queue, and none of these that is
+-- Free there comes before it
 pub record Leads (queue : ℕ) (elements these : List Element) (index : ℕ) : Type 0 where
   pub there : index < length elements
   pub free : is_free_at queue (element_at elements index) ≡ true

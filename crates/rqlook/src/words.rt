@@ -98,8 +98,8 @@ fn check<'a>(alloc: Global) -> Result<Command<'a>, Error> {
     Ok(
         Command::new(alloc, "check")
             .about(
-                "Exits with 0 where the log is whole and each checkpoint true, or the reader of the \
-                 lines went away, and with 1 where it finds something",
+                "Exits with 0 where the log is whole and each checkpoint true, or the reader of \
+                 the lines went away, and with 1 where it finds something",
             )
             .arg(log(alloc))?
             .arg(quiet)?

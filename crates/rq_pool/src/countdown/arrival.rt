@@ -24,7 +24,7 @@ pub struct Entry<T> {
     pub answer: Arrival<T>,
 }
 
-// What the note of an arrival is about.
+/// What the note of an arrival is about.
 pub(crate) struct Told<T> {
     source: u32,
     outbox: Snapshot<T>,

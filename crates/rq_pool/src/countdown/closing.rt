@@ -18,7 +18,7 @@ pub struct Closing<T> {
     pub(crate) histories: Diary<LinkedList<Entry<T>>>,
 }
 
-// What the arrivals of a closing are made of: the passes that are handed in.
+/// What the arrivals of a closing are made of: the passes that are handed in.
 pub(crate) struct Arrivals;
 
 impl<T: Fits> Listing<Vec<Pass<T>>, LinkedList<Entry<T>>> for Arrivals {
