@@ -26,7 +26,7 @@ use Rattle.rq_exchange.proofs.Steps.{arrives, next}
 pub placed : (xs : List ℕ) (i y n : ℕ) → y ≡ slice_index_or xs i y → length xs ≡ n → i < n → y ≡ at xs i
 placed xs i y n is long lt = is ∙ get_or_default xs i y 0 (omega (arith, long, lt))
 
--- a list of the values that another has at its places
+-- a list of the values that another has at its indices
 pub same_lists : {X Y : Type 0} (f : X → Y) (d : Y) (xs : List X) (ys : List Y) → length xs ≡ length ys
     → ((i : ℕ) (x : X) → get_elem? xs i ≡ some x → slice_index_or ys i d ≡ f x) → map f xs ≡ ys
 same_lists f d [] [] e h = refl
@@ -53,10 +53,10 @@ module _ (job : Job) (chain : Chain) (is : IsChainOf job chain) (q e : ℕ) (nea
       → (length boxes ≡ sources_of cd)
       × ((i : ℕ) (y : Outbox) → get_elem? boxes i ≡ some y → slice_index_or (key_of cd).due i [] ≡ y.moves.items)
       → AreBoxes job e boxes
-  given cd k boxes slot at_place answer =
+  given cd k boxes slot at_index answer =
       let own : IsCountdownOf job e cd =
       subst (IsCountdownOf job e)
-      (ap (λ j. slice_index_or chain.countdowns.items j cd) (sym slot) ∙ sym at_place)
+      (ap (λ j. slice_index_or chain.countdowns.items j cd) (sym slot) ∙ sym at_index)
       (is.keyed e cd within fed) in
       same_lists (λ (b : Outbox). b.moves.items) [] boxes (due job e)
       (answer.0 ∙ own.0 ∙ sym (length-map (listed job.sources.now e) (moves job.state.now (records_of job))))
@@ -70,14 +70,14 @@ module _ (job : Job) (chain : Chain) (is : IsChainOf job chain) (q e : ℕ) (nea
         → length ps ≡ length chain.countdowns.items
         → (starts begun redone : List ℕ) → DiariesTell (web_of job chain) starts begun redone (diaries_of ps)
         → DiariesTell (web_of job chain) starts (begun ++ next e a) (redone ++ q ∷ []) (diaries_of (slice_set ps k p'))
-    handed k r ps p p' x a slot rank at_place told each starts begun redone t =
+    handed k r ps p p' x a slot rank at_index told each starts begun redone t =
         let inside : k < length ps = omega (arith, slot, each, there) in
         let d_is : (history_of p) ≡ get_or (diaries_of ps) (at chain.slots.items e) (history_of p) =
-        ap (λ (y : Pass Outbox Target g). history_of y) at_place
+        ap (λ (y : Pass Outbox Target g). history_of y) at_index
         ∙ sym (get_or-map (λ (y : Pass Outbox Target g). history_of y) ps k p (history_of p) inside)
         ∙ ap (λ j. get_or (diaries_of ps) j (history_of p)) slot in
         let told' : (history_of p') ≡ (history_of p) ++ entry (at job.ranks.now q) x a ∷ [] =
-        told ∙ ap (λ (y : Pass Outbox Target g). history_of y ++ entry r x a ∷ []) (sym at_place)
+        told ∙ ap (λ (y : Pass Outbox Target g). history_of y ++ entry r x a ∷ []) (sym at_index)
         ∙ ap (λ j. (history_of p) ++ entry j x a ∷ []) rank in
         let s : DiariesTell (web_of job chain) starts (begun ++ next e a)
         (redone ++ q ∷ []) (set (diaries_of ps) (at chain.slots.items e) (history_of p')) =

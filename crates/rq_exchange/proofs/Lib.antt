@@ -10,10 +10,10 @@ pub mod Covering
 pub mod Crews
 pub mod Errors
 pub mod Handing
+pub mod Indices
 pub mod Merging
 pub mod Openings
 pub mod Pairs
-pub mod Places
 pub mod Placing
 pub mod Pouring
 pub mod Ranks

@@ -1,4 +1,4 @@
--- What the threads redid, as it is put in its places.
+-- What the threads redid, as it is put where it belongs.
 use Rattle.std.proofs.Common.{◌≡◌, ℕ, ◌<◌, List, [], ◌∷◌, All, length, map, refl, sym, ap, ◌∙◌, subst, arith, Vec}
 use Rattle.std.proofs.Common.{Global}
 use Rattle.std.specs.Prelude.{slice_index_or}

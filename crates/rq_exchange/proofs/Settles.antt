@@ -18,7 +18,7 @@ use Rattle.rq_exchange.specs.Coverage.{told_at}
 use Rattle.rq_exchange.proofs.Openings.{some_of}
 
 module _ {g : Ghosts Outbox Target} {K : Type 0} (row : K → Vec (Pass Outbox Target g) Global) where
-  -- what a column tells is what the threads' passes tell at its place
+  -- what a column tells is what the threads' passes tell at its index
   turned : (c : ℕ) (x : Pass Outbox Target g) (ks : List K)
       → ((i : ℕ) (d : K) → i < length ks → c < length (row (slice_index_or ks i d)).items)
       → flat_map (λ (p : Pass Outbox Target g). history_of p)

@@ -5,7 +5,7 @@ use Rattle.std.specs.Prelude.{slice_index_or, ◌==◌}
 use Rattle.std.proofs.lemmas.Bool.{eqb-true}
 use Rattle.std.proofs.lemmas.List.{get_or-map, length-map}
 use Rattle.rq_model.specs.States.{Definition, no_definition}
-use Rattle.rq_state.specs.Orders.{listed, places_of}
+use Rattle.rq_state.specs.Orders.{listed, indices_of}
 use Rattle.rq_pool.specs.declared.countdown.pass.Pass.{Pass}
 use Rattle.rq_pool.specs.declared.countdown.fits.Fits.{Ghosts}
 use Rattle.rq_exchange.specs.declared.chain.Chain.{Chain}
@@ -16,9 +16,9 @@ use Rattle.rq_exchange.specs.Chains.{IsChainOf}
 use Rattle.rq_exchange.specs.Jobs.{IsJob, errors_in}
 use Rattle.rq_exchange.specs.Links.{at, naming}
 use Rattle.rq_exchange.specs.Openings.{AreOpened}
-use Rattle.rq_exchange.proofs.Arriving.{at_place}
+use Rattle.rq_exchange.proofs.Arriving.{at_index}
 use Rattle.rq_exchange.proofs.Errors.{places_map}
-use Rattle.rq_exchange.proofs.Places.{places_hold, same_place}
+use Rattle.rq_exchange.proofs.Indices.{indices_hold, same_index}
 use Rattle.rq_exchange.proofs.Sources.{once}
 
 module _ (job : Job) (is : IsJob job) where
@@ -42,16 +42,16 @@ module _ (job : Job) (is : IsJob job) where
       → (slice_index_or (listed job.sources.now e) i 0 < length job.definitions.now)
       × (at (errors_in job) (slice_index_or (listed job.sources.now e) i 0) ≡ e)
   source_is e i near lt =
-      let at_i = at_place (λ k. (k < length job.definitions.now)
+      let at_i = at_index (λ k. (k < length job.definitions.now)
       × (((slice_index_or job.definitions.now k no_definition).error == e) ≡ true))
-      (places_of (λ d. d.error == e) 0 job.definitions.now)
-      (places_hold (λ (d : Definition). d.error == e) job.definitions.now no_definition) i 0
+      (indices_of (λ d. d.error == e) 0 job.definitions.now)
+      (indices_hold (λ (d : Definition). d.error == e) job.definitions.now no_definition) i 0
       (subst (λ (ks : List ℕ). i < length ks) (is.sources e near) lt) in
       subst (λ (ks : List ℕ). (slice_index_or ks i 0 < length job.definitions.now)
       × (at (errors_in job) (slice_index_or ks i 0) ≡ e)) (sym (is.sources e near)) (
         at_i.0,
         get_or-map (λ (d : Definition). d.error) job.definitions.now
-            (slice_index_or (places_of (λ d. d.error == e) 0 job.definitions.now) i 0) no_definition 0 at_i.0
+            (slice_index_or (indices_of (λ d. d.error == e) 0 job.definitions.now) i 0) no_definition 0 at_i.0
             ∙ eqb-true _ e at_i.1,
       )
 
@@ -63,7 +63,7 @@ module _ (job : Job) (is : IsJob job) where
       let r = ranked s known.0 (omega (arith, known.1, near)) in
       let here = subst (λ d. (at job.ranks.now s < length (listed job.sources.now d))
       × (slice_index_or (listed job.sources.now d) (at job.ranks.now s) 0 ≡ s)) known.1 r in
-      same_place (listed job.sources.now e)
+      same_index (listed job.sources.now e)
       (subst (λ ks. Rattle.rq_model.specs.WellFormed.Ordered (λ (a b : ℕ). a ≡ b → ⊥) ks) (sym (is.sources e near))
       (once (λ (d : Definition). d.error == e) 0 job.definitions.now)) (at job.ranks.now s) i here.0 lt here.1
 

@@ -1,6 +1,6 @@
 -- The error queue of each queue, and the queues whose error queue it is.
 use Rattle.std.specs.Prelude.{ℕ, ◌≡◌, ◌<◌, ◌==◌, List, length, slice_index_or}
-use Rattle.rq_state.specs.Orders.{places_of}
+use Rattle.rq_state.specs.Orders.{indices_of}
 
 -- the number at an index
 abbrev pub at : List ℕ → ℕ → ℕ
@@ -12,7 +12,7 @@ Fall errors = (k : ℕ) → k < length errors → at errors k < length errors �
 
 -- the queues whose error queue is this one, in their order
 abbrev pub naming : List ℕ → ℕ → List ℕ
-naming errors queue = places_of (λ e. e == queue) 0 errors
+naming errors queue = indices_of (λ e. e == queue) 0 errors
 
 -- of the first m queues, each stands at its rank among the sources of its error queue, where that
 -- is one of count queues

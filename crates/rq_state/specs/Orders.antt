@@ -22,9 +22,9 @@ state_in_order s = record s {
 }
 
 -- the indices of those that pass the test, counted from n
-abbrev pub places_of : {X : Type 0} → (X → Bool) → ℕ → List X → List ℕ
-places_of p n [] = []
-places_of p n (x ∷ xs) = if p x then n ∷ places_of p (n + 1) xs else places_of p (n + 1) xs
+abbrev pub indices_of : {X : Type 0} → (X → Bool) → ℕ → List X → List ℕ
+indices_of p n [] = []
+indices_of p n (x ∷ xs) = if p x then n ∷ indices_of p (n + 1) xs else indices_of p (n + 1) xs
 
 -- what a table has for a queue: nothing where there is no queue
 abbrev pub listed : {X : Type 0} → List (Vec X) → ℕ → List X

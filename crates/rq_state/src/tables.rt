@@ -4,7 +4,7 @@ ghost use Rattle.std.specs.Prelude.{◌≡◌, ◌<◌, ◌==◌, ◌∷◌, ◌
 ghost use Rattle.std.specs.Prelude.{IfErr, OnOk};
 ghost use Rattle.std.specs.List.{AllByRecursion};
 ghost use Rattle.rq_model.specs.States as model;
-ghost use Rattle.rq_state.specs.Orders.{places_of, listed};
+ghost use Rattle.rq_state.specs.Orders.{indices_of, listed};
 ghost use Rattle.rq_record.specs.declared.fault.Fault.TheVariants.{Resources};
 
 use crate::members::{Element, Note, Registrant};
@@ -44,7 +44,7 @@ pub(crate) fn homes_of(
 ) -> Result<Vec<Vec<usize>>, Fault>
     requires { AllByRecursion (λ (e : model.Element). e.home < queues) elements.now }
     ensures listed { IfOk result (λ table. (queue : ℕ) →
-        listed table.items queue ≡ places_of (λ e. e.home == queue) 0 elements.now) }
+        listed table.items queue ≡ indices_of (λ e. e.home == queue) 0 elements.now) }
     ensures refused { IfErr result (λ e. e ≡ Resources) }
 {
     let mut table = bare(alloc, queues)?;
@@ -62,7 +62,7 @@ pub(crate) fn registered_of(
 ) -> Result<Vec<Vec<usize>>, Fault>
     requires { AllByRecursion (λ (r : model.Registrant). r.queue < queues) registrants.now }
     ensures listed { IfOk result (λ table. (queue : ℕ) →
-        listed table.items queue ≡ places_of (λ r. r.queue == queue) 0 registrants.now) }
+        listed table.items queue ≡ indices_of (λ r. r.queue == queue) 0 registrants.now) }
     ensures refused { IfErr result (λ e. e ≡ Resources) }
 {
     let mut table = bare(alloc, queues)?;
@@ -80,7 +80,7 @@ pub(crate) fn noted_of(
 ) -> Result<Vec<Vec<usize>>, Fault>
     requires { AllByRecursion (λ (n : model.Note). n.queue < queues) notes.now }
     ensures listed { IfOk result (λ table. (queue : ℕ) →
-        listed table.items queue ≡ places_of (λ n. n.queue == queue) 0 notes.now) }
+        listed table.items queue ≡ indices_of (λ n. n.queue == queue) 0 notes.now) }
     ensures refused { IfErr result (λ e. e ≡ Resources) }
 {
     let mut table = bare(alloc, queues)?;
