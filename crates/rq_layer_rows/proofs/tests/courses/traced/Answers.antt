@@ -24,7 +24,7 @@ begun : (errors : List ℕ) (course : Course) → StartsByLast errors course →
     × (length (last_lists (told_to course k x)) ≡ 1)
 begun errors course starts x near some =
     let alone = starts.once x near in
-    (alone.place, alone.within, alone.here, sym (starts.by_last x alone.place near some alone.within) ∙ alone.here)
+    (alone.index, alone.within, alone.here, sym (starts.by_last x alone.index near some alone.within) ∙ alone.here)
 
 nobody_else : (errors : List ℕ) (course : Course) → StartsByLast errors course → (x : ℕ) → x < length errors
     → 0 < length (naming errors x) → length (last_lists (all_told course x)) ≡ 1
