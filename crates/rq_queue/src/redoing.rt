@@ -26,13 +26,14 @@ const AHEAD: usize = 256;
 // records together also spares waiting: they lie apart in a long log, and a processor asks for many
 // at a time.
 fn make_room(ops: &[Op], done: usize, sent: &mut Vec<Move>) -> Result<(), Fault>
+    requires { done ≤ length ops.now }
     ensures same { sent.new.items ≡ sent.old.items }
     ensures refused { IfErr result (λ e. e ≡ Resources) }
 {
     if done % AHEAD != 0 {
         return Ok(());
     }
-    let next = ops.iter().skip(done).take(AHEAD);
+    let next = ops[done..].iter().take(AHEAD);
     let aborts = next.filter(|op| op.is_abort()).count();
     sent.reserve(aborts)?;
     Ok(())
