@@ -5,28 +5,31 @@ use Rattle.std.specs.List.{AllByRecursion}
 use Rattle.std.proofs.lemmas.List.{length-map, length-take, map-append}
 use Rattle.std.proofs.Math.Seq.{take-suc}
 use Rattle.rq_model.specs.Records as model
-use Rattle.rq_model.specs.Records.{Version}
+use Rattle.rq_model.specs.Records.{Version, By}
+use Rattle.rq_model.specs.Laws.{begun}
 use Rattle.rq_model.specs.States.{State}
-use Rattle.rq_model.specs.Machine.{is_lawful, all_lawful, lawful_front, is_open, run, outcome}
+use Rattle.rq_model.specs.Machine.{is_lawful, all_lawful, lawful_front, is_defined, is_open, is_known, run, outcome}
 use Rattle.rq_model.specs.WellFormed.{IsWellFormed}
 use Rattle.rq_record.specs.declared.record.Record.{Record}
+use Rattle.rq_record.specs.declared.record.Record.TheVariants.{Define, Register, Deregister, Begin, Enqueue, Dequeue}
+use Rattle.rq_record.specs.declared.record.Record.TheVariants.{Commit, Abort, Checkpoint, Kill}
 use Rattle.rq_record.specs.Views.{record_of}
 use Rattle.rq_catalog.specs.declared.catalogue.Catalogue.{Catalogue}
 use Rattle.rq_catalog.specs.Lists.{numbered}
 use Rattle.rq_state.specs.Orders.{listed}
-use Rattle.std.specs.Prelude.{nat_eq}
-use Rattle.indexmap.specs.IndexMap.{get, keys}
-use Rattle.rq_catalog.specs.Catalogues.{Follows, HasRoom, Takes, may_take}
+use Rattle.rq_catalog.specs.Units.{numbers, has_unit, outcome_at}
+use Rattle.rq_catalog.specs.Catalogues.{Follows, HasRoom, KnowsUnit, Takes, may_take}
 use Rattle.rq_catalog.specs.Analyses.{IsAnalysis}
 use Rattle.rq_catalog.proofs.Runs.{lawful_push, front_stops, front_whole, lawful_throughout}
 use Rattle.rq_catalog.proofs.Lawfulness.{lawful_here, open_here}
-use Rattle.rq_catalog.proofs.Seen.{open_again}
-use Rattle.rq_model.proofs.Lists.{filter_same, each_of}
+use Rattle.rq_catalog.proofs.Seen.{open_again, open_seen, seen_below}
+use Rattle.rq_model.proofs.Lists.{filter_same, each_of, each_weaker}
 use Rattle.rq_model.proofs.Kept.{runs_are_well_formed}
 use Rattle.rq_model.proofs.Numbers.{numbers_after}
-use Rattle.std.specs.Prelude.{◌^◌}
+use Rattle.std.specs.Prelude.{◌^◌, ◌==◌, ◌&&◌, Option}
+use Rattle.std.proofs.lemmas.Bool.{and_parts, ltb-true}
 use Rattle.rq_catalog.specs.Outcomes.{is_open_in}
-use Rattle.std.specs.List.{filter}
+use Rattle.std.specs.List.{filter, list_any}
 use Rattle.rq_catalog.proofs.Keep.{follows_step, places_below}
 
 abbrev pub upto : ℕ → List Record → List model.Record
@@ -63,6 +66,35 @@ module _ (version : Version) (c : Catalogue) (s : State) (rs : List Record) (n :
             omega (arith, counts, next, f.aborted, small, here, length-upto n rs inside);
       }
 
+  -- what the catalogue asks of the unit of a record that it may take
+  pub unit_here : (r : Record) → may_take version c r ≡ true → KnowsUnit c r
+  unit_here r may = at r (sym (lawful_here version c s (upto n rs) f well lawful r) ∙ may)
+    where
+      there : (u : ℕ) → is_open (run s (upto n rs)) u ≡ true → has_unit c.units u ≡ true
+      there u h = ap (list_any (λ v. v == u)) f.units ∙ open_seen version s (upto n rs) well lawful u h
+
+      engages : (u q : ℕ) (by : Option By)
+          → (is_defined (run s (upto n rs)) q && (is_open (run s (upto n rs)) u && is_known (run s (upto n rs)) q by))
+          ≡ true → has_unit c.units u ≡ true
+      engages u q by h = there u (and_parts (is_open (run s (upto n rs)) u) (is_known (run s (upto n rs)) q by)
+          (and_parts (is_defined (run s (upto n rs)) q)
+          (is_open (run s (upto n rs)) u && is_known (run s (upto n rs)) q by) h).1).0
+
+      at : (r : Record) → is_lawful version (run s (upto n rs)) (record_of r) ≡ true → KnowsUnit c r
+      at (Begin unit) h = subst (AllByRecursion (λ v. v < unit.0)) (sym f.units)
+          (each_weaker (λ v. v ≤ (run s (upto n rs)).greatest) (λ v. v < unit.0)
+          (λ v m. omega (arith, m, ltb-true (run s (upto n rs)).greatest unit.0 h)) (s.units ++ begun (upto n rs))
+          (seen_below version s (upto n rs) well lawful))
+      at (Enqueue priority queue unit by payload) h = engages unit.0 queue.0 by h
+      at (Dequeue unit queue by) h = engages unit.0 queue.0 by h
+      at (Commit unit) h = there unit.0 h
+      at (Abort unit) h = there unit.0 h
+      at (Define limit error name) h = tt
+      at (Register queue name) h = tt
+      at (Deregister queue name) h = tt
+      at (Checkpoint bytes) h = tt
+      at (Kill queue element) h = tt
+
   pub one_further : (d : Catalogue) (x : Record) → n < length rs → may_take version c (get_or rs n x) ≡ true
       → Takes c d (s.next + n, n) (get_or rs n x)
       → (all_lawful version s (upto (n + 1) rs) ≡ true) × Follows d s (upto (n + 1) rs)
@@ -75,11 +107,11 @@ module _ (version : Version) (c : Catalogue) (s : State) (rs : List Record) (n :
             (subst (λ k. Takes c d (s.next + k, k) (get_or rs n x)) (sym (length-upto n rs inside)) t),
       )
 
-  open_units : filter (λ u. is_open_in (get nat_eq c.outcomes u)) (keys c.outcomes) ≡ (run s (upto n rs)).units
+  open_units : filter (λ u. is_open_in (outcome_at c.units u)) (numbers c.units) ≡ (run s (upto n rs)).units
   open_units =
-      filter_same (λ u. is_open_in (get nat_eq c.outcomes u)) (λ u. is_open (run s (upto n rs)) u) (keys c.outcomes)
-      (each_of (λ u. is_open_in (get nat_eq c.outcomes u) ≡ is_open (run s (upto n rs)) u)
-      (open_here version c s (upto n rs) f well lawful) (keys c.outcomes))
+      filter_same (λ u. is_open_in (outcome_at c.units u)) (λ u. is_open (run s (upto n rs)) u) (numbers c.units)
+      (each_of (λ u. is_open_in (outcome_at c.units u) ≡ is_open (run s (upto n rs)) u)
+      (open_here version c s (upto n rs) f well lawful) (numbers c.units))
       ∙ ap (filter (λ u. is_open (run s (upto n rs)) u)) f.units ∙ open_again version s (upto n rs) well lawful
 
   front_here : lawful_front version s (map record_of rs) ≡ upto n rs

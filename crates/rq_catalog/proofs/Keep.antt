@@ -7,7 +7,6 @@ use Rattle.std.specs.Str.{bytes_eq}
 use Rattle.std.specs.Cmp.Lexicographic.{pointwise}
 use Rattle.std.proofs.lemmas.Bool.{cases_Bool, and_parts, and_from, eqb-true, eq-eqb, ltb-true, lt-ltb, false≢true}
 use Rattle.std.proofs.lemmas.List.{map-append, length-append, append-nil}
-use Rattle.indexmap.specs.IndexMap.{get}
 use Rattle.rq_model.specs.Records as model
 use Rattle.rq_model.specs.Records.{Version}
 use Rattle.rq_model.specs.States.{State, Definition, Registrant, Element, Note, is_registrant, put, registrant_before}
@@ -27,18 +26,19 @@ use Rattle.rq_record.specs.Views.{record_of}
 use Rattle.rq_catalog.specs.declared.outcome.Outcome.{Outcome}
 use Rattle.rq_catalog.specs.declared.outcome.Outcome.TheVariants.{Committed, Aborted, Open}
 use Rattle.rq_catalog.specs.declared.catalogue.Catalogue.{Catalogue}
-use Rattle.rq_catalog.specs.Lists.{is_engaged_in, numbered, place_and_index}
+use Rattle.rq_catalog.specs.Lists.{numbered, place_and_index}
+use Rattle.rq_catalog.specs.Units.{outcome_at, engages_at}
 use Rattle.rq_state.specs.Orders.{listed}
 use Rattle.rq_catalog.specs.Outcomes.{outcome_of}
 use Rattle.rq_catalog.specs.Catalogues.{key_eq, names_after, defines, errors_after, registered_after, greatest_by}
-use Rattle.rq_catalog.specs.Catalogues.{outcome_after, committed_after, aborted_after, engaged_after, touches_in, Takes}
+use Rattle.rq_catalog.specs.Catalogues.{outcome_after, begun_after, committed_after, aborted_after, engaged_after}
+use Rattle.rq_catalog.specs.Catalogues.{touches_in, Takes}
 use Rattle.rq_catalog.specs.Catalogues.{Follows}
 use Rattle.rq_catalog.proofs.Runs.{run_push, any_push, first, from_push, is_open_outcome, open_by_outcome, unseen}
 use Rattle.rq_catalog.proofs.Runs.{touching_push}
 use Rattle.rq_catalog.proofs.Lawfulness.{count}
-use Rattle.rq_catalog.proofs.Seen.{entries_step}
+use Rattle.rq_catalog.proofs.Seen.{numbers_step}
 use Rattle.rq_catalog.proofs.Engaged.{or_false, any_holds, engaged_step}
-use Rattle.std.specs.Map.{keys_of}
 use Rattle.rq_model.proofs.Parts.{any_filter}
 use Rattle.rq_model.proofs.ByQueue.{run_definitions}
 use Rattle.rq_model.specs.Queues.{defined_by}
@@ -393,7 +393,7 @@ module _ (version : Version) (c : Catalogue) (s : State) (xs : List model.Record
   touches_step r q ok = ap (λ n. touches_in c r q && nat_lt q n) (f.queues ∙ count c s xs f) ∙ at r ok
     where
       closing : (u : ℕ) → is_open (run s xs) u ≡ true
-          → (is_engaged_in (get nat_eq c.engaged u) q && nat_lt q (length (run s xs).definitions))
+          → (engages_at c.units u q && nat_lt q (length (run s xs).definitions))
           ≡ (is_engaged s q u || list_any (engages q u) xs)
       closing u l = ap (λ b. b && nat_lt q (length (run s xs).definitions))
           (f.engaged u q ∙ ap (λ b. b && (is_engaged s q u || list_any (engages q u) xs)) l)
@@ -445,9 +445,8 @@ module _ (version : Version) (c : Catalogue) (s : State) (xs : List model.Record
     greatest = t.greatest ∙ ap (greatest_by r) f.greatest ∙ greatest_step (run s xs) r
         ∙ ap (λ (z : State). z.greatest) back;
     outcomes = λ u. ap (option_map outcome_of) (t.outcomes u)
-        ∙ outcomes_step version s xs r u (get nat_eq c.outcomes u) well lawful ok (f.outcomes u);
-    units = ap keys_of t.entries ∙ entries_step version s xs well lawful
-        (s.next + length xs) r c.outcomes.entries ok f.units;
+        ∙ outcomes_step version s xs r u (outcome_at c.units u) well lawful ok (f.outcomes u);
+    units = t.numbers ∙ ap (begun_after r) f.units ∙ numbers_step s xs r;
     committed = t.committed ∙ ap (committed_after r) f.committed ∙ committed_step (run s xs) r
         ∙ ap (λ (z : State). z.committed) back;
     aborted = t.aborted ∙ ap (aborted_after r) f.aborted ∙ aborted_step (run s xs) r

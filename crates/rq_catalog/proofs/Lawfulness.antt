@@ -1,10 +1,9 @@
 -- What the catalogue takes is what is lawful.
 use Rattle.std.proofs.Common.{◌≡◌, ℕ, suc, zero, ◌≤◌, Bool, true, false, not, ◌&&◌, ◌||◌, List, [], ◌∷◌, length, Option}
 use Rattle.std.proofs.Common.{Some, None, map, refl, sym, ap, ◌∙◌, subst, arith}
-use Rattle.std.specs.Prelude.{◌==◌, nat_lt, nat_le, nat_eq, if◌then◌else◌, option_map, slice_index_or}
+use Rattle.std.specs.Prelude.{◌==◌, nat_lt, nat_le, if◌then◌else◌, option_map, slice_index_or}
 use Rattle.std.proofs.lemmas.Bool.{eqb-true, eqb-false, le-leb}
 use Rattle.std.proofs.lemmas.List.{length-map}
-use Rattle.indexmap.specs.IndexMap.{get}
 use Rattle.indexmap.specs.IndexSet.{IndexSet, contains}
 use Rattle.rq_model.specs.Records as model
 use Rattle.rq_model.specs.Records.{Version, One, Two, no_queue}
@@ -23,6 +22,7 @@ use Rattle.rq_catalog.specs.declared.outcome.Outcome.{Outcome}
 use Rattle.rq_catalog.specs.declared.outcome.Outcome.TheVariants.{Committed, Aborted, Open}
 use Rattle.rq_catalog.specs.declared.catalogue.Catalogue.{Catalogue}
 use Rattle.rq_catalog.specs.Outcomes.{is_open_in, outcome_of}
+use Rattle.rq_catalog.specs.Units.{outcome_at}
 use Rattle.rq_catalog.specs.Catalogues.{key_eq, is_known_in, is_limit_in, may_be_error_in, may_kill_in, may_take}
 use Rattle.rq_catalog.specs.Catalogues.{Follows}
 use Rattle.rq_catalog.proofs.Runs.{is_open_outcome, open_by_outcome}
@@ -96,12 +96,12 @@ module _ (version : Version) (c : Catalogue) (s : State) (xs : List model.Record
   defined_here : (q : ℕ) → nat_lt q (length c.errors.items) ≡ machine.is_defined (run s xs) q
   defined_here q = defined_by c.errors.items (run s xs) f.errors q
 
-  pub open_here : (u : ℕ) → is_open_in (get nat_eq c.outcomes u) ≡ is_open (run s xs) u
-  open_here u = open_as (get nat_eq c.outcomes u) ∙ ap is_open_outcome (f.outcomes u)
+  pub open_here : (u : ℕ) → is_open_in (outcome_at c.units u) ≡ is_open (run s xs) u
+  open_here u = open_as (outcome_at c.units u) ∙ ap is_open_outcome (f.outcomes u)
       ∙ sym (open_by_outcome version s xs u well lawful)
 
   operation_here : (u q : ℕ) (by : Option By)
-      → (nat_lt q (length c.errors.items) && (is_open_in (get nat_eq c.outcomes u) && is_known_in c.registrants q by))
+      → (nat_lt q (length c.errors.items) && (is_open_in (outcome_at c.units u) && is_known_in c.registrants q by))
       ≡ (machine.is_defined (run s xs) q && (is_open (run s xs) u && is_known (run s xs) q by))
   operation_here u q by =
       λ i. defined_here q i && (open_here u i && known_by c.registrants (run s xs) f.registrants q by i)

@@ -1,22 +1,20 @@
 -- Units in the order in which they were begun.
 use Rattle.std.proofs.Common.{◌≡◌, ℕ, zero, suc, ◌+◌, ◌<◌, ◌≤◌, Bool, true, false, cond, ◌||◌, ◌&&◌, List, [], ◌∷◌}
-use Rattle.std.proofs.Common.{◌++◌, length, map, refl, sym, ap, ◌∙◌, subst, arith, take, get_or, append_assoc, Option}
+use Rattle.std.proofs.Common.{◌++◌, length, map, refl, sym, ap, ◌∙◌, arith, take, get_or, append_assoc}
 use Rattle.std.proofs.Common.{Some, None}
 use Rattle.std.specs.Prelude.{◌==◌, nat_eq, if◌then◌else◌}
 use Rattle.std.specs.List.{filter, list_any, AllByRecursion}
-use Rattle.std.specs.Map.{keys_of}
-use Rattle.std.proofs.lemmas.Bool.{and_parts, eqb-false, eq-eqb, ne_eqb, ltb-true, false≢true}
+use Rattle.std.proofs.lemmas.Bool.{and_parts, eq-eqb}
 use Rattle.std.proofs.lemmas.List.{append-nil, map-append}
 use Rattle.std.proofs.lemmas.List.Elements.{filter-append}
 use Rattle.std.proofs.Math.Seq.{take-suc}
-use Rattle.indexmap.specs.IndexMap.{insert_entry}
 use Rattle.rq_model.specs.Records as model
 use Rattle.rq_model.specs.Records.{Version}
 use Rattle.rq_model.specs.States.{State}
 use Rattle.rq_model.specs.Machine.{is_lawful, all_lawful, is_open, step, run, outcome_from}
 use Rattle.rq_model.specs.WellFormed.{Ordered, IsWellFormed}
 use Rattle.rq_model.specs.Laws.{begun, is_still_open}
-use Rattle.rq_model.proofs.Lists.{by_cases, filter_same, each_weaker, each_append}
+use Rattle.rq_model.proofs.Lists.{filter_same, each_weaker, each_append}
 use Rattle.rq_model.proofs.Numbers.{numbers_after}
 use Rattle.rq_record.specs.declared.record.Record.{Record}
 use Rattle.rq_record.specs.declared.record.Record.TheVariants.{Define, Register, Deregister, Begin, Enqueue, Dequeue}
@@ -24,38 +22,9 @@ use Rattle.rq_record.specs.declared.record.Record.TheVariants.{Commit, Abort, Ch
 use Rattle.rq_record.specs.declared.record.UnitNo.{UnitNo}
 use Rattle.rq_record.specs.Views.{record_of}
 use Rattle.rq_state.specs.Views.{unit_of}
-use Rattle.rq_catalog.specs.declared.outcome.Outcome.{Outcome}
-use Rattle.rq_catalog.specs.declared.outcome.Outcome.TheVariants.{Committed, Aborted, Open}
-use Rattle.rq_catalog.specs.Members.{all_open}
-use Rattle.rq_catalog.specs.Catalogues.{entries_after}
-use Rattle.rq_catalog.proofs.Runs.{any_filter, greatest_rises}
-
--- Entries of a map.
-
--- a key that is greater than all others goes last
-pub new_last : (u : ℕ) (o : Outcome) (es : List (ℕ × Outcome)) → AllByRecursion (λ v. v < u) (keys_of es)
-    → insert_entry nat_eq es u o ≡ es ++ (u, o) ∷ []
-new_last u o [] h = refl
-new_last u o (e ∷ es) h =
-    ap (λ b. if b then (e.0, o) ∷ es else e ∷ insert_entry nat_eq es u o) (ne_eqb u e.0 (λ i. omega (arith, h.0, i)))
-    ∙ ap (λ l. e ∷ l) (new_last u o es h.1)
-
-pub keys_of_last : (u : ℕ) (o : Outcome) (es : List (ℕ × Outcome)) → AllByRecursion (λ v. v < u) (keys_of es)
-    → keys_of (insert_entry nat_eq es u o) ≡ keys_of es ++ u ∷ []
-keys_of_last u o es h = ap keys_of (new_last u o es h) ∙ map-append (λ (e : ℕ × Outcome). e.0) es ((u, o) ∷ [])
-
--- a key that is there keeps its place
-pub seen_stays : (u : ℕ) (o : Outcome) (es : List (ℕ × Outcome)) → list_any (λ v. v == u) (keys_of es) ≡ true
-    → keys_of (insert_entry nat_eq es u o) ≡ keys_of es
-seen_stays u o [] h = absurd (false≢true h)
-seen_stays u o (e ∷ es) h =
-    by_cases (nat_eq u e.0) (λ b. nat_eq u e.0 ≡ b
-    → keys_of (if b then (e.0, o) ∷ es else e ∷ insert_entry nat_eq es u o) ≡ e.0 ∷ keys_of es)
-    (λ _ _. refl)
-    (λ _ n. ap (λ l. e.0 ∷ l)
-    (seen_stays u o es
-    (sym (ap (λ b. b || list_any (λ v. v == u) (keys_of es)) (ne_eqb e.0 u (λ i. eqb-false u e.0 n (sym i)))) ∙ h)))
-    refl
+use Rattle.rq_catalog.specs.declared.outcome.Outcome.TheVariants.{Open}
+use Rattle.rq_catalog.specs.Catalogues.{begun_after}
+use Rattle.rq_catalog.proofs.Runs.{any_filter, any_push, greatest_rises}
 
 -- The units of a state.
 
@@ -65,45 +34,34 @@ each_get P [] i u h l = let no : ⊥ = omega (arith, l) in absurd no
 each_get P (v ∷ us) zero u h l = h.0
 each_get P (v ∷ us) (suc i) u h l = each_get P us i u h.1 (omega (arith, l))
 
-below_next : (us : List UnitNo) (i : ℕ) (u : UnitNo) → Ordered (λ a b. a < b) (map unit_of us) → i < length us
+pub below_next : (us : List UnitNo) (i : ℕ) (u : UnitNo) → Ordered (λ a b. a < b) (map unit_of us) → i < length us
     → AllByRecursion (λ v. v < (get_or us i u).0) (map unit_of (take i us))
 below_next [] i u h l = let no : ⊥ = omega (arith, l) in absurd no
 below_next (v ∷ us) zero u h l = tt
 below_next (v ∷ us) (suc i) u h l =
     (each_get (λ w. v.0 < w) us i u h.0 (omega (arith, l)), below_next us i u h.1 (omega (arith, l)))
 
-take_next : (us : List UnitNo) (i : ℕ) (u : UnitNo) → i < length us
-    → all_open (map unit_of (take i us)) ++ ((get_or us i u).0, Open) ∷ [] ≡ all_open (map unit_of (take (suc i) us))
-take_next [] i u l = let no : ⊥ = omega (arith, l) in absurd no
-take_next (v ∷ us) zero u l = refl
-take_next (v ∷ us) (suc i) u l = ap (λ l. (v.0, Open) ∷ l) (take_next us i u (omega (arith, l)))
-
-keys_are : (us : List ℕ) → us ≡ keys_of (all_open us)
-keys_are [] = refl
-keys_are (u ∷ us) = ap (λ l. u ∷ l) (keys_are us)
-
--- a turn of the loop over the open units of a state
-pub one_more : (us : List UnitNo) (i : ℕ) (u : UnitNo) → Ordered (λ a b. a < b) (map unit_of us) → i < length us
-    → insert_entry nat_eq (all_open (map unit_of (take i us))) (get_or us i u).0 Open
-    ≡ all_open (map unit_of (take (i + 1) us))
-one_more us i u rise l =
-    new_last (get_or us i u).0 Open (all_open (map unit_of (take i us)))
-    (subst (AllByRecursion (λ v. v < (get_or us i u).0)) (keys_are (map unit_of (take i us)))
-    (below_next us i u rise l))
-    ∙ take_next us i u l ∙ ap (λ n. all_open (map unit_of (take n us))) (up i)
+-- a turn of the loop over the units of a state
+pub one_more : (us : List UnitNo) (i : ℕ) (u : UnitNo) → i < length us
+    → map unit_of (take i us) ++ (get_or us i u).0 ∷ [] ≡ map unit_of (take (i + 1) us)
+one_more us i u l = sym (ap (λ n. map unit_of (take n us)) (up i) ∙ ap (map unit_of) (take-suc us i u l)
+    ∙ map-append unit_of (take i us) (get_or us i u ∷ []))
   where
-    up : (n : ℕ) → suc n ≡ n + 1
+    up : (n : ℕ) → n + 1 ≡ suc n
     up n = omega arith
 
-abbrev pub pushed : List ℕ → Option ℕ → List ℕ
-pushed us None = us
-pushed us (Some u) = us ++ u ∷ []
-
-pub pushed_where : (us : List ℕ) (o : Option ℕ) (b : Bool) (u : ℕ) → o ≡ (if b then Some u else None)
-    → pushed us o ≡ (if b then us ++ u ∷ [] else us)
-pushed_where us o b u e = ap (pushed us) e
-    ∙ by_cases b (λ b. pushed us (if b then Some u else None) ≡ (if b then us ++ u ∷ [] else us)) (λ _. refl)
-    (λ _. refl)
+pub one_open : (us : List ℕ) (n u : ℕ)
+    → cond (nat_eq n u) (Some Open) (if list_any (λ v. v == u) us then Some Open else None)
+    ≡ (if list_any (λ v. v == u) (us ++ n ∷ []) then Some Open else None)
+one_open us n u = either (list_any (λ v. v == u) us) (n == u)
+    ∙ ap (λ b. if b then Some Open else None) (sym (any_push (λ v. v == u) us n))
+  where
+    either : (a b : Bool) → cond b (Some Open) (if a then Some Open else None)
+        ≡ (if a || b then Some Open else None)
+    either true true = refl
+    either false true = refl
+    either true false = refl
+    either false false = refl
 
 -- a turn of the loop over the units of an analysis
 pub open_more : (p : ℕ → Bool) (us done new : List ℕ) (i : ℕ) → i < length us → done ≡ filter p (take i us)
@@ -159,7 +117,7 @@ begun_below version s (x ∷ xs) h =
 
 module _ (version : Version) (s : State) (xs : List model.Record) (well : IsWellFormed s)
     (lawful : all_lawful version s xs ≡ true) where
-  seen_below : AllByRecursion (λ v. v ≤ (run s xs).greatest) (s.units ++ begun xs)
+  pub seen_below : AllByRecursion (λ v. v ≤ (run s xs).greatest) (s.units ++ begun xs)
   seen_below = each_append (λ v. v ≤ (run s xs).greatest) s.units (begun xs)
       (each_weaker (λ v. (1 ≤ v) × (v ≤ s.greatest)) (λ v. v ≤ (run s xs).greatest)
       (λ v k. omega (arith, k.1, greatest_rises version s xs lawful)) s.units well.units)
@@ -170,7 +128,7 @@ module _ (version : Version) (s : State) (xs : List model.Record) (well : IsWell
   units_here = (numbers_after version s xs well lawful).units
 
   -- an open unit was begun
-  open_seen : (u : ℕ) → is_open (run s xs) u ≡ true → list_any (λ v. v == u) (s.units ++ begun xs) ≡ true
+  pub open_seen : (u : ℕ) → is_open (run s xs) u ≡ true → list_any (λ v. v == u) (s.units ++ begun xs) ≡ true
   open_seen u h = (and_parts (list_any (λ v. v == u) (s.units ++ begun xs)) (is_still_open (outcome_from s.next u xs))
       (sym (any_filter (λ v. is_still_open (outcome_from s.next v xs)) u (s.units ++ begun xs))
       ∙ ap (list_any (λ v. v == u)) (sym units_here) ∙ h)).0
@@ -197,33 +155,22 @@ module _ (version : Version) (s : State) (xs : List model.Record) (well : IsWell
           (each_weaker (λ u. list_any (λ v. v == u) l ≡ true) (λ u. list_any (λ v. v == u) (filter p l) ≡ p u)
           (λ u h. any_filter p u l ∙ ap (λ b. b && p u) h) l (members l))
 
-  -- a lawful record adds the unit that it begins
-  pub entries_step : (place : ℕ) (r : Record) (es : List (ℕ × Outcome))
-      → is_lawful version (run s xs) (record_of r) ≡ true → keys_of es ≡ s.units ++ begun xs
-      → keys_of (entries_after place r es) ≡ s.units ++ begun (xs ++ record_of r ∷ [])
-  entries_step place r es ok k = at r ok ∙ ap (λ l. s.units ++ l) (sym (begun_push xs (record_of r)))
-    where
-      same : keys_of es ≡ s.units ++ (begun xs ++ [])
-      same = k ∙ ap (λ l. s.units ++ l) (sym (append-nil (begun xs)))
+-- a record adds the unit that it begins
+pub numbers_step : (s : State) (xs : List model.Record) (r : Record)
+    → begun_after r (s.units ++ begun xs) ≡ s.units ++ begun (xs ++ record_of r ∷ [])
+numbers_step s xs r = at r ∙ ap (λ l. s.units ++ l) (sym (begun_push xs (record_of r)))
+  where
+    same : s.units ++ begun xs ≡ s.units ++ (begun xs ++ [])
+    same = ap (λ l. s.units ++ l) (sym (append-nil (begun xs)))
 
-      closes : (u : ℕ) (o : Outcome) → is_open (run s xs) u ≡ true
-          → keys_of (insert_entry nat_eq es u o) ≡ s.units ++ (begun xs ++ [])
-      closes u o h = seen_stays u o es (ap (list_any (λ v. v == u)) k ∙ open_seen u h) ∙ same
-
-      at : (r : Record) → is_lawful version (run s xs) (record_of r) ≡ true
-          → keys_of (entries_after place r es) ≡ s.units ++ (begun xs ++ begun (record_of r ∷ []))
-      at (Begin unit) l =
-          keys_of_last unit.0 Open es
-          (subst (AllByRecursion (λ v. v < unit.0)) (sym k)
-          (each_weaker (λ v. v ≤ (run s xs).greatest) (λ v. v < unit.0)
-          (λ v m. omega (arith, m, ltb-true (run s xs).greatest unit.0 l)) (s.units ++ begun xs) seen_below))
-          ∙ ap (λ l. l ++ unit.0 ∷ []) k ∙ append_assoc s.units (begun xs) (unit.0 ∷ [])
-      at (Commit unit) l = closes unit.0 (Committed place) l
-      at (Abort unit) l = closes unit.0 (Aborted place) l
-      at (Define limit error name) l = same
-      at (Register queue name) l = same
-      at (Deregister queue name) l = same
-      at (Enqueue priority queue unit by payload) l = same
-      at (Dequeue unit queue by) l = same
-      at (Checkpoint bytes) l = same
-      at (Kill queue element) l = same
+    at : (r : Record) → begun_after r (s.units ++ begun xs) ≡ s.units ++ (begun xs ++ begun (record_of r ∷ []))
+    at (Begin unit) = append_assoc s.units (begun xs) (unit.0 ∷ [])
+    at (Commit unit) = same
+    at (Abort unit) = same
+    at (Define limit error name) = same
+    at (Register queue name) = same
+    at (Deregister queue name) = same
+    at (Enqueue priority queue unit by payload) = same
+    at (Dequeue unit queue by) = same
+    at (Checkpoint bytes) = same
+    at (Kill queue element) = same

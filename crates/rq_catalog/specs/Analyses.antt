@@ -1,7 +1,5 @@
 -- What an analysis says.
-use Rattle.std.specs.Prelude.{ℕ, ◌≡◌, Bool, List, length, filter, nat_eq, Option, option_map}
-use Rattle.std.specs.Prelude.{slice_index_or}
-use Rattle.indexmap.specs.IndexMap.{get, keys}
+use Rattle.std.specs.Prelude.{ℕ, ◌≡◌, List, length, filter, Option, option_map}
 use Rattle.rq_model.specs.Records.{Record, Version}
 use Rattle.rq_model.specs.States.{State}
 use Rattle.rq_model.specs.Machine as machine
@@ -9,24 +7,18 @@ use Rattle.rq_model.specs.Machine.{lawful_front, run}
 use Rattle.rq_catalog.specs.declared.analysis.Analysis.{Analysis}
 use Rattle.rq_catalog.specs.Outcomes.{outcome_of, is_open_in}
 use Rattle.rq_catalog.specs.Lists.{numbered}
+use Rattle.rq_catalog.specs.Units.{numbers, outcome_at}
 use Rattle.rq_state.specs.Orders.{listed}
 use Rattle.rq_catalog.specs.Catalogues.{Follows}
 
 -- what the analysis has for a unit
 abbrev pub outcome_in : Analysis → ℕ → Option machine.Outcome
-outcome_in a unit = option_map outcome_of (get nat_eq a.catalogue.outcomes unit)
+outcome_in a unit = option_map outcome_of (outcome_at a.catalogue.units unit)
 
 -- the units that the analysis has as open, in the order in which they were begun
 abbrev pub open_in : Analysis → List ℕ
-open_in a = filter (λ unit. is_open_in (get nat_eq a.catalogue.outcomes unit))
-    (keys a.catalogue.outcomes)
-
--- the unit at an index in their list
-abbrev pub unit_at : Analysis → ℕ → ℕ
-unit_at a index = slice_index_or (keys a.catalogue.outcomes) index 0
-
-abbrev pub is_open_at : Analysis → ℕ → Bool
-is_open_at a index = is_open_in (get nat_eq a.catalogue.outcomes (unit_at a index))
+open_in a = filter (λ unit. is_open_in (outcome_at a.catalogue.units unit))
+    (numbers a.catalogue.units)
 
 -- what the analysis has for a queue: places, and indices among the records
 abbrev pub touched : Analysis → ℕ → List (ℕ × ℕ)

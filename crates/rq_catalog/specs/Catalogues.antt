@@ -1,9 +1,8 @@
 -- What a catalogue knows, and when a record is lawful by it.
 use Rattle.std.specs.Prelude.{ℕ, Bool, true, false, not, ◌&&◌, ◌||◌, ◌==◌, ◌≡◌, ◌+◌, ◌<◌, ◌^◌, cond}
 use Rattle.std.specs.Prelude.{nat_lt, nat_le, nat_eq, if◌then◌else◌, List, [], ◌∷◌, ◌++◌, length}
-use Rattle.std.specs.Prelude.{Option, Some, None, option_map, slice_index_or, map}
+use Rattle.std.specs.Prelude.{Option, Some, None, option_map, slice_index_or, map, ⊤}
 use Rattle.std.specs.Cmp.Lexicographic.{pointwise}
-use Rattle.indexmap.specs.IndexMap.{get, insert_entry, keys}
 use Rattle.indexmap.specs.IndexSet.{IndexSet, contains}
 use Rattle.rq_model.specs.Records.{By, Version, One, Two, no_queue}
 use Rattle.rq_model.specs.Records as model
@@ -18,7 +17,8 @@ use Rattle.rq_record.specs.declared.record.Record.TheVariants.{Define, Register,
 use Rattle.rq_record.specs.declared.record.Record.TheVariants.{Enqueue, Dequeue, Commit, Abort}
 use Rattle.rq_record.specs.declared.record.Record.TheVariants.{Checkpoint, Kill}
 use Rattle.rq_catalog.specs.Outcomes.{is_open_in, outcome_of}
-use Rattle.rq_catalog.specs.Lists.{is_engaged_in, numbered}
+use Rattle.rq_catalog.specs.Lists.{numbered}
+use Rattle.rq_catalog.specs.Units.{numbers, has_unit, outcome_at, engages_at}
 use Rattle.rq_state.specs.Orders.{listed}
 use Rattle.rq_catalog.specs.declared.outcome.Outcome.{Outcome}
 use Rattle.rq_catalog.specs.declared.outcome.Outcome.TheVariants.{Committed, Aborted, Open}
@@ -55,11 +55,11 @@ may_take version c (Register queue name) = nat_lt queue.0 (length c.errors.items
 may_take version c (Deregister queue name) = contains key_eq c.registrants (queue.0, name)
 may_take version c (Begin unit) = nat_lt c.greatest unit.0
 may_take version c (Enqueue priority queue unit by payload) = nat_lt queue.0 (length c.errors.items)
-    && (is_open_in (get nat_eq c.outcomes unit.0) && is_known_in c.registrants queue.0 by)
+    && (is_open_in (outcome_at c.units unit.0) && is_known_in c.registrants queue.0 by)
 may_take version c (Dequeue unit queue by) = nat_lt queue.0 (length c.errors.items)
-    && (is_open_in (get nat_eq c.outcomes unit.0) && is_known_in c.registrants queue.0 by)
-may_take version c (Commit unit) = is_open_in (get nat_eq c.outcomes unit.0)
-may_take version c (Abort unit) = is_open_in (get nat_eq c.outcomes unit.0)
+    && (is_open_in (outcome_at c.units unit.0) && is_known_in c.registrants queue.0 by)
+may_take version c (Commit unit) = is_open_in (outcome_at c.units unit.0)
+may_take version c (Abort unit) = is_open_in (outcome_at c.units unit.0)
 may_take version c (Checkpoint bytes) = true
 may_take version c (Kill queue element) = may_kill_in version c.errors.items queue.0
 
@@ -93,12 +93,10 @@ outcome_after place (Commit unit) u old = cond (nat_eq unit.0 u) (Some (Committe
 outcome_after place (Abort unit) u old = cond (nat_eq unit.0 u) (Some (Aborted place)) old
 outcome_after place r u old = old
 
--- the units with their outcomes, in the order in which they were begun
-abbrev pub entries_after : ℕ → Record → List (ℕ × Outcome) → List (ℕ × Outcome)
-entries_after place (Begin unit) old = insert_entry nat_eq old unit.0 Open
-entries_after place (Commit unit) old = insert_entry nat_eq old unit.0 (Committed place)
-entries_after place (Abort unit) old = insert_entry nat_eq old unit.0 (Aborted place)
-entries_after place r old = old
+-- the units in the order in which they were begun
+abbrev pub begun_after : Record → List ℕ → List ℕ
+begun_after (Begin unit) old = old ++ unit.0 ∷ []
+begun_after r old = old
 
 abbrev pub committed_after : Record → ℕ → ℕ
 committed_after (Commit unit) old = old + 1
@@ -123,8 +121,8 @@ touches_in c (Register queue name) q = queue.0 == q
 touches_in c (Deregister queue name) q = queue.0 == q
 touches_in c (Enqueue priority queue unit by payload) q = queue.0 == q
 touches_in c (Dequeue unit queue by) q = queue.0 == q
-touches_in c (Commit unit) q = is_engaged_in (get nat_eq c.engaged unit.0) q
-touches_in c (Abort unit) q = is_engaged_in (get nat_eq c.engaged unit.0) q
+touches_in c (Commit unit) q = engages_at c.units unit.0 q
+touches_in c (Abort unit) q = engages_at c.units unit.0 q
 touches_in c (Kill queue element) q = queue.0 == q
 touches_in c r q = false
 
@@ -133,6 +131,15 @@ pub record HasRoom (c : Catalogue) (place : ℕ) : Type 0 where
   pub after : (q : ℕ) → AllByRecursion (λ (p : ℕ × ℕ). p.0 < place) (listed c.touching.items q)
   pub committed : c.committed + 1 < 2 ^ 64
   pub aborted : c.aborted + 1 < 2 ^ 64
+
+-- the unit that the record names is there, and one that it begins comes after all that are
+abbrev pub KnowsUnit : Catalogue → Record → Type 0
+KnowsUnit c (Begin unit) = AllByRecursion (λ v. v < unit.0) (numbers c.units)
+KnowsUnit c (Enqueue priority queue unit by payload) = has_unit c.units unit.0 ≡ true
+KnowsUnit c (Dequeue unit queue by) = has_unit c.units unit.0 ≡ true
+KnowsUnit c (Commit unit) = has_unit c.units unit.0 ≡ true
+KnowsUnit c (Abort unit) = has_unit c.units unit.0 ≡ true
+KnowsUnit c r = ⊤
 
 -- d is c after the record
 pub record Takes (c d : Catalogue) (op : ℕ × ℕ) (r : Record) : Type 0 where
@@ -143,12 +150,11 @@ pub record Takes (c d : Catalogue) (op : ℕ × ℕ) (r : Record) : Type 0 where
       contains key_eq d.registrants k ≡ registered_after r k (contains key_eq c.registrants k)
   pub greatest : d.greatest ≡ greatest_by r c.greatest
   pub outcomes : (u : ℕ) →
-      get nat_eq d.outcomes u ≡ outcome_after op.0 r u (get nat_eq c.outcomes u)
-  pub entries : d.outcomes.entries ≡ entries_after op.0 r c.outcomes.entries
+      outcome_at d.units u ≡ outcome_after op.0 r u (outcome_at c.units u)
+  pub numbers : numbers d.units ≡ begun_after r (numbers c.units)
   pub committed : d.committed ≡ committed_after r c.committed
   pub aborted : d.aborted ≡ aborted_after r c.aborted
-  pub engaged : (u q : ℕ) → is_engaged_in (get nat_eq d.engaged u) q
-      ≡ engaged_after r u q (is_engaged_in (get nat_eq c.engaged u) q)
+  pub engaged : (u q : ℕ) → engages_at d.units u q ≡ engaged_after r u q (engages_at c.units u q)
   pub queues : length d.touching.items ≡ length c.touching.items + defines r
   pub touching : (q : ℕ) →
       listed d.touching.items q ≡ (if touches_in c r q && nat_lt q (length c.touching.items)
@@ -162,11 +168,11 @@ pub record Follows (c : Catalogue) (s : State) (xs : List model.Record) : Type 0
   pub registrants : (k : ℕ × List ℕ) →
       contains key_eq c.registrants k ≡ is_registered (run s xs) k.0 k.1
   pub greatest : c.greatest ≡ (run s xs).greatest
-  pub outcomes : (u : ℕ) → option_map outcome_of (get nat_eq c.outcomes u) ≡ outcome s xs u
-  pub units : keys c.outcomes ≡ s.units ++ begun xs
+  pub outcomes : (u : ℕ) → option_map outcome_of (outcome_at c.units u) ≡ outcome s xs u
+  pub units : numbers c.units ≡ s.units ++ begun xs
   pub committed : c.committed ≡ (run s xs).committed
   pub aborted : c.aborted ≡ (run s xs).aborted
-  pub engaged : (u q : ℕ) → is_engaged_in (get nat_eq c.engaged u) q
+  pub engaged : (u q : ℕ) → engages_at c.units u q
       ≡ (is_open (run s xs) u && (is_engaged s q u || list_any (engages q u) xs))
   pub queues : length c.touching.items ≡ length c.errors.items
   pub touching : (q : ℕ) → listed c.touching.items q ≡ numbered s xs q

@@ -4,3 +4,4 @@ pub mod Members
 pub mod Catalogues
 pub mod Analyses
 pub mod Judges
+pub mod Units

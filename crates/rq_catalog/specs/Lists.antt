@@ -1,18 +1,11 @@
--- Lists by unit and by queue.
-use Rattle.std.specs.Prelude.{ℕ, Bool, false, ◌==◌, List, Option, Some, None, slice_index_or, map}
+-- Lists by queue.
+use Rattle.std.specs.Prelude.{ℕ, Bool, false, ◌==◌, List, slice_index_or, map}
 use Rattle.std.specs.Prelude.{slice_get, length, ◌-◌}
-use Rattle.std.specs.List.{list_any}
-use Rattle.std.specs.Global.{Vec}
 use Rattle.std.specs.Option.{option_map_or}
 use Rattle.rq_model.specs.Records.{Record}
 use Rattle.rq_model.specs.States.{State}
 use Rattle.rq_model.specs.Queues as queues
 use Rattle.rq_model.specs.Queues.{Op}
-
--- the queue is among those of the unit
-abbrev pub is_engaged_in : Option (Vec ℕ) → ℕ → Bool
-is_engaged_in None queue = false
-is_engaged_in (Some queues) queue = list_any (λ v. v == queue) queues.items
 
 -- the last of the list has this place
 abbrev pub ends_at : ℕ → List (ℕ × ℕ) → Bool

@@ -1,10 +1,8 @@
 -- Tests on the members of a state.
-use Rattle.std.specs.Prelude.{ℕ, Bool, ◌==◌, ◌&&◌, List, map}
+use Rattle.std.specs.Prelude.{ℕ, Bool, ◌==◌, ◌&&◌, List}
 use Rattle.std.specs.Str.{bytes_eq}
 use Rattle.rq_model.specs.States.{Definition, Element, Note, Registrant}
 use Rattle.rq_model.specs.Queues.{is_marked}
-use Rattle.rq_catalog.specs.declared.outcome.Outcome.{Outcome}
-use Rattle.rq_catalog.specs.declared.outcome.Outcome.TheVariants.{Open}
 
 abbrev pub has_name : List ℕ → Definition → Bool
 has_name name d = bytes_eq d.name name
@@ -18,7 +16,3 @@ is_marked_at unit queue e = (e.home == queue) && is_marked unit e.mark
 
 abbrev pub is_noted_at : ℕ → ℕ → Note → Bool
 is_noted_at unit queue n = (n.queue == queue) && (n.unit == unit)
-
--- the units, each with the outcome Open
-abbrev pub all_open : List ℕ → List (ℕ × Outcome)
-all_open units = map (λ unit. (unit, Open)) units

@@ -3,7 +3,6 @@
 ghost use Rattle.std.specs.Prelude.{◌≡◌, ◌≤◌, ◌^◌, ◌+◌, ◌<◌, ℕ, List, length, map, take, IfOk};
 ghost use Rattle.std.specs.Prelude.{IfErr, OnOk, ◌++◌, ◌∷◌, [], Some, None, option_map};
 ghost use Rattle.std.specs.Prelude.{if◌then◌else◌};
-ghost use Rattle.indexmap.specs.IndexMap.{keys};
 ghost use Rattle.rq_model.specs.Records.{Record as ModelRecord, One};
 ghost use Rattle.rq_model.specs.States.{State};
 ghost use Rattle.rq_model.specs.Queues.{touching};
@@ -12,13 +11,11 @@ ghost use Rattle.rq_state.specs.Views.{unit_of};
 ghost use Rattle.rq_record.specs.declared.fault.Fault.TheVariants.{Resources};
 ghost use Rattle.rq_catalog.specs.Outcomes.{outcome_of};
 ghost use Rattle.rq_catalog.specs.Lists.{numbered, op_again};
-ghost use Rattle.rq_catalog.specs.Analyses.{IsAnalysis, outcome_in, open_in, is_open_at, unit_at};
-ghost use Rattle.rq_catalog.specs.Analyses.{touched};
+ghost use Rattle.rq_catalog.specs.Analyses.{IsAnalysis, outcome_in, open_in, touched};
 
 use crate::catalogue::Catalogue;
 use crate::outcome::Outcome;
 use crate::start::catalogue_of;
-use indexmap::IndexMap;
 use rq_record::{Fault, QueueNo, Record, UnitNo, Version};
 use rq_state::State;
 use std::alloc::Global;
@@ -107,7 +104,7 @@ impl Analysis {
     pub fn outcome(&self, unit: UnitNo) -> Option<Outcome>
         ensures { option_map outcome_of result ≡ outcome_in self.now unit.0 }
     {
-        self.catalogue.outcomes.get(&unit.0).copied()
+        self.catalogue.units.outcome(unit.0)
     }
 
     /// The lawful records that touch the queue, rising: the place of each in the log, and its index
@@ -141,39 +138,7 @@ impl Analysis {
         ensures units { IfOk result (λ units. map unit_of units.items ≡ open_in self.now) }
         ensures refused { IfErr result (λ e. e ≡ Resources) }
     {
-        let mut units = Vec::new(alloc);
-        let mut index = 0;
-        while index < self.catalogue.outcomes.len() {
-            self.push_open(index, &mut units)?;
-            index += 1;
-        }
-        Ok(units)
-    }
-
-    // Adds the unit at an index in their list, where it is open.
-    fn push_open(&self, index: usize, units: &mut Vec<UnitNo>) -> Result<(), Fault>
-        requires { index < length (keys self.now.catalogue.outcomes) }
-        ensures opened { OnOk result (map unit_of units.new.items ≡ (if is_open_at self.now index
-            then map unit_of units.old.items ++ unit_at self.now index ∷ []
-            else map unit_of units.old.items)) }
-        ensures refused { IfErr result (λ e. e ≡ Resources) }
-    {
-        if let Some(unit) = self.open_at(index) {
-            units.push(unit)?;
-        }
-        Ok(())
-    }
-
-    // The unit at an index in their list, where it is open.
-    fn open_at(&self, index: usize) -> Option<UnitNo>
-        requires { index < length (keys self.now.catalogue.outcomes) }
-        ensures { option_map unit_of result
-            ≡ (if is_open_at self.now index then Some (unit_at self.now index) else None) }
-    {
-        match self.catalogue.outcomes.get_index(index) {
-            Some((unit, Outcome::Open)) => Some(UnitNo(*unit)),
-            _ => None,
-        }
+        self.catalogue.units.open_units(alloc)
     }
 }
 

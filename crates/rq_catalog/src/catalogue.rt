@@ -3,22 +3,23 @@
 ghost use Rattle.std.specs.Prelude.{◌≡◌, ℕ, ◌==◌, ◌&&◌, ◌||◌, List, ◌++◌, [], ◌∷◌, map, OnOk};
 ghost use Rattle.std.specs.Prelude.{IfErr, nat_lt, nat_eq, length, cond, true, false, ◌+◌, ◌<◌};
 ghost use Rattle.std.specs.Prelude.{Some, if◌then◌else◌};
-ghost use Rattle.indexmap.specs.IndexMap.{get, insert_entry};
 ghost use Rattle.indexmap.specs.IndexSet.{contains};
 ghost use Rattle.std.specs.List.{AllByRecursion};
 ghost use Rattle.std.specs.Cmp.Lexicographic.{pointwise};
 ghost use Rattle.rq_record.specs.Views.{version_of};
 ghost use Rattle.rq_record.specs.declared.fault.Fault.TheVariants.{Resources};
-ghost use Rattle.rq_catalog.specs.Lists.{is_engaged_in};
 ghost use Rattle.rq_state.specs.Orders.{listed};
 ghost use Rattle.rq_catalog.specs.Outcomes.{is_open_in};
-ghost use Rattle.rq_catalog.specs.Catalogues.{HasRoom, Takes, may_take, key_eq, is_known_in};
+ghost use Rattle.rq_catalog.specs.Catalogues.{HasRoom, KnowsUnit, Takes, may_take, key_eq};
+ghost use Rattle.rq_catalog.specs.Catalogues.{is_known_in};
+ghost use Rattle.rq_catalog.specs.Units.{numbers, has_unit, outcome_at, engages_at};
 
 use crate::errors::{is_defined, is_limit, may_kill};
-use crate::lists::{engage, touch, touch_all};
+use crate::lists::{touch, touch_all};
 use crate::outcome::Outcome;
 use crate::registrants::{is_known, is_registered};
-use indexmap::{IndexMap, IndexSet};
+use crate::units::Units;
+use indexmap::IndexSet;
 use rq_record::{Fault, KeptBy, Name, QueueNo, Record, Version};
 use std::alloc::Global;
 
@@ -32,8 +33,7 @@ pub(crate) struct Catalogue {
     pub(crate) greatest: u64,
     pub(crate) committed: u64,
     pub(crate) aborted: u64,
-    pub(crate) outcomes: IndexMap<u64, Outcome>,
-    pub(crate) engaged: IndexMap<u64, Vec<u32>>,
+    pub(crate) units: Units,
     pub(crate) touching: Vec<Vec<(u64, usize)>>,
 }
 
@@ -51,14 +51,14 @@ fn give_back(registrants: &mut IndexSet<(u32, Name)>)
 
 impl Catalogue {
     fn is_open(&self, unit: u64) -> bool
-        ensures { result ≡ is_open_in (get nat_eq self.now.outcomes unit) }
+        ensures { result ≡ is_open_in (outcome_at self.now.units unit) }
     {
-        matches!(self.outcomes.get(&unit), Some(Outcome::Open))
+        matches!(self.units.outcome(unit), Some(Outcome::Open))
     }
 
     fn may_engage(&self, unit: u64, queue: u32, by: &KeptBy) -> bool
         ensures { result ≡ (nat_lt queue (length self.now.errors.items)
-            && (is_open_in (get nat_eq self.now.outcomes unit)
+            && (is_open_in (outcome_at self.now.units unit)
             && is_known_in self.now.registrants queue by.now)) }
     {
         is_defined(&self.errors, queue)
@@ -102,7 +102,8 @@ impl Catalogue {
         next: &Record,
         op: (u64, usize),
     ) -> Result<(), Fault>
-        requires { HasRoom self.old op.0 }
+        requires room { HasRoom self.old op.0 }
+        requires known { KnowsUnit self.old next.now }
         ensures takes { OnOk result (Takes self.old self.new op next.now) }
         ensures refused { IfErr result (λ e. e ≡ Resources) }
     {
@@ -119,18 +120,17 @@ impl Catalogue {
             }
             Record::Begin { unit } => {
                 self.greatest = unit.0;
-                self.outcomes.insert(unit.0, Outcome::Open)?;
-                Ok(())
+                self.units.begin(alloc, unit.0)
             }
-            Record::Enqueue { unit, queue, .. } => self.engage(alloc, unit.0, queue.0, op),
-            Record::Dequeue { unit, queue, .. } => self.engage(alloc, unit.0, queue.0, op),
+            Record::Enqueue { unit, queue, .. } => self.engage(unit.0, queue.0, op),
+            Record::Dequeue { unit, queue, .. } => self.engage(unit.0, queue.0, op),
             Record::Commit { unit } => {
                 self.committed += 1;
-                self.close(unit.0, Outcome::Committed(op.0), op)
+                self.close(alloc, unit.0, Outcome::Committed(op.0), op)
             }
             Record::Abort { unit } => {
                 self.aborted += 1;
-                self.close(unit.0, Outcome::Aborted(op.0), op)
+                self.close(alloc, unit.0, Outcome::Aborted(op.0), op)
             }
             Record::Checkpoint { .. } => Ok(()),
             Record::Kill { queue, .. } => touch(&mut self.touching, queue.0, op),
@@ -160,17 +160,15 @@ impl Catalogue {
         Ok(())
     }
 
-    fn engage(
-        &mut self,
-        alloc: Global,
-        unit: u64,
-        queue: u32,
-        op: (u64, usize),
-    ) -> Result<(), Fault>
+    fn engage(&mut self, unit: u64, queue: u32, op: (u64, usize)) -> Result<(), Fault>
+        requires { has_unit self.old.units unit ≡ true }
         ensures frame { self.new
-            ≡ record self.old { engaged = self.new.engaged; touching = self.new.touching } }
-        ensures engaged { OnOk result ((u q : ℕ) → is_engaged_in (get nat_eq self.new.engaged u) q
-            ≡ (((unit == u) && (queue == q)) || is_engaged_in (get nat_eq self.old.engaged u) q)) }
+            ≡ record self.old { units = self.new.units; touching = self.new.touching } }
+        ensures numbers { numbers self.new.units ≡ numbers self.old.units }
+        ensures outcomes { (u : ℕ) →
+            outcome_at self.new.units u ≡ outcome_at self.old.units u }
+        ensures engaged { OnOk result ((u q : ℕ) → engages_at self.new.units u q
+            ≡ (((unit == u) && (queue == q)) || engages_at self.old.units u q)) }
         ensures queues { length self.new.touching.items ≡ length self.old.touching.items }
         ensures touching { OnOk result ((q : ℕ) → listed self.new.touching.items q
             ≡ (if (queue == q) && nat_lt q (length self.old.touching.items)
@@ -178,36 +176,36 @@ impl Catalogue {
             else listed self.old.touching.items q)) }
         ensures refused { IfErr result (λ e. e ≡ Resources) }
     {
-        engage(alloc, &mut self.engaged, unit, queue)?;
+        self.units.engage(unit, queue)?;
         touch(&mut self.touching, queue, op)
     }
 
-    fn close(&mut self, unit: u64, outcome: Outcome, op: (u64, usize)) -> Result<(), Fault>
-        requires { (q : ℕ) → AllByRecursion (λ p. p.0 < op.0) (listed self.old.touching.items q) }
+    fn close(
+        &mut self,
+        alloc: Global,
+        unit: u64,
+        outcome: Outcome,
+        op: (u64, usize),
+    ) -> Result<(), Fault>
+        requires known { has_unit self.old.units unit ≡ true }
+        requires after { (q : ℕ) →
+            AllByRecursion (λ p. p.0 < op.0) (listed self.old.touching.items q) }
         ensures frame { self.new
-            ≡ record self.old {
-              outcomes = self.new.outcomes;
-              engaged = self.new.engaged;
-              touching = self.new.touching;
-            } }
-        ensures outcomes { OnOk result ((u : ℕ) → get nat_eq self.new.outcomes u
-            ≡ cond (nat_eq unit u) (Some outcome) (get nat_eq self.old.outcomes u)) }
-        ensures entries { OnOk result (self.new.outcomes.entries
-            ≡ insert_entry nat_eq self.old.outcomes.entries unit outcome) }
-        ensures engaged { OnOk result ((u q : ℕ) → is_engaged_in (get nat_eq self.new.engaged u) q
-            ≡ cond (nat_eq unit u) false (is_engaged_in (get nat_eq self.old.engaged u) q)) }
+            ≡ record self.old { units = self.new.units; touching = self.new.touching } }
+        ensures numbers { numbers self.new.units ≡ numbers self.old.units }
+        ensures outcomes { (u : ℕ) → outcome_at self.new.units u
+            ≡ cond (nat_eq unit u) (Some outcome) (outcome_at self.old.units u) }
+        ensures engaged { (u q : ℕ) → engages_at self.new.units u q
+            ≡ cond (nat_eq unit u) false (engages_at self.old.units u q) }
         ensures queues { length self.new.touching.items ≡ length self.old.touching.items }
         ensures touching { OnOk result ((q : ℕ) → listed self.new.touching.items q
-            ≡ (if is_engaged_in (get nat_eq self.old.engaged unit) q
+            ≡ (if engages_at self.old.units unit q
             && nat_lt q (length self.old.touching.items)
             then listed self.old.touching.items q ++ op ∷ []
             else listed self.old.touching.items q)) }
         ensures refused { IfErr result (λ e. e ≡ Resources) }
     {
-        self.outcomes.insert(unit, outcome)?;
-        match self.engaged.swap_remove(&unit) {
-            Some(queues) => touch_all(&mut self.touching, &queues, op),
-            None => Ok(()),
-        }
+        let queues = self.units.close(alloc, unit, outcome);
+        touch_all(&mut self.touching, &queues, op)
     }
 }

@@ -9,6 +9,7 @@ mod lists;
 mod outcome;
 mod registrants;
 mod start;
+mod units;
 
 pub use analysis::{Analysis, analyse, analyse_in, indices};
 pub use judge::Judge;

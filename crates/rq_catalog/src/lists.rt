@@ -1,38 +1,13 @@
-//! Lists by unit and by queue.
+//! Lists by queue.
 
 ghost use Rattle.std.specs.Prelude.{◌≡◌, ◌==◌, ◌&&◌, ◌||◌, ◌<◌, ◌++◌, ℕ, [], ◌∷◌, length, OnOk};
 ghost use Rattle.std.specs.Prelude.{nat_eq, nat_lt, not, IfErr, if◌then◌else◌};
 ghost use Rattle.std.specs.List.{list_any, AllByRecursion};
-ghost use Rattle.indexmap.specs.IndexMap.{get};
 ghost use Rattle.rq_record.specs.declared.fault.Fault.TheVariants.{Resources};
-ghost use Rattle.rq_catalog.specs.Lists.{is_engaged_in, ends_at};
+ghost use Rattle.rq_catalog.specs.Lists.{ends_at};
 ghost use Rattle.rq_state.specs.Orders.{listed};
 
-use indexmap::IndexMap;
 use rq_record::Fault;
-use std::alloc::Global;
-
-/// Adds a queue to those of the unit.
-pub(crate) fn engage(
-    alloc: Global,
-    engaged: &mut IndexMap<u64, Vec<u32>>,
-    unit: u64,
-    queue: u32,
-) -> Result<(), Fault>
-    ensures engaged { OnOk result ((u q : ℕ) → is_engaged_in (get nat_eq engaged.new u) q
-        ≡ (((unit == u) && (queue == q)) || is_engaged_in (get nat_eq engaged.old u) q)) }
-    ensures refused { IfErr result (λ e. e ≡ Resources) }
-{
-    match engaged.get_mut(&unit) {
-        Some(queues) => queues.push(queue)?,
-        None => {
-            let mut queues = Vec::new(alloc);
-            queues.push(queue)?;
-            engaged.insert(unit, queues)?;
-        }
-    }
-    Ok(())
-}
 
 /// Adds a record to those that touch the queue, where it is one.
 pub(crate) fn touch(

@@ -1,24 +1,22 @@
 //! The catalogue of a state.
 
 ghost use Rattle.std.specs.Prelude.{◌≡◌, ℕ, ◌==◌, ◌&&◌, ◌||◌, ◌<◌, List, [], map, IfOk, IfErr};
-ghost use Rattle.std.specs.Prelude.{nat_eq, length, OnOk, Some, None, if◌then◌else◌};
+ghost use Rattle.std.specs.Prelude.{nat_eq, length, OnOk, Some, None, false, if◌then◌else◌};
 ghost use Rattle.std.specs.List.{list_any};
 ghost use Rattle.std.specs.Cmp.Lexicographic.{pointwise};
-ghost use Rattle.indexmap.specs.IndexMap.{get, keys};
 ghost use Rattle.indexmap.specs.IndexSet.{contains};
 ghost use Rattle.rq_model.specs.WellFormed.{Ordered, IsWellFormed};
 ghost use Rattle.rq_record.specs.declared.fault.Fault.TheVariants.{Resources};
 ghost use Rattle.rq_state.specs.Views.{unit_of};
 ghost use Rattle.rq_catalog.specs.declared.outcome.Outcome.TheVariants.{Open};
-ghost use Rattle.rq_catalog.specs.Lists.{is_engaged_in};
 ghost use Rattle.rq_state.specs.Orders.{listed};
 ghost use Rattle.rq_catalog.specs.Catalogues.{key_eq, Follows};
-ghost use Rattle.rq_catalog.specs.Members.{all_open, has_name, has_key, is_marked_at, is_noted_at};
+ghost use Rattle.rq_catalog.specs.Members.{has_name, has_key, is_marked_at, is_noted_at};
+ghost use Rattle.rq_catalog.specs.Units.{numbers, has_unit, outcome_at, engages_at};
 
 use crate::catalogue::Catalogue;
-use crate::lists::engage;
-use crate::outcome::Outcome;
-use indexmap::{IndexMap, IndexSet};
+use crate::units::Units;
+use indexmap::IndexSet;
 use rq_record::{Fault, Name, UnitNo};
 use rq_state::{Definition, Element, Mark, Note, Registrant, State};
 use std::alloc::Global;
@@ -58,58 +56,59 @@ fn registrants_of(alloc: Global, registrants: &[Registrant]) -> Result<IndexSet<
     Ok(keys)
 }
 
-fn outcomes_of(alloc: Global, units: &[UnitNo]) -> Result<IndexMap<u64, Outcome>, Fault>
+fn units_of(alloc: Global, units: &[UnitNo]) -> Result<Units, Fault>
     requires { Ordered (λ a b. a < b) (map unit_of units.now) }
-    ensures outcomes { IfOk result
-        (λ outcomes. outcomes.entries ≡ all_open (map unit_of units.now)) }
+    ensures numbers { IfOk result (λ begun. numbers begun ≡ map unit_of units.now) }
+    ensures outcomes { IfOk result (λ begun. (u : ℕ) → outcome_at begun u
+        ≡ (if list_any (λ v. v == u) (map unit_of units.now) then Some Open else None)) }
+    ensures engaged { IfOk result (λ begun. (u q : ℕ) → engages_at begun u q ≡ false) }
     ensures refused { IfErr result (λ e. e ≡ Resources) }
 {
-    let mut outcomes = IndexMap::new(alloc);
+    let mut begun = Units::new(alloc);
     for unit in units {
-        outcomes.insert(unit.0, Outcome::Open)?;
+        begun.begin(alloc, unit.0)?;
     }
-    Ok(outcomes)
+    Ok(begun)
 }
 
-fn engaged_by_marks(alloc: Global, elements: &[Element]) -> Result<IndexMap<u64, Vec<u32>>, Fault>
-    ensures engaged { IfOk result (λ engaged. (u q : ℕ) →
-        is_engaged_in (get nat_eq engaged u) q ≡ list_any (is_marked_at u q) elements.now) }
-    ensures refused { IfErr result (λ e. e ≡ Resources) }
-{
-    let mut engaged = IndexMap::new(alloc);
-    for element in elements {
-        engage_by_mark(alloc, &mut engaged, element)?;
-    }
-    Ok(engaged)
-}
-
-fn engage_by_mark(
-    alloc: Global,
-    engaged: &mut IndexMap<u64, Vec<u32>>,
-    element: &Element,
-) -> Result<(), Fault>
-    ensures engaged { OnOk result ((u q : ℕ) → is_engaged_in (get nat_eq engaged.new u) q
-        ≡ (is_marked_at u q element.now || is_engaged_in (get nat_eq engaged.old u) q)) }
+fn engage_by_mark(units: &mut Units, element: &Element) -> Result<(), Fault>
+    ensures numbers { numbers units.new ≡ numbers units.old }
+    ensures outcomes { (u : ℕ) → outcome_at units.new u ≡ outcome_at units.old u }
+    ensures engaged { OnOk result ((u q : ℕ) → engages_at units.new u q
+        ≡ ((has_unit units.old u && is_marked_at u q element.now) || engages_at units.old u q)) }
     ensures refused { IfErr result (λ e. e ≡ Resources) }
 {
     match element.mark {
         Mark::Free => Ok(()),
-        Mark::Fresh(unit) => engage(alloc, engaged, unit.0, element.home.0),
-        Mark::Held(unit) => engage(alloc, engaged, unit.0, element.home.0),
+        Mark::Fresh(unit) => units.engage(unit.0, element.home.0),
+        Mark::Held(unit) => units.engage(unit.0, element.home.0),
     }
 }
 
-fn engage_by_notes(
-    alloc: Global,
-    engaged: &mut IndexMap<u64, Vec<u32>>,
-    notes: &[Note],
-) -> Result<(), Fault>
-    ensures engaged { OnOk result ((u q : ℕ) → is_engaged_in (get nat_eq engaged.new u) q
-        ≡ (is_engaged_in (get nat_eq engaged.old u) q || list_any (is_noted_at u q) notes.now)) }
+fn engage_by_marks(units: &mut Units, elements: &[Element]) -> Result<(), Fault>
+    ensures numbers { numbers units.new ≡ numbers units.old }
+    ensures outcomes { (u : ℕ) → outcome_at units.new u ≡ outcome_at units.old u }
+    ensures engaged { OnOk result ((u q : ℕ) → engages_at units.new u q
+        ≡ ((has_unit units.old u && list_any (is_marked_at u q) elements.now)
+        || engages_at units.old u q)) }
+    ensures refused { IfErr result (λ e. e ≡ Resources) }
+{
+    for element in elements {
+        engage_by_mark(units, element)?;
+    }
+    Ok(())
+}
+
+fn engage_by_notes(units: &mut Units, notes: &[Note]) -> Result<(), Fault>
+    ensures numbers { numbers units.new ≡ numbers units.old }
+    ensures outcomes { (u : ℕ) → outcome_at units.new u ≡ outcome_at units.old u }
+    ensures engaged { OnOk result ((u q : ℕ) → engages_at units.new u q
+        ≡ ((has_unit units.old u && list_any (is_noted_at u q) notes.now)
+        || engages_at units.old u q)) }
     ensures refused { IfErr result (λ e. e ≡ Resources) }
 {
     for note in notes {
-        engage(alloc, engaged, note.unit.0, note.queue.0)?;
+        units.engage(note.unit.0, note.queue.0)?;
     }
     Ok(())
 }
@@ -126,20 +125,6 @@ fn touching_of(alloc: Global, count: usize) -> Result<Vec<Vec<(u64, usize)>>, Fa
     Ok(touching)
 }
 
-fn engaged_of(
-    alloc: Global,
-    elements: &[Element],
-    notes: &[Note],
-) -> Result<IndexMap<u64, Vec<u32>>, Fault>
-    ensures engaged { IfOk result (λ engaged. (u q : ℕ) → is_engaged_in (get nat_eq engaged u) q
-        ≡ (list_any (is_marked_at u q) elements.now || list_any (is_noted_at u q) notes.now)) }
-    ensures refused { IfErr result (λ e. e ≡ Resources) }
-{
-    let mut engaged = engaged_by_marks(alloc, elements)?;
-    engage_by_notes(alloc, &mut engaged, notes)?;
-    Ok(engaged)
-}
-
 /// The catalogue of a state, before any record.
 pub(crate) fn catalogue_of(alloc: Global, state: &State) -> Result<Catalogue, Fault>
     requires { IsWellFormed state.now }
@@ -150,8 +135,9 @@ pub(crate) fn catalogue_of(alloc: Global, state: &State) -> Result<Catalogue, Fa
     let names = names_of(alloc, definitions)?;
     let errors = errors_of(alloc, definitions)?;
     let registrants = registrants_of(alloc, state.registrants())?;
-    let outcomes = outcomes_of(alloc, state.units())?;
-    let engaged = engaged_of(alloc, state.elements(), state.notes())?;
+    let mut units = units_of(alloc, state.units())?;
+    engage_by_marks(&mut units, state.elements())?;
+    engage_by_notes(&mut units, state.notes())?;
     let touching = touching_of(alloc, definitions.len())?;
     Ok(Catalogue {
         names,
@@ -160,8 +146,7 @@ pub(crate) fn catalogue_of(alloc: Global, state: &State) -> Result<Catalogue, Fa
         greatest: state.greatest(),
         committed: state.committed(),
         aborted: state.aborted(),
-        outcomes,
-        engaged,
+        units,
         touching,
     })
 }

@@ -35,4 +35,9 @@ impl Op<'_> {
     {
         self.rec
     }
+
+    /// Whether it aborts a unit.
+    pub(crate) fn is_abort(&self) -> bool {
+        matches!(self.rec, Record::Abort { .. })
+    }
 }

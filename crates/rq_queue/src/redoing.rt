@@ -19,6 +19,26 @@ use crate::part::Part;
 use rq_record::Fault;
 use std::alloc::Global;
 
+// Of so many operations the records are looked at together.
+const AHEAD: usize = 256;
+
+// Makes room for what ABORTs among the next operations send, once for so many. To look at their
+// records together also spares waiting: they lie apart in a long log, and a processor asks for many
+// at a time.
+fn make_room(ops: &[Op], done: usize, sent: &mut Vec<Move>) -> Result<(), Fault>
+    requires { done ≤ length ops.now }
+    ensures same { sent.new.items ≡ sent.old.items }
+    ensures refused { IfErr result (λ e. e ≡ Resources) }
+{
+    if done % AHEAD != 0 {
+        return Ok(());
+    }
+    let next = ops[done..].iter().take(AHEAD);
+    let aborts = next.filter(|op| op.is_abort()).count();
+    sent.reserve(aborts)?;
+    Ok(())
+}
+
 // Does the operations from an index in the list on, as far as they stand at `until` or before. How
 // many are done then.
 fn catch_up(
@@ -58,6 +78,7 @@ fn catch_up(
         if op.place() > until {
             return Ok((part, done));
         }
+        make_room(ops, done, sent)?;
         part = part.act(alloc, op, sent)?;
         done += 1;
     }

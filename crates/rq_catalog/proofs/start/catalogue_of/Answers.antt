@@ -1,5 +1,5 @@
-use Rattle.std.proofs.Common.{rules}
-use Rattle.rq_catalog.proofs.Begins.{starts}
+use Rattle.std.proofs.Common.{rules, ◌∙◌}
+use Rattle.rq_catalog.proofs.Begins.{starts, engaged_in_turn}
 use Rattle.rq_catalog.proofs.start.catalogue_of.Goals as goal
 
 pub returns-in_err-touching-clause-refused : goal.returns-in_err-touching-clause-refused
@@ -8,12 +8,19 @@ returns-in_err-touching-clause-refused c =
 
 pub returns-clause-follows : goal.returns-clause-follows
 returns-clause-follows c =
+    let begun = c.in_ok-units.ensures in
+    let marked = c.in_ok-engage_by_marks.ensures in
+    let noted = c.in_ok-engage_by_notes.ensures in
     starts _ _ _ _ _ _ _ c.definitions-definitions.ensures c.registrants.ensures c.units.ensures c.elements.ensures
     c.notes.ensures
     c.in_ok-names.ensures.names c.in_ok-errors.ensures.errors c.in_ok-registrants.ensures.keys c.greatest.ensures
-    c.committed.ensures c.aborted.ensures c.in_ok-outcomes.ensures.outcomes c.in_ok-engaged.ensures.engaged
+    c.committed.ensures c.aborted.ensures
+    (noted.numbers ∙ marked.numbers ∙ begun.numbers)
+    (λ u. noted.outcomes u ∙ marked.outcomes u ∙ begun.outcomes u)
+    (λ u q. engaged_in_turn _ _ _ _ _ _ u q (marked.numbers ∙ begun.numbers) begun.numbers
+    (noted.engaged u q) (marked.engaged u q) (begun.engaged u q))
     c.in_ok-touching.ensures.len c.in_ok-touching.ensures.listed
     c.requires
 
-pub outcomes_of-requires : goal.outcomes_of-requires
-outcomes_of-requires c = rw c.units.ensures c.requires.units_rise
+pub units_of-requires : goal.units_of-requires
+units_of-requires c = rw c.units.ensures c.requires.units_rise

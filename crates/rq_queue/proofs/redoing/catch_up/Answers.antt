@@ -1,7 +1,8 @@
-use Rattle.std.proofs.Common.{◌+◌, ◌<◌, ◌≤◌, length, sym, ◌∙◌, subst, arith, List, drop}
+use Rattle.std.proofs.Common.{◌+◌, ◌<◌, ◌≤◌, ◌++◌, length, sym, ap, ◌∙◌, subst, arith, List, drop}
 use Rattle.std.specs.List.{AllByRecursion}
 use Rattle.rq_model.specs.Queues.{Part, Move}
 use Rattle.rq_model.specs.Ready.{GoesWell}
+use Rattle.rq_model.specs.Redo.{sent}
 use Rattle.rq_model.proofs.Lists.{each_weaker}
 use Rattle.rq_queue.proofs.Steps.{op_done, op_sent, op_well}
 use Rattle.rq_queue.proofs.redoing.catch_up.Goals as goal
@@ -41,5 +42,6 @@ loop-done-preserved c =
       sent = λ ms h. c.loop-done.invariant.sent ms h
           ∙ op_sent c.redo_steps.ensures c.loop-done.part c.in_ok-part.part c.args.ops.now done op ms
           c.loop-done.sent.items c.act.new.sent.items here c.index-ops-done.is c.in_ok-part.ensures.part
-          c.in_ok-part.ensures.sent (since ms h);
+          (c.in_ok-part.ensures.sent ∙ ap (λ (xs : List Move). xs ++ sent op.place op.does c.loop-done.part)
+          c.make_room.ensures.same) (since ms h);
     }

@@ -1,6 +1,6 @@
 use Rattle.std.proofs.Common.{arith, ◌∙◌, sym}
 use Rattle.rq_record.specs.Views.{version_of}
-use Rattle.rq_catalog.proofs.Ends.{room_here, one_on, ends_whole, ends_at_one, goes_on}
+use Rattle.rq_catalog.proofs.Ends.{room_here, unit_here, one_on, ends_whole, ends_at_one, goes_on}
 use Rattle.rq_catalog.proofs.analysis.Analysis.go_on.Goals as goal
 use Rattle.rq_catalog.proofs.analysis.Analysis.go_on.Goals.{else-loop-lawful-test}
 use Rattle.rq_catalog.proofs.analysis.Analysis.go_on.Goals.{then-loop-lawful-test+then-not-may_take}
@@ -11,9 +11,13 @@ loop-lawful-init c = let begun =
     c.requires.within c.requires.analysed in (c.requires.within, begun.0, begun.1)
 
 pub take-requires : goal.take-requires
-take-requires c = rw c.next-start.ensures.next
-    (room_here (version_of c.args.version) _ _ _ _ c.next-start.ensures.well_formed c.loop-lawful.invariant.0
-    c.loop-lawful.invariant.1 c.loop-lawful.invariant.2 c.requires.fits (omega (arith, c.loop-lawful-test.true)))
+take-requires c = record {
+  room = rw c.next-start.ensures.next
+      (room_here (version_of c.args.version) _ _ _ _ c.next-start.ensures.well_formed c.loop-lawful.invariant.0
+      c.loop-lawful.invariant.1 c.loop-lawful.invariant.2 c.requires.fits (omega (arith, c.loop-lawful-test.true)));
+  known = unit_here (version_of c.args.version) _ _ _ _ c.next-start.ensures.well_formed c.loop-lawful.invariant.0
+      c.loop-lawful.invariant.1 c.loop-lawful.invariant.2 _ (sym c.may_take.ensures ∙ c.if-not-may_take.false);
+}
 
 pub loop-lawful-preserved : goal.loop-lawful-preserved
 loop-lawful-preserved c =

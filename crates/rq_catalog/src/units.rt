@@ -1,0 +1,181 @@
+//! The units that were open in a state or begun since.
+
+ghost use Rattle.std.specs.Prelude.{◌≡◌, ◌≤◌, ◌<◌, ◌==◌, ◌&&◌, ◌||◌, ◌++◌, ◌∷◌, [], ℕ, Some, None};
+ghost use Rattle.std.specs.Prelude.{List, map, filter, length, take, nat_eq, cond, true, false};
+ghost use Rattle.std.specs.Prelude.{option_map, slice_get, if◌then◌else◌};
+ghost use Rattle.std.specs.Prelude.{IfOk, IfErr, OnOk, IfSome, IfNone};
+ghost use Rattle.std.specs.List.{list_any, AllByRecursion};
+ghost use Rattle.rq_model.specs.WellFormed.{Ordered};
+ghost use Rattle.rq_record.specs.declared.fault.Fault.TheVariants.{Resources};
+ghost use Rattle.rq_state.specs.Views.{unit_of};
+ghost use Rattle.rq_catalog.specs.declared.outcome.Outcome.TheVariants.{Open};
+ghost use Rattle.rq_catalog.specs.Outcomes.{is_open_in};
+ghost use Rattle.rq_catalog.specs.Units.{numbers, has_unit, unit_in, outcome_at, engages_at};
+
+use crate::outcome::Outcome;
+use rq_record::{Fault, UnitNo};
+use std::alloc::Global;
+use std::marker::Model;
+use std::mem;
+
+// A unit is looked for among so many that were begun last, before it is among all.
+const RECENT: usize = 64;
+
+/// A unit: its number, what became of it, and the queues that it engaged, while it is open.
+#[derive(Drop)]
+pub(crate) struct Unit {
+    number: u64,
+    outcome: Outcome,
+    queues: Vec<u32>,
+}
+
+/// Units in the order in which they were begun, which is that of their numbers: so one is found by
+/// halves. Whoever writes a log chooses the numbers, and could choose those that a table of hashes
+/// puts into one place.
+#[derive(Drop)]
+pub(crate) struct Units {
+    list: Vec<Unit>,
+}
+
+impl Model for Units {
+    ghost use Rattle.std.specs.Prelude.{List, ◌<◌};
+    ghost use Rattle.rq_model.specs.WellFormed.{Ordered};
+    ghost use Rattle.rq_catalog.specs.declared.units.Unit.{Unit};
+    ghost use Rattle.rq_catalog.specs.Units.{numbers};
+
+    ghost Value = { List Unit };
+
+    ghost view = { λ u. u.list.items };
+
+    ghost invariant = { λ u. Ordered (λ a b. a < b) (numbers u.list.items) };
+}
+
+// Where those begin among which the unit is, if it is there at all.
+fn first_of_recent(units: &[Unit], number: u64) -> usize
+    requires { Ordered (λ a b. a < b) (numbers units.now) }
+    ensures bound { result ≤ length units.now }
+    ensures before { AllByRecursion (λ v. v < number) (numbers (take result units.now)) }
+{
+    let first = units.len().saturating_sub(RECENT);
+    match units.get(first) {
+        Some(unit) if unit.number <= number => first,
+        _ => 0,
+    }
+}
+
+// The index of the unit in the list.
+fn index_of(units: &[Unit], number: u64) -> Option<usize>
+    requires { Ordered (λ a b. a < b) (numbers units.now) }
+    ensures some { IfSome result (λ i. option_map (λ u. u.number) (slice_get units.now i)
+        ≡ Some number) }
+    ensures none { IfNone result (unit_in units.now number ≡ None) }
+{
+    let first = first_of_recent(units, number);
+    match units[first..].binary_search_by_key(&number, |unit| unit.number) {
+        Ok(index) => Some(first + index),
+        Err(_) => None,
+    }
+}
+
+// Adds the unit to the open ones, where it is open.
+fn push_open(unit: &Unit, units: &mut Vec<UnitNo>) -> Result<(), Fault>
+    ensures opened { OnOk result (map unit_of units.new.items
+        ≡ (if is_open_in (Some unit.now.outcome)
+        then map unit_of units.old.items ++ unit.now.number ∷ []
+        else map unit_of units.old.items)) }
+    ensures refused { IfErr result (λ e. e ≡ Resources) }
+{
+    if matches!(unit.outcome, Outcome::Open) {
+        units.push(UnitNo(unit.number))?;
+    }
+    Ok(())
+}
+
+impl Units {
+    /// No units.
+    pub(crate) fn new(alloc: Global) -> Units
+        ensures { result ≡ [] }
+    {
+        Units {
+            list: Vec::new(alloc),
+        }
+    }
+
+    /// What became of the unit; `None` where it is not there.
+    pub(crate) fn outcome(&self, number: u64) -> Option<Outcome>
+        ensures { result ≡ outcome_at self.now number }
+    {
+        match index_of(&self.list, number) {
+            Some(index) => Some(self.list[index].outcome),
+            None => None,
+        }
+    }
+
+    /// The units that are open, rising.
+    pub(crate) fn open_units(&self, alloc: Global) -> Result<Vec<UnitNo>, Fault>
+        ensures units { IfOk result (λ units. map unit_of units.items
+            ≡ filter (λ u. is_open_in (outcome_at self.now u)) (numbers self.now)) }
+        ensures refused { IfErr result (λ e. e ≡ Resources) }
+    {
+        let mut units = Vec::new(alloc);
+        for unit in &self.list {
+            push_open(unit, &mut units)?;
+        }
+        Ok(units)
+    }
+
+    /// Begins a unit behind all others.
+    pub(crate) fn begin(&mut self, alloc: Global, number: u64) -> Result<(), Fault>
+        requires { AllByRecursion (λ v. v < number) (numbers self.old) }
+        ensures numbers { OnOk result (numbers self.new ≡ numbers self.old ++ number ∷ []) }
+        ensures outcomes { OnOk result ((u : ℕ) → outcome_at self.new u
+            ≡ cond (nat_eq number u) (Some Open) (outcome_at self.old u)) }
+        ensures engaged { OnOk result ((u q : ℕ) →
+            engages_at self.new u q ≡ engages_at self.old u q) }
+        ensures refused { IfErr result (λ e. e ≡ Resources) }
+    {
+        self.list.push(Unit {
+            number,
+            outcome: Outcome::Open,
+            queues: Vec::new(alloc),
+        })?;
+        Ok(())
+    }
+
+    /// Adds a queue to those that the unit engaged, where it is there.
+    pub(crate) fn engage(&mut self, number: u64, queue: u32) -> Result<(), Fault>
+        ensures numbers { numbers self.new ≡ numbers self.old }
+        ensures outcomes { (u : ℕ) → outcome_at self.new u ≡ outcome_at self.old u }
+        ensures engaged { OnOk result ((u q : ℕ) → engages_at self.new u q
+            ≡ ((has_unit self.old u && ((number == u) && (queue == q)))
+            || engages_at self.old u q)) }
+        ensures refused { IfErr result (λ e. e ≡ Resources) }
+    {
+        if let Some(index) = index_of(&self.list, number) {
+            self.list[index].queues.push(queue)?;
+        }
+        Ok(())
+    }
+
+    /// Ends a unit, and answers the queues that it engaged.
+    pub(crate) fn close(&mut self, alloc: Global, number: u64, outcome: Outcome) -> Vec<u32>
+        requires { has_unit self.old number ≡ true }
+        ensures numbers { numbers self.new ≡ numbers self.old }
+        ensures outcomes { (u : ℕ) → outcome_at self.new u
+            ≡ cond (nat_eq number u) (Some outcome) (outcome_at self.old u) }
+        ensures engaged { (u q : ℕ) → engages_at self.new u q
+            ≡ cond (nat_eq number u) false (engages_at self.old u q) }
+        ensures queues { (q : ℕ) →
+            list_any (λ v. v == q) result.items ≡ engages_at self.old number q }
+    {
+        let none = Vec::new(alloc);
+        match index_of(&self.list, number) {
+            Some(index) => {
+                let unit = &mut self.list[index];
+                unit.outcome = outcome;
+                mem::replace(&mut unit.queues, none)
+            }
+            None => none,
+        }
+    }
+}
