@@ -30,7 +30,8 @@ use Rattle.rq_catalog.specs.Lists.{numbered, place_and_index}
 use Rattle.rq_catalog.specs.Units.{outcome_at, engages_at}
 use Rattle.rq_state.specs.Orders.{listed}
 use Rattle.rq_catalog.specs.Outcomes.{outcome_of}
-use Rattle.rq_catalog.specs.Catalogues.{key_eq, names_after, defines, errors_after, registered_after, greatest_by}
+use Rattle.rq_catalog.specs.Registered.{key_eq}
+use Rattle.rq_catalog.specs.Catalogues.{names_after, defines, errors_after, registered_after, greatest_by}
 use Rattle.rq_catalog.specs.Catalogues.{outcome_after, begun_after, committed_after, aborted_after, engaged_after}
 use Rattle.rq_catalog.specs.Catalogues.{touches_in, Takes}
 use Rattle.rq_catalog.specs.Catalogues.{Follows}

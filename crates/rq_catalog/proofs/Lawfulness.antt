@@ -4,7 +4,8 @@ use Rattle.std.proofs.Common.{Some, None, map, refl, sym, ap, ◌∙◌, subst, 
 use Rattle.std.specs.Prelude.{◌==◌, nat_lt, nat_le, if◌then◌else◌, option_map, slice_index_or}
 use Rattle.std.proofs.lemmas.Bool.{eqb-true, eqb-false, le-leb}
 use Rattle.std.proofs.lemmas.List.{length-map}
-use Rattle.indexmap.specs.IndexSet.{IndexSet, contains}
+use Rattle.rq_catalog.specs.declared.registrants.Registrants.{Registrants}
+use Rattle.rq_catalog.specs.Registered.{is_on, is_known_in}
 use Rattle.rq_model.specs.Records as model
 use Rattle.rq_model.specs.Records.{Version, One, Two, no_queue}
 use Rattle.rq_model.specs.States.{State, Definition, definition_at}
@@ -23,7 +24,7 @@ use Rattle.rq_catalog.specs.declared.outcome.Outcome.TheVariants.{Committed, Abo
 use Rattle.rq_catalog.specs.declared.catalogue.Catalogue.{Catalogue}
 use Rattle.rq_catalog.specs.Outcomes.{is_open_in, outcome_of}
 use Rattle.rq_catalog.specs.Units.{outcome_at}
-use Rattle.rq_catalog.specs.Catalogues.{key_eq, is_known_in, is_limit_in, may_be_error_in, may_kill_in, may_take}
+use Rattle.rq_catalog.specs.Catalogues.{is_limit_in, may_be_error_in, may_kill_in, may_take}
 use Rattle.rq_catalog.specs.Catalogues.{Follows}
 use Rattle.rq_catalog.proofs.Runs.{is_open_outcome, open_by_outcome}
 
@@ -45,8 +46,8 @@ open_as (Some Open) = refl
 open_as (Some (Committed place)) = refl
 open_as (Some (Aborted place)) = refl
 
-pub known_by : {S : Type 0} (registrants : IndexSet (ℕ × List ℕ) S) (s : State)
-    → ((k : ℕ × List ℕ) → contains key_eq registrants k ≡ is_registered s k.0 k.1) → (q : ℕ) (by : Option By)
+pub known_by : (registrants : Registrants) (s : State)
+    → ((k : ℕ × List ℕ) → is_on registrants k ≡ is_registered s k.0 k.1) → (q : ℕ) (by : Option By)
     → is_known_in registrants q by ≡ is_known s q by
 known_by registrants s same q None = refl
 known_by registrants s same q (Some by) = same (q, by.name)

@@ -1,4 +1,5 @@
 pub mod Tables
+pub mod Registered
 pub mod Rising
 pub mod Once
 pub mod Runs

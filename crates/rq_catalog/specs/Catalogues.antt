@@ -1,9 +1,9 @@
 -- What a catalogue knows, and when a record is lawful by it.
 use Rattle.std.specs.Prelude.{ℕ, Bool, true, false, not, ◌&&◌, ◌||◌, ◌==◌, ◌≡◌, ◌+◌, ◌<◌, ◌^◌, cond}
 use Rattle.std.specs.Prelude.{nat_lt, nat_le, nat_eq, if◌then◌else◌, List, [], ◌∷◌, ◌++◌, length}
-use Rattle.std.specs.Prelude.{Option, Some, None, option_map, slice_index_or, map, ⊤}
+use Rattle.std.specs.Prelude.{Option, Some, option_map, slice_index_or, map, ⊤}
 use Rattle.std.specs.Cmp.Lexicographic.{pointwise}
-use Rattle.indexmap.specs.IndexSet.{IndexSet, contains}
+use Rattle.indexmap.specs.IndexSet.{contains}
 use Rattle.rq_model.specs.Records.{By, Version, One, Two, no_queue}
 use Rattle.rq_model.specs.Records as model
 use Rattle.rq_model.specs.States.{State, Definition}
@@ -18,18 +18,12 @@ use Rattle.rq_record.specs.declared.record.Record.TheVariants.{Enqueue, Dequeue,
 use Rattle.rq_record.specs.declared.record.Record.TheVariants.{Checkpoint, Kill}
 use Rattle.rq_catalog.specs.Outcomes.{is_open_in, outcome_of}
 use Rattle.rq_catalog.specs.Lists.{numbered}
+use Rattle.rq_catalog.specs.Registered.{key_eq, is_on, is_known_in}
 use Rattle.rq_catalog.specs.Units.{numbers, has_unit, outcome_at, engages_at}
 use Rattle.rq_state.specs.Orders.{listed}
 use Rattle.rq_catalog.specs.declared.outcome.Outcome.{Outcome}
 use Rattle.rq_catalog.specs.declared.outcome.Outcome.TheVariants.{Committed, Aborted, Open}
 use Rattle.rq_catalog.specs.declared.catalogue.Catalogue.{Catalogue}
-
-abbrev pub key_eq : ℕ × List ℕ → ℕ × List ℕ → Bool
-key_eq a b = nat_eq a.0 b.0 && pointwise nat_eq a.1 b.1
-
-abbrev pub is_known_in : {S : Type 0} → IndexSet (ℕ × List ℕ) S → ℕ → Option By → Bool
-is_known_in registrants queue None = true
-is_known_in registrants queue (Some by) = contains key_eq registrants (queue, by.name)
 
 -- an error queue of version 1 has none itself
 abbrev pub may_be_error_in : Version → List ℕ → ℕ → Bool
@@ -52,7 +46,7 @@ abbrev pub may_take : Version → Catalogue → Record → Bool
 may_take version c (Define limit error name) = is_limit_in version c.errors.items limit error.0
     && (nat_lt (length c.errors.items) 4096 && not (contains (pointwise nat_eq) c.names name))
 may_take version c (Register queue name) = nat_lt queue.0 (length c.errors.items)
-may_take version c (Deregister queue name) = contains key_eq c.registrants (queue.0, name)
+may_take version c (Deregister queue name) = is_on c.registrants (queue.0, name)
 may_take version c (Begin unit) = nat_lt c.greatest unit.0
 may_take version c (Enqueue priority queue unit by payload) = nat_lt queue.0 (length c.errors.items)
     && (is_open_in (outcome_at c.units unit.0) && is_known_in c.registrants queue.0 by)
@@ -147,7 +141,7 @@ pub record Takes (c d : Catalogue) (op : ℕ × ℕ) (r : Record) : Type 0 where
       ≡ names_after r n (contains (pointwise nat_eq) c.names n)
   pub errors : d.errors.items ≡ errors_after r c.errors.items
   pub registrants : (k : ℕ × List ℕ) →
-      contains key_eq d.registrants k ≡ registered_after r k (contains key_eq c.registrants k)
+      is_on d.registrants k ≡ registered_after r k (is_on c.registrants k)
   pub greatest : d.greatest ≡ greatest_by r c.greatest
   pub outcomes : (u : ℕ) →
       outcome_at d.units u ≡ outcome_after op.0 r u (outcome_at c.units u)
@@ -166,7 +160,7 @@ pub record Follows (c : Catalogue) (s : State) (xs : List model.Record) : Type 0
       ≡ list_any (λ (d : Definition). bytes_eq d.name n) (run s xs).definitions
   pub errors : c.errors.items ≡ map (λ (d : Definition). d.error) (run s xs).definitions
   pub registrants : (k : ℕ × List ℕ) →
-      contains key_eq c.registrants k ≡ is_registered (run s xs) k.0 k.1
+      is_on c.registrants k ≡ is_registered (run s xs) k.0 k.1
   pub greatest : c.greatest ≡ (run s xs).greatest
   pub outcomes : (u : ℕ) → option_map outcome_of (outcome_at c.units u) ≡ outcome s xs u
   pub units : numbers c.units ≡ s.units ++ begun xs

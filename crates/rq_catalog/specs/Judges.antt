@@ -3,6 +3,8 @@ use Rattle.std.specs.Prelude.{ℕ, ◌≡◌, Bool, true, false, cond, List, map
 use Rattle.std.specs.List.{list_any}
 use Rattle.std.specs.Str.{bytes_eq}
 use Rattle.std.specs.Cmp.Lexicographic.{pointwise}
+use Rattle.std.specs.Ordering.{nat_cmp}
+use Rattle.std.specs.BTreeSet as ordered
 use Rattle.indexmap.specs.IndexSet.{contains}
 use Rattle.rq_model.specs.Records.{Version}
 use Rattle.rq_model.specs.States.{State, Definition}
@@ -11,7 +13,8 @@ use Rattle.rq_record.specs.Views.{version_of}
 use Rattle.rq_record.specs.declared.record.Record.{Record}
 use Rattle.rq_record.specs.declared.record.Record.TheVariants.{Begin, Commit, Abort}
 use Rattle.rq_catalog.specs.declared.judge.Judge.{Judge}
-use Rattle.rq_catalog.specs.Catalogues.{key_eq, names_after, errors_after, registered_after}
+use Rattle.rq_catalog.specs.Registered.{is_on}
+use Rattle.rq_catalog.specs.Catalogues.{names_after, errors_after, registered_after}
 use Rattle.rq_catalog.specs.Catalogues.{greatest_by}
 
 -- it knows of the state what lawfulness looks at
@@ -19,9 +22,9 @@ pub record KnowsState (j : Judge) (s : State) : Type 0 where
   pub names : (n : List ℕ) → contains (pointwise nat_eq) j.names n
       ≡ list_any (λ (d : Definition). bytes_eq d.name n) s.definitions
   pub errors : j.errors.items ≡ map (λ (d : Definition). d.error) s.definitions
-  pub registrants : (k : ℕ × List ℕ) → contains key_eq j.registrants k ≡ is_registered s k.0 k.1
+  pub registrants : (k : ℕ × List ℕ) → is_on j.registrants k ≡ is_registered s k.0 k.1
   pub greatest : j.greatest ≡ s.greatest
-  pub units : (u : ℕ) → contains nat_eq j.units u ≡ is_open s u
+  pub units : (u : ℕ) → ordered.contains nat_cmp j.units u ≡ is_open s u
 
 -- it judges by the rules of the version what follows the state
 pub record StandsIn (version : Version) (j : Judge) (s : State) : Type 0 where
@@ -45,6 +48,7 @@ pub record Notes (j k : Judge) (r : Record) : Type 0 where
       ≡ names_after r n (contains (pointwise nat_eq) j.names n)
   pub errors : k.errors.items ≡ errors_after r j.errors.items
   pub registrants : (q : ℕ × List ℕ) →
-      contains key_eq k.registrants q ≡ registered_after r q (contains key_eq j.registrants q)
+      is_on k.registrants q ≡ registered_after r q (is_on j.registrants q)
   pub greatest : k.greatest ≡ greatest_by r j.greatest
-  pub units : (u : ℕ) → contains nat_eq k.units u ≡ open_after r u (contains nat_eq j.units u)
+  pub units : (u : ℕ) → ordered.contains nat_cmp k.units u
+      ≡ open_after r u (ordered.contains nat_cmp j.units u)

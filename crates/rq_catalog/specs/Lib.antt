@@ -5,3 +5,4 @@ pub mod Catalogues
 pub mod Analyses
 pub mod Judges
 pub mod Units
+pub mod Registered

@@ -10,14 +10,14 @@ ghost use Rattle.rq_record.specs.Views.{version_of};
 ghost use Rattle.rq_record.specs.declared.fault.Fault.TheVariants.{Resources};
 ghost use Rattle.rq_state.specs.Orders.{listed};
 ghost use Rattle.rq_catalog.specs.Outcomes.{is_open_in};
-ghost use Rattle.rq_catalog.specs.Catalogues.{HasRoom, KnowsUnit, Takes, may_take, key_eq};
-ghost use Rattle.rq_catalog.specs.Catalogues.{is_known_in};
+ghost use Rattle.rq_catalog.specs.Catalogues.{HasRoom, KnowsUnit, Takes, may_take};
+ghost use Rattle.rq_catalog.specs.Registered.{is_known_in};
 ghost use Rattle.rq_catalog.specs.Units.{numbers, has_unit, outcome_at, engages_at};
 
 use crate::errors::{is_defined, is_limit, may_kill};
 use crate::lists::{touch, touch_all};
 use crate::outcome::Outcome;
-use crate::registrants::{is_known, is_registered};
+use crate::registrants::Registrants;
 use crate::units::Units;
 use indexmap::IndexSet;
 use rq_record::{Fault, KeptBy, Name, QueueNo, Record, Version};
@@ -29,24 +29,12 @@ use std::alloc::Global;
 pub(crate) struct Catalogue {
     pub(crate) names: IndexSet<Name>,
     pub(crate) errors: Vec<u32>,
-    pub(crate) registrants: IndexSet<(u32, Name)>,
+    pub(crate) registrants: Registrants,
     pub(crate) greatest: u64,
     pub(crate) committed: u64,
     pub(crate) aborted: u64,
     pub(crate) units: Units,
     pub(crate) touching: Vec<Vec<(u64, usize)>>,
-}
-
-// Gives room back where many have gone. Half as many as are left must go then before it does so
-// again, so it costs little beside what they cost.
-fn give_back(registrants: &mut IndexSet<(u32, Name)>)
-    ensures { (k : ℕ × List ℕ) →
-        contains key_eq registrants.new k ≡ contains key_eq registrants.old k }
-{
-    let left = registrants.len();
-    if registrants.capacity() / 4 > left + 16 {
-        registrants.shrink_to(2 * left);
-    }
 }
 
 impl Catalogue {
@@ -61,9 +49,7 @@ impl Catalogue {
             && (is_open_in (outcome_at self.now.units unit)
             && is_known_in self.now.registrants queue by.now)) }
     {
-        is_defined(&self.errors, queue)
-            && self.is_open(unit)
-            && is_known(&self.registrants, queue, by)
+        is_defined(&self.errors, queue) && self.is_open(unit) && self.registrants.knows(queue, by)
     }
 
     /// Whether the record is lawful here, by the rules of the version.
@@ -77,9 +63,7 @@ impl Catalogue {
                     && !self.names.contains(&name.name())
             }
             Record::Register { queue, .. } => is_defined(&self.errors, queue.0),
-            Record::Deregister { queue, name } => {
-                is_registered(&self.registrants, queue.0, name.name())
-            }
+            Record::Deregister { queue, name } => { self.registrants.has(queue.0, &name.name()) }
             Record::Begin { unit } => self.greatest < unit.0,
             Record::Enqueue {
                 unit,
@@ -110,12 +94,11 @@ impl Catalogue {
         match next {
             Record::Define { error, name, .. } => self.define(alloc, *error, name.name()),
             Record::Register { queue, name } => {
-                self.registrants.insert((queue.0, name.name()))?;
+                self.registrants.register(queue.0, name.name())?;
                 touch(&mut self.touching, queue.0, op)
             }
             Record::Deregister { queue, name } => {
-                self.registrants.swap_remove(&(queue.0, name.name()));
-                give_back(&mut self.registrants);
+                self.registrants.deregister(queue.0, &name.name());
                 touch(&mut self.touching, queue.0, op)
             }
             Record::Begin { unit } => {

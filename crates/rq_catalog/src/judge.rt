@@ -13,10 +13,11 @@ ghost use Rattle.rq_record.specs.declared.fault.Fault.TheVariants.{Resources};
 ghost use Rattle.rq_catalog.specs.Judges.{KnowsState, StandsIn, KeepsStanding, Notes};
 
 use crate::errors::{is_defined, is_limit, may_kill};
-use crate::registrants::{is_known, is_registered};
+use crate::registrants::Registrants;
 use indexmap::IndexSet;
 use rq_record::{Fault, KeptBy, Name, QueueNo, Record, Version};
 use std::alloc::Global;
+use std::collections::BTreeSet;
 
 /// Says of records, one after the other, whether each is lawful behind the lawful ones before it.
 /// It keeps what lawfulness looks at alone, which is queues, registrants and open units: so it does
@@ -26,9 +27,9 @@ pub struct Judge {
     version: Version,
     names: IndexSet<Name>,
     errors: Vec<u32>,
-    registrants: IndexSet<(u32, Name)>,
+    registrants: Registrants,
     greatest: u64,
-    units: IndexSet<u64>,
+    units: BTreeSet<u64>,
 }
 
 impl Judge {
@@ -40,9 +41,9 @@ impl Judge {
             version,
             names: IndexSet::new(alloc),
             errors: Vec::new(alloc),
-            registrants: IndexSet::new(alloc),
+            registrants: Registrants::new(alloc),
             greatest: 0,
-            units: IndexSet::new(alloc),
+            units: BTreeSet::new(alloc),
         }
     }
 
@@ -85,7 +86,7 @@ impl Judge {
                     && !self.names.contains(&name.name())
             }
             Record::Register { queue, .. } => self.is_defined(*queue),
-            Record::Deregister { queue, name } => self.is_registered(*queue, name.name()),
+            Record::Deregister { queue, name } => self.is_registered(*queue, &name.name()),
             Record::Begin { unit } => self.greatest < unit.0,
             Record::Enqueue {
                 unit,
@@ -109,17 +110,17 @@ impl Judge {
         is_defined(&self.errors, queue.0)
     }
 
-    fn is_registered(&self, queue: QueueNo, name: Name) -> bool
+    fn is_registered(&self, queue: QueueNo, name: &Name) -> bool
         ensures { (s : State) → KnowsState self.now s
-            → result ≡ machine.is_registered s queue.0 name }
+            → result ≡ machine.is_registered s queue.0 name.now }
     {
-        is_registered(&self.registrants, queue.0, name)
+        self.registrants.has(queue.0, name)
     }
 
     fn is_known(&self, queue: QueueNo, by: &KeptBy) -> bool
         ensures { (s : State) → KnowsState self.now s → result ≡ machine.is_known s queue.0 by.now }
     {
-        is_known(&self.registrants, queue.0, by)
+        self.registrants.knows(queue.0, by)
     }
 
     fn may_engage(&self, unit: u64, queue: QueueNo, by: &KeptBy) -> bool
@@ -152,12 +153,9 @@ impl Judge {
     {
         match next {
             Record::Define { error, name, .. } => self.define(*error, name.name()),
-            Record::Register { queue, name } => {
-                self.registrants.insert((queue.0, name.name()))?;
-                Ok(())
-            }
+            Record::Register { queue, name } => { self.registrants.register(queue.0, name.name()) }
             Record::Deregister { queue, name } => {
-                self.registrants.swap_remove(&(queue.0, name.name()));
+                self.registrants.deregister(queue.0, &name.name());
                 Ok(())
             }
             Record::Begin { unit } => {
@@ -166,11 +164,11 @@ impl Judge {
                 Ok(())
             }
             Record::Commit { unit } => {
-                self.units.swap_remove(&unit.0);
+                self.units.remove(&unit.0);
                 Ok(())
             }
             Record::Abort { unit } => {
-                self.units.swap_remove(&unit.0);
+                self.units.remove(&unit.0);
                 Ok(())
             }
             _ => Ok(()),

@@ -10,11 +10,13 @@ ghost use Rattle.rq_record.specs.declared.fault.Fault.TheVariants.{Resources};
 ghost use Rattle.rq_state.specs.Views.{unit_of};
 ghost use Rattle.rq_catalog.specs.declared.outcome.Outcome.TheVariants.{Open};
 ghost use Rattle.rq_state.specs.Orders.{listed};
-ghost use Rattle.rq_catalog.specs.Catalogues.{key_eq, Follows};
+ghost use Rattle.rq_catalog.specs.Catalogues.{Follows};
+ghost use Rattle.rq_catalog.specs.Registered.{is_on};
 ghost use Rattle.rq_catalog.specs.Members.{has_name, has_key, is_marked_at, is_noted_at};
 ghost use Rattle.rq_catalog.specs.Units.{numbers, has_unit, outcome_at, engages_at};
 
 use crate::catalogue::Catalogue;
+use crate::registrants::Registrants;
 use crate::units::Units;
 use indexmap::IndexSet;
 use rq_record::{Fault, Name, UnitNo};
@@ -44,16 +46,16 @@ fn errors_of(alloc: Global, definitions: &[Definition]) -> Result<Vec<u32>, Faul
     Ok(errors)
 }
 
-fn registrants_of(alloc: Global, registrants: &[Registrant]) -> Result<IndexSet<(u32, Name)>, Fault>
-    ensures keys { IfOk result
-        (λ keys. (k : ℕ × List ℕ) → contains key_eq keys k ≡ list_any (has_key k) registrants.now) }
+fn registrants_of(alloc: Global, registrants: &[Registrant]) -> Result<Registrants, Fault>
+    ensures registered { IfOk result
+        (λ roll. (k : ℕ × List ℕ) → is_on roll k ≡ list_any (has_key k) registrants.now) }
     ensures refused { IfErr result (λ e. e ≡ Resources) }
 {
-    let mut keys = IndexSet::new(alloc);
+    let mut roll = Registrants::new(alloc);
     for registrant in registrants {
-        keys.insert((registrant.queue.0, registrant.name))?;
+        roll.register(registrant.queue.0, registrant.name)?;
     }
-    Ok(keys)
+    Ok(roll)
 }
 
 fn units_of(alloc: Global, units: &[UnitNo]) -> Result<Units, Fault>

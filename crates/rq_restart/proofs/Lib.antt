@@ -10,6 +10,7 @@ pub mod Checkpoints
 pub mod Audits
 pub mod Walks
 pub mod Worth
+pub mod Counted
 pub mod Tallies
 pub mod Judgings
 pub mod Passes

@@ -17,7 +17,7 @@ use Rattle.rq_model.specs.StateSpelling.{state_bytes}
 use Rattle.rq_model.specs.Laws.{RunsAreWellFormed}
 use Rattle.rq_model.proofs.Lists.{by_cases}
 use Rattle.rq_model.proofs.Restarts.{run_join, lawful_cut}
-use Rattle.rq_catalog.specs.Catalogues.{key_eq}
+use Rattle.rq_catalog.specs.Registered.{key_eq}
 use Rattle.rq_record.specs.declared.record.Record.{Record as Own}
 use Rattle.rq_record.specs.declared.record.Record.TheVariants as own
 use Rattle.rq_record.specs.Views.{record_of}

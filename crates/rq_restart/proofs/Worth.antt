@@ -25,7 +25,7 @@ use Rattle.rq_model.specs.StateSpelling.{registrant_bytes, mark_bytes, element_b
 use Rattle.rq_model.specs.WellFormed.{Ordered}
 use Rattle.rq_model.proofs.Lists.{by_cases, each_weaker, each_both, filter_none, filter_comm, each_passes}
 use Rattle.rq_model.proofs.WellFormedRuns.{length-put}
-use Rattle.rq_catalog.specs.Catalogues.{key_eq}
+use Rattle.rq_catalog.specs.Registered.{key_eq}
 use Rattle.rq_record.specs.declared.record.Record.{Record as Own}
 use Rattle.rq_record.specs.declared.record.Record.TheVariants as own
 use Rattle.rq_record.specs.Views.{record_of}

@@ -1,11 +1,13 @@
 -- How long the spelling of a state is at least, and how much of that records can take away.
 use Rattle.std.specs.Prelude.{◌≡◌, ◌≤◌, ◌+◌, ◌*◌, ◌==◌, ℕ, nat_eq, cond, List, length, filter}
 use Rattle.std.specs.Prelude.{Option, Some, None}
-use Rattle.indexmap.specs.IndexMap.{get}
+use Rattle.std.specs.BTreeMap.{get}
+use Rattle.std.specs.Ordering.{nat_cmp}
+use Rattle.rq_state.proofs.InOrder.{key_cmp}
 use Rattle.rq_model.specs.Records.{By}
 use Rattle.rq_model.specs.States.{State, is_registrant, is_note_of}
 use Rattle.rq_model.specs.Queues.{is_marked}
-use Rattle.rq_catalog.specs.Catalogues.{key_eq}
+use Rattle.rq_catalog.specs.Registered.{key_eq}
 use Rattle.rq_record.specs.declared.record.Record.{Record}
 use Rattle.rq_record.specs.declared.record.Record.TheVariants.{Register, Deregister, Begin, Enqueue}
 use Rattle.rq_record.specs.declared.record.Record.TheVariants.{Dequeue, Commit, Abort, Kill}
@@ -38,10 +40,10 @@ count_of None = 0
 count_of (Some n) = n
 
 abbrev pub of_unit : Tally → ℕ → ℕ
-of_unit t unit = count_of (get nat_eq t.units unit)
+of_unit t unit = count_of (get nat_cmp t.units unit)
 
 abbrev pub of_registrant : Tally → ℕ × List ℕ → ℕ
-of_registrant t key = count_of (get key_eq t.registrants key)
+of_registrant t key = count_of (get key_cmp t.registrants key)
 
 -- at most as many members as the tally tells are a unit's or a registrant's
 pub record IsTallied (s : State) (t : Tally) : Type 0 where

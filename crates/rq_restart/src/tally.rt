@@ -3,21 +3,21 @@
 
 ghost use Rattle.std.specs.Prelude.{◌≡◌, ◌<◌, ◌+◌, ◌^◌, ◌-◌, ℕ, List, cond, nat_eq, OnOk, IfOk};
 ghost use Rattle.std.specs.Prelude.{IfErr};
-ghost use Rattle.indexmap.specs.IndexMap.{get};
-ghost use Rattle.rq_catalog.specs.Catalogues.{key_eq};
+ghost use Rattle.rq_catalog.specs.Registered.{key_eq};
 ghost use Rattle.rq_record.specs.declared.fault.Fault.TheVariants.{Resources};
 ghost use Rattle.rq_restart.specs.Worth.{Counts, IsWithin, count_of, lost_by, named_after};
 ghost use Rattle.rq_restart.specs.Worth.{of_registrant, of_unit};
 
-use indexmap::IndexMap;
 use rq_record::{Fault, KeptBy, Name, Record};
 use std::alloc::Global;
+use std::collections::BTreeMap;
 
-/// How often an open unit, and a registrant, were spoken of since they came.
+/// How often an open unit, and a registrant, were spoken of since they came. The maps are in order:
+/// whoever writes a log could choose keys that a table of hashes puts into one place.
 #[derive(Drop)]
 pub(crate) struct Tally {
-    units: IndexMap<u64, u64>,
-    registrants: IndexMap<(u32, Name), u64>,
+    units: BTreeMap<u64, u64>,
+    registrants: BTreeMap<(u32, Name), u64>,
 }
 
 impl Tally {
@@ -27,8 +27,8 @@ impl Tally {
         ensures registrants { (key : ℕ × List ℕ) → of_registrant result key ≡ 0 }
     {
         Tally {
-            units: IndexMap::new(alloc),
-            registrants: IndexMap::new(alloc),
+            units: BTreeMap::new(alloc),
+            registrants: BTreeMap::new(alloc),
         }
     }
 
@@ -118,7 +118,7 @@ impl Tally {
         ensures units { (u : ℕ) → of_unit self.new u ≡ cond (nat_eq unit u) 0 (of_unit self.old u) }
         ensures count { result ≡ of_unit self.old unit }
     {
-        self.units.swap_remove(&unit).unwrap_or(0)
+        self.units.remove(&unit).unwrap_or(0)
     }
 
     // A registrant goes. How often it was spoken of.
@@ -128,6 +128,6 @@ impl Tally {
             of_registrant self.new k ≡ cond (key_eq (queue, name) k) 0 (of_registrant self.old k) }
         ensures count { result ≡ of_registrant self.old (queue, name) }
     {
-        self.registrants.swap_remove(&(queue, name)).unwrap_or(0)
+        self.registrants.remove(&(queue, name)).unwrap_or(0)
     }
 }

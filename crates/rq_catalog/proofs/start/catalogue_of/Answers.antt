@@ -13,7 +13,7 @@ returns-clause-follows c =
     let noted = c.in_ok-engage_by_notes.ensures in
     starts _ _ _ _ _ _ _ c.definitions-definitions.ensures c.registrants.ensures c.units.ensures c.elements.ensures
     c.notes.ensures
-    c.in_ok-names.ensures.names c.in_ok-errors.ensures.errors c.in_ok-registrants.ensures.keys c.greatest.ensures
+    c.in_ok-names.ensures.names c.in_ok-errors.ensures.errors c.in_ok-registrants.ensures.registered c.greatest.ensures
     c.committed.ensures c.aborted.ensures
     (noted.numbers ∙ marked.numbers ∙ begun.numbers)
     (λ u. noted.outcomes u ∙ marked.outcomes u ∙ begun.outcomes u)

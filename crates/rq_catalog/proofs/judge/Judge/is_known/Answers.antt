@@ -4,4 +4,4 @@ use Rattle.rq_catalog.proofs.judge.Judge.is_known.Goals as goal
 
 pub returns : goal.returns
 returns c = λ s knows.
-    c.is_known.ensures ∙ known_by c.args.self.now.registrants s knows.registrants c.args.queue.0 c.args.by.now
+    c.knows.ensures ∙ known_by c.args.self.now.registrants s knows.registrants c.args.queue.0 c.args.by.now
