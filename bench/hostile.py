@@ -9,7 +9,7 @@ the report is the peer's. Prints a table and each bound that is missed, and exit
 longer than the limit is stopped, and counts as the limit.
 """
 from __future__ import annotations
-import hashlib, itertools, os, struct, sys
+import functools, hashlib, itertools, math, os, struct, sys
 from collections.abc import Callable, Iterable, Iterator
 
 from common import built_peer, header_of, parsed, parser, run, write_log
@@ -20,6 +20,14 @@ GROWTH, TO_PEER, TO_RESTART, MEMORY = 2.6, 4.0, 3.0, 6.0
 SHORT = 0.05
 # A long payload: the longest ones have 65,535 bytes.
 HEAVY = bytes(60000)
+
+# How the toolchain's maps hash a key: with no secret. Each number of the key is joined by xor with the hasher's state,
+# a byte three times over and four bytes twice. The product of that and a factor for the number's size has 128 bits;
+# its halves, joined by xor, are the next state. The halves of the last state, joined, are the hash, and its low bits
+# the group at which a search begins; from a full group it goes on to the next. The groups are a power of two, and there
+# are at most nine entries for each.
+HASHER, FACTOR, GROUP_LOAD = 0x243F_6A88_85A3_08D3, 0x9E37_79B9_7F4A_7C15, 9
+COPIES = {1: 0x1_0101, 4: 0x1_0000_0001, 8: 1}
 
 HEAD = "| log of 2n | MiB | peer n | 2n | restart n | 2n | grows | to the peer "
 HEAD += "| audit n | 2n | grows | to the restart | memory / log |"
@@ -441,12 +449,78 @@ def killed_and_new(n: int) -> Records:
         place += 4
 
 
+def folded(state: int, number: int, size: int) -> int:
+    """The hasher's state behind a number of 1, 4 or 8 bytes."""
+    product = (state ^ number * COPIES[size]) * (FACTOR ^ 2 * size)
+    return product % 2**64 ^ product >> 64
+
+
+def groups_of(count: int) -> int:
+    """How many groups a table has that grew to so many entries."""
+    return 1 << ((count - 1) // GROUP_LOAD).bit_length()
+
+
+def units_from_one_group(groups: int) -> Iterator[int]:
+    """Units for which the search begins at one group of so many, and of each lower number of groups.
+
+    Modulo 2^64 + 1, a product of 128 bits is its low half less its high one. So that difference, divided by the factor,
+    is what to multiply. Where it has zeros for the low bits of both its halves, the product's halves mostly agree in
+    these bits, and xor makes zeros of them.
+    """
+    inverse = pow(FACTOR ^ 16, -1, 2**64 + 1)
+    for low, high in itertools.product(range(5 * math.isqrt(groups)), repeat=2):
+        unit = HASHER ^ (high << 32 | low) * groups * inverse % (2**64 + 1)
+        last = folded(HASHER, unit, 8)
+        if (last ^ last >> 32) % groups == 0:
+            yield unit
+
+
+def names_side_by_side(groups: int) -> Iterator[bytes]:
+    """Names in queue 0 for which the search begins within the same thirty-second of so many groups.
+
+    One name of 32 is such a name. That part is soon full, so that a search takes nearly as long as from one group.
+    """
+    letters = b"abcdefghijklmnopqrstuvwxyz0123456789-._"
+    numbers = [(letter, letter * COPIES[1]) for letter in letters]
+    queue_and_length = folded(folded(HASHER, 0, 4), 6, 8)
+    factor, elsewhere = FACTOR ^ 2, groups - max(1, groups // 32)
+    for front in itertools.product(letters, repeat=5):
+        state = functools.reduce(lambda state, letter: folded(state, letter, 1), front, queue_and_length)
+        for letter, number in numbers:
+            product = (state ^ number) * factor
+            product ^= product >> 64
+            if (product ^ product >> 32) & elsewhere == 0:
+                yield bytes([*front, letter])
+
+
+def colliding_units(n: int) -> Records:
+    """Open units, each of which a table without a secret seeks among all before it: all enqueue, and half commit."""
+    count = n // 3
+    units = sorted(itertools.islice(units_from_one_group(groups_of(count)), count))
+    yield define(b"jobs")
+    yield from map(begin, units)
+    yield from (enqueue(unit, 0) for unit in units)
+    yield from map(commit, units[::2])
+
+
+def colliding_registrants(n: int) -> Records:
+    """Registrants, each of whom a table without a secret seeks among all before it: all come, then each enqueues."""
+    count = n // 4
+    names = list(itertools.islice(names_side_by_side(groups_of(count)), count))
+    yield define(b"jobs")
+    yield from (register(0, name) for name in names)
+    for unit, name in enumerate(names, 1):
+        yield from unit_of(unit, [enqueue(unit, 0, name, 1)])
+
+
 RESTARTED = [open_units, one_unit, units_in_turn, one_registrant, strangers_go, noted_and_gone, last_go_first]
 RESTARTED += [retried, all_retried, moved, all_moved, all_queues, spread]
 AUDITED = [true_checkpoints, false_checkpoints, junk_checkpoints, empty_checkpoints, counting_checkpoints, one_told]
 AUDITED += [wide_checkpoints, queues_told, units_told, many_told, own_number, held_by_one, units_between]
 AUDITED += [empty_units_between, true_and_small, others_deregister, registrants, no_unit_told, heavy_below_light]
 AUDITED += [in_vain, come_and_go, without_payloads, element_missing, other_elements]
+# An audit has tables of units and registrants of its own.
+AUDITED += [colliding_units, colliding_registrants]
 IN_VERSION_TWO = [chained, all_killed, none_killed, killed_and_new]
 SHAPES = {shape.__name__: shape for shape in RESTARTED + IN_VERSION_TWO + AUDITED}
 
