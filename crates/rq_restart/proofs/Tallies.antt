@@ -63,9 +63,7 @@ named_within t i queue (Some by) k h =
 
 registrant_within : (t : Tally) (i : ℕ) (r : Own) (k : ℕ × List ℕ) → IsWithin i t → registrant_after r t k ≤ i + 1
 registrant_within t i (own.Define limit error name) k h = omega (arith, h.registrants k)
-registrant_within t i (own.Register queue name) k h =
-    more_or (key_eq (queue.0, name) k) (of_registrant t (queue.0, name)) (of_registrant t k) i
-    (h.registrants (queue.0, name)) (h.registrants k)
+registrant_within t i (own.Register queue name) k h = omega (arith, h.registrants k)
 registrant_within t i (own.Deregister queue name) k h =
     none_or (key_eq (queue.0, name) k) (of_registrant t k) i (h.registrants k)
 registrant_within t i (own.Begin v) k h = omega (arith, h.registrants k)

@@ -2,7 +2,7 @@
 use Rattle.std.proofs.Common.{◌≡◌, ◌⊎◌, inl, inr, ⊎_elim, ℕ, ◌+◌, ◌*◌, ◌<◌, ◌≤◌, Bool, true, false, cond, not, ◌&&◌}
 use Rattle.std.proofs.Common.{List, [], ◌∷◌, ◌++◌, length, map, Option, Some, None, refl, sym, ap, subst, ◌∙◌, arith}
 use Rattle.std.proofs.Common.{length-append}
-use Rattle.std.specs.Prelude.{◌==◌, nat_lt, nat_le, nat_eq, if◌then◌else◌}
+use Rattle.std.specs.Prelude.{◌==◌, ◌||◌, nat_lt, nat_le, nat_eq, if◌then◌else◌}
 use Rattle.std.specs.List.{filter, flat_map, list_any, list_all, AllByRecursion}
 use Rattle.std.specs.Str.{bytes_eq}
 use Rattle.std.proofs.lemmas.Bool.{and_parts, eqb-true, false≢true, leb-true, ltb-true, or_cases}
@@ -472,25 +472,34 @@ count_put p x xs =
     ∙ length-filter_both (λ y. registrant_before y x) (λ y. not (registrant_before y x)) (λ _. refl) (filter p xs) in
     omega (arith, count_append p front (x ∷ behind), count_append p (x ∷ []) behind, halves)
 
-count_registered : (k : Key) (queue : ℕ) (name : List ℕ) (xs : List Registrant)
-    → (length (filter (is_of k) (registered queue name xs)) ≤ length (filter (is_of k) xs) + 1)
-    × (key_eq (queue, name) k ≡ false → length (filter (is_of k) (registered queue name xs))
-    ≤ length (filter (is_of k) xs))
-count_registered k queue name xs =
-    let new : Registrant = record { queue = queue; name = name; last = None } in
-    by_cases (list_any (is_registrant queue name) xs)
-    (λ b. (length (filter (is_of k) (cond b xs (put registrant_before new xs))) ≤ length (filter (is_of k) xs) + 1)
-    × (key_eq (queue, name) k ≡ false → length (filter (is_of k) (cond b xs (put registrant_before new xs)))
-    ≤ length (filter (is_of k) xs)))
-    (λ _. (omega arith, λ _. omega arith))
-    (λ _. (
-      omega (arith, count_put (is_of k) new xs, one_more (is_of k) new),
-      λ n. omega (arith, count_put (is_of k) new xs, no_more (is_of k) new n),
-    ))
-
 same_key : (queue : ℕ) (name : List ℕ) (k : Key) → key_eq (queue, name) k ≡ true → (queue, name) ≡ k
 same_key queue name k h = let p = and_parts (nat_eq queue k.0) (bytes_eq name k.1) h in
     λ i. (eqb-true queue k.0 p.0 i, (bytes_eq-Decides name k.1).0 p.1 i)
+
+none_there : {X : Type 0} (p : X → Bool) (xs : List X) → list_any p xs ≡ false → length (filter p xs) ≤ 0
+none_there p [] h = omega arith
+none_there p (x ∷ xs) h =
+    by_cases (p x) (λ b. (b || list_any p xs) ≡ false → length (cond b (x ∷ filter p xs) (filter p xs)) ≤ 0)
+    (λ _ e. absurd (false≢true (sym e))) (λ _ e. none_there p xs e) h
+
+-- who is registered once at most is so after a registration
+once_registered : (k : Key) (queue : ℕ) (name : List ℕ) (xs : List Registrant) → length (filter (is_of k) xs) ≤ 1
+    → length (filter (is_of k) (registered queue name xs)) ≤ 1
+once_registered k queue name xs once =
+    let new : Registrant = record { queue = queue; name = name; last = None } in
+    by_cases (list_any (is_registrant queue name) xs)
+    (λ b. length (filter (is_of k) (cond b xs (put registrant_before new xs))) ≤ 1)
+    (λ _. once)
+    (λ absent. by_cases (key_eq (queue, name) k)
+    (λ c. key_eq (queue, name) k ≡ c → length (filter (is_of k) (put registrant_before new xs)) ≤ 1)
+    (λ _ e. omega (
+      arith,
+      count_put (is_of k) new xs,
+      one_more (is_of k) new,
+      subst (λ j. length (filter (is_of j) xs) ≤ 0) (same_key queue name k e)
+          (none_there (is_registrant queue name) xs absent),
+    ))
+    (λ _ n. omega (arith, count_put (is_of k) new xs, no_more (is_of k) new n, once)) refl)
 
 of_key : (t : Tally) (s S : State) (key k : Key) (n : ℕ) → ((j : Key) → HangOnRegistrant s j (of_registrant t j))
     → (key ≡ k → HangOnRegistrant s k (of_registrant t key) → HangOnRegistrant S k n)
@@ -506,7 +515,7 @@ operated : (t : Tally) (s S : State) (queue : ℕ) (by : Option By) (k : Key) (p
     (element : Option ℕ) → S.registrants ≡ s.registrants → S.notes ≡ s.notes ++ noted place unit queue by kind element
     → ((j : Key) → HangOnRegistrant s j (of_registrant t j)) → HangOnRegistrant S k (named_after queue by t k)
 operated t s S queue None k place unit kind element rs ms h = record {
-  registrants = subst (λ xs. length (filter (is_of k) xs) ≤ of_registrant t k) (sym rs) (h k).registrants;
+  registrants = subst (λ xs. length (filter (is_of k) xs) ≤ 1) (sym rs) (h k).registrants;
   notes = omega (
     arith,
     ap (λ xs. length (filter (is_noted k) xs)) ms,
@@ -524,8 +533,7 @@ operated t s S queue (Some by) k place unit kind element rs ms h =
     } in
     of_key t s S (queue, by.name) k (of_registrant t (queue, by.name) + 1) h
     (λ _ j. record {
-      registrants = subst (λ xs. length (filter (is_of k) xs) ≤ of_registrant t (queue, by.name) + 1) (sym rs)
-          (omega (arith, j.registrants));
+      registrants = subst (λ xs. length (filter (is_of k) xs) ≤ 1) (sym rs) j.registrants;
       notes = omega (
         arith,
         ap (λ xs. length (filter (is_noted k) xs)) ms,
@@ -535,7 +543,7 @@ operated t s S queue (Some by) k place unit kind element rs ms h =
       );
     })
     (λ n j. record {
-      registrants = subst (λ xs. length (filter (is_of k) xs) ≤ of_registrant t k) (sym rs) j.registrants;
+      registrants = subst (λ xs. length (filter (is_of k) xs) ≤ 1) (sym rs) j.registrants;
       notes = omega (
         arith,
         ap (λ xs. length (filter (is_noted k) xs)) ms,
@@ -549,16 +557,18 @@ pub registrant_step : (s : State) (t : Tally) (r : Own) (k : Key)
     → ((j : Key) → HangOnRegistrant s j (of_registrant t j))
     → HangOnRegistrant (step s (record_of r)) k (registrant_after r t k)
 registrant_step s t (own.Define limit error name) k h = record { registrants = (h k).registrants; notes = (h k).notes }
-registrant_step s t (own.Register queue name) k h =
-    let counted = count_registered k queue.0 name s.registrants in
-    of_key t s (step s (Register queue.0 name)) (queue.0, name) k (of_registrant t (queue.0, name) + 1) h
-    (λ _ j. record { registrants = omega (arith, counted.0, j.registrants); notes = omega (arith, j.notes) })
-    (λ n j. record { registrants = omega (arith, counted.1 n, j.registrants); notes = j.notes })
+registrant_step s t (own.Register queue name) k h = record {
+  registrants = once_registered k queue.0 name s.registrants (h k).registrants;
+  notes = (h k).notes;
+}
 registrant_step s t (own.Deregister queue name) k h =
     let S = step s (Deregister queue.0 name) in
     let none : HangOnRegistrant S (queue.0, name) 0 = record {
-      registrants = count_none (is_registrant queue.0 name) (λ r. not (is_registrant queue.0 name r))
-          (λ r n. not_so (is_registrant queue.0 name r) n) s.registrants;
+      registrants = omega (
+        arith,
+        count_none (is_registrant queue.0 name) (λ r. not (is_registrant queue.0 name r))
+            (λ r n. not_so (is_registrant queue.0 name r) n) s.registrants,
+      );
       notes = count_none (is_note_of queue.0 name) (λ m. not (is_note_of queue.0 name m))
           (λ m n. not_so (is_note_of queue.0 name m) n) s.notes;
     } in

@@ -9,7 +9,7 @@ use Rattle.rq_model.specs.States.{State, is_registrant, is_note_of}
 use Rattle.rq_model.specs.Queues.{is_marked}
 use Rattle.rq_catalog.specs.Registered.{key_eq}
 use Rattle.rq_record.specs.declared.record.Record.{Record}
-use Rattle.rq_record.specs.declared.record.Record.TheVariants.{Register, Deregister, Begin, Enqueue}
+use Rattle.rq_record.specs.declared.record.Record.TheVariants.{Deregister, Begin, Enqueue}
 use Rattle.rq_record.specs.declared.record.Record.TheVariants.{Dequeue, Commit, Abort, Kill}
 use Rattle.rq_restart.specs.declared.tally.Tally.{Tally}
 
@@ -24,9 +24,9 @@ pub record HangOnUnit (s : State) (unit n : ℕ) : Type 0 where
   pub elements : length (filter (λ e. is_marked unit e.mark) s.elements) ≤ n
   pub notes : length (filter (λ m. m.unit == unit) s.notes) ≤ n
 
--- of each list at most n members are the registrant's
+-- it is registered once at most, and at most n notes are the registrant's
 pub record HangOnRegistrant (s : State) (key : ℕ × List ℕ) (n : ℕ) : Type 0 where
-  pub registrants : length (filter (is_registrant key.0 key.1) s.registrants) ≤ n
+  pub registrants : length (filter (is_registrant key.0 key.1) s.registrants) ≤ 1
   pub notes : length (filter (is_note_of key.0 key.1) s.notes) ≤ n
 
 -- t has what s has, but for at most n members of each list: a unit, an element and a note for each
@@ -73,8 +73,6 @@ named_after queue (Some by) t k =
     cond (key_eq (queue, by.name) k) (of_registrant t (queue, by.name) + 1) (of_registrant t k)
 
 abbrev pub registrant_after : Record → Tally → ℕ × List ℕ → ℕ
-registrant_after (Register queue name) t k =
-    cond (key_eq (queue.0, name) k) (of_registrant t (queue.0, name) + 1) (of_registrant t k)
 registrant_after (Deregister queue name) t k = cond (key_eq (queue.0, name) k) 0 (of_registrant t k)
 registrant_after (Enqueue priority queue unit by payload) t k = named_after queue.0 by t k
 registrant_after (Dequeue unit queue by) t k = named_after queue.0 by t k
@@ -82,7 +80,7 @@ registrant_after r t k = of_registrant t k
 
 -- how many members of each list go with the record, at most
 abbrev pub lost_by : Record → Tally → ℕ
-lost_by (Deregister queue name) t = of_registrant t (queue.0, name)
+lost_by (Deregister queue name) t = of_registrant t (queue.0, name) + 1
 lost_by (Commit unit) t = of_unit t unit.0
 lost_by (Abort unit) t = of_unit t unit.0
 lost_by (Kill queue element) t = 1

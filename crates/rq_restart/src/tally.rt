@@ -12,8 +12,9 @@ use rq_record::{Fault, KeptBy, Name, Record};
 use std::alloc::Global;
 use std::collections::BTreeMap;
 
-/// How often an open unit, and a registrant, were spoken of since they came. The maps are in order:
-/// whoever writes a log could choose keys that a table of hashes puts into one place.
+/// How often an open unit was spoken of, and by how many operations a registrant was named, since
+/// they came. The maps are in order: whoever writes a log could choose keys that a table of hashes
+/// puts into one place.
 #[derive(Drop)]
 pub(crate) struct Tally {
     units: BTreeMap<u64, u64>,
@@ -40,11 +41,8 @@ impl Tally {
         ensures refused { IfErr result (λ e. e ≡ Resources) }
     {
         match rec {
-            Record::Register { queue, name } => {
-                self.count_registrant(queue.0, name.name())?;
-                Ok(0)
-            }
-            Record::Deregister { queue, name } => Ok(self.forget(queue.0, name.name())),
+            // A registrant goes with its notes.
+            Record::Deregister { queue, name } => Ok(self.forget(queue.0, name.name()) + 1),
             Record::Begin { unit } => {
                 self.count_unit(unit.0)?;
                 Ok(0)
@@ -66,7 +64,7 @@ impl Tally {
             Record::Abort { unit } => Ok(self.close(unit.0)),
             // Where the element is there and free it goes.
             Record::Kill { .. } => Ok(1),
-            Record::Define { .. } | Record::Checkpoint { .. } => Ok(0),
+            Record::Define { .. } | Record::Register { .. } | Record::Checkpoint { .. } => Ok(0),
         }
     }
 
@@ -98,7 +96,7 @@ impl Tally {
         Ok(())
     }
 
-    // A registrant is spoken of once more.
+    // A registrant is named once more.
     fn count_registrant(&mut self, queue: u32, name: Name) -> Result<(), Fault>
         requires { of_registrant self.old (queue, name) + 1 < 2 ^ 64 }
         ensures frame { self.new ≡ record self.old { registrants = self.new.registrants } }
@@ -121,7 +119,7 @@ impl Tally {
         self.units.remove(&unit).unwrap_or(0)
     }
 
-    // A registrant goes. How often it was spoken of.
+    // A registrant goes. How often it was named.
     fn forget(&mut self, queue: u32, name: Name) -> u64
         ensures frame { self.new ≡ record self.old { registrants = self.new.registrants } }
         ensures registrants { (k : ℕ × List ℕ) →
