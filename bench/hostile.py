@@ -21,11 +21,12 @@ SHORT = 0.05
 # A long payload: the longest ones have 65,535 bytes.
 HEAVY = bytes(60000)
 
-# How the toolchain's maps hash a key: with no secret. Each number of the key is joined by xor with the hasher's state,
-# a byte three times over and four bytes twice. The product of that and a factor for the number's size has 128 bits;
-# its halves, joined by xor, are the next state. The halves of the last state, joined, are the hash, and its low bits
-# the group at which a search begins; from a full group it goes on to the next. The groups are a power of two, and there
-# are at most nine entries for each.
+# To make keys that collide: how the toolchain's tables of hashes (IndexMap) hash a key, with no secret. The program has
+# such a table for names of queues alone. Each number of the key is joined by xor with the hasher's state, a byte three
+# times over and four bytes twice. The product of that and a factor for the number's size has 128 bits; its halves,
+# joined by xor, are the next state. The halves of the last state, joined, are the hash, and its low bits the group at
+# which a search begins; from a full group it goes on to the next. The groups are a power of two, and there are at most
+# nine entries for each.
 HASHER, FACTOR, GROUP_LOAD = 0x243F_6A88_85A3_08D3, 0x9E37_79B9_7F4A_7C15, 9
 COPIES = {1: 0x1_0101, 4: 0x1_0000_0001, 8: 1}
 
@@ -503,14 +504,23 @@ def colliding_units(n: int) -> Records:
     yield from map(commit, units[::2])
 
 
-def colliding_registrants(n: int) -> Records:
-    """Registrants, each of whom a table without a secret seeks among all before it: all come, then each enqueues."""
-    count = n // 4
-    names = list(itertools.islice(names_side_by_side(groups_of(count)), count))
+def registered_and_active(names: list[bytes]) -> Records:
+    """Registrants: all come, then each enqueues in a unit of its own."""
     yield define(b"jobs")
     yield from (register(0, name) for name in names)
     for unit, name in enumerate(names, 1):
         yield from unit_of(unit, [enqueue(unit, 0, name, 1)])
+
+
+def colliding_registrants(n: int) -> Records:
+    """Registrants, each of whom a table without a secret seeks among nearly all who came before."""
+    count = n // 4
+    yield from registered_and_active(list(itertools.islice(names_side_by_side(groups_of(count)), count)))
+
+
+def long_names(n: int) -> Records:
+    """Registrants whose names have 64 bytes, the last of which alone differ: each look compares many long names."""
+    yield from registered_and_active([b"n" * 56 + b"%08d" % number for number in range(n // 4)])
 
 
 RESTARTED = [open_units, one_unit, units_in_turn, one_registrant, strangers_go, noted_and_gone, last_go_first]
@@ -519,8 +529,8 @@ AUDITED = [true_checkpoints, false_checkpoints, junk_checkpoints, empty_checkpoi
 AUDITED += [wide_checkpoints, queues_told, units_told, many_told, own_number, held_by_one, units_between]
 AUDITED += [empty_units_between, true_and_small, others_deregister, registrants, no_unit_told, heavy_below_light]
 AUDITED += [in_vain, come_and_go, without_payloads, element_missing, other_elements]
-# An audit has tables of units and registrants of its own.
-AUDITED += [colliding_units, colliding_registrants]
+# An audit counts units and registrants in maps of its own.
+AUDITED += [colliding_units, colliding_registrants, long_names]
 IN_VERSION_TWO = [chained, all_killed, none_killed, killed_and_new]
 SHAPES = {shape.__name__: shape for shape in RESTARTED + IN_VERSION_TWO + AUDITED}
 
