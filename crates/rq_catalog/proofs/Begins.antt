@@ -20,7 +20,7 @@ use Rattle.rq_state.specs.Orders.{listed}
 use Rattle.rq_catalog.specs.declared.units.Unit.{Unit}
 use Rattle.rq_catalog.specs.Outcomes.{outcome_of}
 use Rattle.rq_catalog.specs.Catalogues.{Follows}
-use Rattle.rq_catalog.specs.Registered.{is_on}
+use Rattle.rq_catalog.specs.Registered.{is_registered_in}
 use Rattle.rq_catalog.specs.Members.{has_name, has_key, is_marked_at, is_noted_at}
 
 while_open : (o m n : Bool) → ((o && n) || ((o && m) || false)) ≡ (o && ((m || n) || false))
@@ -49,7 +49,7 @@ pub starts : (c : Catalogue) (s : model.State) (ds : List model.Definition) (rs 
     → ds ≡ s.definitions → rs ≡ s.registrants → map unit_of us ≡ s.units → es ≡ s.elements → ns ≡ s.notes
     → ((n : List ℕ) → contains (pointwise nat_eq) c.names n ≡ list_any (has_name n) ds)
     → c.errors.items ≡ map (λ (d : model.Definition). d.error) ds
-    → ((k : ℕ × List ℕ) → is_on c.registrants k ≡ list_any (has_key k) rs)
+    → ((k : ℕ × List ℕ) → is_registered_in c.registrants k ≡ list_any (has_key k) rs)
     → c.greatest ≡ s.greatest → c.committed ≡ s.committed → c.aborted ≡ s.aborted
     → numbers c.units ≡ map unit_of us
     → ((u : ℕ) → outcome_at c.units u

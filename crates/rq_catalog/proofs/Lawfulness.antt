@@ -5,7 +5,7 @@ use Rattle.std.specs.Prelude.{◌==◌, nat_lt, nat_le, if◌then◌else◌, opt
 use Rattle.std.proofs.lemmas.Bool.{eqb-true, eqb-false, le-leb}
 use Rattle.std.proofs.lemmas.List.{length-map}
 use Rattle.rq_catalog.specs.declared.registrants.Registrants.{Registrants}
-use Rattle.rq_catalog.specs.Registered.{is_on, is_known_in}
+use Rattle.rq_catalog.specs.Registered.{is_registered_in, is_known_in}
 use Rattle.rq_model.specs.Records as model
 use Rattle.rq_model.specs.Records.{Version, One, Two, no_queue}
 use Rattle.rq_model.specs.States.{State, Definition, definition_at}
@@ -47,7 +47,7 @@ open_as (Some (Committed place)) = refl
 open_as (Some (Aborted place)) = refl
 
 pub known_by : (registrants : Registrants) (s : State)
-    → ((k : ℕ × List ℕ) → is_on registrants k ≡ is_registered s k.0 k.1) → (q : ℕ) (by : Option By)
+    → ((k : ℕ × List ℕ) → is_registered_in registrants k ≡ is_registered s k.0 k.1) → (q : ℕ) (by : Option By)
     → is_known_in registrants q by ≡ is_known s q by
 known_by registrants s same q None = refl
 known_by registrants s same q (Some by) = same (q, by.name)

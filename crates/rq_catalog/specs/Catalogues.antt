@@ -18,7 +18,7 @@ use Rattle.rq_record.specs.declared.record.Record.TheVariants.{Enqueue, Dequeue,
 use Rattle.rq_record.specs.declared.record.Record.TheVariants.{Checkpoint, Kill}
 use Rattle.rq_catalog.specs.Outcomes.{is_open_in, outcome_of}
 use Rattle.rq_catalog.specs.Lists.{numbered}
-use Rattle.rq_catalog.specs.Registered.{key_eq, is_on, is_known_in}
+use Rattle.rq_catalog.specs.Registered.{key_eq, is_registered_in, is_known_in}
 use Rattle.rq_catalog.specs.Units.{numbers, has_unit, outcome_at, engages_at}
 use Rattle.rq_state.specs.Orders.{listed}
 use Rattle.rq_catalog.specs.declared.outcome.Outcome.{Outcome}
@@ -46,7 +46,7 @@ abbrev pub may_take : Version → Catalogue → Record → Bool
 may_take version c (Define limit error name) = is_limit_in version c.errors.items limit error.0
     && (nat_lt (length c.errors.items) 4096 && not (contains (pointwise nat_eq) c.names name))
 may_take version c (Register queue name) = nat_lt queue.0 (length c.errors.items)
-may_take version c (Deregister queue name) = is_on c.registrants (queue.0, name)
+may_take version c (Deregister queue name) = is_registered_in c.registrants (queue.0, name)
 may_take version c (Begin unit) = nat_lt c.greatest unit.0
 may_take version c (Enqueue priority queue unit by payload) = nat_lt queue.0 (length c.errors.items)
     && (is_open_in (outcome_at c.units unit.0) && is_known_in c.registrants queue.0 by)
@@ -141,7 +141,7 @@ pub record Takes (c d : Catalogue) (op : ℕ × ℕ) (r : Record) : Type 0 where
       ≡ names_after r n (contains (pointwise nat_eq) c.names n)
   pub errors : d.errors.items ≡ errors_after r c.errors.items
   pub registrants : (k : ℕ × List ℕ) →
-      is_on d.registrants k ≡ registered_after r k (is_on c.registrants k)
+      is_registered_in d.registrants k ≡ registered_after r k (is_registered_in c.registrants k)
   pub greatest : d.greatest ≡ greatest_by r c.greatest
   pub outcomes : (u : ℕ) →
       outcome_at d.units u ≡ outcome_after op.0 r u (outcome_at c.units u)
@@ -160,7 +160,7 @@ pub record Follows (c : Catalogue) (s : State) (xs : List model.Record) : Type 0
       ≡ list_any (λ (d : Definition). bytes_eq d.name n) (run s xs).definitions
   pub errors : c.errors.items ≡ map (λ (d : Definition). d.error) (run s xs).definitions
   pub registrants : (k : ℕ × List ℕ) →
-      is_on c.registrants k ≡ is_registered (run s xs) k.0 k.1
+      is_registered_in c.registrants k ≡ is_registered (run s xs) k.0 k.1
   pub greatest : c.greatest ≡ (run s xs).greatest
   pub outcomes : (u : ℕ) → option_map outcome_of (outcome_at c.units u) ≡ outcome s xs u
   pub units : numbers c.units ≡ s.units ++ begun xs

@@ -13,7 +13,7 @@ use Rattle.rq_record.specs.Views.{version_of}
 use Rattle.rq_record.specs.declared.record.Record.{Record}
 use Rattle.rq_record.specs.declared.record.Record.TheVariants.{Begin, Commit, Abort}
 use Rattle.rq_catalog.specs.declared.judge.Judge.{Judge}
-use Rattle.rq_catalog.specs.Registered.{is_on}
+use Rattle.rq_catalog.specs.Registered.{is_registered_in}
 use Rattle.rq_catalog.specs.Catalogues.{names_after, errors_after, registered_after}
 use Rattle.rq_catalog.specs.Catalogues.{greatest_by}
 
@@ -22,7 +22,7 @@ pub record KnowsState (j : Judge) (s : State) : Type 0 where
   pub names : (n : List ℕ) → contains (pointwise nat_eq) j.names n
       ≡ list_any (λ (d : Definition). bytes_eq d.name n) s.definitions
   pub errors : j.errors.items ≡ map (λ (d : Definition). d.error) s.definitions
-  pub registrants : (k : ℕ × List ℕ) → is_on j.registrants k ≡ is_registered s k.0 k.1
+  pub registrants : (k : ℕ × List ℕ) → is_registered_in j.registrants k ≡ is_registered s k.0 k.1
   pub greatest : j.greatest ≡ s.greatest
   pub units : (u : ℕ) → ordered.contains nat_cmp j.units u ≡ is_open s u
 
@@ -48,7 +48,7 @@ pub record Notes (j k : Judge) (r : Record) : Type 0 where
       ≡ names_after r n (contains (pointwise nat_eq) j.names n)
   pub errors : k.errors.items ≡ errors_after r j.errors.items
   pub registrants : (q : ℕ × List ℕ) →
-      is_on k.registrants q ≡ registered_after r q (is_on j.registrants q)
+      is_registered_in k.registrants q ≡ registered_after r q (is_registered_in j.registrants q)
   pub greatest : k.greatest ≡ greatest_by r j.greatest
   pub units : (u : ℕ) → ordered.contains nat_cmp k.units u
       ≡ open_after r u (ordered.contains nat_cmp j.units u)

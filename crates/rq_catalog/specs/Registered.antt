@@ -9,6 +9,7 @@ use Rattle.std.specs.BTreeSet.{BTreeSet}
 use Rattle.rq_model.specs.Records.{By}
 use Rattle.rq_catalog.specs.declared.registrants.Registrants.{Registrants}
 
+-- the same queue and the same name
 abbrev pub key_eq : ℕ × List ℕ → ℕ × List ℕ → Bool
 key_eq a b = nat_eq a.0 b.0 && pointwise nat_eq a.1 b.1
 
@@ -16,14 +17,15 @@ key_eq a b = nat_eq a.0 b.0 && pointwise nat_eq a.1 b.1
 abbrev pub names_with : List (BTreeSet (List ℕ)) → ℕ → List (List ℕ)
 names_with sets queue = slice_index_or (map (λ (s : BTreeSet (List ℕ)). s.keys) sets) queue []
 
+-- the name is in the set of the queue, by the order in which the set is searched
 abbrev pub is_on_roll : List (BTreeSet (List ℕ)) → ℕ × List ℕ → Bool
 is_on_roll sets k = list_any (is_at (slice_cmp nat_cmp k.1)) (names_with sets k.0)
 
 -- the name is registered with the queue
-abbrev pub is_on : Registrants → ℕ × List ℕ → Bool
-is_on registrants k = is_on_roll registrants.by_queue.items k
+abbrev pub is_registered_in : Registrants → ℕ × List ℕ → Bool
+is_registered_in registrants k = is_on_roll registrants.by_queue.items k
 
 -- nobody is named, or somebody who is registered with the queue
 abbrev pub is_known_in : Registrants → ℕ → Option By → Bool
 is_known_in registrants queue None = true
-is_known_in registrants queue (Some by) = is_on registrants (queue, by.name)
+is_known_in registrants queue (Some by) = is_registered_in registrants (queue, by.name)

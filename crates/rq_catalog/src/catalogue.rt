@@ -63,7 +63,7 @@ impl Catalogue {
                     && !self.names.contains(&name.name())
             }
             Record::Register { queue, .. } => is_defined(&self.errors, queue.0),
-            Record::Deregister { queue, name } => { self.registrants.has(queue.0, &name.name()) }
+            Record::Deregister { queue, name } => self.registrants.has(queue.0, name),
             Record::Begin { unit } => self.greatest < unit.0,
             Record::Enqueue {
                 unit,
@@ -94,11 +94,11 @@ impl Catalogue {
         match next {
             Record::Define { error, name, .. } => self.define(alloc, *error, name.name()),
             Record::Register { queue, name } => {
-                self.registrants.register(queue.0, name.name())?;
+                self.registrants.register(queue.0, &name.name())?;
                 touch(&mut self.touching, queue.0, op)
             }
             Record::Deregister { queue, name } => {
-                self.registrants.deregister(queue.0, &name.name());
+                self.registrants.deregister(queue.0, name);
                 touch(&mut self.touching, queue.0, op)
             }
             Record::Begin { unit } => {

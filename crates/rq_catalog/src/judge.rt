@@ -15,7 +15,7 @@ ghost use Rattle.rq_catalog.specs.Judges.{KnowsState, StandsIn, KeepsStanding, N
 use crate::errors::{is_defined, is_limit, may_kill};
 use crate::registrants::Registrants;
 use indexmap::IndexSet;
-use rq_record::{Fault, KeptBy, Name, QueueNo, Record, Version};
+use rq_record::{Fault, KeptBy, KeptName, Name, QueueNo, Record, Version};
 use std::alloc::Global;
 use std::collections::BTreeSet;
 
@@ -86,7 +86,7 @@ impl Judge {
                     && !self.names.contains(&name.name())
             }
             Record::Register { queue, .. } => self.is_defined(*queue),
-            Record::Deregister { queue, name } => self.is_registered(*queue, &name.name()),
+            Record::Deregister { queue, name } => self.is_registered(*queue, name),
             Record::Begin { unit } => self.greatest < unit.0,
             Record::Enqueue {
                 unit,
@@ -110,7 +110,7 @@ impl Judge {
         is_defined(&self.errors, queue.0)
     }
 
-    fn is_registered(&self, queue: QueueNo, name: &Name) -> bool
+    fn is_registered(&self, queue: QueueNo, name: &KeptName) -> bool
         ensures { (s : State) → KnowsState self.now s
             → result ≡ machine.is_registered s queue.0 name.now }
     {
@@ -153,9 +153,9 @@ impl Judge {
     {
         match next {
             Record::Define { error, name, .. } => self.define(*error, name.name()),
-            Record::Register { queue, name } => { self.registrants.register(queue.0, name.name()) }
+            Record::Register { queue, name } => { self.registrants.register(queue.0, &name.name()) }
             Record::Deregister { queue, name } => {
-                self.registrants.deregister(queue.0, &name.name());
+                self.registrants.deregister(queue.0, name);
                 Ok(())
             }
             Record::Begin { unit } => {

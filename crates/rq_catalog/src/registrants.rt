@@ -2,25 +2,26 @@
 
 ghost use Rattle.std.specs.Prelude.{◌≡◌, ◌<◌, ℕ, List, length, cond, true, false, OnOk, IfErr};
 ghost use Rattle.rq_record.specs.declared.fault.Fault.TheVariants.{Resources};
-ghost use Rattle.rq_catalog.specs.Registered.{key_eq, is_on, is_known_in};
+ghost use Rattle.rq_catalog.specs.Registered.{key_eq, is_registered_in, is_known_in};
 
-use rq_record::{Fault, KeptBy, Name};
+use rq_record::{Fault, KeptBy, KeptName, Name};
 use std::alloc::Global;
 use std::collections::BTreeSet;
 
 /// The names that are registered with each queue, in order, so that one is found by halves. Whoever
 /// writes a log chooses the names, and could choose those that a table of hashes puts into one
-/// place.
+/// place. Where names come in order, a set has room for about twice as many as it holds: so each
+/// takes 16 bytes there, where a `Name` would take 65.
 #[derive(Drop)]
 pub(crate) struct Registrants {
     alloc: Global,
-    by_queue: Vec<BTreeSet<Name>>,
+    by_queue: Vec<BTreeSet<KeptName>>,
 }
 
 impl Registrants {
     /// Nobody.
     pub(crate) fn new(alloc: Global) -> Registrants
-        ensures { (k : ℕ × List ℕ) → is_on result k ≡ false }
+        ensures { (k : ℕ × List ℕ) → is_registered_in result k ≡ false }
     {
         Registrants {
             alloc,
@@ -29,8 +30,8 @@ impl Registrants {
     }
 
     /// Whether the name is registered with the queue.
-    pub(crate) fn has(&self, queue: u32, name: &Name) -> bool
-        ensures { result ≡ is_on self.now (queue, name.now) }
+    pub(crate) fn has(&self, queue: u32, name: &KeptName) -> bool
+        ensures { result ≡ is_registered_in self.now (queue, name.now) }
     {
         match self.by_queue.get(queue as usize) {
             Some(names) => names.contains(name),
@@ -42,16 +43,16 @@ impl Registrants {
     pub(crate) fn knows(&self, queue: u32, by: &KeptBy) -> bool
         ensures { result ≡ is_known_in self.now queue by.now }
     {
-        match by.by() {
-            Some(by) => self.has(queue, &by.name),
+        match by.name() {
+            Some(name) => self.has(queue, name),
             None => true,
         }
     }
 
-    // Makes place for the names of a queue.
+    // Makes a set for each queue up to this one.
     fn reach(&mut self, queue: u32) -> Result<(), Fault>
         ensures reached { OnOk result (queue < length self.new.by_queue.items) }
-        ensures same { (k : ℕ × List ℕ) → is_on self.new k ≡ is_on self.old k }
+        ensures same { (k : ℕ × List ℕ) → is_registered_in self.new k ≡ is_registered_in self.old k }
         ensures refused { IfErr result (λ e. e ≡ Resources) }
     {
         while self.by_queue.len() <= queue as usize {
@@ -61,21 +62,22 @@ impl Registrants {
     }
 
     /// Registers the name with the queue.
-    pub(crate) fn register(&mut self, queue: u32, name: Name) -> Result<(), Fault>
-        ensures registered { OnOk result ((k : ℕ × List ℕ) → is_on self.new k
-            ≡ cond (key_eq (queue, name) k) true (is_on self.old k)) }
+    pub(crate) fn register(&mut self, queue: u32, name: &Name) -> Result<(), Fault>
+        ensures registered { OnOk result ((k : ℕ × List ℕ) → is_registered_in self.new k
+            ≡ cond (key_eq (queue, name.now) k) true (is_registered_in self.old k)) }
         ensures refused { IfErr result (λ e. e ≡ Resources) }
-        ensures kept { IfErr result (λ e. (k : ℕ × List ℕ) → is_on self.new k ≡ is_on self.old k) }
+        ensures kept { IfErr result (λ e. (k : ℕ × List ℕ) → is_registered_in self.new k ≡ is_registered_in self.old k) }
     {
         self.reach(queue)?;
+        let name = KeptName::of(self.alloc, name)?;
         self.by_queue[queue as usize].insert(name)?;
         Ok(())
     }
 
     /// Ends the registration of the name with the queue, where there is one.
-    pub(crate) fn deregister(&mut self, queue: u32, name: &Name)
-        ensures { (k : ℕ × List ℕ) → is_on self.new k
-            ≡ cond (key_eq (queue, name.now) k) false (is_on self.old k) }
+    pub(crate) fn deregister(&mut self, queue: u32, name: &KeptName)
+        ensures { (k : ℕ × List ℕ) → is_registered_in self.new k
+            ≡ cond (key_eq (queue, name.now) k) false (is_registered_in self.old k) }
     {
         if (queue as usize) < self.by_queue.len() {
             self.by_queue[queue as usize].remove(name);

@@ -11,7 +11,7 @@ ghost use Rattle.rq_state.specs.Views.{unit_of};
 ghost use Rattle.rq_catalog.specs.declared.outcome.Outcome.TheVariants.{Open};
 ghost use Rattle.rq_state.specs.Orders.{listed};
 ghost use Rattle.rq_catalog.specs.Catalogues.{Follows};
-ghost use Rattle.rq_catalog.specs.Registered.{is_on};
+ghost use Rattle.rq_catalog.specs.Registered.{is_registered_in};
 ghost use Rattle.rq_catalog.specs.Members.{has_name, has_key, is_marked_at, is_noted_at};
 ghost use Rattle.rq_catalog.specs.Units.{numbers, has_unit, outcome_at, engages_at};
 
@@ -48,12 +48,12 @@ fn errors_of(alloc: Global, definitions: &[Definition]) -> Result<Vec<u32>, Faul
 
 fn registrants_of(alloc: Global, registrants: &[Registrant]) -> Result<Registrants, Fault>
     ensures registered { IfOk result
-        (λ roll. (k : ℕ × List ℕ) → is_on roll k ≡ list_any (has_key k) registrants.now) }
+        (λ roll. (k : ℕ × List ℕ) → is_registered_in roll k ≡ list_any (has_key k) registrants.now) }
     ensures refused { IfErr result (λ e. e ≡ Resources) }
 {
     let mut roll = Registrants::new(alloc);
     for registrant in registrants {
-        roll.register(registrant.queue.0, registrant.name)?;
+        roll.register(registrant.queue.0, &registrant.name)?;
     }
     Ok(roll)
 }

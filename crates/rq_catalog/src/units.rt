@@ -18,7 +18,8 @@ use std::alloc::Global;
 use std::marker::Model;
 use std::mem;
 
-// A unit is looked for among so many that were begun last, before it is among all.
+// Most records name a unit that was begun lately: it is looked for among so many of the last where
+// it can be there, and else among all.
 const RECENT: usize = 64;
 
 /// A unit: its number, what became of it, and the queues that it engaged, while it is open.
@@ -51,7 +52,7 @@ impl Model for Units {
 }
 
 // Where those begin among which the unit is, if it is there at all.
-fn first_of_recent(units: &[Unit], number: u64) -> usize
+fn search_from(units: &[Unit], number: u64) -> usize
     requires { Ordered (λ a b. a < b) (numbers units.now) }
     ensures bound { result ≤ length units.now }
     ensures before { AllByRecursion (λ v. v < number) (numbers (take result units.now)) }
@@ -70,7 +71,7 @@ fn index_of(units: &[Unit], number: u64) -> Option<usize>
         ≡ Some number) }
     ensures none { IfNone result (unit_in units.now number ≡ None) }
 {
-    let first = first_of_recent(units, number);
+    let first = search_from(units, number);
     match units[first..].binary_search_by_key(&number, |unit| unit.number) {
         Ok(index) => Some(first + index),
         Err(_) => None,

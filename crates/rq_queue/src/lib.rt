@@ -2,12 +2,12 @@
 //! other queues give its part after the run and what left it for its error queue.
 #![tactic(auto)]
 
-mod called;
 mod departures;
 mod drawing;
 mod elements;
 mod kept_last;
 mod kept_note;
+mod keys;
 mod moves;
 mod notes;
 mod operations;

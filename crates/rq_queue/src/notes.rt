@@ -9,12 +9,12 @@ ghost use Rattle.rq_queue.specs.Noted.{Rises};
 ghost use Rattle.rq_record.specs.declared.fault.Fault.TheVariants.{Resources};
 ghost use Rattle.rq_state.specs.Views.{kind_of, id_of};
 
-use crate::called::{Called, slim};
 use crate::drawing::{drawn, in_order, without};
 use crate::kept_note::KeptNote;
+use crate::keys::slim;
 use crate::places::{file, unfiled};
 use crate::whose::Whose;
-use rq_record::{ElemId, Fault, KeptBy, Name, QueueNo, UnitNo};
+use rq_record::{ElemId, Fault, KeptBy, KeptName, Name, QueueNo, UnitNo};
 use rq_state::{Last, Note, OpKind};
 use std::alloc::Global;
 use std::collections::BTreeMap;
@@ -27,7 +27,7 @@ use std::marker::Model;
 pub(crate) struct Notes {
     all: BTreeMap<u64, KeptNote>,
     units: BTreeMap<u64, Vec<u64>>,
-    names: BTreeMap<(u32, Called), Vec<u64>>,
+    names: BTreeMap<(u32, KeptName), Vec<u64>>,
 }
 
 impl Model for Notes {

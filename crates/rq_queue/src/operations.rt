@@ -30,14 +30,10 @@ impl Op<'_> {
         self.place
     }
 
+    /// The record.
     pub fn record(&self) -> &Record
         ensures { record_of result.now ≡ self.now.does }
     {
         self.rec
-    }
-
-    /// Whether it aborts a unit.
-    pub(crate) fn is_abort(&self) -> bool {
-        matches!(self.rec, Record::Abort { .. })
     }
 }

@@ -16,13 +16,13 @@ ghost use Rattle.rq_record.specs.declared.fault.Fault.TheVariants.{Resources};
 use crate::moves::Move;
 use crate::operations::Op;
 use crate::part::Part;
-use rq_record::Fault;
+use rq_record::{Fault, Record};
 use std::alloc::Global;
 
 // Of so many operations the records are looked at together.
 const AHEAD: usize = 256;
 
-// Makes room for what ABORTs among the next operations send, once for so many. To look at their
+// Makes room for a move of each ABORT among the next operations, once for so many. To look at their
 // records together also spares waiting: they lie apart in a long log, and a processor asks for many
 // at a time.
 fn make_room(ops: &[Op], done: usize, sent: &mut Vec<Move>) -> Result<(), Fault>
@@ -34,7 +34,9 @@ fn make_room(ops: &[Op], done: usize, sent: &mut Vec<Move>) -> Result<(), Fault>
         return Ok(());
     }
     let next = ops[done..].iter().take(AHEAD);
-    let aborts = next.filter(|op| op.is_abort()).count();
+    let aborts = next
+        .filter(|op| matches!(op.record(), Record::Abort { .. }))
+        .count();
     sent.reserve(aborts)?;
     Ok(())
 }

@@ -8,10 +8,10 @@ ghost use Rattle.rq_model.specs.WellFormed.{Ordered};
 ghost use Rattle.rq_queue.specs.Roll.{registrant_of, heard};
 ghost use Rattle.rq_record.specs.declared.fault.Fault.TheVariants.{Resources};
 
-use crate::called::{Called, slim};
 use crate::kept_last::KeptLast;
 use crate::kept_note::KeptNote;
-use rq_record::{Fault, Name, QueueNo, UnitNo};
+use crate::keys::slim;
+use rq_record::{Fault, KeptName, Name, QueueNo, UnitNo};
 use rq_state::Registrant;
 use std::alloc::Global;
 use std::collections::BTreeMap;
@@ -20,7 +20,7 @@ use std::marker::Model;
 /// The registrants of a queue, by name: the last operation of each.
 #[derive(Drop)]
 pub(crate) struct Registrants {
-    lasts: BTreeMap<(u32, Called), KeptLast>,
+    lasts: BTreeMap<(u32, KeptName), KeptLast>,
 }
 
 impl Model for Registrants {
@@ -168,7 +168,10 @@ fn hear_all(
 }
 
 // The registrants, in order.
-fn listed(alloc: Global, lasts: BTreeMap<(u32, Called), KeptLast>) -> Result<Vec<Registrant>, Fault>
+fn listed(
+    alloc: Global,
+    lasts: BTreeMap<(u32, KeptName), KeptLast>,
+) -> Result<Vec<Registrant>, Fault>
     ensures listed { IfOk result (λ v. v.items ≡ map registrant_of lasts.entries) }
     ensures refused { IfErr result (λ e. e ≡ Resources) }
 {

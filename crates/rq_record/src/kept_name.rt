@@ -1,12 +1,17 @@
 //! A name as a record keeps it.
 
-ghost use Rattle.std.specs.Prelude.{◌≡◌, ◌≤◌, length, IfOk, IfErr, IsOk, IsTrue};
+ghost use Rattle.std.specs.Prelude.{◌≡◌, ◌≤◌, length, IfOk, IfErr, IsOk, IsTrue, refl, nat_eq, Some};
+ghost use Rattle.std.specs.Ordering.{nat_cmp};
+ghost use Rattle.std.specs.Cmp.Lexicographic.{slice_cmp, pointwise, nat_list_eq_equiv};
+ghost use Rattle.std.specs.Cmp.Lexicographic.{nat_list_cmp_total, texts_ties, texts_po};
+ghost use Rattle.std.specs.Cmp.{partial_equiv_from_equiv};
 ghost use Rattle.rq_model.specs.Spelling.{is_name};
 ghost use Rattle.rq_record.specs.declared.fault.Fault.TheVariants.{Resources};
 
 use crate::fault::Fault;
 use crate::name::{LentName, Name, padded, text_of};
 use std::alloc::Global;
+use std::cmp::Ordering;
 use std::marker::Model;
 
 /// A name in 16 bytes, where a `Name` takes 65: a log has many records, and most names are short.
@@ -84,5 +89,44 @@ impl KeptName {
         ensures { result ≡ self.now }
     {
         Name::of_checked(self.bytes())
+    }
+}
+
+impl PartialEq for KeptName {
+    ghost eq = { pointwise nat_eq };
+
+    ghost laws = { partial_equiv_from_equiv nat_list_eq_equiv };
+
+    fn eq(&self, other: &KeptName) -> bool {
+        self.bytes() == other.bytes()
+    }
+}
+
+impl Eq for KeptName {
+    ghost laws = { nat_list_eq_equiv };
+}
+
+impl PartialOrd for KeptName {
+    ghost partial_cmp = { λ x y. Some (slice_cmp nat_cmp x y) };
+
+    ghost laws = { texts_po };
+
+    fn partial_cmp(&self, other: &KeptName) -> Option<Ordering> {
+        Some(self.cmp(other))
+    }
+}
+
+/// Names are in the order of their bytes.
+impl Ord for KeptName {
+    ghost cmp = { slice_cmp nat_cmp };
+
+    ghost total = { nat_list_cmp_total };
+
+    ghost matches_partial_cmp = { λ x y. refl };
+
+    ghost matches_eq = { texts_ties };
+
+    fn cmp(&self, other: &KeptName) -> Ordering {
+        self.bytes().cmp(other.bytes())
     }
 }

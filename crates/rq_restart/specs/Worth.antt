@@ -24,7 +24,7 @@ pub record HangOnUnit (s : State) (unit n : ℕ) : Type 0 where
   pub elements : length (filter (λ e. is_marked unit e.mark) s.elements) ≤ n
   pub notes : length (filter (λ m. m.unit == unit) s.notes) ≤ n
 
--- it is registered once at most, and at most n notes are the registrant's
+-- at most n notes are the registrant's, and it is registered once at most
 pub record HangOnRegistrant (s : State) (key : ℕ × List ℕ) (n : ℕ) : Type 0 where
   pub registrants : length (filter (is_registrant key.0 key.1) s.registrants) ≤ 1
   pub notes : length (filter (is_note_of key.0 key.1) s.notes) ≤ n

@@ -1,5 +1,5 @@
-//! How many records speak for each unit and each registrant: no more members of a state go with
-//! these.
+//! How many records speak for each unit and each registrant: no more units, elements and notes of a
+//! state go with these, beside the registrant itself.
 
 ghost use Rattle.std.specs.Prelude.{◌≡◌, ◌<◌, ◌+◌, ◌^◌, ◌-◌, ℕ, List, cond, nat_eq, OnOk, IfOk};
 ghost use Rattle.std.specs.Prelude.{IfErr};
@@ -41,7 +41,7 @@ impl Tally {
         ensures refused { IfErr result (λ e. e ≡ Resources) }
     {
         match rec {
-            // A registrant goes with its notes.
+            // Beside its notes the registrant itself goes.
             Record::Deregister { queue, name } => Ok(self.forget(queue.0, name.name()) + 1),
             Record::Begin { unit } => {
                 self.count_unit(unit.0)?;

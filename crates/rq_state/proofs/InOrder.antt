@@ -1,15 +1,17 @@
 -- What std's sort leaves is the list with each put in.
 use Rattle.std.proofs.Common.{◌≡◌, ℕ, suc, ◌+◌, ◌<◌, Bool, true, false, List, [], ◌∷◌, length, map}
-use Rattle.std.proofs.Common.{sym, ◌∙◌, subst, arith}
-use Rattle.std.specs.Prelude.{nat_lt, slice_index_or}
+use Rattle.std.proofs.Common.{refl, sym, ◌∙◌, subst, arith}
+use Rattle.std.specs.Prelude.{◌==◌, ◌&&◌, nat_eq, nat_lt, slice_index_or}
 use Rattle.std.specs.List.{AllByRecursion}
 use Rattle.std.specs.List.Sorted.{IsPermutation, IsSortedBy, IsSortedByKey}
-use Rattle.std.specs.Ordering.{is_lt, nat_cmp, ordering_then}
+use Rattle.std.specs.Ordering.{is_lt, is_eq, nat_cmp, ordering_then}
 use Rattle.std.specs.declared.cmp.Ordering.{Ordering}
+use Rattle.std.specs.declared.cmp.Ordering.TheVariants.{Less, Equal, Greater}
 use Rattle.std.specs.Cmp.{IsStrictWeakOrder, IsTotalOrder}
-use Rattle.std.specs.Cmp.Lexicographic.{slice_cmp, nat_list_cmp_total}
+use Rattle.std.specs.Cmp.Lexicographic.{slice_cmp, pointwise, nat_list_cmp_total}
 use Rattle.std.proofs.lemmas.Cmp.{nat_cmp_total, on_total, then_total}
 use Rattle.std.proofs.lemmas.Bool.{lt-ltb}
+use Rattle.std.proofs.lemmas.Map.Text.{is_eq-slice_cmp}
 use Rattle.std.proofs.lemmas.List.Sorted.{sorted_far, ranks_by, IsPermutation-map}
 use Rattle.rq_model.specs.States.{Registrant, registrant_before}
 use Rattle.rq_model.specs.WellFormed.{Ordered}
@@ -92,6 +94,18 @@ key_cmp a b = ordering_then (nat_cmp a.0 b.0) (slice_cmp nat_cmp a.1 b.1)
 
 pub key_total : IsTotalOrder key_cmp
 key_total = then_total (grind arith) (on_total (λ k. k.1) nat_list_cmp_total)
+
+both_equal : (o p : Ordering) → is_eq (ordering_then o p) ≡ (is_eq o && is_eq p)
+both_equal Less p = refl
+both_equal Equal p = refl
+both_equal Greater p = refl
+
+pub equal_numbers : (a b : ℕ) → is_eq (nat_cmp a b) ≡ (a == b)
+equal_numbers a b = grind arith
+
+pub equal_keys : (a b : ℕ × List ℕ) → is_eq (key_cmp a b) ≡ ((a.0 == b.0) && pointwise nat_eq a.1 b.1)
+equal_keys a b = both_equal (nat_cmp a.0 b.0) (slice_cmp nat_cmp a.1 b.1)
+    ∙ (λ i. equal_numbers a.0 b.0 i && is_eq-slice_cmp a.1 b.1 i)
 
 pub is_lt-key_cmp : (a b : Registrant) → is_lt (key_cmp (key_of a) (key_of b)) ≡ registrant_before a b
 is_lt-key_cmp a b = grind arith

@@ -18,7 +18,7 @@ use Rattle.rq_record.specs.declared.record.UnitNo.{UnitNo}
 use Rattle.rq_model.specs.States.{Registrant, is_registrant, registrant_before}
 use Rattle.rq_model.specs.WellFormed.{Ordered}
 use Rattle.rq_state.specs.Views.{unit_of}
-use Rattle.rq_state.proofs.InOrder.{key_of, key_cmp, key_total, ordered_weaker}
+use Rattle.rq_state.proofs.InOrder.{key_of, key_cmp, key_total, equal_keys, ordered_weaker}
 use Rattle.rq_state.proofs.Neighbours.{at_next, ordered_unmap}
 
 found : {X : Type 0} (p : X → Bool) (xs : List X) (i : ℕ) → i < length xs → ((d : X) → p (slice_index_or xs i d) ≡ true)
@@ -59,9 +59,6 @@ any_mapped p f (x ∷ xs) = grind (arith, any_mapped p f xs)
 
 -- Units.
 
-equal_numbers : (x y : ℕ) → is_eq (nat_cmp x y) ≡ (x == y)
-equal_numbers x y = grind arith
-
 pub units_searched : (units : List UnitNo) (unit : ℕ) (r : Result ℕ ℕ) → IsSearchInRange r (length units)
     → IsBinarySearchResult (λ y. nat_cmp (unit_of y) unit) units r
     → Ordered (λ u v. u < v) (map unit_of units) → is_ok r ≡ list_any (λ v. v == unit) (map unit_of units)
@@ -72,15 +69,6 @@ units_searched units unit r range result up =
 
 -- Registrants.
 
-equal_keys : (queue : ℕ) (name : List ℕ) (r : Registrant)
-    → is_eq (key_cmp (key_of r) (queue, name)) ≡ is_registrant queue name r
-equal_keys queue name r = both _ _ ∙ (λ i. equal_numbers r.queue queue i && is_eq-slice_cmp r.name name i)
-  where
-    both : (o p : Ordering) → is_eq (ordering_then o p) ≡ (is_eq o && is_eq p)
-    both Less p = refl
-    both Equal p = refl
-    both Greater p = refl
-
 pub registrants_searched : (registrants : List Registrant) (queue : ℕ) (name : List ℕ) (r : Result ℕ ℕ)
     → IsSearchInRange r (length registrants)
     → IsBinarySearchResult (λ y. key_cmp (key_of y) (queue, name)) registrants r
@@ -88,4 +76,4 @@ pub registrants_searched : (registrants : List Registrant) (queue : ℕ) (name :
     → is_ok r ≡ list_any (is_registrant queue name) registrants
 registrants_searched registrants queue name r range result up =
     searched_by key_of key_cmp key_total _ _ r range result (ordered_weaker _ _ (λ a b h. grind arith) _ up)
-    ∙ any_same _ _ (equal_keys queue name) _
+    ∙ any_same _ _ (λ r. equal_keys (key_of r) (queue, name)) _

@@ -32,6 +32,16 @@ fn names_of_each_length_are_kept(rt: HostRuntime) -> Result<(), Fail> {
 }
 
 #[test]
+fn kept_names_are_in_the_order_of_their_bytes(rt: HostRuntime) -> Result<(), Fail> {
+    let name = Name::new(&[b'a'; 20]).ok_or("name")?;
+    let short = KeptName::of(rt.alloc(), &Name::new(b"ab").ok_or("name")?)?;
+    let long = KeptName::of(rt.alloc(), &name)?;
+    assert!(rt; long < short && short > long && long != short);
+    assert!(rt; long == KeptName::of(rt.alloc(), &name)?);
+    Ok(())
+}
+
+#[test]
 fn payloads_of_each_kind_of_length_are_kept(rt: HostRuntime) -> Result<(), Fail> {
     for length in [0, 1, 22, 23, 65535] {
         let payload = Payload::new(Vec::from_elem(rt.alloc(), b'p', length)?).ok_or("long")?;

@@ -3,7 +3,7 @@ use Rattle.std.specs.Prelude.{option_map}
 use Rattle.std.proofs.lemmas.Bool.{ltb-true}
 use Rattle.rq_catalog.specs.declared.units.Unit.{Unit}
 use Rattle.rq_catalog.proofs.Rising.{all_before, at_index}
-use Rattle.rq_catalog.proofs.units.first_of_recent.Goals as goal
+use Rattle.rq_catalog.proofs.units.search_from.Goals as goal
 
 pub returns-in-Some-clause-before : goal.returns-in-Some-clause-before
 returns-in-Some-clause-before c =
