@@ -179,6 +179,15 @@ def all_queues(n: int) -> Records:
         yield commit(unit)
 
 
+def all_aborted(n: int) -> Records:
+    """Units that take from each of 4,096 queues, which have nothing, and abort."""
+    yield from (define(b"q%d" % queue) for queue in range(4096))
+    for unit in range(1, 1 + n // 4096):
+        yield begin(unit)
+        yield from (dequeue(unit, queue) for queue in range(4096))
+        yield abort(unit)
+
+
 def spread(n: int) -> Records:
     """One unit's elements over 4,096 queues, which stay."""
     yield from (define(b"q%d" % queue) for queue in range(4096))
@@ -524,7 +533,7 @@ def long_names(n: int) -> Records:
 
 
 RESTARTED = [open_units, one_unit, units_in_turn, one_registrant, strangers_go, noted_and_gone, last_go_first]
-RESTARTED += [retried, all_retried, moved, all_moved, all_queues, spread]
+RESTARTED += [retried, all_retried, moved, all_moved, all_queues, all_aborted, spread]
 AUDITED = [true_checkpoints, false_checkpoints, junk_checkpoints, empty_checkpoints, counting_checkpoints, one_told]
 AUDITED += [wide_checkpoints, queues_told, units_told, many_told, own_number, held_by_one, units_between]
 AUDITED += [empty_units_between, true_and_small, others_deregister, registrants, no_unit_told, heavy_below_light]

@@ -1,6 +1,6 @@
 -- The elements of a queue, out of a list: parted, and the map of the Free ones made at once.
 use Rattle.std.proofs.Common.{◌≡◌, ◌≢◌, ℕ, ◌<◌, ◌==◌, Bool, true, false, List, [], ◌∷◌, ◌++◌, refl, sym, ap, ◌∙◌}
-use Rattle.std.proofs.Common.{subst, arith, append_assoc, cond, Some, None, map, length, ◌+◌, ◌-◌, ◌≤◌, ⊎_elim}
+use Rattle.std.proofs.Common.{subst, arith, append_assoc, cond, Some, None, map, length, ◌+◌, ◌-◌, ◌≤◌}
 use Rattle.std.specs.Prelude.{slice_index_or}
 use Rattle.std.specs.BTreeMap.{BTreeMap, IsFromIterResult}
 use Rattle.std.specs.Cmp.{IsEquivalence, IsTotalOrder, nat_cmp_total, on_total, back_total}

@@ -113,6 +113,8 @@ fn redo_in_order(
         done = next;
     }
     let (part, _) = catch_up(alloc, part, ops, done, u64::MAX, &mut sent)?;
+    // What left stands until its receiver comes to it, and most ABORTs send nothing.
+    sent.shrink_to_fit();
     Ok((part, sent))
 }
 
