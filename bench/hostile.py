@@ -1,12 +1,13 @@
 #!/usr/bin/env python3
 """Restarts and audits logs that try to make them take the square of the log's length, each at n and at 2n records.
 
-usage: hostile.py RQ [--records N] [--runs N] [--workers N] [--limit SECONDS] [--folder DIR] [SHAPE ..]
+usage: hostile.py RQ [--records N] [--runs N] [--workers N] [--limit SECONDS] [--folder DIR] [--keep] [SHAPE ..]
 RQ is the built program. Each time is the best of the runs, taken in turn at both lengths and with the peer (peer.rs).
 The bounds: from n to 2n a restart and an audit grow at most 2.6 times; a restart takes at most 4 times as long as the
 peer; an audit at most 3 times as long as a restart of the same log; neither holds more than 6 times the log in memory;
 the report is the peer's. Prints a table and each bound that is missed, and exits with 1 if any is. A run that takes
-longer than the limit is stopped, and counts as the limit.
+longer than the limit is stopped, and counts as the limit. With --keep the logs stay in DIR, and those that stand there
+are taken as they are.
 """
 from __future__ import annotations
 import functools, hashlib, itertools, math, os, struct, sys
@@ -569,7 +570,10 @@ class Tried:
 
     def __init__(self, options, peer: str, name: str, records: int):
         self.log = log = os.path.join(options.folder, f"{name}.{records}")
-        write_log(log, header_of(2 if SHAPES[name] in IN_VERSION_TWO else 1), SHAPES[name](records))
+        if not (options.keep and os.path.exists(log)):
+            # under another name first, so that no part of a log is ever taken for it
+            write_log(log + ".part", header_of(2 if SHAPES[name] in IN_VERSION_TWO else 1), SHAPES[name](records))
+            os.replace(log + ".part", log)
         self.bytes = os.path.getsize(log)
         workers = str(options.workers)
         self.peer = Timed([peer, "restart", log], options.limit)
@@ -590,8 +594,9 @@ def tried(options, peer: str, name: str) -> tuple[Tried, Tried]:
     for _ in range(options.runs):
         small.run()
         large.run()
-    os.remove(small.log)
-    os.remove(large.log)
+    if not options.keep:
+        os.remove(small.log)
+        os.remove(large.log)
     return small, large
 
 
@@ -628,6 +633,7 @@ def main() -> int:
     words.add_argument("--runs", type=int, default=3)
     words.add_argument("--workers", type=int, default=4)
     words.add_argument("--limit", type=float, default=60)
+    words.add_argument("--keep", action="store_true")
     options = parsed(words)
     peer = built_peer(options.folder)
     sizes = f"{options.records} and {2 * options.records} records"
