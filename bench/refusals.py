@@ -3,8 +3,9 @@
 
 usage: refusals.py [CRATE | CRATE/EDIT ..]
 With no words all edits of all crates. The gate tries those of the first folders, which turn what a public function means; those
-of the second one change a function within a crate. Each edit is put into a copy of its crate, and the copy is checked over the work that
-the crate keeps, so check the crates first. An edit is worth its place where a goal of a function that it changes stays open.
+of the second one change a function within a crate, or are second ones of a public function. Each edit is put into a copy of its
+crate, and the copy is checked over the work that the crate keeps, so check the crates first. An edit is worth its place where a
+goal of a function that it changes stays open.
 One that is refused only since a proof file names what the edit took away, or only in another function, shows little of the
 contract; `rt must-fail` counts both as refused.
 """
