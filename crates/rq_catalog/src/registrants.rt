@@ -52,7 +52,8 @@ impl Registrants {
     // Makes a set for each queue up to this one.
     fn reach(&mut self, queue: u32) -> Result<(), Fault>
         ensures reached { OnOk result (queue < length self.new.by_queue.items) }
-        ensures same { (k : ℕ × List ℕ) → is_registered_in self.new k ≡ is_registered_in self.old k }
+        ensures same { (k : ℕ × List ℕ) →
+            is_registered_in self.new k ≡ is_registered_in self.old k }
         ensures refused { IfErr result (λ e. e ≡ Resources) }
     {
         while self.by_queue.len() <= queue as usize {
@@ -66,7 +67,8 @@ impl Registrants {
         ensures registered { OnOk result ((k : ℕ × List ℕ) → is_registered_in self.new k
             ≡ cond (key_eq (queue, name.now) k) true (is_registered_in self.old k)) }
         ensures refused { IfErr result (λ e. e ≡ Resources) }
-        ensures kept { IfErr result (λ e. (k : ℕ × List ℕ) → is_registered_in self.new k ≡ is_registered_in self.old k) }
+        ensures kept { IfErr result (λ e. (k : ℕ × List ℕ) →
+            is_registered_in self.new k ≡ is_registered_in self.old k) }
     {
         self.reach(queue)?;
         let name = KeptName::of(self.alloc, name)?;

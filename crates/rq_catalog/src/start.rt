@@ -48,7 +48,8 @@ fn errors_of(alloc: Global, definitions: &[Definition]) -> Result<Vec<u32>, Faul
 
 fn registrants_of(alloc: Global, registrants: &[Registrant]) -> Result<Registrants, Fault>
     ensures registered { IfOk result
-        (λ roll. (k : ℕ × List ℕ) → is_registered_in roll k ≡ list_any (has_key k) registrants.now) }
+        (λ roll. (k : ℕ × List ℕ) →
+        is_registered_in roll k ≡ list_any (has_key k) registrants.now) }
     ensures refused { IfErr result (λ e. e ≡ Resources) }
 {
     let mut roll = Registrants::new(alloc);

@@ -13,7 +13,7 @@ ghost use Rattle.rq_look.specs.Looks.{IsLog, end_text, front_end_of};
 use crate::frames::{first_frame, stated_length};
 use crate::misfits::misfit_of;
 use crate::rules::{Rule, broken};
-use rq_front::version;
+use rq_front::{FRAME_LEN, version};
 use rq_record::{Fault, Version, decode_in};
 use rq_report::why_word;
 use rq_restart::{FrontEnd, Plan, Restarted, Why, front_end, front_state};
@@ -22,9 +22,6 @@ use sha2::{Digest, Sha256};
 use std::alloc::{AllocError, Global};
 use std::fmt::Write;
 use std::thread::Threads;
-
-// What a frame has besides its body.
-const FRAME_LEN: usize = 36;
 
 /// Where the front of a log ends, and why, in a sentence.
 #[derive(Debug, Drop)]

@@ -4,12 +4,7 @@ ghost use Rattle.std.specs.Prelude.{◌≡◌, ◌+◌, ◌<◌, ◌≤◌, leng
 ghost use Rattle.rq_model.specs.Frames.{stated, body_in};
 
 use byteorder::{BigEndian, ByteOrder};
-
-// The header of a log.
-const HEADER_LEN: u64 = 40;
-
-// A length, and the digest behind the body.
-const FRAME_LEN: usize = 36;
+use rq_front::{FRAME_LEN, HEADER_LEN};
 
 /// A frame: its length and body side by side, the body alone, and its digest.
 #[derive(Clone, Copy, Debug)]
@@ -74,13 +69,13 @@ impl<'a> Walk<'a> {
         ensures { 40 ≤ used → used ≤ length bytes.now
             → (result.rest.now ≡ drop 40 (take used bytes.now)) × (result.number ≡ 0) }
     {
-        let rest = match bytes.get(HEADER_LEN as usize..used as usize) {
+        let rest = match bytes.get(HEADER_LEN..used as usize) {
             Some(rest) => rest,
             None => &[],
         };
         Walk {
             rest,
-            offset: HEADER_LEN,
+            offset: HEADER_LEN as u64,
             number: 0,
         }
     }

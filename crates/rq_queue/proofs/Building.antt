@@ -28,7 +28,7 @@ use Rattle.rq_state.proofs.InOrder.{number_is_order, ordered_weaker}
 use Rattle.rq_state.proofs.Whole.{whole_permuted}
 use Rattle.rq_queue.specs.Kept.{items_of, IsKeyed, Stowed}
 use Rattle.rq_queue.specs.Sorted.{sorted}
-use Rattle.rq_queue.proofs.Doing.{Entry, key_cmp}
+use Rattle.rq_queue.proofs.Doing.{Entry, free_cmp}
 use Rattle.rq_queue.proofs.Known.{equal_rank}
 use Rattle.rq_queue.proofs.Units.{Lists}
 
@@ -72,32 +72,32 @@ marked_more items free rest old new e s taken h =
         (IsPermutation-middle (s.left ++ s.list) e s.right)))
 
 -- keys differ where ids do
-key_total : IsTotalOrder key_cmp
-key_total = then_total (on_total (λ (k : Reverse ℕ × ℕ). k.0.0) (back_total nat_cmp_total))
+free_total : IsTotalOrder free_cmp
+free_total = then_total (on_total (λ (k : Reverse ℕ × ℕ). k.0.0) (back_total nat_cmp_total))
     (on_total (λ (k : Reverse ℕ × ℕ). k.1) nat_cmp_total)
 
-unlike : (x y : Entry) → IsKeyed x → IsKeyed y → x.1.id ≢ y.1.id → eq_by_cmp key_cmp x.0 y.0 ≡ false
-unlike x y j k n = by_cases (eq_by_cmp key_cmp x.0 y.0) (λ b. eq_by_cmp key_cmp x.0 y.0 ≡ b → b ≡ false)
+unlike : (x y : Entry) → IsKeyed x → IsKeyed y → x.1.id ≢ y.1.id → eq_by_cmp free_cmp x.0 y.0 ≡ false
+unlike x y j k n = by_cases (eq_by_cmp free_cmp x.0 y.0) (λ b. eq_by_cmp free_cmp x.0 y.0 ≡ b → b ≡ false)
     (λ _ t. absurd (n (sym (ap (λ (q : Reverse ℕ × ℕ). q.1) j.0)
     ∙ (equal_rank x.0.0.0 x.0.1 y.0.0.0 y.0.1 t).1 ∙ ap (λ (q : Reverse ℕ × ℕ). q.1) k.0))) (λ _ _. refl) refl
 
 distinct_keys : (es : List Entry) → AllByRecursion IsKeyed es → Apart (values_of es)
-    → IsDistinct (eq_by_cmp key_cmp) (keys_of es)
+    → IsDistinct (eq_by_cmp free_cmp) (keys_of es)
 unfolding IsDistinct
 distinct_keys [] keyed apart = tt
 distinct_keys (x ∷ es) keyed apart = (others es keyed.1 apart.0, distinct_keys es keyed.1 apart.1)
   where
     others : (ys : List Entry) → AllByRecursion IsKeyed ys → AllByRecursion (λ y. x.1.id ≢ y.id) (values_of ys)
-        → AllByRecursion (λ k. eq_by_cmp key_cmp x.0 k ≡ false) (keys_of ys)
+        → AllByRecursion (λ k. eq_by_cmp free_cmp x.0 k ≡ false) (keys_of ys)
     others [] k n = tt
     others (y ∷ ys) k n = (unlike x y keyed.0 k.0 n.0, others ys k.1 n.1)
 
 -- entries whose keys differ are those that stand under the same keys, in some order
 abbrev is_same : Reverse ℕ × ℕ → Reverse ℕ × ℕ → Bool
-is_same = eq_by_cmp key_cmp
+is_same = eq_by_cmp free_cmp
 
 same_laws : IsEquivalence is_same
-same_laws = eq_by_cmp_equiv key_total
+same_laws = eq_by_cmp_equiv free_total
 
 one_key : (x y : Reverse ℕ × ℕ) → is_same x y ≡ true → x ≡ y
 one_key x y t = let parts = equal_rank x.0.0 x.1 y.0.0 y.1 t in λ i. (record { 0 = parts.0 i }, parts.1 i)
@@ -157,10 +157,10 @@ same_found (x ∷ xs) fs c d h =
     (pulled k x.1 fs (sym (h k) ∙ lookup_head (is_same k) x xs (same_laws.refl k))))
 
 pub made_of : (es : List Entry) (m : BTreeMap (Reverse ℕ × ℕ) Element) → AllByRecursion IsKeyed es
-    → Apart (values_of es) → IsFromIterResult key_cmp es m → IsPermutation es m.entries
+    → Apart (values_of es) → IsFromIterResult free_cmp es m → IsPermutation es m.entries
 made_of es m keyed apart made =
     let differ = distinct_keys es keyed apart in
-    same_found es m.entries differ (IsDistinct-from_sorted key_cmp (keys_of m.entries) made.1)
+    same_found es m.entries differ (IsDistinct-from_sorted free_cmp (keys_of m.entries) made.1)
     (λ k. sym (made.0 k ∙ update_all_none same_laws is_same (λ _ _. refl) es k differ))
 
 -- ids differ in any order
@@ -234,7 +234,7 @@ all_keyed [] h = tt
 all_keyed (e ∷ es) h = ((refl, h.0), all_keyed es h.1)
 
 pub made_keyed : (es : List Element) (m : BTreeMap (Reverse ℕ × ℕ) Element)
-    → AllByRecursion (λ e. is_free e.mark ≡ true) es → Apart es → IsFromIterResult key_cmp (map with_key es) m
+    → AllByRecursion (λ e. is_free e.mark ≡ true) es → Apart es → IsFromIterResult free_cmp (map with_key es) m
     → AllByRecursion IsKeyed m.entries × IsPermutation es (values_of m.entries)
 made_keyed es m free apart made =
     let ps = map with_key es in

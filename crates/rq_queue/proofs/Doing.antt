@@ -135,14 +135,14 @@ none_best queue all old h units =
     (emptied all h) ∙ ap (option_map (λ (e : Element). e.id)) (no_best queue (items_of old) (none_free queue old units))
 
 -- an arrival
-abbrev pub key_cmp : Reverse ℕ × ℕ → Reverse ℕ × ℕ → Ordering
-key_cmp a b = rank_cmp (a.0.0, a.1) (b.0.0, b.1)
+abbrev pub free_cmp : Reverse ℕ × ℕ → Reverse ℕ × ℕ → Ordering
+free_cmp a b = rank_cmp (a.0.0, a.1) (b.0.0, b.1)
 
 equal_id : (p i q j : ℕ) → rank_cmp (p, i) (q, j) ≡ Equal → i ≡ j
 equal_id p i q j h = grind (arith, nat_tests)
 
 abbrev pub NoKey : Reverse ℕ × ℕ → List Entry → Type 0
-NoKey k es = AllByRecursion (λ x. key_cmp k x.0 ≢ Equal) es
+NoKey k es = AllByRecursion (λ x. free_cmp k x.0 ≢ Equal) es
 
 pub no_key : (p : ℕ) (e : Element) (es : List Entry) → AllByRecursion IsKeyed es
     → AllByRecursion (λ x. e.id ≢ x.id) (values_of es) → NoKey (record { 0 = p }, e.id) es
@@ -162,25 +162,25 @@ before_more e y whole others a =
     }
 
 pub one_in : (k : Reverse ℕ × ℕ) (e : Element) (es : List Entry) → NoKey k es
-    → Among (e ∷ []) (values_of (insert_entry key_cmp es k e)) (values_of es)
+    → Among (e ∷ []) (values_of (insert_entry free_cmp es k e)) (values_of es)
 one_in k e [] h = record { front = []; back = []; whole_is = refl; others_are = refl }
-one_in k e (x ∷ es) h = at (one_in k e es h.1) (key_cmp k x.0) h.0
+one_in k e (x ∷ es) h = at (one_in k e es h.1) (free_cmp k x.0) h.0
   where
-    at : Among (e ∷ []) (values_of (insert_entry key_cmp es k e)) (values_of es) → (o : Ordering) → o ≢ Equal
+    at : Among (e ∷ []) (values_of (insert_entry free_cmp es k e)) (values_of es) → (o : Ordering) → o ≢ Equal
         → Among (e ∷ [])
-        (values_of (match_ordering o ((k, e) ∷ x ∷ es) ((x.0, e) ∷ es) (x ∷ insert_entry key_cmp es k e)))
+        (values_of (match_ordering o ((k, e) ∷ x ∷ es) ((x.0, e) ∷ es) (x ∷ insert_entry free_cmp es k e)))
         (values_of (x ∷ es))
     at later Less n = record { front = []; back = values_of (x ∷ es); whole_is = refl; others_are = refl }
     at later Equal n = absurd (n refl)
-    at later Greater n = before_more e x.1 (values_of (insert_entry key_cmp es k e)) (values_of es) later
+    at later Greater n = before_more e x.1 (values_of (insert_entry free_cmp es k e)) (values_of es) later
 
 pub still_keyed : (k : Reverse ℕ × ℕ) (e : Element) (es : List Entry) → IsKeyed (k, e) → NoKey k es
-    → AllByRecursion IsKeyed es → AllByRecursion IsKeyed (insert_entry key_cmp es k e)
+    → AllByRecursion IsKeyed es → AllByRecursion IsKeyed (insert_entry free_cmp es k e)
 still_keyed k e [] p h a = (p, tt)
-still_keyed k e (x ∷ es) p h a = at (still_keyed k e es p h.1 a.1) (key_cmp k x.0) h.0
+still_keyed k e (x ∷ es) p h a = at (still_keyed k e es p h.1 a.1) (free_cmp k x.0) h.0
   where
-    at : AllByRecursion IsKeyed (insert_entry key_cmp es k e) → (o : Ordering) → o ≢ Equal
-        → AllByRecursion IsKeyed (match_ordering o ((k, e) ∷ x ∷ es) ((x.0, e) ∷ es) (x ∷ insert_entry key_cmp es k e))
+    at : AllByRecursion IsKeyed (insert_entry free_cmp es k e) → (o : Ordering) → o ≢ Equal
+        → AllByRecursion IsKeyed (match_ordering o ((k, e) ∷ x ∷ es) ((x.0, e) ∷ es) (x ∷ insert_entry free_cmp es k e))
     at later Less n = (p, a)
     at later Equal n = absurd (n refl)
     at later Greater n = (a.0, later)

@@ -20,7 +20,7 @@ use Rattle.rq_model.proofs.Steps.{returned_id}
 use Rattle.rq_queue.specs.Kept.{items_of, IsKeyed, IsOfUnit, staying}
 use Rattle.rq_queue.specs.Priorities.{IsKnown, AreKnown, with_all}
 use Rattle.rq_queue.specs.Sorted.{sorted}
-use Rattle.rq_queue.proofs.Doing.{Entry, key_cmp, none_free}
+use Rattle.rq_queue.proofs.Doing.{Entry, free_cmp, none_free}
 use Rattle.rq_queue.proofs.Sorting.{apart_into, each_front, each_put, each_sorted, each_swapped, each_unsorted}
 use Rattle.rq_queue.proofs.Sorting.{filter_sorted}
 use Rattle.rq_queue.proofs.Units.{Lists, same_key}
@@ -173,25 +173,25 @@ none_to_kill id by_id es n h =
     sym (filter_all (λ e. not (e.id == id)) es
     (each_weaker (IsKnown by_id) (λ e. not (e.id == id) ≡ true) (no_such id by_id n) es h))
 
-pub equal_rank : (p i q j : ℕ) → is_eq (key_cmp (record { 0 = p }, i) (record { 0 = q }, j)) ≡ true → (p ≡ q) × (i ≡ j)
+pub equal_rank : (p i q j : ℕ) → is_eq (free_cmp (record { 0 = p }, i) (record { 0 = q }, j)) ≡ true → (p ≡ q) × (i ≡ j)
 equal_rank p i q j h = (grind (arith), grind (arith))
 
 pub one_killed : (id p : ℕ) (by_id : List (ℕ × ℕ)) (es : List Entry) → lookup (is_at (nat_cmp id)) by_id ≡ Some p
     → AllByRecursion IsKeyed es → Apart (values_of es) → AllByRecursion (IsKnown by_id) (values_of es)
-    → values_of (remove_entry (is_at (key_cmp (record { 0 = p }, id))) es)
+    → values_of (remove_entry (is_at (free_cmp (record { 0 = p }, id))) es)
     ≡ filter (λ e. not (e.id == id)) (values_of es)
 one_killed id p by_id [] l keyed apart known = refl
 one_killed id p by_id (x ∷ es) l keyed apart known =
-    by_cases (is_eq (key_cmp (record { 0 = p }, id) x.0))
-    (λ b. is_eq (key_cmp (record { 0 = p }, id) x.0) ≡ b
-    → values_of (cond b es (x ∷ remove_entry (is_at (key_cmp (record { 0 = p }, id))) es))
+    by_cases (is_eq (free_cmp (record { 0 = p }, id) x.0))
+    (λ b. is_eq (free_cmp (record { 0 = p }, id) x.0) ≡ b
+    → values_of (cond b es (x ∷ remove_entry (is_at (free_cmp (record { 0 = p }, id))) es))
     ≡ filter (λ e. not (e.id == id)) (values_of (x ∷ es))) there
     (elsewhere (one_killed id p by_id es l keyed.1 apart.1 known.1)) refl
   where
     left : List Element
     left = filter (λ e. not (e.id == id)) (values_of es)
 
-    there : is_eq (key_cmp (record { 0 = p }, id) x.0) ≡ true → is_eq (key_cmp (record { 0 = p }, id) x.0) ≡ true
+    there : is_eq (free_cmp (record { 0 = p }, id) x.0) ≡ true → is_eq (free_cmp (record { 0 = p }, id) x.0) ≡ true
         → values_of es ≡ filter (λ e. not (e.id == id)) (values_of (x ∷ es))
     there _ t =
         let here : x.1.id ≡ id = ap (λ (k : Reverse ℕ × ℕ). k.1) (sym keyed.0.0)
@@ -202,9 +202,9 @@ one_killed id p by_id (x ∷ es) l keyed apart known =
         (λ e n. by_cases (e.id == id) (λ b. (e.id == id) ≡ b → not b ≡ true)
         (λ _ s. absurd (n (here ∙ sym (eqb-true e.id id s)))) (λ _ _. refl) refl) (values_of es) apart.0))
 
-    elsewhere : values_of (remove_entry (is_at (key_cmp (record { 0 = p }, id))) es) ≡ left
-        → is_eq (key_cmp (record { 0 = p }, id) x.0) ≡ false → is_eq (key_cmp (record { 0 = p }, id) x.0) ≡ false
-        → values_of (x ∷ remove_entry (is_at (key_cmp (record { 0 = p }, id))) es)
+    elsewhere : values_of (remove_entry (is_at (free_cmp (record { 0 = p }, id))) es) ≡ left
+        → is_eq (free_cmp (record { 0 = p }, id) x.0) ≡ false → is_eq (free_cmp (record { 0 = p }, id) x.0) ≡ false
+        → values_of (x ∷ remove_entry (is_at (free_cmp (record { 0 = p }, id))) es)
         ≡ filter (λ e. not (e.id == id)) (values_of (x ∷ es))
     elsewhere later _ f = grind arith
 

@@ -2,7 +2,7 @@
 use Rattle.std.proofs.Common.{◌≡◌, ℕ, Bool, true, false, cond, not, ◌&&◌, ◌||◌, ◌==◌, List, [], ◌∷◌, ◌++◌, Option, Some}
 use Rattle.std.proofs.Common.{None, is_some, map, refl, sym, ap, ◌∙◌, arith, if◌then◌else◌}
 use Rattle.std.specs.List.{filter, list_any, AllByRecursion}
-use Rattle.std.specs.Map.{lookup, remove_entry}
+use Rattle.std.specs.Map.{lookup, remove_entry, set_value}
 use Rattle.std.specs.BTreeMap.{insert_entry, is_at}
 use Rattle.std.specs.Ordering.{is_eq, is_lt, nat_cmp, ordering_reverse}
 use Rattle.std.specs.Cmp.{tied_then}
@@ -18,7 +18,9 @@ use Rattle.rq_model.specs.States.{Last, Note, Registrant, put, registrant_before
 use Rattle.rq_model.specs.Machine.{later, registered, deregistered, told}
 use Rattle.rq_model.specs.WellFormed.{Ordered}
 use Rattle.rq_model.proofs.Lists.{by_cases}
-use Rattle.rq_state.proofs.InOrder.{key_of, key_cmp, key_total, is_lt-key_cmp}
+use Rattle.rq_state.specs.Orders.{key_cmp}
+use Rattle.rq_model.specs.Laws.{registrant_key}
+use Rattle.rq_state.proofs.InOrder.{key_total, is_lt-key_cmp}
 use Rattle.rq_queue.specs.Roll.{RollEntry, registrant_of, IsRoll, heard}
 use Rattle.rq_queue.proofs.Roll.{none_at, any_at, removed, updated, inserted, appended}
 
@@ -38,11 +40,11 @@ reverse_eq Greater = refl
 same_text : (a b : List ℕ) → is_eq (slice_cmp nat_cmp a b) ≡ bytes_eq b a
 same_text a b = ap is_eq (nat_list_cmp_total.antisymm a b) ∙ (reverse_eq (slice_cmp nat_cmp b a) ∙ is_eq-slice_cmp b a)
 
-registrant_is : (k : ℕ × List ℕ) (r : Registrant) → is_eq (key_cmp k (key_of r)) ≡ is_registrant k.0 k.1 r
+registrant_is : (k : ℕ × List ℕ) (r : Registrant) → is_eq (key_cmp k (registrant_key r)) ≡ is_registrant k.0 k.1 r
 registrant_is k r = sym (tied_then (nat_cmp k.0 r.queue) (slice_cmp nat_cmp k.1 r.name))
     ∙ (λ i. same_number k.0 r.queue i && same_text k.1 r.name i)
 
-note_is : (n : Note) (r : Registrant) → is_eq (key_cmp (n.queue, n.name) (key_of r)) ≡ is_note_of r.queue r.name n
+note_is : (n : Note) (r : Registrant) → is_eq (key_cmp (n.queue, n.name) (registrant_key r)) ≡ is_note_of r.queue r.name n
 note_is n r = sym (tied_then (nat_cmp n.queue r.queue) (slice_cmp nat_cmp n.name r.name))
     ∙ (λ i. number_same n.queue r.queue i && is_eq-slice_cmp n.name r.name i)
 
@@ -125,7 +127,7 @@ nobody_hears unit n es h = through es (none_at key_cmp key_total (n.queue, n.nam
 
 pub one_hears : (unit : ℕ) (n : Note) (w : Option Last) (es : List RollEntry) → IsRoll es → (n.unit == unit) ≡ true
     → lookup (is_at (key_cmp (n.queue, n.name))) es ≡ Some w
-    → map registrant_of (insert_entry key_cmp es (n.queue, n.name) (later w n.last))
+    → map registrant_of (set_value (is_at (key_cmp (n.queue, n.name))) es (later w n.last))
     ≡ map (heard unit n) (map registrant_of es)
 one_hears unit n w es up u h = ap (map registrant_of)
     (updated key_cmp key_total (λ l. later l n.last) (n.queue, n.name) w es up h) ∙ through es

@@ -2,7 +2,7 @@
 use Rattle.std.proofs.Common.{◌≡◌, Bool, true, false, cond, not, ◌||◌, List, [], ◌∷◌, ◌++◌, Some, None, is_some, map}
 use Rattle.std.proofs.Common.{refl, sym, ap, ◌∙◌}
 use Rattle.std.specs.List.{filter, list_any, AllByRecursion}
-use Rattle.std.specs.Map.{lookup, remove_entry}
+use Rattle.std.specs.Map.{lookup, remove_entry, set_value}
 use Rattle.std.specs.BTreeMap.{insert_entry, is_at}
 use Rattle.std.specs.Ordering.{match_ordering, is_eq, is_lt, ordering_reverse}
 use Rattle.std.specs.Cmp.{IsTotalOrder}
@@ -98,18 +98,29 @@ module _ {K V : Type 0} (R : K → K → Ordering) (total : IsTotalOrder R) wher
           (λ e n. ap not n) es (none_less k es (behind_equal k x es e h.0))))
       at later Greater e = ap (λ (xs : List (K × V)). x ∷ xs) later
 
+  each_set : (P : K → Type 0) (t : K → Bool) (v : V) (es : List (K × V)) → AllByRecursion (λ (e : K × V). P e.0) es
+      → AllByRecursion (λ (e : K × V). P e.0) (set_value t es v)
+  each_set P t v [] h = tt
+  each_set P t v (x ∷ es) h = by_cases (t x.0)
+      (λ b. AllByRecursion (λ (e : K × V). P e.0) (cond b ((x.0, v) ∷ es) (x ∷ set_value t es v)))
+      (λ _. h) (λ _. (h.0, each_set P t v es h.1))
+
+  pub up_set : (t : K → Bool) (v : V) (es : List (K × V)) → Up es → Up (set_value t es v)
+  up_set t v [] h = tt
+  up_set t v (x ∷ es) h = by_cases (t x.0) (λ b. Up (cond b ((x.0, v) ∷ es) (x ∷ set_value t es v)))
+      (λ _. h) (λ _. (each_set (λ j. R x.0 j ≡ Less) t v es h.0, up_set t v es h.1))
+
   pub updated : (g : V → V) (k : K) (w : V) (es : List (K × V)) → Up es → lookup (is_at (R k)) es ≡ Some w
-      → insert_entry R es k (g w) ≡ map (λ (e : K × V). cond (is_eq (R k e.0)) (e.0, g e.1) e) es
+      → set_value (is_at (R k)) es (g w) ≡ map (λ (e : K × V). cond (is_eq (R k e.0)) (e.0, g e.1) e) es
   updated g k w [] h l = absurd (cc)
   updated g k w (x ∷ es) h l = at (updated g k w es h.1) (R k x.0) refl l
     where
-      at : (lookup (is_at (R k)) es ≡ Some w → insert_entry R es k (g w)
+      at : (lookup (is_at (R k)) es ≡ Some w → set_value (is_at (R k)) es (g w)
           ≡ map (λ (e : K × V). cond (is_eq (R k e.0)) (e.0, g e.1) e) es) → (o : Ordering) → R k x.0 ≡ o
           → cond (is_eq o) (Some x.1) (lookup (is_at (R k)) es) ≡ Some w
-          → match_ordering o ((k, g w) ∷ x ∷ es) ((x.0, g w) ∷ es) (x ∷ insert_entry R es k (g w))
+          → cond (is_eq o) ((x.0, g w) ∷ es) (x ∷ set_value (is_at (R k)) es (g w))
           ≡ cond (is_eq o) (x.0, g x.1) x ∷ map (λ (e : K × V). cond (is_eq (R k e.0)) (e.0, g e.1) e) es
-      at later Less e f = let n : lookup (is_at (R k)) es ≡ None =
-          not_found k es (none_less k es (behind_less k x es e h.0)) in absurd (cc)
+      at later Less e f = ap (λ (xs : List (K × V)). x ∷ xs) (later f)
       at later Equal e f = λ i. (x.0, g (sym (some_is x.1 w f) i))
           ∷ sym (map_all (λ (e : K × V). cond (is_eq (R k e.0)) (e.0, g e.1) e) es
           (each_weaker (λ (e : K × V). is_eq (R k e.0) ≡ false)

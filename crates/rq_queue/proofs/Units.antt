@@ -3,7 +3,7 @@ use Rattle.std.proofs.Common.{◌≡◌, ◌≢◌, ℕ, Bool, true, cond, List,
 use Rattle.std.proofs.Common.{arith, append_assoc}
 use Rattle.std.specs.List.{AllByRecursion}
 use Rattle.std.specs.Global.{Vec}
-use Rattle.std.specs.Map.{lookup, remove_entry}
+use Rattle.std.specs.Map.{lookup, remove_entry, set_value}
 use Rattle.std.specs.BTreeMap.{insert_entry, is_at}
 use Rattle.std.specs.Ordering.{nat_cmp, match_ordering, is_eq}
 use Rattle.std.specs.declared.cmp.Ordering.{Ordering}
@@ -114,6 +114,49 @@ stowed_of k old es list w e out n i =
       after = in_again.whole_is ∙ ap (λ (x : List Element). in_again.front ++ (x ++ in_again.back)) i;
       rest = sym out.others_are ∙ in_again.others_are;
     }
+
+pub stowed_at : (t : ℕ → Bool) (es : Lists) (v w : Vec Element) (e : Element) → lookup t es ≡ Some v
+    → w.items ≡ v.items ++ e ∷ [] → Stowed e es (set_value t es w)
+stowed_at t [] v w e h i = absurd (cc)
+stowed_at t (x ∷ es) v w e h i = by_cases (t x.0)
+    (λ b. cond b (Some x.1) (lookup t es) ≡ Some v → Stowed e (x ∷ es) (cond b ((x.0, w) ∷ es) (x ∷ set_value t es w)))
+    (λ _ k. record {
+      list = v.items;
+      front = [];
+      back = items_of es;
+      left = [];
+      right = items_of es;
+      before = ap (λ (u : Vec Element). u.items ++ items_of es) (value_is x.1 v k);
+      after = ap (λ (xs : List Element). xs ++ items_of es) i;
+      rest = refl;
+    })
+    (λ _ k. behind (stowed_at t es v w e k i)) h
+  where
+    behind : Stowed e es (set_value t es w) → Stowed e (x ∷ es) (x ∷ set_value t es w)
+    behind s = record {
+      list = s.list;
+      front = x.1.items ++ s.front;
+      back = s.back;
+      left = x.1.items ++ s.left;
+      right = s.right;
+      before = ap (λ (xs : List Element). x.1.items ++ xs) s.before
+          ∙ sym (append_assoc x.1.items s.front (s.list ++ s.back));
+      after = ap (λ (xs : List Element). x.1.items ++ xs) s.after
+          ∙ sym (append_assoc x.1.items s.left ((s.list ++ e ∷ []) ++ s.right));
+      rest = append_assoc x.1.items s.front s.back ∙ (ap (λ (xs : List Element). x.1.items ++ xs) s.rest
+          ∙ sym (append_assoc x.1.items s.left s.right));
+    }
+
+pub each_at : (k : ℕ) (es : Lists) (w : Vec Element) → AllByRecursion (λ (x : Element). is_marked k x.mark ≡ true) w.items
+    → AllByRecursion IsOfUnit es → AllByRecursion IsOfUnit (set_value (is_at (nat_cmp k)) es w)
+each_at k [] w p a = tt
+each_at k (x ∷ es) w p a = by_cases (is_eq (nat_cmp k x.0))
+    (λ b. is_eq (nat_cmp k x.0) ≡ b
+    → AllByRecursion IsOfUnit (cond b ((x.0, w) ∷ es) (x ∷ set_value (is_at (nat_cmp k)) es w)))
+    (λ _ t. (
+      subst (λ (n : ℕ). AllByRecursion (λ (x : Element). is_marked n x.mark ≡ true) w.items) (same_key k x.0 t) p,
+      a.1,
+    )) (λ _ t. (a.0, each_at k es w p a.1)) refl
 
 -- what stowing does to the elements by number: `free` are the others
 module _ (law : PutInAnyOrder) (e : Element) (free : List Element) (old new : Lists) (s : Stowed e old new)

@@ -4,7 +4,7 @@ use Rattle.std.specs.declared.cmp.Ordering.TheVariants.{Less}
 use Rattle.rq_model.specs.States.{Last, Note, Registrant, is_note_of}
 use Rattle.rq_model.specs.Machine.{later}
 use Rattle.rq_model.specs.WellFormed.{Ordered}
-use Rattle.rq_state.proofs.InOrder.{key_cmp}
+use Rattle.rq_state.specs.Orders.{key_cmp}
 
 -- a queue and name, with the last operation
 abbrev pub RollEntry : Type 0

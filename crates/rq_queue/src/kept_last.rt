@@ -1,6 +1,6 @@
 //! The last operation of a registrant, as a queue keeps it.
 
-ghost use Rattle.std.specs.Prelude.{◌≡◌, None, IfOk, IfErr};
+ghost use Rattle.std.specs.Prelude.{◌≡◌, None, IfOk, IfErr, OnOk};
 ghost use Rattle.rq_model.specs.Machine as machine;
 ghost use Rattle.rq_record.specs.declared.fault.Fault.TheVariants.{Resources};
 
@@ -57,12 +57,20 @@ impl KeptLast {
         }
     }
 
-    /// Of this operation and another one, that of greater place; at equal places this one. Refused
-    /// with Resources.
-    pub(crate) fn later(&self, alloc: Global, other: &Last) -> Result<KeptLast, Fault>
-        ensures later { IfOk result (λ k. k ≡ machine.later self.now other.now) }
+    /// Hears of another operation: it is the last one then, where its place is greater. Refused with
+    /// Resources.
+    pub(crate) fn hear(&mut self, alloc: Global, other: &Last) -> Result<(), Fault>
+        ensures later { OnOk result (self.new ≡ machine.later self.old other.now) }
         ensures refused { IfErr result (λ e. e ≡ Resources) }
     {
-        KeptLast::of(alloc, Last::later(&self.last(), other))
+        match &mut self.last {
+            None => self.last = Some(Box::new(alloc, other.copied())?),
+            Some(last) => {
+                if last.is_before(other) {
+                    **last = other.copied();
+                }
+            }
+        }
+        Ok(())
     }
 }

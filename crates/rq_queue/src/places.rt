@@ -37,8 +37,13 @@ pub(crate) fn file<K: Ord + Drop>(
         ≡ filed K.cmp k index.entries ++ (if is_eq (K.cmp key k) then place ∷ [] else [])) }
     ensures refused { IfErr result (λ e. e ≡ Resources) }
 {
-    let (mut others, mut places) = unfiled(alloc, index, &key);
+    let mut index = index;
+    if let Some(places) = index.get_mut(&key) {
+        places.push(place)?;
+        return Ok(index);
+    }
+    let mut places = Vec::new(alloc);
     places.push(place)?;
-    others.insert(key, places)?;
-    Ok(others)
+    index.insert(key, places)?;
+    Ok(index)
 }

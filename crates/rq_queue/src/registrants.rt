@@ -125,15 +125,11 @@ impl Registrants {
             return Ok(self);
         }
         let key = slim(alloc, note.key())?;
-        match self.lasts.get(&key) {
-            None => Ok(self),
-            Some(last) => {
-                let last = last.later(alloc, note.last())?;
-                let mut lasts = self.lasts;
-                lasts.insert(key, last)?;
-                Ok(Registrants { lasts })
-            }
+        let mut lasts = self.lasts;
+        if let Some(last) = lasts.get_mut(&key) {
+            last.hear(alloc, note.last())?;
         }
+        Ok(Registrants { lasts })
     }
 
     /// The notes of the unit among these reach the registrants.

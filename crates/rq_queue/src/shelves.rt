@@ -56,14 +56,18 @@ pub(crate) fn stow(
     ensures of_units { IfOk result (λ m. AllByRecursion IsOfUnit m.entries) }
     ensures refused { IfErr result (λ e. e ≡ Resources) }
 {
-    let (mut others, mut list) = taken(alloc, marked, unit);
+    let mut marked = marked;
+    if let Some(list) = marked.get_mut(&unit.0) {
+        list.push(e)?;
+        return Ok(marked);
+    }
     // Most units mark one element of a queue, and a list that grows by itself begins with room for
     // four.
-    let first = usize::from(list.is_empty());
-    list.reserve_exact(first)?;
+    let mut list = Vec::new(alloc);
+    list.reserve_exact(1)?;
     list.push(e)?;
-    others.insert(unit.0, list)?;
-    Ok(others)
+    marked.insert(unit.0, list)?;
+    Ok(marked)
 }
 
 /// Takes those that units mark out of elements, to stand with their units: Free ones are left.

@@ -17,10 +17,12 @@ pub enum Fault {
     /// The bytes do not begin with the header of a log.
     #[error("not a log")]
     NotALog,
-    /// A log would have, or has, more than 4,294,967,295 bytes.
+    /// A log or a script has more than 4,294,967,295 bytes, a log that is made would have them, or
+    /// a front that is kept would have more records. A log that is closed answers `TooLarge`.
     #[error("too long")]
     TooLong,
-    /// The spelling of a state is longer than the 268,435,455 bytes that a checkpoint record holds.
+    /// The spelling of a state is longer than the 268,435,455 bytes that a checkpoint record holds;
+    /// or a log, closed by its tail, would have more than 4,294,967,295 bytes.
     #[error("too large")]
     TooLarge,
     /// The bytes of a checkpoint spell no well-formed state.

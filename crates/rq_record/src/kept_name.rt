@@ -1,6 +1,7 @@
-//! A name as a record keeps it.
+//! A name in 16 bytes: as a record, a note and a map keep it.
 
-ghost use Rattle.std.specs.Prelude.{◌≡◌, ◌≤◌, length, IfOk, IfErr, IsOk, IsTrue, refl, nat_eq, Some};
+ghost use Rattle.std.specs.Prelude.{◌≡◌, ◌≤◌, length, IfOk, IfErr, IsOk, IsTrue, refl, nat_eq};
+ghost use Rattle.std.specs.Prelude.{Some};
 ghost use Rattle.std.specs.Ordering.{nat_cmp};
 ghost use Rattle.std.specs.Cmp.Lexicographic.{slice_cmp, pointwise, nat_list_eq_equiv};
 ghost use Rattle.std.specs.Cmp.Lexicographic.{nat_list_cmp_total, texts_ties, texts_po};
@@ -127,6 +128,7 @@ impl Ord for KeptName {
     ghost matches_eq = { texts_ties };
 
     fn cmp(&self, other: &KeptName) -> Ordering {
-        self.bytes().cmp(other.bytes())
+        // Texts are compared eight bytes at a time, slices byte by byte.
+        self.text().cmp(other.text())
     }
 }

@@ -1,4 +1,4 @@
-//! A payload as a record keeps it.
+//! A payload in 24 bytes: as a record and an element keep it.
 
 ghost use Rattle.std.specs.Prelude.{◌≡◌, ◌<◌, ◌≤◌, ◌↔◌, length, IsSome, IfSome, IfOk, IfErr};
 ghost use Rattle.rq_record.specs.KeptPayloads.{bytes_of};

@@ -76,10 +76,8 @@ pub(crate) fn text_of(name: &[u8]) -> &str
     requires { IsTrue (is_name name.now) }
     ensures { result.now ≡ name.now }
 {
-    match std::str::from_utf8(name) {
-        Ok(text) => text,
-        Err(_) => "",
-    }
+    // The contract says that they are: a test would read them again each time two are compared.
+    unsafe { std::str::from_utf8_unchecked(name) }
 }
 
 impl Name {
@@ -203,7 +201,8 @@ impl Ord for Name {
     ghost matches_eq = { texts_ties };
 
     fn cmp(&self, other: &Name) -> Ordering {
-        self.bytes().cmp(other.bytes())
+        // Texts are compared eight bytes at a time, slices byte by byte.
+        self.text().cmp(other.text())
     }
 }
 

@@ -1,7 +1,8 @@
 -- What a tally has for a registrant after a change of its map.
 use Rattle.std.proofs.Common.{◌≡◌, ℕ, Bool, true, false, cond, List, Option, refl, ap, ◌∙◌}
 use Rattle.std.specs.Ordering.{is_eq}
-use Rattle.rq_state.proofs.InOrder.{key_cmp, equal_keys}
+use Rattle.rq_state.specs.Orders.{key_cmp}
+use Rattle.rq_state.proofs.InOrder.{equal_keys}
 use Rattle.rq_catalog.specs.Registered.{key_eq}
 use Rattle.rq_restart.specs.Worth.{count_of}
 

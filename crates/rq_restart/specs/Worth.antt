@@ -3,7 +3,7 @@ use Rattle.std.specs.Prelude.{◌≡◌, ◌≤◌, ◌+◌, ◌*◌, ◌==◌, 
 use Rattle.std.specs.Prelude.{Option, Some, None}
 use Rattle.std.specs.BTreeMap.{get}
 use Rattle.std.specs.Ordering.{nat_cmp}
-use Rattle.rq_state.proofs.InOrder.{key_cmp}
+use Rattle.rq_state.specs.Orders.{key_cmp}
 use Rattle.rq_model.specs.Records.{By}
 use Rattle.rq_model.specs.States.{State, is_registrant, is_note_of}
 use Rattle.rq_model.specs.Queues.{is_marked}

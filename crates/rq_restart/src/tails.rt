@@ -10,13 +10,12 @@ ghost use Rattle.rq_restart.specs.Tails.{Closes, IsEnding, StaysOpen, Tails};
 
 use crate::framing::{append_frame, before};
 use crate::restarting::whole_front;
+use rq_front::LOG_LIMIT;
 use rq_pool::Plan;
 use rq_record::{Fault, LentLog, Record, UnitNo, encode};
 use std::alloc::Global;
 use std::marker::Sync;
 use std::thread::Threads;
-
-const LOG_LIMIT: usize = 4_294_967_295;
 
 // What the frame of an ABORT has: 36 bytes, and the 9 of its body.
 const ABORT_LEN: usize = 45;

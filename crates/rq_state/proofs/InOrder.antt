@@ -16,7 +16,8 @@ use Rattle.std.proofs.lemmas.List.Sorted.{sorted_far, ranks_by, IsPermutation-ma
 use Rattle.rq_model.specs.States.{Registrant, registrant_before}
 use Rattle.rq_model.specs.WellFormed.{Ordered}
 use Rattle.rq_model.proofs.Lists.{each_weaker}
-use Rattle.rq_state.specs.Orders.{put_in_order}
+use Rattle.rq_model.specs.Laws.{registrant_key}
+use Rattle.rq_state.specs.Orders.{put_in_order, key_cmp}
 use Rattle.rq_state.proofs.Sorts.{sorted_is}
 
 each_at : {X : Type 0} (P : X → Type 0) (d : X) (xs : List X) → ((k : ℕ) → k < length xs → P (slice_index_or xs k d))
@@ -86,12 +87,6 @@ mapped_are n xs ys moved up strict =
 
 -- Registrants, by queue and name.
 
-abbrev pub key_of : Registrant → ℕ × List ℕ
-key_of r = (r.queue, r.name)
-
-abbrev pub key_cmp : ℕ × List ℕ → ℕ × List ℕ → Ordering
-key_cmp a b = ordering_then (nat_cmp a.0 b.0) (slice_cmp nat_cmp a.1 b.1)
-
 pub key_total : IsTotalOrder key_cmp
 key_total = then_total (grind arith) (on_total (λ k. k.1) nat_list_cmp_total)
 
@@ -107,13 +102,13 @@ pub equal_keys : (a b : ℕ × List ℕ) → is_eq (key_cmp a b) ≡ ((a.0 == b.
 equal_keys a b = both_equal (nat_cmp a.0 b.0) (slice_cmp nat_cmp a.1 b.1)
     ∙ (λ i. equal_numbers a.0 b.0 i && is_eq-slice_cmp a.1 b.1 i)
 
-pub is_lt-key_cmp : (a b : Registrant) → is_lt (key_cmp (key_of a) (key_of b)) ≡ registrant_before a b
+pub is_lt-key_cmp : (a b : Registrant) → is_lt (key_cmp (registrant_key a) (registrant_key b)) ≡ registrant_before a b
 is_lt-key_cmp a b = grind arith
 
-pub registrants_are : (xs ys : List Registrant) → IsPermutation xs ys → IsSortedByKey key_of key_cmp ys
+pub registrants_are : (xs ys : List Registrant) → IsPermutation xs ys → IsSortedByKey registrant_key key_cmp ys
     → Ordered (λ a b. registrant_before a b ≡ true) (put_in_order registrant_before xs)
     → ys ≡ put_in_order registrant_before xs
-registrants_are xs ys moved up strict = order_is _ key_of key_cmp key_total is_lt-key_cmp xs ys moved up strict
+registrants_are xs ys moved up strict = order_is _ registrant_key key_cmp key_total is_lt-key_cmp xs ys moved up strict
 
 -- The orders.
 
@@ -125,4 +120,4 @@ pub number_is_order : {X : Type 0} (n : X → ℕ) → IsStrictWeakOrder (λ a b
 number_is_order n = grind arith
 
 pub registrant_is_order : IsStrictWeakOrder registrant_before
-registrant_is_order = order_of _ key_of key_cmp key_total is_lt-key_cmp
+registrant_is_order = order_of _ registrant_key key_cmp key_total is_lt-key_cmp

@@ -18,7 +18,9 @@ use Rattle.rq_record.specs.declared.record.UnitNo.{UnitNo}
 use Rattle.rq_model.specs.States.{Registrant, is_registrant, registrant_before}
 use Rattle.rq_model.specs.WellFormed.{Ordered}
 use Rattle.rq_state.specs.Views.{unit_of}
-use Rattle.rq_state.proofs.InOrder.{key_of, key_cmp, key_total, equal_keys, ordered_weaker}
+use Rattle.rq_model.specs.Laws.{registrant_key}
+use Rattle.rq_state.specs.Orders.{key_cmp}
+use Rattle.rq_state.proofs.InOrder.{key_total, equal_keys, ordered_weaker}
 use Rattle.rq_state.proofs.Neighbours.{at_next, ordered_unmap}
 
 found : {X : Type 0} (p : X → Bool) (xs : List X) (i : ℕ) → i < length xs → ((d : X) → p (slice_index_or xs i d) ≡ true)
@@ -71,9 +73,9 @@ units_searched units unit r range result up =
 
 pub registrants_searched : (registrants : List Registrant) (queue : ℕ) (name : List ℕ) (r : Result ℕ ℕ)
     → IsSearchInRange r (length registrants)
-    → IsBinarySearchResult (λ y. key_cmp (key_of y) (queue, name)) registrants r
+    → IsBinarySearchResult (λ y. key_cmp (registrant_key y) (queue, name)) registrants r
     → Ordered (λ a b. registrant_before a b ≡ true) registrants
     → is_ok r ≡ list_any (is_registrant queue name) registrants
 registrants_searched registrants queue name r range result up =
-    searched_by key_of key_cmp key_total _ _ r range result (ordered_weaker _ _ (λ a b h. grind arith) _ up)
-    ∙ any_same _ _ (λ r. equal_keys (key_of r) (queue, name)) _
+    searched_by registrant_key key_cmp key_total _ _ r range result (ordered_weaker _ _ (λ a b h. grind arith) _ up)
+    ∙ any_same _ _ (λ r. equal_keys (registrant_key r) (queue, name)) _

@@ -2,12 +2,19 @@
 use Rattle.std.specs.Prelude.{ℕ, ◌+◌, nat_lt, Bool, if◌then◌else◌, List, [], ◌∷◌, map}
 use Rattle.std.specs.Prelude.{slice_index_or}
 use Rattle.std.specs.Global.{Vec}
+use Rattle.std.specs.Ordering.{nat_cmp, ordering_then}
+use Rattle.std.specs.declared.cmp.Ordering.{Ordering}
+use Rattle.std.specs.Cmp.Lexicographic.{slice_cmp}
 use Rattle.rq_model.specs.States.{State, Note, put, id_before, registrant_before}
 
 -- each put in, from the last to the first
 abbrev pub put_in_order : {X : Type 0} → (X → X → Bool) → List X → List X
 put_in_order before [] = []
 put_in_order before (x ∷ xs) = put before x (put_in_order before xs)
+
+-- a queue and name before another: by queue, then by the bytes of the name
+abbrev pub key_cmp : ℕ × List ℕ → ℕ × List ℕ → Ordering
+key_cmp a b = ordering_then (nat_cmp a.0 b.0) (slice_cmp nat_cmp a.1 b.1)
 
 abbrev pub place_before : Note → Note → Bool
 place_before a b = nat_lt a.last.place b.last.place

@@ -18,7 +18,9 @@ use Rattle.rq_model.specs.Machine.{later, latest, registered, told}
 use Rattle.rq_model.specs.WellFormed.{Ordered}
 use Rattle.rq_model.proofs.Lists.{by_cases, each_weaker, filter_all, filter_none, map_all}
 use Rattle.rq_model.proofs.Merged.{ordered_map}
-use Rattle.rq_state.proofs.InOrder.{key_of, key_cmp, key_total, is_lt-key_cmp, ordered_weaker}
+use Rattle.rq_state.specs.Orders.{key_cmp}
+use Rattle.rq_model.specs.Laws.{registrant_key}
+use Rattle.rq_state.proofs.InOrder.{key_total, is_lt-key_cmp, ordered_weaker}
 use Rattle.rq_state.proofs.Neighbours.{at_next}
 use Rattle.rq_state.proofs.Searched.{registrants_searched}
 use Rattle.rq_steps.specs.Hearing.{heard_of}
@@ -78,7 +80,7 @@ turned a b o h = key_total.antisymm b a ∙ ap ordering_reverse h
 number_same : (a b : ℕ) → is_eq (nat_cmp a b) ≡ (a == b)
 number_same a b = grind (arith, nat_tests)
 
-note_is : (n : Note) (r : Registrant) → is_eq (key_cmp (n.queue, n.name) (key_of r)) ≡ is_note_of r.queue r.name n
+note_is : (n : Note) (r : Registrant) → is_eq (key_cmp (n.queue, n.name) (registrant_key r)) ≡ is_note_of r.queue r.name n
 note_is n r = sym (tied_then (nat_cmp n.queue r.queue) (slice_cmp nat_cmp n.name r.name))
     ∙ (λ i. number_same n.queue r.queue i && is_eq-slice_cmp n.name r.name i)
 
@@ -86,29 +88,29 @@ abbrev InOrder : List Registrant → Type 0
 InOrder rs = Ordered (λ a b. registrant_before a b ≡ true) rs
 
 -- what a search that finds nothing says of the others
-sides : (k : ℕ × List ℕ) (rs : List Registrant) (i : ℕ) → IsBinarySearchResult (λ y. key_cmp (key_of y) k) rs (Err i)
-    → InOrder rs → IsPartitionPoint (λ y. key_cmp (key_of y) k ≡ Less) (λ y. key_cmp (key_of y) k ≡ Greater) rs i
-sides k rs i result up = result (searchable_from_sorted key_total key_of rs k sorted)
+sides : (k : ℕ × List ℕ) (rs : List Registrant) (i : ℕ) → IsBinarySearchResult (λ y. key_cmp (registrant_key y) k) rs (Err i)
+    → InOrder rs → IsPartitionPoint (λ y. key_cmp (registrant_key y) k ≡ Less) (λ y. key_cmp (registrant_key y) k ≡ Greater) rs i
+sides k rs i result up = result (searchable_from_sorted key_total registrant_key rs k sorted)
   where
-    order : IsStrictWeakOrder (λ x y. is_lt (key_cmp (key_of x) (key_of y)))
-    order = ranks_by key_total key_of
+    order : IsStrictWeakOrder (λ x y. is_lt (key_cmp (registrant_key x) (registrant_key y)))
+    order = ranks_by key_total registrant_key
 
-    sorted : IsSortedBy (λ x y. is_lt (key_cmp (key_of x) (key_of y))) rs
-    sorted = λ k d low lt. at_next (λ x y. is_lt (key_cmp (key_of y) (key_of x)) ≡ false) rs
-        (ordered_weaker (λ a b. registrant_before a b ≡ true) (λ x y. is_lt (key_cmp (key_of y) (key_of x)) ≡ false)
+    sorted : IsSortedBy (λ x y. is_lt (key_cmp (registrant_key x) (registrant_key y))) rs
+    sorted = λ k d low lt. at_next (λ x y. is_lt (key_cmp (registrant_key y) (registrant_key x)) ≡ false) rs
+        (ordered_weaker (λ a b. registrant_before a b ≡ true) (λ x y. is_lt (key_cmp (registrant_key y) (registrant_key x)) ≡ false)
         (λ x y h. order.one_way x y (is_lt-key_cmp x y ∙ h)) rs up) k d lt
 
 -- REGISTER
 
 pub still_registered : (queue : ℕ) (name : List ℕ) (rs : List Registrant) (i : ℕ) → i < length rs
-    → IsBinarySearchResult (λ y. key_cmp (key_of y) (queue, name)) rs (Ok i) → InOrder rs
+    → IsBinarySearchResult (λ y. key_cmp (registrant_key y) (queue, name)) rs (Ok i) → InOrder rs
     → rs ≡ registered queue name rs
 still_registered queue name rs i l result up =
     ap (λ b. if b then rs else put registrant_before (record { queue = queue; name = name; last = None }) rs)
     (registrants_searched rs queue name (Ok i) l result up)
 
 pub newly_registered : (queue : ℕ) (name : List ℕ) (rs : List Registrant) (i : ℕ) → i ≤ length rs
-    → IsBinarySearchResult (λ y. key_cmp (key_of y) (queue, name)) rs (Err i) → InOrder rs
+    → IsBinarySearchResult (λ y. key_cmp (registrant_key y) (queue, name)) rs (Err i) → InOrder rs
     → insert rs i (record { queue = queue; name = name; last = None }) ≡ registered queue name rs
 newly_registered queue name rs i l result up =
     let new : Registrant = record { queue = queue; name = name; last = None } in
@@ -120,63 +122,63 @@ newly_registered queue name rs i l result up =
 
 -- A note.
 
-hears_not : (n : Note) (r : Registrant) → is_eq (key_cmp (n.queue, n.name) (key_of r)) ≡ false → heard_of n r ≡ r
+hears_not : (n : Note) (r : Registrant) → is_eq (key_cmp (n.queue, n.name) (registrant_key r)) ≡ false → heard_of n r ≡ r
 hears_not n r h = ap (λ b. if b then record r { last = later r.last n.last } else r) (sym (note_is n r) ∙ h)
 
 nobody : (n : Note) (rs : List Registrant)
-    → AllByRecursion (λ r. is_eq (key_cmp (n.queue, n.name) (key_of r)) ≡ false) rs → map (heard_of n) rs ≡ rs
+    → AllByRecursion (λ r. is_eq (key_cmp (n.queue, n.name) (registrant_key r)) ≡ false) rs → map (heard_of n) rs ≡ rs
 nobody n rs h = map_all (heard_of n) rs
-    (each_weaker (λ r. is_eq (key_cmp (n.queue, n.name) (key_of r)) ≡ false) (λ r. heard_of n r ≡ r)
+    (each_weaker (λ r. is_eq (key_cmp (n.queue, n.name) (registrant_key r)) ≡ false) (λ r. heard_of n r ≡ r)
     (λ r m. hears_not n r m) rs h)
 
 pub nobody_hears : (n : Note) (rs : List Registrant) (i : ℕ)
-    → IsBinarySearchResult (λ y. key_cmp (key_of y) (n.queue, n.name)) rs (Err i) → InOrder rs
+    → IsBinarySearchResult (λ y. key_cmp (registrant_key y) (n.queue, n.name)) rs (Err i) → InOrder rs
     → rs ≡ map (heard_of n) rs
 nobody_hears n rs i result up =
-    sym (nobody n rs (each_at (λ r. is_eq (key_cmp (n.queue, n.name) (key_of r)) ≡ false) rs (λ k d l. at k d l)))
+    sym (nobody n rs (each_at (λ r. is_eq (key_cmp (n.queue, n.name) (registrant_key r)) ≡ false) rs (λ k d l. at k d l)))
   where
-    both : IsPartitionPoint (λ y. key_cmp (key_of y) (n.queue, n.name) ≡ Less)
-        (λ y. key_cmp (key_of y) (n.queue, n.name) ≡ Greater) rs i
+    both : IsPartitionPoint (λ y. key_cmp (registrant_key y) (n.queue, n.name) ≡ Less)
+        (λ y. key_cmp (registrant_key y) (n.queue, n.name) ≡ Greater) rs i
     both = sides (n.queue, n.name) rs i result up
 
     at : (k : ℕ) (d : Registrant) → k < length rs
-        → is_eq (key_cmp (n.queue, n.name) (key_of (slice_index_or rs k d))) ≡ false
+        → is_eq (key_cmp (n.queue, n.name) (registrant_key (slice_index_or rs k d))) ≡ false
     at k d l = elim (cases_lt k i) [
       | inl below ↦ ap is_eq
-          (turned (key_of (slice_index_or rs k d)) (n.queue, n.name) Less (both.0 k d (omega arith) below))
-      | inr above ↦ ap is_eq (turned (key_of (slice_index_or rs k d)) (n.queue, n.name) Greater (both.1 k d above l))
+          (turned (registrant_key (slice_index_or rs k d)) (n.queue, n.name) Less (both.0 k d (omega arith) below))
+      | inr above ↦ ap is_eq (turned (registrant_key (slice_index_or rs k d)) (n.queue, n.name) Greater (both.1 k d above l))
     ]
 
 pub one_hears : (n : Note) (rs : List Registrant) (i : ℕ) (new : Registrant) → i < length rs
-    → IsBinarySearchResult (λ y. key_cmp (key_of y) (n.queue, n.name)) rs (Ok i) → InOrder rs
+    → IsBinarySearchResult (λ y. key_cmp (registrant_key y) (n.queue, n.name)) rs (Ok i) → InOrder rs
     → ((d : Registrant) → new ≡ record (slice_index_or rs i d) { last = later (slice_index_or rs i d).last n.last })
     → slice_set rs i new ≡ map (heard_of n) rs
 one_hears n [] i new l result up is = let no : ⊥ = omega (arith, l) in absurd no
 one_hears n (x ∷ xs) zero new l result up is =
-    let same : key_cmp (key_of x) (n.queue, n.name) ≡ Equal = result x in
+    let same : key_cmp (registrant_key x) (n.queue, n.name) ≡ Equal = result x in
     let own : is_note_of x.queue x.name n ≡ true =
-    sym (note_is n x) ∙ ap is_eq (turned (key_of x) (n.queue, n.name) Equal same) in
-    let others : AllByRecursion (λ r. is_eq (key_cmp (n.queue, n.name) (key_of r)) ≡ false) xs
-    = each_weaker (λ y. registrant_before x y ≡ true) (λ y. is_eq (key_cmp (n.queue, n.name) (key_of y)) ≡ false)
-    (λ y m. ap is_eq (sym (key_total.congr (key_of x) (n.queue, n.name) (key_of y) same)
-    ∙ is_less (key_cmp (key_of x) (key_of y)) (is_lt-key_cmp x y ∙ m))) xs up.0 in
+    sym (note_is n x) ∙ ap is_eq (turned (registrant_key x) (n.queue, n.name) Equal same) in
+    let others : AllByRecursion (λ r. is_eq (key_cmp (n.queue, n.name) (registrant_key r)) ≡ false) xs
+    = each_weaker (λ y. registrant_before x y ≡ true) (λ y. is_eq (key_cmp (n.queue, n.name) (registrant_key y)) ≡ false)
+    (λ y m. ap is_eq (sym (key_total.congr (registrant_key x) (n.queue, n.name) (registrant_key y) same)
+    ∙ is_less (key_cmp (registrant_key x) (registrant_key y)) (is_lt-key_cmp x y ∙ m))) xs up.0 in
     λ j. (is x ∙ ap (λ b. if b then record x { last = later x.last n.last } else x) (sym own)) j
     ∷ sym (nobody n xs others) j
 one_hears n (x ∷ xs) (suc i) new l result up is =
     let z = slice_index_or xs i x in
     let within : i < length xs = omega (arith, l) in
-    let same : key_cmp (key_of z) (n.queue, n.name) ≡ Equal = result x in
-    let less : key_cmp (key_of x) (key_of z) ≡ Less =
-    is_less (key_cmp (key_of x) (key_of z))
+    let same : key_cmp (registrant_key z) (n.queue, n.name) ≡ Equal = result x in
+    let less : key_cmp (registrant_key x) (registrant_key z) ≡ Less =
+    is_less (key_cmp (registrant_key x) (registrant_key z))
     (is_lt-key_cmp x z ∙ one_of (λ y. registrant_before x y ≡ true) xs i x within up.0) in
-    let other : is_eq (key_cmp (n.queue, n.name) (key_of x)) ≡ false =
-    ap is_eq (sym (key_total.congr (key_of z) (n.queue, n.name) (key_of x) same)
-    ∙ turned (key_of x) (key_of z) Less less) in
+    let other : is_eq (key_cmp (n.queue, n.name) (registrant_key x)) ≡ false =
+    ap is_eq (sym (key_total.congr (registrant_key z) (n.queue, n.name) (registrant_key x) same)
+    ∙ turned (registrant_key x) (registrant_key z) Less less) in
     λ j. sym (hears_not n x other) j ∷ one_hears n xs i new within (λ d. result d) up.1 (λ d. is d) j
 
-same_key : (n : Note) (r : Registrant) → key_of (heard_of n r) ≡ key_of r
+same_key : (n : Note) (r : Registrant) → registrant_key (heard_of n r) ≡ registrant_key r
 same_key n r = by_cases (is_note_of r.queue r.name n)
-    (λ b. key_of (if b then record r { last = later r.last n.last } else r) ≡ key_of r) (λ _. refl) (λ _. refl)
+    (λ b. registrant_key (if b then record r { last = later r.last n.last } else r) ≡ registrant_key r) (λ _. refl) (λ _. refl)
 
 -- they stay in order
 pub in_order_still : (n : Note) (rs : List Registrant) → InOrder rs → InOrder (map (heard_of n) rs)

@@ -10,19 +10,13 @@ ghost use Rattle.rq_tool.specs.Headline.{IsBeforeWriting, RestartsRead};
 ghost use Rattle.rq_tool.specs.Streams.{CountsTaken, IsOneOf, IsUnread, ReadFaults, ReadsAll};
 ghost use Rattle.rq_tool.specs.Streams.{ReadsOn, TakesInput, TakesSome};
 
-use rq_front::version;
+use rq_front::{HEADER_LEN, LOG_LIMIT, version};
 use rq_report::Input;
 use rq_restart::Fault;
 use std::alloc::Global;
 
-// The most bytes that a log has.
-const LOG_LIMIT: usize = 4_294_967_295;
-
-// One more: so many are read to know that they are too many.
+// One byte more than a log has at most: so many are read to know that they are too many.
 const READ_LIMIT: usize = LOG_LIMIT + 1;
-
-// The bytes of a header.
-const HEADER_LEN: usize = 40;
 
 // Room for one read.
 fn room(alloc: Global) -> Result<Vec<u8>, Fault>

@@ -4,14 +4,14 @@ use Rattle.std.specs.List.{AllByRecursion}
 use Rattle.std.specs.Option.{option_copied}
 use Rattle.std.specs.Map.{values_of}
 use Rattle.rq_queue.specs.Kept.{IsKeyed}
-use Rattle.rq_queue.proofs.Doing.{key_cmp}
+use Rattle.rq_queue.proofs.Doing.{free_cmp}
 use Rattle.rq_queue.proofs.Known.{none_to_kill, one_killed}
 use Rattle.rq_queue.proofs.Units.{each_left}
 use Rattle.rq_queue.proofs.priorities.without.Goals as goal
 
 pub returns-in-Some-clause-keyed : goal.returns-in-Some-clause-keyed
 returns-in-Some-clause-keyed c = subst (AllByRecursion IsKeyed) (sym c.remove.ensures.entries)
-    (each_left IsKeyed (is_at (key_cmp (record { 0 = c.in-Some.priority.now }, c.args.id.0))) c.args.free.entries
+    (each_left IsKeyed (is_at (free_cmp (record { 0 = c.in-Some.priority.now }, c.args.id.0))) c.args.free.entries
     c.requires.keyed)
 
 pub returns-in-Some-clause-others : goal.returns-in-Some-clause-others

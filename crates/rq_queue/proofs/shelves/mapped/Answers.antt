@@ -5,13 +5,13 @@ use Rattle.std.proofs.lemmas.Iterator.Adapters.{YieldsList-from_vec, fact_from_c
 use Rattle.std.proofs.lemmas.Iterator.Consumers.{YieldsList-at}
 use Rattle.std.proofs.lemmas.Result.{IfOk-at_ok}
 use Rattle.rq_queue.proofs.Building.{made_keyed, with_key}
-use Rattle.rq_queue.proofs.Doing.{key_cmp}
+use Rattle.rq_queue.proofs.Doing.{free_cmp}
 use Rattle.rq_queue.proofs.shelves.mapped.Goals as goal
 
 pub returns-clause-made : goal.returns-clause-made
 returns-clause-made c =
-    let made = IfOk-at_ok (IsFromIterResult key_cmp (map with_key c.args.list.items)) c.in_ok-free.was
-    (fact_from_collect (IsFromIterResult key_cmp) c.collect.result c.collect.ensures.ran
+    let made = IfOk-at_ok (IsFromIterResult free_cmp (map with_key c.args.list.items)) c.in_ok-free.was
+    (fact_from_collect (IsFromIterResult free_cmp) c.collect.result c.collect.ensures.ran
     (YieldsList-from_map _ with_key (YieldsList-at c.map-keyed.ensures.source
     (YieldsList-from_vec {s = c.into_iter.result} c.args.list.items (search rules) (search rules)))
     c.map-keyed.ensures.closure (λ x r q k. search rules))) in

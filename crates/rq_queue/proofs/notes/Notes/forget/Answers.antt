@@ -4,7 +4,8 @@ use Rattle.std.specs.Ordering.{is_eq}
 use Rattle.rq_model.specs.Machine.{unnoted}
 use Rattle.rq_model.specs.States.{Note, is_note_of}
 use Rattle.rq_model.proofs.Lists.{each_filter}
-use Rattle.rq_state.proofs.InOrder.{key_cmp, key_total}
+use Rattle.rq_state.specs.Orders.{key_cmp}
+use Rattle.rq_state.proofs.InOrder.{key_total}
 use Rattle.rq_queue.specs.Noted.{NoteEntry, AreKept, filed, left}
 use Rattle.rq_queue.specs.declared.whose.Whose.TheVariants.{OfRegistrant}
 use Rattle.rq_queue.proofs.Noting.{all_filed, others_filed, left_all, values_left, filtered_by_place}

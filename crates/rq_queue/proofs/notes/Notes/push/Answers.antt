@@ -5,7 +5,8 @@ use Rattle.std.specs.Map.{values_of}
 use Rattle.std.specs.Ordering.{nat_cmp}
 use Rattle.std.proofs.lemmas.Cmp.{nat_cmp_total}
 use Rattle.rq_model.specs.States.{Note}
-use Rattle.rq_state.proofs.InOrder.{key_cmp, key_total}
+use Rattle.rq_state.specs.Orders.{key_cmp}
+use Rattle.rq_state.proofs.InOrder.{key_total}
 use Rattle.rq_queue.specs.Noted.{NoteEntry, AreKept}
 use Rattle.rq_queue.proofs.Noting.{added_last, values_last, last_by_place, filed_last}
 use Rattle.rq_queue.proofs.notes.Notes.push.Goals as goal

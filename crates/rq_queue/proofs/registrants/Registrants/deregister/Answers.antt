@@ -1,7 +1,8 @@
 use Rattle.std.proofs.Common.{sym, ap, ◌∙◌, subst, map, ℕ, List}
 use Rattle.rq_model.specs.Machine.{deregistered}
 use Rattle.rq_model.proofs.Merged.{ordered_filter}
-use Rattle.rq_state.proofs.InOrder.{key_cmp, key_total}
+use Rattle.rq_state.specs.Orders.{key_cmp}
+use Rattle.rq_state.proofs.InOrder.{key_total}
 use Rattle.rq_queue.specs.Roll.{registrant_of, IsRoll}
 use Rattle.rq_queue.proofs.Roll.{removed}
 use Rattle.rq_queue.proofs.Registered.{deregistered_then}

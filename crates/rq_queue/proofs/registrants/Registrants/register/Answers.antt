@@ -2,7 +2,8 @@ use Rattle.std.proofs.Common.{sym, ap, ◌∙◌, subst, ℕ, List, Option}
 use Rattle.std.specs.BTreeMap.{insert_entry}
 use Rattle.rq_model.specs.Machine.{registered}
 use Rattle.rq_model.specs.States.{Last}
-use Rattle.rq_state.proofs.InOrder.{key_cmp, key_total}
+use Rattle.rq_state.specs.Orders.{key_cmp}
+use Rattle.rq_state.proofs.InOrder.{key_total}
 use Rattle.rq_queue.specs.Roll.{registrant_of, IsRoll}
 use Rattle.rq_queue.proofs.Roll.{up_inserted}
 use Rattle.rq_queue.proofs.Registered.{still_registered, newly_registered}
