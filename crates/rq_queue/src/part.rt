@@ -9,7 +9,6 @@ ghost use Rattle.rq_model.specs.Ready.{IsReady};
 ghost use Rattle.rq_model.specs.Redo as redo_words;
 ghost use Rattle.rq_model.specs.States as states;
 ghost use Rattle.rq_queue.specs.Pouring.{Grows};
-ghost use Rattle.rq_record.specs.Views.{record_of};
 ghost use Rattle.rq_record.specs.declared.fault.Fault.TheVariants.{Resources};
 
 use crate::elements::Elements;
@@ -21,6 +20,7 @@ use rq_record::{ElemId, Fault, KeptBy, KeptPayload, Name, QueueNo, Record, UnitN
 use rq_state::{Definition, Fields, OpKind, State};
 use std::alloc::Global;
 use std::marker::Model;
+use std::mem::replace;
 
 /// What belongs to one queue: its definition, elements, registrants, and notes of open units.
 #[derive(Drop)]
@@ -124,18 +124,19 @@ impl Part {
     }
 
     /// Puts in what arrives.
-    pub(crate) fn receive(mut self, alloc: Global, arrival: Move) -> Result<Part, Fault>
+    pub(crate) fn receive(&mut self, alloc: Global, arrival: Move) -> Result<(), Fault>
         requires new { AllByRecursion
-            (λ (e : states.Element). e.id ≢ arrival.element.id) self.elements }
-        ensures part { IfOk result (λ p. p ≡ redo_words.receive (arrival ∷ []) self) }
+            (λ (e : states.Element). e.id ≢ arrival.element.id) self.old.elements }
+        ensures part { OnOk result (self.new ≡ redo_words.receive (arrival ∷ []) self.old) }
         ensures refused { IfErr result (λ e. e ≡ Resources) }
     {
-        self.elements = self.elements.put(alloc, arrival.element)?;
-        Ok(self)
+        let elements = replace(&mut self.elements, Elements::none(alloc));
+        self.elements = elements.put(alloc, arrival.element)?;
+        Ok(())
     }
 
     fn enqueue(
-        mut self,
+        &mut self,
         alloc: Global,
         place: u64,
         unit: UnitNo,
@@ -143,134 +144,130 @@ impl Part {
         priority: u8,
         by: &KeptBy,
         payload: &KeptPayload,
-    ) -> Result<Part, Fault>
-        requires older { AllByRecursion (λ (e : states.Element). e.id < place) self.elements }
-        requires notes { AllByRecursion (λ (n : states.Note). n.last.place < place) self.notes }
-        ensures done { IfOk result (λ p. p ≡ redo_words.act place
-            (records.Enqueue unit.0 queue.0 priority by.now payload.now) self) }
+    ) -> Result<(), Fault>
+        requires older { AllByRecursion (λ (e : states.Element). e.id < place) self.old.elements }
+        requires notes { AllByRecursion
+            (λ (n : states.Note). n.last.place < place) self.old.notes }
+        ensures done { OnOk result (self.new ≡ redo_words.act place
+            (records.Enqueue unit.0 queue.0 priority by.now payload.now) self.old) }
         ensures refused { IfErr result (λ e. e ≡ Resources) }
     {
         let id = Some(ElemId(place));
-        self.elements = self
-            .elements
-            .add(alloc, place, unit, queue, priority, payload)?;
-        self.notes = self
-            .notes
-            .note(alloc, place, unit, queue, by, OpKind::Enqueue, id)?;
-        Ok(self)
+        let elements = replace(&mut self.elements, Elements::none(alloc));
+        self.elements = elements.add(alloc, place, unit, queue, priority, payload)?;
+        let notes = replace(&mut self.notes, Notes::none(alloc));
+        self.notes = notes.note(alloc, place, unit, queue, by, OpKind::Enqueue, id)?;
+        Ok(())
     }
 
     fn dequeue(
-        mut self,
+        &mut self,
         alloc: Global,
         place: u64,
         unit: UnitNo,
         queue: QueueNo,
         by: &KeptBy,
-    ) -> Result<Part, Fault>
-        requires homes { AllByRecursion (λ (e : states.Element). e.home ≡ queue.0) self.elements }
-        requires notes { AllByRecursion (λ (n : states.Note). n.last.place < place) self.notes }
-        ensures done { IfOk result
-            (λ p. p ≡ redo_words.act place (records.Dequeue unit.0 queue.0 by.now) self) }
+    ) -> Result<(), Fault>
+        requires homes { AllByRecursion
+            (λ (e : states.Element). e.home ≡ queue.0) self.old.elements }
+        requires notes { AllByRecursion
+            (λ (n : states.Note). n.last.place < place) self.old.notes }
+        ensures done { OnOk result
+            (self.new ≡ redo_words.act place (records.Dequeue unit.0 queue.0 by.now) self.old) }
         ensures refused { IfErr result (λ e. e ≡ Resources) }
     {
-        let (elements, id) = self.elements.hold_best(alloc, unit, queue)?;
+        let elements = replace(&mut self.elements, Elements::none(alloc));
+        let (elements, id) = elements.hold_best(alloc, unit, queue)?;
         self.elements = elements;
-        self.notes = self
-            .notes
-            .note(alloc, place, unit, queue, by, OpKind::Dequeue, id)?;
-        Ok(self)
+        let notes = replace(&mut self.notes, Notes::none(alloc));
+        self.notes = notes.note(alloc, place, unit, queue, by, OpKind::Dequeue, id)?;
+        Ok(())
     }
 
-    fn commit(mut self, alloc: Global, unit: UnitNo) -> Result<Part, Fault>
-        ensures done { IfOk result (λ p. p ≡ redo_words.act 0 (records.Commit unit.0) self) }
+    fn commit(&mut self, alloc: Global, unit: UnitNo) -> Result<(), Fault>
+        ensures done { OnOk result
+            (self.new ≡ redo_words.act 0 (records.Commit unit.0) self.old) }
         ensures refused { IfErr result (λ e. e ≡ Resources) }
     {
-        let (notes, heard) = self.notes.take(alloc, unit)?;
+        let notes = replace(&mut self.notes, Notes::none(alloc));
+        let (notes, heard) = notes.take(alloc, unit)?;
         self.notes = notes;
-        self.registrants = self.registrants.hear(alloc, unit, &heard)?;
-        self.elements = self.elements.commit(alloc, unit)?;
-        Ok(self)
+        let registrants = replace(&mut self.registrants, Registrants::none(alloc));
+        self.registrants = registrants.hear(alloc, unit, &heard)?;
+        let elements = replace(&mut self.elements, Elements::none(alloc));
+        self.elements = elements.commit(alloc, unit)?;
+        Ok(())
     }
 
     fn abort(
-        mut self,
+        &mut self,
         alloc: Global,
         place: u64,
         unit: UnitNo,
         sent: &mut Vec<Move>,
-    ) -> Result<Part, Fault>
+    ) -> Result<(), Fault>
         requires room { AllByRecursion
-            (λ (e : states.Element). e.attempts + 1 < 2 ^ 64) self.elements }
-        ensures part { IfOk result (λ p. p ≡ redo_words.act place (records.Abort unit.0) self) }
-        ensures sent { OnOk result
-            (sent.new.items ≡ sent.old.items ++ redo_words.sent place (records.Abort unit.0) self) }
+            (λ (e : states.Element). e.attempts + 1 < 2 ^ 64) self.old.elements }
+        ensures part { OnOk result
+            (self.new ≡ redo_words.act place (records.Abort unit.0) self.old) }
+        ensures sent { OnOk result (sent.new.items
+            ≡ sent.old.items ++ redo_words.sent place (records.Abort unit.0) self.old) }
         ensures refused { IfErr result (λ e. e ≡ Resources) }
     {
-        self.elements = self
-            .elements
-            .abort(alloc, place, unit, &self.definition, sent)?;
-        let (notes, _) = self.notes.take(alloc, unit)?;
+        let elements = replace(&mut self.elements, Elements::none(alloc));
+        self.elements = elements.abort(alloc, place, unit, &self.definition, sent)?;
+        let notes = replace(&mut self.notes, Notes::none(alloc));
+        let (notes, _) = notes.take(alloc, unit)?;
         self.notes = notes;
-        Ok(self)
+        Ok(())
     }
 
-    fn register(mut self, alloc: Global, queue: QueueNo, name: &Name) -> Result<Part, Fault>
-        ensures done { IfOk result
-            (λ p. p ≡ redo_words.act 0 (records.Register queue.0 name.now) self) }
+    fn register(&mut self, alloc: Global, queue: QueueNo, name: &Name) -> Result<(), Fault>
+        ensures done { OnOk result
+            (self.new ≡ redo_words.act 0 (records.Register queue.0 name.now) self.old) }
         ensures refused { IfErr result (λ e. e ≡ Resources) }
     {
-        self.registrants = self.registrants.register(alloc, queue, name)?;
-        Ok(self)
+        let registrants = replace(&mut self.registrants, Registrants::none(alloc));
+        self.registrants = registrants.register(alloc, queue, name)?;
+        Ok(())
     }
 
-    fn deregister(mut self, alloc: Global, queue: QueueNo, name: &Name) -> Result<Part, Fault>
-        ensures done { IfOk result
-            (λ p. p ≡ redo_words.act 0 (records.Deregister queue.0 name.now) self) }
+    fn deregister(&mut self, alloc: Global, queue: QueueNo, name: &Name) -> Result<(), Fault>
+        ensures done { OnOk result
+            (self.new ≡ redo_words.act 0 (records.Deregister queue.0 name.now) self.old) }
         ensures refused { IfErr result (λ e. e ≡ Resources) }
     {
-        self.registrants = self.registrants.deregister(alloc, queue, name)?;
-        self.notes = self.notes.forget(alloc, queue, name)?;
-        Ok(self)
+        let registrants = replace(&mut self.registrants, Registrants::none(alloc));
+        self.registrants = registrants.deregister(alloc, queue, name)?;
+        let notes = replace(&mut self.notes, Notes::none(alloc));
+        self.notes = notes.forget(alloc, queue, name)?;
+        Ok(())
     }
 
-    fn kill(mut self, alloc: Global, queue: QueueNo, element: ElemId) -> Result<Part, Fault>
-        requires homes { AllByRecursion (λ (e : states.Element). e.home ≡ queue.0) self.elements }
-        ensures done { IfOk result
-            (λ p. p ≡ redo_words.act 0 (records.Kill queue.0 element.0) self) }
+    fn kill(&mut self, alloc: Global, queue: QueueNo, element: ElemId) -> Result<(), Fault>
+        requires homes { AllByRecursion
+            (λ (e : states.Element). e.home ≡ queue.0) self.old.elements }
+        ensures done { OnOk result
+            (self.new ≡ redo_words.act 0 (records.Kill queue.0 element.0) self.old) }
         ensures refused { IfErr result (λ e. e ≡ Resources) }
     {
-        self.elements = self.elements.kill(alloc, queue, element)?;
-        Ok(self)
+        let elements = replace(&mut self.elements, Elements::none(alloc));
+        self.elements = elements.kill(alloc, queue, element)?;
+        Ok(())
     }
 
-    /// Does one operation of the queue.
-    pub(crate) fn act(self, alloc: Global, op: &Op, sent: &mut Vec<Move>) -> Result<Part, Fault>
-        requires ready { IsReady op.now.place op.now.does self }
-        ensures part { IfOk result (λ p. p ≡ redo_words.act op.now.place op.now.does self) }
-        ensures sent { OnOk result
-            (sent.new.items ≡ sent.old.items ++ redo_words.sent op.now.place op.now.does self) }
+    /// Does one operation of the queue. A part that refuses is of no more use.
+    pub(crate) fn act(&mut self, alloc: Global, op: &Op, sent: &mut Vec<Move>) -> Result<(), Fault>
+        requires ready { IsReady op.now.place op.now.does self.old }
+        ensures part { OnOk result
+            (self.new ≡ redo_words.act op.now.place op.now.does self.old) }
+        ensures sent { OnOk result (sent.new.items
+            ≡ sent.old.items ++ redo_words.sent op.now.place op.now.does self.old) }
         ensures refused { IfErr result (λ e. e ≡ Resources) }
     {
-        self.follow(alloc, op.place(), op.record(), sent)
-    }
-
-    // Does what a record says, at a place.
-    fn follow(
-        self,
-        alloc: Global,
-        place: u64,
-        rec: &Record,
-        sent: &mut Vec<Move>,
-    ) -> Result<Part, Fault>
-        requires ready { IsReady place (record_of rec.now) self }
-        ensures part { IfOk result (λ p. p ≡ redo_words.act place (record_of rec.now) self) }
-        ensures sent { OnOk result
-            (sent.new.items ≡ sent.old.items ++ redo_words.sent place (record_of rec.now) self) }
-        ensures refused { IfErr result (λ e. e ≡ Resources) }
-    {
-        match rec {
-            Record::Define { .. } | Record::Begin { .. } | Record::Checkpoint { .. } => Ok(self),
+        let place = op.place();
+        match op.record() {
+            Record::Define { .. } | Record::Begin { .. } | Record::Checkpoint { .. } => Ok(()),
             Record::Register { queue, name } => self.register(alloc, *queue, &name.name()),
             Record::Deregister { queue, name } => self.deregister(alloc, *queue, &name.name()),
             Record::Enqueue {

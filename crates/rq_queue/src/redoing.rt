@@ -45,46 +45,45 @@ fn make_room(ops: &[Op], done: usize, sent: &mut Vec<Move>) -> Result<(), Fault>
 // many are done then.
 fn catch_up(
     alloc: Global,
-    part: Part,
+    part: &mut Part,
     ops: &[Op],
     from: usize,
     until: u64,
     sent: &mut Vec<Move>,
-) -> Result<(Part, usize), Fault>
+) -> Result<usize, Fault>
     requires bound { from ≤ length ops.now }
     requires well { (ms : List queues.Move) × AllByRecursion (λ m. until ≤ m.place) ms
-        × GoesWell part (drop from ops.now) ms }
-    ensures bound { IfOk result (λ r. r.1 ≤ length ops.now) }
+        × GoesWell part.old (drop from ops.now) ms }
+    ensures bound { IfOk result (λ next. next ≤ length ops.now) }
     ensures well { IfOk result
-        (λ r. (ms : List queues.Move) → AllByRecursion (λ m. until ≤ m.place) ms
-        → GoesWell part (drop from ops.now) ms → GoesWell r.0 (drop r.1 ops.now) ms) }
+        (λ next. (ms : List queues.Move) → AllByRecursion (λ m. until ≤ m.place) ms
+        → GoesWell part.old (drop from ops.now) ms → GoesWell part.new (drop next ops.now) ms) }
     ensures redone { IfOk result
-        (λ r. (ms : List queues.Move) → AllByRecursion (λ m. until ≤ m.place) ms
-        → redo_words.redone part (drop from ops.now) ms
-        ≡ redo_words.redone r.0 (drop r.1 ops.now) ms) }
+        (λ next. (ms : List queues.Move) → AllByRecursion (λ m. until ≤ m.place) ms
+        → redo_words.redone part.old (drop from ops.now) ms
+        ≡ redo_words.redone part.new (drop next ops.now) ms) }
     ensures sent { IfOk result
-        (λ r. (ms : List queues.Move) → AllByRecursion (λ m. until ≤ m.place) ms
-        → sent.old.items ++ redo_words.all_sent part (drop from ops.now) ms
-        ≡ sent.new.items ++ redo_words.all_sent r.0 (drop r.1 ops.now) ms) }
-    ensures stops { IfOk result (λ r. (op : queues.Op) (rest : List queues.Op) →
-        drop r.1 ops.now ≡ op ∷ rest → until < op.place) }
+        (λ next. (ms : List queues.Move) → AllByRecursion (λ m. until ≤ m.place) ms
+        → sent.old.items ++ redo_words.all_sent part.old (drop from ops.now) ms
+        ≡ sent.new.items ++ redo_words.all_sent part.new (drop next ops.now) ms) }
+    ensures stops { IfOk result (λ next. (op : queues.Op) (rest : List queues.Op) →
+        drop next ops.now ≡ op ∷ rest → until < op.place) }
     ensures refused { IfErr result (λ e. e ≡ Resources) }
-    ensures all { IfOk result (λ r. until ≡ 2 ^ 64 - 1 → r.1 ≡ length ops.now) }
+    ensures all { IfOk result (λ next. until ≡ 2 ^ 64 - 1 → next ≡ length ops.now) }
 {
     rq_model::redo_steps();
     rq_model::redo_goes_well();
-    let mut part = part;
     let mut done = from;
     while done < ops.len() {
         let op = &ops[done];
         if op.place() > until {
-            return Ok((part, done));
+            return Ok(done);
         }
         make_room(ops, done, sent)?;
-        part = part.act(alloc, op, sent)?;
+        part.act(alloc, op, sent)?;
         done += 1;
     }
-    Ok((part, done))
+    Ok(done)
 }
 
 // The part after the operations and the arrivals, and what left it.
@@ -108,11 +107,10 @@ fn redo_in_order(
     let mut coming = arrivals;
     coming.reverse();
     while let Some(arrival) = coming.pop() {
-        let (caught, next) = catch_up(alloc, part, ops, done, arrival.place(), &mut sent)?;
-        part = caught.receive(alloc, arrival)?;
-        done = next;
+        done = catch_up(alloc, &mut part, ops, done, arrival.place(), &mut sent)?;
+        part.receive(alloc, arrival)?;
     }
-    let (part, _) = catch_up(alloc, part, ops, done, u64::MAX, &mut sent)?;
+    catch_up(alloc, &mut part, ops, done, u64::MAX, &mut sent)?;
     // What left stands until its receiver comes to it, and most ABORTs send nothing.
     sent.shrink_to_fit();
     Ok((part, sent))

@@ -33,15 +33,15 @@ loop-done-preserved c =
     record {
       bound = omega arith;
       well = λ ms h w. subst (λ (p : Part). GoesWell p (drop (done + 1) c.args.ops.now) ms)
-          (sym c.in_ok-part.ensures.part)
+          (sym c.in_ok-act.ensures.part)
           ((op_well c.redo_goes_well.ensures.steps c.loop-done.part c.args.ops.now done op ms here c.index-ops-done.is
           (since ms h) (c.loop-done.invariant.well ms h w)).1);
       redone = λ ms h. c.loop-done.invariant.redone ms h
-          ∙ op_done c.redo_steps.ensures c.loop-done.part c.in_ok-part.part c.args.ops.now done op ms here
-          c.index-ops-done.is c.in_ok-part.ensures.part (since ms h);
+          ∙ op_done c.redo_steps.ensures c.loop-done.part c.act.new.self c.args.ops.now done op ms here
+          c.index-ops-done.is c.in_ok-act.ensures.part (since ms h);
       sent = λ ms h. c.loop-done.invariant.sent ms h
-          ∙ op_sent c.redo_steps.ensures c.loop-done.part c.in_ok-part.part c.args.ops.now done op ms
-          c.loop-done.sent.items c.act.new.sent.items here c.index-ops-done.is c.in_ok-part.ensures.part
-          (c.in_ok-part.ensures.sent ∙ ap (λ (xs : List Move). xs ++ sent op.place op.does c.loop-done.part)
+          ∙ op_sent c.redo_steps.ensures c.loop-done.part c.act.new.self c.args.ops.now done op ms
+          c.loop-done.sent.items c.act.new.sent.items here c.index-ops-done.is c.in_ok-act.ensures.part
+          (c.in_ok-act.ensures.sent ∙ ap (λ (xs : List Move). xs ++ sent op.place op.does c.loop-done.part)
           c.make_room.ensures.same) (since ms h);
     }

@@ -37,11 +37,11 @@ receive-requires c =
     ) in
     let well = subst (GoesWell c.loop-arrival.part (drop c.loop-arrival.done c.args.ops.now)) back
     c.loop-arrival.invariant.well in
-    let rest_ops = drop c.in_ok-caught.next c.args.ops.now in
+    let rest_ops = drop c.in_ok-done.done c.args.ops.now in
     let stops : (op : Op) (ops : List Op) → rest_ops ≡ op ∷ ops → m.place < op.place
-    = λ op ops e. let s : c.place.result < op.place = c.in_ok-caught.ensures.stops op ops e in omega arith in
-    let then = arrived_well c.redo_goes_well.ensures.steps c.in_ok-caught.caught rest_ops m left stops
-    (c.in_ok-caught.ensures.well (m ∷ left) since well) in
+    = λ op ops e. let s : c.place.result < op.place = c.in_ok-done.ensures.stops op ops e in omega arith in
+    let then = arrived_well c.redo_goes_well.ensures.steps c.catch_up.new.part rest_ops m left stops
+    (c.in_ok-done.ensures.well (m ∷ left) since well) in
     record { new = then.0 }
 
 pub loop-arrival-preserved : goal.loop-arrival-preserved
@@ -57,25 +57,25 @@ loop-arrival-preserved c =
     ) in
     let well = subst (GoesWell c.loop-arrival.part (drop c.loop-arrival.done c.args.ops.now)) back
     c.loop-arrival.invariant.well in
-    let rest_ops = drop c.in_ok-caught.next c.args.ops.now in
+    let rest_ops = drop c.in_ok-done.done c.args.ops.now in
     let stops : (op : Op) (ops : List Op) → rest_ops ≡ op ∷ ops → m.place < op.place
-    = λ op ops e. let s : c.place.result < op.place = c.in_ok-caught.ensures.stops op ops e in omega arith in
-    let then = arrived_well c.redo_goes_well.ensures.steps c.in_ok-caught.caught rest_ops m left stops
-    (c.in_ok-caught.ensures.well (m ∷ left) since well) in
+    = λ op ops e. let s : c.place.result < op.place = c.in_ok-done.ensures.stops op ops e in omega arith in
+    let then = arrived_well c.redo_goes_well.ensures.steps c.catch_up.new.part rest_ops m left stops
+    (c.in_ok-done.ensures.well (m ∷ left) since well) in
     record {
-      bound = c.in_ok-caught.ensures.bound;
+      bound = c.in_ok-done.ensures.bound;
       rising = (subst AreRising back c.loop-arrival.invariant.rising).1;
-      well = subst (λ (q : Part). GoesWell q rest_ops left) (sym c.in_ok-part.ensures.part) then.1;
+      well = subst (λ (q : Part). GoesWell q rest_ops left) (sym c.in_ok-receive.ensures.part) then.1;
       redone = c.loop-arrival.invariant.redone
           ∙ (ap (redone c.loop-arrival.part (drop c.loop-arrival.done c.args.ops.now)) back
-          ∙ (c.in_ok-caught.ensures.redone (m ∷ left) since
-          ∙ ((arrived c.redo_steps.ensures c.in_ok-caught.caught rest_ops m left stops).0
-          ∙ ap (λ (q : Part). redone q rest_ops left) (sym c.in_ok-part.ensures.part))));
+          ∙ (c.in_ok-done.ensures.redone (m ∷ left) since
+          ∙ ((arrived c.redo_steps.ensures c.catch_up.new.part rest_ops m left stops).0
+          ∙ ap (λ (q : Part). redone q rest_ops left) (sym c.in_ok-receive.ensures.part))));
       sent = c.loop-arrival.invariant.sent
           ∙ (ap (λ (ms : List Move). c.loop-arrival.sent.items
           ++ all_sent c.loop-arrival.part (drop c.loop-arrival.done c.args.ops.now) ms) back
-          ∙ (c.in_ok-caught.ensures.sent (m ∷ left) since
+          ∙ (c.in_ok-done.ensures.sent (m ∷ left) since
           ∙ ap (λ (x : List Move). c.catch_up.new.sent.items ++ x)
-          ((arrived c.redo_steps.ensures c.in_ok-caught.caught rest_ops m left stops).1
-          ∙ ap (λ (q : Part). all_sent q rest_ops left) (sym c.in_ok-part.ensures.part))));
+          ((arrived c.redo_steps.ensures c.catch_up.new.part rest_ops m left stops).1
+          ∙ ap (λ (q : Part). all_sent q rest_ops left) (sym c.in_ok-receive.ensures.part))));
     }
