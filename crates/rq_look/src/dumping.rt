@@ -61,6 +61,27 @@ fn put_closing(
     Ok(())
 }
 
+// Puts the line of a record, if it is wanted. Answers whether it is.
+fn put_line(
+    alloc: Global,
+    placed: Placed<'_>,
+    queues: u32,
+    wanted: &Wanted<'_>,
+    text: &mut String,
+) -> Result<bool, Trouble>
+    ensures { IfErr result IsBroken }
+{
+    if placed.offset < wanted.from {
+        return Ok(false);
+    }
+    let it = Numbered::of(alloc, placed, queues)?;
+    let is_wanted = wanted.wants(&it);
+    if is_wanted {
+        put_shown(alloc, text, &it, wanted)?;
+    }
+    Ok(is_wanted)
+}
+
 // Puts a record, if it is wanted. Answers whether it is.
 fn put_wanted<W: Write>(
     alloc: Global,
@@ -74,16 +95,9 @@ fn put_wanted<W: Write>(
         ((put : List ℕ) × Appends (W.contents output.old) (W.contents output.new) put) }
     ensures refused { IfErr result IsBroken }
 {
-    if placed.offset < wanted.from {
-        return Ok(false);
-    }
-    let it = Numbered::of(alloc, placed, queues)?;
-    if !wanted.wants(&it) {
-        return Ok(false);
-    }
-    put_shown(alloc, text, &it, wanted)?;
+    let is_wanted = put_line(alloc, placed, queues, wanted, text)?;
     relieve(text, output)?;
-    Ok(true)
+    Ok(is_wanted)
 }
 
 // Puts those records of the front that are wanted.

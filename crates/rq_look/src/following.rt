@@ -1,62 +1,15 @@
 //! What becomes of elements, record by record.
 
-use crate::numbered::Numbered;
-use rq_record::{ElemId, QueueNo, Record, UnitNo};
+ghost use Rattle.std.specs.Prelude.{◌≡◌, IfErr};
+ghost use Rattle.rq_record.specs.declared.fault.Fault.TheVariants.{Resources};
+
+use crate::events::{Effect, Event};
+use crate::frames::Placed;
+use crate::numbered::{Numbered, queues_behind};
+use rq_record::{ElemId, Fault, QueueNo, Record, UnitNo};
 use std::alloc::{AllocError, Global};
 use std::cmp::Reverse;
 use std::collections::{BTreeMap, BTreeSet};
-use std::fmt;
-
-/// What happens to an element.
-#[derive(Clone, Copy, Debug, PartialEq, Eq)]
-pub(crate) enum Effect {
-    /// A unit puts it in.
-    Put,
-    /// A unit takes it.
-    Taken,
-    /// It is free in a queue, for the unit that put it in has committed.
-    Free(u32),
-    /// It is gone, for the unit that took it has committed, or for it was killed.
-    Gone,
-    /// It was not put in after all.
-    Undone,
-    /// It is back in its queue, after so many attempts.
-    Back(u32, u64),
-    /// It moves to an error queue.
-    Moved(u32),
-}
-
-/// What happens to which element.
-#[derive(Clone, Copy, Debug)]
-pub(crate) enum Event {
-    /// There is none to take, or to kill.
-    NoElement,
-    /// This happens to the element of this number.
-    To(u64, Effect),
-}
-
-impl fmt::Display for Event {
-    fn fmt<W: fmt::Write>(&self, f: &mut fmt::Formatter<W>) -> fmt::Result {
-        let (element, effect) = match self {
-            Event::NoElement => return write!(f, "finds no element"),
-            Event::To(element, effect) => (*element, *effect),
-        };
-        match effect {
-            Effect::Put => write!(f, "puts in element {element}"),
-            Effect::Taken => write!(f, "takes element {element}"),
-            Effect::Free(queue) => write!(f, "element {element} is free in queue {queue}"),
-            Effect::Gone => write!(f, "element {element} is gone"),
-            Effect::Undone => write!(f, "element {element} was not put in"),
-            Effect::Back(queue, attempts) => {
-                write!(
-                    f,
-                    "element {element} is back in queue {queue}, attempts {attempts}"
-                )
-            }
-            Effect::Moved(queue) => write!(f, "element {element} moves to queue {queue}"),
-        }
-    }
-}
 
 // An element that is in a queue, free or not.
 #[derive(Clone, Copy, Debug)]
@@ -81,9 +34,12 @@ struct Shelf {
     free: BTreeSet<(Reverse<u8>, u64)>,
 }
 
-/// The queues after some records, as the machine's rules have them.
+/// The queues after some records of a front, as the machine's rules have them, and what happened at
+/// the last one.
 #[derive(Drop)]
 pub(crate) struct Queues {
+    events: Vec<Event>,
+    defined: u32,
     shelves: Vec<Shelf>,
     kept: BTreeMap<u64, Kept>,
     open: BTreeMap<u64, Vec<Owned>>,
@@ -93,6 +49,8 @@ impl Queues {
     /// Before the first record.
     pub(crate) fn new(alloc: Global) -> Queues {
         Queues {
+            events: Vec::new(alloc),
+            defined: 0,
             shelves: Vec::new(alloc),
             kept: BTreeMap::new(alloc),
             open: BTreeMap::new(alloc),
@@ -212,14 +170,9 @@ impl Queues {
         Ok(effect)
     }
 
-    /// Ends a unit, and adds what happens to each element that it put in or took, in the order in
-    /// which it did.
-    pub(crate) fn end(
-        &mut self,
-        unit: u64,
-        commits: bool,
-        events: &mut Vec<Event>,
-    ) -> Result<(), AllocError> {
+    // Ends a unit, and adds what happens to each element that it put in or took, in the order in
+    // which it did.
+    fn end(&mut self, unit: u64, commits: bool) -> Result<(), AllocError> {
         let Some(all) = self.open.remove(&unit) else {
             return Ok(());
         };
@@ -229,23 +182,14 @@ impl Queues {
             } else {
                 self.abort_one(owned)?
             };
-            events.push(Event::To(owned.element, effect))?;
+            self.events.push(Event::To(owned.element, effect))?;
         }
         Ok(())
     }
 
-    /// Does a record that is lawful here, and adds what happens.
-    pub(crate) fn step(
-        &mut self,
-        alloc: Global,
-        it: &Numbered,
-        events: &mut Vec<Event>,
-    ) -> Result<(), AllocError> {
+    // Does an operation, and answers what happens.
+    fn operate(&mut self, it: &Numbered) -> Result<Option<Event>, AllocError> {
         match &it.record {
-            Record::Define { limit, error, .. } => self.define(alloc, *limit, *error)?,
-            Record::Begin { unit } => {
-                self.open.insert(unit.0, Vec::new(alloc))?;
-            }
             Record::Enqueue {
                 unit,
                 queue,
@@ -257,14 +201,51 @@ impl Queues {
                     priority: *priority,
                     attempts: 0,
                 };
-                events.push(self.put(*unit, it.number, kept)?)?
+                Ok(Some(self.put(*unit, it.number, kept)?))
             }
-            Record::Dequeue { unit, queue, .. } => events.push(self.take(*unit, *queue)?)?,
-            Record::Commit { unit } => self.end(unit.0, true, events)?,
-            Record::Abort { unit } => self.end(unit.0, false, events)?,
-            Record::Kill { queue, element } => events.push(self.kill(*queue, *element))?,
-            _ => {}
+            Record::Dequeue { unit, queue, .. } => Ok(Some(self.take(*unit, *queue)?)),
+            Record::Kill { queue, element } => Ok(Some(self.kill(*queue, *element))),
+            _ => Ok(None),
+        }
+    }
+
+    // Does a record that is lawful here, and adds what happens.
+    fn step(&mut self, alloc: Global, it: &Numbered) -> Result<(), AllocError> {
+        match &it.record {
+            Record::Define { limit, error, .. } => self.define(alloc, *limit, *error)?,
+            Record::Begin { unit } => {
+                self.open.insert(unit.0, Vec::new(alloc))?;
+            }
+            Record::Commit { unit } => self.end(unit.0, true)?,
+            Record::Abort { unit } => self.end(unit.0, false)?,
+            _ => {
+                if let Some(event) = self.operate(it)? {
+                    self.events.push(event)?;
+                }
+            }
         }
         Ok(())
+    }
+
+    /// Does the next record of the front, and answers it.
+    pub(crate) fn follow(&mut self, alloc: Global, placed: Placed<'_>) -> Result<Numbered, Fault>
+        ensures { IfErr result (λ e. e ≡ Resources) }
+    {
+        let it = Numbered::of(alloc, placed, self.defined)?;
+        self.defined = queues_behind(self.defined, placed.body);
+        self.events.clear();
+        self.step(alloc, &it)?;
+        Ok(it)
+    }
+
+    /// Aborts a unit that is open behind the front.
+    pub(crate) fn abort(&mut self, unit: u64) -> Result<(), AllocError> {
+        self.events.clear();
+        self.end(unit, false)
+    }
+
+    /// What happened at the last record, or at the last abort behind the front.
+    pub(crate) fn events(&self) -> &[Event] {
+        &self.events
     }
 }

@@ -6,6 +6,7 @@ mod bytes;
 mod checking;
 mod dumping;
 mod ends;
+mod events;
 mod following;
 mod frames;
 mod hidden;

@@ -117,6 +117,11 @@ impl<'a> Rest<'a> {
         Ok(left)
     }
 
+    // An operation's unit and queue.
+    fn operation(self) -> Result<Rest<'a>, Found> {
+        self.behind(8, "unit")?.behind(4, "queue")
+    }
+
     // A payload.
     fn payload(self) -> Result<(), Found> {
         if self.bytes.len() > PAYLOAD {
@@ -126,24 +131,31 @@ impl<'a> Rest<'a> {
     }
 }
 
+fn fits_define(rest: Rest<'_>) -> Result<(), Found> {
+    rest.behind(2, "limit")?.behind(4, "error queue")?.name()
+}
+
+fn fits_enqueue(rest: Rest<'_>) -> Result<(), Found> {
+    rest.operation()?.behind(1, "priority")?.who()?.payload()
+}
+
+fn fits_dequeue(rest: Rest<'_>) -> Result<(), Found> {
+    rest.operation()?.who()?.nothing()
+}
+
+fn fits_kill(rest: Rest<'_>) -> Result<(), Found> {
+    rest.behind(4, "queue")?.behind(8, "element")?.nothing()
+}
+
 fn fits(version: Version, kind: u8, rest: Rest<'_>) -> Result<(), Found> {
     match kind {
-        1 => rest.behind(2, "limit")?.behind(4, "error queue")?.name(),
+        1 => fits_define(rest),
         2 | 3 => rest.behind(4, "queue")?.name(),
         4 | 7 | 8 => rest.behind(8, "unit")?.nothing(),
-        5 => {
-            let rest = rest.behind(8, "unit")?.behind(4, "queue")?;
-            rest.behind(1, "priority")?.who()?.payload()
-        }
-        6 => {
-            let rest = rest.behind(8, "unit")?.behind(4, "queue")?;
-            rest.who()?.nothing()
-        }
+        5 => fits_enqueue(rest),
+        6 => fits_dequeue(rest),
         9 => Ok(()),
-        10 if version == Version::Two => {
-            let rest = rest.behind(4, "queue")?;
-            rest.behind(8, "element")?.nothing()
-        }
+        10 if version == Version::Two => fits_kill(rest),
         _ => Err((0, Misfit::Kind(kind))),
     }
 }

@@ -1,8 +1,8 @@
 //! A log as one page that a browser shows.
 
-ghost use Rattle.std.specs.Prelude.{ℕ, ◌++◌, List, IfErr, OnOk};
+ghost use Rattle.std.specs.Prelude.{ℕ, ◌++◌, ◌⊎◌, List, IfErr, OnOk};
 ghost use Rattle.std.specs.Io.KnownBytes.{Appends};
-ghost use Rattle.rq_look.specs.Looks.{IsLog, StaysUnshown};
+ghost use Rattle.rq_look.specs.Looks.{IsBroken, IsLog, IsRefusal, StaysUnshown};
 ghost use Rattle.rq_look.specs.Markup.{page_foot};
 
 mod courses;
@@ -14,19 +14,73 @@ mod surveys;
 mod tables;
 mod units;
 
-use crate::ends::end_after;
+use crate::ends::{End, end_after};
 use crate::paging::markup::{put_foot, put_head};
 use crate::paging::pictures::put_picture;
 use crate::paging::summaries::put_summary;
-use crate::paging::surveys::surveyed;
+use crate::paging::surveys::{Survey, surveyed};
 use crate::paging::tables::put_queues;
 use crate::paging::units::put_units;
 use crate::sheet::finish;
 use crate::trouble::Trouble;
-use rq_restart::{Open, Plan, audit, restart};
+use rq_restart::{Open, Plan, Restarted, audit, restart};
 use std::alloc::Global;
 use std::io::Write;
 use std::thread::Threads;
+
+// What a page shows of a log.
+#[derive(Drop)]
+struct Contents {
+    restarted: Restarted,
+    end: End,
+    checkpoints: Vec<(u64, bool)>,
+    seen: Survey,
+}
+
+fn contents_of<R: Threads + Sync>(
+    rt: &R,
+    alloc: Global,
+    bytes: &[u8],
+    plan: &Plan,
+) -> Result<Contents, Trouble>
+    ensures log { OnOk result (IsLog bytes.now) }
+    ensures refused { IfErr result
+        (λ e. (IsLog bytes.now × IsBroken e) ⊎ IsRefusal bytes.now e) }
+{
+    let restarted = restart(rt, alloc, bytes, plan, &Open)?;
+    let end = end_after(rt, alloc, bytes, &restarted, plan)?;
+    let checkpoints = audit(rt, alloc, bytes, plan)?;
+    let seen = surveyed(alloc, bytes, &end, restarted.state())?;
+    Ok(Contents {
+        restarted,
+        end,
+        checkpoints,
+        seen,
+    })
+}
+
+fn put_page<W: Write>(
+    alloc: Global,
+    contents: &Contents,
+    name: &str,
+    output: &mut W,
+) -> Result<(), Trouble>
+    ensures whole { OnOk result ((put : List ℕ)
+        × Appends (W.contents output.old) (W.contents output.new) (put ++ page_foot)) }
+    ensures refused { IfErr result IsBroken }
+{
+    let (restarted, end, seen) = (&contents.restarted, &contents.end, &contents.seen);
+    let checkpoints = contents.checkpoints.as_slice();
+    let mut text = String::new(alloc);
+    put_head(&mut text, name)?;
+    put_summary(&mut text, restarted, end, checkpoints)?;
+    put_picture(alloc, &mut text, seen, end, checkpoints)?;
+    put_units(&mut text, seen, end)?;
+    put_queues(alloc, &mut text, seen, restarted.state(), output)?;
+    put_foot(&mut text)?;
+    finish(&mut text, output)?;
+    Ok(())
+}
 
 /// Writes a log under a name as one page of HTML: its front, a picture of the log along its length,
 /// the units that were open at the front's end, and each queue with its depth along the log and its
@@ -52,17 +106,6 @@ where
     ensures refused { IfErr result
         (StaysUnshown bytes.now (W.contents output.old) (W.contents output.new)) }
 {
-    let restarted = restart(rt, alloc, bytes, plan, &Open)?;
-    let end = end_after(rt, alloc, bytes, &restarted, plan)?;
-    let checkpoints = audit(rt, alloc, bytes, plan)?;
-    let seen = surveyed(alloc, bytes, &end, restarted.state())?;
-    let mut text = String::new(alloc);
-    put_head(&mut text, name)?;
-    put_summary(&mut text, &restarted, &end, &checkpoints)?;
-    put_picture(alloc, &mut text, &seen, &end, &checkpoints)?;
-    put_units(&mut text, &seen, &end)?;
-    put_queues(alloc, &mut text, &seen, restarted.state(), output)?;
-    put_foot(&mut text)?;
-    finish(&mut text, output)?;
-    Ok(())
+    let contents = contents_of(rt, alloc, bytes, plan)?;
+    put_page(alloc, &contents, name, output)
 }

@@ -1,12 +1,13 @@
 //! The report of a log, as text and as JSON.
 
-ghost use Rattle.std.specs.Prelude.{◌≡◌, ◌++◌, ℕ, List, codes, IfOk, IfErr, OnOk};
+ghost use Rattle.std.specs.Prelude.{◌≡◌, ◌++◌, ℕ, List, codes, IfOk, IfErr, OnOk, string_bytes};
 ghost use Rattle.std.specs.Io.KnownBytes.{Appends};
 ghost use Rattle.rq_model.specs.Fronts.{IsRestart};
 ghost use Rattle.rq_model.specs.Reports.{IsText};
 ghost use Rattle.rq_record.specs.declared.fault.Fault.TheVariants.{Resources};
 ghost use Rattle.rq_look.specs.Looks.{HasQueue, HasWanted, IsLog, LacksReport, PutsReport};
 ghost use Rattle.rq_look.specs.Looks.{StaysUnreported};
+ghost use Rattle.rq_look.specs.declared.trouble.Trouble.TheVariants.{Log};
 
 use crate::ends::{End, end_after};
 use crate::json::{Front, front_of, spelled_out};
@@ -71,6 +72,23 @@ fn restarted_with<R: Threads + Sync>(
     }
 }
 
+// The report as one value of JSON, and the end of its line.
+fn json_of(
+    alloc: Global,
+    restarted: &Restarted,
+    end: &End,
+    wanted: Option<u32>,
+) -> Result<String, Trouble>
+    ensures line { IfOk result
+        (λ text. (json : List ℕ) × (string_bytes text ≡ json ++ codes "\n")) }
+    ensures refused { IfErr result (λ e. e ≡ Log Resources) }
+{
+    let report = report_shown(alloc, restarted, end, wanted)?;
+    let mut text = spelled_out(alloc, serde_json::to_string_pretty(alloc, &report)?)?;
+    text.push('\n')?;
+    Ok(text)
+}
+
 /// Writes the report of a log as one value of JSON, with all of its queues or the one that is
 /// wanted.
 ///
@@ -94,9 +112,7 @@ where
 {
     let restarted = restarted_with(rt, alloc, bytes, plan, wanted)?;
     let end = end_after(rt, alloc, bytes, &restarted, plan)?;
-    let report = report_shown(alloc, &restarted, &end, wanted)?;
-    let mut text = spelled_out(alloc, serde_json::to_string_pretty(alloc, &report)?)?;
-    text.push('\n')?;
+    let text = json_of(alloc, &restarted, &end, wanted)?;
     output.write_all(text.as_bytes())?;
     Ok(())
 }

@@ -2,16 +2,18 @@
 
 ghost use Rattle.std.specs.Prelude.{◌≡◌, [], ℕ, List, None, IfOk, IfErr, OnOk, string_bytes};
 ghost use Rattle.std.specs.Io.KnownBytes.{Appends};
+ghost use Rattle.rq_record.specs.declared.fault.Fault.TheVariants.{Resources};
 ghost use Rattle.rq_look.specs.Looks.{IsBroken, IsLog, LacksStory, StaysWithoutStory};
 
 use crate::ends::{End, end_of, put_end};
-use crate::following::{Event, Queues};
+use crate::events::Event;
+use crate::following::Queues;
 use crate::frames::{Placed, Walk};
 use crate::lines::put_record;
-use crate::numbered::{Numbered, queues_behind, unit_of};
+use crate::numbered::{Numbered, unit_of};
 use crate::sheet::{finish, relieve};
 use crate::trouble::Trouble;
-use rq_record::UnitNo;
+use rq_record::{Fault, UnitNo};
 use rq_restart::Plan;
 use std::alloc::{AllocError, Global};
 use std::fmt::{self, Write};
@@ -86,14 +88,29 @@ fn put_events(
     Ok(count)
 }
 
+// Puts what is to be told of a record of the front. Answers in how many lines.
+fn put_told(
+    alloc: Global,
+    placed: Placed<'_>,
+    subject: Subject,
+    machine: &mut Queues,
+    text: &mut String,
+) -> Result<u64, Fault>
+    ensures nothing { IfOk result
+        (λ count. count ≡ 0 → string_bytes text.new ≡ string_bytes text.old) }
+    ensures refused { IfErr result (λ e. e ≡ Resources) }
+{
+    let it = machine.follow(alloc, placed)?;
+    let count = put_events(alloc, text, &it, machine.events(), subject)?;
+    Ok(count)
+}
+
 // Tells of a record of the front. Answers in how many lines.
 fn tell_record<W: io::Write>(
     alloc: Global,
     placed: Placed<'_>,
-    queues: u32,
     subject: Subject,
     machine: &mut Queues,
-    events: &mut Vec<Event>,
     text: &mut String,
     output: &mut W,
 ) -> Result<u64, Trouble>
@@ -103,10 +120,7 @@ fn tell_record<W: io::Write>(
         → (W.contents output.new ≡ W.contents output.old) × (string_bytes text.new ≡ [])) }
     ensures refused { IfErr result IsBroken }
 {
-    let it = Numbered::of(alloc, placed, queues)?;
-    events.clear();
-    machine.step(alloc, &it, events)?;
-    let count = put_events(alloc, text, &it, events, subject)?;
+    let count = put_told(alloc, placed, subject, machine, text)?;
     relieve(text, output)?;
     Ok(count)
 }
@@ -128,21 +142,10 @@ fn tell_front<W: io::Write>(
     ensures refused { IfErr result IsBroken }
 {
     let mut machine = Queues::new(alloc);
-    let mut events = Vec::new(alloc);
-    let (mut queues, mut told) = (0, 0u64);
+    let mut told = 0u64;
     for placed in Walk::of(bytes, used) {
-        let count = tell_record(
-            alloc,
-            placed,
-            queues,
-            subject,
-            &mut machine,
-            &mut events,
-            text,
-            output,
-        )?;
+        let count = tell_record(alloc, placed, subject, &mut machine, text, output)?;
         told = told.saturating_add(count);
-        queues = queues_behind(queues, placed.body);
     }
     Ok(if told > 0 { Some(machine) } else { None })
 }
@@ -177,11 +180,9 @@ fn tell_restart(
     subject: Subject,
 ) -> Result<(), AllocError> {
     let mut machine = machine;
-    let mut events = Vec::new(alloc);
     for unit in machine.open_units(alloc)?.iter().copied() {
-        events.clear();
-        machine.end(unit, false, &mut events)?;
-        put_restart(text, unit, &events, subject)?;
+        machine.abort(unit)?;
+        put_restart(text, unit, machine.events(), subject)?;
     }
     Ok(())
 }

@@ -1,15 +1,17 @@
 //! What one walk over the front finds for a page.
 
-ghost use Rattle.std.specs.Prelude.{IfErr};
+ghost use Rattle.std.specs.Prelude.{◌≡◌, IfErr};
+ghost use Rattle.rq_record.specs.declared.fault.Fault.TheVariants.{Resources};
 ghost use Rattle.rq_look.specs.Looks.{IsBroken};
 
 use crate::ends::End;
-use crate::following::{Effect, Event, Queues};
-use crate::frames::Walk;
-use crate::numbered::{Numbered, kind_of, queues_behind};
+use crate::events::{Effect, Event};
+use crate::following::Queues;
+use crate::frames::{Placed, Walk};
+use crate::numbered::{Numbered, kind_of};
 use crate::paging::courses::{BINS, Course, along};
 use crate::trouble::Trouble;
-use rq_record::{QueueNo, Record};
+use rq_record::{Fault, QueueNo, Record};
 use rq_state::State;
 use std::alloc::{AllocError, Global};
 use std::collections::BTreeMap;
@@ -106,6 +108,21 @@ impl Survey {
         Ok(())
     }
 
+    // The next record of the front, and what happens at it.
+    fn follow(
+        &mut self,
+        alloc: Global,
+        placed: Placed<'_>,
+        machine: &mut Queues,
+        total: u64,
+    ) -> Result<(), Fault>
+        ensures { IfErr result (λ e. e ≡ Resources) }
+    {
+        let it = machine.follow(alloc, placed)?;
+        self.take(alloc, &it, machine.events(), total)?;
+        Ok(())
+    }
+
     // A record, and what happens at it.
     fn take(
         &mut self,
@@ -144,15 +161,9 @@ pub(super) fn surveyed(
     ensures { IfErr result IsBroken }
 {
     let mut machine = Queues::new(alloc);
-    let mut events = Vec::new(alloc);
     let mut seen = Survey::new(alloc)?;
-    let mut queues = 0;
     for placed in Walk::of(bytes, end.used) {
-        let it = Numbered::of(alloc, placed, queues)?;
-        events.clear();
-        machine.step(alloc, &it, &mut events)?;
-        seen.take(alloc, &it, &events, end.total)?;
-        queues = queues_behind(queues, placed.body);
+        seen.follow(alloc, placed, &mut machine, end.total)?;
     }
     seen.close(state, bin_of(end.used, end.total))?;
     Ok(seen)

@@ -1,7 +1,7 @@
 use Rattle.std.proofs.Common.{◌++◌, string_bytes}
 use Rattle.rq_look.specs.Markup.{page_foot}
 use Rattle.rq_look.proofs.Puts.{put_last}
-use Rattle.rq_look.proofs.paging.page.Goals as goal
+use Rattle.rq_look.proofs.paging.put_page.Goals as goal
 
 pub returns-clause-whole : goal.returns-clause-whole
 returns-clause-whole g c =
