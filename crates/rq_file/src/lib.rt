@@ -5,8 +5,6 @@ mod late;
 mod names;
 mod paths;
 mod putting;
-#[cfg(test)]
-mod tests;
 
 pub use late::{Late, in_place};
 pub use names::Names;

@@ -2,12 +2,14 @@ mod barrier;
 mod calls;
 mod checkpoints;
 mod damage;
+mod files;
 mod fronts;
 mod hostile;
 mod many;
 mod program;
 mod queues;
 mod registrants;
+mod rows;
 mod scripts;
 mod standby;
 mod streams;
@@ -19,7 +21,7 @@ mod versions;
 mod windows;
 
 use rq_record::Version;
-use rq_tool::{Command, Fault, Open, OverRead, OverWrite, Plan, act};
+use rq_tool::{Command, Fault, Gate, Open, OverRead, OverWrite, Plan, act, run};
 use std::alloc::Global;
 use std::io::Cursor;
 use std::test::Fail;
@@ -83,6 +85,15 @@ fn log_of<R: Threads + Sync + AllocGlobal>(rt: &R, script: &[&str]) -> Result<Ve
     log_in(rt, Version::One, script)
 }
 
+// The same, of lines that were made.
+fn log_of_made<R: Threads + Sync + AllocGlobal>(
+    rt: &R,
+    script: &[String],
+) -> Result<Vec<u8>, Fail> {
+    let words: Vec<&str> = script.iter().map(|line| line.as_str()).collect(rt.alloc())?;
+    log_of(rt, &words)
+}
+
 // Whether the log has this report under every plan.
 fn reports<R: Threads + Sync + AllocGlobal>(
     rt: &R,
@@ -111,16 +122,17 @@ fn says_in<R: Threads + Sync + AllocGlobal>(
     Ok(log.len() == bytes && reports(rt, &log, report)?)
 }
 
-// Whether it is so in both versions.
-fn says<R: Threads + Sync + AllocGlobal>(
-    rt: &R,
-    script: &[&str],
-    bytes: usize,
-    report: &[&str],
-) -> Result<bool, Fail> {
-    let first = says_in(rt, Version::One, script, bytes, report)?;
-    let second = says_in(rt, Version::Two, script, bytes, report)?;
-    Ok(first && second)
+// The report that so many workers make at a gate.
+fn report_at<R, G>(rt: &R, log: &[u8], workers: u32, gate: &G) -> Result<Vec<u8>, Fail>
+where
+    R: Threads + Sync + AllocGlobal,
+    G: Gate + Sync,
+{
+    let plan = Plan::new(workers, 1).ok_or("plan")?;
+    let mut input = OverRead::new(Cursor::new(log));
+    let mut output = OverWrite::new(Vec::new(rt.alloc()));
+    run(rt, rt.alloc(), &mut input, &mut output, &plan, gate)?;
+    Ok(output.into_inner())
 }
 
 // How the restart of the bytes is refused, if it is.

@@ -70,6 +70,11 @@ const MAKE: Command<'static> = Command::Make {
     log: "log",
 };
 
+const MAKE_TWO: Command<'static> = Command::Make2 {
+    script: "script",
+    log: "log",
+};
+
 // The lines, each ended by LF.
 fn lines(alloc: Global, lines: &[&str]) -> Result<Vec<u8>, Fail> {
     let mut bytes = Vec::new(alloc);
@@ -105,10 +110,19 @@ fn answer<R: Threads + Sync + AllocGlobal>(
     (done, output.into_inner())
 }
 
-// The log of a script.
-fn log_of<R: Threads + Sync + AllocGlobal>(rt: &R, script: &[&str]) -> Result<Vec<u8>, Fail> {
+// The log that a command makes of a script.
+fn log_in<R: Threads + Sync + AllocGlobal>(
+    rt: &R,
+    make: &Command<'_>,
+    script: &[&str],
+) -> Result<Vec<u8>, Fail> {
     let script = lines(rt.alloc(), script)?;
-    let (done, log) = answer(rt, &MAKE, &script, Vec::new(rt.alloc()));
+    let (done, log) = answer(rt, make, &script, Vec::new(rt.alloc()));
     done?;
     Ok(log)
+}
+
+// The log of a script, in version 1.
+fn log_of<R: Threads + Sync + AllocGlobal>(rt: &R, script: &[&str]) -> Result<Vec<u8>, Fail> {
+    log_in(rt, &MAKE, script)
 }

@@ -3,7 +3,6 @@
 use super::lanes::{Framed, log_of_lengths};
 use rq_front::{Chain, Rest, chain, walk};
 use rq_record::Fault;
-use std::alloc::{AllocError, Global};
 use std::test::Fail;
 use std::thread::Threads;
 
@@ -25,29 +24,35 @@ fn chain_from<R: Threads + Sync + AllocGlobal>(
     Ok(Some(found))
 }
 
-// Where the bodies of a chain stand.
-fn places(alloc: Global, found: &Chain) -> Result<Vec<(usize, usize)>, AllocError> {
-    let mut places = Vec::new(alloc);
-    for span in &found.spans {
-        places.push((span.start, span.len))?;
-    }
-    Ok(places)
+// Whether the chain from a place of the log has bodies there, with these lengths, an end and this
+// behind it.
+fn is_chain<R: Threads + Sync + AllocGlobal>(
+    rt: &R,
+    log: &[u8],
+    from: usize,
+    grain: u32,
+    want: (&[(usize, usize)], usize, Rest),
+) -> Result<bool, Fail> {
+    let found = chain_from(rt, log, from, grain)?.ok_or("chain")?;
+    let (bodies, end, rest) = want;
+    let same = found
+        .spans
+        .iter()
+        .map(|span| (span.start, span.len))
+        .eq(bodies.iter().copied());
+    Ok(same && found.end == end && found.rest == rest)
 }
 
 #[test]
 fn the_chain_tells_its_spans(rt: HostRuntime) -> Result<(), Fail> {
     let Framed { log, ends } = log_of_lengths(rt.alloc(), &LENGTHS)?;
     assert_eq!(rt; ends.as_slice(), [87usize, 132, 192, 237].as_slice());
+    let bodies = [(91, 9), (136, 24), (196, 9)];
     for grain in [1, 1000] {
-        let found = chain_from(&rt, &log, 87, grain)?.ok_or("chain")?;
-        let spans = places(rt.alloc(), &found)?;
-        assert_eq!(rt; spans.as_slice(), [(91, 9), (136, 24), (196, 9)].as_slice());
-        assert_eq!(rt; found.end, 237);
-        assert!(rt; found.rest == Rest::Whole);
-        let none = chain_from(&rt, &log, 88, grain)?.ok_or("chain")?;
-        assert_eq!(rt; none.spans.len(), 0);
-        assert_eq!(rt; none.end, 88);
-        assert!(rt; none.rest == Rest::Cut);
+        let all = is_chain(&rt, &log, 87, grain, (&bodies, 237, Rest::Whole))?;
+        assert!(rt; all, "all, grain {grain}");
+        let none = is_chain(&rt, &log, 88, grain, (&[], 88, Rest::Cut))?;
+        assert!(rt; none, "none, grain {grain}");
     }
     Ok(())
 }

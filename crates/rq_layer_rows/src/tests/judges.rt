@@ -188,14 +188,20 @@ fn a_judge_says_what_the_catalogue_says(rt: HostRuntime) -> Result<(), Fail> {
     Ok(())
 }
 
+// Whether the judge takes one more queue, of a name with this number.
+fn takes_queue(alloc: Global, judge: &mut Judge, number: u32) -> Result<bool, Fail> {
+    let name = format!(in alloc; "q{number}")?;
+    let next = define(alloc, 0, NO_QUEUE, &name)?;
+    Ok(judge.take(&next)?)
+}
+
 #[test]
 fn a_judge_takes_4096_queues(rt: HostRuntime) -> Result<(), Fail> {
     let mut judge = Judge::new(rt.alloc(), Version::Two);
     assert!(rt; judge.version() == Version::Two);
     for number in 0..4097u32 {
-        let name = format!(in rt.alloc(); "q{number}")?;
-        let next = define(rt.alloc(), 0, NO_QUEUE, &name)?;
-        assert_eq!(rt; judge.take(&next)?, number < 4096, "queue {number}");
+        let taken = takes_queue(rt.alloc(), &mut judge, number)?;
+        assert_eq!(rt; taken, number < 4096, "queue {number}");
     }
     Ok(())
 }

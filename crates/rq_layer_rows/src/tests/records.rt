@@ -17,15 +17,20 @@ fn names_checkpoints_and_bodies_are_read(rt: HostRuntime) -> Result<(), Fail> {
     Ok(())
 }
 
+// Whether a name is kept, alone and beside a tag.
+fn is_kept(alloc: Global, name: Name) -> Result<bool, Fail> {
+    let kept = KeptName::of(alloc, &name)?;
+    let by = KeptBy::of(alloc, &Some(By { name, tag: 70 }))?;
+    let alone = kept.name() == name && kept.bytes() == name.bytes();
+    let beside = by.name().is_some_and(|of| of.text() == name.text());
+    Ok(alone && beside && by.by().is_some_and(|of| of.tag == 70))
+}
+
 #[test]
 fn names_of_each_length_are_kept(rt: HostRuntime) -> Result<(), Fail> {
     for length in 1..65 {
         let name = Name::new(&[b'a'; 64][..length]).ok_or("name")?;
-        let kept = KeptName::of(rt.alloc(), &name)?;
-        assert!(rt; kept.name() == name && kept.bytes() == name.bytes());
-        let by = KeptBy::of(rt.alloc(), &Some(By { name, tag: 70 }))?;
-        assert_eq!(rt; by.name().ok_or("nobody")?.text(), name.text());
-        assert_eq!(rt; by.by().ok_or("nobody")?.tag, 70);
+        assert!(rt; is_kept(rt.alloc(), name)?, "{length} bytes");
     }
     assert!(rt; KeptBy::of(rt.alloc(), &None)?.by().is_none());
     Ok(())
@@ -41,14 +46,19 @@ fn kept_names_are_in_the_order_of_their_bytes(rt: HostRuntime) -> Result<(), Fai
     Ok(())
 }
 
+// Whether a payload of this length is kept, and copied.
+fn keeps_payload(alloc: Global, length: usize) -> Result<bool, Fail> {
+    let payload = Payload::new(Vec::from_elem(alloc, b'p', length)?).ok_or("long")?;
+    let kept = KeptPayload::of(alloc, &payload)?;
+    let copied = kept.copied()?;
+    let bytes = payload.bytes();
+    Ok(bytes.len() == length && kept.bytes() == bytes && copied.bytes() == bytes)
+}
+
 #[test]
 fn payloads_of_each_kind_of_length_are_kept(rt: HostRuntime) -> Result<(), Fail> {
     for length in [0, 1, 22, 23, 65535] {
-        let payload = Payload::new(Vec::from_elem(rt.alloc(), b'p', length)?).ok_or("long")?;
-        assert_eq!(rt; payload.bytes().len(), length);
-        let kept = KeptPayload::of(rt.alloc(), &payload)?;
-        assert!(rt; kept.bytes() == payload.bytes());
-        assert!(rt; kept.copied()?.bytes() == payload.bytes());
+        assert!(rt; keeps_payload(rt.alloc(), length)?, "{length} bytes");
     }
     let long = Vec::from_elem(rt.alloc(), b'p', 65536)?;
     assert!(rt; KeptPayload::from_slice(rt.alloc(), &long)?.is_none());

@@ -1,8 +1,8 @@
 //! An error queue that does not wait for queues whose error queue it is not.
 
-use super::{lines, log_of};
-use rq_tool::{Gate, OverRead, OverWrite, Plan, run};
-use std::io::Cursor;
+use super::threads::look;
+use super::{lines, log_of, report_at};
+use rq_tool::Gate;
 use std::sync::atomic::{AtomicBool, Ordering};
 use std::test::Fail;
 
@@ -11,16 +11,6 @@ use std::test::Fail;
 struct Looking {
     error_there: AtomicBool,
     saw: AtomicBool,
-}
-
-// Looks for a flag, up to 100,000,000 times.
-fn look(flag: &AtomicBool) -> bool {
-    for _ in 0..100_000_000 {
-        if flag.load(Ordering::SeqCst) {
-            return true;
-        }
-    }
-    false
 }
 
 impl Gate for Looking {
@@ -47,15 +37,11 @@ fn no_barrier(rt: HostRuntime) -> Result<(), Fail> {
             "queue 2 b limit 0 error -",
         ],
     )?;
-    let plan = Plan::new(2, 1).ok_or("plan")?;
     let gate = Looking {
         error_there: AtomicBool::new(false),
         saw: AtomicBool::new(false),
     };
-    let mut input = OverRead::new(Cursor::new(log.as_slice()));
-    let mut output = OverWrite::new(Vec::new(rt.alloc()));
-    run(&rt, rt.alloc(), &mut input, &mut output, &plan, &gate)?;
-    assert!(rt; output.into_inner() == want);
+    assert!(rt; report_at(&rt, &log, 2, &gate)? == want);
     assert!(rt; gate.saw.load(Ordering::SeqCst));
     Ok(())
 }

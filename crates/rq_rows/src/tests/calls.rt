@@ -4,7 +4,7 @@ use super::scripts::CHECKPOINT;
 use super::{lines, log_of};
 use rq_queue::Part;
 use rq_record::{QueueNo, UnitNo};
-use rq_restart::{Why, audit, front_state, restart_at};
+use rq_restart::{Restarted, Why, audit, front_state, restart_at};
 use rq_state::{Fields, State};
 use rq_tool::{Open, Plan};
 use rq_writer::{decimal_number, make};
@@ -19,54 +19,73 @@ fn state_at_checkpoint<R: Threads + Sync + AllocGlobal>(rt: &R) -> Result<State,
     Ok(front_state(rt, rt.alloc(), &log, &plan)?)
 }
 
-#[test]
-fn a_state_tells_what_it_has(rt: HostRuntime) -> Result<(), Fail> {
-    let state = state_at_checkpoint(&rt)?;
+fn has_counts(state: &State) -> bool {
     let numbers = [
         state.next(),
         state.greatest(),
         state.committed(),
         state.aborted(),
     ];
-    assert_eq!(rt; numbers, [9, 2, 1, 0]);
-    assert_eq!(rt; state.definition_count(), 1);
-    assert_eq!(rt; state.unit_count(), 1);
-    assert_eq!(rt; state.registrant_count(), 1);
-    assert_eq!(rt; state.element_count(), 2);
-    assert_eq!(rt; state.note_count(), 1);
-    assert_eq!(rt; state.definitions().len(), 1);
-    assert!(rt; state.units() == [UnitNo(2)].as_slice());
-    assert_eq!(rt; state.registrants().len(), 1);
-    assert!(rt; state.elements().iter().map(|e| e.number()).eq([3, 7]));
-    assert!(rt; state.notes().iter().map(|note| note.place()).eq([6]));
-    assert_eq!(rt; state.elements_of(QueueNo(0)), [0usize, 1].as_slice());
-    assert_eq!(rt; state.registrants_of(QueueNo(0)), [0usize].as_slice());
-    assert_eq!(rt; state.notes_of(QueueNo(0)), [0usize].as_slice());
+    let counts = [
+        state.definition_count(),
+        state.unit_count(),
+        state.registrant_count(),
+        state.element_count(),
+        state.note_count(),
+    ];
+    numbers == [9, 2, 1, 0] && counts == [1, 1, 1, 2, 1]
+}
+
+fn has_members(state: &State) -> bool {
+    state.definitions().len() == 1
+        && state.units() == [UnitNo(2)].as_slice()
+        && state.registrants().len() == 1
+        && state.elements().iter().map(|e| e.number()).eq([3, 7])
+        && state.notes().iter().map(|note| note.place()).eq([6])
+}
+
+fn has_lists(state: &State) -> bool {
+    state.elements_of(QueueNo(0)) == [0usize, 1].as_slice()
+        && state.registrants_of(QueueNo(0)) == [0usize].as_slice()
+        && state.notes_of(QueueNo(0)) == [0usize].as_slice()
+}
+
+#[test]
+fn a_state_tells_what_it_has(rt: HostRuntime) -> Result<(), Fail> {
+    let state = state_at_checkpoint(&rt)?;
+    assert!(rt; has_counts(&state), "counts");
+    assert!(rt; has_members(&state), "members");
+    assert!(rt; has_lists(&state), "lists of a queue");
     Ok(())
+}
+
+// The numbers of the elements that are copied of a queue, and which unit 2 put in.
+fn copied_elements(alloc: Global, state: &State, queue: u32) -> Result<Vec<(u64, bool)>, Fail> {
+    let elements = state.copied_elements_of(alloc, QueueNo(queue))?;
+    let told = elements.iter().map(|e| (e.number(), e.is_fresh(UnitNo(2))));
+    Ok(told.collect(alloc)?)
+}
+
+// How many of the notes that are copied of a queue are by unit 2.
+fn copied_notes(alloc: Global, state: &State, queue: u32) -> Result<usize, Fail> {
+    let notes = state.copied_notes_of(alloc, QueueNo(queue))?;
+    Ok(notes.iter().filter(|note| note.is_by(UnitNo(2))).count())
+}
+
+// Whether what belongs to the first queue of the state is copied, and nothing of the second.
+fn copies(alloc: Global, state: &State) -> Result<bool, Fail> {
+    let elements = copied_elements(alloc, state, 0)?;
+    let registrants = state.copied_registrants_of(alloc, QueueNo(0))?.len();
+    let notes = copied_notes(alloc, state, 0)?;
+    let all = elements.as_slice() == [(3, false), (7, true)].as_slice();
+    let none = copied_elements(alloc, state, 1)?.is_empty();
+    Ok(all && none && registrants == 1 && notes == 1)
 }
 
 #[test]
 fn what_belongs_to_a_queue_is_copied(rt: HostRuntime) -> Result<(), Fail> {
     let state = state_at_checkpoint(&rt)?;
-    let elements = state.copied_elements_of(rt.alloc(), QueueNo(0))?;
-    assert!(rt; elements.iter().map(|e| e.number()).eq([3, 7]));
-    assert!(rt;
-        elements
-            .iter()
-            .map(|e| e.is_held(UnitNo(2)))
-            .eq([true, false])
-    );
-    assert!(rt;
-        elements
-            .iter()
-            .map(|e| e.is_fresh(UnitNo(2)))
-            .eq([false, true])
-    );
-    let registrants = state.copied_registrants_of(rt.alloc(), QueueNo(0))?;
-    assert_eq!(rt; registrants.len(), 1);
-    let notes = state.copied_notes_of(rt.alloc(), QueueNo(0))?;
-    assert!(rt; notes.iter().map(|note| note.is_by(UnitNo(2))).eq([true]));
-    assert!(rt; state.copied_elements_of(rt.alloc(), QueueNo(1))?.is_empty());
+    assert!(rt; copies(rt.alloc(), &state)?);
     Ok(())
 }
 
@@ -85,19 +104,42 @@ fn fields(alloc: Global) -> Fields {
     }
 }
 
+// Pours the part of the first queue of a state.
+fn pour_first(alloc: Global, state: &State, fields: &mut Fields) -> Result<bool, Fail> {
+    if state.definition_count() == 0 {
+        return Ok(false);
+    }
+    let part = Part::of(alloc, state, QueueNo(0))?;
+    let is_first = part.queue() == QueueNo(0);
+    part.pour(fields)?;
+    Ok(is_first)
+}
+
 #[test]
 fn a_part_is_poured_out(rt: HostRuntime) -> Result<(), Fail> {
     let state = state_at_checkpoint(&rt)?;
     let mut fields = fields(rt.alloc());
-    if state.definition_count() > 0 {
-        let part = Part::of(rt.alloc(), &state, QueueNo(0))?;
-        assert_eq!(rt; part.queue(), QueueNo(0));
-        part.pour(&mut fields)?;
-    }
-    assert_eq!(rt; fields.elements.len(), 2);
-    assert_eq!(rt; fields.registrants.len(), 1);
-    assert_eq!(rt; fields.notes.len(), 1);
+    assert!(rt; pour_first(rt.alloc(), &state, &mut fields)?);
+    let counts = [
+        fields.elements.len(),
+        fields.registrants.len(),
+        fields.notes.len(),
+    ];
+    assert_eq!(rt; counts, [2, 1, 1]);
     Ok(())
+}
+
+fn has_numbers(restarted: &Restarted) -> bool {
+    let places = [restarted.records(), restarted.used(), restarted.total()];
+    let units = [
+        restarted.committed(),
+        restarted.aborted(),
+        restarted.cut_off(),
+    ];
+    places == [9, 679, 679]
+        && units == [1, 0, 1]
+        && restarted.why() == Why::Whole
+        && restarted.state().element_count() == 1
 }
 
 #[test]
@@ -105,16 +147,14 @@ fn a_restart_from_a_checkpoint_has_the_numbers_of_the_log(rt: HostRuntime) -> Re
     let log = log_of(&rt, &CHECKPOINT[..9])?;
     let plan = Plan::new(1, 1).ok_or("plan")?;
     let restarted = restart_at(&rt, rt.alloc(), &log, 447, &plan, &Open)?;
-    let places = [restarted.records(), restarted.used(), restarted.total()];
-    assert_eq!(rt; places, [9, 679, 679]);
-    let units = [
-        restarted.committed(),
-        restarted.aborted(),
-        restarted.cut_off(),
-    ];
-    assert_eq!(rt; units, [1, 0, 1]);
-    assert!(rt; restarted.why() == Why::Whole);
-    assert_eq!(rt; restarted.state().element_count(), 1);
+    assert!(rt; has_numbers(&restarted));
+    Ok(())
+}
+
+#[test]
+fn an_audit_tells_the_offset_of_a_checkpoint(rt: HostRuntime) -> Result<(), Fail> {
+    let log = log_of(&rt, &CHECKPOINT[..9])?;
+    let plan = Plan::new(1, 1).ok_or("plan")?;
     let found = audit(&rt, rt.alloc(), &log, &plan)?;
     assert_eq!(rt; found.as_slice(), [(447u64, true)].as_slice());
     Ok(())

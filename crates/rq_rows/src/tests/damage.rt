@@ -1,7 +1,8 @@
 //! Damaged logs, and logs whose records are not lawful.
 
+use super::rows::{BOTH, Row};
 use super::scripts::ONE_ELEMENT;
-use super::{log_of, refusal, reports, says};
+use super::{log_of, refusal, reports};
 use rq_front::frame;
 use rq_tool::Fault;
 use sha2::{Digest, Sha256};
@@ -13,8 +14,36 @@ const NO_UNIT: &str = "units 0 committed, 0 aborted, 0 cut off";
 
 const ONE_CUT_OFF: &str = "units 0 committed, 0 aborted, 1 cut off";
 
-// The log with these bytes in place of those at the offset.
-fn changed(mut log: Vec<u8>, offset: usize, bytes: &[u8]) -> Vec<u8> {
+/// Records that are not lawful.
+pub const UNLAWFUL: [Row; 3] = [
+    Row {
+        name: "unlawful",
+        versions: &BOTH,
+        script: &["define jobs 0 -", "commit 7", "begin 1"],
+        lines: 3,
+        bytes: 177,
+        report: &["front 1 records, 87 of 177 bytes, law", NO_UNIT, JOBS],
+    },
+    Row {
+        name: "unit 0",
+        versions: &BOTH,
+        script: &["begin 0"],
+        lines: 1,
+        bytes: 85,
+        report: &["front 0 records, 40 of 85 bytes, law", NO_UNIT],
+    },
+    Row {
+        name: "error queue undefined",
+        versions: &BOTH,
+        script: &["define a 1 0"],
+        lines: 1,
+        bytes: 84,
+        report: &["front 0 records, 40 of 84 bytes, law", NO_UNIT],
+    },
+];
+
+/// The log with these bytes in place of those at the offset.
+pub fn changed(mut log: Vec<u8>, offset: usize, bytes: &[u8]) -> Vec<u8> {
     let places = log.iter_mut().skip(offset);
     for (place, byte) in places.zip(bytes) {
         *place = *byte;
@@ -83,28 +112,7 @@ fn an_unchained_digest_ends_the_front(rt: HostRuntime) -> Result<(), Fail> {
 }
 
 #[test]
-fn records_that_are_none_or_not_lawful_end_the_front(rt: HostRuntime) -> Result<(), Fail> {
-    let unlawful = says(
-        &rt,
-        &["define jobs 0 -", "commit 7", "begin 1"],
-        177,
-        &["front 1 records, 87 of 177 bytes, law", NO_UNIT, JOBS],
-    )?;
-    assert!(rt; unlawful, "unlawful");
-    let zero = says(
-        &rt,
-        &["begin 0"],
-        85,
-        &["front 0 records, 40 of 85 bytes, law", NO_UNIT],
-    )?;
-    assert!(rt; zero, "unit 0");
-    let undefined = says(
-        &rt,
-        &["define a 1 0"],
-        84,
-        &["front 0 records, 40 of 84 bytes, law", NO_UNIT],
-    )?;
-    assert!(rt; undefined, "error queue undefined");
+fn what_is_no_record_ends_the_front(rt: HostRuntime) -> Result<(), Fail> {
     let mut log = log_of(&rt, &[])?;
     let mut last = [0u8; 32];
     last.copy_from_slice(log.get(8..40).ok_or("header")?);

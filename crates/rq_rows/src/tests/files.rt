@@ -1,6 +1,6 @@
 //! Files as they are after a call.
 
-use crate::{Late, Names, in_place, put};
+use rq_file::{Late, Names, in_place, put};
 use std::fs;
 use std::io::{ErrorKind, Write};
 use std::os::unix::fs::symlink;

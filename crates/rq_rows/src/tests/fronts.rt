@@ -6,6 +6,7 @@ use rq_restart::front_state;
 use rq_state::{spell, spelled_len};
 use rq_tool::{Command, Fault, Plan};
 use sha2::{Digest, Sha256};
+use std::alloc::Global;
 use std::test::Fail;
 use std::thread::Threads;
 
@@ -35,6 +36,22 @@ fn behind_eight<R: Threads + Sync + AllocGlobal>(rt: &R, line: &str) -> Result<V
     log_of(rt, &script[..9])
 }
 
+// Whether the state after the front of a log has this next record number, and spells these bytes.
+fn spells<R: Threads + Sync + AllocGlobal>(
+    rt: &R,
+    log: &[u8],
+    plan: &Plan,
+    next: u64,
+    want: &[u8],
+) -> Result<bool, Fail> {
+    let state = front_state(rt, rt.alloc(), log, plan)?;
+    if state.next() != next || next > 4_294_967_295 {
+        return Ok(false);
+    }
+    let len = spelled_len(&state) == want.len() as u128;
+    Ok(len && spell(rt.alloc(), &state)?.as_slice() == want)
+}
+
 #[test]
 fn the_state_after_a_front_has_its_open_units(rt: HostRuntime) -> Result<(), Fail> {
     let told = behind_eight(&rt, INSIDE_A_UNIT)?;
@@ -43,11 +60,7 @@ fn the_state_after_a_front_has_its_open_units(rt: HostRuntime) -> Result<(), Fai
     assert_eq!(rt; log.len(), FRAME);
     for (workers, grain) in PLANS {
         let plan = Plan::new(workers, grain).ok_or("plan")?;
-        let state = front_state(&rt, rt.alloc(), &log, &plan)?;
-        assert_eq!(rt; state.next(), 8);
-        assert!(rt; spelled_len(&state) == 195);
-        let spelled = spell(rt.alloc(), &state)?;
-        assert!(rt; spelled.as_slice() == want, "{workers} workers");
+        assert!(rt; spells(&rt, &log, &plan, 8, want)?, "{workers} workers");
     }
     Ok(())
 }
@@ -56,51 +69,62 @@ fn the_state_after_a_front_has_its_open_units(rt: HostRuntime) -> Result<(), Fai
 fn a_front_of_nothing_has_the_empty_state(rt: HostRuntime) -> Result<(), Fail> {
     let log = log_of(&rt, &[])?;
     let plan = Plan::new(2, 1).ok_or("plan")?;
-    let state = front_state(&rt, rt.alloc(), &log, &plan)?;
-    assert_eq!(rt; state.next(), 0);
-    assert!(rt; spelled_len(&state) == 52);
-    let spelled = spell(rt.alloc(), &state)?;
-    assert!(rt; spelled.as_slice() == [0u8; 52].as_slice());
+    assert!(rt; spells(&rt, &log, &plan, 0, &[0; 52])?);
     let short = front_state(&rt, rt.alloc(), log.get(..39).ok_or("log")?, &plan);
     assert_eq!(rt; short.err(), Some(Fault::NotALog));
     Ok(())
 }
 
+// A header of version 3, with the right digest.
+fn header_of_three(alloc: Global) -> Result<Vec<u8>, Fail> {
+    let mut first = *b"RQLOG\0\0\x01";
+    first[7] = 3;
+    let mut header = vec![in alloc; 0u8; 40]?;
+    header[..8].copy_from_slice(&first);
+    header[8..].copy_from_slice(Sha256::digest(&first).as_slice());
+    Ok(header)
+}
+
 #[test]
 fn what_is_no_log_has_no_audit(rt: HostRuntime) -> Result<(), Fail> {
     let log = log_of(&rt, &ONE_ELEMENT)?;
-    assert_eq!(rt; audit_refusal(&rt, &[])?, Some(Fault::NotALog));
-    let (short, empty) = (log.get(..39).ok_or("log")?, log.get(..40).ok_or("log")?);
-    assert_eq!(rt; audit_refusal(&rt, short)?, Some(Fault::NotALog));
-    assert_eq!(rt; audit_refusal(&rt, empty)?, None);
-    let mut other = *b"RQLOG\0\0\x01";
-    other[7] = 3;
-    let mut version = vec![in rt.alloc(); 0u8; 40]?;
-    version[..8].copy_from_slice(&other);
-    version[8..].copy_from_slice(Sha256::digest(&other).as_slice());
-    assert_eq!(rt; audit_refusal(&rt, &version)?, Some(Fault::NotALog));
+    for (length, refused) in [
+        (0, Some(Fault::NotALog)),
+        (39, Some(Fault::NotALog)),
+        (40, None),
+    ] {
+        let bytes = log.get(..length).ok_or("log")?;
+        assert_eq!(rt; audit_refusal(&rt, bytes)?, refused, "{length} bytes");
+    }
+    let other = header_of_three(rt.alloc())?;
+    assert_eq!(rt; audit_refusal(&rt, &other)?, Some(Fault::NotALog));
     Ok(())
+}
+
+// The line of the checkpoint with another digit at a place.
+fn with_another_digit(alloc: Global, place: usize) -> Result<String, Fail> {
+    let mut line = Vec::from_slice(alloc, INSIDE_A_UNIT.as_bytes())?;
+    if let Some(digit) = line.get_mut(place) {
+        *digit = if *digit == b'0' { b'1' } else { b'0' };
+    }
+    String::from_utf8(line).map_err(|_| "line".into())
+}
+
+// Whether the audit of the script with this line tells so of its checkpoint.
+fn tells<R: Threads + Sync + AllocGlobal>(rt: &R, line: &str, told: &str) -> Result<bool, Fail> {
+    let plan = Plan::new(1, 1).ok_or("plan")?;
+    let log = behind_eight(rt, line)?;
+    let found = answer(rt, &Command::Audit { log: "log", plan }, &log)?;
+    Ok(found == lines(rt.alloc(), &[told])?)
 }
 
 #[test]
 fn a_checkpoint_with_any_byte_changed_is_false(rt: HostRuntime) -> Result<(), Fail> {
-    let plan = Plan::new(1, 1).ok_or("plan")?;
-    let command = Command::Audit { log: "log", plan };
-    let told = lines(rt.alloc(), &["checkpoint 447 true"])?;
-    let false_one = lines(rt.alloc(), &["checkpoint 447 false"])?;
-    assert_eq!(rt;
-        answer(&rt, &command, &behind_eight(&rt, INSIDE_A_UNIT)?)?,
-        told
-    );
-    let hex = INSIDE_A_UNIT.as_bytes();
+    assert!(rt; tells(&rt, INSIDE_A_UNIT, "checkpoint 447 true")?);
     for place in (15..405).step_by(6) {
-        let mut line = Vec::new(rt.alloc());
-        line.extend_from_slice(hex)?;
-        line[place] = if line[place] == b'0' { b'1' } else { b'0' };
-        let line = str::from_utf8(&line).map_err(|_| "line")?;
-        assert_eq!(rt;
-            answer(&rt, &command, &behind_eight(&rt, line)?)?,
-            false_one,
+        let line = with_another_digit(rt.alloc(), place)?;
+        assert!(rt;
+            tells(&rt, line.as_str(), "checkpoint 447 false")?,
             "digit {place}"
         );
     }

@@ -64,35 +64,42 @@ fn has_front<R: Threads + Sync + AllocGlobal>(
     Ok(same)
 }
 
+// Why the front ends of a beginning of the log, which is no log without the header.
+fn why_of_beginning(length: usize) -> Option<&'static str> {
+    if length < 40 {
+        None
+    } else if end_of(frames_before(length)) == length {
+        Some("whole")
+    } else {
+        Some("cut")
+    }
+}
+
+// Whether a beginning of the log is no log, or has the front of its whole frames.
+fn has_whole_frames<R: Threads + Sync + AllocGlobal>(
+    rt: &R,
+    bytes: &[u8],
+    rests: &[Vec<u8>],
+) -> Result<bool, Fail> {
+    match why_of_beginning(bytes.len()) {
+        Some(why) => has_front(rt, bytes, frames_before(bytes.len()), why, rests),
+        None => Ok(refusal(rt, bytes)? == Some(Fault::NotALog)),
+    }
+}
+
 #[test]
 fn every_beginning_has_the_front_of_its_whole_frames(rt: HostRuntime) -> Result<(), Fail> {
     let log = log_of(&rt, &RETURN_AND_ARRIVAL)?;
     assert_eq!(rt; log.len(), 745);
     let rests = rests(&rt)?;
-    let (mut none, mut whole, mut cut) = (0u32, 0u32, 0u32);
     for length in 0..745 {
         let bytes = log.get(..length).ok_or("beginning")?;
-        if length < 40 {
-            none = none.saturating_add(1);
-            assert_eq!(rt;
-                refusal(&rt, bytes)?,
-                Some(Fault::NotALog),
-                "{length} bytes"
-            );
-            continue;
-        }
-        let frames = frames_before(length);
-        let is_whole = end_of(frames) == length;
-        if is_whole {
-            whole = whole.saturating_add(1);
-        } else {
-            cut = cut.saturating_add(1);
-        }
-        let why = if is_whole { "whole" } else { "cut" };
-        let is = has_front(&rt, bytes, frames, why, &rests)?;
-        assert!(rt; is, "{length} bytes");
+        assert!(rt; has_whole_frames(&rt, bytes, &rests)?, "{length} bytes");
     }
-    assert_eq!(rt; (none, whole, cut), (40, 14, 691));
+    for (why, count) in [(None, 40), (Some("whole"), 14), (Some("cut"), 691)] {
+        let lengths = (0..745).filter(|length| why_of_beginning(*length) == why);
+        assert_eq!(rt; lengths.count(), count, "{why:?}");
+    }
     Ok(())
 }
 
@@ -111,23 +118,37 @@ fn why_after(bytes: &[u8], frames: usize) -> Result<&'static str, Fail> {
     Ok(if has_room { "chain" } else { "cut" })
 }
 
+// Whether the log, changed at an offset, is no log, or has the front before the frame of that byte.
+fn ends_before<R: Threads + Sync + AllocGlobal>(
+    rt: &R,
+    bytes: &[u8],
+    offset: usize,
+    rests: &[Vec<u8>],
+) -> Result<bool, Fail> {
+    if offset < 40 {
+        return Ok(refusal(rt, bytes)? == Some(Fault::NotALog));
+    }
+    let frames = frames_before(offset);
+    has_front(rt, bytes, frames, why_after(bytes, frames)?, rests)
+}
+
+/// Changes a byte, or changes it back.
+pub fn flip(bytes: &mut [u8], offset: usize, mask: u8) {
+    if let Some(byte) = bytes.get_mut(offset) {
+        *byte ^= mask;
+    }
+}
+
 #[test]
 fn every_changed_byte_ends_the_front_before_its_frame(rt: HostRuntime) -> Result<(), Fail> {
     let mut log = log_of(&rt, &RETURN_AND_ARRIVAL)?;
     let rests = rests(&rt)?;
     for offset in 0..745 {
         for mask in [0x01u8, 0xff] {
-            let byte = *log.get(offset).ok_or("byte")?;
-            *log.get_mut(offset).ok_or("byte")? = byte ^ mask;
-            if offset < 40 {
-                assert_eq!(rt; refusal(&rt, &log)?, Some(Fault::NotALog), "byte {offset}");
-            } else {
-                let frames = frames_before(offset);
-                let why = why_after(&log, frames)?;
-                let is = has_front(&rt, &log, frames, why, &rests)?;
-                assert!(rt; is, "byte {offset} by {mask}");
-            }
-            *log.get_mut(offset).ok_or("byte")? = byte;
+            flip(&mut log, offset, mask);
+            let is = ends_before(&rt, &log, offset, &rests)?;
+            assert!(rt; is, "byte {offset} by {mask}");
+            flip(&mut log, offset, mask);
         }
     }
     Ok(())

@@ -1,42 +1,65 @@
 //! A log with two hundred queues, twenty of them error queues.
 
-use super::{PLANS, answer, lines, log_of};
-use rq_tool::{Command, Gate, OverRead, OverWrite, Plan, run};
+use super::{PLANS, answer, lines, log_of_made, report_at};
+use rq_tool::{Command, Gate, Plan};
 use std::alloc::Global;
 use std::fmt::Write;
-use std::io::Cursor;
 use std::sync::atomic::{AtomicU64, Ordering};
 use std::test::Fail;
 use std::thread::Threads;
 
-// The script's lines: queues `d0` to `d19`, then `q20` to `q199` whose elements go to them at
-// their first abort.
+// Queues `d0` to `d19`, then `q20` to `q199` whose elements go to them at their first abort.
+fn define_all(alloc: Global, lines: &mut Vec<String>) -> Result<(), Fail> {
+    for queue in 0..200u32 {
+        let error = queue % 20;
+        lines.push(if queue < 20 {
+            format!(in alloc; "define d{queue} 0 -")?
+        } else {
+            format!(in alloc; "define q{queue} 1 {error}")?
+        })?;
+    }
+    Ok(())
+}
+
+// An element is put into a queue, by a unit that commits.
+fn put_in(alloc: Global, lines: &mut Vec<String>, queue: u32) -> Result<(), Fail> {
+    let (unit, priority) = (queue.saturating_sub(19), queue % 7);
+    let payload = payload(alloc, queue)?;
+    lines.push(format!(in alloc; "begin {unit}")?)?;
+    lines.push(format!(in alloc; "enqueue {unit} {queue} {priority} - 0 {payload}")?)?;
+    lines.push(format!(in alloc; "commit {unit}")?)?;
+    Ok(())
+}
+
+// How the unit that takes an element of a queue ends, if it does.
+fn end_of(queue: u32) -> Option<&'static str> {
+    match queue % 3 {
+        0 => Some("abort"),
+        2 => Some("commit"),
+        _ => None,
+    }
+}
+
+// It is taken by a unit that aborts, commits or stays open.
+fn take_out(alloc: Global, lines: &mut Vec<String>, queue: u32) -> Result<(), Fail> {
+    let unit = queue.saturating_add(161);
+    lines.push(format!(in alloc; "begin {unit}")?)?;
+    lines.push(format!(in alloc; "dequeue {unit} {queue} - 0")?)?;
+    if let Some(end) = end_of(queue) {
+        lines.push(format!(in alloc; "{end} {unit}")?)?;
+    }
+    Ok(())
+}
+
+// The script's lines.
 fn script(alloc: Global) -> Result<Vec<String>, Fail> {
     let mut lines = Vec::new(alloc);
-    for d in 0..20u32 {
-        lines.push(format!(in alloc; "define d{d} 0 -")?)?;
+    define_all(alloc, &mut lines)?;
+    for queue in 20..200 {
+        put_in(alloc, &mut lines, queue)?;
     }
-    for q in 20..200u32 {
-        let error = q % 20;
-        lines.push(format!(in alloc; "define q{q} 1 {error}")?)?;
-    }
-    for q in 20..200u32 {
-        let unit = q - 19;
-        let priority = q % 7;
-        let payload = payload(alloc, q)?;
-        lines.push(format!(in alloc; "begin {unit}")?)?;
-        lines.push(format!(in alloc; "enqueue {unit} {q} {priority} - 0 {payload}")?)?;
-        lines.push(format!(in alloc; "commit {unit}")?)?;
-    }
-    for q in 20..200u32 {
-        let unit = q + 161;
-        lines.push(format!(in alloc; "begin {unit}")?)?;
-        lines.push(format!(in alloc; "dequeue {unit} {q} - 0")?)?;
-        match q % 3 {
-            0 => lines.push(format!(in alloc; "abort {unit}")?)?,
-            2 => lines.push(format!(in alloc; "commit {unit}")?)?,
-            _ => {}
-        }
+    for queue in 20..200 {
+        take_out(alloc, &mut lines, queue)?;
     }
     Ok(lines)
 }
@@ -56,9 +79,7 @@ fn payload(alloc: Global, queue: u32) -> Result<String, Fail> {
 }
 
 pub fn log<R: Threads + Sync + AllocGlobal>(rt: &R) -> Result<Vec<u8>, Fail> {
-    let made = script(rt.alloc())?;
-    let words: Vec<&str> = made.iter().map(|line| line.as_str()).collect(rt.alloc())?;
-    log_of(rt, &words)
+    log_of_made(rt, &script(rt.alloc())?)
 }
 
 // The lines of the report: each element of a queue that is no multiple of three and two ends in
@@ -118,28 +139,32 @@ impl Gate for Entries {
     }
 }
 
+// Room for 201 queues, of which none has entered.
+fn no_entries(alloc: Global) -> Result<Entries, Fail> {
+    let mut queues = Vec::new(alloc);
+    for _ in 0..201 {
+        queues.push(AtomicU64::new(0))?;
+    }
+    Ok(Entries { queues })
+}
+
+// Whether the 200 queues entered, each once, and no other.
+fn each_entered_once(entries: &Entries) -> bool {
+    let mut all = true;
+    for (queue, times) in entries.queues.iter().enumerate() {
+        let want = if queue < 200 { 1 } else { 0 };
+        all = all && times.load(Ordering::SeqCst) == want;
+    }
+    all
+}
+
 #[test]
 fn every_queue_enters_the_gate(rt: HostRuntime) -> Result<(), Fail> {
     let log = log(&rt)?;
     for workers in [1, 2, 7, 64] {
-        let plan = Plan::new(workers, 1000).ok_or("plan")?;
-        let mut gate = Entries {
-            queues: Vec::new(rt.alloc()),
-        };
-        for _ in 0..201 {
-            gate.queues.push(AtomicU64::new(0))?;
-        }
-        let mut input = OverRead::new(Cursor::new(log.as_slice()));
-        let mut output = OverWrite::new(Vec::new(rt.alloc()));
-        run(&rt, rt.alloc(), &mut input, &mut output, &plan, &gate)?;
-        for (queue, times) in gate.queues.iter().enumerate() {
-            let want = if queue < 200 { 1 } else { 0 };
-            assert_eq!(rt;
-                times.load(Ordering::SeqCst),
-                want,
-                "{workers} workers, queue {queue}"
-            );
-        }
+        let gate = no_entries(rt.alloc())?;
+        report_at(&rt, &log, workers, &gate)?;
+        assert!(rt; each_entered_once(&gate), "{workers} workers");
     }
     Ok(())
 }

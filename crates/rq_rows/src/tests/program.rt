@@ -46,25 +46,31 @@ fn known(words: &[&str]) -> &'static str {
     }
 }
 
+// Words, and the first word of the command that they give; nothing where they give none.
+const LINES: [(&[&str], &str); 13] = [
+    (&["make", "a", "b"], "make"),
+    (&["make2", "a", "b"], "make2"),
+    (&["restart", "a", "64", "1000000"], "restart"),
+    (
+        &["restart-at", "a", "18446744073709551615", "1", "1"],
+        "restart-at",
+    ),
+    (&["restart-at", "a", "18446744073709551616", "1", "1"], ""),
+    (&["restart-at", "a", "1", "1"], ""),
+    (&["audit", "a", "2"], "audit"),
+    (&["close", "a", "b", "2"], "close"),
+    (&["close", "a", "b", "2", "1"], ""),
+    (&["upgrade", "a", "b", "2"], "upgrade"),
+    (&["upgrade", "a", "b", "2", "1"], ""),
+    (&[], ""),
+    (&["restarts", "a", "1", "1"], ""),
+];
+
 #[test]
 fn a_line_is_a_command_or_usage(rt: HostRuntime) -> Result<(), Fail> {
-    assert_eq!(rt; known(&["make", "a", "b"]), "make");
-    assert_eq!(rt; known(&["make2", "a", "b"]), "make2");
-    assert_eq!(rt; known(&["restart", "a", "64", "1000000"]), "restart");
-    let last = "18446744073709551615";
-    assert_eq!(rt; known(&["restart-at", "a", last, "1", "1"]), "restart-at");
-    assert_eq!(rt; known(&["audit", "a", "2"]), "audit");
-    assert_eq!(rt; known(&["close", "a", "b", "2"]), "close");
-    assert_eq!(rt; known(&["close", "a", "b", "2", "1"]), "");
-    assert_eq!(rt; known(&["upgrade", "a", "b", "2"]), "upgrade");
-    assert_eq!(rt; known(&["upgrade", "a", "b", "2", "1"]), "");
-    assert_eq!(rt; known(&[]), "");
-    assert_eq!(rt;
-        known(&["restart-at", "a", "18446744073709551616", "1", "1"]),
-        ""
-    );
-    assert_eq!(rt; known(&["restart-at", "a", "1", "1"]), "");
-    assert_eq!(rt; known(&["restarts", "a", "1", "1"]), "");
+    for (words, want) in LINES {
+        assert_eq!(rt; known(words), want, "{words:?}");
+    }
     Ok(())
 }
 

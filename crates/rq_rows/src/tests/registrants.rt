@@ -1,16 +1,16 @@
 //! What registrants are told after a restart.
 
-use super::says;
+use super::rows::{BOTH, Row};
 use super::scripts::PLACE;
-use std::test::Fail;
 
 const JOBS: &str = "queue 0 jobs limit 0 error -";
 
-#[test]
-fn registrants_learn_how_far_they_came(rt: HostRuntime) -> Result<(), Fail> {
-    let own = says(
-        &rt,
-        &[
+/// What registrants are told.
+pub const REGISTRANTS: [Row; 5] = [
+    Row {
+        name: "own fresh element",
+        versions: &BOTH,
+        script: &[
             "define jobs 0 -",
             "register 0 ann",
             "begin 1",
@@ -18,21 +18,23 @@ fn registrants_learn_how_far_they_came(rt: HostRuntime) -> Result<(), Fail> {
             "dequeue 1 0 ann 4",
             "commit 1",
         ],
-        342,
-        &[
+        lines: 6,
+        bytes: 342,
+        report: &[
             "front 6 records, 342 of 342 bytes, whole",
             "units 1 committed, 0 aborted, 0 cut off",
             JOBS,
             "e 3 from 0 priority 5 attempts 0 61",
             "r ann dequeue tag 4 element -",
         ],
-    )?;
-    assert!(rt; own, "own fresh element");
-    let by_place = says(
-        &rt,
-        &PLACE[..8],
-        437,
-        &[
+    },
+    Row {
+        name: "place, not commit order",
+        versions: &BOTH,
+        script: &PLACE,
+        lines: 8,
+        bytes: 437,
+        report: &[
             "front 8 records, 437 of 437 bytes, whole",
             "units 2 committed, 0 aborted, 0 cut off",
             JOBS,
@@ -40,13 +42,14 @@ fn registrants_learn_how_far_they_came(rt: HostRuntime) -> Result<(), Fail> {
             "e 5 from 0 priority 5 attempts 0 62",
             "r ann enqueue tag 20 element 5",
         ],
-    )?;
-    assert!(rt; by_place, "place, not commit order");
-    let again = says(
-        &rt,
-        &PLACE,
-        481,
-        &[
+    },
+    Row {
+        name: "register again",
+        versions: &BOTH,
+        script: &PLACE,
+        lines: 9,
+        bytes: 481,
+        report: &[
             "front 9 records, 481 of 481 bytes, whole",
             "units 2 committed, 0 aborted, 0 cut off",
             JOBS,
@@ -54,16 +57,11 @@ fn registrants_learn_how_far_they_came(rt: HostRuntime) -> Result<(), Fail> {
             "e 5 from 0 priority 5 attempts 0 62",
             "r ann enqueue tag 20 element 5",
         ],
-    )?;
-    assert!(rt; again, "register again");
-    Ok(())
-}
-
-#[test]
-fn registrants_are_forgotten_and_kept_apart(rt: HostRuntime) -> Result<(), Fail> {
-    let forgets = says(
-        &rt,
-        &[
+    },
+    Row {
+        name: "deregister forgets",
+        versions: &BOTH,
+        script: &[
             "define jobs 0 -",
             "register 0 ann",
             "begin 1",
@@ -72,19 +70,20 @@ fn registrants_are_forgotten_and_kept_apart(rt: HostRuntime) -> Result<(), Fail>
             "register 0 ann",
             "commit 1",
         ],
-        372,
-        &[
+        lines: 7,
+        bytes: 372,
+        report: &[
             "front 7 records, 372 of 372 bytes, whole",
             "units 1 committed, 0 aborted, 0 cut off",
             JOBS,
             "e 3 from 0 priority 5 attempts 0 61",
             "r ann none",
         ],
-    )?;
-    assert!(rt; forgets, "deregister forgets");
-    let two = says(
-        &rt,
-        &[
+    },
+    Row {
+        name: "two registrants of one name",
+        versions: &BOTH,
+        script: &[
             "define a 0 -",
             "define b 0 -",
             "register 0 x",
@@ -94,8 +93,9 @@ fn registrants_are_forgotten_and_kept_apart(rt: HostRuntime) -> Result<(), Fail>
             "dequeue 1 1 x 8",
             "commit 1",
         ],
-        421,
-        &[
+        lines: 8,
+        bytes: 421,
+        report: &[
             "front 8 records, 421 of 421 bytes, whole",
             "units 1 committed, 0 aborted, 0 cut off",
             "queue 0 a limit 0 error -",
@@ -104,7 +104,5 @@ fn registrants_are_forgotten_and_kept_apart(rt: HostRuntime) -> Result<(), Fail>
             "queue 1 b limit 0 error -",
             "r x dequeue tag 8 element -",
         ],
-    )?;
-    assert!(rt; two, "two registrants of one name");
-    Ok(())
-}
+    },
+];

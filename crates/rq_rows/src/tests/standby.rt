@@ -79,76 +79,131 @@ fn state_before(alloc: Global, next: u64) -> Result<State, Fail> {
     Ok(read_in(alloc, Version::One, &bytes)?)
 }
 
+// Whether the keeper stands where the front of the log ends.
+fn stands_behind<R: Threads + Sync + AllocGlobal>(
+    rt: &R,
+    keeper: &Keeper,
+    log: &[u8],
+    plan: &Plan,
+) -> Result<bool, Fail> {
+    let got = spelling(rt.alloc(), keeper.state())?;
+    Ok(got == spelling_after(rt, log, plan)?)
+}
+
+// Whether a new keeper that takes the log's records in pieces stands where its front ends.
+fn goes_along<R: Threads + Sync + AllocGlobal>(
+    rt: &R,
+    log: &[u8],
+    ends: &[usize],
+    plan: &Plan,
+) -> Result<bool, Fail> {
+    let records = records(rt, Version::One, log)?;
+    let mut keeper = Keeper::new(Version::One, State::empty(rt.alloc()));
+    let all = takes_all(rt, &mut keeper, &records, ends, plan)?;
+    Ok(all && stands_behind(rt, &keeper, log, plan)?)
+}
+
 #[test]
 fn a_keeper_stands_where_the_front_of_the_log_ends(rt: HostRuntime) -> Result<(), Fail> {
     for script in [&RETURN_AND_ARRIVAL[..], &CHECKPOINT[..]] {
         let log = log_of(&rt, script)?;
-        let records = records(&rt, Version::One, &log)?;
         for (ends, workers) in [(SINGLY, 1), (IN_SOME, 7), (AT_ONCE, 64)] {
             let plan = Plan::new(workers, 1).ok_or("plan")?;
-            let want = spelling_after(&rt, &log, &plan)?;
-            let mut keeper = Keeper::new(Version::One, State::empty(rt.alloc()));
-            assert!(rt; takes_all(&rt, &mut keeper, &records, ends, &plan)?);
-            let got = spelling(rt.alloc(), keeper.state())?;
-            assert!(rt; got == want, "{workers} workers");
+            assert!(rt; goes_along(&rt, &log, ends, &plan)?, "{workers} workers");
         }
     }
     Ok(())
+}
+
+// A keeper that begins with the state after so many records of the script `RETURN_AND_ARRIVAL`.
+fn keeper_after<R: Threads + Sync + AllocGlobal>(
+    rt: &R,
+    count: usize,
+    plan: &Plan,
+) -> Result<Keeper, Fail> {
+    let log = log_of(rt, RETURN_AND_ARRIVAL.get(..count).ok_or("script")?)?;
+    let spelled = spelling_after(rt, &log, plan)?;
+    let base = read_in(rt.alloc(), Version::One, &spelled)?;
+    Ok(Keeper::new(Version::One, base))
+}
+
+// Whether a keeper that begins behind so many records of the log goes on to its end.
+fn goes_on_behind<R: Threads + Sync + AllocGlobal>(
+    rt: &R,
+    log: &[u8],
+    count: usize,
+    plan: &Plan,
+) -> Result<bool, Fail> {
+    let records = records(rt, Version::One, log)?;
+    let rest = records.get(count..).ok_or("rest")?;
+    let mut keeper = keeper_after(rt, count, plan)?;
+    let all = keeper.take(rt, rt.alloc(), rest, plan)? == rest.len();
+    Ok(all && stands_behind(rt, &keeper, log, plan)?)
 }
 
 #[test]
 fn a_keeper_goes_on_from_a_checkpoint(rt: HostRuntime) -> Result<(), Fail> {
     let plan = Plan::new(2, 1).ok_or("plan")?;
     let log = log_of(&rt, &RETURN_AND_ARRIVAL)?;
-    let records = records(&rt, Version::One, &log)?;
-    let want = spelling_after(&rt, &log, &plan)?;
-    for place in 0..records.len() {
-        let beginning = log_of(&rt, RETURN_AND_ARRIVAL.get(..place).ok_or("script")?)?;
-        let spelled = spelling_after(&rt, &beginning, &plan)?;
-        let base = read_in(rt.alloc(), Version::One, &spelled)?;
-        let mut keeper = Keeper::new(Version::One, base);
-        let rest = records.get(place..).ok_or("rest")?;
-        assert_eq!(rt; keeper.take(&rt, rt.alloc(), rest, &plan)?, rest.len());
-        assert!(rt;
-            spelling(rt.alloc(), keeper.state())? == want,
-            "from {place}"
-        );
+    for count in 0..RETURN_AND_ARRIVAL.len() {
+        assert!(rt; goes_on_behind(&rt, &log, count, &plan)?, "behind {count}");
     }
     Ok(())
+}
+
+// The records of a log, and two more, of which the first is not lawful.
+fn with_two_more<R: Threads + Sync + AllocGlobal>(rt: &R, log: &[u8]) -> Result<Vec<Record>, Fail> {
+    let mut records = records(rt, Version::One, log)?;
+    records.push(Record::Commit { unit: UnitNo(1) })?;
+    records.push(Record::Begin { unit: UnitNo(2) })?;
+    Ok(records)
+}
+
+// How many records a keeper takes of these, how many of the last, and the next record number then;
+// and whether it stood where the log's front ends before the last.
+fn stops<R: Threads + Sync + AllocGlobal>(
+    rt: &R,
+    log: &[u8],
+    plan: &Plan,
+) -> Result<(usize, bool, usize, u64), Fail> {
+    let records = with_two_more(rt, log)?;
+    let mut keeper = Keeper::new(Version::One, State::empty(rt.alloc()));
+    let taken = keeper.take(rt, rt.alloc(), &records, plan)?;
+    let stood = stands_behind(rt, &keeper, log, plan)?;
+    let last = records.get(5..).ok_or("last")?;
+    let more = keeper.take(rt, rt.alloc(), last, plan)?;
+    Ok((taken, stood, more, keeper.state().next()))
 }
 
 #[test]
 fn a_keeper_stops_before_an_unlawful_record(rt: HostRuntime) -> Result<(), Fail> {
     let plan = Plan::new(2, 1).ok_or("plan")?;
     let log = log_of(&rt, &ONE_ELEMENT)?;
-    let mut records = records(&rt, Version::One, &log)?;
-    records.push(Record::Commit { unit: UnitNo(1) })?;
-    records.push(Record::Begin { unit: UnitNo(2) })?;
-    let mut keeper = Keeper::new(Version::One, State::empty(rt.alloc()));
-    assert_eq!(rt; keeper.take(&rt, rt.alloc(), &records, &plan)?, 4);
-    let want = spelling_after(&rt, &log, &plan)?;
-    assert!(rt; spelling(rt.alloc(), keeper.state())? == want);
-    let last = records.get(5..).ok_or("last")?;
-    assert_eq!(rt; keeper.take(&rt, rt.alloc(), last, &plan)?, 1);
-    assert_eq!(rt; keeper.state().next(), 5);
+    assert_eq!(rt; stops(&rt, &log, &plan)?, (4, true, 1, 5));
     Ok(())
+}
+
+// How many records a keeper takes of a KILL, behind a script that puts in an element, and how many
+// elements there are then.
+fn after_kill<R: Threads + Sync + AllocGlobal>(
+    rt: &R,
+    version: Version,
+) -> Result<(usize, usize), Fail> {
+    let plan = Plan::new(2, 1).ok_or("plan")?;
+    let mut records = records(rt, version, &log_in(rt, version, &ONE_ELEMENT)?)?;
+    records.push(Record::Kill {
+        queue: QueueNo(0),
+        element: ElemId(2),
+    })?;
+    let mut keeper = Keeper::new(version, State::empty(rt.alloc()));
+    let taken = keeper.take(rt, rt.alloc(), &records, &plan)?;
+    Ok((taken, keeper.state().element_count()))
 }
 
 #[test]
 fn a_keeper_goes_by_the_rules_of_its_version(rt: HostRuntime) -> Result<(), Fail> {
-    let plan = Plan::new(2, 1).ok_or("plan")?;
-    let mut kill = Vec::new(rt.alloc());
-    kill.push(Record::Kill {
-        queue: QueueNo(0),
-        element: ElemId(2),
-    })?;
-    for (version, taken, left) in [(Version::One, 0, 1), (Version::Two, 1, 0)] {
-        let records = records(&rt, version, &log_in(&rt, version, &ONE_ELEMENT)?)?;
-        let mut keeper = Keeper::new(version, State::empty(rt.alloc()));
-        assert_eq!(rt; keeper.take(&rt, rt.alloc(), &records, &plan)?, 4);
-        assert_eq!(rt; keeper.take(&rt, rt.alloc(), &kill, &plan)?, taken);
-        assert_eq!(rt; keeper.state().element_count(), left);
-    }
+    assert_eq!(rt; after_kill(&rt, Version::One)?, (4, 1));
+    assert_eq!(rt; after_kill(&rt, Version::Two)?, (5, 0));
     Ok(())
 }
 

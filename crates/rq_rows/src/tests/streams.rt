@@ -123,6 +123,24 @@ fn report_of<R: Threads + Sync + AllocGlobal>(rt: &R, log: &[u8]) -> Result<Vec<
     Ok(answer(rt, &Command::Restart { log: "log", plan }, log)?)
 }
 
+// Whether a run whose read of one number fails tells so and writes nothing, or, where no read is of
+// that number, writes the report. There are 105 calls of 7 bytes; two of 5, where the header ends
+// and where the log does; and one that finds the end.
+fn reads<R: Threads + Sync + AllocGlobal>(
+    rt: &R,
+    plan: &Plan,
+    rough: Rough<'_>,
+    report: &[u8],
+) -> bool {
+    let fails_at = rough.fails_at;
+    let (fault, calls, written) = run_from(rt, plan, rough);
+    if 0 < fails_at && fails_at <= 108 {
+        fault == Some(Fault::ReadFailed) && calls == fails_at && written.is_empty()
+    } else {
+        fault.is_none() && calls == 108 && written.as_slice() == report
+    }
+}
+
 #[test]
 fn a_read_that_fails_is_told_and_nothing_is_written(rt: HostRuntime) -> Result<(), Fail> {
     let log = log_of(&rt, &RETURN_AND_ARRIVAL)?;
@@ -130,24 +148,34 @@ fn a_read_that_fails_is_told_and_nothing_is_written(rt: HostRuntime) -> Result<(
     for (workers, grain) in FEW_PLANS {
         let plan = Plan::new(workers, grain).ok_or("plan")?;
         for interrupts in [false, true] {
-            // 105 calls of 7 bytes; two of 5, where the header ends and where the log does; and one
-            // that finds the end
             for fails_at in 0..110 {
                 let rough = Rough::new(&log, interrupts, fails_at);
-                let (fault, calls, written) = run_from(&rt, &plan, rough);
-                if 0 < fails_at && fails_at <= 108 {
-                    assert_eq!(rt; fault, Some(Fault::ReadFailed), "call {fails_at}");
-                    assert_eq!(rt; calls, fails_at);
-                    assert!(rt; written.is_empty(), "call {fails_at}");
-                } else {
-                    assert_eq!(rt; fault, None, "call {fails_at}");
-                    assert_eq!(rt; calls, 108);
-                    assert!(rt; written == report, "call {fails_at}");
-                }
+                assert!(rt; reads(&rt, &plan, rough, &report), "call {fails_at}");
             }
         }
     }
     Ok(())
+}
+
+// Whether a run whose write of one number fails tells so and leaves a beginning of the report, or,
+// where no write is of that number, writes all of it. There are 68 calls that take 3 bytes, and one
+// that takes the last 2.
+fn writes<R: Threads + Sync + AllocGlobal>(
+    rt: &R,
+    plan: &Plan,
+    log: &[u8],
+    narrow: Narrow,
+    report: &[u8],
+) -> bool {
+    let fails_at = narrow.fails_at;
+    let (fault, calls, taken) = run_into(rt, plan, log, narrow);
+    if fails_at <= 69 {
+        let took = fails_at.saturating_sub(1).saturating_mul(3);
+        let is_told = fault == Some(Fault::WriteFailed) && calls == fails_at;
+        is_told && taken.len() as u64 == took && report.starts_with(&taken)
+    } else {
+        fault.is_none() && calls == 69 && taken.as_slice() == report
+    }
 }
 
 #[test]
@@ -158,21 +186,12 @@ fn a_write_that_fails_is_told_and_leaves_a_beginning(rt: HostRuntime) -> Result<
     for (workers, grain) in FEW_PLANS {
         let plan = Plan::new(workers, grain).ok_or("plan")?;
         for interrupts in [false, true] {
-            // 68 calls that take 3 bytes, and one that takes the last 2
-            for fails_at in 1..75u64 {
+            for fails_at in 1..75 {
                 let narrow = Narrow::new(Vec::new(rt.alloc()), interrupts, fails_at);
-                let (fault, calls, taken) = run_into(&rt, &plan, &log, narrow);
-                if fails_at <= 69 {
-                    let took = fails_at.saturating_sub(1).saturating_mul(3);
-                    assert_eq!(rt; fault, Some(Fault::WriteFailed), "call {fails_at}");
-                    assert_eq!(rt; calls, fails_at);
-                    assert_eq!(rt; taken.len() as u64, took, "call {fails_at}");
-                    assert!(rt; report.starts_with(&taken), "call {fails_at}");
-                } else {
-                    assert_eq!(rt; fault, None, "call {fails_at}");
-                    assert_eq!(rt; calls, 69);
-                    assert!(rt; taken == report, "call {fails_at}");
-                }
+                assert!(rt;
+                    writes(&rt, &plan, &log, narrow, &report),
+                    "call {fails_at}"
+                );
             }
         }
     }

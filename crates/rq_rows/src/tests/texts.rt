@@ -1,7 +1,7 @@
 //! Reports whose text one thread makes or several.
 
 use super::scripts::ONE_ELEMENT;
-use super::{PLANS, lines, log_of};
+use super::{PLANS, lines, log_of, log_of_made};
 use rq_report::{OverWrite, write_report, write_report_by};
 use rq_restart::{Restarted, restart};
 use rq_tool::{Fault, Open, Plan};
@@ -86,6 +86,20 @@ fn by_workers<R: Threads + Sync + AllocGlobal>(
     Ok(output.into_inner())
 }
 
+// Whether workers write this text under every plan.
+fn all_workers_write<R: Threads + Sync + AllocGlobal>(
+    rt: &R,
+    state: &Restarted,
+    want: &[u8],
+) -> Result<bool, Fail> {
+    let mut same = true;
+    for (workers, grain) in PLANS {
+        let plan = Plan::new(workers, grain).ok_or("plan")?;
+        same = same && by_workers(rt, state, &plan)?.as_slice() == want;
+    }
+    Ok(same)
+}
+
 // Whether every way to write the report writes this text.
 fn all_write<R: Threads + Sync + AllocGlobal>(
     rt: &R,
@@ -93,12 +107,8 @@ fn all_write<R: Threads + Sync + AllocGlobal>(
     want: &[u8],
 ) -> Result<bool, Fail> {
     let state = restarted(rt, log)?;
-    let mut same = by_one_thread(rt.alloc(), &state)?.as_slice() == want;
-    for (workers, grain) in PLANS {
-        let plan = Plan::new(workers, grain).ok_or("plan")?;
-        same = same && by_workers(rt, &state, &plan)?.as_slice() == want;
-    }
-    Ok(same)
+    let same = by_one_thread(rt.alloc(), &state)?.as_slice() == want;
+    Ok(same && all_workers_write(rt, &state, want)?)
 }
 
 #[test]
@@ -119,12 +129,9 @@ fn a_short_report_is_written(rt: HostRuntime) -> Result<(), Fail> {
 
 #[test]
 fn one_thread_and_several_write_the_same(rt: HostRuntime) -> Result<(), Fail> {
-    let alloc = rt.alloc();
-    let script = long_script(alloc)?;
-    let words: Vec<&str> = script.iter().map(|line| line.as_str()).collect(alloc)?;
-    let log = log_of(&rt, &words)?;
+    let log = log_of_made(&rt, &long_script(rt.alloc())?)?;
     assert!(rt; log.len() > 1_048_576);
-    let want = as_bytes(alloc, &long_report(alloc)?)?;
+    let want = as_bytes(rt.alloc(), &long_report(rt.alloc())?)?;
     assert!(rt; all_write(&rt, &log, &want)?);
     Ok(())
 }

@@ -1,10 +1,10 @@
 //! What workers do at the same time.
 
-use super::{answer, lines, log_of};
-use rq_tool::{Command, Gate, OverRead, OverWrite, Plan, run};
-use std::io::Cursor;
+use super::{answer, lines, log_of, report_at};
+use rq_tool::{Command, Gate, Plan};
 use std::sync::atomic::{AtomicBool, AtomicU64, Ordering};
 use std::test::Fail;
+use std::thread::Threads;
 use std::time::{Clock, Instant};
 
 const THREE: [&str; 7] = [
@@ -41,7 +41,7 @@ struct Meeting {
 }
 
 // Looks for a flag, up to 100,000,000 times.
-fn look(flag: &AtomicBool) -> bool {
+pub fn look(flag: &AtomicBool) -> bool {
     for _ in 0..100_000_000 {
         if flag.load(Ordering::SeqCst) {
             return true;
@@ -67,27 +67,29 @@ impl Gate for Meeting {
     }
 }
 
+// A meeting that has not begun.
+fn meeting_of(first: u32, second: u32) -> Meeting {
+    Meeting {
+        first,
+        second,
+        third_looks: first == 0 && second == 2,
+        first_there: AtomicBool::new(false),
+        second_there: AtomicBool::new(false),
+        first_saw: AtomicBool::new(false),
+        second_saw: AtomicBool::new(false),
+        third_saw: AtomicBool::new(false),
+    }
+}
+
 #[test]
 fn two_threads_meet(rt: HostRuntime) -> Result<(), Fail> {
     let log = log_of(&rt, &THREE)?;
     let want = lines(rt.alloc(), &THREE_REPORT)?;
     assert_eq!(rt; log.len(), 380);
-    let plan = Plan::new(2, 1).ok_or("plan")?;
     for (first, second) in [(0, 1), (0, 2), (1, 2)] {
-        let gate = Meeting {
-            first,
-            second,
-            third_looks: first == 0 && second == 2,
-            first_there: AtomicBool::new(false),
-            second_there: AtomicBool::new(false),
-            first_saw: AtomicBool::new(false),
-            second_saw: AtomicBool::new(false),
-            third_saw: AtomicBool::new(false),
-        };
-        let mut input = OverRead::new(Cursor::new(log.as_slice()));
-        let mut output = OverWrite::new(Vec::new(rt.alloc()));
-        run(&rt, rt.alloc(), &mut input, &mut output, &plan, &gate)?;
-        assert!(rt; output.into_inner() == want, "{first} and {second}");
+        let gate = meeting_of(first, second);
+        let got = report_at(&rt, &log, 2, &gate)?;
+        assert!(rt; got == want, "{first} and {second}");
         let met = gate.first_saw.load(Ordering::SeqCst) && gate.second_saw.load(Ordering::SeqCst);
         assert!(rt; met, "{first} and {second}");
         let third = gate.third_saw.load(Ordering::SeqCst);
@@ -129,15 +131,29 @@ impl<'a, R: Clock + Sync> Gate for Entered<'a, R> {
 // Three queues, of which the second has 2,000 elements.
 const ONE_IS_LONG: [&str; 4] = ["define a 0 -", "define b 0 -", "define c 0 -", "begin 1"];
 
-#[test]
-fn a_queue_enters_the_gate_before_its_redo(rt: HostRuntime) -> Result<(), Fail> {
+// The log of such a script.
+fn log_of_long<R: Threads + Sync + AllocGlobal>(rt: &R) -> Result<Vec<u8>, Fail> {
     let mut script = Vec::from_slice(rt.alloc(), ONE_IS_LONG.as_slice())?;
     for _ in 0..2_000 {
         script.push("enqueue 1 1 0 - 0 -")?;
     }
     script.push("commit 1")?;
-    let log = log_of(&rt, &script)?;
-    let plan = Plan::new(1, 1000).ok_or("plan")?;
+    log_of(rt, &script)
+}
+
+// Whether the second queue entered shortly after the first. One thread redoes them in order, so the
+// long redo is between the second entry and the third.
+fn is_shortly_after(times: &[AtomicU64; 3]) -> bool {
+    let [first, second, third] = times;
+    let second = second.load(Ordering::SeqCst);
+    let short = second.saturating_sub(first.load(Ordering::SeqCst));
+    let long = third.load(Ordering::SeqCst).saturating_sub(second);
+    short < long / 4
+}
+
+#[test]
+fn a_queue_enters_the_gate_before_its_redo(rt: HostRuntime) -> Result<(), Fail> {
+    let log = log_of_long(&rt)?;
     let mut enters_before = false;
     for _ in 0..5 {
         let gate = Entered {
@@ -145,16 +161,8 @@ fn a_queue_enters_the_gate_before_its_redo(rt: HostRuntime) -> Result<(), Fail> 
             begun: Instant::now(&rt)?,
             times: [AtomicU64::new(0), AtomicU64::new(0), AtomicU64::new(0)],
         };
-        let mut input = OverRead::new(Cursor::new(log.as_slice()));
-        let mut output = OverWrite::new(Vec::new(rt.alloc()));
-        run(&rt, rt.alloc(), &mut input, &mut output, &plan, &gate)?;
-        let [first, second, third] = &gate.times;
-        let second = second.load(Ordering::SeqCst);
-        // one thread redoes them in order, so the long redo is between the second entry and the
-        // third
-        let short = second.saturating_sub(first.load(Ordering::SeqCst));
-        let long = third.load(Ordering::SeqCst).saturating_sub(second);
-        enters_before = enters_before || short < long / 4;
+        report_at(&rt, &log, 1, &gate)?;
+        enters_before = enters_before || is_shortly_after(&gate.times);
     }
     assert!(rt; enters_before, "the long queue enters after its redo");
     Ok(())

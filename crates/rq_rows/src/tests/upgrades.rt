@@ -1,6 +1,7 @@
 //! Logs that are upgraded to version 2.
 
 use super::checkpoints::{AFTER, ZEROES, audits, reports_at, with_line};
+use super::damage::changed;
 use super::scripts::{CHECKPOINT, ONE_ELEMENT};
 use super::versions::KILL;
 use super::{PLANS, answer, log_in, log_of, reports};
@@ -26,10 +27,7 @@ fn upgrade<R: Threads + Sync + AllocGlobal>(
 
 #[test]
 fn a_damaged_log_is_upgraded_to_its_front(rt: HostRuntime) -> Result<(), Fail> {
-    let mut log = log_of(&rt, &ONE_ELEMENT)?;
-    if let Some(byte) = log.get_mut(159) {
-        *byte = 0x62;
-    }
+    let log = changed(log_of(&rt, &ONE_ELEMENT)?, 159, &[0x62]);
     let want = log_in(&rt, Version::Two, &ONE_ELEMENT[..2])?;
     assert_eq!(rt; want.len(), 132);
     for (workers, grain) in PLANS {
@@ -65,10 +63,15 @@ fn an_upgraded_log_has_the_same_checkpoints(rt: HostRuntime) -> Result<(), Fail>
     ];
     assert!(rt; reports(&rt, &new, &report)?, "restart");
     assert!(rt; reports_at(&rt, &new, 447, &report)?, "from the checkpoint");
-    assert!(rt; audits(&rt, &new, &["checkpoint 447 true"])?, "true");
+    assert!(rt; audits(&rt, &new, &["checkpoint 447 true"])?, "audit");
+    Ok(())
+}
+
+#[test]
+fn a_false_checkpoint_is_false_in_an_upgraded_log(rt: HostRuntime) -> Result<(), Fail> {
     let new = upgrade(&rt, &with_line(&rt, ZEROES)?, 2)?;
     assert_eq!(rt; new.len(), 581);
-    assert!(rt; audits(&rt, &new, &["checkpoint 447 false"])?, "false");
+    assert!(rt; audits(&rt, &new, &["checkpoint 447 false"])?, "audit");
     Ok(())
 }
 

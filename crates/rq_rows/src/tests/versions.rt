@@ -1,6 +1,7 @@
 //! Logs of version 2: KILL, and error queues that have error queues.
 
-use super::{lines, log_in, log_of, reports, says_in};
+use super::rows::{ONE, Row, TWO};
+use super::{lines, log_in, log_of, reports};
 use rq_record::Version;
 use rq_tool::{OverRead, OverWrite, make_log};
 use std::io::Cursor;
@@ -38,14 +39,37 @@ pub const KILL: [&str; 10] = [
     "kill 0 2",
 ];
 
-#[test]
-fn an_element_moves_through_two_error_queues(rt: HostRuntime) -> Result<(), Fail> {
-    let aborted = says_in(
-        &rt,
-        Version::Two,
-        &ERROR_OF_ERROR,
-        626,
-        &[
+const KILLS: [&str; 19] = [
+    "define dead 0 -",
+    "define jobs 1 0",
+    "register 1 ann",
+    "begin 1",
+    "enqueue 1 1 5 - 0 61",
+    "enqueue 1 1 200 ann 7 62",
+    "commit 1",
+    "kill 1 4",
+    "kill 0 5",
+    "begin 2",
+    "enqueue 2 1 9 - 0 63",
+    "commit 2",
+    "begin 3",
+    "dequeue 3 1 - 0",
+    "kill 1 5",
+    "abort 3",
+    "kill 1 10",
+    "kill 1 5",
+    "kill 0 5",
+];
+
+/// Error queues that have error queues, and KILL.
+pub const VERSION_TWO: [Row; 8] = [
+    Row {
+        name: "aborted",
+        versions: &TWO,
+        script: &ERROR_OF_ERROR,
+        lines: 12,
+        bytes: 626,
+        report: &[
             "front 12 records, 626 of 626 bytes, whole",
             "units 1 committed, 2 aborted, 0 cut off",
             "queue 0 bin limit 0 error -",
@@ -53,14 +77,14 @@ fn an_element_moves_through_two_error_queues(rt: HostRuntime) -> Result<(), Fail
             "queue 1 dead limit 1 error 0",
             "queue 2 jobs limit 1 error 1",
         ],
-    )?;
-    assert!(rt; aborted, "aborted");
-    let cut_off = says_in(
-        &rt,
-        Version::Two,
-        &ERROR_OF_ERROR[..11],
-        581,
-        &[
+    },
+    Row {
+        name: "cut off",
+        versions: &TWO,
+        script: &ERROR_OF_ERROR,
+        lines: 11,
+        bytes: 581,
+        report: &[
             "front 11 records, 581 of 581 bytes, whole",
             "units 1 committed, 1 aborted, 1 cut off",
             "queue 0 bin limit 0 error -",
@@ -68,66 +92,84 @@ fn an_element_moves_through_two_error_queues(rt: HostRuntime) -> Result<(), Fail
             "queue 1 dead limit 1 error 0",
             "queue 2 jobs limit 1 error 1",
         ],
-    )?;
-    assert!(rt; cut_off, "cut off");
-    let unlawful = says_in(
-        &rt,
-        Version::One,
-        &ERROR_OF_ERROR,
-        626,
-        &[
+    },
+    Row {
+        name: "in version 1",
+        versions: &ONE,
+        script: &ERROR_OF_ERROR,
+        lines: 12,
+        bytes: 626,
+        report: &[
             "front 2 records, 133 of 626 bytes, law",
             NO_UNIT,
             "queue 0 bin limit 0 error -",
             "queue 1 dead limit 1 error 0",
         ],
-    )?;
-    assert!(rt; unlawful, "in version 1");
-    Ok(())
-}
-
-#[test]
-fn a_kill_takes_a_free_element_alone(rt: HostRuntime) -> Result<(), Fail> {
-    let free = says_in(
-        &rt,
-        Version::Two,
-        &KILL,
-        532,
-        &[
+    },
+    Row {
+        name: "free",
+        versions: &TWO,
+        script: &KILL,
+        lines: 10,
+        bytes: 532,
+        report: &[
             "front 10 records, 532 of 532 bytes, whole",
             "units 1 committed, 1 aborted, 0 cut off",
             JOBS,
         ],
-    )?;
-    assert!(rt; free, "free");
-    let fresh_and_held = says_in(
-        &rt,
-        Version::Two,
-        &KILL[..9],
-        483,
-        &[
+    },
+    Row {
+        name: "fresh and held",
+        versions: &TWO,
+        script: &KILL,
+        lines: 9,
+        bytes: 483,
+        report: &[
             "front 9 records, 483 of 483 bytes, whole",
             "units 1 committed, 1 aborted, 0 cut off",
             JOBS,
             "e 2 from 0 priority 5 attempts 1 61",
         ],
-    )?;
-    assert!(rt; fresh_and_held, "fresh and held");
-    Ok(())
-}
-
-#[test]
-fn a_kill_names_a_queue(rt: HostRuntime) -> Result<(), Fail> {
-    let undefined = says_in(
-        &rt,
-        Version::Two,
-        &["kill 0 0"],
-        89,
-        &["front 0 records, 40 of 89 bytes, law", NO_UNIT],
-    )?;
-    assert!(rt; undefined, "no queue");
-    Ok(())
-}
+    },
+    Row {
+        name: "no queue",
+        versions: &TWO,
+        script: &["kill 0 0"],
+        lines: 1,
+        bytes: 89,
+        report: &["front 0 records, 40 of 89 bytes, law", NO_UNIT],
+    },
+    Row {
+        name: "all",
+        versions: &TWO,
+        script: &KILLS,
+        lines: 19,
+        bytes: 983,
+        report: &[
+            "front 19 records, 983 of 983 bytes, whole",
+            "units 2 committed, 1 aborted, 0 cut off",
+            "queue 0 dead limit 0 error -",
+            "queue 1 jobs limit 1 error 0",
+            "r ann enqueue tag 7 element 5",
+        ],
+    },
+    Row {
+        name: "the first three",
+        versions: &TWO,
+        script: &KILLS,
+        lines: 16,
+        bytes: 836,
+        report: &[
+            "front 16 records, 836 of 836 bytes, whole",
+            "units 2 committed, 1 aborted, 0 cut off",
+            "queue 0 dead limit 0 error -",
+            "e 5 from 1 priority 200 attempts 0 62",
+            "queue 1 jobs limit 1 error 0",
+            "e 10 from 1 priority 9 attempts 0 63",
+            "r ann enqueue tag 7 element 5",
+        ],
+    },
+];
 
 #[test]
 fn the_header_says_whether_a_kill_is_a_record(rt: HostRuntime) -> Result<(), Fail> {
@@ -154,63 +196,6 @@ fn the_header_says_whether_a_kill_is_a_record(rt: HostRuntime) -> Result<(), Fai
         chain,
         "a header of version 2 before the chain of version 1"
     );
-    Ok(())
-}
-
-const KILLS: [&str; 19] = [
-    "define dead 0 -",
-    "define jobs 1 0",
-    "register 1 ann",
-    "begin 1",
-    "enqueue 1 1 5 - 0 61",
-    "enqueue 1 1 200 ann 7 62",
-    "commit 1",
-    "kill 1 4",
-    "kill 0 5",
-    "begin 2",
-    "enqueue 2 1 9 - 0 63",
-    "commit 2",
-    "begin 3",
-    "dequeue 3 1 - 0",
-    "kill 1 5",
-    "abort 3",
-    "kill 1 10",
-    "kill 1 5",
-    "kill 0 5",
-];
-
-#[test]
-fn a_kill_finds_what_came_later_and_what_moved(rt: HostRuntime) -> Result<(), Fail> {
-    let all = says_in(
-        &rt,
-        Version::Two,
-        &KILLS,
-        983,
-        &[
-            "front 19 records, 983 of 983 bytes, whole",
-            "units 2 committed, 1 aborted, 0 cut off",
-            "queue 0 dead limit 0 error -",
-            "queue 1 jobs limit 1 error 0",
-            "r ann enqueue tag 7 element 5",
-        ],
-    )?;
-    assert!(rt; all, "all");
-    let first = says_in(
-        &rt,
-        Version::Two,
-        &KILLS[..16],
-        836,
-        &[
-            "front 16 records, 836 of 836 bytes, whole",
-            "units 2 committed, 1 aborted, 0 cut off",
-            "queue 0 dead limit 0 error -",
-            "e 5 from 1 priority 200 attempts 0 62",
-            "queue 1 jobs limit 1 error 0",
-            "e 10 from 1 priority 9 attempts 0 63",
-            "r ann enqueue tag 7 element 5",
-        ],
-    )?;
-    assert!(rt; first, "the first three");
     Ok(())
 }
 

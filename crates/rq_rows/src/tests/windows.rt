@@ -1,6 +1,7 @@
 //! The end of a front that is longer than what is looked at of a log at a time.
 
-use super::log_of;
+use super::hostile::flip;
+use super::log_of_made;
 use rq_restart::{FrontEnd, Open, Plan, Why, front_end, restart};
 use std::alloc::Global;
 use std::test::Fail;
@@ -27,9 +28,7 @@ fn script(alloc: Global, last: &str) -> Result<Vec<String>, Fail> {
 
 // The log of such a script.
 fn long_log<R: Threads + Sync + AllocGlobal>(rt: &R, last: &str) -> Result<Vec<u8>, Fail> {
-    let made = script(rt.alloc(), last)?;
-    let words: Vec<&str> = made.iter().map(|line| line.as_str()).collect(rt.alloc())?;
-    log_of(rt, &words)
+    log_of_made(rt, &script(rt.alloc(), last)?)
 }
 
 // Whether the front has so many records and ends for this reason, by its end as by its restart.
@@ -60,21 +59,25 @@ fn ends<R: Threads + Sync + AllocGlobal>(
 
 #[test]
 fn a_front_longer_than_a_window_ends_where_its_restart_says(rt: HostRuntime) -> Result<(), Fail> {
-    let mut log = long_log(&rt, "commit 1")?;
+    let log = long_log(&rt, "commit 1")?;
     let total = log.len() as u64;
     assert!(rt; log.len() > WINDOW);
     assert!(rt; ends(&rt, &log, 263, total, Why::Whole)?);
-    let unlawful = long_log(&rt, "commit 2")?;
-    assert!(rt; ends(&rt, &unlawful, 262, total.saturating_sub(45), Why::Law)?);
     let cut = log.get(..log.len().saturating_sub(1)).ok_or("log")?;
     assert!(rt; ends(&rt, cut, 262, total.saturating_sub(45), Why::Cut)?);
+    let unlawful = long_log(&rt, "commit 2")?;
+    assert!(rt; ends(&rt, &unlawful, 262, total.saturating_sub(45), Why::Law)?);
+    Ok(())
+}
+
+#[test]
+fn damage_in_either_window_ends_the_front(rt: HostRuntime) -> Result<(), Fail> {
+    let mut log = long_log(&rt, "commit 1")?;
     // The header has 40 bytes, the frame of the DEFINE 47, of the BEGIN 45, of each ENQUEUE 65,594.
     for (place, records, used) in [(60, 0, 40), (WINDOW, 257, 132 + 255 * 65_594)] {
-        let byte = log.get_mut(place).ok_or("byte")?;
-        *byte ^= 1;
+        flip(&mut log, place, 1);
         assert!(rt; ends(&rt, &log, records, used, Why::Chain)?, "byte {place}");
-        let byte = log.get_mut(place).ok_or("byte")?;
-        *byte ^= 1;
+        flip(&mut log, place, 1);
     }
     Ok(())
 }

@@ -7,61 +7,48 @@ ghost use Rattle.rq_record.specs.Views.{record_of};
 ghost use Rattle.rq_record.specs.declared.fault.Fault.TheVariants.{Resources};
 
 use super::sweeping::{Call, is_right};
+use super::{MAKE_TWO, log_in};
 use rq_catalog::analyse_in;
 use rq_exchange::replay;
-use rq_record::{By, KeptBy, KeptName, KeptPayload, Name, QueueNo, Record, UnitNo, Version};
+use rq_front::walk;
+use rq_record::{Record, Version, decode_in};
 use rq_state::{State, spell};
 use rq_tool::{Fault, Open, Plan};
 use std::alloc::Global;
 use std::test::Fail;
 use std::thread::Threads;
 
-fn define(alloc: Global, limit: u16, error: QueueNo, name: &[u8]) -> Result<Record, Fail> {
-    let name = KeptName::of(alloc, &Name::new(name).ok_or("name")?)?;
-    Ok(Record::Define { limit, error, name })
-}
-
-fn dequeue(alloc: Global, unit: u64, queue: u32, by: Option<By>) -> Result<Record, Fault> {
-    Ok(Record::Dequeue {
-        unit: UnitNo(unit),
-        queue: QueueNo(queue),
-        by: KeptBy::of(alloc, &by)?,
-    })
-}
-
 // An element leaves its queue by an abort, and its error queue by another, for the end of the
 // chain, where a registrant that is still at work takes it.
-fn chained(alloc: Global) -> Result<Vec<Record>, Fail> {
-    let payload = KeptPayload::from_slice(alloc, b"a")?.ok_or("payload")?;
-    let ann = Name::new(b"ann").ok_or("name")?;
-    let unit = UnitNo(1);
-    let queue = QueueNo(2);
-    let records = vec![in alloc;
-        define(alloc, 0, QueueNo::NONE, b"dead")?,
-        define(alloc, 1, QueueNo(0), b"late")?,
-        define(alloc, 1, QueueNo(1), b"jobs")?,
-        Record::Register {
-            queue: QueueNo(0),
-            name: KeptName::of(alloc, &ann)?
-        },
-        Record::Begin { unit },
-        Record::Enqueue {
-            unit,
-            queue,
-            priority: 5,
-            by: KeptBy::of(alloc, &None)?,
-            payload
-        },
-        Record::Commit { unit },
-        Record::Begin { unit: UnitNo(2) },
-        dequeue(alloc, 2, 2, None)?,
-        Record::Abort { unit: UnitNo(2) },
-        Record::Begin { unit: UnitNo(3) },
-        dequeue(alloc, 3, 1, None)?,
-        Record::Abort { unit: UnitNo(3) },
-        Record::Begin { unit: UnitNo(4) },
-        dequeue(alloc, 4, 0, Some(By { name: ann, tag: 70 }))?,
-    ]?;
+const CHAINED: [&str; 15] = [
+    "define dead 0 -",
+    "define late 1 0",
+    "define jobs 1 1",
+    "register 0 ann",
+    "begin 1",
+    "enqueue 1 2 5 - 0 61",
+    "commit 1",
+    "begin 2",
+    "dequeue 2 2 - 0",
+    "abort 2",
+    "begin 3",
+    "dequeue 3 1 - 0",
+    "abort 3",
+    "begin 4",
+    "dequeue 4 0 ann 70",
+];
+
+// The records of a log of version 2, as its frames stand.
+fn records_of(alloc: Global, log: &[u8]) -> Result<Vec<Record>, Fail> {
+    let mut records = Vec::new(alloc);
+    if log.len() < 40 {
+        return Ok(records);
+    }
+    for span in walk(alloc, log, 40)?.spans() {
+        let end = span.start.saturating_add(span.len);
+        let body = log.get(span.start..end).ok_or("body")?;
+        records.push(decode_in(alloc, Version::Two, body)?)?;
+    }
     Ok(records)
 }
 
@@ -154,7 +141,8 @@ fn wanted<R: Threads + Sync + AllocGlobal>(rt: &R, lawful: &Lawful) -> Result<Ve
 // started before: where no memory is left, each is refused.
 fn replays<R: Threads + Sync + AllocGlobal>(rt: &R, workers: u32) -> Result<bool, Fail> {
     let plan = Plan::new(workers, 1).ok_or("plan")?;
-    let lawful = lawful_of(rt.alloc(), chained(rt.alloc())?)?;
+    let log = log_in(rt, &MAKE_TWO, &CHAINED)?;
+    let lawful = lawful_of(rt.alloc(), records_of(rt.alloc(), &log)?)?;
     let all = lawful.records.len() == 15;
     let want = wanted(rt, &lawful)?;
     let replaying = Replaying {
