@@ -115,24 +115,25 @@ fn a_check_finds_what_is_wrong(rt: HostRuntime) -> Result<(), Fail> {
 fn report_of<R: Threads + Sync + AllocGlobal>(
     rt: &R,
     log: &[u8],
+    plan: &Plan,
     queue: u32,
 ) -> Result<Vec<u8>, Trouble> {
     let mut text = Vec::new(rt.alloc());
-    let plan = plan().ok_or(Trouble::NoQueue(queue))?;
-    report(rt, rt.alloc(), log, &plan, Some(queue), &mut text)?;
+    report(rt, rt.alloc(), log, plan, Some(queue), &mut text)?;
     Ok(text)
 }
 
 #[test]
 fn a_report_is_shown_by_queue(rt: HostRuntime) -> Result<(), Fail> {
+    let plan = plan().ok_or("plan")?;
     let log = log_of(&rt, &SECOND_ABORT)?;
     let want = [
         "queue 0 dead limit 0 error -",
         "e 3 from 1 priority 5 attempts 1 6869",
     ];
-    let text = report_of(&rt, &log, 0).map_err(|_| "report")?;
+    let text = report_of(&rt, &log, &plan, 0).map_err(|_| "report")?;
     assert!(rt; text == lines(rt.alloc(), &want)?);
-    assert!(rt; matches!(report_of(&rt, &log, 2), Err(Trouble::NoQueue(2))));
+    assert!(rt; matches!(report_of(&rt, &log, &plan, 2), Err(Trouble::NoQueue(2))));
     Ok(())
 }
 

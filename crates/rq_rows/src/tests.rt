@@ -122,16 +122,15 @@ fn says_in<R: Threads + Sync + AllocGlobal>(
     Ok(log.len() == bytes && reports(rt, &log, report)?)
 }
 
-// The report that so many workers make at a gate.
-fn report_at<R, G>(rt: &R, log: &[u8], workers: u32, gate: &G) -> Result<Vec<u8>, Fail>
+// The report that is made by a plan at a gate.
+fn report_at<R, G>(rt: &R, log: &[u8], plan: &Plan, gate: &G) -> Result<Vec<u8>, Fail>
 where
     R: Threads + Sync + AllocGlobal,
     G: Gate + Sync,
 {
-    let plan = Plan::new(workers, 1).ok_or("plan")?;
     let mut input = OverRead::new(Cursor::new(log));
     let mut output = OverWrite::new(Vec::new(rt.alloc()));
-    run(rt, rt.alloc(), &mut input, &mut output, &plan, gate)?;
+    run(rt, rt.alloc(), &mut input, &mut output, plan, gate)?;
     Ok(output.into_inner())
 }
 

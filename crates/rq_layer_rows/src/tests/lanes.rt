@@ -69,12 +69,11 @@ fn flip(log: &mut Vec<u8>, end: usize) {
 }
 
 // The same with the frames of these numbers.
-fn flip_frames(log: &mut Vec<u8>, ends: &[usize], places: &[usize]) {
+fn flip_frames(log: &mut Vec<u8>, ends: &[usize], places: &[usize]) -> Result<(), Fail> {
     for place in places {
-        if let Some(end) = ends.get(*place) {
-            flip(log, *end);
-        }
+        flip(log, *ends.get(*place).ok_or("frame")?);
     }
+    Ok(())
 }
 
 // Whether the first wrong digest is found, wherever it is among the frames of these lengths.
@@ -148,10 +147,10 @@ fn the_first_of_two_wrong_digests_is_found(rt: HostRuntime) -> Result<(), Fail> 
     let lens = Vec::from_elem(rt.alloc(), 30usize, 24)?;
     let Framed { mut log, ends } = log_of_lengths(rt.alloc(), &lens)?;
     for (first, second) in [(0, 7), (8, 9), (9, 15), (16, 23), (3, 20)] {
-        flip_frames(&mut log, &ends, &[first, second]);
+        flip_frames(&mut log, &ends, &[first, second])?;
         let right = right_before(&rt, &log, 1)?;
         assert!(rt; right == Some(first), "{first} and {second}");
-        flip_frames(&mut log, &ends, &[first, second]);
+        flip_frames(&mut log, &ends, &[first, second])?;
     }
     Ok(())
 }
@@ -170,10 +169,10 @@ fn wrong_digests_at_the_ends_of_pieces(rt: HostRuntime) -> Result<(), Fail> {
         (4049, 1_000_000),
         (4099, 1),
     ] {
-        flip_frames(&mut log, &ends, &[place]);
+        flip_frames(&mut log, &ends, &[place])?;
         let right = right_before(&rt, &log, grain)?;
         assert!(rt; right == Some(place), "{place} at {grain}");
-        flip_frames(&mut log, &ends, &[place]);
+        flip_frames(&mut log, &ends, &[place])?;
     }
     Ok(())
 }

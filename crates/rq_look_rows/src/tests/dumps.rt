@@ -49,8 +49,10 @@ fn a_dump_shows_each_record_and_the_end(rt: HostRuntime) -> Result<(), Fail> {
         ..ALL
     };
     let objects = [
-        "{\"offset\":132,\"record\":2,\"kind\":\"enqueue\",\"unit\":1,\"queue\":0,\"priority\":5,\"payload\":{\"hex\":\"61\",\"text\":\"a\"}}",
-        "{\"front\":{\"records\":4,\"used\":237,\"total\":237,\"why\":\"whole\",\"reason\":\"nothing follows\"}}",
+        "{\"offset\":132,\"record\":2,\"kind\":\"enqueue\",\"unit\":1,\"queue\":0,\
+        \"priority\":5,\"payload\":{\"hex\":\"61\",\"text\":\"a\"}}",
+        "{\"front\":{\"records\":4,\"used\":237,\"total\":237,\
+        \"why\":\"whole\",\"reason\":\"nothing follows\"}}",
     ];
     assert!(rt; shows(&rt, &log, &one, &objects)?, "json");
     Ok(())
@@ -62,8 +64,8 @@ const NONE: Wanted<'static> = Wanted { limit: 0, ..ALL };
 #[test]
 fn a_dump_says_why_the_front_ends(rt: HostRuntime) -> Result<(), Fail> {
     let log = log_of(&rt, &ONE_ELEMENT)?;
-    let cut =
-        "front ends behind 3 records, at 192 of 236 bytes, cut: 44 bytes follow, and the frame has 45";
+    let cut = "front ends behind 3 records, at 192 of 236 bytes, \
+        cut: 44 bytes follow, and the frame has 45";
     let short = &log[..log.len().saturating_sub(1)];
     assert!(rt; shows(&rt, short, &NONE, &[cut])?, "cut");
     let law = "front ends behind 1 records, at 87 of 132 bytes, law: unit 1 is not open";

@@ -2,7 +2,7 @@
 
 use super::threads::look;
 use super::{lines, log_of, report_at};
-use rq_tool::Gate;
+use rq_tool::{Gate, Plan};
 use std::sync::atomic::{AtomicBool, Ordering};
 use std::test::Fail;
 
@@ -25,6 +25,7 @@ impl Gate for Looking {
 
 #[test]
 fn no_barrier(rt: HostRuntime) -> Result<(), Fail> {
+    let plan = Plan::new(2, 1).ok_or("plan")?;
     let log = log_of(&rt, &["define dead 0 -", "define a 1 0", "define b 0 -"])?;
     assert_eq!(rt; log.len(), 175);
     let want = lines(
@@ -41,7 +42,7 @@ fn no_barrier(rt: HostRuntime) -> Result<(), Fail> {
         error_there: AtomicBool::new(false),
         saw: AtomicBool::new(false),
     };
-    assert!(rt; report_at(&rt, &log, 2, &gate)? == want);
+    assert!(rt; report_at(&rt, &log, &plan, &gate)? == want);
     assert!(rt; gate.saw.load(Ordering::SeqCst));
     Ok(())
 }

@@ -59,17 +59,22 @@ fn a_state_tells_what_it_has(rt: HostRuntime) -> Result<(), Fail> {
     Ok(())
 }
 
-// The numbers of the elements that are copied of a queue, and which unit 2 put in.
-fn copied_elements(alloc: Global, state: &State, queue: u32) -> Result<Vec<(u64, bool)>, Fail> {
+// The elements that are copied of a queue, by number: which unit 2 holds, and which it put in.
+fn copied_elements(
+    alloc: Global,
+    state: &State,
+    queue: u32,
+) -> Result<Vec<(u64, bool, bool)>, Fail> {
     let elements = state.copied_elements_of(alloc, QueueNo(queue))?;
-    let told = elements.iter().map(|e| (e.number(), e.is_fresh(UnitNo(2))));
+    let told = elements.iter().map(|e| (e.number(), e.is_held(UnitNo(2)), e.is_fresh(UnitNo(2))));
     Ok(told.collect(alloc)?)
 }
 
-// How many of the notes that are copied of a queue are by unit 2.
-fn copied_notes(alloc: Global, state: &State, queue: u32) -> Result<usize, Fail> {
+// Of each note that is copied of a queue, whether it is by unit 2.
+fn copied_notes(alloc: Global, state: &State, queue: u32) -> Result<Vec<bool>, Fail> {
     let notes = state.copied_notes_of(alloc, QueueNo(queue))?;
-    Ok(notes.iter().filter(|note| note.is_by(UnitNo(2))).count())
+    let told = notes.iter().map(|note| note.is_by(UnitNo(2)));
+    Ok(told.collect(alloc)?)
 }
 
 // Whether what belongs to the first queue of the state is copied, and nothing of the second.
@@ -77,9 +82,9 @@ fn copies(alloc: Global, state: &State) -> Result<bool, Fail> {
     let elements = copied_elements(alloc, state, 0)?;
     let registrants = state.copied_registrants_of(alloc, QueueNo(0))?.len();
     let notes = copied_notes(alloc, state, 0)?;
-    let all = elements.as_slice() == [(3, false), (7, true)].as_slice();
+    let all = elements.as_slice() == [(3, true, false), (7, false, true)].as_slice();
     let none = copied_elements(alloc, state, 1)?.is_empty();
-    Ok(all && none && registrants == 1 && notes == 1)
+    Ok(all && none && registrants == 1 && notes.as_slice() == [true].as_slice())
 }
 
 #[test]

@@ -11,8 +11,9 @@ const JOBS: &str = "queue 0 jobs limit 0 error -";
 const NO_UNIT: &str = "units 0 committed, 0 aborted, 0 cut off";
 
 /// A checkpoint that spells the state before all records.
-pub const ZEROES: &str =
-    "checkpoint-hex 00000000000000000000000000000000000000000000000000000000000000000000000000000000000000000000000000000000";
+pub const ZEROES: &str = "checkpoint-hex \
+    00000000000000000000000000000000000000000000000000000000000000000000000000000000\
+    000000000000000000000000";
 
 pub const AFTER: [&str; 4] = [
     "units 2 committed, 0 aborted, 0 cut off",
@@ -132,8 +133,9 @@ fn a_false_checkpoint_is_told(rt: HostRuntime) -> Result<(), Fail> {
 
 #[test]
 fn the_greatest_record_number(rt: HostRuntime) -> Result<(), Fail> {
-    let line =
-        "checkpoint-hex 00000000ffffffff0000000000000000000000000000000000000000000000000000000000000000000000000000000000000000";
+    let line = "checkpoint-hex \
+        00000000ffffffff0000000000000000000000000000000000000000000000000000000000000000\
+        000000000000000000000000";
     let log = log_of(&rt, &[line])?;
     assert_eq!(rt; log.len(), 129);
     let from = ["front 4294967296 records, 129 of 129 bytes, whole", NO_UNIT];

@@ -162,8 +162,9 @@ fn each_entered_once(entries: &Entries) -> bool {
 fn every_queue_enters_the_gate(rt: HostRuntime) -> Result<(), Fail> {
     let log = log(&rt)?;
     for workers in [1, 2, 7, 64] {
+        let plan = Plan::new(workers, 1000).ok_or("plan")?;
         let gate = no_entries(rt.alloc())?;
-        report_at(&rt, &log, workers, &gate)?;
+        report_at(&rt, &log, &plan, &gate)?;
         assert!(rt; each_entered_once(&gate), "{workers} workers");
     }
     Ok(())

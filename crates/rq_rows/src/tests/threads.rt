@@ -83,12 +83,13 @@ fn meeting_of(first: u32, second: u32) -> Meeting {
 
 #[test]
 fn two_threads_meet(rt: HostRuntime) -> Result<(), Fail> {
+    let plan = Plan::new(2, 1).ok_or("plan")?;
     let log = log_of(&rt, &THREE)?;
     let want = lines(rt.alloc(), &THREE_REPORT)?;
     assert_eq!(rt; log.len(), 380);
     for (first, second) in [(0, 1), (0, 2), (1, 2)] {
         let gate = meeting_of(first, second);
-        let got = report_at(&rt, &log, 2, &gate)?;
+        let got = report_at(&rt, &log, &plan, &gate)?;
         assert!(rt; got == want, "{first} and {second}");
         let met = gate.first_saw.load(Ordering::SeqCst) && gate.second_saw.load(Ordering::SeqCst);
         assert!(rt; met, "{first} and {second}");
@@ -153,6 +154,7 @@ fn is_shortly_after(times: &[AtomicU64; 3]) -> bool {
 
 #[test]
 fn a_queue_enters_the_gate_before_its_redo(rt: HostRuntime) -> Result<(), Fail> {
+    let plan = Plan::new(1, 1000).ok_or("plan")?;
     let log = log_of_long(&rt)?;
     let mut enters_before = false;
     for _ in 0..5 {
@@ -161,7 +163,7 @@ fn a_queue_enters_the_gate_before_its_redo(rt: HostRuntime) -> Result<(), Fail> 
             begun: Instant::now(&rt)?,
             times: [AtomicU64::new(0), AtomicU64::new(0), AtomicU64::new(0)],
         };
-        report_at(&rt, &log, 1, &gate)?;
+        report_at(&rt, &log, &plan, &gate)?;
         enters_before = enters_before || is_shortly_after(&gate.times);
     }
     assert!(rt; enters_before, "the long queue enters after its redo");

@@ -143,7 +143,7 @@ fn replays<R: Threads + Sync + AllocGlobal>(rt: &R, workers: u32) -> Result<bool
     let plan = Plan::new(workers, 1).ok_or("plan")?;
     let log = log_in(rt, &MAKE_TWO, &CHAINED)?;
     let lawful = lawful_of(rt.alloc(), records_of(rt.alloc(), &log)?)?;
-    let all = lawful.records.len() == 15;
+    let all = lawful.records.len() == 15 && log.len() == 777;
     let want = wanted(rt, &lawful)?;
     let replaying = Replaying {
         plan,
