@@ -5,7 +5,8 @@ usage: house.py
 - A definition or lemma of `specs/` or `proofs/` is reached where a contract, an answer to a goal or a ghost member names it, or
   a definition that is reached. Names are told apart by the crate and not by the file: so this can take one for reached that is
   not, and never the other way round.
-- A name stands for two things where the definitions of two crates have it and say different things.
+- A name stands for two things where the definitions of two crates have it and say different things, or where two crates have a
+  type of that name. Types of tests are left out, and those without fields: they only name a function of clauses.
 - A function only forwards where it is private, has one caller, and its body is one call with its own parameters.
 Ends with status 1 where there is one of any of these.
 """
@@ -14,6 +15,7 @@ import glob, os, re, sys
 from typing import NamedTuple
 
 from common import HERE
+from untested import TESTS
 
 CRATES = os.path.abspath(os.path.join(HERE, "..", "crates"))
 # The head of a definition, or of a module with parameters, in which some stand.
@@ -22,6 +24,8 @@ INNER = re.compile(r"^  (?:abbrev |unfolding |pub |record |data )*([^\s(){}:]+)(
 TOKEN = re.compile(r"[^\s(){}\[\],;.`λ→↔×]+")
 # Files whose names are asked for by the prover: a goal, an invariant, a variant.
 ASKED = ("Answers.antt", "Invariants.antt", "Variants.antt")
+# A type that has fields, variants or members.
+TYPE = re.compile(r"^(?:pub(?:\([a-z]+\))? )?(?:struct|enum|trait) (\w+)(?!\w)(?!;)", re.M)
 # A list of lemmas that the tactics of a function are given.
 RULES = re.compile(r"^pub ruleset .*$", re.M)
 
@@ -116,11 +120,24 @@ def doubled(crates: list[str]) -> list[str]:
     """The names of definitions of two crates that say different things."""
     said: dict[str, dict[str, str]] = {}
     for crate in crates:
-        for path in files_of(crate, "specs/*.antt"):
+        for path in files_of(crate, "specs/**/*.antt"):
             for names, text in blocks(read(path)):
                 for name in names:
                     said.setdefault(name, {})[crate] = " ".join(text.split())
     return [f"{name}: {', '.join(by)}" for name, by in sorted(said.items()) if len(set(by.values())) > 1]
+
+
+def types_of(crate: str) -> set[str]:
+    return {name for path in files_of(crate, "src/**/*.rt") for name in TYPE.findall(read(path))}
+
+
+def types_of_two(crates: list[str]) -> list[str]:
+    """The names of types of two crates."""
+    having: dict[str, list[str]] = {}
+    for crate in crates:
+        for name in types_of(crate):
+            having.setdefault(name, []).append(crate)
+    return [f"{name}: {', '.join(by)}" for name, by in sorted(having.items()) if len(by) > 1]
 
 
 FUNCTION = re.compile(r"^ *fn (\w+)(?:<[^>]*>)?\(([^)]*)\)[^{;]*?\n(?: +(?:requires|ensures)[^\n]*\n)*\s*\{\n([^{}]*)\}", re.M)
@@ -146,7 +163,7 @@ def main() -> int:
     crates = sorted(os.path.basename(os.path.dirname(it)) for it in glob.glob(os.path.join(CRATES, "*", "src")))
     lists = {
         "definitions that nothing reaches": [it.title() for it in unreached(crates)],
-        "names that stand for two things": doubled(crates),
+        "names that stand for two things": doubled(crates) + types_of_two([it for it in crates if it not in TESTS]),
         "functions that only forward": [it for crate in crates for it in forwarders(crate)],
     }
     for title, found in lists.items():

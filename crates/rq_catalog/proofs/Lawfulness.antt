@@ -4,7 +4,7 @@ use Rattle.std.proofs.Common.{Some, None, map, refl, sym, ap, ◌∙◌, subst, 
 use Rattle.std.specs.Prelude.{◌==◌, nat_lt, nat_le, if◌then◌else◌, option_map, slice_index_or}
 use Rattle.std.proofs.lemmas.Bool.{eqb-true, eqb-false, le-leb}
 use Rattle.std.proofs.lemmas.List.{length-map}
-use Rattle.rq_catalog.specs.declared.registrants.Registrants.{Registrants}
+use Rattle.rq_catalog.specs.declared.registrants.RegisteredNames.{RegisteredNames}
 use Rattle.rq_catalog.specs.Registered.{is_registered_in, is_known_in}
 use Rattle.rq_model.specs.Records as model
 use Rattle.rq_model.specs.Records.{Version, One, Two, no_queue}
@@ -46,7 +46,7 @@ open_as (Some Open) = refl
 open_as (Some (Committed place)) = refl
 open_as (Some (Aborted place)) = refl
 
-pub known_by : (registrants : Registrants) (s : State)
+pub known_by : (registrants : RegisteredNames) (s : State)
     → ((k : ℕ × List ℕ) → is_registered_in registrants k ≡ is_registered s k.0 k.1) → (q : ℕ) (by : Option By)
     → is_known_in registrants q by ≡ is_known s q by
 known_by registrants s same q None = refl

@@ -6,8 +6,8 @@ use Rattle.std.specs.List.{list_any, AllByRecursion}
 use Rattle.std.specs.Option.{option_map_or}
 use Rattle.std.proofs.lemmas.Bool.{eq-eqb, ne_eqb}
 use Rattle.std.proofs.Math.Seq.{take-suc}
-use Rattle.rq_model.proofs.Lists.{by_cases}
 use Rattle.rq_catalog.specs.Lists.{ends_at}
+use Rattle.rq_catalog.proofs.Runs.{any_push}
 
 more : (place : ℕ) (p q : ℕ × ℕ) (ops : List (ℕ × ℕ)) → ends_at place (p ∷ q ∷ ops) ≡ ends_at place (q ∷ ops)
 more place p q ops =
@@ -39,11 +39,6 @@ once op A false true false h = refl
 once op A false false true h = refl
 once op A false false false h = refl
 
-pub any_append : {X : Type 0} (p : X → Bool) (xs : List X) (x : X) → list_any p (xs ++ x ∷ []) ≡ (list_any p xs || p x)
-any_append p [] x = by_cases (p x) (λ b. (b || false) ≡ b) (λ _. refl) (λ _. refl)
-any_append p (y ∷ xs) x = by_cases (p y) (λ b. (b || list_any p (xs ++ x ∷ [])) ≡ ((b || list_any p xs) || p x))
-    (λ _. refl) (λ _. any_append p xs x)
-
 up : (i : ℕ) → i + 1 ≡ suc i
 up i = omega arith
 
@@ -58,4 +53,4 @@ next_queue op A mid new queues i d q t h below m n =
     ∙ once op A (list_any (λ v. v == q) (take i queues)) (get_or queues i d == q) t below
     ∙ ap (λ b. if b && t then A ++ op ∷ [] else A)
     (sym (ap (list_any (λ v. v == q)) (ap (λ k. take k queues) (up i) ∙ take-suc queues i d h)
-    ∙ any_append (λ v. v == q) (take i queues) (get_or queues i d)))
+    ∙ any_push (λ v. v == q) (take i queues) (get_or queues i d)))

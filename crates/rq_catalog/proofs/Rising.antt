@@ -13,7 +13,7 @@ use Rattle.std.specs.Prelude.{Err}
 use Rattle.std.proofs.lemmas.List.{map-append, length-map}
 use Rattle.std.proofs.lemmas.Cmp.{nat_cmp_total}
 use Rattle.rq_state.proofs.Searched.{searched_by}
-use Rattle.rq_state.proofs.InOrder.{ordered_weaker}
+use Rattle.rq_model.proofs.Merged.{ordered_weaker}
 use Rattle.rq_state.proofs.Neighbours.{ordered_unmap}
 use Rattle.rq_model.specs.WellFormed.{Ordered}
 use Rattle.rq_model.proofs.Lists.{by_cases}

@@ -7,7 +7,7 @@ use Rattle.std.specs.Cmp.Lexicographic.{pointwise, slice_cmp}
 use Rattle.std.specs.BTreeMap.{is_at}
 use Rattle.std.specs.BTreeSet.{BTreeSet}
 use Rattle.rq_model.specs.Records.{By}
-use Rattle.rq_catalog.specs.declared.registrants.Registrants.{Registrants}
+use Rattle.rq_catalog.specs.declared.registrants.RegisteredNames.{RegisteredNames}
 
 -- the same queue and the same name
 abbrev pub key_eq : ℕ × List ℕ → ℕ × List ℕ → Bool
@@ -22,10 +22,10 @@ abbrev pub is_on_roll : List (BTreeSet (List ℕ)) → ℕ × List ℕ → Bool
 is_on_roll sets k = list_any (is_at (slice_cmp nat_cmp k.1)) (names_with sets k.0)
 
 -- the name is registered with the queue
-abbrev pub is_registered_in : Registrants → ℕ × List ℕ → Bool
+abbrev pub is_registered_in : RegisteredNames → ℕ × List ℕ → Bool
 is_registered_in registrants k = is_on_roll registrants.by_queue.items k
 
 -- nobody is named, or somebody who is registered with the queue
-abbrev pub is_known_in : Registrants → ℕ → Option By → Bool
+abbrev pub is_known_in : RegisteredNames → ℕ → Option By → Bool
 is_known_in registrants queue None = true
 is_known_in registrants queue (Some by) = is_registered_in registrants (queue, by.name)

@@ -14,10 +14,10 @@ ghost use Rattle.rq_catalog.specs.Catalogues.{HasRoom, KnowsUnit, Takes, may_tak
 ghost use Rattle.rq_catalog.specs.Registered.{is_known_in};
 ghost use Rattle.rq_catalog.specs.Units.{numbers, has_unit, outcome_at, engages_at};
 
-use crate::errors::{is_defined, is_limit, may_kill};
+use crate::error_queues::{is_defined, is_limit, may_kill};
 use crate::lists::{touch, touch_all};
 use crate::outcome::Outcome;
-use crate::registrants::Registrants;
+use crate::registrants::RegisteredNames;
 use crate::units::Units;
 use indexmap::IndexSet;
 use rq_record::{Fault, KeptBy, Name, QueueNo, Record, Version};
@@ -29,7 +29,7 @@ use std::alloc::Global;
 pub(crate) struct Catalogue {
     pub(crate) names: IndexSet<Name>,
     pub(crate) errors: Vec<u32>,
-    pub(crate) registrants: Registrants,
+    pub(crate) registrants: RegisteredNames,
     pub(crate) greatest: u64,
     pub(crate) committed: u64,
     pub(crate) aborted: u64,

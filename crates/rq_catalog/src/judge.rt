@@ -12,8 +12,8 @@ ghost use Rattle.rq_record.specs.Views.{record_of, version_of};
 ghost use Rattle.rq_record.specs.declared.fault.Fault.TheVariants.{Resources};
 ghost use Rattle.rq_catalog.specs.Judges.{KnowsState, StandsIn, KeepsStanding, Notes};
 
-use crate::errors::{is_defined, is_limit, may_kill};
-use crate::registrants::Registrants;
+use crate::error_queues::{is_defined, is_limit, may_kill};
+use crate::registrants::RegisteredNames;
 use indexmap::IndexSet;
 use rq_record::{Fault, KeptBy, KeptName, Name, QueueNo, Record, Version};
 use std::alloc::Global;
@@ -27,7 +27,7 @@ pub struct Judge {
     version: Version,
     names: IndexSet<Name>,
     errors: Vec<u32>,
-    registrants: Registrants,
+    registrants: RegisteredNames,
     greatest: u64,
     units: BTreeSet<u64>,
 }
@@ -41,7 +41,7 @@ impl Judge {
             version,
             names: IndexSet::new(alloc),
             errors: Vec::new(alloc),
-            registrants: Registrants::new(alloc),
+            registrants: RegisteredNames::new(alloc),
             greatest: 0,
             units: BTreeSet::new(alloc),
         }

@@ -3,7 +3,7 @@
 
 mod analysis;
 mod catalogue;
-mod errors;
+mod error_queues;
 mod judge;
 mod lists;
 mod outcome;

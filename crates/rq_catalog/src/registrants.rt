@@ -13,17 +13,17 @@ use std::collections::BTreeSet;
 /// place. Where names come in order, a set has room for about twice as many as it holds: so each
 /// takes 16 bytes there, where a `Name` would take 65.
 #[derive(Drop)]
-pub(crate) struct Registrants {
+pub(crate) struct RegisteredNames {
     alloc: Global,
     by_queue: Vec<BTreeSet<KeptName>>,
 }
 
-impl Registrants {
+impl RegisteredNames {
     /// Nobody.
-    pub(crate) fn new(alloc: Global) -> Registrants
+    pub(crate) fn new(alloc: Global) -> RegisteredNames
         ensures { (k : ℕ × List ℕ) → is_registered_in result k ≡ false }
     {
-        Registrants {
+        RegisteredNames {
             alloc,
             by_queue: Vec::new(alloc),
         }

@@ -16,7 +16,7 @@ ghost use Rattle.rq_catalog.specs.Members.{has_name, has_key, is_marked_at, is_n
 ghost use Rattle.rq_catalog.specs.Units.{numbers, has_unit, outcome_at, engages_at};
 
 use crate::catalogue::Catalogue;
-use crate::registrants::Registrants;
+use crate::registrants::RegisteredNames;
 use crate::units::Units;
 use indexmap::IndexSet;
 use rq_record::{Fault, Name, UnitNo};
@@ -46,13 +46,13 @@ fn errors_of(alloc: Global, definitions: &[Definition]) -> Result<Vec<u32>, Faul
     Ok(errors)
 }
 
-fn registrants_of(alloc: Global, registrants: &[Registrant]) -> Result<Registrants, Fault>
+fn registrants_of(alloc: Global, registrants: &[Registrant]) -> Result<RegisteredNames, Fault>
     ensures registered { IfOk result
         (λ roll. (k : ℕ × List ℕ) →
         is_registered_in roll k ≡ list_any (has_key k) registrants.now) }
     ensures refused { IfErr result (λ e. e ≡ Resources) }
 {
-    let mut roll = Registrants::new(alloc);
+    let mut roll = RegisteredNames::new(alloc);
     for registrant in registrants {
         roll.register(registrant.queue.0, &registrant.name)?;
     }

@@ -9,9 +9,9 @@ use Rattle.rq_pool.specs.Countdowns.Arrivals.{Settled, arrivals_for, last_lists}
 use Rattle.rq_pool.specs.Countdowns.History.{flat_map}
 use Rattle.rq_pool.specs.Ledger.{times, times_in}
 use Rattle.rq_state.specs.Orders.{listed}
-use Rattle.rq_exchange.specs.declared.chain.Chain.{Chain}
+use Rattle.rq_exchange.specs.declared.chain.CountdownChain.{CountdownChain}
 use Rattle.rq_exchange.specs.declared.course.Course.{Course}
-use Rattle.rq_exchange.specs.declared.crew.Kept.{Kept}
+use Rattle.rq_exchange.specs.declared.crew.WorkDone.{WorkDone}
 use Rattle.rq_exchange.specs.declared.jobs.Job.{Job}
 use Rattle.rq_exchange.specs.declared.outboxes.Outbox.{Outbox}
 use Rattle.rq_exchange.specs.Chains.{IsChainOf, redone_in, diaries_of}
@@ -32,9 +32,9 @@ joined : {A B : Type 0} (f : A → List B) (xs : List A) → flat_map (λ (ys : 
 joined f [] = refl
 joined f (x ∷ xs) = ap (λ l. f x ++ l) (joined f xs)
 
-module _ (job : Job) (chain : Chain) where
+module _ (job : Job) (chain : CountdownChain) where
   -- each thread keeps what it began with, which is among what all began with
-  each_begins : (x : ℕ) (ss : List (List ℕ)) (ks : List Kept) → AllKeep job chain ss ks → (i : ℕ) (d : Kept)
+  each_begins : (x : ℕ) (ss : List (List ℕ)) (ks : List WorkDone) → AllKeep job chain ss ks → (i : ℕ) (d : WorkDone)
       → i < length ks → (s : List ℕ) × (HasKept job chain s (slice_index_or ks i d) × (times x s ≤ times_in x ss))
   each_begins x ss [] h i d lt = absurd (omega (arith, lt))
   each_begins x [] (k ∷ ks) h i d lt = absurd h
@@ -44,7 +44,7 @@ module _ (job : Job) (chain : Chain) where
       (rest.0, (rest.1.0, omega (arith, rest.1.1, sum_by-cons (times x) s ss)))
 
   module _ (is : IsJob job) (web : IsChainOf job chain) (tasks : List ℕ)
-      (are : AreBare job.sources.now (length job.definitions.now) tasks) (kept : List Kept)
+      (are : AreBare job.sources.now (length job.definitions.now) tasks) (kept : List WorkDone)
       (keep : HaveKept job chain tasks kept) (settled : AreSettled chain kept) (c : Course)
       (tells : Recounts chain kept c) where
     inside : (x : ℕ) → x < length (errors_in job) → x < length job.definitions.now
@@ -52,20 +52,20 @@ module _ (job : Job) (chain : Chain) where
 
     thread : (k : ℕ) → k < length (redone_of c) → k < length kept
     thread k here =
-        omega (arith, here, ap length tells.redone, length-map kept (λ (one : Kept). redone_in one.done.items))
+        omega (arith, here, ap length tells.redone, length-map kept (λ (one : WorkDone). redone_in one.done.items))
 
     -- the kth of the threads
-    abbrev one : (k : ℕ) → k < length kept → Kept
+    abbrev one : (k : ℕ) → k < length kept → WorkDone
     one k here = slice_index_or kept k (some_of kept k here)
 
     redone_is : (k : ℕ) (here : k < length kept) → redone_by c k ≡ redone_in (one k here).done.items
     redone_is k here = ap (λ (ls : List (List ℕ)). slice_index_or ls k []) tells.redone
-        ∙ get_or-map (λ (o : Kept). redone_in o.done.items) kept k (some_of kept k here) [] here
+        ∙ get_or-map (λ (o : WorkDone). redone_in o.done.items) kept k (some_of kept k here) [] here
 
     told_is : (x k : ℕ) → at chain.slots.items x < length chain.countdowns.items → (here : k < length kept)
         → told_to c k x ≡ told_at (diaries_of (one k here).passes.items) (at chain.slots.items x)
     told_is x k there here = ap (λ (ls : List (List (Entry Outbox))). slice_index_or ls k []) (tells.told x there)
-        ∙ get_or-map (λ (o : Kept). told_at (diaries_of o.passes.items) (at chain.slots.items x)) kept k
+        ∙ get_or-map (λ (o : WorkDone). told_at (diaries_of o.passes.items) (at chain.slots.items x)) kept k
         (some_of kept k here) [] here
 
     handed : (x i k : ℕ) → x < length job.definitions.now → i < length (listed job.sources.now x) → k < length kept
@@ -95,10 +95,10 @@ module _ (job : Job) (chain : Chain) where
         → Settled (length (naming (errors_in job) x)) (all_told c x) (length (naming (errors_in job) x)) []
     ended x near some =
         let there : at chain.slots.items x < length chain.countdowns.items = web.web.fed x near some in
-        let same : flat_map (λ (k : Kept). told_at (diaries_of k.passes.items) (at chain.slots.items x)) kept
+        let same : flat_map (λ (k : WorkDone). told_at (diaries_of k.passes.items) (at chain.slots.items x)) kept
         ≡ all_told c x =
         sym (ap (flat_map (λ (es : List (Entry Outbox)). es)) (tells.told x there)
-        ∙ joined (λ (k : Kept). told_at (diaries_of k.passes.items) (at chain.slots.items x)) kept) in
+        ∙ joined (λ (k : WorkDone). told_at (diaries_of k.passes.items) (at chain.slots.items x)) kept) in
         subst (λ (z : List ℕ × List (Entry Outbox)). Settled (length z.0) z.1 (length z.0) [])
         (λ i. (sources_name job is x near i, same i))
         (all_arrive job chain web tasks are kept keep settled x near some)

@@ -9,7 +9,7 @@ use Rattle.rq_pool.specs.declared.countdown.pass.Pass.{Pass}
 use Rattle.rq_pool.specs.declared.countdown.fits.Fits.{Ghosts}
 use Rattle.rq_pool.specs.Countdowns.Arrivals.{arrivals_for, last_lists}
 use Rattle.rq_pool.specs.Countdowns.Words.{history_of}
-use Rattle.rq_exchange.specs.declared.chain.Chain.{Chain}
+use Rattle.rq_exchange.specs.declared.chain.CountdownChain.{CountdownChain}
 use Rattle.rq_exchange.specs.declared.outboxes.Outbox.{Outbox}
 use Rattle.rq_exchange.specs.declared.outboxes.Target.{Target}
 use Rattle.rq_exchange.specs.declared.outboxes.Redone.{Redone}
@@ -39,7 +39,7 @@ module _ {T : Type 0} (ds : List (List (Entry T))) (blank : All (λ d. d ≡ [])
     arrived = λ e i near lt. ap (λ es. length (arrivals_for i es)) (nothing_told (w.slot e));
   }
 
-module _ {g : Ghosts Outbox Target} (job : Job) (chain : Chain) where
+module _ {g : Ghosts Outbox Target} (job : Job) (chain : CountdownChain) where
   pub fresh : (starts : List ℕ) (done : List Redone) (ps : List (Pass Outbox Target g)) → starts ≡ [] → done ≡ []
       → ArePasses chain ps → All (λ p. history_of p ≡ []) ps → HasFollowed (web_of job chain) (hand_of starts done ps)
   fresh starts done ps none no_more are blank =

@@ -13,7 +13,7 @@ use Rattle.rq_pool.specs.declared.countdown.fits.Fits.{Ghosts}
 use Rattle.rq_pool.specs.declared.countdown.arrival.Arrival.{Arrival}
 use Rattle.rq_pool.specs.Countdowns.History.{entry}
 use Rattle.rq_pool.specs.Countdowns.Words.{key_of, sources_of, history_of}
-use Rattle.rq_exchange.specs.declared.chain.Chain.{Chain}
+use Rattle.rq_exchange.specs.declared.chain.CountdownChain.{CountdownChain}
 use Rattle.rq_exchange.specs.declared.outboxes.Outbox.{Outbox}
 use Rattle.rq_exchange.specs.declared.outboxes.Target.{Target}
 use Rattle.rq_exchange.specs.declared.jobs.Job.{Job}
@@ -37,7 +37,8 @@ same_lists f d (x ∷ xs) (y ∷ ys) e h =
     let rest : map f xs ≡ ys = same_lists f d xs ys (omega (arith, e)) (λ i z is. h (suc i) z is) in
     λ i. sym first i ∷ rest i
 
-module _ (job : Job) (chain : Chain) (is : IsChainOf job chain) (q e : ℕ) (near : q < length job.definitions.now)
+module _ (job : Job) (chain : CountdownChain) (is : IsChainOf job chain) (q e : ℕ)
+    (near : q < length job.definitions.now)
     (err : e ≡ at (errors_in job) q) (within : e < length job.definitions.now) where
   fed : 0 < length (listed job.sources.now e)
   fed =

@@ -9,7 +9,7 @@ use Rattle.rq_pool.specs.declared.countdown.Countdown.{Countdown}
 use Rattle.rq_pool.specs.declared.countdown.pass.Pass.{Pass}
 use Rattle.rq_pool.specs.declared.countdown.fits.Fits.{Ghosts}
 use Rattle.rq_pool.specs.Countdowns.Words.{IsPassOf, history_of}
-use Rattle.rq_exchange.specs.declared.chain.Chain.{Chain}
+use Rattle.rq_exchange.specs.declared.chain.CountdownChain.{CountdownChain}
 use Rattle.rq_exchange.specs.declared.outboxes.Outbox.{Outbox}
 use Rattle.rq_exchange.specs.declared.outboxes.Target.{Target}
 use Rattle.rq_exchange.specs.declared.jobs.Job.{Job}
@@ -147,7 +147,7 @@ module _ {g : Ghosts Outbox Target} (job : Job) (workers : ℕ) where
         (adds a.countdown a.column a.slot_is a.fed a.keyed a.fresh)
 
   -- the passes by worker
-  module _ (m : ℕ) (chain : Chain) (columns : List (Vec (Pass Outbox Target g) Global))
+  module _ (m : ℕ) (chain : CountdownChain) (columns : List (Vec (Pass Outbox Target g) Global))
       (o : AreOpened job workers m chain.slots.items chain.countdowns.items columns) where
     pub has_passes : HasPasses chain workers
     has_passes = λ k d lt. (o.fresh k d (some_of columns k (omega (arith, lt, o.each))) lt).passes

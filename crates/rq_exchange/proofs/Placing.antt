@@ -5,8 +5,8 @@ use Rattle.std.specs.Prelude.{slice_index_or}
 use Rattle.std.proofs.lemmas.List.{get_or-map, length-map}
 use Rattle.rq_model.specs.Machine.{run}
 use Rattle.rq_pool.specs.Ledger.{times_in}
-use Rattle.rq_exchange.specs.declared.chain.Chain.{Chain}
-use Rattle.rq_exchange.specs.declared.crew.Kept.{Kept}
+use Rattle.rq_exchange.specs.declared.chain.CountdownChain.{CountdownChain}
+use Rattle.rq_exchange.specs.declared.crew.WorkDone.{WorkDone}
 use Rattle.rq_exchange.specs.declared.jobs.Job.{Job}
 use Rattle.rq_exchange.specs.declared.outboxes.Redone.{Redone}
 use Rattle.rq_exchange.specs.Boards.{IsPart, queue_of}
@@ -19,22 +19,23 @@ use Rattle.rq_exchange.proofs.Wholes.{whole}
 use Rattle.rq_exchange.proofs.Working.{each_keeps}
 
 -- the queues of all threads
-pub queues_are : (ks : List Kept) → map (λ (done : Vec Redone Global). map queue_of done.items)
-    (map (λ (k : Kept). k.done) ks) ≡ map (λ (k : Kept). redone_in k.done.items) ks
+pub queues_are : (ks : List WorkDone) → map (λ (done : Vec Redone Global). map queue_of done.items)
+    (map (λ (k : WorkDone). k.done) ks) ≡ map (λ (k : WorkDone). redone_in k.done.items) ks
 queues_are [] = refl
 queues_are (k ∷ ks) = ap (λ l. redone_in k.done.items ∷ l) (queues_are ks)
 
-module _ (job : Job) (chain : Chain) (tasks : List ℕ) (kept : List Kept) (keep : HaveKept job chain tasks kept)
+module _ (job : Job) (chain : CountdownChain) (tasks : List ℕ) (kept : List WorkDone)
+    (keep : HaveKept job chain tasks kept)
     (all : List (Vec Redone Global)) (is : all ≡ map (λ k. k.done) kept) where
   many : length all ≡ length kept
-  many = ap length is ∙ length-map kept (λ (k : Kept). k.done)
+  many = ap length is ∙ length-map kept (λ (k : WorkDone). k.done)
 
   all_done : All (λ done. All (IsRedone job) done.items) all
   all_done i v lt =
       let inside : i < length kept = omega (arith, lt, many) in
       let one = some_of kept i inside in
       let from : slice_index_or all i v ≡ (slice_index_or kept i one).done =
-      ap (λ l. slice_index_or l i v) is ∙ get_or-map (λ (k : Kept). k.done) kept i one v inside in
+      ap (λ l. slice_index_or l i v) is ∙ get_or-map (λ (k : WorkDone). k.done) kept i one v inside in
       subst (λ (done : Vec Redone Global). All (IsRedone job) done.items) (sym from)
       (each_keeps job chain keep.starts kept keep.keep i one inside).1.done
 

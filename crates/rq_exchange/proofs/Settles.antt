@@ -10,7 +10,7 @@ use Rattle.rq_pool.specs.declared.countdown.arrival.Entry.{Entry}
 use Rattle.rq_pool.specs.Countdowns.Arrivals.{Settled}
 use Rattle.rq_pool.specs.Countdowns.History.{flat_map}
 use Rattle.rq_pool.specs.Countdowns.Words.{IsPassOf, sources_of, history_of}
-use Rattle.rq_exchange.specs.declared.chain.Chain.{Chain}
+use Rattle.rq_exchange.specs.declared.chain.CountdownChain.{CountdownChain}
 use Rattle.rq_exchange.specs.declared.outboxes.Outbox.{Outbox}
 use Rattle.rq_exchange.specs.declared.outboxes.Target.{Target}
 use Rattle.rq_exchange.specs.Chains.{ArePasses, HasPasses, IsColumn, IsSettled, diaries_of}
@@ -47,7 +47,7 @@ module _ {g : Ghosts Outbox Target} {K : Type 0} (row : K → Vec (Pass Outbox T
       λ i. first i ∷ rest i
 
   -- each thread has a pass of each countdown
-  pub rows_long : (chain : Chain) (kept : List K) → All (λ k. ArePasses chain (row k).items) kept
+  pub rows_long : (chain : CountdownChain) (kept : List K) → All (λ k. ArePasses chain (row k).items) kept
       → (rows : List (Vec (Pass Outbox Target g) Global)) → rows ≡ map row kept → (n : ℕ)
       → n ≡ length chain.countdowns.items → All (λ r. length r.items ≡ n) rows
   rows_long chain kept are rows is n e i v lt =
@@ -57,7 +57,7 @@ module _ {g : Ghosts Outbox Target} {K : Type 0} (row : K → Vec (Pass Outbox T
       ap (λ rs. slice_index_or rs i v) is ∙ get_or-map row kept i one v inside in
       ap (λ (r : Vec (Pass Outbox Target g) Global). length r.items) from ∙ (are i one inside).each ∙ sym e
 
-  module _ (chain : Chain) (kept : List K) (are : All (λ k. ArePasses chain (row k).items) kept)
+  module _ (chain : CountdownChain) (kept : List K) (are : All (λ k. ArePasses chain (row k).items) kept)
       (has : HasPasses chain (length kept)) (some : 0 < length kept)
       (rows columns : List (Vec (Pass Outbox Target g) Global)) (is : rows ≡ map row kept)
       (long : (k : ℕ) (d : Vec (Pass Outbox Target g) Global) → k < length chain.countdowns.items

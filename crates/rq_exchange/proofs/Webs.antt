@@ -8,7 +8,7 @@ use Rattle.rq_model.specs.States.{Definition, no_definition}
 use Rattle.rq_state.specs.Orders.{listed, indices_of}
 use Rattle.rq_pool.specs.declared.countdown.pass.Pass.{Pass}
 use Rattle.rq_pool.specs.declared.countdown.fits.Fits.{Ghosts}
-use Rattle.rq_exchange.specs.declared.chain.Chain.{Chain}
+use Rattle.rq_exchange.specs.declared.chain.CountdownChain.{CountdownChain}
 use Rattle.rq_exchange.specs.declared.outboxes.Outbox.{Outbox}
 use Rattle.rq_exchange.specs.declared.outboxes.Target.{Target}
 use Rattle.rq_exchange.specs.declared.jobs.Job.{Job}
@@ -67,7 +67,8 @@ module _ (job : Job) (is : IsJob job) where
       (subst (λ ks. Rattle.rq_model.specs.WellFormed.Ordered (λ (a b : ℕ). a ≡ b → ⊥) ks) (sym (is.sources e near))
       (once (λ (d : Definition). d.error == e) 0 job.definitions.now)) (at job.ranks.now s) i here.0 lt here.1
 
-  module _ {g : Ghosts Outbox Target} (workers : ℕ) (chain : Chain) (columns : List (Vec (Pass Outbox Target g) Global))
+  module _ {g : Ghosts Outbox Target} (workers : ℕ) (chain : CountdownChain)
+      (columns : List (Vec (Pass Outbox Target g) Global))
       (o : AreOpened job workers (length job.definitions.now) chain.slots.items chain.countdowns.items columns) where
     some_or : (n : ℕ) → (n ≡ 0) ⊎ (0 < n)
     some_or zero = inl (omega arith)

@@ -7,8 +7,8 @@ use Rattle.rq_pool.specs.Countdowns.History.{flat_map}
 use Rattle.rq_pool.specs.Countdowns.Arrivals.{Settled, last_lists, kept_from, if_last}
 use Rattle.rq_pool.specs.Ledger.{times, times_in}
 use Rattle.rq_state.specs.Orders.{listed}
-use Rattle.rq_exchange.specs.declared.chain.Chain.{Chain}
-use Rattle.rq_exchange.specs.declared.crew.Kept.{Kept}
+use Rattle.rq_exchange.specs.declared.chain.CountdownChain.{CountdownChain}
+use Rattle.rq_exchange.specs.declared.crew.WorkDone.{WorkDone}
 use Rattle.rq_exchange.specs.declared.outboxes.Outbox.{Outbox}
 use Rattle.rq_exchange.specs.declared.jobs.Job.{Job}
 use Rattle.rq_exchange.specs.Chains.{web_of, IsChainOf, hand_of, diaries_of, redone_in}
@@ -21,41 +21,41 @@ use Rattle.rq_exchange.proofs.Openings.{some_of}
 use Rattle.rq_exchange.proofs.Tasks.{zero_or}
 
 -- what the threads have to show, each of what it was given
-abbrev hands : List (List ℕ) → List Kept → List (Hand Outbox)
+abbrev hands : List (List ℕ) → List WorkDone → List (Hand Outbox)
 hands [] ks = []
 hands (s ∷ ss) [] = []
 hands (s ∷ ss) (k ∷ ks) = hand_of s k.done.items k.passes.items ∷ hands ss ks
 
-module _ (job : Job) (chain : Chain) where
-  follow_all : (ss : List (List ℕ)) (ks : List Kept) → AllKeep job chain ss ks
+module _ (job : Job) (chain : CountdownChain) where
+  follow_all : (ss : List (List ℕ)) (ks : List WorkDone) → AllKeep job chain ss ks
       → AllByRecursion (HasFollowed (web_of job chain)) (hands ss ks)
   follow_all [] ks h = tt
   follow_all (s ∷ ss) [] h = tt
   follow_all (s ∷ ss) (k ∷ ks) h = (h.0.follows, follow_all ss ks h.1)
 
-  starts_are : (ss : List (List ℕ)) (ks : List Kept) → AllKeep job chain ss ks
+  starts_are : (ss : List (List ℕ)) (ks : List WorkDone) → AllKeep job chain ss ks
       → map (λ (h : Hand Outbox). h.starts) (hands ss ks) ≡ ss
   starts_are [] ks h = refl
   starts_are (s ∷ ss) [] h = absurd h
   starts_are (s ∷ ss) (k ∷ ks) h = ap (λ l. s ∷ l) (starts_are ss ks h.1)
 
-  redone_are : (ss : List (List ℕ)) (ks : List Kept) → AllKeep job chain ss ks
-      → map (λ (h : Hand Outbox). h.redone) (hands ss ks) ≡ map (λ (k : Kept). redone_in k.done.items) ks
+  redone_are : (ss : List (List ℕ)) (ks : List WorkDone) → AllKeep job chain ss ks
+      → map (λ (h : Hand Outbox). h.redone) (hands ss ks) ≡ map (λ (k : WorkDone). redone_in k.done.items) ks
   redone_are [] [] h = refl
   redone_are [] (k ∷ ks) h = absurd h
   redone_are (s ∷ ss) [] h = absurd h
   redone_are (s ∷ ss) (k ∷ ks) h = ap (λ l. redone_in k.done.items ∷ l) (redone_are ss ks h.1)
 
-  told_are : (c : ℕ) (ss : List (List ℕ)) (ks : List Kept) → AllKeep job chain ss ks
+  told_are : (c : ℕ) (ss : List (List ℕ)) (ks : List WorkDone) → AllKeep job chain ss ks
       → flat_map (λ (h : Hand Outbox). told_at h.diaries c) (hands ss ks)
-      ≡ flat_map (λ (k : Kept). told_at (diaries_of k.passes.items) c) ks
+      ≡ flat_map (λ (k : WorkDone). told_at (diaries_of k.passes.items) c) ks
   told_are c [] [] h = refl
   told_are c [] (k ∷ ks) h = absurd h
   told_are c (s ∷ ss) [] h = absurd h
   told_are c (s ∷ ss) (k ∷ ks) h = ap (λ l. told_at (diaries_of k.passes.items) c ++ l) (told_are c ss ks h.1)
 
   module _ (is : IsChainOf job chain) (tasks : List ℕ)
-      (are : AreBare job.sources.now (length job.definitions.now) tasks) (kept : List Kept)
+      (are : AreBare job.sources.now (length job.definitions.now) tasks) (kept : List WorkDone)
       (keep : HaveKept job chain tasks kept) (settled : AreSettled chain kept) where
     -- no queue with sources is dealt
     nowhere : (x : ℕ) → 0 < length (listed job.sources.now x)
@@ -90,14 +90,14 @@ module _ (job : Job) (chain : Chain) where
 
     -- all threads together have redone each queue once
     pub whole : (x : ℕ) → x < length job.definitions.now
-        → times_in x (map (λ (k : Kept). redone_in k.done.items) kept) ≡ 1
+        → times_in x (map (λ (k : WorkDone). redone_in k.done.items) kept) ≡ 1
     whole x near = sym (ap (times_in x) (redone_are keep.starts kept keep.keep))
         ∙ each_once (web_of job chain) (hands keep.starts kept) closed x near
 
     -- all sources of a queue arrived, so that the last was given the outboxes of all, and none is left
     pub all_arrive : (x : ℕ) → x < length job.definitions.now → 0 < length (listed job.sources.now x)
         → Settled (length (listed job.sources.now x))
-        (flat_map (λ (k : Kept). told_at (diaries_of k.passes.items) (at chain.slots.items x)) kept)
+        (flat_map (λ (k : WorkDone). told_at (diaries_of k.passes.items) (at chain.slots.items x)) kept)
         (length (listed job.sources.now x)) []
     all_arrive x near some =
         let w = web_of job chain in

@@ -12,7 +12,7 @@ use Rattle.rq_pool.specs.Countdowns.Arrivals.{Settled}
 use Rattle.rq_pool.specs.Countdowns.Words.{IsPassOf, key_of, sources_of, passes_of, history_of}
 use Rattle.rq_pool.specs.Countdowns.Words.{history_in}
 use Rattle.rq_pool.specs.declared.countdown.arrival.Entry.{Entry}
-use Rattle.rq_exchange.specs.declared.chain.Chain.{Chain}
+use Rattle.rq_exchange.specs.declared.chain.CountdownChain.{CountdownChain}
 use Rattle.rq_exchange.specs.declared.outboxes.Outbox.{Outbox}
 use Rattle.rq_exchange.specs.declared.outboxes.Target.{Target}
 use Rattle.rq_exchange.specs.declared.outboxes.Redone.{Redone}
@@ -21,7 +21,7 @@ use Rattle.rq_exchange.specs.Jobs.{records_of, errors_in}
 use Rattle.rq_exchange.specs.Coverage.{Web, IsWeb, Hand}
 use Rattle.rq_exchange.specs.Links.{at}
 
-abbrev pub web_of : Job → Chain → Web
+abbrev pub web_of : Job → CountdownChain → Web
 web_of job chain = record {
   n = length job.definitions.now;
   error = λ q. at (errors_in job) q;
@@ -44,7 +44,7 @@ abbrev pub IsCountdownOf : Job → ℕ → Countdown Outbox Target → Type 0
 IsCountdownOf job queue c = (sources_of c ≡ length (listed job.sources.now queue))
     × ((key_of c).due ≡ due job queue)
 
-pub record IsChainOf (job : Job) (chain : Chain) : Type 0 where
+pub record IsChainOf (job : Job) (chain : CountdownChain) : Type 0 where
   pub web : IsWeb (web_of job chain)
   pub slots : length chain.slots.items ≡ length job.definitions.now
   pub keyed : (e : ℕ) (d : Countdown Outbox Target) →
@@ -52,7 +52,7 @@ pub record IsChainOf (job : Job) (chain : Chain) : Type 0 where
       → IsCountdownOf job e (slice_index_or chain.countdowns.items (at chain.slots.items e) d)
 
 -- each countdown has as many passes
-abbrev pub HasPasses : Chain → ℕ → Type 0
+abbrev pub HasPasses : CountdownChain → ℕ → Type 0
 HasPasses chain workers = All (λ c. passes_of c ≡ workers) chain.countdowns.items
 
 -- there is such a queue, and it is no queue's error queue
@@ -69,7 +69,8 @@ redone_in = map (λ r. r.queue)
 
 module _ {g : Ghosts Outbox Target} where
   -- one of each countdown
-  pub record ArePasses (chain : Chain) (passes : List (Pass Outbox Target g)) : Type 0 where
+  pub record ArePasses (chain : CountdownChain) (passes : List (Pass Outbox Target g))
+      : Type 0 where
     pub each : length passes ≡ length chain.countdowns.items
     pub own : (k : ℕ) (d : Countdown Outbox Target) (p : Pass Outbox Target g) →
         k < length chain.countdowns.items

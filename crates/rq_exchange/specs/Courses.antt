@@ -5,9 +5,9 @@ use Rattle.rq_pool.specs.Countdowns.Arrivals.{Settled, arrivals_for, last_lists}
 use Rattle.rq_pool.specs.Countdowns.Closings.{histories_of}
 use Rattle.rq_pool.specs.Countdowns.History.{flat_map}
 use Rattle.rq_pool.specs.Ledger.{times}
-use Rattle.rq_exchange.specs.declared.chain.Chain.{Chain}
+use Rattle.rq_exchange.specs.declared.chain.CountdownChain.{CountdownChain}
 use Rattle.rq_exchange.specs.declared.course.Course.{Course}
-use Rattle.rq_exchange.specs.declared.crew.Kept.{Kept}
+use Rattle.rq_exchange.specs.declared.crew.WorkDone.{WorkDone}
 use Rattle.rq_exchange.specs.declared.outboxes.Outbox.{Outbox}
 use Rattle.rq_exchange.specs.Chains.{redone_in, diaries_of}
 use Rattle.rq_exchange.specs.Coverage.{told_at}
@@ -57,7 +57,7 @@ pub record StartsByLast (errors : List ℕ) (c : Course) : Type 0 where
       → Settled (length (naming errors x)) (all_told c x) (length (naming errors x)) []
 
 -- the course tells which queues the threads redid, and what the passes that they keep tell
-pub record Recounts (chain : Chain) (kept : List Kept) (c : Course) : Type 0 where
+pub record Recounts (chain : CountdownChain) (kept : List WorkDone) (c : Course) : Type 0 where
   pub redone : redone_of c ≡ map (λ k. redone_in k.done.items) kept
   pub told : (x : ℕ) → at chain.slots.items x < length chain.countdowns.items
       → told_of c x ≡ map (λ k. told_at (diaries_of k.passes.items) (at chain.slots.items x)) kept

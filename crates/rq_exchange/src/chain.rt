@@ -25,12 +25,12 @@ use std::collections::LinkedList;
 /// A countdown for each queue that has sources, and where each queue's countdown stands: past the
 /// last where it has none.
 #[derive(Drop)]
-pub(crate) struct Chain {
+pub(crate) struct CountdownChain {
     pub countdowns: Vec<Countdown<Outbox>>,
     pub slots: Vec<u32>,
 }
 
-impl Chain {
+impl CountdownChain {
     /// Hands what left a queue to its error queue. Who is the last to do so is given what left all
     /// its sources.
     pub(crate) fn hand_on(
@@ -128,13 +128,13 @@ fn open_one(
     Ok(slot as u32)
 }
 
-impl Chain {
+impl CountdownChain {
     /// Opens a countdown for each queue that has sources, and a pass of each for each worker.
     pub(crate) fn open(
         alloc: Global,
         job: &Job,
         workers: u32,
-    ) -> Result<(Chain, Vec<Vec<Pass<Outbox>>>), Fault>
+    ) -> Result<(CountdownChain, Vec<Vec<Pass<Outbox>>>), Fault>
         requires job { IsJob job.now }
         requires workers { (0 < workers) × (workers ≤ 64) }
         ensures chain { IfOk result (λ r. IsChainOf job.now r.0) }
@@ -152,6 +152,6 @@ impl Chain {
             slots.push(slot)?;
         }
         let rows = columns(alloc, all, workers as usize)?;
-        Ok((Chain { countdowns, slots }, rows))
+        Ok((CountdownChain { countdowns, slots }, rows))
     }
 }

@@ -20,9 +20,9 @@ pub struct Course {
 }
 
 // The queues that each thread redid.
-struct Queues;
+struct RedoneQueues;
 
-impl Listing<Vec<Vec<Redone>>, LinkedList<u32>> for Queues {
+impl Listing<Vec<Vec<Redone>>, LinkedList<u32>> for RedoneQueues {
     ghost use Rattle.std.specs.Prelude.{map};
     ghost use Rattle.rq_exchange.specs.Boards.{queue_of};
 
@@ -52,7 +52,7 @@ impl Course {
         ensures slots { result.slots ≡ slots }
         ensures redone { result.redone ≡ map (λ done. map queue_of done.items) all.now.items }
     {
-        let redone = Diary::of::<Vec<Vec<Redone>>, Queues>(all);
+        let redone = Diary::of::<Vec<Vec<Redone>>, RedoneQueues>(all);
         Course {
             closings,
             slots,

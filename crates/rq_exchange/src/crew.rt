@@ -11,11 +11,11 @@ ghost use Rattle.rq_exchange.specs.Chains.{web_of, IsChainOf, ArePasses, IsRedon
 ghost use Rattle.rq_exchange.specs.Coverage.{HasFollowed};
 ghost use Rattle.rq_exchange.specs.Jobs.{IsJob};
 ghost use Rattle.rq_exchange.specs.Tasks.{AreBare};
-ghost use Rattle.rq_exchange.specs.declared.chain.Chain.{Chain as GhostChain};
+ghost use Rattle.rq_exchange.specs.declared.chain.CountdownChain.{CountdownChain as GhostChain};
 ghost use Rattle.rq_exchange.specs.declared.jobs.Job.{Job as GhostJob};
 ghost use Rattle.rq_exchange.specs.Workers.{Works, HandsBack, IsFreshWorker, Pairs, HaveKept};
 
-use crate::chain::Chain;
+use crate::chain::CountdownChain;
 use crate::dealing::deal;
 use crate::following::follow;
 use crate::jobs::Job;
@@ -28,7 +28,7 @@ use std::thread::Threads;
 
 /// What a thread has when it has ended: a pass of each countdown, and the queues that it redid.
 #[derive(Drop)]
-pub(crate) struct Kept {
+pub(crate) struct WorkDone {
     pub passes: Vec<Pass<Outbox>>,
     pub done: Vec<Redone>,
 }
@@ -44,14 +44,14 @@ pub(crate) struct Worker {
 #[derive(Drop)]
 pub(crate) struct Ended {
     pub seat: Seat,
-    pub kept: Kept,
+    pub kept: WorkDone,
 }
 
 // Takes until there is nothing to take, and follows what it takes.
 fn work<G: Gate>(
     alloc: Global,
     job: &Job,
-    chain: &Chain,
+    chain: &CountdownChain,
     room: &Room,
     gate: &G,
     seat: Seat,
@@ -81,17 +81,17 @@ fn work<G: Gate>(
     }
     Ok(Ended {
         seat,
-        kept: Kept { passes, done },
+        kept: WorkDone { passes, done },
     })
 }
 
 fn finish<G: Gate>(
     alloc: Global,
     job: &Job,
-    chain: &Chain,
+    chain: &CountdownChain,
     gate: &G,
     left: &[u32],
-    kept: &mut Kept,
+    kept: &mut WorkDone,
 ) -> Result<(), Fault>
     requires job { IsJob job.now }
     requires chain { IsChainOf job.now chain.now }
@@ -106,7 +106,7 @@ fn finish<G: Gate>(
         (hand_of (starts ++ left.now) kept.new.done.items kept.new.passes.items)) }
     ensures refused { IfErr result (λ e. e ≡ Resources) }
 {
-    let Kept { passes, done } = kept;
+    let WorkDone { passes, done } = kept;
     for queue in left {
         follow(alloc, job, chain, gate, *queue, passes.as_mut_slice(), done)?;
     }
@@ -118,7 +118,7 @@ fn run_seats<R: Threads + Sync, G: Gate + Sync>(
     rt: &R,
     alloc: Global,
     job: &Job,
-    chain: &Chain,
+    chain: &CountdownChain,
     room: &Room,
     gate: &G,
     workers: Vec<Worker>,
@@ -167,7 +167,7 @@ fn paired(
 fn handed_back(
     alloc: Global,
     ended: Vec<Result<Ended, Fault>>,
-) -> Result<(Vec<Seat>, Vec<Kept>), Fault>
+) -> Result<(Vec<Seat>, Vec<WorkDone>), Fault>
     ensures back { IfOk result (λ r. HandsBack ended.items r.0.items r.1.items) }
     ensures refused { (job : GhostJob) (chain : GhostChain) (room : PoolRoom) →
         All (Works job chain room) ended.items → IfErr result (λ e. e ≡ Resources) }
@@ -187,11 +187,11 @@ pub(crate) fn all_kept<R: Threads + Sync, G: Gate + Sync>(
     rt: &R,
     alloc: Global,
     job: &Job,
-    chain: &Chain,
+    chain: &CountdownChain,
     gate: &G,
     tasks: &[u32],
     rows: Vec<Vec<Pass<Outbox>>>,
-) -> Result<Vec<Kept>, Fault>
+) -> Result<Vec<WorkDone>, Fault>
     requires job { IsJob job.now }
     requires chain { IsChainOf job.now chain.now }
     requires count { (0 < length rows.items) × (length rows.items ≤ 64) }

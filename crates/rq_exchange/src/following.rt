@@ -10,7 +10,7 @@ ghost use Rattle.rq_exchange.specs.Chains.{redone_in, diaries_of, hand_of, next_
 ghost use Rattle.rq_exchange.specs.Coverage.{StepsOn, HasFollowed};
 ghost use Rattle.rq_exchange.specs.Jobs.{IsJob};
 
-use crate::chain::Chain;
+use crate::chain::CountdownChain;
 use crate::jobs::Job;
 use crate::outboxes::{Outbox, Redone};
 use rq_pool::{Gate, Pass};
@@ -22,7 +22,7 @@ use std::alloc::Global;
 fn step<G: Gate>(
     alloc: Global,
     job: &Job,
-    chain: &Chain,
+    chain: &CountdownChain,
     gate: &G,
     queue: u32,
     boxes: Vec<Outbox>,
@@ -62,7 +62,7 @@ fn step<G: Gate>(
 pub(crate) fn follow<G: Gate>(
     alloc: Global,
     job: &Job,
-    chain: &Chain,
+    chain: &CountdownChain,
     gate: &G,
     start: u32,
     passes: &mut [Pass<Outbox>],

@@ -8,10 +8,10 @@ ghost use Rattle.rq_exchange.specs.Chains.{ArePasses, HasPasses, IsColumn, IsSet
 ghost use Rattle.rq_exchange.specs.Courses.{Recounts};
 ghost use Rattle.rq_exchange.specs.Workers.{AreSettled};
 
-use crate::chain::Chain;
+use crate::chain::CountdownChain;
 use crate::columns::columns;
 use crate::course::Course;
-use crate::crew::Kept;
+use crate::crew::WorkDone;
 use crate::outboxes::{Outbox, Redone};
 use rq_pool::{Closing, Countdown, Pass};
 use rq_record::Fault;
@@ -48,7 +48,7 @@ fn close_all(
 // The passes of each thread, and what it redid.
 fn apart(
     alloc: Global,
-    kept: Vec<Kept>,
+    kept: Vec<WorkDone>,
 ) -> Result<(Vec<Vec<Pass<Outbox>>>, Vec<Vec<Redone>>), Fault>
     ensures passes { IfOk result (λ r. r.0.items ≡ map (λ k. k.passes) kept.items) }
     ensures done { IfOk result (λ r. r.1.items ≡ map (λ k. k.done) kept.items) }
@@ -57,7 +57,7 @@ fn apart(
     let mut rows = Vec::with_capacity(alloc, kept.len())?;
     let mut all = Vec::with_capacity(alloc, kept.len())?;
     for one in kept {
-        let Kept { passes, done } = one;
+        let WorkDone { passes, done } = one;
         rows.push(passes)?;
         all.push(done)?;
     }
@@ -68,8 +68,8 @@ fn apart(
 /// the replay went.
 pub(crate) fn settled(
     alloc: Global,
-    chain: Chain,
-    kept: Vec<Kept>,
+    chain: CountdownChain,
+    kept: Vec<WorkDone>,
 ) -> Result<(Vec<Vec<Redone>>, Course), Fault>
     requires passes { HasPasses chain (length kept.items) }
     requires kept { All (λ k. ArePasses chain k.passes.items) kept.items }
@@ -79,7 +79,7 @@ pub(crate) fn settled(
     ensures course { IfOk result (λ r. Recounts chain kept.items r.1) }
     ensures refused { IfErr result (λ e. e ≡ Resources) }
 {
-    let Chain { countdowns, slots } = chain;
+    let CountdownChain { countdowns, slots } = chain;
     let (rows, all) = apart(alloc, kept)?;
     let columns = columns(alloc, rows, countdowns.len())?;
     let closings = close_all(alloc, countdowns, columns)?;

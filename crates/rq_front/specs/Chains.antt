@@ -33,6 +33,10 @@ rest_of Digest = model.Digest
 abbrev pub IsHeaded : List ℕ → Type 0
 IsHeaded b = (version : Version) × HasHeader version b
 
+-- the bytes are a log: no longer than one may be, and with a header
+abbrev pub IsLog : List ℕ → Type 0
+IsLog b = (length b ≤ log_limit) × IsHeaded b
+
 -- why bytes are refused: they are too long for a log, or begin with no header; or memory ran out
 abbrev pub Refused : List ℕ → Fault → Type 0
 Refused b TooLong = log_limit < length b

@@ -1,4 +1,3 @@
-mod Lists
 pub mod Texts
 pub mod Puts
 pub mod Scripts

@@ -9,7 +9,7 @@ use Rattle.rq_model.specs.Fronts.{Why, Ends, Form, Law, Restarted, IsRestart}
 use Rattle.rq_model.specs.Reports.{IsReport, why_text}
 use Rattle.rq_model.specs.Checkpoints.{IsAudit}
 use Rattle.rq_record.specs.declared.fault.Fault.TheVariants.{Resources}
-use Rattle.rq_front.specs.Chains.{IsHeaded, Refused}
+use Rattle.rq_front.specs.Chains.{IsHeaded, IsLog, Refused}
 use Rattle.rq_restart.specs.Audits.{audited_of}
 use Rattle.rq_restart.specs.declared.ends.FrontEnd.{FrontEnd}
 use Rattle.rq_look.specs.declared.ends.End.{End}
@@ -17,10 +17,6 @@ use Rattle.rq_look.specs.declared.trouble.Trouble.{Trouble}
 use Rattle.rq_look.specs.declared.telling.Subject.{Subject}
 use Rattle.rq_look.specs.declared.trouble.Trouble.TheVariants.{Log, Output, Untold, NoQueue}
 use Rattle.rq_look.specs.declared.trouble.Trouble.TheVariants.{Nothing}
-
--- b is a log: not too long, and with a header
-abbrev pub IsLog : List ℕ → Type 0
-IsLog b = (length b ≤ log_limit) × IsHeaded b
 
 -- nothing follows the front
 abbrev pub is_whole : Why → Bool

@@ -4,11 +4,12 @@ ghost use Rattle.std.specs.Prelude.{◌≡◌, ◌++◌, ℕ, List, IfErr, OnOk,
 ghost use Rattle.std.specs.Io.KnownBytes.{Appends};
 ghost use Rattle.rq_model.specs.Fronts.{Restarted, IsRestart};
 ghost use Rattle.rq_restart.specs.FrontEnds.{IsEndOf};
-ghost use Rattle.rq_look.specs.Looks.{EndsDump, IsBroken, IsClosing, IsLog, StaysUnshown};
+ghost use Rattle.rq_front.specs.Chains.{IsLog};
+ghost use Rattle.rq_look.specs.Looks.{EndsDump, IsBroken, IsClosing, StaysUnshown};
 ghost use Rattle.rq_look.specs.Looks.{front_end_of};
 
 use crate::ends::{End, end_of, put_end};
-use crate::frames::{Placed, Walk};
+use crate::frames::{Placed, PlacedFrames};
 use crate::json::{closing_of, record_shown, spelled_out};
 use crate::lines::put_record;
 use crate::numbered::{Numbered, queues_behind};
@@ -115,7 +116,7 @@ fn put_records<W: Write>(
 {
     let mut queues = 0;
     let mut left = wanted.limit;
-    for placed in Walk::of(bytes, used) {
+    for placed in PlacedFrames::of(bytes, used) {
         if left == 0 {
             return Ok(());
         }

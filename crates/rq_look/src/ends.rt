@@ -3,12 +3,12 @@
 ghost use Rattle.std.specs.Prelude.{◌≡◌, ◌++◌, string_bytes, IfOk, IfErr, OnOk};
 ghost use Rattle.rq_model.specs.Fronts as fronts;
 ghost use Rattle.rq_model.specs.Fronts.{IsRestart};
-ghost use Rattle.rq_front.specs.Chains.{IsHeaded, Refused};
+ghost use Rattle.rq_front.specs.Chains.{IsHeaded, Refused, IsLog};
 ghost use Rattle.rq_record.specs.declared.fault.Fault.TheVariants.{Resources};
 ghost use Rattle.rq_restart.specs.FrontEnds.{IsEndOf};
 ghost use Rattle.rq_restart.specs.Views.{why_of};
 ghost use Rattle.rq_look.specs.Looks as looks;
-ghost use Rattle.rq_look.specs.Looks.{IsLog, end_text, front_end_of};
+ghost use Rattle.rq_look.specs.Looks.{end_text, front_end_of};
 
 use crate::frames::{first_frame, stated_length};
 use crate::misfits::misfit_of;

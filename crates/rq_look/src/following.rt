@@ -13,7 +13,7 @@ use std::collections::{BTreeMap, BTreeSet};
 
 // An element that is in a queue, free or not.
 #[derive(Clone, Copy, Debug)]
-struct Kept {
+struct Queued {
     home: u32,
     priority: u8,
     attempts: u64,
@@ -41,7 +41,7 @@ pub(crate) struct Queues {
     events: Vec<Event>,
     defined: u32,
     shelves: Vec<Shelf>,
-    kept: BTreeMap<u64, Kept>,
+    kept: BTreeMap<u64, Queued>,
     open: BTreeMap<u64, Vec<Owned>>,
 }
 
@@ -78,7 +78,7 @@ impl Queues {
         Ok(())
     }
 
-    fn release(&mut self, element: u64, kept: Kept) -> Result<(), AllocError> {
+    fn release(&mut self, element: u64, kept: Queued) -> Result<(), AllocError> {
         if let Some(shelf) = self.shelves.get_mut(kept.home as usize) {
             shelf.free.insert((Reverse(kept.priority), element))?;
         }
@@ -86,7 +86,7 @@ impl Queues {
         Ok(())
     }
 
-    fn put(&mut self, unit: UnitNo, element: u64, kept: Kept) -> Result<Event, AllocError> {
+    fn put(&mut self, unit: UnitNo, element: u64, kept: Queued) -> Result<Event, AllocError> {
         self.kept.insert(element, kept)?;
         let fresh = true;
         self.own(unit, Owned { element, fresh })?;
@@ -142,18 +142,21 @@ impl Queues {
     }
 
     // Where an element goes whose taker aborts.
-    fn returned(&self, kept: Kept) -> (Kept, Effect) {
+    fn returned(&self, kept: Queued) -> (Queued, Effect) {
         let attempts = kept.attempts.saturating_add(1);
         match self.shelves.get(kept.home as usize) {
             Some(shelf) if shelf.limit as u64 == attempts => {
-                let moved = Kept {
+                let moved = Queued {
                     home: shelf.error,
                     attempts: 0,
                     ..kept
                 };
                 (moved, Effect::Moved(shelf.error))
             }
-            _ => (Kept { attempts, ..kept }, Effect::Back(kept.home, attempts)),
+            _ => (
+                Queued { attempts, ..kept },
+                Effect::Back(kept.home, attempts),
+            ),
         }
     }
 
@@ -196,7 +199,7 @@ impl Queues {
                 priority,
                 ..
             } => {
-                let kept = Kept {
+                let kept = Queued {
                     home: queue.0,
                     priority: *priority,
                     attempts: 0,

@@ -57,15 +57,15 @@ pub(crate) struct Placed<'a> {
 
 /// The frames in the first bytes of a log, one after the other.
 #[derive(Clone, Copy, Debug)]
-pub(crate) struct Walk<'a> {
+pub(crate) struct PlacedFrames<'a> {
     rest: &'a [u8],
     offset: u64,
     number: u64,
 }
 
-impl<'a> Walk<'a> {
+impl<'a> PlacedFrames<'a> {
     /// Those behind the header, in the first `used` bytes.
-    pub(crate) fn of(bytes: &'a [u8], used: u64) -> Walk<'a>
+    pub(crate) fn of(bytes: &'a [u8], used: u64) -> PlacedFrames<'a>
         ensures { 40 ≤ used → used ≤ length bytes.now
             → (result.rest.now ≡ drop 40 (take used bytes.now)) × (result.number ≡ 0) }
     {
@@ -73,7 +73,7 @@ impl<'a> Walk<'a> {
             Some(rest) => rest,
             None => &[],
         };
-        Walk {
+        PlacedFrames {
             rest,
             offset: HEADER_LEN as u64,
             number: 0,
@@ -81,7 +81,7 @@ impl<'a> Walk<'a> {
     }
 }
 
-impl<'a> Iterator for Walk<'a> {
+impl<'a> Iterator for PlacedFrames<'a> {
     type Item = Placed<'a>;
 
     ghost use Rattle.std.specs.Prelude.{length};

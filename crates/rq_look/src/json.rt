@@ -13,15 +13,15 @@ use std::str::from_utf8;
 
 /// Bytes: as digits, and as text where they spell one.
 #[derive(Debug, Drop, Serialize)]
-pub(crate) struct Bytes<'a> {
+pub(crate) struct BytesShown<'a> {
     hex: String,
     #[serde(skip_serializing_if = "Option::is_none")]
     text: Option<&'a str>,
 }
 
-impl<'a> Bytes<'a> {
-    pub(crate) fn of(alloc: Global, bytes: &'a [u8]) -> Result<Bytes<'a>, AllocError> {
-        Ok(Bytes {
+impl<'a> BytesShown<'a> {
+    pub(crate) fn of(alloc: Global, bytes: &'a [u8]) -> Result<BytesShown<'a>, AllocError> {
+        Ok(BytesShown {
             hex: hex::encode(alloc, bytes)?,
             text: from_utf8(bytes).ok(),
         })
@@ -53,9 +53,9 @@ pub(crate) struct Shown<'a> {
     #[serde(skip_serializing_if = "Option::is_none")]
     tag: Option<u64>,
     #[serde(skip_serializing_if = "Option::is_none")]
-    payload: Option<Bytes<'a>>,
+    payload: Option<BytesShown<'a>>,
     #[serde(skip_serializing_if = "Option::is_none")]
-    bytes: Option<Bytes<'a>>,
+    bytes: Option<BytesShown<'a>>,
 }
 
 /// The queue of a number, unless the number stands for none.
@@ -79,20 +79,23 @@ fn definition_of(record: &Record) -> (Option<&str>, Option<u16>, Option<u32>) {
 fn payload_of(
     alloc: Global,
     record: &Record,
-) -> Result<(Option<u8>, Option<Bytes<'_>>), AllocError> {
+) -> Result<(Option<u8>, Option<BytesShown<'_>>), AllocError> {
     match record {
         Record::Enqueue {
             priority,
             payload,
             ..
-        } => Ok((Some(*priority), Some(Bytes::of(alloc, payload.bytes())?))),
+        } => Ok((
+            Some(*priority),
+            Some(BytesShown::of(alloc, payload.bytes())?),
+        )),
         _ => Ok((None, None)),
     }
 }
 
-fn checkpoint_of(alloc: Global, record: &Record) -> Result<Option<Bytes<'_>>, AllocError> {
+fn checkpoint_of(alloc: Global, record: &Record) -> Result<Option<BytesShown<'_>>, AllocError> {
     match record {
-        Record::Checkpoint { bytes } => Ok(Some(Bytes::of(alloc, bytes.bytes())?)),
+        Record::Checkpoint { bytes } => Ok(Some(BytesShown::of(alloc, bytes.bytes())?)),
         _ => Ok(None),
     }
 }
@@ -122,7 +125,7 @@ pub(crate) fn record_shown(alloc: Global, it: &Numbered) -> Result<Shown<'_>, Al
 
 /// Where a front ends.
 #[derive(Clone, Copy, Debug, Serialize)]
-pub(crate) struct Front<'a> {
+pub(crate) struct FrontShown<'a> {
     records: u64,
     used: u64,
     total: u64,
@@ -132,13 +135,13 @@ pub(crate) struct Front<'a> {
 
 /// The last line of a dump.
 #[derive(Clone, Copy, Debug, Serialize)]
-pub(crate) struct Closing<'a> {
-    front: Front<'a>,
+pub(crate) struct ClosingShown<'a> {
+    front: FrontShown<'a>,
 }
 
 /// Where the front ends.
-pub(crate) fn front_of(end: &End) -> Front<'_> {
-    Front {
+pub(crate) fn front_of(end: &End) -> FrontShown<'_> {
+    FrontShown {
         records: end.records,
         used: end.used,
         total: end.total,
@@ -148,8 +151,8 @@ pub(crate) fn front_of(end: &End) -> Front<'_> {
 }
 
 /// The last line of a dump, of where the front ends.
-pub(crate) fn closing_of(end: &End) -> Closing<'_> {
-    Closing {
+pub(crate) fn closing_of(end: &End) -> ClosingShown<'_> {
+    ClosingShown {
         front: front_of(end),
     }
 }

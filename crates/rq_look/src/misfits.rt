@@ -44,7 +44,7 @@ impl fmt::Display for Misfit {
 
 // What is left of a body, and at which of its bytes that begins.
 #[derive(Clone, Copy, Debug)]
-struct Rest<'a> {
+struct BodyRest<'a> {
     bytes: &'a [u8],
     at: usize,
 }
@@ -52,18 +52,18 @@ struct Rest<'a> {
 /// A misfit, and at which byte of the body.
 pub(crate) type Found = (usize, Misfit);
 
-impl<'a> Rest<'a> {
+impl<'a> BodyRest<'a> {
     // The bytes of the next field, which the rest then lacks.
-    fn field(self, count: usize, name: &'static str) -> Result<(&'a [u8], Rest<'a>), Found> {
+    fn field(self, count: usize, name: &'static str) -> Result<(&'a [u8], BodyRest<'a>), Found> {
         if self.bytes.len() < count {
             return Err((self.at, Misfit::Cut(name)));
         }
         let (field, bytes) = self.bytes.split_at(count);
         let at = self.at.saturating_add(count);
-        Ok((field, Rest { bytes, at }))
+        Ok((field, BodyRest { bytes, at }))
     }
 
-    fn behind(self, count: usize, name: &'static str) -> Result<Rest<'a>, Found> {
+    fn behind(self, count: usize, name: &'static str) -> Result<BodyRest<'a>, Found> {
         let (_, rest) = self.field(count, name)?;
         Ok(rest)
     }
@@ -96,7 +96,7 @@ impl<'a> Rest<'a> {
     }
 
     // A registrant and a tag, or nobody.
-    fn who(self) -> Result<Rest<'a>, Found> {
+    fn who(self) -> Result<BodyRest<'a>, Found> {
         let (len, rest) = self.field(1, "name's length")?;
         let count = match len {
             [count] => *count as usize,
@@ -104,7 +104,7 @@ impl<'a> Rest<'a> {
         };
         let (name, tagged) = rest.field(count, "name")?;
         if count > 0 {
-            let name = Rest {
+            let name = BodyRest {
                 bytes: name,
                 at: rest.at,
             };
@@ -118,7 +118,7 @@ impl<'a> Rest<'a> {
     }
 
     // An operation's unit and queue.
-    fn operation(self) -> Result<Rest<'a>, Found> {
+    fn operation(self) -> Result<BodyRest<'a>, Found> {
         self.behind(8, "unit")?.behind(4, "queue")
     }
 
@@ -131,23 +131,23 @@ impl<'a> Rest<'a> {
     }
 }
 
-fn fits_define(rest: Rest<'_>) -> Result<(), Found> {
+fn fits_define(rest: BodyRest<'_>) -> Result<(), Found> {
     rest.behind(2, "limit")?.behind(4, "error queue")?.name()
 }
 
-fn fits_enqueue(rest: Rest<'_>) -> Result<(), Found> {
+fn fits_enqueue(rest: BodyRest<'_>) -> Result<(), Found> {
     rest.operation()?.behind(1, "priority")?.who()?.payload()
 }
 
-fn fits_dequeue(rest: Rest<'_>) -> Result<(), Found> {
+fn fits_dequeue(rest: BodyRest<'_>) -> Result<(), Found> {
     rest.operation()?.who()?.nothing()
 }
 
-fn fits_kill(rest: Rest<'_>) -> Result<(), Found> {
+fn fits_kill(rest: BodyRest<'_>) -> Result<(), Found> {
     rest.behind(4, "queue")?.behind(8, "element")?.nothing()
 }
 
-fn fits(version: Version, kind: u8, rest: Rest<'_>) -> Result<(), Found> {
+fn fits(version: Version, kind: u8, rest: BodyRest<'_>) -> Result<(), Found> {
     match kind {
         1 => fits_define(rest),
         2 | 3 => rest.behind(4, "queue")?.name(),
@@ -165,6 +165,6 @@ fn fits(version: Version, kind: u8, rest: Rest<'_>) -> Result<(), Found> {
 pub(crate) fn misfit_of(version: Version, body: &[u8]) -> Option<Found> {
     match body {
         [] => Some((0, Misfit::Cut("kind"))),
-        [kind, bytes @ ..] => fits(version, *kind, Rest { bytes, at: 1 }).err(),
+        [kind, bytes @ ..] => fits(version, *kind, BodyRest { bytes, at: 1 }).err(),
     }
 }

@@ -2,7 +2,8 @@
 
 ghost use Rattle.std.specs.Prelude.{ℕ, ◌++◌, ◌⊎◌, List, IfErr, OnOk};
 ghost use Rattle.std.specs.Io.KnownBytes.{Appends};
-ghost use Rattle.rq_look.specs.Looks.{IsBroken, IsLog, IsRefusal, StaysUnshown};
+ghost use Rattle.rq_front.specs.Chains.{IsLog};
+ghost use Rattle.rq_look.specs.Looks.{IsBroken, IsRefusal, StaysUnshown};
 ghost use Rattle.rq_look.specs.Markup.{page_foot};
 
 mod courses;

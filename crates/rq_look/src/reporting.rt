@@ -5,12 +5,13 @@ ghost use Rattle.std.specs.Io.KnownBytes.{Appends};
 ghost use Rattle.rq_model.specs.Fronts.{IsRestart};
 ghost use Rattle.rq_model.specs.Reports.{IsText};
 ghost use Rattle.rq_record.specs.declared.fault.Fault.TheVariants.{Resources};
-ghost use Rattle.rq_look.specs.Looks.{HasQueue, HasWanted, IsLog, LacksReport, PutsReport};
+ghost use Rattle.rq_front.specs.Chains.{IsLog};
+ghost use Rattle.rq_look.specs.Looks.{HasQueue, HasWanted, LacksReport, PutsReport};
 ghost use Rattle.rq_look.specs.Looks.{StaysUnreported};
 ghost use Rattle.rq_look.specs.declared.trouble.Trouble.TheVariants.{Log};
 
 use crate::ends::{End, end_after};
-use crate::json::{Front, front_of, spelled_out};
+use crate::json::{FrontShown, front_of, spelled_out};
 use crate::queues::{QueueShown, queues_shown};
 use crate::trouble::Trouble;
 use rq_report::{OverWrite, write_report_by};
@@ -21,7 +22,7 @@ use std::io::Write;
 use std::thread::Threads;
 
 #[derive(Clone, Copy, Debug, Serialize)]
-struct Units {
+struct UnitsShown {
     committed: u64,
     aborted: u64,
     cut_off: u64,
@@ -29,8 +30,8 @@ struct Units {
 
 #[derive(Debug, Drop, Serialize)]
 struct ReportShown<'a> {
-    front: Front<'a>,
-    units: Units,
+    front: FrontShown<'a>,
+    units: UnitsShown,
     queues: Vec<QueueShown<'a>>,
 }
 
@@ -42,7 +43,7 @@ fn report_shown<'a>(
 ) -> Result<ReportShown<'a>, AllocError> {
     Ok(ReportShown {
         front: front_of(end),
-        units: Units {
+        units: UnitsShown {
             committed: r.committed(),
             aborted: r.aborted(),
             cut_off: r.cut_off(),

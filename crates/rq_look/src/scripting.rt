@@ -18,7 +18,7 @@ ghost use Rattle.rq_look.specs.Scripts.{IsDash, IsLeft, LeavesBody, LeavesOut, P
 ghost use Rattle.rq_look.specs.Scripts.{script_line};
 
 use crate::ends::{end_of, is_whole};
-use crate::frames::{Placed, Walk};
+use crate::frames::{Placed, PlacedFrames};
 use crate::numbered::{Numbered, by_of};
 use crate::sheet::{finish, relieve};
 use crate::trouble::Trouble;
@@ -251,7 +251,7 @@ fn put_records<W: io::Write>(
     ensures refused { IfErr result BreaksOff }
 {
     let mut text = String::new(alloc);
-    for placed in Walk::of(bytes, used) {
+    for placed in PlacedFrames::of(bytes, used) {
         put_placed(alloc, &mut text, placed, output)?;
     }
     finish(&mut text, output)?;

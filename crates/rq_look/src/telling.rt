@@ -3,12 +3,13 @@
 ghost use Rattle.std.specs.Prelude.{◌≡◌, [], ℕ, List, None, IfOk, IfErr, OnOk, string_bytes};
 ghost use Rattle.std.specs.Io.KnownBytes.{Appends};
 ghost use Rattle.rq_record.specs.declared.fault.Fault.TheVariants.{Resources};
-ghost use Rattle.rq_look.specs.Looks.{IsBroken, IsLog, LacksStory, StaysWithoutStory};
+ghost use Rattle.rq_front.specs.Chains.{IsLog};
+ghost use Rattle.rq_look.specs.Looks.{IsBroken, LacksStory, StaysWithoutStory};
 
 use crate::ends::{End, end_of, put_end};
 use crate::events::Event;
 use crate::following::Queues;
-use crate::frames::{Placed, Walk};
+use crate::frames::{Placed, PlacedFrames};
 use crate::lines::put_record;
 use crate::numbered::{Numbered, unit_of};
 use crate::sheet::{finish, relieve};
@@ -143,7 +144,7 @@ fn tell_front<W: io::Write>(
 {
     let mut machine = Queues::new(alloc);
     let mut told = 0u64;
-    for placed in Walk::of(bytes, used) {
+    for placed in PlacedFrames::of(bytes, used) {
         let count = tell_record(alloc, placed, subject, &mut machine, text, output)?;
         told = told.saturating_add(count);
     }

@@ -126,7 +126,7 @@ impl<T: Fits> Countdown<T> {
 impl<T: Fits> Countdown<T> {
     ghost use Rattle.rq_pool.specs.Countdowns.Words.{IsPassOf, sources_of, passes_of, history_of};
     ghost use Rattle.rq_pool.specs.Countdowns.Words.{history_in, TellsLast};
-    ghost use Rattle.rq_pool.specs.Countdowns.Closings.{arrived_of, last_of, home_of, histories_of};
+    ghost use Rattle.rq_pool.specs.Countdowns.Closings.{arrived_of, last_in, home_of, histories_of};
     ghost use Rattle.rq_pool.specs.Countdowns.Arrivals.{Settled};
 
     /// What the arrivals came to, with the arrivals of each pass in the order in which the passes
@@ -137,7 +137,7 @@ impl<T: Fits> Countdown<T> {
         requires all { length passes.items ≡ passes_of self }
         ensures settled { Settled (sources_of self)
             (history_in passes.items) (arrived_of result) (home_of result) }
-        ensures last { TellsLast passes.items (last_of result) }
+        ensures last { TellsLast passes.items (last_in result) }
         ensures histories { histories_of result ≡ map history_of passes.items }
     {
         let histories = Diary::of::<Vec<Pass<T>>, Arrivals>(&passes);

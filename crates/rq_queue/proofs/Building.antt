@@ -24,7 +24,8 @@ use Rattle.rq_model.specs.States.{Element, id_before, is_free}
 use Rattle.rq_model.specs.WellFormed.{Ordered}
 use Rattle.rq_model.proofs.Apart.{Apart}
 use Rattle.rq_model.proofs.Lists.{by_cases, each_weaker}
-use Rattle.rq_state.proofs.InOrder.{number_is_order, ordered_weaker}
+use Rattle.rq_model.proofs.Merged.{ordered_weaker}
+use Rattle.rq_state.proofs.InOrder.{number_is_order}
 use Rattle.rq_state.proofs.Whole.{whole_permuted}
 use Rattle.rq_queue.specs.Kept.{items_of, IsKeyed, Stowed}
 use Rattle.rq_queue.specs.Sorted.{sorted}

@@ -13,7 +13,7 @@ use Rattle.rq_model.specs.Queues.{is_marked}
 use Rattle.rq_model.specs.Machine.{marked, committed_elements, leaves, returned}
 use Rattle.rq_model.specs.Laws.{PutInAnyOrder}
 use Rattle.rq_model.proofs.Lists.{by_cases, each_weaker, each_append, filter_all, filter_none, map_all}
-use Rattle.rq_model.proofs.Steps.{returned_id}
+use Rattle.rq_model.proofs.Steps.{returned_id, returned_same}
 use Rattle.rq_model.specs.WellFormed.{Ordered}
 use Rattle.rq_model.proofs.Merged.{ordered_filter, ordered_map}
 use Rattle.rq_model.proofs.Apart.{Apart}
@@ -74,20 +74,6 @@ unheld_is unit (x ∷ xs) h = by_cases (is_held unit x.mark)
 
 same_id : (unit : ℕ) (e : Element) → (freshen unit e).id ≡ e.id
 same_id unit e = by_cases (is_fresh unit e.mark) (λ b. (cond b (marked Free e) e).id ≡ e.id) (λ _. refl) (λ _. refl)
-
-returned_same : (unit : ℕ) (e : Element) → is_held unit e.mark ≡ false → returned unit e ≡ e
-returned_same unit e h =
-    ap (λ b. cond b
-    (record {
-      id = e.id;
-      home = e.home;
-      origin = e.origin;
-      priority = e.priority;
-      attempts = e.attempts + 1;
-      payload =
-          e.payload;
-      mark = Free;
-    }) e) h
 
 leaves_not : (home : Definition) (unit : ℕ) (e : Element) → is_held unit e.mark ≡ false → leaves home unit e ≡ false
 leaves_not home unit e h = ap (λ b. b && (not (home.limit == 0) && (e.attempts + 1 == home.limit))) h

@@ -20,15 +20,14 @@ use Rattle.rq_model.specs.Machine.{told, latest}
 use Rattle.rq_model.specs.WellFormed.{Ordered}
 use Rattle.rq_model.proofs.Lists.{by_cases, each_weaker, each_of, each_both, each_append, each_filter, each_passes}
 use Rattle.rq_model.proofs.Lists.{filter_all, filter_none, filter_same, filter_map_as}
-use Rattle.rq_model.proofs.Merged.{ordered_append, ordered_filter}
-use Rattle.rq_state.proofs.InOrder.{ordered_weaker, ordered_map}
+use Rattle.rq_model.proofs.Merged.{ordered_append, ordered_filter, ordered_weaker}
+use Rattle.rq_state.proofs.InOrder.{equal_numbers, ordered_map}
 use Rattle.rq_state.specs.Orders.{place_before}
 use Rattle.rq_queue.specs.Noted.{by_place, Apart, Rises, NoteEntry, AreByPlace, has_place, list_of, filed, is_own}
 use Rattle.rq_queue.specs.Noted.{has_own, left, Among, Drawn}
 use Rattle.rq_queue.specs.declared.whose.Whose.{Whose}
 use Rattle.rq_queue.proofs.NotesInOrder.{put_in_any_order, each_back, each_front, each_filtered, filter_sorted}
 use Rattle.rq_queue.proofs.NotesInOrder.{sorted_from, apart_from, apart_into}
-use Rattle.rq_queue.proofs.Registered.{number_same}
 use Rattle.rq_queue.proofs.Roll.{removed, appended}
 
 -- A list that rises is by place.
@@ -196,7 +195,7 @@ found k (x ∷ es) h = (
 own_there : (whose : Whose) (k : ℕ) (b : Bool) (es : List NoteEntry) → Ordered (λ (x y : NoteEntry). x.0 < y.0) es
     → has_own whose (lookup (is_at (nat_cmp k)) es) ≡ b
     → AllByRecursion (λ (e : NoteEntry). (k == e.0) ≡ true → is_own whose e.1 ≡ b) es
-own_there whose k b es h o = each_weaker _ _ (λ e f t. sym (ap (has_own whose) (f (number_same k e.0 ∙ t))) ∙ o) es
+own_there whose k b es h o = each_weaker _ _ (λ e f t. sym (ap (has_own whose) (f (equal_numbers k e.0 ∙ t))) ∙ o) es
     (found k es h)
 
 -- none of theirs stands there
@@ -215,7 +214,7 @@ one_drawn whose k es h o = removed nat_cmp nat_cmp_total k es
     (ordered_weaker (λ (a b : NoteEntry). a.0 < b.0) (λ (a b : NoteEntry). nat_cmp a.0 b.0 ≡ Less)
     (λ a b l. is_less a.0 b.0 l) es h.rising)
     ∙ filter_same _ _ es
-    (each_weaker _ _ (λ e f. ap not (number_same k e.0)
+    (each_weaker _ _ (λ e f. ap not (equal_numbers k e.0)
     ∙ by_cases (k == e.0) (λ b. not b ≡ not ((b || false) && is_own whose e.1)) (λ t. ap not (sym (f t))) (λ _. refl))
     es (own_there whose k true es h.rising o))
 

@@ -4,7 +4,7 @@ use Rattle.std.proofs.Common.{None, is_some, map, refl, sym, ap, ◌∙◌, arit
 use Rattle.std.specs.List.{filter, list_any, AllByRecursion}
 use Rattle.std.specs.Map.{lookup, remove_entry, set_value}
 use Rattle.std.specs.BTreeMap.{insert_entry, is_at}
-use Rattle.std.specs.Ordering.{is_eq, is_lt, nat_cmp, ordering_reverse}
+use Rattle.std.specs.Ordering.{is_eq, nat_cmp, ordering_reverse}
 use Rattle.std.specs.Cmp.{tied_then}
 use Rattle.std.specs.Cmp.Lexicographic.{slice_cmp}
 use Rattle.std.specs.Str.{bytes_eq}
@@ -17,10 +17,11 @@ use Rattle.std.proofs.lemmas.Map.Text.{is_eq-slice_cmp}
 use Rattle.rq_model.specs.States.{Last, Note, Registrant, put, registrant_before, is_registrant, is_note_of}
 use Rattle.rq_model.specs.Machine.{later, registered, deregistered, told}
 use Rattle.rq_model.specs.WellFormed.{Ordered}
+use Rattle.rq_model.proofs.Decided.{is_less}
 use Rattle.rq_model.proofs.Lists.{by_cases}
 use Rattle.rq_state.specs.Orders.{key_cmp}
 use Rattle.rq_model.specs.Laws.{registrant_key}
-use Rattle.rq_state.proofs.InOrder.{key_total, is_lt-key_cmp}
+use Rattle.rq_state.proofs.InOrder.{key_total, equal_keys, is_lt-key_cmp}
 use Rattle.rq_queue.specs.Roll.{RollEntry, registrant_of, IsRoll, heard}
 use Rattle.rq_queue.proofs.Roll.{none_at, any_at, removed, updated, inserted, appended}
 
@@ -28,9 +29,6 @@ use Rattle.rq_queue.proofs.Roll.{none_at, any_at, removed, updated, inserted, ap
 
 pub same_number : (a b : ℕ) → is_eq (nat_cmp a b) ≡ (b == a)
 same_number a b = grind (arith, nat_tests)
-
-pub number_same : (a b : ℕ) → is_eq (nat_cmp a b) ≡ (a == b)
-number_same a b = grind (arith, nat_tests)
 
 reverse_eq : (o : Ordering) → is_eq (ordering_reverse o) ≡ is_eq o
 reverse_eq Less = refl
@@ -44,9 +42,9 @@ registrant_is : (k : ℕ × List ℕ) (r : Registrant) → is_eq (key_cmp k (reg
 registrant_is k r = sym (tied_then (nat_cmp k.0 r.queue) (slice_cmp nat_cmp k.1 r.name))
     ∙ (λ i. same_number k.0 r.queue i && same_text k.1 r.name i)
 
-note_is : (n : Note) (r : Registrant) → is_eq (key_cmp (n.queue, n.name) (registrant_key r)) ≡ is_note_of r.queue r.name n
-note_is n r = sym (tied_then (nat_cmp n.queue r.queue) (slice_cmp nat_cmp n.name r.name))
-    ∙ (λ i. number_same n.queue r.queue i && is_eq-slice_cmp n.name r.name i)
+note_is : (n : Note) (r : Registrant) → is_eq (key_cmp (n.queue, n.name) (registrant_key r))
+    ≡ is_note_of r.queue r.name n
+note_is n r = equal_keys (n.queue, n.name) (registrant_key r)
 
 pub note_at : (k : ℕ × List ℕ) (n : Note) → is_eq (key_cmp k (n.queue, n.name)) ≡ is_note_of k.0 k.1 n
 note_at k n = sym (tied_then (nat_cmp k.0 n.queue) (slice_cmp nat_cmp k.1 n.name))
@@ -169,11 +167,6 @@ pub added_last : (r : Registrant) (es : List RollEntry)
 added_last r es h = ap (map registrant_of) (appended key_cmp key_total (r.queue, r.name) r.last es (less es h))
     ∙ last es
   where
-    is_less : (o : Ordering) → is_lt o ≡ true → o ≡ Less
-    is_less Less h = refl
-    is_less Equal h = absurd (false≢true h)
-    is_less Greater h = absurd (false≢true h)
-
     less : (es : List RollEntry) → AllByRecursion (λ x. registrant_before x r ≡ true) (map registrant_of es)
         → AllByRecursion (λ (e : RollEntry). key_cmp e.0 (r.queue, r.name) ≡ Less) es
     less [] h = tt

@@ -147,7 +147,8 @@ stowed_at t (x ∷ es) v w e h i = by_cases (t x.0)
           ∙ sym (append_assoc x.1.items s.left s.right));
     }
 
-pub each_at : (k : ℕ) (es : Lists) (w : Vec Element) → AllByRecursion (λ (x : Element). is_marked k x.mark ≡ true) w.items
+pub each_at : (k : ℕ) (es : Lists) (w : Vec Element)
+    → AllByRecursion (λ (x : Element). is_marked k x.mark ≡ true) w.items
     → AllByRecursion IsOfUnit es → AllByRecursion IsOfUnit (set_value (is_at (nat_cmp k)) es w)
 each_at k [] w p a = tt
 each_at k (x ∷ es) w p a = by_cases (is_eq (nat_cmp k x.0))

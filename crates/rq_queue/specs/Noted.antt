@@ -12,8 +12,7 @@ use Rattle.rq_model.specs.States.{Note, is_note_of}
 use Rattle.rq_model.specs.WellFormed.{Ordered}
 use Rattle.rq_queue.specs.declared.whose.Whose.{Whose}
 use Rattle.rq_queue.specs.declared.whose.Whose.TheVariants.{OfUnit, OfRegistrant}
-use Rattle.rq_state.specs.Orders.{key_cmp}
-use Rattle.rq_state.specs.Orders.{put_in_order, place_before}
+use Rattle.rq_state.specs.Orders.{key_cmp, put_in_order, place_before}
 
 -- each put in by its place
 abbrev pub by_place : List Note → List Note

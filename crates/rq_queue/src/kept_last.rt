@@ -57,19 +57,15 @@ impl KeptLast {
         }
     }
 
-    /// Hears of another operation: it is the last one then, where its place is greater. Refused with
-    /// Resources.
+    /// Hears of another operation: it is the last one then, where its place is greater. Refused
+    /// with Resources.
     pub(crate) fn hear(&mut self, alloc: Global, other: &Last) -> Result<(), Fault>
         ensures later { OnOk result (self.new ≡ machine.later self.old other.now) }
         ensures refused { IfErr result (λ e. e ≡ Resources) }
     {
         match &mut self.last {
             None => self.last = Some(Box::new(alloc, other.copied())?),
-            Some(last) => {
-                if last.is_before(other) {
-                    **last = other.copied();
-                }
-            }
+            Some(last) => last.hear(other),
         }
         Ok(())
     }

@@ -1,24 +1,27 @@
 -- A queue's free elements, put in order by a sort, are its listing.
-use Rattle.std.proofs.Common.{◌≡◌, ◌≢◌, ⊎_elim, inl, inr, ℕ, zero, suc, ◌+◌, ◌<◌, ◌≤◌, Bool, true, false, cond, ◌&&◌}
+use Rattle.std.proofs.Common.{◌≡◌, ◌≢◌, ⊎_elim, inl, inr, ℕ, ◌+◌, ◌<◌, ◌≤◌, Bool, true, false, cond, ◌&&◌}
 use Rattle.std.proofs.Common.{◌||◌, List, [], ◌∷◌, ◌++◌, length, take, drop, map, refl, sym, ap, ◌∙◌, subst, arith, Bor}
-use Rattle.std.specs.Prelude.{nat_lt, nat_le, ◌==◌, if◌then◌else◌, filter, slice_index_or}
-use Rattle.std.specs.List.{AllByRecursion, Contains, sum_by}
+use Rattle.std.specs.Prelude.{nat_lt, nat_le, ◌==◌, if◌then◌else◌, filter}
+use Rattle.std.specs.List.{AllByRecursion, sum_by}
 use Rattle.std.specs.List.Sorted.{IsPermutation, IsSortedBy}
 use Rattle.std.specs.Ordering.{is_lt, nat_cmp, ordering_then}
 use Rattle.std.specs.declared.cmp.Ordering.{Ordering}
 use Rattle.std.specs.declared.cmp.Ordering.TheVariants.{Less, Equal, Greater}
-use Rattle.std.specs.Cmp.{IsStrictWeakOrder, IsTotalOrder, back_total}
+use Rattle.std.specs.Cmp.{IsTotalOrder, back_total}
 use Rattle.std.proofs.lemmas.Bool.{false≢true, eqb-true, ltb-false, le-leb, eq-eqb}
 use Rattle.std.proofs.lemmas.Cmp.{nat_cmp_total, on_total, then_total}
 use Rattle.std.proofs.lemmas.List.{take_at}
 use Rattle.std.proofs.lemmas.List.Sums.{sum_by-cons}
-use Rattle.std.proofs.lemmas.List.Sorted.{sorted_far, ranks_by, IsPermutation-map, IsPermutation-sym}
+use Rattle.std.proofs.lemmas.List.Sorted.{ranks_by, IsPermutation-map, IsPermutation-sym}
 use Rattle.std.proofs.lemmas.List.Sorted.{Contains-permutation, sum_by-IsPermutation, length_permutation}
 use Rattle.rq_model.specs.Machine.{is_free_at, comes_first}
 use Rattle.rq_model.specs.Reports.{IsListing, Precedes}
 use Rattle.rq_model.specs.States.{Element}
 use Rattle.rq_model.specs.WellFormed.{Ordered, IsIn}
-use Rattle.rq_model.proofs.Lists.{by_cases, each_weaker, each_both, each_filter}
+use Rattle.rq_model.proofs.Lists.{by_cases, each_weaker, each_both}
+use Rattle.rq_model.proofs.Merged.{ordered_filter, ordered_weaker}
+use Rattle.rq_state.proofs.InOrder.{ordered_map, pairwise}
+use Rattle.rq_state.proofs.Sorts.{in_of_contains, contains_of_in}
 use Rattle.rq_report.specs.Order.{is_ahead}
 
 -- Two lists in order.
@@ -30,39 +33,6 @@ ordered_both R S T f (x ∷ xs) h k = (
   each_weaker (λ y. R x y × S x y) (T x) (λ y b. f x y b.0 b.1) xs (each_both (R x) (S x) xs h.0 k.0),
   ordered_both R S T f xs h.1 k.1,
 )
-
-ordered_filter : {X : Type 0} (R : X → X → Type 0) (p : X → Bool) (xs : List X) → Ordered R xs → Ordered R (filter p xs)
-ordered_filter R p [] h = tt
-ordered_filter R p (x ∷ xs) h = by_cases (p x) (λ b. Ordered R (cond b (x ∷ filter p xs) (filter p xs)))
-    (λ _. (each_filter (R x) p xs h.0, ordered_filter R p xs h.1)) (λ _. ordered_filter R p xs h.1)
-
-ordered_map : {X Y : Type 0} (R : Y → Y → Type 0) (f : X → Y) (xs : List X) → Ordered (λ a b. R (f a) (f b)) xs
-    → Ordered R (map f xs)
-ordered_map R f [] h = tt
-ordered_map R f (x ∷ xs) h = (each_through (R (f x)) f xs h.0, ordered_map R f xs h.1)
-  where
-    each_through : {X Y : Type 0} (P : Y → Type 0) (f : X → Y) (xs : List X) → AllByRecursion (λ x. P (f x)) xs
-        → AllByRecursion P (map f xs)
-    each_through P f [] h = tt
-    each_through P f (x ∷ xs) h = (h.0, each_through P f xs h.1)
-
-each_at : {X : Type 0} (P : X → Type 0) (d : X) (xs : List X) → ((k : ℕ) → k < length xs → P (slice_index_or xs k d))
-    → AllByRecursion P xs
-each_at P d [] h = tt
-each_at P d (x ∷ xs) h = (h 0 (omega arith), each_at P d xs (λ k l. h (suc k) (omega (arith, l))))
-
--- neighbours in order: any two in order
-pairwise : {X : Type 0} (lt : X → X → Bool) → IsStrictWeakOrder lt → (xs : List X) → IsSortedBy lt xs
-    → Ordered (λ a b. lt b a ≡ false) xs
-pairwise lt o [] up = tt
-pairwise lt o (x ∷ xs) up = (
-  each_at (λ y. lt y x ≡ false) x xs (λ k l. sorted_far lt o (x ∷ xs) up 0 (suc k) x (omega arith) (omega (arith, l))),
-  pairwise lt o xs (λ k d _ l. subst (λ m. lt (slice_index_or (x ∷ xs) m d) (slice_index_or xs k d) ≡ false) (up_one k)
-      (up (suc k) d (omega arith) (omega (arith, l)))),
-)
-  where
-    up_one : (k : ℕ) → suc k + 1 ≡ suc (k + 1)
-    up_one k = omega arith
 
 -- Elements of distinct numbers.
 
@@ -136,16 +106,6 @@ of_filter p x (y ∷ ys) h = by_cases (p y)
     (λ _ t k. ⊎_elim (λ e. (inl e, ap p e ∙ t)) (λ m. let r = of_filter p x ys m in (inr r.0, r.1)) k)
     (λ _ _ k. let r = of_filter p x ys k in (inr r.0, r.1)) refl h
 
-in_of_contains : {X : Type 0} (xs : List X) (x : X) (k : ℕ) → k < length xs → slice_index_or xs k x ≡ x → IsIn x xs
-in_of_contains [] x k h e = let no : ⊥ = omega (arith, h) in absurd no
-in_of_contains (y ∷ ys) x zero h e = inl (sym e)
-in_of_contains (y ∷ ys) x (suc k) h e = inr (in_of_contains ys x k (omega (arith, h)) e)
-
-contains_of_in : {X : Type 0} (xs : List X) (x : X) → IsIn x xs → Contains xs x
-contains_of_in [] x h = absurd h
-contains_of_in (y ∷ ys) x h = ⊎_elim (λ e. (0, omega arith, sym e))
-    (λ m. let c = contains_of_in ys x m in (suc c.0, omega (arith, c.1), c.2)) h
-
 in_permutation : {X : Type 0} (xs ys : List X) (x : X) → IsPermutation xs ys → IsIn x xs → IsIn x ys
 in_permutation xs ys x moved h = let c = Contains-permutation xs ys x moved (contains_of_in xs x h) in
     in_of_contains ys x c.0 c.1 c.2
@@ -190,9 +150,8 @@ sorted_is_first : (es : List (Bor Element)) → IsSortedBy (λ x y. is_ahead x.n
     → Ordered (λ e f. comes_first e f ≡ true) (map (λ e. e.now) es)
 sorted_is_first es up =
     ordered_map (λ e f. comes_first e f ≡ true) (λ (e : Bor Element). e.now) es
-    (ordered_both (λ x y. is_ahead y.now x.now ≡ false) (λ x y. is_ahead y.now x.now ≡ false)
-    (λ x y. comes_first x.now y.now ≡ true)
-    (λ x y h _. not_behind x.now.priority y.now.priority y.now.id x.now.id h) es sorted sorted)
+    (ordered_weaker (λ x y. is_ahead y.now x.now ≡ false) (λ x y. comes_first x.now y.now ≡ true)
+    (λ x y h. not_behind x.now.priority y.now.priority y.now.id x.now.id h) es sorted)
   where
     sorted : Ordered (λ x y. is_ahead y.now x.now ≡ false) es
     sorted = pairwise (λ x y. is_ahead x.now y.now) (ranks_by rank_total (λ (x : Bor Element). rank x.now)) es up

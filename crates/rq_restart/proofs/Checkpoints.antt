@@ -5,8 +5,8 @@ use Rattle.std.specs.Prelude.{◌&&◌, nat_le, max, Result, Ok, Err, All, IfOk,
 use Rattle.std.proofs.lemmas.List.{length-drop}
 use Rattle.std.proofs.lemmas.Bool.{and_parts, and_from, le-leb, leb-true, cases_lt}
 use Rattle.rq_model.specs.Records.{Version}
-use Rattle.rq_model.specs.Frames.{frame, frames, digest, last, before, body_in, HasHeader, HasRightFrame, Rest, Whole}
-use Rattle.rq_model.specs.Frames.{Cut, Length, Digest, IsRest, IsRun, IsFrameRun}
+use Rattle.rq_model.specs.Frames.{frame, frames, digest, last, before, body_in, HasHeader, HasRightFrame, Rest}
+use Rattle.rq_model.specs.Frames.{IsRest, IsRun, IsFrameRun}
 use Rattle.rq_model.specs.LogLaws.{FrameIsRight, LogEnds}
 use Rattle.rq_model.specs.Checkpoints.{IsCheckpointAt}
 use Rattle.rq_record.specs.Views.{version_of}
@@ -19,18 +19,12 @@ use Rattle.rq_model.specs.Records.{Record}
 use Rattle.rq_model.specs.Machine.{run}
 use Rattle.rq_model.specs.Fronts.{Restarted, Why, restarted}
 use Rattle.rq_model.specs.Frames.{log_limit}
+use Rattle.rq_model.proofs.Runs.{no_right}
 use Rattle.rq_restart.proofs.Starts.{started}
 use Rattle.rq_restart.specs.Ends.{IsChain, IsFrontFrom}
 use Rattle.rq_restart.specs.declared.checkpoint.Begun.{Begun}
 use Rattle.rq_restart.specs.Checkpoints.{BeginsAt, IsBegun, kept_of, kept_in, chain_start}
 use Rattle.rq_restart.specs.Restarts.{RestartsAt}
-
-no_right : (p bytes : List ℕ) (why : Rest) → IsRest p bytes why → HasRightFrame p bytes → ⊥
-no_right p bytes Whole h right = let none : length bytes ≡ 0 = ap length h in omega (arith, right.whole.room)
-no_right p bytes Cut h right =
-    elim (h.1) [ inl short ↦ omega (arith, right.whole.room) | inr cut ↦ omega (arith, right.whole.room, cut.1) ]
-no_right p bytes Length h right = h.1 right.whole.in_range
-no_right p bytes Digest h right = h.1 right.right
 
 kept_body : (body kept : List ℕ) → kept_of body ≡ Some kept → body ≡ 9 ∷ kept
 kept_body [] kept h = absurd cc

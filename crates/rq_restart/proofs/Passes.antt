@@ -27,7 +27,7 @@ use Rattle.rq_front.specs.Chains.{Refused, bodies_at, rest_of, spans_from}
 use Rattle.rq_catalog.specs.declared.judge.Judge.{Judge}
 use Rattle.rq_catalog.specs.Judges.{StandsIn}
 use Rattle.rq_restart.specs.Ends.{IsChain, IsFrontFrom, end_at, end_from}
-use Rattle.rq_restart.specs.declared.passing.Pass.{Pass}
+use Rattle.rq_restart.specs.declared.passing.PassSoFar.{PassSoFar}
 use Rattle.rq_restart.specs.declared.passing.Reach.{Reach}
 use Rattle.rq_restart.specs.Passes.{AreJudged, HasPassed, IsPassed, HasPassedSome, StopsAt, StopsIn, stays}
 use Rattle.rq_restart.proofs.Fronts.{ended}
@@ -256,7 +256,7 @@ pub record HasGoneOn (version : Version) (b : List ℕ) (limit end : ℕ) (why :
   pub judge : StandsIn version j (run empty kept)
 
 pub gone_on : (version : Version) → LogEnds → LogJoins → FramesJoin → FrameIsRight → RunGivesFront
-    → (b part : List ℕ) (rs : List Record) (p : Pass) (limit : ℕ) (c : Chain) (j : Judge) (reach : Reach)
+    → (b part : List ℕ) (rs : List Record) (p : PassSoFar) (limit : ℕ) (c : Chain) (j : Judge) (reach : Reach)
     → length b ≤ log_limit → HasPassed version b rs p → p.offset ≤ limit → limit ≤ length b → part ≡ take limit b
     → IsFrameRun part p.offset (bodies_at part c.spans.items) c.end (rest_of c.rest)
     → c.spans.items ≡ spans_from p.offset (bodies_at part c.spans.items)
@@ -291,7 +291,7 @@ gone_on version ends joins join right law b part rs p limit c j reach short has 
 
 -- The start of a pass, and its end.
 
-pub starts : (version : Version) → LogEnds → (b : List ℕ) (p : Pass) → HasHeader version b → p.offset ≡ 40
+pub starts : (version : Version) → LogEnds → (b : List ℕ) (p : PassSoFar) → HasHeader version b → p.offset ≡ 40
     → p.records ≡ 0 → StandsIn version p.judge empty → HasPassedSome version b p
 starts version ends b p head place none judge =
     let is = started version ends b head in
@@ -312,7 +312,7 @@ starts version ends b p head place none judge =
     )
 
 -- a reason that stays holds of the whole log, and so does one that is found in the whole log
-pub stops_there : (version : Version) (b : List ℕ) (limit : ℕ) (p : Pass) (why : Why) → p.offset ≤ limit
+pub stops_there : (version : Version) (b : List ℕ) (limit : ℕ) (p : PassSoFar) (why : Why) → p.offset ≤ limit
     → limit ≤ length b → stays why ≡ true → StopsIn version b limit p why → StopsIn version b (length b) p why
 stops_there version b limit p why low high holds stop =
     let rs = stop.0 in
@@ -326,7 +326,8 @@ stops_there version b limit p why low high holds stop =
     )
 
 -- so the front ends there
-pub front_is : (version : Version) → LogEnds → FrontStops → (b : List ℕ) (p : Pass) (why : Why) → HasHeader version b
+pub front_is : (version : Version) → LogEnds → FrontStops → (b : List ℕ) (p : PassSoFar) (why : Why)
+    → HasHeader version b
     → (stop : StopsIn version b (length b) p why) → IsFrontFrom version empty b 40 stop.0 p.offset why
 front_is version ends stops b p why head stop =
     let rs = stop.0 in

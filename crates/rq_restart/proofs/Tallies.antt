@@ -22,7 +22,7 @@ use Rattle.rq_record.specs.declared.record.Record.{Record as Own}
 use Rattle.rq_record.specs.declared.record.Record.TheVariants as own
 use Rattle.rq_record.specs.Views.{record_of}
 use Rattle.rq_state.specs.Inside.{state_of}
-use Rattle.rq_restart.specs.declared.auditing.Walk.{Walk}
+use Rattle.rq_restart.specs.declared.auditing.AuditSoFar.{AuditSoFar}
 use Rattle.rq_restart.specs.declared.tally.Tally.{Tally}
 use Rattle.rq_restart.specs.Worth.{KeepsAllBut, of_unit, of_registrant, IsTallied, IsWithin, unit_after, named_after}
 use Rattle.rq_restart.specs.Worth.{registrant_after, lost_by, Counts}
@@ -146,7 +146,7 @@ tallied_next all i r t u lt is rise c h within = (
   within_next t u i r c within,
 )
 
-pub passed : (all : List Own) (i : ℕ) (r : Own) (w v : Walk) → i < length all → length all ≤ 4294967295
+pub passed : (all : List Own) (i : ℕ) (r : Own) (w v : AuditSoFar) → i < length all → length all ≤ 4294967295
     → r ≡ slice_index_or all i r → Rising (run empty (take i (map record_of all))) → IsAuditWalk (map record_of all) i w
     → PassesRecord w r v
     → IsAuditWalk (map record_of all) (i + 1) v
@@ -154,8 +154,8 @@ passed all i r w v lt few is rise walk p =
     let rs = map record_of all in
     let s = run empty (take i rs) in
     let more = run_more all i r lt is in
-    let from : v.from ≡ w.from = ap (λ (x : Walk). x.from) p.others in
-    let state : state_of v.fields ≡ state_of w.fields = ap (λ (x : Walk). state_of x.fields) p.others in
+    let from : v.from ≡ w.from = ap (λ (x : AuditSoFar). x.from) p.others in
+    let state : state_of v.fields ≡ state_of w.fields = ap (λ (x : AuditSoFar). state_of x.fields) p.others in
     let next = tallied_next all i r w.tally v.tally lt is rise p.tally walk.tally walk.counts in
     record {
       within = omega (arith, walk.within, from);
@@ -193,7 +193,7 @@ loss_kept all i r kept n t lt is checkpoint h =
     (sym (run_more all i r lt is ∙ ap (λ (q : Own). step s (record_of q)) checkpoint)) h
 
 -- a checkpoint that begins with another number, or is too short, is false
-pub no_spelling : (all : List Own) (i : ℕ) (w : Walk) (kept : List ℕ) (may : Bool) → i < length all
+pub no_spelling : (all : List Own) (i : ℕ) (w : AuditSoFar) (kept : List ℕ) (may : Bool) → i < length all
     → IsAuditWalk (map record_of all) i w
     → may ≡ (starts_with nat_eq kept (to_be_bytes w64 i) && not (nat_lt (length kept) (least w))) → may ≡ false
     → false ≡ bytes_eq kept (state_bytes (run empty (take i (map record_of all))))

@@ -13,7 +13,7 @@ use Rattle.std.proofs.lemmas.List.Filters.{length-filter_both}
 use Rattle.std.proofs.lemmas.Slice.Eq.{bytes_eq-Decides}
 use Rattle.std.specs.Prelude.{option_map}
 use Rattle.std.specs.Int.{w16, w64, to_be_bytes}
-use Rattle.rq_model.specs.Records.{By, Register, Deregister, Begin, Enqueue, Dequeue, Commit, Abort}
+use Rattle.rq_model.specs.Records.{By, Deregister, Begin, Enqueue, Dequeue, Commit, Abort}
 use Rattle.rq_model.specs.States.{Mark, Free, Fresh, Held, Kind, Enqueued, Dequeued, Element, Last, Definition, Note}
 use Rattle.rq_model.specs.States.{Registrant, State, definition_at, put, registrant_before, is_fresh, is_held}
 use Rattle.rq_model.specs.States.{is_registrant, is_note_of}

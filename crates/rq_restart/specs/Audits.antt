@@ -16,7 +16,7 @@ use Rattle.rq_record.specs.declared.fault.Fault.{Fault}
 use Rattle.rq_record.specs.declared.fault.Fault.TheVariants.{Resources}
 use Rattle.rq_front.specs.declared.spans.Span.{Span}
 use Rattle.rq_front.specs.Chains.{IsHeaded, Refused}
-use Rattle.rq_restart.specs.declared.auditing.Walk.{Walk}
+use Rattle.rq_restart.specs.declared.auditing.AuditSoFar.{AuditSoFar}
 use Rattle.rq_record.specs.declared.record.Record.{Record as Own}
 use Rattle.rq_restart.specs.Worth.{member_bytes, IsTallied, IsWithin, KeepsAllBut, Counts, lost_by}
 
@@ -44,7 +44,7 @@ StandAt rs spans = (i : ℕ) → i < length rs
     → (i < length spans) × ((d : Span) → (slice_index_or spans i d).start ≡ past 40 (take i rs) + 4)
 
 -- the bytes that the state before the next record spells at least
-abbrev pub least : Walk → ℕ
+abbrev pub least : AuditSoFar → ℕ
 least w = member_bytes (state_of w.fields) - 74 * w.lost
 
 -- the records of a log, which are lawful, and the spans of their frames
@@ -64,7 +64,7 @@ FindsShare rs start end (Ok v) = AreFound rs start end v.items
 FindsShare rs start end (Err e) = e ≡ Resources
 
 -- how far an audit has come
-pub record IsAuditWalk (rs : List Record) (i : ℕ) (w : Walk) : Type 0 where
+pub record IsAuditWalk (rs : List Record) (i : ℕ) (w : AuditSoFar) : Type 0 where
   pub within : w.from ≤ i
   pub state : state_of w.fields ≡ run empty (take w.from rs)
   pub tally : IsTallied (run empty (take i rs)) w.tally
@@ -73,7 +73,7 @@ pub record IsAuditWalk (rs : List Record) (i : ℕ) (w : Walk) : Type 0 where
   pub lost : KeepsAllBut w.lost (state_of w.fields) (run empty (take i rs))
 
 -- v is w behind a record that is no checkpoint
-pub record PassesRecord (w : Walk) (r : Own) (v : Walk) : Type 0 where
+pub record PassesRecord (w : AuditSoFar) (r : Own) (v : AuditSoFar) : Type 0 where
   pub others : v ≡ record w { tally = v.tally; lost = v.lost }
   pub tally : Counts w.tally v.tally r
   pub lost : v.lost ≡ w.lost + lost_by r w.tally

@@ -6,7 +6,7 @@ use Rattle.rq_record.specs.declared.fault.Fault.{Fault}
 use Rattle.rq_record.specs.declared.fault.Fault.TheVariants.{Resources}
 use Rattle.rq_record.specs.Views.{record_of}
 use Rattle.rq_catalog.specs.Analyses.{IsAnalysis}
-use Rattle.rq_restart.specs.declared.reading.Parts.{Parts}
+use Rattle.rq_restart.specs.declared.reading.PartedRecords.{PartedRecords}
 use Rattle.rq_restart.specs.declared.front.Known.{Known}
 use Rattle.rq_restart.specs.Readings.{AreApart, AreRead}
 
@@ -17,7 +17,7 @@ pub record IsKnownOfBodies (version : Version) (s : State) (bodies : List (List 
   pub analysis : IsAnalysis version s (map record_of k.records.items) k.analysis
 
 -- that of the bodies whose records stand apart, or no memory
-abbrev pub KnowsBodies : Version → State → Parts → Result Known Fault → Type 0
+abbrev pub KnowsBodies : Version → State → PartedRecords → Result Known Fault → Type 0
 KnowsBodies version s parts (Ok k) = (bodies : List (List ℕ)) →
     AreApart version bodies parts → IsKnownOfBodies version s bodies k
 KnowsBodies version s parts (Err e) = e ≡ Resources

@@ -14,7 +14,7 @@ use Rattle.rq_catalog.specs.Judges.{StandsIn}
 use Rattle.rq_restart.specs.declared.passing.Verdict.{Verdict}
 use Rattle.rq_restart.specs.declared.passing.Verdict.TheVariants.{Lawful, Unlawful, NoRecord}
 use Rattle.rq_restart.specs.declared.passing.Reach.{Reach}
-use Rattle.rq_restart.specs.declared.passing.Pass.{Pass}
+use Rattle.rq_restart.specs.declared.passing.PassSoFar.{PassSoFar}
 
 -- what a judge that stood in the state makes of a body; only behind a lawful record it stands
 -- elsewhere
@@ -54,17 +54,18 @@ pub record IsPassed (version : Version) (b : List ℕ) (rs : List Record) (end :
   pub whole : b ≡ log_of version rs ++ drop end b
 
 -- the pass has come behind these records, and so has its judge
-pub record HasPassed (version : Version) (b : List ℕ) (rs : List Record) (p : Pass) : Type 0 where
+pub record HasPassed (version : Version) (b : List ℕ) (rs : List Record) (p : PassSoFar)
+    : Type 0 where
   pub passed : IsPassed version b rs p.offset
   pub count : p.records ≡ length rs
   pub judge : StandsIn version p.judge (run empty rs)
 
 -- it has come behind some
-abbrev pub HasPassedSome : Version → List ℕ → Pass → Type 0
+abbrev pub HasPassedSome : Version → List ℕ → PassSoFar → Type 0
 HasPassedSome version b p = (rs : List Record) × HasPassed version b rs p
 
 -- for this reason no lawful record follows in the first bytes of b
-abbrev pub StopsIn : Version → List ℕ → ℕ → Pass → Why → Type 0
+abbrev pub StopsIn : Version → List ℕ → ℕ → PassSoFar → Why → Type 0
 StopsIn version b limit p why = (rs : List Record) × HasPassed version b rs p
     × IsWhy version (run empty rs) (last_of (start version) rs) (drop p.offset (take limit b)) why
 

@@ -10,7 +10,7 @@ use Rattle.rq_record.specs.declared.fault.Fault.{Fault}
 use Rattle.rq_record.specs.declared.fault.Fault.TheVariants.{Resources}
 use Rattle.rq_record.specs.declared.record.Record as rt
 use Rattle.rq_record.specs.Views.{record_of}
-use Rattle.rq_restart.specs.declared.reading.Parts.{Parts}
+use Rattle.rq_restart.specs.declared.reading.PartedRecords.{PartedRecords}
 
 -- no body, or a first one that spells no record of the version
 abbrev pub SpellsNone : Version → List (List ℕ) → Type 0
@@ -30,7 +30,7 @@ ReadsBodies version bodies (Ok v) = AreRead version bodies (map record_of v.item
 ReadsBodies version bodies (Err e) = e ≡ Resources
 
 -- the records of the first bodies and those of the others, apart from one another
-pub record AreApart (version : Version) (bodies : List (List ℕ)) (p : Parts) : Type 0 where
+pub record AreApart (version : Version) (bodies : List (List ℕ)) (p : PartedRecords) : Type 0 where
   pub within : p.count ≤ length bodies
   pub front : AreRead version (take p.count bodies) (map record_of p.front.items)
   pub back : AreRead version (drop p.count bodies) (map record_of p.back.items)

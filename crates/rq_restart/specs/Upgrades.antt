@@ -8,8 +8,7 @@ use Rattle.rq_model.specs.Fronts.{IsFront}
 use Rattle.rq_model.specs.Tails.{IsUpgraded}
 use Rattle.rq_record.specs.Views.{version_of}
 use Rattle.rq_record.specs.declared.fault.Fault.{Fault}
-use Rattle.rq_front.specs.Chains.{Refused}
-use Rattle.rq_restart.specs.Tails.{IsShortLog}
+use Rattle.rq_front.specs.Chains.{Refused, IsLog}
 use Rattle.rq_restart.specs.declared.upgrading.Extent.{Extent}
 
 -- so many frames stand one after the other, their digests aside
@@ -24,7 +23,7 @@ bodies_in (suc n) bytes = body_in bytes ∷ bodies_in n (drop (36 + stated bytes
 
 -- the version of b, where its front ends, and how many records that has
 pub record IsExtent (b : List ℕ) (e : Extent) : Type 0 where
-  pub log : IsShortLog b
+  pub log : IsLog b
   pub records : List Record
   pub front : IsFront b (version_of e.version) records (drop e.end b)
   pub within : e.end ≤ length b
@@ -32,5 +31,5 @@ pub record IsExtent (b : List ℕ) (e : Extent) : Type 0 where
 
 -- b in version 2, or why it is not there
 abbrev pub Upgrades : List ℕ → Result (Vec ℕ) Fault → Type 0
-Upgrades b (Ok v) = IsShortLog b × IsUpgraded b v.items × (length v.items ≤ log_limit)
+Upgrades b (Ok v) = IsLog b × IsUpgraded b v.items × (length v.items ≤ log_limit)
 Upgrades b (Err e) = Refused b e

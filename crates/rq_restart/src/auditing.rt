@@ -82,7 +82,7 @@ fn tally_before(alloc: Global, records: &[Record], place: usize) -> Result<Tally
 /// the place of the record that it stands before; how often each unit and registrant was spoken of;
 /// how many members of each list of that state may be gone since; and what was found.
 #[derive(Drop)]
-pub(crate) struct Walk {
+pub(crate) struct AuditSoFar {
     fields: Fields,
     from: usize,
     tally: Tally,
@@ -90,14 +90,14 @@ pub(crate) struct Walk {
     pub(crate) found: Vec<(u64, bool)>,
 }
 
-impl Walk {
+impl AuditSoFar {
     /// In the state before the record of a place, with nothing found.
     pub(crate) fn before(
         alloc: Global,
         records: &[Record],
         place: usize,
         state: State,
-    ) -> Result<Walk, Fault>
+    ) -> Result<AuditSoFar, Fault>
         requires within { place ≤ length records.now }
         requires few { length records.now ≤ 4294967295 }
         requires lawful { all_lawful Two empty (map record_of records.now) ≡ true }
@@ -107,7 +107,7 @@ impl Walk {
         ensures refused { IfErr result (λ e. e ≡ Resources) }
     {
         let tally = tally_before(alloc, records, place)?;
-        Ok(Walk {
+        Ok(AuditSoFar {
             fields: state.into_fields(),
             from: place,
             tally,
@@ -129,7 +129,7 @@ fn member_bytes_of(fields: &Fields) -> u128
 }
 
 // Whether the state before the next record has more members than so many bytes can spell.
-fn is_too_short(walk: &Walk, len: usize) -> bool
+fn is_too_short(walk: &AuditSoFar, len: usize) -> bool
     ensures { result ≡ nat_lt len (least walk.now) }
 {
     (len as u128) < member_bytes_of(&walk.fields).saturating_sub(74 * walk.lost as u128)
@@ -137,7 +137,7 @@ fn is_too_short(walk: &Walk, len: usize) -> bool
 
 // Whether the bytes may spell the state before the next record: they begin with its number, and are
 // enough.
-fn may_spell(walk: &Walk, kept: &[u8], next: u64) -> bool
+fn may_spell(walk: &AuditSoFar, kept: &[u8], next: u64) -> bool
     ensures { result
         ≡ (starts_with nat_eq kept.now (to_be_bytes w64 next)
         && not (nat_lt (length kept.now) (least walk.now))) }
@@ -146,7 +146,7 @@ fn may_spell(walk: &Walk, kept: &[u8], next: u64) -> bool
 }
 
 // Behind one record that is no checkpoint.
-fn pass(walk: Walk, rec: &Record) -> Result<Walk, Fault>
+fn pass(walk: AuditSoFar, rec: &Record) -> Result<AuditSoFar, Fault>
     requires counts { IsWithin (2 ^ 64 - 2) walk.tally }
     requires room { walk.lost + lost_by rec.now walk.tally < 2 ^ 64 }
     ensures passed { IfOk result (PassesRecord walk rec.now) }
@@ -154,7 +154,7 @@ fn pass(walk: Walk, rec: &Record) -> Result<Walk, Fault>
 {
     let mut tally = walk.tally;
     let lost = tally.take(rec)?;
-    Ok(Walk {
+    Ok(AuditSoFar {
         fields: walk.fields,
         from: walk.from,
         tally,
@@ -172,9 +172,9 @@ pub(crate) fn visit<R: Threads + Sync>(
     records: &[Record],
     spans: &[Span],
     place: usize,
-    mut walk: Walk,
+    mut walk: AuditSoFar,
     plan: &Plan,
-) -> Result<Walk, Fault>
+) -> Result<AuditSoFar, Fault>
     requires there { place < length records.now }
     requires framed { AreFramed (map record_of records.now) spans.now }
     requires walk { IsAuditWalk (map record_of records.now) place walk }
@@ -200,7 +200,7 @@ pub(crate) fn visit<R: Threads + Sync>(
     let truth = is_spelled(alloc, &fields, kept)?;
     let mut found = walk.found;
     found.push((offset, truth))?;
-    Ok(Walk {
+    Ok(AuditSoFar {
         fields,
         from: place,
         tally: walk.tally,

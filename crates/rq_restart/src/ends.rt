@@ -3,7 +3,7 @@
 ghost use Rattle.rq_restart.specs.FrontEnds.{FindsEnd};
 
 use crate::grain::grain_of;
-use crate::passing::Pass;
+use crate::passing::PassSoFar;
 use crate::restarted::Why;
 use rq_front::log_version;
 use rq_pool::Plan;
@@ -45,7 +45,7 @@ pub fn front_end<R: Threads + Sync>(
     rq_model::one_front();
     rq_model::runs_are_well_formed();
     let version = log_version(bytes)?;
-    let mut pass = Pass::new(alloc, version);
+    let mut pass = PassSoFar::new(alloc, version);
     let why = pass.finish(rt, alloc, bytes, grain_of(plan))?;
     Ok(FrontEnd {
         records: pass.records as u64,

@@ -18,7 +18,7 @@ ghost use Rattle.rq_restart.specs.Readings.{AreRead};
 ghost use Rattle.rq_restart.specs.Known.{IsKnownOfBodies, KnowsBodies};
 
 use crate::grain::grain_of;
-use crate::reading::{FEW, Parts, put_together, read};
+use crate::reading::{FEW, PartedRecords, put_together, read};
 use crate::restarted::Why;
 use rq_catalog::{Analysis, analyse_in};
 use rq_front::{Chain, Rest, Walk};
@@ -71,7 +71,12 @@ pub(crate) fn end_of(found: &Chain, read: usize, kept: usize) -> (usize, Why)
 }
 
 // All records of the two parts, and what one pass over them found.
-fn known_of(alloc: Global, version: Version, parts: Parts, state: &State) -> Result<Known, Fault>
+fn known_of(
+    alloc: Global,
+    version: Version,
+    parts: PartedRecords,
+    state: &State,
+) -> Result<Known, Fault>
     requires next { state.now.next ≤ 4294967295 }
     ensures { KnowsBodies (version_of version) state.now parts result }
 {
@@ -179,7 +184,7 @@ fn check_meanwhile<R: Threads + Sync>(
     version: Version,
     bytes: &[u8],
     walk: Walk,
-    parts: Parts,
+    parts: PartedRecords,
     state: &State,
     grain: u32,
 ) -> (Chain, Result<Known, Fault>)

@@ -6,8 +6,8 @@
 mod auditing;
 mod before;
 mod checkpoint;
-mod closing;
 mod ends;
+mod finishing;
 mod framing;
 mod front;
 mod grain;

@@ -41,7 +41,7 @@ struct Reach {
 
 /// How far a pass over a log has come: behind so many lawful records, to this offset.
 #[derive(Drop)]
-pub(crate) struct Pass {
+pub(crate) struct PassSoFar {
     judge: Judge,
     pub(crate) records: usize,
     pub(crate) offset: usize,
@@ -119,14 +119,14 @@ fn first(bytes: &[u8], limit: usize) -> &[u8]
     &bytes[..limit]
 }
 
-impl Pass {
+impl PassSoFar {
     /// A pass over a log of this version that stands behind its header.
-    pub(crate) fn new(alloc: Global, version: Version) -> Pass
+    pub(crate) fn new(alloc: Global, version: Version) -> PassSoFar
         ensures { (b : List ℕ) → HasHeader (version_of version) b
             → HasPassedSome (version_of version) b result }
     {
         rq_model::frames_join();
-        Pass {
+        PassSoFar {
             judge: Judge::new(alloc, version),
             records: 0,
             offset: HEADER_LEN,

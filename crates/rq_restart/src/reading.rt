@@ -20,7 +20,7 @@ pub(crate) const FEW: usize = 1024;
 /// The records that the bodies of a chain spell, in two parts: the front one has those of the first
 /// `count` bodies.
 #[derive(Drop)]
-pub(crate) struct Parts {
+pub(crate) struct PartedRecords {
     front: Vec<Record>,
     back: Vec<Record>,
     count: usize,
@@ -87,13 +87,13 @@ fn read_apart<R: Threads + Sync>(
     spans: &[Span],
     workers: u32,
     room: usize,
-) -> Result<Parts, Fault>
+) -> Result<PartedRecords, Fault>
     requires { All (λ s. s.start + s.len ≤ length bytes.now) spans.now }
     ensures parts { IfOk result (AreApart (version_of version) (bodies_at bytes.now spans.now)) }
     ensures refused { IfErr result (λ e. e ≡ Resources) }
 {
     if workers < 2 || spans.len() <= FEW {
-        return Ok(Parts {
+        return Ok(PartedRecords {
             front: read_in_order(alloc, version, lent, bytes, spans, room)?,
             back: Vec::new(alloc),
             count: spans.len(),
@@ -115,7 +115,7 @@ fn read_apart<R: Threads + Sync>(
                 (bodies_at bytes.entry.now back.entry.now) result }
         { read_in_order(alloc, version, lent, bytes, back, back.len()) },
     );
-    Ok(Parts {
+    Ok(PartedRecords {
         front: left?,
         back: right?,
         count,
@@ -124,12 +124,12 @@ fn read_apart<R: Threads + Sync>(
 
 /// All records of the two parts. Where the front one ends before its last body, nothing behind it
 /// counts.
-pub(crate) fn put_together(parts: Parts) -> Result<Vec<Record>, Fault>
+pub(crate) fn put_together(parts: PartedRecords) -> Result<Vec<Record>, Fault>
     ensures records { IfOk result (λ rs. (version : model.Version) (bodies : List (List ℕ)) →
         AreApart version bodies parts → AreRead version bodies (map record_of rs.items)) }
     ensures refused { IfErr result (λ e. e ≡ Resources) }
 {
-    let Parts {
+    let PartedRecords {
         mut front,
         mut back,
         count,
@@ -150,7 +150,7 @@ pub(crate) fn read<R: Threads + Sync>(
     bytes: &[u8],
     spans: &[Span],
     workers: u32,
-) -> Result<Parts, Fault>
+) -> Result<PartedRecords, Fault>
     requires { All (λ s. s.start + s.len ≤ length bytes.now) spans.now }
     ensures parts { IfOk result (AreApart (version_of version) (bodies_at bytes.now spans.now)) }
     ensures refused { IfErr result (λ e. e ≡ Resources) }

@@ -11,7 +11,7 @@ ghost use Rattle.rq_restart.specs.Ends.{IsFrontFrom};
 ghost use Rattle.rq_restart.specs.Restarts.{FindsState, Restarts};
 ghost use Rattle.rq_restart.specs.Views.{why_of};
 
-use crate::closing::close;
+use crate::finishing::finish;
 use crate::front::{Front, front_of_walk};
 use crate::restarted::Restarted;
 use rq_exchange::replay_analysed;
@@ -75,7 +75,7 @@ where
     rq_model::runs_are_well_formed();
     rq_model::frames_join();
     let (version, front) = whole_front(rt, alloc, lent, bytes, plan)?;
-    close(
+    finish(
         rt,
         alloc,
         version,

@@ -4,7 +4,7 @@ ghost use Rattle.std.specs.Arc.{arc_slice_items};
 ghost use Rattle.rq_restart.specs.Restarts.{RestartsAt};
 
 use crate::checkpoint::begin_at;
-use crate::closing::close;
+use crate::finishing::finish;
 use crate::front::front_of;
 use crate::restarted::Restarted;
 use rq_pool::{Gate, Plan};
@@ -40,7 +40,7 @@ where
         &begun.state,
         plan,
     )?;
-    close(
+    finish(
         rt,
         alloc,
         begun.version,

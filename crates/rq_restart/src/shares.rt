@@ -7,7 +7,7 @@ ghost use Rattle.rq_model.specs.Machine.{run};
 ghost use Rattle.rq_record.specs.Views.{record_of};
 ghost use Rattle.rq_restart.specs.Audits.{AreFramed, FindsShare};
 
-use crate::auditing::{Walk, begins_with, visit};
+use crate::auditing::{AuditSoFar, begins_with, visit};
 use crate::before::state_before;
 use crate::grain::{plan_for, with_workers};
 use rq_front::Span;
@@ -42,7 +42,7 @@ fn found_in_order<R: Threads + Sync>(
     requires state { state ≡ run empty (take from (map record_of records.now)) }
     ensures { FindsShare (map record_of records.now) from to result }
 {
-    let mut walk = Walk::before(alloc, records, from, state)?;
+    let mut walk = AuditSoFar::before(alloc, records, from, state)?;
     for place in from..to {
         walk = visit(rt, alloc, records, spans, place, walk, plan)?;
     }

@@ -16,7 +16,8 @@ use Rattle.std.proofs.lemmas.Map.Text.{is_eq-slice_cmp}
 use Rattle.rq_model.specs.States.{name_before}
 use Rattle.rq_model.specs.WellFormed.{Ordered}
 use Rattle.rq_model.proofs.Lists.{by_cases, each_weaker}
-use Rattle.rq_state.proofs.InOrder.{ordered_weaker, pairwise}
+use Rattle.rq_model.proofs.Merged.{ordered_weaker}
+use Rattle.rq_state.proofs.InOrder.{pairwise}
 use Rattle.rq_state.proofs.Rises.{rises_by}
 use Rattle.rq_state.proofs.Sorts.{number_of, none_of, some_of, number_sum, each_self}
 

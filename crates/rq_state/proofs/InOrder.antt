@@ -15,7 +15,7 @@ use Rattle.std.proofs.lemmas.Map.Text.{is_eq-slice_cmp}
 use Rattle.std.proofs.lemmas.List.Sorted.{sorted_far, ranks_by, IsPermutation-map}
 use Rattle.rq_model.specs.States.{Registrant, registrant_before}
 use Rattle.rq_model.specs.WellFormed.{Ordered}
-use Rattle.rq_model.proofs.Lists.{each_weaker}
+use Rattle.rq_model.proofs.Merged.{ordered_weaker}
 use Rattle.rq_model.specs.Laws.{registrant_key}
 use Rattle.rq_state.specs.Orders.{put_in_order, key_cmp}
 use Rattle.rq_state.proofs.Sorts.{sorted_is}
@@ -37,11 +37,6 @@ pairwise lt o (x ∷ xs) up = (
   where
     up_one : (k : ℕ) → suc k + 1 ≡ suc (k + 1)
     up_one k = omega arith
-
-pub ordered_weaker : {X : Type 0} (R S : X → X → Type 0) → ((a b : X) → R a b → S a b) → (xs : List X) → Ordered R xs
-    → Ordered S xs
-ordered_weaker R S f [] h = tt
-ordered_weaker R S f (x ∷ xs) h = (each_weaker (R x) (S x) (f x) xs h.0, ordered_weaker R S f xs h.1)
 
 pub ordered_map : {X Y : Type 0} (R : Y → Y → Type 0) (f : X → Y) (xs : List X) → Ordered (λ a b. R (f a) (f b)) xs
     → Ordered R (map f xs)

@@ -7,7 +7,8 @@ use Rattle.std.proofs.lemmas.Bool.{false≢true}
 use Rattle.rq_record.specs.declared.record.UnitNo.{UnitNo}
 use Rattle.rq_model.specs.WellFormed.{Ordered}
 use Rattle.rq_state.specs.Views.{unit_of}
-use Rattle.rq_state.proofs.InOrder.{number_is_order, ordered_map, ordered_weaker}
+use Rattle.rq_model.proofs.Merged.{ordered_weaker}
+use Rattle.rq_state.proofs.InOrder.{number_is_order, ordered_map}
 use Rattle.rq_state.proofs.Neighbours.{at_next, from_next, ordered_unmap}
 
 some_member : {X : Type 0} (xs : List X) → 1 ≤ length xs → X

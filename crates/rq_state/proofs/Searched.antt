@@ -1,26 +1,26 @@
 -- A binary search in a list in order tells whether a member passes the test.
-use Rattle.std.proofs.Common.{inl, inr, ◌≡◌, ℕ, ◌<◌, Bool, true, false, ◌&&◌, List, [], ◌∷◌, length, map}
+use Rattle.std.proofs.Common.{inl, inr, ◌≡◌, ℕ, ◌<◌, Bool, true, false, List, [], ◌∷◌, length, map}
 use Rattle.std.proofs.Common.{Result, Ok, Err, refl, sym, ap, ◌∙◌, arith}
 use Rattle.std.specs.Prelude.{◌==◌, slice_index_or}
 use Rattle.std.specs.List.{list_any}
 use Rattle.std.specs.List.Sorted.{IsBinarySearchResult, IsSearchInRange, IsSortedBy}
 use Rattle.std.specs.Result.{is_ok}
-use Rattle.std.specs.Ordering.{is_lt, is_eq, nat_cmp, ordering_then}
-use Rattle.std.specs.declared.cmp.Ordering.TheVariants.{Less, Equal, Greater}
+use Rattle.std.specs.Ordering.{is_lt, is_eq, nat_cmp}
 use Rattle.std.specs.declared.cmp.Ordering.{Ordering}
 use Rattle.std.specs.Cmp.{IsTotalOrder, IsStrictWeakOrder}
 use Rattle.std.proofs.lemmas.Cmp.{nat_cmp_total}
 use Rattle.std.proofs.lemmas.Bool.{cases_lt}
 use Rattle.std.proofs.lemmas.List.Folds.{list_any_at, list_any_none}
 use Rattle.std.proofs.lemmas.List.Sorted.{ranks_by, searchable_from_sorted}
-use Rattle.std.proofs.lemmas.Map.Text.{is_eq-slice_cmp}
 use Rattle.rq_record.specs.declared.record.UnitNo.{UnitNo}
 use Rattle.rq_model.specs.States.{Registrant, is_registrant, registrant_before}
 use Rattle.rq_model.specs.WellFormed.{Ordered}
 use Rattle.rq_state.specs.Views.{unit_of}
 use Rattle.rq_model.specs.Laws.{registrant_key}
 use Rattle.rq_state.specs.Orders.{key_cmp}
-use Rattle.rq_state.proofs.InOrder.{key_total, equal_keys, ordered_weaker}
+use Rattle.rq_model.proofs.Decided.{any_map}
+use Rattle.rq_model.proofs.Merged.{ordered_weaker}
+use Rattle.rq_state.proofs.InOrder.{key_total, equal_keys}
 use Rattle.rq_state.proofs.Neighbours.{at_next, ordered_unmap}
 
 found : {X : Type 0} (p : X → Bool) (xs : List X) (i : ℕ) → i < length xs → ((d : X) → p (slice_index_or xs i d) ≡ true)
@@ -54,11 +54,6 @@ any_same : {X : Type 0} (p q : X → Bool) → ((x : X) → p x ≡ q x) → (xs
 any_same p q h [] = refl
 any_same p q h (x ∷ xs) = grind arith
 
-any_mapped : {X Y : Type 0} (p : Y → Bool) (f : X → Y) (xs : List X)
-    → list_any p (map f xs) ≡ list_any (λ x. p (f x)) xs
-any_mapped p f [] = refl
-any_mapped p f (x ∷ xs) = grind (arith, any_mapped p f xs)
-
 -- Units.
 
 pub units_searched : (units : List UnitNo) (unit : ℕ) (r : Result ℕ ℕ) → IsSearchInRange r (length units)
@@ -67,7 +62,7 @@ pub units_searched : (units : List UnitNo) (unit : ℕ) (r : Result ℕ ℕ) →
 units_searched units unit r range result up =
     searched_by unit_of nat_cmp nat_cmp_total units unit r range result
     (ordered_weaker _ _ (λ u v h. grind arith) units (ordered_unmap _ _ units up)) ∙ grind arith
-    ∙ sym (any_mapped _ _ units)
+    ∙ sym (any_map _ _ units)
 
 -- Registrants.
 

@@ -9,18 +9,13 @@ use Rattle.std.proofs.lemmas.List.Sorted.{Contains-permutation, IsPermutation-sy
 use Rattle.rq_model.specs.States.{put}
 use Rattle.rq_state.specs.Orders.{put_in_order}
 use Rattle.std.specs.List.{AllByRecursion}
-use Rattle.rq_model.specs.WellFormed.{Ordered}
+use Rattle.rq_model.specs.WellFormed.{Ordered, IsIn}
 use Rattle.rq_model.proofs.Lists.{by_cases, each_weaker}
 
 -- how many pass the test
 abbrev pub number_of : {X : Type 0} → (X → Bool) → List X → ℕ
 number_of p [] = 0
 number_of p (x ∷ xs) = (if p x then 1 else 0) + number_of p xs
-
--- x is a member
-abbrev pub IsIn : {X : Type 0} → X → List X → Type 0
-IsIn x [] = ⊥
-IsIn x (y ∷ ys) = (x ≡ y) ⊎ IsIn x ys
 
 pub each_in : {X : Type 0} (P : X → Type 0) (xs : List X) → AllByRecursion P xs → (x : X) → IsIn x xs → P x
 each_in P [] h x k = absurd k

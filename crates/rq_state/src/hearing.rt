@@ -1,6 +1,6 @@
 //! Operations that registrants hear of at a COMMIT.
 
-ghost use Rattle.std.specs.Prelude.{◌≡◌, ◌&&◌, ◌==◌, nat_lt, None};
+ghost use Rattle.std.specs.Prelude.{◌≡◌, ◌&&◌, ◌==◌, Some, None};
 ghost use Rattle.rq_model.specs.Machine as machine;
 ghost use Rattle.rq_model.specs.States as model;
 
@@ -8,27 +8,12 @@ use crate::members::{Last, Note, Registrant};
 use rq_record::{Name, QueueNo, UnitNo};
 
 impl Last {
-    /// Whether the place of the other one is greater.
-    pub fn is_before(&self, other: &Last) -> bool
-        ensures { result ≡ nat_lt self.now.place other.now.place }
+    /// Hears of another operation: it becomes that one where its place is greater.
+    pub fn hear(&mut self, other: &Last)
+        ensures { Some self.new ≡ machine.later (Some self.old) other.now }
     {
-        self.place < other.place
-    }
-
-    /// Of a last operation so far and another one, that of greater place; at equal places the one
-    /// so far.
-    pub fn later(so_far: &Option<Last>, other: &Last) -> Option<Last>
-        ensures { result ≡ machine.later so_far.now other.now }
-    {
-        match so_far {
-            None => Some(other.copied()),
-            Some(last) => {
-                if last.is_before(other) {
-                    Some(other.copied())
-                } else {
-                    Some(last.copied())
-                }
-            }
+        if self.place < other.place {
+            *self = other.copied();
         }
     }
 }
@@ -64,6 +49,17 @@ impl Note {
 }
 
 impl Registrant {
+    /// Hears of an operation: its last one is that of greater place; at equal places the one so
+    /// far.
+    pub fn hear(&mut self, other: &Last)
+        ensures { self.new ≡ record self.old { last = machine.later self.old.last other.now } }
+    {
+        match &mut self.last {
+            None => self.last = Some(other.copied()),
+            Some(last) => last.hear(other),
+        }
+    }
+
     /// Its last operation.
     pub fn into_last(self) -> Option<Last>
         ensures { result ≡ self.last }

@@ -4,23 +4,21 @@ use Rattle.std.proofs.Common.{◌++◌, length, map, Ok, Err, None, refl, sym, a
 use Rattle.std.specs.Prelude.{slice_index_or, slice_set}
 use Rattle.std.specs.List.{filter, insert, AllByRecursion}
 use Rattle.std.specs.List.Sorted.{IsBinarySearchResult, IsPartitionPoint, IsSortedBy}
-use Rattle.std.specs.Ordering.{is_eq, is_lt, nat_cmp, ordering_reverse}
-use Rattle.std.specs.Cmp.{IsStrictWeakOrder, tied_then}
-use Rattle.std.specs.Cmp.Lexicographic.{slice_cmp}
+use Rattle.std.specs.Ordering.{is_eq, is_lt, ordering_reverse}
+use Rattle.std.specs.Cmp.{IsStrictWeakOrder}
 use Rattle.std.specs.declared.cmp.Ordering.{Ordering}
 use Rattle.std.specs.declared.cmp.Ordering.TheVariants.{Less, Equal, Greater}
-use Rattle.std.proofs.lemmas.Bool.{cases_lt, false≢true}
-use Rattle.std.proofs.lemmas.Bool.Decides.{nat_tests}
+use Rattle.std.proofs.lemmas.Bool.{cases_lt}
 use Rattle.std.proofs.lemmas.List.Sorted.{ranks_by, searchable_from_sorted}
-use Rattle.std.proofs.lemmas.Map.Text.{is_eq-slice_cmp}
 use Rattle.rq_model.specs.States.{Note, Registrant, put, registrant_before, is_note_of}
 use Rattle.rq_model.specs.Machine.{later, latest, registered, told}
 use Rattle.rq_model.specs.WellFormed.{Ordered}
 use Rattle.rq_model.proofs.Lists.{by_cases, each_weaker, filter_all, filter_none, map_all}
-use Rattle.rq_model.proofs.Merged.{ordered_map}
+use Rattle.rq_model.proofs.Decided.{is_less}
+use Rattle.rq_model.proofs.Merged.{ordered_map, ordered_weaker}
 use Rattle.rq_state.specs.Orders.{key_cmp}
 use Rattle.rq_model.specs.Laws.{registrant_key}
-use Rattle.rq_state.proofs.InOrder.{key_total, is_lt-key_cmp, ordered_weaker}
+use Rattle.rq_state.proofs.InOrder.{key_total, equal_keys, is_lt-key_cmp}
 use Rattle.rq_state.proofs.Neighbours.{at_next}
 use Rattle.rq_state.proofs.Searched.{registrants_searched}
 use Rattle.rq_steps.specs.Hearing.{heard_of}
@@ -69,27 +67,21 @@ put_at {X} before x (y ∷ ys) (suc i) l below above =
 
 -- Keys.
 
-is_less : (o : Ordering) → is_lt o ≡ true → o ≡ Less
-is_less Less h = refl
-is_less Equal h = absurd (false≢true h)
-is_less Greater h = absurd (false≢true h)
-
 turned : (a b : ℕ × List ℕ) (o : Ordering) → key_cmp a b ≡ o → key_cmp b a ≡ ordering_reverse o
 turned a b o h = key_total.antisymm b a ∙ ap ordering_reverse h
 
-number_same : (a b : ℕ) → is_eq (nat_cmp a b) ≡ (a == b)
-number_same a b = grind (arith, nat_tests)
-
-note_is : (n : Note) (r : Registrant) → is_eq (key_cmp (n.queue, n.name) (registrant_key r)) ≡ is_note_of r.queue r.name n
-note_is n r = sym (tied_then (nat_cmp n.queue r.queue) (slice_cmp nat_cmp n.name r.name))
-    ∙ (λ i. number_same n.queue r.queue i && is_eq-slice_cmp n.name r.name i)
+note_is : (n : Note) (r : Registrant) → is_eq (key_cmp (n.queue, n.name) (registrant_key r))
+    ≡ is_note_of r.queue r.name n
+note_is n r = equal_keys (n.queue, n.name) (registrant_key r)
 
 abbrev InOrder : List Registrant → Type 0
 InOrder rs = Ordered (λ a b. registrant_before a b ≡ true) rs
 
 -- what a search that finds nothing says of the others
-sides : (k : ℕ × List ℕ) (rs : List Registrant) (i : ℕ) → IsBinarySearchResult (λ y. key_cmp (registrant_key y) k) rs (Err i)
-    → InOrder rs → IsPartitionPoint (λ y. key_cmp (registrant_key y) k ≡ Less) (λ y. key_cmp (registrant_key y) k ≡ Greater) rs i
+sides : (k : ℕ × List ℕ) (rs : List Registrant) (i : ℕ)
+    → IsBinarySearchResult (λ y. key_cmp (registrant_key y) k) rs (Err i)
+    → InOrder rs → IsPartitionPoint (λ y. key_cmp (registrant_key y) k ≡ Less)
+    (λ y. key_cmp (registrant_key y) k ≡ Greater) rs i
 sides k rs i result up = result (searchable_from_sorted key_total registrant_key rs k sorted)
   where
     order : IsStrictWeakOrder (λ x y. is_lt (key_cmp (registrant_key x) (registrant_key y)))
@@ -97,7 +89,8 @@ sides k rs i result up = result (searchable_from_sorted key_total registrant_key
 
     sorted : IsSortedBy (λ x y. is_lt (key_cmp (registrant_key x) (registrant_key y))) rs
     sorted = λ k d low lt. at_next (λ x y. is_lt (key_cmp (registrant_key y) (registrant_key x)) ≡ false) rs
-        (ordered_weaker (λ a b. registrant_before a b ≡ true) (λ x y. is_lt (key_cmp (registrant_key y) (registrant_key x)) ≡ false)
+        (ordered_weaker (λ a b. registrant_before a b ≡ true)
+        (λ x y. is_lt (key_cmp (registrant_key y) (registrant_key x)) ≡ false)
         (λ x y h. order.one_way x y (is_lt-key_cmp x y ∙ h)) rs up) k d lt
 
 -- REGISTER
@@ -122,7 +115,8 @@ newly_registered queue name rs i l result up =
 
 -- A note.
 
-hears_not : (n : Note) (r : Registrant) → is_eq (key_cmp (n.queue, n.name) (registrant_key r)) ≡ false → heard_of n r ≡ r
+hears_not : (n : Note) (r : Registrant) → is_eq (key_cmp (n.queue, n.name) (registrant_key r)) ≡ false
+    → heard_of n r ≡ r
 hears_not n r h = ap (λ b. if b then record r { last = later r.last n.last } else r) (sym (note_is n r) ∙ h)
 
 nobody : (n : Note) (rs : List Registrant)
@@ -135,7 +129,8 @@ pub nobody_hears : (n : Note) (rs : List Registrant) (i : ℕ)
     → IsBinarySearchResult (λ y. key_cmp (registrant_key y) (n.queue, n.name)) rs (Err i) → InOrder rs
     → rs ≡ map (heard_of n) rs
 nobody_hears n rs i result up =
-    sym (nobody n rs (each_at (λ r. is_eq (key_cmp (n.queue, n.name) (registrant_key r)) ≡ false) rs (λ k d l. at k d l)))
+    sym (nobody n rs (each_at (λ r. is_eq (key_cmp (n.queue, n.name) (registrant_key r)) ≡ false) rs
+    (λ k d l. at k d l)))
   where
     both : IsPartitionPoint (λ y. key_cmp (registrant_key y) (n.queue, n.name) ≡ Less)
         (λ y. key_cmp (registrant_key y) (n.queue, n.name) ≡ Greater) rs i
@@ -146,7 +141,8 @@ nobody_hears n rs i result up =
     at k d l = elim (cases_lt k i) [
       | inl below ↦ ap is_eq
           (turned (registrant_key (slice_index_or rs k d)) (n.queue, n.name) Less (both.0 k d (omega arith) below))
-      | inr above ↦ ap is_eq (turned (registrant_key (slice_index_or rs k d)) (n.queue, n.name) Greater (both.1 k d above l))
+      | inr above ↦ ap is_eq
+          (turned (registrant_key (slice_index_or rs k d)) (n.queue, n.name) Greater (both.1 k d above l))
     ]
 
 pub one_hears : (n : Note) (rs : List Registrant) (i : ℕ) (new : Registrant) → i < length rs
@@ -159,7 +155,8 @@ one_hears n (x ∷ xs) zero new l result up is =
     let own : is_note_of x.queue x.name n ≡ true =
     sym (note_is n x) ∙ ap is_eq (turned (registrant_key x) (n.queue, n.name) Equal same) in
     let others : AllByRecursion (λ r. is_eq (key_cmp (n.queue, n.name) (registrant_key r)) ≡ false) xs
-    = each_weaker (λ y. registrant_before x y ≡ true) (λ y. is_eq (key_cmp (n.queue, n.name) (registrant_key y)) ≡ false)
+    = each_weaker (λ y. registrant_before x y ≡ true)
+    (λ y. is_eq (key_cmp (n.queue, n.name) (registrant_key y)) ≡ false)
     (λ y m. ap is_eq (sym (key_total.congr (registrant_key x) (n.queue, n.name) (registrant_key y) same)
     ∙ is_less (key_cmp (registrant_key x) (registrant_key y)) (is_lt-key_cmp x y ∙ m))) xs up.0 in
     λ j. (is x ∙ ap (λ b. if b then record x { last = later x.last n.last } else x) (sym own)) j
@@ -178,7 +175,8 @@ one_hears n (x ∷ xs) (suc i) new l result up is =
 
 same_key : (n : Note) (r : Registrant) → registrant_key (heard_of n r) ≡ registrant_key r
 same_key n r = by_cases (is_note_of r.queue r.name n)
-    (λ b. registrant_key (if b then record r { last = later r.last n.last } else r) ≡ registrant_key r) (λ _. refl) (λ _. refl)
+    (λ b. registrant_key (if b then record r { last = later r.last n.last } else r) ≡ registrant_key r) (λ _. refl)
+    (λ _. refl)
 
 -- they stay in order
 pub in_order_still : (n : Note) (rs : List Registrant) → InOrder rs → InOrder (map (heard_of n) rs)

@@ -111,8 +111,7 @@ fn hear(registrants: &mut Vec<Registrant>, note: &Note)
     ensures { registrants.new.items ≡ map (heard_of note.now) registrants.old.items }
 {
     if let Ok(index) = registrants.binary_search_by_key(&note.key(), |one| one.key()) {
-        let last = Last::later(&registrants[index].last, note.last());
-        registrants[index].last = last;
+        registrants[index].hear(note.last());
     }
 }
 

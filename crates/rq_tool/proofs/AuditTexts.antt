@@ -9,7 +9,8 @@ use Rattle.rq_record.specs.declared.fault.Fault.TheVariants as faults
 use Rattle.rq_report.specs.Streams.{Delivers}
 use Rattle.rq_restart.specs.Audits.{Audits, audited_of}
 use Rattle.rq_tool.specs.AuditTexts.{audit_line, AuditsLog, AuditsOnly, AuditsRead}
-use Rattle.rq_tool.specs.Headline.{IsBeforeWriting, IsRunnable}
+use Rattle.rq_front.specs.Chains.{IsLog}
+use Rattle.rq_tool.specs.Headline.{IsBeforeWriting}
 use Rattle.rq_tool.proofs.Told.{IsSame, refused_read}
 
 abbrev Found : Type 0
@@ -43,7 +44,7 @@ audit_fault bytes (Err faults.WriteFailed) h = absurd h
 
 -- what is written of an audit is written of its bytes
 pub written_audit : (b text : List ℕ) (found : List Audited) (before after : ℕ) (old new : Option (List ℕ))
-    (result : Result (Unit {0}) Fault) → IsRunnable b → IsAudit b found → text ≡ flat_map audit_line found
+    (result : Result (Unit {0}) Fault) → IsLog b → IsAudit b found → text ≡ flat_map audit_line found
     → Delivers before after old new text result → AuditsLog b old new result
 written_audit b text found before after old new (Ok done) log is spelled w = (log, text, (found, is, spelled), w.1)
 written_audit b text found before after old new (Err faults.WriteFailed) log is spelled w =

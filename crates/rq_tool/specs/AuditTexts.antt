@@ -10,7 +10,8 @@ use Rattle.rq_record.specs.declared.fault.Fault.{Fault}
 use Rattle.rq_record.specs.declared.fault.Fault.TheVariants.{WriteFailed}
 use Rattle.rq_restart.specs.Audits.{audited_of}
 use Rattle.rq_report.specs.Streams.{AppendsFront}
-use Rattle.rq_tool.specs.Headline.{IsBeforeWriting, IsRunnable, RestartsRead, Runs}
+use Rattle.rq_front.specs.Chains.{IsLog}
+use Rattle.rq_tool.specs.Headline.{IsBeforeWriting, RestartsRead, Runs}
 
 abbrev pub truth_text : Bool → List ℕ
 truth_text true = codes "true"
@@ -28,9 +29,9 @@ IsAuditText b text = (found : List Audited) × IsAudit b found × (text ≡ flat
 -- over the bytes b: the audit's text is written, and nothing else; or nothing is, for what refuses
 -- a run; or a beginning of the text is, and then a write failed
 abbrev pub AuditsLog : List ℕ → Option (List ℕ) → Option (List ℕ) → Result (Unit {0}) Fault → Type 0
-AuditsLog b old new (Ok done) = IsRunnable b
+AuditsLog b old new (Ok done) = IsLog b
     × (text : List ℕ) × IsAuditText b text × Appends old new text
-AuditsLog b old new (Err WriteFailed) = IsRunnable b
+AuditsLog b old new (Err WriteFailed) = IsLog b
     × (text : List ℕ) × IsAuditText b text × AppendsFront old new text
 AuditsLog b old new (Err e) = Runs b old new (Err e)
 
@@ -43,5 +44,5 @@ AuditsOnly old new (Err e) = IsBeforeWriting e × Keeps old new
 
 -- the audit of the bytes b that a reader gives, or why there is none
 abbrev pub AuditsRead : List ℕ → Result (Vec (ℕ × Bool)) Fault → Type 0
-AuditsRead b (Ok found) = IsRunnable b × IsAudit b (map audited_of found.items)
+AuditsRead b (Ok found) = IsLog b × IsAudit b (map audited_of found.items)
 AuditsRead b (Err e) = RestartsRead b (Err e)

@@ -7,18 +7,19 @@ use Rattle.rq_model.specs.Closing.{IsClosed, StandsFor}
 use Rattle.rq_record.specs.declared.fault.Fault.{Fault}
 use Rattle.rq_record.specs.declared.fault.Fault.TheVariants.{TooLarge, WriteFailed}
 use Rattle.rq_report.specs.Streams.{AppendsFront}
-use Rattle.rq_tool.specs.Headline.{IsBeforeWriting, IsRunnable, RestartsRead}
+use Rattle.rq_front.specs.Chains.{IsLog}
+use Rattle.rq_tool.specs.Headline.{IsBeforeWriting, RestartsRead}
 
 -- b, closed: a log that stands for b, also while its tail is written
 pub record IsClosedLog (b closed : List ℕ) : Type 0 where
-  pub log : IsRunnable b
+  pub log : IsLog b
   pub is : IsClosed b closed
   pub short : length closed ≤ log_limit
   pub stands : StandsFor b closed
 
 -- closed, b would be longer than a log may be
 abbrev pub IsTooLargeToClose : List ℕ → Type 0
-IsTooLargeToClose b = IsRunnable b
+IsTooLargeToClose b = IsLog b
     × (closed : List ℕ) × IsClosed b closed × (log_limit < length closed)
 
 -- the closed log of the bytes b that a reader gives, or why there is none

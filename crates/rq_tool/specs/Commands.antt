@@ -3,8 +3,8 @@ use Rattle.std.specs.Prelude.{◌≡◌, ℕ, ◌<◌, ◌≤◌, ◌^◌, ⊤, 
 use Rattle.std.specs.Fmt.{decimal}
 use Rattle.rq_model.specs.Records.{Version, One, Two}
 use Rattle.rq_pool.specs.Plans.{workers_of, grain_of}
-use Rattle.rq_tool.specs.declared.line.Command.{Command}
-use Rattle.rq_tool.specs.declared.line.Command.TheVariants as code
+use Rattle.rq_tool.specs.declared.commands.Command.{Command}
+use Rattle.rq_tool.specs.declared.commands.Command.TheVariants as code
 
 -- what a line of the program tells
 pub data CommandLine : Type 0 where

@@ -5,7 +5,7 @@ use Rattle.rq_model.specs.Frames.{log_limit}
 use Rattle.rq_model.specs.Fronts.{Restarted, IsRestart}
 use Rattle.rq_model.specs.Reports.{IsReport}
 use Rattle.rq_model.specs.Checkpoints.{IsReportAt, IsRestartAt}
-use Rattle.rq_front.specs.Chains.{IsHeaded}
+use Rattle.rq_front.specs.Chains.{IsHeaded, IsLog}
 use Rattle.rq_restart.specs.Restarts.{HasNoCheckpoint, HasBadCheckpoint}
 use Rattle.rq_record.specs.declared.fault.Fault.{Fault}
 use Rattle.rq_record.specs.declared.fault.Fault.TheVariants.{TooLong, NotALog, NoCheckpoint}
@@ -13,20 +13,16 @@ use Rattle.rq_record.specs.declared.fault.Fault.TheVariants.{BadCheckpoint, Reso
 use Rattle.rq_record.specs.declared.fault.Fault.TheVariants.{WriteFailed}
 use Rattle.rq_report.specs.Streams.{AppendsFront}
 
--- the bytes are a log that may be run
-abbrev pub IsRunnable : List ℕ → Type 0
-IsRunnable b = (length b ≤ log_limit) × IsHeaded b
-
 -- a run over the bytes b, where the writer held the bytes `old` before and holds `new` afterwards:
 -- the report of b is written, and nothing else; or nothing is, since b is too long or no log,
 -- memory is refused or a read failed; or a beginning of the report is, and then a write failed
 abbrev pub Runs : List ℕ → Option (List ℕ) → Option (List ℕ) → Result (Unit {0}) Fault → Type 0
-Runs b old new (Ok done) = IsRunnable b × (text : List ℕ) × IsReport b text × Appends old new text
+Runs b old new (Ok done) = IsLog b × (text : List ℕ) × IsReport b text × Appends old new text
 Runs b old new (Err TooLong) = (log_limit < length b) × Keeps old new
 Runs b old new (Err NotALog) = (length b ≤ log_limit) × (IsHeaded b → ⊥) × Keeps old new
 Runs b old new (Err Resources) = Keeps old new
 Runs b old new (Err ReadFailed) = Keeps old new
-Runs b old new (Err WriteFailed) = IsRunnable b
+Runs b old new (Err WriteFailed) = IsLog b
     × (text : List ℕ) × IsReport b text × AppendsFront old new text
 Runs b old new (Err e) = ⊥
 
@@ -48,7 +44,7 @@ WritesOnly old new (Err e) = IsBeforeWriting e × Keeps old new
 
 -- the restart of the bytes b that a reader gives, or why there is none
 abbrev pub RestartsRead : List ℕ → Result Restarted Fault → Type 0
-RestartsRead b (Ok r) = IsRunnable b × IsRestart b r
+RestartsRead b (Ok r) = IsLog b × IsRestart b r
 RestartsRead b (Err TooLong) = log_limit < length b
 RestartsRead b (Err NotALog) = (length b ≤ log_limit) × (IsHeaded b → ⊥)
 RestartsRead b (Err Resources) = ⊤
@@ -62,11 +58,11 @@ RestartsRead b (Err e) = ⊥
 -- report is, and then a write failed
 abbrev pub RunsAt : List ℕ → ℕ → Option (List ℕ)
     → Option (List ℕ) → Result (Unit {0}) Fault → Type 0
-RunsAt b offset old new (Ok done) = IsRunnable b
+RunsAt b offset old new (Ok done) = IsLog b
     × (text : List ℕ) × IsReportAt b offset text × Appends old new text
 RunsAt b offset old new (Err NoCheckpoint) = HasNoCheckpoint b offset × Keeps old new
 RunsAt b offset old new (Err BadCheckpoint) = HasBadCheckpoint b offset × Keeps old new
-RunsAt b offset old new (Err WriteFailed) = IsRunnable b
+RunsAt b offset old new (Err WriteFailed) = IsLog b
     × (text : List ℕ) × IsReportAt b offset text × AppendsFront old new text
 RunsAt b offset old new (Err e) = Runs b old new (Err e)
 
@@ -105,7 +101,7 @@ IsTold b (Err e) = ⊥
 -- the restart of the bytes b that a reader gives, from the checkpoint at an offset, or why there is
 -- none
 abbrev pub RestartsAtRead : List ℕ → ℕ → Result Restarted Fault → Type 0
-RestartsAtRead b offset (Ok r) = IsRunnable b × IsRestartAt b offset r
+RestartsAtRead b offset (Ok r) = IsLog b × IsRestartAt b offset r
 RestartsAtRead b offset (Err NoCheckpoint) = HasNoCheckpoint b offset
 RestartsAtRead b offset (Err BadCheckpoint) = HasBadCheckpoint b offset
 RestartsAtRead b offset (Err e) = RestartsRead b (Err e)

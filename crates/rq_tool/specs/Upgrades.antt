@@ -8,11 +8,12 @@ use Rattle.rq_model.specs.Upgrading.{SaysTheSame}
 use Rattle.rq_record.specs.declared.fault.Fault.{Fault}
 use Rattle.rq_record.specs.declared.fault.Fault.TheVariants.{WriteFailed}
 use Rattle.rq_report.specs.Streams.{AppendsFront}
-use Rattle.rq_tool.specs.Headline.{IsBeforeWriting, IsRunnable, RestartsRead}
+use Rattle.rq_front.specs.Chains.{IsLog}
+use Rattle.rq_tool.specs.Headline.{IsBeforeWriting, RestartsRead}
 
 -- b in version 2: a log that says the same as b
 pub record IsUpgradedLog (b upgraded : List ℕ) : Type 0 where
-  pub log : IsRunnable b
+  pub log : IsLog b
   pub is : IsUpgraded b upgraded
   pub same : SaysTheSame b upgraded
   pub short : length upgraded ≤ log_limit

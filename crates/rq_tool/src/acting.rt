@@ -7,9 +7,9 @@ ghost use Rattle.rq_tool.specs.Streams.{ReadFaults, TakesInput, WriteFaults};
 
 use crate::auditing::audit_log;
 use crate::closing::close_log;
+use crate::commands::Command;
 use crate::engine::run;
 use crate::engine_at::run_at;
-use crate::line::Command;
 use crate::making::make_log_in;
 use crate::upgrading::upgrade_log;
 use rq_report::{Input, Output};

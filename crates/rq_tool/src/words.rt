@@ -6,7 +6,7 @@ ghost use Rattle.rq_tool.specs.Commands.{IsCommand, make_word};
 ghost use Rattle.rq_tool.specs.Words.{IsPlanOf, IsWorkersPlanOf};
 ghost use Rattle.rq_writer.specs.Decimals.{IsNumber};
 
-use crate::line::Command;
+use crate::commands::Command;
 use rq_restart::{Plan, Version};
 use rq_writer::decimal_number;
 

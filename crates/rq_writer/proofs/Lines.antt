@@ -17,7 +17,7 @@ use Rattle.rq_bytes.proofs.Single.{bind_some, chosen}
 use Rattle.rq_model.specs.Reports.{payload_text, error_text}
 use Rattle.rq_writer.specs.Script.{Line, Told, Spelled}
 use Rattle.rq_writer.specs.Views.{line_of}
-use Rattle.rq_writer.specs.declared.line.Line as code
+use Rattle.rq_writer.specs.declared.line.ScriptLine as code
 use Rattle.rq_writer.specs.Script.{who_name, who_tag, record_text, line_text, IsTellable, IsLine, Tells}
 use Rattle.rq_writer.specs.Reading.{Gives, field_at, name_of, number_of, number_field, error_of, by_of, bytes_of_hex}
 use Rattle.rq_writer.specs.Reading.{unit_number, define_line, register_line, deregister_line, begin_line, commit_line}
@@ -404,7 +404,8 @@ line_again version Spelled h = refl
 line_again version (Told r) h = rw (is_told r, record_again version r h.0 h.1) refl
 
 -- what the reader gives is what the relation asks for
-pub reads : (version : Version) (text : List ℕ) (r : Result code.Line Fault) → Gives line_of r (line_at version text)
+pub reads : (version : Version) (text : List ℕ) (r : Result code.ScriptLine Fault)
+    → Gives line_of r (line_at version text)
     → ReadsLine version text r
 reads version text (Ok l) g = line_takes version text (line_of l) g
 reads version text (Err faults.Form) g = λ l t. let found : line_at version text ≡ Some l =

@@ -6,10 +6,11 @@ use Rattle.std.specs.List.{AllByRecursion}
 use Rattle.std.proofs.lemmas.List.{length-append, drop_at, append-nil, flat_map_more}
 use Rattle.rq_model.specs.Records.{Record, Version}
 use Rattle.rq_model.specs.Spelling.{IsRecord, body_of}
-use Rattle.rq_model.specs.Frames.{log_limit, frame, start, magic, header, log_of, last_of}
+use Rattle.rq_model.specs.Frames.{log_limit, frame, start, header, log_of, last_of}
 use Rattle.rq_model.specs.LogLaws.{LogJoins, LogEnds}
 use Rattle.rq_model.proofs.Lists.{each_append}
-use Rattle.rq_model.proofs.Runs.{frame_long, length-sha256}
+use Rattle.rq_model.proofs.Restarts.{header_long}
+use Rattle.rq_model.proofs.Runs.{frame_long}
 use Rattle.rq_record.specs.Views.{record_of}
 use Rattle.rq_record.specs.Writing.{Appends}
 use Rattle.rq_record.specs.declared.fault.Fault.{Fault}
@@ -20,7 +21,7 @@ use Rattle.rq_writer.specs.Reading.{cut_at}
 use Rattle.rq_writer.specs.Made.{Adds, AreAdded, BeginsWithLines, Made, script_of, ended}
 use Rattle.rq_writer.specs.Fronts.{IsFrontAfter}
 use Rattle.rq_writer.specs.Making.{HoldsRecords, NextLine, RecordOf, Framed, LineMade, Making}
-use Rattle.rq_writer.specs.declared.front.Front.{Front}
+use Rattle.rq_writer.specs.declared.front.MadeFront.{MadeFront}
 use Rattle.rq_writer.specs.declared.log.Log.{Log}
 use Rattle.rq_writer.proofs.Cuts.{cut_takes}
 use Rattle.rq_writer.proofs.Ends.{no_lf, no_tale}
@@ -41,9 +42,6 @@ log_long old p body out e = omega (arith, ap length e, length-append old (frame 
 
 -- The log without records.
 
-pub header_length : (version : Version) → length (header version) ≡ 40
-header_length version = omega (arith, length-append (magic version) (start version), length-sha256 (magic version))
-
 none_is_header : (version : Version) → header version ≡ log_of version []
 none_is_header version = sym (append-nil (header version))
 
@@ -53,7 +51,7 @@ pub starts : (version : Version) → LogEnds → (log : Log) → log.out.items �
 starts version ends log out last front = record {
   made = out ∙ none_is_header version;
   last = last ∙ log_tail version ends [] log.out.items (out ∙ none_is_header version);
-  logged = record { records = tt; fits = omega (arith, header_length version, length-append (header version) []) };
+  logged = record { records = tt; fits = omega (arith, header_long version, length-append (header version) []) };
   front = front;
 }
 
@@ -88,7 +86,7 @@ framed_log version joins log rs r h = (λ i. h.made i ++ frame (h.last i) (body_
 
 -- One record.
 
-pub no_record : (version : Version) (A : Type 0) (number : ℕ) (text : List ℕ) (old new : Log) (front : Front)
+pub no_record : (version : Version) (A : Type 0) (number : ℕ) (text : List ℕ) (old new : Log) (front : MadeFront)
     (e : Fault) → RecordOf version number text old.front front (Err e)
     → LineMade {A = A} version number text old new (Err e)
 no_record version A number text old new front (faults.Script n) r = r
@@ -103,7 +101,7 @@ no_record version A number text old new front faults.ReadFailed r = absurd r
 no_record version A number text old new front faults.WriteFailed r = absurd r
 
 pub no_frame : (version : Version) (A B : Type 0) → LogJoins
-    → (number : ℕ) (text : List ℕ) (old new : Log) (front : Front) (out : List ℕ) (r : code.Record) (e : Fault)
+    → (number : ℕ) (text : List ℕ) (old new : Log) (front : MadeFront) (out : List ℕ) (r : code.Record) (e : Fault)
     → RecordOf version number text old.front front (Ok r)
     → Framed {A = B} old.out.items out old.last (record_of r) (Err e)
     → LineMade {A = A} version number text old new (Err e)
@@ -133,13 +131,13 @@ added_is_record version rs (Told told) r is same = subst (IsRecord version) (sym
 added_is_record version rs Spelled r is adds = subst (IsRecord version) (sym adds.3) adds.2
 
 -- what a frame more makes of the log
-pub record IsNext (version : Version) (old new : Log) (front : Front) (r : Record) : Type 0 where
+pub record IsNext (version : Version) (old new : Log) (front : MadeFront) (r : Record) : Type 0 where
   pub framed : Framed {A = ⊤} old.out.items new.out.items old.last r (Ok tt)
   pub last : new.last ≡ drop (length new.out.items - 32) new.out.items
   pub front_is : (rs : List Record) → IsFrontAfter version front rs → IsFrontAfter version new.front (rs ++ r ∷ [])
 
 pub line_more : {A : Type 0} → (version : Version) → LogJoins → LogEnds
-    → (number : ℕ) (text : List ℕ) (old new : Log) (front : Front) (r : code.Record) (x : A)
+    → (number : ℕ) (text : List ℕ) (old new : Log) (front : MadeFront) (r : code.Record) (x : A)
     → RecordOf version number text old.front front (Ok r) → IsNext version old new front (record_of r)
     → LineMade version number text old new (Ok x)
 line_more version joins ends number text old new front r x line n =
@@ -166,7 +164,7 @@ line_more version joins ends number text old new front r x line n =
         )
 
 pub line_kept : {A : Type 0} → (version : Version) → LogJoins → LogEnds
-    → (number : ℕ) (text : List ℕ) (old new : Log) (front : Front) (r : code.Record) (res : Result A Fault)
+    → (number : ℕ) (text : List ℕ) (old new : Log) (front : MadeFront) (r : code.Record) (res : Result A Fault)
     → RecordOf version number text old.front front (Ok r)
     → Framed {A = ⊤} old.out.items new.out.items old.last (record_of r) (Ok tt)
     → new.last ≡ drop (length new.out.items - 32) new.out.items

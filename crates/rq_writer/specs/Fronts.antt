@@ -14,7 +14,7 @@ use Rattle.rq_record.specs.declared.fault.Fault.TheVariants as faults
 use Rattle.rq_record.specs.declared.record.Record as code
 use Rattle.rq_writer.specs.Made.{IsStateOf, Adds, spelling_limit}
 use Rattle.rq_writer.specs.Script.{Spelled}
-use Rattle.rq_writer.specs.declared.front.Front.{Front}
+use Rattle.rq_writer.specs.declared.front.MadeFront.{MadeFront}
 
 -- the state is that after the first records, and the others stand behind; or the first of the
 -- others is unlawful
@@ -27,7 +27,7 @@ Splits version s since true rs =
     × (is_lawful version s first ≡ false) × (s ≡ run empty done)
 
 -- the front of the log of the records
-abbrev pub IsFrontAfter : Version → Front → List Record → Type 0
+abbrev pub IsFrontAfter : Version → MadeFront → List Record → Type 0
 IsFrontAfter version front rs =
     Splits version front.state (map record_of front.since.items) front.ended rs
 
@@ -37,7 +37,7 @@ pub record AreLogged (version : Version) (rs : List Record) : Type 0 where
   pub fits : length (log_of version rs) ≤ log_limit
 
 -- a checkpoint of the state after the front
-abbrev pub SpellsFront : Version → Front → Front → Result code.Record Fault → Type 0
+abbrev pub SpellsFront : Version → MadeFront → MadeFront → Result code.Record Fault → Type 0
 SpellsFront version old new (Ok r) = (rs : List Record) → IsFrontAfter version old rs
     → AreLogged version rs → IsFrontAfter version new rs × Adds version rs Spelled (record_of r)
 SpellsFront version old new (Err faults.TooLarge) =

@@ -14,7 +14,7 @@ use Rattle.rq_writer.specs.Script.{Line, Spelled, Tells, line_text}
 use Rattle.rq_writer.specs.Reading.{cut_at}
 use Rattle.rq_writer.specs.Made.{BeginsWithLines, Adds, IsStateOf, spelling_limit}
 use Rattle.rq_writer.specs.Fronts.{IsFrontAfter, AreLogged}
-use Rattle.rq_writer.specs.declared.front.Front.{Front}
+use Rattle.rq_writer.specs.declared.front.MadeFront.{MadeFront}
 use Rattle.rq_writer.specs.declared.log.Log.{Log}
 
 -- the log of the records, with its last 32 bytes and its front
@@ -44,7 +44,8 @@ IsTooLarge version rs = (s : State) × IsStateOf version rs s
     × (spelling_limit < length (state_bytes s))
 
 -- the record that a line adds
-abbrev pub RecordOf : Version → ℕ → List ℕ → Front → Front → Result code.Record Fault → Type 0
+abbrev pub RecordOf : Version → ℕ → List ℕ → MadeFront → MadeFront → Result code.Record Fault
+    → Type 0
 RecordOf version number text old new (Ok r) = (l : Line) × Tells version l text
     × ((rs : List Record) → IsFrontAfter version old rs → AreLogged version rs
     → IsFrontAfter version new rs × Adds version rs l (record_of r))

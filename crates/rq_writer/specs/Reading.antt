@@ -13,7 +13,7 @@ use Rattle.rq_model.specs.Records.{By, Record, Define, Register, Deregister, Beg
 use Rattle.rq_model.specs.Records.{Dequeue, Commit, Abort, Checkpoint, Kill, Version, One, Two}
 use Rattle.rq_writer.specs.Script.{Line, Told, Spelled, Tells}
 use Rattle.rq_writer.specs.Views.{line_of}
-use Rattle.rq_writer.specs.declared.line.Line as code
+use Rattle.rq_writer.specs.declared.line.ScriptLine as code
 
 -- What a function returned, seen by view, is what reading gives, unless memory ran out.
 abbrev pub Fails : {Y : Type 0} → Fault → Option Y → Type 0
@@ -194,7 +194,7 @@ line_at version text = if bytes_eq text (codes "checkpoint")
     then Some Spelled else told_line version text
 
 -- a line that the text tells, or Form where no line has this text
-abbrev pub ReadsLine : Version → List ℕ → Result code.Line Fault → Type 0
+abbrev pub ReadsLine : Version → List ℕ → Result code.ScriptLine Fault → Type 0
 ReadsLine version text (Ok l) = Tells version (line_of l) text
 ReadsLine version text (Err faults.Form) = (l : Line) → Tells version l text → ⊥
 ReadsLine version text (Err faults.Resources) = ⊤

@@ -46,18 +46,18 @@ fn run_lawful<R: Threads + Sync>(
 /// found to be unlawful. So a checkpoint costs the records since the one before it, not the whole
 /// log.
 #[derive(Drop)]
-pub(crate) struct Front {
+pub(crate) struct MadeFront {
     state: State,
     since: Vec<Record>,
     ended: bool,
 }
 
-impl Front {
+impl MadeFront {
     /// That of a log without records.
-    pub(crate) fn start(alloc: Global) -> Front
+    pub(crate) fn start(alloc: Global) -> MadeFront
         ensures { (version : model.Version) → IsFrontAfter version result [] }
     {
-        Front {
+        MadeFront {
             state: State::empty(alloc),
             since: Vec::new(alloc),
             ended: false,

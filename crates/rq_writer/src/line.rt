@@ -3,7 +3,7 @@
 use rq_record::Record;
 
 #[derive(Drop)]
-pub(crate) enum Line {
+pub(crate) enum ScriptLine {
     /// A record in so many words.
     Told(Record),
     /// A checkpoint of the state so far.

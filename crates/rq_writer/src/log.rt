@@ -6,8 +6,8 @@ ghost use Rattle.rq_record.specs.Views.{record_of, version_of};
 ghost use Rattle.rq_writer.specs.Fronts.{IsFrontAfter, AreLogged};
 ghost use Rattle.rq_writer.specs.Making.{HoldsRecords, RecordOf, Framed, LineMade, Starts};
 
-use crate::front::Front;
-use crate::line::Line;
+use crate::front::MadeFront;
+use crate::line::ScriptLine;
 use crate::reading::read_line;
 use rq_front::{FRAME_LEN, LOG_LIMIT, frame, header_of};
 use rq_pool::Plan;
@@ -20,7 +20,7 @@ use std::thread::Threads;
 pub(crate) struct Log {
     out: Vec<u8>,
     last: [u8; 32],
-    front: Front,
+    front: MadeFront,
 }
 
 // The record that a line adds. `Script` where the text is no line.
@@ -31,15 +31,15 @@ fn record_at<R: Threads + Sync>(
     plan: &Plan,
     number: u64,
     text: &[u8],
-    front: &mut Front,
+    front: &mut MadeFront,
 ) -> Result<Record, Fault>
     requires { (rs : List model.Record) × IsFrontAfter (version_of version) front.old rs
         × AreLogged (version_of version) rs }
     ensures { RecordOf (version_of version) number text.now front.old front.new result }
 {
     match read_line(alloc, version, text) {
-        Ok(Line::Told(r)) => Ok(r),
-        Ok(Line::Spelled) => front.spelled(rt, alloc, version, plan),
+        Ok(ScriptLine::Told(r)) => Ok(r),
+        Ok(ScriptLine::Spelled) => front.spelled(rt, alloc, version, plan),
         Err(Fault::Form) => Err(Fault::Script(number)),
         Err(fault) => Err(fault),
     }
@@ -85,7 +85,7 @@ impl Log {
         let mut out = Vec::new(alloc);
         header_of(version, &mut out)?;
         let last = last_32(&out);
-        let front = Front::start(alloc);
+        let front = MadeFront::start(alloc);
         Ok(Log { out, last, front })
     }
 

@@ -8,7 +8,7 @@ ghost use Rattle.rq_writer.specs.Views.{line_of};
 
 use crate::fields::{by, error, field, name, number, number_field, u32_field};
 use crate::hexes::{kept, payload};
-use crate::line::Line;
+use crate::line::ScriptLine;
 use rq_record::{ElemId, Fault, KeptBy, KeptName, QueueNo, Record, UnitNo, Version};
 use std::alloc::Global;
 
@@ -185,24 +185,24 @@ fn record(alloc: Global, version: Version, text: &[u8]) -> Result<Record, Fault>
 }
 
 #[tactic(auto, unfolding(crate::specs::Reading::told_line))]
-fn told_line(alloc: Global, version: Version, text: &[u8]) -> Result<Line, Fault>
+fn told_line(alloc: Global, version: Version, text: &[u8]) -> Result<ScriptLine, Fault>
     ensures { Gives line_of result (spec.told_line (version_of version) text.now) }
 {
     let record = record(alloc, version, text)?;
-    Ok(Line::Told(record))
+    Ok(ScriptLine::Told(record))
 }
 
-fn line(alloc: Global, version: Version, text: &[u8]) -> Result<Line, Fault>
+fn line(alloc: Global, version: Version, text: &[u8]) -> Result<ScriptLine, Fault>
     ensures { Gives line_of result (spec.line_at (version_of version) text.now) }
 {
     if text == b"checkpoint".as_slice() {
-        return Ok(Line::Spelled);
+        return Ok(ScriptLine::Spelled);
     }
     told_line(alloc, version, text)
 }
 
 /// The line that the text tells in the version. `Form` where no line has this text.
-pub(crate) fn read_line(alloc: Global, version: Version, text: &[u8]) -> Result<Line, Fault>
+pub(crate) fn read_line(alloc: Global, version: Version, text: &[u8]) -> Result<ScriptLine, Fault>
     ensures { ReadsLine (version_of version) text.now result }
 {
     line(alloc, version, text)

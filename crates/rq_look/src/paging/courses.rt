@@ -26,16 +26,16 @@ struct Step {
 
 /// How a number goes along the log: a step for each bin in which it changes.
 #[derive(Drop)]
-pub(super) struct Course {
+pub(super) struct Curve {
     steps: Vec<Step>,
     now: u64,
     most: u64,
 }
 
-impl Course {
+impl Curve {
     /// Nothing so far.
-    pub(super) fn new(alloc: Global) -> Course {
-        Course {
+    pub(super) fn new(alloc: Global) -> Curve {
+        Curve {
             steps: Vec::new(alloc),
             now: 0,
             most: 0,
@@ -87,7 +87,8 @@ impl Course {
     ) -> Result<(), AllocError> {
         write!(
             text,
-            "<svg class=\"{class}\" viewBox=\"0 0 {width} {height}\" preserveAspectRatio=\"none\" role=\"img\"><path d=\"M0 {height}"
+            "<svg class=\"{class}\" viewBox=\"0 0 {width} {height}\" preserveAspectRatio=\"none\" \
+            role=\"img\"><path d=\"M0 {height}"
         )?;
         for step in self.steps.iter() {
             let (from, to) = (

@@ -45,7 +45,8 @@ pub(super) fn put_text(text: &mut String, word: &str) -> Result<(), AllocError>
 pub(super) fn put_head(text: &mut String, name: &str) -> Result<(), AllocError> {
     text.push_str("<!DOCTYPE html>\n<html lang=\"en\">\n<head>\n<meta charset=\"utf-8\">\n")?;
     text.push_str(
-        "<meta http-equiv=\"Content-Security-Policy\" content=\"default-src 'none'; style-src 'unsafe-inline'\">\n",
+        "<meta http-equiv=\"Content-Security-Policy\" content=\"default-src 'none'; \
+        style-src 'unsafe-inline'\">\n",
     )?;
     text.push_str("<meta name=\"viewport\" content=\"width=device-width\">\n<title>")?;
     put_text(text, name)?;

@@ -100,7 +100,8 @@ fn put_marks(text: &mut String, marks: &BTreeMap<u64, bool>) -> Result<(), Alloc
         };
         write!(
             text,
-            "<rect class=\"{class}\" x=\"{x}\" y=\"{y}\" width=\"{BIN}\" height=\"10\"><title>{said}</title></rect>\n"
+            "<rect class=\"{class}\" x=\"{x}\" y=\"{y}\" width=\"{BIN}\" height=\"10\">\
+            <title>{said}</title></rect>\n"
         )?;
     }
     Ok(())
@@ -116,7 +117,8 @@ fn put_damage(text: &mut String, end: &End) -> Result<(), AllocError> {
     let behind = end.total.saturating_sub(end.used);
     write!(
         text,
-        "<rect class=\"damage\" x=\"{x}\" y=\"0\" width=\"{width}\" height=\"{height}\"><title>{behind} bytes behind the front</title></rect>\n"
+        "<rect class=\"damage\" x=\"{x}\" y=\"0\" width=\"{width}\" height=\"{height}\">\
+        <title>{behind} bytes behind the front</title></rect>\n"
     )
 }
 
@@ -141,7 +143,8 @@ fn put_legend(text: &mut String, all: &Bin) -> Result<(), AllocError> {
     for (kind, count) in all {
         write!(
             text,
-            "<li><svg viewBox=\"0 0 1 1\"><rect class=\"{kind}\" width=\"1\" height=\"1\"/></svg>{count} {kind}</li>\n"
+            "<li><svg viewBox=\"0 0 1 1\"><rect class=\"{kind}\" width=\"1\" height=\"1\"/>\
+            </svg>{count} {kind}</li>\n"
         )?;
     }
     text.push_str("</ul>\n")

@@ -42,7 +42,8 @@ fn put_counts(text: &mut String, r: &Restarted) -> Result<(), AllocError> {
     let registrants = state.registrant_count();
     write!(
         text,
-        "<tr><th>after the restart</th><td>{queues} queues, {elements} elements, {registrants} registrants</td></tr>\n"
+        "<tr><th>after the restart</th><td>{queues} queues, {elements} elements, \
+        {registrants} registrants</td></tr>\n"
     )
 }
 

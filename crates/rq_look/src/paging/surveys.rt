@@ -7,9 +7,9 @@ ghost use Rattle.rq_look.specs.Looks.{IsBroken};
 use crate::ends::End;
 use crate::events::{Effect, Event};
 use crate::following::Queues;
-use crate::frames::{Placed, Walk};
+use crate::frames::{Placed, PlacedFrames};
 use crate::numbered::{Numbered, kind_of};
-use crate::paging::courses::{BINS, Course, along};
+use crate::paging::courses::{BINS, Curve, along};
 use crate::trouble::Trouble;
 use rq_record::{Fault, QueueNo, Record};
 use rq_state::State;
@@ -25,9 +25,9 @@ pub(super) struct Survey {
     /// The records by kind, of each bin.
     pub(super) bins: Vec<Bin>,
     /// The free elements of each queue.
-    pub(super) depths: Vec<Course>,
+    pub(super) depths: Vec<Curve>,
     /// The open units.
-    pub(super) open: Course,
+    pub(super) open: Curve,
     /// The offset of the BEGIN of each unit that is open.
     pub(super) begun: BTreeMap<u64, u64>,
 }
@@ -71,7 +71,7 @@ impl Survey {
         Ok(Survey {
             bins,
             depths: Vec::new(alloc),
-            open: Course::new(alloc),
+            open: Curve::new(alloc),
             begun: BTreeMap::new(alloc),
         })
     }
@@ -79,7 +79,7 @@ impl Survey {
     // A record that begins or ends a unit, or defines a queue.
     fn take_record(&mut self, alloc: Global, it: &Numbered, bin: u64) -> Result<(), AllocError> {
         match &it.record {
-            Record::Define { .. } => self.depths.push(Course::new(alloc))?,
+            Record::Define { .. } => self.depths.push(Curve::new(alloc))?,
             Record::Begin { unit } => {
                 self.begun.insert(unit.0, it.offset)?;
                 self.open.change(bin, true)?
@@ -162,7 +162,7 @@ pub(super) fn surveyed(
 {
     let mut machine = Queues::new(alloc);
     let mut seen = Survey::new(alloc)?;
-    for placed in Walk::of(bytes, end.used) {
+    for placed in PlacedFrames::of(bytes, end.used) {
         seen.follow(alloc, placed, &mut machine, end.total)?;
     }
     seen.close(state, bin_of(end.used, end.total))?;

@@ -77,7 +77,8 @@ fn put_elements<W: io::Write>(
         return Ok(());
     }
     text.push_str(
-        "<table><tr><th>element</th><th>from</th><th>priority</th><th>attempts</th><th>payload</th></tr>\n",
+        "<table><tr><th>element</th><th>from</th><th>priority</th><th>attempts</th>\
+        <th>payload</th></tr>\n",
     )?;
     for e in elements.iter().take(SHOWN) {
         put_element(alloc, text, e)?;
@@ -148,7 +149,8 @@ fn put_fold<W: io::Write>(
     let (many, known) = (elements.len(), registrants.len());
     write!(
         text,
-        "<tr class=\"fold\"><td colspan=\"7\"><details><summary>elements: {many}, registrants: {known}</summary>\n"
+        "<tr class=\"fold\"><td colspan=\"7\"><details><summary>elements: {many}, \
+        registrants: {known}</summary>\n"
     )?;
     put_elements(alloc, text, elements, output)?;
     put_registrants(text, registrants, output)?;
@@ -190,7 +192,8 @@ pub(super) fn put_queues<W: io::Write>(
     ensures refused { IfErr result IsBroken }
 {
     text.push_str(
-        "<h2>Queues</h2>\n<div class=\"scroll\"><table>\n<tr><th>queue</th><th>name</th><th>limit</th><th>error queue</th>",
+        "<h2>Queues</h2>\n<div class=\"scroll\"><table>\n<tr><th>queue</th><th>name</th>\
+        <th>limit</th><th>error queue</th>",
     )?;
     text.push_str("<th>elements</th><th>at most</th><th>along the log</th></tr>\n")?;
     let mut number: u32 = 0;

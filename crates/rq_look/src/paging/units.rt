@@ -22,7 +22,8 @@ fn put_bar(text: &mut String, unit: u64, begun: u64, end: &End, y: u64) -> Resul
     let width = until.saturating_sub(x).max(2);
     write!(
         text,
-        "<rect class=\"unit\" x=\"{x}\" y=\"{y}\" width=\"{width}\" height=\"8\"><title>unit {unit}, begun at {begun}</title></rect>\n"
+        "<rect class=\"unit\" x=\"{x}\" y=\"{y}\" width=\"{width}\" height=\"8\">\
+        <title>unit {unit}, begun at {begun}</title></rect>\n"
     )
 }
 

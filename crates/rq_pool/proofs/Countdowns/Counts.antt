@@ -14,10 +14,11 @@ use Rattle.atomic_table.proofs.Lists.{at_set, set_here, at_map, at_longer, at_la
 use Rattle.rq_pool.specs.declared.countdown.view.View.{View}
 use Rattle.rq_pool.specs.declared.countdown.view.Terms.{Terms}
 use Rattle.rq_pool.specs.Countdowns.Phases.{total, Phase, clear, away, home, gone, back, flag, waits, is_away, is_shut}
-use Rattle.rq_pool.specs.Countdowns.Phases.{place, count, numbered}
-use Rattle.rq_pool.specs.Countdowns.Rule.{one_if, here, told_of, parts, stands_at, names, made_for, told, lasts}
+use Rattle.rq_pool.specs.Countdowns.Phases.{place, count, indexed}
+use Rattle.rq_pool.specs.Countdowns.Rule.{one_if, here, count_told, parts, stands_at, names, made_for, times_told}
+use Rattle.rq_pool.specs.Countdowns.Rule.{lasts}
 use Rattle.rq_pool.specs.Countdowns.Rule.{made_of, after, HasMade, SomeView, AtSource, IsSet, Knows, IsOpen, Held}
-use Rattle.rq_pool.specs.Countdowns.Rule.{counted}
+use Rattle.rq_pool.specs.Countdowns.Rule.{tallied}
 use Rattle.rq_pool.specs.Countdowns.History.{Fit}
 use Rattle.rq_pool.proofs.Countdowns.Totals.{total_set, total_append, at_most, inside, there, map_long, get_map}
 use Rattle.rq_pool.proofs.Countdowns.Totals.{set_get}
@@ -144,8 +145,8 @@ module _ {T K : Type 0} (fits : K → ℕ → T → Type 0) (terms : Terms K) wh
       made_more : (j : ℕ) → made_for j w ≡ made_for j v + one_if (eqb i j)
       made_more j = let q = total_append (names j) v.made (made_of i x ys ∷ []) in omega arith
 
-      lasts_more : lasts w ≡ lasts v + told_of ys
-      lasts_more = let q = total_append told v.made (made_of i x ys ∷ []) in omega arith
+      lasts_more : lasts w ≡ lasts v + count_told ys
+      lasts_more = let q = total_append times_told v.made (made_of i x ys ∷ []) in omega arith
 
       mine : AtSource (fits terms.key) views' i (home x)
       mine = let old = h.each_source i away at_away in record {
@@ -200,7 +201,7 @@ module _ {T K : Type 0} (fits : K → ℕ → T → Type 0) (terms : Terms K) wh
 
       abbrev Goes : Type 0
       Goes = (u : View T K) × (a : Act (Option T)) × Valid s.homes c a × H (stepped s 0 next id c u a)
-          × counted fits (step slots 0 1 0 none) (v, c) found (u, carried_after c a)
+          × tallied fits (step slots 0 1 0 none) (v, c) found (u, carried_after c a)
 
       found_is : found ≡ count ps
       found_is = ap (λ ws. get_or ws 0 0) h.words_are
@@ -212,11 +213,11 @@ module _ {T K : Type 0} (fits : K → ℕ → T → Type 0) (terms : Terms K) wh
       Told z l u d = let me' : M = (u, d) in (found ≢ 1 → me' ≡ (after v z.0 z.1 None, []))
           × (found ≡ 1 → (lasts v ≡ 0)
           × ((ys : List T) × (length ys ≡ slots) × ((k : K) → v.key ≡ Some k → Fit (fits k) ys)
-          × (me' ≡ (after v z.0 z.1 (Some ys), numbered 0 (map Some ys)))))
+          × (me' ≡ (after v z.0 z.1 (Some ys), indexed 0 (map Some ys)))))
 
       -- what the slot held names the source and the outbox
       tells : (u : View T K) (d : List (ℕ × Option T)) → Told (i, x) c u d
-          → counted fits (step slots 0 1 0 none) (v, c) found (u, d)
+          → tallied fits (step slots 0 1 0 none) (v, c) found (u, d)
       tells u d t j y e = subst (λ (z : ℕ × T). Told z c u d) (ap (slot_of (i, x)) (sym has ∙ e)) t
 
       not_last : found ≢ 1 → found < 18446744073709551616 → Goes
@@ -301,7 +302,7 @@ module _ {T K : Type 0} (fits : K → ℕ → T → Type 0) (terms : Terms K) wh
                   (λ k has_key j y g. subst (λ (k : K). fits k j y)
                       (same_some terms.key k (sym ((h.each_pass id v at).same_key part) ∙ has_key))
                       ((sources j (home y) (at_map home ys j y g)).holding y refl).0),
-                  (λ j. (u, ((λ k. carried_after (at_c k) t) ∙ took.2 ∙ append_none (numbered 0 (map Some ys))) j)),
+                  (λ j. (u, ((λ k. carried_after (at_c k) t) ∙ took.2 ∙ append_none (indexed 0 (map Some ys))) j)),
                 ),
               ),
             ),
@@ -309,7 +310,7 @@ module _ {T K : Type 0} (fits : K → ℕ → T → Type 0) (terms : Terms K) wh
 
   pub counts : (slots id : ℕ) (me : M) (i : ℕ) (x : T) → i < slots → me.0.at ≡ Some i → 0 < me.0.parts
       → me.1 ≡ (i, Some x) ∷ [] → fits terms.key i x
-      → Allows H slots id me 0 (λ n. (n + (2 ^ 64 - 1)) % 2 ^ 64) (counted fits (step slots 0 1 0 none) me)
+      → Allows H slots id me 0 (λ n. (n + (2 ^ 64 - 1)) % 2 ^ 64) (tallied fits (step slots 0 1 0 none) me)
   counts slots id me i x near stands part has fit s h wide at small = let long : length s.homes ≡ length h.phases =
       ap length h.homes_are ∙ map_long place h.phases in let near' : i < length h.phases = omega arith in
       dite (ℕ_discrete (get_or s.words 0 0) 1)

@@ -8,7 +8,7 @@ use Rattle.rq_pool.specs.declared.countdown.view.Made.{Made}
 use Rattle.rq_pool.specs.declared.countdown.view.View.{View}
 use Rattle.rq_pool.specs.declared.countdown.view.Terms.{Terms}
 use Rattle.rq_pool.specs.Countdowns.Phases.{total, Phase, clear, away, home, gone, back, place, count}
-use Rattle.rq_pool.specs.Countdowns.Rule.{told, lasts, Held}
+use Rattle.rq_pool.specs.Countdowns.Rule.{times_told, lasts, Held}
 use Rattle.rq_pool.specs.Countdowns.Views.{all_made}
 use Rattle.rq_pool.specs.Countdowns.Phases.{add_some, somes}
 use Rattle.rq_pool.proofs.Countdowns.Settled.{SettledViews}
@@ -46,17 +46,17 @@ module _ {T : Type 0} where
   count_small (back x ∷ ps) = let q = count_small ps in omega arith
 
 module _ {A T K : Type 0} (g : A → View T K) where
-  pub none_last : (xs : List A) → All (λ p. lasts (g p) ≡ 0) xs → total told (all_made (map g xs)) ≡ 0
+  pub none_last : (xs : List A) → All (λ p. lasts (g p) ≡ 0) xs → total times_told (all_made (map g xs)) ≡ 0
   none_last [] all = refl
-  none_last (x ∷ xs) all = let a = total_append told (g x).made (all_made (map g xs)) in let b =
+  none_last (x ∷ xs) all = let a = total_append times_told (g x).made (all_made (map g xs)) in let b =
       all 0 x (omega arith) in let c = none_last xs (λ k d near. all (suc k) d (omega arith)) in omega arith
 
   pub one_last : (xs : List A) (k : ℕ) → k < length xs → ((d : A) → lasts (g (get_or xs k d)) ≡ 1)
-      → 0 < total told (all_made (map g xs))
+      → 0 < total times_told (all_made (map g xs))
   one_last [] k near one = absurd (omega arith)
-  one_last (x ∷ xs) zero near one = let a = total_append told (g x).made (all_made (map g xs)) in let b = one x in
+  one_last (x ∷ xs) zero near one = let a = total_append times_told (g x).made (all_made (map g xs)) in let b = one x in
       omega arith
-  one_last (x ∷ xs) (suc k) near one = let a = total_append told (g x).made (all_made (map g xs)) in let b =
+  one_last (x ∷ xs) (suc k) near one = let a = total_append times_told (g x).made (all_made (map g xs)) in let b =
       one_last xs k (omega arith) one in omega arith
 
 module _ {T K : Type 0} (fits : K → ℕ → T → Type 0) (terms : Terms K) (id : ℕ) (v : View T K) (ws : List ℕ)
@@ -74,14 +74,17 @@ module _ {T K : Type 0} (fits : K → ℕ → T → Type 0) (terms : Terms K) (i
 
   module _ (made : List (Made T)) (refused : List ℕ) (m : v.made ≡ made) (r : v.refused ≡ refused)
       (whole : v.parts ≡ terms.passes) (rests : v.at ≡ None) where
-    pub open_end : total told made ≡ 0 → (rest : List T) → rest ≡ somes xs → SettledViews n made refused (n - w) rest
+    pub open_end : total times_told made ≡ 0 → (rest : List T) → rest ≡ somes xs
+        → SettledViews n made refused (n - w) rest
     open_end none_told rest is =
         subst (λ (z : ℕ × List (Made T) × List ℕ × ℕ × List T). SettledViews z.0 z.1 z.2 (z.0 - z.3) z.4)
         (λ j. (long j, m j, r j, first_word j, sym is j))
-        (settles_open fits terms s end.1.0 id v end.1.1 whole rests (ap (total told) m ∙ none_told) xs end.3 end.4)
+        (settles_open fits terms s end.1.0 id v end.1.1 whole rests
+        (ap (total times_told) m ∙ none_told) xs end.3 end.4)
 
-    pub shut_end : 0 < total told made → (rest : List T) → rest ≡ [] → SettledViews n made refused (n - w) rest
+    pub shut_end : 0 < total times_told made → (rest : List T) → rest ≡ [] → SettledViews n made refused (n - w) rest
     shut_end some_told rest is =
         subst (λ (z : ℕ × List (Made T) × List ℕ × ℕ × List T). SettledViews z.0 z.1 z.2 (z.0 - z.3) z.4)
         (λ j. ((end.3 ∙ long) j, m j, r j, first_word j, sym is j))
-        (settles_shut fits terms s end.1.0 id v end.1.1 whole rests (λ z. let q = ap (total told) m in omega arith))
+        (settles_shut fits terms s end.1.0 id v end.1.1 whole rests
+        (λ z. let q = ap (total times_told) m in omega arith))

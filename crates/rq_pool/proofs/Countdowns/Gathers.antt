@@ -2,10 +2,10 @@
 use Rattle.std.proofs.Common.{◌≡◌, ℕ, zero, suc, ◌+◌, ◌<◌, List, [], ◌∷◌, ◌++◌, map, length, drop, take, replicate, sym}
 use Rattle.std.proofs.Common.{refl, ap, ◌∙◌, subst, arith, Option, Some, None, append_assoc}
 use Rattle.atomic_table.specs.Table.{rest}
-use Rattle.rq_pool.specs.Countdowns.Phases.{numbered, contents}
+use Rattle.rq_pool.specs.Countdowns.Phases.{indexed, outboxes_in}
 
 numbered_snoc : {S : Type 0} (xs : List S) (k n : ℕ) (x : S) → k + length xs ≡ n
-    → numbered k (xs ++ x ∷ []) ≡ numbered k xs ++ (n, x) ∷ []
+    → indexed k (xs ++ x ∷ []) ≡ indexed k xs ++ (n, x) ∷ []
 numbered_snoc [] k n x e = let q : k ≡ n = omega arith in λ j. (q j, x) ∷ []
 numbered_snoc (y ∷ xs) k n x e = ap (λ l. (k, y) ∷ l) (numbered_snoc xs (suc k) n x (omega arith))
 
@@ -19,7 +19,7 @@ replicate_long (suc n) x = ap suc (replicate_long n x)
 
 module _ {T : Type 0} where
   abbrev pub left : List T → ℕ → List (ℕ × Option T)
-  left ys i = numbered i (map Some (drop i ys)) ++ numbered 0 (replicate i None)
+  left ys i = indexed i (map Some (drop i ys)) ++ indexed 0 (replicate i None)
 
   next_at : (ys : List T) (i : ℕ) → i < length ys
       → (y : T) × (drop i ys ≡ y ∷ drop (suc i) ys) × (take (suc i) ys ≡ take i ys ++ y ∷ [])
@@ -35,8 +35,10 @@ module _ {T : Type 0} where
       → Next ys i c j
   after_one ys i j e near c is = subst (Next ys i c) e
       (let at = next_at ys i near in let y : T = at.0 in let nones : List (ℕ × Option T) =
-      numbered 0 (replicate i None) in let more : List (ℕ × Option T) = numbered (suc i) (map Some (drop (suc i) ys)) in
-      let whole : c ≡ (i, Some y) ∷ (more ++ nones) = is ∙ ap (λ (l : List T). numbered i (map Some l) ++ nones) at.1 in
+      indexed 0 (replicate i None) in let more : List (ℕ × Option T) =
+      indexed (suc i) (map Some (drop (suc i) ys)) in
+      let whole : c ≡ (i, Some y) ∷ (more ++ nones) =
+      is ∙ ap (λ (l : List T). indexed i (map Some l) ++ nones) at.1 in
       let tail : rest c ≡ more ++ nones = ap rest whole in (
         y,
         whole ∙ (λ k. (i, Some y) ∷ sym tail k),
@@ -44,7 +46,7 @@ module _ {T : Type 0} where
             ∙ ap (λ l. more ++ l)
             (sym (numbered_snoc (replicate i None) 0 i None
             (let q = replicate_long {S = Option T} i None in omega arith))
-            ∙ ap (numbered 0) (sym (replicate_snoc i None))),
+            ∙ ap (indexed 0) (sym (replicate_snoc i None))),
         at.2,
       ))
 
@@ -68,10 +70,11 @@ module _ {T : Type 0} where
   take_whole [] = refl
   take_whole (y ∷ ys) = ap (λ l. y ∷ l) (take_whole ys)
 
-  pub none_left : (ys : List T) (n : ℕ) → length ys ≡ n → left ys n ≡ numbered 0 (replicate n None)
-  none_left ys n e = subst (λ n. left ys n ≡ numbered 0 (replicate n None)) e
-      (ap (λ (l : List T). numbered (length ys) (map Some l) ++ numbered 0 (replicate (length ys) None)) (drop_all ys))
+  pub none_left : (ys : List T) (n : ℕ) → length ys ≡ n → left ys n ≡ indexed 0 (replicate n None)
+  none_left ys n e = subst (λ n. left ys n ≡ indexed 0 (replicate n None)) e
+      (ap (λ (l : List T). indexed (length ys) (map Some l) ++ indexed 0 (replicate (length ys) None))
+      (drop_all ys))
 
-  pub contents_numbered : (ys : List T) (k : ℕ) → contents (numbered k (map Some ys)) ≡ ys
+  pub contents_numbered : (ys : List T) (k : ℕ) → outboxes_in (indexed k (map Some ys)) ≡ ys
   contents_numbered [] k = refl
   contents_numbered (y ∷ ys) k = ap (λ l. y ∷ l) (contents_numbered ys (suc k))

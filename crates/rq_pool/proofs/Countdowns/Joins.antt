@@ -11,7 +11,7 @@ use Rattle.rq_pool.specs.declared.countdown.view.Made.{Made}
 use Rattle.rq_pool.specs.declared.countdown.view.View.{View}
 use Rattle.rq_pool.specs.declared.countdown.view.Terms.{Terms}
 use Rattle.rq_pool.specs.Countdowns.Phases.{total, Phase}
-use Rattle.rq_pool.specs.Countdowns.Rule.{here, parts, stands_at, names, made_for, told, lasts, HasMade, HasLast}
+use Rattle.rq_pool.specs.Countdowns.Rule.{here, parts, stands_at, names, made_for, times_told, lasts, HasMade, HasLast}
 use Rattle.rq_pool.specs.Countdowns.Rule.{SomeView, Knows, IsOpen, IsShut, Held, left_of, right_of, both_of, spent_view}
 use Rattle.rq_pool.proofs.Countdowns.Totals.{total_set, total_append, inside}
 use Rattle.rq_pool.proofs.Countdowns.Views.{some_set}
@@ -151,7 +151,7 @@ module _ {T K : Type 0} (fits : K → ℕ → T → Type 0) (terms : Terms K) wh
       (let p : stands_at i v ≡ 0 = ap (here i) va in let q : stands_at i w ≡ 0 = ap (here i) wa in omega arith))
       (λ i. join_total (made_for i) s.views id other v w b u at at'
       (let q = total_append (names i) w.made v.made in omega arith))
-      (join_total lasts s.views id other v w b u at at' (let q = total_append told w.made v.made in omega arith))
+      (join_total lasts s.views id other v w b u at at' (let q = total_append times_told w.made v.made in omega arith))
       (λ i x. join_some (HasMade i x) s.views id other v w b u at apart at' (made_later i x w.made v.made)
       (made_longer i x w.made v.made))
       (λ ys. join_some (HasLast ys) s.views id other v w b u at apart at' (last_later ys w.made v.made)

@@ -8,21 +8,21 @@ use Rattle.rq_pool.specs.declared.countdown.arrival.Arrival.{Arrival}
 use Rattle.rq_pool.specs.declared.countdown.arrival.Arrival.TheVariants.{Twice, NotLast, Last}
 use Rattle.rq_pool.specs.declared.countdown.pass.Pass.{Pass}
 use Rattle.rq_pool.specs.Countdowns.Phases.{total}
-use Rattle.rq_pool.specs.Countdowns.Rule.{told, lasts}
+use Rattle.rq_pool.specs.Countdowns.Rule.{times_told, lasts}
 use Rattle.rq_pool.specs.Countdowns.Views.{made_by, made_in}
 use Rattle.rq_pool.specs.Countdowns.Arrivals.{if_last, last_lists}
 use Rattle.rq_pool.specs.Countdowns.Words.{TellsLast}
 use Rattle.rq_pool.proofs.Countdowns.Totals.{total_append}
 
 module _ {T : Type 0} where
-  by_answer : (i : ℕ) (x : T) (a : Arrival T) → total told (made_by i x a) ≡ length (if_last a)
+  by_answer : (i : ℕ) (x : T) (a : Arrival T) → total times_told (made_by i x a) ≡ length (if_last a)
   by_answer i x (Twice y) = refl
   by_answer i x NotLast = refl
   by_answer i x (Last ys) = refl
 
-  lasts_in : (es : List (Entry T)) → total told (made_in es) ≡ length (last_lists es)
+  lasts_in : (es : List (Entry T)) → total times_told (made_in es) ≡ length (last_lists es)
   lasts_in [] = refl
-  lasts_in (e ∷ es) = let a = total_append told (made_by e.source e.outbox e.answer) (made_in es) in let b =
+  lasts_in (e ∷ es) = let a = total_append times_told (made_by e.source e.outbox e.answer) (made_in es) in let b =
       by_answer e.source e.outbox e.answer in
       let l = length-append (if_last e.answer) (last_lists es) in let r = lasts_in es in omega arith
 
@@ -32,7 +32,7 @@ none_in (x ∷ xs) e = absurd (omega arith)
 
 module _ {T K : Type 0} {g : Ghosts T K} where
   of_pass : (p : Pass T K g) → length (last_lists p.diary) ≡ lasts p.seat.me.0
-  of_pass p = sym (lasts_in p.diary) ∙ ap (total told) p.told.0
+  of_pass p = sym (lasts_in p.diary) ∙ ap (total times_told) p.told.0
 
   pub tells_last : (ps : List (Pass T K g)) (o : Option ℕ)
       → ForSome o (λ k. (k < length ps) × ((d : Pass T K g) → lasts (slice_index_or ps k d).seat.me.0 ≡ 1))

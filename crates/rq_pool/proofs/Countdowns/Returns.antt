@@ -9,9 +9,9 @@ use Rattle.atomic_table.specs.Table.{homes_after}
 use Rattle.atomic_table.proofs.Lists.{set_again}
 use Rattle.rq_pool.specs.declared.countdown.view.View.{View}
 use Rattle.rq_pool.specs.declared.countdown.view.Terms.{Terms}
-use Rattle.rq_pool.specs.Countdowns.Phases.{total, Phase, gone, back, flag, place, count, numbered}
+use Rattle.rq_pool.specs.Countdowns.Phases.{total, Phase, gone, back, flag, place, count, indexed}
 use Rattle.rq_pool.specs.Countdowns.Rule.{lasts, parts, HasLast, SomeView, AtSource, IsSet, IsOpen, IsShut, Held}
-use Rattle.rq_pool.specs.Countdowns.Rule.{returned}
+use Rattle.rq_pool.specs.Countdowns.Rule.{hands_back}
 use Rattle.rq_pool.proofs.Countdowns.Totals.{at_most, map_long, set_get}
 
 module _ {S : Type 0} where
@@ -42,7 +42,7 @@ module _ {S : Type 0} where
   set_long (g ∷ hs) (suc k) h = ap suc (set_long hs k h)
 
   giving : (n : ℕ) (x : S) (hs : List (maybe.Option S)) (k : ℕ) → k + n ≡ length hs → let c =
-      numbered k (replicate n x) in
+      indexed k (replicate n x) in
       Valid hs c (give_all n) × (homes_after hs c (give_all n) ≡ home_from x k hs) × (carried_after c (give_all n) ≡ [])
   giving zero x hs k e = (tt, sym (home_past x hs k (omega arith)), refl)
   giving (suc n) x hs k e = let q =
@@ -108,14 +108,14 @@ module _ {T K : Type 0} (fits : K → ℕ → T → Type 0) (terms : Terms K) wh
   shut views ps id v at one (inl o) = absurd (let q = at_most lasts views id v at in let z = o.nobody in omega arith)
   shut views ps id v at one (inr o) = o
 
-  pub gives_back : (slots id : ℕ) (me : M) → lasts me.0 ≡ 1 → me.1 ≡ numbered 0 (replicate slots None)
-      → Allows H slots id me 0 (λ n. n) (returned (step slots 0 0 0 none) me)
+  pub gives_back : (slots id : ℕ) (me : M) → lasts me.0 ≡ 1 → me.1 ≡ indexed 0 (replicate slots None)
+      → Allows H slots id me 0 (λ n. n) (hands_back (step slots 0 0 0 none) me)
   gives_back slots id me one has s h wide at small = let o = shut s.views h.phases id me.0 at one h.told_once in
       let ys : List T = o.outboxes in
       let t : Turns ys h.phases = ⊎_elim (λ (g : h.phases ≡ map gone ys). subst (Turns ys) (sym g) (from_gone ys))
       (λ (g : h.phases ≡ map back ys). subst (Turns ys) (sym g) (from_back ys)) o.all_shut in
       let long : length s.homes ≡ length h.phases = ap length h.homes_are ∙ map_long place h.phases in
-      let c : List (ℕ × Option T) = numbered 0 (replicate slots None) in
+      let c : List (ℕ × Option T) = indexed 0 (replicate slots None) in
       let nothing : Option T = None in let g = giving slots nothing s.homes 0 (omega arith) in (
         me.0,
         give_all slots,

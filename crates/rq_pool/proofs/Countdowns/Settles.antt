@@ -14,7 +14,8 @@ use Rattle.rq_pool.specs.declared.countdown.view.View.{View}
 use Rattle.rq_pool.specs.declared.countdown.view.Terms.{Terms}
 use Rattle.rq_pool.specs.Countdowns.Phases.{total, Phase, clear, away, home, gone, back, flag, is_away, is_done}
 use Rattle.rq_pool.specs.Countdowns.Phases.{is_shut, outbox_of, place, count}
-use Rattle.rq_pool.specs.Countdowns.Rule.{one_if, here, told_of, parts, stands_at, names, made_for, told, lasts}
+use Rattle.rq_pool.specs.Countdowns.Rule.{one_if, here, count_told, parts, stands_at, names, made_for, times_told}
+use Rattle.rq_pool.specs.Countdowns.Rule.{lasts}
 use Rattle.rq_pool.specs.Countdowns.Rule.{HasMade, HasLast, SomeView, IsOpen, IsShut, Held}
 use Rattle.rq_pool.proofs.Countdowns.Settled.{add_if, kept_for, kept_from, told_lists, SettledViews}
 use Rattle.rq_pool.specs.Countdowns.Phases.{add_some, somes}
@@ -82,11 +83,11 @@ module _ {T : Type 0} where
       go false is rec = let list : kept_for i (n ∷ ms) ≡ kept_for i ms =
           ap (λ b. add_if b n.outbox (kept_for i ms)) is in list ∙ rec (sym (ap length list) ∙ one)
 
-  some_long : (o : Option (List T)) (xs : List (List T)) → length (add_some o xs) ≡ told_of o + length xs
+  some_long : (o : Option (List T)) (xs : List (List T)) → length (add_some o xs) ≡ count_told o + length xs
   some_long None xs = omega arith
   some_long (Some x) xs = omega arith
 
-  told_long : (ms : List (Made T)) → length (told_lists ms) ≡ total told ms
+  told_long : (ms : List (Made T)) → length (told_lists ms) ≡ total times_told ms
   told_long [] = refl
   told_long (m ∷ ms) = let p = told_long ms in let q = some_long m.told (told_lists ms) in omega arith
 
@@ -100,13 +101,13 @@ module _ {T : Type 0} where
   told_one ys (n ∷ ms) (suc k) m e s one = go n.told refl (told_one ys ms k m e s)
     where
       some_there : 0 < length (told_lists ms)
-      some_there = let q = at_most told ms k m e in let yes : told_of m.told ≡ 1 = ap told_of s in let l =
+      some_there = let q = at_most times_told ms k m e in let yes : count_told m.told ≡ 1 = ap count_told s in let l =
           told_long ms in omega arith
 
       go : (o : Option (List T)) → n.told ≡ o → (length (told_lists ms) ≡ 1 → told_lists ms ≡ ys ∷ [])
           → told_lists (n ∷ ms) ≡ ys ∷ []
       go (Some zs) is rec =
-          absurd (let q = some_long n.told (told_lists ms) in let r = ap told_of is in let z = some_there in
+          absurd (let q = some_long n.told (told_lists ms) in let r = ap count_told is in let z = some_there in
           omega arith)
       go None is rec = let list : told_lists (n ∷ ms) ≡ told_lists ms = ap (λ o. add_some o (told_lists ms)) is in
           list ∙ rec (sym (ap length list) ∙ one)
@@ -196,7 +197,8 @@ module _ {T K : Type 0} (fits : K → ℕ → T → Type 0) (terms : Terms K) (s
       (λ j u e z. ap (total (names i)) ((h.each_pass j u e).idle z).0)
 
   all_lasts : total lasts s.views ≡ lasts v
-  all_lasts = alone lasts parts s.views id v at all_parts (λ j u e z. ap (total told) ((h.each_pass j u e).idle z).0)
+  all_lasts = alone lasts parts s.views id v at all_parts
+      (λ j u e z. ap (total times_told) ((h.each_pass j u e).idle z).0)
 
   -- what some pass has, this one has
   has_it : (P : List (Made T) → Type 0) → ¬ P [] → SomeView P s.views → P v.made

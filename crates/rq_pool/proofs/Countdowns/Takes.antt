@@ -5,7 +5,7 @@ use mathlib.Core.Option.{some, none}
 use mathlib.Core.Option as maybe
 use lib.ListN.{get_elem?}
 use Rattle.atomic_table.specs.Table.{Act, keeps, takes, chain, Valid, carried_after, homes_after}
-use Rattle.rq_pool.specs.Countdowns.Phases.{numbered}
+use Rattle.rq_pool.specs.Countdowns.Phases.{indexed}
 
 -- all slots from the k-th on are out
 abbrev pub out_from : {S : Type 0} → ℕ → List (maybe.Option S) → List (maybe.Option S)
@@ -42,7 +42,7 @@ module _ {S : Type 0} where
 
   pub taking : (xs : List S) (hs : List (maybe.Option S)) (c : List (ℕ × S)) (k : ℕ) → drop k hs ≡ map some xs
       → Valid hs c (take_all k xs) × (homes_after hs c (take_all k xs) ≡ out_from k hs)
-      × (carried_after c (take_all k xs) ≡ numbered k xs ++ c)
+      × (carried_after c (take_all k xs) ≡ indexed k xs ++ c)
   taking [] hs c k e = (tt, sym (out_past hs k e), refl)
   taking (x ∷ xs) hs c k e = let here = at_drop hs k (some x) (map some xs) e in let q =
       taking xs hs c (suc k) here.1 in (

@@ -9,8 +9,8 @@ module _ {T : Type 0} where
   arrived_of closing = closing.arrived
 
   -- the index of the pass that was answered Last
-  abbrev pub last_of : Closing T → Option ℕ
-  last_of closing = closing.last
+  abbrev pub last_in : Closing T → Option ℕ
+  last_in closing = closing.last
 
   -- the outboxes that nobody was given
   abbrev pub home_of : Closing T → List T

@@ -11,7 +11,7 @@ use Rattle.rq_pool.specs.declared.countdown.view.View.{View}
 use Rattle.rq_pool.specs.declared.countdown.view.Terms.{Terms}
 use Rattle.rq_pool.specs.Countdowns.History.{Fit}
 use Rattle.rq_pool.specs.Countdowns.Phases.{total, Phase, gone, back, flag, is_away, is_done}
-use Rattle.rq_pool.specs.Countdowns.Phases.{is_shut, outbox_of, place, count, numbered}
+use Rattle.rq_pool.specs.Countdowns.Phases.{is_shut, outbox_of, place, count, indexed}
 
 abbrev pub one_if : Bool → ℕ
 one_if true = 1
@@ -21,9 +21,9 @@ abbrev pub here : ℕ → Option ℕ → ℕ
 here i None = 0
 here i (Some k) = one_if (eqb k i)
 
-abbrev pub told_of : {A : Type 0} → Option A → ℕ
-told_of None = 0
-told_of (Some x) = 1
+abbrev pub count_told : {A : Type 0} → Option A → ℕ
+count_told None = 0
+count_told (Some x) = 1
 
 module _ {T : Type 0} where
   abbrev pub made_of : ℕ → T → Option (List T) → Made T
@@ -32,8 +32,8 @@ module _ {T : Type 0} where
   abbrev pub names : ℕ → Made T → ℕ
   names i m = one_if (eqb m.source i)
 
-  abbrev pub told : Made T → ℕ
-  told m = told_of m.told
+  abbrev pub times_told : Made T → ℕ
+  times_told m = count_told m.told
 
   abbrev pub HasMade : ℕ → T → List (Made T) → Type 0
   HasMade i x ms = (k : ℕ) × (m : Made T)
@@ -63,7 +63,7 @@ module _ {T K : Type 0} where
 
   -- how many of its arrivals were told Last
   abbrev pub lasts : View T K → ℕ
-  lasts v = total told v.made
+  lasts v = total times_told v.made
 
   -- some pass has it
   abbrev pub SomeView : (List (Made T) → Type 0) → List (View T K) → Type 0
@@ -116,13 +116,13 @@ module _ {T K : Type 0} where
   after v i x ys = view v.parts v.key None (v.made ++ made_of i x ys ∷ []) v.refused
 
   -- The last takes all slots, in the order of the sources. Any other gives its own back
-  abbrev pub counted : (K → ℕ → T → Type 0) → Step (Option T)
+  abbrev pub tallied : (K → ℕ → T → Type 0) → Step (Option T)
       → Me (Option T) (View T K) → ℕ → Me (Option T) (View T K) → Type 0
-  counted fits st me found me' = (i : ℕ) (x : T) → me.1 ≡ (i, Some x) ∷ []
+  tallied fits st me found me' = (i : ℕ) (x : T) → me.1 ≡ (i, Some x) ∷ []
       → (found ≢ 1 → me' ≡ (after me.0 i x None, []))
       × (found ≡ 1 → (lasts me.0 ≡ 0)
       × ((ys : List T) × (length ys ≡ st.slots) × ((k : K) → me.0.key ≡ Some k → Fit (fits k) ys)
-      × (me' ≡ (after me.0 i x (Some ys), numbered 0 (map Some ys)))))
+      × (me' ≡ (after me.0 i x (Some ys), indexed 0 (map Some ys)))))
 
   -- a pass is cut from another, which keeps what it made
   abbrev pub left_of : View T K → View T K
@@ -139,6 +139,6 @@ module _ {T K : Type 0} where
   spent_view = view 0 None None [] []
 
   -- the slots of the last are home again
-  abbrev pub returned : Step (Option T) → Me (Option T) (View T K)
+  abbrev pub hands_back : Step (Option T) → Me (Option T) (View T K)
       → ℕ → Me (Option T) (View T K) → Type 0
-  returned st me found me' = me' ≡ (me.0, [])
+  hands_back st me found me' = me' ≡ (me.0, [])

@@ -29,7 +29,7 @@ impl<T: Fits> Listing<Vec<Pass<T>>, LinkedList<Entry<T>>> for Arrivals {
 }
 
 impl<T> Closing<T> {
-    ghost use Rattle.rq_pool.specs.Countdowns.Closings.{arrived_of, last_of, home_of};
+    ghost use Rattle.rq_pool.specs.Countdowns.Closings.{arrived_of, last_in, home_of};
 
     /// How many sources had an arrival.
     pub fn arrived(&self) -> u32
@@ -41,7 +41,7 @@ impl<T> Closing<T> {
     /// The index, in the list handed in, of the pass that was answered `Last`. None where some
     /// source had no arrival.
     pub fn last(&self) -> Option<usize>
-        ensures last { result ≡ last_of self.now }
+        ensures last { result ≡ last_in self.now }
     {
         self.last
     }

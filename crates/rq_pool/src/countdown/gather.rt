@@ -3,7 +3,7 @@
 ghost use Rattle.std.specs.Prelude.{◌≡◌, ℕ, ◌+◌, ◌<◌, ◌≤◌, List, [], ◌∷◌, ◌++◌, length, map};
 ghost use Rattle.std.specs.Prelude.{replicate, Some, None, vec_capacity, vec_len};
 ghost use Rattle.atomic_table.specs.Table.{rest};
-ghost use Rattle.rq_pool.specs.Countdowns.Phases.{numbered, contents};
+ghost use Rattle.rq_pool.specs.Countdowns.Phases.{indexed, outboxes_in};
 
 use crate::countdown::fits::Fits;
 use crate::countdown::steps::{Board, Chair};
@@ -32,12 +32,12 @@ pub(crate) fn gather<T: Fits>(
     room: &mut Vec<T>,
 )
     requires own { seat.old.table_id ≡ board.now.table_id }
-    requires slots { (length (contents seat.old.me.1) ≡ sources)
-        × (seat.old.me.1 ≡ numbered 0 (map Some (contents seat.old.me.1))) }
+    requires slots { (length (outboxes_in seat.old.me.1) ≡ sources)
+        × (seat.old.me.1 ≡ indexed 0 (map Some (outboxes_in seat.old.me.1))) }
     requires room { (room.old.items ≡ []) × (sources ≤ vec_capacity room.old) }
     ensures own { (seat.new.table_id ≡ seat.old.table_id) × (seat.new.id ≡ seat.old.id)
-        × (seat.new.me ≡ (seat.old.me.0, numbered 0 (replicate sources None))) }
-    ensures room { room.new.items ≡ contents seat.old.me.1 }
+        × (seat.new.me ≡ (seat.old.me.0, indexed 0 (replicate sources None))) }
+    ensures room { room.new.items ≡ outboxes_in seat.old.me.1 }
 {
     for i in 0..sources as usize {
         let outbox = take_one(board, seat, i);

@@ -2,7 +2,7 @@
 
 ghost use Rattle.std.specs.Prelude.{◌≡◌, ◌≤◌, [], replicate, None, vec_capacity};
 ghost use Rattle.std.specs.Option.{ForSome, ForNone};
-ghost use Rattle.rq_pool.specs.Countdowns.Phases.{numbered};
+ghost use Rattle.rq_pool.specs.Countdowns.Phases.{indexed};
 ghost use Rattle.rq_pool.specs.Countdowns.Rule.{lasts};
 ghost use Rattle.rq_pool.specs.Countdowns.Views.{made_in, refused_in};
 ghost use Rattle.rq_pool.specs.Countdowns.History.{back_in, refused_outboxes};
@@ -24,5 +24,5 @@ pub struct Pass<T: Fits> {
     ghost has_room: { ForSome room (λ v. (lasts seat.me.0 ≡ 0) × (seat.me.1 ≡ [])
         × (v.items ≡ []) × (seat.table_id.slots ≤ vec_capacity v)) },
     ghost was_last: { ForNone room
-        ((lasts seat.me.0 ≡ 1) × (seat.me.1 ≡ numbered 0 (replicate seat.table_id.slots None))) },
+        ((lasts seat.me.0 ≡ 1) × (seat.me.1 ≡ indexed 0 (replicate seat.table_id.slots None))) },
 }

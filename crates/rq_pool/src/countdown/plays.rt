@@ -1,7 +1,7 @@
 //! The rule of the table, and what each step on it tells. These types are for the proofs alone.
 
 ghost use Rattle.std.specs.Prelude.{ℕ, Some, None, []};
-ghost use Rattle.rq_pool.specs.Countdowns.Rule.{Held, view, claimed, counted, returned, both_of};
+ghost use Rattle.rq_pool.specs.Countdowns.Rule.{Held, view, claimed, tallied, hands_back, both_of};
 ghost use Rattle.rq_pool.specs.Countdowns.Rule.{spent_view, left_of, right_of};
 
 use crate::countdown::fits::Fits;
@@ -30,13 +30,13 @@ pub(crate) struct Count<T> {
 }
 
 impl<T: Fits> Play<Option<T>, View<T, T::Key>> for Count<T> {
-    ghost then = { counted T.fits };
+    ghost then = { tallied T.fits };
 }
 
 pub(crate) struct Return;
 
 impl<T, K> Play<Option<T>, View<T, K>> for Return {
-    ghost then = { returned };
+    ghost then = { hands_back };
 }
 
 pub(crate) struct Glue;

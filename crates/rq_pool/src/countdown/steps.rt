@@ -4,7 +4,7 @@ ghost use Rattle.std.specs.Prelude.{◌≡◌, ◌≢◌, ℕ, ◌+◌, ◌<◌,
 ghost use Rattle.std.specs.Prelude.{IsTrue, IsFalse, ◌^◌, map, replicate, Some, None};
 ghost use Rattle.rq_pool.specs.Countdowns.Rule.{view, after, lasts};
 ghost use Rattle.rq_pool.specs.Countdowns.History.{Fit};
-ghost use Rattle.rq_pool.specs.Countdowns.Phases.{numbered};
+ghost use Rattle.rq_pool.specs.Countdowns.Phases.{indexed};
 
 use crate::countdown::fits::Fits;
 use crate::countdown::plays::{Claim, Count, Counts};
@@ -74,7 +74,7 @@ pub(crate) fn hand_in<T: Fits>(
     ensures other { IsFalse result → seat.new.me ≡ (after seat.old.me.0 source outbox None, []) }
     ensures last { IsTrue result → (lasts seat.old.me.0 ≡ 0) × ((ys : List T)
         × (length ys ≡ board.now.table_id.slots) × Fit (T.fits board.now.key.key) ys
-        × (seat.new.me ≡ (after seat.old.me.0 source outbox (Some ys), numbered 0 (map Some ys)))) }
+        × (seat.new.me ≡ (after seat.old.me.0 source outbox (Some ys), indexed 0 (map Some ys)))) }
 {
     place(board, seat, source, outbox);
     board.fetch_sub::<Count<T>>(seat, 0, 1) == 1

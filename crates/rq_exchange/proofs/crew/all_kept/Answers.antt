@@ -4,7 +4,7 @@ use Rattle.std.proofs.lemmas.List.{length-set}
 use Rattle.rq_record.specs.declared.fault.Fault.TheVariants.{Resources}
 use Rattle.rq_pool.specs.Ledger.{times, times_in, Ledger}
 use Rattle.rq_pool.specs.Rooms.{deal_of, left_of, taken_of}
-use Rattle.rq_exchange.specs.declared.crew.Kept.{Kept}
+use Rattle.rq_exchange.specs.declared.crew.WorkDone.{WorkDone}
 use Rattle.rq_exchange.specs.Workers.{AreHandedBack, HasKept}
 use Rattle.rq_exchange.proofs.Working.{waits_for_nobody, taken_over, each_keeps}
 use Rattle.rq_exchange.proofs.crew.all_kept.Goals as goal
@@ -52,7 +52,7 @@ close-left-requires-clause-all g c =
     )
 
 -- the first thread has what it took
-first : (g : _) (c : In_ok-seats g) (k : Kept) → 0 < length c.in_ok-seats.kept.items
+first : (g : _) (c : In_ok-seats g) (k : WorkDone) → 0 < length c.in_ok-seats.kept.items
     → k ≡ slice_index_or c.in_ok-seats.kept.items 0 k → (s : List ℕ) × HasKept c.args.job.now c.args.chain.now s k
 first g c k some is =
     let h = back g c in

@@ -1,10 +1,10 @@
 use Rattle.std.proofs.Common.{All, length}
 use Rattle.rq_pool.specs.declared.room.Room.{Room}
-use Rattle.rq_exchange.specs.declared.chain.Chain.{Chain}
+use Rattle.rq_exchange.specs.declared.chain.CountdownChain.{CountdownChain}
 use Rattle.rq_exchange.specs.declared.jobs.Job.{Job}
 use Rattle.rq_exchange.specs.Workers.{Works, AreHandedBack}
 use Rattle.rq_exchange.proofs.crew.handed_back.Given as goal
 
 abbrev pub invariant-loop-one : goal.invariant-loop-one
-invariant-loop-one l = (job : Job) (chain : Chain) (room : Room) → All (Works job chain room) l.fn.ended.items
+invariant-loop-one l = (job : Job) (chain : CountdownChain) (room : Room) → All (Works job chain room) l.fn.ended.items
     → AreHandedBack job chain room (length l.yielded) l.seats.items l.all.items

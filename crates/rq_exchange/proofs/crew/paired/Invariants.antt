@@ -2,7 +2,7 @@ use Rattle.std.proofs.Common.{◌≡◌, ◌+◌, [], All, length}
 use Rattle.rq_pool.specs.declared.room.Room.{Room}
 use Rattle.rq_pool.specs.Rooms.{IsSeatOf, taken_of}
 use Rattle.rq_pool.specs.Countdowns.Words.{history_of}
-use Rattle.rq_exchange.specs.declared.chain.Chain.{Chain}
+use Rattle.rq_exchange.specs.declared.chain.CountdownChain.{CountdownChain}
 use Rattle.rq_exchange.specs.Chains.{ArePasses}
 use Rattle.rq_exchange.proofs.crew.paired.Given as goal
 
@@ -10,7 +10,7 @@ abbrev pub invariant-loop-seat : goal.invariant-loop-seat
 invariant-loop-seat l =
     (length l.rows.items ≡ length l.seats.items)
     × (length l.workers.items + length l.seats.items ≡ length l.fn.seats.items)
-    × ((chain : Chain) (room : Room) → All (λ s. IsSeatOf room s × (taken_of s ≡ [])) l.fn.seats.items
+    × ((chain : CountdownChain) (room : Room) → All (λ s. IsSeatOf room s × (taken_of s ≡ [])) l.fn.seats.items
     → All (λ r. ArePasses chain r.items × All (λ p. history_of p ≡ []) r.items) l.fn.rows.items
     → All (λ s. IsSeatOf room s × (taken_of s ≡ [])) l.seats.items
     × All (λ r. ArePasses chain r.items × All (λ p. history_of p ≡ []) r.items) l.rows.items

@@ -1,6 +1,6 @@
 use Rattle.std.proofs.Common.{ℕ, ◌∙◌, string_bytes, drop, take, ap, arith, ◌≡◌}
 use Rattle.std.proofs.lemmas.Result.{err_from_is_err_and}
-use Rattle.rq_look.specs.declared.frames.Walk.{Walk}
+use Rattle.rq_look.specs.declared.frames.PlacedFrames.{PlacedFrames}
 use Rattle.rq_look.proofs.Scripts.{used_fits, begun, goes_on, ended, left_out}
 use Rattle.rq_look.proofs.scripting.put_records.Goals as goal
 
@@ -12,8 +12,8 @@ loop-placed-init g c =
     let walk = c.of-placed-items.ensures (omega (arith, fits.0, used)) (omega (arith, fits.1, used)) in
     let same = c.into_iter-placed-iterator.ensures.into_iter_gives in
     begun c.args.bytes.now _ _ _ (held c.args.output.now) c.requires.0 c.requires.1
-    (ap (λ (w : Walk). w.rest.now) same ∙ walk.0 ∙ ap (λ (n : ℕ). drop 40 (take n c.args.bytes.now)) used)
-    (ap (λ (w : Walk). w.number) same ∙ walk.1) c.new-text.ensures.bytes
+    (ap (λ (w : PlacedFrames). w.rest.now) same ∙ walk.0 ∙ ap (λ (n : ℕ). drop 40 (take n c.args.bytes.now)) used)
+    (ap (λ (w : PlacedFrames). w.number) same ∙ walk.1) c.new-text.ensures.bytes
 
 pub loop-placed-preserved : goal.loop-placed-preserved
 loop-placed-preserved g c =

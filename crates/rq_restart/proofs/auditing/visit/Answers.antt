@@ -12,7 +12,7 @@ use Rattle.rq_model.specs.StateSpelling.{state_bytes}
 use Rattle.rq_record.specs.Views.{record_of}
 use Rattle.rq_state.specs.Inside.{state_of}
 use Rattle.rq_front.specs.declared.spans.Span.{Span}
-use Rattle.rq_restart.specs.declared.auditing.Walk.{Walk}
+use Rattle.rq_restart.specs.declared.auditing.AuditSoFar.{AuditSoFar}
 use Rattle.rq_restart.specs.Audits.{AreFound, IsAuditWalk, PassesRecord, least}
 use Rattle.std.proofs.lemmas.Result.{IfOk-weaker}
 use Rattle.rq_restart.specs.Worth.{KeepsAllBut}
@@ -54,7 +54,7 @@ returns-in_default g c =
       found = IfOk-weaker c.pass.result (PassesRecord c.args.walk r)
           (λ w. (start : ℕ) → AreFound (map record_of records) start c.args.place c.args.walk.found.items
           → AreFound (map record_of records) start (c.args.place + 1) w.found.items)
-          (λ v p start so_far. subst (λ (x : Walk). AreFound (map record_of records) start
+          (λ v p start so_far. subst (λ (x : AuditSoFar). AreFound (map record_of records) start
           (c.args.place + 1) x.found.items) (sym p.others)
           (found_past records start c.args.place c.index-records-place.result c.args.walk.found.items c.requires.there
           c.index-records-place.is c.in_default.not-Checkpoint so_far)) c.pass.ensures.passed;

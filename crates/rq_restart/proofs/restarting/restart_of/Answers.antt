@@ -14,8 +14,8 @@ returns g c =
     let front = c.in_ok-version.front in
     let is = c.in_ok-version.ensures in
     let rs = map record_of front.records.items in
-    let answer = subst (λ (s : State). IfOk c.close-2.result
+    let answer = subst (λ (s : State). IfOk c.finish-2.result
     (λ r. r ≡ restarted (run s rs) (length b - front.end) (length b) (why_of front.why))) c.empty.ensures
-    c.close-2.ensures.answer in
+    c.finish-2.ensures.answer in
     restarts (version_of c.in_ok-version.version) c.frames_join.ensures.end b rs front.end
-    (why_of front.why) is.short is.header is.front c.close-2.result answer c.close-2.ensures.refused
+    (why_of front.why) is.short is.header is.front c.finish-2.result answer c.finish-2.ensures.refused

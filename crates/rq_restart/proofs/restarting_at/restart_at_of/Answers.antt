@@ -5,8 +5,8 @@ use Rattle.rq_restart.specs.Views.{why_of}
 use Rattle.rq_restart.proofs.Checkpoints.{restarts_at}
 use Rattle.rq_restart.proofs.restarting_at.restart_at_of.Goals as goal
 
-pub close-requires-clause-few : goal.close-requires-clause-few
-close-requires-clause-few g c = λ κs within.
+pub finish-requires-clause-few : goal.finish-requires-clause-few
+finish-requires-clause-few g c = λ κs within.
     let begun = c.in_ok-begun.ensures in
     let front = c.in_ok-front.ensures.front c.args.offset begun.chain in
     omega (arith, front.few, front.within, begun.chain.short, length-map c.in_ok-front.front.records.items record_of)
@@ -16,5 +16,5 @@ returns g c =
     let begun = c.in_ok-begun.ensures in
     let front = c.in_ok-front.front in
     restarts_at c.args.bytes.now c.args.offset c.in_ok-begun.begun (map record_of front.records.items) front.end
-    (why_of front.why) begun (c.in_ok-front.ensures.front c.args.offset begun.chain) c.close.result
-    c.close.ensures.answer c.close.ensures.refused
+    (why_of front.why) begun (c.in_ok-front.ensures.front c.args.offset begun.chain) c.finish.result
+    c.finish.ensures.answer c.finish.ensures.refused

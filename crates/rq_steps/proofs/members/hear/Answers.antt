@@ -17,21 +17,17 @@ returns-in-Ok c =
     let within : index < length rs =
     subst (λ (ys : List Registrant). index < length ys) c.deref.ensures.value c.in-Ok.ensures.bound in
     let here : IsBinarySearchResult (λ y. key_cmp (registrant_key y) c.key.result) rs (Ok index)
-    = subst (λ (ys : List Registrant). IsBinarySearchResult (λ y. key_cmp (registrant_key y) c.key.result) ys (Ok index))
-    c.deref.ensures.value (c.in-Ok.ensures.position registrant_key (answers_always _ _ _ (λ f a r g h. search rules))) in
+    = subst (λ (ys : List Registrant). IsBinarySearchResult (λ y. key_cmp (registrant_key y) c.key.result) ys
+    (Ok index))
+    c.deref.ensures.value (c.in-Ok.ensures.position registrant_key
+    (answers_always _ _ _ (λ f a r g h. search rules))) in
     let found : IsBinarySearchResult (λ y. key_cmp (registrant_key y) (n.queue, n.name)) rs (Ok index)
-    = subst (λ (k : ℕ × List ℕ). IsBinarySearchResult (λ y. key_cmp (registrant_key y) k) rs (Ok index)) c.key.ensures here in
+    = subst (λ (k : ℕ × List ℕ). IsBinarySearchResult (λ y. key_cmp (registrant_key y) k) rs (Ok index)) c.key.ensures
+    here in
     one_hears n rs index _ within found c.requires (λ d.
-    let was : _ ≡ slice_index_or rs index d =
-    c.behind-registrants.view_is ∙ (c.index.ensures ∙ any_default rs index c.index.result.now d within) in
-    let becomes : _ ≡ slice_index_or rs index d =
-    c.behind-registrants-in-Ok.view_is
-    ∙ (c.index_mut.ensures.value ∙ any_default rs index c.index_mut.result.now d within) in
-    λ j. record {
-      queue = (becomes j).queue;
-      name = (becomes j).name;
-      last = (c.later-last.ensures ∙ (λ i. later (was i).last (c.last.ensures i))) j;
-    })
+    let was : _ ≡ slice_index_or rs index d
+    = c.index_mut.ensures.value ∙ any_default rs index c.index_mut.result.now d within in
+    c.hear.ensures ∙ (λ i. record (was i) { last = later (was i).last (c.last.ensures i) }))
 
 pub returns-in_default : goal.returns-in_default
 returns-in_default c =
@@ -39,9 +35,11 @@ returns-in_default c =
     let n = c.args.note.now in
     let index = c.in_default.field-0 in
     let here : IsBinarySearchResult (λ y. key_cmp (registrant_key y) c.key.result) rs (Err index)
-    = subst (λ (ys : List Registrant). IsBinarySearchResult (λ y. key_cmp (registrant_key y) c.key.result) ys (Err index))
+    = subst (λ (ys : List Registrant). IsBinarySearchResult (λ y. key_cmp (registrant_key y) c.key.result) ys
+    (Err index))
     c.deref.ensures.value (c.in_default.ensures.position registrant_key
     (answers_always _ _ _ (λ f a r g h. search rules))) in
     nobody_hears n rs index
-    (subst (λ (k : ℕ × List ℕ). IsBinarySearchResult (λ y. key_cmp (registrant_key y) k) rs (Err index)) c.key.ensures here)
+    (subst (λ (k : ℕ × List ℕ). IsBinarySearchResult (λ y. key_cmp (registrant_key y) k) rs (Err index)) c.key.ensures
+    here)
     c.requires

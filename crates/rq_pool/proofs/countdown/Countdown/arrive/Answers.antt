@@ -1,6 +1,6 @@
 use Rattle.std.proofs.Common.{arith, ap, sym, ◌∙◌, subst, [], ◌∷◌, ◌++◌, refl, length, map, replicate, Some, None}
-use Rattle.rq_pool.specs.Countdowns.Phases.{numbered, contents}
-use Rattle.rq_pool.specs.Countdowns.Rule.{lasts, after, told_of, made_of}
+use Rattle.rq_pool.specs.Countdowns.Phases.{indexed, outboxes_in}
+use Rattle.rq_pool.specs.Countdowns.Rule.{lasts, after, count_told, made_of}
 use Rattle.rq_pool.specs.Countdowns.History.{Fit}
 use Rattle.rq_pool.proofs.Countdowns.Arrives.{lasts_after}
 use Rattle.rq_pool.proofs.Countdowns.Histories.{tells, gives}
@@ -22,8 +22,11 @@ invariant_of-pass g c = let was = c.args.pass.now.seat.me.0 in let s = c.args.so
       rests = (ap (λ m. m.0.at) set, ap (λ m. m.0.parts) set ∙ c.args.pass.now.rests.1);
       has_room = λ v e. let r = c.args.pass.now.has_room v e in
           (ap (λ m. lasts m.0) set ∙ r.0, ap (λ m. m.1) set ∙ r.1, r.2, (let q = r.3 in omega (arith, ids)));
-      was_last = λ e. let r = c.args.pass.now.was_last e in
-          (ap (λ m. lasts m.0) set ∙ r.0, ap (λ m. m.1) set ∙ r.1 ∙ ap (λ n. numbered 0 (replicate n None)) (sym ids));
+      was_last = λ e. let r = c.args.pass.now.was_last e in (
+        ap (λ m. lasts m.0) set ∙ r.0,
+        ap (λ m. m.1) set ∙ r.1
+            ∙ ap (λ n. indexed 0 (replicate n None)) (sym ids),
+      );
     }
 
 pub invariant_of-pass-then-not-hand_in : goal.invariant_of-pass-then-not-hand_in
@@ -51,8 +54,8 @@ invariant_of-pass-then-not-hand_in g c = let was = c.args.pass.now.seat.me.0 in 
 
 pub gather-requires-clause-slots : goal.gather-requires-clause-slots
 gather-requires-clause-slots g c = let hl = c.hand_in.ensures.last c.if-not-hand_in.false in let ys = hl.1.0 in let m =
-    ap (λ m. m.1) hl.1.3 in let same = ap contents m ∙ contents_numbered ys 0 in
-    (ap length same ∙ hl.1.1 ∙ c.args.self.now.sized.1, m ∙ ap (λ l. numbered 0 (map Some l)) (sym same))
+    ap (λ m. m.1) hl.1.3 in let same = ap outboxes_in m ∙ contents_numbered ys 0 in
+    (ap length same ∙ hl.1.1 ∙ c.args.self.now.sized.1, m ∙ ap (λ l. indexed 0 (map Some l)) (sym same))
 
 pub invariant_of-pass-in-Some : goal.invariant_of-pass-in-Some
 invariant_of-pass-in-Some g c = let was = c.args.pass.now.seat.me.0 in let s = c.args.source in let x = c.args.outbox in
@@ -61,7 +64,7 @@ invariant_of-pass-in-Some g c = let was = c.args.pass.now.seat.me.0 in let s = c
     let whole = ap (λ m. m.0) c.gather.ensures.own.2 ∙ ap (λ m. m.0) hl.1.3 ∙ (λ j. after (cl.1 j).0 s x (Some ys)) in
     let more = lasts_after was s x (Some ys) in
     let room = c.gather.new.room in let same =
-    c.gather.ensures.room ∙ ap (λ m. contents m.1) hl.1.3 ∙ contents_numbered ys 0 in
+    c.gather.ensures.room ∙ ap (λ m. outboxes_in m.1) hl.1.3 ∙ contents_numbered ys 0 in
     let ids = ap (λ z. z.slots) (c.gather.ensures.own.0 ∙ c.hand_in.ensures.own.0 ∙ c.claim.ensures.own.0
     ∙ c.requires.own.0) in record {
       told = tells _ _ s x (Last room)
@@ -74,10 +77,10 @@ invariant_of-pass-in-Some g c = let was = c.args.pass.now.seat.me.0 in let s = c
           ∙ (λ j. c.args.pass.now.diary ++ entry s (c.of-shown.ensures j) (Last room) ∷ [])) c.args.pass.now.gave_back
           refl;
       rests = (ap (λ v. v.at) whole, ap (λ v. v.parts) whole ∙ c.args.pass.now.rests.1);
-      has_room = λ v e. absurd (let q = ap told_of (sym c.take.ensures.after ∙ e) in omega arith);
+      has_room = λ v e. absurd (let q = ap count_told (sym c.take.ensures.after ∙ e) in omega arith);
       was_last = λ e. (
         ap lasts whole ∙ (let q = cl.0 in omega (arith, more)),
-        ap (λ m. m.1) c.gather.ensures.own.2 ∙ ap (λ n. numbered 0 (replicate n None))
+        ap (λ m. m.1) c.gather.ensures.own.2 ∙ ap (λ n. indexed 0 (replicate n None))
             (sym (ids ∙ c.args.self.now.sized.1)),
       );
     }
@@ -87,7 +90,7 @@ returns-clause-answer g c = let s = c.args.source in let x = c.args.outbox in le
     c.claim.ensures.clear c.if-not-claim.false in let hl = c.hand_in.ensures.last c.if-not-hand_in.false in let ys =
     hl.1.0 in
     let whole = ap (λ m. m.0) c.gather.ensures.own.2 ∙ ap (λ m. m.0) hl.1.3 ∙ (λ j. after (cl.1 j).0 s x (Some ys)) in
-    let same = c.gather.ensures.room ∙ ap (λ m. contents m.1) hl.1.3 ∙ contents_numbered ys 0 in
+    let same = c.gather.ensures.room ∙ ap (λ m. outboxes_in m.1) hl.1.3 ∙ contents_numbered ys 0 in
     subst (Answered (g.T.Fits.fits c.args.self.now.table.shared.key.key) c.args.self.now.sources x)
     (sym c.noted-in-Some.ensures.answer) (
       ap length same ∙ hl.1.1 ∙ c.args.self.now.sized.1,

@@ -1,7 +1,7 @@
 use Rattle.std.proofs.Common.{rules, arith, ap, sym, ◌∙◌, subst, ◌≡◌, ◌+◌, ◌-◌, ◌≤◌, ◌++◌, ◌∷◌, [], Some, None, length}
 use Rattle.std.proofs.Common.{length-append, option_to_list, vec_capacity, All}
 use Rattle.std.proofs.lemmas.List.Elements.{All-append}
-use Rattle.rq_pool.specs.Countdowns.Rule.{view, lasts, told_of, left_of}
+use Rattle.rq_pool.specs.Countdowns.Rule.{view, lasts, count_told, left_of}
 use Rattle.rq_pool.specs.Countdowns.Views.{made_in, refused_in}
 use Rattle.rq_pool.specs.Countdowns.History.{back_in, refused_outboxes}
 use Rattle.rq_pool.proofs.Countdowns.Closes.{all_front, all_end}
@@ -36,7 +36,7 @@ invariant_of-push_reserved g c = let i = c.loop-room.invariant in let s = c.spli
       has_room = λ x is. let mine = some_same (λ v. (v.items ≡ []) × (c.args.board.now.table_id.slots ≤ vec_capacity v))
           c.in-Some-pop.room x is roomy in
           (ap (λ m. lasts m.0) s.4, ap (λ m. m.1) s.4, mine.0, (let q = mine.1 in omega (arith, ids)));
-      was_last = λ is. absurd (let q = ap told_of is in omega arith);
+      was_last = λ is. absurd (let q = ap count_told is in omega arith);
     }
 
 pub loop-room-preserved : goal.loop-room-preserved

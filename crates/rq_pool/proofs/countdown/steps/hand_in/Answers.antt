@@ -1,7 +1,7 @@
 use Rattle.std.proofs.Common.{rules, arith, eqb-true, sym, ap, ◌∙◌, subst, map, Some, ◌<◌}
 use Rattle.rq_pool.proofs.Countdowns.Counts.{counts}
 use Rattle.rq_pool.specs.Countdowns.Rule.{lasts, after}
-use Rattle.rq_pool.specs.Countdowns.Phases.{numbered}
+use Rattle.rq_pool.specs.Countdowns.Phases.{indexed}
 use Rattle.rq_pool.proofs.countdown.steps.hand_in.Goals as goal
 
 pub fetch_sub-requires : goal.fetch_sub-requires
@@ -22,6 +22,6 @@ returns-clause-last g c = λ hit. let was = c.place.ensures.slot.0 in let told =
         ys,
         told.1.1,
         told.1.2 c.args.board.now.key.key (ap (λ v. v.key) was ∙ c.requires.key.0),
-        told.1.3 ∙ (λ j. (after (was j) c.args.source c.args.outbox (Some ys), numbered 0 (map Some ys))),
+        told.1.3 ∙ (λ j. (after (was j) c.args.source c.args.outbox (Some ys), indexed 0 (map Some ys))),
       ),
     )

@@ -1,14 +1,15 @@
 use Rattle.std.proofs.Common.{◌++◌, ◌-◌, List, ℕ, length, drop, ap, ◌∙◌, arith}
 use Rattle.rq_record.specs.Views.{version_of}
 use Rattle.rq_model.specs.Frames.{header}
-use Rattle.rq_writer.proofs.Steps.{header_length, starts}
+use Rattle.rq_model.proofs.Restarts.{header_long}
+use Rattle.rq_writer.proofs.Steps.{starts}
 use Rattle.rq_writer.proofs.log.Log.start.Goals as goal
 
 pub last_32-last-requires : goal.last_32-last-requires
 last_32-last-requires c =
     let made = c.in_ok-header_of.ensures
     ∙ ap (λ (l : List ℕ). l ++ header (version_of c.args.version)) c.new-out.ensures.items in
-    omega (arith, header_length (version_of c.args.version), ap length made, ap length c.deref.ensures.value)
+    omega (arith, header_long (version_of c.args.version), ap length made, ap length c.deref.ensures.value)
 
 pub returns : goal.returns
 returns c =

@@ -1,5 +1,0 @@
-use Rattle.rq_exchange.specs.Openings.{AreOpened}
-use Rattle.rq_exchange.proofs.chain.Chain.open.Given as goal
-
-abbrev pub invariant-loop-queue : goal.invariant-loop-queue
-invariant-loop-queue l = AreOpened l.job l.workers l.queue l.slots.items l.countdowns.items l.all.items

@@ -1,9 +1,0 @@
-use Rattle.rq_writer.proofs.Fronting.{pushed, let_go}
-use Rattle.rq_writer.proofs.front.Front.keep.Goals as goal
-
-pub returns-in_ok-push-clause-kept : goal.returns-in_ok-push-clause-kept
-returns-in_ok-push-clause-kept c =
-    λ version rs h. pushed version _ _ _ c.args.r _ rs c.if-not-self.true c.in_ok-push.ensures.items h
-
-pub returns-else-not-self-clause-kept : goal.returns-else-not-self-clause-kept
-returns-else-not-self-clause-kept c = λ version rs h. let_go version _ _ c.args.r _ rs c.if-not-self.false h
