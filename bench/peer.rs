@@ -5,7 +5,9 @@
 //! SHAPE: small (45 to 70 byte frames), kib (1 KiB payloads), big (60 KiB payloads), hot (one queue),
 //!        names (many registrants); with error queues: wide (4,096 queues), errors (many moves); in version 2: deep (errors,
 //!        with error queues up to eight deep), kills (deep, and a KILL in place of every tenth operation);
-//!        even (256 queues of equal work), skew (256 queues, the first with half of all, the next largest eight apart)
+//!        even (256 queues of equal work), skew (256 queues, the first with half of all, the next largest eight apart),
+//!        lone (skew, with CHECKPOINT records in place of what the others do), own (skew, without them), tree (256 queues
+//!        as skew, each with an error queue), path (tree, with CHECKPOINT records in place of what the others do)
 //! Build: rustc --edition 2024 -O -C target-cpu=native peer.rs -l crypto
 use std::collections::{BTreeMap, BTreeSet, HashMap};
 use std::fmt::Write as _;
