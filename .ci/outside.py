@@ -400,11 +400,29 @@ def by_links(one: bytes | None) -> None:
     check("make by a ring of symbolic links", ring, (WRITE_FAULT, "ring"))
     for name in ("early", "later", "ring"):
         os.remove(f"made/{name}")
+    by_chains(one)
+
+
+def by_chains(one: bytes | None) -> None:
+    """As many links are followed, one behind the other, as the system follows."""
+    os.mkdir("made/chain")
+    for number in range(41):
+        os.symlink(str(number), f"made/chain/{number + 1}")
+    for links, want in [(40, (DONE, one)), (41, (WRITE_FAULT, None))]:
+        check(f"make by {links} links", making("made/chain/0", "make", "one.script", f"made/chain/{links}"), want)
+        if os.path.exists("made/chain/0"):
+            os.remove("made/chain/0")
+    shutil.rmtree("made/chain")
 
 
 def into_pipes(one: bytes | None) -> None:
-    """What is no file of a disk gets the bytes as they are made."""
+    """What is no file of a disk gets the bytes as they are made, and what is a file that is open behind what it holds."""
     check("make into /dev/stdout", run("make", "one.script", "/dev/stdout"), (0, one, b""))
+    for flags, how in [(0, "from its beginning"), (os.O_APPEND, "at its end")]:
+        held = os.open(put("held", b"held\n"), os.O_WRONLY | flags)
+        made = run_into(held, "make", "one.script", "/dev/stdout"), content("held")
+        os.close(held)
+        check(f"make into /dev/stdout that is a file, open {how}", made, (DONE, b"held\n" + (one or b"")))
     os.mkfifo("made/pipe")
     taken: list[bytes | None] = []
     reader = threading.Thread(target=lambda: taken.append(content("made/pipe")), daemon=True)

@@ -1,17 +1,17 @@
 //! A file that is opened at its first write.
 
 ghost use Rattle.std.specs.Prelude.{◌≡◌, true, None};
-ghost use Rattle.std.specs.Fs.{new_options, with_create, with_truncate, with_write};
+ghost use Rattle.std.specs.Fs.{new_options, with_append, with_create};
 
 use std::fs::{Files, OpenOptions};
 use std::io::{self, Write};
 
-/// How a file is opened that is written as it is.
+/// How a file is opened that is written as it is: behind what it holds, of which nothing is lost.
 pub fn in_place() -> OpenOptions
-    ensures { result ≡ with_truncate (with_create (with_write new_options true) true) true }
+    ensures { result ≡ with_create (with_append new_options true) true }
 {
     let mut options = OpenOptions::new();
-    options.write(true).create(true).truncate(true);
+    options.append(true).create(true);
     options
 }
 

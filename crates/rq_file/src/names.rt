@@ -1,7 +1,7 @@
 //! The file that takes the place of another once it is whole.
 
 ghost use Rattle.std.specs.Prelude.{◌≡◌, IfOk, IfSome, true};
-ghost use Rattle.std.specs.Fs.{asks_create_new};
+ghost use Rattle.std.specs.Fs.{asks_create_new, asks_write};
 ghost use Rattle.rq_file.specs.Beside.{IsBeside};
 ghost use Rattle.rq_file.specs.Targets.{new_of, old_of};
 
@@ -58,10 +58,12 @@ impl Names {
         &self.new
     }
 
-    /// How the new file is made: it never is one that was there. Where there is an old one, others
-    /// may read the new one no sooner than it has taken its place.
+    /// How the new file is made: for writing, and it never is one that was there. Where there is an
+    /// old one, nobody else may read the new one until it gets the old one's mode, which it does
+    /// once all is written, before it takes its place.
     pub fn options<R: Files>(&self, rt: &R) -> OpenOptions
-        ensures { asks_create_new result ≡ true }
+        ensures written { asks_write result ≡ true }
+        ensures new { asks_create_new result ≡ true }
     {
         let mut options = OpenOptions::new();
         if fs::metadata(rt, self.old.as_str()).is_ok() {

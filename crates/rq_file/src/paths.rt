@@ -31,7 +31,8 @@ pub(crate) fn is_of_process(path: &str) -> bool {
 /// What a path names behind its symbolic links, whether it is there or not.
 pub(crate) fn followed<R: Files + AllocGlobal>(rt: &R, path: &str) -> io::Result<String> {
     let mut real = String::from_str(rt.alloc(), path)?;
-    for _ in 0..LINKS {
+    // One look more than links: behind the last one there may be a file.
+    for _ in 0..=LINKS {
         if is_of_process(&real) {
             return Ok(real);
         }

@@ -14,7 +14,8 @@ pub fn put<R: Files + AllocGlobal>(rt: &R, path: &str, bytes: &[u8]) -> io::Resu
         return Late::new(rt, path, in_place()).write_all(bytes);
     };
     let mut file = Late::new(rt, names.new_name(), names.options(rt));
-    let done = file.write_all(bytes);
+    // The first write opens the file: where there are no bytes, one of none does.
+    let done = file.write(&[]).and_then(|_| file.write_all(bytes));
     let settled = names.settle(rt, file.into_file(), done.is_ok());
     done?;
     settled

@@ -13,7 +13,7 @@ fn is_free(rt: &HostRuntime, path: &str) -> bool {
 
 #[test]
 fn a_file_is_made_and_made_again(rt: HostRuntime) -> Result<(), Fail> {
-    for bytes in ["the first file", "another"] {
+    for bytes in ["the first file", "another", ""] {
         put(&rt, "made", bytes.as_bytes())?;
         assert!(rt; fs::read_to_string(&rt, "made")?.as_str() == bytes);
         assert!(rt; is_free(&rt, "made.rq0"));
@@ -51,6 +51,15 @@ fn what_was_not_done_is_not_there(rt: HostRuntime) -> Result<(), Fail> {
     names.settle(&rt, file.into_file(), false)?;
     assert!(rt; is_free(&rt, "undone") && is_free(&rt, "undone.rq0"));
     assert!(rt; put(&rt, "missing/undone", b"nothing").is_err());
+    Ok(())
+}
+
+#[test]
+fn what_is_written_as_it_is_keeps_what_it_holds(rt: HostRuntime) -> Result<(), Fail> {
+    put(&rt, "held", b"held, ")?;
+    Late::new(&rt, "held", in_place()).write_all(b"and more")?;
+    assert!(rt; fs::read_to_string(&rt, "held")?.as_str() == "held, and more");
+    fs::remove_file(&rt, "held")?;
     Ok(())
 }
 
