@@ -82,13 +82,15 @@ where
     R: Files + Print + AllocGlobal + Threads + Sync,
 {
     match command {
-        Command::Make { script, log } => make_file(rt, command, script, log),
-        Command::Make2 { script, log } => make_file(rt, command, script, log),
-        Command::Restart { log, .. } => print(rt, command, log),
-        Command::RestartAt { log, .. } => print(rt, command, log),
-        Command::Audit { log, .. } => print(rt, command, log),
-        Command::Close { log, out, .. } => make_file(rt, command, log, out),
-        Command::Upgrade { log, out, .. } => make_file(rt, command, log, out),
+        Command::Make { script, log } | Command::Make2 { script, log } => make_file(
+            rt, command, script, log,
+        ),
+        Command::Restart { log, .. }
+        | Command::RestartAt { log, .. }
+        | Command::Audit { log, .. } => print(rt, command, log),
+        Command::Close { log, out, .. } | Command::Upgrade { log, out, .. } => make_file(
+            rt, command, log, out,
+        ),
     }
 }
 
