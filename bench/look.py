@@ -263,6 +263,23 @@ def said(*words: str | bytes, **how: object) -> tuple[int, str]:
     return done.returncode, done.stderr.decode(errors="replace")
 
 
+def unread(*words: str) -> tuple[int, str]:
+    """With an output whose reader has gone before a byte is written."""
+    read_end, write_end = os.pipe()
+    os.close(read_end)
+    done = subprocess.run(words, stdout=write_end, stderr=subprocess.PIPE)
+    os.close(write_end)
+    return done.returncode, done.stderr.decode(errors="replace")
+
+
+def cut_off(log: str, folder: str) -> str:
+    """A log whose last byte is missing."""
+    path = os.path.join(folder, "look.cut")
+    with open(log, "rb") as source, open(path, "wb") as to:
+        to.write(source.read()[:-1])
+    return path
+
+
 def refusals(look: str, log: str, folder: str) -> None:
     """What ends the program before it is done: its status, and what it says."""
     check("words that are no text", said(look, "dump", b"\xff")[0], 2)
@@ -290,6 +307,9 @@ def refusals(look: str, log: str, folder: str) -> None:
     reader.stdout.readline()
     reader.stdout.close()
     check("a closed output", (reader.wait(), reader.stderr.read()), (0, b""))
+    check("findings that nobody reads", unread(look, "check", cut_off(log, folder)), (1, ""))
+    check("a dump that nobody reads", unread(look, "dump", log), (0, ""))
+    check("a name that begins with a hyphen", said(look, "dump", log, "--registrant", "-x"), (0, ""))
 
 
 def more_scripts(rq: str, look: str, peer: str, folder: str, count: int) -> None:

@@ -17,16 +17,21 @@ fn plan_of(words: &ArgMatches<'_>) -> Option<Plan> {
     Plan::new(words.get_one::<u32>("workers")?, GRAIN)
 }
 
-// Prints what a check finds, unless it is to say nothing. Answers whether it finds nothing.
+// Prints what a check finds, unless it is to say nothing. Answers whether it finds nothing, also
+// where nobody reads on: what it finds is known before it is written.
 fn check<R>(rt: &R, bytes: &[u8], plan: &Plan, quiet: bool) -> Result<bool, Trouble>
 where
     R: Print + AllocGlobal + Threads + Sync,
 {
     let found = rq_look::check(rt, rt.alloc(), bytes, plan)?;
-    if !quiet {
-        rt.write_all(found.text.as_bytes())?;
+    if quiet {
+        return Ok(found.fine);
     }
-    Ok(found.fine)
+    match rt.write_all(found.text.as_bytes()) {
+        Ok(()) => Ok(found.fine),
+        Err(error) if error.kind() == ErrorKind::BrokenPipe => Ok(found.fine),
+        Err(error) => Err(Trouble::from(error)),
+    }
 }
 
 fn report<R>(rt: &R, bytes: &[u8], plan: &Plan, words: &ArgMatches<'_>) -> Result<bool, Trouble>

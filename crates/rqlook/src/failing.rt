@@ -5,7 +5,7 @@ use rq_look::{Seen, Trouble};
 use std::alloc::AllocError;
 use std::io;
 
-// The exit status where there is no such thing in the log.
+// The exit status where there is no such thing in the log, or a record that no script tells.
 const REFUSED: u8 = 1;
 
 // The exit status of words that are no command.

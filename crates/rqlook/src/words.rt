@@ -75,7 +75,7 @@ fn selecting<'a>(alloc: Global, command: Command<'a>) -> Result<Command<'a>, Err
             .arg(from.value_parser(value_parser!(u64)))?
             .arg(unit.value_parser(value_parser!(u64)))?
             .arg(queue(alloc, "Only records that define or name this queue"))?
-            .arg(name)?
+            .arg(name.allow_hyphen_values(true))?
             .arg(kind.value_parser(KINDS.as_slice()))?
             .arg(limit.value_parser(value_parser!(u64)))?,
     )
@@ -98,8 +98,8 @@ fn check<'a>(alloc: Global) -> Result<Command<'a>, Error> {
     Ok(
         Command::new(alloc, "check")
             .about(
-                "Exits with 0 where the log is whole and each checkpoint true, or the reader of \
-                 the lines went away, and with 1 where it finds something",
+                "Exits with 0 where the log is whole and each checkpoint true, and with 1 where it \
+                 finds something",
             )
             .arg(log(alloc))?
             .arg(quiet)?
