@@ -2,20 +2,21 @@
 """Holds what `rqlook` shows against what `rq` says and what the log's bytes are, over many logs, and counts what differs.
 
 usage: look.py RQ RQLOOK [--seeds N] [--stories N] [--mib N] [--scripts N] [--speed MIB] [--folder DIR]
-For each shape and seed of the peer's logs: the report as JSON is held against its schema, told as text again, and compared with `rq restart`;
-the lines of each queue alone with those of the whole; the script is made a log again by `rq make`, and compared byte by byte; each
-line of a dump, whole and by each option, as text and as JSON, with what is made of the log's bytes here (looked.py); so are the
-stories of some elements and units; `check` is compared with `rq audit`, and the page with the report. Then a small log is damaged in
-each of the six ways, and what the dump says of its end is compared; odd payloads are shown; and wrong words, a missing file, a closed
-output and refused memory are tried. With --scripts, so many more logs are made, told as scripts and made again. With --speed, a dump
-and a check of a log of so many MiB are timed beside a restart and an audit.
+For each shape and seed of the peer's logs: the report as JSON is held against its schema, told as text again, and compared with `rq
+restart`; the lines of each queue alone with those of the whole; the script is made a log again by `rq make`, and compared byte by
+byte; each line of a dump, whole and by each option, as text and as JSON, with what is made of the log's bytes here (looked.py); so are
+the stories of some elements and units; `check` is compared with `rq audit`, and the page with the report. Then a small log is damaged
+in each of the six ways, and what the dump says of its end is compared; odd payloads are shown; a script ends before a record that no
+line tells; and wrong words, a missing file, a closed output and refused memory are tried. With --scripts, so many more logs are made,
+told as scripts and made again. With --speed, a dump and a check of a log of so many MiB are timed beside a restart and an audit.
 """
 from __future__ import annotations
 import json, os, random, resource, shutil, subprocess, sys
 from html.parser import HTMLParser
 
-from common import COMPARED, HEADER, NO_RECORD, UNLAWFUL, best, bodies_of, built_peer, chained, log_of, parsed, parser
+from common import COMPARED, HEADER, NO_RECORD, UNLAWFUL, best, bodies_of, built_peer, chained, header_of, log_of, parsed, parser, write_log
 from looked import Stories, compact, is_hidden, line_of, records_of, shown
+from records import begin, commit, define, enqueue, register
 from schema import report_misfits
 
 compared = differing = 0
@@ -258,6 +259,18 @@ def odd_payloads(rq: str, look: str, folder: str) -> None:
     unseen(look, log)
 
 
+def untold(look: str, folder: str) -> None:
+    """A script of a log in which the registrant `-` does something: the lines before that, and which record it is."""
+    log = os.path.join(folder, "untold.log")
+    for count in (0, 1, 3000, 20000):
+        bodies = [define(b"jobs"), register(0, b"-"), begin(1), *[enqueue(1, 0)] * count, enqueue(1, 0, b"-", 1), commit(1)]
+        write_log(log, header_of(1), bodies)
+        done = subprocess.run([look, "script", log], stdout=subprocess.PIPE, stderr=subprocess.PIPE)
+        lines = ["define jobs 0 -", "register 0 -", "begin 1"] + ["enqueue 1 0 5 - 0 61"] * count
+        check(f"a script up to record {len(lines)}", (done.returncode, done.stdout.decode().splitlines(), done.stderr.decode()),
+              (1, lines, f"rqlook: {log}: no script tells record {len(lines)}\n"))
+
+
 def said(*words: str | bytes, **how: object) -> tuple[int, str]:
     done = subprocess.run(words, stdout=subprocess.DEVNULL, stderr=subprocess.PIPE, **how)
     return done.returncode, done.stderr.decode(errors="replace")
@@ -355,6 +368,7 @@ def main() -> int:
     small = log_of(peer, folder, "small", options.mib, 2)
     reasons(rq, look, small, folder)
     odd_payloads(rq, look, folder)
+    untold(look, folder)
     refusals(look, small, folder)
     more_scripts(rq, look, peer, folder, options.scripts)
     if options.speed:

@@ -22,13 +22,16 @@ def who(rest: bytes) -> tuple[dict, bytes]:
     return ({"registrant": name.decode(), "tag": tag} if size else {}), behind
 
 
-def bytes_of(data: bytes) -> dict:
-    it = {"hex": data.hex()}
+def text_of(data: bytes) -> str | None:
     try:
-        it["text"] = data.decode()
+        return data.decode()
     except UnicodeDecodeError:
-        pass
-    return it
+        return None
+
+
+def payload_of(data: bytes) -> dict:
+    it, text = {"hex": data.hex()}, text_of(data)
+    return it if text is None else it | {"text": text}
 
 
 def fields_of(body: bytes, queues: int) -> dict:
@@ -42,12 +45,12 @@ def fields_of(body: bytes, queues: int) -> dict:
         return {"queue": number(rest[:4]), "registrant": rest[4:].decode()}
     if kind == "enqueue":
         by, payload = who(rest[13:])
-        return {"unit": number(rest[:8]), "queue": number(rest[8:12]), "priority": rest[12]} | by | {"payload": bytes_of(payload)}
+        return {"unit": number(rest[:8]), "queue": number(rest[8:12]), "priority": rest[12]} | by | {"payload": payload_of(payload)}
     if kind == "dequeue":
         return {"unit": number(rest[:8]), "queue": number(rest[8:12])} | who(rest[12:])[0]
     if kind == "kill":
         return {"queue": number(rest[:4]), "element": number(rest[4:])}
-    return {"bytes": bytes_of(rest)} if kind == "checkpoint" else {"unit": number(rest)}
+    return {"bytes": {"hex": rest.hex()}} if kind == "checkpoint" else {"unit": number(rest)}
 
 
 def records_of(bodies: list[bytes]) -> list[dict]:
@@ -66,7 +69,8 @@ def is_hidden(c: str) -> bool:
 
 def shown(it: dict, full: bool) -> str:
     """Bytes as a line shows them."""
-    data, text = bytes.fromhex(it["hex"]), it.get("text")
+    data = bytes.fromhex(it["hex"])
+    text = text_of(data)
     if not data:
         return "-"
     if text is not None and not any(map(is_hidden, text)):

@@ -6,7 +6,7 @@ use Rattle.rq_model.specs.Fronts.{Restarted}
 use Rattle.rq_restart.specs.FrontEnds.{IsEndOf}
 use Rattle.rq_restart.specs.Views.{why_of}
 use Rattle.rq_look.specs.declared.ends.End.{End}
-use Rattle.rq_look.specs.Looks.{end_text, end_line, front_end_of}
+use Rattle.rq_look.specs.Looks.{end_text, end_line, end_finding, front_end_of}
 
 -- some text was appended
 abbrev pub AppendsSome : Option (List ℕ) → Option (List ℕ) → Type 0
@@ -28,3 +28,9 @@ put_last old mid new put text last whole p q e =
 pub same_line : (r : Restarted) (end : End) (reason : List ℕ) → IsEndOf r (front_end_of end)
     → end_text end.records end.used end.total (why_of end.why) reason ≡ end_line r reason
 same_line r end reason e = λ i. end_text (e.records i) (e.used i) (e.total i) (e.why i) reason
+
+-- so is the line of a check
+pub same_finding : (r : Restarted) (end : End) (reason : List ℕ) → IsEndOf r (front_end_of end)
+    → end_finding end.records end.used end.total (why_of end.why) reason
+    ≡ end_finding r.records r.used r.total r.why reason
+same_finding r end reason e = λ i. end_finding (e.records i) (e.used i) (e.total i) (e.why i) reason

@@ -190,10 +190,10 @@ ended b rest number text old now new u short appends = (
 )
 
 -- the next one is not told
-pub left_out : (b rest : List ℕ) (number : ℕ) (text : List ℕ) (old now : Option (List ℕ)) (where_is : ℕ)
+pub left_out : (b rest : List ℕ) (number : ℕ) (text : List ℕ) (old now new : Option (List ℕ)) (where_is : ℕ)
     (body : List ℕ) (e : Trouble) → IsUnderWay b rest number text old now → 36 + stated rest ≤ length rest
-    → body ≡ body_in rest → where_is ≡ number → LeavesBody where_is body e → LeavesOut b e
-left_out b rest number text old now where_is body (Untold told) u room body_is place_is h =
+    → body ≡ body_in rest → where_is ≡ number → LeavesBody where_is body text now new e → LeavesOut b old new e
+left_out b rest number text old now new where_is body (Untold told) u room body_is place_is h =
     let next = next_of b u.version u.done u.todo u.behind u.place rest u.front u.left room in
     let same : h.0 ≡ next.r =
     one_record Two h.0 next.r (body_in rest) (h.1.0, sym body_is ∙ h.1.1) next.is in (
@@ -204,9 +204,11 @@ left_out b rest number text old now where_is body (Untold told) u room body_is p
       u.behind,
       next.front,
       h.2 ∙ place_is ∙ u.counted,
+      u.tellable,
       subst (λ (x : Record). IsDash (by_in x)) same h.3,
+      subst (λ (z : List ℕ). Appends old new z) u.told (Appends-trans old now new u.put text u.appends h.4),
     )
-left_out b rest number text old now where_is body (Log fault) u room body_is place_is h = tt
-left_out b rest number text old now where_is body (Output error) u room body_is place_is h = tt
-left_out b rest number text old now where_is body (NoQueue queue) u room body_is place_is h = tt
-left_out b rest number text old now where_is body (Nothing subject) u room body_is place_is h = tt
+left_out b rest number text old now new where_is body (Log fault) u room body_is place_is h = tt
+left_out b rest number text old now new where_is body (Output error) u room body_is place_is h = tt
+left_out b rest number text old now new where_is body (NoQueue queue) u room body_is place_is h = tt
+left_out b rest number text old now new where_is body (Nothing subject) u room body_is place_is h = tt

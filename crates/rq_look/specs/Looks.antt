@@ -1,15 +1,16 @@
 -- What a look at a log promises.
 use Rattle.std.specs.Prelude.{◌≡◌, ℕ, ◌<◌, ◌≤◌, ◌⊎◌, Bool, true, false, ◌&&◌, ⊤}
-use Rattle.std.specs.Prelude.{List, ◌++◌, length, map, codes, Option, Some, None}
-use Rattle.std.specs.List.{list_all}
+use Rattle.std.specs.Prelude.{if◌then◌else◌}
+use Rattle.std.specs.Prelude.{List, [], ◌++◌, length, map, codes, Option, Some, None}
+use Rattle.std.specs.List.{flat_map, list_all}
 use Rattle.std.specs.Fmt.{decimal}
 use Rattle.std.specs.Io.KnownBytes.{Appends}
-use Rattle.rq_model.specs.Frames.{Whole, Cut, Length, Digest, log_limit}
+use Rattle.rq_model.specs.Frames.{Whole, Cut, Length, Digest}
 use Rattle.rq_model.specs.Fronts.{Why, Ends, Form, Law, Restarted, IsRestart}
 use Rattle.rq_model.specs.Reports.{IsReport, why_text}
 use Rattle.rq_model.specs.Checkpoints.{IsAudit}
 use Rattle.rq_record.specs.declared.fault.Fault.TheVariants.{Resources}
-use Rattle.rq_front.specs.Chains.{IsHeaded, IsLog, Refused}
+use Rattle.rq_front.specs.Chains.{IsLog, Refused}
 use Rattle.rq_restart.specs.Audits.{audited_of}
 use Rattle.rq_restart.specs.declared.ends.FrontEnd.{FrontEnd}
 use Rattle.rq_look.specs.declared.ends.End.{End}
@@ -64,10 +65,24 @@ abbrev pub EndsDump : List ℕ → Bool → Option (List ℕ) → Option (List �
 EndsDump b json old new = (records closing : List ℕ) × IsClosing b json closing
     × Appends old new (records ++ closing)
 
--- whether b is whole, and each checkpoint of its front true
-abbrev pub IsWholeAndTrue : List ℕ → Bool → Type 0
-IsWholeAndTrue b fine = (r : Restarted) × (found : List (ℕ × Bool)) × IsRestart b r
-    × IsAudit b (map audited_of found) × (fine ≡ (is_whole r.why && all_true found))
+-- the line of where a front ends, unless nothing follows it
+abbrev pub end_finding : ℕ → ℕ → ℕ → Why → List ℕ → List ℕ
+end_finding records used total why reason =
+    if is_whole why then [] else end_text records used total why reason
+
+-- the line of a checkpoint, by its offset and whether it is true, unless it is
+abbrev pub checkpoint_finding : ℕ × Bool → List ℕ
+checkpoint_finding x = if x.1 then [] else codes "the checkpoint at "
+    ++ (decimal x.0 ++ codes " does not spell the state before it\n")
+
+-- whether b is whole, and each checkpoint of its front true; and the text has these lines of b,
+-- with some reason
+abbrev pub IsFindings : List ℕ → Bool → List ℕ → Type 0
+IsFindings b fine text = (r : Restarted) × (found : List (ℕ × Bool)) × (reason : List ℕ)
+    × IsRestart b r × IsAudit b (map audited_of found)
+    × (fine ≡ (is_whole r.why && all_true found))
+    × (text ≡ end_finding r.records r.used r.total r.why reason
+    ++ flat_map checkpoint_finding found)
 
 -- b is refused as a restart of it is
 abbrev pub IsRefusal : List ℕ → Trouble → Type 0

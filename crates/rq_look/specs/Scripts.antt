@@ -38,20 +38,18 @@ abbrev pub IsDash : Option By → Type 0
 IsDash None = ⊥
 IsDash (Some by) = by.name ≡ codes "-"
 
--- where a record is left untold, it is that of the number, and names `-`
-abbrev pub IsLeft : ℕ → Record → Trouble → Type 0
-IsLeft number r (Untold told) = (told ≡ number) × IsDash (by_in r)
-IsLeft number r _ = ⊤
+-- where the record that a body spells is left untold, it is that of the number, and names `-`; the
+-- text that was gathered is appended
+abbrev pub LeavesBody : ℕ → List ℕ → List ℕ → Option (List ℕ) → Option (List ℕ) → Trouble → Type 0
+LeavesBody number body text old new (Untold told) = (r : Record) × Spells Two r body
+    × (told ≡ number) × IsDash (by_in r) × Appends old new text
+LeavesBody number body text old new _ = ⊤
 
--- the same of the record that a body spells
-abbrev pub LeavesBody : ℕ → List ℕ → Trouble → Type 0
-LeavesBody number body (Untold told) = (r : Record) × Spells Two r body × (told ≡ number)
-    × IsDash (by_in r)
-LeavesBody number body _ = ⊤
-
--- where a record is left untold, it is that of the number in the front of b, and names `-`
-abbrev pub LeavesOut : List ℕ → Trouble → Type 0
-LeavesOut b (Untold number) = (version : Version) × (before : List Record) × (r : Record)
+-- where a record of the front of b is left untold, it is the first that names `-`, that of the
+-- number; the lines of those before it are appended
+abbrev pub LeavesOut : List ℕ → Option (List ℕ) → Option (List ℕ) → Trouble → Type 0
+LeavesOut b old new (Untold number) = (version : Version) × (before : List Record) × (r : Record)
     × (after : List Record) × (rest : List ℕ) × IsFront b version (before ++ r ∷ after) rest
-    × (number ≡ length before) × IsDash (by_in r)
-LeavesOut b _ = ⊤
+    × (number ≡ length before) × AllByRecursion IsTellable before × IsDash (by_in r)
+    × Appends old new (script_text before)
+LeavesOut b old new _ = ⊤

@@ -1,7 +1,11 @@
 //! Whether a log is whole, and each of its checkpoints true.
 
-ghost use Rattle.std.specs.Prelude.{◌≡◌, IfOk, IfErr};
-ghost use Rattle.rq_look.specs.Looks.{IsRefusal, IsWholeAndTrue, all_true};
+ghost use Rattle.std.specs.Prelude.{◌≡◌, ◌&&◌, ◌++◌, IfOk, IfErr, OnOk, string_bytes};
+ghost use Rattle.std.specs.List.{flat_map};
+ghost use Rattle.rq_restart.specs.Views.{why_of};
+ghost use Rattle.rq_look.specs.Looks as looks;
+ghost use Rattle.rq_look.specs.Looks.{IsFindings, IsRefusal, all_true, checkpoint_finding};
+ghost use Rattle.rq_look.specs.Looks.{end_finding};
 
 use crate::ends::{End, end_of, is_whole, put_end};
 use crate::trouble::Trouble;
@@ -26,24 +30,46 @@ fn are_true(found: &[(u64, bool)]) -> bool
     found.iter().all(|checkpoint| checkpoint.1)
 }
 
-fn put_checkpoints(text: &mut String, found: &[(u64, bool)]) -> Result<(), AllocError> {
-    for (offset, truth) in found {
-        if !*truth {
-            write!(
-                text,
-                "the checkpoint at {offset} does not spell the state before it\n"
-            )?;
-        }
-    }
-    Ok(())
+fn is_fine(end: &End, checkpoints: &[(u64, bool)]) -> bool
+    ensures { result ≡ (looks.is_whole (why_of end.now.why) && all_true checkpoints.now) }
+{
+    is_whole(end.why) && are_true(checkpoints)
 }
 
-fn text_of(alloc: Global, end: &End, checkpoints: &[(u64, bool)]) -> Result<String, AllocError> {
+fn put_checkpoint(text: &mut String, offset: u64, truth: bool) -> Result<(), AllocError>
+    ensures { OnOk result
+        (string_bytes text.new ≡ string_bytes text.old ++ checkpoint_finding (offset, truth)) }
+{
+    if truth {
+        return Ok(());
+    }
+    write!(
+        text,
+        "the checkpoint at {offset} does not spell the state before it\n"
+    )
+}
+
+fn front_text(alloc: Global, end: &End) -> Result<String, AllocError>
+    ensures { IfOk result (λ text. string_bytes text ≡ end_finding end.now.records end.now.used
+        end.now.total (why_of end.now.why) (string_bytes end.now.reason)) }
+{
     let mut text = String::new(alloc);
     if !is_whole(end.why) {
         put_end(&mut text, end)?;
     }
-    put_checkpoints(&mut text, checkpoints)?;
+    Ok(text)
+}
+
+// The line of the front's end, and those of the checkpoints.
+fn text_of(alloc: Global, end: &End, checkpoints: &[(u64, bool)]) -> Result<String, AllocError>
+    ensures { IfOk result (λ text. string_bytes text ≡ end_finding end.now.records end.now.used
+        end.now.total (why_of end.now.why) (string_bytes end.now.reason)
+        ++ flat_map checkpoint_finding checkpoints.now) }
+{
+    let mut text = front_text(alloc, end)?;
+    for (offset, truth) in checkpoints {
+        put_checkpoint(&mut text, *offset, *truth)?;
+    }
     Ok(text)
 }
 
@@ -56,13 +82,14 @@ pub fn check<R: Threads + Sync>(
     bytes: &[u8],
     plan: &Plan,
 ) -> Result<Findings, Trouble>
-    ensures checked { IfOk result (λ found. IsWholeAndTrue bytes.now found.fine) }
+    ensures checked { IfOk result
+        (λ found. IsFindings bytes.now found.fine (string_bytes found.text)) }
     ensures refused { IfErr result (IsRefusal bytes.now) }
 {
     let end = end_of(rt, alloc, bytes, plan)?;
     let checkpoints = audit(rt, alloc, bytes, plan)?;
     Ok(Findings {
-        fine: is_whole(end.why) && are_true(&checkpoints),
+        fine: is_fine(&end, &checkpoints),
         text: text_of(alloc, &end, &checkpoints)?,
     })
 }

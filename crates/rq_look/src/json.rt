@@ -11,17 +11,23 @@ use std::alloc::{AllocError, Global};
 use std::fmt::Write;
 use std::str::from_utf8;
 
-/// Bytes: as digits, and as text where they spell one.
+/// A payload: as digits, and as text where it is one.
 #[derive(Debug, Drop, Serialize)]
-pub(crate) struct BytesShown<'a> {
+pub(crate) struct PayloadShown<'a> {
     hex: String,
     #[serde(skip_serializing_if = "Option::is_none")]
     text: Option<&'a str>,
 }
 
-impl<'a> BytesShown<'a> {
-    pub(crate) fn of(alloc: Global, bytes: &'a [u8]) -> Result<BytesShown<'a>, AllocError> {
-        Ok(BytesShown {
+/// The bytes of a checkpoint, which are as many as a state has: as digits alone.
+#[derive(Debug, Drop, Serialize)]
+struct DigitsShown {
+    hex: String,
+}
+
+impl<'a> PayloadShown<'a> {
+    pub(crate) fn of(alloc: Global, bytes: &'a [u8]) -> Result<PayloadShown<'a>, AllocError> {
+        Ok(PayloadShown {
             hex: hex::encode(alloc, bytes)?,
             text: from_utf8(bytes).ok(),
         })
@@ -53,9 +59,9 @@ pub(crate) struct Shown<'a> {
     #[serde(skip_serializing_if = "Option::is_none")]
     tag: Option<u64>,
     #[serde(skip_serializing_if = "Option::is_none")]
-    payload: Option<BytesShown<'a>>,
+    payload: Option<PayloadShown<'a>>,
     #[serde(skip_serializing_if = "Option::is_none")]
-    bytes: Option<BytesShown<'a>>,
+    bytes: Option<DigitsShown>,
 }
 
 /// The queue of a number, unless the number stands for none.
@@ -79,7 +85,7 @@ fn definition_of(record: &Record) -> (Option<&str>, Option<u16>, Option<u32>) {
 fn payload_of(
     alloc: Global,
     record: &Record,
-) -> Result<(Option<u8>, Option<BytesShown<'_>>), AllocError> {
+) -> Result<(Option<u8>, Option<PayloadShown<'_>>), AllocError> {
     match record {
         Record::Enqueue {
             priority,
@@ -87,15 +93,17 @@ fn payload_of(
             ..
         } => Ok((
             Some(*priority),
-            Some(BytesShown::of(alloc, payload.bytes())?),
+            Some(PayloadShown::of(alloc, payload.bytes())?),
         )),
         _ => Ok((None, None)),
     }
 }
 
-fn checkpoint_of(alloc: Global, record: &Record) -> Result<Option<BytesShown<'_>>, AllocError> {
+fn checkpoint_of(alloc: Global, record: &Record) -> Result<Option<DigitsShown>, AllocError> {
     match record {
-        Record::Checkpoint { bytes } => Ok(Some(BytesShown::of(alloc, bytes.bytes())?)),
+        Record::Checkpoint { bytes } => Ok(Some(DigitsShown {
+            hex: hex::encode(alloc, bytes.bytes())?,
+        })),
         _ => Ok(None),
     }
 }

@@ -86,7 +86,7 @@ fn put_page<W: Write>(
 /// Writes a log under a name as one page of HTML: its front, a picture of the log along its length,
 /// the units that were open at the front's end, and each queue with its depth along the log and its
 /// elements. The page has no parts outside and no script. Its pictures have bins: it grows with the
-/// queues and their elements, and not with the records.
+/// queues, their registrants and the first 1,000 elements of each, and not with the records.
 ///
 /// Refuses what a restart refuses, and before anything is written; else with `Output` where the
 /// output fails, and with `Resources` where memory is refused, and then some of it may be written.

@@ -1,6 +1,6 @@
 //! The queues of a report as JSON, with their free elements and their registrants.
 
-use crate::json::{BytesShown, queue_number};
+use crate::json::{PayloadShown, queue_number};
 use rq_record::QueueNo;
 use rq_state::{Definition, Element, Last, Mark, OpKind, Registrant, State};
 use serde::Serialize;
@@ -13,7 +13,7 @@ struct ElementShown<'a> {
     from: u32,
     priority: u8,
     attempts: u64,
-    payload: BytesShown<'a>,
+    payload: PayloadShown<'a>,
 }
 
 /// The last operation of a registrant.
@@ -48,7 +48,7 @@ fn element_shown(alloc: Global, e: &Element) -> Result<ElementShown<'_>, AllocEr
         from: e.origin.0,
         priority: e.priority,
         attempts: e.attempts,
-        payload: BytesShown::of(alloc, e.payload.bytes())?,
+        payload: PayloadShown::of(alloc, e.payload.bytes())?,
     })
 }
 

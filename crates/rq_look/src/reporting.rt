@@ -93,7 +93,9 @@ fn json_of(
 /// Writes the report of a log as one value of JSON, with all of its queues or the one that is
 /// wanted.
 ///
-/// Refuses with `NoQueue` a queue that is not defined; else as `dump` does.
+/// Refuses with `NoQueue` a queue that is not defined, and else what a restart refuses; with
+/// `Resources` where memory is refused, before anything is written, and with `Output` where the
+/// output fails.
 pub fn report_json<R, W>(
     rt: &R,
     alloc: Global,
@@ -160,8 +162,7 @@ fn lines_of(text: &[u8], queue: u32) -> &[u8] {
 
 /// Writes the report of a log as text, or those lines of it that are of the queue that is wanted.
 ///
-/// Refuses with `NoQueue` a queue that is not defined; else as `dump` does, and before anything is
-/// written but where the output fails.
+/// Refuses what `report_json` refuses, in the same way.
 pub fn report<R, W>(
     rt: &R,
     alloc: Global,

@@ -36,6 +36,8 @@ pub(crate) enum Rule {
     Full,
     /// A queue without a limit names an error queue.
     NoLimit(QueueNo),
+    /// A queue with this limit names no error queue.
+    NoErrorQueue(u16),
     /// The limit is above the greatest.
     Above(u16),
     /// The error queue has an error queue, in version 1.
@@ -71,6 +73,12 @@ impl fmt::Display for Rule {
                 "limit 0 goes with no error queue, and {} is named",
                 error.0
             ),
+            Rule::NoErrorQueue(limit) => {
+                write!(
+                    f,
+                    "limit {limit} goes with an error queue, and none is named"
+                )
+            }
             Rule::Above(limit) => write!(f, "limit {limit} is above 1000"),
             Rule::Nested(error) => write!(f, "error queue {} has an error queue", error.0),
             Rule::NoKill => write!(f, "version 1 has no kill"),
@@ -181,13 +189,22 @@ fn too_deep(version: Version, definition: &Definition, error: QueueNo) -> Option
     }
 }
 
-fn nested(version: Version, state: &State, error: QueueNo) -> Option<Rule>
+// Which rule a queue with a limit breaks, whose error queue is not there.
+fn without_error_queue(limit: u16, error: QueueNo) -> Rule {
+    if error.0 == QueueNo::NONE.0 {
+        Rule::NoErrorQueue(limit)
+    } else {
+        Rule::NotDefined(error)
+    }
+}
+
+fn nested(version: Version, state: &State, limit: u16, error: QueueNo) -> Option<Rule>
     ensures { is_some result ≡ not (machine.is_defined state.now error.0
         && machine.may_be_error (version_of version) state.now error.0) }
 {
     match state.definitions().get(error.0 as usize) {
         Some(definition) => too_deep(version, definition, error),
-        None => Some(Rule::NotDefined(error)),
+        None => Some(without_error_queue(limit, error)),
     }
 }
 
@@ -198,7 +215,7 @@ fn wrong_limit(version: Version, state: &State, limit: u16, error: QueueNo) -> O
         return Some(Rule::Above(limit));
     }
     if limit > 0 {
-        return nested(version, state, error);
+        return nested(version, state, limit, error);
     }
     if error.0 == QueueNo::NONE.0 {
         None

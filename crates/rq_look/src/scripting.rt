@@ -14,7 +14,7 @@ ghost use Rattle.rq_model.specs.Reports.{hex_of, payload_text, error_text};
 ghost use Rattle.rq_record.specs.Views.{record_of};
 ghost use Rattle.rq_writer.specs.Script.{record_text, who_name, who_tag, IsNamed, IsTellable};
 ghost use Rattle.rq_look.specs.Looks.{BreaksOff, IsKnownWhole, StaysUntold};
-ghost use Rattle.rq_look.specs.Scripts.{IsDash, IsLeft, LeavesBody, LeavesOut, PutsScript, by_in};
+ghost use Rattle.rq_look.specs.Scripts.{IsDash, LeavesBody, LeavesOut, PutsScript, by_in};
 ghost use Rattle.rq_look.specs.Scripts.{script_line};
 
 use crate::ends::{end_of, is_whole};
@@ -204,21 +204,18 @@ fn is_untold(r: &Record) -> bool
     }
 }
 
-fn put_line(alloc: Global, text: &mut String, it: &Numbered) -> Result<(), Trouble>
+fn put_line(alloc: Global, text: &mut String, r: &Record) -> Result<(), AllocError>
     ensures line { OnOk result
-        (string_bytes text.new ≡ string_bytes text.old ++ script_line (record_of it.now.record)) }
-    ensures tellable { OnOk result (IsTellable (record_of it.now.record)) }
-    ensures untold { IfErr result (IsLeft it.now.number (record_of it.now.record)) }
-    ensures refused { IfErr result BreaksOff }
+        (string_bytes text.new ≡ string_bytes text.old ++ script_line (record_of r.now)) }
+    ensures tellable { OnOk result
+        (IsNamed (by_in (record_of r.now)) → IsTellable (record_of r.now)) }
 {
-    if is_untold(&it.record) {
-        return Err(Trouble::Untold(it.number));
-    }
-    put_record(alloc, text, &it.record)?;
-    text.push_str("\n")?;
-    Ok(())
+    put_record(alloc, text, r)?;
+    text.push_str("\n")
 }
 
+// Puts the line of the record of a frame. Where no line tells it, the text goes to the output
+// before this is said.
 fn put_placed<W: io::Write>(
     alloc: Global,
     text: &mut String,
@@ -229,11 +226,16 @@ fn put_placed<W: io::Write>(
         × Spells Two r placed.entry.body.now × IsTellable r
         × Appends (W.contents output.old) (W.contents output.new) put
         × (string_bytes text.old ++ script_line r ≡ put ++ string_bytes text.new)) }
-    ensures untold { IfErr result (LeavesBody placed.entry.number placed.entry.body.now) }
+    ensures untold { IfErr result (LeavesBody placed.entry.number placed.entry.body.now
+        (string_bytes text.old) (W.contents output.old) (W.contents output.new)) }
     ensures refused { IfErr result BreaksOff }
 {
     let it = Numbered::of(alloc, placed, 0)?;
-    put_line(alloc, text, &it)?;
+    if is_untold(&it.record) {
+        finish(text, output)?;
+        return Err(Trouble::Untold(it.number));
+    }
+    put_line(alloc, text, &it.record)?;
     relieve(text, output)?;
     Ok(())
 }
@@ -247,7 +249,8 @@ fn put_records<W: io::Write>(
     requires { (r : Restarted) × IsRestart bytes.now r × (used ≡ r.used) }
     ensures script { OnOk result
         (PutsScript bytes.now (W.contents output.old) (W.contents output.new)) }
-    ensures untold { IfErr result (LeavesOut bytes.now) }
+    ensures untold { IfErr result
+        (LeavesOut bytes.now (W.contents output.old) (W.contents output.new)) }
     ensures refused { IfErr result BreaksOff }
 {
     let mut text = String::new(alloc);
@@ -261,8 +264,8 @@ fn put_records<W: io::Write>(
 /// Writes the script of the front of a log, a line for each record, and answers whether that is the
 /// whole log.
 ///
-/// Refuses with `Untold` an operation of the registrant `-`, which no script tells, and then a
-/// beginning of the script is written; else as `dump` does.
+/// Refuses with `Untold` the first operation of the registrant `-`, which no script tells, once the
+/// lines of the records before it are written; else as `dump` does.
 pub fn script<R, W>(
     rt: &R,
     alloc: Global,
@@ -276,7 +279,8 @@ where
     ensures script { IfOk result (IsKnownWhole bytes.now) }
     ensures told { OnOk result
         (PutsScript bytes.now (W.contents output.old) (W.contents output.new)) }
-    ensures untold { IfErr result (LeavesOut bytes.now) }
+    ensures untold { IfErr result
+        (LeavesOut bytes.now (W.contents output.old) (W.contents output.new)) }
     ensures refused { IfErr result
         (StaysUntold bytes.now (W.contents output.old) (W.contents output.new)) }
 {

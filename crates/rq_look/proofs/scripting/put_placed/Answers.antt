@@ -7,7 +7,7 @@ returns-clause-line g c =
       _,
       put.0,
       c.in_ok-it.ensures.spelled,
-      c.in_ok-put_line.ensures.tellable,
+      c.in_ok-put_line.ensures.tellable (c.is_untold.ensures.named c.if-is_untold.false),
       put.1,
       sym c.in_ok-put_line.ensures.line ∙ put.2,
     )

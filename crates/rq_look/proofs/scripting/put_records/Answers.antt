@@ -44,5 +44,6 @@ returns-in_err-put_placed-clause-untold g c =
     let p = err_from_is_err_and c.from_residual.result c.from_residual.ensures.1 in
     let e : p.0 ≡ told.field-0.0 = p.2 in
     rw (p.1, e) (left_out c.args.bytes.now it.rest.now it.number (string_bytes c.loop-placed.text)
-    (held c.args.output.now) (held c.loop-placed.output) placed.number placed.body.now told.field-0.0
+    (held c.args.output.now) (held c.loop-placed.output) (held c.put_placed.new.output) placed.number
+    placed.body.now told.field-0.0
     c.loop-placed.invariant step.0 step.1 step.3 told.ensures.untold)
