@@ -73,7 +73,7 @@ where
 }
 
 /// Reads the input to its end, but at most 4,294,967,296 bytes, and writes a line for each
-/// checkpoint of the log, rising: its offset, and whether it is true.
+/// checkpoint of the log's front, rising: its offset, and whether it is true.
 ///
 /// Nothing else is written. Refused as `run` is; with `WriteFailed` a beginning of the lines is
 /// written, else nothing.
