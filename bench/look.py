@@ -346,14 +346,15 @@ def speeds(rq: str, look: str, peer: str, folder: str, mib: int) -> None:
 
 
 def own_logs(rq: str, folder: str) -> list[str]:
-    """The logs of the scripts in examples/, the last one of units on many queues."""
+    """The logs of the scripts in examples/ that are whole, and at last one of units on many queues."""
     many, logs = os.path.join(folder, "many.script"), []
     checkpoints.script(many, 1, 4)
     for script in [*sorted(glob.glob(os.path.join(HERE, "..", "examples", "**", "*.script"), recursive=True)), many]:
         log = os.path.join(folder, f"own.{len(logs)}")
         with open(script, "rb") as lines:
             version = "make2" if b"\nkill " in lines.read() else "make"
-        if said(rq, version, script, log)[0] == 0:
+        subprocess.run([rq, version, script, log], check=True)
+        if told(rq, "restart", log, "1", "1000")[1].split("\n", 1)[0].endswith("whole"):
             logs.append(log)
     return logs
 
