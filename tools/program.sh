@@ -15,7 +15,8 @@ refuse() {
 # Sets program to one that is made of these sources, and else why to the reason that there is none.
 find_program() {
     sum=$(made_of "$name")
-    why='the sources are not those that the programs in dist/ are made of'
+    why='the sources are not those of the programs in dist/'
+    [ -f "$shipped/receipt" ] || why='dist/ has no programs'
     if is_made_of "$shipped/receipt" "$name" "$sum" && ! is_as_told "$shipped/receipt" "$shipped/$file"; then
         why="dist/$file is not the program that dist/receipt names"
         echo "$name: $why: it is not run" >&2
@@ -53,15 +54,19 @@ tell_documents() {
 }
 
 need_toolchain() {
-    command -v rt > /dev/null || refuse "it has to be built, since $why; but the toolchain is not there: no rt is found on the PATH.
-Put the folder bin of $(sed -n 's/^kit \([^ ]*\).*/\1/p' "$shipped/receipt" 2> /dev/null || :) on the PATH, or take sources and programs that belong together: git status tells what was changed."
-    command -v python3 > /dev/null || refuse "it has to be built, since $why; but no python3 is found on the PATH"
-    mkdir -p "$built" 2> /dev/null && [ -w "$built" ] || refuse "it has to be built, since $why; but $built can't be written"
+    must="$why, so it has to be built first"
+    kit=$(sed -n 's/^kit //p' "$shipped/receipt" 2> /dev/null)
+    command -v rt > /dev/null || refuse "$must; and the toolchain is not there: no rt is found on the PATH.
+$name: Put the folder bin of a Rattle kit on the PATH${kit:+ ($kit)},
+$name: or undo what was changed in the sources or in dist/: git status names it."
+    command -v python3 > /dev/null || refuse "$must; and no python3 is found on the PATH"
+    mkdir -p "$built" 2> /dev/null && [ -w "$built" ] || refuse "$must; and $built can't be written"
 }
 
 # Proves and builds what is not kept of it, from the sources as they stand.
 build() {
-    echo "$name: $why: proving and building it, as far as that is not done; see $log" >&2
+    echo "$name: $why" >&2
+    echo "$name: proving and building it first; what is said goes to $log" >&2
     rm -f "$built/$file.receipt"
     (cd "$here" && exec python3 tools/prove.py "$built" "$file") || exit
     [ "$(made_of "$name")" = "$sum" ] || refuse 'the sources were changed during the build: run it again'
@@ -86,7 +91,7 @@ build_unless_found() {
 
 # For whoever doubts the programs in dist/: whether these sources are proved, and built to the same bytes.
 prove() {
-    why='it is proved and compared'
+    why='its proof is asked for'
     sum=$(made_of "$name")
     build_once build
     echo "$name: proved and built from these sources by $(rt version)"

@@ -231,7 +231,8 @@ class Builds:
 
 def keeps() -> bool:
     """Whether rt keeps what it proved."""
-    return b"is kept beside the kit" in subprocess.run(["rt", "help"], capture_output=True).stdout
+    said = subprocess.run(["rt", "help"], stdout=subprocess.PIPE, stderr=subprocess.STDOUT).stdout
+    return b"is kept beside the kit" in said
 
 
 def main() -> int:
