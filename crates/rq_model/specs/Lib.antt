@@ -19,6 +19,8 @@ pub mod Upgrading
 pub mod MoveLaws
 pub mod RecordReading
 pub mod StateReading
+pub mod Fates
+pub mod FateLaws
 pub mod WorkedLogs
 pub mod WorkedMachine
 pub mod WorkedFormats

@@ -12,6 +12,11 @@ ghost use Rattle.rq_model.specs.LogLaws.{FrontsAreSpelt, OneRestartAt, TrueIsSam
 ghost use Rattle.rq_model.specs.LogLaws.{OneAudit, CrashInTheTail, CrashSaysTheSame};
 ghost use Rattle.rq_model.specs.Closing.{OneClosed, ClosedFront, ClosedStands};
 ghost use Rattle.rq_model.specs.Upgrading.{UpgradeIsSame};
+ghost use Rattle.rq_model.specs.FateLaws.{OneFate, OneRequest, CommittedHasOneFate};
+ghost use Rattle.rq_model.specs.FateLaws.{OthersAreUntaken, AllAsEnqueued, OneRecord, AllAreFree};
+ghost use Rattle.rq_model.specs.FateLaws.{BoundedTries, AttemptsAreTries, TakesAreTries, RunsEnd};
+ghost use Rattle.rq_model.specs.FateLaws.{HowFar, WhoIsRegistered, CountIsNone, CountIsOne};
+ghost use Rattle.rq_model.specs.FateLaws.{OutcomeIsAhead};
 ghost use Rattle.rq_model.specs.WorkedLogs.{WorkedBytes, WorkedLogs, UnlawfulLogs};
 ghost use Rattle.rq_model.specs.WorkedLogs.{WorkedCheckpoint};
 ghost use Rattle.rq_model.specs.WorkedMachine.{WorkedLaw, WorkedSteps, WorkedOrders, WorkedQueues};
@@ -228,6 +233,46 @@ pub fn arrivals_are_merged()
 pub fn moves_rise()
     ensures moves { MovesRise }
     ensures arrivals { ArrivalsRise }
+{}
+
+/// No request is lost, done twice or made up: as often as a number was requested, once at most, it
+/// is shown, was done or was killed. What no unit that commits enqueued was never taken.
+pub fn one_fate()
+    ensures sum { OneFate }
+    ensures request { OneRequest }
+    ensures committed { CommittedHasOneFate }
+    ensures others { OthersAreUntaken }
+{}
+
+/// Each element of a lawful run is as the ENQUEUE of its own number made it, and stands where its
+/// limits led it; what is left at the end is Free.
+pub fn as_enqueued()
+    ensures elements { AllAsEnqueued }
+    ensures record_of { OneRecord }
+    ensures free { AllAreFree }
+{}
+
+/// No request is tried without end: in a queue with a limit the tries are bounded by it, the
+/// attempts of an element are its tries there, and what was taken was tried or is done.
+pub fn bounded_tries()
+    ensures bounded { BoundedTries }
+    ensures attempts { AttemptsAreTries }
+    ensures takes { TakesAreTries }
+{}
+
+/// Who registers again learns how far it came: a registrant's last operation is the latest that it
+/// hears of, and who is registered has registered, with no DEREGISTER behind.
+pub fn how_far()
+    ensures last { HowFar }
+    ensures registered { WhoIsRegistered }
+{}
+
+/// What counts and the records ahead mean, and where a run with its last aborts ends.
+pub fn counts_mean()
+    ensures none { CountIsNone }
+    ensures one { CountIsOne }
+    ensures ahead { OutcomeIsAhead }
+    ensures ends { RunsEnd }
 {}
 
 /// Three bodies and two states, byte by byte.
