@@ -41,3 +41,5 @@ mod Origins
 mod Clients
 mod Meaning
 mod Taken
+mod Accounts
+mod ReportLines

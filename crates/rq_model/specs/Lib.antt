@@ -21,7 +21,9 @@ pub mod RecordReading
 pub mod StateReading
 pub mod Fates
 pub mod FateLaws
+pub mod FateReports
 pub mod WorkedLogs
 pub mod WorkedMachine
+pub mod WorkedFates
 pub mod WorkedFormats
 pub mod WorkedEnds

@@ -17,10 +17,14 @@ ghost use Rattle.rq_model.specs.FateLaws.{OthersAreUntaken, AllAsEnqueued, OneRe
 ghost use Rattle.rq_model.specs.FateLaws.{BoundedTries, AttemptsAreTries, TakesAreTries, RunsEnd};
 ghost use Rattle.rq_model.specs.FateLaws.{HowFar, WhoIsRegistered, CountIsNone, CountIsOne};
 ghost use Rattle.rq_model.specs.FateLaws.{OutcomeIsAhead};
+ghost use Rattle.rq_model.specs.FateReports.{RestartAccounts, BeginningAccounts, ClosedAccounts};
+ghost use Rattle.rq_model.specs.FateReports.{CheckpointAccounts, ReportAccounts};
+ghost use Rattle.rq_model.specs.FateReports.{CheckpointReportAccounts};
 ghost use Rattle.rq_model.specs.WorkedLogs.{WorkedBytes, WorkedLogs, UnlawfulLogs};
 ghost use Rattle.rq_model.specs.WorkedLogs.{WorkedCheckpoint};
 ghost use Rattle.rq_model.specs.WorkedMachine.{WorkedLaw, WorkedSteps, WorkedOrders, WorkedQueues};
 ghost use Rattle.rq_model.specs.WorkedMachine.{WorkedRedo};
+ghost use Rattle.rq_model.specs.WorkedFates.{WorkedRequests, WorkedTries, WorkedClients};
 ghost use Rattle.rq_model.specs.WorkedFormats.{WorkedNames, WorkedBodies, WorkedWidths};
 ghost use Rattle.rq_model.specs.WorkedFormats.{WorkedFrames, AllRests, WorkedStates, WorkedMembers};
 ghost use Rattle.rq_model.specs.WorkedFormats.{WorkedLines};
@@ -275,6 +279,22 @@ pub fn counts_mean()
     ensures ends { RunsEnd }
 {}
 
+/// A restart changes nothing of it: of a log, of the closed log, of each beginning of it that holds
+/// the front, and from a true checkpoint, a restart accounts for each request and client.
+pub fn restarts_account()
+    ensures restart { RestartAccounts }
+    ensures beginning { BeginningAccounts }
+    ensures closed { ClosedAccounts }
+    ensures checkpoint { CheckpointAccounts }
+{}
+
+/// A line `e p ..` stands in the report of a log, and in that from a true checkpoint, as often as
+/// number p was requested, less how often it was done or killed.
+pub fn reports_account()
+    ensures report { ReportAccounts }
+    ensures checkpoint { CheckpointReportAccounts }
+{}
+
 /// Three bodies and two states, byte by byte.
 pub fn worked_bytes()
     ensures { WorkedBytes }
@@ -313,4 +333,11 @@ pub fn worked_formats()
 /// Logs that end in each other way, a true and a false checkpoint, a tail and an upgraded log.
 pub fn worked_ends()
     ensures { WorkedEnds }
+{}
+
+/// Requests and clients with each fate, each limit of tries on both sides.
+pub fn worked_fates()
+    ensures requests { WorkedRequests }
+    ensures tries { WorkedTries }
+    ensures clients { WorkedClients }
 {}
