@@ -50,12 +50,13 @@ def attacker(folder: str) -> tuple[int, int]:
 
 def withstands(log: str, closed: bytes) -> bool:
     """Whether a close into that folder leaves the other file alone, and says of what it makes what is so."""
+    for name in ("theirs/out", "theirs/out.rq0"):
+        if os.path.lexists(name):
+            os.remove(name)
     os.chown(put("theirs/out", OLD), NOBODY, NOBODY)
     ended = run("close", log, "theirs/out", 1)
     secret = os.stat("secret")
     told = ended == WRITE_FAULT or ended == DONE and content("theirs/out") == closed and not os.path.islink("theirs/out")
-    if os.path.lexists("theirs/out.rq0"):
-        os.remove("theirs/out.rq0")
     return told and (secret.st_uid, stat.S_IMODE(secret.st_mode), content("secret")) == (0, 0o600, SECRET)
 
 
@@ -64,7 +65,7 @@ def attacks() -> None:
     if os.geteuid() != 0:
         print("not root: nobody else's folder is tried")
         return
-    log, closed = log_of_bytes(2048, "attacked")
+    log, closed = log_of_bytes(1024, "attacked")
     os.mkdir("theirs")
     os.chown("theirs", NOBODY, NOBODY)
     os.chmod(put("secret", SECRET), 0o600)
