@@ -72,6 +72,9 @@ UNWRITABLE = ["missing/made", "folder", "/dev/full"]
 # Commands that start no thread with one worker.
 ALONE = ["make many.script many.again", "restart long.log 1 1", "restart-at two.log 447 1 1", "audit two.log 1"]
 ALONE += ["close long.log long.closed 1", "upgrade long.log long.upgraded 1"]
+# The same over a log and a script with a checkpoint behind thousands of records, and before as many.
+ALONE += ["make halfway.script halfway.again", "restart halfway.log 1 1", "restart-at halfway.log OFFSET 1 1"]
+ALONE += ["audit halfway.log 1", "close halfway.log halfway.closed 1", "upgrade halfway.log halfway.upgraded 1"]
 # In how many pieces digests are checked at a time, at most.
 PIECES = 2 * len(os.sched_getaffinity(0))
 
@@ -431,6 +434,18 @@ def long_log() -> str:
     return log_of(script + b"".join(lines % (u, u, u % 96, b"5a" * 1200, u) for u in range(1, 4001)), "long")
 
 
+def halfway_log() -> str:
+    """The offset of the one checkpoint of a log, amid thousands of records of many queues, whose records are short."""
+    defined = b"".join(b"define q%d 0 -\n" % q for q in range(96))
+    lines = b"begin %d\nenqueue %d %d 1 - 0 5a\ncommit %d\n"
+    units = [lines % (u, u, u % 96, u) for u in range(1, 6001)]
+    log = log_of(defined + b"".join(units[:4000]) + b"checkpoint\n" + b"".join(units[4000:]), "halfway")
+    _, told, _ = run("audit", log, 1)
+    word, offset, truth = told.decode().split()
+    check("the checkpoint of a log with many records", (word, truth), ("checkpoint", "true"))
+    return offset
+
+
 def told_log() -> str:
     """A short log of which most bytes are those of true checkpoints."""
     elements = b"enqueue 1 0 5 - 0 " + b"5a" * 100 + b"\n"
@@ -446,7 +461,7 @@ def threads() -> None:
         print("no C compiler: threads are not counted")
         return
     long = long_log()
-    for line in lines_of(ALONE):
+    for line in lines_of(ALONE, OFFSET=halfway_log()):
         check(f"threads of {line[0]} with one worker", threads_of(shim, *line), (0, 0))
     threads_of_audits(shim)
     for workers in [2, 3, 4, 5, 8, 16, 64]:

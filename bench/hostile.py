@@ -563,6 +563,15 @@ def enqueued_one_by_one(n: int) -> Records:
         yield from unit_of(unit, [enqueue(unit, 0, payload=b"")])
 
 
+def enqueued_and_open(n: int) -> Records:
+    """A registrant of one letter enqueues an element without payload in each of many units, which stay open."""
+    yield define(b"jobs")
+    yield register(0, b"a")
+    for unit in range(1, n // 2):
+        yield begin(unit)
+        yield enqueue(unit, 0, b"a", 1, b"")
+
+
 def all_registered(n: int) -> Records:
     """Registrants of four letters."""
     yield define(b"jobs")
@@ -614,7 +623,7 @@ AUDITED += [in_vain, come_and_go, without_payloads, element_missing, other_eleme
 # An audit counts units and registrants in maps of its own.
 AUDITED += [colliding_units, colliding_registrants, long_names]
 IN_VERSION_TWO = [chained, all_killed, none_killed, killed_and_new, nothing_killed]
-SMALL = [enqueued_by_one, enqueued_by_nobody, enqueued_one_by_one, all_registered, nothing_killed]
+SMALL = [enqueued_by_one, enqueued_by_nobody, enqueued_one_by_one, enqueued_and_open, all_registered, nothing_killed]
 # Restarts begin at their first record too.
 TOLD_AT = [registrants_at, units_at, elements_at, notes_at]
 SHAPES = {shape.__name__: shape for shape in RESTARTED + IN_VERSION_TWO + AUDITED + SMALL + TOLD_AT}
