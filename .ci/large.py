@@ -14,9 +14,9 @@ OPEN_UNITS = range(1, 1001)
 # The longest payload but one.
 LONG = b"\x5a" * 65534
 TOLD, MORE, KEPT = 320, 1300, 2
-# As multiples of the log: what a restart and an audit of long payloads hold, with a part of them in a checkpoint. Each holds
-# the log; the report of a restart, or the state that a checkpoint tells, comes to that. Copied payloads would be once more.
-MOST_OF_RESTART, MOST_OF_AUDIT = 1.5, 1.6
+# As a multiple of the log: a restart and an audit hold the log and little more, since its payloads are lent. To copy them
+# would take more than four fifths of it once more.
+MOST = 1.6
 
 
 def beginning() -> Iterator[bytes]:
@@ -104,10 +104,10 @@ def told_right(ended: Ended, want: bytes) -> Ended:
 
 def held(length: int) -> None:
     """The memory that a restart and an audit of that log hold, which lend its payloads and copy none."""
-    for words, most in ((["restart", "large.one", 4, 1000], MOST_OF_RESTART), (["audit", "large.one", 4], MOST_OF_AUDIT)):
+    for words in (["restart", "large.one", 4, 1000], ["audit", "large.one", 4]):
         status, memory = peak(*words)
         times = memory / length
-        check(f"{words[0]} of long payloads holds {times:.2f} times the log", (status, times <= most), (0, True))
+        check(f"{words[0]} of long payloads holds {times:.2f} times the log", (status, times <= MOST), (0, True))
 
 
 PARTS = [ordinary]

@@ -588,7 +588,7 @@ def told_by(units: Iterable[bytes], registered: Iterable[bytes], elements: Itera
     """One checkpoint, the first record, which tells of one queue and of these members, though there are none."""
     queue = struct.pack(">HIB", 0, NO_QUEUE, 4) + b"jobs"
     members = b"".join(listed(list(them)) for them in ([queue], units, registered, elements, notes))
-    yield checkpoint(struct.pack(">QQQQ", 2**40, 2**40, 0, 0) + members)
+    yield checkpoint(struct.pack(">QQQQ", 2**31, 2**31, 0, 0) + members)
 
 
 def registrants_at(n: int) -> Records:
