@@ -6,8 +6,8 @@ ghost use Rattle.std.specs.Fs.{new_options, with_append};
 use std::fs::{Files, OpenOptions};
 use std::io::{self, Write};
 
-/// How a file is opened that is written as it is: behind what it holds, of which nothing is lost. It
-/// is there already; one that is gone is not made.
+/// How a file is opened that is written as it is: behind what it holds, of which nothing is lost.
+/// It is there already; one that is gone is not made.
 pub fn in_place() -> OpenOptions
     ensures { result ≡ with_append new_options true }
 {

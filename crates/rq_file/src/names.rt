@@ -20,8 +20,8 @@ const OWN_MODE: u32 = 0o600;
 // a program runs as its owner.
 const PERMISSIONS: u32 = 0o777;
 
-// What stands under a name: none where nothing does. Nothing but a file counts: what a path leads to
-// was looked for before, so a link or a folder was put there since.
+// What stands under a name: none where nothing does. Nothing but a file counts: what a path leads
+// to was looked for before, so a link or a folder was put there since.
 fn file_under<R: Files>(rt: &R, name: &str) -> io::Result<Option<Metadata>> {
     match fs::symlink_metadata(rt, name) {
         Ok(found) if found.is_file() => Ok(Some(found)),

@@ -7,9 +7,9 @@ use std::time::{Clock, Duration};
 // How long it waits before it tries a write again, in milliseconds.
 const PAUSE: u64 = 5;
 
-/// A writer that takes what the inner one takes, and waits by the clock where that would not: a pipe
-/// or a terminal that does not block, of which nobody read for a while, refuses a write that it
-/// takes later.
+/// A writer that takes what the inner one takes, and waits by the clock where that would not: a
+/// pipe or a terminal that does not block, of which nobody read for a while, refuses a write that
+/// it takes later.
 #[derive(Drop)]
 pub struct Patient<'a, R: Clock, W: Write> {
     pub rt: &'a R,
