@@ -8,15 +8,9 @@ from __future__ import annotations
 import itertools, os, resource, shutil, signal, stat, subprocess, sys, tempfile, threading
 from collections.abc import Callable, Iterable, Iterator
 
-RQ = os.path.abspath(sys.argv[1])
-HERE = os.path.dirname(os.path.abspath(__file__))
-EXAMPLES = os.path.join(HERE, "..", "examples")
-
-USAGE = (2, b"", b"rq: usage\n")
-DONE = (0, b"", b"")
-READ_FAULT = (3, b"", b"rq: read fault\n")
-WRITE_FAULT = (3, b"", b"rq: write fault\n")
-RESOURCES = (4, b"", b"rq: resources\n")
+import folders, large, refusing, trying
+from trying import (DONE, EXAMPLES, READ_FAULT, RESOURCES, RQ, USAGE, WRITE_FAULT, Ended, Words, built, check, check_each,
+                    content, lines_of, log_of, making, put, refused, run, run_into, run_told, run_within)
 
 ONE_ELEMENT = b"define jobs 0 -\nbegin 1\nenqueue 1 0 5 - 0 61\ncommit 1\n"
 ONE_ELEMENT_REPORT = b"""front 4 records, 237 of 237 bytes, whole
@@ -50,8 +44,6 @@ FROM_FALSE_REPORT = b"front 1 records, 536 of 581 bytes, law\nunits 0 committed,
 PRINTING = ["restart LOG WORKERS GRAIN", "restart-at LOG OFFSET WORKERS GRAIN", "audit LOG WORKERS"]
 READING_LOGS = [*PRINTING, "close LOG MADE WORKERS", "upgrade LOG MADE WORKERS"]
 READING = ["make LOG MADE", *READING_LOGS]
-# What these words stand for, where nothing else is said.
-USUAL = {"OFFSET": "40", "WORKERS": "1", "GRAIN": "1", "MADE": "made"}
 
 # Lines with too few words or too many, or with no command.
 NO_LINES = ["", "make", "make one.script", "make one.script made 1", "restart", "restart one.log 1"]
@@ -80,84 +72,11 @@ UNWRITABLE = ["missing/made", "folder", "/dev/full"]
 # Commands that start no thread with one worker.
 ALONE = ["make many.script many.again", "restart long.log 1 1", "restart-at two.log 447 1 1", "audit two.log 1"]
 ALONE += ["close long.log long.closed 1", "upgrade long.log long.upgraded 1"]
+# The same over a log and a script with a checkpoint behind thousands of records, and before as many.
+ALONE += ["make halfway.script halfway.again", "restart halfway.log 1 1", "restart-at halfway.log OFFSET 1 1"]
+ALONE += ["audit halfway.log 1", "close halfway.log halfway.closed 1", "upgrade halfway.log halfway.upgraded 1"]
 # In how many pieces digests are checked at a time, at most.
 PIECES = 2 * len(os.sched_getaffinity(0))
-
-Words = list[object]
-Ended = tuple[int, bytes, bytes]
-
-passed = failed = 0
-
-
-def check(name: str, got: object, want: object) -> None:
-    global passed, failed
-    if got == want:
-        passed += 1
-    else:
-        failed += 1
-        print(f"{name}: {got!r} in place of {want!r}", flush=True)
-
-
-def refused(text: str) -> Ended:
-    return 1, b"", f"rq: {text}\n".encode()
-
-
-def run(*words: object, **options: object) -> Ended:
-    """How the program ends, and what it prints."""
-    line = [RQ, *(word if isinstance(word, bytes) else str(word) for word in words)]
-    done = subprocess.run(line, capture_output=True, timeout=60, **options)
-    return done.returncode, done.stdout, done.stderr
-
-
-def run_into(output: object, *words: object) -> Ended:
-    """The same with another standard output, of which nothing is seen."""
-    done = subprocess.run([RQ, *map(str, words)], stdout=output, stderr=subprocess.PIPE, timeout=60)
-    return done.returncode, b"", done.stderr
-
-
-def run_within(kibibytes: int, *words: object) -> Ended:
-    """The same with so much address space: a shell sets the limit, which Python itself would not outlive."""
-    shell = ["sh", "-c", f'ulimit -v {kibibytes}; exec "$@"', "sh"]
-    done = subprocess.run([*shell, RQ, *map(str, words)], capture_output=True, timeout=60)
-    return done.returncode, done.stdout, done.stderr
-
-
-def lines_of(forms: Iterable[str], **given: str) -> list[Words]:
-    """The words of each line, with what is given in place of those in capitals."""
-    words = {**USUAL, **given}
-    return [[words.get(word, word) for word in form.split()] for form in forms]
-
-
-def check_each(what: str, lines: Iterable[Words], want: object, by: Callable[..., Ended] = run) -> None:
-    """Checks that each of the lines ends so."""
-    for line in lines:
-        check(f"{line[0]} {what}", by(*line), want)
-
-
-def put(path: str, content: bytes) -> str:
-    with open(path, "wb") as file:
-        file.write(content)
-    return path
-
-
-def content(path: str) -> bytes | None:
-    try:
-        with open(path, "rb") as file:
-            return file.read()
-    except FileNotFoundError:
-        return None
-
-
-def log_of(script: bytes, name: str, word: str = "make") -> str:
-    log = name + ".log"
-    check(f"{word} {name}", run(word, put(name + ".script", script), log), DONE)
-    return log
-
-
-def making(path: str, *words: object, **options: object) -> tuple[Ended, bytes | None]:
-    """How a command that makes a file ends, and what stands in the file then."""
-    return run(*words, **options), content(path)
-
 
 def commands() -> None:
     """Every command, where all is well."""
@@ -498,24 +417,9 @@ def words() -> None:
     check("long words with little memory and with more", (RESOURCES[0] in told, USAGE[0] in told), (True, True))
 
 
-def built_shim() -> str | None:
-    """The library that tells of threads, where it can be built."""
-    compiler = shutil.which("cc") or shutil.which("gcc") or shutil.which("clang")
-    if compiler is None:
-        return None
-    shim = os.path.abspath("threads.so")
-    source = os.path.join(HERE, "threads.c")
-    subprocess.run([compiler, "-O1", "-shared", "-fPIC", source, "-o", shim, "-ldl", "-lpthread"], check=True)
-    return shim
-
-
 def threads_of(shim: str, *words: object) -> tuple[int, int]:
     """How many threads the program starts, and how many of these there are at a time."""
-    seen, told = os.pipe()
-    run(*words, env={**os.environ, "LD_PRELOAD": shim, "THREADS_TOLD": str(told)}, pass_fds=[told])
-    os.close(told)
-    with os.fdopen(seen, "rb") as file:
-        events = file.read()
+    _, events = run_told(shim, "THREADS_TOLD", *words)
     alive = most = 0
     for event in events:
         alive += 1 if event == ord("b") else -1
@@ -530,6 +434,18 @@ def long_log() -> str:
     return log_of(script + b"".join(lines % (u, u, u % 96, b"5a" * 1200, u) for u in range(1, 4001)), "long")
 
 
+def halfway_log() -> str:
+    """The offset of the one checkpoint of a log, amid thousands of records of many queues, whose records are short."""
+    defined = b"".join(b"define q%d 0 -\n" % q for q in range(96))
+    lines = b"begin %d\nenqueue %d %d 1 - 0 5a\ncommit %d\n"
+    units = [lines % (u, u, u % 96, u) for u in range(1, 6001)]
+    log = log_of(defined + b"".join(units[:4000]) + b"checkpoint\n" + b"".join(units[4000:]), "halfway")
+    _, told, _ = run("audit", log, 1)
+    word, offset, truth = told.decode().split()
+    check("the checkpoint of a log with many records", (word, truth), ("checkpoint", "true"))
+    return offset
+
+
 def told_log() -> str:
     """A short log of which most bytes are those of true checkpoints."""
     elements = b"enqueue 1 0 5 - 0 " + b"5a" * 100 + b"\n"
@@ -540,12 +456,12 @@ def told_log() -> str:
 def threads() -> None:
     """How many threads a plan starts: none for one worker. For more so many that each has its own, and no more of them
     at a time; those that check digests, where the grain leaves several pieces, are two for each core at most."""
-    shim = built_shim()
+    shim = built("threads", "-lpthread")
     if shim is None:
         print("no C compiler: threads are not counted")
         return
     long = long_log()
-    for line in lines_of(ALONE):
+    for line in lines_of(ALONE, OFFSET=halfway_log()):
         check(f"threads of {line[0]} with one worker", threads_of(shim, *line), (0, 0))
     threads_of_audits(shim)
     for workers in [2, 3, 4, 5, 8, 16, 64]:
@@ -594,7 +510,7 @@ def threads_of_copies(shim: str, long: str, workers: int) -> None:
 
 
 PARTS = [commands, usage, no_logs, no_checkpoints, no_scripts, no_files, permissions, closing, upgrading, outputs]
-PARTS += [files, plans, words, threads, too_large]
+PARTS += [files, plans, words, threads, too_large, *folders.PARTS, *refusing.PARTS, *large.PARTS]
 
 
 def main() -> None:
@@ -609,8 +525,8 @@ def main() -> None:
     finally:
         os.chdir("/")
         shutil.rmtree(folder)
-    print(f"{passed} passed, {failed} failed")
-    sys.exit(failed != 0)
+    print(f"{trying.passed} passed, {trying.failed} failed")
+    sys.exit(trying.failed != 0)
 
 
 if __name__ == "__main__":

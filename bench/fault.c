@@ -75,10 +75,10 @@ ssize_t readlink(const char *path, char *out, size_t count) {
   return is_wrong() ? wrong() : next(path, out, count);
 }
 
-int chown(const char *path, uid_t owner, gid_t group) {
-  static int (*next)(const char *, uid_t, gid_t);
-  if (!next) next = dlsym(RTLD_NEXT, "chown");
-  return is_wrong() ? wrong() : next(path, owner, group);
+int fchown(int file, uid_t owner, gid_t group) {
+  static int (*next)(int, uid_t, gid_t);
+  if (!next) next = dlsym(RTLD_NEXT, "fchown");
+  return is_wrong() ? wrong() : next(file, owner, group);
 }
 
 int fchmod(int file, mode_t mode) {

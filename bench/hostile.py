@@ -3,24 +3,30 @@
 
 usage: hostile.py RQ [--records N] [--runs N] [--workers N] [--limit SECONDS] [--folder DIR] [--keep] [SHAPE ..]
 RQ is the built program. Each time is the best of the runs, taken in turn at both lengths and with the peer (peer.rs).
-The bounds: from n to 2n a restart and an audit grow at most 2.6 times; a restart takes at most 4 times as long as the
-peer; an audit at most 3 times as long as a restart of the same log; neither holds more than 6 times the log in memory;
-the report is the peer's. Prints a table and each bound that is missed, and exits with 1 if any is. A run that takes
-longer than the limit is stopped, and counts as the limit. With --keep the logs stay in DIR, and those that stand there
-are taken as they are.
+The bounds: from n to 2n a restart and an audit grow at most 2.6 times; a restart takes at most 4 times as long as the peer;
+an audit at most 3 times as long as a restart of the same log; neither holds more than 6 times the log in memory, and where
+each record leaves as much behind as one can, 11 times; a restart from a checkpoint that tells of as many members as its
+bytes can holds at most 60 times the log; the report is the peer's. Prints a table and each bound that is missed, and exits
+with 1 if any is. A run that takes longer than the limit is stopped, and counts as the limit. With --keep the logs stay in
+DIR, and those that stand there are taken as they are.
 """
 from __future__ import annotations
 import functools, hashlib, itertools, math, os, struct, sys
 from collections.abc import Callable, Iterable, Iterator
 
-from common import built_peer, header_of, parsed, parser, run, write_log
-from records import abort, begin, checkpoint, commit, define, dequeue, deregister, enqueue, kill, register, spelled
+from common import HEADER, built_peer, header_of, parsed, parser, run, write_log
+from records import NO_QUEUE, abort, begin, checkpoint, commit, define, dequeue, deregister, enqueue, kill, listed, register
+from records import spelled
 
 GROWTH, TO_PEER, TO_RESTART, MEMORY = 2.6, 4.0, 3.0, 6.0
+# Of logs of records that leave as much behind as they can, and of restarts from a checkpoint that tells of many members.
+MEMORY_OF_SMALL, MEMORY_AT = 11.0, 60.0
 # What is shorter tells more of the host than of the program.
 SHORT = 0.05
 # A long payload: the longest ones have 65,535 bytes.
 HEAVY = bytes(60000)
+# What a name is made of.
+LETTERS = b"abcdefghijklmnopqrstuvwxyz0123456789-._"
 
 # To make keys that collide: how the toolchain's tables of hashes (IndexMap) hash a key, with no secret. The program has
 # such a table for names of queues alone. Each number of the key is joined by xor with the hasher's state, a byte three
@@ -32,7 +38,7 @@ HASHER, FACTOR, GROUP_LOAD = 0x243F_6A88_85A3_08D3, 0x9E37_79B9_7F4A_7C15, 9
 COPIES = {1: 0x1_0101, 4: 0x1_0000_0001, 8: 1}
 
 HEAD = "| log of 2n | MiB | peer n | 2n | restart n | 2n | grows | to the peer "
-HEAD += "| audit n | 2n | grows | to the restart | memory / log |"
+HEAD += "| audit n | 2n | grows | to the restart | memory / log | from the checkpoint |"
 
 Records = Iterator[bytes]
 
@@ -491,11 +497,10 @@ def names_side_by_side(groups: int) -> Iterator[bytes]:
 
     One name of 32 is such a name. That part is soon full, so that a search takes nearly as long as from one group.
     """
-    letters = b"abcdefghijklmnopqrstuvwxyz0123456789-._"
-    numbers = [(letter, letter * COPIES[1]) for letter in letters]
+    numbers = [(letter, letter * COPIES[1]) for letter in LETTERS]
     queue_and_length = folded(folded(HASHER, 0, 4), 6, 8)
     factor, elsewhere = FACTOR ^ 2, groups - max(1, groups // 32)
-    for front in itertools.product(letters, repeat=5):
+    for front in itertools.product(LETTERS, repeat=5):
         state = functools.reduce(lambda state, letter: folded(state, letter, 1), front, queue_and_length)
         for letter, number in numbers:
             product = (state ^ number) * factor
@@ -533,6 +538,82 @@ def long_names(n: int) -> Records:
     yield from registered_and_active([b"n" * 56 + b"%08d" % number for number in range(n // 4)])
 
 
+def letters_of(number: int) -> bytes:
+    """The name of four letters with this number."""
+    return bytes(LETTERS[number // len(LETTERS)**place % len(LETTERS)] for place in range(4))
+
+
+def enqueued_by_one(n: int) -> Records:
+    """A registrant of one letter enqueues elements without payload, all in one unit."""
+    yield define(b"jobs")
+    yield register(0, b"a")
+    yield from unit_of(1, itertools.repeat(enqueue(1, 0, b"a", 1, b""), n))
+
+
+def enqueued_by_nobody(n: int) -> Records:
+    """Elements without payload are enqueued, all in one unit."""
+    yield define(b"jobs")
+    yield from unit_of(1, itertools.repeat(enqueue(1, 0, payload=b""), n))
+
+
+def enqueued_one_by_one(n: int) -> Records:
+    """An element without payload in each unit."""
+    yield define(b"jobs")
+    for unit in range(1, n // 3):
+        yield from unit_of(unit, [enqueue(unit, 0, payload=b"")])
+
+
+def enqueued_and_open(n: int) -> Records:
+    """A registrant of one letter enqueues an element without payload in each of many units, which stay open."""
+    yield define(b"jobs")
+    yield register(0, b"a")
+    for unit in range(1, n // 2):
+        yield begin(unit)
+        yield enqueue(unit, 0, b"a", 1, b"")
+
+
+def all_registered(n: int) -> Records:
+    """Registrants of four letters."""
+    yield define(b"jobs")
+    yield from (register(0, letters_of(number)) for number in range(n))
+
+
+def nothing_killed(n: int) -> Records:
+    """KILLs of what is not there."""
+    yield define(b"jobs")
+    yield from itertools.repeat(kill(0, 0), n)
+
+
+def told_by(units: Iterable[bytes], registered: Iterable[bytes], elements: Iterable[bytes], notes: Iterable[bytes]) -> Records:
+    """One checkpoint, the first record, which tells of one queue and of these members, though there are none."""
+    queue = struct.pack(">HIB", 0, NO_QUEUE, 4) + b"jobs"
+    members = b"".join(listed(list(them)) for them in ([queue], units, registered, elements, notes))
+    yield checkpoint(struct.pack(">QQQQ", 2**31, 2**31, 0, 0) + members)
+
+
+def registrants_at(n: int) -> Records:
+    """A checkpoint of registrants of four letters."""
+    members = (struct.pack(">IB", 0, 4) + name + b"\0" for name in sorted(map(letters_of, range(n))))
+    return told_by([], members, [], [])
+
+
+def units_at(n: int) -> Records:
+    """A checkpoint of open units."""
+    return told_by((struct.pack(">Q", unit) for unit in range(1, 1 + n)), [], [], [])
+
+
+def elements_at(n: int) -> Records:
+    """A checkpoint of elements without payload."""
+    return told_by([], [], (struct.pack(">QIIBQBH", 1 + at, 0, 0, 5, 0, 0, 0) for at in range(n)), [])
+
+
+def notes_at(n: int) -> Records:
+    """A checkpoint of notes of one registrant, of a unit that is open."""
+    registrant = struct.pack(">IB", 0, 1) + b"a\0"
+    notes = (struct.pack(">QQIB", 1 + at, 1, 0, 1) + b"a\2" + struct.pack(">QQ", 1, 2**64 - 1) for at in range(n))
+    return told_by([struct.pack(">Q", 1)], [registrant], [], notes)
+
+
 RESTARTED = [open_units, one_unit, units_in_turn, one_registrant, strangers_go, noted_and_gone, last_go_first]
 RESTARTED += [retried, all_retried, moved, all_moved, all_queues, all_aborted, spread]
 AUDITED = [true_checkpoints, false_checkpoints, junk_checkpoints, empty_checkpoints, counting_checkpoints, one_told]
@@ -541,8 +622,11 @@ AUDITED += [empty_units_between, true_and_small, others_deregister, registrants,
 AUDITED += [in_vain, come_and_go, without_payloads, element_missing, other_elements]
 # An audit counts units and registrants in maps of its own.
 AUDITED += [colliding_units, colliding_registrants, long_names]
-IN_VERSION_TWO = [chained, all_killed, none_killed, killed_and_new]
-SHAPES = {shape.__name__: shape for shape in RESTARTED + IN_VERSION_TWO + AUDITED}
+IN_VERSION_TWO = [chained, all_killed, none_killed, killed_and_new, nothing_killed]
+SMALL = [enqueued_by_one, enqueued_by_nobody, enqueued_one_by_one, enqueued_and_open, all_registered, nothing_killed]
+# Restarts begin at their first record too.
+TOLD_AT = [registrants_at, units_at, elements_at, notes_at]
+SHAPES = {shape.__name__: shape for shape in RESTARTED + IN_VERSION_TWO + AUDITED + SMALL + TOLD_AT}
 
 
 class Timed:
@@ -579,13 +663,19 @@ class Tried:
         self.peer = Timed([peer, "restart", log], options.limit)
         self.restart = Timed([options.program, "restart", log, workers, "1000"], options.limit)
         self.audit = Timed([options.program, "audit", log, workers], options.limit) if SHAPES[name] in AUDITED else None
+        at = [options.program, "restart-at", log, str(HEADER), workers, "1000"]
+        self.at = Timed(at, options.limit) if SHAPES[name] in TOLD_AT else None
 
     def run(self):
-        for it in filter(None, (self.peer, self.restart, self.audit)):
+        for it in filter(None, (self.peer, self.restart, self.audit, self.at)):
             it.run()
 
     def memory(self) -> float:
         return max(it.memory for it in (self.restart, self.audit) if it) / self.bytes
+
+    def memory_at(self) -> float:
+        """That of a restart from the checkpoint, where there is one."""
+        return self.at.memory / self.bytes if self.at else 0
 
 
 def tried(options, peer: str, name: str) -> tuple[Tried, Tried]:
@@ -603,7 +693,8 @@ def tried(options, peer: str, name: str) -> tuple[Tried, Tried]:
 def missed(name: str, small: Tried, large: Tried) -> list[str]:
     """Each bound that the shape misses, in words."""
     found = []
-    for word, one, two in (("restart", small.restart, large.restart), ("audit", small.audit, large.audit)):
+    timed = ("restart", small.restart, large.restart), ("audit", small.audit, large.audit), ("restart-at", small.at, large.at)
+    for word, one, two in timed:
         if one and two.best > max(SHORT, GROWTH * one.best):
             found.append(f"{name}: from n to 2n the {word} grows {two.best / one.best:.1f} times")
         if one and (one.was_stopped or two.was_stopped):
@@ -613,8 +704,10 @@ def missed(name: str, small: Tried, large: Tried) -> list[str]:
     if large.audit and large.audit.best > max(SHORT, TO_RESTART * large.restart.best):
         times = large.audit.best / large.restart.best
         found.append(f"{name}: the audit takes {times:.1f} times as long as the restart")
-    if large.memory() > MEMORY:
+    if large.memory() > (MEMORY_OF_SMALL if SHAPES[name] in SMALL else MEMORY):
         found.append(f"{name}: {large.memory():.1f} times the log in memory")
+    if large.memory_at() > MEMORY_AT:
+        found.append(f"{name}: from its checkpoint {large.memory_at():.1f} times the log in memory")
     if not large.restart.was_stopped and large.restart.wrote != large.peer.wrote:
         found.append(f"{name}: another report than the peer's")
     return found
@@ -639,14 +732,15 @@ def main() -> int:
     sizes = f"{options.records} and {2 * options.records} records"
     print(f"{sizes}, {options.workers} workers, best of {options.runs}; seconds\n")
     print(HEAD)
-    print("|---" * 13 + "|")
+    print("|---" * 14 + "|")
     told = []
     for name in options.shapes:
         small, large = tried(options, peer, name)
         cells = [name, f"{large.bytes / (1 << 20):.1f}", f"{small.peer.best:.2f}", f"{large.peer.best:.2f}"]
         cells += cells_of(small.restart, large.restart, large.peer)
         cells += cells_of(small.audit, large.audit, large.restart) if large.audit else [""] * 4
-        print("| " + " | ".join([*cells, f"{large.memory():.1f}"]) + " |", flush=True)
+        cells += [f"{large.memory():.1f}", f"{large.memory_at():.1f}" if large.at else ""]
+        print("| " + " | ".join(cells) + " |", flush=True)
         told += missed(name, small, large)
     print("\n" + "\n".join(told or ["every bound is kept"]))
     return 1 if told else 0

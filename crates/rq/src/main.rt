@@ -3,12 +3,13 @@
 
 ghost use Rattle.std.specs.Prelude.{◌≡◌, IfOk};
 
-use rq_file::{Late, Names, in_place};
+use rq_file::{Late, Names, Patient, in_place};
 use rq_tool::{Command, Fault, Open, OverRead, OverWrite};
 use std::fs::File;
 use std::io::ErrorKind;
+use std::os::fd::AsFd;
 use std::process::ExitCode;
-use std::rt::{Env, Files};
+use std::rt::{Clock, Env, Files};
 use std::thread::Threads;
 use std::{env, io};
 
@@ -39,7 +40,8 @@ fn main(rt: HostRuntime) -> ExitCode {
 // Does the command of the arguments.
 fn start<R>(rt: &R) -> Result<(), Stop>
 where
-    R: Files + Env + Print + AllocGlobal + Threads + Sync,
+    R: Files + Env + Print + Clock + AllocGlobal + Threads + Sync,
+    R::File: AsFd,
 {
     let alloc = rt.alloc();
     let all: Vec<String> = env::args(rt)
@@ -79,7 +81,8 @@ fn unmade(error: &io::Error) -> Fault {
 // Does the command on its files.
 fn perform<R>(rt: &R, command: &Command<'_>) -> Result<(), Fault>
 where
-    R: Files + Print + AllocGlobal + Threads + Sync,
+    R: Files + Print + Clock + AllocGlobal + Threads + Sync,
+    R::File: AsFd,
 {
     match command {
         Command::Make { script, log } | Command::Make2 { script, log } => make_file(
@@ -94,13 +97,16 @@ where
     }
 }
 
-// Writes what the command answers to standard output.
+// Writes what the command answers to standard output, and waits where that takes nothing yet.
 fn print<R>(rt: &R, command: &Command<'_>, from: &str) -> Result<(), Fault>
 where
-    R: Files + Print + AllocGlobal + Threads + Sync,
+    R: Files + Print + Clock + AllocGlobal + Threads + Sync,
 {
     let mut input = open(rt, from)?;
-    let mut output = OverWrite::new(io::writer(rt));
+    let mut output = OverWrite::new(Patient {
+        rt,
+        inner: io::writer(rt),
+    });
     rq_tool::act(rt, rt.alloc(), command, &mut input, &mut output, &Open)
 }
 
@@ -108,6 +114,7 @@ where
 fn make_file<R>(rt: &R, command: &Command<'_>, from: &str, to: &str) -> Result<(), Fault>
 where
     R: Files + AllocGlobal + Threads + Sync,
+    R::File: AsFd,
 {
     let mut input = open(rt, from)?;
     let Some(names) = Names::of(rt, to).map_err(|error| unmade(&error))? else {

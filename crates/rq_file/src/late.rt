@@ -1,17 +1,18 @@
 //! A file that is opened at its first write.
 
 ghost use Rattle.std.specs.Prelude.{◌≡◌, true, None};
-ghost use Rattle.std.specs.Fs.{new_options, with_append, with_create};
+ghost use Rattle.std.specs.Fs.{new_options, with_append};
 
 use std::fs::{Files, OpenOptions};
 use std::io::{self, Write};
 
 /// How a file is opened that is written as it is: behind what it holds, of which nothing is lost.
+/// It is there already; one that is gone is not made.
 pub fn in_place() -> OpenOptions
-    ensures { result ≡ with_create (with_append new_options true) true }
+    ensures { result ≡ with_append new_options true }
 {
     let mut options = OpenOptions::new();
-    options.append(true).create(true);
+    options.append(true);
     options
 }
 

@@ -4,8 +4,10 @@
 mod late;
 mod names;
 mod paths;
+mod patient;
 mod putting;
 
 pub use late::{Late, in_place};
 pub use names::Names;
+pub use patient::Patient;
 pub use putting::put;

@@ -5,22 +5,60 @@ ghost use Rattle.std.specs.Fs.{asks_create_new, asks_write};
 ghost use Rattle.rq_file.specs.Beside.{IsBeside};
 ghost use Rattle.rq_file.specs.Targets.{new_of, old_of};
 
-use crate::paths::{folder_of, followed, free_name, is_of_process};
-use std::fs::{File, Files, Metadata, OpenFile, OpenOptions};
-use std::os::unix::fs::{MetadataExt, OpenOptionsExt, chown};
+use crate::paths::{folder_within, followed, free_name, is_of_process};
+use std::fs::{File, Files, Metadata, OpenFile, OpenOptions, Permissions};
+use std::io::ErrorKind;
+use std::os::fd::AsFd;
+use std::os::unix::fs::{MetadataExt, OpenOptionsExt, PermissionsExt, fchown};
 use std::{fs, io};
 
 // The mode of a file while it is written that is to take the place of another: nobody else reads
 // it, whoever may read that.
 const OWN_MODE: u32 = 0o600;
 
-// Gives the file of this name the owner and the group of the old one, or the group alone, as far
-// as the system lets us.
-fn give_to<R: Files>(rt: &R, name: &str, old: &Metadata) {
-    let (owner, group) = (Some(old.uid()), Some(old.gid()));
-    if chown(rt, name, owner, group).is_err() {
-        let _ = chown(rt, name, None, group);
+// What of an old file's mode says who may do what with it. A new file never gets the rest, by which
+// a program runs as its owner.
+const PERMISSIONS: u32 = 0o777;
+
+// What stands under a name: none where nothing does. Nothing but a file counts: what a path leads
+// to was looked for before, so a link or a folder was put there since.
+fn file_under<R: Files>(rt: &R, name: &str) -> io::Result<Option<Metadata>> {
+    match fs::symlink_metadata(rt, name) {
+        Ok(found) if found.is_file() => Ok(Some(found)),
+        Ok(_) => Err(io::Error::from(ErrorKind::AlreadyExists)),
+        Err(error) if error.kind() == ErrorKind::NotFound => Ok(None),
+        Err(error) => Err(error),
     }
+}
+
+// Gives the open file the owner and the group of the old one, or the group alone, as far as the
+// system lets us, and then its permissions. Whoever may write the folder can put something else
+// under any name in it, so no name is used.
+fn give_to<F: OpenFile + AsFd>(file: &F, old: &Metadata) -> io::Result<()> {
+    let (owner, group) = (Some(old.uid()), Some(old.gid()));
+    if fchown(file, owner, group).is_err() {
+        let _ = fchown(file, None, group);
+    }
+    OpenFile::set_permissions(file, Permissions::from_mode(old.mode() & PERMISSIONS))
+}
+
+// Whether the open file stands under the name, and not something else that was put there.
+fn is_under<R: Files>(rt: &R, file: &R::File, name: &str) -> bool {
+    match (OpenFile::metadata(file), fs::symlink_metadata(rt, name)) {
+        (Ok(file), Ok(named)) => (file.dev(), file.ino()) == (named.dev(), named.ino()),
+        _ => false,
+    }
+}
+
+// Refuses a name under which something else stands than the open file.
+fn expect_under<R: Files>(rt: &R, file: &R::File, name: &str) -> io::Result<()> {
+    if is_under(rt, file, name) {
+        return Ok(());
+    }
+    Err(io::Error::new(
+        ErrorKind::NotFound,
+        "somebody else put another file in its place",
+    ))
 }
 
 /// The name under which a file is written before it takes the place of the old one, and what that
@@ -29,6 +67,7 @@ fn give_to<R: Files>(rt: &R, name: &str, old: &Metadata) {
 pub struct Names {
     old: String,
     new: String,
+    folder: String,
 }
 
 impl Names {
@@ -44,11 +83,12 @@ impl Names {
     {
         let old = followed(rt, path)?;
         let is_file = fs::metadata(rt, old.as_str()).map_or(true, |found| found.is_file());
-        if is_of_process(&old) || !is_file {
+        if is_of_process(rt, &old) || !is_file {
             return Ok(None);
         }
         let new = free_name(rt, &old)?;
-        Ok(Some(Names { old, new }))
+        let folder = folder_within(rt.alloc(), &old)?;
+        Ok(Some(Names { old, new, folder }))
     }
 
     /// The name to write under.
@@ -74,26 +114,35 @@ impl Names {
     }
 
     /// Ends the work on the new file, where it was opened. Where that is done, puts it in the place
-    /// of the old one, with its owner, group and mode, once its bytes are on the disk; else, or
-    /// where this fails, takes it away. A fault in telling the disk of the change leaves the new
+    /// of the old one, with its owner, group and permissions, once its bytes are on the disk; else,
+    /// or where this fails, takes it away. A fault in telling the disk of the change leaves the new
     /// file in its place.
-    pub fn settle<R: Files>(&self, rt: &R, made: Option<R::File>, is_done: bool) -> io::Result<()> {
+    ///
+    /// Whoever else may write the folder can put something else under these names at any time: then
+    /// it refuses with `NotFound` or `AlreadyExists`, and neither gives that away nor removes it.
+    pub fn settle<R: Files>(&self, rt: &R, made: Option<R::File>, is_done: bool) -> io::Result<()>
+    where
+        R::File: AsFd,
+    {
         let Some(file) = made else {
             return Ok(());
         };
         if is_done {
             return self.keep(rt, &file);
         }
-        self.discard(rt);
+        self.discard(rt, &file);
         Ok(())
     }
 
     // Puts the new file in the place of the old one.
-    fn keep<R: Files>(&self, rt: &R, file: &R::File) -> io::Result<()> {
+    fn keep<R: Files>(&self, rt: &R, file: &R::File) -> io::Result<()>
+    where
+        R::File: AsFd,
+    {
         match self.exchange(rt, file) {
             Ok(folder) => OpenFile::sync_all(&folder),
             Err(error) => {
-                self.discard(rt);
+                self.discard(rt, file);
                 Err(error)
             }
         }
@@ -101,19 +150,25 @@ impl Names {
 
     // Puts the new file in the place of the old one, and answers the folder, which was opened
     // before.
-    fn exchange<R: Files>(&self, rt: &R, file: &R::File) -> io::Result<R::File> {
-        let folder = File::open(rt, folder_of(&self.old))?;
-        if let Ok(old) = fs::metadata(rt, self.old.as_str()) {
-            give_to(rt, self.new.as_str(), &old);
-            OpenFile::set_permissions(file, old.permissions())?;
+    fn exchange<R: Files>(&self, rt: &R, file: &R::File) -> io::Result<R::File>
+    where
+        R::File: AsFd,
+    {
+        let folder = File::open(rt, self.folder.as_str())?;
+        if let Some(old) = file_under(rt, &self.old)? {
+            give_to(file, &old)?;
         }
         OpenFile::sync_all(file)?;
+        expect_under(rt, file, &self.new)?;
         fs::rename(rt, self.new.as_str(), self.old.as_str())?;
+        expect_under(rt, file, &self.old)?;
         Ok(folder)
     }
 
     // Takes the new file away.
-    fn discard<R: Files>(&self, rt: &R) {
-        let _ = fs::remove_file(rt, self.new.as_str());
+    fn discard<R: Files>(&self, rt: &R, file: &R::File) {
+        if is_under(rt, file, &self.new) {
+            let _ = fs::remove_file(rt, self.new.as_str());
+        }
     }
 }

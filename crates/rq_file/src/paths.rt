@@ -6,6 +6,7 @@ ghost use Rattle.rq_file.specs.Beside.{IsBeside, name_beside};
 use std::alloc::{AllocError, Global};
 use std::fs::Files;
 use std::io::ErrorKind;
+use std::os::unix::fs::MetadataExt;
 use std::path::Path;
 use std::{fs, io};
 
@@ -15,6 +16,9 @@ const NAMES: u32 = 100;
 // How many symbolic links are followed, one behind the other: as many as the system follows.
 const LINKS: u32 = 40;
 
+// The folder of what this process has open, on the file system that shows processes.
+const OPEN_FILES: &str = "/proc/self/fd";
+
 /// The folder that a path lies in.
 pub(crate) fn folder_of(path: &str) -> &str {
     match Path::new(path).parent() {
@@ -23,9 +27,22 @@ pub(crate) fn folder_of(path: &str) -> &str {
     }
 }
 
-/// Whether the path names a file that a process has open, as `/dev/stdout` does behind its link.
-pub(crate) fn is_of_process(path: &str) -> bool {
-    path.starts_with("/proc/") || path.starts_with("/dev/fd/")
+/// The folder that a path lies in, by a name that only a folder can have: to open it never waits,
+/// as it would for a pipe that somebody put in its place.
+pub(crate) fn folder_within(alloc: Global, path: &str) -> Result<String, AllocError> {
+    let folder = folder_of(path);
+    format!(in alloc; "{folder}/.")
+}
+
+/// Whether the path names a file that a process has open, as `/dev/stdout` does behind its link:
+/// whether its folder is on the file system that shows processes, however the path is written.
+pub(crate) fn is_of_process<R: Files>(rt: &R, path: &str) -> bool {
+    let folder = fs::metadata(rt, folder_of(path));
+    let open_files = fs::metadata(rt, OPEN_FILES);
+    match (folder, open_files) {
+        (Ok(folder), Ok(open_files)) => folder.dev() == open_files.dev(),
+        _ => false,
+    }
 }
 
 /// What a path names behind its symbolic links, whether it is there or not.
@@ -33,7 +50,7 @@ pub(crate) fn followed<R: Files + AllocGlobal>(rt: &R, path: &str) -> io::Result
     let mut real = String::from_str(rt.alloc(), path)?;
     // One look more than links: behind the last one there may be a file.
     for _ in 0..=LINKS {
-        if is_of_process(&real) {
+        if is_of_process(rt, &real) {
             return Ok(real);
         }
         real = match fs::read_link(rt, real.as_str()) {

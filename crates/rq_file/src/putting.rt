@@ -4,12 +4,16 @@ use crate::late::{Late, in_place};
 use crate::names::Names;
 use std::fs::Files;
 use std::io::{self, Write};
+use std::os::fd::AsFd;
 
 /// Makes the file of the path, with these bytes: whole, or as it was, or not there. What is no file
 /// is written as it is.
 ///
 /// Refuses with the system's error, as `Names::of` does and as far as writing fails.
-pub fn put<R: Files + AllocGlobal>(rt: &R, path: &str, bytes: &[u8]) -> io::Result<()> {
+pub fn put<R: Files + AllocGlobal>(rt: &R, path: &str, bytes: &[u8]) -> io::Result<()>
+where
+    R::File: AsFd,
+{
     let Some(names) = Names::of(rt, path)? else {
         return Late::new(rt, path, in_place()).write_all(bytes);
     };

@@ -7,6 +7,7 @@ use crate::words::{records_asked, subject_asked};
 use clap::ArgMatches;
 use rq_look::{Fault, Plan, Trouble};
 use std::io::{self, ErrorKind, Printer};
+use std::os::fd::AsFd;
 use std::rt::{Clock, Files};
 use std::thread::Threads;
 
@@ -115,6 +116,7 @@ where
 fn page<R>(rt: &R, bytes: &[u8], plan: &Plan, file: &str, to: &str) -> Result<bool, Failure>
 where
     R: Files + Print + AllocGlobal + Threads + Sync,
+    R::File: AsFd,
 {
     if is_over_log(rt, file, to) {
         return Err(Failure::Same);
@@ -140,6 +142,7 @@ where
 pub(crate) fn act<R>(rt: &R, matches: &ArgMatches<'_>, watch: Watch) -> Result<bool, Failure>
 where
     R: Files + Input + Print + Eprint + Clock + AllocGlobal + Threads + Sync,
+    R::File: AsFd,
 {
     let Some((name, words)) = matches.subcommand() else {
         return Ok(true);

@@ -12,6 +12,7 @@ use crate::failing::Failure;
 use crate::watching::Watch;
 use crate::words::program;
 use std::io::IsTerminal;
+use std::os::fd::AsFd;
 use std::process::ExitCode;
 use std::rt::{Clock, Env, Files};
 use std::thread::Threads;
@@ -33,6 +34,7 @@ fn main(rt: HostRuntime) -> ExitCode {
 fn start<R>(rt: &R, watch: Watch) -> Result<bool, Failure>
 where
     R: Files + Env + Input + Print + Eprint + Clock + AllocGlobal + Threads + Sync,
+    R::File: AsFd,
 {
     let alloc = rt.alloc();
     let all: Vec<String> = env::args(rt)
