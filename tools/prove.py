@@ -17,7 +17,9 @@ TRIPLE = "x86_64-unknown-linux-gnu"
 # What no proof of a crate and no program reads.
 LEFT_OUT = shutil.ignore_patterns("out", "must-fail", "wrong-bodies")
 # Processor seconds for a line of code, for one of definitions and proofs, and for a line of code that a program compiles.
-LINE, PROOF_LINE, COMPILED_LINE = 0.1, 0.017, 0.012
+LINE, PROOF_LINE, COMPILED_LINE = 0.12, 0.005, 0.012
+# The part of that time which a crate takes that all others wait for, since rt gives it what is idle.
+WAITED_FOR = 0.65
 # So many seconds of the estimate count as seen, so that the first crates do not move it far.
 EXPECTED = 120.0
 
@@ -83,7 +85,7 @@ class Estimate:
         """Seconds for what is left: the longest chain, or what the processors share, which is more."""
         chains: dict[str, float] = {}
         for name in (it for it in self.costs if it in self.left):
-            chains[name] = self.costs[name] + max((chains[it] for it in self.below[name] if it in chains), default=0.0)
+            chains[name] = WAITED_FOR * self.costs[name] + max((chains[it] for it in self.below[name] if it in chains), default=0.0)
         shared = sum(self.costs[it] for it in self.left) / len(os.sched_getaffinity(0))
         return max([shared, *chains.values()])
 
