@@ -50,7 +50,7 @@ made_of() (
     {
         # shellcheck disable=SC2086
         find $parts HANDLES -type f ! -name '.*' ! -name '*~' -print0 | LC_ALL=C sort -z | xargs -0 sha256sum
-        for crate in $crates; do grep "^$crate[ :]" crates.txt; done | LC_ALL=C sort
+        for crate in $crates; do grep "^${crate}[ :]" crates.txt; done | LC_ALL=C sort
     } | sha256sum | cut -d' ' -f1
 )
 
