@@ -240,6 +240,9 @@ def keeps() -> bool:
 
 def main() -> int:
     folder, *builds = sys.argv[1:]
+    if not shutil.which("rt"):
+        print("the toolchain is not there: no rt is found on the PATH", file=sys.stderr)
+        return 70
     for it in (signal.SIGTERM, signal.SIGHUP):
         signal.signal(it, lambda number, _: sys.exit(128 + number))
     os.makedirs(folder, exist_ok=True)
