@@ -1,5 +1,5 @@
-# Runs a program of this clone: the one that the repository brings, where it is made of these sources, else one that is built of them
-# first. Sourced by the script of each program, which names it.
+# Runs a program of this clone: the one that the repository brings, where it is made of these sources, else one that is built of
+# them first. Sourced by the script of each program, which names it.
 # here: the top of the clone; name: the program, which is a crate
 # shellcheck shell=sh
 . "$here/tools/sources.sh"
@@ -71,6 +71,7 @@ build() {
     (cd "$here" && exec python3 tools/prove.py "$built" "$file") || exit
     [ "$(made_of "$name")" = "$sum" ] || refuse 'the sources were changed during the build: run it again'
     { receipt_of "$name" "$sum"; receipt_of_file "$built/$file"; } > "$built/$file.receipt"
+    program=$built/$file
 }
 
 # One build at a time: who comes second waits, and then finds the program.

@@ -14,8 +14,12 @@ from __future__ import annotations
 import os, re, shutil, signal, subprocess, sys, tempfile, time
 
 TRIPLE = "x86_64-unknown-linux-gnu"
+# What no proof of a crate and no program reads.
+LEFT_OUT = shutil.ignore_patterns("out", "must-fail", "wrong-bodies")
 # Processor seconds for a line of code, for one of definitions and proofs, and for a line of code that a program compiles.
-LINE, PROOF_LINE, COMPILED_LINE = 0.1, 0.017, 0.012
+LINE, PROOF_LINE, COMPILED_LINE = 0.12, 0.005, 0.012
+# The part of that time which a crate takes that all others wait for, since rt gives it what is idle.
+WAITED_FOR = 0.65
 # So many seconds of the estimate count as seen, so that the first crates do not move it far.
 EXPECTED = 120.0
 
@@ -49,9 +53,9 @@ def copy(place: str, lines: dict[str, str], libraries: list[str], programs: list
     with open(os.path.join(top, "crates.txt"), "w", encoding="utf-8") as to:
         to.writelines(lines[it] for it in libraries)
     for it in libraries:
-        shutil.copytree(os.path.join("crates", it), os.path.join(top, "crates", it), ignore=shutil.ignore_patterns("out", "must-fail"))
+        shutil.copytree(os.path.join("crates", it), os.path.join(top, "crates", it), ignore=LEFT_OUT)
     for it in programs:
-        shutil.copytree(os.path.join("crates", it), os.path.join(place, "programs", it), ignore=shutil.ignore_patterns("out"))
+        shutil.copytree(os.path.join("crates", it), os.path.join(place, "programs", it), ignore=LEFT_OUT)
 
 
 def count(name: str, ending: str) -> int:
@@ -81,7 +85,7 @@ class Estimate:
         """Seconds for what is left: the longest chain, or what the processors share, which is more."""
         chains: dict[str, float] = {}
         for name in (it for it in self.costs if it in self.left):
-            chains[name] = self.costs[name] + max((chains[it] for it in self.below[name] if it in chains), default=0.0)
+            chains[name] = WAITED_FOR * self.costs[name] + max((chains[it] for it in self.below[name] if it in chains), default=0.0)
         shared = sum(self.costs[it] for it in self.left) / len(os.sched_getaffinity(0))
         return max([shared, *chains.values()])
 
@@ -190,10 +194,9 @@ class Builds:
     def words(self, build: str) -> list[str]:
         """What makes the object file of a program."""
         program, kit = self.builds[build], self.kit
-        libraries = {it: self.library(it) if it in self.lines else f"{kit}/rlibs/{it}.rlib" for it in ["std", *named(self.lines, program)]}
         words = [f"{kit}/bin/rattle", "build", "--crate-name", program, "src/main.rt"]
-        for name, at in libraries.items():
-            words += ["--extern", f"{name}={at}"]
+        for it in ["std", *named(self.lines, program)]:
+            words += ["--extern", f"{it}={self.library(it) if it in self.lines else f'{kit}/rlibs/{it}.rlib'}"]
         for at in [f"{kit}/rlibs", *(os.path.dirname(self.library(it)) for it in below(self.lines, program))]:
             words += ["-L", f"dependency={at}"]
         words += ["--antt-project", f"{kit}/rattle/logic/antt-project.json", "--logic-built", f"{kit}/logic_built"]
@@ -237,6 +240,9 @@ def keeps() -> bool:
 
 def main() -> int:
     folder, *builds = sys.argv[1:]
+    if not shutil.which("rt"):
+        print("the toolchain is not there: no rt is found on the PATH", file=sys.stderr)
+        return 70
     for it in (signal.SIGTERM, signal.SIGHUP):
         signal.signal(it, lambda number, _: sys.exit(128 + number))
     os.makedirs(folder, exist_ok=True)
@@ -244,7 +250,7 @@ def main() -> int:
         with tempfile.TemporaryDirectory(prefix="rq-build-") as place:
             return Builds(place, os.path.abspath(folder), {it: it.partition("-")[0] for it in builds}).run()
     except KeyboardInterrupt:
-        what = "what was proved of the libraries is kept: the same line goes on from there" if keeps() else "this kit keeps nothing"
+        what = "proved libraries are kept: the same line goes on from there" if keeps() else "this kit keeps nothing"
         print(f"{' and '.join(builds)}: stopped; {what}", file=sys.stderr)
         return 130
 

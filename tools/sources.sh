@@ -1,5 +1,5 @@
-# What the programs of this clone are made of, and which built programs are made of these sources: sourced by the scripts that run,
-# ship and install programs.
+# What the programs of this clone are made of, and which built programs are made of these sources: sourced by the scripts that
+# run, ship and install programs.
 # here: the top of the clone
 # shellcheck shell=sh
 
@@ -11,8 +11,8 @@ processors='x86-64-v2 x86-64-v3'
 shipped=$here/dist
 built=$here/build
 # Most of a restart's memory is touched once. Pages of 2 MiB, where the kernel gives them on request, cost fewer faults. A block
-# of 512 KiB or more goes back to the system as soon as it is freed: glibc would raise that bound to 32 MiB by itself. Up to 16 MiB
-# of smaller ones stay: an audit makes a state for each checkpoint that may be true, and needs as much again for the next one.
+# of 512 KiB or more goes back to the system as soon as it is freed: glibc would raise that bound to 32 MiB by itself. Up to
+# 16 MiB of smaller ones stay: an audit makes a state for each checkpoint that may be true, and needs as much again for the next.
 # shellcheck disable=SC2034
 tunables=glibc.malloc.hugetlb=1:glibc.malloc.mmap_threshold=524288:glibc.malloc.trim_threshold=16777216
 
@@ -39,8 +39,8 @@ crates_of() {
         END { show(name) }' "$here/crates.txt"
 }
 
-# The sum over the sums of all files that a program is made of: code, definitions and proofs of its crates, HANDLES, and the crates'
-# lines of crates.txt. What an editor leaves beside a file is none of them.
+# The sum over the sums of all files that a program is made of: code, definitions and proofs of its crates, HANDLES, and the
+# crates' lines of crates.txt. What an editor leaves beside a file is none of them.
 made_of() (
     cd "$here" || exit 1
     crates=$(crates_of "$1")
@@ -50,7 +50,7 @@ made_of() (
     {
         # shellcheck disable=SC2086
         find $parts HANDLES -type f ! -name '.*' ! -name '*~' -print0 | LC_ALL=C sort -z | xargs -0 sha256sum
-        for crate in $crates; do grep "^$crate[ :]" crates.txt; done | LC_ALL=C sort
+        for crate in $crates; do grep "^${crate}[ :]" crates.txt; done | LC_ALL=C sort
     } | sha256sum | cut -d' ' -f1
 )
 

@@ -1,0 +1,252 @@
+#!/usr/bin/env python3
+"""Tries ./rq, ./rqlook, tools/ship and tools/install in a small clone, with programs and a toolchain that only tell how they were
+called: which program is run, when one is built, what is refused and installed.
+
+usage: scripts.py
+Prints a line for each thing that is not as it must be, and at last `N passed, M failed`.
+"""
+from __future__ import annotations
+import os, shutil, subprocess, sys, tempfile
+from contextlib import contextmanager
+from typing import Callable, Dict, Iterator, List, Tuple
+
+sys.dont_write_bytecode = True
+TOP = os.path.dirname(os.path.dirname(os.path.abspath(__file__)))
+NOBODY = 65534
+PROCESSORS = ["x86-64-v2", "x86-64-v3"]
+# No folder that has a toolchain.
+PATH = os.pathsep.join(it for it in os.get_exec_path() if not os.path.exists(os.path.join(it, "rt")))
+LINE = ["restart", "a log", "1", "1"]
+SOURCES = ["crates/low/src/lib.rt", "crates/low/specs/Lib.antt", "crates/low/proofs/Lib.antt", "crates/rq/src/main.rt"]
+SOURCES += ["crates/rqlook/src/main.rt"]
+# What is beside them, or is nothing of rq.
+OTHERS = ["crates/low/src/.lib.rt.swp", "crates/low/src/lib.rt~", "crates/low/out/x.rt", "crates/rqlook/src/main.rt", "docs/rq.1"]
+# Words that are no line of the programs.
+NO_LINES = [[], ["--help"], ["restart"], ["restart", "a", "1"], ["make", "a", "b", "c"], ["audit", "a"], ["Make", "a", "b"]]
+NO_LOOKS = [[], ["--help"], ["dump"], ["dump", "--help"], ["show", "a"]]
+# What stands for the toolchain: `rt ci` proves, `rattle build` makes what the program is to be, `rattle-link` leaves it.
+TOOLS = {
+    "bin/rt": 'case $1 in doc) echo "$KIT/START";; version) echo kit;; ci) echo "rt: low proved"; [ -z "$REFUSE" ];; esac',
+    "bin/rattle": 'for it in "$@"; do case $it in --cpu=*) cpu=${it#--cpu=};; *.o) to=$it;; esac; done; '
+                  'printf \'#!/bin/sh\\necho %s "$GLIBC_TUNABLES" "$@"\\n\' "$3-$cpu" > "$to"',
+    "bin/rattle-link": 'cp "$7" "$6"',
+}
+SETTINGS = "glibc.malloc.hugetlb=1:glibc.malloc.mmap_threshold=524288:glibc.malloc.trim_threshold=16777216"
+NO_TOOLCHAIN = "the toolchain is not there"
+INSTALLED = ["bin/rq", "bin/rqlook", "libexec/rq/installed", "libexec/rq/rq", "libexec/rq/rqlook"]
+INSTALLED += ["share/man/man1/rq.1", "share/man/man1/rqlook.1"]
+
+passed = failed = 0
+
+
+def check(name: str, got: object, want: object) -> None:
+    global passed, failed
+    if got == want:
+        passed += 1
+    else:
+        failed += 1
+        print(f"{name}: {got!r} in place of {want!r}", flush=True)
+
+
+def put(path: str, text: str, mode: int = 0o644) -> None:
+    os.makedirs(os.path.dirname(path), exist_ok=True)
+    with open(path, "w", encoding="utf-8") as file:
+        file.write(text)
+    os.chmod(path, mode)
+
+
+def content(path: str) -> str:
+    with open(path, encoding="utf-8") as file:
+        return file.read()
+
+
+def ended(words: List[str], env: Dict[str, str]) -> Tuple[int, str, str]:
+    """How a command ends, and what it prints."""
+    pipes = {"stdin": subprocess.DEVNULL, "stdout": subprocess.PIPE, "stderr": subprocess.PIPE}
+    done = subprocess.run(words, env=env, cwd="/", universal_newlines=True, **pipes)
+    return done.returncode, done.stdout, done.stderr
+
+
+class Clone:
+    """A small clone, in a folder beside which the toolchain stands."""
+
+    def __init__(self, folder: str) -> None:
+        self.folder, self.kit = os.path.join(folder, "a clone"), os.path.join(folder, "kit")
+        for name in ("tools", "docs"):
+            shutil.copytree(os.path.join(TOP, name), self.at(name), ignore=shutil.ignore_patterns("measured", "__pycache__"))
+        for name in ("rq", "rqlook", "HANDLES"):
+            shutil.copy(os.path.join(TOP, name), self.at(name))
+        put(self.at("crates.txt"), "low: byteorder\nrq: low\nrqlook: low\n")
+        for name in SOURCES:
+            put(self.at(name), name)
+        for name, text in TOOLS.items():
+            put(os.path.join(self.kit, name), f"#!/bin/sh\n{text}\n", 0o755)
+
+    def at(self, name: str) -> str:
+        return os.path.join(self.folder, name)
+
+    def run(self, *words: str, kit: bool = False, **more: str) -> Tuple[int, str, str]:
+        """How a script ends, and what it prints; with the toolchain, or without one."""
+        path = os.path.join(self.kit, "bin") + os.pathsep + PATH if kit else PATH
+        env = {"PATH": path, "KIT": self.kit, "HOME": "/nowhere", **more}
+        return ended([self.at(words[0]), *words[1:]], env)
+
+    def refuses(self, what: str, reason: str) -> None:
+        """A line of the program is refused where there is no toolchain, and wrong words need none."""
+        status, out, said = self.run("rq", *LINE)
+        check(f"{what}: a line", (status, out, reason in said, NO_TOOLCHAIN in said), (70, "", True, True))
+        check(f"{what}: wrong words", self.run("rq", "restart")[0], 2)
+
+
+def is_of(clone: Clone, name: str) -> str:
+    """Which program was run, by what it tells."""
+    words = LINE if name == "rq" else ["dump", "a log"]
+    return clone.run(name, *words)[1].split(" ")[0].rsplit("-x86", 1)[0]
+
+
+def words(clone: Clone) -> None:
+    """Before anything is built."""
+    check("no programs", clone.run("rq", *LINE)[0], 70)
+    for line in NO_LINES:
+        check(f"{line} before a build", clone.run("rq", *line, kit=True), (2, "", "rq: usage\n"))
+    for line in NO_LOOKS:
+        check(f"rqlook {line} before a build", clone.run("rqlook", *line, kit=True), (2, "", "rqlook: usage\n"))
+    check("nothing was built", os.path.exists(clone.at("build")), False)
+
+
+def shipping(clone: Clone) -> None:
+    check("a check without programs", clone.run("tools/ship", "--check")[0], 1)
+    refused = clone.run("tools/ship", kit=True, REFUSE="yes")[0]
+    check("a refused proof ships nothing", (refused, os.path.exists(clone.at("dist/receipt"))), (70, False))
+    status, out, _ = clone.run("tools/ship", kit=True)
+    check("shipping", (status, out.count("new"), sorted(os.listdir(clone.at("dist")))),
+          (0, 4, ["receipt", *(f"{name}-{cpu}" for name in ("rq", "rqlook") for cpu in PROCESSORS)]))
+    check("a check", clone.run("tools/ship", "--check")[0::2], (0, ""))
+    status, out, said = clone.run("rq", *LINE)
+    check("a shipped program", (status, out.split(" ", 1)[1], said), (0, f"{SETTINGS} {' '.join(LINE)}\n", ""))
+    check("with other settings", clone.run("rq", *LINE, GLIBC_TUNABLES="a=1")[1].split(" ")[1], "a=1")
+    check("wrong words", clone.run("rq", "--help")[1].split(" ", 1)[1], f"{SETTINGS} --help\n")
+    check("its proof", clone.run("rq", "--prove", kit=True)[1].splitlines()[-1].endswith("has the same bytes"), True)
+    shutil.rmtree(clone.at("build"))
+
+
+@contextmanager
+def changed(path: str, by: Callable[[str], str]) -> Iterator[None]:
+    """The file holds something else for a while, or is there for a while."""
+    was_there = os.path.exists(path)
+    before = content(path) if was_there else ""
+    put(path, by(before))
+    yield
+    if was_there:
+        put(path, before)
+    else:
+        os.remove(path)
+
+
+def more_libraries(lines: str) -> str:
+    return lines.replace("byteorder", "byteorder sha2")
+
+
+def changes(clone: Clone) -> None:
+    """Each source that counts, and some that do not."""
+    for name in [*SOURCES[:4], "HANDLES", "crates.txt", "crates/low/src/more.rt"]:
+        with changed(clone.at(name), more_libraries if name == "crates.txt" else lambda it: it + " "):
+            clone.refuses(f"{name} changed", "the sources are not those")
+            check(f"{name} changed: a check", clone.run("tools/ship", "--check")[0], 1)
+    for name in OTHERS:
+        with changed(clone.at(name), lambda it: it + " "):
+            check(f"{name} is nothing of rq", is_of(clone, "rq"), "rq")
+
+
+def bytes_changed(clone: Clone) -> None:
+    for cpu in PROCESSORS:
+        with open(clone.at(f"dist/rq-{cpu}"), "a", encoding="utf-8") as file:
+            file.write("x")
+    clone.refuses("a program changed", "is not the program that dist/receipt names: it is not run")
+    check("a program changed: a check", clone.run("tools/ship", "--check")[0], 1)
+    for what, kit in (("it is built anew", True), ("what was built is run", False)):
+        status, out, said = clone.run("rq", *LINE, kit=kit)
+        check(what, (status, out[:3], "is not run" in said, "proving and building" in said), (0, "rq-", True, kit))
+    check("its proof tells it", clone.run("rq", "--prove", kit=True)[0], 1)
+    check("shipped again", clone.run("tools/ship", kit=True)[0], 0)
+
+
+def building(clone: Clone) -> None:
+    put(clone.at("crates/low/src/lib.rt"), "changed")
+    check("a refused proof", (clone.run("rq", *LINE, kit=True, REFUSE="yes")[0::2][0], is_of(clone, "rq")), (70, ""))
+    check("a proved change", clone.run("rq", *LINE, kit=True)[0], 0)
+    check("what was built is run", is_of(clone, "rq"), "rq")
+    check("the other program is built apart", clone.run("rqlook", "dump", "a")[0], 70)
+    built = next(it for it in os.listdir(clone.at("build")) if it.startswith("rq-") and it[-2:] in ("v2", "v3"))
+    with open(clone.at(f"build/{built}"), "a", encoding="utf-8") as file:
+        file.write("x")
+    check("what was built and changed is not run", clone.run("rq", *LINE)[0], 70)
+    put(clone.at("crates/low/src/lib.rt"), SOURCES[0])
+    shutil.rmtree(clone.at("build"))
+    check("the shipped one again", is_of(clone, "rq"), "rq")
+
+
+def read_only(clone: Clone) -> None:
+    """From elsewhere, by a link, and for root as nobody, who can't write there."""
+    link = os.path.join(os.path.dirname(clone.folder), "link")
+    os.symlink(clone.at("rq"), link)
+    drop = ["setpriv", f"--reuid={NOBODY}", f"--regid={NOBODY}", "--clear-groups"] if os.geteuid() == 0 else []
+    status, out, said = ended([*drop, link, *LINE], {"PATH": PATH})
+    check("a clone that can't be written", (status, out[:3], said), (0, "rq-", ""))
+
+
+def files_below(folder: str) -> List[str]:
+    return sorted(os.path.relpath(os.path.join(at, name), folder) for at, _, names in os.walk(folder) for name in names)
+
+
+def installing(clone: Clone) -> None:
+    prefix = os.path.join(os.path.dirname(clone.folder), "it's here")
+    check("no folder", clone.run("tools/install", prefix)[0], 1)
+    check("no words", (clone.run("tools/install")[0], clone.run("tools/install", "--uninstall")[0]), (2, 2))
+    os.mkdir(prefix)
+    check("nothing to take away", clone.run("tools/install", "--uninstall", prefix)[0], 1)
+    for _ in range(2):
+        check("installing", (clone.run("tools/install", prefix)[0], files_below(prefix)), (0, INSTALLED))
+    ran = ended([os.path.join(prefix, "bin", "rq"), "a b"], {"PATH": PATH})
+    check("an installed program", ran[1].split(" ", 1)[1:], [f"{SETTINGS} a b\n"])
+    put(os.path.join(prefix, "bin", "rq"), "another")
+    check("over a file of another", (clone.run("tools/install", prefix)[0], files_below(prefix)), (1, INSTALLED))
+    check("taking away", (clone.run("tools/install", "--uninstall", prefix)[0], files_below(prefix)), (0, ["bin/rq"]))
+    check("beside a file of another", (clone.run("tools/install", prefix)[0], files_below(prefix)), (1, ["bin/rq"]))
+    links(clone, prefix)
+
+
+def links(clone: Clone, prefix: str) -> None:
+    """A link is a file of another, and what it names stays."""
+    aim, name = os.path.join(prefix, "aim"), os.path.join(prefix, "bin", "rq")
+    put(aim, "as it was")
+    os.remove(name)
+    os.symlink(aim, name)
+    status = clone.run("tools/install", prefix)[0]
+    check("over a link", (status, content(aim), files_below(prefix)), (1, "as it was", ["aim", "bin/rq"]))
+    below = os.path.join(prefix, "below")
+    os.mkdir(below)
+    usr = os.path.join(below, "usr")
+    check("below DESTDIR", (clone.run("tools/install", "/usr", DESTDIR=below)[0], files_below(usr)), (0, INSTALLED))
+    check("its program", "exec '/usr/libexec/rq/rq'" in content(os.path.join(usr, "bin", "rq")), True)
+    check("away from there", (clone.run("tools/install", "--uninstall", "/usr", DESTDIR=below)[0], files_below(below)), (0, []))
+
+
+def main() -> None:
+    folder = tempfile.mkdtemp(prefix="rq-scripts-")
+    os.chmod(folder, 0o755)
+    try:
+        clone = Clone(folder)
+        for part in (words, shipping, changes, bytes_changed, building, read_only, installing):
+            try:
+                part(clone)
+            except Exception as fault:
+                check(part.__name__, repr(fault), "")
+    finally:
+        shutil.rmtree(folder)
+    print(f"{passed} passed, {failed} failed")
+    sys.exit(failed != 0)
+
+
+if __name__ == "__main__":
+    main()
