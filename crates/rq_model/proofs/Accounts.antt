@@ -1,6 +1,6 @@
 -- What restarts answer accounts for the front.
 use Rattle.std.proofs.Common.{◌≡◌, ℕ, ◌<◌, ◌≤◌, ◌^◌, true, List, [], ◌∷◌, ◌++◌, length, map, Option}
-use Rattle.std.proofs.Common.{None, refl, sym}
+use Rattle.std.proofs.Common.{◌+◌, None, sym}
 use Rattle.std.proofs.Common.{ap, ◌∙◌, subst, arith, length-append}
 use Rattle.std.proofs.lemmas.List.{append-nil}
 use Rattle.std.specs.List.{AllByRecursion}
@@ -13,6 +13,11 @@ use Rattle.rq_model.specs.WellFormed.{IsWellFormed, IsElement}
 use Rattle.rq_model.specs.StateSpelling.{Fits, FitsDefinition, FitsRegistrant}
 use Rattle.rq_model.specs.WorkedLogs.{text_made}
 use Rattle.rq_model.specs.FateReports.{element_lines, ReportAccounts, CheckpointReportAccounts}
+use Rattle.rq_model.specs.FateReports.{BeginningReportAccounts}
+use Rattle.rq_model.specs.Fates.{requests, done, kills}
+use Rattle.rq_model.specs.Reports.{IsText}
+use Rattle.rq_model.specs.Tails.{IsTail}
+use Rattle.rq_model.specs.Frames.{AreBytes}
 use Rattle.rq_model.specs.Fates.{shown}
 use Rattle.rq_model.proofs.Lists.{each_weaker, each_append, each_both}
 use Rattle.rq_model.proofs.Kept.{runs_are_well_formed, empty_is_well_formed}
@@ -32,7 +37,13 @@ use Rattle.rq_model.proofs.Longest.{one_front, front_ends, one_restart}
 use Rattle.rq_model.proofs.Restarts.{crash_in_the_tail, one_restart_at, true_back, true_is_same}
 use Rattle.rq_model.proofs.Found.{front_restart}
 use Rattle.rq_model.proofs.Balance.{one_fate, all_are_free, runs_end}
-use Rattle.rq_model.proofs.Tried.{attempts_are_tries}
+use Rattle.rq_model.specs.States.{definition_at}
+use Rattle.rq_model.specs.Machine.{is_registered}
+use Rattle.rq_model.specs.Fates.{leavings, IsBounded, remains}
+use Rattle.std.specs.Prelude.{◌≢◌}
+use Rattle.rq_model.proofs.Tried.{attempts_are_tries, bounded_tries}
+use Rattle.rq_model.proofs.Taken.{takes_are_tries}
+use Rattle.rq_model.proofs.Meaning.{who_is_registered}
 use Rattle.rq_model.proofs.Origins.{all_as_enqueued}
 use Rattle.rq_model.proofs.Clients.{how_far}
 
@@ -49,6 +60,12 @@ accounts version rs lawful =
       attempts = subst (λ (z : State). AllByRecursion (λ (e : Element). e.attempts
           ≡ tries_at e.id e.home all) z.elements)
           joined (attempts_are_tries version all too);
+      bounded = λ p home. subst (λ (z : State). (definition_at z.definitions home).limit ≢ 0
+          → IsBounded (definition_at z.definitions home).limit (tries_at p home all) (leavings p home all)) joined
+          (bounded_tries version all p home too);
+      taken = λ p. takes_are_tries version rs p lawful;
+      registered = λ queue name. subst (λ (z : State). is_registered z queue name ≡ remains queue name all) joined
+          (who_is_registered all queue name);
       clients = subst (λ (z : State). AllByRecursion
           (λ (r : Registrant). r.last ≡ latest None (hears r.queue r.name empty all)) z.registrants)
           joined (how_far version all too);
@@ -64,13 +81,21 @@ restart_accounts b version rs rest r front restart =
     subst (Accounts (with_aborts rs)) (sym (restart_state b version rs rest r front restart))
     (accounts version rs front.longest.begins.lawful)
 
-pub beginning_accounts : BeginningAccounts
-beginning_accounts b tail part missing version rs rest r fits front tailed parts short found =
+beginning_state : (b tail part missing : List ℕ) (version : Version) (rs : List Record) (rest : List ℕ) (r : Restarted)
+    → AreBytes b → IsFront b version rs rest → IsTail b tail → tail ≡ part ++ missing
+    → length (log_of version rs ++ part) ≤ log_limit → IsRestart (log_of version rs ++ part) r
+    → r.state ≡ final (run empty rs)
+beginning_state b tail part missing version rs rest r fits front tailed parts short found =
     let (first, restart) = front_restart b version rs rest fits front in
     let here = crash_in_the_tail b tail part missing version rs rest first front tailed parts short restart in
-    let same = one_restart (log_of version rs ++ part) here.again r here.restart found in
-    subst (Accounts (with_aborts rs)) (sym here.state ∙ ap (λ (z : Restarted). z.state) same)
-    (restart_accounts b version rs rest first front restart)
+    let same = one_restart (log_of version rs ++ part) r here.again found here.restart in
+    ap (λ (z : Restarted). z.state) same ∙ here.state ∙ restart_state b version rs rest first front restart
+
+pub beginning_accounts : BeginningAccounts
+beginning_accounts b tail part missing version rs rest r fits front tailed parts short found =
+    subst (Accounts (with_aborts rs))
+    (sym (beginning_state b tail part missing version rs rest r fits front tailed parts short found))
+    (accounts version rs front.longest.begins.lawful)
 
 pub closed_accounts : ClosedAccounts
 closed_accounts b closed version rs rest r fits front (tail, h) short found =
@@ -123,32 +148,41 @@ few_records b version rs rest front =
 stands_in : (s : State) (e : Element) → (e.mark ≡ Free) × IsElement s e → StandsIn s.definitions e
 stands_in s e x = record { free = ap is_free x.0; home = x.1.home }
 
-pub report_accounts : ReportAccounts
-report_accounts b version rs rest text p low front (r, restart, told) =
+-- the lines of a text for the state that the front ends in
+text_accounts : (b : List ℕ) (version : Version) (rs : List Record) (rest : List ℕ) (r : Restarted) (text : List ℕ)
+    (p : ℕ) → p < 2 ^ 64 → IsFront b version rs rest → r.state ≡ final (run empty rs) → IsText r text
+    → element_lines p text + (done p (with_aborts rs) + kills p (with_aborts rs)) ≡ requests p (with_aborts rs)
+text_accounts b version rs rest r text p low front same told =
     let begins = front.longest.begins in
     let s = final (run empty rs) in
     let account = accounts version rs begins.lawful in
     let (too, joined) = runs_end version rs begins.lawful in
-    let same = restart_state b version rs rest r front restart in
     let keeps : IsWellFormed s = subst IsWellFormed joined
     (runs_are_well_formed version empty (with_aborts rs) empty_is_well_formed too) in
     let fits : Fits s = subst Fits joined (runs_fit version empty (with_aborts rs) empty_fits
     (each_append (IsRecord version) rs _ begins.records (aborts_are version rs begins.records begins.lawful))) in
-    let few = few_records b version rs rest front in
     let narrow_all = each_weaker (IsAsEnqueued (with_aborts rs) s) IsNarrow
-    (narrow rs s few) s.elements account.elements in
+    (narrow rs s (few_records b version rs rest front)) s.elements account.elements in
     let stand = each_weaker _ (StandsIn s.definitions) (stands_in s) s.elements
     (each_both (λ (e : Element). e.mark ≡ Free) (IsElement s) s.elements account.free keeps.elements) in
-    let made = one_text r text (text_made r) told (is_text r (subst IsWellFormed (sym same) keeps)) in
-    let count : (z : State) → z ≡ s → z ≡ r.state → element_lines p (text_made r) ≡ shown p s =
-    λ z e k. let back = sym e ∙ k in
-    subst (λ (t : State). element_lines p (text_made r) ≡ shown p t) same
-    (text_told p r low (subst (λ (t : State). AllByRecursion FitsDefinition t.definitions) back fits.definitions)
+    let back = sym same in
+    let lines : element_lines p (text_made r) ≡ shown p r.state = text_told p r low
+    (subst (λ (t : State). AllByRecursion FitsDefinition t.definitions) back fits.definitions)
     (subst (λ (t : State). AllByRecursion FitsRegistrant t.registrants) back fits.registrants)
     (subst (λ (t : State). AllByRecursion IsNarrow t.elements) back narrow_all)
-    (subst (λ (t : State). AllByRecursion (StandsIn t.definitions) t.elements) back stand)) in
-    let lines = ap (element_lines p) made ∙ count r.state same refl in
-    omega (arith, lines, account.fates p)
+    (subst (λ (t : State). AllByRecursion (StandsIn t.definitions) t.elements) back stand) in
+    let made = one_text r text (text_made r) told (is_text r (subst IsWellFormed back keeps)) in
+    let count = ap (element_lines p) made ∙ lines ∙ ap (shown p) same in
+    omega (arith, count, account.fates p)
+
+pub report_accounts : ReportAccounts
+report_accounts b version rs rest text p low front (r, restart, told) =
+    text_accounts b version rs rest r text p low front (restart_state b version rs rest r front restart) told
+
+pub beginning_report_accounts : BeginningReportAccounts
+beginning_report_accounts b tail part missing version rs rest text p low fits front tailed parts short told =
+    text_accounts b version rs rest told.0 text p low front
+    (beginning_state b tail part missing version rs rest told.0 fits front tailed parts short told.1) told.2
 
 pub checkpoint_report_accounts : CheckpointReportAccounts
 checkpoint_report_accounts b offset version rs rest text p low front true_here told =

@@ -1,19 +1,20 @@
 -- What restarts answer of requests and clients: a restart changes nothing of it.
-use Rattle.std.specs.Prelude.{◌≡◌, ◌<◌, ◌≤◌, ◌^◌, ℕ, ◌+◌, ◌==◌, Bool, true, ◌&&◌, if◌then◌else◌}
-use Rattle.std.specs.Prelude.{List, [], ◌∷◌, ◌++◌, length, take, None, codes}
+use Rattle.std.specs.Prelude.{◌≡◌, ◌≢◌, ◌<◌, ◌≤◌, ◌^◌, ℕ, ◌+◌, ◌==◌, Bool, true, ◌&&◌}
+use Rattle.std.specs.Prelude.{if◌then◌else◌, List, [], ◌∷◌, ◌++◌, length, take, None, codes}
 use Rattle.std.specs.List.{AllByRecursion}
 use Rattle.std.specs.Fmt.{decimal}
 use Rattle.std.specs.Str.{bytes_eq}
 use Rattle.rq_model.specs.Records.{Record, Version}
 use Rattle.rq_model.specs.Frames.{log_limit, log_of, AreBytes}
-use Rattle.rq_model.specs.States.{Free, State, empty}
-use Rattle.rq_model.specs.Machine.{latest}
+use Rattle.rq_model.specs.States.{Free, State, empty, definition_at}
+use Rattle.rq_model.specs.Machine.{latest, is_registered}
 use Rattle.rq_model.specs.Fronts.{IsFront, Restarted, IsRestart}
 use Rattle.rq_model.specs.Reports.{IsReport}
 use Rattle.rq_model.specs.Checkpoints.{TrueAt, IsRestartAt, IsReportAt}
 use Rattle.rq_model.specs.Tails.{IsTail}
 use Rattle.rq_model.specs.Closing.{IsClosed}
-use Rattle.rq_model.specs.Fates.{with_aborts, requests, done, kills, shown, tries_at, hears}
+use Rattle.rq_model.specs.Fates.{with_aborts, requests, takes, done, kills, shown, tries, tries_at}
+use Rattle.rq_model.specs.Fates.{leavings, IsBounded, remains, hears}
 use Rattle.rq_model.specs.FateLaws.{IsAsEnqueued}
 
 -- what a state says of the requests and clients of records that were run, with the ABORTs behind
@@ -23,6 +24,11 @@ pub record Accounts (rs : List Record) (s : State) : Type 0 where
   pub elements : AllByRecursion (IsAsEnqueued rs s) s.elements
   pub free : AllByRecursion (λ e. e.mark ≡ Free) s.elements
   pub attempts : AllByRecursion (λ e. e.attempts ≡ tries_at e.id e.home rs) s.elements
+  pub bounded : (p home : ℕ) → (definition_at s.definitions home).limit ≢ 0
+      → IsBounded (definition_at s.definitions home).limit (tries_at p home rs) (leavings p home rs)
+  pub taken : (p : ℕ) → takes p rs ≡ tries p rs + done p rs
+  pub registered : (queue : ℕ) (name : List ℕ)
+      → is_registered s queue name ≡ remains queue name rs
   pub clients : AllByRecursion (λ r. r.last ≡ latest None (hears r.queue r.name empty rs))
       s.registrants
 
@@ -76,6 +82,16 @@ abbrev pub ReportAccounts : Type 0
 ReportAccounts =
     (b : List ℕ) (version : Version) (rs : List Record) (rest text : List ℕ) (p : ℕ) →
     p < 2 ^ 64 → IsFront b version rs rest → IsReport b text
+    → element_lines p text + (done p (with_aborts rs) + kills p (with_aborts rs))
+    ≡ requests p (with_aborts rs)
+
+-- in one of the front with a beginning of its tail
+abbrev pub BeginningReportAccounts : Type 0
+BeginningReportAccounts =
+    (b tail part missing : List ℕ) (version : Version) (rs : List Record) (rest text : List ℕ)
+    (p : ℕ) → p < 2 ^ 64 → AreBytes b → IsFront b version rs rest → IsTail b tail
+    → tail ≡ part ++ missing → length (log_of version rs ++ part) ≤ log_limit
+    → IsReport (log_of version rs ++ part) text
     → element_lines p text + (done p (with_aborts rs) + kills p (with_aborts rs))
     ≡ requests p (with_aborts rs)
 

@@ -19,7 +19,7 @@ ghost use Rattle.rq_model.specs.FateLaws.{HowFar, WhoIsRegistered, CountIsNone, 
 ghost use Rattle.rq_model.specs.FateLaws.{OutcomeIsAhead};
 ghost use Rattle.rq_model.specs.FateReports.{RestartAccounts, BeginningAccounts, ClosedAccounts};
 ghost use Rattle.rq_model.specs.FateReports.{CheckpointAccounts, ReportAccounts};
-ghost use Rattle.rq_model.specs.FateReports.{CheckpointReportAccounts};
+ghost use Rattle.rq_model.specs.FateReports.{BeginningReportAccounts, CheckpointReportAccounts};
 ghost use Rattle.rq_model.specs.WorkedLogs.{WorkedBytes, WorkedLogs, UnlawfulLogs};
 ghost use Rattle.rq_model.specs.WorkedLogs.{WorkedCheckpoint};
 ghost use Rattle.rq_model.specs.WorkedMachine.{WorkedLaw, WorkedSteps, WorkedOrders, WorkedQueues};
@@ -288,10 +288,12 @@ pub fn restarts_account()
     ensures checkpoint { CheckpointAccounts }
 {}
 
-/// A line `e p ..` stands in the report of a log, and in that from a true checkpoint, as often as
-/// number p was requested, less how often it was done or killed.
+/// A line `e p ..` stands in the report of a log, in that of its front with a beginning of the
+/// tail, and in that from a true checkpoint, as often as number p was requested, less how often it
+/// was done or killed.
 pub fn reports_account()
     ensures report { ReportAccounts }
+    ensures beginning { BeginningReportAccounts }
     ensures checkpoint { CheckpointReportAccounts }
 {}
 
