@@ -7,6 +7,7 @@ from typing import Dict, FrozenSet, Iterator, List, NamedTuple, Tuple
 HEAD = re.compile(r"^( *)(?:pub(?:\([^)]*\))? )?(?:const )?(?:unsafe )?fn (\w+)", re.M)
 HOLDER = re.compile(r"^(?:unsafe )?impl\b[^{;]*\{", re.M)
 CONST = re.compile(r"^(?:pub(?:\([^)]*\))? )?(?:const|static) (\w+)")
+CLAUSE = re.compile(r"^\s*(?:ghost|requires|ensures)\b", re.M)
 # As many wrong bodies are tried in one check at most.
 MOST = 32
 
@@ -17,6 +18,15 @@ class Function(NamedTuple):
     path: str
     holder: str
     name: str
+
+
+class Span(NamedTuple):
+    """Where a function begins, where its body does, and where it ends."""
+
+    begin: int
+    body: int
+    end: int
+    function: Function
 
 
 class Edit(NamedTuple):
@@ -32,6 +42,14 @@ class Edit(NamedTuple):
 
 
 Texts = Dict[str, str]
+
+
+class Applied(NamedTuple):
+    """The texts with an edit, the functions that it changes, and whether it may change what others of their file mean."""
+
+    texts: Texts
+    changed: FrozenSet[Function]
+    reaches_out: bool
 
 
 def pairs_of(text: str) -> Iterator[Tuple[str, str, str]]:
@@ -72,44 +90,54 @@ def holder_of(head: str) -> str:
     return " ".join(it[0] for it in names if it)
 
 
-def functions_of(path: str, text: str) -> List[Tuple[int, int, Function]]:
-    """Where each function of the file begins and ends. The files are laid out, so it ends at a brace below its head."""
+def functions_of(path: str, text: str) -> List[Span]:
+    """The functions of the file. The files are laid out: a function ends at a brace below its head, and where it has a contract
+    its body begins at one."""
     holders = [(it.start(), text.find("\n}", it.end()), holder_of(it[0])) for it in HOLDER.finditer(text)]
     found = []
     for head in HEAD.finditer(text):
         end = text.find(f"\n{head[1]}}}", head.end())
         holder = next((name for begin, last, name in holders if begin < head.start() < last), "")
-        found.append((head.start(), len(text) if end < 0 else end + len(head[1]) + 2, Function(path, holder, head[2])))
+        last = len(text) if end < 0 else end + len(head[1]) + 2
+        body = text.find(f"\n{head[1]}{{\n", head.end(), last)
+        found.append(Span(head.start(), body if body > 0 else text.find("{", head.end()), last, Function(path, holder, head[2])))
     return found
 
 
-def changed_by(texts: Texts, path: str, at: int, end: int) -> List[Function]:
-    """The functions that a change from `at` to `end` is in. Of a constant: those that name it."""
-    text = texts[path]
+def changed_by(texts: Texts, path: str, at: int, old: str) -> Tuple[List[Function], bool]:
+    """The functions whose code a change of the old text at `at` is in, and whether it reaches beyond them: it is in what a type
+    holds or a function takes. A constant is of the functions that name it."""
+    text, end = texts[path], at + len(old)
+    line = text[text.rfind("\n", 0, at) + 1 : end]
     # (a function without a body of its own, as a trait has, seems to end where a later one does)
-    found = [it for begin, last, it in functions_of(path, text) if begin < end and at < last][-1:]
-    const = CONST.match(text[text.rfind("\n", 0, at) + 1 :])
-    if found or not const:
-        return found
-    word = re.compile(rf"\b{const[1]}\b")
+    span = next((it for it in reversed(functions_of(path, text)) if it.begin < end and at < it.end), None)
+    if span:
+        if at < span.body and CLAUSE.search(text, span.begin, end):
+            raise ValueError("it changes a contract")
+        return [span.function], at < span.body
+    const = CONST.match(line)
+    if not const:
+        return [], not line.startswith("use ")
+    word, found = re.compile(rf"\b{const[1]}\b"), []
     for other in sorted(it for it in texts if it.endswith(".rt")):
-        found += [it for begin, last, it in functions_of(other, texts[other]) if word.search(texts[other], begin, last)]
-    return found
+        found += [it.function for it in functions_of(other, texts[other]) if word.search(texts[other], it.begin, it.end)]
+    return found, False
 
 
-def applied(edit: Edit, texts: Texts) -> Tuple[Texts, FrozenSet[Function]]:
+def applied(edit: Edit, texts: Texts) -> Applied:
     """The texts with the edit, and the functions that it changes. ValueError says why it does not apply."""
-    made, changed = dict(texts), set()
+    made, changed, reaches_out = dict(texts), set(), False
     for path, old, new in edit.pairs:
-        count = made.get(path, "").count(old) if old else 0
+        count = made.get(path, "").count(old) if old and path.startswith("src/") else 0
         if count != 1:
             raise ValueError(f"an old text stands {count} times in {path}")
-        at = made[path].index(old)
-        changed.update(changed_by(made, path, at, at + len(old)))
+        functions, beyond = changed_by(made, path, made[path].index(old), old)
+        changed.update(functions)
+        reaches_out = reaches_out or beyond
         made[path] = made[path].replace(old, new)
     if made == texts or not changed:
         raise ValueError("it changes no function")
-    return made, frozenset(changed)
+    return Applied(made, frozenset(changed), reaches_out)
 
 
 class Batch:
@@ -117,23 +145,26 @@ class Batch:
 
     def __init__(self, texts: Texts):
         self.texts, self.edits, self.changed = texts, [], {}  # type: Texts, List[Edit], Dict[Edit, FrozenSet[Function]]
+        self.is_full = False
 
     def takes(self, edit: Edit) -> bool:
-        """Takes the edit, unless it changes a function that another one changes, or meets another one's text."""
+        """Takes the edit, unless it changes a function that another one changes, or meets another one's text. One that reaches
+        beyond the functions that it changes stands alone."""
         try:
-            texts, changed = applied(edit, self.texts)
+            made = applied(edit, self.texts)
         except ValueError:
             return False
-        if len(self.edits) == MOST or any(changed & it for it in self.changed.values()):
+        if self.is_full or self.edits and made.reaches_out or any(made.changed & it for it in self.changed.values()):
             return False
-        self.texts, self.changed[edit] = texts, changed
+        self.texts, self.changed[edit] = made.texts, made.changed
         self.edits.append(edit)
+        self.is_full = made.reaches_out or len(self.edits) == MOST
         return True
 
 
 def batches_of(edits: List[Edit], texts: Texts) -> List[Batch]:
     """The edits in few batches: those whose functions others change too go first. Each of them applies alone."""
-    functions = {it: applied(it, texts)[1] for it in edits}
+    functions = {it: applied(it, texts).changed for it in edits}
     rivals = {it: sum(1 for other in edits if functions[other] & functions[it]) for it in edits}
     made: List[Batch] = []
     for edit in sorted(edits, key=lambda it: (-rivals[it], it.name)):

@@ -129,6 +129,6 @@ def culprits(said: Said, batch: Batch) -> List[Edit]:
     found = []
     for path, number, _ in said.broken:
         at = sum(len(line) + 1 for line in batch.texts.get(path, "").split("\n")[: number - 1])
-        here = [it for begin, last, it in functions_of(path, batch.texts.get(path, "")) if begin <= at < last]
+        here = [it.function for it in functions_of(path, batch.texts.get(path, "")) if it.begin <= at < it.end]
         found += [edit for edit in batch.edits if batch.changed[edit] & frozenset(here) and edit not in found]
     return found
