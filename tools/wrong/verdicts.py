@@ -11,7 +11,7 @@ PLACE = re.compile(r"^(?:note: )?(?:\./)?((?:src|proofs)/\S+?):(\d+):\d+: (.*)")
 OPEN = re.compile(r"`search` did not prove (`[^`]+`)")
 # What is not proved of a goal; a goal whose answer stands in a file and no longer fits.
 STATED = re.compile(r"it is not proved that (.*?) \((`[^`]+`)\)")
-ANSWER = re.compile(r"^error: (`[^`]+`): (.*)")
+ANSWER = re.compile(r"^error: (?:unsolved \S+ in )?(`[^`]+`): (.*)")
 # A proof file that names what is no longer there, and what stands on something that was refused: no goal of the function.
 LOST = re.compile(r"has no field|is not in scope|has no `|is no name")
 AFTER = re.compile(r"not admitted|was rejected, was not checked|was refused")
