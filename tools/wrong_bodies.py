@@ -20,7 +20,7 @@ from concurrent.futures import ThreadPoolExecutor
 from typing import Dict, List, Optional, Tuple
 
 sys.dont_write_bytecode = True
-from wrong.checks import Tried, tried
+from wrong.checks import Tried, stop, tried
 from wrong.edits import Batch, Edit, applied, batches_of, edits_of
 from wrong.places import Place, places
 from wrong.receipts import Sums, gone, held, made_of, receipt_of, written
@@ -75,9 +75,13 @@ class Run:
         if not crates:
             return
         with places(TOP, {it: crates.count(it) for it in crates}, self.jobs, tell) as at, ThreadPoolExecutor(self.jobs) as pool:
-            while batches:
-                done = pool.map(lambda it: tried(at[it.edits[0].crate], it, self.said), batches)
-                batches = [more for batch, one in zip(batches, done) for more in self.told(batch, one)]
+            try:
+                while batches:
+                    done = pool.map(lambda it: tried(at[it.edits[0].crate], it, self.said), batches)
+                    batches = [more for batch, one in zip(batches, done) for more in self.told(batch, one)]
+            except BaseException:
+                stop()
+                raise
 
     def write(self) -> None:
         """Writes the receipts of the crates whose wrong bodies were all tried and refused."""
@@ -152,7 +156,8 @@ def ended(wrong: Dict[str, str], labels: List[str]) -> int:
 
 
 def words_of() -> argparse.Namespace:
-    reader = argparse.ArgumentParser(usage=__doc__, add_help=True)
+    reader = argparse.ArgumentParser(usage="wrong_bodies.py --help says how", add_help=False)
+    reader.add_argument("-h", "--help", action="store_true")
     for name in ("--receipt", "--gate", "--write"):
         reader.add_argument(name, action="store_true")
     reader.add_argument("--jobs", type=int, default=len(os.sched_getaffinity(0)))
@@ -163,6 +168,9 @@ def words_of() -> argparse.Namespace:
 
 def main() -> int:
     words = words_of()
+    if words.help:
+        print(__doc__)
+        return 0
     # (so that folders are removed however it ends)
     for it in (signal.SIGTERM, signal.SIGHUP):
         signal.signal(it, lambda number, _: sys.exit(128 + number))

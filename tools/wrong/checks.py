@@ -1,11 +1,14 @@
 """The check of a crate with a batch of wrong bodies in it."""
 from __future__ import annotations
 import os, shutil, subprocess, tempfile
-from typing import Dict, List, NamedTuple, Tuple
+from typing import Dict, List, NamedTuple, Set, Tuple
 
 from wrong.edits import Batch, Edit
 from wrong.places import KIT, Place
 from wrong.verdicts import Verdict, culprits, judged, read
+
+# The checks that run now.
+RUNNING: Set["subprocess.Popen[str]"] = set()
 
 
 class Tried(NamedTuple):
@@ -47,15 +50,18 @@ def said_of(place: Place, batch: Batch) -> Tuple[str, float]:
             shutil.copytree(place.kept, os.path.join(room, "kept"), copy_function=link_or_copy)
             words += ["--incremental", os.path.join(room, "kept")]
         with open(os.path.join(room, "said"), "w+", encoding="utf-8", errors="replace") as said:
-            run = subprocess.Popen(words, cwd=room, stdin=subprocess.DEVNULL, stdout=said, stderr=said)
-            try:
-                _, status, used = os.wait4(run.pid, 0)
-            except BaseException:
-                run.kill()
-                raise
-            run.returncode = status
+            run = subprocess.Popen(words, cwd=room, stdin=subprocess.DEVNULL, stdout=said, stderr=said, text=True)
+            RUNNING.add(run)
+            _, run.returncode, used = os.wait4(run.pid, 0)
+            RUNNING.discard(run)
             said.seek(0)
             return said.read(), used.ru_utime + used.ru_stime
+
+
+def stop() -> None:
+    """Ends the checks that run now."""
+    for run in list(RUNNING):
+        run.kill()
 
 
 def tried(place: Place, batch: Batch, to: str) -> Tried:
