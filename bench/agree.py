@@ -5,9 +5,10 @@ of the front, chained anew in version 2, with the same report but for its first 
 the same restart. One log more has true checkpoints.
 
 usage: agree.py RQ [--seeds N] [--mib 1,4] [--folder DIR]
+The last line is `N passed, M failed`, by what was compared.
 """
 from __future__ import annotations
-import os, subprocess
+import os, subprocess, sys
 from checkpoints import script
 from common import COMPARED, PLANS, built_peer, log_of, parsed, parser, report, upgrade_agrees
 
@@ -57,7 +58,8 @@ def main() -> None:
                 if not upgrade_agrees(options.program, peer, log, want):
                     differing += 1
                     print(f"{log}, upgraded, differs")
-    print(f"{compared} reports compared, {differing} differ")
+    print(f"{compared - differing} passed, {differing} failed")
+    sys.exit(differing != 0)
 
 
 if __name__ == "__main__":

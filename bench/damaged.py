@@ -5,10 +5,10 @@ each, too: what is made must be the front in version 2, and say the same.
 usage: damaged.py RQ [--damages N] [--mib N] [--folder DIR]
 Each log is cut, has one bit turned, or gets a body that is no record, one that is not lawful, both, or a KILL (no record in
 version 1), at places drawn evenly; behind a changed body all digests are made anew, so that the chain holds and the body
-itself ends the front.
+itself ends the front. The last line is `N passed, M failed`, by what was compared.
 """
 from __future__ import annotations
-import os, random
+import os, random, sys
 
 from common import COMPARED, DAMAGES, PLANS, built_peer, log_of, parsed, parser, report, upgrade_agrees
 
@@ -42,7 +42,9 @@ def main() -> None:
                 if not upgrade_agrees(options.program, peer, path, want):
                     differing += 1
                     print(f"{shape}, {name} for the {time}th time, upgraded, differs")
-    print(f"{compared} reports compared, {differing} differ; fronts that end by", ends)
+    print("fronts that end by", ends)
+    print(f"{compared - differing} passed, {differing} failed")
+    sys.exit(differing != 0)
 
 
 if __name__ == "__main__":

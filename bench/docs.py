@@ -10,7 +10,7 @@ block, are all that it prints, on standard output and standard error. Each sessi
 one folder, which has `rq`, `rqlook`, `examples` and `bench` of the clone and starts without any other file; `./rq` is then a link.
 A fenced block that names `./rq` and is no such session is counted as a difference. Other blocks are not run.
 
-With --program and --look a built program stands in the place of a root script. The last line is 'N commands, M differ'.
+With --program and --look a built program stands in the place of a root script. The last line is `N passed, M failed`, by commands.
 """
 from __future__ import annotations
 import argparse, glob, os, subprocess, sys, tempfile
@@ -85,7 +85,7 @@ def tried(path: str, folder: str) -> tuple[int, int]:
             continue
         if not is_session(mark, lines):
             print(f"{path}:{first}: names ./rq and is no session")
-            wrong += 1
+            count, wrong = count + 1, wrong + 1
             continue
         for command in commands_of(first, lines):
             count += 1
@@ -106,7 +106,7 @@ def main() -> int:
             fill(folder, {"rq": options.program, "rqlook": options.look})
             ran, differing = tried(path, folder)
             count, wrong = count + ran, wrong + differing
-    print(f"{count} commands, {wrong} differ")
+    print(f"{count - wrong} passed, {wrong} failed")
     return 1 if wrong else 0
 
 

@@ -7,7 +7,8 @@ The file that is made must be there as it was before, or whole and new; new wher
 the mode that it had and, for root, its owner and group, and beside it nothing may be left. Only a run that was killed may leave
 the file that it was writing, `LOG.rq0`, which others may not read who may not read the old one, and then the next run must do
 its work all the same. A symbolic link stays one, also where it named nothing. RQ is the built program itself. Ends with status
-1 where something is wrong, or where no call on a file was met.
+1 where something is wrong, or where no call on a file was met. The last line is `N passed, M failed`: runs that left all as it must
+be, and things that are wrong.
 """
 from __future__ import annotations
 import os, resource, shutil, signal, stat, subprocess, sys
@@ -22,7 +23,7 @@ COMMIT_FRAME = 45
 OLD_MODE = 0o640
 OWN_MODE = 0o600
 
-wrong = 0
+right = wrong = 0
 
 
 class Work(NamedTuple):
@@ -75,7 +76,8 @@ class Room:
 
     def look(self, what: str, status: int, left: set[str] = set()) -> None:
         """What stands in the folder after a run that ended with this status."""
-        case = f"{self.case}, {what}"
+        global right
+        case, before = f"{self.case}, {what}", wrong
         has, new = content(self.log), self.work.new
         if has not in (self.old, new):
             told(case, f"the file has {len(has or b'')} bytes, neither the {len(self.old or b'')} old ones nor the {len(new)} new ones")
@@ -92,6 +94,7 @@ class Room:
             self.look_at_left(case, os.path.join(self.folder, name))
         if self.name != "log" and not os.path.islink(os.path.join(self.folder, self.name)):
             told(case, "the symbolic link is gone")
+        right += wrong == before
 
     def look_at_left(self, case: str, path: str) -> None:
         """A file that a killed run was writing is its owner's alone, until it is given to the owner of the old one."""
@@ -215,7 +218,7 @@ def main() -> None:
     if (full.returncode, full.stderr) != (3, b"rq: write fault\n"):
         told("/dev/full", f"status {full.returncode}")
     shutil.rmtree(os.path.join(options.folder, "room"))
-    print(f"{wrong} wrong")
+    print(f"{right} passed, {wrong} failed")
     sys.exit(wrong != 0)
 
 

@@ -1,7 +1,7 @@
 #!/usr/bin/env python3
 """Holds what `rqlook` shows against what `rq` says and what the log's bytes are, over many logs, and counts what differs.
 
-usage: look.py RQ RQLOOK [--seeds N] [--stories N] [--mib N] [--scripts N] [--speed MIB] [--folder DIR]
+usage: look.py RQ RQLOOK [--own] [--seeds N] [--stories N] [--mib N] [--scripts N] [--speed MIB] [--folder DIR]
 For each shape and seed of the peer's logs: the report as JSON is held against its schema, told as text again, and compared with `rq
 restart`; the lines of each queue alone with those of the whole; the script is made a log again by `rq make`, and compared byte by
 byte; each line of a dump, whole and by each option, as text and as JSON, with what is made of the log's bytes here (looked.py); so are
@@ -9,12 +9,15 @@ the stories of some elements and units; `check` is compared with `rq audit`, and
 in each of the six ways, and what the dump says of its end is compared; odd payloads are shown; a script ends before a record that no
 line tells; and wrong words, a missing file, a closed output and refused memory are tried. With --scripts, so many more logs are made,
 told as scripts and made again. With --speed, a dump and a check of a log of so many MiB are timed beside a restart and an audit.
+With --own no peer is wanted: the logs are those of the scripts in examples/, and one of units on many queues with checkpoints. The
+last line is `N passed, M failed`, by answers.
 """
 from __future__ import annotations
-import json, os, random, resource, shutil, subprocess, sys
+import argparse, glob, json, os, random, resource, shutil, subprocess, sys
 from html.parser import HTMLParser
 
-from common import COMPARED, HEADER, NO_RECORD, UNLAWFUL, best, bodies_of, built_peer, chained, header_of, log_of, parsed, parser, write_log
+import checkpoints
+from common import COMPARED, HEADER, HERE, NO_RECORD, UNLAWFUL, best, bodies_of, built_peer, chained, header_of, log_of, parsed, parser, write_log
 from looked import Stories, compact, is_hidden, line_of, records_of, shown
 from records import begin, commit, define, enqueue, register
 from schema import report_misfits
@@ -342,9 +345,37 @@ def speeds(rq: str, look: str, peer: str, folder: str, mib: int) -> None:
               f"{found / (restart + audit):.2f} of a restart ({restart:.2f} s) and an audit ({audit:.2f} s)", flush=True)
 
 
+def own_logs(rq: str, folder: str) -> list[str]:
+    """The logs of the scripts in examples/ that are whole, and at last one of units on many queues."""
+    many, logs = os.path.join(folder, "many.script"), []
+    checkpoints.script(many, 1, 4)
+    for script in [*sorted(glob.glob(os.path.join(HERE, "..", "examples", "**", "*.script"), recursive=True)), many]:
+        log = os.path.join(folder, f"own.{len(logs)}")
+        with open(script, "rb") as lines:
+            version = "make2" if b"\nkill " in lines.read() else "make"
+        subprocess.run([rq, version, script, log], check=True)
+        if told(rq, "restart", log, "1", "1000")[1].split("\n", 1)[0].endswith("whole"):
+            logs.append(log)
+    return logs
+
+
+def look_at(options: argparse.Namespace, log: str, draw: random.Random) -> None:
+    """All that a whole log is shown as."""
+    rq, look = options.program, options.look
+    with open(log, "rb") as source:
+        records = records_of(bodies_of(source.read()))
+    same_reports(rq, look, log, draw)
+    same_script(rq, look, log, options.folder)
+    same_dump(look, log, records, draw)
+    same_check(rq, look, log)
+    same_stories(look, log, records, options.stories, draw)
+    same_page(look, log)
+
+
 def main() -> int:
     words = parser()
     words.add_argument("look")
+    words.add_argument("--own", action="store_true")
     words.add_argument("--seeds", type=int, default=3)
     words.add_argument("--stories", type=int, default=10)
     words.add_argument("--mib", type=int, default=1)
@@ -352,28 +383,25 @@ def main() -> int:
     words.add_argument("--speed", type=int, default=0)
     options = parsed(words)
     rq, look, folder = options.program, options.look, options.folder
-    peer = built_peer(folder)
     draw = random.Random(1)
-    for shape in COMPARED:
-        for seed in range(2, 2 + options.seeds):
-            log = log_of(peer, folder, shape, options.mib, seed)
-            with open(log, "rb") as source:
-                records = records_of(bodies_of(source.read()))
-            same_reports(rq, look, log, draw)
-            same_script(rq, look, log, folder)
-            same_dump(look, log, records, draw)
-            same_check(rq, look, log)
-            same_stories(look, log, records, options.stories, draw)
-            same_page(look, log)
-    small = log_of(peer, folder, "small", options.mib, 2)
+    if options.own:
+        logs = own_logs(rq, folder)
+        small = logs[-1]
+    else:
+        peer = built_peer(folder)
+        logs = [log_of(peer, folder, shape, options.mib, seed) for shape in COMPARED for seed in range(2, 2 + options.seeds)]
+        small = log_of(peer, folder, "small", options.mib, 2)
+    for log in logs:
+        look_at(options, log, draw)
     reasons(rq, look, small, folder)
     odd_payloads(rq, look, folder)
     untold(look, folder)
     refusals(look, small, folder)
-    more_scripts(rq, look, peer, folder, options.scripts)
-    if options.speed:
+    if not options.own:
+        more_scripts(rq, look, peer, folder, options.scripts)
+    if options.speed and not options.own:
         speeds(rq, look, peer, folder, options.speed)
-    print(f"{compared} answers compared, {differing} differ")
+    print(f"{compared - differing} passed, {differing} failed")
     return 1 if differing else 0
 
 

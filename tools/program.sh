@@ -1,107 +1,126 @@
-# Runs a program of this clone, and builds it first where that is needed: sourced by the script of each program, which names it.
-# here: the top of the clone; name: the program, which is a crate.
+# Runs a program of this clone: the one that the repository brings, where it is made of these sources, else one that is built of them
+# first. Sourced by the script of each program, which names it.
+# here: the top of the clone; name: the program, which is a crate
 # shellcheck shell=sh
-out=$here/crates/$name/out
-program=$out/$name
-log=$out/build.log
-# Which processors the program was built for.
-stamp=$out/cpu
-# One for all programs, since their builds work in the same crates.
-lock=$here/crates/rq/out/lock
-
-# The widest target of which the processor has every instruction: digests are checked in lanes of its vectors.
-target() {
-    for flag in abm avx avx2 bmi1 bmi2 f16c fma movbe xsave; do
-        grep -q "^flags.*[[:space:]]$flag\([[:space:]]\|\$\)" /proc/cpuinfo 2> /dev/null || { echo x86-64-v2; return; }
-    done
-    echo x86-64-v3
-}
-
+. "$here/tools/sources.sh"
 cpu=$(target)
-
-# The folders of the crates that the program is made of: its own, and those below it in crates.txt.
-sources() {
-    awk -v name="$name" -v folder="$here/crates/" '
-        function show(crate, at, below, count) {
-            if (crate in shown || !(crate in lines)) return
-            shown[crate] = 1
-            print folder crate
-            count = split(lines[crate], below, " ")
-            for (at = 1; at <= count; at++) show(below[at])
-        }
-        { sub(/#.*/, "") }
-        /:/ { crate = $1; sub(/:.*/, "", crate); sub(/^[^:]*:/, ""); lines[crate] = $0 }
-        END { show(name) }' "$here/crates.txt"
-}
-
-# A program that was built since by hand, for whatever processors, is newer than the stamp.
-is_current() {
-    [ "$(cat "$stamp" 2> /dev/null)" = "$cpu" ] && [ ! "$program" -nt "$stamp" ] && [ -x "$program" ] && [ -z "$(sources | while read -r crate; do
-        find "$crate" -name out -prune -o -type f \( -name '*.rt' -o -name '*.antt' \) -newer "$program" -print
-    done | head -n 1)" ]
-}
+file=$name-$cpu
+log=$built/log
 
 refuse() {
-    echo "$name: $1; see $log" >&2
+    echo "$name: $1" >&2
     exit 70
 }
 
-prove_libraries() {
-    (cd "$here" && exec python3 tools/prove.py "$name" "$log")
+# Sets program to one that is made of these sources, and else why to the reason that there is none.
+find_program() {
+    sum=$(made_of "$name")
+    why='the sources are not those of the programs in dist/'
+    [ -f "$shipped/receipt" ] || why='dist/ has no programs'
+    if is_made_of "$shipped/receipt" "$name" "$sum" && ! is_as_told "$shipped/receipt" "$shipped/$file"; then
+        why="dist/$file is not the program that dist/receipt names"
+        echo "$name: $why: it is not run" >&2
+    fi
+    program=$(program_of "$name" "$cpu" "$sum")
 }
 
-build_program() {
-    echo "$name: all libraries are proved; the program itself takes some minutes more" >&2
-    (cd "$here/crates/$name" && exec rt run --cpu="$cpu" < /dev/null >> "$log" 2>&1)
-    [ -x "$program" ] && echo "$cpu" > "$stamp"
+# Whether the words can be a line of the program, by its first word and their number: what is none starts no build.
+may_be_line() {
+    for word in "$@"; do
+        case $word in --help | -h | --version) return 1 ;; esac
+    done
+    case $name in
+    rq)
+        case "$# $1" in
+        '3 make' | '3 make2' | '3 audit' | '4 restart' | '4 close' | '4 upgrade' | '5 restart-at') ;;
+        *) return 1 ;;
+        esac
+        ;;
+    rqlook)
+        case $1 in
+        dump | check | report | script | story | unit | page) [ $# -gt 1 ] ;;
+        *) return 1 ;;
+        esac
+        ;;
+    esac
 }
 
+# Names the documents to whoever reads.
+tell_documents() {
+    [ ! -t 2 ] || case $name in
+    rq) echo "rq: its lines stand in README.md and in its manual: man $here/docs/rq.1" >&2 ;;
+    rqlook) echo "rqlook: its lines stand in docs/LOOKING.md and in its manual: man $here/docs/rqlook.1" >&2 ;;
+    esac
+}
+
+need_toolchain() {
+    must="$why, so it has to be built first"
+    kit=$(sed -n 's/^kit //p' "$shipped/receipt" 2> /dev/null)
+    command -v rt > /dev/null || refuse "$must; and the toolchain is not there: no rt is found on the PATH.
+$name: Put the folder bin of a Rattle kit on the PATH${kit:+ ($kit)},
+$name: or undo what was changed in the sources or in dist/: git status names it."
+    command -v python3 > /dev/null || refuse "$must; and no python3 is found on the PATH"
+    mkdir -p "$built" 2> /dev/null && [ -w "$built" ] || refuse "$must; and $built can't be written"
+}
+
+# Proves and builds what is not kept of it, from the sources as they stand.
 build() {
-    rm -f "$program"
-    : > "$log"
-    echo "$name: proving and building first, which takes some half an hour on four free cores; see $log" >&2
-    prove_libraries || refuse 'not proved'
-    build_program || refuse 'not built'
+    echo "$name: $why" >&2
+    echo "$name: proving and building it first; what is said goes to $log" >&2
+    rm -f "$built/$file.receipt"
+    (cd "$here" && exec python3 tools/prove.py "$built" "$file") || exit
+    [ "$(made_of "$name")" = "$sum" ] || refuse 'the sources were changed during the build: run it again'
+    { receipt_of "$name" "$sum"; receipt_of_file "$built/$file"; } > "$built/$file.receipt"
 }
 
 # One build at a time: who comes second waits, and then finds the program.
 build_once() {
-    mkdir -p "$out" "${lock%/*}"
-    exec 9> "$lock"
+    need_toolchain
+    exec 9> "$built/lock"
     flock -n 9 || {
         echo "$name: waiting for another build to end" >&2
         flock 9
     }
-    is_current || build
+    "$@"
     exec 9>&-
 }
 
-# A trial run sees no file but a copy of the log, under the name `log`.
-try_unproved() {
-    if [ $# -lt 2 ]; then
-        echo "$name: usage" >&2
-        exit 2
-    fi
-    command=$1
-    file=$2
-    shift 2
-    mkdir -p "$out"
-    echo "$name: not proved: a trial run, which takes about half a minute on free cores" >&2
-    file=$(readlink -f -- "$file")
-    (cd "$here/crates/$name" && exec rt try --data "log=$file" -- "$command" log "$@" < /dev/null 2> "$out/try.log")
+build_unless_found() {
+    find_program 2> /dev/null || build
 }
 
-case $1 in
---unproved)
-    shift
-    try_unproved "$@"
+# For whoever doubts the programs in dist/: whether these sources are proved, and built to the same bytes.
+prove() {
+    why='its proof is asked for'
+    sum=$(made_of "$name")
+    build_once build
+    echo "$name: proved and built from these sources by $(rt version)"
+    if ! is_made_of "$shipped/receipt" "$name" "$sum"; then
+        echo "$name: dist/ is of other sources"
+        return 1
+    fi
+    cmp "$built/$file" "$shipped/$file" || {
+        echo "$name: dist/$file is another program; its receipt says: $(sed -n 's/^kit //p' "$shipped/receipt")"
+        return 1
+    }
+    echo "$name: dist/$file has the same bytes"
+}
+
+case "$*" in
+--prove)
+    prove
     exit
     ;;
 esac
 
-is_current || build_once
-# Most of a restart's memory is touched once. Pages of 2 MiB, where the kernel gives them on request, cost fewer faults. A block
-# of 512 KiB or more goes back to the system as soon as it is freed: glibc would raise that bound to 32 MiB by itself. Up to 16 MiB
-# of smaller ones stay: an audit makes a state for each checkpoint that may be true, and needs as much again for the next one.
-export GLIBC_TUNABLES="${GLIBC_TUNABLES:-glibc.malloc.hugetlb=1:glibc.malloc.mmap_threshold=524288:glibc.malloc.trim_threshold=16777216}"
+if ! find_program; then
+    may_be_line "$@" || {
+        echo "$name: usage" >&2
+        tell_documents
+        exit 2
+    }
+    build_once build_unless_found
+fi
+may_be_line "$@" || tell_documents
+export GLIBC_TUNABLES="${GLIBC_TUNABLES:-$tunables}"
 exec "$program" "$@"

@@ -1,21 +1,23 @@
 #!/usr/bin/env python3
-"""Proves the libraries that a program stands on, those that do not stand on one another side by side.
+"""Proves and builds programs from nothing, over a copy of what they are made of, and tells how far it is.
 
-usage: prove.py PROGRAM LOG
-Run at the top of the clone. Tells on standard error how far it is; what rt says goes to the file LOG.
+usage: prove.py FOLDER PROGRAM-CPU ..
+Run at the top of the clone. Leaves each program, for that processor, as FOLDER/PROGRAM-CPU, and what was said as FOLDER/log. Ends
+with 70 where a crate was not proved or a program not built.
 
-rt lets one run work in a crate and in all crates below it. So each crate is proved in a folder of its own, in which the
-crates below it stand with what was built of them. Its work comes back to its own folder when it has ended.
+`rt ci` proves the libraries: crates side by side, each over the statements of those below it, without their wrong bodies. A kit
+whose rt keeps what it passed, as that of rattle-kit-13f does, proves of them later only what has changed since, and the crates
+above that: here, in another clone on this machine, or in the gate. rt builds programs for one processor alone, so each program is
+proved and compiled by rattle itself, over the same statements.
 """
 from __future__ import annotations
-import os, resource, shutil, signal, subprocess, sys, time
+import os, re, shutil, signal, subprocess, sys, tempfile, time
 
-# What a check takes for each job, in KiB, as far as was seen.
-MEMORY = 2_000_000
-# How much those that others need not wait for give way, as nice has it.
-PATIENCE = 10
-# One place for all programs, of which one is built at a time.
-BUILD = os.path.join("crates", "rq", "out", "build")
+TRIPLE = "x86_64-unknown-linux-gnu"
+# Processor seconds for a line of code, for one of definitions and proofs, and for a line of code that a program compiles.
+LINE, PROOF_LINE, COMPILED_LINE = 0.1, 0.017, 0.012
+# So many seconds of the estimate count as seen, so that the first crates do not move it far.
+EXPECTED = 120.0
 
 
 def lines_by_crate() -> dict[str, str]:
@@ -24,210 +26,227 @@ def lines_by_crate() -> dict[str, str]:
         return {line.split()[0].rstrip(":"): line for line in lines if ":" in line.partition("#")[0]}
 
 
-def listed() -> dict[str, list[str]]:
-    """The crates of this repository, each with those of them that it names."""
-    lines = lines_by_crate()
-    return {name: [it for it in line.partition("#")[0].partition(":")[2].split() if it in lines] for name, line in lines.items()}
+def named(lines: dict[str, str], name: str) -> list[str]:
+    """The libraries that a crate names, those of the kit too."""
+    return lines[name].partition("#")[0].partition(":")[2].split()
 
 
-def below(crates: dict[str, list[str]], name: str) -> list[str]:
-    """All crates that the crate stands on, each behind those that it stands on."""
+def below(lines: dict[str, str], *names: str) -> list[str]:
+    """All crates of this repository that these stand on, each behind those that it stands on."""
     found: list[str] = []
-    for it in crates[name]:
-        found += [lower for lower in [*below(crates, it), it] if lower not in found]
+    for name in names:
+        for it in named(lines, name):
+            found += [lower for lower in (*below(lines, it), it) if lower not in found] if it in lines else []
     return found
 
 
-def weight(name: str) -> float:
-    """How long a crate takes beside others, about: a line of code takes as long as six lines of definitions and proofs."""
-    count = 0.0
+def copy(place: str, lines: dict[str, str], libraries: list[str], programs: list[str]) -> None:
+    """A repository of the libraries, and the programs beside it, where rt does not see them."""
+    top = os.path.join(place, "libraries")
+    # by this rt sees the top of a repository
+    os.makedirs(os.path.join(top, ".git"))
+    shutil.copy("HANDLES", top)
+    with open(os.path.join(top, "crates.txt"), "w", encoding="utf-8") as to:
+        to.writelines(lines[it] for it in libraries)
+    for it in libraries:
+        shutil.copytree(os.path.join("crates", it), os.path.join(top, "crates", it), ignore=shutil.ignore_patterns("out", "must-fail"))
+    for it in programs:
+        shutil.copytree(os.path.join("crates", it), os.path.join(place, "programs", it), ignore=shutil.ignore_patterns("out"))
+
+
+def count(name: str, ending: str) -> int:
+    """The lines of the crate's files with this ending."""
+    found = 0
     for at, folders, files in os.walk(os.path.join("crates", name)):
         folders[:] = [it for it in folders if it != "out"]
         for file in files:
-            if file.endswith((".rt", ".antt")):
+            if file.endswith(ending):
                 with open(os.path.join(at, file), "rb") as text:
-                    count += sum(1 for _ in text) / (1 if file.endswith(".rt") else 6)
-    return count
+                    found += sum(1 for _ in text)
+    return found
 
 
-def longest(crates: dict[str, list[str]], weights: dict[str, float], names: list[str]) -> float:
-    """The weight of the heaviest chain of these crates, each of which stands on the one before it. Lower ones come first."""
-    chains: dict[str, float] = {}
-    for name in names:
-        chains[name] = weights[name] + max((chains[it] for it in crates[name] if it in chains), default=0.0)
-    return max(chains.values(), default=0.0)
+class Estimate:
+    """How long the rest takes: what each crate takes by its lines, held against what those that ended took."""
 
+    def __init__(self, lines: dict[str, str], builds: dict[str, str]):
+        self.below = {it: [lower for lower in named(lines, it) if lower in lines] for it in below(lines, *builds.values())}
+        self.costs = {it: LINE * count(it, ".rt") + PROOF_LINE * count(it, ".antt") for it in self.below}
+        for build, program in builds.items():
+            self.below[build] = below(lines, program)
+            self.costs[build] = LINE * count(program, ".rt") + COMPILED_LINE * sum(count(it, ".rt") for it in self.below[build])
+        self.left, self.behind = set(self.costs), 0.0
 
-def chains_up(crates: dict[str, list[str]], weights: dict[str, float], names: list[str]) -> dict[str, float]:
-    """Of each crate the weight of the heaviest chain from it to the program. Lower ones come first in the list."""
-    chains: dict[str, float] = {}
-    for name in reversed(names):
-        chains[name] = weights[name] + max((chains[it] for it in chains if name in crates[it]), default=0.0)
-    return chains
+    def rest(self) -> float:
+        """Seconds for what is left: the longest chain, or what the processors share, which is more."""
+        chains: dict[str, float] = {}
+        for name in (it for it in self.costs if it in self.left):
+            chains[name] = self.costs[name] + max((chains[it] for it in self.below[name] if it in chains), default=0.0)
+        shared = sum(self.costs[it] for it in self.left) / len(os.sched_getaffinity(0))
+        return max([shared, *chains.values()])
 
+    def end(self, name: str, was_kept: bool) -> None:
+        before = self.rest()
+        self.left.discard(name)
+        self.behind += 0 if was_kept else before - self.rest()
 
-def processors() -> int:
-    return len(os.sched_getaffinity(0))
-
-
-def jobs_in_memory() -> int:
-    """The jobs that the free memory holds."""
-    free = next(int(line.split()[1]) for line in open("/proc/meminfo", encoding="utf-8") if line.startswith("MemAvailable"))
-    return max(1, free // MEMORY)
-
-
-def linked(file: str, to: str):
-    """A second name for the file, or a copy where the file system has none."""
-    try:
-        os.link(file, to)
-    except OSError:
-        shutil.copy2(file, to)
-
-
-class Proof:
-    """The run of rt on one crate."""
-
-    def __init__(self, crates: dict[str, list[str]], name: str, jobs: int, patience: int):
-        self.name, self.jobs, self.begun, self.work = name, jobs, time.monotonic(), 0.0
-        self.kept = os.path.join("crates", name, "out")
-        self.place = os.path.join(BUILD, name)
-        self.said = os.path.join(BUILD, name + ".log")
-        shutil.rmtree(self.place, ignore_errors=True)
-        os.makedirs(os.path.join(self.place, "crates"))
-        self.list_crates([*below(crates, name), name])
-        for lower in below(crates, name):
-            self.copy_crate(lower)
-            shutil.copytree(os.path.join("crates", lower, "out", "rlib"), self.inside(lower, "out", "rlib"), copy_function=linked)
-        self.copy_crate(name)
-        if os.path.isdir(self.kept):
-            os.rename(self.kept, self.inside(name, "out"))
-        with open(self.said, "wb") as out:
-            self.run = subprocess.Popen(
-                ["nice", "-n", str(patience), "rt", "lib", "--jobs", str(jobs)],
-                cwd=self.inside(name),
-                stdin=subprocess.DEVNULL,
-                stdout=out,
-                stderr=out,
-            )
-
-    def inside(self, *names: str) -> str:
-        return os.path.join(self.place, "crates", *names)
-
-    def list_crates(self, names: list[str]):
-        lines = lines_by_crate()
-        with open(os.path.join(self.place, "crates.txt"), "w", encoding="utf-8") as to:
-            to.writelines(lines[it] for it in names)
-
-    def copy_crate(self, name: str):
-        shutil.copytree(os.path.join("crates", name), self.inside(name), ignore=shutil.ignore_patterns("out", "must-fail"))
-
-    def has_ended(self) -> bool:
-        before = resource.getrusage(resource.RUSAGE_CHILDREN)
-        ended = self.run.poll() is not None
-        after = resource.getrusage(resource.RUSAGE_CHILDREN)
-        self.work = after.ru_utime + after.ru_stime - before.ru_utime - before.ru_stime
-        return ended
-
-    def put_back(self, log: str):
-        """What was made goes back to the crate's folder, what was said to the log."""
-        with open(log, "ab") as to, open(self.said, "rb") as said:
-            seconds = time.monotonic() - self.begun
-            to.write(f"== {self.name}: {seconds:.0f} s with {self.jobs} jobs, {self.work:.0f} s of processor time\n".encode())
-            shutil.copyfileobj(said, to)
-        if os.path.isdir(self.inside(self.name, "out")):
-            os.rename(self.inside(self.name, "out"), self.kept)
-        shutil.rmtree(self.place, ignore_errors=True)
+    def minutes(self, seconds: float, since: float) -> int:
+        """Minutes from now, where so many seconds have gone, and these of them since something ended."""
+        pace = (seconds - since + EXPECTED) / (self.behind + EXPECTED)
+        return max(1, round((self.rest() * pace - since) / 60))
 
 
 class Telling:
-    """How far the proofs are, on standard error: one line that changes on a terminal, else a line for each crate."""
+    """How far it is, on standard error: one line that changes on a terminal, else a line for each crate."""
 
-    def __init__(self, crates: dict[str, list[str]], names: list[str], program: str):
-        self.begun, self.crates, self.names, self.program = time.monotonic(), crates, names, program
-        self.weights = {name: weight(name) for name in names}
+    def __init__(self, estimate: Estimate, builds: list[str]):
+        self.begun = self.last = time.monotonic()
+        self.estimate, self.head, self.number = estimate, " and ".join(builds), len(estimate.costs)
         self.is_terminal = sys.stderr.isatty()
+        self.done = self.kept = 0
 
-    def left(self, done: set[str]) -> str:
-        """About how long the rest takes, by the heaviest chain that is left of the crates and the whole one."""
-        whole = longest(self.crates, self.weights, self.names)
-        rest = longest(self.crates, self.weights, [it for it in self.names if it not in done])
-        if rest == whole:
-            return ""
-        minutes = (time.monotonic() - self.begun) * rest / (whole - rest) / 60
-        return f", about {max(1, round(minutes))} min more for the libraries" if rest else ""
+    def width(self) -> int:
+        try:
+            return int(os.environ.get("COLUMNS") or 0) or os.get_terminal_size(2).columns or 80
+        except (OSError, ValueError):
+            return 80
 
-    def tell(self, done: set[str], now: list[str], ended: str = ""):
-        seconds = int(time.monotonic() - self.begun)
-        words = f"{len(done)} of {len(self.names)} crates proved, {seconds} s{self.left(done)}"
-        if self.is_terminal:
-            sys.stderr.write(f"\r\033[K{self.program}: {words}; now {', '.join(now)}")
-        elif ended:
-            sys.stderr.write(f"{self.program}: {ended}: {words}\n")
+    def hear(self, line: str) -> None:
+        """A line of rt may tell that a crate is proved."""
+        ended = re.match(r"rt: (\w+) (proved$|is kept: )", line)
+        if ended and ended[1] in self.estimate.left:
+            self.end(ended[1], "proved" if ended[2] == "proved" else "was proved before")
+
+    def end(self, name: str, how: str) -> None:
+        """One more is done."""
+        self.done, self.kept, self.last = self.done + 1, self.kept + (how == "was proved before"), time.monotonic()
+        self.estimate.end(name, how == "was proved before")
+        if not self.is_terminal:
+            self.write(f"{name} {how}; ", "\n")
+
+    def write(self, what: str, end: str) -> None:
+        now = time.monotonic()
+        words = f"{self.head}: {what}{self.done} of {self.number} done, {int(now - self.begun)} s"
+        if self.estimate.left:
+            words += f", about {self.estimate.minutes(now - self.begun, now - self.last)} min more"
+        start = "\r\033[K" if self.is_terminal else ""
+        sys.stderr.write(start + (words[:self.width() - 1] if self.is_terminal else words) + end)
         sys.stderr.flush()
 
-    def end(self):
+    def tick(self) -> None:
+        if self.is_terminal:
+            self.write("", "")
+
+    def clear(self) -> None:
         if self.is_terminal:
             sys.stderr.write("\r\033[K")
+            sys.stderr.flush()
 
 
-def next_proofs(crates, chains: dict[str, float], waiting: list[str], done: set[str], running: list[Proof], room: int) -> list[Proof]:
-    """Begins the crates of which all lower ones are proved, those of the heaviest chains first.
+class Builds:
+    """Programs that are built in one place."""
 
-    The one whose chain is the heaviest of all that is left gets every processor. The others get what it leaves idle, as far as
-    the memory holds them.
-    """
-    begun: list[Proof] = []
-    for name in sorted((it for it in waiting if done.issuperset(below(crates, it))), key=lambda it: -chains[it]):
-        free = room - sum(it.jobs for it in [*running, *begun])
-        is_first = all(chains[name] >= chains[it] for it in [*waiting, *(run.name for run in running)])
-        if free > 0 or not running + begun:
-            jobs = processors() if is_first else -(-processors() // 2)
-            begun.append(Proof(crates, name, max(1, min(jobs, free)), 0 if is_first else PATIENCE))
-            waiting.remove(name)
-    return begun
+    def __init__(self, place: str, folder: str, builds: dict[str, str]):
+        self.place, self.folder, self.builds, self.lines = place, folder, builds, lines_by_crate()
+        self.log = os.path.join(folder, "log")
+        self.kit = os.path.dirname(subprocess.run(["rt", "doc"], capture_output=True, check=True, text=True).stdout.strip())
+        self.telling = Telling(Estimate(self.lines, builds), list(builds))
+
+    def start(self, words: list[str], at: str) -> subprocess.Popen:
+        with open(self.log, "ab") as out:
+            return subprocess.Popen(words, cwd=at, stdin=subprocess.DEVNULL, stdout=out, stderr=out)
+
+    def follow(self, runs: dict[str, subprocess.Popen]) -> bool:
+        """Whether all of them end well; tells how far they are until then."""
+        rest, going = b"", dict(runs)
+        try:
+            with open(self.log, "rb") as said:
+                while going:
+                    time.sleep(0.5)
+                    ended = [it for it, run in going.items() if run.poll() is not None]
+                    *lines, rest = (rest + said.read()).split(b"\n")
+                    for line in lines:
+                        self.telling.hear(line.decode(errors="replace"))
+                    for it in ended:
+                        if going.pop(it).returncode == 0 and it in self.builds:
+                            self.telling.end(it, "built")
+                    self.telling.tick()
+        finally:
+            for run in going.values():
+                run.terminate()
+                run.wait()
+            self.telling.clear()
+        return all(run.returncode == 0 for run in runs.values())
+
+    def prove(self) -> bool:
+        """Whether the libraries are proved."""
+        libraries, programs = below(self.lines, *self.builds.values()), sorted(set(self.builds.values()))
+        copy(self.place, self.lines, libraries, programs)
+        return self.follow({"libraries": self.start(["rt", "ci"], os.path.join(self.place, "libraries"))})
+
+    def library(self, name: str) -> str:
+        return os.path.join(self.place, "libraries", "crates", name, "out", "rlib", name + ".rlib")
+
+    def words(self, build: str) -> list[str]:
+        """What makes the object file of a program."""
+        program, kit = self.builds[build], self.kit
+        libraries = {it: self.library(it) if it in self.lines else f"{kit}/rlibs/{it}.rlib" for it in ["std", *named(self.lines, program)]}
+        words = [f"{kit}/bin/rattle", "build", "--crate-name", program, "src/main.rt"]
+        for name, at in libraries.items():
+            words += ["--extern", f"{name}={at}"]
+        for at in [f"{kit}/rlibs", *(os.path.dirname(self.library(it)) for it in below(self.lines, program))]:
+            words += ["-L", f"dependency={at}"]
+        words += ["--antt-project", f"{kit}/rattle/logic/antt-project.json", "--logic-built", f"{kit}/logic_built"]
+        words += ["--links", f"{program}=", "--toolchain", f"{kit}/toolchain", "--backend", "llvm"]
+        return [*words, f"--cpu={build[len(program) + 1:]}", "-o", os.path.join(self.place, build + ".o")]
+
+    def compile(self) -> bool:
+        """Whether the programs, over the libraries, are proved and made object files of."""
+        inside = {it: os.path.join(self.place, "programs", program) for it, program in self.builds.items()}
+        return self.follow({it: self.start(self.words(it), inside[it]) for it in self.builds})
+
+    def link(self, build: str) -> bool:
+        """Links a program, and puts it into the folder whole."""
+        kit, made = self.kit, os.path.join(self.place, build)
+        words = [f"{kit}/bin/rattle-link", "--target", TRIPLE, "--toolchain", f"{kit}/toolchain", "-o", made, made + ".o"]
+        if self.start([*words, f"{kit}/c/libos_c.a", f"{kit}/c/liblibc_c.a"], self.place).wait():
+            return False
+        to = os.path.join(self.folder, build)
+        shutil.copyfile(made, to + ".new")
+        os.chmod(to + ".new", 0o755)
+        os.replace(to + ".new", to)
+        return True
+
+    def run(self) -> int:
+        """The exit status."""
+        open(self.log, "wb").close()
+        told = self.telling
+        if not (self.prove() and self.compile() and all(map(self.link, self.builds))):
+            print(f"{told.head}: not proved or not built; {self.log} says why", file=sys.stderr)
+            return 70
+        before = f" ({told.kept} of the libraries by an earlier run on this machine)" if told.kept else ""
+        print(f"{told.head}: proved and built{before}", file=sys.stderr)
+        return 0
 
 
-def prove(crates: dict[str, list[str]], program: str, log: str) -> bool:
-    """Whether all crates below the program were proved."""
-    names = below(crates, program)
-    room, waiting, running, done, fine = jobs_in_memory(), [*names], [], set(), True
-    telling = Telling(crates, names, program)
-    chains = chains_up(crates, telling.weights, names)
-    try:
-        while running or (fine and waiting):
-            if fine:
-                running += next_proofs(crates, chains, waiting, done, running, room)
-            time.sleep(0.5)
-            for proof in [it for it in running if it.has_ended()]:
-                running.remove(proof)
-                proof.put_back(log)
-                if proof.run.returncode == 0:
-                    done.add(proof.name)
-                    telling.tell(done, [it.name for it in running], f"{proof.name} proved")
-                else:
-                    fine = False
-            telling.tell(done, [it.name for it in running])
-    finally:
-        for proof in running:
-            proof.run.terminate()
-            proof.run.wait()
-            proof.put_back(log)
-        telling.end()
-    return fine
+def keeps() -> bool:
+    """Whether rt keeps what it proved."""
+    said = subprocess.run(["rt", "help"], stdout=subprocess.PIPE, stderr=subprocess.STDOUT).stdout
+    return b"is kept beside the kit" in said
 
 
 def main() -> int:
-    program, log = sys.argv[1:]
-    crates = listed()
+    folder, *builds = sys.argv[1:]
     for it in (signal.SIGTERM, signal.SIGHUP):
         signal.signal(it, lambda number, _: sys.exit(128 + number))
-    os.makedirs(BUILD, exist_ok=True)
+    os.makedirs(folder, exist_ok=True)
     try:
-        return 0 if prove(crates, program, log) else 1
+        with tempfile.TemporaryDirectory(prefix="rq-build-") as place:
+            return Builds(place, os.path.abspath(folder), {it: it.partition("-")[0] for it in builds}).run()
     except KeyboardInterrupt:
+        what = "what was proved of the libraries is kept: the same line goes on from there" if keeps() else "this kit keeps nothing"
+        print(f"{' and '.join(builds)}: stopped; {what}", file=sys.stderr)
         return 130
-    finally:
-        shutil.rmtree(BUILD, ignore_errors=True)
 
 
 if __name__ == "__main__":

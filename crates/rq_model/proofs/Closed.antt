@@ -20,13 +20,13 @@ use Rattle.rq_model.proofs.Restarts.{run_join, lawful_join, aborts_are, crash_in
 use Rattle.rq_model.proofs.Found.{front_restart, restart_lines}
 
 -- the numbers after so many aborts, where no unit is open any more
-record AreAborted (s t : State) (count : ℕ) : Type 0 where
+pub record AreAborted (s t : State) (count : ℕ) : Type 0 where
   pub units : t.units ≡ []
   pub next : t.next ≡ s.next + count
   pub committed : t.committed ≡ s.committed
   pub aborted : t.aborted ≡ s.aborted + count
 
-are_aborted : (us : List ℕ) (s : State) → s.units ≡ us → Ordered (λ a b. a < b) us
+pub are_aborted : (us : List ℕ) (s : State) → s.units ≡ us → Ordered (λ a b. a < b) us
     → AreAborted s (run s (map Abort us)) (length us)
 are_aborted [] s is rise = record { units = is; next = omega arith; committed = refl; aborted = omega arith }
 are_aborted (u ∷ us) s is rise =
@@ -41,12 +41,12 @@ are_aborted (u ∷ us) s is rise =
     }
 
 -- lawful records, and the aborts of the units that are open after them
-record AreEnded (version : Version) (rs : List Record) : Type 0 where
+pub record AreEnded (version : Version) (rs : List Record) : Type 0 where
   pub lawful : all_lawful version empty (rs ++ aborts (run empty rs)) ≡ true
   pub state : final (run empty (rs ++ aborts (run empty rs))) ≡ final (run empty rs)
   pub numbers : AreAborted (run empty rs) (run empty (rs ++ aborts (run empty rs))) (length (run empty rs).units)
 
-are_ended : (version : Version) (rs : List Record) → all_lawful version empty rs ≡ true → AreEnded version rs
+pub are_ended : (version : Version) (rs : List Record) → all_lawful version empty rs ≡ true → AreEnded version rs
 are_ended version rs lawful =
     let s = run empty rs in
     let xs = aborts s in

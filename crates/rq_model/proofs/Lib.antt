@@ -35,3 +35,11 @@ pub mod Listed
 pub mod Rising
 pub mod Apart
 pub mod GoesWell
+mod Balance
+mod Tried
+mod Origins
+mod Clients
+mod Meaning
+mod Taken
+mod Accounts
+mod ReportLines

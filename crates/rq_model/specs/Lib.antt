@@ -19,7 +19,11 @@ pub mod Upgrading
 pub mod MoveLaws
 pub mod RecordReading
 pub mod StateReading
+pub mod Fates
+pub mod FateLaws
+pub mod FateReports
 pub mod WorkedLogs
 pub mod WorkedMachine
+pub mod WorkedFates
 pub mod WorkedFormats
 pub mod WorkedEnds

@@ -12,10 +12,19 @@ ghost use Rattle.rq_model.specs.LogLaws.{FrontsAreSpelt, OneRestartAt, TrueIsSam
 ghost use Rattle.rq_model.specs.LogLaws.{OneAudit, CrashInTheTail, CrashSaysTheSame};
 ghost use Rattle.rq_model.specs.Closing.{OneClosed, ClosedFront, ClosedStands};
 ghost use Rattle.rq_model.specs.Upgrading.{UpgradeIsSame};
+ghost use Rattle.rq_model.specs.FateLaws.{OneFate, OneRequest, CommittedHasOneFate};
+ghost use Rattle.rq_model.specs.FateLaws.{OthersAreUntaken, AllAsEnqueued, OneRecord, AllAreFree};
+ghost use Rattle.rq_model.specs.FateLaws.{BoundedTries, AttemptsAreTries, TakesAreTries, RunsEnd};
+ghost use Rattle.rq_model.specs.FateLaws.{HowFar, WhoIsRegistered, CountIsNone, CountIsOne};
+ghost use Rattle.rq_model.specs.FateLaws.{OutcomeIsAhead};
+ghost use Rattle.rq_model.specs.FateReports.{RestartAccounts, BeginningAccounts, ClosedAccounts};
+ghost use Rattle.rq_model.specs.FateReports.{CheckpointAccounts, ReportAccounts};
+ghost use Rattle.rq_model.specs.FateReports.{CheckpointReportAccounts};
 ghost use Rattle.rq_model.specs.WorkedLogs.{WorkedBytes, WorkedLogs, UnlawfulLogs};
 ghost use Rattle.rq_model.specs.WorkedLogs.{WorkedCheckpoint};
 ghost use Rattle.rq_model.specs.WorkedMachine.{WorkedLaw, WorkedSteps, WorkedOrders, WorkedQueues};
 ghost use Rattle.rq_model.specs.WorkedMachine.{WorkedRedo};
+ghost use Rattle.rq_model.specs.WorkedFates.{WorkedRequests, WorkedTries, WorkedClients};
 ghost use Rattle.rq_model.specs.WorkedFormats.{WorkedNames, WorkedBodies, WorkedWidths};
 ghost use Rattle.rq_model.specs.WorkedFormats.{WorkedFrames, AllRests, WorkedStates, WorkedMembers};
 ghost use Rattle.rq_model.specs.WorkedFormats.{WorkedLines};
@@ -230,6 +239,62 @@ pub fn moves_rise()
     ensures arrivals { ArrivalsRise }
 {}
 
+/// No request is lost, done twice or made up: as often as a number was requested, once at most, it
+/// is shown, was done or was killed. What no unit that commits enqueued was never taken.
+pub fn one_fate()
+    ensures sum { OneFate }
+    ensures request { OneRequest }
+    ensures committed { CommittedHasOneFate }
+    ensures others { OthersAreUntaken }
+{}
+
+/// Each element of a lawful run is as the ENQUEUE of its own number made it, and stands where its
+/// limits led it; what is left at the end is Free.
+pub fn as_enqueued()
+    ensures elements { AllAsEnqueued }
+    ensures record_of { OneRecord }
+    ensures free { AllAreFree }
+{}
+
+/// No request is tried without end: in a queue with a limit the tries are bounded by it, the
+/// attempts of an element are its tries there, and what was taken was tried or is done.
+pub fn bounded_tries()
+    ensures bounded { BoundedTries }
+    ensures attempts { AttemptsAreTries }
+    ensures takes { TakesAreTries }
+{}
+
+/// Who registers again learns how far it came: a registrant's last operation is the latest that it
+/// hears of, and who is registered has registered, with no DEREGISTER behind.
+pub fn how_far()
+    ensures last { HowFar }
+    ensures registered { WhoIsRegistered }
+{}
+
+/// What counts and the records ahead mean, and where a run with its last aborts ends.
+pub fn counts_mean()
+    ensures none { CountIsNone }
+    ensures one { CountIsOne }
+    ensures ahead { OutcomeIsAhead }
+    ensures ends { RunsEnd }
+{}
+
+/// A restart changes nothing of it: of a log, of the closed log, of each beginning of it that holds
+/// the front, and from a true checkpoint, a restart accounts for each request and client.
+pub fn restarts_account()
+    ensures restart { RestartAccounts }
+    ensures beginning { BeginningAccounts }
+    ensures closed { ClosedAccounts }
+    ensures checkpoint { CheckpointAccounts }
+{}
+
+/// A line `e p ..` stands in the report of a log, and in that from a true checkpoint, as often as
+/// number p was requested, less how often it was done or killed.
+pub fn reports_account()
+    ensures report { ReportAccounts }
+    ensures checkpoint { CheckpointReportAccounts }
+{}
+
 /// Three bodies and two states, byte by byte.
 pub fn worked_bytes()
     ensures { WorkedBytes }
@@ -268,4 +333,11 @@ pub fn worked_formats()
 /// Logs that end in each other way, a true and a false checkpoint, a tail and an upgraded log.
 pub fn worked_ends()
     ensures { WorkedEnds }
+{}
+
+/// Requests and clients with each fate, each limit of tries on both sides.
+pub fn worked_fates()
+    ensures requests { WorkedRequests }
+    ensures tries { WorkedTries }
+    ensures clients { WorkedClients }
 {}

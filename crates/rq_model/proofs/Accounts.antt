@@ -1,0 +1,155 @@
+-- What restarts answer accounts for the front.
+use Rattle.std.proofs.Common.{◌≡◌, ℕ, ◌<◌, ◌≤◌, ◌^◌, true, List, [], ◌∷◌, ◌++◌, length, map, Option}
+use Rattle.std.proofs.Common.{None, refl, sym}
+use Rattle.std.proofs.Common.{ap, ◌∙◌, subst, arith, length-append}
+use Rattle.std.proofs.lemmas.List.{append-nil}
+use Rattle.std.specs.List.{AllByRecursion}
+use Rattle.sha2.specs.Sha256.{sha256}
+use Rattle.rq_model.specs.Records.{By, Record, Enqueue, Abort, Version}
+use Rattle.rq_model.specs.Spelling.{IsRecord}
+use Rattle.rq_model.specs.Frames.{log_limit, log_of, magic, header, frames_of}
+use Rattle.rq_model.specs.States.{Free, Element, Registrant, State, empty, is_free}
+use Rattle.rq_model.specs.WellFormed.{IsWellFormed, IsElement}
+use Rattle.rq_model.specs.StateSpelling.{Fits, FitsDefinition, FitsRegistrant}
+use Rattle.rq_model.specs.WorkedLogs.{text_made}
+use Rattle.rq_model.specs.FateReports.{element_lines, ReportAccounts, CheckpointReportAccounts}
+use Rattle.rq_model.specs.Fates.{shown}
+use Rattle.rq_model.proofs.Lists.{each_weaker, each_append, each_both}
+use Rattle.rq_model.proofs.Kept.{runs_are_well_formed, empty_is_well_formed}
+use Rattle.rq_model.proofs.Widths.{runs_fit, empty_fits}
+use Rattle.rq_model.proofs.Texts.{one_text}
+use Rattle.rq_model.proofs.Listed.{is_text}
+use Rattle.rq_model.proofs.Restarts.{frames_many, aborts_are, true_says_the_same}
+use Rattle.rq_model.proofs.Longest.{front_whole}
+use Rattle.rq_model.proofs.ReportLines.{IsNarrow, StandsIn, text_told}
+use Rattle.rq_model.specs.Machine.{all_lawful, latest, run, final}
+use Rattle.rq_model.specs.Fronts.{IsFront, Restarted, IsRestart}
+use Rattle.rq_model.specs.Fates.{with_aborts, tries_at, hears}
+use Rattle.rq_model.specs.FateLaws.{IsAsEnqueued}
+use Rattle.rq_model.specs.FateReports.{Accounts, RestartAccounts, BeginningAccounts, ClosedAccounts}
+use Rattle.rq_model.specs.FateReports.{CheckpointAccounts}
+use Rattle.rq_model.proofs.Longest.{one_front, front_ends, one_restart}
+use Rattle.rq_model.proofs.Restarts.{crash_in_the_tail, one_restart_at, true_back, true_is_same}
+use Rattle.rq_model.proofs.Found.{front_restart}
+use Rattle.rq_model.proofs.Balance.{one_fate, all_are_free, runs_end}
+use Rattle.rq_model.proofs.Tried.{attempts_are_tries}
+use Rattle.rq_model.proofs.Origins.{all_as_enqueued}
+use Rattle.rq_model.proofs.Clients.{how_far}
+
+accounts : (version : Version) (rs : List Record) → all_lawful version empty rs ≡ true
+    → Accounts (with_aborts rs) (final (run empty rs))
+accounts version rs lawful =
+    let all = with_aborts rs in
+    let (too, joined) = runs_end version rs lawful in
+    record {
+      fates = λ p. one_fate version rs p lawful;
+      elements = subst (λ (z : State). AllByRecursion (IsAsEnqueued all z) z.elements) joined
+          (all_as_enqueued version all too);
+      free = all_are_free version rs lawful;
+      attempts = subst (λ (z : State). AllByRecursion (λ (e : Element). e.attempts
+          ≡ tries_at e.id e.home all) z.elements)
+          joined (attempts_are_tries version all too);
+      clients = subst (λ (z : State). AllByRecursion
+          (λ (r : Registrant). r.last ≡ latest None (hears r.queue r.name empty all)) z.registrants)
+          joined (how_far version all too);
+    }
+
+pub restart_state : (b : List ℕ) (version : Version) (rs : List Record) (rest : List ℕ) (r : Restarted)
+    → IsFront b version rs rest → IsRestart b r → r.state ≡ final (run empty rs)
+restart_state b version rs rest r front restart =
+    ap (λ (z : Restarted). z.state) (front_ends b version rs rest r front restart).answer
+
+pub restart_accounts : RestartAccounts
+restart_accounts b version rs rest r front restart =
+    subst (Accounts (with_aborts rs)) (sym (restart_state b version rs rest r front restart))
+    (accounts version rs front.longest.begins.lawful)
+
+pub beginning_accounts : BeginningAccounts
+beginning_accounts b tail part missing version rs rest r fits front tailed parts short found =
+    let (first, restart) = front_restart b version rs rest fits front in
+    let here = crash_in_the_tail b tail part missing version rs rest first front tailed parts short restart in
+    let same = one_restart (log_of version rs ++ part) here.again r here.restart found in
+    subst (Accounts (with_aborts rs)) (sym here.state ∙ ap (λ (z : Restarted). z.state) same)
+    (restart_accounts b version rs rest first front restart)
+
+pub closed_accounts : ClosedAccounts
+closed_accounts b closed version rs rest r fits front (tail, h) short found =
+    let one = one_front b h.version version h.records rs h.rest rest h.front front in
+    let whole : closed ≡ log_of version rs ++ tail = h.bytes ∙ (λ i. log_of (one.0 i) (one.1 i) ++ tail) in
+    beginning_accounts b tail tail [] version rs rest r fits front h.aborts (sym (append-nil tail))
+    (subst (λ (z : List ℕ). length z ≤ log_limit) whole short)
+    (subst (λ (z : List ℕ). IsRestart z r) whole found)
+
+pub checkpoint_accounts : CheckpointAccounts
+checkpoint_accounts b offset version rs rest r front true_here at =
+    let (first, restart) = true_back b offset r true_here at in
+    let same = one_restart_at b offset first r (true_is_same b offset first true_here restart) at in
+    subst (Accounts (with_aborts rs)) (ap (λ (z : Restarted). z.state) same)
+    (restart_accounts b version rs rest first front restart)
+
+-- Lines.
+
+-- an ENQUEUE is none of the ABORTs
+in_front : (rs before after : List Record) (us : List ℕ) (unit queue priority : ℕ) (by : Option By) (payload : List ℕ)
+    → rs ++ map Abort us ≡ before ++ Enqueue unit queue priority by payload ∷ after → length before < length rs
+in_front [] [] after [] unit queue priority by payload e = absurd (omega (arith, ap length e))
+in_front [] [] after (u ∷ us) unit queue priority by payload e = absurd cc
+in_front [] (b ∷ before) after [] unit queue priority by payload e = absurd (omega (arith, ap length e))
+in_front [] (b ∷ before) after (u ∷ us) unit queue priority by payload e =
+    let tails : map Abort us ≡ before ++ Enqueue unit queue priority by payload ∷ after = cc in
+    absurd (omega (arith, in_front [] before after us unit queue priority by payload tails))
+in_front (r ∷ rs) [] after us unit queue priority by payload e = omega arith
+in_front (r ∷ rs) (b ∷ before) after us unit queue priority by payload e =
+    let tails : rs ++ map Abort us ≡ before ++ Enqueue unit queue priority by payload ∷ after = cc in
+    omega (arith, in_front rs before after us unit queue priority by payload tails)
+
+narrow : (rs : List Record) (s : State) → length rs < 2 ^ 64 → (e : Element) → IsAsEnqueued (with_aborts rs) s e
+    → IsNarrow e
+narrow rs s few e x =
+    let h = x.enqueued in
+    let low = in_front rs h.before h.there.after
+    (run empty rs).units x.unit e.origin e.priority h.by e.payload h.there.whole in
+    omega (arith, low, few, h.there.place)
+
+few_records : (b : List ℕ) (version : Version) (rs : List Record) (rest : List ℕ) → IsFront b version rs rest
+    → length rs < 2 ^ 64
+few_records b version rs rest front =
+    let many = frames_many (sha256 (magic version)) rs in
+    let whole = ap length (front_whole b version rs rest front) in
+    let parts = length-append (log_of version rs) rest in
+    let more = length-append (header version) (frames_of (sha256 (magic version)) rs) in
+    omega (arith, many, whole, parts, more, front.short)
+
+stands_in : (s : State) (e : Element) → (e.mark ≡ Free) × IsElement s e → StandsIn s.definitions e
+stands_in s e x = record { free = ap is_free x.0; home = x.1.home }
+
+pub report_accounts : ReportAccounts
+report_accounts b version rs rest text p low front (r, restart, told) =
+    let begins = front.longest.begins in
+    let s = final (run empty rs) in
+    let account = accounts version rs begins.lawful in
+    let (too, joined) = runs_end version rs begins.lawful in
+    let same = restart_state b version rs rest r front restart in
+    let keeps : IsWellFormed s = subst IsWellFormed joined
+    (runs_are_well_formed version empty (with_aborts rs) empty_is_well_formed too) in
+    let fits : Fits s = subst Fits joined (runs_fit version empty (with_aborts rs) empty_fits
+    (each_append (IsRecord version) rs _ begins.records (aborts_are version rs begins.records begins.lawful))) in
+    let few = few_records b version rs rest front in
+    let narrow_all = each_weaker (IsAsEnqueued (with_aborts rs) s) IsNarrow
+    (narrow rs s few) s.elements account.elements in
+    let stand = each_weaker _ (StandsIn s.definitions) (stands_in s) s.elements
+    (each_both (λ (e : Element). e.mark ≡ Free) (IsElement s) s.elements account.free keeps.elements) in
+    let made = one_text r text (text_made r) told (is_text r (subst IsWellFormed (sym same) keeps)) in
+    let count : (z : State) → z ≡ s → z ≡ r.state → element_lines p (text_made r) ≡ shown p s =
+    λ z e k. let back = sym e ∙ k in
+    subst (λ (t : State). element_lines p (text_made r) ≡ shown p t) same
+    (text_told p r low (subst (λ (t : State). AllByRecursion FitsDefinition t.definitions) back fits.definitions)
+    (subst (λ (t : State). AllByRecursion FitsRegistrant t.registrants) back fits.registrants)
+    (subst (λ (t : State). AllByRecursion IsNarrow t.elements) back narrow_all)
+    (subst (λ (t : State). AllByRecursion (StandsIn t.definitions) t.elements) back stand)) in
+    let lines = ap (element_lines p) made ∙ count r.state same refl in
+    omega (arith, lines, account.fates p)
+
+pub checkpoint_report_accounts : CheckpointReportAccounts
+checkpoint_report_accounts b offset version rs rest text p low front true_here told =
+    report_accounts b version rs rest text p low front ((true_says_the_same b offset text true_here).0 told)

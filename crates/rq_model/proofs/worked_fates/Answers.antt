@@ -1,0 +1,11 @@
+use Rattle.std.proofs.Common.{arith}
+use Rattle.rq_model.proofs.worked_fates.Goals as goal
+
+pub returns-clause-requests : goal.returns-clause-requests
+returns-clause-requests c = grind arith
+
+pub returns-clause-tries : goal.returns-clause-tries
+returns-clause-tries c = grind arith
+
+pub returns-clause-clients : goal.returns-clause-clients
+returns-clause-clients c = grind arith

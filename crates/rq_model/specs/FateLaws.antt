@@ -1,0 +1,120 @@
+-- No request is lost, done twice or tried without end, and who registers again learns how far it
+-- came.
+use Rattle.std.specs.Prelude.{◌≡◌, ◌≢◌, ◌≤◌, ℕ, ◌+◌, Bool, true, List, ◌++◌, None}
+use Rattle.std.specs.List.{AllByRecursion}
+use Rattle.rq_model.specs.Records.{Record, Version}
+use Rattle.rq_model.specs.States.{Free, Element, State, empty, definition_at}
+use Rattle.rq_model.specs.Machine.{all_lawful, run, final, is_open, is_registered, latest}
+use Rattle.rq_model.specs.Machine.{outcome_from}
+use Rattle.rq_model.specs.Fates.{IsAt, IsEnqueued, IsCommitted, with_aborts, counted, IsPassing}
+use Rattle.rq_model.specs.Fates.{requests, takes, done, kills, shown, IsPath, limits_left, tries}
+use Rattle.rq_model.specs.Fates.{tries_at, leavings, IsBounded, remains, hears}
+
+-- One fate.
+
+-- As often as a number was requested it is shown, was done or was killed
+abbrev pub OneFate : Type 0
+OneFate = (version : Version) (rs : List Record) (p : ℕ) → all_lawful version empty rs ≡ true
+    → shown p (final (run empty rs)) + (done p (with_aborts rs) + kills p (with_aborts rs))
+    ≡ requests p (with_aborts rs)
+
+-- and it is requested once at most
+abbrev pub OneRequest : Type 0
+OneRequest = (rs : List Record) (p : ℕ) → requests p rs ≤ 1
+
+-- So a request whose unit commits has one fate
+abbrev pub CommittedHasOneFate : Type 0
+CommittedHasOneFate =
+    (version : Version) (rs : List Record) (p unit queue priority : ℕ) (payload : List ℕ)
+    → all_lawful version empty rs ≡ true → IsEnqueued rs p unit queue priority payload
+    → IsCommitted rs unit
+    → shown p (final (run empty rs)) + (done p (with_aborts rs) + kills p (with_aborts rs)) ≡ 1
+
+-- What no unit that commits enqueued was never taken
+abbrev pub OthersAreUntaken : Type 0
+OthersAreUntaken = (version : Version) (rs : List Record) (p : ℕ)
+    → all_lawful version empty rs ≡ true → requests p rs ≡ 0 → takes p rs ≡ 0
+
+-- Elements.
+
+-- an element is as the ENQUEUE of its own number made it; it stands where its limits led it; its
+-- tries are the limits that it left behind and its attempts
+pub record IsAsEnqueued (rs : List Record) (s : State) (e : Element) : Type 0 where
+  pub unit : ℕ
+  pub enqueued : IsEnqueued rs e.id unit e.origin e.priority e.payload
+  pub homes : List ℕ
+  pub path : IsPath s.definitions e.origin homes e.home
+  pub tried : tries e.id rs ≡ limits_left s.definitions e.origin homes + e.attempts
+
+-- Each element of a lawful run is so
+abbrev pub AllAsEnqueued : Type 0
+AllAsEnqueued = (version : Version) (rs : List Record) → all_lawful version empty rs ≡ true
+    → AllByRecursion (IsAsEnqueued rs (run empty rs)) (run empty rs).elements
+
+-- There is one record of a number
+abbrev pub OneRecord : Type 0
+OneRecord = (rs : List Record) (p : ℕ) (a b : List Record) (r t : Record) →
+    IsAt rs p a r → IsAt rs p b t → (a ≡ b) × (r ≡ t)
+
+-- What is left at the end is Free
+abbrev pub AllAreFree : Type 0
+AllAreFree = (version : Version) (rs : List Record) → all_lawful version empty rs ≡ true
+    → AllByRecursion (λ e. e.mark ≡ Free) (final (run empty rs)).elements
+
+-- Tries.
+
+-- In a queue with a limit the tries are bounded
+abbrev pub BoundedTries : Type 0
+BoundedTries = (version : Version) (rs : List Record) (p home : ℕ)
+    → all_lawful version empty rs ≡ true
+    → (definition_at (run empty rs).definitions home).limit ≢ 0
+    → IsBounded (definition_at (run empty rs).definitions home).limit (tries_at p home rs)
+    (leavings p home rs)
+
+-- The attempts of an element are its tries in its home
+abbrev pub AttemptsAreTries : Type 0
+AttemptsAreTries = (version : Version) (rs : List Record) → all_lawful version empty rs ≡ true
+    → AllByRecursion (λ e. e.attempts ≡ tries_at e.id e.home rs) (run empty rs).elements
+
+-- At the end a number was taken as often as it was tried and done
+abbrev pub TakesAreTries : Type 0
+TakesAreTries = (version : Version) (rs : List Record) (p : ℕ) → all_lawful version empty rs ≡ true
+    → takes p (with_aborts rs) ≡ tries p (with_aborts rs) + done p (with_aborts rs)
+
+-- The records and the ABORTs behind them are lawful, and end where a restart does: so what is said
+-- of runs is said of what a report shows
+abbrev pub RunsEnd : Type 0
+RunsEnd = (version : Version) (rs : List Record) → all_lawful version empty rs ≡ true
+    → (all_lawful version empty (with_aborts rs) ≡ true)
+    × (run empty (with_aborts rs) ≡ final (run empty rs))
+
+-- Clients.
+
+-- A registrant's last operation is the latest that it hears of
+abbrev pub HowFar : Type 0
+HowFar = (version : Version) (rs : List Record) → all_lawful version empty rs ≡ true
+    → AllByRecursion (λ r. r.last ≡ latest None (hears r.queue r.name empty rs))
+    (run empty rs).registrants
+
+-- Who is registered has registered, with no DEREGISTER behind
+abbrev pub WhoIsRegistered : Type 0
+WhoIsRegistered = (rs : List Record) (queue : ℕ) (name : List ℕ)
+    → is_registered (run empty rs) queue name ≡ remains queue name rs
+
+-- What the counts mean.
+
+-- Where the count is 0 no record passes, and where it is 1 exactly one does
+abbrev pub CountIsNone : Type 0
+CountIsNone = (test : State → List Record → Bool) (s : State) (rs : List Record) (p : ℕ)
+    → counted test s rs ≡ 0 → IsPassing test s rs p → ⊥
+
+abbrev pub CountIsOne : Type 0
+CountIsOne = (test : State → List Record → Bool) (s : State) (rs : List Record)
+    → counted test s rs ≡ 1
+    → (p : ℕ) × IsPassing test s rs p × ((q : ℕ) → IsPassing test s rs q → q ≡ p)
+
+-- What the records ahead say of an open unit is its outcome
+abbrev pub OutcomeIsAhead : Type 0
+OutcomeIsAhead = (version : Version) (before ahead : List Record) (unit : ℕ)
+    → all_lawful version empty (before ++ ahead) ≡ true → is_open (run empty before) unit ≡ true
+    → outcome_from 0 unit (before ++ ahead) ≡ outcome_from (run empty before).next unit ahead
