@@ -1,0 +1,1 @@
+"""What tools/wrong_bodies.py is made of."""

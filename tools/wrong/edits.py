@@ -1,0 +1,187 @@
+"""Wrong bodies: their files, the functions that they change, and which of them are tried in one check."""
+from __future__ import annotations
+import os, re
+from typing import Dict, FrozenSet, Iterator, List, NamedTuple, Tuple
+
+# The head of a function, and of what its methods stand in.
+HEAD = re.compile(r"^( *)(?:pub(?:\([^)]*\))? )?(?:const )?(?:unsafe )?fn (\w+)", re.M)
+HOLDER = re.compile(r"^(?:unsafe )?impl\b[^{;]*\{", re.M)
+CONST = re.compile(r"^(?:pub(?:\([^)]*\))? )?(?:const|static) (\w+)")
+CLAUSE = re.compile(r"^\s*(?:ghost|requires|ensures)\b", re.M)
+# As many wrong bodies are tried in one check at most.
+MOST = 32
+
+
+class Function(NamedTuple):
+    """A function of a crate: its file, what its impl is of, if it stands in one (`Type`, or `Type Trait`), and its name."""
+
+    path: str
+    holder: str
+    name: str
+
+
+class Span(NamedTuple):
+    """Where a function begins, where its body does, and where it ends."""
+
+    begin: int
+    body: int
+    end: int
+    function: Function
+
+
+class Edit(NamedTuple):
+    """A wrong body: its crate, its name, its file, and for each pair the file of the crate, the old text and the new one."""
+
+    crate: str
+    name: str
+    file: str
+    pairs: Tuple[Tuple[str, str, str], ...]
+
+    def label(self) -> str:
+        return f"{self.crate}/{self.name}"
+
+
+Texts = Dict[str, str]
+
+
+class Applied(NamedTuple):
+    """The texts with an edit, the functions that it changes, and whether it may change what others of their file mean."""
+
+    texts: Texts
+    changed: FrozenSet[Function]
+    reaches_out: bool
+
+
+def pairs_of(text: str) -> Iterator[Tuple[str, str, str]]:
+    """The file, the old text and the new one of each pair of an edit."""
+    path = old = ""
+    for line in text.split("\n"):
+        if line.startswith("file: "):
+            path = line[len("file: ") :].strip()
+        elif line.startswith("old: "):
+            old = line[len("old: ") :]
+        elif line.startswith("new:"):
+            new = line[len("new:") :]
+            yield path, old, new[1:] if new.startswith(" ") else new
+
+
+def edits_of(folder: str) -> List[Edit]:
+    """The edits of the crate in this folder, by name, those that the gate tries itself among them."""
+    crate, found = os.path.basename(folder), []
+    for part in ("must-fail", "wrong-bodies"):
+        at = os.path.join(folder, part)
+        for name in os.listdir(at) if os.path.isdir(at) else ():
+            if name.endswith(".edit"):
+                with open(os.path.join(at, name), encoding="utf-8") as file:
+                    pairs = tuple(pairs_of(file.read()))
+                found.append(Edit(crate, name[: -len(".edit")], os.path.join(at, name), pairs))
+    if len({it.name for it in found}) < len(found):
+        raise ValueError(f"two wrong bodies of {crate} have one name")
+    return sorted(found, key=lambda it: it.name)
+
+
+def holder_of(head: str) -> str:
+    """What an impl is of, by its head: its type, and behind it its trait, if it has one."""
+    head = head[: -len("{")].partition(" where ")[0].partition("\nwhere")[0]
+    before = ""
+    while before != head:
+        before, head = head, re.sub(r"<[^<>]*>", "", head)
+    names = [re.findall(r"\w+", it)[-1:] for it in reversed(re.split(r"\bfor\b", head))]
+    return " ".join(it[0] for it in names if it)
+
+
+def functions_of(path: str, text: str) -> List[Span]:
+    """The functions of the file. The files are laid out: a function ends at a brace below its head, and where it has a contract
+    its body begins at one."""
+    holders = [(it.start(), text.find("\n}", it.end()), holder_of(it[0])) for it in HOLDER.finditer(text)]
+    found = []
+    for head in HEAD.finditer(text):
+        end = text.find(f"\n{head[1]}}}", head.end())
+        holder = next((name for begin, last, name in holders if begin < head.start() < last), "")
+        last = len(text) if end < 0 else end + len(head[1]) + 2
+        body = text.find(f"\n{head[1]}{{\n", head.end(), last)
+        found.append(Span(head.start(), body if body > 0 else text.find("{", head.end()), last, Function(path, holder, head[2])))
+    return found
+
+
+def changed_by(texts: Texts, path: str, at: int, old: str) -> Tuple[List[Function], bool]:
+    """The functions whose code a change of the old text at `at` is in, and whether it reaches beyond them: it is in what a type
+    holds or a function takes. A constant is of the functions that name it."""
+    text, end = texts[path], at + len(old)
+    line = text[text.rfind("\n", 0, at) + 1 : end]
+    # (a function without a body of its own, as a trait has, seems to end where a later one does)
+    span = next((it for it in reversed(functions_of(path, text)) if it.begin < end and at < it.end), None)
+    if span:
+        if at < span.body and CLAUSE.search(text, span.begin, end):
+            raise ValueError("it changes a contract")
+        return [span.function], at < span.body
+    const = CONST.match(line)
+    if not const:
+        return [], not line.startswith("use ")
+    word, found = re.compile(rf"\b{const[1]}\b"), []
+    for other in sorted(it for it in texts if it.endswith(".rt")):
+        found += [it.function for it in functions_of(other, texts[other]) if word.search(texts[other], it.begin, it.end)]
+    return found, False
+
+
+def applied(edit: Edit, texts: Texts) -> Applied:
+    """The texts with the edit, and the functions that it changes. ValueError says why it does not apply."""
+    made, changed, reaches_out = dict(texts), set(), False
+    for path, old, new in edit.pairs:
+        count = made.get(path, "").count(old) if old and path.startswith("src/") else 0
+        if count != 1:
+            raise ValueError(f"an old text stands {count} times in {path}")
+        functions, beyond = changed_by(made, path, made[path].index(old), old)
+        changed.update(functions)
+        reaches_out = reaches_out or beyond
+        made[path] = made[path].replace(old, new)
+    if made == texts or not changed:
+        raise ValueError("it changes no function")
+    return Applied(made, frozenset(changed), reaches_out)
+
+
+class Batch:
+    """Wrong bodies of different functions of one crate, for one check."""
+
+    def __init__(self, texts: Texts):
+        self.texts, self.edits, self.changed = texts, [], {}  # type: Texts, List[Edit], Dict[Edit, FrozenSet[Function]]
+        self.is_full = False
+
+    def takes(self, edit: Edit) -> bool:
+        """Takes the edit, unless it changes a function that another one changes, or meets another one's text. One that reaches
+        beyond the functions that it changes stands alone."""
+        try:
+            made = applied(edit, self.texts)
+        except ValueError:
+            return False
+        if self.is_full or self.edits and made.reaches_out or any(made.changed & it for it in self.changed.values()):
+            return False
+        self.texts, self.changed[edit] = made.texts, made.changed
+        self.edits.append(edit)
+        self.is_full = made.reaches_out or len(self.edits) == MOST
+        return True
+
+
+def batches_of(edits: List[Edit], texts: Texts) -> List[Batch]:
+    """The edits in few batches: those whose functions others change too go first. Each of them applies alone."""
+    functions = {it: applied(it, texts).changed for it in edits}
+    rivals = {it: sum(1 for other in edits if functions[other] & functions[it]) for it in edits}
+    made: List[Batch] = []
+    for edit in sorted(edits, key=lambda it: (-rivals[it], it.name)):
+        if not any(batch.takes(edit) for batch in made):
+            made.append(Batch(texts))
+            if not made[-1].takes(edit):
+                raise ValueError(f"{edit.label()} applies to nothing")
+    return made
+
+
+def texts_in(folder: str) -> Texts:
+    """The files of code, definitions and proofs of the crate in this folder, by their paths in it."""
+    found: Texts = {}
+    for part in ("src", "specs", "proofs"):
+        for at, _, names in os.walk(os.path.join(folder, part)):
+            for name in names:
+                path = os.path.join(at, name)
+                with open(path, encoding="utf-8") as file:
+                    found[os.path.relpath(path, folder)] = file.read()
+    return found

@@ -1,0 +1,197 @@
+#!/usr/bin/env python3
+"""Tries the wrong bodies of the crates, many of different functions in one check, and holds them against receipts.
+
+usage: wrong_bodies.py [--jobs N] [--said FOLDER] [--write] [CRATE | CRATE/EDIT ..]
+       wrong_bodies.py --receipt
+       wrong_bodies.py --gate [--jobs N]
+A wrong body is an edit of `crates/NAME/must-fail`, which `rt ci` tries too, or of `crates/NAME/wrong-bodies`. It must be refused
+by a goal of a function that it changes: one that stays open, or whose answer no longer proves it. It fails if it is not refused,
+if it is refused only in another function or since a proof file names what it took away, or if it no longer applies.
+With no words all are tried. --write then writes the receipt of each crate whose wrong bodies were all tried and all refused
+(`crates/NAME/wrong-bodies/receipt`), the only file in the checkout that is written. --said keeps what each check said.
+--receipt proves nothing: it holds each wrong body against its receipt, which is of this toolchain, of this text of the edit,
+of the crate and of all crates below it. --gate does that too, but tries the wrong bodies of crates that are not what their
+receipt is of, and tries two more batches, drawn by the commit. Libraries are taken as the checkout has them, if `rt` built them
+of these files; else all are proved first in a copy, which takes what other checkouts on the machine hold.
+"""
+from __future__ import annotations
+import argparse, hashlib, os, signal, subprocess, sys
+from concurrent.futures import ThreadPoolExecutor
+from typing import Dict, List, Optional, Tuple
+
+sys.dont_write_bytecode = True
+from wrong.checks import Tried, stop, tried
+from wrong.edits import Batch, Edit, applied, batches_of, edits_of
+from wrong.places import Place, places
+from wrong.receipts import Sums, gone, held, made_of, receipt_of, written
+from wrong.verdicts import Verdict
+
+TOP = os.path.dirname(os.path.dirname(os.path.abspath(__file__)))
+# As many batches are drawn by the commit.
+DRAWN = 2
+
+
+def tell(line: str) -> None:
+    print(line, flush=True)
+
+
+class Run:
+    """The wrong bodies of all crates, and what was found of them."""
+
+    def __init__(self, jobs: int, said: str):
+        self.jobs, self.said, self.sums = jobs, said, Sums(TOP)
+        self.edits = {name: edits_of(os.path.join(TOP, "crates", name)) for name in sorted(self.sums.lines)}
+        self.found: Dict[Edit, Verdict] = {}
+        self.seconds: Dict[str, float] = {}
+
+    def batches(self, crate: str, wanted: Optional[List[Edit]] = None) -> List[Batch]:
+        """The batches of the crate's wrong bodies, or of some. Those that do not apply are told as such, and are in none."""
+        good = []
+        for edit in self.edits[crate] if wanted is None else wanted:
+            try:
+                applied(edit, self.sums.texts(crate))
+                good.append(edit)
+            except ValueError as why:
+                self.found[edit] = Verdict(False, "", f"it no longer applies: {why}")
+        return batches_of(good, self.sums.texts(crate))
+
+    def told(self, batch: Batch, done: Tried) -> List[Batch]:
+        """Notes what a check of a batch came to, and answers what is to be tried once more: in smaller batches, or each alone."""
+        crate, alone = batch.edits[0].crate, len(batch.edits) == 1
+        self.seconds[crate] = self.seconds.get(crate, 0) + done.seconds
+        open_ = [it for it in batch.edits if not done.verdicts[it].is_refused]
+        tell(f"{crate}: {len(batch.edits)} in one check, {len(open_)} not judged by it, {done.seconds:.0f} s")
+        self.found.update({it: verdict for it, verdict in done.verdicts.items() if verdict.is_refused or alone})
+        if alone:
+            return []
+        rest = [it for it in open_ if done.broken and it not in done.broken]
+        again = [it for it in open_ if it not in rest]
+        texts = self.sums.texts(crate)
+        return [*batches_of(rest, texts), *(one for it in again for one in batches_of([it], texts))]
+
+    def try_all(self, batches: List[Batch]) -> None:
+        """Tries these batches, side by side, and alone the wrong bodies that a batch does not judge."""
+        crates = [it.edits[0].crate for it in batches]
+        if not crates:
+            return
+        with places(TOP, {it: crates.count(it) for it in crates}, self.jobs, tell) as at, ThreadPoolExecutor(self.jobs) as pool:
+            try:
+                while batches:
+                    done = pool.map(lambda it: tried(at[it.edits[0].crate], it, self.said), batches)
+                    batches = [more for batch, one in zip(batches, done) for more in self.told(batch, one)]
+            except BaseException:
+                stop()
+                raise
+
+    def write(self) -> None:
+        """Writes the receipts of the crates whose wrong bodies were all tried and refused."""
+        for crate, edits in self.edits.items():
+            if edits and all(it in self.found and self.found[it].is_refused for it in edits):
+                written(TOP, crate, made_of(self.sums, crate, {it: self.found[it] for it in edits}))
+
+
+def wanted_of(run: Run, words: List[str]) -> List[Batch]:
+    """The batches of the wrong bodies that the words name, or of all."""
+    chosen: Dict[str, List[Edit]] = {}
+    for word in words or [name for name, edits in run.edits.items() if edits]:
+        crate, _, name = word.partition("/")
+        some = [it for it in run.edits.get(crate, ()) if not name or it.name == name.replace(".edit", "")]
+        if not some:
+            raise ValueError(f"there is no wrong body {word}")
+        chosen[crate] = chosen.get(crate, []) + [it for it in some if it not in chosen.get(crate, [])]
+    return [batch for crate, edits in chosen.items() for batch in run.batches(crate, edits)]
+
+
+def drawn(run: Run, crates: List[str]) -> List[Batch]:
+    """Two batches of these crates, drawn by the commit."""
+    asked = subprocess.run(["git", "rev-parse", "HEAD"], cwd=TOP, stdout=subprocess.PIPE, stderr=subprocess.DEVNULL, text=True)
+    seed = asked.stdout.strip() or run.sums.crate(crates[-1]) if crates else ""
+    every = {f"{crate} {at}": it for crate in crates for at, it in enumerate(run.batches(crate))}
+    order = sorted(every, key=lambda it: hashlib.sha256(f"{seed} {it}".encode()).hexdigest())
+    return [every[it] for it in order[:DRAWN]]
+
+
+def against_receipts(run: Run) -> Tuple[Dict[str, str], List[str]]:
+    """What does not hold by the receipts, by label, and the crates whose receipts hold whole."""
+    wrong: Dict[str, str] = {}
+    same = []
+    for crate, edits in run.edits.items():
+        lost = gone(run.sums, crate, edits)
+        wrong.update({f"{crate}/{name}": "its receipt tells of it, and it is gone" for name in lost})
+        is_same, why = held(run.sums, crate, edits)
+        for edit in edits:
+            try:
+                applied(edit, run.sums.texts(crate))
+            except ValueError as error:
+                why[edit.name] = f"it no longer applies: {error}"
+        wrong.update({f"{crate}/{name}": it for name, it in why.items()})
+        same += [crate] if edits and is_same and not why else []
+    return wrong, same
+
+
+def gate(run: Run) -> Dict[str, str]:
+    """What is wrong by the receipts, once the crates that are not what theirs are of, and two batches, were tried."""
+    wrong, same = against_receipts(run)
+    changed = [crate for crate, edits in run.edits.items() if edits and crate not in same]
+    for crate in changed:
+        tell(f"{crate}: not what its receipt is of; its {len(run.edits[crate])} are tried")
+    run.try_all([it for crate in changed for it in run.batches(crate)] + drawn(run, same))
+    labels = {it.label() for it in run.found}
+    wrong = {label: why for label, why in wrong.items() if label not in labels}
+    for edit, verdict in run.found.items():
+        line = receipt_of(TOP, edit.crate).lines.get(edit.name)
+        if not verdict.is_refused:
+            wrong[edit.label()] = verdict.told
+        elif edit.crate in same and line and line.function != verdict.function:
+            wrong[edit.label()] = f"{verdict.function} is refused, and not {line.function}, as its receipt tells"
+    return wrong
+
+
+def ended(wrong: Dict[str, str], labels: List[str]) -> int:
+    """Tells what is wrong and the counts, and answers the status."""
+    for label, why in sorted(wrong.items()):
+        tell(f"{label}: {why}")
+    tell(f"{sum(1 for it in labels if it not in wrong)} passed, {len(wrong)} failed")
+    return 1 if wrong else 0
+
+
+def words_of() -> argparse.Namespace:
+    reader = argparse.ArgumentParser(usage="wrong_bodies.py --help says how", add_help=False)
+    reader.add_argument("-h", "--help", action="store_true")
+    for name in ("--receipt", "--gate", "--write"):
+        reader.add_argument(name, action="store_true")
+    reader.add_argument("--jobs", type=int, default=len(os.sched_getaffinity(0)))
+    reader.add_argument("--said", default="")
+    reader.add_argument("wanted", nargs="*")
+    return reader.parse_args()
+
+
+def main() -> int:
+    words = words_of()
+    if words.help:
+        print(__doc__)
+        return 0
+    # (so that folders are removed however it ends)
+    for it in (signal.SIGTERM, signal.SIGHUP):
+        signal.signal(it, lambda number, _: sys.exit(128 + number))
+    try:
+        run = Run(max(1, words.jobs), os.path.abspath(words.said) if words.said else "")
+        every = [it.label() for edits in run.edits.values() for it in edits]
+        if words.receipt:
+            return ended(against_receipts(run)[0], every)
+        if words.gate:
+            return ended(gate(run), every)
+        run.try_all(wanted_of(run, words.wanted))
+    except ValueError as error:
+        tell(str(error))
+        tell("0 passed, 1 failed")
+        return 2
+    if words.write:
+        run.write()
+    tell("; ".join(f"{crate} {seconds / 60:.1f} min" for crate, seconds in sorted(run.seconds.items())))
+    wrong = {it.label(): verdict.told for it, verdict in run.found.items() if not verdict.is_refused}
+    return ended(wrong, [it.label() for it in run.found])
+
+
+if __name__ == "__main__":
+    sys.exit(main())
