@@ -11,5 +11,6 @@ returns c version b fits short head =
       ends = c.frames_join.ensures.end;
       front = c.one_front.ensures.front;
     } in
-    let (text, r, restart, told) = c.every_log_has_report.ensures version b fits short head in
+    let (text, report) = c.every_log_has_report.ensures version b fits short head in
+    let restart = report.1 in
     (audits empty 40 restart.records, is_audit restart.version laws b restart.records restart.rest restart.front)
