@@ -82,7 +82,7 @@ found_frame p bytes = elim (cases_lt 0 (length bytes)) [
     no_true e = cc
 
 -- lawful records at the front of bytes, and why no more follow
-record Found (version : Version) (s : State) (p bytes : List ℕ) : Type 0 where
+pub record Found (version : Version) (s : State) (p bytes : List ℕ) : Type 0 where
   pub records : List Record
   pub rest : List ℕ
   pub why : Why
@@ -117,7 +117,7 @@ found_first version s p bytes after r is lawful whole more = record {
   ends = more.ends;
 }
 
-found : (n : ℕ) (version : Version) (s : State) (p bytes : List ℕ) → length bytes ≤ n → AreBytes bytes
+pub found : (n : ℕ) (version : Version) (s : State) (p bytes : List ℕ) → length bytes ≤ n → AreBytes bytes
     → Found version s p bytes
 found zero version s p bytes few fits =
     nothing_found version s p bytes (Ends Whole) (nil_from_length bytes (omega (arith, few)))

@@ -29,6 +29,7 @@ pub mod Widths
 pub mod StateCodes
 pub mod Restarts
 pub mod Found
+mod Offsets
 pub mod Upgraded
 pub mod Closed
 pub mod Listed

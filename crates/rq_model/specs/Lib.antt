@@ -14,6 +14,7 @@ pub mod Redo
 pub mod Laws
 pub mod Ready
 pub mod LogLaws
+pub mod CheckpointLaws
 pub mod Closing
 pub mod Upgrading
 pub mod MoveLaws

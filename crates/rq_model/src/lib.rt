@@ -38,6 +38,10 @@ ghost use Rattle.rq_model.specs.Laws.{NumbersAfter, VersionOneIsOneDeep, Version
 ghost use Rattle.rq_model.specs.Laws.{RedoSteps, CrashIsHarmless};
 ghost use Rattle.rq_model.specs.MoveLaws.{MovesRise, ArrivalsRise};
 
+mod checkpoints;
+
+pub use checkpoints::every_checkpoint_has_report;
+
 /// A body spells at most one record, a record has one body, and the bytes of a state spell no other
 /// state.
 pub fn one_spelling()

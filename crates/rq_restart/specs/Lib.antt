@@ -8,6 +8,7 @@ pub mod Tails
 pub mod Upgrades
 pub mod Checkpoints
 pub mod Audits
+pub mod AuditLaws
 pub mod Worth
 pub mod Passes
 pub mod Keepers

@@ -3,6 +3,7 @@
 //! state that goes along with a log.
 #![tactic(auto)]
 
+mod audit_laws;
 mod auditing;
 mod before;
 mod checkpoint;
@@ -22,6 +23,7 @@ mod tails;
 mod tally;
 mod upgrading;
 
+pub use audit_laws::every_log_has_audit;
 pub use auditing::{audit, audit_lent};
 pub use ends::{FrontEnd, front_end};
 pub use keeper::Keeper;

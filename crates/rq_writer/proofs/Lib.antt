@@ -7,3 +7,5 @@ pub mod Splitting
 pub mod Fronting
 pub mod Ends
 pub mod Steps
+mod Answering
+mod OneAnswer

@@ -125,7 +125,7 @@ no_frame version A B joins number text old new front out r faults.ReadFailed lin
 no_frame version A B joins number text old new front out r faults.WriteFailed line f = absurd f
 
 -- what a line adds is a record of the version
-added_is_record : (version : Version) (rs : List Record) (l : Line) (r : Record) → IsLine version l
+pub added_is_record : (version : Version) (rs : List Record) (l : Line) (r : Record) → IsLine version l
     → Adds version rs l r → IsRecord version r
 added_is_record version rs (Told told) r is same = subst (IsRecord version) (sym same) is.0
 added_is_record version rs Spelled r is adds = subst (IsRecord version) (sym adds.3) adds.2
@@ -189,27 +189,33 @@ told_more : (version : Version) (ls : List Line) (l : Line) → AllByRecursion (
 told_more version [] l all one = (one, tt)
 told_more version (m ∷ ls) l all one = (all.0, told_more version ls l all.1 one)
 
-line_is : (rest : List ℕ) (x : List ℕ × List ℕ) (l : Line) → Some x ≡ cut_at 10 rest → x.0 ≡ line_text l
+pub line_is : (rest : List ℕ) (x : List ℕ × List ℕ) (l : Line) → Some x ≡ cut_at 10 rest → x.0 ≡ line_text l
     → rest ≡ ended l ++ x.1
 line_is rest x l found e = cut_takes 10 rest x (sym found) ∙ ap (λ (t : List ℕ). t ++ 10 ∷ x.1) e
     ∙ sym (append_assoc (line_text l) (10 ∷ []) x.1)
+
+-- one line more at the front of the script
+pub begins_more : (version : Version) (script rest : List ℕ) (x : List ℕ × List ℕ) (ls : List Line) (rs : List Record)
+    (l : Line) (r : Record) → BeginsWithLines version script ls rs rest → Some x ≡ cut_at 10 rest
+    → Tells version l x.0 → Adds version rs l r → length (log_of version (rs ++ r ∷ [])) ≤ log_limit
+    → BeginsWithLines version script (ls ++ l ∷ []) (rs ++ r ∷ []) x.1
+begins_more version script rest x ls rs l r begins found tells adds fits = record {
+  lines = told_more version ls l begins.lines tells.0;
+  whole = begins.whole ∙ ap (λ (t : List ℕ). script_of ls ++ t) (line_is rest x l found tells.1)
+      ∙ sym (append_assoc (script_of ls) (ended l) x.1)
+      ∙ ap (λ (t : List ℕ). t ++ x.1) (flat_map_more ended [] ls l);
+  added = added_more version [] ls l rs r begins.added adds;
+  fits = fits;
+}
 
 pub making_more : (version : Version) (script : List ℕ) (n : ℕ) (old new : Log) (rest : List ℕ) (x : List ℕ × List ℕ)
     (ls : List Line) (rs : List Record) (l : Line) (r : Record) → Making version script n old rest ls rs
     → Some x ≡ cut_at 10 rest → Tells version l x.0 → Adds version rs l r → HoldsRecords version new (rs ++ r ∷ [])
     → Making version script (n + 1) new x.1 (ls ++ l ∷ []) (rs ++ r ∷ [])
 making_more version script n old new rest x ls rs l r m found tells adds h =
-    let here : rest ≡ ended l ++ x.1 = line_is rest x l found tells.1 in
     let cut : rest ≡ x.0 ++ 10 ∷ x.1 = cut_takes 10 rest x (sym found) in
     record {
-      begins = record {
-        lines = told_more version ls l m.begins.lines tells.0;
-        whole = m.begins.whole ∙ ap (λ (t : List ℕ). script_of ls ++ t) here
-            ∙ sym (append_assoc (script_of ls) (ended l) x.1)
-            ∙ ap (λ (t : List ℕ). t ++ x.1) (flat_map_more ended [] ls l);
-        added = added_more version [] ls l rs r m.begins.added adds;
-        fits = h.logged.fits;
-      };
+      begins = begins_more version script rest x ls rs l r m.begins found tells adds h.logged.fits;
       number = omega (arith, m.number, length-append ls (l ∷ []));
       small = omega (arith, m.small, ap length cut, length-append x.0 (10 ∷ x.1));
       holds = h;

@@ -1,0 +1,15 @@
+//! Laws of scripts and their logs.
+
+ghost use Rattle.rq_writer.specs.MadeLaws.{EveryScriptHasAnswer, OneAnswer};
+
+/// Every script, of whatever bytes, has a log or a fault, and it has one alone: where a line has a
+/// fault, that of the earliest such line.
+pub fn one_answer()
+    ensures some { EveryScriptHasAnswer }
+    ensures one { OneAnswer }
+{
+    rq_model::one_run();
+    rq_model::one_spelling();
+    rq_model::one_front();
+    rq_model::frames_join();
+}
