@@ -1,10 +1,18 @@
 //! An error queue that does not wait for queues whose error queue it is not.
 
 use super::threads::look;
-use super::{lines, log_of, report_at};
-use rq_tool::{Gate, Plan};
+use super::{log_of, reports};
+use rq_tool::Gate;
 use std::sync::atomic::{AtomicBool, Ordering};
 use std::test::Fail;
+
+const SCRIPT: &[u8] = b"define dead 0 -\ndefine a 1 0\ndefine b 0 -\n";
+
+const REPORT: &[u8] = b"front 3 records, 175 of 175 bytes, whole\n\
+    units 0 committed, 0 aborted, 0 cut off\n\
+    queue 0 dead limit 0 error -\n\
+    queue 1 a limit 1 error 0\n\
+    queue 2 b limit 0 error -\n";
 
 // A queue that looks for the flag which the error queue of another one sets.
 #[derive(Drop)]
@@ -25,24 +33,12 @@ impl Gate for Looking {
 
 #[test]
 fn no_barrier(rt: HostRuntime) -> Result<(), Fail> {
-    let plan = Plan::new(2, 1).ok_or("plan")?;
-    let log = log_of(&rt, &["define dead 0 -", "define a 1 0", "define b 0 -"])?;
-    assert_eq!(rt; log.len(), 175);
-    let want = lines(
-        rt.alloc(),
-        &[
-            "front 3 records, 175 of 175 bytes, whole",
-            "units 0 committed, 0 aborted, 0 cut off",
-            "queue 0 dead limit 0 error -",
-            "queue 1 a limit 1 error 0",
-            "queue 2 b limit 0 error -",
-        ],
-    )?;
+    let log = log_of(&rt, SCRIPT)?;
     let gate = Looking {
         error_there: AtomicBool::new(false),
         saw: AtomicBool::new(false),
     };
-    assert!(rt; report_at(&rt, &log, &plan, &gate)? == want);
+    assert!(rt; reports(&rt, &log, 2, &gate, REPORT));
     assert!(rt; gate.saw.load(Ordering::SeqCst));
     Ok(())
 }

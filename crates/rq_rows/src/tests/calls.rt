@@ -1,22 +1,23 @@
-//! Calls that other examples reach through others alone, each once, with ample memory.
+//! Calls that no line of the program makes, or makes by others alone, each once, with ample memory.
 
-use super::scripts::CHECKPOINT;
-use super::{lines, log_of};
+use super::scripts::{CHECKPOINT, ONE_ELEMENT};
+use super::{PLANS, log_of};
 use rq_queue::Part;
-use rq_record::{QueueNo, UnitNo};
-use rq_restart::{Restarted, Why, audit, front_state, restart_at};
+use rq_record::{QueueNo, UnitNo, Version};
+use rq_restart::{FrontEnd, Restarted, Why, audit, front_end, front_state, restart_at, upgrade};
 use rq_state::{Fields, State};
-use rq_tool::{Open, Plan};
-use rq_writer::{decimal_number, make};
+use rq_tool::{Command, Open, OverRead, OverWrite, Plan, act, make_log};
+use rq_writer::{decimal_number, make_in};
 use std::alloc::Global;
+use std::io::Cursor;
 use std::test::Fail;
 use std::thread::Threads;
 
-// The state at the checkpoint: a unit is open that took one element and put in another.
+// The state behind the checkpoint, where a unit is open that took one element and put in another.
 fn state_at_checkpoint<R: Threads + Sync + AllocGlobal>(rt: &R) -> Result<State, Fail> {
-    let log = log_of(rt, &CHECKPOINT[..9])?;
+    let log = log_of(rt, CHECKPOINT)?;
     let plan = Plan::new(1, 1).ok_or("plan")?;
-    Ok(front_state(rt, rt.alloc(), &log, &plan)?)
+    Ok(front_state(rt, rt.alloc(), log.get(..679).unwrap_or(&[]), &plan)?)
 }
 
 fn has_counts(state: &State) -> bool {
@@ -50,52 +51,56 @@ fn has_lists(state: &State) -> bool {
         && state.notes_of(QueueNo(0)) == [0usize].as_slice()
 }
 
+// Whether the copied elements of the queue are these: their numbers, whether unit 2 holds them, and
+// whether it put them in.
+fn copies_elements(alloc: Global, state: &State, queue: u32, want: &[(u64, bool, bool)]) -> bool {
+    match state.copied_elements_of(alloc, QueueNo(queue)) {
+        Ok(elements) => {
+            let told = elements.iter().map(|e| (
+                e.number(),
+                e.is_held(UnitNo(2)),
+                e.is_fresh(UnitNo(2)),
+            ));
+            told.eq(want.iter().copied())
+        }
+        Err(_) => false,
+    }
+}
+
+fn copies_a_registrant(alloc: Global, state: &State) -> bool {
+    match state.copied_registrants_of(alloc, QueueNo(0)) {
+        Ok(registrants) => registrants.len() == 1,
+        Err(_) => false,
+    }
+}
+
+fn copies_a_note(alloc: Global, state: &State) -> bool {
+    match state.copied_notes_of(alloc, QueueNo(0)) {
+        Ok(notes) => notes.iter().map(|note| note.is_by(UnitNo(2))).eq([true]),
+        Err(_) => false,
+    }
+}
+
+// Whether what belongs to the first queue of the state is copied, and nothing of the second.
+fn copies(alloc: Global, state: &State) -> bool {
+    copies_elements(alloc, state, 0, &[(3, true, false), (7, false, true)])
+        && copies_elements(alloc, state, 1, &[])
+        && copies_a_registrant(alloc, state)
+        && copies_a_note(alloc, state)
+}
+
 #[test]
 fn a_state_tells_what_it_has(rt: HostRuntime) -> Result<(), Fail> {
     let state = state_at_checkpoint(&rt)?;
     assert!(rt; has_counts(&state), "counts");
     assert!(rt; has_members(&state), "members");
     assert!(rt; has_lists(&state), "lists of a queue");
-    Ok(())
-}
-
-// The elements that are copied of a queue, by number: which unit 2 holds, and which it put in.
-fn copied_elements(
-    alloc: Global,
-    state: &State,
-    queue: u32,
-) -> Result<Vec<(u64, bool, bool)>, Fail> {
-    let elements = state.copied_elements_of(alloc, QueueNo(queue))?;
-    let told = elements.iter().map(|e| (e.number(), e.is_held(UnitNo(2)), e.is_fresh(UnitNo(2))));
-    Ok(told.collect(alloc)?)
-}
-
-// Of each note that is copied of a queue, whether it is by unit 2.
-fn copied_notes(alloc: Global, state: &State, queue: u32) -> Result<Vec<bool>, Fail> {
-    let notes = state.copied_notes_of(alloc, QueueNo(queue))?;
-    let told = notes.iter().map(|note| note.is_by(UnitNo(2)));
-    Ok(told.collect(alloc)?)
-}
-
-// Whether what belongs to the first queue of the state is copied, and nothing of the second.
-fn copies(alloc: Global, state: &State) -> Result<bool, Fail> {
-    let elements = copied_elements(alloc, state, 0)?;
-    let registrants = state.copied_registrants_of(alloc, QueueNo(0))?.len();
-    let notes = copied_notes(alloc, state, 0)?;
-    let all = elements.as_slice() == [(3, true, false), (7, false, true)].as_slice();
-    let none = copied_elements(alloc, state, 1)?.is_empty();
-    Ok(all && none && registrants == 1 && notes.as_slice() == [true].as_slice())
-}
-
-#[test]
-fn what_belongs_to_a_queue_is_copied(rt: HostRuntime) -> Result<(), Fail> {
-    let state = state_at_checkpoint(&rt)?;
-    assert!(rt; copies(rt.alloc(), &state)?);
+    assert!(rt; copies(rt.alloc(), &state), "copies");
     Ok(())
 }
 
 // A state's numbers, without members.
-fn fields(alloc: Global) -> Fields {
+fn no_fields(alloc: Global) -> Fields {
     Fields {
         next: 0,
         greatest: 0,
@@ -109,28 +114,35 @@ fn fields(alloc: Global) -> Fields {
     }
 }
 
-// Pours the part of the first queue of a state.
-fn pour_first(alloc: Global, state: &State, fields: &mut Fields) -> Result<bool, Fail> {
+// Pours the part of the first queue of a state, if it is that.
+fn pour_first(alloc: Global, state: &State, fields: &mut Fields) -> bool {
     if state.definition_count() == 0 {
-        return Ok(false);
+        return false;
     }
-    let part = Part::of(alloc, state, QueueNo(0))?;
-    let is_first = part.queue() == QueueNo(0);
-    part.pour(fields)?;
-    Ok(is_first)
+    match Part::of(alloc, state, QueueNo(0)) {
+        Ok(part) => part.queue() == QueueNo(0) && part.pour(fields).is_ok(),
+        Err(_) => false,
+    }
+}
+
+// How many elements, registrants and notes the part of the first queue has.
+fn poured(alloc: Global, state: &State) -> [usize; 3] {
+    let mut fields = no_fields(alloc);
+    if pour_first(alloc, state, &mut fields) {
+        [
+            fields.elements.len(),
+            fields.registrants.len(),
+            fields.notes.len(),
+        ]
+    } else {
+        [0; 3]
+    }
 }
 
 #[test]
 fn a_part_is_poured_out(rt: HostRuntime) -> Result<(), Fail> {
     let state = state_at_checkpoint(&rt)?;
-    let mut fields = fields(rt.alloc());
-    assert!(rt; pour_first(rt.alloc(), &state, &mut fields)?);
-    let counts = [
-        fields.elements.len(),
-        fields.registrants.len(),
-        fields.notes.len(),
-    ];
-    assert_eq!(rt; counts, [2, 1, 1]);
+    assert_eq!(rt; poured(rt.alloc(), &state), [2, 1, 1]);
     Ok(())
 }
 
@@ -147,31 +159,121 @@ fn has_numbers(restarted: &Restarted) -> bool {
         && restarted.state().element_count() == 1
 }
 
-#[test]
-fn a_restart_from_a_checkpoint_has_the_numbers_of_the_log(rt: HostRuntime) -> Result<(), Fail> {
-    let log = log_of(&rt, &CHECKPOINT[..9])?;
-    let plan = Plan::new(1, 1).ok_or("plan")?;
-    let restarted = restart_at(&rt, rt.alloc(), &log, 447, &plan, &Open)?;
-    assert!(rt; has_numbers(&restarted));
-    Ok(())
+fn restarts_at_checkpoint<R: Threads + Sync + AllocGlobal>(
+    rt: &R,
+    log: &[u8],
+    plan: &Plan,
+) -> bool {
+    match restart_at(rt, rt.alloc(), log, 447, plan, &Open) {
+        Ok(restarted) => has_numbers(&restarted),
+        Err(_) => false,
+    }
+}
+
+fn audits<R: Threads + Sync + AllocGlobal>(rt: &R, log: &[u8], plan: &Plan) -> bool {
+    match audit(rt, rt.alloc(), log, plan) {
+        Ok(found) => found.as_slice() == [(447u64, true)].as_slice(),
+        Err(_) => false,
+    }
+}
+
+fn ends<R: Threads + Sync + AllocGlobal>(rt: &R, log: &[u8], plan: &Plan) -> bool {
+    let want = FrontEnd {
+        records: 9,
+        used: 679,
+        total: 679,
+        why: Why::Whole,
+    };
+    front_end(rt, rt.alloc(), log, plan) == Ok(want)
 }
 
 #[test]
-fn an_audit_tells_the_offset_of_a_checkpoint(rt: HostRuntime) -> Result<(), Fail> {
-    let log = log_of(&rt, &CHECKPOINT[..9])?;
+fn a_log_with_a_checkpoint_has_its_numbers(rt: HostRuntime) -> Result<(), Fail> {
+    let log = log_of(&rt, CHECKPOINT)?;
     let plan = Plan::new(1, 1).ok_or("plan")?;
-    let found = audit(&rt, rt.alloc(), &log, &plan)?;
-    assert_eq!(rt; found.as_slice(), [(447u64, true)].as_slice());
+    let log = log.get(..679).ok_or("log")?;
+    assert!(rt; restarts_at_checkpoint(&rt, log, &plan), "restart");
+    assert!(rt; audits(&rt, log, &plan), "audit");
+    assert!(rt; ends(&rt, log, &plan), "end of the front");
     Ok(())
+}
+
+// Whether the command makes this log of the script.
+fn acts<R: Threads + Sync + AllocGlobal>(
+    rt: &R,
+    command: &Command<'_>,
+    script: &[u8],
+    log: &[u8],
+) -> bool {
+    let mut input = OverRead::new(Cursor::new(script));
+    let mut output = OverWrite::new(Vec::new(rt.alloc()));
+    let done = act(rt, rt.alloc(), command, &mut input, &mut output, &Open);
+    done.is_ok() && output.into_inner().as_slice() == log
+}
+
+// Whether a script that is read gives this log, in version 1.
+fn makes<R: Threads + Sync + AllocGlobal>(rt: &R, script: &[u8], log: &[u8]) -> bool {
+    let mut input = OverRead::new(Cursor::new(script));
+    let mut output = OverWrite::new(Vec::new(rt.alloc()));
+    let done = make_log(rt, rt.alloc(), &mut input, &mut output);
+    done.is_ok() && output.into_inner().as_slice() == log
 }
 
 #[test]
 fn a_script_is_made_from_bytes_and_from_a_reader(rt: HostRuntime) -> Result<(), Fail> {
-    let script = lines(rt.alloc(), &CHECKPOINT)?;
-    let plan = Plan::new(1, 1).ok_or("plan")?;
-    let log = make(&rt, rt.alloc(), &script, &plan)?;
+    let log = log_of(&rt, CHECKPOINT)?;
     assert_eq!(rt; log.len(), 724);
-    assert!(rt; log_of(&rt, &CHECKPOINT)? == log);
+    let command = Command::Make {
+        script: "script",
+        log: "log",
+    };
+    assert!(rt; acts(&rt, &command, CHECKPOINT, &log), "by the command");
+    assert!(rt; makes(&rt, CHECKPOINT, &log), "in version 1");
+    Ok(())
+}
+
+// The upgraded log, which must have 132 bytes.
+fn upgraded_log<R: Threads + Sync + AllocGlobal>(rt: &R) -> Result<Vec<u8>, Fail> {
+    let plan = Plan::new(1, 1000).ok_or("plan")?;
+    let script = b"define jobs 0 -\nbegin 1\n";
+    Ok(make_in(rt, rt.alloc(), Version::Two, script, &plan)?)
+}
+
+// Whether the log is upgraded to this one, by this plan.
+fn upgrades_by<R: Threads + Sync + AllocGlobal>(
+    rt: &R,
+    log: &[u8],
+    plan: &Plan,
+    want: &[u8],
+) -> bool {
+    match upgrade(rt, rt.alloc(), log, plan) {
+        Ok(made) => made.as_slice() == want,
+        Err(_) => false,
+    }
+}
+
+// Whether it is, whatever the plan is.
+fn upgrades<R: Threads + Sync + AllocGlobal>(rt: &R, log: &[u8], want: &[u8]) -> bool {
+    for (workers, grain) in PLANS {
+        let Some(plan) = Plan::new(workers, grain) else {
+            return false;
+        };
+        if !upgrades_by(rt, log, &plan, want) {
+            return false;
+        }
+    }
+    true
+}
+
+#[test]
+fn a_damaged_log_is_upgraded_to_its_front(rt: HostRuntime) -> Result<(), Fail> {
+    let mut log = log_of(&rt, ONE_ELEMENT)?;
+    if let Some(payload) = log.get_mut(159) {
+        *payload = 0x62;
+    }
+    let want = upgraded_log(&rt)?;
+    assert_eq!(rt; want.len(), 132);
+    assert!(rt; upgrades(&rt, &log, &want));
     Ok(())
 }
 

@@ -1,11 +1,12 @@
 //! A keeper that goes along with a log, piece by piece.
 
+use super::log_of;
 use super::scripts::{CHECKPOINT, ONE_ELEMENT, RETURN_AND_ARRIVAL};
-use super::{log_in, log_of};
-use rq_front::chain;
+use rq_front::{Span, chain};
 use rq_record::{ElemId, QueueNo, Record, UnitNo, Version, decode_in};
 use rq_restart::{Fault, Keeper, Plan, front_state};
 use rq_state::{State, read_in, spell};
+use rq_writer::make_in;
 use std::alloc::Global;
 use std::test::Fail;
 use std::thread::Threads;
@@ -20,6 +21,13 @@ const IN_SOME: &[usize] = &[2, 7, 8, 8, 11, 20];
 
 const AT_ONCE: &[usize] = &[20];
 
+// The record whose body is there.
+fn record_at(alloc: Global, version: Version, log: &[u8], span: &Span) -> Result<Record, Fail> {
+    let end = span.start.saturating_add(span.len);
+    let body = log.get(span.start..end).ok_or("body")?;
+    Ok(decode_in(alloc, version, body)?)
+}
+
 // The records of a log of a version.
 fn records<R: Threads + Sync + AllocGlobal>(
     rt: &R,
@@ -28,11 +36,19 @@ fn records<R: Threads + Sync + AllocGlobal>(
 ) -> Result<Vec<Record>, Fail> {
     let mut records = Vec::new(rt.alloc());
     for span in chain(rt, rt.alloc(), log, 40, 1)?.spans.iter() {
-        let end = span.start.saturating_add(span.len);
-        let body = log.get(span.start..end).ok_or("body")?;
-        records.push(decode_in(rt.alloc(), version, body)?)?;
+        records.push(record_at(rt.alloc(), version, log, span)?)?;
     }
     Ok(records)
+}
+
+// How many of the records the keeper takes, if it does not fail.
+fn taken<R: Threads + Sync + AllocGlobal>(
+    rt: &R,
+    keeper: &mut Keeper,
+    records: &[Record],
+    plan: &Plan,
+) -> Option<usize> {
+    keeper.take(rt, rt.alloc(), records, plan).ok()
 }
 
 // Whether the keeper takes all records, in pieces that end at these places.
@@ -42,41 +58,35 @@ fn takes_all<R: Threads + Sync + AllocGlobal>(
     records: &[Record],
     ends: &[usize],
     plan: &Plan,
-) -> Result<bool, Fail> {
+) -> bool {
     let mut start = 0;
     for end in ends {
         let end = (*end).min(records.len());
-        let piece = records.get(start..end).ok_or("piece")?;
-        if keeper.take(rt, rt.alloc(), piece, plan)? != piece.len() {
-            return Ok(false);
+        let Some(piece) = records.get(start..end) else {
+            return false;
+        };
+        if taken(rt, keeper, piece, plan) != Some(piece.len()) {
+            return false;
         }
         start = end;
     }
-    Ok(start == records.len())
+    start == records.len()
 }
 
 // What a state spells that has no more records than a log may have.
-fn spelling(alloc: Global, state: &State) -> Result<Vec<u8>, Fail> {
+fn spelling(alloc: Global, state: &State) -> Option<Vec<u8>> {
     if state.next() > 4_294_967_295 {
-        return Err("records".into());
+        return None;
     }
-    Ok(spell(alloc, state)?)
+    spell(alloc, state).ok()
 }
 
-// What the state spells where the front of the log ends.
-fn spelling_after<R: Threads + Sync + AllocGlobal>(
-    rt: &R,
-    log: &[u8],
-    plan: &Plan,
-) -> Result<Vec<u8>, Fail> {
-    spelling(rt.alloc(), &front_state(rt, rt.alloc(), log, plan)?)
-}
-
-// A state that spells nothing but the number of its next record.
-fn state_before(alloc: Global, next: u64) -> Result<State, Fail> {
-    let mut bytes = [0u8; 52];
-    bytes[..8].copy_from_slice(&next.to_be_bytes());
-    Ok(read_in(alloc, Version::One, &bytes)?)
+// Whether two states spell the same.
+fn spell_the_same(alloc: Global, one: &State, other: &State) -> bool {
+    match (spelling(alloc, one), spelling(alloc, other)) {
+        (Some(one), Some(other)) => one == other,
+        _ => false,
+    }
 }
 
 // Whether the keeper stands where the front of the log ends.
@@ -85,68 +95,84 @@ fn stands_behind<R: Threads + Sync + AllocGlobal>(
     keeper: &Keeper,
     log: &[u8],
     plan: &Plan,
-) -> Result<bool, Fail> {
-    let got = spelling(rt.alloc(), keeper.state())?;
-    Ok(got == spelling_after(rt, log, plan)?)
+) -> bool {
+    match front_state(rt, rt.alloc(), log, plan) {
+        Ok(state) => spell_the_same(rt.alloc(), keeper.state(), &state),
+        Err(_) => false,
+    }
 }
 
 // Whether a new keeper that takes the log's records in pieces stands where its front ends.
 fn goes_along<R: Threads + Sync + AllocGlobal>(
     rt: &R,
     log: &[u8],
+    records: &[Record],
     ends: &[usize],
-    plan: &Plan,
-) -> Result<bool, Fail> {
-    let records = records(rt, Version::One, log)?;
+    workers: u32,
+) -> bool {
+    let Some(plan) = Plan::new(workers, 1) else {
+        return false;
+    };
     let mut keeper = Keeper::new(Version::One, State::empty(rt.alloc()));
-    let all = takes_all(rt, &mut keeper, &records, ends, plan)?;
-    Ok(all && stands_behind(rt, &keeper, log, plan)?)
+    takes_all(rt, &mut keeper, records, ends, &plan) && stands_behind(rt, &keeper, log, &plan)
+}
+
+// Whether it does, whatever the pieces are.
+fn goes_along_by_all<R: Threads + Sync + AllocGlobal>(rt: &R, script: &[u8]) -> Result<bool, Fail> {
+    let log = log_of(rt, script)?;
+    let records = records(rt, Version::One, &log)?;
+    Ok(
+        goes_along(rt, &log, &records, SINGLY, 1)
+            && goes_along(rt, &log, &records, IN_SOME, 7)
+            && goes_along(rt, &log, &records, AT_ONCE, 64),
+    )
 }
 
 #[test]
 fn a_keeper_stands_where_the_front_of_the_log_ends(rt: HostRuntime) -> Result<(), Fail> {
-    for script in [&RETURN_AND_ARRIVAL[..], &CHECKPOINT[..]] {
-        let log = log_of(&rt, script)?;
-        for (ends, workers) in [(SINGLY, 1), (IN_SOME, 7), (AT_ONCE, 64)] {
-            let plan = Plan::new(workers, 1).ok_or("plan")?;
-            assert!(rt; goes_along(&rt, &log, ends, &plan)?, "{workers} workers");
-        }
+    for script in [RETURN_AND_ARRIVAL, CHECKPOINT] {
+        assert!(rt; goes_along_by_all(&rt, script)?, "{} bytes", script.len());
     }
     Ok(())
 }
 
-// A keeper that begins with the state after so many records of the script `RETURN_AND_ARRIVAL`.
-fn keeper_after<R: Threads + Sync + AllocGlobal>(
+// Where the header and the frames of the log of `RETURN_AND_ARRIVAL` end.
+const ENDS: [usize; 15] = [
+    40, 87, 134, 178, 223, 283, 343, 388, 433, 491, 549, 594, 639, 700, 745,
+];
+
+// The state that the state after the log's front spells.
+fn read_again<R: Threads + Sync + AllocGlobal>(
     rt: &R,
-    count: usize,
+    log: &[u8],
     plan: &Plan,
-) -> Result<Keeper, Fail> {
-    let log = log_of(rt, RETURN_AND_ARRIVAL.get(..count).ok_or("script")?)?;
-    let spelled = spelling_after(rt, &log, plan)?;
-    let base = read_in(rt.alloc(), Version::One, &spelled)?;
-    Ok(Keeper::new(Version::One, base))
+) -> Result<State, Fail> {
+    let state = front_state(rt, rt.alloc(), log, plan)?;
+    let spelled = spelling(rt.alloc(), &state).ok_or("spelling")?;
+    Ok(read_in(rt.alloc(), Version::One, &spelled)?)
 }
 
-// Whether a keeper that begins behind so many records of the log goes on to its end.
+// Whether a keeper that begins behind a beginning of the log goes on to its end by these records.
 fn goes_on_behind<R: Threads + Sync + AllocGlobal>(
     rt: &R,
     log: &[u8],
-    count: usize,
-    plan: &Plan,
+    begins: &[u8],
+    rest: &[Record],
 ) -> Result<bool, Fail> {
-    let records = records(rt, Version::One, log)?;
-    let rest = records.get(count..).ok_or("rest")?;
-    let mut keeper = keeper_after(rt, count, plan)?;
-    let all = keeper.take(rt, rt.alloc(), rest, plan)? == rest.len();
-    Ok(all && stands_behind(rt, &keeper, log, plan)?)
+    let plan = Plan::new(2, 1).ok_or("plan")?;
+    let mut keeper = Keeper::new(Version::One, read_again(rt, begins, &plan)?);
+    let all = taken(rt, &mut keeper, rest, &plan) == Some(rest.len());
+    Ok(all && stands_behind(rt, &keeper, log, &plan))
 }
 
 #[test]
 fn a_keeper_goes_on_from_a_checkpoint(rt: HostRuntime) -> Result<(), Fail> {
-    let plan = Plan::new(2, 1).ok_or("plan")?;
-    let log = log_of(&rt, &RETURN_AND_ARRIVAL)?;
-    for count in 0..RETURN_AND_ARRIVAL.len() {
-        assert!(rt; goes_on_behind(&rt, &log, count, &plan)?, "behind {count}");
+    let log = log_of(&rt, RETURN_AND_ARRIVAL)?;
+    let records = records(&rt, Version::One, &log)?;
+    for (count, end) in ENDS.iter().enumerate() {
+        let begins = log.get(..*end).ok_or("beginning")?;
+        let rest = records.get(count..).ok_or("rest")?;
+        assert!(rt; goes_on_behind(&rt, &log, begins, rest)?, "behind {count}");
     }
     Ok(())
 }
@@ -159,27 +185,24 @@ fn with_two_more<R: Threads + Sync + AllocGlobal>(rt: &R, log: &[u8]) -> Result<
     Ok(records)
 }
 
-// How many records a keeper takes of these, how many of the last, and the next record number then;
-// and whether it stood where the log's front ends before the last.
-fn stops<R: Threads + Sync + AllocGlobal>(
-    rt: &R,
-    log: &[u8],
-    plan: &Plan,
-) -> Result<(usize, bool, usize, u64), Fail> {
-    let records = with_two_more(rt, log)?;
+// Whether a keeper takes four of these records, stands where the log's front ends, and then takes
+// the last one alone.
+fn stops<R: Threads + Sync + AllocGlobal>(rt: &R, log: &[u8], records: &[Record]) -> bool {
+    let (Some(plan), Some(last)) = (Plan::new(2, 1), records.get(5..)) else {
+        return false;
+    };
     let mut keeper = Keeper::new(Version::One, State::empty(rt.alloc()));
-    let taken = keeper.take(rt, rt.alloc(), &records, plan)?;
-    let stood = stands_behind(rt, &keeper, log, plan)?;
-    let last = records.get(5..).ok_or("last")?;
-    let more = keeper.take(rt, rt.alloc(), last, plan)?;
-    Ok((taken, stood, more, keeper.state().next()))
+    let four = taken(rt, &mut keeper, records, &plan) == Some(4);
+    let stood = stands_behind(rt, &keeper, log, &plan);
+    let one = taken(rt, &mut keeper, last, &plan) == Some(1);
+    four && stood && one && keeper.state().next() == 5
 }
 
 #[test]
 fn a_keeper_stops_before_an_unlawful_record(rt: HostRuntime) -> Result<(), Fail> {
-    let plan = Plan::new(2, 1).ok_or("plan")?;
-    let log = log_of(&rt, &ONE_ELEMENT)?;
-    assert_eq!(rt; stops(&rt, &log, &plan)?, (4, true, 1, 5));
+    let log = log_of(&rt, ONE_ELEMENT)?;
+    let records = with_two_more(&rt, &log)?;
+    assert!(rt; stops(&rt, &log, &records));
     Ok(())
 }
 
@@ -188,38 +211,54 @@ fn a_keeper_stops_before_an_unlawful_record(rt: HostRuntime) -> Result<(), Fail>
 fn after_kill<R: Threads + Sync + AllocGlobal>(
     rt: &R,
     version: Version,
-) -> Result<(usize, usize, usize), Fail> {
+) -> Result<(Option<usize>, Option<usize>, usize), Fail> {
     let plan = Plan::new(2, 1).ok_or("plan")?;
-    let records = records(rt, version, &log_in(rt, version, &ONE_ELEMENT)?)?;
+    let log = make_in(rt, rt.alloc(), version, ONE_ELEMENT, &plan)?;
+    let records = records(rt, version, &log)?;
     let kill = Record::Kill {
         queue: QueueNo(0),
         element: ElemId(2),
     };
     let mut keeper = Keeper::new(version, State::empty(rt.alloc()));
-    let taken = keeper.take(rt, rt.alloc(), &records, &plan)?;
-    let killed = keeper.take(rt, rt.alloc(), &[kill], &plan)?;
-    Ok((taken, killed, keeper.state().element_count()))
+    let first = taken(rt, &mut keeper, &records, &plan);
+    let killed = taken(rt, &mut keeper, &[kill], &plan);
+    Ok((first, killed, keeper.state().element_count()))
 }
 
 #[test]
 fn a_keeper_goes_by_the_rules_of_its_version(rt: HostRuntime) -> Result<(), Fail> {
-    assert_eq!(rt; after_kill(&rt, Version::One)?, (4, 0, 1));
-    assert_eq!(rt; after_kill(&rt, Version::Two)?, (4, 1, 0));
+    assert_eq!(rt; after_kill(&rt, Version::One)?, (Some(4), Some(0), 1));
+    assert_eq!(rt; after_kill(&rt, Version::Two)?, (Some(4), Some(1), 0));
     Ok(())
+}
+
+// A state that spells nothing but the number of its next record.
+fn state_before(alloc: Global, next: u64) -> Result<State, Fail> {
+    let mut bytes = [0u8; 52];
+    bytes[..8].copy_from_slice(&next.to_be_bytes());
+    Ok(read_in(alloc, Version::One, &bytes)?)
+}
+
+// Whether the keeper takes one BEGIN, and then no record more.
+fn is_full_behind_one<R: Threads + Sync + AllocGlobal>(
+    rt: &R,
+    keeper: &mut Keeper,
+    plan: &Plan,
+) -> bool {
+    let begin = [Record::Begin { unit: UnitNo(1) }];
+    let first = keeper.take(rt, rt.alloc(), &begin, plan);
+    let second = keeper.take(rt, rt.alloc(), &begin, plan);
+    first == Ok(1)
+        && second == Err(Fault::TooLong)
+        && keeper.state().next() == 4_294_967_295
+        && keeper.state().unit_count() == 1
 }
 
 #[test]
 fn a_keeper_takes_no_more_records_than_a_log_may_have(rt: HostRuntime) -> Result<(), Fail> {
     let plan = Plan::new(2, 1).ok_or("plan")?;
-    let mut begin = Vec::new(rt.alloc());
-    begin.push(Record::Begin { unit: UnitNo(1) })?;
-    let mut keeper = Keeper::new(Version::One, state_before(rt.alloc(), 4_294_967_294)?);
-    assert_eq!(rt; keeper.take(&rt, rt.alloc(), &begin, &plan)?, 1);
-    assert_eq!(rt;
-        keeper.take(&rt, rt.alloc(), &begin, &plan).err(),
-        Some(Fault::TooLong)
-    );
-    assert_eq!(rt; keeper.state().next(), 4_294_967_295);
-    assert_eq!(rt; keeper.state().unit_count(), 1);
+    let base = state_before(rt.alloc(), 4_294_967_294)?;
+    let mut keeper = Keeper::new(Version::One, base);
+    assert!(rt; is_full_behind_one(&rt, &mut keeper, &plan));
     Ok(())
 }

@@ -1,12 +1,23 @@
 //! Readers and writers that are interrupted, give and take a few bytes a call, and fail.
 
+use super::log_of;
 use super::scripts::RETURN_AND_ARRIVAL;
-use super::{FEW_PLANS, answer, log_of};
-use rq_tool::{Command, Fault, Open, OverRead, OverWrite, Plan, run};
+use rq_tool::{Fault, Open, OverRead, OverWrite, Plan, run};
 use std::io;
 use std::io::{Cursor, ErrorKind, Read, Write};
 use std::test::Fail;
 use std::thread::Threads;
+
+// The plans of runs whose reads or writes fail one by one.
+const FEW_PLANS: [(u32, u32); 3] = [(1, 1), (2, 1000), (7, 1)];
+
+// The report of `RETURN_AND_ARRIVAL`.
+const REPORT: &[u8] = b"front 14 records, 745 of 745 bytes, whole\n\
+    units 2 committed, 1 aborted, 0 cut off\n\
+    queue 0 dead limit 0 error -\n\
+    e 4 from 0 priority 3 attempts 1 61\n\
+    r ann dequeue tag 9 element 5\n\
+    queue 1 jobs limit 1 error 0\n";
 
 // Gives at most 7 bytes a call. Each call that does not come after an interrupted one is
 // interrupted, where that is asked for; the call of one number, from 1, those interrupted aside,
@@ -91,66 +102,39 @@ impl Write for Narrow {
     }
 }
 
-// How a run ends that reads so, how many reads it made, and what it wrote.
-fn run_from<R: Threads + Sync + AllocGlobal>(
-    rt: &R,
-    plan: &Plan,
-    rough: Rough<'_>,
-) -> (Option<Fault>, u64, Vec<u8>) {
-    let mut input = OverRead::new(rough);
-    let mut output = OverWrite::new(Vec::new(rt.alloc()));
-    let done = run(rt, rt.alloc(), &mut input, &mut output, plan, &Open);
-    (done.err(), input.into_inner().calls, output.into_inner())
-}
-
-// How a run ends that writes so, how many writes it made, and what these took.
-fn run_into<R: Threads + Sync + AllocGlobal>(
-    rt: &R,
-    plan: &Plan,
-    log: &[u8],
-    narrow: Narrow,
-) -> (Option<Fault>, u64, Vec<u8>) {
-    let mut input = OverRead::new(Cursor::new(log));
-    let mut output = OverWrite::new(narrow);
-    let done = run(rt, rt.alloc(), &mut input, &mut output, plan, &Open);
-    let narrow = output.into_inner();
-    (done.err(), narrow.calls, narrow.taken)
-}
-
-// The report of the log.
-fn report_of<R: Threads + Sync + AllocGlobal>(rt: &R, log: &[u8]) -> Result<Vec<u8>, Fail> {
-    let plan = Plan::new(1, 1000).ok_or("plan")?;
-    Ok(answer(rt, &Command::Restart { log: "log", plan }, log)?)
-}
-
 // Whether a run whose read of one number fails tells so and writes nothing, or, where no read is of
 // that number, writes the report. There are 105 calls of 7 bytes; two of 5, where the header ends
 // and where the log does; and one that finds the end.
 fn reads<R: Threads + Sync + AllocGlobal>(
     rt: &R,
-    plan: &Plan,
+    workers: u32,
+    grain: u32,
     rough: Rough<'_>,
-    report: &[u8],
 ) -> bool {
+    let Some(plan) = Plan::new(workers, grain) else {
+        return false;
+    };
     let fails_at = rough.fails_at;
-    let (fault, calls, written) = run_from(rt, plan, rough);
+    let mut input = OverRead::new(rough);
+    let mut output = OverWrite::new(Vec::new(rt.alloc()));
+    let done = run(rt, rt.alloc(), &mut input, &mut output, &plan, &Open);
+    let calls = input.into_inner().calls;
+    let written = output.into_inner();
     if 0 < fails_at && fails_at <= 108 {
-        fault == Some(Fault::ReadFailed) && calls == fails_at && written.is_empty()
+        done == Err(Fault::ReadFailed) && calls == fails_at && written.is_empty()
     } else {
-        fault.is_none() && calls == 108 && written.as_slice() == report
+        done.is_ok() && calls == 108 && written.as_slice() == REPORT
     }
 }
 
 #[test]
 fn a_read_that_fails_is_told_and_nothing_is_written(rt: HostRuntime) -> Result<(), Fail> {
-    let log = log_of(&rt, &RETURN_AND_ARRIVAL)?;
-    let report = report_of(&rt, &log)?;
+    let log = log_of(&rt, RETURN_AND_ARRIVAL)?;
     for (workers, grain) in FEW_PLANS {
-        let plan = Plan::new(workers, grain).ok_or("plan")?;
         for interrupts in [false, true] {
             for fails_at in 0..110 {
                 let rough = Rough::new(&log, interrupts, fails_at);
-                assert!(rt; reads(&rt, &plan, rough, &report), "call {fails_at}");
+                assert!(rt; reads(&rt, workers, grain, rough), "call {fails_at}");
             }
         }
     }
@@ -162,36 +146,38 @@ fn a_read_that_fails_is_told_and_nothing_is_written(rt: HostRuntime) -> Result<(
 // that takes the last 2.
 fn writes<R: Threads + Sync + AllocGlobal>(
     rt: &R,
-    plan: &Plan,
+    workers: u32,
+    grain: u32,
     log: &[u8],
     narrow: Narrow,
-    report: &[u8],
 ) -> bool {
+    let Some(plan) = Plan::new(workers, grain) else {
+        return false;
+    };
     let fails_at = narrow.fails_at;
-    let (fault, calls, taken) = run_into(rt, plan, log, narrow);
+    let mut input = OverRead::new(Cursor::new(log));
+    let mut output = OverWrite::new(narrow);
+    let done = run(rt, rt.alloc(), &mut input, &mut output, &plan, &Open);
+    let narrow = output.into_inner();
     if fails_at <= 69 {
         let took = fails_at.saturating_sub(1).saturating_mul(3);
-        let is_told = fault == Some(Fault::WriteFailed) && calls == fails_at;
-        is_told && taken.len() as u64 == took && report.starts_with(&taken)
+        let is_told = done == Err(Fault::WriteFailed) && narrow.calls == fails_at;
+        is_told && narrow.taken.len() as u64 == took && REPORT.starts_with(&narrow.taken)
     } else {
-        fault.is_none() && calls == 69 && taken.as_slice() == report
+        done.is_ok() && narrow.calls == 69 && narrow.taken.as_slice() == REPORT
     }
 }
 
 #[test]
 fn a_write_that_fails_is_told_and_leaves_a_beginning(rt: HostRuntime) -> Result<(), Fail> {
-    let log = log_of(&rt, &RETURN_AND_ARRIVAL)?;
-    let report = report_of(&rt, &log)?;
-    assert_eq!(rt; report.len(), 206);
+    let log = log_of(&rt, RETURN_AND_ARRIVAL)?;
+    assert_eq!(rt; REPORT.len(), 206);
     for (workers, grain) in FEW_PLANS {
-        let plan = Plan::new(workers, grain).ok_or("plan")?;
         for interrupts in [false, true] {
             for fails_at in 1..75 {
                 let narrow = Narrow::new(Vec::new(rt.alloc()), interrupts, fails_at);
-                assert!(rt;
-                    writes(&rt, &plan, &log, narrow, &report),
-                    "call {fails_at}"
-                );
+                let is = writes(&rt, workers, grain, &log, narrow);
+                assert!(rt; is, "call {fails_at}");
             }
         }
     }

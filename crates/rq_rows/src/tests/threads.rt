@@ -1,31 +1,29 @@
 //! What workers do at the same time.
 
-use super::{answer, lines, log_of, report_at};
-use rq_tool::{Command, Gate, Plan};
+use super::{log_of, reports};
+use rq_tool::{Gate, OverRead, OverWrite, Plan, run};
+use std::alloc::Global;
+use std::io::Cursor;
 use std::sync::atomic::{AtomicBool, AtomicU64, Ordering};
 use std::test::Fail;
 use std::thread::Threads;
 use std::time::{Clock, Instant};
 
-const THREE: [&str; 7] = [
-    "define a 0 -",
-    "define b 0 -",
-    "define c 0 -",
-    "begin 1",
-    "enqueue 1 0 0 - 0 -",
-    "enqueue 1 1 0 - 0 -",
-    "commit 1",
-];
+const THREE: &[u8] = b"define a 0 -\n\
+    define b 0 -\n\
+    define c 0 -\n\
+    begin 1\n\
+    enqueue 1 0 0 - 0 -\n\
+    enqueue 1 1 0 - 0 -\n\
+    commit 1\n";
 
-const THREE_REPORT: [&str; 7] = [
-    "front 7 records, 380 of 380 bytes, whole",
-    "units 1 committed, 0 aborted, 0 cut off",
-    "queue 0 a limit 0 error -",
-    "e 4 from 0 priority 0 attempts 0 -",
-    "queue 1 b limit 0 error -",
-    "e 5 from 1 priority 0 attempts 0 -",
-    "queue 2 c limit 0 error -",
-];
+const THREE_REPORT: &[u8] = b"front 7 records, 380 of 380 bytes, whole\n\
+    units 1 committed, 0 aborted, 0 cut off\n\
+    queue 0 a limit 0 error -\n\
+    e 4 from 0 priority 0 attempts 0 -\n\
+    queue 1 b limit 0 error -\n\
+    e 5 from 1 priority 0 attempts 0 -\n\
+    queue 2 c limit 0 error -\n";
 
 // Two queues, of which each looks for the other's flag; a third may look for the first's.
 #[derive(Drop)]
@@ -81,32 +79,24 @@ fn meeting_of(first: u32, second: u32) -> Meeting {
     }
 }
 
-#[test]
-fn two_threads_meet(rt: HostRuntime) -> Result<(), Fail> {
-    let plan = Plan::new(2, 1).ok_or("plan")?;
-    let log = log_of(&rt, &THREE)?;
-    let want = lines(rt.alloc(), &THREE_REPORT)?;
-    assert_eq!(rt; log.len(), 380);
-    for (first, second) in [(0, 1), (0, 2), (1, 2)] {
-        let gate = meeting_of(first, second);
-        let got = report_at(&rt, &log, &plan, &gate)?;
-        assert!(rt; got == want, "{first} and {second}");
-        let met = gate.first_saw.load(Ordering::SeqCst) && gate.second_saw.load(Ordering::SeqCst);
-        assert!(rt; met, "{first} and {second}");
-        let third = gate.third_saw.load(Ordering::SeqCst);
-        assert_eq!(rt; third, gate.third_looks, "{first} and {second}");
-    }
-    Ok(())
+// Whether each flag was seen that was looked for.
+fn all_saw(gate: &Meeting) -> bool {
+    gate.first_saw.load(Ordering::SeqCst)
+        && gate.second_saw.load(Ordering::SeqCst)
+        && gate.third_saw.load(Ordering::SeqCst) == gate.third_looks
+}
+
+// Whether two workers are at these two queues at the same time.
+fn meet<R: Threads + Sync + AllocGlobal>(rt: &R, log: &[u8], first: u32, second: u32) -> bool {
+    let gate = meeting_of(first, second);
+    reports(rt, log, 2, &gate, THREE_REPORT) && all_saw(&gate)
 }
 
 #[test]
-fn every_number_of_workers_reports_the_same(rt: HostRuntime) -> Result<(), Fail> {
-    let log = log_of(&rt, &THREE)?;
-    let want = lines(rt.alloc(), &THREE_REPORT)?;
-    for workers in 1..=64 {
-        let plan = Plan::new(workers, 1).ok_or("plan")?;
-        let got = answer(&rt, &Command::Restart { log: "log", plan }, &log)?;
-        assert!(rt; got == want, "{workers} workers");
+fn two_threads_meet(rt: HostRuntime) -> Result<(), Fail> {
+    let log = log_of(&rt, THREE)?;
+    for (first, second) in [(0, 1), (0, 2), (1, 2)] {
+        assert!(rt; meet(&rt, &log, first, second), "{first} and {second}");
     }
     Ok(())
 }
@@ -130,16 +120,14 @@ impl<'a, R: Clock + Sync> Gate for Entered<'a, R> {
 }
 
 // Three queues, of which the second has 2,000 elements.
-const ONE_IS_LONG: [&str; 4] = ["define a 0 -", "define b 0 -", "define c 0 -", "begin 1"];
-
-// The log of such a script.
-fn log_of_long<R: Threads + Sync + AllocGlobal>(rt: &R) -> Result<Vec<u8>, Fail> {
-    let mut script = Vec::from_slice(rt.alloc(), ONE_IS_LONG.as_slice())?;
+fn long_script(alloc: Global) -> Result<Vec<u8>, Fail> {
+    let begins = b"define a 0 -\ndefine b 0 -\ndefine c 0 -\nbegin 1\n";
+    let mut script = Vec::from_slice(alloc, begins.as_slice())?;
     for _ in 0..2_000 {
-        script.push("enqueue 1 1 0 - 0 -")?;
+        script.extend_from_slice(b"enqueue 1 1 0 - 0 -\n".as_slice())?;
     }
-    script.push("commit 1")?;
-    log_of(rt, &script)
+    script.extend_from_slice(b"commit 1\n".as_slice())?;
+    Ok(script)
 }
 
 // Whether the second queue entered shortly after the first. One thread redoes them in order, so the
@@ -152,20 +140,27 @@ fn is_shortly_after(times: &[AtomicU64; 3]) -> bool {
     short < long / 4
 }
 
+// Whether the long queue entered before its redo, in a run of one worker.
+fn enters_before<R: Threads + Clock + Sync + AllocGlobal>(rt: &R, log: &[u8]) -> bool {
+    let (Some(plan), Ok(begun)) = (Plan::new(1, 1000), Instant::now(rt)) else {
+        return false;
+    };
+    let times = [AtomicU64::new(0), AtomicU64::new(0), AtomicU64::new(0)];
+    let gate = Entered { rt, begun, times };
+    let mut input = OverRead::new(Cursor::new(log));
+    let mut output = OverWrite::new(Vec::new(rt.alloc()));
+    let done = run(rt, rt.alloc(), &mut input, &mut output, &plan, &gate);
+    done.is_ok() && is_shortly_after(&gate.times)
+}
+
 #[test]
 fn a_queue_enters_the_gate_before_its_redo(rt: HostRuntime) -> Result<(), Fail> {
-    let plan = Plan::new(1, 1000).ok_or("plan")?;
-    let log = log_of_long(&rt)?;
-    let mut enters_before = false;
+    let script = long_script(rt.alloc())?;
+    let log = log_of(&rt, &script)?;
+    let mut before = false;
     for _ in 0..5 {
-        let gate = Entered {
-            rt: &rt,
-            begun: Instant::now(&rt)?,
-            times: [AtomicU64::new(0), AtomicU64::new(0), AtomicU64::new(0)],
-        };
-        report_at(&rt, &log, &plan, &gate)?;
-        enters_before = enters_before || is_shortly_after(&gate.times);
+        before = before || enters_before(&rt, &log);
     }
-    assert!(rt; enters_before, "the long queue enters after its redo");
+    assert!(rt; before, "the long queue enters after its redo");
     Ok(())
 }

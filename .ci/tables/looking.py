@@ -1,0 +1,179 @@
+"""What `rqlook` shows of logs."""
+from __future__ import annotations
+import functools, os
+from collections.abc import Callable, Iterator
+from typing import NamedTuple
+
+from .asking import Ended, Program, Question, told, whole
+from .many import windows
+from .scripts import ONE_ELEMENT
+
+# An element whose takers abort: two, and it moves to the error queue; and one there.
+SECOND_ABORT = """\
+define dead 0 -
+define jobs 2 0
+begin 5
+enqueue 5 1 5 - 0 6869
+commit 5
+begin 6
+dequeue 6 1 - 0
+abort 6
+begin 7
+dequeue 7 1 - 0
+abort 7
+begin 8
+dequeue 8 0 - 0
+abort 8
+"""
+STORY = """\
+179 3 enqueue unit 5 queue 1 priority 5 by - payload "hi": puts in element 3
+240 4 commit unit 5: element 3 is free in queue 1
+330 6 dequeue unit 6 queue 1 by -: takes element 3
+388 7 abort unit 6: element 3 is back in queue 1, attempts 1
+478 9 dequeue unit 7 queue 1 by -: takes element 3
+536 10 abort unit 7: element 3 moves to queue 0
+626 12 dequeue unit 8 queue 0 by -: takes element 3
+684 13 abort unit 8: element 3 is back in queue 0, attempts 1
+front ends behind 14 records, at 729 of 729 bytes, whole: nothing follows
+"""
+OF_ONE_QUEUE = """\
+queue 0 dead limit 0 error -
+e 3 from 1 priority 5 attempts 1 6869
+"""
+
+# Two units, of which each puts in an element of a queue of its own.
+TWO_UNITS = """\
+define mail 0 -
+define jobs 0 -
+register 1 ann
+begin 1
+enqueue 1 0 5 - 0 61
+begin 2
+enqueue 2 1 5 ann 10 62
+commit 1
+commit 2
+"""
+DEFINE = "87 1 define queue 1 name jobs limit 0 error -\n"
+REGISTER = "134 2 register queue 1 name ann\n"
+BEGIN = "283 5 begin unit 2\n"
+ENQUEUE = '328 6 enqueue unit 2 queue 1 priority 5 by ann tag 10 payload "b"\n'
+COMMIT = "436 8 commit unit 2\n"
+END = "front ends behind 9 records, at 481 of 481 bytes, whole: nothing follows\n"
+
+ALL = """\
+40 0 define queue 0 name jobs limit 0 error -
+87 1 begin unit 1
+132 2 enqueue unit 1 queue 0 priority 5 by - payload "a"
+192 3 commit unit 1
+front ends behind 4 records, at 237 of 237 bytes, whole: nothing follows
+"""
+OBJECTS = """\
+{"offset":132,"record":2,"kind":"enqueue","unit":1,"queue":0,"priority":5,"payload":{"hex":"61","text":"a"}}
+{"front":{"records":4,"used":237,"total":237,"why":"whole","reason":"nothing follows"}}
+"""
+CUT = "front ends behind 3 records, at 192 of 236 bytes, cut: 44 bytes follow, and the frame has 45\n"
+LAW = "front ends behind 1 records, at 87 of 132 bytes, law: unit 1 is not open\n"
+
+
+class Row(NamedTuple):
+    # The words of the line; LOG stands for the file.
+    line: str
+    script: str
+    # What becomes of the script's log.
+    damage: Callable[[bytes], bytes]
+    status: int
+    output: str
+    # What is said on standard error behind the file's name.
+    said: str = ""
+
+
+ROWS = [
+    # which records a dump shows, and where it says that the front ends
+    Row("dump LOG", ONE_ELEMENT, whole, 0, ALL),
+    Row("dump LOG --kind enqueue --json", ONE_ELEMENT, whole, 0, OBJECTS),
+    Row("dump LOG --limit 0", ONE_ELEMENT, lambda log: log[:-1], 0, CUT),
+    Row("dump LOG --limit 0", "define jobs 0 -\ncommit 1\n", whole, 0, LAW),
+    Row("dump LOG --unit 2", TWO_UNITS, whole, 0, BEGIN + ENQUEUE + COMMIT + END),
+    Row("dump LOG --unit 2 --from 329", TWO_UNITS, whole, 0, COMMIT + END),
+    Row("dump LOG --unit 2 --limit 1", TWO_UNITS, whole, 0, BEGIN + END),
+    Row("dump LOG --queue 1", TWO_UNITS, whole, 0, DEFINE + REGISTER + ENQUEUE + END),
+    Row("dump LOG --registrant ann", TWO_UNITS, whole, 0, REGISTER + ENQUEUE + END),
+    # what a check finds
+    Row("check LOG", "define jobs 0 -\ncheckpoint\n", whole, 0, ""),
+    Row("check LOG", "define jobs 0 -\ncheckpoint-hex 00\n", whole, 1,
+        "the checkpoint at 87 does not spell the state before it\n"),
+    # reports, scripts and stories
+    Row("report LOG --queue 0", SECOND_ABORT, whole, 0, OF_ONE_QUEUE),
+    Row("report LOG --queue 2", SECOND_ABORT, whole, 1, "", "no queue 2"),
+    Row("script LOG", SECOND_ABORT, whole, 0, SECOND_ABORT),
+    Row("story LOG 3", SECOND_ABORT, whole, 0, STORY),
+    Row("unit LOG 9", SECOND_ABORT, whole, 1, "", "no unit 9"),
+]
+
+# How the report of the second queue ends as JSON.
+JSON_END = """\
+      "number": 1,
+      "name": "jobs",
+      "limit": 2,
+      "error": 0,
+      "elements": [],
+      "registrants": []
+    }
+  ]
+}
+"""
+
+# A file whose name looks like HTML, as does the element of its log; and what stands on its page.
+ODD_NAME = "a<b"
+ELEMENT_B = "define jobs 0 -\nbegin 1\nenqueue 1 0 5 - 0 3c623e\ncommit 1\n"
+ON_THE_PAGE = ["<title>a&lt;b</title>", "<td>4 records, 239 of 239 bytes</td>", "<bdi>&quot;&lt;b&gt;&quot;</bdi>"]
+
+
+def tables_of(rqlook: Program, rq: Program) -> Iterator[Question]:
+    for row in ROWS:
+        log = rq.file(row.damage(rq.log_of(row.script)))
+        words = [log if word == "LOG" else word for word in row.line.split()]
+        said = f"rqlook: {log}: {row.said}\n".encode() if row.said else b""
+        yield Question(f"rqlook {row.line}", functools.partial(rqlook.run, *words), (row.status, row.output.encode(), said))
+
+
+def fronts_of_windows(rqlook: Program, rq: Program) -> Iterator[Question]:
+    """Where the fronts of long logs end: found without a restart."""
+    for name, log, (records, used, total, why) in windows(rq):
+        begins = f"front ends behind {records} records, at {used} of {total} bytes, {why}:".encode()
+        yield Question(f"rqlook dump of {name}", functools.partial(begins_with, rqlook, rq.file(log), begins), (0, True))
+
+
+def begins_with(rqlook: Program, log: str, begins: bytes) -> tuple[int, bool]:
+    status, output, _ = rqlook.run("dump", log, "--limit", 0)
+    return status, output.startswith(begins)
+
+
+def json_end(rqlook: Program, log: str) -> Ended:
+    status, output, said = rqlook.run("report", log, "--json", "--queue", 1)
+    return status, output[-len(JSON_END):], said
+
+
+def on_the_page(rqlook: Program) -> tuple[int, str, list[str], bool]:
+    """How the page begins and ends, what stands on it, and whether the element does as HTML."""
+    status, output, _ = rqlook.run("page", ODD_NAME, "-", cwd=rqlook.folder)
+    text = output.decode()
+    return status, text[:16] + text[-8:], [part for part in ON_THE_PAGE if part in text], "<b>" in text
+
+
+def of_one_log(rqlook: Program, rq: Program) -> Iterator[Question]:
+    log = rq.file(rq.log_of(SECOND_ABORT))
+    yield Question("rqlook report --json", functools.partial(json_end, rqlook, log), told(JSON_END))
+    with open(os.path.join(rqlook.folder, ODD_NAME), "wb") as file:
+        file.write(rq.log_of(ELEMENT_B))
+    want = (0, "<!DOCTYPE html>\n</html>\n", ON_THE_PAGE, False)
+    yield Question("rqlook page", functools.partial(on_the_page, rqlook), want)
+
+
+def questions_of(rq: Program) -> Callable[[Program], Iterator[Question]]:
+    """The questions to `rqlook`, of logs that `rq` makes."""
+    def questions(rqlook: Program) -> Iterator[Question]:
+        yield from tables_of(rqlook, rq)
+        yield from of_one_log(rqlook, rq)
+        yield from fronts_of_windows(rqlook, rq)
+    return questions
