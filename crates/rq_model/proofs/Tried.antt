@@ -293,14 +293,14 @@ run_tried : (version : Version) (T M : ℕ → ℕ → ℕ) (s : State) (rs : Li
 run_tried version T M s [] w lawful x = nothing s.definitions T M s x
 run_tried version T M s (r ∷ rs) w lawful x =
     let ds = (run s (r ∷ rs)).definitions in
-    let T1 : ℕ → ℕ → ℕ = λ p h. T p h + bit (is_try_at p h s (r ∷ rs)) in
-    let M1 : ℕ → ℕ → ℕ = λ p h. M p h + bit (is_leave p h s (r ∷ rs)) in
-    retold ds (λ p h. T1 p h + counted (is_try_at p h) (step s r) rs) (λ p h. M1 p h + counted (is_leave p h)
+    let T' : ℕ → ℕ → ℕ = λ p h. T p h + bit (is_try_at p h s (r ∷ rs)) in
+    let M' : ℕ → ℕ → ℕ = λ p h. M p h + bit (is_leave p h s (r ∷ rs)) in
+    retold ds (λ p h. T' p h + counted (is_try_at p h) (step s r) rs) (λ p h. M' p h + counted (is_leave p h)
     (step s r) rs)
     (λ p h. T p h + counted (is_try_at p h) s (r ∷ rs)) (λ p h. M p h + counted (is_leave p h) s (r ∷ rs)) (run s
     (r ∷ rs))
     (λ p h. omega arith) (λ p h. omega arith)
-    (run_tried version T1 M1 (step s r) rs (step_kept version s r (and_parts _ _ lawful).0 w) (and_parts _ _ lawful).1
+    (run_tried version T' M' (step s r) rs (step_kept version s r (and_parts _ _ lawful).0 w) (and_parts _ _ lawful).1
     (step_tried ds T M s r rs w (agrees_run s (r ∷ rs)) x))
 
 none_yet : (ds : List Definition) → Tried ds (λ p h. 0) (λ p h. 0) empty

@@ -198,7 +198,8 @@ no_end version front rs rest Large h on =
     too_large version front rs rest on.line on.more on.after h on.whole on.is on.adds
 no_end version front rs rest Long (l, r, after, e, is, adds, long) on =
     let same = same_line version l on.line after on.after is on.is (sym e ∙ on.whole) in
-    let one = one_added version front rs on.line r on.more (subst (λ (m : Line). Adds version rs m r) same.0 adds) on.adds in
+    let one = one_added version front rs on.line r on.more
+            (subst (λ (m : Line). Adds version rs m r) same.0 adds) on.adds in
     omega (arith, long, on.fits, ap (λ (q : Record). length (log_of version (rs ++ q ∷ []))) one)
 
 -- Two lists of lines at the front of a script are the same, or one goes on behind the other.
@@ -231,7 +232,8 @@ compare version laws before [] (m ∷ ms) rs qs rest more are also h k e fits sh
     inr (inl (goes_on version laws.joins before rs qs rest more m ms h also.0 k e short))
 compare version laws before (l ∷ ls) [] rs qs rest more are also h k e fits short =
     inr (inr (goes_on version laws.joins before qs rs more rest l ls k are.0 h (sym e) fits))
-compare version laws before (l ∷ ls) (m ∷ ms) rs qs rest more are also (r, adds, others) (q, adds', others') e fits short =
+compare version laws before (l ∷ ls) (m ∷ ms) rs qs rest more are also (r, adds, others)
+    (q, adds', others') e fits short =
     elim (compare version laws (before ++ r ∷ []) ls ms rs qs rest more are.1 also.1 others again same.1 fits short) [
       | inl all ↦ inl (omega (arith, all.0), all.1, all.2)
       | inr on ↦ inr on
