@@ -417,6 +417,13 @@ def words() -> None:
     check("long words with little memory and with more", (RESOURCES[0] in told, USAGE[0] in told), (True, True))
 
 
+def addresses() -> None:
+    """Room for 4 GiB is asked for at first: what is left beside it, with somewhat more, decides nothing."""
+    for kibibytes in range(4 << 20, (4 << 20) + (512 << 10), 8 << 10):
+        told = run_within(kibibytes, "restart", "one.log", 4, 1000)
+        check(f"a restart in {kibibytes} KiB of addresses", told, (0, ONE_ELEMENT_REPORT, b""))
+
+
 def threads_of(shim: str, *words: object) -> tuple[int, int]:
     """How many threads the program starts, and how many of these there are at a time."""
     _, events = run_told(shim, "THREADS_TOLD", *words)
@@ -510,7 +517,7 @@ def threads_of_copies(shim: str, long: str, workers: int) -> None:
 
 
 PARTS = [commands, usage, no_logs, no_checkpoints, no_scripts, no_files, permissions, closing, upgrading, outputs]
-PARTS += [files, plans, words, threads, too_large, *folders.PARTS, *refusing.PARTS, *large.PARTS]
+PARTS += [files, plans, words, addresses, threads, too_large, *folders.PARTS, *refusing.PARTS, *large.PARTS]
 
 
 def main() -> None:

@@ -27,7 +27,8 @@ fn room(alloc: Global) -> Result<Vec<u8>, Fault>
 }
 
 // Nothing, with room for as many bytes as are ever read, where the system gives it: it takes pages
-// as they are filled, and nothing is moved. Where it does not, the room grows as the bytes come.
+// as they are filled, and nothing is moved. Where it does not, the room grows as the bytes come. So
+// much room may be all that a limit of addresses leaves (`ulimit -v`): `read_up_to` gives it back.
 fn roomy(alloc: Global) -> Vec<u8>
     ensures items { result.items ≡ [] }
 {
@@ -68,7 +69,8 @@ fn read_more<I: Input>(
     Ok(count)
 }
 
-// Reads on until there are `most` bytes, or the input has no more.
+// Reads on until there are `most` bytes, or the input has no more: then room that is not filled is
+// given back.
 fn read_up_to<I: Input>(
     input: &mut I,
     piece: &mut [u8],
@@ -89,6 +91,7 @@ fn read_up_to<I: Input>(
     while bytes.len() < most {
         let count = read_more(input, piece, bytes, most)?;
         if count == 0 {
+            bytes.shrink_to_fit();
             return Ok(());
         }
     }
