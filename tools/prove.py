@@ -105,7 +105,8 @@ class Telling:
 
     def __init__(self, estimate: Estimate, builds: list[str]):
         self.begun = self.last = time.monotonic()
-        self.estimate, self.head, self.number = estimate, " and ".join(builds), len(estimate.costs)
+        self.estimate, self.number = estimate, len(estimate.costs)
+        self.head = builds[0] if len(builds) == 1 else f"{len(builds)} programs"
         self.is_terminal = sys.stderr.isatty()
         self.done = self.kept = 0
 
