@@ -199,7 +199,7 @@ no_end version front rs rest Large h on =
 no_end version front rs rest Long (l, r, after, e, is, adds, long) on =
     let same = same_line version l on.line after on.after is on.is (sym e ∙ on.whole) in
     let one = one_added version front rs on.line r on.more
-            (subst (λ (m : Line). Adds version rs m r) same.0 adds) on.adds in
+    (subst (λ (m : Line). Adds version rs m r) same.0 adds) on.adds in
     omega (arith, long, on.fits, ap (λ (q : Record). length (log_of version (rs ++ q ∷ []))) one)
 
 -- Two lists of lines at the front of a script are the same, or one goes on behind the other.
