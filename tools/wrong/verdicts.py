@@ -78,16 +78,18 @@ def is_holder(printed: str, holder: str) -> bool:
 
 
 def is_of(path: str, function: Function) -> bool:
-    """Whether a path that a check prints is that of the function, or of a closure in it."""
+    """Whether a path that a check prints is that of the function, or of a closure in it. A method is printed in the module of its
+    type, whichever file its impl stands in."""
     module = [it for it in function.path[len("src/") : -len(".rt")].split("/") if (it, function.path) != ("lib", "src/lib.rt")]
     parts = path.split("::")
-    if parts[: len(module)] != module:
-        return False
-    parts = parts[len(module) :]
-    if "fn" in parts:
-        parts = [it for it in parts if it != "fn"]
-        return function.name in parts[:-1]
-    return parts[-1] == function.name and len(parts) < 3 and is_holder(parts[0] if len(parts) > 1 else "", function.holder)
+    in_closure = "fn" in parts
+    parts = [it for it in parts if it != "fn"]
+    if in_closure:
+        is_there = function.name in parts[:-1]
+        return is_there and (parts[: len(module)] == module or any(is_holder(it, function.holder) for it in parts))
+    if function.holder:
+        return len(parts) > 1 and parts[-1] == function.name and is_holder(parts[-2], function.holder)
+    return parts == [*module, function.name]
 
 
 def own_goal(said: Said, changed: FrozenSet[Function]) -> Optional[Verdict]:
