@@ -62,12 +62,19 @@ def report(records: int, length: int) -> bytes:
     return b"".join(lines)
 
 
+# Runs the words, and prints the status and the KiB that the run held at most.
+ASK = """import os, subprocess, sys
+started = subprocess.Popen(sys.argv[1:], stdout=subprocess.DEVNULL)
+_, status, usage = os.wait4(started.pid, 0)
+print(os.waitstatus_to_exitcode(status), usage.ru_maxrss)"""
+
+
 def peak(*words: object) -> tuple[int, int]:
-    """The status of a run, and how much memory it held, in bytes."""
-    started = subprocess.Popen([RQ, *map(str, words)], stdout=subprocess.DEVNULL)
-    _, status, usage = os.wait4(started.pid, 0)
-    started.returncode = os.waitstatus_to_exitcode(status)
-    return started.returncode, usage.ru_maxrss * 1024
+    """The status of a run, and how much memory it held, in bytes. A small process asks: the system counts with a program what the
+    process held that started it."""
+    told = subprocess.run([sys.executable, "-c", ASK, RQ, *map(str, words)], stdout=subprocess.PIPE, check=True).stdout
+    status, kibibytes = told.split()
+    return int(status), int(kibibytes) * 1024
 
 
 def ordinary() -> None:
