@@ -62,11 +62,13 @@ class Program:
         return done.returncode, done.stdout, done.stderr
 
     def file(self, content: bytes) -> str:
-        """A file that holds this: one for all questions of the same bytes."""
+        """A file that holds this: one for all questions of the same bytes, which are asked side by side. It is whole when it is there."""
         path = os.path.join(self.folder, hashlib.sha256(content).hexdigest())
         if not os.path.exists(path):
-            with open(path, "wb") as file:
+            part = os.path.join(self.folder, f"part.{next(self.numbers)}")
+            with open(part, "wb") as file:
                 file.write(content)
+            os.replace(part, path)
         return path
 
     def making(self, word: str, source: bytes, *words: object) -> tuple[Ended, bytes | None]:
