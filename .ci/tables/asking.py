@@ -62,7 +62,8 @@ class Program:
         return done.returncode, done.stdout, done.stderr
 
     def file(self, content: bytes) -> str:
-        """A file that holds this: one for all questions of the same bytes, which are asked side by side. It is whole when it is there."""
+        """A file that holds this: one for all questions of the same bytes. They are asked side by side, so it is whole when it is
+        there."""
         path = os.path.join(self.folder, hashlib.sha256(content).hexdigest())
         if not os.path.exists(path):
             part = os.path.join(self.folder, f"part.{next(self.numbers)}")
