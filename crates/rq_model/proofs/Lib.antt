@@ -44,3 +44,10 @@ mod Meaning
 mod Taken
 mod Accounts
 mod ReportLines
+mod Torn
+mod Appended
+mod Marked
+mod Carried
+mod Grown
+mod Continued
+mod Along

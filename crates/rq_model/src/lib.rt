@@ -37,6 +37,13 @@ ghost use Rattle.rq_model.specs.Laws.{WellFormedIsSound, RunsAreWellFormed, Empt
 ghost use Rattle.rq_model.specs.Laws.{NumbersAfter, VersionOneIsOneDeep, VersionTwoIsWider};
 ghost use Rattle.rq_model.specs.Laws.{RedoSteps, CrashIsHarmless};
 ghost use Rattle.rq_model.specs.MoveLaws.{MovesRise, ArrivalsRise};
+ghost use Rattle.rq_model.specs.Appending.{CrashInFrames, CrashWhileAppending, AppendedIsFront};
+ghost use Rattle.rq_model.specs.Appending.{WrittenStays, CheckpointIsTrue, CheckpointSaysTheSame};
+ghost use Rattle.rq_model.specs.Carrying.{TrueHasFront, CarriesOn, GuardIsLoud};
+ghost use Rattle.rq_model.specs.Carrying.{CrashWhileCarriedGrows};
+ghost use Rattle.rq_model.specs.Growing.{FrontGrows, FrontStays, AlongIsFront, WindowGoesOn};
+ghost use Rattle.rq_model.specs.Continuing.{MovesOn, GapIsLoud, LaterSaysTheSame, FilesJoin};
+ghost use Rattle.rq_model.specs.Continuing.{StartsAnew, FrontGoesOn};
 
 mod checkpoints;
 
@@ -183,6 +190,57 @@ pub fn closed_logs()
 /// log it was made of, and to upgrade it again changes nothing.
 pub fn upgrade_is_the_same()
     ensures { UpgradeIsSame }
+{}
+
+/// Whatever beginning of the frames of further records stands behind a front, no record whose frame
+/// is wholly there is lost, and none is invented.
+pub fn appended_logs()
+    ensures frames { CrashInFrames }
+    ensures crash { CrashWhileAppending }
+    ensures front { AppendedIsFront }
+    ensures stays { WrittenStays }
+{}
+
+/// A checkpoint of the state behind a front that is appended to it is true, and changes no queue
+/// line.
+pub fn appended_checkpoints()
+    ensures truth { CheckpointIsTrue }
+    ensures queues { CheckpointSaysTheSame }
+{}
+
+/// A checkpoint and what follows it, carried into another log, restarts to the same.
+pub fn carried_logs()
+    ensures front { TrueHasFront }
+    ensures carries { CarriesOn }
+    ensures loud { GuardIsLoud }
+    ensures crash { CrashWhileCarriedGrows }
+{}
+
+/// The front of a log that grows.
+pub fn growing_logs()
+    ensures grows { FrontGrows }
+    ensures stays { FrontStays }
+{}
+
+/// A checkpoint and all bytes behind it, unchanged in another file, restart to the same; the files
+/// join; and a later checkpoint says the same.
+pub fn continued_logs()
+    ensures moves { MovesOn }
+    ensures loud { GapIsLoud }
+    ensures later { LaterSaysTheSame }
+    ensures join { FilesJoin }
+{}
+
+/// A log that goes on from the state behind another's front.
+pub fn logs_begun_anew()
+    ensures starts { StartsAnew }
+    ensures front { FrontGoesOn }
+{}
+
+/// What goes along with a log that grows, by a window of it.
+pub fn followed_logs()
+    ensures front { AlongIsFront }
+    ensures window { WindowGoesOn }
 {}
 
 /// What stays in a queue at an abort and what arrives have distinct ids, and are put in in any

@@ -1,0 +1,5 @@
+use Rattle.rq_model.proofs.Continued.{starts_anew, front_goes_on}
+use Rattle.rq_model.proofs.logs_begun_anew.Goals as goal
+
+pub returns : goal.returns
+returns c = record { starts = starts_anew; front = front_goes_on }
