@@ -9,9 +9,9 @@ use Rattle.rq_model.specs.Frames.{log_limit, digest, header, start, log_of, fram
 use Rattle.rq_model.specs.States.{empty}
 use Rattle.rq_model.specs.Machine.{run}
 use Rattle.rq_model.specs.Fronts.{Begins, Ends, IsFront}
+use Rattle.rq_model.specs.Appending.{MayFollow, CrashInFrames, CrashWhileAppending, AppendedIsFront, WrittenStays}
 use Rattle.rq_model.proofs.Longest.{same_first, front_stops, one_header, last_of_join}
 use Rattle.rq_model.proofs.Restarts.{both_follow, parts_follow, begins_join}
-use Rattle.rq_model.specs.Appending.{MayFollow, CrashInFrames, CrashWhileAppending, AppendedIsFront, WrittenStays}
 use Rattle.rq_model.proofs.Torn.{torn}
 
 pub crash_in_frames : CrashInFrames

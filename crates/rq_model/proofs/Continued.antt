@@ -9,14 +9,14 @@ use Rattle.rq_model.specs.Frames.{HasHeader, Whole}
 use Rattle.rq_model.specs.States.{State, empty}
 use Rattle.rq_model.specs.Machine.{run}
 use Rattle.rq_model.specs.StateSpelling.{state_bytes}
-use Rattle.rq_model.specs.Fronts.{Begins, IsFront, IsWhy, Ends, Restarted, restarted}
+use Rattle.rq_model.specs.Fronts.{Begins, IsWhy, Ends, Restarted, restarted}
 use Rattle.rq_model.specs.Checkpoints.{IsRestartAt}
 use Rattle.rq_model.specs.Carrying.{IsFrontAt}
 use Rattle.rq_model.specs.Continuing.{moved, moved_to, when_moved, MovesOn, GapIsLoud, begun_anew, StartsAnew, IsCarriedGap}
 use Rattle.rq_model.specs.Continuing.{FrontGoesOn}
 use Rattle.rq_model.proofs.Longest.{front_stops, log_ends}
 use Rattle.rq_model.proofs.Linked.{IsLinked, linked, before_long}
-use Rattle.rq_model.proofs.Restarts.{header_long, fronts_are_spelt}
+use Rattle.rq_model.proofs.Restarts.{header_long, front_spelt}
 use Rattle.rq_model.proofs.FromCheckpoints.{front_at, restart_at, ends_at, true_is_same}
 use Rattle.rq_model.proofs.Carried.{within}
 
@@ -119,9 +119,8 @@ starts_anew version p s gap long spells small short =
 pub front_goes_on : FrontGoesOn
 front_goes_on b version records rest gap front small short =
     let (kept, log_end, size) = log_ends version records in
-    let all = subst (λ (z : List Record). IsFront b version z rest) (sym (append-nil records)) front in
     (starts_anew version (last_of (start version) records) (run empty records) gap size
-    (fronts_are_spelt b version records [] rest all) small short).0
+    (front_spelt b version records rest front) small short).0
 
 -- A gap that is no frame.
 pub gap_is_loud : GapIsLoud

@@ -3,8 +3,8 @@ use Rattle.std.proofs.Common.{◌≡◌, ℕ, List, ◌++◌, sym, ap, subst, �
 use Rattle.rq_model.specs.Frames.{header, start, log_of, frames_of}
 use Rattle.rq_model.specs.States.{empty}
 use Rattle.rq_model.specs.Fronts.{Begins, IsFront}
-use Rattle.rq_model.proofs.Longest.{front_stops, front_whole}
 use Rattle.rq_model.specs.Growing.{FrontGrows, FrontStays}
+use Rattle.rq_model.proofs.Longest.{front_stops, front_whole}
 use Rattle.rq_model.proofs.Restarts.{begins_join}
 use Rattle.rq_model.proofs.Appended.{front_follows, written_stays}
 

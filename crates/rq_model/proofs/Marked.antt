@@ -8,10 +8,10 @@ use Rattle.rq_model.specs.Machine.{run, step, final}
 use Rattle.rq_model.specs.StateSpelling.{state_bytes}
 use Rattle.rq_model.specs.Fronts.{IsFront, Ends, Restarted, restarted, IsRestart}
 use Rattle.rq_model.specs.Reports.{AreQueueLines, IsQueueText}
+use Rattle.rq_model.specs.Appending.{MayFollow, with_checkpoint, CheckpointIsTrue, CheckpointSaysTheSame}
 use Rattle.rq_model.proofs.Longest.{front_ends}
 use Rattle.rq_model.proofs.Restarts.{run_join}
 use Rattle.rq_model.proofs.Found.{front_restart, restart_lines, lines_report}
-use Rattle.rq_model.specs.Appending.{MayFollow, with_checkpoint, CheckpointIsTrue, CheckpointSaysTheSame}
 use Rattle.rq_model.proofs.Appended.{appended_is_front}
 
 marked_front : (b : List ℕ) (version : Version) (records : List Record) (rest : List ℕ) → IsFront b version records rest

@@ -9,9 +9,9 @@ use Rattle.byteorder.specs.Numbers.{big_from-append}
 use Rattle.rq_model.specs.Records.{Record, Version}
 use Rattle.rq_model.specs.Spelling.{body_of, IsRecord}
 use Rattle.rq_model.specs.Frames.{digest, frame, frames_of, last_of, stated, Rest, Whole, Cut, IsRest}
+use Rattle.rq_model.specs.Appending.{IsCleanEnd}
 use Rattle.rq_model.proofs.Bodies.{body_fits}
 use Rattle.rq_model.proofs.Runs.{frame_long, frame_reads}
-use Rattle.rq_model.specs.Appending.{IsCleanEnd}
 
 -- whole frames, so many that the next is not there, and what is cut of it
 pub record IsTorn (p part : List ℕ) (xs : List Record) : Type 0 where

@@ -120,3 +120,16 @@ FilesJoin =
     → IsLongest version empty (start version) (frames_of (start version) records ++ drop offset b)
     (records ++ Checkpoint kept ∷ after) rest
     × (run s (Checkpoint kept ∷ after) ≡ run empty (records ++ Checkpoint kept ∷ after))
+
+-- So a file that was begun anew behind a front goes on with it, whatever was written there since
+abbrev pub AnewJoins : Type 0
+AnewJoins =
+    (b new more : List ℕ) (version : Version) (records : List Record) (rest gap : List ℕ)
+    (s : State) (kept : List ℕ) (after : List Record) (left : List ℕ) →
+    IsFront b version records rest → FitsCheckpoint (run empty records)
+    → new ≡ begun_anew version (last_of (start version) records) (run empty records) gap ++ more
+    → IsFrontAt new (moved_to gap) version s kept after left
+    → IsLongest version empty (start version)
+    (frames_of (start version) records ++ drop (moved_to gap) new)
+    (records ++ Checkpoint kept ∷ after) left
+    × (run s (Checkpoint kept ∷ after) ≡ run empty (records ++ Checkpoint kept ∷ after))

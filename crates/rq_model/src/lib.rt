@@ -42,7 +42,7 @@ ghost use Rattle.rq_model.specs.Appending.{WrittenStays, CheckpointIsTrue, Check
 ghost use Rattle.rq_model.specs.Growing.{FrontGrows, FrontStays, AlongIsFront, WindowGoesOn};
 ghost use Rattle.rq_model.specs.Carrying.{TrueHasFront, CrashWhileCarriedGrows};
 ghost use Rattle.rq_model.specs.Continuing.{MovesOn, GapIsLoud, LaterSaysTheSame, FilesJoin};
-ghost use Rattle.rq_model.specs.Continuing.{StartsAnew, FrontGoesOn, IsCarriedGap};
+ghost use Rattle.rq_model.specs.Continuing.{StartsAnew, FrontGoesOn, AnewJoins, IsCarriedGap};
 
 mod checkpoints;
 
@@ -239,10 +239,12 @@ pub fn continued_logs()
 {}
 
 /// The state behind the front of a log, full or not, goes on in a new file, at its checkpoint: with
-/// the same open units, elements, registrants and numbers, and the same chain of digests.
+/// the same open units, elements, registrants and numbers, and the same chain of digests. Whatever is
+/// written there, the files join.
 pub fn logs_begun_anew()
     ensures starts { StartsAnew }
     ensures front { FrontGoesOn }
+    ensures join { AnewJoins }
     ensures gap { IsCarriedGap }
 {}
 
