@@ -26,7 +26,7 @@ pub within : (b : List ℕ) (offset : ℕ) (version : Version) (s : State) (kept
     (rest : List ℕ) → IsFrontAt b offset version s kept after rest → offset ≤ length b
 within b offset version s kept after rest h = omega (arith, h.checkpoint.frame.whole.room, length-drop offset b)
 
--- what is linked stays so where bytes come behind
+-- what is linked stays so if bytes come behind it
 link_grows : (b part : List ℕ) (offset : ℕ) → 32 ≤ offset → offset ≤ length b
     → IsLinked (b ++ part) offset (before offset b) (drop offset b ++ part)
 link_grows b part offset low high = record {

@@ -26,8 +26,8 @@ when_moved offset there r = record r {
   total = r.total + there - offset;
 }
 
--- A checkpoint that is moved has the front and the restart that it had, also behind damage; if it
--- was true, the restart of the whole log
+-- A checkpoint that is moved keeps its front and its restart, whatever ends the front; if it was
+-- true, its restart is that of the whole log
 pub record MovesOn : Type 0 where
   pub front : (b : List ℕ) (offset : ℕ) (version : Version) (s : State) (kept : List ℕ)
       (after : List Record) (rest gap : List ℕ) → IsFrontAt b offset version s kept after rest
@@ -85,8 +85,7 @@ GapIsLoud =
     (restarted empty (length (gap ++ bytes)) (length (header version ++ (gap ++ bytes)))
     (Ends Length))
 
--- the gap of a carried file: such a length, and a word for whoever looks; the checkpoint stands at
--- 96
+-- the gap of a carried file: such a length, and words for whoever looks. The checkpoint stands at 96
 abbrev pub carried_gap : List ℕ
 carried_gap = 255 ∷ 255 ∷ 255 ∷ 255 ∷ codes "rq carried log at 96"
 
@@ -107,9 +106,9 @@ LaterSaysTheSame =
     version (run s (Checkpoint kept ∷ earlier)) again after rest
     × IsRestartAt b (offset + length (frames_of (before offset b) (Checkpoint kept ∷ earlier))) r
 
--- Files join: if the link is the last 32 bytes of records that a log may begin with, and the
--- checkpoint spells their state, the front there is that of all records in one log of any length,
--- and so is the state behind it
+-- Files join: let the link be the last 32 bytes of records that a log may begin with, and let the
+-- checkpoint spell their state. Then the front there is that of all records in one log of any
+-- length, and so is the state behind it
 abbrev pub FilesJoin : Type 0
 FilesJoin =
     (b : List ℕ) (offset : ℕ) (version : Version) (s : State) (kept : List ℕ)
@@ -121,7 +120,7 @@ FilesJoin =
     (records ++ Checkpoint kept ∷ after) rest
     × (run s (Checkpoint kept ∷ after) ≡ run empty (records ++ Checkpoint kept ∷ after))
 
--- So a file that was begun anew behind a front goes on with it, whatever was written there since
+-- So a file that was begun anew behind a front joins it, whatever was written there since
 abbrev pub AnewJoins : Type 0
 AnewJoins =
     (b new more : List ℕ) (version : Version) (records : List Record) (rest gap : List ℕ)

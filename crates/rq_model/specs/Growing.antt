@@ -7,8 +7,7 @@ use Rattle.rq_model.specs.Machine.{run}
 use Rattle.rq_model.specs.Fronts.{Begins, IsLongest, IsFront, IsWhy, Why, IsRestart, restarted}
 use Rattle.rq_model.specs.Appending.{MayFollow}
 
--- If bytes come behind a log, its front is the old one and what is found in the rest and the new
--- bytes
+-- If bytes come behind a log, its front is the old one, and what is found in the bytes behind that
 abbrev pub FrontGrows : Type 0
 FrontGrows =
     (b more : List ℕ) (version : Version) (records xs : List Record) (rest left : List ℕ) (why : Why)
@@ -24,8 +23,8 @@ FrontStays =
     → IsFront b version records rest → IsFront (b ++ more) w found left
     → (w ≡ version) × (others : List Record) × (found ≡ records ++ others)
 
--- what goes along with bytes of any length: their version, the records so far, the rest, and why
--- these end
+-- what goes along with bytes of any length: their version, the records so far, the bytes behind
+-- these, and why they end
 pub record IsAlong (b : List ℕ) (version : Version) (records : List Record) (rest : List ℕ)
     (why : Why) : Type 0 where
   pub may : MayFollow version empty records
@@ -45,8 +44,8 @@ AlongIsFront =
 abbrev pub window_of : Version → List Record → List ℕ → List ℕ
 window_of version records bytes = header version ++ (last_of (start version) records ++ bytes)
 
--- What is found in the window from 72 on goes behind the records so far, and the next window begins
--- where that ends
+-- The records that are found in the window from 72 on come behind those so far, and where they end
+-- the next window begins
 abbrev pub WindowGoesOn : Type 0
 WindowGoesOn =
     (b more window : List ℕ) (version : Version) (records xs : List Record) (rest : List ℕ)

@@ -191,8 +191,8 @@ pub fn upgrade_is_the_same()
     ensures { UpgradeIsSame }
 {}
 
-/// A crash while records are appended to a log loses none whose frame is whole, and invents none;
-/// once all frames are there, all records are in the front. What was written stays there.
+/// A crash while records are appended to a log loses none whose frame is whole, and invents none.
+/// Once all frames are there, all records are in the front. Whatever comes behind, they stay there.
 pub fn appended_logs()
     ensures frames { CrashInFrames }
     ensures crash { CrashWhileAppending }
@@ -214,23 +214,23 @@ pub fn growing_logs()
     ensures stays { FrontStays }
 {}
 
-/// Who keeps the records so far and the bytes behind them knows the front of a growing log; a header,
-/// 32 bytes and these bytes are enough to go on.
+/// Who keeps the records so far and the bytes behind them knows the front of a log that grows. To go
+/// on, a header, the last 32 bytes of the records and the bytes behind them are enough.
 pub fn followed_logs()
     ensures front { AlongIsFront }
     ensures window { WindowGoesOn }
 {}
 
-/// A true checkpoint has a front of its own; and a crash while records are appended to a log that is
-/// read from a checkpoint on loses none whose frame is whole.
+/// A true checkpoint has a front of its own. If a log is read from a checkpoint on, a crash while
+/// records are appended loses none whose frame is whole, and invents none.
 pub fn carried_logs()
     ensures front { TrueHasFront }
     ensures crash { CrashWhileCarriedGrows }
 {}
 
-/// A checkpoint and all behind it restart in another file to the same; the files join, so that the
-/// last of them restarts to what all records together would; a later checkpoint says the same; and
-/// a restart of the whole file says that no log begins there.
+/// A checkpoint and all bytes behind it restart in another file to the same, and so does a later
+/// checkpoint there. A restart of the whole file finds no record, and says so. The files join: the
+/// last one has the front of all records together.
 pub fn continued_logs()
     ensures moves { MovesOn }
     ensures loud { GapIsLoud }
@@ -238,9 +238,9 @@ pub fn continued_logs()
     ensures join { FilesJoin }
 {}
 
-/// The state behind the front of a log, full or not, goes on in a new file, at its checkpoint: with
-/// the same open units, elements, registrants and numbers, and the same chain of digests. Whatever is
-/// written there, the files join.
+/// The state behind the front of a log, full or not, begins a new file by a checkpoint: its open
+/// units, elements, registrants and numbers go on, and so do the digests. Whatever is written
+/// there, the files join.
 pub fn logs_begun_anew()
     ensures starts { StartsAnew }
     ensures front { FrontGoesOn }
