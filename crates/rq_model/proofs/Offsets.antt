@@ -1,14 +1,11 @@
 -- From a checkpoint that spells a state the front is found, and why it ends.
-use Rattle.std.proofs.Common.{ℕ, ◌≤◌, List, length, drop, refl, arith}
+use Rattle.std.proofs.Common.{length, drop, refl, arith}
 use Rattle.rq_bytes.proofs.Single.{IsBytes-drop}
-use Rattle.rq_model.specs.Records.{Version}
-use Rattle.rq_model.specs.Frames.{log_limit, HasHeader, AreBytes, before}
-use Rattle.rq_model.specs.States.{State}
+use Rattle.rq_model.specs.Frames.{before}
 use Rattle.rq_model.specs.Machine.{run}
 use Rattle.rq_model.specs.WellFormed.{IsWellFormed}
-use Rattle.rq_model.specs.StateSpelling.{SpellsState}
 use Rattle.rq_model.specs.Fronts.{Restarted, restarted}
-use Rattle.rq_model.specs.Checkpoints.{IsCheckpointAt, IsRestartAt}
+use Rattle.rq_model.specs.Checkpoints.{IsRestartAt}
 use Rattle.rq_model.specs.CheckpointLaws.{EveryCheckpointHasReport}
 use Rattle.rq_model.proofs.Longest.{front_stops}
 use Rattle.rq_model.proofs.Found.{Found, found}

@@ -17,6 +17,10 @@ pub mod LogLaws
 pub mod CheckpointLaws
 pub mod Closing
 pub mod Upgrading
+pub mod Appending
+pub mod Growing
+pub mod Carrying
+pub mod Continuing
 pub mod MoveLaws
 pub mod RecordReading
 pub mod StateReading

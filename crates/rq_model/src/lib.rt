@@ -37,6 +37,12 @@ ghost use Rattle.rq_model.specs.Laws.{WellFormedIsSound, RunsAreWellFormed, Empt
 ghost use Rattle.rq_model.specs.Laws.{NumbersAfter, VersionOneIsOneDeep, VersionTwoIsWider};
 ghost use Rattle.rq_model.specs.Laws.{RedoSteps, CrashIsHarmless};
 ghost use Rattle.rq_model.specs.MoveLaws.{MovesRise, ArrivalsRise};
+ghost use Rattle.rq_model.specs.Appending.{CrashInFrames, CrashWhileAppending, AppendedIsFront};
+ghost use Rattle.rq_model.specs.Appending.{WrittenStays, CheckpointIsTrue, CheckpointSaysTheSame};
+ghost use Rattle.rq_model.specs.Growing.{FrontGrows, FrontStays, AlongIsFront, WindowGoesOn};
+ghost use Rattle.rq_model.specs.Carrying.{TrueHasFront, CrashWhileCarriedGrows};
+ghost use Rattle.rq_model.specs.Continuing.{MovesOn, GapIsLoud, LaterSaysTheSame, FilesJoin};
+ghost use Rattle.rq_model.specs.Continuing.{StartsAnew, FrontGoesOn, AnewJoins, IsCarriedGap};
 
 mod checkpoints;
 
@@ -183,6 +189,63 @@ pub fn closed_logs()
 /// log it was made of, and to upgrade it again changes nothing.
 pub fn upgrade_is_the_same()
     ensures { UpgradeIsSame }
+{}
+
+/// A crash while records are appended to a log loses none whose frame is whole, and invents none.
+/// Once all frames are there, all records are in the front. Whatever comes behind, they stay there.
+pub fn appended_logs()
+    ensures frames { CrashInFrames }
+    ensures crash { CrashWhileAppending }
+    ensures front { AppendedIsFront }
+    ensures stays { WrittenStays }
+{}
+
+/// A checkpoint of the state behind the front, appended to it, is true, and the report has the same
+/// queue lines.
+pub fn appended_checkpoints()
+    ensures truth { CheckpointIsTrue }
+    ensures queues { CheckpointSaysTheSame }
+{}
+
+/// Whatever comes behind a log, no record of its front is taken back: the new front is the old one
+/// and what is found behind it.
+pub fn growing_logs()
+    ensures grows { FrontGrows }
+    ensures stays { FrontStays }
+{}
+
+/// Who keeps the records so far and the bytes behind them knows the front of a log that grows. To go
+/// on, a header, the last 32 bytes of the records and the bytes behind them are enough.
+pub fn followed_logs()
+    ensures front { AlongIsFront }
+    ensures window { WindowGoesOn }
+{}
+
+/// A true checkpoint has a front of its own. If a log is read from a checkpoint on, a crash while
+/// records are appended loses none whose frame is whole, and invents none.
+pub fn carried_logs()
+    ensures front { TrueHasFront }
+    ensures crash { CrashWhileCarriedGrows }
+{}
+
+/// A checkpoint and all bytes behind it restart in another file to the same, and so does a later
+/// checkpoint there. A restart of the whole file finds no record, and says so. The files join: the
+/// last one has the front of all records together.
+pub fn continued_logs()
+    ensures moves { MovesOn }
+    ensures loud { GapIsLoud }
+    ensures later { LaterSaysTheSame }
+    ensures join { FilesJoin }
+{}
+
+/// The state behind the front of a log, full or not, begins a new file by a checkpoint: its open
+/// units, elements, registrants and numbers go on, and so do the digests. Whatever is written
+/// there, the files join.
+pub fn logs_begun_anew()
+    ensures starts { StartsAnew }
+    ensures front { FrontGoesOn }
+    ensures join { AnewJoins }
+    ensures gap { IsCarriedGap }
 {}
 
 /// What stays in a queue at an abort and what arrives have distinct ids, and are put in in any
