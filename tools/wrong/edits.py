@@ -10,6 +10,8 @@ CONST = re.compile(r"^(?:pub(?:\([^)]*\))? )?(?:const|static) (\w+)")
 CLAUSE = re.compile(r"^\s*(?:ghost|requires|ensures)\b", re.M)
 # As many wrong bodies are tried in one check at most.
 MOST = 32
+# The folder, beside the other wrong bodies of a crate, of those that the gate tries in each run.
+EACH_TIME = "each-time"
 
 
 class Function(NamedTuple):
@@ -40,6 +42,10 @@ class Edit(NamedTuple):
     def label(self) -> str:
         return f"{self.crate}/{self.name}"
 
+    def part(self) -> str:
+        """The folder in which it stands."""
+        return os.path.basename(os.path.dirname(self.file))
+
 
 Texts = Dict[str, str]
 
@@ -66,9 +72,9 @@ def pairs_of(text: str) -> Iterator[Tuple[str, str, str]]:
 
 
 def edits_of(folder: str) -> List[Edit]:
-    """The edits of the crate in this folder, by name, those that the gate tries itself among them."""
+    """The edits of the crate in this folder, by name, those that the gate tries in each run among them."""
     crate, found = os.path.basename(folder), []
-    for part in ("must-fail", "wrong-bodies"):
+    for part in ("must-fail", "wrong-bodies", os.path.join("wrong-bodies", EACH_TIME)):
         at = os.path.join(folder, part)
         for name in os.listdir(at) if os.path.isdir(at) else ():
             if name.endswith(".edit"):
@@ -172,6 +178,15 @@ def batches_of(edits: List[Edit], texts: Texts) -> List[Batch]:
             made.append(Batch(texts))
             if not made[-1].takes(edit):
                 raise ValueError(f"{edit.label()} applies to nothing")
+    return made
+
+
+def few_of(edits: List[Edit], texts: Texts, most: int) -> Batch:
+    """The first of these edits, and as many others as one check takes with it, `most` in all."""
+    made = Batch(texts)
+    for edit in edits:
+        if len(made.edits) < most:
+            made.takes(edit)
     return made
 
 
