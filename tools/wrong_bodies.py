@@ -33,6 +33,8 @@ TOP = os.path.dirname(os.path.dirname(os.path.abspath(__file__)))
 # The processor seconds that the gate spends on drawn wrong bodies, what it reckons a check of them at before it knows better, and
 # how many batches it draws at most, of how many wrong bodies.
 SECONDS, RECKONED, DRAWN, FEW = 180, 60, 6, 8
+# How many functions the check of a batch that is drawn proves, as a rule and at most: some two seconds each.
+WIDE, WIDEST = 25, 60
 
 
 def tell(line: str) -> None:
@@ -117,7 +119,7 @@ class Run:
     def try_all(self, due: Sequence[Batch], drawn: Sequence[Batch] = (), by_receipts: bool = False) -> None:
         """Tries the batches that are due, side by side, and alone the wrong bodies that a batch does not judge. Of those that are
         drawn it tries one, and others while they take no longer than the gate may spend. By receipts, it first checks only the
-        functions that these name, and proves no crate whole for that."""
+        functions that these name and what they call, and proves no crate whole for that."""
         crates = [it.edits[0].crate for it in [*due, *drawn]]
         if not crates:
             return
@@ -169,14 +171,16 @@ def functions_of(batch: Batch) -> List[str]:
 
 
 def drawn(run: Run, crates: List[str]) -> List[Batch]:
-    """Small batches of these crates, drawn anew in each run: a wrong body and a few others of its crate, since most of what a
-    check takes from nothing it takes for definitions and lemmas, whatever functions it is of."""
+    """Small batches of these crates, drawn anew in each run: a wrong body and a few others of its crate. From nothing a check
+    proves all that the functions call, so those that call half a crate are left to a change of that crate."""
     left = [it for crate in crates for it in run.edits[crate] if it.part() == "wrong-bodies"]
     random.shuffle(left)
     made: List[Batch] = []
     while left and len(made) < DRAWN:
-        made.append(few_of([it for it in left if it.crate == left[0].crate], run.sums.texts(left[0].crate), FEW))
-        left = [it for it in left if it not in made[-1].edits]
+        crate = left[0].crate
+        some = few_of([it for it in left if it.crate == crate], run.sums.texts(crate), FEW, WIDE, WIDEST)
+        left = [it for it in left[1:] if it not in some.edits]
+        made += [some] if some.edits else []
     return made
 
 

@@ -69,8 +69,8 @@ def stop() -> None:
 
 
 def tried(place: Place, batch: Batch, to: str, functions: Sequence[str] = ()) -> Tried:
-    """Tries the batch in one check, of these functions alone if there are any. What it says is kept in the folder `to`, if there
-    is one."""
+    """Tries the batch in one check, of these functions and what they call if there are any. What it says is kept in the folder
+    `to`, if there is one."""
     text, seconds = said_of(place, batch, functions)
     if to:
         os.makedirs(to, exist_ok=True)

@@ -181,12 +181,38 @@ def batches_of(edits: List[Edit], texts: Texts) -> List[Batch]:
     return made
 
 
-def few_of(edits: List[Edit], texts: Texts, most: int) -> Batch:
-    """The first of these edits, and as many others as one check takes with it, `most` in all."""
-    made = Batch(texts)
+class Calls:
+    """Which functions of a crate call which, as far as their names tell: rather too many than too few."""
+
+    def __init__(self, texts: Texts):
+        spans = [(it, texts[path]) for path in sorted(texts) if path.endswith(".rt") for it in functions_of(path, texts[path])]
+        names: Dict[str, List[Function]] = {}
+        for span, _ in spans:
+            names.setdefault(span.function.name, []).append(span.function)
+        self.calls = {span.function: {called for word in set(re.findall(r"\w+", text[span.body : span.end]))
+                                      for called in names.get(word, ())} for span, text in spans}
+
+    def below(self, functions: FrozenSet[Function]) -> FrozenSet[Function]:
+        """These functions and all that they call, which a check of them proves too."""
+        found, left = set(functions), list(functions)
+        while left:
+            more = self.calls.get(left.pop(), set()) - found
+            found |= more
+            left += more
+        return frozenset(found)
+
+
+def few_of(edits: List[Edit], texts: Texts, most: int, wide: int, widest: int) -> Batch:
+    """Of these edits the first, and as many others as one check takes with it: `most` in all, and so that it proves no more than
+    `wide` functions, or those that the first needs. There is none where that one needs more than `widest`."""
+    made, calls = Batch(texts), Calls(texts)
+    below: FrozenSet[Function] = frozenset()
     for edit in edits:
-        if len(made.edits) < most:
-            made.takes(edit)
+        more = below | calls.below(applied(edit, texts).changed)
+        if len(made.edits) < most and len(more) <= (wide if made.edits else widest) and made.takes(edit):
+            below, wide = more, max(wide, len(more))
+        if not made.edits:
+            break
     return made
 
 
