@@ -8,26 +8,16 @@ from __future__ import annotations
 import itertools, os, resource, shutil, signal, stat, subprocess, sys, tempfile, threading
 from collections.abc import Callable, Iterable, Iterator
 
-import folders, large, refusing, trying
+import counting, folders, large, refusing
+from tables import scripts
 from trying import (DONE, EXAMPLES, READ_FAULT, RESOURCES, RQ, USAGE, WRITE_FAULT, Ended, Words, built, check, check_each,
                     content, lines_of, log_of, making, put, refused, run, run_into, run_told, run_within)
 
-ONE_ELEMENT = b"define jobs 0 -\nbegin 1\nenqueue 1 0 5 - 0 61\ncommit 1\n"
+ONE_ELEMENT, CHECKPOINT = scripts.ONE_ELEMENT.encode(), scripts.CHECKPOINT.encode()
 ONE_ELEMENT_REPORT = b"""front 4 records, 237 of 237 bytes, whole
 units 1 committed, 0 aborted, 0 cut off
 queue 0 jobs limit 0 error -
 e 2 from 0 priority 5 attempts 0 61
-"""
-CHECKPOINT = b"""define jobs 0 -
-register 0 ann
-begin 1
-enqueue 1 0 5 - 0 61
-commit 1
-begin 2
-dequeue 2 0 ann 10
-enqueue 2 0 8 - 0 62
-checkpoint
-commit 2
 """
 CHECKPOINT_REPORT = b"""front 10 records, 724 of 724 bytes, whole
 units 2 committed, 0 aborted, 0 cut off
@@ -532,8 +522,8 @@ def main() -> None:
     finally:
         os.chdir("/")
         shutil.rmtree(folder)
-    print(f"{trying.passed} passed, {trying.failed} failed")
-    sys.exit(trying.failed != 0)
+    print(counting.told())
+    sys.exit(counting.failed != 0)
 
 
 if __name__ == "__main__":

@@ -11,6 +11,9 @@ from contextlib import contextmanager
 from typing import Callable, Dict, Iterator, List, Tuple
 
 sys.dont_write_bytecode = True
+import counting  # noqa: E402
+from counting import check  # noqa: E402
+
 TOP = os.path.dirname(os.path.dirname(os.path.abspath(__file__)))
 NOBODY = 65534
 PROCESSORS = ["x86-64-v2", "x86-64-v3"]
@@ -35,17 +38,6 @@ SETTINGS = "glibc.malloc.hugetlb=1:glibc.malloc.mmap_threshold=524288:glibc.mall
 NO_TOOLCHAIN = "the toolchain is not there"
 INSTALLED = ["bin/rq", "bin/rqlook", "libexec/rq/installed", "libexec/rq/rq", "libexec/rq/rqlook"]
 INSTALLED += ["share/man/man1/rq.1", "share/man/man1/rqlook.1"]
-
-passed = failed = 0
-
-
-def check(name: str, got: object, want: object) -> None:
-    global passed, failed
-    if got == want:
-        passed += 1
-    else:
-        failed += 1
-        print(f"{name}: {got!r} in place of {want!r}", flush=True)
 
 
 def put(path: str, text: str, mode: int = 0o644) -> None:
@@ -244,8 +236,8 @@ def main() -> None:
                 check(part.__name__, repr(fault), "")
     finally:
         shutil.rmtree(folder)
-    print(f"{passed} passed, {failed} failed")
-    sys.exit(failed != 0)
+    print(counting.told())
+    sys.exit(counting.failed != 0)
 
 
 if __name__ == "__main__":

@@ -3,6 +3,8 @@ from __future__ import annotations
 import os, shutil, subprocess, sys
 from collections.abc import Callable, Iterable
 
+from counting import check
+
 RQ = os.path.abspath(sys.argv[1])
 HERE = os.path.dirname(os.path.abspath(__file__))
 EXAMPLES = os.path.join(HERE, "..", "examples")
@@ -18,17 +20,6 @@ USUAL = {"OFFSET": "40", "WORKERS": "1", "GRAIN": "1", "MADE": "made"}
 
 Words = list[object]
 Ended = tuple[int, bytes, bytes]
-
-passed = failed = 0
-
-
-def check(name: str, got: object, want: object) -> None:
-    global passed, failed
-    if got == want:
-        passed += 1
-    else:
-        failed += 1
-        print(f"{name}: {got!r} in place of {want!r}", flush=True)
 
 
 def refused(text: str) -> Ended:

@@ -4,35 +4,82 @@
 usage: wrong_bodies.py [--jobs N] [--said FOLDER] [--write] [CRATE | CRATE/EDIT ..]
        wrong_bodies.py --receipt
        wrong_bodies.py --gate [--jobs N]
-A wrong body is an edit of `crates/NAME/must-fail`, which `rt ci` tries too, or of `crates/NAME/wrong-bodies`. It must be refused
-by a goal of a function that it changes: one that stays open, or whose answer no longer proves it. It fails if it is not refused,
-if it is refused only in another function or since a proof file names what it took away, or if it no longer applies.
+A wrong body is an edit of `crates/NAME/must-fail`, which `rt ci` tries too, of `crates/NAME/wrong-bodies`, or of `each-time` in
+that. It must be refused by a goal of a function that it changes: one that stays open, or whose answer no longer proves it. It
+fails if it is not refused, if it is refused only in another function or since a proof file names what it took away, or if it no
+longer applies.
 With no words all are tried. --write then writes the receipt of each crate whose wrong bodies were all tried and all refused
 (`crates/NAME/wrong-bodies/receipt`), the only file in the checkout that is written. --said keeps what each check said.
 --receipt proves nothing: it holds each wrong body against its receipt, which is of this toolchain, of this text of the edit,
-of the crate and of all crates below it. --gate does that too, but tries the wrong bodies of crates that are not what their
-receipt is of, and tries two more batches, drawn by the commit. Libraries are taken as the checkout has them, if `rt` built them
-of these files; else all are proved first in a copy, which takes what other checkouts on the machine hold.
+of the crate and of all crates below it. --gate does that too, but tries all wrong bodies of crates that are not what their
+receipt is of, and those of `each-time` of all crates. Then it tries others as they are drawn, anew in each run: a few of one
+crate at least, and those of further crates while these take no more than three processor minutes. Libraries are taken as the
+checkout has them, if `rt` built them of these files; else all are proved first in a copy, which takes what other checkouts on the
+machine hold.
 """
 from __future__ import annotations
-import argparse, hashlib, os, signal, subprocess, sys
+import argparse, os, random, signal, sys, threading
 from concurrent.futures import ThreadPoolExecutor
-from typing import Dict, List, Optional, Tuple
+from typing import Dict, List, Optional, Sequence, Tuple
 
 sys.dont_write_bytecode = True
 from wrong.checks import Tried, stop, tried
-from wrong.edits import Batch, Edit, applied, batches_of, edits_of
-from wrong.places import Place, places
+from wrong.edits import EACH_TIME, Batch, Edit, applied, batches_of, edits_of, few_of
+from wrong.places import places
 from wrong.receipts import Sums, gone, held, made_of, receipt_of, written
 from wrong.verdicts import Verdict
 
 TOP = os.path.dirname(os.path.dirname(os.path.abspath(__file__)))
-# As many batches are drawn by the commit.
-DRAWN = 2
+# The processor seconds that the gate spends on drawn wrong bodies, what it reckons a check of them at before it knows better, and
+# how many batches it draws at most, of how many wrong bodies.
+SECONDS, RECKONED, DRAWN, FEW = 180, 60, 6, 8
+# How many functions the check of a batch that is drawn proves, as a rule and at most: some two seconds each.
+WIDE, WIDEST = 25, 60
 
 
 def tell(line: str) -> None:
     print(line, flush=True)
+
+
+class Trial:
+    """The batches that are to be tried, and what those took that were drawn. All threads of a run take from it."""
+
+    def __init__(self, due: Sequence[Batch], drawn: Sequence[Batch]):
+        self.due, self.drawn = list(due), list(drawn)
+        self.going: List[Batch] = []
+        self.begun: List[Batch] = []
+        self.spent, self.longest, self.is_stopped = 0.0, float(RECKONED), False
+        self.alone = threading.Condition()
+
+    def may_draw(self) -> bool:
+        """Whether a drawn batch may be tried: the first, and each for which there still is time."""
+        now = sum(1 for it in self.going if it in self.begun)
+        return bool(self.drawn) and (not self.begun or self.spent + (now + 1) * self.longest <= SECONDS)
+
+    def next(self) -> Optional[Batch]:
+        """The next batch: one that is due, else one that was drawn. None, if there is none, once no check can make one due."""
+        with self.alone:
+            while not (self.due or self.is_stopped or self.may_draw()) and self.going:
+                self.alone.wait()
+            if self.is_stopped or not (self.due or self.may_draw()):
+                return None
+            if not self.due:
+                self.begun.append(self.drawn[0])
+            self.going.append((self.due or self.drawn).pop(0))
+            return self.going[-1]
+
+    def ended(self, batch: Batch, seconds: float, again: List[Batch]) -> None:
+        """Notes that a check ended, what it took and what is to be tried once more."""
+        self.going.remove(batch)
+        self.due += again
+        if batch in self.begun:
+            self.spent, self.longest = self.spent + seconds, max(self.longest, seconds)
+        self.alone.notify_all()
+
+    def stop(self) -> None:
+        with self.alone:
+            self.is_stopped = True
+            self.alone.notify_all()
 
 
 class Run:
@@ -69,17 +116,32 @@ class Run:
         texts = self.sums.texts(crate)
         return [*batches_of(rest, texts), *(one for it in again for one in batches_of([it], texts))]
 
-    def try_all(self, batches: List[Batch]) -> None:
-        """Tries these batches, side by side, and alone the wrong bodies that a batch does not judge."""
-        crates = [it.edits[0].crate for it in batches]
+    def try_all(self, due: Sequence[Batch], drawn: Sequence[Batch] = (), by_receipts: bool = False) -> None:
+        """Tries the batches that are due, side by side, and alone the wrong bodies that a batch does not judge. Of those that are
+        drawn it tries one, and others while they take no longer than the gate may spend. By receipts, it first checks only the
+        functions that these name and what they call, and proves no crate whole for that."""
+        crates = [it.edits[0].crate for it in [*due, *drawn]]
         if not crates:
             return
-        with places(TOP, {it: crates.count(it) for it in crates}, self.jobs, tell) as at, ThreadPoolExecutor(self.jobs) as pool:
+        trial, first = Trial(due, drawn), [*due, *drawn]
+        counts = {it: 1 if by_receipts else crates.count(it) for it in crates}
+        with places(TOP, counts, self.jobs, tell) as at, ThreadPoolExecutor(self.jobs) as pool:
+
+            def work(_: int) -> None:
+                try:
+                    for batch in iter(trial.next, None):
+                        functions = functions_of(batch) if by_receipts and batch in first else ()
+                        done = tried(at[batch.edits[0].crate], batch, self.said, functions)
+                        with trial.alone:
+                            trial.ended(batch, done.seconds, self.told(batch, done))
+                except BaseException:
+                    trial.stop()
+                    raise
+
             try:
-                while batches:
-                    done = pool.map(lambda it: tried(at[it.edits[0].crate], it, self.said), batches)
-                    batches = [more for batch, one in zip(batches, done) for more in self.told(batch, one)]
+                list(pool.map(work, range(self.jobs)))
             except BaseException:
+                trial.stop()
                 stop()
                 raise
 
@@ -102,13 +164,24 @@ def wanted_of(run: Run, words: List[str]) -> List[Batch]:
     return [batch for crate, edits in chosen.items() for batch in run.batches(crate, edits)]
 
 
+def functions_of(batch: Batch) -> List[str]:
+    """The functions that the receipt names for the wrong bodies of the batch."""
+    lines = receipt_of(TOP, batch.edits[0].crate).lines
+    return [lines[it.name].function for it in batch.edits]
+
+
 def drawn(run: Run, crates: List[str]) -> List[Batch]:
-    """Two batches of these crates, drawn by the commit."""
-    asked = subprocess.run(["git", "rev-parse", "HEAD"], cwd=TOP, stdout=subprocess.PIPE, stderr=subprocess.DEVNULL, text=True)
-    seed = asked.stdout.strip() or run.sums.crate(crates[-1]) if crates else ""
-    every = {f"{crate} {at}": it for crate in crates for at, it in enumerate(run.batches(crate))}
-    order = sorted(every, key=lambda it: hashlib.sha256(f"{seed} {it}".encode()).hexdigest())
-    return [every[it] for it in order[:DRAWN]]
+    """Small batches of these crates, drawn anew in each run: a wrong body and a few others of its crate. From nothing a check
+    proves all that the functions call, so those that call half a crate are left to a change of that crate."""
+    left = [it for crate in crates for it in run.edits[crate] if it.part() == "wrong-bodies"]
+    random.shuffle(left)
+    made: List[Batch] = []
+    while left and len(made) < DRAWN:
+        crate = left[0].crate
+        some = few_of([it for it in left if it.crate == crate], run.sums.texts(crate), FEW, WIDE, WIDEST)
+        left = [it for it in left[1:] if it not in some.edits]
+        made += [some] if some.edits else []
+    return made
 
 
 def against_receipts(run: Run) -> Tuple[Dict[str, str], List[str]]:
@@ -130,12 +203,15 @@ def against_receipts(run: Run) -> Tuple[Dict[str, str], List[str]]:
 
 
 def gate(run: Run) -> Dict[str, str]:
-    """What is wrong by the receipts, once the crates that are not what theirs are of, and two batches, were tried."""
+    """What is wrong by the receipts, once the wrong bodies were tried of crates that are not what theirs are of, those that each
+    gate tries, and some that are drawn."""
     wrong, same = against_receipts(run)
     changed = [crate for crate, edits in run.edits.items() if edits and crate not in same]
     for crate in changed:
         tell(f"{crate}: not what its receipt is of; its {len(run.edits[crate])} are tried")
-    run.try_all([it for crate in changed for it in run.batches(crate)] + drawn(run, same))
+    run.try_all([it for crate in changed for it in run.batches(crate)])
+    each = {crate: [it for it in run.edits[crate] if it.part() == EACH_TIME] for crate in same}
+    run.try_all([it for crate in same for it in run.batches(crate, each[crate])], drawn(run, same), by_receipts=True)
     labels = {it.label() for it in run.found}
     wrong = {label: why for label, why in wrong.items() if label not in labels}
     for edit, verdict in run.found.items():

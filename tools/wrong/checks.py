@@ -1,7 +1,7 @@
 """The check of a crate with a batch of wrong bodies in it."""
 from __future__ import annotations
 import os, shutil, subprocess, tempfile
-from typing import Dict, List, NamedTuple, Set, Tuple
+from typing import Dict, List, NamedTuple, Sequence, Set, Tuple
 
 from wrong.edits import Batch, Edit
 from wrong.places import KIT, Place
@@ -30,22 +30,26 @@ def link_or_copy(one: str, other: str) -> str:
     return shutil.copy2(one, other)
 
 
-def modules_of(batch: Batch) -> List[str]:
-    """The words that limit a check to the modules that the batch changes; none where the crate's root is one of them."""
+def limits_of(batch: Batch, functions: Sequence[str]) -> List[str]:
+    """The words that limit a check to these functions, or else to the modules that the batch changes; none where the crate's
+    root is one of these."""
+    # (a closure is checked with its function, under a name of its own)
+    if functions and not any("fn" in it.split("::") for it in functions):
+        return [word for it in sorted(set(functions)) for word in ("--only", it)]
     paths = sorted({it.path for changed in batch.changed.values() for it in changed})
     if "src/lib.rt" in paths:
         return []
     return [word for it in paths for word in ("--only", it[len("src/") : -len(".rt")].replace("/", "::"))]
 
 
-def said_of(place: Place, batch: Batch) -> Tuple[str, float]:
+def said_of(place: Place, batch: Batch, functions: Sequence[str]) -> Tuple[str, float]:
     """What the check of the crate with the batch says, and its processor seconds. Nothing is written beside the room."""
     with tempfile.TemporaryDirectory(prefix="wrong-bodies-") as room:
         for path, text in batch.texts.items():
             os.makedirs(os.path.dirname(os.path.join(room, path)), exist_ok=True)
             with open(os.path.join(room, path), "w", encoding="utf-8") as file:
                 file.write(text)
-        words = [os.path.join(KIT, "bin", "rattle"), "check", *place.words, *modules_of(batch)]
+        words = [os.path.join(KIT, "bin", "rattle"), "check", *place.words, *limits_of(batch, functions)]
         if place.kept:
             shutil.copytree(place.kept, os.path.join(room, "kept"), copy_function=link_or_copy)
             words += ["--incremental", os.path.join(room, "kept")]
@@ -64,9 +68,10 @@ def stop() -> None:
         run.kill()
 
 
-def tried(place: Place, batch: Batch, to: str) -> Tried:
-    """Tries the batch in one check, and keeps what it says in the folder `to`, if there is one."""
-    text, seconds = said_of(place, batch)
+def tried(place: Place, batch: Batch, to: str, functions: Sequence[str] = ()) -> Tried:
+    """Tries the batch in one check, of these functions and what they call if there are any. What it says is kept in the folder
+    `to`, if there is one."""
+    text, seconds = said_of(place, batch, functions)
     if to:
         os.makedirs(to, exist_ok=True)
         first = batch.edits[0]

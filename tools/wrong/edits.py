@@ -10,6 +10,8 @@ CONST = re.compile(r"^(?:pub(?:\([^)]*\))? )?(?:const|static) (\w+)")
 CLAUSE = re.compile(r"^\s*(?:ghost|requires|ensures)\b", re.M)
 # As many wrong bodies are tried in one check at most.
 MOST = 32
+# The folder, beside the other wrong bodies of a crate, of those that the gate tries in each run.
+EACH_TIME = "each-time"
 
 
 class Function(NamedTuple):
@@ -40,6 +42,10 @@ class Edit(NamedTuple):
     def label(self) -> str:
         return f"{self.crate}/{self.name}"
 
+    def part(self) -> str:
+        """The folder in which it stands."""
+        return os.path.basename(os.path.dirname(self.file))
+
 
 Texts = Dict[str, str]
 
@@ -66,9 +72,9 @@ def pairs_of(text: str) -> Iterator[Tuple[str, str, str]]:
 
 
 def edits_of(folder: str) -> List[Edit]:
-    """The edits of the crate in this folder, by name, those that the gate tries itself among them."""
+    """The edits of the crate in this folder, by name, those that the gate tries in each run among them."""
     crate, found = os.path.basename(folder), []
-    for part in ("must-fail", "wrong-bodies"):
+    for part in ("must-fail", "wrong-bodies", os.path.join("wrong-bodies", EACH_TIME)):
         at = os.path.join(folder, part)
         for name in os.listdir(at) if os.path.isdir(at) else ():
             if name.endswith(".edit"):
@@ -172,6 +178,41 @@ def batches_of(edits: List[Edit], texts: Texts) -> List[Batch]:
             made.append(Batch(texts))
             if not made[-1].takes(edit):
                 raise ValueError(f"{edit.label()} applies to nothing")
+    return made
+
+
+class Calls:
+    """Which functions of a crate call which, as far as their names tell: rather too many than too few."""
+
+    def __init__(self, texts: Texts):
+        spans = [(it, texts[path]) for path in sorted(texts) if path.endswith(".rt") for it in functions_of(path, texts[path])]
+        names: Dict[str, List[Function]] = {}
+        for span, _ in spans:
+            names.setdefault(span.function.name, []).append(span.function)
+        self.calls = {span.function: {called for word in set(re.findall(r"\w+", text[span.body : span.end]))
+                                      for called in names.get(word, ())} for span, text in spans}
+
+    def below(self, functions: FrozenSet[Function]) -> FrozenSet[Function]:
+        """These functions and all that they call, which a check of them proves too."""
+        found, left = set(functions), list(functions)
+        while left:
+            more = self.calls.get(left.pop(), set()) - found
+            found |= more
+            left += more
+        return frozenset(found)
+
+
+def few_of(edits: List[Edit], texts: Texts, most: int, wide: int, widest: int) -> Batch:
+    """Of these edits the first, and as many others as one check takes with it: `most` in all, and so that it proves no more than
+    `wide` functions, or those that the first needs. There is none where that one needs more than `widest`."""
+    made, calls = Batch(texts), Calls(texts)
+    below: FrozenSet[Function] = frozenset()
+    for edit in edits:
+        more = below | calls.below(applied(edit, texts).changed)
+        if len(made.edits) < most and len(more) <= (wide if made.edits else widest) and made.takes(edit):
+            below, wide = more, max(wide, len(more))
+        if not made.edits:
+            break
     return made
 
 

@@ -21,6 +21,15 @@ use std::alloc::Global;
 use std::io::Write;
 use std::thread::Threads;
 
+// The record as JSON.
+fn json_of(alloc: Global, it: &Numbered) -> Result<String, Trouble>
+    ensures { IfErr result IsBroken }
+{
+    let line = record_shown(alloc, it)?;
+    let json = serde_json::to_string(alloc, &line)?;
+    Ok(spelled_out(alloc, json)?)
+}
+
 // Puts a record in the form that is wanted.
 fn put_shown(
     alloc: Global,
@@ -31,9 +40,7 @@ fn put_shown(
     ensures { IfErr result IsBroken }
 {
     if wanted.json {
-        let line = record_shown(alloc, it)?;
-        let json = serde_json::to_string(alloc, &line)?;
-        text.push_str(spelled_out(alloc, json)?.as_str())?;
+        text.push_str(json_of(alloc, it)?.as_str())?;
     } else {
         put_record(alloc, text, it, wanted.full)?;
     }

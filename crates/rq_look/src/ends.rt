@@ -24,7 +24,7 @@ use std::fmt::Write;
 use std::thread::Threads;
 
 /// Where the front of a log ends, and why, in a sentence.
-#[derive(Debug, Drop)]
+#[derive(Drop)]
 pub(crate) struct End {
     pub(crate) records: u64,
     pub(crate) used: u64,

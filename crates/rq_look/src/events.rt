@@ -1,9 +1,10 @@
 //! What happens to elements.
 
+use crate::pieces::{write_number, write_numbers};
 use std::fmt;
 
 /// What happens to an element.
-#[derive(Clone, Copy, Debug, PartialEq, Eq)]
+#[derive(Clone, Copy)]
 pub(crate) enum Effect {
     /// A unit puts it in.
     Put,
@@ -22,7 +23,7 @@ pub(crate) enum Effect {
 }
 
 /// What happens to which element.
-#[derive(Clone, Copy, Debug)]
+#[derive(Clone, Copy)]
 pub(crate) enum Event {
     /// There is none to take, or to kill.
     NoElement,
@@ -33,22 +34,32 @@ pub(crate) enum Event {
 impl fmt::Display for Event {
     fn fmt<W: fmt::Write>(&self, f: &mut fmt::Formatter<W>) -> fmt::Result {
         let (element, effect) = match self {
-            Event::NoElement => return write!(f, "finds no element"),
+            Event::NoElement => return f.write_str("finds no element"),
             Event::To(element, effect) => (*element, *effect),
         };
         match effect {
-            Effect::Put => write!(f, "puts in element {element}"),
-            Effect::Taken => write!(f, "takes element {element}"),
-            Effect::Free(queue) => write!(f, "element {element} is free in queue {queue}"),
-            Effect::Gone => write!(f, "element {element} is gone"),
-            Effect::Undone => write!(f, "element {element} was not put in"),
+            Effect::Put => write_number(f, "puts in element ", element, ""),
+            Effect::Taken => write_number(f, "takes element ", element, ""),
+            Effect::Free(queue) => {
+                write_numbers(
+                    f,
+                    "element ",
+                    element,
+                    " is free in queue ",
+                    u64::from(queue),
+                )
+            }
+            Effect::Gone => write_number(f, "element ", element, " is gone"),
+            Effect::Undone => write_number(f, "element ", element, " was not put in"),
             Effect::Back(queue, attempts) => {
                 write!(
                     f,
                     "element {element} is back in queue {queue}, attempts {attempts}"
                 )
             }
-            Effect::Moved(queue) => write!(f, "element {element} moves to queue {queue}"),
+            Effect::Moved(queue) => {
+                write_numbers(f, "element ", element, " moves to queue ", u64::from(queue))
+            }
         }
     }
 }

@@ -12,7 +12,7 @@ use std::cmp::Reverse;
 use std::collections::{BTreeMap, BTreeSet};
 
 // An element that is in a queue, free or not.
-#[derive(Clone, Copy, Debug)]
+#[derive(Clone, Copy)]
 struct Queued {
     home: u32,
     priority: u8,
@@ -20,7 +20,7 @@ struct Queued {
 }
 
 // An element that a unit put in or took.
-#[derive(Clone, Copy, Debug)]
+#[derive(Clone, Copy)]
 struct Owned {
     element: u64,
     fresh: bool,

@@ -7,7 +7,7 @@ use byteorder::{BigEndian, ByteOrder};
 use rq_front::{FRAME_LEN, HEADER_LEN};
 
 /// A frame: its length and body side by side, the body alone, and its digest.
-#[derive(Clone, Copy, Debug)]
+#[derive(Clone, Copy)]
 pub(crate) struct Frame<'a> {
     pub(crate) stated: &'a [u8],
     pub(crate) body: &'a [u8],
@@ -48,7 +48,7 @@ pub(crate) fn first_frame(bytes: &[u8]) -> Option<(Frame<'_>, &[u8])>
 }
 
 /// A body, the offset of its frame and the number of its record.
-#[derive(Clone, Copy, Debug)]
+#[derive(Clone, Copy)]
 pub(crate) struct Placed<'a> {
     pub(crate) offset: u64,
     pub(crate) number: u64,
@@ -56,7 +56,7 @@ pub(crate) struct Placed<'a> {
 }
 
 /// The frames in the first bytes of a log, one after the other.
-#[derive(Clone, Copy, Debug)]
+#[derive(Clone, Copy)]
 pub(crate) struct PlacedFrames<'a> {
     rest: &'a [u8],
     offset: u64,

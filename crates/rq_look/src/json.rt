@@ -12,7 +12,7 @@ use std::fmt::Write;
 use std::str::from_utf8;
 
 /// A payload: as digits, and as text where it is one.
-#[derive(Debug, Drop, Serialize)]
+#[derive(Drop, Serialize)]
 pub(crate) struct PayloadShown<'a> {
     hex: String,
     #[serde(skip_serializing_if = "Option::is_none")]
@@ -20,7 +20,7 @@ pub(crate) struct PayloadShown<'a> {
 }
 
 /// The bytes of a checkpoint, which are as many as a state has: as digits alone.
-#[derive(Debug, Drop, Serialize)]
+#[derive(Drop, Serialize)]
 struct DigitsShown {
     hex: String,
 }
@@ -35,7 +35,7 @@ impl<'a> PayloadShown<'a> {
 }
 
 /// A record, with those fields that its kind has.
-#[derive(Debug, Drop, Serialize)]
+#[derive(Drop, Serialize)]
 pub(crate) struct Shown<'a> {
     offset: u64,
     record: u64,
@@ -132,7 +132,7 @@ pub(crate) fn record_shown(alloc: Global, it: &Numbered) -> Result<Shown<'_>, Al
 }
 
 /// Where a front ends.
-#[derive(Clone, Copy, Debug, Serialize)]
+#[derive(Clone, Copy, Serialize)]
 pub(crate) struct FrontShown<'a> {
     records: u64,
     used: u64,
@@ -142,7 +142,7 @@ pub(crate) struct FrontShown<'a> {
 }
 
 /// The last line of a dump.
-#[derive(Clone, Copy, Debug, Serialize)]
+#[derive(Clone, Copy, Serialize)]
 pub(crate) struct ClosingShown<'a> {
     front: FrontShown<'a>,
 }

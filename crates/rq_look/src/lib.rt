@@ -15,6 +15,7 @@ mod lines;
 mod misfits;
 mod numbered;
 mod paging;
+mod pieces;
 mod queues;
 mod reporting;
 mod rules;

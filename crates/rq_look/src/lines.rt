@@ -25,10 +25,8 @@ fn put_queue(text: &mut String, it: &Numbered) -> Result<(), AllocError> {
 fn put_by(text: &mut String, record: &Record) -> Result<(), AllocError> {
     match by_of(record) {
         Some(by) => {
-            let tag = by.tag;
-            text.push_str(" by ")?;
-            text.push_str(by.name.text())?;
-            write!(text, " tag {tag}")
+            let (name, tag) = (by.name.text(), by.tag);
+            write!(text, " by {name} tag {tag}")
         }
         None => text.push_str(" by -"),
     }
@@ -40,9 +38,7 @@ fn put_definition(
     limit: u16,
     error: QueueNo,
 ) -> Result<(), AllocError> {
-    text.push_str(" name ")?;
-    text.push_str(name)?;
-    write!(text, " limit {limit} error ")?;
+    write!(text, " name {name} limit {limit} error ")?;
     if error == QueueNo::NONE {
         text.push_str("-")
     } else {

@@ -1,5 +1,6 @@
 //! Where a body is none that a record has.
 
+use crate::pieces::write_number;
 use rq_record::Version;
 use std::fmt;
 
@@ -10,7 +11,7 @@ const NAME: usize = 64;
 const PAYLOAD: usize = 65_535;
 
 /// Why a body spells no record.
-#[derive(Clone, Copy, Debug)]
+#[derive(Clone, Copy)]
 pub(crate) enum Misfit {
     /// No record has this kind.
     Kind(u8),
@@ -31,19 +32,19 @@ pub(crate) enum Misfit {
 impl fmt::Display for Misfit {
     fn fmt<W: fmt::Write>(&self, f: &mut fmt::Formatter<W>) -> fmt::Result {
         match self {
-            Misfit::Kind(kind) => write!(f, "no record has the kind {kind}"),
+            Misfit::Kind(kind) => write_number(f, "no record has the kind ", u64::from(*kind), ""),
             Misfit::Cut(field) => write!(f, "the body ends in its {field}"),
-            Misfit::Nameless => write!(f, "the name has no bytes"),
+            Misfit::Nameless => f.write_str("the name has no bytes"),
             Misfit::Long(field, count) => write!(f, "the {field} has {count} bytes"),
-            Misfit::Letter(byte) => write!(f, "no name has the byte {byte}"),
-            Misfit::Tagged => write!(f, "nobody is named, and the tag is not 0"),
-            Misfit::More(count) => write!(f, "{count} bytes too many"),
+            Misfit::Letter(byte) => write_number(f, "no name has the byte ", u64::from(*byte), ""),
+            Misfit::Tagged => f.write_str("nobody is named, and the tag is not 0"),
+            Misfit::More(count) => write_number(f, "", *count as u64, " bytes too many"),
         }
     }
 }
 
 // What is left of a body, and at which of its bytes that begins.
-#[derive(Clone, Copy, Debug)]
+#[derive(Clone, Copy)]
 struct BodyRest<'a> {
     bytes: &'a [u8],
     at: usize,

@@ -7,7 +7,7 @@ use serde::Serialize;
 use std::alloc::{AllocError, Global};
 use std::cmp::Reverse;
 
-#[derive(Debug, Drop, Serialize)]
+#[derive(Drop, Serialize)]
 struct ElementShown<'a> {
     id: u64,
     from: u32,
@@ -17,7 +17,7 @@ struct ElementShown<'a> {
 }
 
 /// The last operation of a registrant.
-#[derive(Clone, Copy, Debug, Serialize)]
+#[derive(Clone, Copy, Serialize)]
 pub(crate) struct LastShown<'a> {
     pub(crate) kind: &'a str,
     pub(crate) tag: u64,
@@ -25,14 +25,14 @@ pub(crate) struct LastShown<'a> {
 }
 
 /// A registrant, and what it did last.
-#[derive(Clone, Copy, Debug, Serialize)]
+#[derive(Clone, Copy, Serialize)]
 pub(crate) struct RegistrantShown<'a> {
     pub(crate) name: &'a str,
     pub(crate) last: Option<LastShown<'a>>,
 }
 
 /// A queue with what it holds.
-#[derive(Debug, Drop, Serialize)]
+#[derive(Drop, Serialize)]
 pub(crate) struct QueueShown<'a> {
     number: u32,
     name: &'a str,

@@ -21,14 +21,14 @@ use std::alloc::{AllocError, Global};
 use std::io::Write;
 use std::thread::Threads;
 
-#[derive(Clone, Copy, Debug, Serialize)]
+#[derive(Clone, Copy, Serialize)]
 struct UnitsShown {
     committed: u64,
     aborted: u64,
     cut_off: u64,
 }
 
-#[derive(Debug, Drop, Serialize)]
+#[derive(Drop, Serialize)]
 struct ReportShown<'a> {
     front: FrontShown<'a>,
     units: UnitsShown,

@@ -9,6 +9,7 @@ ghost use Rattle.rq_model.specs.Machine as machine;
 ghost use Rattle.rq_record.specs.Views.{record_of, version_of};
 ghost use Rattle.rq_look.specs.Rules.{takes_arrivals};
 
+use crate::pieces::{write_number, write_numbers};
 use rq_record::{KeptBy, Name, QueueNo, Record, UnitNo, Version};
 use rq_state::{Definition, Registrant, State};
 use std::fmt;
@@ -20,7 +21,7 @@ const QUEUES: usize = 4096;
 const LIMIT: u16 = 1000;
 
 /// A rule that a record breaks.
-#[derive(Clone, Copy, Debug)]
+#[derive(Clone, Copy)]
 pub(crate) enum Rule {
     /// The unit is not open.
     NotOpen(UnitNo),
@@ -49,8 +50,10 @@ pub(crate) enum Rule {
 impl fmt::Display for Rule {
     fn fmt<W: fmt::Write>(&self, f: &mut fmt::Formatter<W>) -> fmt::Result {
         match self {
-            Rule::NotOpen(unit) => write!(f, "unit {} is not open", unit.0),
-            Rule::NotDefined(queue) => write!(f, "queue {} is not defined", queue.0),
+            Rule::NotOpen(unit) => write_number(f, "unit ", unit.0, " is not open"),
+            Rule::NotDefined(queue) => {
+                write_number(f, "queue ", u64::from(queue.0), " is not defined")
+            }
             Rule::NotRegistered(queue, name) => {
                 write!(
                     f,
@@ -60,28 +63,34 @@ impl fmt::Display for Rule {
                 )
             }
             Rule::NotAbove(unit, greatest) => {
-                write!(
-                    f,
-                    "unit {} is not above unit {greatest}, the greatest so far",
-                    unit.0
-                )
+                write_numbers(f, "unit ", unit.0, " is not above unit ", *greatest)?;
+                f.write_str(", the greatest so far")
             }
             Rule::Taken(name) => write!(f, "a queue is named {} already", name.text()),
-            Rule::Full => write!(f, "4096 queues are defined already"),
-            Rule::NoLimit(error) => write!(
-                f,
-                "limit 0 goes with no error queue, and {} is named",
-                error.0
-            ),
-            Rule::NoErrorQueue(limit) => {
-                write!(
+            Rule::Full => f.write_str("4096 queues are defined already"),
+            Rule::NoLimit(error) => {
+                let error = u64::from(error.0);
+                write_number(
                     f,
-                    "limit {limit} goes with an error queue, and none is named"
+                    "limit 0 goes with no error queue, and ",
+                    error,
+                    " is named",
                 )
             }
-            Rule::Above(limit) => write!(f, "limit {limit} is above 1000"),
-            Rule::Nested(error) => write!(f, "error queue {} has an error queue", error.0),
-            Rule::NoKill => write!(f, "version 1 has no kill"),
+            Rule::NoErrorQueue(limit) => {
+                let limit = u64::from(*limit);
+                write_number(
+                    f,
+                    "limit ",
+                    limit,
+                    " goes with an error queue, and none is named",
+                )
+            }
+            Rule::Above(limit) => write_number(f, "limit ", u64::from(*limit), " is above 1000"),
+            Rule::Nested(error) => {
+                write_number(f, "error queue ", u64::from(error.0), " has an error queue")
+            }
+            Rule::NoKill => f.write_str("version 1 has no kill"),
         }
     }
 }

@@ -17,7 +17,7 @@ pub(super) fn along(part: u64, whole: u64, steps: u64) -> u64
 }
 
 // What the number does in one bin: its greatest and its last value there.
-#[derive(Clone, Copy, Debug)]
+#[derive(Clone, Copy)]
 struct Step {
     bin: u64,
     most: u64,

@@ -150,6 +150,35 @@ fn put_legend(text: &mut String, all: &Bin) -> Result<(), AllocError> {
     text.push_str("</ul>\n")
 }
 
+// Puts the records, the checkpoints and what stands behind the front, above an axis.
+fn put_drawing(
+    text: &mut String,
+    seen: &Survey,
+    end: &End,
+    marks: &BTreeMap<u64, bool>,
+) -> Result<(), AllocError> {
+    let (height, total) = (HEIGHT + LINE, end.total);
+    write!(
+        text,
+        "<h2>The log along its length</h2>\n\
+        <svg viewBox=\"0 0 {WIDTH} {height}\" preserveAspectRatio=\"none\" role=\"img\">\n"
+    )?;
+    put_bars(text, &seen.bins)?;
+    put_marks(text, marks)?;
+    put_damage(text, end)?;
+    write!(
+        text,
+        "</svg>\n<div class=\"axis\"><span>0</span><span>{total} bytes</span></div>\n"
+    )
+}
+
+// Puts the kinds that occur.
+fn put_kinds(alloc: Global, text: &mut String, bins: &[Bin]) -> Result<(), AllocError> {
+    let mut all = BTreeMap::new(alloc);
+    totals(&mut all, bins)?;
+    put_legend(text, &all)
+}
+
 /// Puts the log along its length.
 pub(super) fn put_picture(
     alloc: Global,
@@ -158,22 +187,9 @@ pub(super) fn put_picture(
     end: &End,
     checkpoints: &[(u64, bool)],
 ) -> Result<(), AllocError> {
-    let (height, total) = (HEIGHT + LINE, end.total);
     let mut marks = BTreeMap::new(alloc);
-    marked(&mut marks, checkpoints, total)?;
-    let mut all = BTreeMap::new(alloc);
-    totals(&mut all, &seen.bins)?;
-    text.push_str("<h2>The log along its length</h2>\n")?;
-    write!(
-        text,
-        "<svg viewBox=\"0 0 {WIDTH} {height}\" preserveAspectRatio=\"none\" role=\"img\">\n"
-    )?;
-    put_bars(text, &seen.bins)?;
-    put_marks(text, &marks)?;
-    put_damage(text, end)?;
-    write!(
-        text,
-        "</svg>\n<div class=\"axis\"><span>0</span><span>{total} bytes</span></div>\n"
-    )?;
-    put_legend(text, &all)
+    marked(&mut marks, checkpoints, end.total)?;
+    put_drawing(text, seen, end, &marks)?;
+    drop(marks);
+    put_kinds(alloc, text, &seen.bins)
 }

@@ -49,18 +49,22 @@ fn put_row(
     text.push_str("</td></tr>\n")
 }
 
-fn put_element(alloc: Global, text: &mut String, e: &Element) -> Result<(), AllocError> {
+fn put_cells(text: &mut String, e: &Element, payload: &str) -> Result<(), AllocError> {
     let (id, origin) = (e.id.0, e.origin.0);
     let (priority, attempts) = (e.priority, e.attempts);
-    let mut payload = String::new(alloc);
-    put_bytes(alloc, &mut payload, e.payload.bytes(), false)?;
     write!(
         text,
         "<tr><td>{id}</td><td>{origin}</td><td>{priority}</td>\
          <td>{attempts}</td><td class=\"payload\"><bdi>"
     )?;
-    put_text(text, payload.as_str())?;
+    put_text(text, payload)?;
     text.push_str("</bdi></td></tr>\n")
+}
+
+fn put_element(alloc: Global, text: &mut String, e: &Element) -> Result<(), AllocError> {
+    let mut payload = String::new(alloc);
+    put_bytes(alloc, &mut payload, e.payload.bytes(), false)?;
+    put_cells(text, e, payload.as_str())
 }
 
 fn put_elements<W: io::Write>(
