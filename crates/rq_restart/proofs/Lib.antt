@@ -14,4 +14,7 @@ pub mod Counted
 pub mod Tallies
 pub mod Judgings
 pub mod Passes
+pub mod Windows
+pub mod Pieces
+pub mod Headers
 pub mod Keepers

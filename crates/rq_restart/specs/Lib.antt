@@ -4,6 +4,7 @@ pub mod Known
 pub mod Ends
 pub mod Restarts
 pub mod FrontEnds
+pub mod JudgedFronts
 pub mod Tails
 pub mod Upgrades
 pub mod Checkpoints
@@ -11,4 +12,6 @@ pub mod Audits
 pub mod AuditLaws
 pub mod Worth
 pub mod Passes
+pub mod Windows
+pub mod GrowingFronts
 pub mod Keepers
