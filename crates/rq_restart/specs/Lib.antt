@@ -5,6 +5,7 @@ pub mod Ends
 pub mod Restarts
 pub mod FrontEnds
 pub mod JudgedFronts
+pub mod RedoneFronts
 pub mod Tails
 pub mod Upgrades
 pub mod Checkpoints
