@@ -14,8 +14,10 @@ ghost use Rattle.rq_catalog.specs.Judges.{KnowsState, StandsIn, KeepsStanding, N
 
 use crate::error_queues::{is_defined, is_limit, may_kill};
 use crate::registrants::RegisteredNames;
+use crate::start::{errors_of, names_of, open_units_of, registrants_of};
 use indexmap::IndexSet;
 use rq_record::{Fault, KeptBy, KeptName, Name, QueueNo, Record, Version};
+use rq_state::State;
 use std::alloc::Global;
 use std::collections::BTreeSet;
 
@@ -45,6 +47,26 @@ impl Judge {
             greatest: 0,
             units: BTreeSet::new(alloc),
         }
+    }
+
+    /// The judge by the rules of the version, behind the state. Refused with `Resources` alone.
+    pub fn of(alloc: Global, version: Version, state: &State) -> Result<Judge, Fault>
+        ensures stands { IfOk result (λ judge. StandsIn (version_of version) judge state.now) }
+        ensures refused { IfErr result (λ e. e ≡ Resources) }
+    {
+        let definitions = state.definitions();
+        let names = names_of(alloc, definitions)?;
+        let errors = errors_of(alloc, definitions)?;
+        let registrants = registrants_of(alloc, state.registrants())?;
+        let units = open_units_of(alloc, state.units())?;
+        Ok(Judge {
+            version,
+            names,
+            errors,
+            registrants,
+            greatest: state.greatest(),
+            units,
+        })
     }
 
     /// The version by whose rules it judges.

@@ -4,6 +4,8 @@ ghost use Rattle.std.specs.Prelude.{◌≡◌, ℕ, ◌==◌, ◌&&◌, ◌||◌
 ghost use Rattle.std.specs.Prelude.{nat_eq, length, OnOk, Some, None, false, if◌then◌else◌};
 ghost use Rattle.std.specs.List.{list_any};
 ghost use Rattle.std.specs.Cmp.Lexicographic.{pointwise};
+ghost use Rattle.std.specs.Ordering.{nat_cmp};
+ghost use Rattle.std.specs.BTreeSet as ordered;
 ghost use Rattle.indexmap.specs.IndexSet.{contains};
 ghost use Rattle.rq_model.specs.WellFormed.{Ordered, IsWellFormed};
 ghost use Rattle.rq_record.specs.declared.fault.Fault.TheVariants.{Resources};
@@ -22,8 +24,10 @@ use indexmap::IndexSet;
 use rq_record::{Fault, Name, UnitNo};
 use rq_state::{Definition, Element, Mark, Note, Registrant, State};
 use std::alloc::Global;
+use std::collections::BTreeSet;
 
-fn names_of(alloc: Global, definitions: &[Definition]) -> Result<IndexSet<Name>, Fault>
+/// The names of the definitions.
+pub(crate) fn names_of(alloc: Global, definitions: &[Definition]) -> Result<IndexSet<Name>, Fault>
     ensures names { IfOk result (λ names. (n : List ℕ) →
         contains (pointwise nat_eq) names n ≡ list_any (has_name n) definitions.now) }
     ensures refused { IfErr result (λ e. e ≡ Resources) }
@@ -35,7 +39,8 @@ fn names_of(alloc: Global, definitions: &[Definition]) -> Result<IndexSet<Name>,
     Ok(names)
 }
 
-fn errors_of(alloc: Global, definitions: &[Definition]) -> Result<Vec<u32>, Fault>
+/// The error queues of the definitions, in their order.
+pub(crate) fn errors_of(alloc: Global, definitions: &[Definition]) -> Result<Vec<u32>, Fault>
     ensures errors { IfOk result (λ errors. errors.items ≡ map (λ d. d.error) definitions.now) }
     ensures refused { IfErr result (λ e. e ≡ Resources) }
 {
@@ -46,7 +51,11 @@ fn errors_of(alloc: Global, definitions: &[Definition]) -> Result<Vec<u32>, Faul
     Ok(errors)
 }
 
-fn registrants_of(alloc: Global, registrants: &[Registrant]) -> Result<RegisteredNames, Fault>
+/// Who is registered with which queue.
+pub(crate) fn registrants_of(
+    alloc: Global,
+    registrants: &[Registrant],
+) -> Result<RegisteredNames, Fault>
     ensures registered { IfOk result
         (λ roll. (k : ℕ × List ℕ) →
         is_registered_in roll k ≡ list_any (has_key k) registrants.now) }
@@ -57,6 +66,19 @@ fn registrants_of(alloc: Global, registrants: &[Registrant]) -> Result<Registere
         roll.register(registrant.queue.0, &registrant.name)?;
     }
     Ok(roll)
+}
+
+/// The numbers of open units, as a set.
+pub(crate) fn open_units_of(alloc: Global, units: &[UnitNo]) -> Result<BTreeSet<u64>, Fault>
+    ensures units { IfOk result (λ set. (u : ℕ) → ordered.contains nat_cmp set u
+        ≡ list_any (λ v. v == u) (map unit_of units.now)) }
+    ensures refused { IfErr result (λ e. e ≡ Resources) }
+{
+    let mut set = BTreeSet::new(alloc);
+    for unit in units {
+        set.insert(unit.0)?;
+    }
+    Ok(set)
 }
 
 fn units_of(alloc: Global, units: &[UnitNo]) -> Result<Units, Fault>
