@@ -62,22 +62,6 @@ impl KeptElement {
         })
     }
 
-    /// The element that is kept, as a caller takes it apart. `Resources` where memory runs out.
-    pub fn element(&self, alloc: Global) -> Result<Element, Fault>
-        ensures same { IfOk result (λ e. e ≡ self.now) }
-        ensures refused { IfErr result (λ e. e ≡ Resources) }
-    {
-        Ok(Element {
-            id: self.id,
-            home: self.home,
-            origin: self.origin,
-            priority: self.priority,
-            attempts: self.attempts,
-            payload: self.payload.payload(alloc)?,
-            mark: self.mark,
-        })
-    }
-
     /// Its id, as a number.
     pub fn number(&self) -> u64
         ensures { result ≡ self.now.id }
@@ -109,6 +93,24 @@ impl KeptElement {
     }
 }
 
+impl Element {
+    /// The element that is kept, as a caller takes it apart. `Resources` where memory runs out.
+    pub fn of(alloc: Global, kept: &KeptElement) -> Result<Element, Fault>
+        ensures same { IfOk result (λ e. e ≡ kept.now) }
+        ensures refused { IfErr result (λ e. e ≡ Resources) }
+    {
+        Ok(Element {
+            id: kept.id,
+            home: kept.home,
+            origin: kept.origin,
+            priority: kept.priority,
+            attempts: kept.attempts,
+            payload: kept.payload.payload(alloc)?,
+            mark: kept.mark,
+        })
+    }
+}
+
 /// Keeps the elements, in their order. `Resources` where memory runs out.
 pub fn kept_elements(alloc: Global, elements: &[Element]) -> Result<Vec<KeptElement>, Fault>
     ensures kept { IfOk result (λ v. v.items ≡ elements.now) }
@@ -129,7 +131,7 @@ pub fn told_elements(alloc: Global, kept: &[KeptElement]) -> Result<Vec<Element>
 {
     let mut elements = Vec::with_capacity(alloc, kept.len())?;
     for e in kept {
-        elements.push(e.element(alloc)?)?;
+        elements.push(Element::of(alloc, e)?)?;
     }
     Ok(elements)
 }
