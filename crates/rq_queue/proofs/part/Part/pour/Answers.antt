@@ -1,4 +1,4 @@
-use Rattle.std.proofs.Common.{subst, sym, List}
+use Rattle.std.proofs.Common.{subst, sym, ◌∙◌, List}
 use Rattle.std.specs.List.Sorted.{IsPermutation}
 use Rattle.std.proofs.lemmas.List.Sorted.{IsPermutation-refl}
 use Rattle.rq_model.specs.States.{Element, Note, Registrant}
@@ -8,9 +8,11 @@ use Rattle.rq_queue.proofs.part.Part.pour.Goals as goal
 
 pub returns-clause-elements : goal.returns-clause-elements
 returns-clause-elements c =
+    let kept = c.in_ok-kept.kept.items in
     grows _ _ _ _ _ c.add.ensures.elements
-    (subst (λ (p : Part). IsPermutation p.elements c.in_ok-elements.elements.items) c.self.view_is
-    (subst (λ (xs : List Element). IsPermutation _ xs) (sym c.in_ok-elements.ensures.same) c.in_ok-kept.ensures.listed))
+    (subst (λ (xs : List Element). IsPermutation c.args.self.elements xs)
+    (sym (c.in_ok-elements.ensures.same ∙ c.deref.ensures.value))
+    (subst (λ (p : Part). IsPermutation p.elements kept) c.self.view_is c.in_ok-kept.ensures.listed))
 
 pub returns-clause-registrants : goal.returns-clause-registrants
 returns-clause-registrants c =

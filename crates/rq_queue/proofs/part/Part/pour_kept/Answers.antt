@@ -1,7 +1,7 @@
 use Rattle.std.proofs.Common.{subst, List}
 use Rattle.std.specs.List.Sorted.{IsPermutation}
 use Rattle.std.proofs.lemmas.List.Sorted.{IsPermutation-refl}
-use Rattle.rq_model.specs.States.{Element, Note, Registrant}
+use Rattle.rq_model.specs.States.{Note, Registrant}
 use Rattle.rq_model.specs.Queues.{Part}
 use Rattle.rq_queue.proofs.Poured.{grows}
 use Rattle.rq_queue.proofs.part.Part.pour_kept.Goals as goal
