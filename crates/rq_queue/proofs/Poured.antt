@@ -1,5 +1,5 @@
 -- Members that are added make the list grow.
-use Rattle.std.proofs.Common.{◌≡◌, List}
+use Rattle.std.proofs.Common.{List}
 use Rattle.std.specs.Prelude.{Result, Ok, Err}
 use Rattle.std.specs.List.Sorted.{IsPermutation}
 use Rattle.rq_queue.specs.Pouring.{Grows, Joins}
