@@ -10,10 +10,9 @@ use Rattle.rq_model.specs.Laws.{begun}
 use Rattle.rq_model.specs.States.{State}
 use Rattle.rq_model.specs.Machine.{is_lawful, all_lawful, lawful_front, is_defined, is_open, is_known, run, outcome}
 use Rattle.rq_model.specs.WellFormed.{IsWellFormed}
-use Rattle.rq_record.specs.declared.record.Record.{Record}
-use Rattle.rq_record.specs.declared.record.Record.TheVariants.{Define, Register, Deregister, Begin, Enqueue, Dequeue}
-use Rattle.rq_record.specs.declared.record.Record.TheVariants.{Commit, Abort, Checkpoint, Kill}
-use Rattle.rq_record.specs.Views.{record_of}
+use Rattle.rq_record.specs.declared.record.RecordOf.TheVariants.{Define, Register, Deregister, Begin, Enqueue, Dequeue}
+use Rattle.rq_record.specs.declared.record.RecordOf.TheVariants.{Commit, Abort, Checkpoint, Kill}
+use Rattle.rq_record.specs.Views.{Record, record_of}
 use Rattle.rq_catalog.specs.declared.catalogue.Catalogue.{Catalogue}
 use Rattle.rq_catalog.specs.Lists.{numbered}
 use Rattle.rq_state.specs.Orders.{listed}

@@ -6,8 +6,7 @@ use Rattle.std.proofs.lemmas.Bool.{and_from, lt-ltb, le-ltb}
 use Rattle.std.proofs.Math.Seq.{take-append_seam}
 use Rattle.std.proofs.lemmas.List.{length-map, take_at, take-map}
 use Rattle.rq_model.specs.Records.{Record, Version, One, Two}
-use Rattle.rq_record.specs.declared.record.Record.{Record as Own}
-use Rattle.rq_record.specs.Views.{record_of}
+use Rattle.rq_record.specs.Views.{Record as Own, record_of}
 use Rattle.rq_model.specs.States.{State}
 use Rattle.rq_model.specs.Machine.{step, run, is_lawful, all_lawful, lawful_front, outcome}
 use Rattle.rq_model.specs.Laws.{VersionTwoIsWider}

@@ -19,10 +19,9 @@ use Rattle.rq_model.proofs.Lists.{by_cases, each_weaker}
 use Rattle.rq_model.proofs.WellFormedRuns.{any_put}
 use Rattle.rq_model.proofs.Decided.{any_map, element_homes, note_queues, registrant_queues}
 use Rattle.rq_model.proofs.Kept.{runs_are_well_formed}
-use Rattle.rq_record.specs.declared.record.Record.{Record}
-use Rattle.rq_record.specs.declared.record.Record.TheVariants.{Define, Register, Deregister, Begin, Enqueue, Dequeue}
-use Rattle.rq_record.specs.declared.record.Record.TheVariants.{Commit, Abort, Checkpoint, Kill}
-use Rattle.rq_record.specs.Views.{record_of}
+use Rattle.rq_record.specs.declared.record.RecordOf.TheVariants.{Define, Register, Deregister, Begin, Enqueue, Dequeue}
+use Rattle.rq_record.specs.declared.record.RecordOf.TheVariants.{Commit, Abort, Checkpoint, Kill}
+use Rattle.rq_record.specs.Views.{Record, record_of}
 use Rattle.rq_catalog.specs.declared.outcome.Outcome.{Outcome}
 use Rattle.rq_catalog.specs.declared.outcome.Outcome.TheVariants.{Committed, Aborted, Open}
 use Rattle.rq_catalog.specs.declared.catalogue.Catalogue.{Catalogue}

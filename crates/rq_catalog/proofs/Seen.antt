@@ -16,11 +16,10 @@ use Rattle.rq_model.specs.WellFormed.{Ordered, IsWellFormed}
 use Rattle.rq_model.specs.Laws.{begun, is_still_open}
 use Rattle.rq_model.proofs.Lists.{filter_same, each_weaker, each_append}
 use Rattle.rq_model.proofs.Numbers.{numbers_after}
-use Rattle.rq_record.specs.declared.record.Record.{Record}
-use Rattle.rq_record.specs.declared.record.Record.TheVariants.{Define, Register, Deregister, Begin, Enqueue, Dequeue}
-use Rattle.rq_record.specs.declared.record.Record.TheVariants.{Commit, Abort, Checkpoint, Kill}
+use Rattle.rq_record.specs.declared.record.RecordOf.TheVariants.{Define, Register, Deregister, Begin, Enqueue, Dequeue}
+use Rattle.rq_record.specs.declared.record.RecordOf.TheVariants.{Commit, Abort, Checkpoint, Kill}
 use Rattle.rq_record.specs.declared.record.UnitNo.{UnitNo}
-use Rattle.rq_record.specs.Views.{record_of}
+use Rattle.rq_record.specs.Views.{Record, record_of}
 use Rattle.rq_state.specs.Views.{unit_of}
 use Rattle.rq_catalog.specs.declared.outcome.Outcome.TheVariants.{Open}
 use Rattle.rq_catalog.specs.Catalogues.{begun_after}

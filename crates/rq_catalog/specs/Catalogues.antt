@@ -12,10 +12,10 @@ use Rattle.std.specs.List.{list_any, AllByRecursion}
 use Rattle.std.specs.Str.{bytes_eq}
 use Rattle.rq_model.specs.Laws.{begun}
 use Rattle.rq_model.specs.Queues.{is_engaged, engages}
-use Rattle.rq_record.specs.declared.record.Record.{Record}
-use Rattle.rq_record.specs.declared.record.Record.TheVariants.{Define, Register, Deregister, Begin}
-use Rattle.rq_record.specs.declared.record.Record.TheVariants.{Enqueue, Dequeue, Commit, Abort}
-use Rattle.rq_record.specs.declared.record.Record.TheVariants.{Checkpoint, Kill}
+use Rattle.rq_record.specs.Views.{Record}
+use Rattle.rq_record.specs.declared.record.RecordOf.TheVariants.{Define, Register, Deregister, Begin}
+use Rattle.rq_record.specs.declared.record.RecordOf.TheVariants.{Enqueue, Dequeue, Commit, Abort}
+use Rattle.rq_record.specs.declared.record.RecordOf.TheVariants.{Checkpoint, Kill}
 use Rattle.rq_catalog.specs.Outcomes.{is_open_in, outcome_of}
 use Rattle.rq_catalog.specs.Lists.{numbered}
 use Rattle.rq_catalog.specs.Registered.{key_eq, is_registered_in, is_known_in}

@@ -9,9 +9,8 @@ use Rattle.indexmap.specs.IndexSet.{contains}
 use Rattle.rq_model.specs.Records.{Version}
 use Rattle.rq_model.specs.States.{State, Definition}
 use Rattle.rq_model.specs.Machine.{is_open, is_registered}
-use Rattle.rq_record.specs.Views.{version_of}
-use Rattle.rq_record.specs.declared.record.Record.{Record}
-use Rattle.rq_record.specs.declared.record.Record.TheVariants.{Begin, Commit, Abort}
+use Rattle.rq_record.specs.Views.{Record, version_of}
+use Rattle.rq_record.specs.declared.record.RecordOf.TheVariants.{Begin, Commit, Abort}
 use Rattle.rq_catalog.specs.declared.judge.Judge.{Judge}
 use Rattle.rq_catalog.specs.Registered.{is_registered_in}
 use Rattle.rq_catalog.specs.Catalogues.{names_after, errors_after, registered_after}

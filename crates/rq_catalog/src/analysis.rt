@@ -16,7 +16,7 @@ ghost use Rattle.rq_catalog.specs.Analyses.{IsAnalysis, outcome_in, open_in, tou
 use crate::catalogue::Catalogue;
 use crate::outcome::Outcome;
 use crate::start::catalogue_of;
-use rq_record::{Fault, QueueNo, Record, UnitNo, Version};
+use rq_record::{Fault, KeptRecord, QueueNo, Record, UnitNo, Version, kept_records};
 use rq_state::State;
 use std::alloc::Global;
 
@@ -51,6 +51,22 @@ pub fn analyse_in(
         (IsAnalysis (version_of version) state.now (map record_of records.now)) }
     ensures refused { IfErr result (λ e. e ≡ Resources) }
 {
+    let kept = kept_records(alloc, records)?;
+    analyse_kept(alloc, version, state, &kept)
+}
+
+/// The same of records that are kept, of which nothing is copied.
+pub fn analyse_kept(
+    alloc: Global,
+    version: Version,
+    state: &State,
+    records: &[KeptRecord],
+) -> Result<Analysis, Fault>
+    requires { state.now.next + length records.now < 2 ^ 64 }
+    ensures analysis { IfOk result
+        (IsAnalysis (version_of version) state.now (map record_of records.now)) }
+    ensures refused { IfErr result (λ e. e ≡ Resources) }
+{
     state.is_well_formed();
     let none = Analysis {
         lawful: 0,
@@ -68,7 +84,7 @@ impl Analysis {
         alloc: Global,
         version: Version,
         state: &State,
-        records: &[Record],
+        records: &[KeptRecord],
     ) -> Result<Analysis, Fault>
         requires fits { state.now.next + length records.now < 2 ^ 64 }
         requires within { self.lawful ≤ length records.now }

@@ -20,7 +20,7 @@ use crate::outcome::Outcome;
 use crate::registrants::RegisteredNames;
 use crate::units::Units;
 use indexmap::IndexSet;
-use rq_record::{Fault, KeptBy, Name, QueueNo, Record, Version};
+use rq_record::{Fault, KeptBy, KeptRecord, Name, QueueNo, Version};
 use std::alloc::Global;
 
 /// What lawfulness looks at, which is queues, registrants and units, and what is noted on the way:
@@ -53,29 +53,29 @@ impl Catalogue {
     }
 
     /// Whether the record is lawful here, by the rules of the version.
-    pub(crate) fn may_take(&self, version: Version, next: &Record) -> bool
+    pub(crate) fn may_take(&self, version: Version, next: &KeptRecord) -> bool
         ensures { result ≡ may_take (version_of version) self.now next.now }
     {
         match next {
-            Record::Define { limit, error, name } => {
+            KeptRecord::Define { limit, error, name } => {
                 is_limit(version, &self.errors, *limit, *error)
                     && self.errors.len() < 4096
                     && !self.names.contains(&name.name())
             }
-            Record::Register { queue, .. } => is_defined(&self.errors, queue.0),
-            Record::Deregister { queue, name } => self.registrants.has(queue.0, name),
-            Record::Begin { unit } => self.greatest < unit.0,
-            Record::Enqueue {
+            KeptRecord::Register { queue, .. } => is_defined(&self.errors, queue.0),
+            KeptRecord::Deregister { queue, name } => self.registrants.has(queue.0, name),
+            KeptRecord::Begin { unit } => self.greatest < unit.0,
+            KeptRecord::Enqueue {
                 unit,
                 queue,
                 by,
                 ..
             } => self.may_engage(unit.0, queue.0, by),
-            Record::Dequeue { unit, queue, by } => self.may_engage(unit.0, queue.0, by),
-            Record::Commit { unit } => self.is_open(unit.0),
-            Record::Abort { unit } => self.is_open(unit.0),
-            Record::Checkpoint { .. } => true,
-            Record::Kill { queue, .. } => may_kill(version, &self.errors, *queue),
+            KeptRecord::Dequeue { unit, queue, by } => self.may_engage(unit.0, queue.0, by),
+            KeptRecord::Commit { unit } => self.is_open(unit.0),
+            KeptRecord::Abort { unit } => self.is_open(unit.0),
+            KeptRecord::Checkpoint { .. } => true,
+            KeptRecord::Kill { queue, .. } => may_kill(version, &self.errors, *queue),
         }
     }
 
@@ -83,7 +83,7 @@ impl Catalogue {
     pub(crate) fn take(
         &mut self,
         alloc: Global,
-        next: &Record,
+        next: &KeptRecord,
         op: (u64, usize),
     ) -> Result<(), Fault>
         requires room { HasRoom self.old op.0 }
@@ -92,31 +92,31 @@ impl Catalogue {
         ensures refused { IfErr result (λ e. e ≡ Resources) }
     {
         match next {
-            Record::Define { error, name, .. } => self.define(alloc, *error, name.name()),
-            Record::Register { queue, name } => {
+            KeptRecord::Define { error, name, .. } => self.define(alloc, *error, name.name()),
+            KeptRecord::Register { queue, name } => {
                 self.registrants.register(queue.0, &name.name())?;
                 touch(&mut self.touching, queue.0, op)
             }
-            Record::Deregister { queue, name } => {
+            KeptRecord::Deregister { queue, name } => {
                 self.registrants.deregister(queue.0, name);
                 touch(&mut self.touching, queue.0, op)
             }
-            Record::Begin { unit } => {
+            KeptRecord::Begin { unit } => {
                 self.greatest = unit.0;
                 self.units.begin(alloc, unit.0)
             }
-            Record::Enqueue { unit, queue, .. } => self.engage(unit.0, queue.0, op),
-            Record::Dequeue { unit, queue, .. } => self.engage(unit.0, queue.0, op),
-            Record::Commit { unit } => {
+            KeptRecord::Enqueue { unit, queue, .. } => self.engage(unit.0, queue.0, op),
+            KeptRecord::Dequeue { unit, queue, .. } => self.engage(unit.0, queue.0, op),
+            KeptRecord::Commit { unit } => {
                 self.committed += 1;
                 self.close(alloc, unit.0, Outcome::Committed(op.0), op)
             }
-            Record::Abort { unit } => {
+            KeptRecord::Abort { unit } => {
                 self.aborted += 1;
                 self.close(alloc, unit.0, Outcome::Aborted(op.0), op)
             }
-            Record::Checkpoint { .. } => Ok(()),
-            Record::Kill { queue, .. } => touch(&mut self.touching, queue.0, op),
+            KeptRecord::Checkpoint { .. } => Ok(()),
+            KeptRecord::Kill { queue, .. } => touch(&mut self.touching, queue.0, op),
         }
     }
 

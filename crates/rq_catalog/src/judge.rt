@@ -16,7 +16,7 @@ use crate::error_queues::{is_defined, is_limit, may_kill};
 use crate::registrants::RegisteredNames;
 use crate::start::{errors_of, names_of, open_units_of, registrants_of};
 use indexmap::IndexSet;
-use rq_record::{Fault, KeptBy, KeptName, Name, QueueNo, Record, Version};
+use rq_record::{Fault, KeptBy, KeptName, KeptRecord, Name, QueueNo, Version};
 use rq_state::State;
 use std::alloc::Global;
 use std::collections::BTreeSet;
@@ -79,7 +79,7 @@ impl Judge {
 
     /// Whether the record is lawful behind those that were taken; where it is, it is taken. Refused
     /// with `Resources` alone, and then nothing is taken.
-    pub fn take(&mut self, next: &Record) -> Result<bool, Fault>
+    pub fn take(&mut self, next: &KeptRecord) -> Result<bool, Fault>
         ensures lawful { IfOk result
             (λ lawful. (version : records.Version) (s : State) → StandsIn version self.old s
             → lawful ≡ machine.is_lawful version s (record_of next.now)) }
@@ -97,30 +97,30 @@ impl Judge {
         Ok(is_lawful)
     }
 
-    fn may_take(&self, next: &Record) -> bool
+    fn may_take(&self, next: &KeptRecord) -> bool
         ensures { (s : State) → KnowsState self.now s
             → result ≡ machine.is_lawful (version_of self.now.version) s (record_of next.now) }
     {
         match next {
-            Record::Define { limit, error, name } => {
+            KeptRecord::Define { limit, error, name } => {
                 self.is_limit(*limit, *error)
                     && self.errors.len() < 4096
                     && !self.names.contains(&name.name())
             }
-            Record::Register { queue, .. } => self.is_defined(*queue),
-            Record::Deregister { queue, name } => self.is_registered(*queue, name),
-            Record::Begin { unit } => self.greatest < unit.0,
-            Record::Enqueue {
+            KeptRecord::Register { queue, .. } => self.is_defined(*queue),
+            KeptRecord::Deregister { queue, name } => self.is_registered(*queue, name),
+            KeptRecord::Begin { unit } => self.greatest < unit.0,
+            KeptRecord::Enqueue {
                 unit,
                 queue,
                 by,
                 ..
             } => self.may_engage(unit.0, *queue, by),
-            Record::Dequeue { unit, queue, by } => self.may_engage(unit.0, *queue, by),
-            Record::Commit { unit } => self.units.contains(&unit.0),
-            Record::Abort { unit } => self.units.contains(&unit.0),
-            Record::Checkpoint { .. } => true,
-            Record::Kill { queue, .. } => self.may_kill(*queue),
+            KeptRecord::Dequeue { unit, queue, by } => self.may_engage(unit.0, *queue, by),
+            KeptRecord::Commit { unit } => self.units.contains(&unit.0),
+            KeptRecord::Abort { unit } => self.units.contains(&unit.0),
+            KeptRecord::Checkpoint { .. } => true,
+            KeptRecord::Kill { queue, .. } => self.may_kill(*queue),
         }
     }
 
@@ -167,29 +167,31 @@ impl Judge {
     }
 
     // Takes a record that is lawful.
-    fn note(&mut self, next: &Record) -> Result<(), Fault>
+    fn note(&mut self, next: &KeptRecord) -> Result<(), Fault>
         ensures notes { OnOk result (Notes self.old self.new next.now) }
         ensures version { self.new.version ≡ self.old.version }
         ensures refused { IfErr result (λ e. e ≡ Resources) }
         ensures kept { IfErr result (λ e. KeepsStanding self.old self.new) }
     {
         match next {
-            Record::Define { error, name, .. } => self.define(*error, name.name()),
-            Record::Register { queue, name } => { self.registrants.register(queue.0, &name.name()) }
-            Record::Deregister { queue, name } => {
+            KeptRecord::Define { error, name, .. } => self.define(*error, name.name()),
+            KeptRecord::Register { queue, name } => {
+                self.registrants.register(queue.0, &name.name())
+            }
+            KeptRecord::Deregister { queue, name } => {
                 self.registrants.deregister(queue.0, name);
                 Ok(())
             }
-            Record::Begin { unit } => {
+            KeptRecord::Begin { unit } => {
                 self.units.insert(unit.0)?;
                 self.greatest = unit.0;
                 Ok(())
             }
-            Record::Commit { unit } => {
+            KeptRecord::Commit { unit } => {
                 self.units.remove(&unit.0);
                 Ok(())
             }
-            Record::Abort { unit } => {
+            KeptRecord::Abort { unit } => {
                 self.units.remove(&unit.0);
                 Ok(())
             }

@@ -11,6 +11,6 @@ mod registrants;
 mod start;
 mod units;
 
-pub use analysis::{Analysis, analyse, analyse_in, indices};
+pub use analysis::{Analysis, analyse, analyse_in, analyse_kept, indices};
 pub use judge::Judge;
 pub use outcome::Outcome;

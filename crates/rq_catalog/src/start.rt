@@ -22,7 +22,7 @@ use crate::registrants::RegisteredNames;
 use crate::units::Units;
 use indexmap::IndexSet;
 use rq_record::{Fault, Name, UnitNo};
-use rq_state::{Definition, Element, Mark, Note, Registrant, State};
+use rq_state::{Definition, KeptElement, Mark, Note, Registrant, State};
 use std::alloc::Global;
 use std::collections::BTreeSet;
 
@@ -96,7 +96,7 @@ fn units_of(alloc: Global, units: &[UnitNo]) -> Result<Units, Fault>
     Ok(begun)
 }
 
-fn engage_by_mark(units: &mut Units, element: &Element) -> Result<(), Fault>
+fn engage_by_mark(units: &mut Units, element: &KeptElement) -> Result<(), Fault>
     ensures numbers { numbers units.new ≡ numbers units.old }
     ensures outcomes { (u : ℕ) → outcome_at units.new u ≡ outcome_at units.old u }
     ensures engaged { OnOk result ((u q : ℕ) → engages_at units.new u q
@@ -110,7 +110,7 @@ fn engage_by_mark(units: &mut Units, element: &Element) -> Result<(), Fault>
     }
 }
 
-fn engage_by_marks(units: &mut Units, elements: &[Element]) -> Result<(), Fault>
+fn engage_by_marks(units: &mut Units, elements: &[KeptElement]) -> Result<(), Fault>
     ensures numbers { numbers units.new ≡ numbers units.old }
     ensures outcomes { (u : ℕ) → outcome_at units.new u ≡ outcome_at units.old u }
     ensures engaged { OnOk result ((u q : ℕ) → engages_at units.new u q

@@ -7,7 +7,7 @@ ghost use Rattle.rq_model.specs.MoveLaws.{earlier};
 
 use crate::outboxes::Outbox;
 use itertools::{Itertools, MergePredicate};
-use rq_queue::Move;
+use rq_queue::KeptMove;
 use rq_record::Fault;
 use std::alloc::Global;
 
@@ -15,19 +15,19 @@ use std::alloc::Global;
 #[derive(Clone, Copy)]
 struct Earlier;
 
-impl MergePredicate<Move> for Earlier {
+impl MergePredicate<KeptMove> for Earlier {
     ghost can_test = { λ _. ⊤ };
 
     ghost computes = { λ _ first. first ≡ earlier };
 
-    fn is_first(&mut self, left: &Move, right: &Move) -> bool {
+    fn is_first(&mut self, left: &KeptMove, right: &KeptMove) -> bool {
         left.place() < right.place()
             || left.place() == right.place() && left.element.number() < right.element.number()
     }
 }
 
 /// The moves of all lists, each in order, in one order.
-pub(crate) fn merged(alloc: Global, lists: Vec<Vec<Move>>) -> Result<Vec<Move>, Fault>
+pub(crate) fn merged(alloc: Global, lists: Vec<Vec<KeptMove>>) -> Result<Vec<KeptMove>, Fault>
     requires { All (λ l. IsSortedBy earlier l.items) lists.items }
     ensures permutation { IfOk result
         (λ v. IsPermutation (flat_map (λ l. l.items) lists.items) v.items) }
@@ -39,7 +39,7 @@ pub(crate) fn merged(alloc: Global, lists: Vec<Vec<Move>>) -> Result<Vec<Move>, 
 }
 
 /// What was handed in, without its boxes.
-pub(crate) fn opened(alloc: Global, boxes: Vec<Outbox>) -> Result<Vec<Vec<Move>>, Fault>
+pub(crate) fn opened(alloc: Global, boxes: Vec<Outbox>) -> Result<Vec<Vec<KeptMove>>, Fault>
     ensures lists { IfOk result
         (λ v. map (λ l. l.items) v.items ≡ map (λ b. b.moves.items) boxes.items) }
     ensures refused { IfErr result (λ e. e ≡ Resources) }

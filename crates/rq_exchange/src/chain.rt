@@ -16,8 +16,8 @@ use crate::jobs::Job;
 use crate::outboxes::{Outbox, Target};
 use diary::{Diary, Listing};
 use rq_pool::{Arrival, Countdown, Pass};
-use rq_queue::Move;
-use rq_record::{Fault, Record};
+use rq_queue::KeptMove;
+use rq_record::{Fault, KeptRecord};
 use rq_state::State;
 use std::alloc::Global;
 use std::collections::LinkedList;
@@ -39,7 +39,7 @@ impl CountdownChain {
         passes: &mut [Pass<Outbox>],
         queue: u32,
         error: u32,
-        moves: Vec<Move>,
+        moves: Vec<KeptMove>,
     ) -> Option<Vec<Outbox>>
         requires job { IsJob job.now }
         requires chain { IsChainOf job.now self.now }
@@ -69,13 +69,13 @@ impl CountdownChain {
 #[derive(Drop)]
 struct Aim<'a> {
     state: &'a State,
-    records: &'a [Record],
+    records: &'a [KeptRecord],
     sources: &'a [u32],
 }
 
 struct Due;
 
-impl<'a> Listing<Aim<'a>, LinkedList<Move>> for Due {
+impl<'a> Listing<Aim<'a>, LinkedList<KeptMove>> for Due {
     ghost use Rattle.std.specs.Prelude.{map};
     ghost use Rattle.rq_model.specs.Queues as queues;
     ghost use Rattle.rq_record.specs.Views.{record_of};

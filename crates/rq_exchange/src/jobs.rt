@@ -14,8 +14,8 @@ ghost use Rattle.rq_exchange.specs.Chains.{AreBoxes, IsRedone};
 use crate::arrivals::{merged, opened};
 use crate::outboxes::{Outbox, Redone};
 use rq_catalog::Analysis;
-use rq_queue::{Move, Op, Part, redo};
-use rq_record::{Fault, QueueNo, Record};
+use rq_queue::{KeptMove, KeptOp, Part, redo_kept};
+use rq_record::{Fault, KeptRecord, QueueNo};
 use rq_state::{Definition, State};
 use std::alloc::Global;
 
@@ -23,7 +23,7 @@ use std::alloc::Global;
 #[derive(Drop)]
 pub(crate) struct Job<'a> {
     pub state: &'a State,
-    pub records: &'a [Record],
+    pub records: &'a [KeptRecord],
     pub analysis: &'a Analysis,
     pub definitions: &'a [Definition],
     pub sources: &'a [Vec<u32>],
@@ -33,9 +33,9 @@ pub(crate) struct Job<'a> {
 // The operations at these places and indices.
 fn ops_of<'a>(
     alloc: Global,
-    records: &'a [Record],
+    records: &'a [KeptRecord],
     touching: &[(u64, usize)],
-) -> Result<Vec<Op<'a>>, Fault>
+) -> Result<Vec<KeptOp<'a>>, Fault>
     requires { All (λ p. p.1 < length records.now) touching.now }
     ensures ops { IfOk result (λ v. (d : ModelRecord) →
         v.items ≡ map (op_again (map record_of records.now) d) touching.now) }
@@ -43,7 +43,7 @@ fn ops_of<'a>(
 {
     let mut ops = Vec::with_capacity(alloc, touching.len())?;
     for (place, index) in touching {
-        ops.push(Op {
+        ops.push(KeptOp {
             place: *place,
             rec: &records[*index],
         })?;
@@ -94,7 +94,7 @@ impl Job<'_> {
         alloc: Global,
         boxes: Vec<Outbox>,
         queue: u32,
-    ) -> Result<(Redone, Vec<Move>), Fault>
+    ) -> Result<(Redone, Vec<KeptMove>), Fault>
         requires job { IsJob self.now }
         requires defined { queue < length self.now.definitions.now }
         requires boxes { AreBoxes self.now queue boxes.items }
@@ -111,7 +111,7 @@ impl Job<'_> {
         let arrivals = merged(alloc, lists)?;
         let ops = ops_of(alloc, self.records, self.analysis.touching(QueueNo(queue)))?;
         let before = self.part_before(alloc, queue)?;
-        let (part, moves) = redo(alloc, before, &ops, arrivals)?;
+        let (part, moves) = redo_kept(alloc, before, &ops, arrivals)?;
         Ok((Redone { queue, part }, moves))
     }
 }

@@ -21,4 +21,4 @@ mod settling;
 
 pub use course::Course;
 pub use gathering::AllRedone;
-pub use replaying::{redo_analysed, replay, replay_analysed, replay_traced};
+pub use replaying::{redo_analysed, replay, replay_analysed, replay_kept, replay_traced};

@@ -4,7 +4,7 @@ ghost use Rattle.std.specs.Prelude.{◌≡◌, [], slice_index_or};
 
 use diary::Diary;
 use rq_pool::Fits;
-use rq_queue::{Move, Part};
+use rq_queue::{KeptMove, Part};
 use std::collections::LinkedList;
 
 /// A queue that was redone, and its part after the run.
@@ -17,13 +17,13 @@ pub(crate) struct Redone {
 /// What left a queue.
 #[derive(Drop)]
 pub struct Outbox {
-    pub moves: Vec<Move>,
+    pub moves: Vec<KeptMove>,
 }
 
 /// What each source of an error queue is to hand in, for contracts alone.
 #[derive(Drop)]
 pub struct Target {
-    pub due: Diary<LinkedList<Move>>,
+    pub due: Diary<LinkedList<KeptMove>>,
 }
 
 impl Fits for Outbox {

@@ -9,7 +9,7 @@ ghost use Rattle.rq_journal.specs.Appenders.{Refuses, Stays, StopsAt, Takes, Tak
 use crate::framing::append_frame;
 use rq_catalog::Judge;
 use rq_front::{FRAME_LEN, HEADER_LEN, LOG_LIMIT};
-use rq_record::{Record, Version, encode};
+use rq_record::{KeptRecord, Record, Version, encode};
 use std::alloc::Global;
 
 /// Why a record is not taken.
@@ -69,6 +69,9 @@ impl Appender {
         let Ok(()) = encode(next, &mut body) else {
             return Err(NotTaken::Resources);
         };
+        let Ok(kept) = KeptRecord::of(alloc, next) else {
+            return Err(NotTaken::Resources);
+        };
         let size = FRAME_LEN + body.len();
         if size > LOG_LIMIT.saturating_sub(self.len) {
             return Err(NotTaken::Full);
@@ -76,7 +79,7 @@ impl Appender {
         let Ok(last) = append_frame(&self.last, &body, out) else {
             return Err(NotTaken::Resources);
         };
-        match self.judge.take(next) {
+        match self.judge.take(&kept) {
             Ok(true) => {
                 self.last = last;
                 self.len += size;

@@ -7,12 +7,12 @@ ghost use Rattle.rq_queue.specs.Kept.{sent_from};
 ghost use Rattle.rq_queue.specs.Sorted.{sorted};
 ghost use Rattle.rq_record.specs.declared.fault.Fault.TheVariants.{Resources};
 
-use crate::moves::Move;
+use crate::moves::KeptMove;
 use rq_record::Fault;
-use rq_state::{Definition, Element};
+use rq_state::{Definition, KeptElement};
 
 /// Elements of distinct ids, by id.
-pub(crate) fn in_order(elements: Vec<Element>) -> Vec<Element>
+pub(crate) fn in_order(elements: Vec<KeptElement>) -> Vec<KeptElement>
     requires { Ordered (λ (e f : model.Element). e.id < f.id) (sorted elements.items) }
     ensures { result.items ≡ sorted elements.items }
 {
@@ -23,17 +23,17 @@ pub(crate) fn in_order(elements: Vec<Element>) -> Vec<Element>
 
 /// Adds the elements to the moves, as they arrive in the error queue.
 pub(crate) fn send(
-    leaving: Vec<Element>,
+    leaving: Vec<KeptElement>,
     place: u64,
     home: &Definition,
-    sent: &mut Vec<Move>,
+    sent: &mut Vec<KeptMove>,
 ) -> Result<(), Fault>
     ensures sent { OnOk result
         (sent.new.items ≡ sent.old.items ++ sent_from place home.now leaving.items) }
     ensures refused { IfErr result (λ e. e ≡ Resources) }
 {
     for e in leaving {
-        sent.push(Move {
+        sent.push(KeptMove {
             place,
             element: e.moved(home),
         })?;

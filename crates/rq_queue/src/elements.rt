@@ -12,13 +12,13 @@ ghost use Rattle.rq_record.specs.declared.fault.Fault.TheVariants.{Resources};
 ghost use Rattle.rq_state.specs.Views.{id_of};
 
 use crate::departures::{in_order, send};
-use crate::moves::Move;
+use crate::moves::KeptMove;
 use crate::priorities::{kept_with, known, without};
 use crate::shelves::{
     Rank, all_freed, all_returned, free_list, freed, mapped, parted, stow, taken, with_marked,
 };
 use rq_record::{ElemId, Fault, KeptPayload, QueueNo, UnitNo};
-use rq_state::{Definition, Element, Mark};
+use rq_state::{Definition, KeptElement, Mark};
 use std::alloc::Global;
 use std::collections::BTreeMap;
 use std::marker::Model;
@@ -32,8 +32,8 @@ use std::marker::Model;
 /// a KILL keeps none.
 #[derive(Drop)]
 pub(crate) struct Elements {
-    free: BTreeMap<Rank, Element>,
-    marked: BTreeMap<u64, Vec<Element>>,
+    free: BTreeMap<Rank, KeptElement>,
+    marked: BTreeMap<u64, Vec<KeptElement>>,
     priorities: Option<BTreeMap<u64, u8>>,
 }
 
@@ -63,7 +63,7 @@ impl Elements {
     }
 
     /// These elements, whose ids rise.
-    pub(crate) fn of(alloc: Global, items: Vec<Element>) -> Result<Elements, Fault>
+    pub(crate) fn of(alloc: Global, items: Vec<KeptElement>) -> Result<Elements, Fault>
         requires { Ordered (λ (e f : model.Element). e.id < f.id) items.items }
         ensures done { IfOk result (λ v. v ≡ items.items) }
         ensures refused { IfErr result (λ e. e ≡ Resources) }
@@ -78,7 +78,7 @@ impl Elements {
     }
 
     /// All of them, in some order.
-    pub(crate) fn list(self, alloc: Global) -> Result<Vec<Element>, Fault>
+    pub(crate) fn list(self, alloc: Global) -> Result<Vec<KeptElement>, Fault>
         ensures listed { IfOk result (λ v. IsPermutation self v.items) }
         ensures refused { IfErr result (λ e. e ≡ Resources) }
     {
@@ -87,7 +87,7 @@ impl Elements {
     }
 
     /// Puts in an element of a new id.
-    pub(crate) fn put(self, alloc: Global, e: Element) -> Result<Elements, Fault>
+    pub(crate) fn put(self, alloc: Global, e: KeptElement) -> Result<Elements, Fault>
         requires { AllByRecursion (λ (x : model.Element). x.id ≢ e.id) self }
         ensures done { IfOk result (λ v. v ≡ model.put model.id_before e self) }
         ensures refused { IfErr result (λ e. e ≡ Resources) }
@@ -115,7 +115,7 @@ impl Elements {
     }
 
     // Adds an element whose id is greater than those of the others.
-    fn push(self, alloc: Global, e: Element) -> Result<Elements, Fault>
+    fn push(self, alloc: Global, e: KeptElement) -> Result<Elements, Fault>
         requires { AllByRecursion (λ (x : model.Element). x.id < e.id) self }
         ensures done { IfOk result (λ v. v ≡ self ++ e ∷ []) }
         ensures refused { IfErr result (λ e. e ≡ Resources) }
@@ -138,7 +138,7 @@ impl Elements {
             (λ v. v ≡ self ++ machine.new_element place unit.0 queue.0 priority payload.now ∷ []) }
         ensures refused { IfErr result (λ e. e ≡ Resources) }
     {
-        let e = Element::fresh(place, unit, queue, priority, payload.copied()?);
+        let e = KeptElement::fresh(place, unit, queue, priority, payload.copied()?);
         self.push(alloc, e)
     }
 
@@ -204,7 +204,7 @@ impl Elements {
         place: u64,
         unit: UnitNo,
         home: &Definition,
-        sent: &mut Vec<Move>,
+        sent: &mut Vec<KeptMove>,
     ) -> Result<Elements, Fault>
         requires { AllByRecursion (λ (e : model.Element). e.attempts + 1 < 2 ^ 64) self }
         ensures kept { IfOk result

@@ -13,13 +13,14 @@ mod notes;
 mod operations;
 mod part;
 mod places;
+mod pouring;
 mod priorities;
 mod redoing;
 mod registrants;
 mod shelves;
 mod whose;
 
-pub use moves::Move;
-pub use operations::Op;
+pub use moves::{KeptMove, Move};
+pub use operations::{KeptOp, Op};
 pub use part::Part;
-pub use redoing::redo;
+pub use redoing::{redo, redo_kept};

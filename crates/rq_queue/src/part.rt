@@ -12,12 +12,13 @@ ghost use Rattle.rq_queue.specs.Pouring.{Grows};
 ghost use Rattle.rq_record.specs.declared.fault.Fault.TheVariants.{Resources};
 
 use crate::elements::Elements;
-use crate::moves::Move;
+use crate::moves::KeptMove;
 use crate::notes::Notes;
-use crate::operations::Op;
+use crate::operations::KeptOp;
+use crate::pouring::add;
 use crate::registrants::Registrants;
-use rq_record::{ElemId, Fault, KeptBy, KeptPayload, Name, QueueNo, Record, UnitNo};
-use rq_state::{Definition, Fields, OpKind, State};
+use rq_record::{ElemId, Fault, KeptBy, KeptPayload, KeptRecord, Name, QueueNo, UnitNo};
+use rq_state::{Definition, Fields, KeptFields, OpKind, State, told_elements};
 use std::alloc::Global;
 use std::marker::Model;
 use std::mem::replace;
@@ -111,20 +112,37 @@ impl Part {
         ensures refused { IfErr result (λ e. e ≡ Resources) }
     {
         let alloc = *fields.elements.allocator();
-        let mut elements = self.elements.list(alloc)?;
-        let mut registrants = self.registrants.list(alloc)?;
-        let mut notes = self.notes.list(alloc)?;
-        fields.elements.reserve(elements.len())?;
-        fields.registrants.reserve(registrants.len())?;
-        fields.notes.reserve(notes.len())?;
-        fields.elements.append(&mut elements)?;
-        fields.registrants.append(&mut registrants)?;
-        fields.notes.append(&mut notes)?;
-        Ok(())
+        let kept = self.elements.list(alloc)?;
+        let elements = told_elements(alloc, &kept)?;
+        let registrants = self.registrants.list(alloc)?;
+        let notes = self.notes.list(alloc)?;
+        add(fields, elements, registrants, notes)
+    }
+
+    /// The same of fields that are kept, to which the elements themselves go.
+    pub fn pour_kept(self, fields: &mut KeptFields) -> Result<(), Fault>
+        ensures elements { Grows fields.old.elements.items
+            self.elements fields.new.elements.items result }
+        ensures registrants { Grows fields.old.registrants.items
+            self.registrants fields.new.registrants.items result }
+        ensures notes { Grows fields.old.notes.items self.notes fields.new.notes.items result }
+        ensures next { fields.new.next ≡ fields.old.next }
+        ensures greatest { fields.new.greatest ≡ fields.old.greatest }
+        ensures committed { fields.new.committed ≡ fields.old.committed }
+        ensures aborted { fields.new.aborted ≡ fields.old.aborted }
+        ensures definitions { fields.new.definitions ≡ fields.old.definitions }
+        ensures units { fields.new.units ≡ fields.old.units }
+        ensures refused { IfErr result (λ e. e ≡ Resources) }
+    {
+        let alloc = *fields.elements.allocator();
+        let elements = self.elements.list(alloc)?;
+        let registrants = self.registrants.list(alloc)?;
+        let notes = self.notes.list(alloc)?;
+        add(fields, elements, registrants, notes)
     }
 
     /// Puts in what arrives.
-    pub(crate) fn receive(&mut self, alloc: Global, arrival: Move) -> Result<(), Fault>
+    pub(crate) fn receive(&mut self, alloc: Global, arrival: KeptMove) -> Result<(), Fault>
         requires new { AllByRecursion
             (λ (e : states.Element). e.id ≢ arrival.element.id) self.old.elements }
         ensures part { OnOk result (self.new ≡ redo_words.receive (arrival ∷ []) self.old) }
@@ -204,7 +222,7 @@ impl Part {
         alloc: Global,
         place: u64,
         unit: UnitNo,
-        sent: &mut Vec<Move>,
+        sent: &mut Vec<KeptMove>,
     ) -> Result<(), Fault>
         requires room { AllByRecursion
             (λ (e : states.Element). e.attempts + 1 < 2 ^ 64) self.old.elements }
@@ -257,7 +275,12 @@ impl Part {
     }
 
     /// Does one operation of the queue. A part that refuses is of no more use.
-    pub(crate) fn act(&mut self, alloc: Global, op: &Op, sent: &mut Vec<Move>) -> Result<(), Fault>
+    pub(crate) fn act(
+        &mut self,
+        alloc: Global,
+        op: &KeptOp,
+        sent: &mut Vec<KeptMove>,
+    ) -> Result<(), Fault>
         requires ready { IsReady op.now.place op.now.does self.old }
         ensures part { OnOk result
             (self.new ≡ redo_words.act op.now.place op.now.does self.old) }
@@ -267,20 +290,23 @@ impl Part {
     {
         let place = op.place();
         match op.record() {
-            Record::Define { .. } | Record::Begin { .. } | Record::Checkpoint { .. } => Ok(()),
-            Record::Register { queue, name } => self.register(alloc, *queue, &name.name()),
-            Record::Deregister { queue, name } => self.deregister(alloc, *queue, &name.name()),
-            Record::Enqueue {
+            KeptRecord::Define { .. } | KeptRecord::Begin { .. } | KeptRecord::Checkpoint { .. } =>
+                Ok(()),
+            KeptRecord::Register { queue, name } => self.register(alloc, *queue, &name.name()),
+            KeptRecord::Deregister { queue, name } => self.deregister(alloc, *queue, &name.name()),
+            KeptRecord::Enqueue {
                 unit,
                 queue,
                 priority,
                 by,
                 payload,
             } => self.enqueue(alloc, place, *unit, *queue, *priority, by, payload),
-            Record::Dequeue { unit, queue, by } => self.dequeue(alloc, place, *unit, *queue, by),
-            Record::Commit { unit } => self.commit(alloc, *unit),
-            Record::Abort { unit } => self.abort(alloc, place, *unit, sent),
-            Record::Kill { queue, element } => self.kill(alloc, *queue, *element),
+            KeptRecord::Dequeue { unit, queue, by } => self.dequeue(
+                alloc, place, *unit, *queue, by,
+            ),
+            KeptRecord::Commit { unit } => self.commit(alloc, *unit),
+            KeptRecord::Abort { unit } => self.abort(alloc, place, *unit, sent),
+            KeptRecord::Kill { queue, element } => self.kill(alloc, *queue, *element),
         }
     }
 }

@@ -12,7 +12,7 @@ ghost use Rattle.rq_record.specs.declared.fault.Fault.TheVariants.{Resources};
 
 use crate::shelves::Rank;
 use rq_record::{ElemId, Fault};
-use rq_state::Element;
+use rq_state::KeptElement;
 use std::alloc::Global;
 use std::cmp::Reverse;
 use std::collections::BTreeMap;
@@ -20,7 +20,7 @@ use std::collections::BTreeMap;
 /// Where priorities are kept, that of an element of a new id is kept too.
 pub(crate) fn kept_with(
     priorities: Option<BTreeMap<u64, u8>>,
-    e: &Element,
+    e: &KeptElement,
 ) -> Result<Option<BTreeMap<u64, u8>>, Fault>
     ensures known { IfOk result
         (λ o. (es : List model.Element) → AllByRecursion (λ x. e.now.id ≢ x.id) es
@@ -36,7 +36,7 @@ pub(crate) fn kept_with(
 }
 
 // Adds the priorities of the elements of a list.
-fn listed(by_id: BTreeMap<u64, u8>, list: &[Element]) -> Result<BTreeMap<u64, u8>, Fault>
+fn listed(by_id: BTreeMap<u64, u8>, list: &[KeptElement]) -> Result<BTreeMap<u64, u8>, Fault>
     ensures added { IfOk result (λ m. m.entries ≡ with_all list.now by_id.entries) }
     ensures refused { IfErr result (λ e. e ≡ Resources) }
 {
@@ -49,7 +49,7 @@ fn listed(by_id: BTreeMap<u64, u8>, list: &[Element]) -> Result<BTreeMap<u64, u8
 }
 
 // The priorities of the Free elements.
-fn of_free(alloc: Global, free: &BTreeMap<Rank, Element>) -> Result<BTreeMap<u64, u8>, Fault>
+fn of_free(alloc: Global, free: &BTreeMap<Rank, KeptElement>) -> Result<BTreeMap<u64, u8>, Fault>
     ensures added { IfOk result (λ m. m.entries ≡ with_all (values_of free.now.entries) []) }
     ensures refused { IfErr result (λ e. e ≡ Resources) }
 {
@@ -64,7 +64,7 @@ fn of_free(alloc: Global, free: &BTreeMap<Rank, Element>) -> Result<BTreeMap<u64
 // Adds the priorities of the elements that units mark.
 fn with_marked(
     by_id: BTreeMap<u64, u8>,
-    marked: &BTreeMap<u64, Vec<Element>>,
+    marked: &BTreeMap<u64, Vec<KeptElement>>,
 ) -> Result<BTreeMap<u64, u8>, Fault>
     ensures added { IfOk result
         (λ m. m.entries ≡ with_all (items_of marked.now.entries) by_id.entries) }
@@ -81,8 +81,8 @@ fn with_marked(
 pub(crate) fn known(
     alloc: Global,
     priorities: Option<BTreeMap<u64, u8>>,
-    free: &BTreeMap<Rank, Element>,
-    marked: &BTreeMap<u64, Vec<Element>>,
+    free: &BTreeMap<Rank, KeptElement>,
+    marked: &BTreeMap<u64, Vec<KeptElement>>,
 ) -> Result<BTreeMap<u64, u8>, Fault>
     requires apart { Ordered (λ (e f : model.Element). e.id ≢ f.id)
         (values_of free.now.entries ++ items_of marked.now.entries) }
@@ -104,10 +104,10 @@ pub(crate) fn known(
 /// The Free elements without the one of that id, if there is one: its priority says where it
 /// stands.
 pub(crate) fn without(
-    free: BTreeMap<Rank, Element>,
+    free: BTreeMap<Rank, KeptElement>,
     by_id: &BTreeMap<u64, u8>,
     id: ElemId,
-) -> BTreeMap<Rank, Element>
+) -> BTreeMap<Rank, KeptElement>
     requires keyed { AllByRecursion IsKeyed free.entries }
     requires apart { Ordered (λ (e f : model.Element). e.id ≢ f.id) (values_of free.entries) }
     requires known { AllByRecursion (IsKnown by_id.now.entries) (values_of free.entries) }

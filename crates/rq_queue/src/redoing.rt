@@ -13,10 +13,10 @@ ghost use Rattle.rq_model.specs.Ready.{GoesWell};
 ghost use Rattle.rq_queue.specs.Case.{AreRising};
 ghost use Rattle.rq_record.specs.declared.fault.Fault.TheVariants.{Resources};
 
-use crate::moves::Move;
-use crate::operations::Op;
+use crate::moves::{KeptMove, Move, kept_moves, told_moves};
+use crate::operations::{KeptOp, Op, lent_ops, own_ops};
 use crate::part::Part;
-use rq_record::{Fault, Record};
+use rq_record::{Fault, KeptRecord};
 use std::alloc::Global;
 
 // Of so many operations the records are looked at together.
@@ -25,7 +25,7 @@ const AHEAD: usize = 256;
 // Makes room for a move of each ABORT among the next operations, once for so many. To look at their
 // records together also spares waiting: they lie apart in a long log, and a processor asks for many
 // at a time.
-fn make_room(ops: &[Op], done: usize, sent: &mut Vec<Move>) -> Result<(), Fault>
+fn make_room(ops: &[KeptOp], done: usize, sent: &mut Vec<KeptMove>) -> Result<(), Fault>
     requires { done ≤ length ops.now }
     ensures same { sent.new.items ≡ sent.old.items }
     ensures refused { IfErr result (λ e. e ≡ Resources) }
@@ -35,7 +35,7 @@ fn make_room(ops: &[Op], done: usize, sent: &mut Vec<Move>) -> Result<(), Fault>
     }
     let next = ops[done..].iter().take(AHEAD);
     let aborts = next
-        .filter(|op| matches!(op.record(), Record::Abort { .. }))
+        .filter(|op| matches!(op.record(), KeptRecord::Abort { .. }))
         .count();
     sent.reserve(aborts)?;
     Ok(())
@@ -46,10 +46,10 @@ fn make_room(ops: &[Op], done: usize, sent: &mut Vec<Move>) -> Result<(), Fault>
 fn catch_up(
     alloc: Global,
     part: &mut Part,
-    ops: &[Op],
+    ops: &[KeptOp],
     from: usize,
     until: u64,
-    sent: &mut Vec<Move>,
+    sent: &mut Vec<KeptMove>,
 ) -> Result<usize, Fault>
     requires bound { from ≤ length ops.now }
     requires well { (ms : List queues.Move) × AllByRecursion (λ m. until ≤ m.place) ms
@@ -90,9 +90,9 @@ fn catch_up(
 fn redo_in_order(
     alloc: Global,
     part: Part,
-    ops: &[Op],
-    arrivals: Vec<Move>,
-) -> Result<(Part, Vec<Move>), Fault>
+    ops: &[KeptOp],
+    arrivals: Vec<KeptMove>,
+) -> Result<(Part, Vec<KeptMove>), Fault>
     requires well { GoesWell part ops.now arrivals.items }
     requires rising { AreRising arrivals.items }
     ensures part { IfOk result (λ r. r.0 ≡ redo_words.redone part ops.now arrivals.items) }
@@ -123,6 +123,33 @@ pub fn redo(
     ops: &[Op],
     arrivals: Vec<Move>,
 ) -> Result<(Part, Vec<Move>), Fault>
+    requires { (version : records.Version) × (s : states.State)
+        × (rs : List records.Record) × IsCase version s rs part ops.now arrivals.items }
+    ensures part { IfOk result
+        (λ r. (version : records.Version) (s : states.State) (rs : List records.Record) →
+        IsCase version s rs part ops.now arrivals.items
+        → r.0 ≡ queues.part_of (machine.run s rs) part.queue) }
+    ensures moves { IfOk result
+        (λ r. (version : records.Version) (s : states.State) (rs : List records.Record) →
+        IsCase version s rs part ops.now arrivals.items
+        → r.1.items ≡ queues.moves s rs part.queue) }
+    ensures refused { IfErr result (λ e. e ≡ Resources) }
+{
+    let own = own_ops(alloc, ops)?;
+    let ops = lent_ops(alloc, &own)?;
+    let arrivals = kept_moves(alloc, &arrivals)?;
+    let (part, moves) = redo_kept(alloc, part, &ops, arrivals)?;
+    let moves = told_moves(alloc, &moves)?;
+    Ok((part, moves))
+}
+
+/// The same of what is kept, of which nothing is copied.
+pub fn redo_kept(
+    alloc: Global,
+    part: Part,
+    ops: &[KeptOp],
+    arrivals: Vec<KeptMove>,
+) -> Result<(Part, Vec<KeptMove>), Fault>
     requires { (version : records.Version) × (s : states.State)
         × (rs : List records.Record) × IsCase version s rs part ops.now arrivals.items }
     ensures part { IfOk result

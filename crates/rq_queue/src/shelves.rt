@@ -16,7 +16,7 @@ ghost use Rattle.rq_queue.specs.Kept.{staying};
 ghost use Rattle.rq_record.specs.declared.fault.Fault.TheVariants.{Resources};
 
 use rq_record::{Fault, UnitNo};
-use rq_state::{Definition, Element, Mark};
+use rq_state::{Definition, KeptElement, Mark};
 use std::alloc::Global;
 use std::cmp::Reverse;
 use std::collections::BTreeMap;
@@ -27,9 +27,9 @@ pub(crate) type Rank = (Reverse<u8>, u64);
 /// Takes the list of a unit out.
 pub(crate) fn taken(
     alloc: Global,
-    marked: BTreeMap<u64, Vec<Element>>,
+    marked: BTreeMap<u64, Vec<KeptElement>>,
     unit: UnitNo,
-) -> (BTreeMap<u64, Vec<Element>>, Vec<Element>)
+) -> (BTreeMap<u64, Vec<KeptElement>>, Vec<KeptElement>)
     requires of_units { AllByRecursion IsOfUnit marked.entries }
     ensures absent { lookup (is_at (nat_cmp unit.0)) result.0.entries ≡ None }
     ensures among { Among result.1.items (items_of marked.entries) (items_of result.0.entries) }
@@ -46,10 +46,10 @@ pub(crate) fn taken(
 /// Puts an element at the end of the list of its unit.
 pub(crate) fn stow(
     alloc: Global,
-    marked: BTreeMap<u64, Vec<Element>>,
+    marked: BTreeMap<u64, Vec<KeptElement>>,
     unit: UnitNo,
-    e: Element,
-) -> Result<BTreeMap<u64, Vec<Element>>, Fault>
+    e: KeptElement,
+) -> Result<BTreeMap<u64, Vec<KeptElement>>, Fault>
     requires mark { queues.is_marked unit.0 e.mark ≡ true }
     requires of_units { AllByRecursion IsOfUnit marked.entries }
     ensures stowed { IfOk result (λ m. Stowed e marked.entries m.entries) }
@@ -73,8 +73,8 @@ pub(crate) fn stow(
 /// Takes those that units mark out of elements, to stand with their units: Free ones are left.
 pub(crate) fn parted(
     alloc: Global,
-    items: Vec<Element>,
-) -> Result<(Vec<Element>, BTreeMap<u64, Vec<Element>>), Fault>
+    items: Vec<KeptElement>,
+) -> Result<(Vec<KeptElement>, BTreeMap<u64, Vec<KeptElement>>), Fault>
     ensures free { IfOk result
         (λ r. AllByRecursion (λ (e : model.Element). model.is_free e.mark ≡ true) r.0.items) }
     ensures of_units { IfOk result (λ r. AllByRecursion IsOfUnit r.1.entries) }
@@ -96,7 +96,10 @@ pub(crate) fn parted(
 }
 
 /// The map of Free elements of different ids. It is made at once, so that its nodes are full.
-pub(crate) fn mapped(alloc: Global, list: Vec<Element>) -> Result<BTreeMap<Rank, Element>, Fault>
+pub(crate) fn mapped(
+    alloc: Global,
+    list: Vec<KeptElement>,
+) -> Result<BTreeMap<Rank, KeptElement>, Fault>
     requires free { AllByRecursion
         (λ (e : model.Element). model.is_free e.mark ≡ true) list.items }
     requires apart { Ordered (λ (e f : model.Element). e.id ≢ f.id) list.items }
@@ -114,9 +117,9 @@ pub(crate) fn mapped(alloc: Global, list: Vec<Element>) -> Result<BTreeMap<Rank,
 
 /// Puts a Free element under its key.
 pub(crate) fn freed(
-    free: BTreeMap<Rank, Element>,
-    e: Element,
-) -> Result<BTreeMap<Rank, Element>, Fault>
+    free: BTreeMap<Rank, KeptElement>,
+    e: KeptElement,
+) -> Result<BTreeMap<Rank, KeptElement>, Fault>
     requires mark { model.is_free e.mark ≡ true }
     ensures among { IfOk result (λ m. AllByRecursion IsKeyed free.entries
         → AllByRecursion (λ x. e.id ≢ x.id) (values_of free.entries)
@@ -134,10 +137,10 @@ pub(crate) fn freed(
 
 /// Puts what a COMMIT of the unit leaves of its elements under their keys.
 pub(crate) fn all_freed(
-    free: BTreeMap<Rank, Element>,
-    list: Vec<Element>,
+    free: BTreeMap<Rank, KeptElement>,
+    list: Vec<KeptElement>,
     unit: UnitNo,
-) -> Result<BTreeMap<Rank, Element>, Fault>
+) -> Result<BTreeMap<Rank, KeptElement>, Fault>
     ensures freed { IfOk result (λ m. (others : List model.Element) →
         Frees others free.entries (unheld unit.0 list.items) m.entries []) }
     ensures refused { IfErr result (λ e. e ≡ Resources) }
@@ -156,11 +159,11 @@ pub(crate) fn all_freed(
 /// queue.
 pub(crate) fn all_returned(
     alloc: Global,
-    free: BTreeMap<Rank, Element>,
-    list: Vec<Element>,
+    free: BTreeMap<Rank, KeptElement>,
+    list: Vec<KeptElement>,
     unit: UnitNo,
     home: &Definition,
-) -> Result<(BTreeMap<Rank, Element>, Vec<Element>), Fault>
+) -> Result<(BTreeMap<Rank, KeptElement>, Vec<KeptElement>), Fault>
     requires room { AllByRecursion (λ (e : model.Element). e.attempts + 1 < 2 ^ 64) list.items }
     requires of_unit { AllByRecursion
         (λ (e : model.Element). queues.is_marked unit.0 e.mark ≡ true) list.items }
@@ -184,7 +187,10 @@ pub(crate) fn all_returned(
 }
 
 /// The Free elements, best first.
-pub(crate) fn free_list(alloc: Global, free: BTreeMap<Rank, Element>) -> Result<Vec<Element>, Fault>
+pub(crate) fn free_list(
+    alloc: Global,
+    free: BTreeMap<Rank, KeptElement>,
+) -> Result<Vec<KeptElement>, Fault>
     ensures listed { IfOk result (λ v. v.items ≡ values_of free.entries) }
     ensures refused { IfErr result (λ e. e ≡ Resources) }
 {
@@ -198,9 +204,9 @@ pub(crate) fn free_list(alloc: Global, free: BTreeMap<Rank, Element>) -> Result<
 
 /// Adds the elements of all units.
 pub(crate) fn with_marked(
-    elements: Vec<Element>,
-    marked: BTreeMap<u64, Vec<Element>>,
-) -> Result<Vec<Element>, Fault>
+    elements: Vec<KeptElement>,
+    marked: BTreeMap<u64, Vec<KeptElement>>,
+) -> Result<Vec<KeptElement>, Fault>
     ensures listed { IfOk result (λ v. v.items ≡ elements.items ++ items_of marked.entries) }
     ensures refused { IfErr result (λ e. e ≡ Resources) }
 {

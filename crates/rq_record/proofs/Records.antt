@@ -11,7 +11,7 @@ use Rattle.rq_record.specs.Reading.{KeepsRead, Decodes}
 use Rattle.rq_record.specs.Views.{record_of}
 use Rattle.rq_record.specs.declared.fault.Fault.{Fault}
 use Rattle.rq_record.specs.declared.fault.Fault.TheVariants as faults
-use Rattle.rq_record.specs.declared.record.Record as code
+use Rattle.rq_record.specs.Views as code
 
 spelled : (version : Version) (body : List ℕ) (read : Option (Record × List ℕ)) → IsBytes body
     → record_read version body ≡ read → IsSome read → (r : Record) × Spells version r body

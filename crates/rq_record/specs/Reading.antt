@@ -3,10 +3,9 @@ use Rattle.std.specs.Prelude.{◌≡◌, ℕ, List, [], Option, Some, None, IsSo
 use Rattle.rq_model.specs.Records as model
 use Rattle.rq_model.specs.Records.{Version}
 use Rattle.rq_model.specs.Spelling.{Spells}
-use Rattle.rq_record.specs.Views.{record_of}
+use Rattle.rq_record.specs.Views.{Record, record_of}
 use Rattle.rq_record.specs.declared.fault.Fault.{Fault}
 use Rattle.rq_record.specs.declared.fault.Fault.TheVariants as faults
-use Rattle.rq_record.specs.declared.record.Record.{Record}
 
 -- what is read, seen by view, or Form where nothing is; memory runs out only where something is
 abbrev pub KeepsRead : {X Y : Type 0}
@@ -16,7 +15,7 @@ KeepsRead view (Err faults.Form) read = read ≡ None
 KeepsRead view (Err faults.Resources) read = IsSome read
 KeepsRead view (Err _) read = ⊥
 
--- what decode_in answers: the record that the body spells, or Form where it spells none; memory
+-- what a call that decodes answers: the record that the body spells, or Form where it spells none; memory
 -- runs out only where it spells one
 abbrev pub Decodes : Version → List ℕ → Result Record Fault → Type 0
 Decodes version body (Ok r) = Spells version (record_of r) body

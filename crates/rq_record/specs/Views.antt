@@ -1,13 +1,18 @@
 -- What a record and a version of the code are among the words of the model.
+use Rattle.std.specs.Prelude.{ℕ, List, Option}
 use Rattle.rq_model.specs.Records as model
-use Rattle.rq_record.specs.declared.record.Record.{Record}
-use Rattle.rq_record.specs.declared.record.Record.TheVariants.{Define, Register, Deregister, Begin}
-use Rattle.rq_record.specs.declared.record.Record.TheVariants.{Enqueue, Dequeue, Commit, Abort}
-use Rattle.rq_record.specs.declared.record.Record.TheVariants.{Checkpoint, Kill}
+use Rattle.rq_record.specs.declared.record.RecordOf.{RecordOf}
+use Rattle.rq_record.specs.declared.record.RecordOf.TheVariants.{Define, Register, Deregister, Begin}
+use Rattle.rq_record.specs.declared.record.RecordOf.TheVariants.{Enqueue, Dequeue, Commit, Abort}
+use Rattle.rq_record.specs.declared.record.RecordOf.TheVariants.{Checkpoint, Kill}
 use Rattle.rq_record.specs.declared.version.Version.{Version}
 use Rattle.rq_record.specs.declared.version.Version.TheVariants.{One, Two}
 
--- the same kind with the same fields; a name, a payload, a registrant are already the model's
+-- a record, kept or not: a name, whom an operation is by and a payload are the model's
+abbrev pub Record : Type 0
+Record = RecordOf (List ℕ) (Option model.By) (List ℕ)
+
+-- the same kind with the same fields
 abbrev pub record_of : Record → model.Record
 record_of (Define limit error name) = model.Define limit error.0 name
 record_of (Register queue name) = model.Register queue.0 name

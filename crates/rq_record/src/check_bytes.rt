@@ -77,6 +77,23 @@ impl CheckBytes {
         Ok(CheckBytes::new(Vec::from_slice(alloc, bytes)?))
     }
 
+    /// The same bytes: of a part of a log that part, and else a copy. `Resources` where memory runs
+    /// out.
+    pub fn copied(&self, alloc: Global) -> Result<CheckBytes, Fault>
+        ensures copied { IfOk result (λ p. p ≡ self.now) }
+        ensures refused { IfErr result (λ e. e ≡ Resources) }
+    {
+        let bytes = match &self.bytes {
+            Kept::Own(bytes) => Kept::Own(Vec::from_slice(alloc, bytes)?),
+            Kept::Part { whole, start, len } => Kept::Part {
+                whole: whole.clone()?,
+                start: *start,
+                len: *len,
+            },
+        };
+        Ok(CheckBytes { bytes })
+    }
+
     /// The bytes, with their bound.
     pub fn bytes(&self) -> &[u8]
         ensures bytes { result.now ≡ self.now }

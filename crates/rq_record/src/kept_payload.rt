@@ -135,6 +135,14 @@ impl KeptPayload {
         }
     }
 
+    /// The payload that is kept, in memory of its own. `Resources` where memory runs out.
+    pub fn payload(&self, alloc: Global) -> Result<Payload, Fault>
+        ensures same { IfOk result (λ p. p ≡ self.now) }
+        ensures refused { IfErr result (λ e. e ≡ Resources) }
+    {
+        Ok(Payload::of_checked(Vec::from_slice(alloc, self.bytes())?))
+    }
+
     /// A payload of the same bytes, none of which is copied into memory. `Resources` where they are
     /// shared too often.
     pub fn copied(&self) -> Result<KeptPayload, Fault>

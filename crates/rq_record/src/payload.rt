@@ -29,7 +29,15 @@ impl Payload {
         if bytes.len() > 65535 {
             return None;
         }
-        Some(Payload { bytes })
+        Some(Payload::of_checked(bytes))
+    }
+
+    /// The payload of these bytes, which are known to be no more than one may have.
+    pub(crate) fn of_checked(bytes: Vec<u8>) -> Payload
+        requires { length bytes.items ≤ 65535 }
+        ensures { result ≡ bytes.items }
+    {
+        Payload { bytes }
     }
 
     /// The bytes, with their bound.

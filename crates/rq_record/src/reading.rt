@@ -18,6 +18,7 @@ use crate::fault::Fault;
 use crate::kept_by::KeptBy;
 use crate::kept_name::KeptName;
 use crate::kept_payload::KeptPayload;
+use crate::kept_record::KeptRecord;
 use crate::lent_log::LentLog;
 use crate::name::LentName;
 use crate::record::{ElemId, LentBy, QueueNo, Record, UnitNo};
@@ -53,14 +54,14 @@ fn who<'a>(bytes: &mut Cursor<'a>) -> Option<Option<LentBy<'a>>>
 }
 
 #[tactic(auto, unfolding(rq_model::specs::RecordReading::define_read))]
-fn define(alloc: Global, bytes: Cursor<'_>) -> Result<Record, Fault>
+fn define(alloc: Global, bytes: Cursor<'_>) -> Result<KeptRecord, Fault>
     ensures { KeepsRead record_of result (made define_from define_read bytes.entry) }
 {
     let mut bytes = bytes;
     let limit = bytes.u16().ok_or(Fault::Form)?;
     let error = bytes.u32().ok_or(Fault::Form)?;
     let name = name_left(alloc, bytes)?;
-    Ok(Record::Define {
+    Ok(KeptRecord::Define {
         limit,
         error: QueueNo(error),
         name,
@@ -68,26 +69,26 @@ fn define(alloc: Global, bytes: Cursor<'_>) -> Result<Record, Fault>
 }
 
 #[tactic(auto, unfolding(rq_model::specs::RecordReading::registration_read))]
-fn register(alloc: Global, bytes: Cursor<'_>) -> Result<Record, Fault>
+fn register(alloc: Global, bytes: Cursor<'_>) -> Result<KeptRecord, Fault>
     ensures { KeepsRead record_of result (made register_from registration_read bytes.entry) }
 {
     let mut bytes = bytes;
     let queue = bytes.u32().ok_or(Fault::Form)?;
     let name = name_left(alloc, bytes)?;
-    Ok(Record::Register {
+    Ok(KeptRecord::Register {
         queue: QueueNo(queue),
         name,
     })
 }
 
 #[tactic(auto, unfolding(rq_model::specs::RecordReading::registration_read))]
-fn deregister(alloc: Global, bytes: Cursor<'_>) -> Result<Record, Fault>
+fn deregister(alloc: Global, bytes: Cursor<'_>) -> Result<KeptRecord, Fault>
     ensures { KeepsRead record_of result (made deregister_from registration_read bytes.entry) }
 {
     let mut bytes = bytes;
     let queue = bytes.u32().ok_or(Fault::Form)?;
     let name = name_left(alloc, bytes)?;
-    Ok(Record::Deregister {
+    Ok(KeptRecord::Deregister {
         queue: QueueNo(queue),
         name,
     })
@@ -119,7 +120,7 @@ fn payload(
 }
 
 #[tactic(auto, unfolding(rq_model::specs::RecordReading::enqueue_read))]
-fn enqueue(alloc: Global, log: &LentLog, end: usize, bytes: Cursor<'_>) -> Result<Record, Fault>
+fn enqueue(alloc: Global, log: &LentLog, end: usize, bytes: Cursor<'_>) -> Result<KeptRecord, Fault>
     ensures { KeepsRead record_of result (made enqueue_from enqueue_read bytes.entry) }
 {
     let mut bytes = bytes;
@@ -128,7 +129,7 @@ fn enqueue(alloc: Global, log: &LentLog, end: usize, bytes: Cursor<'_>) -> Resul
     let priority = bytes.u8().ok_or(Fault::Form)?;
     let by = who(&mut bytes).ok_or(Fault::Form)?;
     let payload = payload(alloc, log, end, bytes)?;
-    Ok(Record::Enqueue {
+    Ok(KeptRecord::Enqueue {
         priority,
         queue: QueueNo(queue),
         unit: UnitNo(unit),
@@ -138,7 +139,7 @@ fn enqueue(alloc: Global, log: &LentLog, end: usize, bytes: Cursor<'_>) -> Resul
 }
 
 #[tactic(auto, unfolding(rq_model::specs::RecordReading::dequeue_read))]
-fn dequeue(alloc: Global, bytes: Cursor<'_>) -> Result<Record, Fault>
+fn dequeue(alloc: Global, bytes: Cursor<'_>) -> Result<KeptRecord, Fault>
     ensures { KeepsRead record_of result (made dequeue_from dequeue_read bytes.entry) }
 {
     let mut bytes = bytes;
@@ -146,7 +147,7 @@ fn dequeue(alloc: Global, bytes: Cursor<'_>) -> Result<Record, Fault>
     let queue = bytes.u32().ok_or(Fault::Form)?;
     let by = who(&mut bytes).ok_or(Fault::Form)?;
     bytes.end().ok_or(Fault::Form)?;
-    Ok(Record::Dequeue {
+    Ok(KeptRecord::Dequeue {
         unit: UnitNo(unit),
         queue: QueueNo(queue),
         by: KeptBy::of_lent(alloc, by)?,
@@ -169,15 +170,20 @@ fn check_bytes(
 }
 
 #[tactic(auto, unfolding(rq_model::specs::RecordReading::checkpoint_read))]
-fn checkpoint(alloc: Global, log: &LentLog, end: usize, bytes: Cursor<'_>) -> Result<Record, Fault>
+fn checkpoint(
+    alloc: Global,
+    log: &LentLog,
+    end: usize,
+    bytes: Cursor<'_>,
+) -> Result<KeptRecord, Fault>
     ensures { KeepsRead record_of result (made Checkpoint checkpoint_read bytes.entry) }
 {
     let bytes = check_bytes(alloc, log, end, bytes)?;
-    Ok(Record::Checkpoint { bytes })
+    Ok(KeptRecord::Checkpoint { bytes })
 }
 
 #[tactic(auto, unfolding(rq_model::specs::RecordReading::kill_read))]
-fn kill(version: Version, bytes: Cursor<'_>) -> Result<Record, Fault>
+fn kill(version: Version, bytes: Cursor<'_>) -> Result<KeptRecord, Fault>
     ensures { KeepsRead record_of result
         (made kill_from (kill_read (version_of version)) bytes.entry) }
 {
@@ -188,7 +194,7 @@ fn kill(version: Version, bytes: Cursor<'_>) -> Result<Record, Fault>
     let queue = bytes.u32().ok_or(Fault::Form)?;
     let element = bytes.u64().ok_or(Fault::Form)?;
     bytes.end().ok_or(Fault::Form)?;
-    Ok(Record::Kill {
+    Ok(KeptRecord::Kill {
         queue: QueueNo(queue),
         element: ElemId(element),
     })
@@ -202,22 +208,22 @@ fn of_kind(
     end: usize,
     kind: u8,
     bytes: Cursor<'_>,
-) -> Result<Record, Fault>
+) -> Result<KeptRecord, Fault>
     ensures { KeepsRead record_of result (record_behind (version_of version) kind bytes.entry) }
 {
     match kind {
         1 => define(alloc, bytes),
         2 => register(alloc, bytes),
         3 => deregister(alloc, bytes),
-        4 => Ok(Record::Begin {
+        4 => Ok(KeptRecord::Begin {
             unit: unit(bytes).ok_or(Fault::Form)?,
         }),
         5 => enqueue(alloc, log, end, bytes),
         6 => dequeue(alloc, bytes),
-        7 => Ok(Record::Commit {
+        7 => Ok(KeptRecord::Commit {
             unit: unit(bytes).ok_or(Fault::Form)?,
         }),
-        8 => Ok(Record::Abort {
+        8 => Ok(KeptRecord::Abort {
             unit: unit(bytes).ok_or(Fault::Form)?,
         }),
         9 => checkpoint(alloc, log, end, bytes),
@@ -233,7 +239,7 @@ fn record(
     log: &LentLog,
     end: usize,
     body: &[u8],
-) -> Result<Record, Fault>
+) -> Result<KeptRecord, Fault>
     ensures { KeepsRead record_of result (record_read (version_of version) body.now) }
 {
     let mut bytes = Cursor::new(body);
@@ -248,13 +254,14 @@ fn decode_lent(
     log: &LentLog,
     end: usize,
     body: &[u8],
-) -> Result<Record, Fault>
+) -> Result<KeptRecord, Fault>
     ensures decodes { Decodes (version_of version) body.now result }
 {
     record(alloc, version, log, end, body)
 }
 
-/// The record that `len` bytes of a log from `start` on spell: `decode_in` of that body.
+/// The record that `len` bytes of a log from `start` on spell, kept: `decode_kept` of that
+/// body.
 ///
 /// Where the log is lent as well, a checkpoint, and a payload of more than 22 bytes, are parts of
 /// it and no copies.
@@ -265,13 +272,23 @@ pub fn decode_at(
     bytes: &[u8],
     start: usize,
     len: usize,
-) -> Result<Record, Fault>
+) -> Result<KeptRecord, Fault>
     requires inside { start + len ≤ length bytes.now }
     ensures decodes { Decodes (version_of version)
         (slice_range bytes.now start (start + len)) result }
 {
     let end = start + len;
     decode_lent(alloc, version, lent, end, &bytes[start..end])
+}
+
+/// The record that a body of this version spells, kept.
+///
+/// `Form` answers exactly a body that spells none, and is found before memory is asked for;
+/// `Resources` answers a body that spells one whose names or bytes could not be kept.
+pub fn decode_kept(alloc: Global, version: Version, body: &[u8]) -> Result<KeptRecord, Fault>
+    ensures decodes { Decodes (version_of version) body.now result }
+{
+    decode_lent(alloc, version, &LentLog::none(), body.len(), body)
 }
 
 /// The record that a body of this version spells.
@@ -281,7 +298,7 @@ pub fn decode_at(
 pub fn decode_in(alloc: Global, version: Version, body: &[u8]) -> Result<Record, Fault>
     ensures decodes { Decodes (version_of version) body.now result }
 {
-    decode_lent(alloc, version, &LentLog::none(), body.len(), body)
+    decode_kept(alloc, version, body)?.record(alloc)
 }
 
 /// The record that a body of version 1 spells: `decode_in` of that version.

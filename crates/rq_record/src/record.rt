@@ -3,10 +3,8 @@
 ghost use Rattle.std.specs.Prelude.{◌≡◌};
 
 use crate::check_bytes::CheckBytes;
-use crate::kept_by::KeptBy;
-use crate::kept_name::KeptName;
-use crate::kept_payload::KeptPayload;
 use crate::name::{LentName, Name};
+use crate::payload::Payload;
 use std::marker::Model;
 
 /// The number of a queue: how many DEFINE records stand before its own.
@@ -75,29 +73,31 @@ impl<'a> Model for LentBy<'a> {
     ghost view = { λ b. record { name = b.name; tag = b.tag } };
 }
 
-// A restart holds all records at once.
-const _: () = prove!(std::mem::size_of::<Record>() <= 56);
+/// A record of the log, as a caller makes it and takes it apart.
+pub type Record = RecordOf<Name, Option<By>, Payload>;
 
 /// A record of the log; version 1 has all but the last. Whether it is lawful after those before it
-/// is no matter of its form: each number may be any of its width.
+/// is no matter of its form: each number may be any of its width. `N` is what holds a name, `B`
+/// whom an operation is by, and `P` a payload: those of a `Record` are made without memory, those
+/// of a `KeptRecord` take few bytes.
 #[derive(Drop)]
-pub enum Record {
+pub enum RecordOf<N, B, P> {
     /// Defines the next queue: how many failed attempts an element may have, 0 for no limit, and
     /// the queue that it goes to then.
     Define {
         limit: u16,
         error: QueueNo,
-        name: KeptName,
+        name: N,
     },
     /// Registers a name with a queue.
     Register {
         queue: QueueNo,
-        name: KeptName,
+        name: N,
     },
     /// Ends a registration.
     Deregister {
         queue: QueueNo,
-        name: KeptName,
+        name: N,
     },
     /// Opens a unit.
     Begin {
@@ -109,14 +109,14 @@ pub enum Record {
         priority: u8,
         queue: QueueNo,
         unit: UnitNo,
-        by: KeptBy,
-        payload: KeptPayload,
+        by: B,
+        payload: P,
     },
     /// Takes the first free element of a queue, if there is one, to be gone when the unit commits.
     Dequeue {
         unit: UnitNo,
         queue: QueueNo,
-        by: KeptBy,
+        by: B,
     },
     /// Ends a unit: what it did stands.
     Commit {

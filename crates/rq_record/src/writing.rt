@@ -9,17 +9,16 @@ ghost use Rattle.rq_record.specs.Writing.{Puts, Appends, HasKind};
 
 use crate::check_bytes::CheckBytes;
 use crate::fault::Fault;
-use crate::kept_by::KeptBy;
-use crate::kept_name::KeptName;
-use crate::kept_payload::KeptPayload;
-use crate::record::{ElemId, QueueNo, Record, UnitNo};
+use crate::name::Name;
+use crate::payload::Payload;
+use crate::record::{By, ElemId, QueueNo, Record, UnitNo};
 use rq_bytes::{put, put_u8, put_u16, put_u32, put_u64};
 
-fn put_who(out: &mut Vec<u8>, by: &KeptBy) -> Result<(), Fault>
+fn put_who(out: &mut Vec<u8>, by: &Option<By>) -> Result<(), Fault>
     ensures bytes { Puts out.old.items out.new.items (who by.now) result }
     ensures fits { OnOk result (IsWho by.now) }
 {
-    match by.by() {
+    match by {
         None => {
             put_u8(out, 0)?;
             put_u64(out, 0)?;
@@ -34,7 +33,7 @@ fn put_who(out: &mut Vec<u8>, by: &KeptBy) -> Result<(), Fault>
     Ok(())
 }
 
-fn put_define(out: &mut Vec<u8>, limit: u16, error: QueueNo, name: &KeptName) -> Result<(), Fault>
+fn put_define(out: &mut Vec<u8>, limit: u16, error: QueueNo, name: &Name) -> Result<(), Fault>
     ensures bytes { Puts out.old.items out.new.items
         (body_of (model.Define limit error.0 name.now)) result }
     ensures fits { OnOk result (IsRecord Two (model.Define limit error.0 name.now)) }
@@ -46,7 +45,7 @@ fn put_define(out: &mut Vec<u8>, limit: u16, error: QueueNo, name: &KeptName) ->
     Ok(())
 }
 
-fn put_register(out: &mut Vec<u8>, queue: QueueNo, name: &KeptName) -> Result<(), Fault>
+fn put_register(out: &mut Vec<u8>, queue: QueueNo, name: &Name) -> Result<(), Fault>
     ensures bytes { Puts out.old.items out.new.items
         (body_of (model.Register queue.0 name.now)) result }
     ensures fits { OnOk result (IsRecord Two (model.Register queue.0 name.now)) }
@@ -57,7 +56,7 @@ fn put_register(out: &mut Vec<u8>, queue: QueueNo, name: &KeptName) -> Result<()
     Ok(())
 }
 
-fn put_deregister(out: &mut Vec<u8>, queue: QueueNo, name: &KeptName) -> Result<(), Fault>
+fn put_deregister(out: &mut Vec<u8>, queue: QueueNo, name: &Name) -> Result<(), Fault>
     ensures bytes { Puts out.old.items out.new.items
         (body_of (model.Deregister queue.0 name.now)) result }
     ensures fits { OnOk result (IsRecord Two (model.Deregister queue.0 name.now)) }
@@ -82,8 +81,8 @@ fn put_enqueue(
     unit: UnitNo,
     queue: QueueNo,
     priority: u8,
-    by: &KeptBy,
-    payload: &KeptPayload,
+    by: &Option<By>,
+    payload: &Payload,
 ) -> Result<(), Fault>
     ensures bytes { Puts out.old.items out.new.items
         (body_of (model.Enqueue unit.0 queue.0 priority by.now payload.now)) result }
@@ -99,7 +98,12 @@ fn put_enqueue(
     Ok(())
 }
 
-fn put_dequeue(out: &mut Vec<u8>, unit: UnitNo, queue: QueueNo, by: &KeptBy) -> Result<(), Fault>
+fn put_dequeue(
+    out: &mut Vec<u8>,
+    unit: UnitNo,
+    queue: QueueNo,
+    by: &Option<By>,
+) -> Result<(), Fault>
     ensures bytes { Puts out.old.items out.new.items
         (body_of (model.Dequeue unit.0 queue.0 by.now)) result }
     ensures fits { OnOk result (IsRecord Two (model.Dequeue unit.0 queue.0 by.now)) }

@@ -2,7 +2,11 @@
 use Rattle.std.specs.Prelude.{map}
 use Rattle.rq_model.specs.States as model
 use Rattle.rq_state.specs.Views.{unit_of}
-use Rattle.rq_state.specs.declared.state.Fields.{Fields}
+use Rattle.rq_state.specs.declared.fields.FieldsOf.{FieldsOf}
+
+-- fields, kept or not: an element is the model's
+abbrev pub Fields : Type 0
+Fields = FieldsOf model.Element
 
 -- the fields, with their lists as they stand
 abbrev pub state_of : Fields → model.State

@@ -6,7 +6,8 @@ ghost use Rattle.rq_model.specs.States as model;
 ghost use Rattle.rq_model.specs.Queues.{elements_at, registrants_at, notes_at};
 ghost use Rattle.rq_record.specs.declared.fault.Fault.TheVariants.{Resources};
 
-use crate::members::{Element, Note, Registrant};
+use crate::kept_element::KeptElement;
+use crate::members::{Note, Registrant};
 use crate::state::State;
 use rq_record::{Fault, QueueNo};
 use std::alloc::Global;
@@ -14,7 +15,11 @@ use std::alloc::Global;
 impl State {
     /// The elements of a queue by id, with payloads of the same bytes; none where no queue has the
     /// number.
-    pub fn copied_elements_of(&self, alloc: Global, queue: QueueNo) -> Result<Vec<Element>, Fault>
+    pub fn copied_elements_of(
+        &self,
+        alloc: Global,
+        queue: QueueNo,
+    ) -> Result<Vec<KeptElement>, Fault>
         ensures elements { IfOk result (λ v. v.items ≡ elements_at queue.0 self.now.elements) }
         ensures refused { IfErr result (λ e. e ≡ Resources) }
     {
@@ -47,7 +52,11 @@ impl State {
 }
 
 // Copies of the elements at these indices.
-fn elements_copied(alloc: Global, state: &State, indices: &[usize]) -> Result<Vec<Element>, Fault>
+fn elements_copied(
+    alloc: Global,
+    state: &State,
+    indices: &[usize],
+) -> Result<Vec<KeptElement>, Fault>
     requires { AllByRecursion (λ index. index < length state.now.elements) indices.now }
     ensures copied { IfOk result (λ v. (x : model.Element) →
         v.items ≡ map (λ index. slice_index_or state.now.elements index x) indices.now) }

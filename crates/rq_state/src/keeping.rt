@@ -17,12 +17,12 @@ mod lists;
 mod members;
 mod searching;
 
+use crate::fields::KeptFields;
 use crate::keeping::lists::{
     are_definitions, are_elements, are_notes, are_one_deep, are_registrants, are_units,
     do_elements_rise, do_notes_rise, do_registrants_rise, do_units_rise,
 };
 use crate::members::Definition;
-use crate::state::Fields;
 use rq_record::{Fault, Name, Version};
 use std::alloc::Global;
 
@@ -33,7 +33,7 @@ const GREATEST_NEXT: u64 = 4_294_967_295;
 const MOST_QUEUES: usize = 4096;
 
 // No more queues and records than their bounds, and no more units and registrants than records.
-fn are_numbers(fields: &Fields) -> bool
+fn are_numbers(fields: &KeptFields) -> bool
     ensures { IsTrue result ↔ KeepsNumbers (state_of fields.now) }
 {
     fields.next <= GREATEST_NEXT
@@ -86,7 +86,7 @@ fn are_deep_for(version: Version, definitions: &[Definition]) -> bool
     }
 }
 
-fn check_definitions(alloc: Global, version: Version, fields: &Fields) -> Result<(), Fault>
+fn check_definitions(alloc: Global, version: Version, fields: &KeptFields) -> Result<(), Fault>
     ensures { TellsWhether (KeepsDefinitions (version_of version) (state_of fields.now)) result }
 {
     kept(are_definitions(&fields.definitions))?;
@@ -95,21 +95,21 @@ fn check_definitions(alloc: Global, version: Version, fields: &Fields) -> Result
     kept(do_names_differ(names))
 }
 
-fn check_units(fields: &Fields) -> Result<(), Fault>
+fn check_units(fields: &KeptFields) -> Result<(), Fault>
     ensures { TellsWhether (KeepsUnits (state_of fields.now)) result }
 {
     kept(do_units_rise(&fields.units))?;
     kept(are_units(fields.greatest, &fields.units))
 }
 
-fn check_registrants(fields: &Fields) -> Result<(), Fault>
+fn check_registrants(fields: &KeptFields) -> Result<(), Fault>
     ensures { TellsWhether (KeepsRegistrants (state_of fields.now)) result }
 {
     kept(do_registrants_rise(&fields.registrants))?;
     kept(are_registrants(fields))
 }
 
-fn check_elements(fields: &Fields) -> Result<(), Fault>
+fn check_elements(fields: &KeptFields) -> Result<(), Fault>
     requires { Ordered (λ u v. u < v) (map unit_of fields.now.units.items) }
     ensures { TellsWhether (KeepsElements (state_of fields.now)) result }
 {
@@ -117,7 +117,7 @@ fn check_elements(fields: &Fields) -> Result<(), Fault>
     kept(are_elements(fields))
 }
 
-fn check_notes(fields: &Fields) -> Result<(), Fault>
+fn check_notes(fields: &KeptFields) -> Result<(), Fault>
     requires units { Ordered (λ u v. u < v) (map unit_of fields.now.units.items) }
     requires registrants { Ordered
         (λ r t. model.registrant_before r t ≡ true) fields.now.registrants.items }
@@ -129,7 +129,7 @@ fn check_notes(fields: &Fields) -> Result<(), Fault>
 
 /// That the fields are those of a well-formed state of the version, or BadCheckpoint, or Resources
 /// where there is no room to sort names.
-pub(crate) fn check(alloc: Global, version: Version, fields: &Fields) -> Result<(), Fault>
+pub(crate) fn check(alloc: Global, version: Version, fields: &KeptFields) -> Result<(), Fault>
     ensures { TellsWhether (KeepsAll (version_of version) (state_of fields.now)) result }
 {
     kept(are_numbers(fields))?;

@@ -3,7 +3,8 @@
 ghost use Rattle.std.specs.Prelude.{◌≡◌, ◌<◌, ℕ, length, slice_index_or};
 ghost use Rattle.rq_model.specs.States as model;
 
-use crate::members::{Definition, Element, Note, Registrant};
+use crate::kept_element::KeptElement;
+use crate::members::{Definition, Note, Registrant};
 use crate::state::State;
 use rq_record::UnitNo;
 
@@ -63,7 +64,7 @@ impl State {
     }
 
     /// The element at an index in their list.
-    pub fn element(&self, index: usize) -> &Element
+    pub fn element(&self, index: usize) -> &KeptElement
         requires { index < length self.now.elements }
         ensures { (x : model.Element) → result.now ≡ slice_index_or self.now.elements index x }
     {

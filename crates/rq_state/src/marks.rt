@@ -6,10 +6,11 @@ ghost use Rattle.rq_model.specs.Queues as queues;
 ghost use Rattle.rq_model.specs.States as model;
 ghost use Rattle.rq_state.specs.Views.{mark_of};
 
-use crate::members::{Definition, Element, Mark};
+use crate::kept_element::KeptElement;
+use crate::members::{Definition, Mark};
 use rq_record::{ElemId, KeptPayload, QueueNo, UnitNo};
 
-impl Element {
+impl KeptElement {
     /// A new element of a unit, with the place of its ENQUEUE as its id.
     pub fn fresh(
         place: u64,
@@ -17,10 +18,10 @@ impl Element {
         queue: QueueNo,
         priority: u8,
         payload: KeptPayload,
-    ) -> Element
+    ) -> KeptElement
         ensures { result ≡ machine.new_element place unit.0 queue.0 priority payload }
     {
-        Element {
+        KeptElement {
             id: ElemId(place),
             home: queue,
             origin: queue,
@@ -86,10 +87,10 @@ impl Element {
     }
 
     /// As it arrives in the error queue of its home.
-    pub fn moved(self, home: &Definition) -> Element
+    pub fn moved(self, home: &Definition) -> KeptElement
         ensures { result ≡ machine.moved home.now self }
     {
-        Element {
+        KeptElement {
             id: self.id,
             home: home.error,
             origin: self.origin,
@@ -102,14 +103,14 @@ impl Element {
 
     /// As an ABORT of the unit leaves it in its queue: Free with one attempt more, if the unit
     /// holds it.
-    pub fn returned(self, unit: UnitNo) -> Element
+    pub fn returned(self, unit: UnitNo) -> KeptElement
         requires { self.attempts + 1 < 2 ^ 64 }
         ensures { result ≡ machine.returned unit.0 self }
     {
         if !self.is_held(unit) {
             return self;
         }
-        Element {
+        KeptElement {
             id: self.id,
             home: self.home,
             origin: self.origin,
@@ -121,7 +122,7 @@ impl Element {
     }
 
     /// As a Free element.
-    pub fn unmarked(self) -> Element
+    pub fn unmarked(self) -> KeptElement
         ensures { result ≡ machine.marked model.Free self }
     {
         let mut e = self;

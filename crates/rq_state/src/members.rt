@@ -1,10 +1,9 @@
 //! What a state is made of.
 
-ghost use Rattle.std.specs.Prelude.{◌≡◌, IfOk, IfErr};
+ghost use Rattle.std.specs.Prelude.{◌≡◌};
 ghost use Rattle.rq_model.specs.States as model;
-ghost use Rattle.rq_record.specs.declared.fault.Fault.TheVariants.{Resources};
 
-use rq_record::{ElemId, Fault, KeptPayload, Name, QueueNo, UnitNo};
+use rq_record::{ElemId, Name, Payload, QueueNo, UnitNo};
 use std::marker::Model;
 
 /// Whose an element is for now.
@@ -27,7 +26,7 @@ pub enum OpKind {
     Dequeue,
 }
 
-/// An element of a queue.
+/// An element of a queue, as a caller makes it and takes it apart.
 #[derive(Drop)]
 pub struct Element {
     /// The record number of the enqueue that made it.
@@ -41,7 +40,7 @@ pub struct Element {
     /// How often an aborted unit gave it back since it is in its home.
     pub attempts: u64,
     /// The bytes that its enqueue gave it, at most 65,535.
-    pub payload: KeptPayload,
+    pub payload: Payload,
     /// Which open unit put it in or took it out, if one did.
     pub mark: Mark,
 }
@@ -61,38 +60,6 @@ impl Model for Element {
       payload = e.payload;
       mark = mark_of e.mark;
     } };
-}
-
-impl Element {
-    /// Its id, as a number.
-    pub fn number(&self) -> u64
-        ensures { result ≡ self.now.id }
-    {
-        self.id.0
-    }
-
-    /// The queue that it is in.
-    pub fn home(&self) -> QueueNo
-        ensures { result.0 ≡ self.now.home }
-    {
-        self.home
-    }
-
-    /// An element with a payload of the same bytes; Resources where these are shared too often.
-    pub fn copied(&self) -> Result<Element, Fault>
-        ensures copied { IfOk result (λ e. e ≡ self.now) }
-        ensures refused { IfErr result (λ e. e ≡ Resources) }
-    {
-        Ok(Element {
-            id: self.id,
-            home: self.home,
-            origin: self.origin,
-            priority: self.priority,
-            attempts: self.attempts,
-            payload: self.payload.copied()?,
-            mark: self.mark,
-        })
-    }
 }
 
 /// What a registrant did: an operation that named it.

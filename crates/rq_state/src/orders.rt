@@ -6,7 +6,8 @@ ghost use Rattle.rq_model.specs.WellFormed.{Ordered};
 ghost use Rattle.rq_state.specs.Orders.{put_in_order, place_before};
 ghost use Rattle.rq_state.specs.Views.{unit_of};
 
-use crate::members::{Element, Note, Registrant};
+use crate::kept_element::KeptElement;
+use crate::members::{Note, Registrant};
 use rq_record::UnitNo;
 
 /// Puts units in order.
@@ -27,7 +28,7 @@ pub(crate) fn order_registrants(registrants: &mut Vec<Registrant>)
 }
 
 /// Puts elements in order.
-pub(crate) fn order_elements(elements: &mut Vec<Element>)
+pub(crate) fn order_elements(elements: &mut Vec<KeptElement>)
     requires { Ordered (λ e f. e.id < f.id) (put_in_order model.id_before elements.old.items) }
     ensures { elements.new.items ≡ put_in_order model.id_before elements.old.items }
 {

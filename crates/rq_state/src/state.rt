@@ -10,40 +10,19 @@ ghost use Rattle.rq_state.specs.Orders.{state_in_order};
 ghost use Rattle.rq_state.specs.Inside.{state_of};
 ghost use Rattle.rq_state.specs.Views.{unit_of};
 
-use crate::members::{Definition, Element, Note, Registrant};
+use crate::fields::{Fields, KeptFields};
+use crate::kept_element::KeptElement;
+use crate::members::{Definition, Note, Registrant};
 use crate::orders::{order_elements, order_notes, order_registrants, order_units};
 use crate::tables::{homes_of, listed_at, noted_of, registered_of};
 use rq_record::{Fault, QueueNo, UnitNo};
 use std::alloc::Global;
 use std::marker::Model;
 
-/// What a state is made from: definitions by number, the other lists in any order.
-#[derive(Drop)]
-pub struct Fields {
-    /// The next record number.
-    pub next: u64,
-    /// The greatest unit that ever began; 0 before the first.
-    pub greatest: u64,
-    /// How many units were committed.
-    pub committed: u64,
-    /// How many units were aborted.
-    pub aborted: u64,
-    /// The queues, each at the index that is its number.
-    pub definitions: Vec<Definition>,
-    /// The open units.
-    pub units: Vec<UnitNo>,
-    /// Who is registered with any queue.
-    pub registrants: Vec<Registrant>,
-    /// What is in any queue, with what open units put in or took out.
-    pub elements: Vec<Element>,
-    /// What registrants did in the open units.
-    pub notes: Vec<Note>,
-}
-
 /// What the queue manager keeps, and where the members of each queue stand in its lists.
 #[derive(Drop)]
 pub struct State {
-    fields: Fields,
+    fields: KeptFields,
     homes: Vec<Vec<usize>>,
     registered: Vec<Vec<usize>>,
     noted: Vec<Vec<usize>>,
@@ -70,7 +49,7 @@ impl State {
     pub fn empty(alloc: Global) -> State
         ensures { result ≡ model.empty }
     {
-        let fields = Fields {
+        let fields = KeptFields {
             next: 0,
             greatest: 0,
             committed: 0,
@@ -89,9 +68,18 @@ impl State {
         }
     }
 
-    /// The state of the fields, with their lists put in order. Where there is no memory for the
-    /// tables of each queue's members, Resources, and the fields are dropped.
-    pub fn build(alloc: Global, mut fields: Fields) -> Result<State, Fault>
+    /// The state of the fields, with their lists put in order. Where memory runs out, Resources, and
+    /// the fields are dropped.
+    pub fn build(alloc: Global, fields: Fields) -> Result<State, Fault>
+        requires { IsWellFormed (state_in_order (state_of fields)) }
+        ensures built { IfOk result (λ s. s ≡ state_in_order (state_of fields)) }
+        ensures refused { IfErr result (λ e. e ≡ Resources) }
+    {
+        State::build_kept(alloc, KeptFields::of(alloc, fields)?)
+    }
+
+    /// The same of fields that are kept, of which nothing is copied.
+    pub fn build_kept(alloc: Global, mut fields: KeptFields) -> Result<State, Fault>
         requires { IsWellFormed (state_in_order (state_of fields)) }
         ensures built { IfOk result (λ s. s ≡ state_in_order (state_of fields)) }
         ensures refused { IfErr result (λ e. e ≡ Resources) }
@@ -106,7 +94,7 @@ impl State {
 
     /// The state of fields whose lists are in order already. Where there is no memory for the
     /// tables of each queue's members, Resources, and the fields are dropped.
-    pub fn of_ordered(alloc: Global, fields: Fields) -> Result<State, Fault>
+    pub fn of_ordered(alloc: Global, fields: KeptFields) -> Result<State, Fault>
         requires { IsWellFormed (state_of fields) }
         ensures built { IfOk result (λ s. s ≡ state_of fields) }
         ensures refused { IfErr result (λ e. e ≡ Resources) }
@@ -124,7 +112,7 @@ impl State {
     }
 
     /// Its fields, with their lists in order.
-    pub fn fields(&self) -> &Fields
+    pub fn fields(&self) -> &KeptFields
         ensures fields { state_of result.now ≡ self.now }
         ensures well_formed { IsWellFormed self.now }
     {
@@ -132,7 +120,7 @@ impl State {
     }
 
     /// Its fields alone, with their lists in order.
-    pub fn into_fields(self) -> Fields
+    pub fn into_fields(self) -> KeptFields
         ensures fields { state_of result ≡ self }
         ensures well_formed { IsWellFormed self }
     {
@@ -191,7 +179,7 @@ impl State {
     }
 
     /// The elements, by id.
-    pub fn elements(&self) -> &[Element]
+    pub fn elements(&self) -> &[KeptElement]
         ensures { result.now ≡ self.now.elements }
     {
         &self.fields.elements

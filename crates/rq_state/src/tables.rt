@@ -7,7 +7,8 @@ ghost use Rattle.rq_model.specs.States as model;
 ghost use Rattle.rq_state.specs.Orders.{indices_of, listed};
 ghost use Rattle.rq_record.specs.declared.fault.Fault.TheVariants.{Resources};
 
-use crate::members::{Element, Note, Registrant};
+use crate::kept_element::KeptElement;
+use crate::members::{Note, Registrant};
 use rq_record::{Fault, QueueNo};
 use std::alloc::Global;
 
@@ -40,7 +41,7 @@ fn list(table: &mut Vec<Vec<usize>>, queue: QueueNo, index: usize) -> Result<(),
 pub(crate) fn homes_of(
     alloc: Global,
     queues: usize,
-    elements: &[Element],
+    elements: &[KeptElement],
 ) -> Result<Vec<Vec<usize>>, Fault>
     requires { AllByRecursion (λ (e : model.Element). e.home < queues) elements.now }
     ensures listed { IfOk result (λ table. (queue : ℕ) →

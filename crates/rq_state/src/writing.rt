@@ -15,7 +15,8 @@ mod members;
 mod output;
 mod sizes;
 
-use crate::state::{Fields, State};
+use crate::fields::KeptFields;
+use crate::state::State;
 use crate::writing::lists::{put_definitions, put_elements, put_notes, put_registrants, put_units};
 pub use crate::writing::sizes::{fields_len, spelled_len};
 use rq_bytes::put_u64;
@@ -37,7 +38,7 @@ pub fn spell(alloc: Global, state: &State) -> Result<Vec<u8>, Fault>
 }
 
 /// The same of fields whose lists are in order.
-pub fn spell_fields(alloc: Global, fields: &Fields) -> Result<Vec<u8>, Fault>
+pub fn spell_fields(alloc: Global, fields: &KeptFields) -> Result<Vec<u8>, Fault>
     requires next { fields.now.next ≤ 4294967295 }
     requires well_formed { IsWellFormed (state_of fields.now) }
     ensures { Spelled (state_of fields.now) result }
@@ -51,7 +52,7 @@ pub fn spell_fields(alloc: Global, fields: &Fields) -> Result<Vec<u8>, Fault>
     Ok(out)
 }
 
-fn put_numbers(out: &mut Vec<u8>, fields: &Fields) -> Result<(), AllocError>
+fn put_numbers(out: &mut Vec<u8>, fields: &KeptFields) -> Result<(), AllocError>
     ensures { PutsSpelling out.old.items out.new.items
         (to_be_bytes w64 fields.now.next ++ (to_be_bytes w64 fields.now.greatest
         ++ (to_be_bytes w64 fields.now.committed ++ to_be_bytes w64 fields.now.aborted))) result }
@@ -62,7 +63,7 @@ fn put_numbers(out: &mut Vec<u8>, fields: &Fields) -> Result<(), AllocError>
     put_u64(out, fields.aborted)
 }
 
-fn put_members(out: &mut Vec<u8>, fields: &Fields) -> Result<(), AllocError>
+fn put_members(out: &mut Vec<u8>, fields: &KeptFields) -> Result<(), AllocError>
     requires { AreFew (state_of fields.now) }
     ensures { PutsSpelling out.old.items out.new.items
         (counted registrant_bytes fields.now.registrants.items
@@ -74,7 +75,7 @@ fn put_members(out: &mut Vec<u8>, fields: &Fields) -> Result<(), AllocError>
     put_notes(out, &fields.notes)
 }
 
-fn put_fields(out: &mut Vec<u8>, fields: &Fields) -> Result<(), AllocError>
+fn put_fields(out: &mut Vec<u8>, fields: &KeptFields) -> Result<(), AllocError>
     requires next { fields.now.next ≤ 4294967295 }
     requires well_formed { IsWellFormed (state_of fields.now) }
     ensures { PutsSpelling out.old.items out.new.items (state_bytes (state_of fields.now)) result }

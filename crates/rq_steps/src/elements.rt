@@ -11,10 +11,10 @@ ghost use Rattle.rq_state.specs.Views.{id_of};
 ghost use Rattle.rq_steps.specs.Best.{element_at, given_back, IsBestAmong};
 
 use rq_record::{ElemId, Fault, KeptPayload, QueueNo, UnitNo};
-use rq_state::{Definition, Element, Mark};
+use rq_state::{Definition, KeptElement, Mark};
 
 // Whether the element is Free and in the queue.
-fn is_free_at(e: &Element, queue: QueueNo) -> bool
+fn is_free_at(e: &KeptElement, queue: QueueNo) -> bool
     ensures { result ≡ machine.is_free_at queue.0 e.now }
 {
     let free = match e.mark {
@@ -25,14 +25,18 @@ fn is_free_at(e: &Element, queue: QueueNo) -> bool
 }
 
 // Whether a KILL of the element in the queue takes this one out.
-fn is_killed(e: &Element, queue: QueueNo, element: ElemId) -> bool
+fn is_killed(e: &KeptElement, queue: QueueNo, element: ElemId) -> bool
     ensures { result ≡ (machine.is_free_at queue.0 e.now && (e.now.id == element.0)) }
 {
     is_free_at(e, queue) && e.id.0 == element.0
 }
 
 /// The elements after a KILL.
-pub(crate) fn killed(elements: Vec<Element>, queue: QueueNo, element: ElemId) -> Vec<Element>
+pub(crate) fn killed(
+    elements: Vec<KeptElement>,
+    queue: QueueNo,
+    element: ElemId,
+) -> Vec<KeptElement>
     ensures { result.items ≡ machine.killed queue.0 element.0 elements.items }
 {
     let mut elements = elements;
@@ -42,24 +46,24 @@ pub(crate) fn killed(elements: Vec<Element>, queue: QueueNo, element: ElemId) ->
 
 /// The elements after an ENQUEUE with that record number.
 pub(crate) fn added(
-    elements: Vec<Element>,
+    elements: Vec<KeptElement>,
     place: u64,
     unit: UnitNo,
     queue: QueueNo,
     priority: u8,
     payload: KeptPayload,
-) -> Result<Vec<Element>, Fault>
+) -> Result<Vec<KeptElement>, Fault>
     ensures added { IfOk result (λ v. v.items ≡ elements.items
         ++ machine.new_element place unit.0 queue.0 priority payload ∷ []) }
     ensures refused { IfErr result (λ e. e ≡ Resources) }
 {
     let mut elements = elements;
-    elements.push(Element::fresh(place, unit, queue, priority, payload))?;
+    elements.push(KeptElement::fresh(place, unit, queue, priority, payload))?;
     Ok(elements)
 }
 
 // Makes an element Free, if it is a Fresh one of the unit.
-fn free(e: &mut Element, unit: UnitNo)
+fn free(e: &mut KeptElement, unit: UnitNo)
     ensures { e.new ≡ (if model.is_fresh unit.0 e.old.mark
         then machine.marked model.Free e.old else e.old) }
 {
@@ -69,7 +73,7 @@ fn free(e: &mut Element, unit: UnitNo)
 }
 
 // The elements with the Fresh ones of the unit made Free.
-fn all_freed(elements: Vec<Element>, unit: UnitNo) -> Vec<Element>
+fn all_freed(elements: Vec<KeptElement>, unit: UnitNo) -> Vec<KeptElement>
     ensures { result.items ≡ map
         (λ e. if model.is_fresh unit.0 e.mark then machine.marked model.Free e else e)
         elements.items }
@@ -82,7 +86,7 @@ fn all_freed(elements: Vec<Element>, unit: UnitNo) -> Vec<Element>
 }
 
 /// The elements after a COMMIT of the unit.
-pub(crate) fn committed(elements: Vec<Element>, unit: UnitNo) -> Vec<Element>
+pub(crate) fn committed(elements: Vec<KeptElement>, unit: UnitNo) -> Vec<KeptElement>
     ensures { result.items ≡ machine.committed_elements unit.0 elements.items }
 {
     let mut elements = elements;
@@ -92,7 +96,7 @@ pub(crate) fn committed(elements: Vec<Element>, unit: UnitNo) -> Vec<Element>
 
 // As an ABORT of the unit leaves an element that is no Fresh one of it: where the unit holds it,
 // Free with one attempt more, or in the error queue of its home.
-fn give_back(e: &mut Element, unit: UnitNo, definitions: &[Definition])
+fn give_back(e: &mut KeptElement, unit: UnitNo, definitions: &[Definition])
     requires home { e.old.home < length definitions.now }
     requires room { e.old.attempts + 1 < 2 ^ 64 }
     ensures { e.new ≡ given_back definitions.now unit.0 e.old }
@@ -111,7 +115,11 @@ fn give_back(e: &mut Element, unit: UnitNo, definitions: &[Definition])
 }
 
 // Elements, none of them a Fresh one of the unit, as an ABORT of the unit leaves them.
-fn all_given_back(elements: Vec<Element>, unit: UnitNo, definitions: &[Definition]) -> Vec<Element>
+fn all_given_back(
+    elements: Vec<KeptElement>,
+    unit: UnitNo,
+    definitions: &[Definition],
+) -> Vec<KeptElement>
     requires homes { AllByRecursion (λ (e : model.Element). e.home < length definitions.now)
         elements.items }
     requires room { AllByRecursion (λ (e : model.Element). e.attempts + 1 < 2 ^ 64)
@@ -127,10 +135,10 @@ fn all_given_back(elements: Vec<Element>, unit: UnitNo, definitions: &[Definitio
 
 /// The elements after an ABORT of the unit.
 pub(crate) fn aborted(
-    elements: Vec<Element>,
+    elements: Vec<KeptElement>,
     unit: UnitNo,
     definitions: &[Definition],
-) -> Vec<Element>
+) -> Vec<KeptElement>
     requires homes { AllByRecursion (λ (e : model.Element). e.home < length definitions.now)
         elements.items }
     requires room { AllByRecursion (λ (e : model.Element). e.attempts + 1 < 2 ^ 64)
@@ -143,14 +151,14 @@ pub(crate) fn aborted(
 }
 
 // Whether the first of two comes before the second, or is it.
-fn comes_first(e: &Element, f: &Element) -> bool
+fn comes_first(e: &KeptElement, f: &KeptElement) -> bool
     ensures { result ≡ machine.comes_first e.now f.now }
 {
     e.priority > f.priority || (e.priority == f.priority && e.id.0 <= f.id.0)
 }
 
 // The element at an index.
-fn at(elements: &[Element], index: usize) -> &Element
+fn at(elements: &[KeptElement], index: usize) -> &KeptElement
     requires { index < length elements.now }
     ensures { result.now ≡ element_at elements.now index }
 {
@@ -158,7 +166,12 @@ fn at(elements: &[Element], index: usize) -> &Element
 }
 
 // The index of the best of the queue, given the one before an index and the element there.
-fn better(elements: &[Element], best: Option<usize>, index: usize, queue: QueueNo) -> Option<usize>
+fn better(
+    elements: &[KeptElement],
+    best: Option<usize>,
+    index: usize,
+    queue: QueueNo,
+) -> Option<usize>
     requires there { index < length elements.now }
     requires best { IsBestAmong queue.0 elements.now (take index elements.now) best }
     ensures { IsBestAmong queue.0 elements.now (take (index + 1) elements.now) result }
@@ -177,7 +190,7 @@ fn better(elements: &[Element], best: Option<usize>, index: usize, queue: QueueN
 }
 
 // The index of the best element of the queue; none where none of it is Free.
-fn best_index(elements: &[Element], queue: QueueNo) -> Option<usize>
+fn best_index(elements: &[KeptElement], queue: QueueNo) -> Option<usize>
     ensures { IsBestAmong queue.0 elements.now elements.now result }
 {
     let mut best = None;
@@ -190,10 +203,10 @@ fn best_index(elements: &[Element], queue: QueueNo) -> Option<usize>
 /// The elements after a DEQUEUE from the queue in the unit, and the id of the one that it takes,
 /// where one of the queue is Free.
 pub(crate) fn held(
-    elements: Vec<Element>,
+    elements: Vec<KeptElement>,
     unit: UnitNo,
     queue: QueueNo,
-) -> (Vec<Element>, Option<ElemId>)
+) -> (Vec<KeptElement>, Option<ElemId>)
     requires { Ordered (λ (e f : model.Element). e.id < f.id) elements.items }
     ensures held { result.0.items ≡ machine.best_held unit.0 queue.0 elements.items }
     ensures best { id_of result.1

@@ -12,11 +12,16 @@ ghost use Rattle.rq_steps.specs.Spared.{adds_nothing};
 
 use crate::elements::{aborted, added, committed, held, killed};
 use crate::members::{close_notes, close_unit, deregister, note, register, tell, unnote};
-use rq_record::{ElemId, Fault, KeptBy, KeptName, KeptPayload, QueueNo, Record, UnitNo};
-use rq_state::{Definition, Fields, OpKind};
+use rq_record::{ElemId, Fault, KeptBy, KeptName, KeptPayload, KeptRecord, QueueNo, UnitNo};
+use rq_state::{Definition, KeptFields, OpKind};
 
 // A queue more.
-fn defined(fields: Fields, limit: u16, error: QueueNo, name: &KeptName) -> Result<Fields, Fault>
+fn defined(
+    fields: KeptFields,
+    limit: u16,
+    error: QueueNo,
+    name: &KeptName,
+) -> Result<KeptFields, Fault>
     ensures defined { IfOk result
         (λ f. state_of f ≡ change (state_of fields) (Define limit error.0 name.now)) }
     ensures refused { IfErr result (λ e. e ≡ Resources) }
@@ -31,7 +36,7 @@ fn defined(fields: Fields, limit: u16, error: QueueNo, name: &KeptName) -> Resul
 }
 
 // A unit more.
-fn begun(fields: Fields, unit: UnitNo) -> Result<Fields, Fault>
+fn begun(fields: KeptFields, unit: UnitNo) -> Result<KeptFields, Fault>
     ensures begun { IfOk result (λ f. state_of f ≡ change (state_of fields) (Begin unit.0)) }
     ensures refused { IfErr result (λ e. e ≡ Resources) }
 {
@@ -42,7 +47,7 @@ fn begun(fields: Fields, unit: UnitNo) -> Result<Fields, Fault>
 }
 
 // A registrant more, unless the name is registered with the queue already.
-fn registered(fields: Fields, queue: QueueNo, name: &KeptName) -> Result<Fields, Fault>
+fn registered(fields: KeptFields, queue: QueueNo, name: &KeptName) -> Result<KeptFields, Fault>
     requires { IsWellFormed (state_of fields) }
     ensures registered { IfOk result
         (λ f. state_of f ≡ change (state_of fields) (Register queue.0 name.now)) }
@@ -54,7 +59,7 @@ fn registered(fields: Fields, queue: QueueNo, name: &KeptName) -> Result<Fields,
 }
 
 // A registrant less.
-fn deregistered(fields: Fields, queue: QueueNo, name: &KeptName) -> Fields
+fn deregistered(fields: KeptFields, queue: QueueNo, name: &KeptName) -> KeptFields
     ensures { state_of result ≡ change (state_of fields) (Deregister queue.0 name.now) }
 {
     let mut fields = fields;
@@ -66,13 +71,13 @@ fn deregistered(fields: Fields, queue: QueueNo, name: &KeptName) -> Fields
 
 // An element more.
 fn enqueued(
-    fields: Fields,
+    fields: KeptFields,
     unit: UnitNo,
     queue: QueueNo,
     priority: u8,
     by: &KeptBy,
     payload: &KeptPayload,
-) -> Result<Fields, Fault>
+) -> Result<KeptFields, Fault>
     ensures enqueued { IfOk result (λ f. state_of f
         ≡ change (state_of fields) (Enqueue unit.0 queue.0 priority by.now payload.now)) }
     ensures refused { IfErr result (λ e. e ≡ Resources) }
@@ -95,7 +100,12 @@ fn enqueued(
 }
 
 // The best element of a queue is held, where one of the queue is free.
-fn dequeued(fields: Fields, unit: UnitNo, queue: QueueNo, by: &KeptBy) -> Result<Fields, Fault>
+fn dequeued(
+    fields: KeptFields,
+    unit: UnitNo,
+    queue: QueueNo,
+    by: &KeptBy,
+) -> Result<KeptFields, Fault>
     requires { IsWellFormed (state_of fields) }
     ensures dequeued { IfOk result (λ f. state_of f
         ≡ change (state_of fields) (Dequeue unit.0 queue.0 by.now)) }
@@ -119,7 +129,7 @@ fn dequeued(fields: Fields, unit: UnitNo, queue: QueueNo, by: &KeptBy) -> Result
 }
 
 // A unit's work stands.
-fn settled(fields: Fields, unit: UnitNo) -> Fields
+fn settled(fields: KeptFields, unit: UnitNo) -> KeptFields
     requires well_formed { IsWellFormed (state_of fields) }
     requires next { fields.next ≤ 4294967295 }
     ensures { state_of result ≡ change (state_of fields) (Commit unit.0) }
@@ -134,7 +144,7 @@ fn settled(fields: Fields, unit: UnitNo) -> Fields
 }
 
 // A unit's work is undone.
-fn undone(fields: Fields, unit: UnitNo) -> Fields
+fn undone(fields: KeptFields, unit: UnitNo) -> KeptFields
     requires well_formed { IsWellFormed (state_of fields) }
     requires next { fields.next ≤ 4294967295 }
     ensures { state_of result ≡ change (state_of fields) (Abort unit.0) }
@@ -148,7 +158,7 @@ fn undone(fields: Fields, unit: UnitNo) -> Fields
 }
 
 // What a record does, but for the record number.
-fn changed(fields: Fields, rec: &Record) -> Result<Fields, Fault>
+fn changed(fields: KeptFields, rec: &KeptRecord) -> Result<KeptFields, Fault>
     requires well_formed { IsWellFormed (state_of fields) }
     requires next { fields.next ≤ 4294967295 }
     ensures changed { IfOk result
@@ -157,22 +167,22 @@ fn changed(fields: Fields, rec: &Record) -> Result<Fields, Fault>
     ensures refused { IfErr result (λ e. e ≡ Resources) }
 {
     match rec {
-        Record::Define { limit, error, name } => defined(fields, *limit, *error, name),
-        Record::Register { queue, name } => registered(fields, *queue, name),
-        Record::Deregister { queue, name } => Ok(deregistered(fields, *queue, name)),
-        Record::Begin { unit } => begun(fields, *unit),
-        Record::Enqueue {
+        KeptRecord::Define { limit, error, name } => defined(fields, *limit, *error, name),
+        KeptRecord::Register { queue, name } => registered(fields, *queue, name),
+        KeptRecord::Deregister { queue, name } => Ok(deregistered(fields, *queue, name)),
+        KeptRecord::Begin { unit } => begun(fields, *unit),
+        KeptRecord::Enqueue {
             priority,
             queue,
             unit,
             by,
             payload,
         } => enqueued(fields, *unit, *queue, *priority, by, payload),
-        Record::Dequeue { unit, queue, by } => dequeued(fields, *unit, *queue, by),
-        Record::Commit { unit } => Ok(settled(fields, *unit)),
-        Record::Abort { unit } => Ok(undone(fields, *unit)),
-        Record::Checkpoint { .. } => Ok(fields),
-        Record::Kill { queue, element } => {
+        KeptRecord::Dequeue { unit, queue, by } => dequeued(fields, *unit, *queue, by),
+        KeptRecord::Commit { unit } => Ok(settled(fields, *unit)),
+        KeptRecord::Abort { unit } => Ok(undone(fields, *unit)),
+        KeptRecord::Checkpoint { .. } => Ok(fields),
+        KeptRecord::Kill { queue, element } => {
             let mut fields = fields;
             fields.elements = killed(fields.elements, *queue, *element);
             Ok(fields)
@@ -184,7 +194,7 @@ fn changed(fields: Fields, rec: &Record) -> Result<Fields, Fault>
 /// members of the lists that the record may change, and takes memory for what it adds alone: where
 /// that is refused, Resources, and the fields are dropped. A record that adds nothing, as a COMMIT,
 /// is never refused.
-pub fn stepped(fields: Fields, rec: &Record) -> Result<Fields, Fault>
+pub fn stepped(fields: KeptFields, rec: &KeptRecord) -> Result<KeptFields, Fault>
     requires well_formed { IsWellFormed (state_of fields) }
     requires next { fields.next ≤ 4294967295 }
     ensures stepped { IfOk result

@@ -9,11 +9,12 @@ ghost use Rattle.rq_state.specs.Tests.{unit_test, definitions_test, depth_test, 
 ghost use Rattle.rq_state.specs.Tests.{registrant_test, note_test};
 ghost use Rattle.rq_state.specs.Views.{unit_of};
 
+use crate::fields::KeptFields;
 use crate::keeping::members::{
     is_definition, is_element, is_note, is_one_deep, is_registrant, is_unit,
 };
-use crate::members::{Definition, Element, Note, Registrant};
-use crate::state::Fields;
+use crate::kept_element::KeptElement;
+use crate::members::{Definition, Note, Registrant};
 use rq_record::UnitNo;
 
 pub(crate) fn do_units_rise(units: &[UnitNo]) -> bool
@@ -28,7 +29,7 @@ pub(crate) fn do_registrants_rise(registrants: &[Registrant]) -> bool
     registrants.is_sorted_by(|one, next| one.is_before(next))
 }
 
-pub(crate) fn do_elements_rise(elements: &[Element]) -> bool
+pub(crate) fn do_elements_rise(elements: &[KeptElement]) -> bool
     ensures { IsTrue result ↔ Ordered (λ (e : model.Element) f. e.id < f.id) elements.now }
 {
     elements.is_sorted_by(|one, next| one.number() < next.number())
@@ -75,7 +76,7 @@ pub(crate) fn are_units(greatest: u64, units: &[UnitNo]) -> bool
     true
 }
 
-pub(crate) fn are_registrants(fields: &Fields) -> bool
+pub(crate) fn are_registrants(fields: &KeptFields) -> bool
     ensures { result
         ≡ list_all (registrant_test (state_of fields.now)) fields.now.registrants.items }
 {
@@ -87,7 +88,7 @@ pub(crate) fn are_registrants(fields: &Fields) -> bool
     true
 }
 
-pub(crate) fn are_elements(fields: &Fields) -> bool
+pub(crate) fn are_elements(fields: &KeptFields) -> bool
     requires { Ordered (λ u v. u < v) (map unit_of fields.now.units.items) }
     ensures { result ≡ list_all (element_test (state_of fields.now)) fields.now.elements.items }
 {
@@ -99,7 +100,7 @@ pub(crate) fn are_elements(fields: &Fields) -> bool
     true
 }
 
-pub(crate) fn are_notes(fields: &Fields) -> bool
+pub(crate) fn are_notes(fields: &KeptFields) -> bool
     requires units { Ordered (λ u v. u < v) (map unit_of fields.now.units.items) }
     requires registrants { Ordered
         (λ r t. model.registrant_before r t ≡ true) fields.now.registrants.items }

@@ -9,9 +9,10 @@ ghost use Rattle.rq_state.specs.Tests.{mark_test, element_test, operation_test, 
 ghost use Rattle.rq_state.specs.Tests.{optional_test, registrant_test, note_test};
 ghost use Rattle.rq_state.specs.Views.{kind_of, mark_of, id_of, unit_of};
 
+use crate::fields::KeptFields;
 use crate::keeping::searching::{has_registrant, has_unit};
-use crate::members::{Definition, Element, Last, Mark, Note, OpKind, Registrant};
-use crate::state::Fields;
+use crate::kept_element::KeptElement;
+use crate::members::{Definition, Last, Mark, Note, OpKind, Registrant};
 use rq_record::{ElemId, QueueNo, UnitNo};
 
 /// At least 1, and at most the greatest unit that began.
@@ -75,7 +76,7 @@ fn is_below_limit(limit: u16, attempts: u64) -> bool
 
 /// An element below the next record number, in queues that are defined, of an open unit where it is
 /// marked.
-pub(crate) fn is_element(fields: &Fields, element: &Element) -> bool
+pub(crate) fn is_element(fields: &KeptFields, element: &KeptElement) -> bool
     requires { Ordered (λ u v. u < v) (map unit_of fields.now.units.items) }
     ensures { result ≡ element_test (state_of fields.now) element.now }
 {
@@ -117,7 +118,7 @@ fn is_optional(next: u64, last: &Option<Last>) -> bool
 }
 
 /// A registrant of a queue that is defined, whose last operation is below the next record number.
-pub(crate) fn is_registrant(fields: &Fields, registrant: &Registrant) -> bool
+pub(crate) fn is_registrant(fields: &KeptFields, registrant: &Registrant) -> bool
     ensures { result ≡ registrant_test (state_of fields.now) registrant.now }
 {
     (registrant.queue.0 as usize) < fields.definitions.len()
@@ -125,7 +126,7 @@ pub(crate) fn is_registrant(fields: &Fields, registrant: &Registrant) -> bool
 }
 
 /// A note of an open unit and a registrant, whose operation is below the next record number.
-pub(crate) fn is_note(fields: &Fields, note: &Note) -> bool
+pub(crate) fn is_note(fields: &KeptFields, note: &Note) -> bool
     requires units { Ordered (λ u v. u < v) (map unit_of fields.now.units.items) }
     requires registrants { Ordered
         (λ r t. registrant_before r t ≡ true) fields.now.registrants.items }

@@ -8,11 +8,12 @@ ghost use Rattle.rq_bytes.specs.Readers.{number, members, counted_members, alone
 ghost use Rattle.rq_model.specs.StateReading.{definition_read, registrant_read, element_read};
 ghost use Rattle.rq_model.specs.StateReading.{note_read, state_read};
 
-use crate::members::{Definition, Element, Note, Registrant};
+use crate::fields::KeptFields;
+use crate::kept_element::KeptElement;
+use crate::members::{Definition, Note, Registrant};
 use crate::reading::members::{
     take_definition, take_element, take_note, take_registrant, take_unit,
 };
-use crate::state::Fields;
 use rq_bytes::Cursor;
 use rq_record::{Fault, UnitNo};
 use std::alloc::Global;
@@ -92,7 +93,11 @@ fn take_all_registrants(alloc: Global, bytes: &mut Cursor<'_>) -> Result<Vec<Reg
 }
 
 #[tactic(auto, using(crate::proofs::Loop::begins, crate::proofs::Loop::ends))]
-fn take_elements(alloc: Global, count: u32, bytes: &mut Cursor<'_>) -> Result<Vec<Element>, Fault>
+fn take_elements(
+    alloc: Global,
+    count: u32,
+    bytes: &mut Cursor<'_>,
+) -> Result<Vec<KeptElement>, Fault>
     ensures { GivesFromCheckpoint (λ x. (x.items, bytes.new)) result
         (members element_read count bytes.old) }
 {
@@ -105,7 +110,7 @@ fn take_elements(alloc: Global, count: u32, bytes: &mut Cursor<'_>) -> Result<Ve
 }
 
 #[tactic(auto, unfolding(rq_bytes::specs::Readers::counted_members))]
-fn take_all_elements(alloc: Global, bytes: &mut Cursor<'_>) -> Result<Vec<Element>, Fault>
+fn take_all_elements(alloc: Global, bytes: &mut Cursor<'_>) -> Result<Vec<KeptElement>, Fault>
     ensures { GivesFromCheckpoint (λ x. (x.items, bytes.new)) result
         (counted_members element_read bytes.old) }
 {
@@ -136,7 +141,7 @@ fn take_all_notes(alloc: Global, bytes: &mut Cursor<'_>) -> Result<Vec<Note>, Fa
 }
 
 #[tactic(auto, unfolding(rq_model::specs::StateReading::state_read))]
-fn take_fields(alloc: Global, bytes: &mut Cursor<'_>) -> Result<Fields, Fault>
+fn take_fields(alloc: Global, bytes: &mut Cursor<'_>) -> Result<KeptFields, Fault>
     ensures { GivesFromCheckpoint (λ x. (state_of x, bytes.new)) result
         (state_read bytes.old) }
 {
@@ -149,7 +154,7 @@ fn take_fields(alloc: Global, bytes: &mut Cursor<'_>) -> Result<Fields, Fault>
     let registrants = take_all_registrants(alloc, bytes)?;
     let elements = take_all_elements(alloc, bytes)?;
     let notes = take_all_notes(alloc, bytes)?;
-    Ok(Fields {
+    Ok(KeptFields {
         next,
         greatest,
         committed,
@@ -162,7 +167,7 @@ fn take_fields(alloc: Global, bytes: &mut Cursor<'_>) -> Result<Fields, Fault>
     })
 }
 
-pub(crate) fn all_fields(alloc: Global, bytes: &[u8]) -> Result<Fields, Fault>
+pub(crate) fn all_fields(alloc: Global, bytes: &[u8]) -> Result<KeptFields, Fault>
     ensures { GivesFromCheckpoint (λ x. (state_of x, [])) result (alone state_read bytes.now) }
 {
     let mut bytes = Cursor::new(bytes);

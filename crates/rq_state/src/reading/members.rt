@@ -10,7 +10,8 @@ ghost use Rattle.rq_bytes.specs.Readers.{number, made};
 ghost use Rattle.rq_state.specs.Views.{mark_of, kind_of, id_of, unit_of};
 ghost use Rattle.rq_state.specs.Reading.{GivesFromCheckpoint};
 
-use crate::members::{Definition, Element, Last, Mark, Note, OpKind, Registrant};
+use crate::kept_element::KeptElement;
+use crate::members::{Definition, Last, Mark, Note, OpKind, Registrant};
 use rq_bytes::Cursor;
 use rq_record::{ElemId, Fault, KeptPayload, Name, QueueNo, UnitNo};
 use std::alloc::Global;
@@ -168,14 +169,14 @@ fn kept_payload(alloc: Global, bytes: &[u8]) -> Result<KeptPayload, Fault>
     }
 }
 
-pub(crate) fn take_element(alloc: Global, bytes: &mut Cursor<'_>) -> Result<Element, Fault>
+pub(crate) fn take_element(alloc: Global, bytes: &mut Cursor<'_>) -> Result<KeptElement, Fault>
     ensures { GivesFromCheckpoint (λ x. (x, bytes.new)) result (element_read bytes.old) }
 {
     let (id, home, origin, priority, attempts, mark, payload) = element_fields(bytes).ok_or(
         Fault::BadCheckpoint,
     )?;
     let payload = kept_payload(alloc, payload)?;
-    Ok(Element {
+    Ok(KeptElement {
         id: ElemId(id),
         home: QueueNo(home),
         origin: QueueNo(origin),

@@ -7,7 +7,8 @@ ghost use Rattle.rq_model.specs.StateSpelling.{element_bytes, note_bytes};
 ghost use Rattle.rq_state.specs.Views.{unit_of};
 ghost use Rattle.rq_state.specs.Writing.{PutsSpelling};
 
-use crate::members::{Definition, Element, Note, Registrant};
+use crate::kept_element::KeptElement;
+use crate::members::{Definition, Note, Registrant};
 use crate::writing::members::{put_definition, put_element, put_note, put_registrant};
 use rq_bytes::{put_u32, put_u64};
 use rq_record::UnitNo;
@@ -49,7 +50,7 @@ pub(crate) fn put_registrants(out: &mut Vec<u8>, members: &[Registrant]) -> Resu
     Ok(())
 }
 
-pub(crate) fn put_elements(out: &mut Vec<u8>, members: &[Element]) -> Result<(), AllocError>
+pub(crate) fn put_elements(out: &mut Vec<u8>, members: &[KeptElement]) -> Result<(), AllocError>
     requires { length members.now < 4294967296 }
     ensures { PutsSpelling out.old.items out.new.items (counted element_bytes members.now) result }
 {

@@ -8,7 +8,8 @@ ghost use Rattle.rq_model.specs.StateSpelling.{mark_bytes, element_bytes, note_b
 ghost use Rattle.rq_state.specs.Views.{mark_of};
 ghost use Rattle.rq_state.specs.Writing.{PutsSpelling};
 
-use crate::members::{Definition, Element, Last, Mark, Note, Registrant};
+use crate::kept_element::KeptElement;
+use crate::members::{Definition, Last, Mark, Note, Registrant};
 use crate::writing::output::{put_id, put_kind, put_name, put_payload};
 use rq_bytes::{put_u8, put_u16, put_u32, put_u64};
 use std::alloc::AllocError;
@@ -79,7 +80,7 @@ pub(crate) fn put_registrant(out: &mut Vec<u8>, registrant: &Registrant) -> Resu
     put_last(out, &registrant.last)
 }
 
-fn put_element_end(out: &mut Vec<u8>, element: &Element) -> Result<(), AllocError>
+fn put_element_end(out: &mut Vec<u8>, element: &KeptElement) -> Result<(), AllocError>
     ensures { PutsSpelling out.old.items out.new.items (element.now.priority
         ∷ (to_be_bytes w64 element.now.attempts ++ (mark_bytes element.now.mark
         ++ (to_be_bytes w16 (length element.now.payload) ++ element.now.payload)))) result }
@@ -90,7 +91,7 @@ fn put_element_end(out: &mut Vec<u8>, element: &Element) -> Result<(), AllocErro
     put_payload(out, element.payload.bytes())
 }
 
-pub(crate) fn put_element(out: &mut Vec<u8>, element: &Element) -> Result<(), AllocError>
+pub(crate) fn put_element(out: &mut Vec<u8>, element: &KeptElement) -> Result<(), AllocError>
     ensures { PutsSpelling out.old.items out.new.items (element_bytes element.now) result }
 {
     put_u64(out, element.id.0)?;

@@ -8,8 +8,10 @@ ghost use Rattle.rq_model.specs.StateSpelling.{mark_bytes, element_bytes, note_b
 ghost use Rattle.rq_state.specs.Inside.{state_of};
 ghost use Rattle.rq_state.specs.Views.{mark_of, unit_of};
 
-use crate::members::{Definition, Element, Last, Mark, Note, Registrant};
-use crate::state::{Fields, State};
+use crate::fields::KeptFields;
+use crate::kept_element::KeptElement;
+use crate::members::{Definition, Last, Mark, Note, Registrant};
+use crate::state::State;
 use rq_record::UnitNo;
 
 fn definition_size(definition: &Definition) -> u32
@@ -44,7 +46,7 @@ fn mark_size(mark: Mark) -> u32
     }
 }
 
-fn element_size(element: &Element) -> u32
+fn element_size(element: &KeptElement) -> u32
     ensures { result ≡ length (element_bytes element.now) }
 {
     27 + mark_size(element.mark) + element.payload.bytes().len() as u32
@@ -78,7 +80,7 @@ fn registrants_size(members: &[Registrant]) -> u128
     total
 }
 
-fn elements_size(members: &[Element]) -> u128
+fn elements_size(members: &[KeptElement]) -> u128
     ensures size { result ≡ length (flat_map element_bytes members.now) }
     ensures small { result ≤ 4294967295 * length members.now }
 {
@@ -116,7 +118,7 @@ pub fn spelled_len(state: &State) -> u128
 }
 
 /// The same of fields whose lists are in order.
-pub fn fields_len(fields: &Fields) -> u128
+pub fn fields_len(fields: &KeptFields) -> u128
     ensures { result ≡ length (state_bytes (state_of fields.now)) }
 {
     // four numbers of 8 bytes and five counts of 4

@@ -47,9 +47,9 @@ ordered : (c : In_ok-fields) (t : State) → IsRedoneTo t c.args.self
     → state_in_order (state_of c.in_ok-fields.fields) ≡ t
 ordered c t all = c.any_order_makes_the_state.ensures t (state_of c.in_ok-fields.fields) all.well (same c t all)
 
-pub build-requires : goal.build-requires
-build-requires c =
-    let d = (goal.at.build-requires c).In_ok-fields in
+pub build_kept-requires : goal.build_kept-requires
+build_kept-requires c =
+    let d = (goal.at.build_kept-requires c).In_ok-fields in
     let all = c.requires.redone in
     subst IsWellFormed (sym (ordered d all.0 all.1)) all.1.well
 

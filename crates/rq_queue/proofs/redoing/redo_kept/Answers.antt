@@ -7,7 +7,7 @@ use Rattle.rq_model.specs.Redo.{redone, all_sent}
 use Rattle.rq_model.specs.States.{State}
 use Rattle.rq_queue.specs.Case.{AreRising, IsCase}
 use Rattle.rq_queue.proofs.Cases.{goes_well, arrivals_rise, redone_part, sent_moves}
-use Rattle.rq_queue.proofs.redoing.redo.Goals as goal
+use Rattle.rq_queue.proofs.redoing.redo_kept.Goals as goal
 
 pub redo_in_order-requires-clause-well : goal.redo_in_order-requires-clause-well
 redo_in_order-requires-clause-well c =

@@ -1,0 +1,28 @@
+use Rattle.std.proofs.Common.{subst, List}
+use Rattle.std.specs.List.Sorted.{IsPermutation}
+use Rattle.std.proofs.lemmas.List.Sorted.{IsPermutation-refl}
+use Rattle.rq_model.specs.States.{Note, Registrant}
+use Rattle.rq_model.specs.Queues.{Part}
+use Rattle.rq_queue.proofs.Poured.{grows}
+use Rattle.rq_queue.proofs.part.Part.pour_kept.Goals as goal
+
+pub returns-clause-elements : goal.returns-clause-elements
+returns-clause-elements c =
+    grows _ _ _ _ _ c.add.ensures.elements
+    (subst (λ (p : Part). IsPermutation p.elements c.in_ok-elements.elements.items) c.self.view_is
+    c.in_ok-elements.ensures.listed)
+
+pub returns-clause-registrants : goal.returns-clause-registrants
+returns-clause-registrants c =
+    let list = c.in_ok-registrants.registrants.items in
+    grows _ _ _ _ _ c.add.ensures.registrants
+    (subst (λ (p : Part). IsPermutation p.registrants list) c.self.view_is
+    (subst (λ (xs : List Registrant). IsPermutation xs list) c.in_ok-registrants.ensures.listed
+    (IsPermutation-refl list)))
+
+pub returns-clause-notes : goal.returns-clause-notes
+returns-clause-notes c =
+    let list = c.in_ok-notes.notes.items in
+    grows _ _ _ _ _ c.add.ensures.notes
+    (subst (λ (p : Part). IsPermutation p.notes list) c.self.view_is
+    (subst (λ (xs : List Note). IsPermutation xs list) c.in_ok-notes.ensures.listed (IsPermutation-refl list)))
