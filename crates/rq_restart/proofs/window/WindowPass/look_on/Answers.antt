@@ -41,5 +41,5 @@ returns-clause-stopped g c = λ o x h.
     let long : c.len.result ≡ length f.window.items = omega (arith, c.len.ensures) in
     let used : f.total - (c.len.result - f.place) ≡ f.total - (length f.window.items - f.place) =
     ap (λ (n : ℕ). f.total - (n - f.place)) long in
-    settled o x f (why_of c.in_ok-why.why) c.lasting-self.result _ c.judge_frames.ensures.going used
+    settled o x f (why_of c.in_ok-why.why) c.lasting-self.result _ _ c.judge_frames.ensures.going used
     c.lasting-self.ensures (c.in_ok-why.ensures.stops o x h)
