@@ -4,7 +4,7 @@ use Rattle.std.proofs.Common.{append_assoc, arith}
 use Rattle.std.specs.Prelude.{Result, Ok, Err, IfOk, IfErr}
 use Rattle.std.proofs.lemmas.List.{length-append, length-take, take-append-drop, take-take, take_at}
 use Rattle.rq_model.specs.Records.{Version}
-use Rattle.rq_model.specs.Frames.{HasHeader, header, log_limit}
+use Rattle.rq_model.specs.Frames.{header}
 use Rattle.rq_model.specs.LogLaws.{FrontStops}
 use Rattle.rq_model.proofs.Restarts.{header_long}
 use Rattle.rq_record.specs.declared.fault.Fault.{Fault}

@@ -1,7 +1,8 @@
 -- A window that is looked at, made shorter, and added to.
-use Rattle.std.proofs.Common.{◌≡◌, ℕ, ◌+◌, ◌-◌, ◌<◌, ◌≤◌, List, [], ◌∷◌, ◌++◌, length, take, drop, refl, sym, ap, subst}
+use Rattle.std.proofs.Common.{◌≡◌, ℕ, ◌+◌, ◌-◌, ◌<◌, ◌≤◌, List, [], ◌++◌, length, take, drop, refl, sym, ap, subst}
 use Rattle.std.proofs.Common.{◌∙◌, append_assoc, arith, Option, Some, None}
-use Rattle.std.proofs.lemmas.List.{drop-append-le, drop_all, drop_at, drop-drop, length-append, length-drop, length-take}
+use Rattle.std.proofs.lemmas.List.{drop-append-le, drop_all, drop_at, drop-drop, length-append, length-drop}
+use Rattle.std.proofs.lemmas.List.{length-take}
 use Rattle.std.proofs.lemmas.List.{take-append-le, take_all, take_at}
 use Rattle.std.specs.Prelude.{Result, Ok, Err, IfErr, IfOk, OnOk}
 use Rattle.rq_model.specs.Records.{Record, Version}
@@ -23,7 +24,7 @@ use Rattle.rq_restart.specs.declared.restarted.Why as declared
 use Rattle.rq_restart.specs.declared.window.WindowPass.{WindowPass}
 use Rattle.rq_restart.specs.declared.judged.JudgedFront.{JudgedFront}
 use Rattle.rq_restart.specs.JudgedFronts.{IsJudged}
-use Rattle.rq_restart.specs.Windows.{AreFramed, Follows, IsStopped, IsStoppedFront, IsLasting, Origin, StandsAt, Stops}
+use Rattle.rq_restart.specs.Windows.{AreFramed, IsFed, IsStopped, IsStoppedFront, IsLasting, Origin, StandsAt, HasEnd}
 use Rattle.rq_restart.specs.Windows.{Waits, log_origin}
 use Rattle.rq_restart.proofs.Passes.{part_more, why_more}
 use Rattle.rq_restart.proofs.Starts.{started}
@@ -44,8 +45,8 @@ framed w place spans end rest after within walked is = record {
 
 -- behind all of them it stops for the reason that follows
 pub stops_behind : (o : Origin) (x : List ℕ) (f : WindowPass) (end : ℕ) (rest : frames.Rest) (why : Why)
-    → f.ended ≡ None → AreFramed f.window.items f.place [] end rest → why ≡ Ends rest → Follows o x f
-    → Stops o x f why
+    → f.ended ≡ None → AreFramed f.window.items f.place [] end rest → why ≡ Ends rest → IsFed o x f
+    → HasEnd o x f why
 stops_behind o x f end rest why going h is (rs, left, at) =
     let w = f.window.items in
     let there : IsRest (before f.place w) left rest =
@@ -59,17 +60,18 @@ stops_behind o x f end rest why going h is (rs, left, at) =
     )
 
 -- what is known of the end is kept if it stays
-module _ (o : Origin) (x : List ℕ) (f : WindowPass) (why : Why) (y : Option declared.Why) (u : ℕ)
+module _ (o : Origin) (x : List ℕ) (f : WindowPass) (why : Why) (y : Option declared.Why) (u e : ℕ)
     (going : f.ended ≡ None) (used : u ≡ f.total - (length f.window.items - f.place)) (lasts : IsLasting why y) where
-  abbrev settled_f : WindowPass
-  settled_f = record f { used = u; ended = y }
+  abbrev settled_pass : WindowPass
+  settled_pass = record f { used = u; enough = e; ended = y }
 
-  pub settled : Stops o x f why → IsStopped o x settled_f why
+  pub settled : HasEnd o x f why → IsStopped o x settled_pass why
   settled (rs, rest, at, ends) =
       let is : drop f.place f.window.items ≡ rest = waiting o rs rest f going at.waits in
       let counted : u + length rest ≡ f.total =
       omega (arith, used, ap length is, length-drop f.place f.window.items, at.within, at.small) in
-      let by : (z : Option declared.Why) → IsLasting why z → Waits o rs rest settled_f z = kept rs rest is ends counted in (
+      let by : (z : Option declared.Why) → IsLasting why z → Waits o rs rest settled_pass z =
+      kept rs rest is ends counted in (
         rs,
         rest,
         record {
@@ -91,7 +93,7 @@ module _ (o : Origin) (x : List ℕ) (f : WindowPass) (why : Why) (y : Option de
     where
       kept : (rs : List Record) (rest : List ℕ) → drop f.place f.window.items ≡ rest
           → IsWhy o.version (run o.base rs) (last_of o.link rs) rest why → u + length rest ≡ f.total
-          → (z : Option declared.Why) → IsLasting why z → Waits o rs rest settled_f z
+          → (z : Option declared.Why) → IsLasting why z → Waits o rs rest settled_pass z
       kept rs rest is ends counted None lasts = is
       kept rs rest is ends counted (Some v) lasts = (
         subst (IsWhy o.version (run o.base rs) (last_of o.link rs) rest) (sym lasts.0) ends,
@@ -100,7 +102,7 @@ module _ (o : Origin) (x : List ℕ) (f : WindowPass) (why : Why) (y : Option de
       )
 
 -- and is known from then on
-pub known : (o : Origin) (x : List ℕ) (f : WindowPass) (why : declared.Why) → f.ended ≡ Some why → Follows o x f
+pub known : (o : Origin) (x : List ℕ) (f : WindowPass) (why : declared.Why) → f.ended ≡ Some why → IsFed o x f
     → IsStopped o x f (why_of why)
 known o x f why is (rs, rest, at) =
     let h = subst (Waits o rs rest f) is at.waits in (rs, rest, at, h.0, h.2)
@@ -115,16 +117,17 @@ module _ (o : Origin) (x : List ℕ) (f g : WindowPass) (far : 72 < f.place)
   abbrev tail : List ℕ
   tail = drop (f.place - 32) w
 
-  abbrev h_f : WindowPass
-  h_f = record f { window = g.window; place = 72 }
+  abbrev cut_pass : WindowPass
+  cut_pass = record f { window = g.window; place = 72 }
 
-  shorter_at : (rs : List Record) (rest : List ℕ) → StandsAt o x rs rest f → StandsAt o x rs rest h_f
+  shorter_at : (rs : List Record) (rest : List ℕ) → StandsAt o x rs rest f → StandsAt o x rs rest cut_pass
   shorter_at rs rest at =
       let head : List ℕ = take 40 w in
       let forty : length head ≡ 40 = omega (arith, length-take 40 w, at.within, far) in
       let size : length tail ≡ length w - (f.place - 32) = length-drop (f.place - 32) w in
       let behind : drop 40 g.window.items ≡ tail = ap (drop 40) is ∙ drop_at head tail 40 forty in
-      let long : length g.window.items ≡ 40 + length tail = omega (arith, ap length is, length-append head tail, forty) in
+      let long : length g.window.items ≡ 40 + length tail =
+      omega (arith, ap length is, length-append head tail, forty) in
       let linked : before 72 g.window.items ≡ last_of o.link rs = ap (take 32) behind ∙ at.link in
       let after : drop 72 g.window.items ≡ drop f.place w =
       sym (drop-drop 32 40 g.window.items) ∙ ap (drop 32) behind ∙ drop-drop 32 (f.place - 32) w
@@ -144,11 +147,11 @@ module _ (o : Origin) (x : List ℕ) (f g : WindowPass) (far : 72 < f.place)
       }
     where
       by : (rs : List Record) (rest : List ℕ) → drop 72 g.window.items ≡ drop f.place w
-          → (y : Option declared.Why) → Waits o rs rest f y → Waits o rs rest h_f y
+          → (y : Option declared.Why) → Waits o rs rest f y → Waits o rs rest cut_pass y
       by rs rest after None h = after ∙ h
       by rs rest after (Some why) h = h
 
-  pub shorter : Follows o x f → Follows o x g
+  pub shorter : IsFed o x f → IsFed o x g
   shorter (rs, rest, at) = (rs, rest, subst (StandsAt o x rs rest) (sym same) (shorter_at rs rest at))
 
 -- A window that is added to.
@@ -162,8 +165,8 @@ module _ (o : Origin) (x more : List ℕ) (f : WindowPass) (n : ℕ) (is : n ≡
   total_is rs rest at = omega (arith, is, at.total, length-append x more)
 
   -- where the reason stays, it is counted alone
-  pub counted : (why : declared.Why) → f.ended ≡ Some why → Follows o x f
-      → Follows o (x ++ more) (record f { total = n })
+  pub counted : (why : declared.Why) → f.ended ≡ Some why → IsFed o x f
+      → IsFed o (x ++ more) (record f { total = n })
   counted why ended (rs, rest, at) =
       let g : WindowPass = record f { total = n } in
       let h = subst (Waits o rs rest f) ended at.waits in
@@ -195,7 +198,7 @@ module _ (o : Origin) (x more : List ℕ) (f : WindowPass) (n : ℕ) (is : n ≡
 
   -- else it waits
   pub added : (g : WindowPass) → g ≡ record f { window = g.window; total = n }
-      → g.window.items ≡ f.window.items ++ more → f.ended ≡ None → Follows o x f → Follows o (x ++ more) g
+      → g.window.items ≡ f.window.items ++ more → f.ended ≡ None → IsFed o x f → IsFed o (x ++ more) g
   added g same window none (rs, rest, at) =
       let w = f.window.items in
       let k : WindowPass = record f { window = g.window; total = n } in
@@ -228,36 +231,9 @@ module _ (o : Origin) (x more : List ℕ) (f : WindowPass) (n : ℕ) (is : n ≡
         }),
       )
 
--- the same bytes in another buffer
-pub same_bytes : (o : Origin) (x : List ℕ) (f g : WindowPass) → g ≡ record f { window = g.window }
-    → g.window.items ≡ f.window.items → Follows o x f → Follows o x g
-same_bytes o x f g same window (rs, rest, at) =
-    let k : WindowPass = record f { window = g.window } in (
-      rs,
-      rest,
-      subst (StandsAt o x rs rest) (sym same) (record {
-        begins = at.begins;
-        judge = at.judge;
-        count = at.count;
-        total = at.total;
-        short = at.short;
-        small = omega (arith, at.small, ap length window);
-        header = ap (take 40) window ∙ at.header;
-        after = at.after;
-        within = omega (arith, at.within, ap length window);
-        link = ap (before f.place) window ∙ at.link;
-        waits = by f.ended rs rest at.waits;
-      }),
-    )
-  where
-    by : (y : Option declared.Why) (rs : List Record) (rest : List ℕ) → Waits o rs rest f y
-        → Waits o rs rest (record f { window = g.window }) y
-    by None rs rest h = ap (drop f.place) window ∙ h
-    by (Some why) rs rest h = h
-
 -- the judge stands where it stood
 pub same_judge : (o : Origin) (x : List ℕ) (f : WindowPass) (j : Judge) → KeepsStanding f.judge j → f.ended ≡ None
-    → Follows o x f → Follows o x (record f { judge = j })
+    → IsFed o x f → IsFed o x (record f { judge = j })
 same_judge o x f j keeps going (rs, rest, at) = (
   rs,
   rest,
@@ -277,7 +253,7 @@ same_judge o x f j keeps going (rs, rest, at) = (
 )
 
 -- it has no more records than bytes
-pub few_records : (o : Origin) (x : List ℕ) (f : WindowPass) → Follows o x f → f.records ≤ log_limit
+pub few_records : (o : Origin) (x : List ℕ) (f : WindowPass) → IsFed o x f → f.records ≤ log_limit
 few_records o x f (rs, rest, at) = omega (
   arith,
   at.count,
@@ -289,18 +265,18 @@ few_records o x f (rs, rest, at) = omega (
 )
 
 -- two that go along with the same bytes have counted as many
-pub same_total : (o : Origin) (x : List ℕ) (f g : WindowPass) → Follows o x f → Follows o x g → f.total ≡ g.total
+pub same_total : (o : Origin) (x : List ℕ) (f g : WindowPass) → IsFed o x f → IsFed o x g → f.total ≡ g.total
 same_total o x f g (rs, rest, at) (qs, left, there) = at.total ∙ sym there.total
 
 -- where the place stands
-pub has_place : (o : Origin) (x : List ℕ) (f : WindowPass) → Follows o x f
+pub has_place : (o : Origin) (x : List ℕ) (f : WindowPass) → IsFed o x f
     → (40 ≤ f.place) × (f.place ≤ length f.window.items) × (length f.window.items ≤ f.total) × (f.total ≤ log_limit)
     × IsHeaded f.window.items
 has_place o x f (rs, rest, at) = (at.after, at.within, at.small, at.short, (o.version, at.header))
 
 -- A window that begins: the header alone.
 pub window_starts : (version : Version) → LogEnds → (f : WindowPass) → f.window.items ≡ header version → f.place ≡ 40
-    → f.total ≡ 40 → f.records ≡ 0 → f.ended ≡ None → StandsIn version f.judge empty → Follows (log_origin version) [] f
+    → f.total ≡ 40 → f.records ≡ 0 → f.ended ≡ None → StandsIn version f.judge empty → IsFed (log_origin version) [] f
 window_starts version ends f is place total none going judge =
     let o = log_origin version in
     let long = header_long version in

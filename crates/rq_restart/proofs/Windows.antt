@@ -1,30 +1,26 @@
 -- A pass over a window goes from frame to frame.
-use Rattle.std.proofs.Common.{◌≡◌, ℕ, suc, ◌+◌, ◌-◌, ◌<◌, ◌≤◌, true, false, List, [], ◌∷◌, ◌++◌, length, take, drop, refl}
-use Rattle.std.proofs.Common.{sym, ap, subst, ◌∙◌, append_assoc, arith, get_or, Option, Some, None}
+use Rattle.std.proofs.Common.{◌≡◌, ℕ, ◌+◌, ◌-◌, ◌≤◌, List, [], ◌∷◌, ◌++◌, length, take, drop, refl}
+use Rattle.std.proofs.Common.{sym, ap, subst, ◌∙◌, append_assoc, arith, get_or, Option, None}
 use Rattle.std.specs.Int.{w32, to_be_bytes}
-use Rattle.std.proofs.lemmas.List.{append-nil, drop_at, drop-drop, length-append, length-drop, take_at, take_all}
-use Rattle.std.proofs.Math.Seq.{drop-cons}
-use Rattle.rq_model.specs.Records.{Record, Version}
-use Rattle.rq_model.specs.Spelling.{IsRecord, Spells, body_of}
+use Rattle.std.proofs.lemmas.List.{append-nil, drop_at, drop-drop, length-append, length-drop, take_at}
+use Rattle.rq_model.specs.Records.{Record}
+use Rattle.rq_model.specs.Spelling.{Spells, body_of}
 use Rattle.rq_model.specs.Frames as frames
-use Rattle.rq_model.specs.Frames.{AreBodies, HasRightFrame, IsBodyLength, IsRest, before, body_in, bodies_of, digest, frame}
+use Rattle.rq_model.specs.Frames.{HasRightFrame, IsBodyLength, IsRest, before, body_in, digest, frame}
 use Rattle.rq_model.specs.Frames.{frames_of, last, last_of}
 use Rattle.rq_model.specs.LogLaws.{FrameIsRight}
-use Rattle.rq_model.specs.States.{State}
-use Rattle.rq_model.specs.Machine.{is_lawful, run}
-use Rattle.rq_model.specs.Fronts.{Begins, IsWhy, Why, Ends, Form, Law}
+use Rattle.rq_model.specs.Machine.{run}
+use Rattle.rq_model.specs.Fronts.{Form, Law}
 use Rattle.rq_model.proofs.Longest.{frames_of_join, last_of_join}
-use Rattle.rq_model.proofs.Restarts.{frames_many}
-use Rattle.rq_front.specs.declared.spans.Chain.{Chain}
 use Rattle.rq_front.specs.declared.spans.Span.{Span}
 use Rattle.rq_front.specs.Chains.{body_at, bodies_at, spans_from}
 use Rattle.rq_catalog.specs.declared.judge.Judge.{Judge}
-use Rattle.rq_catalog.specs.Judges.{KeepsStanding, StandsIn}
+use Rattle.rq_catalog.specs.Judges.{StandsIn}
 use Rattle.rq_catalog.proofs.Runs.{lawful_push, run_push}
 use Rattle.rq_restart.specs.declared.passing.Verdict.TheVariants.{Lawful, Unlawful, NoRecord}
 use Rattle.rq_restart.specs.declared.window.WindowPass.{WindowPass}
 use Rattle.rq_restart.specs.Passes.{IsVerdict}
-use Rattle.rq_restart.specs.Windows.{AreFramed, Origin, StandsAt, Stops, Waits}
+use Rattle.rq_restart.specs.Windows.{AreFramed, Origin, StandsAt, HasEnd, Waits}
 use Rattle.rq_restart.proofs.Chains.{frame_long, next}
 use Rattle.rq_restart.proofs.Readings.{each_push}
 
@@ -214,7 +210,7 @@ module _ (right : FrameIsRight) (o : Origin) (x : List ℕ) (rs : List Record) (
       )
 
   pub stops_at_law : IsVerdict o.version (run o.base rs) (body_at w span) j Unlawful
-      → Stops o x (record f { judge = j }) Law
+      → HasEnd o x (record f { judge = j }) Law
   stops_at_law v = (
     rs,
     rest,
@@ -223,7 +219,7 @@ module _ (right : FrameIsRight) (o : Origin) (x : List ℕ) (rs : List Record) (
   )
 
   pub stops_at_form : IsVerdict o.version (run o.base rs) (body_at w span) j NoRecord
-      → Stops o x (record f { judge = j }) Form
+      → HasEnd o x (record f { judge = j }) Form
   stops_at_form v = (
     rs,
     rest,

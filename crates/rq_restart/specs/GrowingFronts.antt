@@ -8,14 +8,14 @@ use Rattle.rq_front.specs.Chains.{IsHeaded}
 use Rattle.rq_restart.specs.declared.growing.GrowingFront.{GrowingFront}
 use Rattle.rq_restart.specs.declared.growing.Stage.{Stage}
 use Rattle.rq_restart.specs.declared.growing.Stage.TheVariants.{Header, Frames}
-use Rattle.rq_restart.specs.Windows.{Follows, log_origin}
+use Rattle.rq_restart.specs.Windows.{IsFed, log_origin}
 
 -- the bytes b, of which there are fewer than a header has; or a header, and what is followed behind
 -- it
 abbrev pub IsStageOf : List ℕ → Stage → Type 0
 IsStageOf b (Header first) = (first.items ≡ b) × (length b < 40)
 IsStageOf b (Frames pass) = (version : Version) × (x : List ℕ) × (b ≡ header version ++ x)
-    × Follows (log_origin version) x pass
+    × IsFed (log_origin version) x pass
 
 -- the front goes along with a log of which these bytes have come
 abbrev pub GoesAlong : List ℕ → GrowingFront → Type 0

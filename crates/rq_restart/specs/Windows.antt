@@ -53,21 +53,21 @@ pub record StandsAt (o : Origin) (x : List ℕ) (rs : List Record) (rest : List 
   pub link : before f.place f.window.items ≡ last_of o.link rs
   pub waits : Waits o rs rest f f.ended
 
--- it goes along with these bytes
-abbrev pub Follows : Origin → List ℕ → WindowPass → Type 0
-Follows o x f = (rs : List Record) × (rest : List ℕ) × StandsAt o x rs rest f
+-- it was fed these bytes
+abbrev pub IsFed : Origin → List ℕ → WindowPass → Type 0
+IsFed o x f = (rs : List Record) × (rest : List ℕ) × StandsAt o x rs rest f
 
--- with some
-abbrev pub FollowsSome : WindowPass → Type 0
-FollowsSome f = (o : Origin) × (x : List ℕ) × Follows o x f
+-- it was fed some bytes
+abbrev pub IsFedSome : WindowPass → Type 0
+IsFedSome f = (o : Origin) × (x : List ℕ) × IsFed o x f
 
--- whatever f goes along with, g does
-abbrev pub KeepsAlong : WindowPass → WindowPass → Type 0
-KeepsAlong f g = (o : Origin) (x : List ℕ) → Follows o x f → Follows o x g
+-- whatever f was fed, g was
+abbrev pub KeepsFed : WindowPass → WindowPass → Type 0
+KeepsFed f g = (o : Origin) (x : List ℕ) → IsFed o x f → IsFed o x g
 
 -- for this reason no lawful record follows
-abbrev pub Stops : Origin → List ℕ → WindowPass → fronts.Why → Type 0
-Stops o x f why = (rs : List Record) × (rest : List ℕ) × StandsAt o x rs rest f
+abbrev pub HasEnd : Origin → List ℕ → WindowPass → fronts.Why → Type 0
+HasEnd o x f why = (rs : List Record) × (rest : List ℕ) × StandsAt o x rs rest f
     × IsWhy o.version (run o.base rs) (last_of o.link rs) rest why
 
 -- and so much of the log stands before that

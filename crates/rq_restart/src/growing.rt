@@ -26,9 +26,9 @@ enum Stage {
 
 /// The front of a log that comes piece by piece, and of which no more is held than is looked at.
 ///
-/// It keeps a judge, and of the log what was not looked at yet: as a rule less than 16 MiB and the
-/// last piece, and more only if a frame is longer. No record is kept, and no queue is redone. The
-/// time grows with the bytes, however small the pieces are.
+/// It keeps a judge, and of the log what was not looked at yet: 16 MiB and the last piece, and as
+/// much more as has come of the next frame. No record is kept, and no queue is redone. The time
+/// grows with the bytes, however small the pieces are.
 #[derive(Drop)]
 pub struct GrowingFront {
     stage: Stage,

@@ -8,8 +8,8 @@ ghost use Rattle.rq_model.specs.Fronts.{Ends};
 ghost use Rattle.rq_record.specs.Views.{version_of};
 ghost use Rattle.rq_record.specs.declared.fault.Fault.TheVariants.{Resources};
 ghost use Rattle.rq_restart.specs.Views.{why_of};
-ghost use Rattle.rq_restart.specs.Windows.{AreFramed, Follows, FollowsSome, IsStopped, IsLasting};
-ghost use Rattle.rq_restart.specs.Windows.{IsStoppedFront, KeepsAlong, Origin, RefusesPiece, Stops};
+ghost use Rattle.rq_restart.specs.Windows.{AreFramed, IsFed, IsFedSome, IsStopped, IsLasting};
+ghost use Rattle.rq_restart.specs.Windows.{IsStoppedFront, KeepsFed, Origin, RefusesPiece, HasEnd};
 ghost use Rattle.rq_restart.specs.Windows.{log_origin};
 
 use crate::framing::before;
@@ -24,8 +24,8 @@ use std::alloc::Global;
 use std::marker::Sync;
 use std::thread::Threads;
 
-// So many bytes are collected before they are looked at, if they come in smaller pieces. No answer
-// depends on it.
+// So many bytes are collected before they are looked at, if they come in smaller pieces, and so many
+// more before a frame that was still cut is looked at again. No answer depends on it.
 const WAITING: usize = 16_777_216;
 
 /// A pass over the frames of a log that come piece by piece. It keeps a window of the log: a
@@ -38,6 +38,7 @@ pub(crate) struct WindowPass {
     pub(crate) total: usize,
     pub(crate) window: Vec<u8>,
     pub(crate) place: usize,
+    pub(crate) enough: usize,
     pub(crate) ended: Option<Why>,
 }
 
@@ -52,7 +53,7 @@ impl WindowPass {
     /// A pass over the frames of a log of this version, of which there is the header.
     pub(crate) fn new(alloc: Global, version: Version, window: Vec<u8>) -> WindowPass
         requires { window.items ≡ header (version_of version) }
-        ensures { Follows (log_origin (version_of version)) [] result }
+        ensures { IsFed (log_origin (version_of version)) [] result }
     {
         rq_model::frames_join();
         WindowPass {
@@ -62,6 +63,7 @@ impl WindowPass {
             total: HEADER_LEN,
             window,
             place: HEADER_LEN,
+            enough: WAITING,
             ended: None,
         }
     }
@@ -69,15 +71,15 @@ impl WindowPass {
     // Passes the frames at the place as far as they are those of lawful records, and says why these
     // end. Behind all frames they end for the reason that is given.
     fn judge_frames(&mut self, alloc: Global, spans: &[Span], behind: Why) -> Result<Why, Fault>
-        requires follows { FollowsSome self.old }
+        requires follows { IsFedSome self.old }
         requires going { self.old.ended ≡ None }
         requires inside { All (λ s. s.start + s.len ≤ length self.old.window.items) spans.now }
         requires frames { (end : ℕ) × (rest : frames.Rest)
             × AreFramed self.old.window.items self.old.place spans.now end rest
             × (why_of behind ≡ Ends rest) }
-        ensures stops { IfOk result (λ why. (o : Origin) (x : List ℕ) → Follows o x self.old
-            → Stops o x self.new (why_of why)) }
-        ensures kept { IfErr result (λ e. KeepsAlong self.old self.new) }
+        ensures stops { IfOk result (λ why. (o : Origin) (x : List ℕ) → IsFed o x self.old
+            → HasEnd o x self.new (why_of why)) }
+        ensures kept { IfErr result (λ e. KeepsFed self.old self.new) }
         ensures going { self.new.ended ≡ None }
         ensures refused { IfErr result (λ e. e ≡ Resources) }
     {
@@ -104,16 +106,17 @@ impl WindowPass {
         grain: u32,
     ) -> Result<Why, Fault>
         requires grain { 1 ≤ grain }
-        requires follows { FollowsSome self.old }
+        requires follows { IsFedSome self.old }
         requires going { self.old.ended ≡ None }
-        ensures stopped { IfOk result (λ why. (o : Origin) (x : List ℕ) → Follows o x self.old
+        ensures stopped { IfOk result (λ why. (o : Origin) (x : List ℕ) → IsFed o x self.old
             → IsStopped o x self.new (why_of why)) }
-        ensures kept { IfErr result (λ e. KeepsAlong self.old self.new) }
+        ensures kept { IfErr result (λ e. KeepsFed self.old self.new) }
         ensures refused { IfErr result (λ e. e ≡ Resources) }
     {
         let found = chain(rt, alloc, &self.window, self.place, grain)?;
         let why = self.judge_frames(alloc, &found.spans, why_of(found.rest))?;
         self.used = self.total - (self.window.len() - self.place);
+        self.enough = (self.total - self.used).saturating_add(WAITING);
         self.ended = lasting(why);
         Ok(why)
     }
@@ -128,10 +131,10 @@ impl WindowPass {
         grain: u32,
     ) -> Result<Why, Fault>
         requires grain { 1 ≤ grain }
-        requires follows { FollowsSome self.old }
-        ensures stopped { IfOk result (λ why. (o : Origin) (x : List ℕ) → Follows o x self.old
+        requires follows { IsFedSome self.old }
+        ensures stopped { IfOk result (λ why. (o : Origin) (x : List ℕ) → IsFed o x self.old
             → IsStopped o x self.new (why_of why)) }
-        ensures kept { IfErr result (λ e. KeepsAlong self.old self.new) }
+        ensures kept { IfErr result (λ e. KeepsFed self.old self.new) }
         ensures refused { IfErr result (λ e. e ≡ Resources) }
     {
         match self.ended {
@@ -143,8 +146,8 @@ impl WindowPass {
     // Lets go of the frames that were passed: behind the header stand the 32 bytes before the next
     // frame again.
     fn let_go(&mut self)
-        requires follows { FollowsSome self.old }
-        ensures { KeepsAlong self.old self.new }
+        requires follows { IsFedSome self.old }
+        ensures { KeepsFed self.old self.new }
     {
         if self.place <= HEADER_LEN + 32 {
             return;
@@ -153,7 +156,7 @@ impl WindowPass {
         self.place = HEADER_LEN + 32;
     }
 
-    // Looks at what waits, if it is much.
+    // Looks at what waits, if enough came.
     fn make_room<R: Threads + Sync>(
         &mut self,
         rt: &R,
@@ -161,11 +164,11 @@ impl WindowPass {
         grain: u32,
     ) -> Result<(), Fault>
         requires grain { 1 ≤ grain }
-        requires follows { FollowsSome self.old }
-        ensures kept { KeepsAlong self.old self.new }
+        requires follows { IsFedSome self.old }
+        ensures kept { KeepsFed self.old self.new }
         ensures refused { IfErr result (λ e. e ≡ Resources) }
     {
-        if self.window.len() < WAITING {
+        if self.window.len() < self.enough {
             return Ok(());
         }
         self.look(rt, alloc, grain)?;
@@ -175,11 +178,11 @@ impl WindowPass {
 
     // Takes what comes.
     fn take(&mut self, more: &[u8]) -> Result<(), Fault>
-        requires follows { FollowsSome self.old }
+        requires follows { IsFedSome self.old }
         requires short { self.old.total + length more.now ≤ log_limit }
-        ensures taken { OnOk result ((o : Origin) (x : List ℕ) → Follows o x self.old
-            → Follows o (x ++ more.now) self.new) }
-        ensures kept { IfErr result (λ e. KeepsAlong self.old self.new) }
+        ensures taken { OnOk result ((o : Origin) (x : List ℕ) → IsFed o x self.old
+            → IsFed o (x ++ more.now) self.new) }
+        ensures kept { IfErr result (λ e. KeepsFed self.old self.new) }
         ensures refused { IfErr result (λ e. e ≡ Resources) }
     {
         match self.ended {
@@ -207,10 +210,10 @@ impl WindowPass {
         grain: u32,
     ) -> Result<(), Fault>
         requires grain { 1 ≤ grain }
-        requires follows { FollowsSome self.old }
-        ensures taken { OnOk result ((o : Origin) (x : List ℕ) → Follows o x self.old
-            → Follows o (x ++ more.now) self.new) }
-        ensures kept { IfErr result (λ e. KeepsAlong self.old self.new) }
+        requires follows { IsFedSome self.old }
+        ensures taken { OnOk result ((o : Origin) (x : List ℕ) → IsFed o x self.old
+            → IsFed o (x ++ more.now) self.new) }
+        ensures kept { IfErr result (λ e. KeepsFed self.old self.new) }
         ensures refused { IfErr result (RefusesPiece (self.old.total + length more.now)) }
     {
         if more.len() > LOG_LIMIT.saturating_sub(self.total) {
@@ -230,8 +233,8 @@ pub(crate) fn stopped<R: Threads + Sync>(
     grain: u32,
 ) -> Result<JudgedFront, Fault>
     requires grain { 1 ≤ grain }
-    requires follows { FollowsSome pass }
-    ensures stopped { IfOk result (λ front. (o : Origin) (x : List ℕ) → Follows o x pass
+    requires follows { IsFedSome pass }
+    ensures stopped { IfOk result (λ front. (o : Origin) (x : List ℕ) → IsFed o x pass
         → IsStoppedFront o x front) }
     ensures refused { IfErr result (λ e. e ≡ Resources) }
 {

@@ -6,7 +6,7 @@ use Rattle.rq_record.specs.declared.fault.Fault.{Fault}
 use Rattle.rq_record.specs.Views.{version_of}
 use Rattle.rq_restart.specs.declared.window.WindowPass.{WindowPass}
 use Rattle.rq_restart.specs.GrowingFronts.{RefusesMore}
-use Rattle.rq_restart.specs.Windows.{Follows, log_origin}
+use Rattle.rq_restart.specs.Windows.{IsFed, log_origin}
 use Rattle.rq_restart.proofs.Headers.{first_forty, forty_again, refuses, two_parts}
 use Rattle.rq_restart.proofs.growing.begun.Goals as goal
 
@@ -66,6 +66,6 @@ returns-clause-begun g c =
       version,
       left,
       whole,
-      subst (λ (z : List ℕ). Follows (log_origin version) z c.feed.new.self) c.behind.ensures
+      subst (λ (z : List ℕ). IsFed (log_origin version) z c.feed.new.self) c.behind.ensures
           (c.in_ok-feed.ensures.taken (log_origin version) [] c.new-pass.ensures),
     )

@@ -1,4 +1,4 @@
-use Rattle.std.proofs.Common.{◌≡◌, ℕ, suc, ◌+◌, List, [], ◌∷◌, ◌++◌, drop, refl, subst, sym, get_or, arith}
+use Rattle.std.proofs.Common.{◌≡◌, ℕ, suc, ◌+◌, List, [], ◌∷◌, ◌++◌, drop, refl, subst, get_or, arith}
 use Rattle.std.proofs.lemmas.List.{drop_all}
 use Rattle.std.proofs.Math.Numerals.{suc-eq-add-one}
 use Rattle.std.proofs.Math.Seq.{drop-cons}
@@ -8,7 +8,7 @@ use Rattle.rq_front.specs.Chains.{body_at}
 use Rattle.rq_restart.specs.declared.passing.Verdict.TheVariants.{Lawful, Unlawful, NoRecord}
 use Rattle.rq_restart.specs.Passes.{IsVerdict}
 use Rattle.rq_restart.specs.Views.{why_of}
-use Rattle.rq_restart.specs.Windows.{AreFramed, KeepsAlong}
+use Rattle.rq_restart.specs.Windows.{AreFramed}
 use Rattle.rq_restart.proofs.Windows.{is_next, one_frame, others_framed, stops_at_form, stops_at_law}
 use Rattle.rq_restart.proofs.Pieces.{anyway, few_records, same_judge, stops_behind}
 use Rattle.rq_restart.proofs.window.WindowPass.judge_frames.Goals as goal

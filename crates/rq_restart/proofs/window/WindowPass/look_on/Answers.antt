@@ -16,7 +16,8 @@ judge_frames-requires-clause-frames g c =
     let inside : f.place ≤ length c.deref.result.now = omega (arith, within, ap length c.deref.ensures.value) in
     let there = framed c.deref.result.now f.place found.spans.items found.end rest after inside
     c.in_ok-found.ensures.run c.in_ok-found.ensures.spans in
-    let here = subst (λ (b : List ℕ). AreFramed b f.place found.spans.items found.end rest) c.deref.ensures.value there in (
+    let here = subst (λ (b : List ℕ). AreFramed b f.place found.spans.items found.end rest) c.deref.ensures.value
+    there in (
       found.end,
       rest,
       subst (λ (ss : List Span). AreFramed f.window.items f.place ss found.end rest) (sym c.deref-2.ensures.value) here,
@@ -41,5 +42,5 @@ returns-clause-stopped g c = λ o x h.
     let long : c.len.result ≡ length f.window.items = omega (arith, c.len.ensures) in
     let used : f.total - (c.len.result - f.place) ≡ f.total - (length f.window.items - f.place) =
     ap (λ (n : ℕ). f.total - (n - f.place)) long in
-    settled o x f (why_of c.in_ok-why.why) c.lasting-self.result _ c.judge_frames.ensures.going used
+    settled o x f (why_of c.in_ok-why.why) c.lasting-self.result _ _ c.judge_frames.ensures.going used
     c.lasting-self.ensures (c.in_ok-why.ensures.stops o x h)
