@@ -9,7 +9,7 @@ ghost use Rattle.rq_model.specs.Machine as machine;
 ghost use Rattle.rq_record.specs.Views.{record_of, version_of};
 ghost use Rattle.rq_look.specs.Rules.{takes_arrivals};
 
-use rq_record::{KeptBy, Name, QueueNo, Record, UnitNo, Version};
+use rq_record::{KeptBy, KeptRecord as Record, Name, QueueNo, UnitNo, Version};
 use rq_state::{Definition, Registrant, State};
 use std::fmt;
 
