@@ -1,4 +1,5 @@
 mod analysis;
+mod by_hand;
 mod chains;
 mod countdowns;
 mod courses;

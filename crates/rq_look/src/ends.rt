@@ -14,7 +14,7 @@ use crate::frames::{first_frame, stated_length};
 use crate::misfits::misfit_of;
 use crate::rules::{Rule, broken};
 use rq_front::{FRAME_LEN, version};
-use rq_record::{Fault, Version, decode_in};
+use rq_record::{Fault, Version, decode_kept};
 use rq_report::why_word;
 use rq_restart::{FrontEnd, Plan, Restarted, Why, front_end, front_state};
 use rq_state::State;
@@ -87,7 +87,7 @@ fn rule_of(
 ) -> Result<Option<Rule>, Fault>
     ensures { IfErr result (λ e. e ≡ Resources) }
 {
-    match decode_in(alloc, version, body) {
+    match decode_kept(alloc, version, body) {
         Ok(record) => Ok(broken(version, state, &record)),
         Err(Fault::Form) => Ok(None),
         Err(_) => Err(Fault::Resources),

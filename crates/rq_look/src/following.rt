@@ -6,7 +6,7 @@ ghost use Rattle.rq_record.specs.declared.fault.Fault.TheVariants.{Resources};
 use crate::events::{Effect, Event};
 use crate::frames::Placed;
 use crate::numbered::{Numbered, queues_behind};
-use rq_record::{ElemId, Fault, QueueNo, Record, UnitNo};
+use rq_record::{ElemId, Fault, KeptRecord as Record, QueueNo, UnitNo};
 use std::alloc::{AllocError, Global};
 use std::cmp::Reverse;
 use std::collections::{BTreeMap, BTreeSet};

@@ -4,7 +4,7 @@ use crate::bytes::is_plain;
 use crate::ends::End;
 use crate::hidden::is_hidden;
 use crate::numbered::{Numbered, by_of, element_of, kind_of, registrant_of, unit_of};
-use rq_record::{QueueNo, Record};
+use rq_record::{KeptRecord as Record, QueueNo};
 use rq_report::why_word;
 use serde::Serialize;
 use std::alloc::{AllocError, Global};

@@ -2,7 +2,7 @@
 
 use crate::bytes::put_bytes;
 use crate::numbered::{Numbered, by_of, kind_of, unit_of};
-use rq_record::{QueueNo, Record};
+use rq_record::{KeptRecord as Record, QueueNo};
 use std::alloc::{AllocError, Global};
 use std::fmt::Write;
 

@@ -8,7 +8,7 @@ ghost use Rattle.rq_record.specs.declared.fault.Fault.TheVariants.{Resources};
 ghost use Rattle.rq_look.specs.Scripts.{by_in};
 
 use crate::frames::Placed;
-use rq_record::{By, ElemId, Fault, QueueNo, Record, UnitNo, Version, decode_in};
+use rq_record::{By, ElemId, Fault, KeptRecord as Record, QueueNo, UnitNo, Version, decode_kept};
 use std::alloc::Global;
 
 /// A record of the front, with the offset of its frame, its number, and how many queues are defined
@@ -30,7 +30,7 @@ impl Numbered {
         ensures refused { IfErr result (λ e. e ≡ Resources) }
     {
         // Each body of a front is a record, so memory alone is refused.
-        let Ok(record) = decode_in(alloc, Version::Two, placed.body) else {
+        let Ok(record) = decode_kept(alloc, Version::Two, placed.body) else {
             return Err(Fault::Resources);
         };
         Ok(Numbered {

@@ -2,7 +2,7 @@
 
 use crate::json::{PayloadShown, queue_number};
 use rq_record::QueueNo;
-use rq_state::{Definition, Element, Last, Mark, OpKind, Registrant, State};
+use rq_state::{Definition, KeptElement as Element, Last, Mark, OpKind, Registrant, State};
 use serde::Serialize;
 use std::alloc::{AllocError, Global};
 use std::cmp::Reverse;

@@ -10,7 +10,7 @@ ghost use Rattle.rq_record.specs.Views.{record_of, version_of};
 ghost use Rattle.rq_look.specs.Rules.{takes_arrivals};
 
 use crate::pieces::{write_number, write_numbers};
-use rq_record::{KeptBy, Name, QueueNo, Record, UnitNo, Version};
+use rq_record::{KeptBy, KeptRecord as Record, Name, QueueNo, UnitNo, Version};
 use rq_state::{Definition, Registrant, State};
 use std::fmt;
 

@@ -22,7 +22,7 @@ use crate::frames::{Placed, PlacedFrames};
 use crate::numbered::{Numbered, by_of};
 use crate::sheet::{finish, relieve};
 use crate::trouble::Trouble;
-use rq_record::{KeptBy, KeptName, QueueNo, Record, UnitNo};
+use rq_record::{KeptBy, KeptName, KeptRecord as Record, QueueNo, UnitNo};
 use rq_restart::Plan;
 use std::alloc::{AllocError, Global};
 use std::thread::Threads;

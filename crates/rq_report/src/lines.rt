@@ -11,7 +11,7 @@ ghost use Rattle.rq_state.specs.Views.{kind_of, id_of};
 use crate::hexes::put_payload;
 use rq_record::{ElemId, QueueNo};
 use rq_restart::{Restarted, Why};
-use rq_state::{Definition, Element, Last, OpKind, Registrant};
+use rq_state::{Definition, KeptElement, Last, OpKind, Registrant};
 use std::alloc::AllocError;
 use std::fmt::Write;
 
@@ -83,7 +83,7 @@ pub(crate) fn put_queue_line(
 }
 
 /// Puts the line of an element.
-pub(crate) fn put_element(text: &mut String, e: &Element) -> Result<(), AllocError>
+pub(crate) fn put_element(text: &mut String, e: &KeptElement) -> Result<(), AllocError>
     ensures { OnOk result (string_bytes text.new ≡ string_bytes text.old ++ element_line e.now) }
 {
     let (id, origin, priority, attempts) = (e.id.0, e.origin.0, e.priority, e.attempts);

@@ -9,11 +9,11 @@ ghost use Rattle.rq_model.specs.WellFormed.{IsWellFormed};
 ghost use Rattle.rq_report.specs.Order.{is_ahead};
 
 use rq_record::QueueNo;
-use rq_state::{Element, Mark, State};
+use rq_state::{KeptElement, Mark, State};
 use std::alloc::{AllocError, Global};
 use std::cmp::Reverse;
 
-fn is_free(e: &Element) -> bool
+fn is_free(e: &KeptElement) -> bool
     ensures { result ≡ model.is_free e.now.mark }
 {
     match e.mark {
@@ -23,7 +23,7 @@ fn is_free(e: &Element) -> bool
 }
 
 // Adds an element where it is free.
-fn list<'a>(found: &mut Vec<&'a Element>, e: &'a Element) -> Result<(), AllocError>
+fn list<'a>(found: &mut Vec<&'a KeptElement>, e: &'a KeptElement) -> Result<(), AllocError>
     ensures { OnOk result (map (λ e. e.now) found.new.items
         ≡ map (λ e. e.now) found.old.items ++ filter (λ e. model.is_free e.mark) (e.now ∷ [])) }
 {
@@ -38,7 +38,7 @@ fn free_elements<'a>(
     alloc: Global,
     queue: QueueNo,
     state: &'a State,
-) -> Result<Vec<&'a Element>, AllocError>
+) -> Result<Vec<&'a KeptElement>, AllocError>
     ensures { IfOk result
         (λ v. map (λ e. e.now) v.items ≡ filter (is_free_at queue.0) state.now.elements) }
 {
@@ -52,13 +52,13 @@ fn free_elements<'a>(
 }
 
 // By what elements are put in order.
-fn rank(e: &Element) -> (Reverse<u8>, u64)
+fn rank(e: &KeptElement) -> (Reverse<u8>, u64)
     ensures { result ≡ (record { 0 = e.now.priority }, e.now.id) }
 {
     (Reverse(e.priority), e.id.0)
 }
 
-fn sort(found: &mut [&Element])
+fn sort(found: &mut [&KeptElement])
     ensures permutation { IsPermutation found.old found.new }
     ensures sorted { IsSortedBy (λ x y. is_ahead x.now y.now) found.new }
 {
@@ -70,7 +70,7 @@ pub(crate) fn listing<'a>(
     alloc: Global,
     queue: QueueNo,
     state: &'a State,
-) -> Result<Vec<&'a Element>, AllocError>
+) -> Result<Vec<&'a KeptElement>, AllocError>
     requires { IsWellFormed state.now }
     ensures { IfOk result (λ v. IsListing queue.0 state.now.elements (map (λ e. e.now) v.items)) }
 {

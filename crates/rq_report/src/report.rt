@@ -13,10 +13,10 @@ use crate::lines::{put_element, put_front, put_queue_line, put_registrant, put_u
 use crate::listing::listing;
 use rq_record::QueueNo;
 use rq_restart::Restarted;
-use rq_state::{Element, State};
+use rq_state::{KeptElement, State};
 use std::alloc::{AllocError, Global};
 
-fn put_elements(text: &mut String, elements: &[&Element]) -> Result<(), AllocError>
+fn put_elements(text: &mut String, elements: &[&KeptElement]) -> Result<(), AllocError>
     ensures { OnOk result (string_bytes text.new
         ≡ string_bytes text.old ++ flat_map element_line (map (λ e. e.now) elements.now)) }
 {

@@ -6,8 +6,7 @@ use Rattle.rq_model.specs.States.{State}
 use Rattle.rq_model.specs.Machine.{run, all_lawful, lawful_front}
 use Rattle.rq_model.specs.Laws.{VersionTwoIsWider}
 use Rattle.rq_model.proofs.Restarts.{run_join, lawful_join}
-use Rattle.rq_record.specs.declared.record.Record.{Record as Own}
-use Rattle.rq_record.specs.Views.{record_of, version_of}
+use Rattle.rq_record.specs.Views.{Record as Own, record_of, version_of}
 use Rattle.rq_catalog.specs.declared.analysis.Analysis.{Analysis}
 use Rattle.rq_catalog.specs.Analyses.{IsAnalysis}
 use Rattle.rq_catalog.proofs.Fronts.{analysis_is_wider, analysis_of_front, kept_is, lawful_in_two, parted}

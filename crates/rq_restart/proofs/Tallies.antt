@@ -18,9 +18,8 @@ use Rattle.rq_model.specs.Laws.{RunsAreWellFormed}
 use Rattle.rq_model.proofs.Lists.{by_cases}
 use Rattle.rq_model.proofs.Restarts.{run_join, lawful_cut}
 use Rattle.rq_catalog.specs.Registered.{key_eq}
-use Rattle.rq_record.specs.declared.record.Record.{Record as Own}
-use Rattle.rq_record.specs.declared.record.Record.TheVariants as own
-use Rattle.rq_record.specs.Views.{record_of}
+use Rattle.rq_record.specs.declared.record.RecordOf.TheVariants as own
+use Rattle.rq_record.specs.Views.{Record as Own, record_of}
 use Rattle.rq_state.specs.Inside.{state_of}
 use Rattle.rq_restart.specs.declared.auditing.AuditSoFar.{AuditSoFar}
 use Rattle.rq_restart.specs.declared.tally.Tally.{Tally}

@@ -20,9 +20,8 @@ use Rattle.rq_model.specs.StateSpelling.{state_bytes}
 use Rattle.rq_model.specs.Checkpoints.{Audited}
 use Rattle.rq_model.proofs.Lists.{by_cases}
 use Rattle.rq_model.proofs.Restarts.{run_join, lawful_cut, next_run}
-use Rattle.rq_record.specs.declared.record.Record.{Record as Own}
-use Rattle.rq_record.specs.declared.record.Record.TheVariants as own
-use Rattle.rq_record.specs.Views.{record_of}
+use Rattle.rq_record.specs.declared.record.RecordOf.TheVariants as own
+use Rattle.rq_record.specs.Views.{Record as Own, record_of}
 use Rattle.rq_front.specs.declared.spans.Chain.{Chain}
 use Rattle.rq_front.specs.declared.spans.Span.{Span}
 use Rattle.rq_front.specs.Chains.{bodies_at, spans_from}

@@ -26,9 +26,8 @@ use Rattle.rq_model.specs.WellFormed.{Ordered}
 use Rattle.rq_model.proofs.Lists.{by_cases, each_weaker, each_both, filter_none, filter_comm, each_passes}
 use Rattle.rq_model.proofs.WellFormedRuns.{length-put}
 use Rattle.rq_catalog.specs.Registered.{key_eq}
-use Rattle.rq_record.specs.declared.record.Record.{Record as Own}
-use Rattle.rq_record.specs.declared.record.Record.TheVariants as own
-use Rattle.rq_record.specs.Views.{record_of}
+use Rattle.rq_record.specs.declared.record.RecordOf.TheVariants as own
+use Rattle.rq_record.specs.Views.{Record as Own, record_of}
 use Rattle.rq_restart.specs.declared.tally.Tally.{Tally}
 use Rattle.rq_restart.specs.Worth.{member_bytes, HangOnUnit, HangOnRegistrant, KeepsAllBut, of_unit, of_registrant}
 use Rattle.rq_restart.specs.Worth.{IsTallied, unit_after, named_after, registrant_after, lost_by, Counts}

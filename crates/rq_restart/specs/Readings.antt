@@ -8,7 +8,7 @@ use Rattle.rq_model.specs.Spelling.{IsRecord, Spells}
 use Rattle.rq_model.specs.Frames.{bodies_of}
 use Rattle.rq_record.specs.declared.fault.Fault.{Fault}
 use Rattle.rq_record.specs.declared.fault.Fault.TheVariants.{Resources}
-use Rattle.rq_record.specs.declared.record.Record as rt
+use Rattle.rq_record.specs.Views as rt
 use Rattle.rq_record.specs.Views.{record_of}
 use Rattle.rq_restart.specs.declared.reading.PartedRecords.{PartedRecords}
 

@@ -8,9 +8,9 @@ use Rattle.rq_model.specs.Records.{By}
 use Rattle.rq_model.specs.States.{State, is_registrant, is_note_of}
 use Rattle.rq_model.specs.Queues.{is_marked}
 use Rattle.rq_catalog.specs.Registered.{key_eq}
-use Rattle.rq_record.specs.declared.record.Record.{Record}
-use Rattle.rq_record.specs.declared.record.Record.TheVariants.{Deregister, Begin, Enqueue}
-use Rattle.rq_record.specs.declared.record.Record.TheVariants.{Dequeue, Commit, Abort, Kill}
+use Rattle.rq_record.specs.Views.{Record}
+use Rattle.rq_record.specs.declared.record.RecordOf.TheVariants.{Deregister, Begin, Enqueue}
+use Rattle.rq_record.specs.declared.record.RecordOf.TheVariants.{Dequeue, Commit, Abort, Kill}
 use Rattle.rq_restart.specs.declared.tally.Tally.{Tally}
 
 -- the bytes of a state's members, each in its shortest form

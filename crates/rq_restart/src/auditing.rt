@@ -28,8 +28,8 @@ use crate::shares::audited;
 use crate::tally::Tally;
 use rq_front::{Chain, Span, chain, version};
 use rq_pool::Plan;
-use rq_record::{Fault, LentLog, Record, Version};
-use rq_state::{Fields, State, fields_len, spell_fields};
+use rq_record::{Fault, KeptRecord, LentLog, Version};
+use rq_state::{KeptFields, State, fields_len, spell_fields};
 use std::alloc::Global;
 use std::marker::Sync;
 use std::sync::ArcSlice;
@@ -40,7 +40,7 @@ const BYTES_OF_A_RECORD: usize = 64;
 
 // Whether these are the bytes that spell the state, which is spelled only where its spelling has as
 // many.
-fn is_spelled(alloc: Global, fields: &Fields, kept: &[u8]) -> Result<bool, Fault>
+fn is_spelled(alloc: Global, fields: &KeptFields, kept: &[u8]) -> Result<bool, Fault>
     requires next { fields.now.next ≤ 4294967295 }
     requires well_formed { IsWellFormed (state_of fields.now) }
     requires short { length kept.now ≤ 268435455 }
@@ -62,7 +62,7 @@ pub(crate) fn begins_with(kept: &[u8], next: u64) -> bool
 }
 
 // How often each unit and registrant was spoken of before the record of a place.
-fn tally_before(alloc: Global, records: &[Record], place: usize) -> Result<Tally, Fault>
+fn tally_before(alloc: Global, records: &[KeptRecord], place: usize) -> Result<Tally, Fault>
     requires within { place ≤ length records.now }
     requires few { length records.now ≤ 4294967295 }
     requires lawful { all_lawful Two empty (map record_of records.now) ≡ true }
@@ -83,7 +83,7 @@ fn tally_before(alloc: Global, records: &[Record], place: usize) -> Result<Tally
 /// how many members of each list of that state may be gone since; and what was found.
 #[derive(Drop)]
 pub(crate) struct AuditSoFar {
-    fields: Fields,
+    fields: KeptFields,
     from: usize,
     tally: Tally,
     lost: u64,
@@ -94,7 +94,7 @@ impl AuditSoFar {
     /// In the state before the record of a place, with nothing found.
     pub(crate) fn before(
         alloc: Global,
-        records: &[Record],
+        records: &[KeptRecord],
         place: usize,
         state: State,
     ) -> Result<AuditSoFar, Fault>
@@ -118,7 +118,7 @@ impl AuditSoFar {
 }
 
 // The bytes of a state's members, each in its shortest form.
-fn member_bytes_of(fields: &Fields) -> u128
+fn member_bytes_of(fields: &KeptFields) -> u128
     ensures { result ≡ member_bytes (state_of fields.now) }
 {
     7 * fields.definitions.len() as u128
@@ -146,7 +146,7 @@ fn may_spell(walk: &AuditSoFar, kept: &[u8], next: u64) -> bool
 }
 
 // Behind one record that is no checkpoint.
-fn pass(walk: AuditSoFar, rec: &Record) -> Result<AuditSoFar, Fault>
+fn pass(walk: AuditSoFar, rec: &KeptRecord) -> Result<AuditSoFar, Fault>
     requires counts { IsWithin (2 ^ 64 - 2) walk.tally }
     requires room { walk.lost + lost_by rec.now walk.tally < 2 ^ 64 }
     ensures passed { IfOk result (PassesRecord walk rec.now) }
@@ -169,7 +169,7 @@ fn pass(walk: AuditSoFar, rec: &Record) -> Result<AuditSoFar, Fault>
 pub(crate) fn visit<R: Threads + Sync>(
     rt: &R,
     alloc: Global,
-    records: &[Record],
+    records: &[KeptRecord],
     spans: &[Span],
     place: usize,
     mut walk: AuditSoFar,
@@ -185,7 +185,7 @@ pub(crate) fn visit<R: Threads + Sync>(
     ensures refused { IfErr result (λ e. e ≡ Resources) }
 {
     rq_model::runs_are_well_formed();
-    let Record::Checkpoint { bytes } = &records[place] else {
+    let KeptRecord::Checkpoint { bytes } = &records[place] else {
         return pass(walk, &records[place]);
     };
     let kept = bytes.bytes();
@@ -211,7 +211,7 @@ pub(crate) fn visit<R: Threads + Sync>(
 
 // The records of a front. What its analysis lists is as much again as a log of short frames, and an
 // audit needs none of it: so that goes here.
-fn records_alone(front: Front) -> Vec<Record>
+fn records_alone(front: Front) -> Vec<KeptRecord>
     ensures { result.items ≡ front.records.items }
 {
     front.records

@@ -8,10 +8,10 @@ ghost use Rattle.rq_state.specs.Inside.{state_of};
 ghost use Rattle.rq_record.specs.Views.{record_of};
 ghost use Rattle.rq_record.specs.declared.fault.Fault.TheVariants.{Resources};
 
-use rq_exchange::replay;
+use rq_exchange::replay_kept;
 use rq_pool::{Open, Plan};
-use rq_record::{Fault, Record};
-use rq_state::{Fields, State};
+use rq_record::{Fault, KeptRecord};
+use rq_state::{KeptFields, State};
 use rq_steps::stepped;
 use std::alloc::Global;
 use std::marker::Sync;
@@ -24,7 +24,7 @@ const LOOKS: usize = 80;
 pub(crate) fn state_before<R: Threads + Sync>(
     rt: &R,
     alloc: Global,
-    records: &[Record],
+    records: &[KeptRecord],
     place: usize,
     from: usize,
     state: &State,
@@ -38,11 +38,16 @@ pub(crate) fn state_before<R: Threads + Sync>(
     ensures state { IfOk result (λ s. s ≡ run empty (take place (map record_of records.now))) }
     ensures refused { IfErr result (λ e. e ≡ Resources) }
 {
-    replay(rt, alloc, state, &records[from..place], plan, &Open)
+    replay_kept(rt, alloc, state, &records[from..place], plan, &Open)
 }
 
 // The fields of the state before the record of a place: each record is done to the lists.
-fn steps_to(records: &[Record], place: usize, from: usize, fields: Fields) -> Result<Fields, Fault>
+fn steps_to(
+    records: &[KeptRecord],
+    place: usize,
+    from: usize,
+    fields: KeptFields,
+) -> Result<KeptFields, Fault>
     requires order { from ≤ place }
     requires within { place ≤ length records.now }
     requires few { length records.now ≤ 4294967295 }
@@ -61,7 +66,7 @@ fn steps_to(records: &[Record], place: usize, from: usize, fields: Fields) -> Re
 }
 
 // Whether so many steps on the fields take less time than a replay. Each record may add a member.
-fn are_worth_steps(fields: &Fields, records: usize) -> bool {
+fn are_worth_steps(fields: &KeptFields, records: usize) -> bool {
     let operated = fields.elements.len().saturating_add(fields.notes.len());
     let named = fields.units.len().saturating_add(fields.registrants.len());
     let members = operated.saturating_add(named).saturating_add(records);
@@ -76,12 +81,12 @@ fn are_worth_steps(fields: &Fields, records: usize) -> bool {
 pub(crate) fn fields_before<R: Threads + Sync>(
     rt: &R,
     alloc: Global,
-    records: &[Record],
+    records: &[KeptRecord],
     place: usize,
     from: usize,
-    fields: Fields,
+    fields: KeptFields,
     plan: &Plan,
-) -> Result<Fields, Fault>
+) -> Result<KeptFields, Fault>
     requires order { from ≤ place }
     requires within { place ≤ length records.now }
     requires few { length records.now ≤ 4294967295 }

@@ -17,21 +17,21 @@ use crate::restarted::Restarted;
 use rq_catalog::Analysis;
 use rq_exchange::redo_analysed;
 use rq_pool::{Gate, Plan};
-use rq_record::{Fault, Record, UnitNo, Version};
+use rq_record::{Fault, KeptRecord, UnitNo, Version};
 use rq_state::State;
 use std::alloc::Global;
 use std::marker::Sync;
 use std::thread::Threads;
 
 // Puts the ABORT of each unit behind the records.
-fn append_aborts(records: &mut Vec<Record>, units: &[UnitNo]) -> Result<(), Fault>
+fn append_aborts(records: &mut Vec<KeptRecord>, units: &[UnitNo]) -> Result<(), Fault>
     ensures records { OnOk result (map record_of records.new.items
         ≡ map record_of records.old.items ++ map model.Abort (map unit_of units.now)) }
     ensures refused { IfErr result (λ e. e ≡ Resources) }
 {
     records.reserve_exact(units.len())?;
     for unit in units {
-        records.push(Record::Abort { unit: *unit })?;
+        records.push(KeptRecord::Abort { unit: *unit })?;
     }
     Ok(())
 }
@@ -40,9 +40,9 @@ fn append_aborts(records: &mut Vec<Record>, units: &[UnitNo]) -> Result<(), Faul
 // many these are.
 fn with_aborts(
     alloc: Global,
-    mut records: Vec<Record>,
+    mut records: Vec<KeptRecord>,
     analysis: &Analysis,
-) -> Result<(Vec<Record>, u64), Fault>
+) -> Result<(Vec<KeptRecord>, u64), Fault>
     ensures records { IfOk result (λ all. map record_of all.0.items
         ≡ map record_of records.items ++ map model.Abort (open_in analysis.now)) }
     ensures count { IfOk result (λ all. all.1 ≡ length (open_in analysis.now)) }
@@ -61,7 +61,7 @@ fn redone<R, G>(
     alloc: Global,
     version: Version,
     state: &State,
-    records: Vec<Record>,
+    records: Vec<KeptRecord>,
     analysis: Analysis,
     plan: &Plan,
     gate: &G,

@@ -20,10 +20,10 @@ ghost use Rattle.rq_restart.specs.Known.{IsKnownOfBodies, KnowsBodies};
 use crate::grain::grain_of;
 use crate::reading::{FEW, PartedRecords, put_together, read};
 use crate::restarted::Why;
-use rq_catalog::{Analysis, analyse_in};
+use rq_catalog::{Analysis, analyse_kept};
 use rq_front::{Chain, Rest, Walk};
 use rq_pool::Plan;
-use rq_record::{Fault, LentLog, Record, Version};
+use rq_record::{Fault, KeptRecord, LentLog, Version};
 use rq_state::State;
 use std::alloc::Global;
 use std::marker::Sync;
@@ -32,14 +32,14 @@ use std::thread::{Threads, join};
 /// The records that were read, and what one pass over them found.
 #[derive(Drop)]
 pub(crate) struct Known {
-    records: Vec<Record>,
+    records: Vec<KeptRecord>,
     analysis: Analysis,
 }
 
 /// The lawful records, what one pass over them found, where they end, and why.
 #[derive(Drop)]
 pub(crate) struct Front {
-    pub(crate) records: Vec<Record>,
+    pub(crate) records: Vec<KeptRecord>,
     pub(crate) analysis: Analysis,
     pub(crate) end: usize,
     pub(crate) why: Why,
@@ -82,7 +82,7 @@ fn known_of(
     ensures { KnowsBodies (version_of version) state.now parts result }
 {
     let records = put_together(parts)?;
-    let analysis = analyse_in(alloc, version, state, &records)?;
+    let analysis = analyse_kept(alloc, version, state, &records)?;
     Ok(Known { records, analysis })
 }
 
@@ -105,7 +105,7 @@ fn known_of_first(
     }
     let mut records = known.records;
     records.truncate(count);
-    let analysis = analyse_in(alloc, version, state, &records)?;
+    let analysis = analyse_kept(alloc, version, state, &records)?;
     Ok(Known { records, analysis })
 }
 

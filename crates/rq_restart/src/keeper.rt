@@ -7,10 +7,10 @@ ghost use Rattle.rq_model.specs.Machine.{run};
 ghost use Rattle.rq_record.specs.Views.{record_of, version_of};
 ghost use Rattle.rq_restart.specs.Keepers.{StandsBehind, TakesMore};
 
-use rq_catalog::analyse_in;
+use rq_catalog::analyse_kept;
 use rq_exchange::replay_analysed;
 use rq_pool::{Open, Plan};
-use rq_record::{Fault, Record, Version};
+use rq_record::{Fault, KeptRecord, Version};
 use rq_state::State;
 use std::alloc::Global;
 use std::marker::Sync;
@@ -56,7 +56,7 @@ impl Keeper {
         &mut self,
         rt: &R,
         alloc: Global,
-        records: &[Record],
+        records: &[KeptRecord],
         plan: &Plan,
     ) -> Result<usize, Fault>
         ensures { TakesMore self.old (map record_of records.now) self.new result }
@@ -65,7 +65,7 @@ impl Keeper {
         if self.state.next().saturating_add(records.len() as u64) > RECORDS {
             return Err(Fault::TooLong);
         }
-        let analysis = analyse_in(alloc, self.version, &self.state, records)?;
+        let analysis = analyse_kept(alloc, self.version, &self.state, records)?;
         let count = analysis.lawful();
         let taken = &records[..count];
         self.state = replay_analysed(rt, alloc, &self.state, taken, &analysis, plan, &Open)?;

@@ -15,7 +15,7 @@ use crate::front::end_of;
 use crate::restarted::Why;
 use rq_catalog::Judge;
 use rq_front::{HEADER_LEN, Span, chain};
-use rq_record::{Fault, Version, decode_in};
+use rq_record::{Fault, Version, decode_kept};
 use std::alloc::Global;
 use std::marker::Sync;
 use std::thread::Threads;
@@ -55,7 +55,7 @@ pub(crate) fn judge_one(alloc: Global, judge: &mut Judge, body: &[u8]) -> Result
     ensures kept { IfErr result (λ e. KeepsStanding judge.old judge.new) }
     ensures refused { IfErr result (λ e. e ≡ Resources) }
 {
-    match decode_in(alloc, judge.version(), body) {
+    match decode_kept(alloc, judge.version(), body) {
         Ok(record) => {
             let is_lawful = judge.take(&record)?;
             Ok(if is_lawful {

@@ -9,7 +9,7 @@ ghost use Rattle.rq_front.specs.Chains.{bodies_at};
 ghost use Rattle.rq_restart.specs.Readings.{AreApart, AreRead, ReadsBodies};
 
 use rq_front::Span;
-use rq_record::{Fault, LentLog, Record, Version, decode_at};
+use rq_record::{Fault, KeptRecord, LentLog, Version, decode_at};
 use std::alloc::Global;
 use std::marker::Sync;
 use std::thread::{Threads, join};
@@ -21,8 +21,8 @@ pub(crate) const FEW: usize = 1024;
 /// `count` bodies.
 #[derive(Drop)]
 pub(crate) struct PartedRecords {
-    front: Vec<Record>,
-    back: Vec<Record>,
+    front: Vec<KeptRecord>,
+    back: Vec<KeptRecord>,
     count: usize,
 }
 
@@ -35,7 +35,7 @@ fn read_in_order(
     bytes: &[u8],
     spans: &[Span],
     room: usize,
-) -> Result<Vec<Record>, Fault>
+) -> Result<Vec<KeptRecord>, Fault>
     requires { All (λ s. s.start + s.len ≤ length bytes.now) spans.now }
     ensures records { IfOk result (λ rs. AreRead (version_of version)
         (bodies_at bytes.now spans.now) (map record_of rs.items)) }
@@ -64,7 +64,7 @@ fn read_whole<R: Threads + Sync>(
     spans: &[Span],
     workers: u32,
     room: usize,
-) -> Result<Vec<Record>, Fault>
+) -> Result<Vec<KeptRecord>, Fault>
     requires { All (λ s. s.start + s.len ≤ length bytes.now) spans.now }
     ensures records { IfOk result (λ rs. AreRead (version_of version)
         (bodies_at bytes.now spans.now) (map record_of rs.items)) }
@@ -104,12 +104,12 @@ fn read_apart<R: Threads + Sync>(
     let fewer = workers - 1;
     let (left, right) = join(
         rt,
-        || -> Result<Vec<Record>, Fault>
+        || -> Result<Vec<KeptRecord>, Fault>
             requires { IsSync R.row × All (λ s. s.start + s.len ≤ length bytes.now) front.now }
             ensures { ReadsBodies (version_of version)
                 (bodies_at bytes.entry.now front.entry.now) result }
         { read_whole(rt, alloc, version, lent, bytes, front, fewer, room) },
-        || -> Result<Vec<Record>, Fault>
+        || -> Result<Vec<KeptRecord>, Fault>
             requires { All (λ s. s.start + s.len ≤ length bytes.now) back.now }
             ensures { ReadsBodies (version_of version)
                 (bodies_at bytes.entry.now back.entry.now) result }
@@ -124,7 +124,7 @@ fn read_apart<R: Threads + Sync>(
 
 /// All records of the two parts. Where the front one ends before its last body, nothing behind it
 /// counts.
-pub(crate) fn put_together(parts: PartedRecords) -> Result<Vec<Record>, Fault>
+pub(crate) fn put_together(parts: PartedRecords) -> Result<Vec<KeptRecord>, Fault>
     ensures records { IfOk result (λ rs. (version : model.Version) (bodies : List (List ℕ)) →
         AreApart version bodies parts → AreRead version bodies (map record_of rs.items)) }
     ensures refused { IfErr result (λ e. e ≡ Resources) }

@@ -12,7 +12,7 @@ use crate::before::state_before;
 use crate::grain::{plan_for, with_workers};
 use rq_front::Span;
 use rq_pool::Plan;
-use rq_record::{Fault, Record};
+use rq_record::{Fault, KeptRecord};
 use rq_state::State;
 use std::alloc::Global;
 use std::marker::Sync;
@@ -29,7 +29,7 @@ const BYTES_OF_A_QUEUE: usize = 128;
 fn found_in_order<R: Threads + Sync>(
     rt: &R,
     alloc: Global,
-    records: &[Record],
+    records: &[KeptRecord],
     spans: &[Span],
     from: usize,
     to: usize,
@@ -83,7 +83,7 @@ fn middle_of(spans: &[Span], from: usize, to: usize) -> usize
 fn found_in_shares<R: Threads + Sync>(
     rt: &R,
     alloc: Global,
-    records: &[Record],
+    records: &[KeptRecord],
     spans: &[Span],
     from: usize,
     to: usize,
@@ -126,9 +126,9 @@ fn found_in_shares<R: Threads + Sync>(
 }
 
 // The bytes of a checkpoint that begins with its own number; 0 of any other record.
-fn bytes_told(rec: &Record, place: usize) -> usize {
+fn bytes_told(rec: &KeptRecord, place: usize) -> usize {
     match rec {
-        Record::Checkpoint { bytes } if begins_with(bytes.bytes(), place as u64) => {
+        KeptRecord::Checkpoint { bytes } if begins_with(bytes.bytes(), place as u64) => {
             bytes.bytes().len()
         }
         _ => 0,
@@ -136,7 +136,7 @@ fn bytes_told(rec: &Record, place: usize) -> usize {
 }
 
 // The bytes of the checkpoints that begin with their own number.
-fn told_in_all(records: &[Record]) -> usize {
+fn told_in_all(records: &[KeptRecord]) -> usize {
     let mut told = 0usize;
     for (place, rec) in records.iter().enumerate() {
         told = told.saturating_add(bytes_told(rec, place));
@@ -145,10 +145,10 @@ fn told_in_all(records: &[Record]) -> usize {
 }
 
 // How many queues the records define.
-fn queues_in(records: &[Record]) -> usize {
+fn queues_in(records: &[KeptRecord]) -> usize {
     let mut queues = 0usize;
     for rec in records {
-        if let Record::Define { .. } = rec {
+        if let KeptRecord::Define { .. } = rec {
             queues = queues.saturating_add(1);
         }
     }
@@ -158,7 +158,7 @@ fn queues_in(records: &[Record]) -> usize {
 // How many shares an audit is worth. Each has a state of its own in memory, of at most as many
 // members as there are records: so there are the more shares, the less of the log is records that
 // change something. To make that state costs each queue about as much as BYTES_OF_A_QUEUE.
-fn share_count(records: &[Record], spans: &[Span], plan: &Plan) -> u32 {
+fn share_count(records: &[KeptRecord], spans: &[Span], plan: &Plan) -> u32 {
     let told = told_in_all(records);
     let others = start_of(spans, records.len().saturating_sub(1))
         .saturating_sub(told)
@@ -174,7 +174,7 @@ fn share_count(records: &[Record], spans: &[Span], plan: &Plan) -> u32 {
 pub(crate) fn audited<R: Threads + Sync>(
     rt: &R,
     alloc: Global,
-    records: &[Record],
+    records: &[KeptRecord],
     spans: &[Span],
     plan: &Plan,
 ) -> Result<Vec<(u64, bool)>, Fault>

@@ -8,7 +8,7 @@ ghost use Rattle.rq_record.specs.declared.fault.Fault.TheVariants.{Resources};
 ghost use Rattle.rq_restart.specs.Worth.{Counts, IsWithin, count_of, lost_by, named_after};
 ghost use Rattle.rq_restart.specs.Worth.{of_registrant, of_unit};
 
-use rq_record::{Fault, KeptBy, Name, Record};
+use rq_record::{Fault, KeptBy, KeptRecord, Name};
 use std::alloc::Global;
 use std::collections::BTreeMap;
 
@@ -34,7 +34,7 @@ impl Tally {
     }
 
     /// Counts a record. Answers how many members of each list of the state go with it, at most.
-    pub(crate) fn take(&mut self, rec: &Record) -> Result<u64, Fault>
+    pub(crate) fn take(&mut self, rec: &KeptRecord) -> Result<u64, Fault>
         requires { IsWithin (2 ^ 64 - 2) self.old }
         ensures counts { OnOk result (Counts self.old self.new rec.now) }
         ensures lost { IfOk result (λ n. n ≡ lost_by rec.now self.old) }
@@ -42,12 +42,12 @@ impl Tally {
     {
         match rec {
             // Beside its notes the registrant itself goes.
-            Record::Deregister { queue, name } => Ok(self.forget(queue.0, name.name()) + 1),
-            Record::Begin { unit } => {
+            KeptRecord::Deregister { queue, name } => Ok(self.forget(queue.0, name.name()) + 1),
+            KeptRecord::Begin { unit } => {
                 self.count_unit(unit.0)?;
                 Ok(0)
             }
-            Record::Enqueue {
+            KeptRecord::Enqueue {
                 unit,
                 queue,
                 by,
@@ -56,15 +56,17 @@ impl Tally {
                 self.count_operation(unit.0, queue.0, by)?;
                 Ok(0)
             }
-            Record::Dequeue { unit, queue, by } => {
+            KeptRecord::Dequeue { unit, queue, by } => {
                 self.count_operation(unit.0, queue.0, by)?;
                 Ok(0)
             }
-            Record::Commit { unit } => Ok(self.close(unit.0)),
-            Record::Abort { unit } => Ok(self.close(unit.0)),
+            KeptRecord::Commit { unit } => Ok(self.close(unit.0)),
+            KeptRecord::Abort { unit } => Ok(self.close(unit.0)),
             // Where the element is there and free it goes.
-            Record::Kill { .. } => Ok(1),
-            Record::Define { .. } | Record::Register { .. } | Record::Checkpoint { .. } => Ok(0),
+            KeptRecord::Kill { .. } => Ok(1),
+            KeptRecord::Define { .. }
+            | KeptRecord::Register { .. }
+            | KeptRecord::Checkpoint { .. } => Ok(0),
         }
     }
 

@@ -8,8 +8,7 @@ use Rattle.rq_model.specs.Records.{Version}
 use Rattle.rq_model.specs.LogLaws.{RunStops, RecordHasOneBody, RunGivesFront}
 use Rattle.rq_model.specs.States.{State}
 use Rattle.rq_model.specs.Machine.{lawful_front, run}
-use Rattle.rq_record.specs.Views.{record_of}
-use Rattle.rq_record.specs.declared.record.Record.{Record}
+use Rattle.rq_record.specs.Views.{Record, record_of}
 use Rattle.rq_writer.specs.Made.{IsStateOf}
 use Rattle.rq_writer.specs.Fronts.{Splits, AreLogged}
 use Rattle.rq_writer.proofs.Splitting.{open_keeps, ended_keeps, caught_up, open_fits, split_is_state}

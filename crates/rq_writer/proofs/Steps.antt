@@ -15,7 +15,7 @@ use Rattle.rq_record.specs.Views.{record_of}
 use Rattle.rq_record.specs.Writing.{Appends}
 use Rattle.rq_record.specs.declared.fault.Fault.{Fault}
 use Rattle.rq_record.specs.declared.fault.Fault.TheVariants as faults
-use Rattle.rq_record.specs.declared.record.Record as code
+use Rattle.rq_record.specs.Views as code
 use Rattle.rq_writer.specs.Script.{Line, Told, Spelled, IsLine, Tells, line_text}
 use Rattle.rq_writer.specs.Reading.{cut_at}
 use Rattle.rq_writer.specs.Made.{Adds, AreAdded, BeginsWithLines, Made, script_of, ended}

@@ -9,7 +9,7 @@ use Rattle.rq_model.specs.StateSpelling.{state_bytes}
 use Rattle.rq_record.specs.Views.{record_of}
 use Rattle.rq_record.specs.declared.fault.Fault.{Fault}
 use Rattle.rq_record.specs.declared.fault.Fault.TheVariants as faults
-use Rattle.rq_record.specs.declared.record.Record as code
+use Rattle.rq_record.specs.Views as code
 use Rattle.rq_writer.specs.Script.{Line, Spelled, Tells, line_text}
 use Rattle.rq_writer.specs.Reading.{cut_at}
 use Rattle.rq_writer.specs.Made.{BeginsWithLines, Adds, IsStateOf, spelling_limit}

@@ -9,10 +9,10 @@ ghost use Rattle.rq_record.specs.Views.{record_of, version_of};
 ghost use Rattle.rq_writer.specs.Fronts.{IsFrontAfter, AreLogged, SpellsFront};
 ghost use Rattle.rq_writer.specs.Made.{IsStateOf};
 
-use rq_catalog::analyse_in;
+use rq_catalog::analyse_kept;
 use rq_exchange::replay_analysed;
 use rq_pool::{Open, Plan};
-use rq_record::{CheckBytes, Fault, Record, Version};
+use rq_record::{CheckBytes, Fault, KeptRecord, Record, Version};
 use rq_state::{State, spell};
 use std::alloc::Global;
 use std::thread::Threads;
@@ -25,7 +25,7 @@ fn run_lawful<R: Threads + Sync>(
     version: Version,
     plan: &Plan,
     state: &State,
-    records: &[Record],
+    records: &[KeptRecord],
 ) -> Result<(State, usize), Fault>
     requires fits { state.now.next + length records.now < 2 ^ 64 }
     ensures state { IfOk result (λ found. found.0
@@ -35,7 +35,7 @@ fn run_lawful<R: Threads + Sync>(
     ensures refused { IfErr result (λ e. e ≡ Resources) }
 {
     rq_model::versions();
-    let analysis = analyse_in(alloc, version, state, records)?;
+    let analysis = analyse_kept(alloc, version, state, records)?;
     let count = analysis.lawful();
     let lawful = &records[..count];
     let state = replay_analysed(rt, alloc, state, lawful, &analysis, plan, &Open)?;
@@ -48,7 +48,7 @@ fn run_lawful<R: Threads + Sync>(
 #[derive(Drop)]
 pub(crate) struct MadeFront {
     state: State,
-    since: Vec<Record>,
+    since: Vec<KeptRecord>,
     ended: bool,
 }
 
@@ -65,14 +65,15 @@ impl MadeFront {
     }
 
     /// Takes the next record of the log.
-    pub(crate) fn keep(&mut self, r: Record) -> Result<(), Fault>
+    pub(crate) fn keep(&mut self, alloc: Global, r: &Record) -> Result<(), Fault>
         ensures kept { OnOk result ((version : model.Version) (rs : List model.Record) →
             IsFrontAfter version self.old rs
-            → IsFrontAfter version self.new (rs ++ record_of r ∷ [])) }
+            → IsFrontAfter version self.new (rs ++ record_of r.now ∷ [])) }
         ensures refused { IfErr result (λ e. e ≡ Resources) }
     {
         if !self.ended {
-            self.since.push(r)?;
+            let kept = KeptRecord::of(alloc, r)?;
+            self.since.push(kept)?;
         }
         Ok(())
     }

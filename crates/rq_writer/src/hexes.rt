@@ -4,7 +4,7 @@ ghost use Rattle.std.specs.Prelude.{◌≡◌, ◌*◌, ◌≤◌, ◌<◌, ◌�
 ghost use Rattle.rq_writer.specs.Reading.{Gives};
 ghost use Rattle.rq_writer.specs.Reading as spec;
 
-use rq_record::{CheckBytes, Fault, KeptPayload, Payload};
+use rq_record::{CheckBytes, Fault, Payload};
 use std::alloc::Global;
 
 fn digit(byte: u8) -> Result<u8, Fault>
@@ -67,11 +67,11 @@ fn hex(alloc: Global, limit: usize, text: &[u8]) -> Result<Vec<u8>, Fault>
     pairs(alloc, text)
 }
 
-pub(crate) fn payload(alloc: Global, text: &[u8]) -> Result<KeptPayload, Fault>
+pub(crate) fn payload(alloc: Global, text: &[u8]) -> Result<Payload, Fault>
     ensures { Gives (λ x. x) result (spec.bytes_of_hex 65535 text.now) }
 {
     match Payload::new(hex(alloc, 65535, text)?) {
-        Some(payload) => KeptPayload::of(alloc, &payload),
+        Some(payload) => Ok(payload),
         None => Err(Fault::Form),
     }
 }

@@ -106,7 +106,7 @@ impl Log {
         let r = record_at(rt, alloc, version, plan, number, text, &mut self.front)?;
         append(alloc, &mut self.out, &self.last, &r)?;
         self.last = last_32(&self.out);
-        self.front.keep(r)
+        self.front.keep(alloc, &r)
     }
 
     /// Its bytes.

@@ -9,11 +9,11 @@ ghost use Rattle.rq_writer.specs.Views.{line_of};
 use crate::fields::{by, error, field, name, number, number_field, u32_field};
 use crate::hexes::{kept, payload};
 use crate::line::ScriptLine;
-use rq_record::{ElemId, Fault, KeptBy, KeptName, QueueNo, Record, UnitNo, Version};
+use rq_record::{ElemId, Fault, QueueNo, Record, UnitNo, Version};
 use std::alloc::Global;
 
 #[tactic(auto, unfolding(crate::specs::Reading::define_line))]
-fn define(alloc: Global, bytes: &[u8]) -> Result<Record, Fault>
+fn define(bytes: &[u8]) -> Result<Record, Fault>
     ensures { Gives record_of result (spec.define_line bytes.now) }
 {
     let (word, rest) = field(bytes)?;
@@ -23,31 +23,31 @@ fn define(alloc: Global, bytes: &[u8]) -> Result<Record, Fault>
     Ok(Record::Define {
         limit: limit as u16,
         error: QueueNo(error),
-        name: KeptName::of(alloc, &name)?,
+        name,
     })
 }
 
 #[tactic(auto, unfolding(crate::specs::Reading::register_line))]
-fn register(alloc: Global, bytes: &[u8]) -> Result<Record, Fault>
+fn register(bytes: &[u8]) -> Result<Record, Fault>
     ensures { Gives record_of result (spec.register_line bytes.now) }
 {
     let (queue, rest) = u32_field(bytes)?;
     let name = name(rest)?;
     Ok(Record::Register {
         queue: QueueNo(queue),
-        name: KeptName::of(alloc, &name)?,
+        name,
     })
 }
 
 #[tactic(auto, unfolding(crate::specs::Reading::deregister_line))]
-fn deregister(alloc: Global, bytes: &[u8]) -> Result<Record, Fault>
+fn deregister(bytes: &[u8]) -> Result<Record, Fault>
     ensures { Gives record_of result (spec.deregister_line bytes.now) }
 {
     let (queue, rest) = u32_field(bytes)?;
     let name = name(rest)?;
     Ok(Record::Deregister {
         queue: QueueNo(queue),
-        name: KeptName::of(alloc, &name)?,
+        name,
     })
 }
 
@@ -97,13 +97,13 @@ fn enqueue(alloc: Global, bytes: &[u8]) -> Result<Record, Fault>
         priority: priority as u8,
         queue: QueueNo(queue),
         unit: UnitNo(unit),
-        by: KeptBy::of(alloc, &by)?,
+        by,
         payload,
     })
 }
 
 #[tactic(auto, unfolding(crate::specs::Reading::dequeue_line))]
-fn dequeue(alloc: Global, bytes: &[u8]) -> Result<Record, Fault>
+fn dequeue(bytes: &[u8]) -> Result<Record, Fault>
     ensures { Gives record_of result (spec.dequeue_line bytes.now) }
 {
     let (unit, rest) = number_field(u64::MAX, bytes)?;
@@ -114,7 +114,7 @@ fn dequeue(alloc: Global, bytes: &[u8]) -> Result<Record, Fault>
     Ok(Record::Dequeue {
         unit: UnitNo(unit),
         queue: QueueNo(queue),
-        by: KeptBy::of(alloc, &by)?,
+        by,
     })
 }
 
@@ -152,17 +152,17 @@ fn told_by(alloc: Global, version: Version, word: &[u8], rest: &[u8]) -> Result<
     ensures { Gives record_of result (spec.told_by (version_of version) word.now rest.now) }
 {
     if word == b"define".as_slice() {
-        define(alloc, rest)
+        define(rest)
     } else if word == b"register".as_slice() {
-        register(alloc, rest)
+        register(rest)
     } else if word == b"deregister".as_slice() {
-        deregister(alloc, rest)
+        deregister(rest)
     } else if word == b"begin".as_slice() {
         begin(rest)
     } else if word == b"enqueue".as_slice() {
         enqueue(alloc, rest)
     } else if word == b"dequeue".as_slice() {
-        dequeue(alloc, rest)
+        dequeue(rest)
     } else if word == b"commit".as_slice() {
         commit(rest)
     } else if word == b"abort".as_slice() {

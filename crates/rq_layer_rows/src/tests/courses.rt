@@ -13,10 +13,10 @@ ghost use Rattle.rq_exchange.specs.Links.{naming};
 
 use super::plain::{NO_QUEUE, Plain, records_of};
 use Plain::{Abort, Begin, Commit, Define, Dequeue, Enqueue};
-use rq_catalog::analyse_in;
+use rq_catalog::{analyse_in, analyse_kept};
 use rq_exchange::{Course, replay_traced};
 use rq_pool::{Gate, Plan};
-use rq_record::{Fault, Record, Version};
+use rq_record::{Fault, KeptRecord, Record, Version, kept_records};
 use rq_state::State;
 use std::alloc::Global;
 use std::sync::atomic::{AtomicU32, Ordering};
@@ -47,12 +47,12 @@ const CHAINED: [Plain; 14] = [
 // Records that are lawful from the start.
 #[derive(Drop)]
 struct Lawful {
-    records: Vec<Record>,
+    records: Vec<KeptRecord>,
     ghost lawful: { all_lawful Two empty (map record_of records.items) ≡ true },
 }
 
-// The records as far as they are lawful after the state.
-fn lawful_front(
+/// The records as far as they are lawful after the state.
+pub(super) fn lawful_front(
     alloc: Global,
     start: &State,
     mut records: Vec<Record>,
@@ -71,6 +71,7 @@ fn lawful_front(
 fn lawful_of(alloc: Global, records: Vec<Record>) -> Result<Lawful, Fault> {
     let start = State::empty(alloc);
     let records = lawful_front(alloc, &start, records)?;
+    let records = kept_records(alloc, &records)?;
     Ok(Lawful { records })
 }
 
@@ -95,7 +96,7 @@ fn traced<R: Threads + Sync + AllocGlobal, G: Gate + Sync>(
 {
     let alloc = rt.alloc();
     let start = State::empty(alloc);
-    let analysis = analyse_in(alloc, Version::Two, &start, &lawful.records)?;
+    let analysis = analyse_kept(alloc, Version::Two, &start, &lawful.records)?;
     let (state, course) = replay_traced(rt, alloc, &start, &lawful.records, &analysis, plan, gate)?;
     Ok((state, course))
 }

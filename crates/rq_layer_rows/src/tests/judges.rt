@@ -4,8 +4,8 @@ use super::plain::{NO_QUEUE, Plain, Who, define, record_of};
 use Plain::{
     Abort, Begin, Checkpoint, Commit, Define, Dequeue, Deregister, Enqueue, Kill, Register,
 };
-use rq_catalog::{Judge, analyse_in};
-use rq_record::{Record, Version};
+use rq_catalog::{Judge, analyse_kept};
+use rq_record::{KeptRecord, Version};
 use rq_state::State;
 use std::alloc::Global;
 use std::test::Fail;
@@ -32,9 +32,9 @@ fn is_lawful_in(lawful: Lawful, version: Version) -> bool {
 }
 
 // Whether the catalogue takes all of the records.
-fn are_lawful(alloc: Global, version: Version, records: &[Record]) -> Result<bool, Fail> {
+fn are_lawful(alloc: Global, version: Version, records: &[KeptRecord]) -> Result<bool, Fail> {
     let start = State::empty(alloc);
-    let analysis = analyse_in(alloc, version, &start, records)?;
+    let analysis = analyse_kept(alloc, version, &start, records)?;
     Ok(analysis.lawful() == records.len())
 }
 
@@ -44,11 +44,11 @@ fn agree(
     alloc: Global,
     version: Version,
     judge: &mut Judge,
-    taken: &mut Vec<Record>,
+    taken: &mut Vec<KeptRecord>,
     case: &Case,
 ) -> Result<bool, Fail> {
     let want = is_lawful_in(case.0, version);
-    let next = record_of(alloc, &case.1)?;
+    let next = KeptRecord::of(alloc, &record_of(alloc, &case.1)?)?;
     let says = judge.take(&next)?;
     taken.push(next)?;
     let found = are_lawful(alloc, version, taken)?;
@@ -64,7 +64,7 @@ fn first_of(
     alloc: Global,
     version: Version,
     judge: &mut Judge,
-    taken: &mut Vec<Record>,
+    taken: &mut Vec<KeptRecord>,
     cases: &[Case],
 ) -> Result<Option<usize>, Fail> {
     for (place, case) in cases.iter().enumerate() {
@@ -191,7 +191,7 @@ fn a_judge_says_what_the_catalogue_says(rt: HostRuntime) -> Result<(), Fail> {
 // Whether the judge takes one more queue, of a name with this number.
 fn takes_queue(alloc: Global, judge: &mut Judge, number: u32) -> Result<bool, Fail> {
     let name = format!(in alloc; "q{number}")?;
-    let next = define(alloc, 0, NO_QUEUE, &name)?;
+    let next = KeptRecord::of(alloc, &define(0, NO_QUEUE, &name)?)?;
     Ok(judge.take(&next)?)
 }
 

@@ -1,9 +1,7 @@
 //! Records as plain data. No record of a table is alive beside another while it is made: so a table
 //! is cheap to prove, and a list of records that may each be refused memory is dear.
 
-use rq_record::{
-    By, CheckBytes, ElemId, KeptBy, KeptName, KeptPayload, Name, QueueNo, Record, UnitNo,
-};
+use rq_record::{By, CheckBytes, ElemId, Name, Payload, QueueNo, Record, UnitNo};
 use std::alloc::Global;
 use std::test::Fail;
 
@@ -28,41 +26,39 @@ pub enum Plain {
 /// What stands for no queue.
 pub const NO_QUEUE: u32 = u32::MAX;
 
-fn kept(alloc: Global, name: &str) -> Result<KeptName, Fail> {
-    let name = Name::new(name.as_bytes()).ok_or("name")?;
-    Ok(KeptName::of(alloc, &name)?)
+fn named(name: &str) -> Result<Name, Fail> {
+    Ok(Name::new(name.as_bytes()).ok_or("name")?)
 }
 
-fn by(alloc: Global, who: Who) -> Result<KeptBy, Fail> {
-    let by = match who {
+fn by(who: Who) -> Result<Option<By>, Fail> {
+    match who {
         Some((name, tag)) => {
-            let name = Name::new(name.as_bytes()).ok_or("name")?;
-            Some(By { name, tag })
+            let name = named(name)?;
+            Ok(Some(By { name, tag }))
         }
-        None => None,
-    };
-    Ok(KeptBy::of(alloc, &by)?)
+        None => Ok(None),
+    }
 }
 
 /// The definition of a queue.
-pub fn define(alloc: Global, limit: u16, error: u32, name: &str) -> Result<Record, Fail> {
-    let (error, name) = (QueueNo(error), kept(alloc, name)?);
+pub fn define(limit: u16, error: u32, name: &str) -> Result<Record, Fail> {
+    let (error, name) = (QueueNo(error), named(name)?);
     Ok(Record::Define { limit, error, name })
 }
 
-fn register(alloc: Global, queue: u32, name: &str) -> Result<Record, Fail> {
-    let (queue, name) = (QueueNo(queue), kept(alloc, name)?);
+fn register(queue: u32, name: &str) -> Result<Record, Fail> {
+    let (queue, name) = (QueueNo(queue), named(name)?);
     Ok(Record::Register { queue, name })
 }
 
-fn deregister(alloc: Global, queue: u32, name: &str) -> Result<Record, Fail> {
-    let (queue, name) = (QueueNo(queue), kept(alloc, name)?);
+fn deregister(queue: u32, name: &str) -> Result<Record, Fail> {
+    let (queue, name) = (QueueNo(queue), named(name)?);
     Ok(Record::Deregister { queue, name })
 }
 
 fn enqueue(alloc: Global, unit: u64, queue: u32, who: Who) -> Result<Record, Fail> {
-    let by = by(alloc, who)?;
-    let payload = KeptPayload::from_slice(alloc, b"a")?.ok_or("payload")?;
+    let by = by(who)?;
+    let payload = Payload::new(Vec::from_slice(alloc, b"a")?).ok_or("payload")?;
     let (unit, queue) = (UnitNo(unit), QueueNo(queue));
     Ok(Record::Enqueue {
         unit,
@@ -73,8 +69,8 @@ fn enqueue(alloc: Global, unit: u64, queue: u32, who: Who) -> Result<Record, Fai
     })
 }
 
-fn dequeue(alloc: Global, unit: u64, queue: u32, who: Who) -> Result<Record, Fail> {
-    let by = by(alloc, who)?;
+fn dequeue(unit: u64, queue: u32, who: Who) -> Result<Record, Fail> {
+    let by = by(who)?;
     let (unit, queue) = (UnitNo(unit), QueueNo(queue));
     Ok(Record::Dequeue { unit, queue, by })
 }
@@ -94,12 +90,12 @@ fn kill(queue: u32, element: u64) -> Record {
 /// The record of these numbers and names.
 pub fn record_of(alloc: Global, plain: &Plain) -> Result<Record, Fail> {
     match *plain {
-        Plain::Define(limit, error, name) => define(alloc, limit, error, name),
-        Plain::Register(queue, name) => register(alloc, queue, name),
-        Plain::Deregister(queue, name) => deregister(alloc, queue, name),
+        Plain::Define(limit, error, name) => define(limit, error, name),
+        Plain::Register(queue, name) => register(queue, name),
+        Plain::Deregister(queue, name) => deregister(queue, name),
         Plain::Begin(unit) => Ok(Record::Begin { unit: UnitNo(unit) }),
         Plain::Enqueue(unit, queue, who) => enqueue(alloc, unit, queue, who),
-        Plain::Dequeue(unit, queue, who) => dequeue(alloc, unit, queue, who),
+        Plain::Dequeue(unit, queue, who) => dequeue(unit, queue, who),
         Plain::Commit(unit) => Ok(Record::Commit { unit: UnitNo(unit) }),
         Plain::Abort(unit) => Ok(Record::Abort { unit: UnitNo(unit) }),
         Plain::Checkpoint => checkpoint(alloc),

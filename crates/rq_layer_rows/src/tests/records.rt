@@ -1,8 +1,8 @@
 //! Names, what a checkpoint spells, and bodies.
 
 use rq_record::{
-    By, CheckBytes, Fault, KeptBy, KeptName, KeptPayload, LentLog, Name, Payload, QueueNo, Record,
-    UnitNo, Version, decode, decode_at, encode,
+    By, CheckBytes, Fault, KeptBy, KeptName, KeptPayload, KeptRecord, LentLog, Name, Payload,
+    QueueNo, Record, UnitNo, Version, decode, decode_at, encode,
 };
 use std::alloc::Global;
 use std::sync::ArcSlice;
@@ -82,8 +82,8 @@ fn payload_among_others(alloc: Global, length: usize) -> Result<Vec<u8>, Fail> {
         priority: 5,
         queue: QueueNo(0),
         unit: UnitNo(1),
-        by: KeptBy::of(alloc, &None)?,
-        payload: KeptPayload::from_slice(alloc, &payload)?.ok_or("too long")?,
+        by: None,
+        payload: Payload::new(payload).ok_or("too long")?,
     };
     among_others(alloc, &record)
 }
@@ -106,8 +106,8 @@ fn read_of(alloc: Global, bytes: &[u8], log: &ArcSlice<u8>) -> Result<(usize, us
     }
     let record = decode_at(alloc, Version::One, &lent, bytes, 1, len)?;
     let read = match &record {
-        Record::Enqueue { payload, .. } => payload.bytes(),
-        Record::Checkpoint { bytes } => bytes.bytes(),
+        KeptRecord::Enqueue { payload, .. } => payload.bytes(),
+        KeptRecord::Checkpoint { bytes } => bytes.bytes(),
         _ => return Err("another record".into()),
     };
     if read.iter().any(|byte| *byte != b'p') {

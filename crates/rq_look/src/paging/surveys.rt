@@ -11,7 +11,7 @@ use crate::frames::{Placed, PlacedFrames};
 use crate::numbered::{Numbered, kind_of};
 use crate::paging::courses::{BINS, Curve, along};
 use crate::trouble::Trouble;
-use rq_record::{Fault, QueueNo, Record};
+use rq_record::{Fault, KeptRecord as Record, QueueNo};
 use rq_state::State;
 use std::alloc::{AllocError, Global};
 use std::collections::BTreeMap;

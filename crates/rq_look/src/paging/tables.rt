@@ -12,7 +12,7 @@ use crate::queues::{RegistrantShown, free_elements, registrants_shown};
 use crate::sheet::relieve;
 use crate::trouble::Trouble;
 use rq_record::QueueNo;
-use rq_state::{Definition, Element, State};
+use rq_state::{Definition, KeptElement as Element, State};
 use std::alloc::{AllocError, Global};
 use std::fmt::Write;
 use std::io;

@@ -3,7 +3,7 @@
 use super::log_of;
 use super::scripts::{CHECKPOINT, ONE_ELEMENT, RETURN_AND_ARRIVAL};
 use rq_front::{Span, chain};
-use rq_record::{ElemId, QueueNo, Record, UnitNo, Version, decode_in};
+use rq_record::{ElemId, KeptRecord, QueueNo, UnitNo, Version, decode_kept};
 use rq_restart::{Fault, Keeper, Plan, front_state};
 use rq_state::{State, read_in, spell};
 use rq_writer::make_in;
@@ -22,10 +22,10 @@ const IN_SOME: &[usize] = &[2, 7, 8, 8, 11, 20];
 const AT_ONCE: &[usize] = &[20];
 
 // The record whose body is there.
-fn record_at(alloc: Global, version: Version, log: &[u8], span: &Span) -> Result<Record, Fail> {
+fn record_at(alloc: Global, version: Version, log: &[u8], span: &Span) -> Result<KeptRecord, Fail> {
     let end = span.start.saturating_add(span.len);
     let body = log.get(span.start..end).ok_or("body")?;
-    Ok(decode_in(alloc, version, body)?)
+    Ok(decode_kept(alloc, version, body)?)
 }
 
 // The records of a log of a version.
@@ -33,7 +33,7 @@ fn records<R: Threads + Sync + AllocGlobal>(
     rt: &R,
     version: Version,
     log: &[u8],
-) -> Result<Vec<Record>, Fail> {
+) -> Result<Vec<KeptRecord>, Fail> {
     let mut records = Vec::new(rt.alloc());
     for span in chain(rt, rt.alloc(), log, 40, 1)?.spans.iter() {
         records.push(record_at(rt.alloc(), version, log, span)?)?;
@@ -45,7 +45,7 @@ fn records<R: Threads + Sync + AllocGlobal>(
 fn taken<R: Threads + Sync + AllocGlobal>(
     rt: &R,
     keeper: &mut Keeper,
-    records: &[Record],
+    records: &[KeptRecord],
     plan: &Plan,
 ) -> Option<usize> {
     keeper.take(rt, rt.alloc(), records, plan).ok()
@@ -55,7 +55,7 @@ fn taken<R: Threads + Sync + AllocGlobal>(
 fn takes_all<R: Threads + Sync + AllocGlobal>(
     rt: &R,
     keeper: &mut Keeper,
-    records: &[Record],
+    records: &[KeptRecord],
     ends: &[usize],
     plan: &Plan,
 ) -> bool {
@@ -106,7 +106,7 @@ fn stands_behind<R: Threads + Sync + AllocGlobal>(
 fn goes_along<R: Threads + Sync + AllocGlobal>(
     rt: &R,
     log: &[u8],
-    records: &[Record],
+    records: &[KeptRecord],
     ends: &[usize],
     workers: u32,
 ) -> bool {
@@ -157,7 +157,7 @@ fn goes_on_behind<R: Threads + Sync + AllocGlobal>(
     rt: &R,
     log: &[u8],
     begins: &[u8],
-    rest: &[Record],
+    rest: &[KeptRecord],
 ) -> Result<bool, Fail> {
     let plan = Plan::new(2, 1).ok_or("plan")?;
     let mut keeper = Keeper::new(Version::One, read_again(rt, begins, &plan)?);
@@ -178,16 +178,16 @@ fn a_keeper_goes_on_from_a_checkpoint(rt: HostRuntime) -> Result<(), Fail> {
 }
 
 // The records of a log, and two more, of which the first is not lawful.
-fn with_two_more<R: Threads + Sync + AllocGlobal>(rt: &R, log: &[u8]) -> Result<Vec<Record>, Fail> {
+fn with_two_more<R: Threads + Sync + AllocGlobal>(rt: &R, log: &[u8]) -> Result<Vec<KeptRecord>, Fail> {
     let mut records = records(rt, Version::One, log)?;
-    records.push(Record::Commit { unit: UnitNo(1) })?;
-    records.push(Record::Begin { unit: UnitNo(2) })?;
+    records.push(KeptRecord::Commit { unit: UnitNo(1) })?;
+    records.push(KeptRecord::Begin { unit: UnitNo(2) })?;
     Ok(records)
 }
 
 // Whether a keeper takes four of these records, stands where the log's front ends, and then takes
 // the last one alone.
-fn stops<R: Threads + Sync + AllocGlobal>(rt: &R, log: &[u8], records: &[Record]) -> bool {
+fn stops<R: Threads + Sync + AllocGlobal>(rt: &R, log: &[u8], records: &[KeptRecord]) -> bool {
     let (Some(plan), Some(last)) = (Plan::new(2, 1), records.get(5..)) else {
         return false;
     };
@@ -215,7 +215,7 @@ fn after_kill<R: Threads + Sync + AllocGlobal>(
     let plan = Plan::new(2, 1).ok_or("plan")?;
     let log = make_in(rt, rt.alloc(), version, ONE_ELEMENT, &plan)?;
     let records = records(rt, version, &log)?;
-    let kill = Record::Kill {
+    let kill = KeptRecord::Kill {
         queue: QueueNo(0),
         element: ElemId(2),
     };
@@ -245,7 +245,7 @@ fn is_full_behind_one<R: Threads + Sync + AllocGlobal>(
     keeper: &mut Keeper,
     plan: &Plan,
 ) -> bool {
-    let begin = [Record::Begin { unit: UnitNo(1) }];
+    let begin = [KeptRecord::Begin { unit: UnitNo(1) }];
     let first = keeper.take(rt, rt.alloc(), &begin, plan);
     let second = keeper.take(rt, rt.alloc(), &begin, plan);
     first == Ok(1)

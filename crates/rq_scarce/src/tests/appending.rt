@@ -2,7 +2,7 @@
 
 use super::sweeping::{Call, is_right};
 use rq_front::{frame, header};
-use rq_record::{KeptBy, KeptPayload, QueueNo, Record, UnitNo, encode};
+use rq_record::{Payload, QueueNo, Record, UnitNo, encode};
 use rq_tool::Fault;
 use std::alloc::Global;
 use std::test::Fail;
@@ -63,8 +63,8 @@ fn appends<R: Threads + Sync + AllocGlobal>(
         unit: UnitNo(1),
         queue: QueueNo(0),
         priority: 5,
-        by: KeptBy::of(alloc, &None)?,
-        payload: KeptPayload::from_slice(alloc, &[0x61; 500])?.ok_or("payload")?,
+        by: None,
+        payload: Payload::new(Vec::from_slice(alloc, &[0x61; 500])?).ok_or("payload")?,
     };
     let mut appending = Appending {
         what,

@@ -3,8 +3,7 @@ use Rattle.std.proofs.lemmas.List.{length-map}
 use Rattle.rq_model.specs.Machine.{all_lawful}
 use Rattle.rq_model.specs.States.{State, empty}
 use Rattle.rq_model.specs.Checkpoints.{IsAudit}
-use Rattle.rq_record.specs.declared.record.Record.{Record}
-use Rattle.rq_record.specs.Views.{record_of, version_of}
+use Rattle.rq_record.specs.Views.{Record, record_of, version_of}
 use Rattle.rq_catalog.proofs.Fronts.{lawful_in_two}
 use Rattle.rq_restart.specs.Ends.{IsFrontFrom}
 use Rattle.rq_restart.specs.Views.{why_of}

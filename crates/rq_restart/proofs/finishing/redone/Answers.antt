@@ -1,8 +1,7 @@
 use Rattle.std.proofs.Common.{◌≤◌, List, length, map, take, sym, subst}
 use Rattle.rq_model.specs.Records.{Two}
 use Rattle.rq_model.specs.Machine.{run}
-use Rattle.rq_record.specs.declared.record.Record.{Record}
-use Rattle.rq_record.specs.Views.{record_of, version_of}
+use Rattle.rq_record.specs.Views.{Record, record_of, version_of}
 use Rattle.rq_catalog.specs.Analyses.{IsAnalysis}
 use Rattle.rq_catalog.proofs.Fronts.{analysis_is_wider}
 use Rattle.rq_exchange.specs.Gathering.{IsRedoneTo}

@@ -1,7 +1,6 @@
 use Rattle.std.proofs.Common.{◌≡◌, List, map, take, sym, ap, subst, ◌∙◌, arith}
 use Rattle.std.proofs.lemmas.List.{length-map, take-map, take_all}
-use Rattle.rq_record.specs.declared.record.Record.{Record}
-use Rattle.rq_record.specs.Views.{record_of, version_of}
+use Rattle.rq_record.specs.Views.{Record, record_of, version_of}
 use Rattle.rq_model.specs.Records as model
 use Rattle.rq_catalog.specs.Analyses.{IsAnalysis}
 use Rattle.rq_restart.specs.Readings.{AreRead}

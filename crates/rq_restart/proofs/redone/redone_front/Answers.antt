@@ -2,8 +2,7 @@ use Rattle.std.proofs.Common.{◌≡◌, List, map, subst, sym, ◌∙◌}
 use Rattle.rq_model.specs.Records.{Two}
 use Rattle.rq_model.specs.States.{State, empty}
 use Rattle.rq_model.specs.Machine.{run}
-use Rattle.rq_record.specs.declared.record.Record.{Record}
-use Rattle.rq_record.specs.Views.{record_of, version_of}
+use Rattle.rq_record.specs.Views.{Record, record_of, version_of}
 use Rattle.rq_catalog.specs.Analyses.{IsAnalysis}
 use Rattle.rq_catalog.proofs.Fronts.{analysis_is_wider}
 use Rattle.rq_restart.specs.Views.{why_of}

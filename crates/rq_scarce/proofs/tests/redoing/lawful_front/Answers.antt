@@ -1,8 +1,7 @@
 use Rattle.std.proofs.Common.{◌≡◌, List, map, ap, subst, ◌∙◌}
 use Rattle.rq_model.specs.Records.{Two}
 use Rattle.rq_model.specs.Machine.{all_lawful, lawful_front}
-use Rattle.rq_record.specs.declared.record.Record.{Record}
-use Rattle.rq_record.specs.Views.{record_of}
+use Rattle.rq_record.specs.Views.{Record, record_of}
 use Rattle.rq_catalog.specs.Analyses.{IsAnalysis}
 use Rattle.rq_catalog.proofs.Fronts.{kept_is, parted}
 use Rattle.rq_scarce.proofs.tests.redoing.lawful_front.Goals as goal

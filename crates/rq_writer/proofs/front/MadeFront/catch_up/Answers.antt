@@ -1,8 +1,7 @@
 use Rattle.std.proofs.Common.{ℕ, List, ap, length, map, ◌∙◌, arith}
 use Rattle.std.specs.Prelude.{nat_lt}
 use Rattle.rq_model.specs.Machine.{lawful_front, run}
-use Rattle.rq_record.specs.Views.{record_of, version_of}
-use Rattle.rq_record.specs.declared.record.Record.{Record}
+use Rattle.rq_record.specs.Views.{Record, record_of, version_of}
 use Rattle.rq_writer.proofs.Fronting.{behind_fits, ended_is, caught}
 use Rattle.rq_writer.proofs.front.MadeFront.catch_up.Goals as goal
 
