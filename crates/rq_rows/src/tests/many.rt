@@ -1,13 +1,16 @@
 //! A log with two hundred queues, twenty of them error queues.
 
 use super::log_of;
-use rq_tool::{Gate, OverRead, OverWrite, Plan, run};
+use rq_tool::{Command, Gate, OverRead, OverWrite, Plan, act};
 use std::alloc::Global;
 use std::fmt::Write;
 use std::io::Cursor;
 use std::sync::atomic::{AtomicU64, Ordering};
 use std::test::Fail;
 use std::thread::Threads;
+
+// Where the log's checkpoint stands.
+const CHECKPOINT_AT: u64 = 9_330;
 
 // Queues `d0` to `d19`, then `q20` to `q199` whose elements go to them at their first abort.
 fn define_all(script: &mut String) -> Result<(), Fail> {
@@ -57,9 +60,11 @@ fn take_out(script: &mut String, queue: u32) -> Result<(), Fail> {
     Ok(())
 }
 
+// A checkpoint stands behind the definitions, at `CHECKPOINT_AT`.
 fn script(alloc: Global) -> Result<String, Fail> {
     let mut script = String::new(alloc);
     define_all(&mut script)?;
+    script.push_str("checkpoint\n")?;
     for queue in 20..200 {
         put_in(alloc, &mut script, queue)?;
     }
@@ -102,38 +107,31 @@ fn each_entered_once(entries: &Entries) -> bool {
     all
 }
 
-// Whether a run by so many workers ends well at the gate.
-fn runs<R: Threads + Sync + AllocGlobal>(
-    rt: &R,
-    log: &[u8],
-    workers: u32,
-    entries: &Entries,
-) -> bool {
-    let Some(plan) = Plan::new(workers, 1000) else {
-        return false;
-    };
-    let mut input = OverRead::new(Cursor::new(log));
-    let mut output = OverWrite::new(Vec::new(rt.alloc()));
-    run(rt, rt.alloc(), &mut input, &mut output, &plan, entries).is_ok()
-}
-
-// Whether every queue of the log enters, with so many workers.
+// Whether every queue of the log enters the gate of the command's run.
 fn all_enter<R: Threads + Sync + AllocGlobal>(
     rt: &R,
     log: &[u8],
-    workers: u32,
+    command: &Command<'_>,
 ) -> Result<bool, Fail> {
     let entries = no_entries(rt.alloc())?;
-    Ok(runs(rt, log, workers, &entries) && each_entered_once(&entries))
+    let mut input = OverRead::new(Cursor::new(log));
+    let mut output = OverWrite::new(Vec::new(rt.alloc()));
+    let done = act(rt, rt.alloc(), command, &mut input, &mut output, &entries);
+    Ok(done.is_ok() && each_entered_once(&entries))
 }
 
 #[test]
 fn every_queue_enters_the_gate(rt: HostRuntime) -> Result<(), Fail> {
     let script = script(rt.alloc())?;
     let log = log_of(&rt, script.as_bytes())?;
-    assert_eq!(rt; log.len(), 1_239_720);
+    assert_eq!(rt; log.len(), 1_241_899);
     for workers in [1, 2, 7, 64] {
-        assert!(rt; all_enter(&rt, &log, workers)?, "{workers} workers");
+        let plan = Plan::new(workers, 1000).ok_or("plan")?;
+        let whole = Command::Restart { log: "", plan };
+        assert!(rt; all_enter(&rt, &log, &whole)?, "{workers} workers");
+        let offset = CHECKPOINT_AT;
+        let rest = Command::RestartAt { log: "", offset, plan };
+        assert!(rt; all_enter(&rt, &log, &rest)?, "{workers} workers from the checkpoint");
     }
     Ok(())
 }

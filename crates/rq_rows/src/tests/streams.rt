@@ -183,3 +183,32 @@ fn a_write_that_fails_is_told_and_leaves_a_beginning(rt: HostRuntime) -> Result<
     }
     Ok(())
 }
+
+// Takes nothing, and counts how many times it is asked.
+#[derive(Drop)]
+struct Full {
+    calls: u64,
+}
+
+impl Write for Full {
+    fn write(&mut self, _bytes: &[u8]) -> io::Result<usize> {
+        self.calls = self.calls.wrapping_add(1);
+        Ok(0)
+    }
+
+    fn flush(&mut self) -> io::Result<()> {
+        Ok(())
+    }
+}
+
+#[test]
+fn a_writer_that_takes_nothing_is_asked_once(rt: HostRuntime) -> Result<(), Fail> {
+    let log = log_of(&rt, RETURN_AND_ARRIVAL)?;
+    let plan = Plan::new(2, 1000).ok_or("plan")?;
+    let mut input = OverRead::new(Cursor::new(log.as_slice()));
+    let mut output = OverWrite::new(Full { calls: 0 });
+    let done = run(&rt, rt.alloc(), &mut input, &mut output, &plan, &Open);
+    assert!(rt; done == Err(Fault::WriteFailed));
+    assert_eq!(rt; output.into_inner().calls, 1);
+    Ok(())
+}
