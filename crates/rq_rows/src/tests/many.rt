@@ -130,8 +130,15 @@ fn every_queue_enters_the_gate(rt: HostRuntime) -> Result<(), Fail> {
         let whole = Command::Restart { log: "", plan };
         assert!(rt; all_enter(&rt, &log, &whole)?, "{workers} workers");
         let offset = CHECKPOINT_AT;
-        let rest = Command::RestartAt { log: "", offset, plan };
-        assert!(rt; all_enter(&rt, &log, &rest)?, "{workers} workers from the checkpoint");
+        let rest = Command::RestartAt {
+            log: "",
+            offset,
+            plan,
+        };
+        assert!(rt;
+            all_enter(&rt, &log, &rest)?,
+            "{workers} workers from the checkpoint"
+        );
     }
     Ok(())
 }

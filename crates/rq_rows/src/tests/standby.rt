@@ -178,7 +178,10 @@ fn a_keeper_goes_on_from_a_checkpoint(rt: HostRuntime) -> Result<(), Fail> {
 }
 
 // The records of a log, and two more, of which the first is not lawful.
-fn with_two_more<R: Threads + Sync + AllocGlobal>(rt: &R, log: &[u8]) -> Result<Vec<KeptRecord>, Fail> {
+fn with_two_more<R: Threads + Sync + AllocGlobal>(
+    rt: &R,
+    log: &[u8],
+) -> Result<Vec<KeptRecord>, Fail> {
     let mut records = records(rt, Version::One, log)?;
     records.push(KeptRecord::Commit { unit: UnitNo(1) })?;
     records.push(KeptRecord::Begin { unit: UnitNo(2) })?;
