@@ -1,5 +1,5 @@
 -- The state that a test makes is well formed, and its queue may be redone.
-use Rattle.std.proofs.Common.{◌≡◌, ℕ, List, [], ◌∷◌, refl, sym, subst, arith, inl, tt}
+use Rattle.std.proofs.Common.{◌≡◌, ℕ, List, [], ◌∷◌, refl, sym, subst, arith, inl}
 use Rattle.rq_model.specs.Records.{Two, Kill}
 use Rattle.rq_model.specs.Queues.{Part, part_of}
 use Rattle.rq_model.specs.WellFormed.{IsWellFormed}

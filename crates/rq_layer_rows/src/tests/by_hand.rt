@@ -262,7 +262,6 @@ fn fields(alloc: Global, queue: Name, ann: Name, payload: Payload) -> Result<Fie
 }
 
 // Their state.
-#[tactic(auto, using(crate::proofs::ByHand::well))]
 fn built(alloc: Global, queue: Name, ann: Name, payload: Payload) -> Result<State, Fault>
     ensures { IfOk result (λ s. s ≡ by_hand queue ann payload) }
 {
@@ -271,7 +270,6 @@ fn built(alloc: Global, queue: Name, ann: Name, payload: Payload) -> Result<Stat
 }
 
 // The part of its queue behind a KILL of the element, and what left it.
-#[tactic(auto, using(crate::proofs::ByHand::kill_case))]
 fn killed(alloc: Global, state: &State) -> Result<(Part, Vec<Move>), Fault>
     requires { (queue ann payload : List ℕ) × (state.now ≡ by_hand queue ann payload) }
 {
