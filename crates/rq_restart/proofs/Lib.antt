@@ -5,6 +5,7 @@ pub mod Closings
 pub mod Starts
 pub mod FrontEnds
 pub mod Endings
+pub mod RedoneFronts
 pub mod Upgradings
 pub mod Checkpoints
 pub mod Audits

@@ -17,7 +17,7 @@ use Rattle.rq_model.specs.Frames.{magic, start, stated}
 use Rattle.rq_model.specs.LogLaws.{FrameIsRight, FramesJoin, FrontStops, LogEnds, LogJoins, RunGivesFront}
 use Rattle.rq_model.specs.States.{State, empty}
 use Rattle.rq_model.specs.Machine.{all_lawful, run}
-use Rattle.rq_model.specs.Fronts.{Begins, IsLongest, IsWhy, Why, Ends, Form, Law}
+use Rattle.rq_model.specs.Fronts.{Begins, IsLongest, IsFront, IsWhy, Why, Ends, Form, Law}
 use Rattle.rq_model.proofs.Lists.{each_append}
 use Rattle.rq_model.proofs.Restarts.{lawful_join, run_join}
 use Rattle.rq_front.specs.declared.spans.Chain.{Chain}
@@ -31,7 +31,7 @@ use Rattle.rq_restart.specs.declared.passing.PassSoFar.{PassSoFar}
 use Rattle.rq_restart.specs.declared.passing.Reach.{Reach}
 use Rattle.rq_restart.specs.Passes.{AreJudged, HasPassed, IsPassed, HasPassedSome, StopsAt, StopsIn, stays}
 use Rattle.rq_restart.proofs.Fronts.{ended}
-use Rattle.rq_restart.proofs.Starts.{started}
+use Rattle.rq_restart.proofs.Starts.{started, whole_front}
 
 -- Bytes of which more follow.
 
@@ -352,4 +352,31 @@ front_is version ends stops b p why head stop =
       few = has.few;
       longest = subst (λ (x : List ℕ). IsLongest version empty x (drop 40 b) rs (drop p.offset b)) chained longest;
       ends = subst (λ (x : List ℕ). IsWhy version (run empty rs) (last_of x rs) (drop p.offset b) why) chained why_is;
+    }
+
+-- what a pass that stopped says of the front
+pub record HasStopped (version : Version) (b : List ℕ) (p : PassSoFar) (why : Why) (rs : List Record) : Type 0 where
+  pub front : IsFront b version rs (drop p.offset b)
+  pub ends : IsWhy version (run empty rs) (last_of (start version) rs) (drop p.offset b) why
+  pub used : p.offset ≡ length (log_of version rs)
+  pub last : before p.offset b ≡ last_of (start version) rs
+  pub after : 40 ≤ p.offset
+  pub within : p.offset ≤ length b
+
+pub has_stopped : (version : Version) → LogEnds → FrontStops → (b : List ℕ) (p : PassSoFar) (why : Why)
+    → length b ≤ log_limit → HasHeader version b → (stop : StopsIn version b (length b) p why)
+    → HasStopped version b p why stop.0
+has_stopped version ends stops b p why short head stop =
+    let rs = stop.0 in
+    let has = stop.1.passed in
+    let is = started version ends b head in
+    let from = front_is version ends stops b p why head stop in
+    record {
+      front = whole_front version b rs p.offset why is short from;
+      ends = subst (λ (x : List ℕ). IsWhy version (run empty rs) (last_of x rs) (drop p.offset b) why) is.chained
+          from.ends;
+      used = sym (long version b rs p.offset has);
+      last = chained version b rs p.offset has ends;
+      after = omega (arith, has.few);
+      within = has.within;
     }

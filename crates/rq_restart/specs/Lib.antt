@@ -4,6 +4,8 @@ pub mod Known
 pub mod Ends
 pub mod Restarts
 pub mod FrontEnds
+pub mod JudgedFronts
+pub mod RedoneFronts
 pub mod Tails
 pub mod Upgrades
 pub mod Checkpoints

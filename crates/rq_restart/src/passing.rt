@@ -42,7 +42,7 @@ struct Reach {
 /// How far a pass over a log has come: behind so many lawful records, to this offset.
 #[derive(Drop)]
 pub(crate) struct PassSoFar {
-    judge: Judge,
+    pub(crate) judge: Judge,
     pub(crate) records: usize,
     pub(crate) offset: usize,
 }

@@ -8,15 +8,14 @@ ghost use Rattle.rq_record.specs.Views.{record_of, version_of};
 ghost use Rattle.rq_catalog.specs.Analyses.{IsAnalysis};
 ghost use Rattle.rq_front.specs.Chains.{Refused};
 ghost use Rattle.rq_restart.specs.Ends.{IsFrontFrom};
-ghost use Rattle.rq_restart.specs.Restarts.{FindsState, Restarts};
+ghost use Rattle.rq_restart.specs.Restarts.{Restarts};
 ghost use Rattle.rq_restart.specs.Views.{why_of};
 
 use crate::finishing::finish;
 use crate::front::{Front, front_of_walk};
 use crate::restarted::Restarted;
-use rq_exchange::replay_analysed;
 use rq_front::{version, walk};
-use rq_pool::{Gate, Open, Plan};
+use rq_pool::{Gate, Plan};
 use rq_record::{Fault, LentLog, Version};
 use rq_state::State;
 use std::alloc::Global;
@@ -124,30 +123,4 @@ where
 {
     let lent = LentLog::of(log)?;
     restart_of(rt, alloc, &lent, log.as_slice(), plan, gate)
-}
-
-/// The state after the front of a log, before any abort: open units stay open.
-///
-/// Refuses with `TooLong` more than 4,294,967,295 bytes, with `NotALog` bytes that begin with no
-/// version's header, and with `Resources` where memory is refused.
-pub fn front_state<R: Threads + Sync>(
-    rt: &R,
-    alloc: Global,
-    bytes: &[u8],
-    plan: &Plan,
-) -> Result<State, Fault>
-    ensures { FindsState bytes.now result }
-{
-    rq_model::frames_join();
-    rq_model::versions();
-    let (_version, front) = whole_front(rt, alloc, &LentLog::none(), bytes, plan)?;
-    replay_analysed(
-        rt,
-        alloc,
-        &State::empty(alloc),
-        &front.records,
-        &front.analysis,
-        plan,
-        &Open,
-    )
 }

@@ -1,0 +1,5 @@
+mod Taking
+mod Standing
+mod Behind
+mod WithCheckpoint
+mod CarriedOn

@@ -1,0 +1,162 @@
+-- A record that is taken, and one that is not.
+use Rattle.std.proofs.Common.{◌≡◌, ℕ, ◌+◌, ◌≤◌, Bool, true, false, List, [], ◌∷◌, ◌++◌, length, refl, sym, ap, subst}
+use Rattle.std.proofs.Common.{◌∙◌, append_assoc, arith}
+use Rattle.std.specs.Prelude.{if◌then◌else◌, Some}
+use Rattle.std.proofs.lemmas.Bool.{and_from}
+use Rattle.std.proofs.lemmas.List.{append-nil, length-append}
+use Rattle.rq_model.specs.Records.{Record, Define, Register, Deregister, Begin, Enqueue, Dequeue, Commit, Abort}
+use Rattle.rq_model.specs.Records.{Checkpoint, Kill, Version, One, Two}
+use Rattle.rq_model.specs.Spelling.{body_of, IsRecord, Spells}
+use Rattle.rq_model.specs.Frames.{log_limit, IsBodyLength, digest, frame, frames_of, last_of}
+use Rattle.rq_model.specs.LogLaws.{RecordHasOneBody}
+use Rattle.rq_model.specs.States.{State}
+use Rattle.rq_model.specs.Machine.{is_lawful, all_lawful, step, run}
+use Rattle.rq_model.specs.Appending.{MayFollow}
+use Rattle.rq_model.proofs.Lists.{each_append}
+use Rattle.rq_model.proofs.Runs.{frame_long}
+use Rattle.rq_model.proofs.Longest.{frames_of_join, last_of_join}
+use Rattle.rq_model.proofs.Restarts.{run_join, lawful_join, lawful_cut, each_cut}
+use Rattle.rq_record.specs.Writing.{HasKind}
+use Rattle.rq_catalog.specs.declared.judge.Judge.{Judge}
+use Rattle.rq_catalog.specs.Judges.{StandsIn}
+use Rattle.rq_journal.specs.declared.appender.Appender.{Appender}
+use Rattle.rq_journal.specs.declared.appender.NotTaken.{NotTaken}
+use Rattle.rq_journal.specs.Places.{Place, StandsBehind, length_with}
+use Rattle.rq_journal.specs.Appenders.{Takes, TakesEach, Stays, Refuses, StopsAt}
+
+-- a body fits into a frame
+pub body_fits : (r : Record) → RecordHasOneBody
+    → ((version : Version) → HasKind version r → Spells version r (body_of r)) → IsBodyLength (length (body_of r))
+body_fits r one spelled = (one Two r (body_of r) (body_of r) (spelled Two tt) (spelled Two tt)).1
+
+-- a lawful record has a kind of its version
+has_kind : (version : Version) (s : State) (r : Record) → is_lawful version s r ≡ true → HasKind version r
+has_kind One s (Define limit error name) h = tt
+has_kind One s (Register queue name) h = tt
+has_kind One s (Deregister queue name) h = tt
+has_kind One s (Begin unit) h = tt
+has_kind One s (Enqueue unit queue priority by payload) h = tt
+has_kind One s (Dequeue unit queue by) h = tt
+has_kind One s (Commit unit) h = tt
+has_kind One s (Abort unit) h = tt
+has_kind One s (Checkpoint bytes) h = tt
+has_kind Two s (Define limit error name) h = tt
+has_kind Two s (Register queue name) h = tt
+has_kind Two s (Deregister queue name) h = tt
+has_kind Two s (Begin unit) h = tt
+has_kind Two s (Enqueue unit queue priority by payload) h = tt
+has_kind Two s (Dequeue unit queue by) h = tt
+has_kind Two s (Commit unit) h = tt
+has_kind Two s (Abort unit) h = tt
+has_kind Two s (Checkpoint bytes) h = tt
+has_kind One s (Kill queue element) h = absurd cc
+has_kind Two s (Kill queue element) h = tt
+
+-- how long the log is with one record more
+pub one_longer : (at : Place) (rs : List Record) (r : Record)
+    → length_with at (rs ++ r ∷ []) ≡ length_with at rs + (36 + length (body_of r))
+one_longer at rs r =
+    let f = frame (last_of at.link rs) (body_of r) in
+    omega (
+      arith,
+      ap length (frames_of_join at.link rs (r ∷ [])),
+      length-append (frames_of at.link rs) (frames_of (last_of at.link rs) (r ∷ [])),
+      length-append f [],
+      frame_long (last_of at.link rs) (body_of r),
+    )
+
+-- the appender behind one record more
+stands_further : (at : Place) (rs : List Record) (r : Record) (a : Appender) (j : Judge) (last : List ℕ) (len : ℕ)
+    → StandsBehind at rs a → ((version : Version) → HasKind version r → Spells version r (body_of r))
+    → is_lawful at.version (run at.state rs) r ≡ true → StandsIn at.version j (step (run at.state rs) r)
+    → last ≡ digest (last_of at.link rs) (body_of r) → len ≡ a.len + (36 + length (body_of r)) → len ≤ log_limit
+    → (b : Appender) → b.judge ≡ j → b.last ≡ last → b.len ≡ len → StandsBehind at (rs ++ r ∷ []) b
+stands_further at rs r a j last len h spelled lawful judge last_is len_is short b bj bl bn =
+    let version = at.version in
+    let here = run at.state rs in
+    let kind = has_kind version here r lawful in
+    let one : all_lawful version here (r ∷ []) ≡ true = and_from _ _ lawful refl in
+    let longer = one_longer at rs r in
+    record {
+      may = record {
+        records = each_append (IsRecord version) rs (r ∷ []) h.may.records ((spelled version kind).0, tt);
+        lawful = lawful_join version at.state rs (r ∷ []) h.may.lawful one;
+      };
+      short = omega (arith, short, len_is, h.len, longer);
+      judge = subst (λ (k : Judge). StandsIn version k (run at.state (rs ++ r ∷ []))) (sym bj)
+          (subst (StandsIn version j) (sym (run_join at.state rs (r ∷ []))) judge);
+      last = bl ∙ last_is ∙ sym (last_of_join at.link rs (r ∷ []));
+      len = omega (arith, bn, len_is, h.len, longer);
+    }
+
+-- a record that was not taken leaves the appender where it stood
+pub stands_still : (at : Place) (rs : List Record) (r : Record) (a : Appender) (j : Judge) (taken : Bool)
+    → StandsBehind at rs a → taken ≡ false
+    → StandsIn at.version j (if taken then step (run at.state rs) r else run at.state rs)
+    → (b : Appender) → b.judge ≡ j → b.last ≡ a.last → b.len ≡ a.len → StandsBehind at rs b
+stands_still at rs r a j taken h none judge b bj bl bn = record {
+  may = h.may;
+  short = h.short;
+  judge = subst (λ (k : Judge). StandsIn at.version k (run at.state rs)) (sym bj)
+      (subst (λ (t : Bool). StandsIn at.version j (if t then step (run at.state rs) r else run at.state rs)) none
+      judge);
+  last = bl ∙ h.last;
+  len = bn ∙ h.len;
+}
+
+-- and one that was taken moves it on
+pub moves_on : (at : Place) (rs : List Record) (r : Record) (a : Appender) (j : Judge) (last : List ℕ) (len : ℕ)
+    (taken : Bool) → StandsBehind at rs a → ((version : Version) → HasKind version r → Spells version r (body_of r))
+    → taken ≡ true → taken ≡ is_lawful at.version (run at.state rs) r
+    → StandsIn at.version j (if taken then step (run at.state rs) r else run at.state rs)
+    → last ≡ digest a.last (body_of r) → len ≡ a.len + (36 + length (body_of r)) → len ≤ log_limit
+    → (b : Appender) → b.judge ≡ j → b.last ≡ last → b.len ≡ len → StandsBehind at (rs ++ r ∷ []) b
+moves_on at rs r a j last len taken h spelled all lawful judge last_is len_is short b bj bl bn =
+    stands_further at rs r a j last len h spelled (sym lawful ∙ all)
+    (subst (λ (t : Bool). StandsIn at.version j (if t then step (run at.state rs) r else run at.state rs)) all judge)
+    (last_is ∙ ap (λ (q : List ℕ). digest q (body_of r)) h.last) len_is short b bj bl bn
+
+-- none taken yet
+pub takes_none : (a : Appender) (old : List ℕ) → TakesEach a a [] old old
+takes_none a old at rs h =
+    (subst (λ (z : List Record). StandsBehind at z a) (sym (append-nil rs)) h, sym (append-nil old))
+
+-- one more
+pub takes_one_more : (a b c : Appender) (xs ys : List Record) (r : Record) (old new newer : List ℕ)
+    → TakesEach a b xs old new → Takes b c r new newer → ys ≡ xs ++ r ∷ [] → TakesEach a c ys old newer
+takes_one_more a b c xs ys r old new newer some one is at rs h =
+    let (there, bytes) = some at rs h in
+    let (further, frame_is) = one at (rs ++ xs) there in
+    let q = last_of at.link rs in
+    let f = frame (last_of q xs) (body_of r) in
+    let same : rs ++ ys ≡ (rs ++ xs) ++ r ∷ [] =
+    ap (λ (z : List Record). rs ++ z) is ∙ sym (append_assoc rs xs (r ∷ [])) in
+    let frames : old ++ frames_of q ys ≡ (old ++ frames_of q xs) ++ (f ++ []) =
+    ap (λ (z : List Record). old ++ frames_of q z) is ∙ ap (λ (z : List ℕ). old ++ z) (frames_of_join q xs (r ∷ []))
+    ∙ sym (append_assoc old (frames_of q xs) (f ++ [])) in
+    let link : frame (last_of at.link (rs ++ xs)) (body_of r) ≡ f =
+    ap (λ (z : List ℕ). frame z (body_of r)) (last_of_join at.link rs xs) in (
+      subst (λ (z : List Record). StandsBehind at z c) (sym same) further,
+      frame_is ∙ (λ i. bytes i ++ link i) ∙ ap (λ (z : List ℕ). (old ++ frames_of q xs) ++ z) (sym (append-nil f))
+          ∙ sym frames,
+    )
+
+-- one that was not taken
+pub takes_no_more : (a b c : Appender) (xs : List Record) (old new newer : List ℕ)
+    → TakesEach a b xs old new → Stays b c → newer ≡ new → TakesEach a c xs old newer
+takes_no_more a b c xs old new newer some still same at rs h =
+    let (there, bytes) = some at rs h in
+    (still at (rs ++ xs) there, same ∙ bytes)
+
+pub stops_there : (a b : Appender) (xs left more : List Record) (r : Record) (why : NotTaken) (old new : List ℕ)
+    → TakesEach a b xs old new → Refuses b r why → left ≡ r ∷ more → StopsAt a xs left (Some why)
+stops_there a b xs left more r why old new some refused is =
+    (r, more, is, λ at rs h. refused at (rs ++ xs) (some at rs h).0)
+
+-- what stands behind others may follow them
+pub later : (at : Place) (rs xs : List Record) (a : Appender) → StandsBehind at (rs ++ xs) a
+    → MayFollow at.version (run at.state rs) xs
+later at rs xs a h = record {
+  records = (each_cut (IsRecord at.version) rs xs h.may.records).1;
+  lawful = (lawful_cut at.version at.state rs xs h.may.lawful).1;
+}

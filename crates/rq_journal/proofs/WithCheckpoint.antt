@@ -1,0 +1,106 @@
+-- A checkpoint of the state behind the front of a log.
+use Rattle.std.proofs.Common.{◌≡◌, ℕ, ◌+◌, ◌<◌, ◌≤◌, List, [], ◌∷◌, ◌++◌, length, take, drop, refl, sym, ap, subst, ◌∙◌}
+use Rattle.std.proofs.Common.{inr}
+use Rattle.std.specs.Prelude.{Result, Ok, Err}
+use Rattle.std.specs.Global.{Vec}
+use Rattle.std.proofs.Common.{arith}
+use Rattle.std.proofs.lemmas.List.{append-nil, take_at, length-append, length-take}
+use Rattle.rq_model.specs.Records.{Record, Checkpoint, Version}
+use Rattle.rq_model.specs.Spelling.{body_of}
+use Rattle.rq_model.specs.Frames.{log_limit, AreBytes, start, log_of, frame, frames_of, last_of}
+use Rattle.rq_model.specs.LogLaws.{FrontsAreSpelt, TrueSaysTheSame}
+use Rattle.rq_model.specs.States.{State, empty}
+use Rattle.rq_model.specs.Machine.{run}
+use Rattle.rq_model.specs.StateSpelling.{state_bytes}
+use Rattle.rq_model.specs.Fronts.{IsFront}
+use Rattle.rq_model.specs.Appending.{with_checkpoint, CheckpointIsTrue, CheckpointSaysTheSame}
+use Rattle.rq_model.proofs.Runs.{frame_long}
+use Rattle.rq_model.proofs.Longest.{front_whole, log_joins}
+use Rattle.rq_record.specs.Views.{version_of}
+use Rattle.rq_record.specs.declared.fault.Fault.{Fault}
+use Rattle.rq_record.specs.declared.fault.Fault.TheVariants as faults
+use Rattle.rq_restart.specs.declared.redone.RedoneFront.{RedoneFront}
+use Rattle.rq_restart.specs.RedoneFronts.{IsRedone}
+use Rattle.rq_journal.specs.Checkpoints.{IsCheckpointOf}
+use Rattle.rq_journal.specs.Marks.{Framed, IsMarked, IsTooLarge, Marks}
+
+-- how long the first bytes are with a frame behind them
+pub framed_long : (b link body : List ℕ) (used : ℕ) → used ≤ length b
+    → length (take used b ++ frame link body) ≡ used + (36 + length body)
+framed_long b link body used within =
+    omega (arith, within, length-append (take used b) (frame link body), length-take used b, frame_long link body)
+
+-- the number of the record behind a front has room
+pub next_fits : (b : List ℕ) (f : RedoneFront) → FrontsAreSpelt → IsRedone b f → f.state.next ≤ 4294967295
+next_fits b f spelt h =
+    let v = version_of f.version in
+    let all = subst (λ (z : List Record). IsFront b v z (drop f.used b)) (sym (append-nil h.records)) h.front in
+    subst (λ (z : State). z.next ≤ 4294967295) (sym h.state) (spelt b v h.records [] (drop f.used b) all).next
+
+module _ (b : List ℕ) (f : RedoneFront) (body : List ℕ) (h : IsRedone b f) (is : IsCheckpointOf f.state body) where
+  abbrev version : Version
+  version = version_of f.version
+
+  abbrev state : State
+  state = run empty h.records
+
+  taken : take f.used b ≡ log_of version h.records
+  taken = ap (take f.used) (front_whole b version h.records (drop f.used b) h.front)
+      ∙ take_at (log_of version h.records) (drop f.used b) f.used (sym h.used)
+
+  -- the first bytes and the frame are the log with the checkpoint
+  whole : take f.used b ++ frame f.last body ≡ with_checkpoint version h.records
+  whole =
+      let last = last_of (start version) h.records in
+      let point : body ≡ body_of (Checkpoint (state_bytes state)) =
+      is.bytes ∙ ap (λ (z : State). body_of (Checkpoint (state_bytes z))) h.state in
+      let one : frame f.last body ≡ frames_of last (Checkpoint (state_bytes state) ∷ []) =
+      (λ i. frame (h.last i) (point i)) ∙ sym (append-nil (frame last (body_of (Checkpoint (state_bytes state))))) in
+      (λ i. taken i ++ one i) ∙ sym (log_joins version h.records (Checkpoint (state_bytes state) ∷ []))
+
+  small : length (state_bytes state) ≤ 268435455
+  small = subst (λ (z : State). length (state_bytes z) ≤ 268435455) h.state is.small
+
+  is_marked : (new : List ℕ) → AreBytes b → CheckpointIsTrue → CheckpointSaysTheSame → TrueSaysTheSame
+      → new ≡ take f.used b ++ frame f.last body → length new ≤ log_limit → IsMarked b new
+  is_marked new bytes truth queues same new_is short =
+      let rest = drop f.used b in
+      let at = length (log_of version h.records) in
+      let all : new ≡ with_checkpoint version h.records = new_is ∙ whole in
+      let fits : length (with_checkpoint version h.records) ≤ log_limit =
+      subst (λ (z : List ℕ). length z ≤ log_limit) all short in
+      let true_there = truth b version h.records rest h.front small fits in
+      subst (IsMarked b) (sym all) (record {
+        version = version;
+        records = h.records;
+        rest = rest;
+        front = h.front;
+        bytes = refl;
+        short = fits;
+        truth = true_there;
+        report = λ text. same (with_checkpoint version h.records) at text true_there;
+        queues = queues b version h.records rest bytes h.front small fits;
+      })
+
+  too_long : log_limit < length (take f.used b ++ frame f.last body) → IsTooLarge b
+  too_long long = record {
+    version = version;
+    records = h.records;
+    rest = drop f.used b;
+    front = h.front;
+    large = inr (subst (λ (z : List ℕ). log_limit < length z) whole long);
+  }
+
+  pub marks : (result : Result (Vec ℕ) Fault) → AreBytes b → CheckpointIsTrue → CheckpointSaysTheSame → TrueSaysTheSame
+      → Framed (take f.used b) f.last body result → Marks b result
+  marks (Ok v) bytes truth queues same framed = is_marked v.items bytes truth queues same framed.0 framed.1
+  marks (Err faults.TooLarge) bytes truth queues same framed = too_long framed
+  marks (Err faults.Resources) bytes truth queues same framed = tt
+  marks (Err faults.Form) bytes truth queues same framed = absurd framed
+  marks (Err faults.NotALog) bytes truth queues same framed = absurd framed
+  marks (Err faults.TooLong) bytes truth queues same framed = absurd framed
+  marks (Err faults.BadCheckpoint) bytes truth queues same framed = absurd framed
+  marks (Err faults.NoCheckpoint) bytes truth queues same framed = absurd framed
+  marks (Err (faults.Script line)) bytes truth queues same framed = absurd framed
+  marks (Err faults.ReadFailed) bytes truth queues same framed = absurd framed
+  marks (Err faults.WriteFailed) bytes truth queues same framed = absurd framed

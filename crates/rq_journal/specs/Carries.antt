@@ -1,0 +1,51 @@
+-- A log that goes on from another.
+use Rattle.std.specs.Prelude.{◌≡◌, ◌<◌, ◌-◌, ℕ, List, [], ◌∷◌, ◌++◌, length, codes, Result, Ok, Err}
+use Rattle.std.specs.Global.{Vec}
+use Rattle.rq_model.specs.Records.{Record, Checkpoint, Version}
+use Rattle.rq_model.specs.Frames.{header, start, frame, last_of, Length, Whole}
+use Rattle.rq_model.specs.States.{empty}
+use Rattle.rq_model.specs.Machine.{run}
+use Rattle.rq_model.specs.StateSpelling.{state_bytes}
+use Rattle.rq_model.specs.Fronts.{IsFront, IsRestart, Ends, restarted}
+use Rattle.rq_model.specs.Checkpoints.{IsRestartAt}
+use Rattle.rq_model.specs.Carrying.{IsFrontAt}
+use Rattle.rq_model.specs.Continuing.{begun_anew}
+use Rattle.rq_record.specs.declared.fault.Fault.{Fault}
+use Rattle.rq_record.specs.declared.fault.Fault.TheVariants.{Resources, TooLarge}
+use Rattle.rq_front.specs.Chains.{Refused}
+
+-- a length that no body has, and a word to whoever looks
+abbrev pub gap : List ℕ
+gap = 255 ∷ 255 ∷ 255 ∷ 255 ∷ codes "rq carried log at 96"
+
+-- the first frame of a log behind a header, the gap and these 32 bytes, or memory was refused
+abbrev pub Begins : Version → List ℕ → List ℕ → Result (Vec ℕ) Fault → Type 0
+Begins version link body (Ok v) =
+    v.items ≡ header version ++ (gap ++ (link ++ frame link body))
+Begins version link body (Err e) = e ≡ Resources
+
+-- The log that goes on from the front of b: it begins anew at the checkpoint of the state there, by
+-- the digests of b. A restart from the checkpoint begins in that state; one of the whole finds no
+-- record, and says `length`
+pub record IsCarriedOn (b new : List ℕ) : Type 0 where
+  pub version : Version
+  pub records : List Record
+  pub rest : List ℕ
+  pub front : IsFront b version records rest
+  pub bytes : new ≡ begun_anew version (last_of (start version) records) (run empty records) gap
+  pub there : IsFrontAt new 96 version (run empty records) (state_bytes (run empty records)) [] []
+  pub restart : IsRestartAt new 96
+      (restarted (run (run empty records) (Checkpoint (state_bytes (run empty records)) ∷ [])) 0
+      (length new) (Ends Whole))
+  pub loud : IsRestart new (restarted empty (length new - 40) (length new) (Ends Length))
+
+-- why b is not carried: the spelling of the state behind its front would be too long, or else as it
+-- is refused
+abbrev pub StaysHere : List ℕ → Fault → Type 0
+StaysHere b TooLarge = (version : Version) × (records : List Record) × (rest : List ℕ)
+    × IsFront b version records rest × (268435455 < length (state_bytes (run empty records)))
+StaysHere b e = Refused b e
+
+abbrev pub Carries : List ℕ → Result (Vec ℕ) Fault → Type 0
+Carries b (Ok v) = IsCarriedOn b v.items
+Carries b (Err e) = StaysHere b e

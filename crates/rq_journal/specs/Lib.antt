@@ -1,0 +1,7 @@
+pub mod Places
+pub mod Appenders
+pub mod Openings
+pub mod Writings
+pub mod Checkpoints
+pub mod Marks
+pub mod Carries

@@ -1,0 +1,57 @@
+//! A log that goes on from the state behind the front of another.
+
+ghost use Rattle.std.specs.Prelude.{◌≡◌, length};
+ghost use Rattle.rq_model.specs.Frames.{IsBodyLength};
+ghost use Rattle.rq_record.specs.Views.{version_of};
+ghost use Rattle.rq_journal.specs.Carries.{Begins, Carries, gap};
+
+use crate::checkpoint::checkpoint_body;
+use rq_front::{FRAME_LEN, HEADER_LEN, frame, header_of};
+use rq_record::{Fault, Version};
+use rq_restart::{Plan, redone_front};
+use std::alloc::Global;
+use std::marker::Sync;
+use std::thread::Threads;
+
+// What stands behind the header: a length that no body has, so that a restart of the whole says so;
+// and, for whoever looks at the file, where its checkpoint begins.
+fn gap() -> [u8; 24]
+    ensures { result ≡ gap }
+{
+    *b"\xff\xff\xff\xffrq carried log at 96"
+}
+
+// The log of the version whose first frame, that of a body, goes on behind these 32 bytes.
+fn begun(alloc: Global, version: Version, link: &[u8; 32], body: &[u8]) -> Result<Vec<u8>, Fault>
+    requires { IsBodyLength (length body.now) }
+    ensures { Begins (version_of version) link.now body.now result }
+{
+    let mut out = Vec::new(alloc);
+    header_of(version, &mut out)?;
+    out.extend_from_slice(&gap())?;
+    out.extend_from_slice(link)?;
+    frame(link, body, &mut out)?;
+    Ok(out)
+}
+
+/// A log that goes on from the state behind the front of this one, with the units that are open
+/// there still open: its only record is a checkpoint of that state, at 96, and its digests go on
+/// from the front's. It is to be restarted from 96; a restart of the whole finds no record in it.
+///
+/// Refuses with `TooLarge` a state whose spelling has more than 268,435,455 bytes, and else as
+/// `open` does.
+pub fn carried<R: Threads + Sync>(
+    rt: &R,
+    alloc: Global,
+    bytes: &[u8],
+    plan: &Plan,
+) -> Result<Vec<u8>, Fault>
+    ensures { Carries bytes.now result }
+{
+    rq_model::fronts_are_spelt();
+    rq_model::logs_begun_anew();
+    rq_model::continued_logs();
+    let front = redone_front(rt, alloc, bytes, plan)?;
+    let body = checkpoint_body(alloc, &front.state)?;
+    begun(alloc, front.version, &front.last, &body)
+}
