@@ -6,7 +6,7 @@ What must stand in a log is made here, byte by byte, as docs/FORMAT.md has it; w
 line for each thing that is not as it must be, and at last `N passed, M failed`.
 """
 from __future__ import annotations
-import fcntl, json, os, re, resource, signal, subprocess, sys, tempfile, time
+import fcntl, json, os, re, resource, shutil, signal, subprocess, sys, tempfile, time
 
 import trying
 from trying import DONE, Ended, check, content, log_of, put, run
@@ -395,9 +395,65 @@ def killed_at_any_moment() -> None:
     check("killed at any moment", wrong, [])
 
 
+def shim_of_faults() -> str | None:
+    """The library that ends one call on a file otherwise than well; none where there is no C compiler."""
+    if not shutil.which("cc"):
+        return None
+    shim = os.path.abspath("fault.so")
+    source = os.path.join(trying.HERE, "..", "bench", "fault.c")
+    subprocess.run(["cc", "-O1", "-shared", "-fPIC", source, "-o", shim, "-ldl"], check=True)
+    return shim
+
+
+def ended_at(shim: str, number: int, how: str, log: str) -> tuple[Ended, bool]:
+    """How an append ends of which this call fails, or is the last; and whether there is such a call."""
+    seen, tells = os.pipe()
+    asked = {"LD_PRELOAD": shim, "FAULT": str(number), "FAULT_HOW": how, "FAULT_TOLD": str(tells)}
+    ended = rqlog("append", log, "more.script", env={**os.environ, **asked}, pass_fds=[tells])
+    os.close(tells)
+    with os.fdopen(seen, "rb") as file:
+        return ended, bool(file.read())
+
+
+def is_right(ended: Ended, how: str, left: bytes, before: bytes, whole: bytes) -> bool:
+    """Whether the log is as it was, with the beginning of a frame behind it, or has a beginning of what was appended."""
+    status, _, said = ended
+    front = before[:-2]
+    if status == 0:
+        return left == whole
+    if said.endswith(b"nothing was appended\n"):
+        return left in (before, front)
+    return left == before or left.startswith(front) and whole.startswith(left)
+
+
+def at_every_call() -> None:
+    """Each call on a file fails in turn, or is the last one before the run is killed; the next run finds the front."""
+    shim = shim_of_faults()
+    if shim is None:
+        print("no C compiler: no call on a file is let fail")
+        return
+    log = plain("called")
+    front, whole = content(log), content(plain("whole", START + MORE))
+    before = front + b"\0\0"
+    put("more.script", MORE)
+    for how in ("fails", "kills"):
+        wrong, number = [], 1
+        while True:
+            put(log, before)
+            ended, was_met = ended_at(shim, number, how, log)
+            if not was_met:
+                break
+            if not is_right(ended, how, content(log), before, whole):
+                wrong.append((number, ended))
+            if rqlog("append", log)[0] != 0 or b", whole" not in restarted(log):
+                wrong.append((number, "the next run"))
+            number += 1
+        check(f"append where a call {how}", (wrong, number > 5), ([], True))
+
+
 def main() -> int:
     parts = [words, appends, refuses, kills, damaged, cut_anywhere, marks, carries, faults, read_only, links, two_writers,
-             on_a_full_disk, near_the_end, killed_at_any_moment]
+             on_a_full_disk, at_every_call, near_the_end, killed_at_any_moment]
     top = os.getcwd()
     for part in parts:
         with tempfile.TemporaryDirectory(prefix="rqlog-") as folder:

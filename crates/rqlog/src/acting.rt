@@ -51,7 +51,7 @@ where
     }
     if stop.as_ref().map_or(true, |stop| stop.is_kept) {
         held.append(rt, bytes.len(), used, &made.frames)?;
-        let len = (used + made.frames.len()) as u64;
+        let len = used.saturating_add(made.frames.len()) as u64;
         tell_appended(rt, words.get_flag("json"), made.count, used as u64, len)?;
     }
     match stop {
@@ -74,10 +74,10 @@ where
     if words.get_flag("close") {
         end_units(rt, alloc, &mut standing, &mut keeper, plan, &mut frames)?;
     }
-    let offset = used + frames.len();
+    let offset = used.saturating_add(frames.len());
     append_checkpoint(alloc, &mut standing, keeper.state(), &mut frames)?;
     held.append(rt, bytes.len(), used, &frames)?;
-    let len = (used + frames.len()) as u64;
+    let len = used.saturating_add(frames.len()) as u64;
     Ok(tell_marked(rt, words.get_flag("json"), offset as u64, len)?)
 }
 
@@ -157,7 +157,12 @@ where
     let state = state_behind(rt, alloc, &bytes, plan)?;
     let (mut made, mut frames) = (bytes, Vec::new(alloc));
     made.truncate(standing.used);
-    append_all(alloc, &mut standing, &aborts_of(alloc, &state)?, &mut frames)?;
+    append_all(
+        alloc,
+        &mut standing,
+        &aborts_of(alloc, &state)?,
+        &mut frames,
+    )?;
     made.append(&mut frames)?;
     Ok(made)
 }

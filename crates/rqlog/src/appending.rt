@@ -2,8 +2,8 @@
 
 use crate::fronts::Standing;
 use rq_journal::{NotTaken, Rule};
-use rq_writer::{ScriptLine, line_at, read_line};
 use rq_record::{Fault, Record};
+use rq_writer::{ScriptLine, line_at, read_line};
 use std::alloc::{AllocError, Global};
 use std::fmt;
 
@@ -80,6 +80,16 @@ pub(crate) struct Written {
     pub(crate) stop: Option<Stop>,
 }
 
+impl Written {
+    fn new(alloc: Global) -> Written {
+        Written {
+            frames: Vec::new(alloc),
+            count: 0,
+            stop: None,
+        }
+    }
+}
+
 // The beginning of a line, which has visible characters alone if it is one of a script.
 fn told(alloc: Global, text: &[u8]) -> Result<String, AllocError> {
     match std::str::from_utf8(text) {
@@ -122,7 +132,7 @@ fn append_line(
     }
     match standing.appender.append(alloc, &record, frames) {
         Ok(()) => {
-            standing.next += 1;
+            standing.next = standing.next.saturating_add(1);
             Ok(())
         }
         Err(why) => Err(refusal(standing, &record, why)),
@@ -143,29 +153,38 @@ fn stop_at(alloc: Global, line: u64, text: &[u8], reason: Reason) -> Result<Stop
     })
 }
 
+// The text of the next line, what stands behind it, and what came of its record.
+fn append_next<'a>(
+    alloc: Global,
+    standing: &mut Standing,
+    line: u64,
+    rest: &'a [u8],
+    frames: &mut Vec<u8>,
+) -> (&'a [u8], &'a [u8], Result<(), Reason>) {
+    match line_at(line, rest) {
+        Ok((text, after)) => (text, after, append_line(alloc, standing, text, frames)),
+        Err(_) => (rest, rest, Err(Reason::NoLine)),
+    }
+}
+
 /// The frames of the records that a script tells, up to the first that may not follow.
 pub(crate) fn frames_of(
     alloc: Global,
     standing: &mut Standing,
     script: &[u8],
 ) -> Result<Written, AllocError> {
-    let (mut frames, mut rest, mut count) = (Vec::new(alloc), script, 0);
-    let mut stop = None;
-    while !rest.is_empty() {
-        let (text, after, done) = match line_at(count + 1, rest) {
-            Ok((text, after)) => (text, after, append_line(alloc, standing, text, &mut frames)),
-            Err(_) => (rest, rest, Err(Reason::NoLine)),
-        };
-        if let Err(reason) = done {
-            stop = Some(stop_at(alloc, count + 1, text, reason)?);
+    let (mut rest, mut written) = (script, Written::new(alloc));
+    for line in 1..u64::MAX {
+        if rest.is_empty() {
             break;
         }
+        let (text, after, done) = append_next(alloc, standing, line, rest, &mut written.frames);
+        if let Err(reason) = done {
+            written.stop = Some(stop_at(alloc, line, text, reason)?);
+            break;
+        }
+        written.count = line;
         rest = after;
-        count += 1;
     }
-    Ok(Written {
-        frames,
-        count,
-        stop,
-    })
+    Ok(written)
 }

@@ -79,7 +79,10 @@ fn record_at(
     bytes: &[u8],
     span: &Span,
 ) -> Result<Option<Record>, Fault> {
-    match decode_in(alloc, version, &bytes[span.start..span.start + span.len]) {
+    let Some(body) = bytes.get(span.start..span.start.saturating_add(span.len)) else {
+        return Ok(None);
+    };
+    match decode_in(alloc, version, body) {
         Ok(record) => Ok(Some(record)),
         Err(Fault::Form) => Ok(None),
         Err(fault) => Err(fault),
@@ -106,14 +109,17 @@ pub(crate) fn audit_carried<R: Threads + Sync>(
     plan: &Plan,
 ) -> Result<Vec<(u64, Truth)>, Fault> {
     let version = rq_front::log_version(bytes)?;
-    let spans = chain(rt, alloc, bytes, CARRIED_AT.min(bytes.len()), GRAIN)?.spans;
+    if bytes.len() < CARRIED_AT {
+        return Err(Fault::NoCheckpoint);
+    }
+    let spans = chain(rt, alloc, bytes, CARRIED_AT, GRAIN)?.spans;
     let first = match spans.first() {
         Some(span) => record_at(alloc, version, bytes, span)?,
         None => None,
     };
     let mut audit = begun(alloc, version, first)?;
     for span in &spans {
-        let offset = (span.start - 4) as u64;
+        let offset = span.offset() as u64;
         let Some(record) = record_at(alloc, version, bytes, span)? else {
             break;
         };

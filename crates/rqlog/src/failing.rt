@@ -6,8 +6,7 @@ use rq_journal::Fault;
 use rq_report::why_word;
 use rq_restart::Why;
 use std::alloc::AllocError;
-use std::fmt;
-use std::io;
+use std::{fmt, io};
 
 // The exit status of a log, a line or a state that is refused.
 const REFUSED: u8 = 1;

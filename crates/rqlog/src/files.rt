@@ -74,7 +74,11 @@ impl Held {
     fn take_back(&mut self, used: usize) -> Left {
         let file = self.place.file_mut();
         let done = OpenFile::set_len(file, used as u64).and_then(|_| OpenFile::sync_all(file));
-        if done.is_ok() { Left::AsItWas } else { Left::Unknown }
+        if done.is_ok() {
+            Left::AsItWas
+        } else {
+            Left::Unknown
+        }
     }
 
     /// Writes frames behind the first bytes of the log, of which so many were read, and tells the

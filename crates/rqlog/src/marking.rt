@@ -69,7 +69,10 @@ pub(crate) fn append_checkpoint(
     let Some(bytes) = CheckBytes::new(spell(alloc, state)?) else {
         return Err(Failure::Refused(Fault::TooLarge));
     };
-    match standing.appender.append(alloc, &Record::Checkpoint { bytes }, frames) {
+    match standing
+        .appender
+        .append(alloc, &Record::Checkpoint { bytes }, frames)
+    {
         Ok(()) => Ok(()),
         Err(why) => Err(refused(why)),
     }

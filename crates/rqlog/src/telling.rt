@@ -63,6 +63,8 @@ pub(crate) fn audit_text(alloc: Global, found: &[(u64, Truth)]) -> Result<String
 pub(crate) fn warn_of_end<R: Eprint>(rt: &R, next: u64) {
     let left = NUMBERS.saturating_sub(next);
     if left < OF_FULL_LOG {
-        let _ = eprintln!(rt; "rqlog: {left} records more, and numbers end: begin a new log before");
+        let _ = eprintln!(rt;
+            "rqlog: {left} records more, and numbers end: begin a new log before"
+        );
     }
 }

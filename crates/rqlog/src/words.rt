@@ -78,7 +78,11 @@ fn checkpoint<'a>(alloc: Global) -> Result<Command<'a>, Error> {
 }
 
 fn carry<'a>(alloc: Global) -> Result<Command<'a>, Error> {
-    let new = made(alloc, "NEW", "The file of the new log, which is not there yet");
+    let new = made(
+        alloc,
+        "NEW",
+        "The file of the new log, which is not there yet",
+    );
     Ok(
         Command::new(alloc, "carry")
             .about("Makes a new log that goes on where a log ends, with its state alone")
