@@ -1,5 +1,5 @@
 -- A log that goes on from another.
-use Rattle.std.specs.Prelude.{◌≡◌, ◌<◌, ◌-◌, ℕ, List, [], ◌∷◌, ◌++◌, length, codes, Result, Ok, Err}
+use Rattle.std.specs.Prelude.{◌≡◌, ◌<◌, ◌-◌, ℕ, List, [], ◌∷◌, ◌++◌, length, Result, Ok, Err}
 use Rattle.std.specs.Global.{Vec}
 use Rattle.rq_model.specs.Records.{Record, Checkpoint, Version}
 use Rattle.rq_model.specs.Frames.{header, start, frame, last_of, Length, Whole}
@@ -9,19 +9,15 @@ use Rattle.rq_model.specs.StateSpelling.{state_bytes}
 use Rattle.rq_model.specs.Fronts.{IsFront, IsRestart, Ends, restarted}
 use Rattle.rq_model.specs.Checkpoints.{IsRestartAt}
 use Rattle.rq_model.specs.Carrying.{IsFrontAt}
-use Rattle.rq_model.specs.Continuing.{begun_anew}
+use Rattle.rq_model.specs.Continuing.{begun_anew, carried_gap}
 use Rattle.rq_record.specs.declared.fault.Fault.{Fault}
 use Rattle.rq_record.specs.declared.fault.Fault.TheVariants.{Resources, TooLarge}
 use Rattle.rq_front.specs.Chains.{Refused}
 
--- a length that no body has, and a word to whoever looks
-abbrev pub gap : List ℕ
-gap = 255 ∷ 255 ∷ 255 ∷ 255 ∷ codes "rq carried log at 96"
-
--- the first frame of a log behind a header, the gap and these 32 bytes, or memory was refused
+-- the first frame of a log behind a header, the gap of carried files and these 32 bytes, or memory was refused
 abbrev pub Begins : Version → List ℕ → List ℕ → Result (Vec ℕ) Fault → Type 0
 Begins version link body (Ok v) =
-    v.items ≡ header version ++ (gap ++ (link ++ frame link body))
+    v.items ≡ header version ++ (carried_gap ++ (link ++ frame link body))
 Begins version link body (Err e) = e ≡ Resources
 
 -- The log that goes on from the front of b: it begins anew at the checkpoint of the state there, by
@@ -32,7 +28,7 @@ pub record IsCarriedOn (b new : List ℕ) : Type 0 where
   pub records : List Record
   pub rest : List ℕ
   pub front : IsFront b version records rest
-  pub bytes : new ≡ begun_anew version (last_of (start version) records) (run empty records) gap
+  pub bytes : new ≡ begun_anew version (last_of (start version) records) (run empty records) carried_gap
   pub there : IsFrontAt new 96 version (run empty records) (state_bytes (run empty records)) [] []
   pub restart : IsRestartAt new 96
       (restarted (run (run empty records) (Checkpoint (state_bytes (run empty records)) ∷ [])) 0

@@ -2,8 +2,9 @@
 
 ghost use Rattle.std.specs.Prelude.{◌≡◌, length};
 ghost use Rattle.rq_model.specs.Frames.{IsBodyLength};
+ghost use Rattle.rq_model.specs.Continuing.{carried_gap};
 ghost use Rattle.rq_record.specs.Views.{version_of};
-ghost use Rattle.rq_journal.specs.Carries.{Begins, Carries, gap};
+ghost use Rattle.rq_journal.specs.Carries.{Begins, Carries};
 
 use crate::checkpoint::checkpoint_body;
 use rq_front::{FRAME_LEN, HEADER_LEN, frame, header_of};
@@ -16,7 +17,7 @@ use std::thread::Threads;
 // What stands behind the header: a length that no body has, so that a restart of the whole says so;
 // and, for whoever looks at the file, where its checkpoint begins.
 fn gap() -> [u8; 24]
-    ensures { result ≡ gap }
+    ensures { result ≡ carried_gap }
 {
     *b"\xff\xff\xff\xffrq carried log at 96"
 }

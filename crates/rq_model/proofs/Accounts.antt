@@ -24,7 +24,10 @@ use Rattle.rq_model.proofs.Kept.{runs_are_well_formed, empty_is_well_formed}
 use Rattle.rq_model.proofs.Widths.{runs_fit, empty_fits}
 use Rattle.rq_model.proofs.Texts.{one_text}
 use Rattle.rq_model.proofs.Listed.{is_text}
-use Rattle.rq_model.proofs.Restarts.{frames_many, aborts_are, true_says_the_same}
+use Rattle.rq_model.proofs.Restarts.{frames_many}
+use Rattle.rq_model.proofs.Tails.{aborts_follow, crash_in_the_tail}
+use Rattle.rq_model.proofs.FromCheckpoints.{true_says_the_same, one_restart_at, true_back, true_is_same}
+use Rattle.rq_model.proofs.Appended.{front_follows}
 use Rattle.rq_model.proofs.Longest.{front_whole}
 use Rattle.rq_model.proofs.ReportLines.{IsNarrow, StandsIn, text_told}
 use Rattle.rq_model.specs.Machine.{all_lawful, latest, run, final}
@@ -34,7 +37,6 @@ use Rattle.rq_model.specs.FateLaws.{IsAsEnqueued}
 use Rattle.rq_model.specs.FateReports.{Accounts, RestartAccounts, BeginningAccounts, ClosedAccounts}
 use Rattle.rq_model.specs.FateReports.{CheckpointAccounts}
 use Rattle.rq_model.proofs.Longest.{one_front, front_ends, one_restart}
-use Rattle.rq_model.proofs.Restarts.{crash_in_the_tail, one_restart_at, true_back, true_is_same}
 use Rattle.rq_model.proofs.Found.{front_restart}
 use Rattle.rq_model.proofs.Balance.{one_fate, all_are_free, runs_end}
 use Rattle.rq_model.specs.States.{definition_at}
@@ -160,7 +162,7 @@ text_accounts b version rs rest r text p low front same told =
     let keeps : IsWellFormed s = subst IsWellFormed joined
     (runs_are_well_formed version empty (with_aborts rs) empty_is_well_formed too) in
     let fits : Fits s = subst Fits joined (runs_fit version empty (with_aborts rs) empty_fits
-    (each_append (IsRecord version) rs _ begins.records (aborts_are version rs begins.records begins.lawful))) in
+    (each_append (IsRecord version) rs _ begins.records (aborts_follow version rs (front_follows b version rs rest front)).records)) in
     let narrow_all = each_weaker (IsAsEnqueued (with_aborts rs) s) IsNarrow
     (narrow rs s (few_records b version rs rest front)) s.elements account.elements in
     let stand = each_weaker _ (StandsIn s.definitions) (stands_in s) s.elements

@@ -1,55 +1,28 @@
 -- Records behind a front, and what a crash leaves of them.
-use Rattle.std.proofs.Common.{◌≡◌, ℕ, ◌≤◌, true, List, [], ◌∷◌, ◌++◌, length, take, drop, refl, sym, ap}
+use Rattle.std.proofs.Common.{◌≡◌, ℕ, ◌≤◌, List, [], ◌∷◌, ◌++◌, length, take, drop, refl, sym, ap}
 use Rattle.std.proofs.Common.{subst, ◌∙◌, append_assoc, arith}
 use Rattle.std.specs.List.{AllByRecursion}
 use Rattle.std.proofs.lemmas.List.{length-append, append-nil, take-append-drop}
 use Rattle.rq_model.specs.Records.{Record, Version}
 use Rattle.rq_model.specs.Spelling.{body_of, IsRecord}
-use Rattle.rq_model.specs.Frames.{digest, header, start, log_of, frames_of, last_of, bodies_of, Whole, IsRest}
-use Rattle.rq_model.specs.States.{State, empty}
-use Rattle.rq_model.specs.Machine.{all_lawful, run}
-use Rattle.rq_model.specs.Fronts.{Begins, IsLongest, Ends, IsFront}
-use Rattle.rq_model.proofs.Lists.{each_append}
-use Rattle.rq_model.proofs.Bodies.{body_fits, one_record}
-use Rattle.rq_model.proofs.Runs.{same_front, frames_assoc}
-use Rattle.rq_model.proofs.Longest.{front_stops, one_header, frames_of_join, last_of_join}
-use Rattle.rq_model.proofs.Restarts.{lawful_join, lawful_cut, each_cut}
+use Rattle.rq_model.specs.Frames.{log_limit, digest, header, start, log_of, frames_of, last_of, Whole, IsRest}
+use Rattle.rq_model.specs.States.{empty}
+use Rattle.rq_model.specs.Machine.{run}
+use Rattle.rq_model.specs.Fronts.{Begins, Ends, IsFront}
 use Rattle.rq_model.specs.Appending.{MayFollow, CrashInFrames, CrashWhileAppending, AppendedIsFront, WrittenStays}
+use Rattle.rq_model.proofs.Longest.{same_first, front_stops, one_header, last_of_join}
+use Rattle.rq_model.proofs.Restarts.{both_follow, parts_follow, begins_join}
 use Rattle.rq_model.proofs.Torn.{torn}
-
--- the first ones may follow too
-pub some_follow : (version : Version) (s : State) (xs : List Record) (k : ℕ) → MayFollow version s xs
-    → MayFollow version s (take k xs)
-some_follow version s xs k h =
-    let parts = sym (take-append-drop k xs) in
-    record {
-      records = (each_cut (IsRecord version) (take k xs) (drop k xs)
-          (subst (AllByRecursion (IsRecord version)) parts h.records)).0;
-      lawful = (lawful_cut version s (take k xs) (drop k xs)
-          (subst (λ (z : List Record). all_lawful version s z ≡ true) parts h.lawful)).0;
-    }
-
--- more behind
-pub both_follow : (version : Version) (s : State) (rs xs : List Record) → MayFollow version s rs
-    → MayFollow version (run s rs) xs → MayFollow version s (rs ++ xs)
-both_follow version s rs xs h k = record {
-  records = each_append (IsRecord version) rs xs h.records k.records;
-  lawful = lawful_join version s rs xs h.lawful k.lawful;
-}
 
 pub crash_in_frames : CrashInFrames
 crash_in_frames version s p rs xs part missing old new parts =
     let q = last_of p rs in
     let t = torn version q part missing xs new.records parts in
     let ys = take t.count xs in
-    let all = both_follow version s rs ys old (some_follow version (run s rs) xs t.count new) in
-    let begins : Begins version s p (frames_of p rs ++ part) (rs ++ ys) t.rest = record {
-      records = all.records;
-      lawful = all.lawful;
-      whole = ap (λ (z : List ℕ). frames_of p rs ++ z) t.whole
-          ∙ sym (append_assoc (frames_of p rs) (frames_of q ys) t.rest)
-          ∙ ap (λ (z : List ℕ). z ++ t.rest) (sym (frames_of_join p rs ys));
-    } in
+    let both = subst (MayFollow version (run s rs)) (sym (take-append-drop t.count xs)) new in
+    let some = (parts_follow version (run s rs) ys (drop t.count xs) both).0 in
+    let begins = begins_join version s p part t.rest rs ys old
+    (record { records = some.records; lawful = some.lawful; whole = t.whole }) in
     let ends = subst (λ (z : List ℕ). IsRest z t.rest t.why) (sym (last_of_join p rs ys)) t.ends in
     record {
       count = t.count;
@@ -65,35 +38,14 @@ crash_in_frames version s p rs xs part missing old new parts =
       clean = t.clean;
     }
 
--- A longest list that begins later.
-pub later_longest : (version : Version) (s : State) (p bytes rest : List ℕ) (rs xs : List Record)
-    → IsLongest version s p bytes (rs ++ xs) rest
-    → IsLongest version (run s rs) (last_of p rs) (frames_of (last_of p rs) xs ++ rest) xs rest
-later_longest version s p bytes rest rs xs h =
-    let are = each_cut (IsRecord version) rs xs h.begins.records in
-    let lawful = lawful_cut version s rs xs h.begins.lawful in
-    let whole = h.begins.whole ∙ ap (λ (z : List ℕ). z ++ rest) (frames_of_join p rs xs) ∙ append_assoc _ _ rest in
-    record {
-      begins = record { records = are.1; lawful = lawful.1; whole = refl };
-      longest = λ others after b.
-          let all : Begins version s p bytes (rs ++ others) after = record {
-            records = each_append (IsRecord version) rs others are.0 b.records;
-            lawful = lawful_join version s rs others lawful.0 b.lawful;
-            whole = whole ∙ ap (λ (z : List ℕ). frames_of p rs ++ z) b.whole
-                ∙ sym (append_assoc _ _ after)
-                ∙ ap (λ (z : List ℕ). z ++ after) (sym (frames_of_join p rs others));
-          } in
-          omega (arith, h.longest (rs ++ others) after all, length-append rs others, length-append rs xs);
-    }
-
-pub of_front : (b : List ℕ) (version : Version) (rs : List Record) (rest : List ℕ) → IsFront b version rs rest
+pub front_follows : (b : List ℕ) (version : Version) (rs : List Record) (rest : List ℕ) → IsFront b version rs rest
     → MayFollow version empty rs
-of_front b version rs rest h = record { records = h.longest.begins.records; lawful = h.longest.begins.lawful }
+front_follows b version rs rest h = record { records = h.longest.begins.records; lawful = h.longest.begins.lawful }
 
 pub crash_while_appending : CrashWhileAppending
 crash_while_appending b version records rest xs part missing front new parts short =
     let p = start version in
-    let g = crash_in_frames version empty p records xs part missing (of_front b version records rest front) new parts in
+    let g = crash_in_frames version empty p records xs part missing (front_follows b version records rest front) new parts in
     let left : IsFront (log_of version records ++ part) version (records ++ take g.count xs) g.rest = record {
       short = short;
       bytes = frames_of p records ++ part;
@@ -120,7 +72,7 @@ crash_while_appending b version records rest xs part missing front new parts sho
 
 -- the log of lawful records is its own front
 pub own_front : (version : Version) (rs : List Record) → MayFollow version empty rs
-    → length (log_of version rs) ≤ 4294967295 → IsFront (log_of version rs) version rs []
+    → length (log_of version rs) ≤ log_limit → IsFront (log_of version rs) version rs []
 own_front version rs h short =
     let p = start version in
     let begins : Begins version empty p (frames_of p rs) rs [] =
@@ -135,18 +87,7 @@ own_front version rs h short =
 pub appended_is_front : AppendedIsFront
 appended_is_front b version records rest xs front new short =
     own_front version (records ++ xs)
-    (both_follow version empty records xs (of_front b version records rest front) new) short
-
--- the record and what follows, of two lists of records that begin the same bytes
-same_first : (version : Version) (p x y : List ℕ) (r o : Record) (rs os : List Record) → IsRecord version r
-    → IsRecord version o → frames_of p (r ∷ rs) ++ x ≡ frames_of p (o ∷ os) ++ y
-    → (r ≡ o) × (frames_of (digest p (body_of r)) rs ++ x ≡ frames_of (digest p (body_of r)) os ++ y)
-same_first version p x y r o rs os is ois e =
-    let both = same_front p _ _ _ _ (body_fits version r is) (body_fits version o ois)
-    (sym (frames_assoc p (body_of r) (bodies_of rs) x) ∙ e ∙ frames_assoc p (body_of o) (bodies_of os) y) in (
-      one_record version r o (body_of r) (is, refl) (ois, both.0),
-      both.1 ∙ ap (λ (z : List ℕ). frames_of (digest p z) os ++ y) (sym both.0),
-    )
+    (both_follow version empty records xs (front_follows b version records rest front) new) short
 
 -- of two lists that begin the same bytes the longer begins with the shorter
 pub longer_begins : (version : Version) (p x y : List ℕ) (rs found : List Record) → AllByRecursion (IsRecord version) rs

@@ -5,18 +5,18 @@ use Rattle.std.proofs.Math.Seq.{take-length, take-append-add}
 use Rattle.std.proofs.lemmas.List.{append-nil, length-append, length-take, take-append-drop}
 use Rattle.sha2.specs.Sha256.{sha256}
 use Rattle.rq_model.specs.Records.{Record, Abort, Version}
-use Rattle.rq_model.specs.Spelling.{IsRecord}
 use Rattle.rq_model.specs.Frames.{log_limit, magic, log_of, frames_of, last_of, Whole}
 use Rattle.rq_model.specs.States.{State, empty}
 use Rattle.rq_model.specs.Machine.{all_lawful, closed_units, step, run, aborts, final}
 use Rattle.rq_model.specs.WellFormed.{Ordered}
 use Rattle.rq_model.specs.Fronts.{Ends, IsFront, Restarted, IsRestart}
 use Rattle.rq_model.specs.Closing.{IsClosed, OneClosed, ClosedFront, when_closed, HaveSameQueues, ClosedStands}
-use Rattle.rq_model.proofs.Lists.{each_append}
 use Rattle.rq_model.proofs.Crash.{crash_is_harmless, first_closed}
 use Rattle.rq_model.proofs.Kept.{runs_are_well_formed, empty_is_well_formed}
-use Rattle.rq_model.proofs.Longest.{one_front, front_stops, log_joins, used_long}
-use Rattle.rq_model.proofs.Restarts.{run_join, lawful_join, aborts_are, crash_in_the_tail}
+use Rattle.rq_model.proofs.Longest.{one_front, log_joins, used_long}
+use Rattle.rq_model.proofs.Restarts.{run_join, lawful_join}
+use Rattle.rq_model.proofs.Appended.{front_follows, appended_is_front}
+use Rattle.rq_model.proofs.Tails.{aborts_follow, crash_in_the_tail}
 use Rattle.rq_model.proofs.Found.{front_restart, restart_lines}
 
 -- the numbers after so many aborts, where no unit is open any more
@@ -79,20 +79,10 @@ one_closed b x y (tail, h) k = spelt b x h.version h.records h.rest (tail, h) h.
 pub closed_front : ClosedFront
 closed_front b closed version rs rest h short front =
     let xs = aborts (run empty rs) in
-    let begins = front.longest.begins in
-    let bytes = frames_of (sha256 (magic version)) (rs ++ xs) in
-    record {
-      short = short;
-      bytes = bytes;
-      whole = spelt b closed version rs rest h front;
-      longest = front_stops _ empty _ bytes [] _ (Ends Whole)
-          (record {
-            records = each_append (IsRecord version) rs xs begins.records
-                (aborts_are version rs begins.records begins.lawful);
-            lawful = (are_ended version rs begins.lawful).lawful;
-            whole = sym (append-nil bytes);
-          }) refl;
-    }
+    let is = spelt b closed version rs rest h front in
+    subst (λ (z : List ℕ). IsFront z version (rs ++ xs) []) (sym is)
+    (appended_is_front b version rs rest xs front (aborts_follow version rs (front_follows b version rs rest front))
+    (subst (λ (z : List ℕ). length z ≤ log_limit) is short))
 
 -- the restart of a closed log
 whole : (b closed : List ℕ) (r : Restarted) → IsClosed b closed → length closed ≤ log_limit → IsRestart b r

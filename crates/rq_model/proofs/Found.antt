@@ -22,7 +22,8 @@ use Rattle.rq_model.proofs.Longest.{front_stops}
 use Rattle.rq_model.proofs.WorkedReports.{front_has_report, final_kept}
 use Rattle.rq_model.specs.Reports.{IsQueueText}
 use Rattle.rq_model.specs.WellFormed.{IsWellFormed}
-use Rattle.rq_model.proofs.Restarts.{header_long, crash_in_the_tail}
+use Rattle.rq_model.proofs.Restarts.{header_long}
+use Rattle.rq_model.proofs.Tails.{crash_in_the_tail}
 use Rattle.rq_model.proofs.Kept.{runs_are_well_formed, empty_is_well_formed}
 use Rattle.rq_model.proofs.Listed.{is_text}
 

@@ -27,7 +27,12 @@ pub mod Longest
 pub mod Texts
 pub mod Widths
 pub mod StateCodes
+mod Linked
 pub mod Restarts
+mod FromCheckpoints
+mod Torn
+mod Appended
+mod Tails
 pub mod Found
 mod Offsets
 pub mod Upgraded
@@ -44,10 +49,10 @@ mod Meaning
 mod Taken
 mod Accounts
 mod ReportLines
-mod Torn
-mod Appended
 mod Marked
 mod Carried
 mod Grown
 mod Continued
+mod Later
+mod Joined
 mod Along

@@ -2,27 +2,26 @@
 use Rattle.std.proofs.Common.{◌≡◌, ℕ, ◌+◌, ◌≤◌, List, [], ◌∷◌, ◌++◌, length, map, refl, sym, ap, subst}
 use Rattle.std.proofs.Common.{◌∙◌, arith}
 use Rattle.rq_model.specs.Records.{Record, Abort, Checkpoint, Version}
-use Rattle.rq_model.specs.Frames.{Whole}
+use Rattle.rq_model.specs.Frames.{log_limit, Whole}
 use Rattle.rq_model.specs.States.{Definition, State, empty}
 use Rattle.rq_model.specs.Machine.{run, step, final}
 use Rattle.rq_model.specs.StateSpelling.{state_bytes}
 use Rattle.rq_model.specs.Fronts.{IsFront, Ends, Restarted, restarted, IsRestart}
 use Rattle.rq_model.specs.Reports.{AreQueueLines, IsQueueText}
+use Rattle.rq_model.specs.Appending.{MayFollow, with_checkpoint, CheckpointIsTrue, CheckpointSaysTheSame}
 use Rattle.rq_model.proofs.Longest.{front_ends}
 use Rattle.rq_model.proofs.Restarts.{run_join}
 use Rattle.rq_model.proofs.Found.{front_restart, restart_lines, lines_report}
-use Rattle.rq_model.specs.Appending.{MayFollow, with_checkpoint, CheckpointIsTrue, CheckpointSaysTheSame}
-use Rattle.rq_model.proofs.Appended.{both_follow, of_front, own_front}
+use Rattle.rq_model.proofs.Appended.{appended_is_front}
 
 marked_front : (b : List ℕ) (version : Version) (records : List Record) (rest : List ℕ) → IsFront b version records rest
-    → length (state_bytes (run empty records)) ≤ 268435455 → length (with_checkpoint version records) ≤ 4294967295
+    → length (state_bytes (run empty records)) ≤ 268435455 → length (with_checkpoint version records) ≤ log_limit
     → IsFront (with_checkpoint version records) version
     (records ++ Checkpoint (state_bytes (run empty records)) ∷ []) []
 marked_front b version records rest front small short =
     let xs : List Record = Checkpoint (state_bytes (run empty records)) ∷ [] in
     let new : MayFollow version (run empty records) xs = record { records = (small, tt); lawful = refl } in
-    own_front version (records ++ xs)
-    (both_follow version empty records xs (of_front b version records rest front) new) short
+    appended_is_front b version records rest xs front new short
 
 pub checkpoint_is_true : CheckpointIsTrue
 checkpoint_is_true b version records rest front small short = (

@@ -5,21 +5,15 @@ use Rattle.std.specs.List.{AllByRecursion}
 use Rattle.std.proofs.lemmas.Bool.{cases_lt}
 use Rattle.std.proofs.lemmas.List.{length-append, length-drop, take_at, drop_at, take-append-le, drop-append-le}
 use Rattle.std.proofs.lemmas.List.{take-append-drop, nil_from_length}
+use Rattle.byteorder.specs.Numbers.{big_from-append}
 use Rattle.rq_model.specs.Records.{Record, Version}
 use Rattle.rq_model.specs.Spelling.{body_of, IsRecord}
 use Rattle.rq_model.specs.Frames.{digest, frame, frames_of, last_of, stated, Rest, Whole, Cut, IsRest}
+use Rattle.rq_model.specs.Appending.{IsCleanEnd}
 use Rattle.rq_model.proofs.Bodies.{body_fits}
 use Rattle.rq_model.proofs.Runs.{frame_long, frame_reads}
-use Rattle.rq_model.specs.Appending.{IsCleanEnd}
 
-stated_front : (part missing : List ℕ) → 4 ≤ length part → stated (part ++ missing) ≡ stated part
-stated_front [] missing h = absurd (omega (arith, h))
-stated_front (a ∷ []) missing h = absurd (omega (arith, h))
-stated_front (a ∷ b ∷ []) missing h = absurd (omega (arith, h))
-stated_front (a ∷ b ∷ c ∷ []) missing h = absurd (omega (arith, h))
-stated_front (a ∷ b ∷ c ∷ d ∷ part) missing h = refl
-
--- whole frames, the next of which is not there, and what is cut
+-- whole frames, so many that the next is not there, and what is cut of it
 pub record IsTorn (p part : List ℕ) (xs : List Record) : Type 0 where
   pub count : ℕ
   pub rest : List ℕ
@@ -37,6 +31,7 @@ more_long p x xs k =
     let others = frames_of (digest p (body_of x)) (take k xs) in
     omega (arith, length-append (frame p (body_of x)) others, frame_long p (body_of x))
 
+-- a frame, and others behind it
 taken : (n : ℕ) (f part rest p body : List ℕ) (xs : List Record) → f ≡ take n part
     → drop n part ≡ frames_of (digest p body) xs ++ rest → part ≡ (f ++ frames_of (digest p body) xs) ++ rest
 taken n f part rest p body xs front behind =
@@ -81,7 +76,7 @@ torn version p part missing (x ∷ xs) is e =
                       | inl few ↦ inl few
                       | inr four ↦
                           let fit = body_fits version x is.0 in
-                          let number : stated part ≡ n = sym (stated_front part missing four) ∙ ap stated (sym e)
+                          let number : stated part ≡ n = sym (big_from-append 4 part missing four) ∙ ap stated (sym e)
                           ∙ (frame_reads p (body_of x) others fit).stated_is in
                           inr (
                             subst (λ (k : ℕ). (1 ≤ k) × (k ≤ 268435456)) (sym number) fit,

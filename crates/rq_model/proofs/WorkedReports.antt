@@ -26,7 +26,8 @@ use Rattle.rq_model.specs.WorkedLogs.{WorkedCheckpoint}
 use Rattle.rq_model.proofs.Runs.{frame_long, frame_reads, right_at}
 use Rattle.rq_model.proofs.Bodies.{body_fits}
 use Rattle.rq_model.proofs.Longest.{front_stops, frames_of_join}
-use Rattle.rq_model.proofs.Restarts.{each_cut, header_long, true_is_same}
+use Rattle.rq_model.proofs.Restarts.{each_cut, header_long}
+use Rattle.rq_model.proofs.FromCheckpoints.{true_is_same}
 use Rattle.rq_model.proofs.Kept.{runs_are_well_formed, empty_is_well_formed}
 use Rattle.rq_model.proofs.Crash.{crash_is_harmless}
 use Rattle.rq_model.proofs.Listed.{is_text}

@@ -1,5 +1,5 @@
--- A log in several files: the chain of one goes on in the next.
-use Rattle.std.specs.Prelude.{◌≡◌, ℕ, ◌+◌, ◌-◌, ◌≤◌, List, [], ◌∷◌, ◌++◌, length, drop}
+-- A log that goes on in another file: behind a header, a gap and the 32 bytes that link the files.
+use Rattle.std.specs.Prelude.{◌≡◌, ℕ, ◌+◌, ◌-◌, ◌≤◌, List, [], ◌∷◌, ◌++◌, length, drop, codes}
 use Rattle.rq_model.specs.Records.{Record, Checkpoint, Version}
 use Rattle.rq_model.specs.Frames.{log_limit, header, start, frames_of, last_of, before, IsBodyLength}
 use Rattle.rq_model.specs.Frames.{stated, Length, Whole}
@@ -8,11 +8,10 @@ use Rattle.rq_model.specs.Machine.{run}
 use Rattle.rq_model.specs.StateSpelling.{state_bytes, SpellsState}
 use Rattle.rq_model.specs.Fronts.{IsLongest, IsFront, Ends, Restarted, restarted, IsRestart}
 use Rattle.rq_model.specs.Checkpoints.{TrueAt, IsRestartAt}
-use Rattle.rq_model.specs.Appending.{MayFollow}
+use Rattle.rq_model.specs.Appending.{MayFollow, FitsCheckpoint}
 use Rattle.rq_model.specs.Carrying.{IsFrontAt}
 
--- The bytes of b from a checkpoint on, unchanged, and the 32 bytes before it, behind a header and a
--- gap
+-- all bytes of b from a checkpoint on, and the 32 bytes before it, behind a header and a gap
 abbrev pub moved : Version → List ℕ → ℕ → List ℕ → List ℕ
 moved version b offset gap = header version ++ (gap ++ (before offset b ++ drop offset b))
 
@@ -20,14 +19,15 @@ moved version b offset gap = header version ++ (gap ++ (before offset b ++ drop 
 abbrev pub moved_to : List ℕ → ℕ
 moved_to gap = 72 + length gap
 
--- what a restart at the checkpoint answers there: the same, but for the numbers of bytes
+-- what a restart from the checkpoint answers there: the same, but for the numbers of bytes
 abbrev pub when_moved : ℕ → ℕ → Restarted → Restarted
 when_moved offset there r = record r {
   used = r.used + there - offset;
   total = r.total + there - offset;
 }
 
--- A restart at the moved checkpoint is that at the old one
+-- A checkpoint that is moved keeps its front and its restart, whatever ends the front; if it was
+-- true, its restart is that of the whole log
 pub record MovesOn : Type 0 where
   pub front : (b : List ℕ) (offset : ℕ) (version : Version) (s : State) (kept : List ℕ)
       (after : List Record) (rest gap : List ℕ) → IsFrontAt b offset version s kept after rest
@@ -46,7 +46,37 @@ pub record MovesOn : Type 0 where
       → IsRestartAt (moved version b offset gap) (moved_to gap)
       (when_moved offset (moved_to gap) r)
 
--- Where the gap begins with a length that no body has, a restart of the whole says so
+-- a header, a gap, 32 bytes p and a checkpoint of the state, chained to p
+abbrev pub begun_anew : Version → List ℕ → State → List ℕ → List ℕ
+begun_anew version p s gap =
+    header version ++ (gap ++ (p ++ frames_of p (Checkpoint (state_bytes s) ∷ [])))
+
+-- From there a restart begins with the state, and all is whole. The checkpoint stood in no log
+-- before: the old one may be full
+abbrev pub StartsAnew : Type 0
+StartsAnew =
+    (version : Version) (p : List ℕ) (s : State) (gap : List ℕ) → length p ≡ 32
+    → SpellsState version s (state_bytes s) → FitsCheckpoint s
+    → length (begun_anew version p s gap) ≤ log_limit
+    → IsFrontAt (begun_anew version p s gap) (moved_to gap) version s (state_bytes s) [] []
+    × (before (moved_to gap) (begun_anew version p s gap) ≡ p)
+    × IsRestartAt (begun_anew version p s gap) (moved_to gap)
+    (restarted (run s (Checkpoint (state_bytes s) ∷ [])) 0
+    (length (begun_anew version p s gap)) (Ends Whole))
+
+-- So the state behind any front goes on: its open units, elements, registrants and numbers, and the
+-- chain of digests
+abbrev pub FrontGoesOn : Type 0
+FrontGoesOn =
+    (b : List ℕ) (version : Version) (records : List Record) (rest gap : List ℕ) →
+    IsFront b version records rest → FitsCheckpoint (run empty records)
+    → length (begun_anew version (last_of (start version) records) (run empty records) gap)
+    ≤ log_limit
+    → IsFrontAt (begun_anew version (last_of (start version) records) (run empty records) gap)
+    (moved_to gap) version (run empty records) (state_bytes (run empty records)) [] []
+
+-- If the gap begins with a length that no body has, a restart of the whole file says so: it finds
+-- no record, and the reason is `length`
 abbrev pub GapIsLoud : Type 0
 GapIsLoud =
     (version : Version) (gap bytes : List ℕ) → 4 ≤ length gap → (IsBodyLength (stated gap) → ⊥)
@@ -55,7 +85,16 @@ GapIsLoud =
     (restarted empty (length (gap ++ bytes)) (length (header version ++ (gap ++ bytes)))
     (Ends Length))
 
--- A later checkpoint that spells the state before it says the same, also where no log begins
+-- the gap of a carried file: such a length, and words for whoever looks. The checkpoint stands at 96
+abbrev pub carried_gap : List ℕ
+carried_gap = 255 ∷ 255 ∷ 255 ∷ 255 ∷ codes "rq carried log at 96"
+
+pub record IsCarriedGap : Type 0 where
+  pub there : moved_to carried_gap ≡ 96
+  pub room : 4 ≤ length carried_gap
+  pub loud : IsBodyLength (stated carried_gap) → ⊥
+
+-- A later checkpoint that spells the state before it says the same, also if no log begins there
 abbrev pub LaterSaysTheSame : Type 0
 LaterSaysTheSame =
     (b : List ℕ) (offset : ℕ) (version : Version) (s : State) (kept : List ℕ)
@@ -67,9 +106,9 @@ LaterSaysTheSame =
     version (run s (Checkpoint kept ∷ earlier)) again after rest
     × IsRestartAt b (offset + length (frames_of (before offset b) (Checkpoint kept ∷ earlier))) r
 
--- Where the 32 bytes before the checkpoint are the last of records that a log may begin with, and
--- it spells the state behind them, its front is that of all records, as if they stood in one log of
--- any length
+-- Files join: let the link be the last 32 bytes of records that a log may begin with, and let the
+-- checkpoint spell their state. Then the front there is that of all records in one log of any
+-- length, and so is the state behind it
 abbrev pub FilesJoin : Type 0
 FilesJoin =
     (b : List ℕ) (offset : ℕ) (version : Version) (s : State) (kept : List ℕ)
@@ -81,32 +120,15 @@ FilesJoin =
     (records ++ Checkpoint kept ∷ after) rest
     × (run s (Checkpoint kept ∷ after) ≡ run empty (records ++ Checkpoint kept ∷ after))
 
--- A log that goes on from a state, behind 32 bytes: a header, a gap, these bytes, and a checkpoint
--- of the state
-abbrev pub begun_anew : Version → List ℕ → State → List ℕ → List ℕ
-begun_anew version p s gap =
-    header version ++ (gap ++ (p ++ frames_of p (Checkpoint (state_bytes s) ∷ [])))
-
--- A restart at its checkpoint begins with the state, and nothing stands behind it. It need not have
--- stood in the old log, which may be full
-abbrev pub StartsAnew : Type 0
-StartsAnew =
-    (version : Version) (p : List ℕ) (s : State) (gap : List ℕ) → length p ≡ 32
-    → SpellsState version s (state_bytes s) → length (state_bytes s) ≤ 268435455
-    → length (begun_anew version p s gap) ≤ log_limit
-    → IsFrontAt (begun_anew version p s gap) (moved_to gap) version s (state_bytes s) [] []
-    × (before (moved_to gap) (begun_anew version p s gap) ≡ p)
-    × IsRestartAt (begun_anew version p s gap) (moved_to gap)
-    (restarted (run s (Checkpoint (state_bytes s) ∷ [])) 0
-    (length (begun_anew version p s gap)) (Ends Whole))
-
--- Of the front of a log, whatever its length: the state behind it goes on with the same units,
--- elements, registrants and numbers, and so do the digests
-abbrev pub FrontGoesOn : Type 0
-FrontGoesOn =
-    (b : List ℕ) (version : Version) (records : List Record) (rest gap : List ℕ) →
-    IsFront b version records rest → length (state_bytes (run empty records)) ≤ 268435455
-    → length (begun_anew version (last_of (start version) records) (run empty records) gap)
-    ≤ log_limit
-    → IsFrontAt (begun_anew version (last_of (start version) records) (run empty records) gap)
-    (moved_to gap) version (run empty records) (state_bytes (run empty records)) [] []
+-- So a file that was begun anew behind a front joins it, whatever was written there since
+abbrev pub AnewJoins : Type 0
+AnewJoins =
+    (b new more : List ℕ) (version : Version) (records : List Record) (rest gap : List ℕ)
+    (s : State) (kept : List ℕ) (after : List Record) (left : List ℕ) →
+    IsFront b version records rest → FitsCheckpoint (run empty records)
+    → new ≡ begun_anew version (last_of (start version) records) (run empty records) gap ++ more
+    → IsFrontAt new (moved_to gap) version s kept after left
+    → IsLongest version empty (start version)
+    (frames_of (start version) records ++ drop (moved_to gap) new)
+    (records ++ Checkpoint kept ∷ after) left
+    × (run s (Checkpoint kept ∷ after) ≡ run empty (records ++ Checkpoint kept ∷ after))

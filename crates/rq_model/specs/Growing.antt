@@ -1,4 +1,4 @@
--- A log that grows, and what goes along with it.
+-- The front of a log that grows, and what goes along with it.
 use Rattle.std.specs.Prelude.{◌≡◌, ◌≤◌, ℕ, List, ◌++◌, length, drop}
 use Rattle.rq_model.specs.Records.{Record, Version}
 use Rattle.rq_model.specs.Frames.{log_limit, header, start, log_of, last_of, before}
@@ -7,7 +7,7 @@ use Rattle.rq_model.specs.Machine.{run}
 use Rattle.rq_model.specs.Fronts.{Begins, IsLongest, IsFront, IsWhy, Why, IsRestart, restarted}
 use Rattle.rq_model.specs.Appending.{MayFollow}
 
--- The front of a log that grew is the old one, and what is found in what stood behind it and came
+-- If bytes come behind a log, its front is the old one, and what is found in the bytes behind that
 abbrev pub FrontGrows : Type 0
 FrontGrows =
     (b more : List ℕ) (version : Version) (records xs : List Record) (rest left : List ℕ) (why : Why)
@@ -23,14 +23,15 @@ FrontStays =
     → IsFront b version records rest → IsFront (b ++ more) w found left
     → (w ≡ version) × (others : List Record) × (found ≡ records ++ others)
 
--- What goes along with a log keeps its version, the records so far, and what stands behind them
+-- what goes along with bytes of any length: their version, the records so far, the bytes behind
+-- these, and why they end
 pub record IsAlong (b : List ℕ) (version : Version) (records : List Record) (rest : List ℕ)
     (why : Why) : Type 0 where
   pub may : MayFollow version empty records
   pub whole : b ≡ log_of version records ++ rest
   pub ends : IsWhy version (run empty records) (last_of (start version) records) rest why
 
--- so it knows the front of every log that is no longer than a log may be
+-- It knows the front and the restart of every log
 abbrev pub AlongIsFront : Type 0
 AlongIsFront =
     (b : List ℕ) (version : Version) (records : List Record) (rest : List ℕ) (why : Why) →
@@ -38,13 +39,13 @@ AlongIsFront =
     → IsFront b version records rest
     × IsRestart b (restarted (run empty records) (length rest) (length b) why)
 
--- the window: a header, the last 32 bytes of the records so far, what stood behind them and what
--- came
+-- the window on what comes: a header, the last 32 bytes of the records so far, and bytes behind
+-- them
 abbrev pub window_of : Version → List Record → List ℕ → List ℕ
 window_of version records bytes = header version ++ (last_of (start version) records ++ bytes)
 
--- What a restart finds in the window from 72 on goes behind the records so far; the window then
--- begins where that ends
+-- The records that are found in the window from 72 on come behind those so far, and where they end
+-- the next window begins
 abbrev pub WindowGoesOn : Type 0
 WindowGoesOn =
     (b more window : List ℕ) (version : Version) (records xs : List Record) (rest : List ℕ)

@@ -39,11 +39,10 @@ ghost use Rattle.rq_model.specs.Laws.{RedoSteps, CrashIsHarmless};
 ghost use Rattle.rq_model.specs.MoveLaws.{MovesRise, ArrivalsRise};
 ghost use Rattle.rq_model.specs.Appending.{CrashInFrames, CrashWhileAppending, AppendedIsFront};
 ghost use Rattle.rq_model.specs.Appending.{WrittenStays, CheckpointIsTrue, CheckpointSaysTheSame};
-ghost use Rattle.rq_model.specs.Carrying.{TrueHasFront, CarriesOn, GuardIsLoud};
-ghost use Rattle.rq_model.specs.Carrying.{CrashWhileCarriedGrows};
 ghost use Rattle.rq_model.specs.Growing.{FrontGrows, FrontStays, AlongIsFront, WindowGoesOn};
+ghost use Rattle.rq_model.specs.Carrying.{TrueHasFront, CrashWhileCarriedGrows};
 ghost use Rattle.rq_model.specs.Continuing.{MovesOn, GapIsLoud, LaterSaysTheSame, FilesJoin};
-ghost use Rattle.rq_model.specs.Continuing.{StartsAnew, FrontGoesOn};
+ghost use Rattle.rq_model.specs.Continuing.{StartsAnew, FrontGoesOn, AnewJoins, IsCarriedGap};
 
 mod checkpoints;
 
@@ -192,8 +191,8 @@ pub fn upgrade_is_the_same()
     ensures { UpgradeIsSame }
 {}
 
-/// Whatever beginning of the frames of further records stands behind a front, no record whose frame
-/// is wholly there is lost, and none is invented.
+/// A crash while records are appended to a log loses none whose frame is whole, and invents none.
+/// Once all frames are there, all records are in the front. Whatever comes behind, they stay there.
 pub fn appended_logs()
     ensures frames { CrashInFrames }
     ensures crash { CrashWhileAppending }
@@ -201,29 +200,37 @@ pub fn appended_logs()
     ensures stays { WrittenStays }
 {}
 
-/// A checkpoint of the state behind a front that is appended to it is true, and changes no queue
-/// line.
+/// A checkpoint of the state behind the front, appended to it, is true, and the report has the same
+/// queue lines.
 pub fn appended_checkpoints()
     ensures truth { CheckpointIsTrue }
     ensures queues { CheckpointSaysTheSame }
 {}
 
-/// A checkpoint and what follows it, carried into another log, restarts to the same.
-pub fn carried_logs()
-    ensures front { TrueHasFront }
-    ensures carries { CarriesOn }
-    ensures loud { GuardIsLoud }
-    ensures crash { CrashWhileCarriedGrows }
-{}
-
-/// The front of a log that grows.
+/// Whatever comes behind a log, no record of its front is taken back: the new front is the old one
+/// and what is found behind it.
 pub fn growing_logs()
     ensures grows { FrontGrows }
     ensures stays { FrontStays }
 {}
 
-/// A checkpoint and all bytes behind it, unchanged in another file, restart to the same; the files
-/// join; and a later checkpoint says the same.
+/// Who keeps the records so far and the bytes behind them knows the front of a log that grows. To go
+/// on, a header, the last 32 bytes of the records and the bytes behind them are enough.
+pub fn followed_logs()
+    ensures front { AlongIsFront }
+    ensures window { WindowGoesOn }
+{}
+
+/// A true checkpoint has a front of its own. If a log is read from a checkpoint on, a crash while
+/// records are appended loses none whose frame is whole, and invents none.
+pub fn carried_logs()
+    ensures front { TrueHasFront }
+    ensures crash { CrashWhileCarriedGrows }
+{}
+
+/// A checkpoint and all bytes behind it restart in another file to the same, and so does a later
+/// checkpoint there. A restart of the whole file finds no record, and says so. The files join: the
+/// last one has the front of all records together.
 pub fn continued_logs()
     ensures moves { MovesOn }
     ensures loud { GapIsLoud }
@@ -231,16 +238,14 @@ pub fn continued_logs()
     ensures join { FilesJoin }
 {}
 
-/// A log that goes on from the state behind another's front.
+/// The state behind the front of a log, full or not, begins a new file by a checkpoint: its open
+/// units, elements, registrants and numbers go on, and so do the digests. Whatever is written
+/// there, the files join.
 pub fn logs_begun_anew()
     ensures starts { StartsAnew }
     ensures front { FrontGoesOn }
-{}
-
-/// What goes along with a log that grows, by a window of it.
-pub fn followed_logs()
-    ensures front { AlongIsFront }
-    ensures window { WindowGoesOn }
+    ensures join { AnewJoins }
+    ensures gap { IsCarriedGap }
 {}
 
 /// What stays in a queue at an abort and what arrives have distinct ids, and are put in in any

@@ -40,7 +40,7 @@ frame_long right p body fits =
     )
 
 -- behind the first frame stand the others
-next : FrameIsRight → (b : List ℕ) (at : ℕ) (p body : List ℕ) (bodies : List (List ℕ)) (rest : List ℕ)
+pub next : FrameIsRight → (b : List ℕ) (at : ℕ) (p body : List ℕ) (bodies : List (List ℕ)) (rest : List ℕ)
     → IsBodyLength (length body) → drop at b ≡ frames p (body ∷ bodies) ++ rest
     → drop (at + 36 + length body) b ≡ frames (digest p body) bodies ++ rest
 next right b at p body bodies rest fits is =

@@ -15,4 +15,7 @@ pub mod Counted
 pub mod Tallies
 pub mod Judgings
 pub mod Passes
+pub mod Windows
+pub mod Pieces
+pub mod Headers
 pub mod Keepers

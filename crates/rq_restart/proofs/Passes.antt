@@ -23,7 +23,7 @@ use Rattle.rq_model.proofs.Restarts.{lawful_join, run_join}
 use Rattle.rq_front.specs.declared.spans.Chain.{Chain}
 use Rattle.rq_record.specs.declared.fault.Fault.{Fault}
 use Rattle.rq_record.specs.declared.fault.Fault.TheVariants as faults
-use Rattle.rq_front.specs.Chains.{Refused, bodies_at, rest_of, spans_from}
+use Rattle.rq_front.specs.Chains.{IsHeaded, Refused, bodies_at, rest_of, spans_from}
 use Rattle.rq_catalog.specs.declared.judge.Judge.{Judge}
 use Rattle.rq_catalog.specs.Judges.{StandsIn}
 use Rattle.rq_restart.specs.Ends.{IsChain, IsFrontFrom, end_at, end_from}
@@ -46,7 +46,7 @@ stated_more : (x more : List ℕ) → 4 ≤ length x → stated (x ++ more) ≡ 
 stated_more x more long = big_from-append 4 x more long
 
 -- a part of bytes is a part of more bytes
-part_more : (x more : List ℕ) (at size : ℕ) → at + size ≤ length x
+pub part_more : (x more : List ℕ) (at size : ℕ) → at + size ≤ length x
     → take size (drop at (x ++ more)) ≡ take size (drop at x)
 part_more x more at size fits =
     ap (take size) (drop-append-le at x more (omega (arith, fits)))
@@ -79,7 +79,7 @@ right_more p x more h =
     record { whole = same.framed; right = same.sum ∙ h.right ∙ ap (digest p) (sym same.body) }
 
 -- so is why no lawful record follows
-why_more : (version : Version) (s : State) (p x more : List ℕ) (why : Why) → stays why ≡ true → IsWhy version s p x why
+pub why_more : (version : Version) (s : State) (p x more : List ℕ) (why : Why) → stays why ≡ true → IsWhy version s p x why
     → IsWhy version s p (x ++ more) why
 why_more version s p x more (Ends frames.Whole) holds h = absurd (false≢true holds)
 why_more version s p x more (Ends frames.Cut) holds h = absurd (false≢true holds)
@@ -223,27 +223,25 @@ head_is ends version b rs place h =
     ap (take 40) (h.whole ∙ append_assoc (header version) (frames_of (start version) rs) (drop place b))
     ∙ take_at (header version) rest 40 size
 
+-- bytes that are a log are refused for want of memory alone
+pub log_resources : (b : List ℕ) (e : Fault) → length b ≤ log_limit → IsHeaded b → Refused b e → e ≡ faults.Resources
+log_resources b faults.Resources short head refused = refl
+log_resources b faults.TooLong short head refused = absurd (omega (arith, refused, short))
+log_resources b faults.NotALog short head refused = absurd (refused.1 head)
+log_resources b faults.Form short head refused = absurd refused
+log_resources b faults.TooLarge short head refused = absurd refused
+log_resources b faults.BadCheckpoint short head refused = absurd refused
+log_resources b faults.NoCheckpoint short head refused = absurd refused
+log_resources b (faults.Script line) short head refused = absurd refused
+log_resources b faults.ReadFailed short head refused = absurd refused
+log_resources b faults.WriteFailed short head refused = absurd refused
+
 pub only_resources : LogEnds → (version : Version) (b : List ℕ) (rs : List Record) (place limit : ℕ) (e : Fault)
     → length b ≤ log_limit → IsPassed version b rs place → place ≤ limit → limit ≤ length b
     → Refused (take limit b) e → e ≡ faults.Resources
-only_resources ends version b rs place limit e short h low high refused = at e refused
-  where
-    at : (e : Fault) → Refused (take limit b) e → e ≡ faults.Resources
-    at faults.Resources refused = refl
-    at faults.TooLong refused = absurd (omega (arith, refused, short, length-take limit b))
-    at faults.NotALog refused =
-        absurd (refused.1 (
-          version,
-          head_is ends version (take limit b) rs place
-              (in_part version b rs place h limit low high),
-        ))
-    at faults.Form refused = absurd refused
-    at faults.TooLarge refused = absurd refused
-    at faults.BadCheckpoint refused = absurd refused
-    at faults.NoCheckpoint refused = absurd refused
-    at (faults.Script line) refused = absurd refused
-    at faults.ReadFailed refused = absurd refused
-    at faults.WriteFailed refused = absurd refused
+only_resources ends version b rs place limit e short h low high =
+    log_resources (take limit b) e (omega (arith, short, length-take limit b))
+    (version, head_is ends version (take limit b) rs place (in_part version b rs place h limit low high))
 
 -- a pass goes on in a beginning of the log
 pub record HasGoneOn (version : Version) (b : List ℕ) (limit end : ℕ) (why : Why) (j : Judge)

@@ -13,4 +13,6 @@ pub mod Audits
 pub mod AuditLaws
 pub mod Worth
 pub mod Passes
+pub mod Windows
+pub mod GrowingFronts
 pub mod Keepers

@@ -45,7 +45,8 @@ pub(crate) struct Front {
     pub(crate) why: Why,
 }
 
-fn why_of(rest: Rest) -> Why
+/// Why the front ends behind all frames of a chain, by what follows them.
+pub(crate) fn why_of(rest: Rest) -> Why
     ensures { why_of result ≡ Ends (rest_of rest) }
 {
     match rest {

@@ -7,7 +7,7 @@ ghost use Rattle.rq_model.specs.States as model;
 ghost use Rattle.rq_record.specs.Views.{version_of};
 ghost use Rattle.rq_record.specs.declared.fault.Fault.TheVariants.{Resources};
 ghost use Rattle.rq_front.specs.Chains.{bodies_at};
-ghost use Rattle.rq_catalog.specs.Judges.{StandsIn};
+ghost use Rattle.rq_catalog.specs.Judges.{KeepsStanding, StandsIn};
 ghost use Rattle.rq_restart.specs.Views.{why_of};
 ghost use Rattle.rq_restart.specs.Passes.{AreJudged, HasPassedSome, IsVerdict, StopsIn, stays};
 
@@ -24,9 +24,9 @@ use std::thread::Threads;
 // No answer depends on it.
 const WINDOW: usize = 16_777_216;
 
-// What a judge makes of a body.
+/// What a judge makes of a body.
 #[derive(Clone, Copy, Debug)]
-enum Verdict {
+pub(crate) enum Verdict {
     Lawful,
     Unlawful,
     NoRecord,
@@ -47,10 +47,12 @@ pub(crate) struct PassSoFar {
     pub(crate) offset: usize,
 }
 
-// What the judge makes of a body; the record of a lawful one it takes.
-fn judge_one(alloc: Global, judge: &mut Judge, body: &[u8]) -> Result<Verdict, Fault>
+/// What the judge makes of a body; the record of a lawful one it takes. Where memory is refused the
+/// judge stands where it stood.
+pub(crate) fn judge_one(alloc: Global, judge: &mut Judge, body: &[u8]) -> Result<Verdict, Fault>
     ensures verdict { IfOk result (λ v. (version : records.Version) (s : model.State) →
         StandsIn version judge.old s → IsVerdict version s body.now judge.new v) }
+    ensures kept { IfErr result (λ e. KeepsStanding judge.old judge.new) }
     ensures refused { IfErr result (λ e. e ≡ Resources) }
 {
     match decode_in(alloc, judge.version(), body) {
@@ -104,8 +106,8 @@ fn judge_each(
     })
 }
 
-// Whether more bytes behind the log would not take the reason away.
-fn stays(why: Why) -> bool
+/// Whether more bytes behind the log would not take the reason away.
+pub(crate) fn stays(why: Why) -> bool
     ensures { result ≡ stays (why_of why) }
 {
     !matches!(why, Why::Whole | Why::Cut)

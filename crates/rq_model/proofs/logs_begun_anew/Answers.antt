@@ -1,5 +1,6 @@
-use Rattle.rq_model.proofs.Continued.{starts_anew, front_goes_on}
+use Rattle.rq_model.proofs.Continued.{starts_anew, front_goes_on, is_carried_gap}
+use Rattle.rq_model.proofs.Joined.{anew_joins}
 use Rattle.rq_model.proofs.logs_begun_anew.Goals as goal
 
 pub returns : goal.returns
-returns c = record { starts = starts_anew; front = front_goes_on }
+returns c = record { starts = starts_anew; front = front_goes_on; join = anew_joins; gap = is_carried_gap }

@@ -1,6 +1,6 @@
 use Rattle.rq_model.proofs.Longest.{one_restart}
 use Rattle.rq_model.proofs.Texts.{one_text, one_audit, one_report as proved}
-use Rattle.rq_model.proofs.Restarts.{one_restart_at}
+use Rattle.rq_model.proofs.FromCheckpoints.{one_restart_at}
 use Rattle.rq_model.proofs.WorkedReports.{front_has_report}
 use Rattle.rq_model.proofs.one_report.Goals as goal
 
