@@ -4,9 +4,9 @@ use crate::appending::frames_of;
 use crate::auditing::audit_carried;
 use crate::failing::{Failure, Which};
 use crate::files::Held;
-use crate::fronts::{front_of, opened_front, state_behind};
+use crate::fronts::{front_in, front_of, opened_front, state_behind};
 use crate::marking::{aborts_of, append_all, append_checkpoint, end_units};
-use crate::reading::{opened, rest_of_log, script_in};
+use crate::reading::{begins_carried, opened, rest_of_log, script_in};
 use crate::telling::{audit_text, tell_appended, tell_carried, tell_marked, warn_of_end};
 use clap::ArgMatches;
 use rq_file::Patient;
@@ -15,15 +15,11 @@ use rq_restart::{Keeper, closed};
 use rq_tool::{Open, OverRead, OverWrite};
 use std::fs::{self, File};
 use std::io;
-use std::os::unix::fs::FileExt;
 use std::rt::{Clock, Files};
 use std::thread::Threads;
 
 // The grain of a line that names none, in frames.
 const GRAIN: u32 = 1000;
-
-// So many bytes tell whether a log was carried on.
-const BEGINNING: usize = 64;
 
 fn plan_of(words: &ArgMatches<'_>) -> Result<Plan, Failure> {
     let workers = match words.get_one::<u32>("WORKERS") {
@@ -41,8 +37,7 @@ where
     let alloc = rt.alloc();
     let script = script_in(rt, words.get_str("SCRIPT").unwrap_or("-"))?;
     let mut held = Held::to_write(rt, log)?;
-    let bytes = rest_of_log(rt, held.file())?;
-    let mut standing = opened_front(rt, alloc, &bytes, plan)?;
+    let (mut standing, total) = front_in(rt, held.file(), plan)?;
     let used = standing.used;
     let made = frames_of(alloc, &mut standing, &script)?;
     let mut stop = made.stop;
@@ -50,7 +45,7 @@ where
         stop.is_kept = words.get_flag("each");
     }
     if stop.as_ref().map_or(true, |stop| stop.is_kept) {
-        held.append(rt, bytes.len(), used, &made.frames)?;
+        held.append(rt, total, used, &made.frames)?;
         let len = used.saturating_add(made.frames.len()) as u64;
         tell_appended(rt, words.get_flag("json"), made.count, used as u64, len)?;
     }
@@ -115,15 +110,6 @@ where
         Ok(()) => Ok(()),
         Err(error) if error.kind() == io::ErrorKind::OutOfMemory => Err(Failure::Memory),
         Err(error) => Err(Failure::Unwritten(which, error)),
-    }
-}
-
-// Whether the log of the open file was carried on. What has no places, as a pipe, was not.
-fn begins_carried(file: &File) -> bool {
-    let mut beginning = [0; BEGINNING];
-    match file.read_at(&mut beginning, 0) {
-        Ok(count) => count == BEGINNING && is_carried(&beginning),
-        Err(_) => false,
     }
 }
 

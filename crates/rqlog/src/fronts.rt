@@ -1,12 +1,16 @@
 //! Where the front of a log ends, plain or carried on.
 
 use crate::failing::Failure;
+use crate::reading::{begins_carried, judged_log, rest_of_log};
 use byteorder::{BigEndian, ByteOrder};
-use rq_journal::{Appender, CARRIED_AT, Fault, Opened, Plan, Why, is_carried, open, open_at};
+use rq_journal::{
+    Appender, CARRIED_AT, Fault, Opened, Plan, Why, is_carried, open, open_at, opened_behind,
+};
 use rq_record::Version;
 use rq_restart::{front_state, front_state_at};
 use rq_state::State;
 use std::alloc::Global;
+use std::fs::File;
 use std::thread::Threads;
 
 // A state that is spelled numbers at most so many records.
@@ -48,6 +52,22 @@ fn numbered_before(bytes: &[u8]) -> u64 {
     }
 }
 
+// Where a log was opened, before whose first frame so many records were numbered.
+fn standing_at(opened: Opened, before: u64) -> Standing {
+    let Opened {
+        appender,
+        used,
+        records,
+        why,
+    } = opened;
+    Standing {
+        appender,
+        used,
+        why,
+        next: before.saturating_add(records as u64),
+    }
+}
+
 /// Where the front of a log ends.
 pub(crate) fn front_of<R: Threads + Sync>(
     rt: &R,
@@ -55,38 +75,51 @@ pub(crate) fn front_of<R: Threads + Sync>(
     bytes: &[u8],
     plan: &Plan,
 ) -> Result<Standing, Fault> {
-    let Opened {
-        appender,
-        used,
-        records,
-        why,
-    } = if is_carried(bytes) {
+    let opened = if is_carried(bytes) {
         open_at(rt, alloc, bytes, CARRIED_AT, plan)?
     } else {
         open(rt, alloc, bytes, plan)?
     };
-    let next = numbered_before(bytes).saturating_add(records as u64);
-    Ok(Standing {
-        appender,
-        used,
-        why,
-        next,
-    })
+    Ok(standing_at(opened, numbered_before(bytes)))
 }
 
-/// Where the front of a log ends, behind which records may follow. If bytes stand behind it that
-/// are no beginning of a frame, they hide records or a fault of the writer: then it is refused.
+// Refuses a front behind which bytes stand that are no beginning of a frame: they hide records, or
+// a fault of the writer.
+fn undamaged(found: Standing) -> Result<Standing, Failure> {
+    match found.why {
+        Why::Whole | Why::Cut => Ok(found),
+        why => Err(Failure::Damaged(why)),
+    }
+}
+
+/// Where the front of a log ends, behind which records may follow.
 pub(crate) fn opened_front<R: Threads + Sync>(
     rt: &R,
     alloc: Global,
     bytes: &[u8],
     plan: &Plan,
 ) -> Result<Standing, Failure> {
-    let found = front_of(rt, alloc, bytes, plan)?;
-    match found.why {
-        Why::Whole | Why::Cut => Ok(found),
-        why => Err(Failure::Damaged(why)),
+    undamaged(front_of(rt, alloc, bytes, plan)?)
+}
+
+/// Where the front of the log in an open file ends, behind which records may follow, and how many
+/// bytes the file has. Of a plain log no more is held than a window.
+pub(crate) fn front_in<R>(
+    rt: &R,
+    file: &mut File,
+    plan: &Plan,
+) -> Result<(Standing, usize), Failure>
+where
+    R: AllocGlobal + Threads + Sync,
+{
+    if begins_carried(file) {
+        let bytes = rest_of_log(rt, file)?;
+        let standing = opened_front(rt, rt.alloc(), &bytes, plan)?;
+        return Ok((standing, bytes.len()));
     }
+    let (front, total) = judged_log(rt, file, plan)?;
+    let standing = undamaged(standing_at(opened_behind(front), 0))?;
+    Ok((standing, total))
 }
 
 /// The state behind the front of a log. Open units stay open.

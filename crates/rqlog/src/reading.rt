@@ -1,12 +1,21 @@
 //! Reading logs and scripts.
 
 use crate::failing::{Failure, Which};
-use rq_journal::Fault;
+use rq_journal::{Fault, Plan, is_carried};
+use rq_restart::{GrowingFront, JudgedFront};
 use std::fs::{self, File, Files};
 use std::io::{self, ErrorKind, Read};
+use std::os::unix::fs::FileExt;
+use std::thread::Threads;
 
 // One byte more than the longest log has, and the longest script.
 const LIMIT: u64 = 4_294_967_296;
+
+// So many bytes tell whether a log was carried on.
+const BEGINNING: usize = 64;
+
+// So many bytes of a log are read at a time.
+const PIECE: usize = 1_048_576;
 
 fn read_to_limit<R: Read + Drop, A: AllocGlobal>(rt: &A, from: R) -> io::Result<Vec<u8>> {
     let mut bytes = Vec::new(rt.alloc());
@@ -27,6 +36,51 @@ fn within(read: io::Result<Vec<u8>>, which: Which) -> Result<Vec<u8>, Failure> {
 /// The bytes of a log from its open file, read from where that stands.
 pub(crate) fn rest_of_log<A: AllocGlobal>(rt: &A, file: &mut File) -> Result<Vec<u8>, Failure> {
     within(read_to_limit(rt, &*file), Which::Log)
+}
+
+/// Whether the log of an open file was carried on. What has no places, as a pipe, was not.
+pub(crate) fn begins_carried(file: &File) -> bool {
+    let mut beginning = [0; BEGINNING];
+    match file.read_at(&mut beginning, 0) {
+        Ok(count) => count == BEGINNING && is_carried(&beginning),
+        Err(_) => false,
+    }
+}
+
+// One read, which begins again if a signal ends it.
+fn read_piece(file: &mut File, piece: &mut [u8]) -> Result<usize, Failure> {
+    for _ in 0..u64::MAX {
+        match file.read(piece) {
+            Ok(count) => return Ok(count),
+            Err(error) if error.kind() == ErrorKind::Interrupted => {}
+            Err(error) => return Err(Failure::Unread(Which::Log, error)),
+        }
+    }
+    Err(Failure::Refused(Fault::ReadFailed))
+}
+
+/// The front of the log in an open file, read from where that stands, and how many bytes there are.
+/// No more of them is held than a window.
+pub(crate) fn judged_log<R>(
+    rt: &R,
+    file: &mut File,
+    plan: &Plan,
+) -> Result<(JudgedFront, usize), Failure>
+where
+    R: AllocGlobal + Threads + Sync,
+{
+    let alloc = rt.alloc();
+    let mut piece = vec![in alloc; 0u8; PIECE]?;
+    let (mut front, mut total) = (GrowingFront::new(alloc), 0usize);
+    for _ in 0..u64::MAX {
+        let count = read_piece(file, &mut piece)?;
+        if count == 0 {
+            break;
+        }
+        front.feed(rt, alloc, &piece[..count], plan)?;
+        total = total.saturating_add(count);
+    }
+    Ok((front.judged(rt, alloc, plan)?, total))
 }
 
 /// Opens a log to read it.
