@@ -2,8 +2,8 @@
 
 use crate::appending::frames_of;
 use crate::auditing::audit_carried;
-use crate::failing::{Failure, Which};
-use crate::files::Held;
+use crate::failing::{Refusal, Which};
+use crate::files::HeldLog;
 use crate::fronts::{front_in, front_of, opened_front, state_behind};
 use crate::marking::{aborts_of, append_all, append_checkpoint, end_units};
 use crate::reading::{begins_carried, opened, rest_of_log, script_in};
@@ -21,46 +21,46 @@ use std::thread::Threads;
 // The grain of a line that names none, in frames.
 const GRAIN: u32 = 1000;
 
-fn plan_of(words: &ArgMatches<'_>) -> Result<Plan, Failure> {
+fn plan_of(words: &ArgMatches<'_>) -> Result<Plan, Refusal> {
     let workers = match words.get_one::<u32>("WORKERS") {
         Some(workers) => workers,
         None => words.get_one::<u32>("workers").unwrap_or(0),
     };
     let grain = words.get_one::<u32>("GRAIN").unwrap_or(GRAIN);
-    Plan::new(workers, grain).ok_or(Failure::Plan)
+    Plan::new(workers, grain).ok_or(Refusal::Plan)
 }
 
-fn append<R>(rt: &R, log: &str, plan: &Plan, words: &ArgMatches<'_>) -> Result<(), Failure>
+fn append<R>(rt: &R, log: &str, plan: &Plan, words: &ArgMatches<'_>) -> Result<(), Refusal>
 where
     R: Files<File = File> + Input + Print + AllocGlobal + Threads + Sync,
 {
     let alloc = rt.alloc();
     let script = script_in(rt, words.get_str("SCRIPT").unwrap_or("-"))?;
-    let mut held = Held::to_write(rt, log)?;
+    let mut held = HeldLog::to_write(rt, log)?;
     let (mut standing, total) = front_in(rt, held.file(), plan)?;
     let used = standing.used;
     let made = frames_of(alloc, &mut standing, &script)?;
-    let mut stop = made.stop;
-    if let Some(stop) = &mut stop {
-        stop.is_kept = words.get_flag("each");
+    let mut refused = made.refused;
+    if let Some(refused) = &mut refused {
+        refused.is_kept = words.get_flag("each");
     }
-    if stop.as_ref().map_or(true, |stop| stop.is_kept) {
+    if refused.as_ref().map_or(true, |refused| refused.is_kept) {
         held.append(rt, total, used, &made.frames)?;
         let len = used.saturating_add(made.frames.len()) as u64;
         tell_appended(rt, words.get_flag("json"), made.count, used as u64, len)?;
     }
-    match stop {
-        Some(stop) => Err(Failure::Line(stop)),
+    match refused {
+        Some(refused) => Err(Refusal::Line(refused)),
         None => Ok(()),
     }
 }
 
-fn checkpoint<R>(rt: &R, log: &str, plan: &Plan, words: &ArgMatches<'_>) -> Result<(), Failure>
+fn checkpoint<R>(rt: &R, log: &str, plan: &Plan, words: &ArgMatches<'_>) -> Result<(), Refusal>
 where
     R: Files<File = File> + Print + AllocGlobal + Threads + Sync,
 {
     let alloc = rt.alloc();
-    let mut held = Held::to_write(rt, log)?;
+    let mut held = HeldLog::to_write(rt, log)?;
     let bytes = rest_of_log(rt, held.file())?;
     let mut standing = opened_front(rt, alloc, &bytes, plan)?;
     let state = state_behind(rt, alloc, &bytes, plan)?;
@@ -76,19 +76,19 @@ where
     Ok(tell_marked(rt, words.get_flag("json"), offset as u64, len)?)
 }
 
-fn carry<R>(rt: &R, log: &str, plan: &Plan, words: &ArgMatches<'_>) -> Result<(), Failure>
+fn carry<R>(rt: &R, log: &str, plan: &Plan, words: &ArgMatches<'_>) -> Result<(), Refusal>
 where
     R: Files<File = File> + Print + Eprint + AllocGlobal + Threads + Sync,
 {
     let (alloc, new) = (rt.alloc(), words.get_str("NEW").unwrap_or("-"));
     if fs::symlink_metadata(rt, new).map_or(false, |found| found.is_file()) {
-        return Err(Failure::There);
+        return Err(Refusal::There);
     }
-    let mut held = Held::to_read(rt, log)?;
+    let mut held = HeldLog::to_read(rt, log)?;
     let bytes = rest_of_log(rt, held.file())?;
     let standing = opened_front(rt, alloc, &bytes, plan)?;
     if standing.is_at_end() {
-        return Err(Failure::Ended);
+        return Err(Refusal::Ended);
     }
     let made = if is_carried(&bytes) {
         carried_at(rt, alloc, &bytes, CARRIED_AT, plan)?
@@ -102,18 +102,18 @@ where
 }
 
 // Makes a file of these bytes, whole or not at all.
-fn put<R>(rt: &R, to: &str, which: Which, bytes: &[u8]) -> Result<(), Failure>
+fn put<R>(rt: &R, to: &str, which: Which, bytes: &[u8]) -> Result<(), Refusal>
 where
     R: Files<File = File> + AllocGlobal,
 {
     match rq_file::put(rt, to, bytes) {
         Ok(()) => Ok(()),
-        Err(error) if error.kind() == io::ErrorKind::OutOfMemory => Err(Failure::Memory),
-        Err(error) => Err(Failure::Unwritten(which, error)),
+        Err(error) if error.kind() == io::ErrorKind::OutOfMemory => Err(Refusal::Memory),
+        Err(error) => Err(Refusal::Unwritten(which, error)),
     }
 }
 
-fn restart<R>(rt: &R, log: &str, plan: &Plan) -> Result<(), Failure>
+fn restart<R>(rt: &R, log: &str, plan: &Plan) -> Result<(), Refusal>
 where
     R: Files<File = File> + Print + Clock + AllocGlobal + Threads + Sync,
 {
@@ -134,7 +134,7 @@ where
 }
 
 // The closed log of one that was carried on.
-fn closed_carried<R>(rt: &R, bytes: Vec<u8>, plan: &Plan) -> Result<Vec<u8>, Failure>
+fn closed_carried<R>(rt: &R, bytes: Vec<u8>, plan: &Plan) -> Result<Vec<u8>, Refusal>
 where
     R: AllocGlobal + Threads + Sync,
 {
@@ -153,7 +153,7 @@ where
     Ok(made)
 }
 
-fn close<R>(rt: &R, log: &str, plan: &Plan, out: &str) -> Result<(), Failure>
+fn close<R>(rt: &R, log: &str, plan: &Plan, out: &str) -> Result<(), Refusal>
 where
     R: Files<File = File> + AllocGlobal + Threads + Sync,
 {
@@ -167,7 +167,7 @@ where
     put(rt, out, Which::Out, &made)
 }
 
-fn audit<R>(rt: &R, log: &str, plan: &Plan) -> Result<(), Failure>
+fn audit<R>(rt: &R, log: &str, plan: &Plan) -> Result<(), Refusal>
 where
     R: Files<File = File> + Print + Clock + AllocGlobal + Threads + Sync,
 {
@@ -189,7 +189,7 @@ where
 }
 
 /// Does the command of the words.
-pub(crate) fn act<R>(rt: &R, matches: &ArgMatches<'_>) -> Result<(), Failure>
+pub(crate) fn act<R>(rt: &R, matches: &ArgMatches<'_>) -> Result<(), Refusal>
 where
     R: Files<File = File> + Input + Print + Eprint + Clock + AllocGlobal + Threads + Sync,
 {

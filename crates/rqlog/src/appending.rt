@@ -42,7 +42,7 @@ impl fmt::Display for Reason {
 
 /// The first line that is not appended, and what becomes of those before it.
 #[derive(Debug, Drop)]
-pub(crate) struct Stop {
+pub(crate) struct LineRefused {
     /// Its number, from 1.
     pub(crate) line: u64,
     /// The beginning of its record's text; nothing if it is no line.
@@ -52,7 +52,7 @@ pub(crate) struct Stop {
     pub(crate) is_kept: bool,
 }
 
-impl fmt::Display for Stop {
+impl fmt::Display for LineRefused {
     fn fmt<W: fmt::Write>(&self, f: &mut fmt::Formatter<W>) -> fmt::Result {
         let (line, text, reason) = (self.line, self.text.as_str(), self.reason);
         let before = line.saturating_sub(1);
@@ -77,7 +77,7 @@ pub(crate) struct Written {
     /// How many there are.
     pub(crate) count: u64,
     /// Where and why they end before the script does.
-    pub(crate) stop: Option<Stop>,
+    pub(crate) refused: Option<LineRefused>,
 }
 
 impl Written {
@@ -85,7 +85,7 @@ impl Written {
         Written {
             frames: Vec::new(alloc),
             count: 0,
-            stop: None,
+            refused: None,
         }
     }
 }
@@ -103,7 +103,7 @@ fn told(alloc: Global, text: &[u8]) -> Result<String, AllocError> {
 }
 
 // Why the record is not taken.
-fn refusal(standing: &Standing, record: &Record, why: NotTaken) -> Reason {
+fn reason_of(standing: &Standing, record: &Record, why: NotTaken) -> Reason {
     match why {
         NotTaken::Unlawful => match standing.appender.broken(record) {
             Some(rule) => Reason::Breaks(rule),
@@ -135,17 +135,22 @@ fn append_line(
             standing.next = standing.next.saturating_add(1);
             Ok(())
         }
-        Err(why) => Err(refusal(standing, &record, why)),
+        Err(why) => Err(reason_of(standing, &record, why)),
     }
 }
 
-// The stop at a line. What is no line is not shown.
-fn stop_at(alloc: Global, line: u64, text: &[u8], reason: Reason) -> Result<Stop, AllocError> {
+// The refusal of a line. What is no line is not shown.
+fn refusal_at(
+    alloc: Global,
+    line: u64,
+    text: &[u8],
+    reason: Reason,
+) -> Result<LineRefused, AllocError> {
     let shown = match reason {
         Reason::NoLine | Reason::Memory => &[],
         _ => text,
     };
-    Ok(Stop {
+    Ok(LineRefused {
         line,
         text: told(alloc, shown)?,
         reason,
@@ -180,7 +185,7 @@ pub(crate) fn frames_of(
         }
         let (text, after, done) = append_next(alloc, standing, line, rest, &mut written.frames);
         if let Err(reason) = done {
-            written.stop = Some(stop_at(alloc, line, text, reason)?);
+            written.refused = Some(refusal_at(alloc, line, text, reason)?);
             break;
         }
         written.count = line;

@@ -1,6 +1,6 @@
 //! Why the program ends before it is done.
 
-use crate::appending::{Reason, Stop};
+use crate::appending::{LineRefused, Reason};
 use clap::error::ErrorKind;
 use rq_journal::Fault;
 use rq_report::why_word;
@@ -42,25 +42,25 @@ impl fmt::Display for Which {
 
 /// What a write that failed left of the log.
 #[derive(Clone, Copy, Debug)]
-pub(crate) enum Left {
+pub(crate) enum Remains {
     /// The log is as it was.
     AsItWas,
     /// Some of what was to be appended may stand there.
     Unknown,
 }
 
-impl fmt::Display for Left {
+impl fmt::Display for Remains {
     fn fmt<W: fmt::Write>(&self, f: &mut fmt::Formatter<W>) -> fmt::Result {
         f.write_str(match self {
-            Left::AsItWas => "nothing was appended",
-            Left::Unknown => "some records may stand there: rqlook check tells",
+            Remains::AsItWas => "nothing was appended",
+            Remains::Unknown => "some records may stand there: rqlook check tells",
         })
     }
 }
 
 /// Why the program ends before it is done.
 #[derive(Debug, Drop)]
-pub(crate) enum Failure {
+pub(crate) enum Refusal {
     /// The words are no command.
     Words(clap::Error),
     /// The words are no text.
@@ -72,7 +72,7 @@ pub(crate) enum Failure {
     /// The file cannot be made or written.
     Unwritten(Which, io::Error),
     /// The log could not be written to its end.
-    Cut(Left, io::Error),
+    Cut(Remains, io::Error),
     /// Another program writes the log.
     Held,
     /// The new log is there already.
@@ -82,7 +82,7 @@ pub(crate) enum Failure {
     /// The front of the log ends for a reason that hides records or a fault of its writer.
     Damaged(Why),
     /// A line is not appended.
-    Line(Stop),
+    Line(LineRefused),
     /// There is no room behind the log.
     Full,
     /// So many records were numbered that no state behind one more can be spelled.
@@ -95,32 +95,32 @@ pub(crate) enum Failure {
     Memory,
 }
 
-impl From<AllocError> for Failure {
-    fn from(_error: AllocError) -> Failure {
-        Failure::Memory
+impl From<AllocError> for Refusal {
+    fn from(_error: AllocError) -> Refusal {
+        Refusal::Memory
     }
 }
 
-impl From<clap::Error> for Failure {
-    fn from(error: clap::Error) -> Failure {
+impl From<clap::Error> for Refusal {
+    fn from(error: clap::Error) -> Refusal {
         if error.kind() == ErrorKind::OutOfMemory {
-            return Failure::Memory;
+            return Refusal::Memory;
         }
-        Failure::Words(error)
+        Refusal::Words(error)
     }
 }
 
-impl From<io::Error> for Failure {
-    fn from(error: io::Error) -> Failure {
-        Failure::Output(error)
+impl From<io::Error> for Refusal {
+    fn from(error: io::Error) -> Refusal {
+        Refusal::Output(error)
     }
 }
 
-impl From<Fault> for Failure {
-    fn from(fault: Fault) -> Failure {
+impl From<Fault> for Refusal {
+    fn from(fault: Fault) -> Refusal {
         match fault {
-            Fault::Resources => Failure::Memory,
-            _ => Failure::Refused(fault),
+            Fault::Resources => Refusal::Memory,
+            _ => Refusal::Refused(fault),
         }
     }
 }
@@ -134,65 +134,65 @@ fn advice(fault: Fault) -> &'static str {
     }
 }
 
-fn told_line(stop: &Stop) -> u8 {
-    match stop.reason {
+fn told_line(refused: &LineRefused) -> u8 {
+    match refused.reason {
         Reason::Memory => MEMORY,
         _ => REFUSED,
     }
 }
 
-impl fmt::Display for Failure {
+impl fmt::Display for Refusal {
     fn fmt<W: fmt::Write>(&self, f: &mut fmt::Formatter<W>) -> fmt::Result {
         match self {
-            Failure::Words(error) => write!(f, "{error}"),
-            Failure::NoText => f.write_str("a word is no text"),
-            Failure::Plan => f.write_str("workers are 1 to 64, and a grain is 1 to 1000000"),
-            Failure::Unread(which, error) | Failure::Unwritten(which, error) => {
+            Refusal::Words(error) => write!(f, "{error}"),
+            Refusal::NoText => f.write_str("a word is no text"),
+            Refusal::Plan => f.write_str("workers are 1 to 64, and a grain is 1 to 1000000"),
+            Refusal::Unread(which, error) | Refusal::Unwritten(which, error) => {
                 write!(f, "{which}: {error}")
             }
-            Failure::Cut(left, error) => write!(f, "LOG: {error}: {left}"),
-            Failure::Held => f.write_str("LOG: another program writes it: try again"),
-            Failure::There => f.write_str("NEW: it is there already: name a file that is not"),
-            Failure::Changed => f.write_str("LOG: it changed meanwhile: try again"),
-            Failure::Damaged(why) => {
+            Refusal::Cut(left, error) => write!(f, "LOG: {error}: {left}"),
+            Refusal::Held => f.write_str("LOG: another program writes it: try again"),
+            Refusal::There => f.write_str("NEW: it is there already: name a file that is not"),
+            Refusal::Changed => f.write_str("LOG: it changed meanwhile: try again"),
+            Refusal::Damaged(why) => {
                 let why = why_word(*why);
                 write!(f, "LOG: its front ends by {why}: rqlook check tells where")
             }
-            Failure::Line(stop) => write!(f, "{stop}"),
-            Failure::Full => f.write_str("log is full: carry it on"),
-            Failure::Ended => f.write_str("numbers end at 4294967295: begin a new log"),
-            Failure::Refused(fault) => {
+            Refusal::Line(refused) => write!(f, "{refused}"),
+            Refusal::Full => f.write_str("log is full: carry it on"),
+            Refusal::Ended => f.write_str("numbers end at 4294967295: begin a new log"),
+            Refusal::Refused(fault) => {
                 let advice = advice(*fault);
                 write!(f, "{fault}{advice}")
             }
-            Failure::Output(error) => write!(f, "standard output: {error}"),
-            Failure::Memory => f.write_str("resources"),
+            Refusal::Output(error) => write!(f, "standard output: {error}"),
+            Refusal::Memory => f.write_str("resources"),
         }
     }
 }
 
-impl Failure {
+impl Refusal {
     fn exit(&self) -> u8 {
         match self {
-            Failure::Words(_) | Failure::NoText | Failure::Plan => USAGE,
-            Failure::Unread(..)
-            | Failure::Unwritten(..)
-            | Failure::Cut(..)
-            | Failure::Held
-            | Failure::There
-            | Failure::Changed
-            | Failure::Output(_) => STREAM,
-            Failure::Damaged(_) | Failure::Full | Failure::Ended => REFUSED,
-            Failure::Line(stop) => told_line(stop),
-            Failure::Refused(fault) => fault.exit(),
-            Failure::Memory => MEMORY,
+            Refusal::Words(_) | Refusal::NoText | Refusal::Plan => USAGE,
+            Refusal::Unread(..)
+            | Refusal::Unwritten(..)
+            | Refusal::Cut(..)
+            | Refusal::Held
+            | Refusal::There
+            | Refusal::Changed
+            | Refusal::Output(_) => STREAM,
+            Refusal::Damaged(_) | Refusal::Full | Refusal::Ended => REFUSED,
+            Refusal::Line(refused) => told_line(refused),
+            Refusal::Refused(fault) => fault.exit(),
+            Refusal::Memory => MEMORY,
         }
     }
 
     /// Says on standard error why the program ends, and answers its exit status.
     pub(crate) fn tell(&self, rt: &HostRuntime) -> u8 {
         match self {
-            Failure::Words(error) => {
+            Refusal::Words(error) => {
                 let _ = eprint!(rt; "{error}");
             }
             _ => {

@@ -1,62 +1,62 @@
 //! The file of a log, which one program writes at a time.
 
-use crate::failing::{Failure, Left, Which};
+use crate::failing::{Refusal, Remains, Which};
 use rq_file::NamedFile;
 use std::fs::{File, Files, OpenFile, OpenOptions, TryLockError};
 use std::io::{self, ErrorKind, Seek, SeekFrom, Write};
 
 /// The file of a log, which no other `rqlog` writes while this one has it.
 #[derive(Drop)]
-pub(crate) struct Held {
+pub(crate) struct HeldLog {
     place: NamedFile<File>,
 }
 
 // Takes the lock of a log's writers.
-fn lock(file: &File) -> Result<(), Failure> {
+fn lock(file: &File) -> Result<(), Refusal> {
     match file.try_lock() {
         Ok(()) => Ok(()),
-        Err(TryLockError::WouldBlock) => Err(Failure::Held),
-        Err(TryLockError::Error(error)) => Err(Failure::Unwritten(Which::Log, error)),
+        Err(TryLockError::WouldBlock) => Err(Refusal::Held),
+        Err(TryLockError::Error(error)) => Err(Refusal::Unwritten(Which::Log, error)),
     }
 }
 
-impl Held {
+impl HeldLog {
     // Opens the file of a log. Once it has the lock, the file must still have its name: else another
     // program put its own there while this one came.
-    fn open<R>(rt: &R, path: &str, options: &OpenOptions) -> Result<Held, Failure>
+    fn open<R>(rt: &R, path: &str, options: &OpenOptions) -> Result<HeldLog, Refusal>
     where
         R: Files<File = File> + AllocGlobal,
     {
         let place = match NamedFile::open(rt, path, options) {
             Ok(place) => place,
-            Err(error) if error.kind() == ErrorKind::OutOfMemory => return Err(Failure::Memory),
-            Err(error) => return Err(Failure::Unread(Which::Log, error)),
+            Err(error) if error.kind() == ErrorKind::OutOfMemory => return Err(Refusal::Memory),
+            Err(error) => return Err(Refusal::Unread(Which::Log, error)),
         };
         lock(place.file())?;
         if !place.is_there(rt) {
-            return Err(Failure::Changed);
+            return Err(Refusal::Changed);
         }
-        Ok(Held { place })
+        Ok(HeldLog { place })
     }
 
     /// Opens the file of a log to read it while no other program writes it.
-    pub(crate) fn to_read<R>(rt: &R, path: &str) -> Result<Held, Failure>
+    pub(crate) fn to_read<R>(rt: &R, path: &str) -> Result<HeldLog, Refusal>
     where
         R: Files<File = File> + AllocGlobal,
     {
         let mut options = OpenOptions::new();
         options.read(true);
-        Held::open(rt, path, &options)
+        HeldLog::open(rt, path, &options)
     }
 
     /// Opens the file of a log to read it and to write it.
-    pub(crate) fn to_write<R>(rt: &R, path: &str) -> Result<Held, Failure>
+    pub(crate) fn to_write<R>(rt: &R, path: &str) -> Result<HeldLog, Refusal>
     where
         R: Files<File = File> + AllocGlobal,
     {
         let mut options = OpenOptions::new();
         options.read(true).write(true);
-        Held::open(rt, path, &options)
+        HeldLog::open(rt, path, &options)
     }
 
     /// The file.
@@ -71,13 +71,13 @@ impl Held {
     }
 
     // Makes the log so long again, and answers what is left of it.
-    fn take_back(&mut self, used: usize) -> Left {
+    fn take_back(&mut self, used: usize) -> Remains {
         let file = self.place.file_mut();
         let done = OpenFile::set_len(file, used as u64).and_then(|_| OpenFile::sync_all(file));
         if done.is_ok() {
-            Left::AsItWas
+            Remains::AsItWas
         } else {
-            Left::Unknown
+            Remains::Unknown
         }
     }
 
@@ -89,15 +89,15 @@ impl Held {
         read: usize,
         used: usize,
         frames: &[u8],
-    ) -> Result<(), Failure> {
+    ) -> Result<(), Refusal> {
         if !self.is_as_read(rt, read) {
-            return Err(Failure::Changed);
+            return Err(Refusal::Changed);
         }
         match write_behind(self.place.file_mut(), read, used, frames) {
             Ok(()) => Ok(()),
             Err(error) => {
                 let left = self.take_back(used);
-                Err(Failure::Cut(left, error))
+                Err(Refusal::Cut(left, error))
             }
         }
     }

@@ -1,6 +1,6 @@
 //! Where the front of a log ends, plain or carried on.
 
-use crate::failing::Failure;
+use crate::failing::Refusal;
 use crate::reading::{begins_carried, judged_log, rest_of_log};
 use byteorder::{BigEndian, ByteOrder};
 use rq_journal::{
@@ -85,10 +85,10 @@ pub(crate) fn front_of<R: Threads + Sync>(
 
 // Refuses a front behind which bytes stand that are no beginning of a frame: they hide records, or
 // a fault of the writer.
-fn undamaged(found: Standing) -> Result<Standing, Failure> {
+fn undamaged(found: Standing) -> Result<Standing, Refusal> {
     match found.why {
         Why::Whole | Why::Cut => Ok(found),
-        why => Err(Failure::Damaged(why)),
+        why => Err(Refusal::Damaged(why)),
     }
 }
 
@@ -98,7 +98,7 @@ pub(crate) fn opened_front<R: Threads + Sync>(
     alloc: Global,
     bytes: &[u8],
     plan: &Plan,
-) -> Result<Standing, Failure> {
+) -> Result<Standing, Refusal> {
     undamaged(front_of(rt, alloc, bytes, plan)?)
 }
 
@@ -108,7 +108,7 @@ pub(crate) fn front_in<R>(
     rt: &R,
     file: &mut File,
     plan: &Plan,
-) -> Result<(Standing, usize), Failure>
+) -> Result<(Standing, usize), Refusal>
 where
     R: AllocGlobal + Threads + Sync,
 {

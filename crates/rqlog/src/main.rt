@@ -14,7 +14,7 @@ mod telling;
 mod words;
 
 use crate::acting::act;
-use crate::failing::Failure;
+use crate::failing::Refusal;
 use crate::words::program;
 use std::fs::File;
 use std::process::ExitCode;
@@ -30,7 +30,7 @@ fn main(rt: HostRuntime) -> ExitCode {
 }
 
 // Does what the arguments ask for.
-fn start<R>(rt: &R) -> Result<(), Failure>
+fn start<R>(rt: &R) -> Result<(), Refusal>
 where
     R: Files<File = File> + Env + Input + Print + Eprint + Clock + AllocGlobal + Threads + Sync,
 {
@@ -46,19 +46,19 @@ where
 }
 
 // Arguments that are no text are no command; if memory ran out nothing is known of them.
-fn unread(error: io::Error) -> Failure {
+fn unread(error: io::Error) -> Refusal {
     if error.kind() == io::ErrorKind::OutOfMemory {
-        Failure::Memory
+        Refusal::Memory
     } else {
-        Failure::NoText
+        Refusal::NoText
     }
 }
 
 // Prints the help or the version that was asked for, or refuses the words.
-fn asked<R: Print>(rt: &R, error: clap::Error) -> Result<(), Failure> {
+fn asked<R: Print>(rt: &R, error: clap::Error) -> Result<(), Refusal> {
     if error.exit_code() == 0 {
         print!(rt; "{error}")?;
         return Ok(());
     }
-    Err(Failure::from(error))
+    Err(Refusal::from(error))
 }

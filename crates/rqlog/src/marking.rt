@@ -1,6 +1,6 @@
 //! The checkpoint of a state, and the ABORTs of open units.
 
-use crate::failing::Failure;
+use crate::failing::Refusal;
 use crate::fronts::Standing;
 use rq_journal::{NotTaken, Plan};
 use rq_record::{CheckBytes, Fault, Record};
@@ -9,10 +9,10 @@ use rq_state::{State, spell};
 use std::alloc::{AllocError, Global};
 use std::thread::Threads;
 
-fn refused(why: NotTaken) -> Failure {
+fn refused(why: NotTaken) -> Refusal {
     match why {
-        NotTaken::Resources => Failure::Memory,
-        _ => Failure::Full,
+        NotTaken::Resources => Refusal::Memory,
+        _ => Refusal::Full,
     }
 }
 
@@ -31,7 +31,7 @@ pub(crate) fn append_all(
     standing: &mut Standing,
     records: &[Record],
     frames: &mut Vec<u8>,
-) -> Result<(), Failure> {
+) -> Result<(), Refusal> {
     match standing.appender.append_each(alloc, records, frames) {
         (_, None) => {
             standing.next = standing.next.saturating_add(records.len() as u64);
@@ -49,7 +49,7 @@ pub(crate) fn end_units<R: Threads + Sync>(
     keeper: &mut Keeper,
     plan: &Plan,
     frames: &mut Vec<u8>,
-) -> Result<(), Failure> {
+) -> Result<(), Refusal> {
     let aborts = aborts_of(alloc, keeper.state())?;
     append_all(alloc, standing, &aborts, frames)?;
     keeper.take(rt, alloc, &aborts, plan)?;
@@ -62,12 +62,12 @@ pub(crate) fn append_checkpoint(
     standing: &mut Standing,
     state: &State,
     frames: &mut Vec<u8>,
-) -> Result<(), Failure> {
+) -> Result<(), Refusal> {
     if standing.is_at_end() {
-        return Err(Failure::Ended);
+        return Err(Refusal::Ended);
     }
     let Some(bytes) = CheckBytes::new(spell(alloc, state)?) else {
-        return Err(Failure::Refused(Fault::TooLarge));
+        return Err(Refusal::Refused(Fault::TooLarge));
     };
     match standing
         .appender

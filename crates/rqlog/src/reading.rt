@@ -1,6 +1,6 @@
 //! Reading logs and scripts.
 
-use crate::failing::{Failure, Which};
+use crate::failing::{Refusal, Which};
 use rq_journal::{Fault, Plan, is_carried};
 use rq_restart::{GrowingFront, JudgedFront};
 use std::fs::{self, File, Files};
@@ -24,17 +24,17 @@ fn read_to_limit<R: Read + Drop, A: AllocGlobal>(rt: &A, from: R) -> io::Result<
 }
 
 // The bytes that were read, if they are not too many.
-fn within(read: io::Result<Vec<u8>>, which: Which) -> Result<Vec<u8>, Failure> {
+fn within(read: io::Result<Vec<u8>>, which: Which) -> Result<Vec<u8>, Refusal> {
     match read {
-        Ok(bytes) if bytes.len() as u64 >= LIMIT => Err(Failure::Refused(Fault::TooLong)),
+        Ok(bytes) if bytes.len() as u64 >= LIMIT => Err(Refusal::Refused(Fault::TooLong)),
         Ok(bytes) => Ok(bytes),
-        Err(error) if error.kind() == ErrorKind::OutOfMemory => Err(Failure::Memory),
-        Err(error) => Err(Failure::Unread(which, error)),
+        Err(error) if error.kind() == ErrorKind::OutOfMemory => Err(Refusal::Memory),
+        Err(error) => Err(Refusal::Unread(which, error)),
     }
 }
 
 /// The bytes of a log from its open file, read from where that stands.
-pub(crate) fn rest_of_log<A: AllocGlobal>(rt: &A, file: &mut File) -> Result<Vec<u8>, Failure> {
+pub(crate) fn rest_of_log<A: AllocGlobal>(rt: &A, file: &mut File) -> Result<Vec<u8>, Refusal> {
     within(read_to_limit(rt, &*file), Which::Log)
 }
 
@@ -48,15 +48,15 @@ pub(crate) fn begins_carried(file: &File) -> bool {
 }
 
 // One read, which begins again if a signal ends it.
-fn read_piece(file: &mut File, piece: &mut [u8]) -> Result<usize, Failure> {
+fn read_piece(file: &mut File, piece: &mut [u8]) -> Result<usize, Refusal> {
     for _ in 0..u64::MAX {
         match file.read(piece) {
             Ok(count) => return Ok(count),
             Err(error) if error.kind() == ErrorKind::Interrupted => {}
-            Err(error) => return Err(Failure::Unread(Which::Log, error)),
+            Err(error) => return Err(Refusal::Unread(Which::Log, error)),
         }
     }
-    Err(Failure::Refused(Fault::ReadFailed))
+    Err(Refusal::Refused(Fault::ReadFailed))
 }
 
 /// The front of the log in an open file, read from where that stands, and how many bytes there are.
@@ -65,7 +65,7 @@ pub(crate) fn judged_log<R>(
     rt: &R,
     file: &mut File,
     plan: &Plan,
-) -> Result<(JudgedFront, usize), Failure>
+) -> Result<(JudgedFront, usize), Refusal>
 where
     R: AllocGlobal + Threads + Sync,
 {
@@ -84,15 +84,15 @@ where
 }
 
 /// Opens a log to read it.
-pub(crate) fn opened<R: Files<File = File>>(rt: &R, path: &str) -> Result<File, Failure> {
+pub(crate) fn opened<R: Files<File = File>>(rt: &R, path: &str) -> Result<File, Refusal> {
     match fs::open(rt, path) {
         Ok(file) => Ok(file),
-        Err(error) => Err(Failure::Unread(Which::Log, error)),
+        Err(error) => Err(Refusal::Unread(Which::Log, error)),
     }
 }
 
 /// The bytes of the script in a file, or of standard input for `-`.
-pub(crate) fn script_in<R>(rt: &R, path: &str) -> Result<Vec<u8>, Failure>
+pub(crate) fn script_in<R>(rt: &R, path: &str) -> Result<Vec<u8>, Refusal>
 where
     R: Files<File = File> + Input + AllocGlobal,
 {
@@ -101,6 +101,6 @@ where
     }
     match fs::open(rt, path) {
         Ok(file) => within(read_to_limit(rt, file), Which::Script),
-        Err(error) => Err(Failure::Unread(Which::Script, error)),
+        Err(error) => Err(Refusal::Unread(Which::Script, error)),
     }
 }
