@@ -15,7 +15,7 @@ use Rattle.rq_model.specs.StateSpelling.{state_bytes, SpellsState}
 use Rattle.rq_model.specs.Fronts.{IsFront, IsRestart, Ends, restarted}
 use Rattle.rq_model.specs.Checkpoints.{IsRestartAt}
 use Rattle.rq_model.specs.Carrying.{IsFrontAt}
-use Rattle.rq_model.specs.Continuing.{begun_anew, carried_gap, StartsAnew, GapIsLoud, IsCarriedGap}
+use Rattle.rq_model.specs.Continuing.{begun_anew, carried_gap, StartsAnew, GapIsLoud, IsCarriedGap, AnewJoins}
 use Rattle.rq_model.proofs.Runs.{frame_long}
 use Rattle.rq_model.proofs.Longest.{log_ends}
 use Rattle.rq_model.proofs.Restarts.{header_long}
@@ -85,9 +85,9 @@ module _ (b : List ℕ) (f : RedoneFront) (body : List ℕ) (h : IsRedone b f) (
       (restarted empty n (length (begun_anew version link state carried_gap)) (Ends Length))) rest
       (law version carried_gap bytes gap.room gap.loud (anew_short version link state long small)))
 
-  pub carried_on : (new : List ℕ) → FrontsAreSpelt → StartsAnew → GapIsLoud → IsCarriedGap
+  pub carried_on : (new : List ℕ) → FrontsAreSpelt → StartsAnew → GapIsLoud → IsCarriedGap → AnewJoins
       → new ≡ header version ++ (carried_gap ++ (f.last ++ frame f.last body)) → IsCarriedOn b new
-  carried_on new law starts loud_law gap new_is =
+  carried_on new law starts loud_law gap join new_is =
       let all : new ≡ begun_anew version link state carried_gap = new_is ∙ whole in
       let made = starts version link state carried_gap long (spelt law) small (anew_short version link state long small) in
       let kept = state_bytes state in
@@ -101,9 +101,11 @@ module _ (b : List ℕ) (f : RedoneFront) (body : List ℕ) (h : IsRedone b f) (
         restart = subst (λ (z : List ℕ). IsRestartAt z 96
             (restarted (run state (Checkpoint kept ∷ [])) 0 (length z) (Ends Whole))) (sym all) made.2;
         loud = loud loud_law gap new all;
+        joins = λ more s kept after left at. join b (new ++ more) more version h.records (drop f.used b) carried_gap
+            s kept after left h.front small (ap (λ (z : List ℕ). z ++ more) all) at;
       }
 
-  pub carries : (result : Result (Vec ℕ) Fault) → FrontsAreSpelt → StartsAnew → GapIsLoud → IsCarriedGap
+  pub carries : (result : Result (Vec ℕ) Fault) → FrontsAreSpelt → StartsAnew → GapIsLoud → IsCarriedGap → AnewJoins
       → Begins version f.last body result → Carries b result
-  carries (Ok v) law starts loud_law gap begun = carried_on v.items law starts loud_law gap begun
-  carries (Err e) law starts loud_law gap begun = subst (StaysHere b) (sym begun) tt
+  carries (Ok v) law starts loud_law gap join begun = carried_on v.items law starts loud_law gap join begun
+  carries (Err e) law starts loud_law gap join begun = subst (StaysHere b) (sym begun) tt

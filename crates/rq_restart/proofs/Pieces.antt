@@ -1,7 +1,8 @@
 -- A window that is looked at, made shorter, and added to.
 use Rattle.std.proofs.Common.{◌≡◌, ℕ, ◌+◌, ◌-◌, ◌<◌, ◌≤◌, List, [], ◌++◌, length, take, drop, refl, sym, ap, subst}
 use Rattle.std.proofs.Common.{◌∙◌, append_assoc, arith, Option, Some, None}
-use Rattle.std.proofs.lemmas.List.{drop-append-le, drop_all, drop_at, drop-drop, length-append, length-drop, length-take}
+use Rattle.std.proofs.lemmas.List.{drop-append-le, drop_all, drop_at, drop-drop, length-append, length-drop}
+use Rattle.std.proofs.lemmas.List.{length-take}
 use Rattle.std.proofs.lemmas.List.{take-append-le, take_all, take_at}
 use Rattle.std.specs.Prelude.{Result, Ok, Err, IfErr, IfOk, OnOk}
 use Rattle.rq_model.specs.Records.{Record, Version}
@@ -61,15 +62,16 @@ stops_behind o x f end rest why going h is (rs, left, at) =
 -- what is known of the end is kept if it stays
 module _ (o : Origin) (x : List ℕ) (f : WindowPass) (why : Why) (y : Option declared.Why) (u e : ℕ)
     (going : f.ended ≡ None) (used : u ≡ f.total - (length f.window.items - f.place)) (lasts : IsLasting why y) where
-  abbrev settled_f : WindowPass
-  settled_f = record f { used = u; enough = e; ended = y }
+  abbrev settled_pass : WindowPass
+  settled_pass = record f { used = u; enough = e; ended = y }
 
-  pub settled : HasEnd o x f why → IsStopped o x settled_f why
+  pub settled : HasEnd o x f why → IsStopped o x settled_pass why
   settled (rs, rest, at, ends) =
       let is : drop f.place f.window.items ≡ rest = waiting o rs rest f going at.waits in
       let counted : u + length rest ≡ f.total =
       omega (arith, used, ap length is, length-drop f.place f.window.items, at.within, at.small) in
-      let by : (z : Option declared.Why) → IsLasting why z → Waits o rs rest settled_f z = kept rs rest is ends counted in (
+      let by : (z : Option declared.Why) → IsLasting why z → Waits o rs rest settled_pass z =
+      kept rs rest is ends counted in (
         rs,
         rest,
         record {
@@ -91,7 +93,7 @@ module _ (o : Origin) (x : List ℕ) (f : WindowPass) (why : Why) (y : Option de
     where
       kept : (rs : List Record) (rest : List ℕ) → drop f.place f.window.items ≡ rest
           → IsWhy o.version (run o.base rs) (last_of o.link rs) rest why → u + length rest ≡ f.total
-          → (z : Option declared.Why) → IsLasting why z → Waits o rs rest settled_f z
+          → (z : Option declared.Why) → IsLasting why z → Waits o rs rest settled_pass z
       kept rs rest is ends counted None lasts = is
       kept rs rest is ends counted (Some v) lasts = (
         subst (IsWhy o.version (run o.base rs) (last_of o.link rs) rest) (sym lasts.0) ends,
@@ -115,16 +117,17 @@ module _ (o : Origin) (x : List ℕ) (f g : WindowPass) (far : 72 < f.place)
   abbrev tail : List ℕ
   tail = drop (f.place - 32) w
 
-  abbrev h_f : WindowPass
-  h_f = record f { window = g.window; place = 72 }
+  abbrev cut_pass : WindowPass
+  cut_pass = record f { window = g.window; place = 72 }
 
-  shorter_at : (rs : List Record) (rest : List ℕ) → StandsAt o x rs rest f → StandsAt o x rs rest h_f
+  shorter_at : (rs : List Record) (rest : List ℕ) → StandsAt o x rs rest f → StandsAt o x rs rest cut_pass
   shorter_at rs rest at =
       let head : List ℕ = take 40 w in
       let forty : length head ≡ 40 = omega (arith, length-take 40 w, at.within, far) in
       let size : length tail ≡ length w - (f.place - 32) = length-drop (f.place - 32) w in
       let behind : drop 40 g.window.items ≡ tail = ap (drop 40) is ∙ drop_at head tail 40 forty in
-      let long : length g.window.items ≡ 40 + length tail = omega (arith, ap length is, length-append head tail, forty) in
+      let long : length g.window.items ≡ 40 + length tail =
+      omega (arith, ap length is, length-append head tail, forty) in
       let linked : before 72 g.window.items ≡ last_of o.link rs = ap (take 32) behind ∙ at.link in
       let after : drop 72 g.window.items ≡ drop f.place w =
       sym (drop-drop 32 40 g.window.items) ∙ ap (drop 32) behind ∙ drop-drop 32 (f.place - 32) w
@@ -144,7 +147,7 @@ module _ (o : Origin) (x : List ℕ) (f g : WindowPass) (far : 72 < f.place)
       }
     where
       by : (rs : List Record) (rest : List ℕ) → drop 72 g.window.items ≡ drop f.place w
-          → (y : Option declared.Why) → Waits o rs rest f y → Waits o rs rest h_f y
+          → (y : Option declared.Why) → Waits o rs rest f y → Waits o rs rest cut_pass y
       by rs rest after None h = after ∙ h
       by rs rest after (Some why) h = h
 

@@ -57,7 +57,7 @@ pub record StandsAt (o : Origin) (x : List ℕ) (rs : List Record) (rest : List 
 abbrev pub IsFed : Origin → List ℕ → WindowPass → Type 0
 IsFed o x f = (rs : List Record) × (rest : List ℕ) × StandsAt o x rs rest f
 
--- or some
+-- it was fed some bytes
 abbrev pub IsFedSome : WindowPass → Type 0
 IsFedSome f = (o : Origin) × (x : List ℕ) × IsFed o x f
 

@@ -53,5 +53,6 @@ returns-in_err-pass-in-Header-2-clause-refused g c =
     let (same, few) = subst (IsStageOf b) c.in-Header.is along in
     subst (λ (z : List ℕ). RefusesMore (z ++ more) e) (c.deref.ensures.value ∙ same)
     c.in_err-pass-in-Header-2.ensures.refused in
-    subst (λ (r : Result _ Fault). IfErr r (λ f. (b : List ℕ) → GoesAlong b c.args.self.now → RefusesMore (b ++ more) f))
+    subst (λ (r : Result _ Fault). IfErr r
+    (λ f. (b : List ℕ) → GoesAlong b c.args.self.now → RefusesMore (b ++ more) f))
     (sym answer) refused

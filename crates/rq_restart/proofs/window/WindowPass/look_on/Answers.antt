@@ -16,7 +16,8 @@ judge_frames-requires-clause-frames g c =
     let inside : f.place ≤ length c.deref.result.now = omega (arith, within, ap length c.deref.ensures.value) in
     let there = framed c.deref.result.now f.place found.spans.items found.end rest after inside
     c.in_ok-found.ensures.run c.in_ok-found.ensures.spans in
-    let here = subst (λ (b : List ℕ). AreFramed b f.place found.spans.items found.end rest) c.deref.ensures.value there in (
+    let here = subst (λ (b : List ℕ). AreFramed b f.place found.spans.items found.end rest) c.deref.ensures.value
+    there in (
       found.end,
       rest,
       subst (λ (ss : List Span). AreFramed f.window.items f.place ss found.end rest) (sym c.deref-2.ensures.value) here,
