@@ -26,12 +26,12 @@ use std::collections::BTreeSet;
 /// not grow with the records.
 #[derive(Drop)]
 pub struct Judge {
-    version: Version,
+    pub(crate) version: Version,
     names: IndexSet<Name>,
-    errors: Vec<u32>,
+    pub(crate) errors: Vec<u32>,
     registrants: RegisteredNames,
-    greatest: u64,
-    units: BTreeSet<u64>,
+    pub(crate) greatest: u64,
+    pub(crate) units: BTreeSet<u64>,
 }
 
 impl Judge {
@@ -97,7 +97,8 @@ impl Judge {
         Ok(is_lawful)
     }
 
-    fn may_take(&self, next: &KeptRecord) -> bool
+    /// Whether the record is lawful behind those that were taken.
+    pub(crate) fn may_take(&self, next: &KeptRecord) -> bool
         ensures { (s : State) → KnowsState self.now s
             → result ≡ machine.is_lawful (version_of self.now.version) s (record_of next.now) }
     {
@@ -124,7 +125,8 @@ impl Judge {
         }
     }
 
-    fn is_defined(&self, queue: QueueNo) -> bool
+    /// Whether there is the queue.
+    pub(crate) fn is_defined(&self, queue: QueueNo) -> bool
         ensures many { result ≡ nat_lt queue.0 (length self.now.errors.items) }
         ensures state { (s : State) → KnowsState self.now s
             → result ≡ machine.is_defined s queue.0 }
@@ -152,7 +154,8 @@ impl Judge {
         self.is_defined(queue) && self.units.contains(&unit) && self.is_known(queue, by)
     }
 
-    fn is_limit(&self, limit: u16, error: QueueNo) -> bool
+    /// Whether a queue may be defined with the limit and the error queue.
+    pub(crate) fn is_limit(&self, limit: u16, error: QueueNo) -> bool
         ensures { (s : State) → KnowsState self.now s
             → result ≡ machine.is_limit (version_of self.now.version) s limit error.0 }
     {

@@ -8,9 +8,11 @@ mod judge;
 mod lists;
 mod outcome;
 mod registrants;
+mod rules;
 mod start;
 mod units;
 
 pub use analysis::{Analysis, analyse, analyse_in, analyse_kept, indices};
 pub use judge::Judge;
 pub use outcome::Outcome;
+pub use rules::Rule;

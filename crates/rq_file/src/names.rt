@@ -42,16 +42,16 @@ fn give_to<F: OpenFile + AsFd>(file: &F, old: &Metadata) -> io::Result<()> {
     OpenFile::set_permissions(file, Permissions::from_mode(old.mode() & PERMISSIONS))
 }
 
-// Whether the open file stands under the name, and not something else that was put there.
-fn is_under<R: Files>(rt: &R, file: &R::File, name: &str) -> bool {
+/// Whether the open file stands under the name, and not something else that was put there.
+pub(crate) fn is_under<R: Files>(rt: &R, file: &R::File, name: &str) -> bool {
     match (OpenFile::metadata(file), fs::symlink_metadata(rt, name)) {
         (Ok(file), Ok(named)) => (file.dev(), file.ino()) == (named.dev(), named.ino()),
         _ => false,
     }
 }
 
-// Refuses a name under which something else stands than the open file.
-fn expect_under<R: Files>(rt: &R, file: &R::File, name: &str) -> io::Result<()> {
+/// Refuses a name under which something else stands than the open file.
+pub(crate) fn expect_under<R: Files>(rt: &R, file: &R::File, name: &str) -> io::Result<()> {
     if is_under(rt, file, name) {
         return Ok(());
     }

@@ -1,13 +1,16 @@
 //! What takes records behind the front of a log, and gives their frames.
 
-ghost use Rattle.std.specs.Prelude.{◌≡◌, ◌≤◌, [], OnOk, IfErr, length, map, take, drop};
+ghost use Rattle.std.specs.Prelude.{◌≡◌, ◌≤◌, List, [], false, OnOk, IfErr, IfSome};
+ghost use Rattle.std.specs.Prelude.{length, map, take, drop};
+ghost use Rattle.rq_model.specs.Records as model;
+ghost use Rattle.rq_model.specs.Machine.{is_lawful, run};
 ghost use Rattle.rq_model.specs.Frames.{start};
 ghost use Rattle.rq_record.specs.Views.{record_of, version_of};
-ghost use Rattle.rq_journal.specs.Places.{StandsBehind, behind_header};
+ghost use Rattle.rq_journal.specs.Places.{Place, StandsBehind, behind_header};
 ghost use Rattle.rq_journal.specs.Appenders.{Refuses, Stays, StopsAt, Takes, TakesEach};
 
 use crate::framing::append_frame;
-use rq_catalog::Judge;
+use rq_catalog::{Judge, Rule};
 use rq_front::{FRAME_LEN, HEADER_LEN, LOG_LIMIT};
 use rq_record::{KeptRecord, Record, Version, encode};
 use std::alloc::Global;
@@ -46,6 +49,23 @@ impl Appender {
             last,
             len: HEADER_LEN,
         }
+    }
+
+    /// The version by whose rules it takes records.
+    pub fn version(&self) -> Version
+        ensures { (at : Place) (rs : List model.Record) → StandsBehind at rs self.now
+            → version_of result ≡ at.version }
+    {
+        self.judge.version()
+    }
+
+    /// A rule that the record breaks there, if it is not lawful. Which rule that is, is tested.
+    pub fn broken(&self, next: &KeptRecord) -> Option<Rule>
+        ensures { IfSome result (λ _. (at : Place) (rs : List model.Record) →
+            StandsBehind at rs self.now
+            → is_lawful at.version (run at.state rs) (record_of next.now) ≡ false) }
+    {
+        self.judge.broken(next)
     }
 
     /// Takes the next record, and appends its frame to `out`.

@@ -1,13 +1,13 @@
 //! A log that goes on from the state behind the front of another.
 
-ghost use Rattle.std.specs.Prelude.{◌≡◌, length};
+ghost use Rattle.std.specs.Prelude.{◌≡◌, length, true, take, drop};
 ghost use Rattle.rq_model.specs.Frames.{IsBodyLength};
 ghost use Rattle.rq_model.specs.Continuing.{carried_gap};
 ghost use Rattle.rq_record.specs.Views.{version_of};
 ghost use Rattle.rq_journal.specs.Carries.{Begins, Carries};
 
 use crate::checkpoint::checkpoint_body;
-use rq_front::{FRAME_LEN, HEADER_LEN, frame, header_of};
+use rq_front::{FRAME_LEN, HEADER_LEN, frame, header_of, version};
 use rq_record::{Fault, Version};
 use rq_restart::{Plan, redone_front};
 use std::alloc::Global;
@@ -20,6 +20,20 @@ fn gap() -> [u8; 24]
     ensures { result ≡ carried_gap }
 {
     *b"\xff\xff\xff\xffrq carried log at 96"
+}
+
+/// Where the first frame of a log stands that was carried on: a checkpoint.
+pub const CARRIED_AT: usize = 96;
+
+/// Whether a log begins as one that was carried on: the gap of such logs stands behind its header.
+/// The first 64 bytes tell it.
+pub fn is_carried(bytes: &[u8]) -> bool
+    ensures { result ≡ true → take 24 (drop 40 bytes.now) ≡ carried_gap }
+{
+    match bytes.get(HEADER_LEN..HEADER_LEN + 24) {
+        Some(found) => version(bytes).is_some() && found == gap().as_slice(),
+        None => false,
+    }
 }
 
 // The log of the version whose first frame, that of a body, goes on behind these 32 bytes.

@@ -11,8 +11,10 @@ mod opening;
 mod writing;
 
 pub use appender::{Appender, NotTaken};
-pub use carrying::carried;
+pub use carrying::{CARRIED_AT, carried, is_carried};
 pub use marking::marked;
-pub use opening::{Opened, open};
+pub use opening::{Opened, open, opened_behind};
+pub use rq_catalog::Rule;
+pub use rq_record::Fault;
 pub use rq_restart::{Plan, Why};
 pub use writing::{NotWritten, frames_behind};

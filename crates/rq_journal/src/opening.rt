@@ -1,6 +1,8 @@
 //! A log is opened to write behind its front.
 
-ghost use Rattle.rq_journal.specs.Openings.{Opens};
+ghost use Rattle.std.specs.Prelude.{ℕ, List};
+ghost use Rattle.rq_restart.specs.JudgedFronts.{IsJudged};
+ghost use Rattle.rq_journal.specs.Openings.{IsOpened, Opens};
 
 use crate::appender::Appender;
 use rq_record::Fault;
@@ -21,6 +23,30 @@ pub struct Opened {
     pub records: usize,
     /// Why it ends. Only `Whole` and `Cut` are ends of a log to which records were being appended.
     pub why: Why,
+}
+
+/// Stands behind a front that was judged.
+pub fn opened_behind(front: JudgedFront) -> Opened
+    ensures { (b : List ℕ) → IsJudged b front → IsOpened b result }
+{
+    let JudgedFront {
+        judge,
+        last,
+        used,
+        records,
+        why,
+    } = front;
+    let appender = Appender {
+        judge,
+        last,
+        len: used,
+    };
+    Opened {
+        appender,
+        used,
+        records,
+        why,
+    }
 }
 
 /// Opens a log to write behind its front. No record is kept, and no queue is redone.

@@ -12,5 +12,7 @@ mod reading;
 mod script_laws;
 
 pub use decimals::decimal_number;
-pub use making::{make, make_in};
+pub use line::ScriptLine;
+pub use making::{line_at, make, make_in};
+pub use reading::read_line;
 pub use script_laws::one_answer;

@@ -2,8 +2,9 @@
 
 use rq_record::Record;
 
+/// What a line of a script tells.
 #[derive(Drop)]
-pub(crate) enum ScriptLine {
+pub enum ScriptLine {
     /// A record in so many words.
     Told(Record),
     /// A checkpoint of the state so far.

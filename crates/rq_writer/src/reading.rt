@@ -202,7 +202,7 @@ fn line(alloc: Global, version: Version, text: &[u8]) -> Result<ScriptLine, Faul
 }
 
 /// The line that the text tells in the version. `Form` where no line has this text.
-pub(crate) fn read_line(alloc: Global, version: Version, text: &[u8]) -> Result<ScriptLine, Fault>
+pub fn read_line(alloc: Global, version: Version, text: &[u8]) -> Result<ScriptLine, Fault>
     ensures { ReadsLine (version_of version) text.now result }
 {
     line(alloc, version, text)

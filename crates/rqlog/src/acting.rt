@@ -1,0 +1,209 @@
+//! What the program does for each of its commands.
+
+use crate::appending::frames_of;
+use crate::auditing::audit_carried;
+use crate::failing::{Refusal, Which};
+use crate::files::HeldLog;
+use crate::fronts::{front_in, front_of, opened_front, state_behind};
+use crate::marking::{aborts_of, append_all, append_checkpoint, end_units};
+use crate::reading::{begins_carried, opened, rest_of_log, script_in};
+use crate::telling::{audit_text, tell_appended, tell_carried, tell_marked, warn_of_end};
+use clap::ArgMatches;
+use rq_file::Patient;
+use rq_journal::{CARRIED_AT, Plan, carried, carried_at, is_carried};
+use rq_restart::{Keeper, closed};
+use rq_tool::{Open, OverRead, OverWrite};
+use std::fs::{self, File};
+use std::io;
+use std::rt::{Clock, Files};
+use std::thread::Threads;
+
+// The grain of a line that names none, in frames.
+const GRAIN: u32 = 1000;
+
+fn plan_of(words: &ArgMatches<'_>) -> Result<Plan, Refusal> {
+    let workers = match words.get_one::<u32>("WORKERS") {
+        Some(workers) => workers,
+        None => words.get_one::<u32>("workers").unwrap_or(0),
+    };
+    let grain = words.get_one::<u32>("GRAIN").unwrap_or(GRAIN);
+    Plan::new(workers, grain).ok_or(Refusal::Plan)
+}
+
+fn append<R>(rt: &R, log: &str, plan: &Plan, words: &ArgMatches<'_>) -> Result<(), Refusal>
+where
+    R: Files<File = File> + Input + Print + AllocGlobal + Threads + Sync,
+{
+    let alloc = rt.alloc();
+    let script = script_in(rt, words.get_str("SCRIPT").unwrap_or("-"))?;
+    let mut held = HeldLog::to_write(rt, log)?;
+    let (mut standing, total) = front_in(rt, held.file(), plan)?;
+    let used = standing.used;
+    let made = frames_of(alloc, &mut standing, &script)?;
+    let mut refused = made.refused;
+    if let Some(refused) = &mut refused {
+        refused.is_kept = words.get_flag("each");
+    }
+    if refused.as_ref().map_or(true, |refused| refused.is_kept) {
+        held.append(rt, total, used, &made.frames)?;
+        let len = used.saturating_add(made.frames.len()) as u64;
+        tell_appended(rt, words.get_flag("json"), made.count, used as u64, len)?;
+    }
+    match refused {
+        Some(refused) => Err(Refusal::Line(refused)),
+        None => Ok(()),
+    }
+}
+
+fn checkpoint<R>(rt: &R, log: &str, plan: &Plan, words: &ArgMatches<'_>) -> Result<(), Refusal>
+where
+    R: Files<File = File> + Print + AllocGlobal + Threads + Sync,
+{
+    let alloc = rt.alloc();
+    let mut held = HeldLog::to_write(rt, log)?;
+    let bytes = rest_of_log(rt, held.file())?;
+    let mut standing = opened_front(rt, alloc, &bytes, plan)?;
+    let state = state_behind(rt, alloc, &bytes, plan)?;
+    let (used, mut frames) = (standing.used, Vec::new(alloc));
+    let mut keeper = Keeper::new(standing.version(), state);
+    if words.get_flag("close") {
+        end_units(rt, alloc, &mut standing, &mut keeper, plan, &mut frames)?;
+    }
+    let offset = used.saturating_add(frames.len());
+    append_checkpoint(alloc, &mut standing, keeper.state(), &mut frames)?;
+    held.append(rt, bytes.len(), used, &frames)?;
+    let len = used.saturating_add(frames.len()) as u64;
+    Ok(tell_marked(rt, words.get_flag("json"), offset as u64, len)?)
+}
+
+fn carry<R>(rt: &R, log: &str, plan: &Plan, words: &ArgMatches<'_>) -> Result<(), Refusal>
+where
+    R: Files<File = File> + Print + Eprint + AllocGlobal + Threads + Sync,
+{
+    let (alloc, new) = (rt.alloc(), words.get_str("NEW").unwrap_or("-"));
+    if fs::symlink_metadata(rt, new).map_or(false, |found| found.is_file()) {
+        return Err(Refusal::There);
+    }
+    let mut held = HeldLog::to_read(rt, log)?;
+    let bytes = rest_of_log(rt, held.file())?;
+    let standing = opened_front(rt, alloc, &bytes, plan)?;
+    if standing.is_at_end() {
+        return Err(Refusal::Ended);
+    }
+    let made = if is_carried(&bytes) {
+        carried_at(rt, alloc, &bytes, CARRIED_AT, plan)?
+    } else {
+        carried(rt, alloc, &bytes, plan)?
+    };
+    put(rt, new, Which::New, &made)?;
+    warn_of_end(rt, standing.next);
+    tell_carried(rt, words.get_flag("json"), standing.next, made.len() as u64)?;
+    Ok(())
+}
+
+// Makes a file of these bytes, whole or not at all.
+fn put<R>(rt: &R, to: &str, which: Which, bytes: &[u8]) -> Result<(), Refusal>
+where
+    R: Files<File = File> + AllocGlobal,
+{
+    match rq_file::put(rt, to, bytes) {
+        Ok(()) => Ok(()),
+        Err(error) if error.kind() == io::ErrorKind::OutOfMemory => Err(Refusal::Memory),
+        Err(error) => Err(Refusal::Unwritten(which, error)),
+    }
+}
+
+fn restart<R>(rt: &R, log: &str, plan: &Plan) -> Result<(), Refusal>
+where
+    R: Files<File = File> + Print + Clock + AllocGlobal + Threads + Sync,
+{
+    let file = opened(rt, log)?;
+    let is_carried = begins_carried(&file);
+    let mut input = OverRead::new(file);
+    let mut output = OverWrite::new(Patient {
+        rt,
+        inner: io::writer(rt),
+    });
+    if is_carried {
+        let offset = CARRIED_AT as u64;
+        rq_tool::run_at(rt, rt.alloc(), &mut input, &mut output, offset, plan, &Open)?;
+    } else {
+        rq_tool::run(rt, rt.alloc(), &mut input, &mut output, plan, &Open)?;
+    }
+    Ok(())
+}
+
+// The closed log of one that was carried on.
+fn closed_carried<R>(rt: &R, bytes: Vec<u8>, plan: &Plan) -> Result<Vec<u8>, Refusal>
+where
+    R: AllocGlobal + Threads + Sync,
+{
+    let alloc = rt.alloc();
+    let mut standing = front_of(rt, alloc, &bytes, plan)?;
+    let state = state_behind(rt, alloc, &bytes, plan)?;
+    let (mut made, mut frames) = (bytes, Vec::new(alloc));
+    made.truncate(standing.used);
+    append_all(
+        alloc,
+        &mut standing,
+        &aborts_of(alloc, &state)?,
+        &mut frames,
+    )?;
+    made.append(&mut frames)?;
+    Ok(made)
+}
+
+fn close<R>(rt: &R, log: &str, plan: &Plan, out: &str) -> Result<(), Refusal>
+where
+    R: Files<File = File> + AllocGlobal + Threads + Sync,
+{
+    let mut file = opened(rt, log)?;
+    let bytes = rest_of_log(rt, &mut file)?;
+    let made = if is_carried(&bytes) {
+        closed_carried(rt, bytes, plan)?
+    } else {
+        closed(rt, rt.alloc(), bytes, plan)?
+    };
+    put(rt, out, Which::Out, &made)
+}
+
+fn audit<R>(rt: &R, log: &str, plan: &Plan) -> Result<(), Refusal>
+where
+    R: Files<File = File> + Print + Clock + AllocGlobal + Threads + Sync,
+{
+    let mut file = opened(rt, log)?;
+    let mut output = OverWrite::new(Patient {
+        rt,
+        inner: io::writer(rt),
+    });
+    if begins_carried(&file) {
+        let bytes = rest_of_log(rt, &mut file)?;
+        let found = audit_carried(rt, rt.alloc(), &bytes, plan)?;
+        let text = audit_text(rt.alloc(), &found)?;
+        rt.write_all(text.as_bytes())?;
+        return Ok(());
+    }
+    let mut input = OverRead::new(file);
+    rq_tool::audit_log(rt, rt.alloc(), &mut input, &mut output, plan)?;
+    Ok(())
+}
+
+/// Does the command of the words.
+pub(crate) fn act<R>(rt: &R, matches: &ArgMatches<'_>) -> Result<(), Refusal>
+where
+    R: Files<File = File> + Input + Print + Eprint + Clock + AllocGlobal + Threads + Sync,
+{
+    let Some((name, words)) = matches.subcommand() else {
+        return Ok(());
+    };
+    let plan = plan_of(words)?;
+    let log = words.get_str("LOG").unwrap_or("-");
+    match name {
+        "append" => append(rt, log, &plan, words),
+        "checkpoint" => checkpoint(rt, log, &plan, words),
+        "carry" => carry(rt, log, &plan, words),
+        "restart" => restart(rt, log, &plan),
+        "close" => close(rt, log, &plan, words.get_str("OUT").unwrap_or("-")),
+        _ => audit(rt, log, &plan),
+    }
+}
