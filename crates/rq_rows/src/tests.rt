@@ -2,6 +2,7 @@ mod barrier;
 mod calls;
 mod files;
 mod fronts;
+mod journal;
 mod many;
 mod program;
 mod scripts;

@@ -1,0 +1,137 @@
+//! What appends to a log, marks it and carries it on, each call once, with ample memory.
+
+use super::log_of;
+use super::scripts::ONE_ELEMENT;
+use rq_front::header;
+use rq_journal::{Appender, NotTaken, Opened, carried, frames_behind, is_carried, marked, open};
+use rq_record::{KeptRecord, QueueNo, Record, UnitNo, Version};
+use rq_restart::{GrowingFront, Open, Why, audit, judged_front, restart, restart_at};
+use rq_tool::Plan;
+use std::alloc::Global;
+use std::test::Fail;
+use std::thread::Threads;
+
+// Unit 2 takes the element of `ONE_ELEMENT` and commits.
+const TAKING: [Record; 3] = [
+    Record::Begin { unit: UnitNo(2) },
+    Record::Dequeue {
+        unit: UnitNo(2),
+        queue: QueueNo(0),
+        by: None,
+    },
+    Record::Commit { unit: UnitNo(2) },
+];
+
+// `ONE_ELEMENT` and the lines of these records.
+const TAKEN: &[u8] = b"define jobs 0 -\n\
+    begin 1\n\
+    enqueue 1 0 5 - 0 61\n\
+    commit 1\n\
+    begin 2\n\
+    dequeue 2 0 - 0\n\
+    commit 2\n";
+
+// Whether the records are taken one by one, with these frames, and a second commit is not.
+fn takes(alloc: Global, opened: Opened, frames: &[u8]) -> bool {
+    let mut appender = opened.appender;
+    let mut out = Vec::new(alloc);
+    let each = appender.append_each(alloc, &TAKING, &mut out);
+    let again = appender.append(alloc, &TAKING[2], &mut out);
+    each == (3, None) && again == Err(NotTaken::Unlawful) && out.as_slice() == frames
+}
+
+// Whether the log is opened at its end, and takes the records.
+fn is_opened<R: Threads + Sync + AllocGlobal>(
+    rt: &R,
+    log: &[u8],
+    plan: &Plan,
+    frames: &[u8],
+) -> bool {
+    match open(rt, rt.alloc(), log, plan) {
+        Ok(opened) => {
+            opened.used == log.len()
+                && opened.records == 4
+                && opened.why == Why::Whole
+                && takes(rt.alloc(), opened, frames)
+        }
+        Err(_) => false,
+    }
+}
+
+#[test]
+fn records_are_appended_behind_a_front(rt: HostRuntime) -> Result<(), Fail> {
+    let plan = Plan::new(2, 1).ok_or("plan")?;
+    let log = log_of(&rt, ONE_ELEMENT)?;
+    let more = log_of(&rt, TAKEN)?;
+    let want = more.get(log.len()..).ok_or("longer")?;
+    assert!(rt;
+        frames_behind(&rt, rt.alloc(), &log, &TAKING, &plan).is_ok_and(|it| it.as_slice() == want)
+    );
+    assert!(rt; is_opened(&rt, &log, &plan, want));
+    Ok(())
+}
+
+#[test]
+fn an_appender_begins_behind_a_header(rt: HostRuntime) -> Result<(), Fail> {
+    let mut out = Vec::new(rt.alloc());
+    header(&mut out)?;
+    let last = out.last_chunk::<32>().copied().ok_or("header")?;
+    let mut appender = Appender::new(rt.alloc(), Version::One, last);
+    assert!(rt; appender.version() == Version::One);
+    let begin = KeptRecord::Begin { unit: UnitNo(2) };
+    assert!(rt; appender.broken(&begin).is_none());
+    let commit = KeptRecord::Commit { unit: UnitNo(2) };
+    assert!(rt; appender.broken(&commit).is_some());
+    assert!(rt; appender.append(rt.alloc(), &TAKING[0], &mut out).is_ok());
+    let want = log_of(&rt, b"begin 2\n")?;
+    assert!(rt; out.as_slice() == want.as_slice());
+    Ok(())
+}
+
+// Whether a restart of the marked log is one from its checkpoint.
+fn says_the_same<R: Threads + Sync + AllocGlobal>(
+    rt: &R,
+    log: &[u8],
+    at: u64,
+    plan: &Plan,
+) -> bool {
+    match (
+        restart(rt, rt.alloc(), log, plan, &Open),
+        restart_at(rt, rt.alloc(), log, at, plan, &Open),
+    ) {
+        (Ok(whole), Ok(from)) => whole.records() == 5 && from.records() == 5,
+        _ => false,
+    }
+}
+
+#[test]
+fn a_log_is_marked_and_carried_on(rt: HostRuntime) -> Result<(), Fail> {
+    let plan = Plan::new(1, 1).ok_or("plan")?;
+    let log = log_of(&rt, ONE_ELEMENT)?;
+    let at = log.len() as u64;
+    let new = carried(&rt, rt.alloc(), &log, &plan)?;
+    assert!(rt; is_carried(&new) && !is_carried(&log));
+    assert_eq!(rt;
+        restart_at(&rt, rt.alloc(), &new, 96, &plan, &Open)?.records(),
+        5
+    );
+    let log = marked(&rt, rt.alloc(), log, &plan)?;
+    assert!(rt; audit(&rt, rt.alloc(), &log, &plan)?.as_slice() == [(at, true)].as_slice());
+    assert!(rt; says_the_same(&rt, &log, at, &plan));
+    Ok(())
+}
+
+#[test]
+fn a_front_goes_along_with_its_log(rt: HostRuntime) -> Result<(), Fail> {
+    let plan = Plan::new(2, 1).ok_or("plan")?;
+    let log = log_of(&rt, ONE_ELEMENT)?;
+    let whole = judged_front(&rt, rt.alloc(), &log, &plan)?;
+    let (first, second) = log.split_at(100);
+    let mut growing = GrowingFront::new(rt.alloc());
+    growing.feed(&rt, rt.alloc(), first, &plan)?;
+    growing.feed(&rt, rt.alloc(), second, &plan)?;
+    let front = growing.judged(&rt, rt.alloc(), &plan)?;
+    assert_eq!(rt; [front.used, front.records], [whole.used, whole.records]);
+    assert!(rt; front.last == whole.last && front.why == Why::Whole);
+    Ok(())
+}
