@@ -15,7 +15,7 @@ from typing import NamedTuple
 from common import HERE
 
 CRATES = os.path.join(HERE, "..", "crates")
-TESTS = {"rq_layer_rows", "rq_rows", "rq_look_rows", "rq_scarce"}
+TESTS = {"rq_layer_rows", "rq_rows", "rq_look_rows", "rq_journal_rows", "rq_scarce"}
 PROGRAMS = {"rq", "rqlook", "rqlog"}
 
 HEAD = re.compile(r"^( *)(pub(?:\([a-z]+\))? )?(?:const )?fn (\w+)", re.M)

@@ -2,7 +2,6 @@ mod barrier;
 mod calls;
 mod files;
 mod fronts;
-mod journal;
 mod many;
 mod program;
 mod scripts;

@@ -1,15 +1,13 @@
-//! What appends to a log, marks it and carries it on, each call once, with ample memory.
-
-use super::log_of;
-use super::scripts::ONE_ELEMENT;
 use rq_front::header;
 use rq_journal::{Appender, NotTaken, Opened, carried, frames_behind, is_carried, marked, open};
 use rq_record::{KeptRecord, QueueNo, Record, UnitNo, Version};
-use rq_restart::{GrowingFront, Open, Why, audit, judged_front, restart, restart_at};
-use rq_tool::Plan;
+use rq_restart::{GrowingFront, Open, Plan, Why, audit, judged_front, restart, restart_at};
+use rq_writer::make;
 use std::alloc::Global;
 use std::test::Fail;
 use std::thread::Threads;
+
+const ONE_ELEMENT: &[u8] = b"define jobs 0 -\nbegin 1\nenqueue 1 0 5 - 0 61\ncommit 1\n";
 
 // Unit 2 takes the element of `ONE_ELEMENT` and commits.
 const TAKING: [Record; 3] = [
@@ -30,6 +28,12 @@ const TAKEN: &[u8] = b"define jobs 0 -\n\
     begin 2\n\
     dequeue 2 0 - 0\n\
     commit 2\n";
+
+// The log of a script, in version 1.
+fn log_of<R: Threads + Sync + AllocGlobal>(rt: &R, script: &[u8]) -> Result<Vec<u8>, Fail> {
+    let plan = Plan::new(1, 1000).ok_or("plan")?;
+    Ok(make(rt, rt.alloc(), script, &plan)?)
+}
 
 // Whether the records are taken one by one, with these frames, and a second commit is not.
 fn takes(alloc: Global, opened: Opened, frames: &[u8]) -> bool {
