@@ -1,7 +1,6 @@
-use rq_front::header;
-use rq_journal::{Appender, NotTaken, Opened, carried, frames_behind, is_carried, marked, open};
+use rq_journal::{NotTaken, Opened, carried, frames_behind, is_carried, marked, open};
 use rq_record::{KeptRecord, QueueNo, Record, UnitNo, Version};
-use rq_restart::{GrowingFront, Open, Plan, Why, audit, judged_front, restart, restart_at};
+use rq_restart::{Open, Plan, Why, audit, restart, restart_at};
 use rq_writer::make;
 use std::alloc::Global;
 use std::test::Fail;
@@ -39,9 +38,13 @@ fn log_of<R: Threads + Sync + AllocGlobal>(rt: &R, script: &[u8]) -> Result<Vec<
 fn takes(alloc: Global, opened: Opened, frames: &[u8]) -> bool {
     let mut appender = opened.appender;
     let mut out = Vec::new(alloc);
+    let is_first = appender.version() == Version::One
+        && appender
+            .broken(&KeptRecord::Begin { unit: UnitNo(2) })
+            .is_none();
     let each = appender.append_each(alloc, &TAKING, &mut out);
     let again = appender.append(alloc, &TAKING[2], &mut out);
-    each == (3, None) && again == Err(NotTaken::Unlawful) && out.as_slice() == frames
+    is_first && each == (3, None) && again == Err(NotTaken::Unlawful) && out.as_slice() == frames
 }
 
 // Whether the log is opened at its end, and takes the records.
@@ -75,23 +78,6 @@ fn records_are_appended_behind_a_front(rt: HostRuntime) -> Result<(), Fail> {
     Ok(())
 }
 
-#[test]
-fn an_appender_begins_behind_a_header(rt: HostRuntime) -> Result<(), Fail> {
-    let mut out = Vec::new(rt.alloc());
-    header(&mut out)?;
-    let last = out.last_chunk::<32>().copied().ok_or("header")?;
-    let mut appender = Appender::new(rt.alloc(), Version::One, last);
-    assert!(rt; appender.version() == Version::One);
-    let begin = KeptRecord::Begin { unit: UnitNo(2) };
-    assert!(rt; appender.broken(&begin).is_none());
-    let commit = KeptRecord::Commit { unit: UnitNo(2) };
-    assert!(rt; appender.broken(&commit).is_some());
-    assert!(rt; appender.append(rt.alloc(), &TAKING[0], &mut out).is_ok());
-    let want = log_of(&rt, b"begin 2\n")?;
-    assert!(rt; out.as_slice() == want.as_slice());
-    Ok(())
-}
-
 // Whether a restart of the marked log is one from its checkpoint.
 fn says_the_same<R: Threads + Sync + AllocGlobal>(
     rt: &R,
@@ -122,20 +108,5 @@ fn a_log_is_marked_and_carried_on(rt: HostRuntime) -> Result<(), Fail> {
     let log = marked(&rt, rt.alloc(), log, &plan)?;
     assert!(rt; audit(&rt, rt.alloc(), &log, &plan)?.as_slice() == [(at, true)].as_slice());
     assert!(rt; says_the_same(&rt, &log, at, &plan));
-    Ok(())
-}
-
-#[test]
-fn a_front_goes_along_with_its_log(rt: HostRuntime) -> Result<(), Fail> {
-    let plan = Plan::new(2, 1).ok_or("plan")?;
-    let log = log_of(&rt, ONE_ELEMENT)?;
-    let whole = judged_front(&rt, rt.alloc(), &log, &plan)?;
-    let (first, second) = log.split_at(100);
-    let mut growing = GrowingFront::new(rt.alloc());
-    growing.feed(&rt, rt.alloc(), first, &plan)?;
-    growing.feed(&rt, rt.alloc(), second, &plan)?;
-    let front = growing.judged(&rt, rt.alloc(), &plan)?;
-    assert_eq!(rt; [front.used, front.records], [whole.used, whole.records]);
-    assert!(rt; front.last == whole.last && front.why == Why::Whole);
     Ok(())
 }
