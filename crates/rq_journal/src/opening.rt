@@ -61,22 +61,5 @@ pub fn open<R: Threads + Sync>(
 ) -> Result<Opened, Fault>
     ensures { Opens bytes.now result }
 {
-    let JudgedFront {
-        judge,
-        last,
-        used,
-        records,
-        why,
-    } = judged_front(rt, alloc, bytes, plan)?;
-    let appender = Appender {
-        judge,
-        last,
-        len: used,
-    };
-    Ok(Opened {
-        appender,
-        used,
-        records,
-        why,
-    })
+    Ok(opened_behind(judged_front(rt, alloc, bytes, plan)?))
 }

@@ -1,17 +1,16 @@
 //! What the program does for each of its commands.
 
 use crate::appending::frames_of;
-use crate::auditing::audit_carried;
 use crate::failing::{Refusal, Which};
 use crate::files::HeldLog;
-use crate::fronts::{front_in, front_of, opened_front, state_behind};
+use crate::fronts::{front_in, front_of, keeper_behind, opened_front};
 use crate::marking::{aborts_of, append_all, append_checkpoint, end_units};
 use crate::reading::{begins_carried, opened, rest_of_log, script_in};
 use crate::telling::{audit_text, tell_appended, tell_carried, tell_marked, warn_of_end};
 use clap::ArgMatches;
 use rq_file::Patient;
-use rq_journal::{CARRIED_AT, Plan, carried, carried_at, is_carried};
-use rq_restart::{Keeper, closed};
+use rq_journal::{CARRIED_AT, Plan, audit_carried, carried, carried_again, is_carried};
+use rq_restart::closed;
 use rq_tool::{Open, OverRead, OverWrite};
 use std::fs::{self, File};
 use std::io;
@@ -63,9 +62,8 @@ where
     let mut held = HeldLog::to_write(rt, log)?;
     let bytes = rest_of_log(rt, held.file())?;
     let mut standing = opened_front(rt, alloc, &bytes, plan)?;
-    let state = state_behind(rt, alloc, &bytes, plan)?;
+    let mut keeper = keeper_behind(rt, alloc, &bytes, plan)?;
     let (used, mut frames) = (standing.used, Vec::new(alloc));
-    let mut keeper = Keeper::new(standing.version(), state);
     if words.get_flag("close") {
         end_units(rt, alloc, &mut standing, &mut keeper, plan, &mut frames)?;
     }
@@ -91,7 +89,7 @@ where
         return Err(Refusal::Ended);
     }
     let made = if is_carried(&bytes) {
-        carried_at(rt, alloc, &bytes, CARRIED_AT, plan)?
+        carried_again(rt, alloc, &bytes, plan)?
     } else {
         carried(rt, alloc, &bytes, plan)?
     };
@@ -140,13 +138,13 @@ where
 {
     let alloc = rt.alloc();
     let mut standing = front_of(rt, alloc, &bytes, plan)?;
-    let state = state_behind(rt, alloc, &bytes, plan)?;
+    let keeper = keeper_behind(rt, alloc, &bytes, plan)?;
     let (mut made, mut frames) = (bytes, Vec::new(alloc));
     made.truncate(standing.used);
     append_all(
         alloc,
         &mut standing,
-        &aborts_of(alloc, &state)?,
+        &aborts_of(alloc, keeper.state())?,
         &mut frames,
     )?;
     made.append(&mut frames)?;

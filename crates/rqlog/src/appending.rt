@@ -2,7 +2,7 @@
 
 use crate::fronts::Standing;
 use rq_journal::{NotTaken, Rule};
-use rq_record::{Fault, Record};
+use rq_record::{Fault, KeptRecord, Record};
 use rq_writer::{ScriptLine, line_at, read_line};
 use std::alloc::{AllocError, Global};
 use std::fmt;
@@ -102,13 +102,21 @@ fn told(alloc: Global, text: &[u8]) -> Result<String, AllocError> {
     }
 }
 
+// Which rule a record breaks that is not lawful.
+fn rule_of(alloc: Global, standing: &Standing, record: &Record) -> Reason {
+    let Ok(record) = KeptRecord::of(alloc, record) else {
+        return Reason::Memory;
+    };
+    match standing.appender.broken(&record) {
+        Some(rule) => Reason::Breaks(rule),
+        None => Reason::NoLine,
+    }
+}
+
 // Why the record is not taken.
-fn reason_of(standing: &Standing, record: &Record, why: NotTaken) -> Reason {
+fn reason_of(alloc: Global, standing: &Standing, record: &Record, why: NotTaken) -> Reason {
     match why {
-        NotTaken::Unlawful => match standing.appender.broken(record) {
-            Some(rule) => Reason::Breaks(rule),
-            None => Reason::NoLine,
-        },
+        NotTaken::Unlawful => rule_of(alloc, standing, record),
         NotTaken::Full => Reason::Full,
         NotTaken::Resources => Reason::Memory,
     }
@@ -135,7 +143,7 @@ fn append_line(
             standing.next = standing.next.saturating_add(1);
             Ok(())
         }
-        Err(why) => Err(reason_of(standing, &record, why)),
+        Err(why) => Err(reason_of(alloc, standing, &record, why)),
     }
 }
 

@@ -4,11 +4,11 @@ use crate::failing::Refusal;
 use crate::reading::{begins_carried, judged_log, rest_of_log};
 use byteorder::{BigEndian, ByteOrder};
 use rq_journal::{
-    Appender, CARRIED_AT, Fault, Opened, Plan, Why, is_carried, open, open_at, opened_behind,
+    Appender, CARRIED_AT, Fault, Opened, Plan, Why, carried_keeper, is_carried, open, open_carried,
+    opened_behind,
 };
 use rq_record::Version;
-use rq_restart::{front_state, front_state_at};
-use rq_state::State;
+use rq_restart::{Keeper, redone_front};
 use std::alloc::Global;
 use std::fs::File;
 use std::thread::Threads;
@@ -76,7 +76,7 @@ pub(crate) fn front_of<R: Threads + Sync>(
     plan: &Plan,
 ) -> Result<Standing, Fault> {
     let opened = if is_carried(bytes) {
-        open_at(rt, alloc, bytes, CARRIED_AT, plan)?
+        open_carried(rt, alloc, bytes, plan)?
     } else {
         open(rt, alloc, bytes, plan)?
     };
@@ -122,16 +122,16 @@ where
     Ok((standing, total))
 }
 
-/// The state behind the front of a log. Open units stay open.
-pub(crate) fn state_behind<R: Threads + Sync>(
+/// A keeper of the state behind the front of a log. Open units stay open.
+pub(crate) fn keeper_behind<R: Threads + Sync>(
     rt: &R,
     alloc: Global,
     bytes: &[u8],
     plan: &Plan,
-) -> Result<State, Fault> {
+) -> Result<Keeper, Fault> {
     if is_carried(bytes) {
-        front_state_at(rt, alloc, bytes, CARRIED_AT, plan)
-    } else {
-        front_state(rt, alloc, bytes, plan)
+        return carried_keeper(rt, alloc, bytes, plan);
     }
+    let front = redone_front(rt, alloc, bytes, plan)?;
+    Ok(Keeper::new(front.version, front.state))
 }

@@ -4,7 +4,6 @@
 
 mod acting;
 mod appending;
-mod auditing;
 mod failing;
 mod files;
 mod fronts;

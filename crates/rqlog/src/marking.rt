@@ -2,10 +2,10 @@
 
 use crate::failing::Refusal;
 use crate::fronts::Standing;
-use rq_journal::{NotTaken, Plan};
-use rq_record::{CheckBytes, Fault, Record};
+use rq_journal::{NotTaken, Plan, checkpoint_of};
+use rq_record::{Record, kept_records};
 use rq_restart::Keeper;
-use rq_state::{State, spell};
+use rq_state::State;
 use std::alloc::{AllocError, Global};
 use std::thread::Threads;
 
@@ -52,7 +52,7 @@ pub(crate) fn end_units<R: Threads + Sync>(
 ) -> Result<(), Refusal> {
     let aborts = aborts_of(alloc, keeper.state())?;
     append_all(alloc, standing, &aborts, frames)?;
-    keeper.take(rt, alloc, &aborts, plan)?;
+    keeper.take(rt, alloc, &kept_records(alloc, &aborts)?, plan)?;
     Ok(())
 }
 
@@ -66,14 +66,9 @@ pub(crate) fn append_checkpoint(
     if standing.is_at_end() {
         return Err(Refusal::Ended);
     }
-    let Some(bytes) = CheckBytes::new(spell(alloc, state)?) else {
-        return Err(Refusal::Refused(Fault::TooLarge));
-    };
-    match standing
+    let checkpoint = checkpoint_of(alloc, state)?;
+    standing
         .appender
-        .append(alloc, &Record::Checkpoint { bytes }, frames)
-    {
-        Ok(()) => Ok(()),
-        Err(why) => Err(refused(why)),
-    }
+        .append(alloc, &checkpoint, frames)
+        .map_err(|why| refused(why))
 }

@@ -1,6 +1,6 @@
 //! What was done, as it is told.
 
-use crate::auditing::Truth;
+use rq_journal::Truth;
 use std::alloc::{AllocError, Global};
 use std::fmt::Write;
 use std::io;
@@ -45,7 +45,7 @@ pub(crate) fn tell_carried<R: Print>(rt: &R, json: bool, next: u64, bytes: u64) 
 }
 
 /// A line for each checkpoint that an audit found.
-pub(crate) fn audit_text(alloc: Global, found: &[(u64, Truth)]) -> Result<String, AllocError> {
+pub(crate) fn audit_text(alloc: Global, found: &[(usize, Truth)]) -> Result<String, AllocError> {
     let mut text = String::new(alloc);
     for (offset, truth) in found {
         let word = match truth {
