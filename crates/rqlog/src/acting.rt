@@ -1,15 +1,15 @@
 //! What the program does for each of its commands.
 
-use crate::appending::frames_of;
+use crate::appending::{Written, frames_of};
 use crate::failing::{Refusal, Which};
 use crate::files::HeldLog;
-use crate::fronts::{front_in, front_of, keeper_behind, opened_front};
-use crate::marking::{aborts_of, append_all, append_checkpoint, end_units};
+use crate::fronts::{front_in, opened_front};
+use crate::marking::{closed_carried, mark};
 use crate::reading::{begins_carried, opened, rest_of_log, script_in};
 use crate::telling::{audit_text, tell_appended, tell_carried, tell_marked, warn_of_end};
 use clap::ArgMatches;
 use rq_file::Patient;
-use rq_journal::{CARRIED_AT, Plan, audit_carried, carried, carried_again, is_carried};
+use rq_journal::{CARRIED_AT, Fault, Plan, audit_carried, carried, carried_again, is_carried};
 use rq_restart::closed;
 use rq_tool::{Open, OverRead, OverWrite};
 use std::fs::{self, File};
@@ -29,24 +29,27 @@ fn plan_of(words: &ArgMatches<'_>) -> Result<Plan, Refusal> {
     Plan::new(workers, grain).ok_or(Refusal::Plan)
 }
 
-fn append<R>(rt: &R, log: &str, plan: &Plan, words: &ArgMatches<'_>) -> Result<(), Refusal>
+// Writes the frames of a script behind a log, and tells so, or why its lines are refused.
+fn write_script<R>(
+    rt: &R,
+    held: &mut HeldLog,
+    read: usize,
+    used: usize,
+    made: Written,
+    json: bool,
+) -> Result<(), Refusal>
 where
-    R: Files<File = File> + Input + Print + AllocGlobal + Threads + Sync,
+    R: Files<File = File> + Print,
 {
-    let alloc = rt.alloc();
-    let script = script_in(rt, words.get_str("SCRIPT").unwrap_or("-"))?;
-    let mut held = HeldLog::to_write(rt, log)?;
-    let (mut standing, total) = front_in(rt, held.file(), plan)?;
-    let used = standing.used;
-    let made = frames_of(alloc, &mut standing, &script)?;
-    let mut refused = made.refused;
-    if let Some(refused) = &mut refused {
-        refused.is_kept = words.get_flag("each");
-    }
+    let Written {
+        frames,
+        count,
+        refused,
+    } = made;
     if refused.as_ref().map_or(true, |refused| refused.is_kept) {
-        held.append(rt, total, used, &made.frames)?;
-        let len = used.saturating_add(made.frames.len()) as u64;
-        tell_appended(rt, words.get_flag("json"), made.count, used as u64, len)?;
+        held.append(rt, read, used, &frames)?;
+        let len = used.saturating_add(frames.len()) as u64;
+        tell_appended(rt, json, count, used as u64, len)?;
     }
     match refused {
         Some(refused) => Err(Refusal::Line(refused)),
@@ -54,49 +57,69 @@ where
     }
 }
 
+fn append<R>(rt: &R, log: &str, plan: &Plan, words: &ArgMatches<'_>) -> Result<(), Refusal>
+where
+    R: Files<File = File> + Input + Print + AllocGlobal + Threads + Sync,
+{
+    let script = script_in(rt, words.get_str("SCRIPT").unwrap_or("-"))?;
+    let mut held = HeldLog::to_write(rt, log)?;
+    let (standing, read) = front_in(rt, held.file(), plan)?;
+    let used = standing.used;
+    let made = frames_of(rt.alloc(), standing, &script, words.get_flag("each"))?;
+    write_script(rt, &mut held, read, used, made, words.get_flag("json"))
+}
+
 fn checkpoint<R>(rt: &R, log: &str, plan: &Plan, words: &ArgMatches<'_>) -> Result<(), Refusal>
 where
     R: Files<File = File> + Print + AllocGlobal + Threads + Sync,
 {
-    let alloc = rt.alloc();
     let mut held = HeldLog::to_write(rt, log)?;
     let bytes = rest_of_log(rt, held.file())?;
-    let mut standing = opened_front(rt, alloc, &bytes, plan)?;
-    let mut keeper = keeper_behind(rt, alloc, &bytes, plan)?;
-    let (used, mut frames) = (standing.used, Vec::new(alloc));
-    if words.get_flag("close") {
-        end_units(rt, alloc, &mut standing, &mut keeper, plan, &mut frames)?;
+    let made = mark(rt, rt.alloc(), &bytes, plan, words.get_flag("close"))?;
+    held.append(rt, bytes.len(), made.used, &made.frames)?;
+    let len = made.used.saturating_add(made.frames.len()) as u64;
+    Ok(tell_marked(rt, words.get_flag("json"), made.offset as u64, len)?)
+}
+
+// How many records stand before a log that goes on from this one.
+fn next_behind<R>(rt: &R, bytes: &[u8], plan: &Plan) -> Result<u64, Refusal>
+where
+    R: AllocGlobal + Threads + Sync,
+{
+    let standing = opened_front(rt, rt.alloc(), bytes, plan)?;
+    if standing.is_at_end() {
+        return Err(Refusal::Ended);
     }
-    let offset = used.saturating_add(frames.len());
-    append_checkpoint(alloc, &mut standing, keeper.state(), &mut frames)?;
-    held.append(rt, bytes.len(), used, &frames)?;
-    let len = used.saturating_add(frames.len()) as u64;
-    Ok(tell_marked(rt, words.get_flag("json"), offset as u64, len)?)
+    Ok(standing.next)
+}
+
+// A log that goes on from this one.
+fn carried_on<R>(rt: &R, bytes: &[u8], plan: &Plan) -> Result<Vec<u8>, Fault>
+where
+    R: AllocGlobal + Threads + Sync,
+{
+    if is_carried(bytes) {
+        carried_again(rt, rt.alloc(), bytes, plan)
+    } else {
+        carried(rt, rt.alloc(), bytes, plan)
+    }
 }
 
 fn carry<R>(rt: &R, log: &str, plan: &Plan, words: &ArgMatches<'_>) -> Result<(), Refusal>
 where
     R: Files<File = File> + Print + Eprint + AllocGlobal + Threads + Sync,
 {
-    let (alloc, new) = (rt.alloc(), words.get_str("NEW").unwrap_or("-"));
+    let new = words.get_str("NEW").unwrap_or("-");
     if fs::symlink_metadata(rt, new).map_or(false, |found| found.is_file()) {
         return Err(Refusal::There);
     }
     let mut held = HeldLog::to_read(rt, log)?;
     let bytes = rest_of_log(rt, held.file())?;
-    let standing = opened_front(rt, alloc, &bytes, plan)?;
-    if standing.is_at_end() {
-        return Err(Refusal::Ended);
-    }
-    let made = if is_carried(&bytes) {
-        carried_again(rt, alloc, &bytes, plan)?
-    } else {
-        carried(rt, alloc, &bytes, plan)?
-    };
+    let next = next_behind(rt, &bytes, plan)?;
+    let made = carried_on(rt, &bytes, plan)?;
     put(rt, new, Which::New, &made)?;
-    warn_of_end(rt, standing.next);
-    tell_carried(rt, words.get_flag("json"), standing.next, made.len() as u64)?;
-    Ok(())
+    warn_of_end(rt, next);
+    Ok(tell_carried(rt, words.get_flag("json"), next, made.len() as u64)?)
 }
 
 // Makes a file of these bytes, whole or not at all.
@@ -131,24 +154,15 @@ where
     Ok(())
 }
 
-// The closed log of one that was carried on.
-fn closed_carried<R>(rt: &R, bytes: Vec<u8>, plan: &Plan) -> Result<Vec<u8>, Refusal>
+// The closed log, plain or carried on.
+fn closed_of<R>(rt: &R, bytes: Vec<u8>, plan: &Plan) -> Result<Vec<u8>, Refusal>
 where
     R: AllocGlobal + Threads + Sync,
 {
-    let alloc = rt.alloc();
-    let mut standing = front_of(rt, alloc, &bytes, plan)?;
-    let keeper = keeper_behind(rt, alloc, &bytes, plan)?;
-    let (mut made, mut frames) = (bytes, Vec::new(alloc));
-    made.truncate(standing.used);
-    append_all(
-        alloc,
-        &mut standing,
-        &aborts_of(alloc, keeper.state())?,
-        &mut frames,
-    )?;
-    made.append(&mut frames)?;
-    Ok(made)
+    if is_carried(&bytes) {
+        return closed_carried(rt, rt.alloc(), bytes, plan);
+    }
+    Ok(closed(rt, rt.alloc(), bytes, plan)?)
 }
 
 fn close<R>(rt: &R, log: &str, plan: &Plan, out: &str) -> Result<(), Refusal>
@@ -157,31 +171,35 @@ where
 {
     let mut file = opened(rt, log)?;
     let bytes = rest_of_log(rt, &mut file)?;
-    let made = if is_carried(&bytes) {
-        closed_carried(rt, bytes, plan)?
-    } else {
-        closed(rt, rt.alloc(), bytes, plan)?
-    };
+    let made = closed_of(rt, bytes, plan)?;
     put(rt, out, Which::Out, &made)
+}
+
+// Tells which checkpoints of a log are true that was carried on.
+fn tell_audit<R>(rt: &R, file: File, plan: &Plan) -> Result<(), Refusal>
+where
+    R: Files<File = File> + Print + AllocGlobal + Threads + Sync,
+{
+    let mut file = file;
+    let bytes = rest_of_log(rt, &mut file)?;
+    let found = audit_carried(rt, rt.alloc(), &bytes, plan)?;
+    let text = audit_text(rt.alloc(), &found)?;
+    Ok(rt.write_all(text.as_bytes())?)
 }
 
 fn audit<R>(rt: &R, log: &str, plan: &Plan) -> Result<(), Refusal>
 where
     R: Files<File = File> + Print + Clock + AllocGlobal + Threads + Sync,
 {
-    let mut file = opened(rt, log)?;
+    let file = opened(rt, log)?;
+    if begins_carried(&file) {
+        return tell_audit(rt, file, plan);
+    }
+    let mut input = OverRead::new(file);
     let mut output = OverWrite::new(Patient {
         rt,
         inner: io::writer(rt),
     });
-    if begins_carried(&file) {
-        let bytes = rest_of_log(rt, &mut file)?;
-        let found = audit_carried(rt, rt.alloc(), &bytes, plan)?;
-        let text = audit_text(rt.alloc(), &found)?;
-        rt.write_all(text.as_bytes())?;
-        return Ok(());
-    }
-    let mut input = OverRead::new(file);
     rq_tool::audit_log(rt, rt.alloc(), &mut input, &mut output, plan)?;
     Ok(())
 }

@@ -153,6 +153,7 @@ fn refusal_at(
     line: u64,
     text: &[u8],
     reason: Reason,
+    is_kept: bool,
 ) -> Result<LineRefused, AllocError> {
     let shown = match reason {
         Reason::NoLine | Reason::Memory => &[],
@@ -162,7 +163,7 @@ fn refusal_at(
         line,
         text: told(alloc, shown)?,
         reason,
-        is_kept: false,
+        is_kept,
     })
 }
 
@@ -180,20 +181,29 @@ fn append_next<'a>(
     }
 }
 
-/// The frames of the records that a script tells, up to the first that may not follow.
+/// The frames of the records that a script tells, up to the first that may not follow. Those before
+/// it are kept if that is said.
 pub(crate) fn frames_of(
     alloc: Global,
-    standing: &mut Standing,
+    standing: Standing,
     script: &[u8],
+    keeps: bool,
 ) -> Result<Written, AllocError> {
+    let mut standing = standing;
     let (mut rest, mut written) = (script, Written::new(alloc));
     for line in 1..u64::MAX {
         if rest.is_empty() {
             break;
         }
-        let (text, after, done) = append_next(alloc, standing, line, rest, &mut written.frames);
+        let (text, after, done) = append_next(
+            alloc,
+            &mut standing,
+            line,
+            rest,
+            &mut written.frames,
+        );
         if let Err(reason) = done {
-            written.refused = Some(refusal_at(alloc, line, text, reason)?);
+            written.refused = Some(refusal_at(alloc, line, text, reason, keeps)?);
             break;
         }
         written.count = line;

@@ -1,13 +1,24 @@
 //! The checkpoint of a state, and the ABORTs of open units.
 
 use crate::failing::Refusal;
-use crate::fronts::Standing;
+use crate::fronts::{Standing, front_of, keeper_behind, opened_front};
 use rq_journal::{NotTaken, Plan, checkpoint_of};
 use rq_record::{Record, kept_records};
 use rq_restart::Keeper;
 use rq_state::State;
 use std::alloc::{AllocError, Global};
 use std::thread::Threads;
+
+/// A checkpoint that is to stand behind a log.
+#[derive(Drop)]
+pub(crate) struct Marked {
+    /// So many bytes of the log stay.
+    pub(crate) used: usize,
+    /// Where the checkpoint will stand.
+    pub(crate) offset: usize,
+    /// All that is to be written behind them.
+    pub(crate) frames: Vec<u8>,
+}
 
 fn refused(why: NotTaken) -> Refusal {
     match why {
@@ -16,8 +27,8 @@ fn refused(why: NotTaken) -> Refusal {
     }
 }
 
-/// The ABORT of each open unit of a state, rising.
-pub(crate) fn aborts_of(alloc: Global, state: &State) -> Result<Vec<Record>, AllocError> {
+// The ABORT of each open unit of a state, rising.
+fn aborts_of(alloc: Global, state: &State) -> Result<Vec<Record>, AllocError> {
     let mut aborts = Vec::with_capacity(alloc, state.units().len())?;
     for unit in state.units() {
         aborts.push(Record::Abort { unit: *unit })?;
@@ -25,8 +36,8 @@ pub(crate) fn aborts_of(alloc: Global, state: &State) -> Result<Vec<Record>, All
     Ok(aborts)
 }
 
-/// Appends these records, all of which may follow.
-pub(crate) fn append_all(
+// Appends these records, all of which may follow.
+fn append_all(
     alloc: Global,
     standing: &mut Standing,
     records: &[Record],
@@ -41,8 +52,8 @@ pub(crate) fn append_all(
     }
 }
 
-/// Appends an ABORT for each unit that is open in the keeper's state, which takes them too.
-pub(crate) fn end_units<R: Threads + Sync>(
+// Appends an ABORT for each unit that is open in the keeper's state, which takes them too.
+fn end_units<R: Threads + Sync>(
     rt: &R,
     alloc: Global,
     standing: &mut Standing,
@@ -52,12 +63,13 @@ pub(crate) fn end_units<R: Threads + Sync>(
 ) -> Result<(), Refusal> {
     let aborts = aborts_of(alloc, keeper.state())?;
     append_all(alloc, standing, &aborts, frames)?;
-    keeper.take(rt, alloc, &kept_records(alloc, &aborts)?, plan)?;
+    let aborts = kept_records(alloc, &aborts)?;
+    keeper.take(rt, alloc, &aborts, plan)?;
     Ok(())
 }
 
-/// Appends a checkpoint of the state, behind which the log stands.
-pub(crate) fn append_checkpoint(
+// Appends a checkpoint of the state, behind which the log stands.
+fn append_checkpoint(
     alloc: Global,
     standing: &mut Standing,
     state: &State,
@@ -67,8 +79,48 @@ pub(crate) fn append_checkpoint(
         return Err(Refusal::Ended);
     }
     let checkpoint = checkpoint_of(alloc, state)?;
-    standing
-        .appender
-        .append(alloc, &checkpoint, frames)
-        .map_err(|why| refused(why))
+    match standing.appender.append(alloc, &checkpoint, frames) {
+        Ok(()) => Ok(()),
+        Err(why) => Err(refused(why)),
+    }
+}
+
+/// A checkpoint of the state behind the front of a log, behind ABORTs of the open units if these are
+/// to end.
+pub(crate) fn mark<R: Threads + Sync>(
+    rt: &R,
+    alloc: Global,
+    bytes: &[u8],
+    plan: &Plan,
+    ends_units: bool,
+) -> Result<Marked, Refusal> {
+    let mut standing = opened_front(rt, alloc, bytes, plan)?;
+    let mut keeper = keeper_behind(rt, alloc, bytes, plan)?;
+    let (used, mut frames) = (standing.used, Vec::new(alloc));
+    if ends_units {
+        end_units(rt, alloc, &mut standing, &mut keeper, plan, &mut frames)?;
+    }
+    let offset = used.saturating_add(frames.len());
+    append_checkpoint(alloc, &mut standing, keeper.state(), &mut frames)?;
+    Ok(Marked {
+        used,
+        offset,
+        frames,
+    })
+}
+
+/// The closed log of one that was carried on.
+pub(crate) fn closed_carried<R: Threads + Sync>(
+    rt: &R,
+    alloc: Global,
+    bytes: Vec<u8>,
+    plan: &Plan,
+) -> Result<Vec<u8>, Refusal> {
+    let mut standing = front_of(rt, alloc, &bytes, plan)?;
+    let keeper = keeper_behind(rt, alloc, &bytes, plan)?;
+    let aborts = aborts_of(alloc, keeper.state())?;
+    let mut made = bytes;
+    made.truncate(standing.used);
+    append_all(alloc, &mut standing, &aborts, &mut made)?;
+    Ok(made)
 }
