@@ -1,5 +1,8 @@
 //! Reading logs and scripts.
 
+ghost use Rattle.std.specs.Prelude.{◌≤◌, List, ℕ, length, IfOk, OnOk};
+ghost use Rattle.rq_restart.specs.GrowingFronts.{GoesAlong};
+
 use crate::failing::{Refusal, Which};
 use rq_journal::{Fault, Plan, is_carried};
 use rq_restart::{GrowingFront, JudgedFront};
@@ -48,7 +51,9 @@ pub(crate) fn begins_carried(file: &File) -> bool {
 }
 
 // One read, which begins again if a signal ends it.
-fn read_piece(file: &mut File, piece: &mut [u8]) -> Result<usize, Refusal> {
+fn read_piece(file: &mut File, piece: &mut [u8]) -> Result<usize, Refusal>
+    ensures { IfOk result (λ count. count ≤ length piece.new) }
+{
     for _ in 0..u64::MAX {
         match file.read(piece) {
             Ok(count) => return Ok(count),
@@ -57,6 +62,24 @@ fn read_piece(file: &mut File, piece: &mut [u8]) -> Result<usize, Refusal> {
         }
     }
     Err(Refusal::Refused(Fault::ReadFailed))
+}
+
+// Reads on, goes along with what comes, and answers how many bytes these are.
+fn feed_piece<R>(
+    rt: &R,
+    file: &mut File,
+    piece: &mut [u8],
+    front: &mut GrowingFront,
+    plan: &Plan,
+) -> Result<usize, Refusal>
+where
+    R: AllocGlobal + Threads + Sync,
+    requires { (b : List ℕ) × GoesAlong b front.old }
+    ensures { OnOk result ((b : List ℕ) × GoesAlong b front.new) }
+{
+    let count = read_piece(file, piece)?;
+    front.feed(rt, rt.alloc(), &piece[..count], plan)?;
+    Ok(count)
 }
 
 /// The front of the log in an open file, read from where that stands, and how many bytes there are.
@@ -73,11 +96,10 @@ where
     let mut piece = vec![in alloc; 0u8; PIECE]?;
     let (mut front, mut total) = (GrowingFront::new(alloc), 0usize);
     for _ in 0..u64::MAX {
-        let count = read_piece(file, &mut piece)?;
+        let count = feed_piece(rt, file, &mut piece, &mut front, plan)?;
         if count == 0 {
             break;
         }
-        front.feed(rt, alloc, &piece[..count], plan)?;
         total = total.saturating_add(count);
     }
     Ok((front.judged(rt, alloc, plan)?, total))
