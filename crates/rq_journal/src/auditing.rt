@@ -1,8 +1,8 @@
 //! The audit of a log that was carried on. What it answers is tested, and not proved.
 
-use crate::checkpoint::checkpoint_of;
+use crate::checkpoint::spelled;
 use crate::continuing::{Continued, begin_carried, record_at};
-use rq_record::{CheckBytes, Fault, KeptRecord, Record};
+use rq_record::{Fault, KeptRecord};
 use rq_restart::{Keeper, Plan};
 use std::alloc::Global;
 use std::marker::Sync;
@@ -42,14 +42,12 @@ impl Audit {
     }
 
     // Whether the bytes spell the keeper's state.
-    fn judge(&self, alloc: Global, bytes: &CheckBytes) -> Result<Truth, Fault> {
+    fn judge(&self, alloc: Global, bytes: &[u8]) -> Result<Truth, Fault> {
         if self.found.is_empty() {
             return Ok(Truth::Carried);
         }
-        match checkpoint_of(alloc, self.keeper.state()) {
-            Ok(Record::Checkpoint { bytes: kept }) if kept.bytes() == bytes.bytes() => {
-                Ok(Truth::True)
-            }
+        match spelled(alloc, self.keeper.state()) {
+            Ok(spelled) if spelled.as_slice() == bytes => Ok(Truth::True),
             Ok(_) | Err(Fault::TooLarge) => Ok(Truth::False),
             Err(fault) => Err(fault),
         }
@@ -68,7 +66,7 @@ impl Audit {
             if !self.catch_up(rt, alloc, plan)? {
                 return Ok(false);
             }
-            let truth = self.judge(alloc, bytes)?;
+            let truth = self.judge(alloc, bytes.bytes())?;
             self.found.push((offset, truth))?;
         }
         self.waiting.push(record)?;

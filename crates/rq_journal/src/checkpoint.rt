@@ -28,6 +28,17 @@ pub(crate) fn checkpoint_body(alloc: Global, state: &State) -> Result<Vec<u8>, F
     Ok(body)
 }
 
+/// The spelling of a state that may number any records. `TooLong` if these are more than
+/// 4,294,967,295.
+pub(crate) fn spelled(alloc: Global, state: &State) -> Result<Vec<u8>, Fault>
+    ensures { IfOk result (λ spelled. spelled.items ≡ state_bytes state.now) }
+{
+    if state.next() > NUMBERS {
+        return Err(Fault::TooLong);
+    }
+    spell(alloc, state)
+}
+
 /// The body of a checkpoint of a state that may number any records. `TooLong` if these are more than
 /// 4,294,967,295.
 pub(crate) fn body_of_any(alloc: Global, state: &State) -> Result<Vec<u8>, Fault>
@@ -44,10 +55,7 @@ pub(crate) fn body_of_any(alloc: Global, state: &State) -> Result<Vec<u8>, Fault
 pub fn checkpoint_of(alloc: Global, state: &State) -> Result<Record, Fault>
     ensures { IfOk result (λ r. record_of r ≡ Checkpoint (state_bytes state.now)) }
 {
-    if state.next() > NUMBERS {
-        return Err(Fault::TooLong);
-    }
-    match CheckBytes::new(spell(alloc, state)?) {
+    match CheckBytes::new(spelled(alloc, state)?) {
         Some(bytes) => Ok(Record::Checkpoint { bytes }),
         None => Err(Fault::TooLarge),
     }
