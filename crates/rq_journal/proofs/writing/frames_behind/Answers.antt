@@ -2,8 +2,7 @@ use Rattle.std.proofs.Common.{◌≡◌, ℕ, [], List, take, drop, map, Option,
 use Rattle.std.specs.Prelude.{Some}
 use Rattle.std.proofs.lemmas.List.{take-map, drop-map}
 use Rattle.rq_model.specs.Records as model
-use Rattle.rq_record.specs.Views.{record_of}
-use Rattle.rq_record.specs.declared.record.Record.{Record}
+use Rattle.rq_record.specs.Views.{Record, record_of}
 use Rattle.rq_journal.specs.declared.appender.NotTaken.{NotTaken}
 use Rattle.rq_journal.specs.Appenders.{TakesEach, StopsAt}
 use Rattle.rq_journal.proofs.Behind.{all_taken, behind, held_back}

@@ -1,8 +1,7 @@
 use Rattle.std.proofs.Common.{◌≡◌, ℕ, ◌+◌, ◌++◌, [], ◌∷◌, List, take, drop, map, sym, ap, subst, ◌∙◌, arith}
 use Rattle.std.proofs.lemmas.List.{map_more, drop_more}
 use Rattle.rq_model.specs.Records as model
-use Rattle.rq_record.specs.Views.{record_of}
-use Rattle.rq_record.specs.declared.record.Record.{Record}
+use Rattle.rq_record.specs.Views.{Record, record_of}
 use Rattle.rq_journal.specs.Appenders.{TakesEach}
 use Rattle.rq_journal.proofs.Taking.{takes_one_more, takes_no_more, stops_there}
 use Rattle.rq_journal.proofs.appender.Appender.append_each.Goals as goal
