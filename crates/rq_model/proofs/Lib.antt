@@ -56,3 +56,5 @@ mod Continued
 mod Later
 mod Joined
 mod Along
+pub mod StepParts
+pub mod ChosenOps

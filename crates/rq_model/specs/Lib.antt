@@ -13,6 +13,7 @@ pub mod Queues
 pub mod Redo
 pub mod Laws
 pub mod Ready
+pub mod StepLaws
 pub mod LogLaws
 pub mod CheckpointLaws
 pub mod Closing
@@ -32,3 +33,4 @@ pub mod WorkedMachine
 pub mod WorkedFates
 pub mod WorkedFormats
 pub mod WorkedEnds
+pub mod Chosen

@@ -30,6 +30,8 @@ ghost use Rattle.rq_model.specs.WorkedFormats.{WorkedFrames, AllRests, WorkedSta
 ghost use Rattle.rq_model.specs.WorkedFormats.{WorkedLines};
 ghost use Rattle.rq_model.specs.WorkedEnds.{WorkedEnds};
 ghost use Rattle.rq_model.specs.Ready.{RedoGoesWell, GoesOn};
+ghost use Rattle.rq_model.specs.Chosen.{ChosenProjection, ChosenGoesWell};
+ghost use Rattle.rq_model.specs.StepLaws.{StepByParts, MidwayPart};
 ghost use Rattle.rq_model.specs.Laws.{Projection, ArrivalsAreMerged, LawfulnessLooksAt};
 ghost use Rattle.rq_model.specs.Laws.{PartsDecide, IdsDiffer, PutInAnyOrder, AnyOrder};
 ghost use Rattle.rq_model.specs.Laws.{QueueIsDecided, TouchingIsExact, LawfulFrontIsLongest};
@@ -259,6 +261,14 @@ pub fn any_order()
 /// the same elements.
 pub fn any_list_in_any_order()
     ensures { AnyOrder }
+{}
+
+/// One record moves the part of each queue on alone.
+pub fn step_by_parts()
+    ensures step { StepByParts }
+    ensures midway { MidwayPart }
+    ensures chosen { ChosenProjection }
+    ensures goes { ChosenGoesWell }
 {}
 
 /// A well-formed state is decided by its numbers, units, definitions and parts.
