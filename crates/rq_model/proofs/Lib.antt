@@ -57,4 +57,5 @@ mod Later
 mod Joined
 mod Along
 pub mod StepParts
+pub mod UnitEnds
 pub mod ChosenOps

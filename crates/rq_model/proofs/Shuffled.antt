@@ -188,6 +188,22 @@ put_moves : (ms : List Move) (es : List Element) → put_each (map (λ m. m.elem
 put_moves [] es = refl
 put_moves (m ∷ ms) es = put_moves ms (put id_before m.element es)
 
+-- so it makes none for what arrives
+pub arrivals_shuffled : (ms ns : List Move) (es : List Element)
+    → IsPermutation (map (λ (m : Move). m.element) ms) (map (λ (m : Move). m.element) ns) → Rising es
+    → Rising (put_all ms es) → put_all ns es ≡ put_all ms es
+arrivals_shuffled ms ns es same rising after =
+    let xs : List Element = map (λ (m : Move). m.element) ms in
+    let ys : List Element = map (λ (m : Move). m.element) ns in
+    let once : Once (xs ++ es) =
+    λ id. omega (
+      arith,
+      rising_once (put_all ms es) after id,
+      ap (count id) (put_moves ms es),
+      count_shuffled id (xs ++ es) (put_each xs es) (each_shuffles xs es),
+    ) in
+    sym (put_moves ns es) ∙ sym (put_shuffled xs ys es same once rising) ∙ put_moves ms es
+
 module _ (u : ℕ) (d : Definition) where
   abbrev stays : Element → Bool
   stays e = not (is_marked u e.mark)

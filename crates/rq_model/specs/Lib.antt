@@ -14,6 +14,8 @@ pub mod Redo
 pub mod Laws
 pub mod Ready
 pub mod StepLaws
+pub mod Chosen
+pub mod UnitEnds
 pub mod LogLaws
 pub mod CheckpointLaws
 pub mod Closing
@@ -33,4 +35,3 @@ pub mod WorkedMachine
 pub mod WorkedFates
 pub mod WorkedFormats
 pub mod WorkedEnds
-pub mod Chosen

@@ -32,6 +32,7 @@ ghost use Rattle.rq_model.specs.WorkedEnds.{WorkedEnds};
 ghost use Rattle.rq_model.specs.Ready.{RedoGoesWell, GoesOn};
 ghost use Rattle.rq_model.specs.Chosen.{ChosenProjection, ChosenGoesWell};
 ghost use Rattle.rq_model.specs.StepLaws.{StepByParts, MidwayPart};
+ghost use Rattle.rq_model.specs.UnitEnds.{UnitEndsByParts};
 ghost use Rattle.rq_model.specs.Laws.{Projection, ArrivalsAreMerged, LawfulnessLooksAt};
 ghost use Rattle.rq_model.specs.Laws.{PartsDecide, IdsDiffer, PutInAnyOrder, AnyOrder};
 ghost use Rattle.rq_model.specs.Laws.{QueueIsDecided, TouchingIsExact, LawfulFrontIsLongest};
@@ -263,9 +264,15 @@ pub fn any_list_in_any_order()
     ensures { AnyOrder }
 {}
 
-/// One record moves the part of each queue on alone.
+/// One record moves the part of each queue on alone, and so does the end of a unit.
 pub fn step_by_parts()
     ensures step { StepByParts }
+    ensures ends { UnitEndsByParts }
+{}
+
+/// In mid-run the part of a queue is that of the state behind the records so far, and a redo of
+/// more operations than those that touch the queue gives the same.
+pub fn redo_in_pieces()
     ensures midway { MidwayPart }
     ensures chosen { ChosenProjection }
     ensures goes { ChosenGoesWell }
