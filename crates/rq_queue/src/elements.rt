@@ -31,7 +31,7 @@ use std::marker::Model;
 /// priority. An entry may be of an element that has gone: it is only where to look. A queue without
 /// a KILL keeps none.
 #[derive(Drop)]
-pub(crate) struct Elements {
+pub struct Elements {
     free: BTreeMap<Rank, KeptElement>,
     marked: BTreeMap<u64, Vec<KeptElement>>,
     priorities: Option<BTreeMap<u64, u8>>,
@@ -52,7 +52,7 @@ impl Model for Elements {
 
 impl Elements {
     /// No element.
-    pub(crate) fn none(alloc: Global) -> Elements
+    pub fn none(alloc: Global) -> Elements
         ensures { result ≡ [] }
     {
         Elements {
@@ -143,7 +143,7 @@ impl Elements {
     }
 
     /// The best element becomes Held; all are in the queue. Its id, if there is one.
-    pub(crate) fn hold_best(
+    pub fn hold_best(
         self,
         alloc: Global,
         unit: UnitNo,

@@ -20,7 +20,10 @@ mod registrants;
 mod shelves;
 mod whose;
 
+pub use elements::Elements;
 pub use moves::{KeptMove, Move};
+pub use notes::Notes;
 pub use operations::{KeptOp, Op};
 pub use part::Part;
+pub use places::{file, unfiled};
 pub use redoing::{redo, redo_kept};

@@ -24,7 +24,7 @@ use std::marker::Model;
 /// notes, so that the end of a unit and a DEREGISTER cost their own notes alone. Such a list may
 /// keep the place of a note that has gone: it is only where to look.
 #[derive(Drop)]
-pub(crate) struct Notes {
+pub struct Notes {
     all: BTreeMap<u64, KeptNote>,
     units: BTreeMap<u64, Vec<u64>>,
     names: BTreeMap<(u32, KeptName), Vec<u64>>,
@@ -45,7 +45,7 @@ impl Model for Notes {
 
 impl Notes {
     /// No note.
-    pub(crate) fn none(alloc: Global) -> Notes
+    pub fn none(alloc: Global) -> Notes
         ensures { result ≡ [] }
     {
         Notes {
@@ -95,7 +95,7 @@ impl Notes {
     }
 
     /// Adds the note of an operation, where somebody is named.
-    pub(crate) fn note(
+    pub fn note(
         self,
         alloc: Global,
         place: u64,
