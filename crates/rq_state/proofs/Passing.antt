@@ -45,6 +45,17 @@ passes_on {X} {reader} {count} {i} {bytes} x after so_far lt h =
           ∙ grind arith;
     }
 
+pub goes_past : {X : Type 0} {reader : Reader X} {count i : ℕ} {bytes : List ℕ} {total : Option (⊤ × List ℕ)} (x : ⊤)
+    (after : List ℕ) → Passing reader (count - i) bytes total → i < count → Some (x, after) ≡ passed reader bytes
+    → Passing reader (count - (i + 1)) after total
+goes_past {X} {reader} {count} {i} {bytes} x after so_far lt h =
+    record { left = sym (one_more _ _ bytes (Some (x, after)) (sym h)) ∙ grind arith }
+
+pub stopped : {X : Type 0} {reader : Reader X} {count i : ℕ} {bytes : List ℕ} {total : Option (⊤ × List ℕ)}
+    → Passing reader (count - i) bytes total → i < count → None ≡ passed reader bytes → None ≡ total
+stopped {X} {reader} {count} {i} {bytes} so_far lt h =
+    sym (one_more reader (count - (i + 1)) bytes None (sym h)) ∙ grind arith
+
 pub stops : {X : Type 0} {reader : Reader X} {count i : ℕ} {bytes : List ℕ} {total : Option (⊤ × List ℕ)}
     → Passing reader (count - i) bytes total → i < count → None ≡ reader bytes → None ≡ total
 stops {X} {reader} {count} {i} {bytes} so_far lt h =
@@ -58,7 +69,7 @@ is_past {X} {reader} {count} {i} {bytes} so_far le =
     ap (λ (n : ℕ). passed (members reader n) bytes) (sym k) ∙ so_far.left
 
 -- what a loop past members needs
-pub ruleset passing = (passes_on, stops, is_past)
+pub ruleset passing = (passes_on, goes_past, stopped, stops, is_past)
 
 -- Readers that read to the same place.
 

@@ -17,7 +17,7 @@ mod sizes;
 
 use crate::fields::KeptFields;
 use crate::state::State;
-use crate::writing::lists::{put_definitions, put_elements, put_notes, put_registrants, put_units};
+use crate::writing::lists::{put_all, put_units};
 pub use crate::writing::sizes::{fields_len, spelled_len};
 use rq_bytes::put_u64;
 use rq_record::Fault;
@@ -70,9 +70,9 @@ fn put_members(out: &mut Vec<u8>, fields: &KeptFields) -> Result<(), AllocError>
         ++ (counted element_bytes fields.now.elements.items
         ++ counted note_bytes fields.now.notes.items)) result }
 {
-    put_registrants(out, &fields.registrants)?;
-    put_elements(out, &fields.elements)?;
-    put_notes(out, &fields.notes)
+    put_all(out, &fields.registrants)?;
+    put_all(out, &fields.elements)?;
+    put_all(out, &fields.notes)
 }
 
 fn put_fields(out: &mut Vec<u8>, fields: &KeptFields) -> Result<(), AllocError>
@@ -81,7 +81,7 @@ fn put_fields(out: &mut Vec<u8>, fields: &KeptFields) -> Result<(), AllocError>
     ensures { PutsSpelling out.old.items out.new.items (state_bytes (state_of fields.now)) result }
 {
     put_numbers(out, fields)?;
-    put_definitions(out, &fields.definitions)?;
+    put_all(out, &fields.definitions)?;
     put_units(out, &fields.units)?;
     put_members(out, fields)
 }
