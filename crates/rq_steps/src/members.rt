@@ -11,7 +11,7 @@ ghost use Rattle.rq_steps.specs.Hearing.{heard_of};
 use rq_record::{ElemId, Fault, KeptBy, Name, QueueNo, UnitNo};
 use rq_state::{Last, Note, OpKind, Registrant};
 
-/// The unit is open no longer.
+/// The unit is no longer open.
 pub(crate) fn close_unit(units: &mut Vec<UnitNo>, unit: UnitNo)
     ensures { map unit_of units.new.items
         ≡ machine.closed_units unit.0 (map unit_of units.old.items) }
@@ -40,14 +40,14 @@ fn is_registrant(registrant: &Registrant, queue: QueueNo, name: &Name) -> bool
     registrant.queue.0 == queue.0 && registrant.name == *name
 }
 
-/// The name is registered with the queue no longer.
+/// The name is no longer registered with the queue.
 pub(crate) fn deregister(registrants: &mut Vec<Registrant>, queue: QueueNo, name: &Name)
     ensures { registrants.new.items ≡ machine.deregistered queue.0 name.now registrants.old.items }
 {
     registrants.retain(|registrant| !is_registrant(registrant, queue, name));
 }
 
-/// Adds the note of an operation, where somebody is named.
+/// Adds the note of an operation, if somebody is named.
 pub(crate) fn note(
     notes: &mut Vec<Note>,
     place: u64,
@@ -115,7 +115,7 @@ fn hear(registrants: &mut Vec<Registrant>, note: &Note)
     }
 }
 
-/// The registrants hear of the unit's notes among these.
+/// Each registrant hears of the unit's notes among these.
 pub(crate) fn tell(registrants: &mut Vec<Registrant>, notes: &[Note], unit: UnitNo)
     requires { Ordered (λ r t. model.registrant_before r t ≡ true) registrants.old.items }
     ensures { registrants.new.items ≡ map (machine.told unit.0 notes.now) registrants.old.items }
