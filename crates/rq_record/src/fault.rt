@@ -18,7 +18,8 @@ pub enum Fault {
     #[error("not a log")]
     NotALog,
     /// A log or a script has more than 4,294,967,295 bytes, a log to be made would have them, or a
-    /// front to be kept would have more records. Closing a log gives `TooLarge`.
+    /// front to be kept would have more records. If a log is closed and would have them then, the
+    /// fault is `TooLarge`.
     #[error("too long")]
     TooLong,
     /// The spelling of a state is longer than the 268,435,455 bytes that a checkpoint record holds;

@@ -118,7 +118,7 @@ pub enum RecordOf<N, B, P> {
         queue: QueueNo,
         by: B,
     },
-    /// Ends a unit: what it did stands.
+    /// Ends a unit: what it did is kept.
     Commit {
         unit: UnitNo,
     },
