@@ -91,7 +91,7 @@ ordered_both R S T f (x ∷ xs) h k = (each_two (R x) (S x) (T x) (f x) xs h.0 k
 name_is_order : IsStrictWeakOrder name_before
 name_is_order = ranks_by nat_list_cmp_total (λ n. n)
 
--- a sorted list rises strictly exactly if the names differ
+-- what a sort leaves rises strictly exactly if the names differ
 pub names_told : (xs ys : List (List ℕ)) (r : Bool) → IsPermutation xs ys → IsSorted (slice_cmp nat_cmp) ys
     → IsAllAdjacentAnswer (λ a b t. t ≡ name_before a b) ys r → IsTrue r ↔ Differ xs
 names_told xs ys r moved sorted answer =

@@ -127,8 +127,7 @@ impl State {
         self.fields
     }
 
-    /// The number that the next record gets. What is well formed is so for each look into the
-    /// state.
+    /// The number that the next record gets. Its contract also says that the state is well formed.
     pub fn next(&self) -> u64
         ensures next { result ≡ self.now.next }
         ensures well_formed { IsWellFormed self.now }
