@@ -128,7 +128,7 @@ fn dequeued(
     Ok(fields)
 }
 
-// A unit's work stands.
+// A unit's work is kept.
 fn settled(fields: KeptFields, unit: UnitNo) -> KeptFields
     requires well_formed { IsWellFormed (state_of fields) }
     requires next { fields.next ≤ 4294967295 }
