@@ -1,5 +1,5 @@
 -- Each element has its ENQUEUE, its home is reached from there, and its tries are the limits that
--- it left behind and its attempts.
+-- it left behind plus its attempts.
 use Rattle.std.proofs.Common.{◌≡◌, ◌≢◌, ℕ, ◌+◌, ◌≤◌, Bool, true, false, not, ◌&&◌, List, [], ◌∷◌, ◌++◌, length, refl}
 use Rattle.std.proofs.Common.{sym, ap, ◌∙◌, subst, arith, append_assoc, length-append}
 use Rattle.std.specs.Prelude.{if◌then◌else◌, ◌==◌}

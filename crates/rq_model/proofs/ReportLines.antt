@@ -442,7 +442,7 @@ all_at f ds (e ∷ es) h =
     let apart = first_apart f 0 ds e es in
     omega (arith, more, here, apart)
 
--- how many lines of the text of an answer begin with `e p `
+-- how many lines of the text of a restart begin with `e p `
 pub text_told : (p : ℕ) (r : Restarted) → p < 2 ^ 64 → AllByRecursion FitsDefinition r.state.definitions
     → AllByRecursion FitsRegistrant r.state.registrants → AllByRecursion IsNarrow r.state.elements
     → AllByRecursion (StandsIn r.state.definitions) r.state.elements

@@ -32,8 +32,8 @@ ClosedFront =
     IsClosed b closed → length closed ≤ log_limit → IsFront b version records rest
     → IsFront closed version (records ++ aborts (run empty records)) []
 
--- what a restart of a closed log with so many bytes returns: the same state, and all of it is
--- front; the units that were cut off are aborted
+-- what a restart of a closed log of this length returns: the same state, and all of it is front;
+-- the units that were cut off are aborted
 abbrev pub when_closed : Restarted → ℕ → Restarted
 when_closed r total =
     record {

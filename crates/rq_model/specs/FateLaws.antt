@@ -12,7 +12,7 @@ use Rattle.rq_model.specs.Fates.{tries_at, leavings, IsBounded, remains, hears}
 
 -- One fate.
 
--- A number is shown, was done or was killed as often as it was requested
+-- How often a number is shown, was done and was killed adds up to how often it was requested
 abbrev pub OneFate : Type 0
 OneFate = (version : Version) (rs : List Record) (p : ℕ) → all_lawful version empty rs ≡ true
     → shown p (final (run empty rs)) + (done p (with_aborts rs) + kills p (with_aborts rs))
@@ -38,7 +38,7 @@ OthersAreUntaken = (version : Version) (rs : List Record) (p : ℕ)
 -- Elements.
 
 -- an element is as the ENQUEUE of its own number made it; it is where its limits led it; its tries
--- are the limits that it left behind and its attempts
+-- are the limits that it left behind plus its attempts
 pub record IsAsEnqueued (rs : List Record) (s : State) (e : Element) : Type 0 where
   pub unit : ℕ
   pub enqueued : IsEnqueued rs e.id unit e.origin e.priority e.payload
@@ -76,7 +76,7 @@ abbrev pub AttemptsAreTries : Type 0
 AttemptsAreTries = (version : Version) (rs : List Record) → all_lawful version empty rs ≡ true
     → AllByRecursion (λ e. e.attempts ≡ tries_at e.id e.home rs) (run empty rs).elements
 
--- At the end a number was taken as often as it was tried and done
+-- At the end, how often a number was taken is how often it was tried plus how often it was done
 abbrev pub TakesAreTries : Type 0
 TakesAreTries = (version : Version) (rs : List Record) (p : ℕ) → all_lawful version empty rs ≡ true
     → takes p (with_aborts rs) ≡ tries p (with_aborts rs) + done p (with_aborts rs)

@@ -10,7 +10,7 @@ use Rattle.rq_model.specs.Spelling.{is_name}
 unfoldable pub name_left : Reader (List ℕ)
 name_left = tested is_name all
 
--- at most so many bytes, to the end
+-- at most this many bytes, to the end
 unfoldable pub at_most : ℕ → Reader (List ℕ)
 at_most limit = tested (λ bytes. nat_le (length bytes) limit) all
 
@@ -23,7 +23,7 @@ nobody tag = None
 abbrev pub somebody : List ℕ × ℕ → Option By
 somebody x = Some (record { name = x.0; tag = x.1 })
 
--- after the byte 0 nobody, with the tag 0; else a name of so many bytes and a tag
+-- after the byte 0 nobody, with the tag 0; after another byte a name of that many bytes, and a tag
 abbrev pub who_behind : ℕ → Reader (Option By)
 who_behind = case 0 (made nobody (tested is_zero (number 8)))
     (λ n. made somebody (tested is_name (piece n) then number 8))

@@ -179,8 +179,8 @@ pub fn crash_in_the_tail()
     ensures report { CrashSaysTheSame }
 {}
 
-/// A log is closed in one way. The closed log takes its place, also while its tail is written, and
-/// closing it again changes nothing.
+/// A log is closed in one way. The closed log can replace that log, also while its tail is written,
+/// and closing it again changes nothing.
 pub fn closed_logs()
     ensures one { OneClosed }
     ensures front { ClosedFront }
@@ -202,8 +202,8 @@ pub fn appended_logs()
     ensures stays { WrittenStays }
 {}
 
-/// A checkpoint of the state after the front, appended to it, is true, and the report has the same
-/// queue lines.
+/// If a checkpoint of the state after the front is appended to it, the checkpoint is true, and the
+/// report has the same queue lines.
 pub fn appended_checkpoints()
     ensures truth { CheckpointIsTrue }
     ensures queues { CheckpointSaysTheSame }
@@ -322,8 +322,9 @@ pub fn moves_rise()
     ensures arrivals { ArrivalsRise }
 {}
 
-/// No request is lost, done twice or made up. A number is requested at most once; as often as it
-/// was, it is shown, was done or was killed. What no committing unit enqueued was never taken.
+/// No request is lost, done twice or made up. A number is requested at most once. How often it is
+/// shown, was done and was killed adds up to how often it was requested. What no committing unit
+/// enqueued was never taken.
 pub fn one_fate()
     ensures sum { OneFate }
     ensures request { OneRequest }
