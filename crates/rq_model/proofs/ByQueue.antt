@@ -1,4 +1,4 @@
--- A queue alone makes of its operations and of what arrives what the whole machine makes of it.
+-- A queue by itself makes of its operations and of what arrives what the whole machine makes of it.
 use Rattle.std.proofs.Common.{◌≡◌, ℕ, ◌+◌, ◌<◌, ◌≤◌, Bool, true, false, cond, List, [], ◌∷◌, ◌++◌, map, refl, sym, ap}
 use Rattle.std.proofs.Common.{◌∙◌, subst, arith}
 use Rattle.std.specs.Prelude.{◌==◌, nat_lt, nat_le, ⊤}

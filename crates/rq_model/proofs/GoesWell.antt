@@ -23,7 +23,7 @@ use Rattle.rq_model.proofs.ByQueue.{Since, At, OpsSince, arrivals_at, arrivals_o
 use Rattle.rq_model.proofs.ByQueue.{receive-append, before_all, from_none, since_before, since_from}
 use Rattle.rq_model.proofs.Apart.{Apart, are_new, new_append}
 
--- what an operation meets, where these arrivals come first and those later
+-- what an operation finds, if these arrivals come first and those later
 abbrev Meets : Part → Op → List Op → List Move × List Move → Type 0
 Meets p op ops ms = AreNew ms.0 p.elements
     × (IsReady op.place op.does (receive ms.0 p) × GoesWell (act op.place op.does (receive ms.0 p)) ops ms.1)

@@ -1,4 +1,4 @@
--- The end of a unit goes over the queues that the unit named.
+-- The end of a unit, over the queues that the unit named.
 use Rattle.std.proofs.Common.{◌≡◌, ℕ, ◌+◌, ◌<◌, Bool, true, false, cond, not, ◌&&◌, ◌||◌, List, [], ◌∷◌, ◌++◌, map}
 use Rattle.std.proofs.Common.{length, refl, sym, ap, subst, ◌∙◌, arith}
 use Rattle.std.specs.Prelude.{◌==◌, if◌then◌else◌, IsPermutation}
@@ -137,7 +137,7 @@ any_end : (q : ℕ) (qs : List ℕ) (k : ℕ) → list_any (λ v. v == k) (qs ++
 any_end q [] k = grind arith
 any_end q (p ∷ qs) k = ap (λ b. (p == k) || b) (any_end q qs k) ∙ grind arith
 
--- what passes one of two tests that no one passes together, after what passes the other
+-- what passes one of two tests that are never both passed, after what passes the other
 both_tests : (p r w : Transfer → Bool) → ((t : Transfer) → w t ≡ (p t || r t)) → ((t : Transfer) → p t ≡ true → r t ≡ false)
     → (ts : List Transfer) → IsPermutation (map (λ (t : Transfer). t.move) (filter w ts))
     (map (λ (t : Transfer). t.move) (filter p ts) ++ map (λ (t : Transfer). t.move) (filter r ts))

@@ -1,4 +1,4 @@
--- The end of a unit, queue by queue: it goes over the queues that the unit named, in any order.
+-- The end of a unit, queue by queue: over the queues that the unit named, in any order.
 use Rattle.std.specs.Prelude.{◌≡◌, ◌<◌, ◌==◌, ℕ, Bool, true, false, cond, List, [], ◌∷◌, ◌++◌}
 use Rattle.std.specs.Prelude.{length, map, filter, IsPermutation}
 use Rattle.std.specs.List.{list_any}
@@ -27,8 +27,8 @@ abbrev pub aborted_part : State → ℕ → ℕ → Bool → Part
 aborted_part s unit queue named =
     cond named (act s.next (Abort unit) (part_of s queue)) (part_of s queue)
 
--- To end a unit twice in a queue is to end it once, and nothing leaves the second time. What leaves
--- the queues that the unit named is all that moves, and it may arrive in any order
+-- Ending a unit twice in a queue is ending it once, and nothing leaves the second time. All that
+-- moves leaves the queues that the unit named, and it may arrive in any order
 pub record UnitEndsByParts : Type 0 where
   pub commits_once : (unit : ℕ) (p : Part) →
       act 0 (Commit unit) (act 0 (Commit unit) p) ≡ act 0 (Commit unit) p

@@ -1,4 +1,4 @@
-//! Whether bytes have the form of a state, told without memory.
+//! Whether bytes have the form of a state, found without memory.
 
 ghost use Rattle.std.specs.Prelude.{◌≡◌, [], option_map};
 ghost use Rattle.rq_bytes.specs.Readers.{number, members, counted_members, after_of};

@@ -1,4 +1,4 @@
-//! The lists of a state, each behind its count.
+//! The lists of a state, each after its count.
 
 ghost use Rattle.std.specs.Prelude.{[], map};
 ghost use Rattle.rq_state.specs.Views.{unit_of};

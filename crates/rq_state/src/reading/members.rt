@@ -1,5 +1,5 @@
-//! Members of a state from the front of the bytes that are left. After `None` nothing is said of
-//! what is left, and nobody reads on.
+//! Members of a state from the front of the bytes that are left. After `None`, what is left is not
+//! specified, and nobody reads on.
 
 ghost use Rattle.std.specs.Prelude.{◌≡◌, ◌≤◌, ℕ, List, Option, length, option_map, IfSome, Some};
 ghost use Rattle.rq_model.specs.StateReading.{name_read, definition_read, id_from, id_read};
@@ -219,7 +219,7 @@ pub(crate) trait Member: Drop {
     fn take(alloc: Global, bytes: &mut Cursor<'_>) -> Result<Self, Fault>
         ensures { GivesFromCheckpoint (λ x. (x, bytes.new)) result (read bytes.old) };
 
-    /// Goes past it, and takes no memory.
+    /// Goes past a member, and takes no memory.
     fn pass(bytes: &mut Cursor<'_>) -> Option<()>
         ensures { option_map (λ done. (done, bytes.new)) result ≡ passed read bytes.old };
 }

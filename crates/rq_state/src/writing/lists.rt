@@ -1,4 +1,4 @@
-//! The lists of a state, each behind its count.
+//! The lists of a state, each after its count.
 
 ghost use Rattle.std.specs.Prelude.{◌<◌, length, map};
 ghost use Rattle.std.specs.Int.{w64, to_be_bytes};

@@ -1,4 +1,4 @@
-//! Members of a state behind what is spelled already.
+//! Appends members of a state to what is spelled already.
 
 ghost use Rattle.std.specs.Prelude.{◌≡◌, ◌++◌, ◌∷◌, [], ℕ, List, length};
 ghost use Rattle.std.specs.Int.{w16, w64, to_be_bytes};
@@ -101,7 +101,7 @@ pub(crate) fn put_element(out: &mut Vec<u8>, element: &KeptElement) -> Result<()
     put_element_end(out, element)
 }
 
-// The kind, the tag and the element of a note's operation: its place stands in front.
+// The kind, the tag and the element of a note's operation; its place comes before them.
 fn put_done(out: &mut Vec<u8>, last: &Last) -> Result<(), AllocError>
     ensures { PutsSpelling out.old.items out.new.items
         (kind_byte last.now.kind ∷ (to_be_bytes w64 last.now.tag
@@ -138,7 +138,7 @@ pub(crate) trait Spell: Drop {
     fn put(&self, out: &mut Vec<u8>) -> Result<(), AllocError>
         ensures { PutsSpelling out.old.items out.new.items (spelling self.now) result };
 
-    /// How many bytes that has.
+    /// How many bytes its spelling has.
     fn size(&self) -> u32
         ensures { result ≡ length (spelling self.now) };
 }

@@ -1,4 +1,4 @@
-//! How long a spelling is, told before the first byte of it.
+//! How long a spelling is, known before its first byte is written.
 
 ghost use Rattle.std.specs.Prelude.{◌≡◌, ◌≤◌, ◌*◌, length, map};
 ghost use Rattle.std.specs.List.{flat_map};
@@ -77,15 +77,15 @@ fn units_size(members: &[UnitNo]) -> u128
     8 * members.len() as u128
 }
 
-/// The number of bytes that spell a state, also where they are more than a checkpoint holds. It
-/// takes no memory.
+/// The number of bytes that spell a state, also if they are more than a checkpoint holds. It takes
+/// no memory.
 pub fn spelled_len(state: &State) -> u128
     ensures { result ≡ length (state_bytes state.now) }
 {
     fields_len(state.fields())
 }
 
-/// The same of fields whose lists are in order.
+/// The same for fields whose lists are in order.
 pub fn fields_len(fields: &KeptFields) -> u128
     ensures { result ≡ length (state_bytes (state_of fields.now)) }
 {
