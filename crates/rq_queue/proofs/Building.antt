@@ -72,7 +72,7 @@ marked_more items free rest old new e s taken h =
         (IsPermutation-sym ((s.left ++ s.list) ++ e ∷ s.right) (e ∷ ((s.left ++ s.list) ++ s.right))
         (IsPermutation-middle (s.left ++ s.list) e s.right)))
 
--- keys differ where ids do
+-- keys differ if ids do
 free_total : IsTotalOrder free_cmp
 free_total = then_total (on_total (λ (k : Reverse ℕ × ℕ). k.0.0) (back_total nat_cmp_total))
     (on_total (λ (k : Reverse ℕ × ℕ). k.1) nat_cmp_total)

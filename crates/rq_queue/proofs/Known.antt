@@ -159,7 +159,7 @@ pub known_unsorted : (o : Option (BTreeMap ℕ ℕ)) (es : List Element) → Are
 known_unsorted None es h = tt
 known_unsorted (Some by_id) es h = each_unsorted (IsKnown by_id.entries) es h
 
--- The element of an id, where its priority is known.
+-- The element of an id, if its priority is known.
 
 no_such : (id : ℕ) (by_id : List (ℕ × ℕ)) → lookup (is_at (nat_cmp id)) by_id ≡ None → (e : Element) → IsKnown by_id e
     → not (e.id == id) ≡ true

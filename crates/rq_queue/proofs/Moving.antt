@@ -54,7 +54,7 @@ taken law unit queue e free held t first rest apart =
         (each_weaker (λ (f : Element). e.id ≢ f.id) (λ (f : Element). f.id ≢ e.id) (λ f n s. n (sym s))
         (free ++ held) apart.0)
 
--- where none is Free, nothing changes
+-- if none is Free, nothing changes
 pub none_held : (unit queue : ℕ) (es : List Element) → AllByRecursion (λ f. is_free_at queue f ≡ false) es
     → sorted es ≡ best_held unit queue (sorted es)
 none_held unit queue es h =

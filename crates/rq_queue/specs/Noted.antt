@@ -1,5 +1,5 @@
--- How the notes of a queue are kept: by place, and under each unit and registrant the places where
--- its notes stand.
+-- How the notes of a queue are kept: by place, and under each unit and registrant the places of its
+-- notes.
 use Rattle.std.specs.Prelude.{◌≡◌, ◌≢◌, ◌<◌, ◌==◌, ℕ, Bool, true, false, not, ◌&&◌, List, Option}
 use Rattle.std.specs.Prelude.{Some, None, [], ◌∷◌, ◌++◌, filter}
 use Rattle.std.specs.BTreeMap.{is_at}

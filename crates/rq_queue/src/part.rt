@@ -121,7 +121,7 @@ impl Part {
         add(fields, elements, registrants, notes)
     }
 
-    /// The same of fields that are kept, to which the elements themselves go.
+    /// The same for fields that are kept: the elements themselves go there.
     pub fn pour_kept(self, fields: &mut KeptFields) -> Result<(), Fault>
         ensures elements { Grows fields.old.elements.items
             self.elements fields.new.elements.items result }

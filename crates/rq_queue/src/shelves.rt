@@ -70,7 +70,8 @@ pub(crate) fn stow(
     Ok(marked)
 }
 
-/// Takes those that units mark out of elements, to stand with their units: Free ones are left.
+/// Takes the elements that units mark out of the list, and puts them with their units. Free ones
+/// are left.
 pub(crate) fn parted(
     alloc: Global,
     items: Vec<KeptElement>,
@@ -155,8 +156,8 @@ pub(crate) fn all_freed(
     Ok(free)
 }
 
-/// Puts what an ABORT of the unit leaves of its elements under their keys. Those that leave the
-/// queue.
+/// Puts what an ABORT of the unit leaves of its elements under their keys. Answers those that leave
+/// the queue.
 pub(crate) fn all_returned(
     alloc: Global,
     free: BTreeMap<Rank, KeptElement>,
