@@ -103,8 +103,7 @@ analysis_of_beginning version s rs more all a lawful is whole =
       subst (λ (xs : List Record). IsAnalysis version s xs a) (sym first) is,
     )
 
--- an analysis of lawful records by one version's rules is one by another's, if they are lawful in
--- it
+-- if records are lawful in two versions, an analysis by the one is an analysis by the other
 analysis_elsewhere : (version other : Version) (s : State) (rs : List Record) (a : Analysis)
     → all_lawful version s rs ≡ true → all_lawful other s rs ≡ true → IsAnalysis version s rs a
     → IsAnalysis other s rs a
