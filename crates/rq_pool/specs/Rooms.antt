@@ -18,7 +18,7 @@ use Rattle.rq_pool.specs.Sources.{source_id, stolen}
 use Rattle.rq_pool.specs.Holdings.{Holds}
 use Rattle.rq_pool.specs.Vaults.{reach}
 
--- the deques of the room, as the seat names them that its vault was told of
+-- the deques of the room, named by the seat that its vault was told of
 abbrev pub ids_of : DequeRoom → List DeckId
 ids_of room = reach room.vault.table.shared.key
 
@@ -44,7 +44,7 @@ seats_in (Several room) = length (ids_of room)
 abbrev pub seats_of : Room → ℕ
 seats_of room = seats_in room.body
 
--- what a seat alone, or one beside others, has taken
+-- what a seat has taken, alone or beside others
 abbrev pub taken_in : Place → List ℕ
 taken_in (Alone seat) = seat.taken.items
 taken_in (Beside seat) = seat.taken.items
