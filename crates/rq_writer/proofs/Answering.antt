@@ -50,7 +50,7 @@ tells_none : (version : Version) (text : List ℕ) → line_at version text ≡ 
 tells_none version text none l tells = let found : line_at version text ≡ Some l =
     ap (line_at version) tells.1 ∙ line_again version l tells.0 in absurd cc
 
--- an answer that is not for want of memory
+-- an answer other than a refusal of memory
 abbrev IsOther : Result (List ℕ) Fault → Type 0
 IsOther (Err faults.Resources) = ⊥
 IsOther r = ⊤
@@ -70,7 +70,7 @@ untold version script ls rs rest begins some none =
     let result : Result (List ℕ) Fault = Err (faults.Script (length ls + 1)) in
     (result, ((ls, rs, rest, record { begins = begins; some = some; none = none; is = refl }), is_other result tt))
 
--- the next line adds a record: the log has no room for it, or all goes on behind it
+-- the next line adds a record: the log has no room for it, or all goes on after it
 one_more : (version : Version) (script : List ℕ) (ls : List Line) (rs : List Record) (rest : List ℕ)
     (x : List ℕ × List ℕ) (l : Line) (r : Record) → BeginsWithLines version script ls rs rest → AreLogged version rs
     → Some x ≡ cut_at 10 rest → Tells version l x.0 → Adds version rs l r

@@ -39,7 +39,7 @@ Adds version rs (Told told) r = r ≡ told
 Adds version rs Spelled r = (s : State) × IsStateOf version rs s
     × (length (state_bytes s) ≤ spelling_limit) × (r ≡ Checkpoint (state_bytes s))
 
--- the records that lines add, one after the other, behind those before
+-- the records that lines add, one after the other, after those before
 abbrev pub AreAdded : Version → List Record → List Line → List Record → Type 0
 AreAdded version before [] after = after ≡ before
 AreAdded version before (l ∷ ls) after = (r : Record) × Adds version before l r
