@@ -148,7 +148,7 @@ same_numbers [] i x at = refl
 same_numbers (u ∷ units) zero x at = ap (λ v. v ∷ numbers units) (sym (some_is u.number x.number at))
 same_numbers (u ∷ units) (suc i) x at = ap (λ l. u.number ∷ l) (same_numbers units i x at)
 
--- Only what is behind those below has to be looked at.
+-- Only what comes after those below has to be looked at.
 
 pub behind : (units : List Unit) (k n : ℕ) → AllByRecursion (λ v. v < n) (numbers (take k units))
     → unit_in units n ≡ unit_in (drop k units) n
@@ -261,7 +261,7 @@ pub not_found : (units : List Unit) (n : ℕ) → list_any (λ (u : Unit). is_eq
 not_found [] n h = refl
 not_found (u ∷ units) n h = grind (arith, not_found units n)
 
--- if the search looks only at what is behind those below
+-- if the search looks only at what comes after those below
 module _ (units tail : List Unit) (k n i : ℕ) (part : tail ≡ drop k units) where
   pub found_behind : i < length tail → ((d : Unit) → nat_cmp (slice_index_or tail i d).number n ≡ Equal)
       → HasNumber units (k + i) n
