@@ -25,7 +25,7 @@ use Rattle.rq_queue.proofs.Sorting.{apart_into, each_front, each_put, each_sorte
 use Rattle.rq_queue.proofs.Sorting.{filter_sorted}
 use Rattle.rq_queue.proofs.Units.{Lists, same_key}
 
--- what stands under an id once it is put there, and under all others
+-- what is under an id after it is put there, and under all others
 equal_keys : (k : ℕ) → is_eq (nat_cmp k k) ≡ true
 equal_keys k = grind (arith)
 

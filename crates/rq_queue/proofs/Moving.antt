@@ -33,7 +33,7 @@ less_leads p i q j h = (
 pub behind : (queue : ℕ) (e f : Element) → rank_cmp (e.priority, e.id) (f.priority, f.id) ≡ Less → IsBehind queue e f
 behind queue e f h free = less_leads e.priority e.id f.priority f.id h
 
--- e stands in front, is Free, and goes to the end as Held
+-- e is at the front, is Free, and goes to the end as Held
 pub taken : PutInAnyOrder → (unit queue : ℕ) (e : Element) (free held : List Element) → is_free_at queue e ≡ true
     → AllByRecursion (IsBehind queue e) free → AllByRecursion (λ f. is_free_at queue f ≡ false) held
     → Apart (e ∷ free ++ held)

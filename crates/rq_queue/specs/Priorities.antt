@@ -6,7 +6,7 @@ use Rattle.std.specs.Map.{lookup}
 use Rattle.std.specs.Ordering.{nat_cmp}
 use Rattle.rq_model.specs.States.{Element}
 
--- the priority of the element stands under its id
+-- the priority of the element is kept under its id
 abbrev pub IsKnown : List (ℕ × ℕ) → Element → Type 0
 IsKnown by_id e = lookup (is_at (nat_cmp e.id)) by_id ≡ Some e.priority
 

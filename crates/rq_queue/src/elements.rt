@@ -24,7 +24,7 @@ use std::collections::BTreeMap;
 use std::marker::Model;
 
 /// The elements of a queue, by id. Free ones are ordered by priority and id, so that the best one
-/// is the first; the others stand with the unit that marks them. So an operation costs the
+/// is the first; the others are kept with the unit that marks them. So an operation costs the
 /// logarithm of their number for each element that it changes.
 ///
 /// From the first KILL on, the priority of each element is kept under its id, since a KILL names no

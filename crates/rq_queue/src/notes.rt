@@ -20,9 +20,9 @@ use std::alloc::Global;
 use std::collections::BTreeMap;
 use std::marker::Model;
 
-/// The notes of a queue, by place. The places of its notes stand under each unit and each
-/// registrant, so that the end of a unit and a DEREGISTER cost only their own notes. Such a list
-/// may keep the place of a note that has gone: it only says where to look.
+/// The notes of a queue, by place. The places of its notes are listed under each unit and each
+/// registrant, so that the end of a unit and a DEREGISTER cost only their own notes. A list may
+/// keep the place of a note that has gone: it only says where to look.
 #[derive(Drop)]
 pub struct Notes {
     all: BTreeMap<u64, KeptNote>,

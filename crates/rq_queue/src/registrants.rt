@@ -45,7 +45,7 @@ impl Registrants {
         }
     }
 
-    /// These registrants, which are in order.
+    /// These registrants, in order.
     pub(crate) fn of(alloc: Global, items: Vec<Registrant>) -> Result<Registrants, Fault>
         requires { Ordered (λ r t. model.registrant_before r t ≡ true) items.items }
         ensures done { IfOk result (λ v. v ≡ items.items) }
