@@ -39,7 +39,7 @@ pub record IsStocked (n m : ℕ) (deck : Deck) : Type 0 where
   pub reserved : n ≤ vec_capacity deck.passes
   pub owner : deck.owner ≡ None
 
--- the owner of the deck's deque, of which each of n seats has one part
+-- the owner of the deck's deque; n seats have one part each
 abbrev pub IsOwnerOf : ℕ → Deck → Worker ℕ Global Share DealRule → Type 0
 IsOwnerOf n deck o = (worker_deque o ≡ stealer_deque deck.thief) × (worker_flavor o ≡ 0)
     × ((worker_view o).dealt ≡ deck.list.items) × ((worker_view o).parts + n ≡ 256)
