@@ -55,7 +55,7 @@ pub record IsChainOf (job : Job) (chain : CountdownChain) : Type 0 where
 abbrev pub HasPasses : CountdownChain → ℕ → Type 0
 HasPasses chain workers = All (λ c. passes_of c ≡ workers) chain.countdowns.items
 
--- there is such a queue, and it is no queue's error queue
+-- the queue exists, and it is no queue's error queue
 abbrev pub IsBare : Job → ℕ → Type 0
 IsBare job queue = (queue < length job.definitions.now) × (listed job.sources.now queue ≡ [])
 
