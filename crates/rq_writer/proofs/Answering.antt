@@ -63,7 +63,7 @@ made : (version : Version) (script : List ℕ) (ls : List Line) (rs : List Recor
 made version script ls rs begins =
     (Ok (log_of version rs), ((ls, rs, begins, refl), is_other (Ok (log_of version rs)) tt))
 
--- what stands next is no line
+-- what comes next is no line
 untold : (version : Version) (script : List ℕ) (ls : List Line) (rs : List Record) (rest : List ℕ)
     → BeginsWithLines version script ls rs rest → 0 < length rest → NoLine version rest → HasAnswer version script
 untold version script ls rs rest begins some none =
@@ -140,7 +140,7 @@ at_line version laws script ls rs rest x Spelled begins logged found tells later
           (s, is, short, refl) later
     ]
 
--- what stands next, cut at its first LF: a text that is read as a line, or as none
+-- what comes next, cut at its first LF: a text that is read as a line, or as none
 at_text : (version : Version) → FrontLaws → (script : List ℕ) (ls : List Line) (rs : List Record) (rest : List ℕ)
     (x : List ℕ × List ℕ) (o : Option Line) → BeginsWithLines version script ls rs rest → AreLogged version rs
     → 0 < length rest → Some x ≡ cut_at 10 rest → line_at version x.0 ≡ o
@@ -163,7 +163,7 @@ at_rest version laws script ls rs rest (Some x) begins logged some found later =
     at_text version laws script ls rs rest x (line_at version x.0) begins logged some (sym found) refl
     (later x (sym found))
 
--- what stands behind a line is shorter
+-- what comes after a line is shorter
 shorter : (n : ℕ) (rest : List ℕ) (x : List ℕ × List ℕ) → length rest ≤ suc n → Some x ≡ cut_at 10 rest
     → length x.1 ≤ n
 shorter n rest x few found =

@@ -69,7 +69,7 @@ longer version joins before (l ∷ ls) after h =
 data End : Type 0 where
   Done Untold Large Long : End
 
--- behind the lines that added these records: nothing, no line, a checkpoint of a state that is too
+-- after the lines that added these records: nothing, no line, a checkpoint of a state that is too
 -- large, or a line for which the log has no room
 abbrev Ends : Version → List Record → List ℕ → End → Type 0
 Ends version rs rest Done = rest ≡ []

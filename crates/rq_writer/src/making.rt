@@ -12,7 +12,7 @@ use rq_record::{Fault, Version};
 use std::alloc::Global;
 use std::thread::Threads;
 
-/// The text of the next line of a script, and what stands after it. `Script` with the line's number
+/// The text of the next line of a script, and what comes after it. `Script` with the line's number
 /// if it has no end.
 pub fn line_at(number: u64, rest: &[u8]) -> Result<(&[u8], &[u8]), Fault>
     ensures { NextLine (λ x. (x.0.now, x.1.now)) number rest.now result }
