@@ -239,7 +239,7 @@ engaged_none units n k u q h =
     (subst (λ m. unit_in units m ≡ None) (eqb-true n u e) h))))
     (λ _ _. ap (λ b. b || engages_at units u q) (sym (and_false (has_unit units u)))) refl
 
--- What a search by halves says.
+-- What a binary search says.
 
 equal_numbers : (a b : ℕ) → nat_cmp a b ≡ Equal → a ≡ b
 equal_numbers a b e = grind arith

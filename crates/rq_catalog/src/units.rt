@@ -51,7 +51,7 @@ impl Model for Units {
     ghost invariant = { λ u. Ordered (λ a b. a < b) (numbers u.list.items) };
 }
 
-// The index from which on the unit stands, if it is there at all.
+// The unit stands at this index or after it, if it is there at all.
 fn search_from(units: &[Unit], number: u64) -> usize
     requires { Ordered (λ a b. a < b) (numbers units.now) }
     ensures bound { result ≤ length units.now }
