@@ -10,7 +10,7 @@ use Rattle.rq_model.specs.States.{Element}
 abbrev pub IsKnown : List (ℕ × ℕ) → Element → Type 0
 IsKnown by_id e = lookup (is_at (nat_cmp e.id)) by_id ≡ Some e.priority
 
--- so does that of each element, if priorities are kept
+-- so is that of each element, if priorities are kept
 abbrev pub AreKnown : Option (BTreeMap ℕ ℕ) → List Element → Type 0
 AreKnown None es = ⊤
 AreKnown (Some by_id) es = AllByRecursion (IsKnown by_id.entries) es

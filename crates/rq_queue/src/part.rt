@@ -220,8 +220,8 @@ impl Part {
         Ok(())
     }
 
-    /// Aborts a unit in the queue, and adds what leaves it for its error queue. A part that refuses is
-    /// of no more use.
+    /// Aborts a unit in the queue, and adds what leaves it for its error queue. A part that refuses
+    /// is of no more use.
     pub fn abort(
         &mut self,
         alloc: Global,

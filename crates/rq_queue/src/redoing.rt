@@ -41,8 +41,8 @@ fn make_room(ops: &[KeptOp], done: usize, sent: &mut Vec<KeptMove>) -> Result<()
     Ok(())
 }
 
-// Does the operations from an index in the list on, if their place is `until` or before. Answers
-// how many are done then.
+// Does the operations from an index in the list on, as far as their places are `until` or before.
+// Answers how many are done then.
 fn catch_up(
     alloc: Global,
     part: &mut Part,
