@@ -19,7 +19,7 @@ abbrev pub kept_from : {T : Type 0} → ℕ → ℕ → List (Made T) → List T
 kept_from i zero ms = []
 kept_from i (suc n) ms = kept_for i ms ++ kept_from (suc i) n ms
 
--- what the passes were given that were told Last
+-- what the arrivals that were told Last were given
 abbrev pub told_lists : {T : Type 0} → List (Made T) → List (List T)
 told_lists [] = []
 told_lists (m ∷ ms) = add_some m.told (told_lists ms)

@@ -39,7 +39,7 @@ module _ {T : Type 0} where
   kept_from i zero es = []
   kept_from i (suc n) es = kept_for i es ++ kept_from (suc i) n es
 
-  -- what the arrivals were given that were answered Last
+  -- what the arrivals that were answered Last were given
   abbrev pub last_lists : List (Entry T) → List (List T)
   last_lists = flat_map (λ e. if_last e.answer)
 
