@@ -22,7 +22,7 @@ module _ {g : Ghosts Outbox Target} where
     pub passes : passes_of c ≡ workers
     pub blank : All (λ p. history_of p ≡ []) column.items
 
-  -- a countdown more, if the queue has sources, and its passes
+  -- if the queue has sources, one more countdown, and its passes
   pub record AddsCountdown (job : Job) (workers queue : ℕ)
       (countdowns : List (Countdown Outbox Target)) (columns : List (Vec (Pass Outbox Target g)))
       (slot : ℕ) (after : List (Countdown Outbox Target)) (more : List (Vec (Pass Outbox Target g)))
