@@ -1,4 +1,4 @@
-//! Records, elements and moves as a caller writes them, only by their types, and the calls that
+//! Records, elements and moves as a caller writes them, using only their types, and the calls that
 //! take them.
 
 ghost use Rattle.std.specs.Prelude.{◌≡◌, ℕ, List, IfOk};

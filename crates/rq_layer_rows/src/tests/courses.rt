@@ -76,8 +76,8 @@ fn lawful_of(alloc: Global, records: Vec<Record>) -> Result<Lawful, Fault> {
 }
 
 // The state after the records, and how the replay went: one thread redid a queue, once, and no
-// other did. If queues lead to it, this is the thread that was told Last, once, and nobody else was
-// told so.
+// other did. For an error queue that queues lead to, this is the thread that was told Last, once,
+// and nobody else was told so.
 fn traced<R: Threads + Sync + AllocGlobal, G: Gate + Sync>(
     rt: &R,
     lawful: &Lawful,

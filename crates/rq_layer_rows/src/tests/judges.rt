@@ -58,8 +58,8 @@ fn agree(
     Ok(says == want && found == want)
 }
 
-// The first place where they do not agree. The judge goes on after unlawful records. It need not
-// drop what it borrows at each of its ends.
+// The first place where they do not agree. The judge goes on after unlawful records. What this
+// function borrows, it need not drop at each of its ends.
 fn first_of(
     alloc: Global,
     version: Version,
