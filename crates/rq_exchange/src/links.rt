@@ -50,8 +50,8 @@ fn list(lists: &mut Vec<Vec<u32>>, number: u32, queue: u32) -> Result<u32, Fault
     Ok(rank as u32)
 }
 
-/// The sources of each of this many queues, which are those whose error queue it is, and the rank
-/// of each queue among the sources of its error queue.
+/// The sources of each of the first `count` queues, which are those whose error queue it is, and
+/// the rank of each queue among the sources of its error queue.
 pub(crate) fn sources_of(
     alloc: Global,
     count: usize,
