@@ -24,8 +24,8 @@ pub fn line_at(number: u64, rest: &[u8]) -> Result<(&[u8], &[u8]), Fault>
 }
 
 /// The log of a script in a version: the header, then one frame for each line. Records are written
-/// as told, unlawful ones too. A line `checkpoint` is told the state after the front of the log so
-/// far. A line `kill` is a line only in version 2.
+/// as told, unlawful ones too. A line `checkpoint` becomes a checkpoint of the state after the
+/// front of the log so far. A line `kill` is a line only in version 2.
 ///
 /// The fault of the earliest line that has one: `Script` with its number, counted from 1, if it is
 /// no line; `TooLarge` for a `checkpoint` whose spelling has more than 268,435,455 bytes; `TooLong`
