@@ -11,7 +11,7 @@ use crate::judge::Judge;
 use rq_record::{KeptBy, KeptRecord, Name, QueueNo, UnitNo, Version};
 use std::fmt;
 
-// The most queues that there are.
+// The greatest number of queues.
 const QUEUES: usize = 4096;
 
 // The greatest limit of a queue.
@@ -124,7 +124,7 @@ impl Judge {
         }
     }
 
-    // A rule that a record breaks which is not lawful. Each checkpoint is lawful.
+    // A rule that an unlawful record breaks. Each checkpoint is lawful.
     fn rule_of(&self, next: &KeptRecord) -> Option<Rule>
         ensures { (version : records.Version) (s : State) →
             machine.is_lawful version s (record_of next.now) ≡ false → is_some result ≡ true }
@@ -152,8 +152,8 @@ impl Judge {
         })
     }
 
-    /// A rule that the record breaks behind those that were taken; none exactly if it is lawful
-    /// there. Which rule that is, is tested.
+    /// A rule that the record breaks after those that were taken; none exactly if it is lawful
+    /// there. Tests check which rule it is.
     pub fn broken(&self, next: &KeptRecord) -> Option<Rule>
         ensures unlawful { IfSome result (λ _. (version : records.Version) (s : State) →
             StandsIn version self.now s → machine.is_lawful version s (record_of next.now) ≡ false) }

@@ -20,9 +20,9 @@ use std::alloc::Global;
 use std::collections::BTreeMap;
 use std::marker::Model;
 
-/// The notes of a queue, by place. Under each unit and each registrant stand the places of its
-/// notes, so that the end of a unit and a DEREGISTER cost their own notes alone. Such a list may
-/// keep the place of a note that has gone: it is only where to look.
+/// The notes of a queue, by place. The places of its notes are listed under each unit and each
+/// registrant, so that the end of a unit and a DEREGISTER cost only their own notes. A list may
+/// keep the place of a note that has gone: it only says where to look.
 #[derive(Drop)]
 pub struct Notes {
     all: BTreeMap<u64, KeptNote>,
@@ -94,7 +94,7 @@ impl Notes {
         listed(alloc, self.all)
     }
 
-    /// Adds the note of an operation, where somebody is named.
+    /// Adds the note of an operation, if somebody is named.
     pub fn note(
         self,
         alloc: Global,

@@ -121,7 +121,7 @@ impl Part {
         add(fields, elements, registrants, notes)
     }
 
-    /// The same of fields that are kept, to which the elements themselves go.
+    /// The same for fields that are kept: the elements themselves go there.
     pub fn pour_kept(self, fields: &mut KeptFields) -> Result<(), Fault>
         ensures elements { Grows fields.old.elements.items
             self.elements fields.new.elements.items result }
@@ -204,7 +204,7 @@ impl Part {
         Ok(())
     }
 
-    /// Commits a unit in the queue. A part that refuses is of no more use.
+    /// Commits a unit in the queue. A part that refuses is no longer of use.
     pub fn commit(&mut self, alloc: Global, unit: UnitNo) -> Result<(), Fault>
         ensures done { OnOk result
             (self.new ≡ redo_words.act 0 (records.Commit unit.0) self.old) }
@@ -220,8 +220,8 @@ impl Part {
         Ok(())
     }
 
-    /// Aborts a unit in the queue, and adds what leaves it for its error queue. A part that refuses is
-    /// of no more use.
+    /// Aborts a unit in the queue, and adds what leaves it for its error queue. A part that refuses
+    /// is no longer of use.
     pub fn abort(
         &mut self,
         alloc: Global,
@@ -279,7 +279,7 @@ impl Part {
         Ok(())
     }
 
-    /// Does one operation of the queue. A part that refuses is of no more use.
+    /// Does one operation of the queue. A part that refuses is no longer of use.
     pub fn act(&mut self, alloc: Global, op: &KeptOp, sent: &mut Vec<KeptMove>) -> Result<(), Fault>
         requires ready { IsReady op.now.place op.now.does self.old }
         ensures part { OnOk result

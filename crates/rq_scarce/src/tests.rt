@@ -14,8 +14,7 @@ use std::io::Cursor;
 use std::test::Fail;
 use std::thread::Threads;
 
-// An element of `jobs` goes to `dead` at its second abort, where `ann` finds it at its second
-// look.
+// An element of `jobs` goes to `dead` at its second abort; `ann` finds it there at its second look.
 const ARRIVAL: [&str; 18] = [
     "define dead 0 -",
     "define jobs 2 0",
@@ -37,7 +36,7 @@ const ARRIVAL: [&str; 18] = [
     "commit 5",
 ];
 
-// A checkpoint with a unit open, which commits behind it.
+// A checkpoint with a unit open, which commits after it.
 const CHECKPOINT: [&str; 10] = [
     "define jobs 0 -",
     "register 0 ann",
@@ -85,7 +84,7 @@ fn lines(alloc: Global, lines: &[&str]) -> Result<Vec<u8>, Fail> {
     Ok(bytes)
 }
 
-// How a command ends, and nothing of what else is known of it.
+// How a command ends, without what else is known about it.
 fn acted<R, I, O>(rt: &R, command: &Command<'_>, input: &mut I, output: &mut O) -> Result<(), Fault>
 where
     R: Threads + Sync + AllocGlobal,

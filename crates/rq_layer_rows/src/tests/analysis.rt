@@ -13,8 +13,7 @@ const FIRST: Who = Some(("ann", 70));
 
 const SECOND: Who = Some(("ann", 71));
 
-// An element of `jobs` goes to `dead` at its second abort, where `ann` finds it at its second
-// look.
+// An element of `jobs` goes to `dead` at its second abort; `ann` finds it there at its second look.
 const ARRIVAL: [Plain; 18] = [
     Define(0, NO_QUEUE, "dead"),
     Define(2, 0, "jobs"),
@@ -60,8 +59,8 @@ fn touch(analysis: &Analysis, queue: u32, places: &[u64]) -> bool {
     touching.map(|at| at.0).eq(places.iter().copied())
 }
 
-// How many of these records are lawful, and whether the outcomes are told, and which records touch
-// each queue.
+// How many of these records are lawful, whether the outcomes are told, and which records touch each
+// queue.
 fn told(alloc: Global) -> Result<(usize, bool, bool), Fail> {
     let records = records_of(alloc, &ARRIVAL)?;
     let analysis = analyse(alloc, &State::empty(alloc), &records)?;

@@ -1,4 +1,4 @@
-//! Records, elements and moves as a caller writes them, by their types alone, and the calls that
+//! Records, elements and moves as a caller writes them, using only their types, and the calls that
 //! take them.
 
 ghost use Rattle.std.specs.Prelude.{◌≡◌, ℕ, List, IfOk};
@@ -269,7 +269,7 @@ fn built(alloc: Global, queue: Name, ann: Name, payload: Payload) -> Result<Stat
     State::build(alloc, fields)
 }
 
-// The part of its queue behind a KILL of the element, and what left it.
+// The part of its queue after a KILL of the element, and what left it.
 fn killed(alloc: Global, state: &State) -> Result<(Part, Vec<Move>), Fault>
     requires { (queue ann payload : List ℕ) × (state.now ≡ by_hand queue ann payload) }
 {

@@ -1,4 +1,4 @@
-//! Where the frames of a log stand.
+//! Where the frames of a log are.
 
 use super::lanes::{Framed, log_of_lengths};
 use rq_front::{Chain, Rest, chain, walk};
@@ -6,11 +6,11 @@ use rq_record::Fault;
 use std::test::Fail;
 use std::thread::Threads;
 
-// How long the bodies are of a queue's definition, a unit's begin, an element and the unit's
+// The lengths of the bodies of a queue's definition, a unit's begin, an element and the unit's
 // commit.
 const LENGTHS: [usize; 4] = [11, 9, 24, 9];
 
-// The chain from a place of the log, where there may be one.
+// The chain from a place of the log, if there may be one.
 fn chain_from<R: Threads + Sync + AllocGlobal>(
     rt: &R,
     log: &[u8],
@@ -25,7 +25,7 @@ fn chain_from<R: Threads + Sync + AllocGlobal>(
 }
 
 // Whether the chain from a place of the log has bodies there, with these lengths, an end and this
-// behind it.
+// after it.
 fn is_chain<R: Threads + Sync + AllocGlobal>(
     rt: &R,
     log: &[u8],

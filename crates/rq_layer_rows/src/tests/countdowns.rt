@@ -47,7 +47,7 @@ fn a_source_that_arrives_twice_is_told(rt: HostRuntime) -> Result<(), Fail> {
     Ok(())
 }
 
-// Hands in a parcel. Who is last goes on with all of them.
+// Hands in a parcel. The last goes on with all of them.
 fn hand_in(
     countdown: &Countdown<Parcel>,
     pass: &mut Pass<Parcel>,

@@ -76,7 +76,7 @@ fn lawful_of(alloc: Global, records: Vec<Record>) -> Result<Lawful, Fault> {
 }
 
 // The state after the records, and how the replay went: one thread redid a queue, once, and no
-// other did; of an error queue that queues lead to, this is the thread that was told Last, once,
+// other did. For an error queue that queues lead to, this is the thread that was told Last, once,
 // and nobody else was told so.
 fn traced<R: Threads + Sync + AllocGlobal, G: Gate + Sync>(
     rt: &R,
@@ -101,7 +101,7 @@ fn traced<R: Threads + Sync + AllocGlobal, G: Gate + Sync>(
     Ok((state, course))
 }
 
-// As which each queue entered, counted from 1.
+// The position at which each queue entered, counted from 1.
 #[derive(Drop)]
 struct Entries {
     count: AtomicU32,

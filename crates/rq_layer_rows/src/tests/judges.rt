@@ -10,7 +10,7 @@ use rq_state::State;
 use std::alloc::Global;
 use std::test::Fail;
 
-// In which versions a record is lawful where it stands.
+// The versions in which a record is lawful where it stands.
 #[derive(Clone, Copy, Debug)]
 enum Lawful {
     InBoth,
@@ -20,7 +20,7 @@ enum Lawful {
 
 use Lawful::{InBoth, InNone, InTwo};
 
-// A record, and where it is lawful.
+// A record, and the versions in which it is lawful.
 type Case = (Lawful, Plain);
 
 fn is_lawful_in(lawful: Lawful, version: Version) -> bool {
@@ -38,8 +38,8 @@ fn are_lawful(alloc: Global, version: Version, records: &[KeptRecord]) -> Result
     Ok(analysis.lawful() == records.len())
 }
 
-// Whether the judge, and the catalogue over the lawful records and this one, say what stands
-// beside the record. It is one of the lawful ones then, or it is not.
+// Whether the judge, and the catalogue over the lawful records and this one, say what is noted
+// beside the record. The record is then one of the lawful ones, or it is not.
 fn agree(
     alloc: Global,
     version: Version,
@@ -58,8 +58,8 @@ fn agree(
     Ok(says == want && found == want)
 }
 
-// The first place where they do not agree. The judge goes on behind unlawful records. What it
-// borrows it need not drop at each of its ends.
+// The first place where they do not agree. The judge goes on after unlawful records. What this
+// function borrows, it need not drop at each of its ends.
 fn first_of(
     alloc: Global,
     version: Version,
@@ -75,7 +75,7 @@ fn first_of(
     Ok(None)
 }
 
-// The first place where the judge of the version, or the catalogue, does not say what stands
+// The first place where the judge of the version, or the catalogue, does not say what is noted
 // beside the record.
 fn first_wrong(alloc: Global, version: Version, cases: &[Case]) -> Result<Option<usize>, Fail> {
     let mut judge = Judge::new(alloc, version);

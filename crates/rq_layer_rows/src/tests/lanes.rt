@@ -44,7 +44,7 @@ pub fn log_of_lengths(alloc: Global, lens: &[usize]) -> Result<Framed, Fail> {
     Ok(framed)
 }
 
-// How many frames of a log are right, where a wrong digest follows them.
+// How many frames of a log are right, if a wrong digest follows them.
 fn right_before<R: Threads + Sync + AllocGlobal>(
     rt: &R,
     log: &[u8],
@@ -179,7 +179,7 @@ fn wrong_digests_at_the_ends_of_pieces(rt: HostRuntime) -> Result<(), Fail> {
 
 #[test]
 fn long_frames_among_short_ones(rt: HostRuntime) -> Result<(), Fail> {
-    // The lanes take a body of 16 KiB before shorter ones, and one of 1 MiB is checked alone.
+    // The lanes take a body of 16 KiB before shorter ones, and one of 1 MiB is checked by itself.
     let lens = [
         20, 16_383, 16_384, 30, 1_048_575, 1_048_576, 40, 60_000, 1_100_000, 1_100_000, 20,
     ];

@@ -1,5 +1,5 @@
-//! Records as plain data. No record of a table is alive beside another while it is made: so a table
-//! is cheap to prove, and a list of records that may each be refused memory is dear.
+//! Records as plain data. While a record of a table is made, no other record of the table is alive.
+//! So a table is cheap to prove; a list of records, each of which may be refused memory, is dear.
 
 use rq_record::{By, CheckBytes, ElemId, Name, Payload, QueueNo, Record, UnitNo};
 use std::alloc::Global;
@@ -23,7 +23,7 @@ pub enum Plain {
     Kill(u32, u64),
 }
 
-/// What stands for no queue.
+/// The number that means no queue.
 pub const NO_QUEUE: u32 = u32::MAX;
 
 fn named(name: &str) -> Result<Name, Fail> {

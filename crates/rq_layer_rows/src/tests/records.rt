@@ -17,7 +17,7 @@ fn names_checkpoints_and_bodies_are_read(rt: HostRuntime) -> Result<(), Fail> {
     Ok(())
 }
 
-// Whether a name is kept, alone and beside a tag.
+// Whether a name is kept, by itself and beside a tag.
 fn is_kept(alloc: Global, name: Name) -> Result<bool, Fail> {
     let kept = KeptName::of(alloc, &name)?;
     let by = KeptBy::of(alloc, &Some(By { name, tag: 70 }))?;
@@ -66,7 +66,7 @@ fn payloads_of_each_kind_of_length_are_kept(rt: HostRuntime) -> Result<(), Fail>
     Ok(())
 }
 
-// The body of a record, between a byte before and a byte behind.
+// The body of a record, between a byte before and a byte after.
 fn among_others(alloc: Global, record: &Record) -> Result<Vec<u8>, Fail> {
     let mut bytes = Vec::new(alloc);
     bytes.push(0)?;
@@ -96,7 +96,7 @@ fn checkpoint_among_others(alloc: Global, length: usize) -> Result<Vec<u8>, Fail
 }
 
 // How many bytes the payload or the checkpoint has that is read of a body among others, all of them
-// as they were written, and how many more hold the lent log then.
+// as they were written, and how many more the lent log holds then.
 fn read_of(alloc: Global, bytes: &[u8], log: &ArcSlice<u8>) -> Result<(usize, usize), Fail> {
     let lent = LentLog::of(log)?;
     let before = ArcSlice::strong_count(log);

@@ -98,7 +98,7 @@ fn a_seat_takes_of_its_own_list_first(rt: HostRuntime) -> Result<(), Fail> {
     Ok(())
 }
 
-// So many numbers, from `first` on.
+// This many numbers, from `first` on.
 fn counted(alloc: Global, first: u32, count: usize) -> Result<Vec<u32>, AllocError>
     requires { (first ≤ 4000) × (count ≤ 4000) }
     ensures { IfOk result (λ v. length v.items ≡ count) }

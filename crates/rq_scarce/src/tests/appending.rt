@@ -52,7 +52,7 @@ impl Appending {
     }
 }
 
-// Whether so many bytes are appended, however little memory there is, or none.
+// Whether this many bytes are appended, however little memory there is, or none.
 fn appends<R: Threads + Sync + AllocGlobal>(
     rt: &R,
     what: What,

@@ -126,7 +126,7 @@ fn a_close_is_whole_or_refused(rt: HostRuntime) -> Result<(), Fail> {
     Ok(())
 }
 
-// Whether the script's log has so many bytes, and is made so, however little memory there is, or
+// Whether the script's log has this many bytes, and is made so, however little memory there is, or
 // not at all.
 fn makes<R: Threads + Sync + AllocGlobal>(
     rt: &R,

@@ -18,8 +18,8 @@ use std::alloc::Global;
 use std::test::Fail;
 use std::thread::Threads;
 
-// An element leaves its queue by an abort, and its error queue by another, for the end of the
-// chain, where a registrant that is still at work takes it.
+// An abort takes an element out of its queue, and another takes it out of its error queue, to the
+// end of the chain. A registrant that is still at work takes it there.
 const CHAINED: [&str; 15] = [
     "define dead 0 -",
     "define late 1 0",
@@ -92,7 +92,7 @@ fn replayed<R: Threads + Sync + AllocGlobal>(
     replay(rt, rt.alloc(), &start, &lawful.records, plan, &Open)
 }
 
-// The spelling of the state; nothing, where its next record number is past the greatest.
+// The spelling of the state; nothing if its next record number is past the greatest.
 fn spelled(alloc: Global, state: &State) -> Result<Vec<u8>, Fail> {
     if state.next() > u64::from(u32::MAX) {
         return Ok(Vec::new(alloc));
@@ -138,7 +138,7 @@ fn wanted<R: Threads + Sync + AllocGlobal>(rt: &R, lawful: &Lawful) -> Result<Ve
 }
 
 // Whether the replay has the same state, however little memory there is, or none. No thread is
-// started before: where no memory is left, each is refused.
+// started before: if no memory is left, each is refused.
 fn replays<R: Threads + Sync + AllocGlobal>(rt: &R, workers: u32) -> Result<bool, Fail> {
     let plan = Plan::new(workers, 1).ok_or("plan")?;
     let log = log_in(rt, &MAKE_TWO, &CHAINED)?;

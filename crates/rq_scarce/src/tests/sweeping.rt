@@ -13,7 +13,7 @@ use std::thread::Threads;
 // By how many bytes what a round leaves grows: less than any block takes.
 const STEP: usize = 16;
 
-// So many rounds without a refusal are enough.
+// This many rounds without a refusal are enough.
 const ENOUGH: u32 = 500;
 
 // The most rounds.
@@ -115,7 +115,7 @@ impl Tally {
     }
 }
 
-// Calls where so many bytes are left.
+// Calls with this many bytes left.
 fn round<R: Threads + Sync + AllocGlobal>(
     rt: &R,
     scarce: &mut Scarce,

@@ -1,4 +1,4 @@
-//! What workers do where one of them is refused memory.
+//! What workers do if one of them is refused memory.
 
 use super::host::{room, take_all};
 use super::{lines, log_of};
@@ -47,7 +47,7 @@ const SIX_REPORT: [&str; 14] = [
 
 const QUEUES: u32 = 6;
 
-// Looks up to 100,000,000 times whether so many were counted.
+// Looks up to 100,000,000 times whether this many were counted.
 fn look(counted: &AtomicU32, least: u32) -> bool {
     for _ in 0..100_000_000 {
         if counted.load(Ordering::SeqCst) >= least {
@@ -76,7 +76,7 @@ where
     Ok((done, output.into_inner()))
 }
 
-// A gate where all memory is taken at the entry of a number, counted from 1.
+// A gate that takes all memory at the entry of a number, counted from 1.
 #[derive(Drop)]
 struct Famine<'a, R: Wait> {
     rt: &'a R,
@@ -118,8 +118,8 @@ fn who_is_refused_draws_no_more(rt: HostRuntime) -> Result<(), Fail> {
     Ok(())
 }
 
-// A gate where the first who enters takes all memory once another is there, and that one gives it
-// back a while later.
+// A gate at which the first that enters takes all memory once another is there, and that other one
+// gives it back a while later.
 #[derive(Drop)]
 struct Relief<'a, R: Wait> {
     rt: &'a R,
