@@ -412,6 +412,25 @@ def addresses() -> None:
     for kibibytes in range(4 << 20, (4 << 20) + (512 << 10), 8 << 10):
         told = run_within(kibibytes, "restart", "one.log", 4, 1000)
         check(f"a restart in {kibibytes} KiB of addresses", told, (0, ONE_ELEMENT_REPORT, b""))
+    given_back()
+
+
+def given_back() -> None:
+    """Where those 4 GiB are just granted, what a log does not fill of them serves what is made of it, which is many times as
+    much as was left beside them."""
+    units = b"".join(b"begin %d\nenqueue %d 0 5 - 0 -\ncommit %d\n" % (u, u, u) for u in range(1, 30001))
+    log = log_of(b"define jobs 0 -\n" + units + b"checkpoint\n", "records")
+    _, told, _ = run("audit", log, 1)
+    lines = lines_of(["make records.script MADE"], MADE="records.made")
+    for workers in ("1", "4"):
+        given = {"LOG": log, "OFFSET": told.decode().split()[1], "WORKERS": workers, "GRAIN": "1000", "MADE": "records.made"}
+        lines += lines_of(READING_LOGS, **given)
+    little = (4 << 20) + least_memory() + (2 << 10)
+    for line in lines:
+        want = run(*line), content("records.made")
+        ended = run_within(little, *line)
+        found = want[0][0], ended[0], (ended, content("records.made")) == want
+        check(f"`{' '.join(map(str, line))}` in {little} KiB of addresses", found, (0, 0, True))
 
 
 def threads_of(shim: str, *words: object) -> tuple[int, int]:
