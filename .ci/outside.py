@@ -469,6 +469,15 @@ def told_log() -> str:
     return log_of(b"define jobs 0 -\nbegin 1\n" + elements * 64 + b"commit 1\n" + units, "told")
 
 
+def redone_log() -> str:
+    """A log of true checkpoints, whose states are as long as what several workers are worth, and too far from one another to be
+    made record by record."""
+    elements = b"enqueue 1 0 5 - 0 " + b"5a" * 6000 + b"\n"
+    units = [b"begin %d\ncommit %d\n" % (u, u) for u in range(2, 422)]
+    told = b"".join(b"".join(units[at:at + 60]) + b"checkpoint\n" for at in range(0, 420, 60))
+    return log_of(b"define jobs 0 -\nbegin 1\n" + elements * 64 + b"commit 1\n" + told, "redone")
+
+
 def threads() -> None:
     """How many threads a plan starts: none for one worker. For more so many that each has its own, and no more of them
     at a time; those that check digests, where the grain leaves several pieces, are two for each core at most."""
@@ -486,17 +495,18 @@ def threads() -> None:
 
 
 def threads_of_audits(shim: str) -> None:
-    """Of audits of many checkpoints, which all say the same."""
-    log = told_log()
-    alone = run("audit", log, 1)
-    counted = alone[0], alone[1].count(b" true\n"), alone[1].count(b"\n")
-    check("audit of many true checkpoints", counted, (0, 150, 150))
-    for workers in [1, 2, 3, 4, 7]:
-        # each worker but the calling one goes through a share of its own
-        started, _ = threads_of(shim, "audit", log, workers)
-        check(f"threads of an audit with {workers} workers", started, workers - 1)
-        same = run("audit", log, workers) == alone
-        check(f"audit of many true checkpoints with {workers} workers", same, True)
+    """Of audits of logs with many checkpoints, which all say the same. In the second one each share has states that are worth
+    more than one worker: all of these share the workers."""
+    for log, count, all_workers in [(told_log(), 150, [2, 3, 4, 7]), (redone_log(), 7, [2, 3, 4])]:
+        alone = run("audit", log, 1)
+        counted = alone[0], alone[1].count(b" true\n"), alone[1].count(b"\n")
+        check(f"audit of {count} true checkpoints", counted, (0, count, count))
+        for workers in [1, *all_workers]:
+            # each worker but the calling one goes through a share of its own
+            started, _ = threads_of(shim, "audit", log, workers)
+            check(f"threads of an audit of {count} checkpoints with {workers} workers", started, workers - 1)
+            same = run("audit", log, workers) == alone
+            check(f"audit of {count} true checkpoints with {workers} workers", same, True)
 
 
 def threads_of_restarts(shim: str, long: str, workers: int) -> None:
