@@ -451,10 +451,11 @@ def long_log() -> str:
 
 
 def halfway_log() -> str:
-    """The offset of the one checkpoint of a log, amid thousands of records of many queues, whose records are short."""
+    """The offset of the one checkpoint of a log, amid thousands of records of many queues. Those behind it are long: their
+    digests are worth several threads."""
     defined = b"".join(b"define q%d 0 -\n" % q for q in range(96))
-    lines = b"begin %d\nenqueue %d %d 1 - 0 5a\ncommit %d\n"
-    units = [lines % (u, u, u % 96, u) for u in range(1, 6001)]
+    lines = b"begin %d\nenqueue %d %d 1 - 0 %s\ncommit %d\n"
+    units = [lines % (u, u, u % 96, b"5a" * (1 if u <= 4000 else 2000), u) for u in range(1, 6001)]
     log = log_of(defined + b"".join(units[:4000]) + b"checkpoint\n" + b"".join(units[4000:]), "halfway")
     _, told, _ = run("audit", log, 1)
     word, offset, truth = told.decode().split()
