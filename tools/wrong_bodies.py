@@ -13,7 +13,7 @@ With no words all are tried. --write then writes the receipt of each crate whose
 --receipt proves nothing: it holds each wrong body against its receipt, which is of this toolchain, of this text of the edit,
 of the crate and of all crates below it. --gate does that too, but tries all wrong bodies of crates that are not what their
 receipt is of, and those of `each-time` of all crates. Then it tries others as they are drawn, anew in each run: a few of one
-crate at least, and those of further crates while these take no more than three processor minutes. Libraries are taken as the
+crate at least, and a few of another if both take no more than two processor minutes, as it reckons. Libraries are taken as the
 checkout has them, if `rt` built them of these files; else all are proved first in a copy, which takes what other checkouts on the
 machine hold.
 """
@@ -32,7 +32,7 @@ from wrong.verdicts import Verdict
 TOP = os.path.dirname(os.path.dirname(os.path.abspath(__file__)))
 # The processor seconds that the gate spends on drawn wrong bodies, what it reckons a check of them at before it knows better, and
 # how many batches it draws at most, of how many wrong bodies.
-SECONDS, RECKONED, DRAWN, FEW = 180, 60, 6, 8
+SECONDS, RECKONED, DRAWN, FEW = 120, 60, 2, 8
 # How many functions the check of a batch that is drawn proves, as a rule and at most: some two seconds each.
 WIDE, WIDEST = 25, 60
 
