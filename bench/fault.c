@@ -69,6 +69,12 @@ int fsync(int file) {
   return is_wrong() ? wrong() : next(file);
 }
 
+int ftruncate(int file, off_t length) {
+  static int (*next)(int, off_t);
+  if (!next) next = dlsym(RTLD_NEXT, "ftruncate");
+  return is_wrong() ? wrong() : next(file, length);
+}
+
 ssize_t readlink(const char *path, char *out, size_t count) {
   static ssize_t (*next)(const char *, char *, size_t);
   if (!next) next = dlsym(RTLD_NEXT, "readlink");

@@ -36,8 +36,13 @@ pub fn is_carried(bytes: &[u8]) -> bool
     }
 }
 
-// The log of the version whose first frame, that of a body, goes on behind these 32 bytes.
-fn begun(alloc: Global, version: Version, link: &[u8; 32], body: &[u8]) -> Result<Vec<u8>, Fault>
+/// The log of the version whose first frame, that of a body, goes on behind these 32 bytes.
+pub(crate) fn begun(
+    alloc: Global,
+    version: Version,
+    link: &[u8; 32],
+    body: &[u8],
+) -> Result<Vec<u8>, Fault>
     requires { IsBodyLength (length body.now) }
     ensures { Begins (version_of version) link.now body.now result }
 {

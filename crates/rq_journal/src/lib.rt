@@ -3,15 +3,20 @@
 #![tactic(auto)]
 
 mod appender;
+mod auditing;
 mod carrying;
 mod checkpoint;
+mod continuing;
 mod framing;
 mod marking;
 mod opening;
 mod writing;
 
 pub use appender::{Appender, NotTaken};
+pub use auditing::{Truth, audit_carried};
 pub use carrying::{CARRIED_AT, carried, is_carried};
+pub use checkpoint::checkpoint_of;
+pub use continuing::{carried_again, carried_keeper, open_carried};
 pub use marking::marked;
 pub use opening::{Opened, open, opened_behind};
 pub use rq_catalog::Rule;
