@@ -24,26 +24,23 @@ SpellsBody s (Err TooLarge) = 268435455 < length (state_bytes s)
 SpellsBody s (Err Resources) = ⊤
 SpellsBody s (Err _) = ⊥
 
--- its bytes, or it numbers too many records, or memory was refused
-abbrev pub SpellsAny : State → Result (Vec ℕ) Fault → Type 0
-SpellsAny s (Ok v) = (s.next ≤ 4294967295) × (v.items ≡ state_bytes s)
-SpellsAny s (Err TooLong) = 4294967295 < s.next
-SpellsAny s (Err Resources) = ⊤
-SpellsAny s (Err _) = ⊥
-
--- why a state has no checkpoint
+-- why a state has no checkpoint: it numbers too many records, or its spelling is too long; or memory
+-- was refused
 abbrev pub HasNoCheckpointOf : State → Fault → Type 0
 HasNoCheckpointOf s TooLong = 4294967295 < s.next
 HasNoCheckpointOf s TooLarge = (s.next ≤ 4294967295) × (268435455 < length (state_bytes s))
 HasNoCheckpointOf s Resources = ⊤
 HasNoCheckpointOf s _ = ⊥
 
--- the body of a checkpoint of it, or why it has none
+-- the bytes that a checkpoint of it keeps, its body, and the checkpoint; or why it has none
+abbrev pub SpellsAny : State → Result (Vec ℕ) Fault → Type 0
+SpellsAny s (Ok v) = (s.next ≤ 4294967295) × (v.items ≡ state_bytes s)
+SpellsAny s (Err e) = HasNoCheckpointOf s e
+
 abbrev pub SpellsAnyBody : State → Result (Vec ℕ) Fault → Type 0
 SpellsAnyBody s (Ok body) = (s.next ≤ 4294967295) × IsCheckpointOf s body.items
 SpellsAnyBody s (Err e) = HasNoCheckpointOf s e
 
--- a checkpoint of it, or why it has none
 abbrev pub MakesCheckpoint : State → Result rt.Record Fault → Type 0
 MakesCheckpoint s (Ok r) = (s.next ≤ 4294967295) × (record_of r ≡ Checkpoint (state_bytes s))
 MakesCheckpoint s (Err e) = HasNoCheckpointOf s e

@@ -88,6 +88,6 @@ pub fn carried_again<R: Threads + Sync>(
     rq_model::logs_begun_anew();
     rq_model::continued_logs();
     let front = redone_front_at(rt, alloc, bytes, CARRIED_AT as u64, plan)?;
-    let body = body_of_any(alloc, &front.state)?;
-    begun(alloc, front.version, &front.last, &body)
+    let checkpoint = body_of_any(alloc, &front.state)?;
+    begun(alloc, front.version, &front.last, &checkpoint)
 }
