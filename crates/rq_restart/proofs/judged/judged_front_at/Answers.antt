@@ -6,8 +6,9 @@ use Rattle.rq_restart.specs.Passes.{AreJudged}
 use Rattle.rq_restart.specs.Views.{why_of}
 use Rattle.rq_restart.proofs.FromCheckpoints.{IsJudgedFrom, judged_from}
 use Rattle.rq_restart.proofs.judged.judged_front_at.Goals as goal
+use Rattle.rq_restart.proofs.judged.judged_front_at.Goals.{After-end_of-end}
 
-judged : (g : _) (c : goal.In_ok-reach g) → IsJudgedFrom c.args.bytes.now c.args.offset c.in_ok-begun.begun
+judged : (g : _) (c : After-end_of-end g) → IsJudgedFrom c.args.bytes.now c.args.offset c.in_ok-begun.begun
     c.in_ok-begun.ensures.kept c.judge_each.new.judge c.in_ok-reach.reach.lawful c.end_of-end.result.0
     (why_of c.end_of-end.result.1)
 judged g c =
@@ -29,7 +30,7 @@ before-requires-clause-within g c = (judged g c).within
 
 pub returns : goal.returns
 returns g c =
-    let is = judged g c in
+    let is = judged g ((goal.at.returns g c).After-end_of-end) in
     let begun = c.in_ok-begun.ensures in
     record {
       version = version_of c.in_ok-begun.begun.version;
