@@ -15,6 +15,6 @@ returns g c =
     let version = version_of c.in_ok-version.version in
     let rs = map record_of front.records.items in
     redoes c.frames_join.ensures.end b version rs front.end (why_of front.why) is.short is.header is.front
-    c.state_behind.result
-    (subst (λ (s : State). IfOk c.state_behind.result (IsStateBehind version s b rs front.end)) c.empty.ensures
-    c.state_behind.ensures.behind) c.state_behind.ensures.refused
+    c.state_behind-2.result
+    (subst (λ (s : State). IfOk c.state_behind-2.result (IsStateBehind version s b rs front.end)) c.empty.ensures
+    c.state_behind-2.ensures.behind) c.state_behind-2.ensures.refused

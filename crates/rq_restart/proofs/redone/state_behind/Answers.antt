@@ -1,4 +1,4 @@
-use Rattle.std.proofs.Common.{List, length, map, subst, sym, arith}
+use Rattle.std.proofs.Common.{List, map, subst, sym, arith}
 use Rattle.std.proofs.lemmas.List.{length-map}
 use Rattle.rq_model.specs.Records.{Two}
 use Rattle.rq_record.specs.Views.{Record, record_of, version_of}
