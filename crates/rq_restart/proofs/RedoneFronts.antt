@@ -9,7 +9,6 @@ use Rattle.rq_model.specs.States.{empty}
 use Rattle.rq_model.specs.Fronts.{IsFront, Why}
 use Rattle.rq_record.specs.declared.fault.Fault.{Fault}
 use Rattle.rq_record.specs.declared.fault.Fault.TheVariants.{Resources}
-use Rattle.rq_record.specs.Views.{version_of}
 use Rattle.rq_restart.specs.Ends.{IsFrontFrom}
 use Rattle.rq_restart.specs.declared.redone.RedoneFront.{RedoneFront}
 use Rattle.rq_restart.specs.RedoneFronts.{IsRedone, IsStateBehind, RedoesFront}

@@ -1,4 +1,4 @@
-use Rattle.std.proofs.Common.{map, subst, sym}
+use Rattle.std.proofs.Common.{map, subst}
 use Rattle.std.specs.Prelude.{IfOk}
 use Rattle.rq_model.specs.States.{State}
 use Rattle.rq_record.specs.Views.{record_of, version_of}
