@@ -12,12 +12,11 @@ ghost use Rattle.rq_look.specs.Looks.{end_text, front_end_of};
 
 use crate::frames::{first_frame, stated_length};
 use crate::misfits::misfit_of;
-use crate::rules::{Rule, broken};
+use rq_catalog::{Judge, Rule};
 use rq_front::{FRAME_LEN, version};
 use rq_record::{Fault, Version, decode_kept};
 use rq_report::why_word;
-use rq_restart::{FrontEnd, Plan, Restarted, Why, front_end, front_state};
-use rq_state::State;
+use rq_restart::{FrontEnd, Plan, Restarted, Why, front_end, judged_front};
 use sha2::{Digest, Sha256};
 use std::alloc::{AllocError, Global};
 use std::fmt::Write;
@@ -78,17 +77,12 @@ fn form_reason(alloc: Global, version: Version, body: &[u8]) -> Result<String, A
     }
 }
 
-// The rule that the record of a body breaks in the state, if it is a record and breaks one.
-fn rule_of(
-    alloc: Global,
-    version: Version,
-    state: &State,
-    body: &[u8],
-) -> Result<Option<Rule>, Fault>
+// The rule that the record of a body breaks where the judge stands, if it is a record and breaks one.
+fn rule_of(alloc: Global, judge: &Judge, body: &[u8]) -> Result<Option<Rule>, Fault>
     ensures { IfErr result (λ e. e ≡ Resources) }
 {
-    match decode_kept(alloc, version, body) {
-        Ok(record) => Ok(broken(version, state, &record)),
+    match decode_kept(alloc, judge.version(), body) {
+        Ok(record) => Ok(judge.broken(&record)),
         Err(Fault::Form) => Ok(None),
         Err(_) => Err(Fault::Resources),
     }
@@ -97,15 +91,14 @@ fn rule_of(
 fn law_reason<R: Threads + Sync>(
     rt: &R,
     alloc: Global,
-    version: Version,
     bytes: &[u8],
     body: &[u8],
     plan: &Plan,
 ) -> Result<String, Fault>
     ensures { IfErr result (Refused bytes.now) }
 {
-    let state = front_state(rt, alloc, bytes, plan)?;
-    match rule_of(alloc, version, &state, body)? {
+    let front = judged_front(rt, alloc, bytes, plan)?;
+    match rule_of(alloc, &front.judge, body)? {
         Some(rule) => Ok(format!(in alloc; "{rule}")?),
         None => Ok(String::from_str(alloc, "the record is not lawful")?),
     }
@@ -139,7 +132,7 @@ fn reason_of<R: Threads + Sync>(
         Why::Length => Ok(length_reason(alloc, rest)?),
         Why::Chain => Ok(chain_reason(alloc, before, rest)?),
         Why::Form => Ok(form_reason(alloc, version, body_of(rest))?),
-        Why::Law => law_reason(rt, alloc, version, bytes, body_of(rest), plan),
+        Why::Law => law_reason(rt, alloc, bytes, body_of(rest), plan),
     }
 }
 
@@ -193,7 +186,7 @@ pub(crate) fn end_after<R: Threads + Sync>(
     Ok(told)
 }
 
-/// Where the front of a log ends. No queue is redone for it, unless a record there breaks a rule.
+/// Where the front of a log ends. No queue is redone for it.
 pub(crate) fn end_of<R: Threads + Sync>(
     rt: &R,
     alloc: Global,

@@ -6,7 +6,7 @@ ghost use Rattle.rq_record.specs.declared.fault.Fault.TheVariants.{Resources};
 use crate::events::{Effect, Event};
 use crate::frames::Placed;
 use crate::numbered::{Numbered, queues_behind};
-use rq_record::{ElemId, Fault, KeptRecord as Record, QueueNo, UnitNo};
+use rq_record::{ElemId, Fault, KeptRecord, QueueNo, UnitNo};
 use std::alloc::{AllocError, Global};
 use std::cmp::Reverse;
 use std::collections::{BTreeMap, BTreeSet};
@@ -193,7 +193,7 @@ impl Queues {
     // Does an operation, and answers what happens.
     fn operate(&mut self, it: &Numbered) -> Result<Option<Event>, AllocError> {
         match &it.record {
-            Record::Enqueue {
+            KeptRecord::Enqueue {
                 unit,
                 queue,
                 priority,
@@ -206,8 +206,8 @@ impl Queues {
                 };
                 Ok(Some(self.put(*unit, it.number, kept)?))
             }
-            Record::Dequeue { unit, queue, .. } => Ok(Some(self.take(*unit, *queue)?)),
-            Record::Kill { queue, element } => Ok(Some(self.kill(*queue, *element))),
+            KeptRecord::Dequeue { unit, queue, .. } => Ok(Some(self.take(*unit, *queue)?)),
+            KeptRecord::Kill { queue, element } => Ok(Some(self.kill(*queue, *element))),
             _ => Ok(None),
         }
     }
@@ -215,12 +215,12 @@ impl Queues {
     // Does a record that is lawful here, and adds what happens.
     fn step(&mut self, alloc: Global, it: &Numbered) -> Result<(), AllocError> {
         match &it.record {
-            Record::Define { limit, error, .. } => self.define(alloc, *limit, *error)?,
-            Record::Begin { unit } => {
+            KeptRecord::Define { limit, error, .. } => self.define(alloc, *limit, *error)?,
+            KeptRecord::Begin { unit } => {
                 self.open.insert(unit.0, Vec::new(alloc))?;
             }
-            Record::Commit { unit } => self.end(unit.0, true)?,
-            Record::Abort { unit } => self.end(unit.0, false)?,
+            KeptRecord::Commit { unit } => self.end(unit.0, true)?,
+            KeptRecord::Abort { unit } => self.end(unit.0, false)?,
             _ => {
                 if let Some(event) = self.operate(it)? {
                     self.events.push(event)?;

@@ -18,7 +18,6 @@ mod paging;
 mod pieces;
 mod queues;
 mod reporting;
-mod rules;
 mod scripting;
 mod sheet;
 mod telling;
