@@ -131,9 +131,11 @@ pub(crate) fn record_shown(alloc: Global, it: &Numbered) -> Result<Shown<'_>, Al
     })
 }
 
-/// Where a front ends.
+/// Where a front ends, and where the checkpoint stands that a log begins with which was carried on.
 #[derive(Clone, Copy, Serialize)]
 pub(crate) struct FrontShown<'a> {
+    #[serde(skip_serializing_if = "Option::is_none")]
+    carried_at: Option<u64>,
     records: u64,
     used: u64,
     total: u64,
@@ -150,6 +152,7 @@ pub(crate) struct ClosingShown<'a> {
 /// Where the front ends.
 pub(crate) fn front_of(end: &End) -> FrontShown<'_> {
     FrontShown {
+        carried_at: end.at,
         records: end.records,
         used: end.used,
         total: end.total,

@@ -9,6 +9,7 @@ ghost use Rattle.rq_look.specs.Scripts.{by_in};
 
 use crate::frames::Placed;
 use rq_record::{By, ElemId, Fault, KeptRecord, QueueNo, UnitNo, Version, decode_kept};
+use rq_state::Definition;
 use std::alloc::Global;
 
 /// A record of the front, with the offset of its frame, its number, and how many queues are defined
@@ -61,6 +62,11 @@ pub(crate) fn queues_behind(queues: u32, body: &[u8]) -> u32 {
         [1, ..] => queues.saturating_add(1),
         _ => queues,
     }
+}
+
+/// How many queues these define.
+pub(crate) fn queues_of(definitions: &[Definition]) -> u32 {
+    u32::try_from(definitions.len()).unwrap_or(u32::MAX)
 }
 
 /// The unit that a record names.

@@ -34,25 +34,33 @@ const ALL: Wanted<'static> = Wanted {
 
 fn dumps<R: Threads + Sync + AllocGlobal>(rt: &R, log: &[u8], plan: &Plan) -> bool {
     let mut shown = Vec::new(rt.alloc());
-    let done = dump(rt, rt.alloc(), log, plan, &ALL, &mut shown);
+    let done = dump(rt, rt.alloc(), log, None, plan, &ALL, &mut shown);
     done.is_ok() && shown.as_slice() == DUMP
 }
 
 fn tells<R: Threads + Sync + AllocGlobal>(rt: &R, log: &[u8], plan: &Plan) -> bool {
     let mut shown = Vec::new(rt.alloc());
-    let done = story(rt, rt.alloc(), log, plan, Subject::Element(2), &mut shown);
+    let done = story(
+        rt,
+        rt.alloc(),
+        log,
+        None,
+        plan,
+        Subject::Element(2),
+        &mut shown,
+    );
     done.is_ok() && shown.as_slice() == STORY
 }
 
 fn reports<R: Threads + Sync + AllocGlobal>(rt: &R, log: &[u8], plan: &Plan) -> bool {
     let mut shown = Vec::new(rt.alloc());
-    let done = report(rt, rt.alloc(), log, plan, Some(0), &mut shown);
+    let done = report(rt, rt.alloc(), log, None, plan, Some(0), &mut shown);
     done.is_ok() && shown.as_slice() == REPORT
 }
 
 fn reports_json<R: Threads + Sync + AllocGlobal>(rt: &R, log: &[u8], plan: &Plan) -> bool {
     let mut shown = Vec::new(rt.alloc());
-    let done = report_json(rt, rt.alloc(), log, plan, Some(0), &mut shown);
+    let done = report_json(rt, rt.alloc(), log, None, plan, Some(0), &mut shown);
     done.is_ok() && shown.ends_with(JSON_END)
 }
 
@@ -69,7 +77,7 @@ fn makes_a_page<R: Threads + Sync + AllocGlobal>(rt: &R, log: &[u8], plan: &Plan
 }
 
 fn finds_nothing<R: Threads + Sync + AllocGlobal>(rt: &R, log: &[u8], plan: &Plan) -> bool {
-    match check(rt, rt.alloc(), log, plan) {
+    match check(rt, rt.alloc(), log, None, plan) {
         Ok(found) => found.fine && found.text.is_empty(),
         Err(_) => false,
     }

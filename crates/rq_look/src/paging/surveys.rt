@@ -160,7 +160,7 @@ pub(super) fn surveyed(
 ) -> Result<Survey, Trouble>
     ensures { IfErr result IsBroken }
 {
-    let mut machine = Queues::new(alloc);
+    let mut machine = Queues::of(alloc, &State::empty(alloc))?;
     let mut seen = Survey::new(alloc)?;
     for placed in PlacedFrames::of(bytes, end.used) {
         seen.follow(alloc, placed, &mut machine, end.total)?;
