@@ -167,11 +167,6 @@ abbrev pub StaysUnreported : Option ℕ → List ℕ → Option ℕ → Option (
 StaysUnreported at b wanted old new (Output error) = HasWanted at b wanted
 StaysUnreported at b wanted old new e = LacksReport at b wanted e × (new ≡ old)
 
--- memory is refused, and the output holds what it held; or the output is refused
-abbrev pub LosesOutput : Option (List ℕ) → Option (List ℕ) → Trouble → Type 0
-LosesOutput old new (Output error) = ⊤
-LosesOutput old new e = (e ≡ Log Resources) × (new ≡ old)
-
 -- the text is the report of b, or that from the checkpoint at an offset
 abbrev pub IsReportFrom : Option ℕ → List ℕ → List ℕ → Type 0
 IsReportFrom None b text = IsReport b text

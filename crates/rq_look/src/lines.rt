@@ -55,7 +55,12 @@ fn put_fields(
     full: bool,
 ) -> Result<(), AllocError> {
     match record {
-        KeptRecord::Define { limit, error, name } => put_definition(text, name.text(), *limit, *error),
+        KeptRecord::Define { limit, error, name } => put_definition(
+            text,
+            name.text(),
+            *limit,
+            *error,
+        ),
         KeptRecord::Register { name, .. } | KeptRecord::Deregister { name, .. } => {
             text.push_str(" name ")?;
             text.push_str(name.text())

@@ -94,7 +94,9 @@ pub(crate) fn by_of(r: &KeptRecord) -> Option<By>
 /// The registrant that a record names.
 pub(crate) fn registrant_of(record: &KeptRecord) -> Option<&str> {
     match record {
-        KeptRecord::Register { name, .. } | KeptRecord::Deregister { name, .. } => Some(name.text()),
+        KeptRecord::Register { name, .. } | KeptRecord::Deregister { name, .. } => Some(
+            name.text(),
+        ),
         KeptRecord::Enqueue { by, .. } | KeptRecord::Dequeue { by, .. } => match by.name() {
             Some(name) => Some(name.text()),
             None => None,

@@ -6,8 +6,7 @@ ghost use Rattle.rq_model.specs.Reports.{IsText};
 ghost use Rattle.rq_record.specs.declared.fault.Fault.TheVariants.{Resources};
 ghost use Rattle.rq_front.specs.Chains.{IsLog};
 ghost use Rattle.rq_look.specs.Looks.{HasQueue, HasWanted, IsRestartFrom, LacksReport};
-ghost use Rattle.rq_look.specs.Looks.{LosesOutput, PutsReport, RefusedFrom};
-ghost use Rattle.rq_look.specs.Looks.{StaysUnreported, beginning_text};
+ghost use Rattle.rq_look.specs.Looks.{PutsReport, RefusedFrom, StaysUnreported, beginning_text};
 ghost use Rattle.rq_look.specs.declared.trouble.Trouble.TheVariants.{Log};
 
 use crate::ends::{End, end_after, put_beginning};
@@ -18,7 +17,7 @@ use rq_report::{OverWrite, write_report_by};
 use rq_restart::{Fault, Open, Plan, Restarted, restart, restart_at};
 use serde::Serialize;
 use std::alloc::{AllocError, Global};
-use std::io::Write;
+use std::io::{self, Write};
 use std::thread::Threads;
 
 #[derive(Clone, Copy, Serialize)]
@@ -115,6 +114,7 @@ fn json_of(
 /// Refuses with `NoQueue` a queue that is not defined, and else what this restart refuses; with
 /// `Resources` where memory is refused, before anything is written, and with `Output` where the
 /// output fails.
+#[tactic(auto, using(crate::proofs::Puts::resources_refused))]
 pub fn report_json<R, W>(
     rt: &R,
     alloc: Global,
@@ -189,20 +189,13 @@ fn beginning_of(alloc: Global, at: Option<u64>) -> Result<String, AllocError>
     Ok(text)
 }
 
-// Writes the report with the line that says where the log begins, if it was carried on.
-fn put_whole<W: Write>(
-    alloc: Global,
-    at: Option<u64>,
-    text: &[u8],
-    output: &mut W,
-) -> Result<(), Trouble>
-    ensures put { OnOk result (Appends (W.contents output.old) (W.contents output.new)
-        (beginning_text at ++ text.now)) }
-    ensures refused { IfErr result (LosesOutput (W.contents output.old) (W.contents output.new)) }
+// Writes one text behind the other.
+fn put_both<W: Write>(first: &[u8], second: &[u8], output: &mut W) -> io::Result<()>
+    ensures { OnOk result
+        (Appends (W.contents output.old) (W.contents output.new) (first.now ++ second.now)) }
 {
-    let beginning = beginning_of(alloc, at)?;
-    output.write_all(beginning.as_bytes())?;
-    output.write_all(text)?;
+    output.write_all(first)?;
+    output.write_all(second)?;
     Ok(())
 }
 
@@ -211,6 +204,7 @@ fn put_whole<W: Write>(
 /// wanted.
 ///
 /// Refuses what `report_json` refuses, in the same way.
+#[tactic(auto, using(crate::proofs::Puts::resources_refused))]
 pub fn report<R, W>(
     rt: &R,
     alloc: Global,
@@ -230,9 +224,10 @@ where
 {
     let restarted = restarted_with(rt, alloc, bytes, at, plan, wanted)?;
     let text = text_of(rt, alloc, &restarted, plan)?;
+    let beginning = beginning_of(alloc, at)?;
     match wanted {
         Some(queue) => output.write_all(lines_of(&text, queue))?,
-        None => put_whole(alloc, at, &text, output)?,
+        None => put_both(beginning.as_bytes(), &text, output)?,
     }
     Ok(())
 }
