@@ -1,5 +1,6 @@
-use rq_look::{Plan, Subject, Wanted, begins_at, check, dump, page, report, report_json};
-use rq_look::{script, story};
+use rq_look::{
+    Plan, Subject, Wanted, begins_at, check, dump, page, report, report_json, script, story,
+};
 use rq_writer::make;
 use std::alloc::Global;
 use std::test::Fail;
@@ -140,7 +141,13 @@ fn a_log_is_shown_by_each_call(rt: HostRuntime) -> Result<(), Fail> {
     assert!(rt; makes_a_page(&rt, &log, &plan), "page");
     assert!(rt; finds_nothing(&rt, &log, &plan), "check");
     let carried = carried(rt.alloc(), &make(&rt, rt.alloc(), MARKED, &plan)?)?;
-    assert!(rt; tells_carried(&rt, &carried, &plan), "story of a log that was carried on");
-    assert!(rt; finds_it_carried(&rt, &carried, &plan), "check of a log that was carried on");
+    assert!(rt;
+        tells_carried(&rt, &carried, &plan),
+        "story of a log that was carried on"
+    );
+    assert!(rt;
+        finds_it_carried(&rt, &carried, &plan),
+        "check of a log that was carried on"
+    );
     Ok(())
 }

@@ -99,7 +99,15 @@ where
     R: Print + AllocGlobal + Threads + Sync,
 {
     let subject = subject_asked(words);
-    rq_look::story(rt, rt.alloc(), bytes, at, plan, subject, &mut io::writer(rt))?;
+    rq_look::story(
+        rt,
+        rt.alloc(),
+        bytes,
+        at,
+        plan,
+        subject,
+        &mut io::writer(rt),
+    )?;
     Ok(true)
 }
 

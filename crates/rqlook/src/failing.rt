@@ -119,7 +119,10 @@ impl Failure {
             }
             Failure::Refused(file, trouble) => refused(rt, file.as_str(), trouble),
             Failure::Carried(file) => {
-                let _ = eprintln!(rt; "rqlook: {}: carried: use rqlog restart", told(file.as_str()));
+                let _ = eprintln!(rt;
+                    "rqlook: {}: carried: use rqlog restart",
+                    told(file.as_str())
+                );
                 REFUSED
             }
             Failure::Output(error) => output_failed(rt, error),
