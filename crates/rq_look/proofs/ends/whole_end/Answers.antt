@@ -1,4 +1,4 @@
-use Rattle.rq_look.proofs.ends.end_of.Goals as goal
+use Rattle.rq_look.proofs.ends.whole_end.Goals as goal
 
 pub returns-clause-end : goal.returns-clause-end
 returns-clause-end g c =

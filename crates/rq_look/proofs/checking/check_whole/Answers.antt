@@ -3,7 +3,7 @@ use Rattle.std.specs.List.{flat_map}
 use Rattle.rq_model.specs.Fronts.{Why}
 use Rattle.rq_look.specs.Looks.{all_true, checkpoint_finding, end_finding, is_whole}
 use Rattle.rq_look.proofs.Puts.{same_finding}
-use Rattle.rq_look.proofs.checking.check.Goals as goal
+use Rattle.rq_look.proofs.checking.check_whole.Goals as goal
 
 pub returns-clause-checked : goal.returns-clause-checked
 returns-clause-checked g c =
