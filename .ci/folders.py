@@ -1,6 +1,6 @@
 """Files in folders that others may write, and what is done with a file before it is told to be made."""
 from __future__ import annotations
-import os, shutil, signal, stat, subprocess, threading, time
+import os, resource, shutil, signal, stat, subprocess, threading, time
 
 from trying import DONE, RQ, WRITE_FAULT, Ended, built, check, content, log_of, put, run, run_told
 
@@ -139,6 +139,31 @@ def modes() -> None:
         check(f"a file of the mode {old:o} that is made again", (ended, mode), (DONE, new))
 
 
+def die_in_writing() -> None:
+    """Lets a process write no file of more than 100 bytes: it is killed where it goes on, and leaves no core file. Nothing of
+    the mode that a file is made with is masked."""
+    os.umask(0)
+    resource.setrlimit(resource.RLIMIT_CORE, (0, 0))
+    resource.setrlimit(resource.RLIMIT_FSIZE, (100, 100))
+
+
+def modes_meanwhile() -> None:
+    """A file that is to take another's place may be read by nobody else while it is written, whoever may read that. A new
+    one has its own mode from the beginning. Both are seen of a run that is killed midway."""
+    log, _ = log_of_bytes(64, "written")
+    killed = -signal.SIGXFSZ, b"", b""
+    for line in [["make", "written.script", "judged/out"], ["close", log, "judged/out", 1], ["upgrade", log, "judged/out", 1]]:
+        for old, want in ((None, 0o666), (0o604, 0o600), (0o666, 0o600)):
+            put_anew(None if old is None else OLD)
+            if old is not None:
+                os.chmod("judged/out", old)
+            ended = run(*line, preexec_fn=die_in_writing)
+            found = {name: stat.S_IMODE(os.stat(f"judged/{name}").st_mode) for name in os.listdir("judged")}
+            kept = {} if old is None else {"out": old}
+            told = "a new file" if old is None else f"one of the mode {old:o}"
+            check(f"the modes while {line[0]} writes {told}", (ended, found), (killed, {**kept, "out.rq0": want}))
+
+
 def taken_names() -> None:
     """What stands under a name beside a file stays, and another name is used; of a hundred none is left."""
     put_anew(None)
@@ -196,4 +221,4 @@ def slow_readers() -> None:
     check("a report into a pipe that does not block", run_into_slow_pipe("restart", log, 1, 1), run("restart", log, 1, 1))
 
 
-PARTS = [attacks, calls, modes, taken_names, by_process_paths, slow_readers]
+PARTS = [attacks, calls, modes, modes_meanwhile, taken_names, by_process_paths, slow_readers]

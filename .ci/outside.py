@@ -412,6 +412,25 @@ def addresses() -> None:
     for kibibytes in range(4 << 20, (4 << 20) + (512 << 10), 8 << 10):
         told = run_within(kibibytes, "restart", "one.log", 4, 1000)
         check(f"a restart in {kibibytes} KiB of addresses", told, (0, ONE_ELEMENT_REPORT, b""))
+    given_back()
+
+
+def given_back() -> None:
+    """Where those 4 GiB are just granted, what a log does not fill of them serves what is made of it, which is many times as
+    much as was left beside them."""
+    units = b"".join(b"begin %d\nenqueue %d 0 5 - 0 -\ncommit %d\n" % (u, u, u) for u in range(1, 30001))
+    log = log_of(b"define jobs 0 -\n" + units + b"checkpoint\n", "records")
+    _, told, _ = run("audit", log, 1)
+    lines = lines_of(["make records.script MADE"], MADE="records.made")
+    for workers in ("1", "4"):
+        given = {"LOG": log, "OFFSET": told.decode().split()[1], "WORKERS": workers, "GRAIN": "1000", "MADE": "records.made"}
+        lines += lines_of(READING_LOGS, **given)
+    little = (4 << 20) + least_memory() + (2 << 10)
+    for line in lines:
+        want = run(*line), content("records.made")
+        ended = run_within(little, *line)
+        found = want[0][0], ended[0], (ended, content("records.made")) == want
+        check(f"`{' '.join(map(str, line))}` in {little} KiB of addresses", found, (0, 0, True))
 
 
 def threads_of(shim: str, *words: object) -> tuple[int, int]:
@@ -432,10 +451,11 @@ def long_log() -> str:
 
 
 def halfway_log() -> str:
-    """The offset of the one checkpoint of a log, amid thousands of records of many queues, whose records are short."""
+    """The offset of the one checkpoint of a log, amid thousands of records of many queues. Those behind it are long: their
+    digests are worth several threads."""
     defined = b"".join(b"define q%d 0 -\n" % q for q in range(96))
-    lines = b"begin %d\nenqueue %d %d 1 - 0 5a\ncommit %d\n"
-    units = [lines % (u, u, u % 96, u) for u in range(1, 6001)]
+    lines = b"begin %d\nenqueue %d %d 1 - 0 %s\ncommit %d\n"
+    units = [lines % (u, u, u % 96, b"5a" * (1 if u <= 4000 else 2000), u) for u in range(1, 6001)]
     log = log_of(defined + b"".join(units[:4000]) + b"checkpoint\n" + b"".join(units[4000:]), "halfway")
     _, told, _ = run("audit", log, 1)
     word, offset, truth = told.decode().split()
@@ -448,6 +468,15 @@ def told_log() -> str:
     elements = b"enqueue 1 0 5 - 0 " + b"5a" * 100 + b"\n"
     units = b"".join(b"begin %d\ncommit %d\ncheckpoint\n" % (u, u) for u in range(2, 152))
     return log_of(b"define jobs 0 -\nbegin 1\n" + elements * 64 + b"commit 1\n" + units, "told")
+
+
+def redone_log() -> str:
+    """A log of true checkpoints, whose states are as long as what several workers are worth, and too far from one another to be
+    made record by record."""
+    elements = b"enqueue 1 0 5 - 0 " + b"5a" * 6000 + b"\n"
+    units = [b"begin %d\ncommit %d\n" % (u, u) for u in range(2, 422)]
+    told = b"".join(b"".join(units[at:at + 60]) + b"checkpoint\n" for at in range(0, 420, 60))
+    return log_of(b"define jobs 0 -\nbegin 1\n" + elements * 64 + b"commit 1\n" + told, "redone")
 
 
 def threads() -> None:
@@ -467,17 +496,18 @@ def threads() -> None:
 
 
 def threads_of_audits(shim: str) -> None:
-    """Of audits of many checkpoints, which all say the same."""
-    log = told_log()
-    alone = run("audit", log, 1)
-    counted = alone[0], alone[1].count(b" true\n"), alone[1].count(b"\n")
-    check("audit of many true checkpoints", counted, (0, 150, 150))
-    for workers in [1, 2, 3, 4, 7]:
-        # each worker but the calling one goes through a share of its own
-        started, _ = threads_of(shim, "audit", log, workers)
-        check(f"threads of an audit with {workers} workers", started, workers - 1)
-        same = run("audit", log, workers) == alone
-        check(f"audit of many true checkpoints with {workers} workers", same, True)
+    """Of audits of logs with many checkpoints, which all say the same. In the second one each share has states that are worth
+    more than one worker: all of these share the workers."""
+    for log, count, all_workers in [(told_log(), 150, [2, 3, 4, 7]), (redone_log(), 7, [2, 3, 4])]:
+        alone = run("audit", log, 1)
+        counted = alone[0], alone[1].count(b" true\n"), alone[1].count(b"\n")
+        check(f"audit of {count} true checkpoints", counted, (0, count, count))
+        for workers in [1, *all_workers]:
+            # each worker but the calling one goes through a share of its own
+            started, _ = threads_of(shim, "audit", log, workers)
+            check(f"threads of an audit of {count} checkpoints with {workers} workers", started, workers - 1)
+            same = run("audit", log, workers) == alone
+            check(f"audit of {count} true checkpoints with {workers} workers", same, True)
 
 
 def threads_of_restarts(shim: str, long: str, workers: int) -> None:

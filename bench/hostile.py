@@ -6,15 +6,16 @@ RQ is the built program. Each time is the best of the runs, taken in turn at bot
 The bounds: from n to 2n a restart and an audit grow at most 2.6 times; a restart takes at most 4 times as long as the peer;
 an audit at most 3 times as long as a restart of the same log; neither holds more than 6 times the log in memory, and where
 each record leaves as much behind as one can, 11 times; a restart from a checkpoint that tells of as many members as its
-bytes can holds at most 60 times the log; the report is the peer's. Prints a table and each bound that is missed, and exits
+bytes can holds at most 60 times the log; the report is the peer's. Of a log of less than 15 MB, which none is by default,
+what a restart of an empty log holds is no part of what is held. Prints a table and each bound that is missed, and exits
 with 1 if any is. A run that takes longer than the limit is stopped, and counts as the limit. With --keep the logs stay in
 DIR, and those that stand there are taken as they are.
 """
 from __future__ import annotations
-import functools, hashlib, itertools, math, os, struct, sys
+import functools, hashlib, itertools, math, os, struct, subprocess, sys
 from collections.abc import Callable, Iterable, Iterator
 
-from common import HEADER, built_peer, header_of, parsed, parser, run, write_log
+from common import HEADER, Run, built_peer, header_of, parsed, parser, write_log
 from records import NO_QUEUE, abort, begin, checkpoint, commit, define, dequeue, deregister, enqueue, kill, listed, register
 from records import spelled
 
@@ -23,6 +24,8 @@ GROWTH, TO_PEER, TO_RESTART, MEMORY = 2.6, 4.0, 3.0, 6.0
 MEMORY_OF_SMALL, MEMORY_AT = 11.0, 60.0
 # What is shorter tells more of the host than of the program.
 SHORT = 0.05
+# Of a log of fewer bytes what the program itself holds counts for much.
+FEW_BYTES = 15_000_000
 # A long payload: the longest ones have 65,535 bytes.
 HEAVY = bytes(60000)
 # What a name is made of.
@@ -629,6 +632,28 @@ TOLD_AT = [registrants_at, units_at, elements_at, notes_at]
 SHAPES = {shape.__name__: shape for shape in RESTARTED + IN_VERSION_TWO + AUDITED + SMALL + TOLD_AT}
 
 
+# Runs the words behind the first one, and writes to that descriptor the seconds, the KiB held at most, and the status.
+ASK = """import os, sys, time
+begun = time.perf_counter()
+_, status, usage = os.wait4(os.posix_spawnp(sys.argv[2], sys.argv[2:], os.environ), 0)
+told = time.perf_counter() - begun, usage.ru_maxrss, os.waitstatus_to_exitcode(status)
+os.write(int(sys.argv[1]), " ".join(map(str, told)).encode())"""
+
+
+def asked(words: list[str], take: Callable[[bytes], object]) -> Run:
+    """How a command ends, whose output is handed on piece by piece. A small process asks: the system counts with a program what
+    the process held at most that started it."""
+    seen, told = os.pipe()
+    line = [sys.executable, "-I", "-S", "-c", ASK, str(told), *words]
+    with subprocess.Popen(line, stdout=subprocess.PIPE, stderr=subprocess.DEVNULL, pass_fds=[told]) as started:
+        os.close(told)
+        while piece := started.stdout.read(1 << 20):
+            take(piece)
+    with os.fdopen(seen) as file:
+        seconds, memory, status = file.read().split()
+    return Run(float(seconds), int(memory), int(status))
+
+
 class Timed:
     """A command over one log: its best time, its greatest memory in bytes, and what it wrote."""
 
@@ -640,13 +665,22 @@ class Timed:
         if self.was_stopped:
             return
         digest = hashlib.sha256()
-        ended = run(["timeout", str(self.limit), *self.words], digest.update)
+        ended = asked(["timeout", str(self.limit), *self.words], digest.update)
         self.was_stopped = ended.status == 124
         if ended.status not in (0, 124):
             sys.exit(f"{' '.join(self.words)} ended with {ended.status}")
         self.best = min(self.best, ended.seconds)
         self.memory = max(self.memory, ended.memory * 1024)
         self.wrote = digest.hexdigest()
+
+
+def own_memory(options) -> int:
+    """What a restart of a log without records holds, in bytes."""
+    log = os.path.join(options.folder, "empty")
+    write_log(log, header_of(1), [])
+    empty = Timed([options.program, "restart", log, str(options.workers), "1000"], options.limit)
+    empty.run()
+    return empty.memory
 
 
 class Tried:
@@ -659,6 +693,7 @@ class Tried:
             write_log(log + ".part", header_of(2 if SHAPES[name] in IN_VERSION_TWO else 1), SHAPES[name](records))
             os.replace(log + ".part", log)
         self.bytes = os.path.getsize(log)
+        self.own = options.own if self.bytes < FEW_BYTES else 0
         workers = str(options.workers)
         self.peer = Timed([peer, "restart", log], options.limit)
         self.restart = Timed([options.program, "restart", log, workers, "1000"], options.limit)
@@ -671,11 +706,15 @@ class Tried:
             it.run()
 
     def memory(self) -> float:
-        return max(it.memory for it in (self.restart, self.audit) if it) / self.bytes
+        return max(self.held(it) for it in (self.restart, self.audit) if it)
 
     def memory_at(self) -> float:
         """That of a restart from the checkpoint, where there is one."""
-        return self.at.memory / self.bytes if self.at else 0
+        return self.held(self.at) if self.at else 0
+
+    def held(self, timed: Timed) -> float:
+        """As a multiple of the log."""
+        return (timed.memory - self.own) / self.bytes
 
 
 def tried(options, peer: str, name: str) -> tuple[Tried, Tried]:
@@ -729,8 +768,10 @@ def main() -> int:
     words.add_argument("--keep", action="store_true")
     options = parsed(words)
     peer = built_peer(options.folder)
+    options.own = own_memory(options)
     sizes = f"{options.records} and {2 * options.records} records"
-    print(f"{sizes}, {options.workers} workers, best of {options.runs}; seconds\n")
+    print(f"{sizes}, {options.workers} workers, best of {options.runs}; seconds; "
+          f"a restart of an empty log holds {options.own / (1 << 20):.1f} MiB\n")
     print(HEAD)
     print("|---" * 14 + "|")
     told = []

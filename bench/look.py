@@ -77,7 +77,8 @@ def same_reports(rq: str, look: str, log: str, draw: random.Random) -> None:
     check(f"{log} as JSON", text_of(report), want)
     check(f"{log} as JSON by its schema", report_misfits(report), [])
     queues = by_queue(want)
-    for number in draw.sample(range(len(queues)), min(3, len(queues))):
+    # the last one is always among them: behind its lines no other's begin
+    for number in {*draw.sample(range(len(queues)), min(3, len(queues))), len(queues) - 1}:
         check(f"{log}, queue {number}", told(look, "report", log, "--queue", str(number))[1], queues[number])
         one = json.loads(told(look, "report", log, "--json", "--queue", str(number))[1])
         check(f"{log}, queue {number} as JSON", by_queue(text_of(one)), [queues[number]])
@@ -200,7 +201,7 @@ def same_page(look: str, log: str) -> None:
 
 
 def damages(log: bytes) -> list[tuple[str, str, bytes]]:
-    """A log damaged in each of the six ways, the last being none, with what the dump must say of its end."""
+    """A log damaged in each of the six ways, the first being none, with what the dump must say of its end."""
     bodies, end = bodies_of(log), len(log)
     last = end - 36 - len(bodies[-1])
     behind = chained(log[:HEADER], bodies + [UNLAWFUL])
@@ -218,10 +219,14 @@ def damages(log: bytes) -> list[tuple[str, str, bytes]]:
 def reasons(rq: str, look: str, log: str, folder: str) -> None:
     path = os.path.join(folder, "look.damaged")
     with open(log, "rb") as source:
-        damaged = damages(source.read())
-    for why, want, text in damaged:
+        whole = source.read()
+    lines = [line_of(it, False) for it in records_of(bodies_of(whole))]
+    for why, want, text in damages(whole):
         with open(path, "wb") as to:
             to.write(text)
+        front = lines[:-1] if why in ("cut", "chain") else lines
+        end = f"front ends behind {len(front)} records, at {want}"
+        check(f"the lines of a log that ends by {why}", told(look, "dump", path)[1].splitlines(), [*front, end])
         said = told(look, "dump", path, "--limit", "0")[1]
         check(f"what ends a log by {why}", said.split(" records, at ", 1)[1], want + "\n")
         front = json.loads(told(look, "dump", path, "--limit", "0", "--json")[1])["front"]
@@ -261,6 +266,23 @@ def odd_payloads(rq: str, look: str, folder: str) -> None:
     same_stories(look, log, records, 20, random.Random(3))
     same_page(look, log)
     unseen(look, log)
+
+
+def kills(rq: str, look: str, folder: str) -> None:
+    """KILLs of elements that are of another queue, held by a unit, not free yet, or free, and of none."""
+    script, log = os.path.join(folder, "kills.script"), os.path.join(folder, "kills.log")
+    # elements 3 to 5, and 12 of a unit that stays open
+    lines = ["define jobs 0 -", "define others 0 -", "begin 1", "enqueue 1 0 5 - 0 61", "enqueue 1 0 5 - 0 62", "enqueue 1 0 5 - 0 63"]
+    lines += ["kill 0 3", "commit 1", "kill 1 3", "kill 1 4", "begin 2", "dequeue 2 0 - 0", "enqueue 2 1 5 - 0 64", "kill 0 3"]
+    lines += ["kill 0 4", "kill 0 4", "kill 1 5", "kill 0 99"]
+    with open(script, "w", encoding="utf-8") as to:
+        to.write("\n".join(lines) + "\n")
+    subprocess.run([rq, "make2", script, log], check=True)
+    with open(log, "rb") as source:
+        records = records_of(bodies_of(source.read()))
+    same_dump(look, log, records, random.Random(4))
+    same_reports(rq, look, log, random.Random(4))
+    same_stories(look, log, records, 20, random.Random(4))
 
 
 def untold(look: str, folder: str) -> None:
@@ -453,6 +475,7 @@ def main() -> int:
             carried(rq, look, log, folder, draw)
     reasons(rq, look, small, folder)
     odd_payloads(rq, look, folder)
+    kills(rq, look, folder)
     untold(look, folder)
     refusals(look, small, folder)
     if not options.own:
