@@ -1,11 +1,11 @@
 """What rqlog leaves of files: where one can't be opened or written, where a call on it fails or is the last, where another program writes
 too, and where links, folders, pipes and devices stand."""
 from __future__ import annotations
-import fcntl, os, re, resource, shutil, signal, stat, subprocess, time
+import fcntl, os, re, resource, shutil, signal, subprocess, time
 from typing import NamedTuple
 
-from folders import NOBODY, SECRET, attacker
-from trying import HERE, Ended, check, content, put, run
+from folders import NOBODY, attack, is_made
+from trying import Ended, built, check, content, put, run, run_told
 from writing import MORE, RQLOG, START, START_BODIES, appended, faulty, plain, rqlog, says
 
 from common import chained, header_of
@@ -167,30 +167,11 @@ def killed_at_any_moment() -> None:
     check("killed at any moment", wrong, [])
 
 
-def shim_of_faults() -> str | None:
-    """The library that ends one call on a file otherwise than well; none where there is no C compiler."""
-    if not shutil.which("cc"):
-        return None
-    shim = os.path.abspath("fault.so")
-    source = os.path.join(HERE, "..", "bench", "fault.c")
-    subprocess.run(["cc", "-O1", "-shared", "-fPIC", source, "-o", shim, "-ldl"], check=True)
-    return shim
-
-
 class Growth(NamedTuple):
     """A line that writes behind a front, and what stands there then."""
     line: list[str]
     front: bytes
     whole: bytes
-
-    def ended_at(self, shim: str, number: int, how: str) -> tuple[Ended, bool]:
-        """How it ends where this call fails, or is the last; and whether there is such a call."""
-        seen, tells = os.pipe()
-        asked = {"LD_PRELOAD": shim, "FAULT": str(number), "FAULT_HOW": how, "FAULT_TOLD": str(tells)}
-        ended = rqlog(*self.line, env={**os.environ, **asked}, pass_fds=[tells])
-        os.close(tells)
-        with os.fdopen(seen, "rb") as file:
-            return ended, bool(file.read())
 
     def is_right(self, ended: Ended, left: bytes, before: bytes) -> bool:
         """Whether the log is as it was, or its front, or has a beginning of what was appended behind it."""
@@ -205,7 +186,7 @@ class Growth(NamedTuple):
         found, number, before = [], 0, self.front + b"\0\0"
         while True:
             put(log, before)
-            ended, was_met = self.ended_at(shim, number + 1, how)
+            ended, was_met = run_told(shim, "FAULT_TOLD", *self.line, by=rqlog, FAULT=str(number + 1), FAULT_HOW=how)
             if not was_met:
                 return found, number
             number += 1
@@ -217,7 +198,7 @@ class Growth(NamedTuple):
 
 def at_every_call() -> None:
     """Each call on a file fails in turn, or is the last one before the run is killed."""
-    shim = shim_of_faults()
+    shim = built("../bench/fault")
     if shim is None:
         print("no C compiler: no call on a file is let fail")
         return
@@ -232,37 +213,17 @@ def at_every_call() -> None:
             check(f"{line[0]} where a call {how}", (found, number > 5), ([], True))
 
 
-def withstands(log: str, want: bytes) -> bool:
-    """Whether a carry into a folder of somebody else leaves the other file alone, and says of what it makes what is so."""
-    for name in ("theirs/out", "theirs/out.rq0"):
-        if os.path.lexists(name):
-            os.remove(name)
-    ended, secret = rqlog("carry", log, "theirs/out"), os.stat("secret")
-    told = faulty(ended, "NEW") or ended[0] == 0 and content("theirs/out") == want and not os.path.islink("theirs/out")
-    return told and (secret.st_uid, stat.S_IMODE(secret.st_mode), content("secret")) == (0, 0o600, SECRET)
-
-
 def attacks() -> None:
-    """Root carries a log on into a folder of somebody else, who puts a link in the place of what is written."""
-    if os.geteuid() != 0:
-        print("not root: nobody else's folder is tried")
-        return
+    """A log is carried on into a folder of somebody else."""
     log = plain("attacked", b"define jobs 0 -\nbegin 1\n" + (b"enqueue 1 0 5 - 0 " + b"5a" * 65534 + b"\n") * 16)
-    os.mkdir("theirs")
-    os.chown("theirs", NOBODY, NOBODY)
-    os.chmod(put("secret", SECRET), 0o600)
     check("carry before", rqlog("carry", log, "attacked.carried")[0], 0)
-    child, seen = attacker("theirs")
-    try:
-        withstood = sum(withstands(log, content("attacked.carried")) for _ in range(ATTACKS))
-    finally:
-        os.kill(child, signal.SIGKILL)
-        os.waitpid(child, 0)
-    with os.fdopen(seen, "rb") as file:
-        met = len(file.read())
-    check("carries into a folder where somebody puts links that do no harm", withstood, ATTACKS)
-    if met == 0:
-        print("whoever puts links was too slow each time: this says nothing")
+    carried = content("attacked.carried")
+
+    def making() -> bool:
+        ended = rqlog("carry", log, "theirs/out")
+        return faulty(ended, "NEW") or ended[0] == 0 and is_made(carried)
+
+    attack("carries", ATTACKS, making)
 
 
 PARTS = [faults, not_over, links, read_only, two_writers, on_a_full_disk, nobody_listens, at_every_call, attacks, killed_at_any_moment]
