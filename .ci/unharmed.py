@@ -10,6 +10,7 @@ from writing import MORE, RQLOG, START, START_BODIES, appended, faulty, plain, r
 
 from common import chained, header_of
 from records import begin, commit, enqueue
+from refused import Outcome, Sweep
 
 IS_THERE = says("NEW: it is there already: name a file that is not", 3)
 IS_HELD = says("LOG: another program writes it: try again", 3)
@@ -213,6 +214,34 @@ def at_every_call() -> None:
             check(f"{line[0]} where a call {how}", (found, number > 5), ([], True))
 
 
+class Appends(Sweep):
+    """Runs that append to a log, which stands in the folder of what is made, and is there each time as it was before."""
+
+    def __init__(self, before: bytes) -> None:
+        super().__init__(RQLOG, os.path.abspath("swept"), (4, b"", b"rqlog: resources\n", {"log": before}))
+        self.before = before
+
+    def outcome(self, words: list[str], **options: object) -> Outcome:
+        put(os.path.join(self.made, "log"), self.before)
+        return super().outcome(words, **options)
+
+
+def scarce() -> None:
+    """Each allocation and each thread is refused in turn: a run ends the same all the same, or says so and changes nothing."""
+    if built("../bench/fault") is None:
+        print("no C compiler: no allocation is refused")
+        return
+    put("more.script", MORE)
+    sweep = Appends(content(plain("scarce", START)))
+    log = os.path.join(sweep.made, "log")
+    for line in (["append", log, "more.script"], ["checkpoint", "--close", log], ["carry", log, log + ".carried"]):
+        line += ["--workers", "2"]
+        ample = sweep.outcome(line)
+        memory, threads = sweep.counted(line, ample, 1, False), sweep.counted(line, ample, 1, True)
+        ends = ample[0], memory.wrong, threads.wrong, memory.resources > 0
+        check(f"{line[0]} where each allocation and each thread is refused in turn", ends, (0, 0, 0, True))
+
+
 def attacks() -> None:
     """A log is carried on into a folder of somebody else."""
     log = plain("attacked", b"define jobs 0 -\nbegin 1\n" + (b"enqueue 1 0 5 - 0 " + b"5a" * 65534 + b"\n") * 16)
@@ -226,4 +255,5 @@ def attacks() -> None:
     attack("carries", ATTACKS, making)
 
 
-PARTS = [faults, not_over, links, read_only, two_writers, on_a_full_disk, nobody_listens, at_every_call, attacks, killed_at_any_moment]
+PARTS = [faults, not_over, links, read_only, two_writers, on_a_full_disk, nobody_listens, at_every_call]
+PARTS += [scarce, attacks, killed_at_any_moment]
