@@ -188,9 +188,11 @@ def cut_anywhere() -> None:
 
 
 def cut_behind_a_carry() -> None:
-    """The same behind the checkpoint with which a log begins that was carried on, by both restarts of it."""
-    rqlog("carry", plain("old"), "new.carried")
+    """The same behind the checkpoint with which a log begins that was carried on, by both restarts of it; a cut log is carried on."""
+    rqlog("carry", put("cut.log", content(plain("old")) + b"\0\0"), "cut.carried")
+    rqlog("carry", "old.log", "new.carried")
     start = content("new.carried")
+    check("carry a cut log", content("cut.carried"), start)
     check("append to be cut, carried", rqlog("append", "new.carried", script=MORE)[0], 0)
     for name, by in {"rqlog": lambda: rqlog("restart", "new.carried")[1], "rq": lambda: restarted_at("new.carried", CARRIED_AT)}.items():
         put("new.carried", start)
@@ -274,6 +276,21 @@ def marks_carried(one: str) -> None:
     check("its bytes", content("out"), content("one.closed"))
 
 
+def without_a_beginning() -> None:
+    """A file that begins as a carried log and has no checkpoint at 96, or one that spells no state: all lines refuse it."""
+    rqlog("carry", plain("old"), "new.carried")
+    good, link = content("new.carried"), content("old.log")[-32:]
+    none, bad = says("no checkpoint: rqlook check tells what the file is"), says("bad checkpoint: rqlook check tells what the file is")
+    kinds = {end: (good[:end], none) for end in (64, 80, 96, 99, len(good) - 1)}
+    kinds |= {"turned": (good[:120] + bytes([good[120] ^ 1]) + good[121:], none), "no state": (carried_bytes(1, link, [checkpoint(b"")]), bad),
+              "another record": (carried_bytes(1, link, [begin(2), *[checkpoint(b"")] * 2]), none)}
+    for kind, (bytes_, want) in kinds.items():
+        put("wrong.carried", bytes_)
+        for line in ("append {}", "checkpoint {}", "carry {} third", "restart {}", "audit {}", "close {} third"):
+            ended = rqlog(*line.format("wrong.carried").split(), script=MORE), content("wrong.carried"), os.path.exists("third")
+            check(f"{line}, {kind}", ended, (want, bytes_, False))
+
+
 def by_pipes() -> None:
     """A log of either kind may be read from a pipe."""
     log = plain("piped", START + b"checkpoint\n")
@@ -305,8 +322,8 @@ def near_the_end() -> None:
             check(f"carry with {room} left", (ended[0], ended[2]), (0, warned))
 
 
-PARTS = [words, appends, refuses, rules, kills, damaged, cut_anywhere, marks, carries, cut_behind_a_carry, by_pipes, near_the_end]
-PARTS += unharmed.PARTS
+PARTS = [words, appends, refuses, rules, kills, damaged, cut_anywhere, marks, carries, cut_behind_a_carry, without_a_beginning, by_pipes]
+PARTS += [near_the_end, *unharmed.PARTS]
 
 
 def main() -> None:
