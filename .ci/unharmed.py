@@ -48,17 +48,27 @@ def faults() -> None:
 
 
 def not_over() -> None:
-    """A new log takes nobody's place: no file's, and nothing's that a link leads to, or that is none."""
+    """A new log takes nobody's place: no file's, and nothing's that a link leads to."""
     log, other = plain("over"), plain("other", b"")
     before, kept = content(log), content(other)
     os.mkdir("folder")
-    os.mkfifo("pipe")
     os.symlink("other.log", "link")
     os.symlink("nowhere", "loose")
-    for new in (log, other, "link", "loose", "folder", "pipe", "/dev/null"):
+    for new in (log, other, "link", "loose"):
         ended = rqlog("carry", log, new), content(log), content(other)
         check(f"carry onto {new}", ended, (IS_THERE, before, kept))
+    check("carry onto a folder", faulty(rqlog("carry", log, "folder"), "NEW"), True)
     check("what links lead to", (os.path.islink("link"), os.path.lexists("nowhere"), os.listdir("folder")), (True, False, []))
+    into_a_pipe(log)
+
+
+def into_a_pipe(log: str) -> None:
+    """What is no file is written as it is."""
+    os.mkfifo("pipe")
+    said = rqlog("carry", log, "made.carried")
+    with open(os.open("pipe", os.O_RDONLY | os.O_NONBLOCK), "rb") as reader:
+        check("carry into a pipe", (rqlog("carry", log, "pipe"), reader.read()), (said, content("made.carried")))
+    check("carry into nothing", (rqlog("carry", log, "/dev/null"), said[0]), (said, 0))
 
 
 def links() -> None:
@@ -104,6 +114,10 @@ def two_writers() -> None:
             check(f"{line}, held", (asked(line, log), content(log)), (IS_HELD, before))
         for line in READING:
             check(f"{line}, held", asked(line, log)[0], 0)
+        check("close over itself, held", (rqlog("close", log, log), content(log)), (IS_HELD, before))
+        fcntl.flock(other, fcntl.LOCK_SH)
+        for line, want in zip(WRITING, (IS_HELD[0], IS_HELD[0], 0)):
+            check(f"{line}, read by another", asked(line, log)[0], want)
     check("append, free again", rqlog("append", log, script=MORE)[0], 0)
     race()
 
@@ -145,7 +159,8 @@ def nobody_listens() -> None:
         with open("/dev/full", "wb") as full:
             words = [RQLOG, *line.replace("LOG", log).split()]
             done = subprocess.run(words, input=MORE, stdout=full, stderr=subprocess.PIPE)
-        check(f"{line} > /dev/full", (done.returncode, done.stderr.startswith(b"rqlog: standard output: ")), (3, True))
+        told = done.stderr.startswith(b"rqlog: standard output: "), done.stderr.endswith(b": it is done all the same\n")
+        check(f"{line} > /dev/full", (done.returncode, told), (3, (True, True)))
         check(f"{path} > /dev/full", content(path) == want if want else os.path.exists(path), True)
 
 
