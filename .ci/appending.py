@@ -282,7 +282,8 @@ def without_a_beginning() -> None:
     good, link = content("new.carried"), content("old.log")[-32:]
     none, bad = says("no checkpoint: rqlook check tells what the file is"), says("bad checkpoint: rqlook check tells what the file is")
     kinds = {end: (good[:end], none) for end in (64, 80, 96, 99, len(good) - 1)}
-    kinds |= {"turned": (good[:120] + bytes([good[120] ^ 1]) + good[121:], none), "no state": (carried_bytes(1, link, [checkpoint(b"")]), bad),
+    kinds |= {"turned": (good[:120] + bytes([good[120] ^ 1]) + good[121:], none),
+              "no state": (carried_bytes(1, link, [checkpoint(b"")]), bad),
               "another record": (carried_bytes(1, link, [begin(2), *[checkpoint(b"")] * 2]), none)}
     for kind, (bytes_, want) in kinds.items():
         put("wrong.carried", bytes_)
@@ -297,8 +298,8 @@ def by_pipes() -> None:
     rqlog("carry", log, "piped.carried")
     for name in (log, "piped.carried"):
         for line in ("restart {}", "audit {}", "close {} closed.log"):
-            by_name, by_pipe = ((rqlog(*line.format(it).split(), script=content(name)), content("closed.log")) for it in (name, "/dev/stdin"))
-            check(f"{line.format(name)}, by a pipe", by_pipe, by_name)
+            ended = [(rqlog(*line.format(it).split(), script=content(name)), content("closed.log")) for it in (name, "/dev/stdin")]
+            check(f"{line.format(name)}, by a pipe", ended[1], ended[0])
 
 
 def near_the_end() -> None:

@@ -145,10 +145,12 @@ def on_a_full_disk() -> None:
     before = content(log)
     script = b"begin 2\n" + b"enqueue 2 0 5 - 0 61\n" * 20
     ended = rqlog("append", log, script=script, preexec_fn=small_files)
-    check("append on a full disk", (faulty(ended, "LOG"), ended[2].endswith(b": nothing was appended\n"), content(log)), (True, True, before))
+    told = faulty(ended, "LOG"), ended[2].endswith(b": nothing was appended\n")
+    check("append on a full disk", (told, content(log)), ((True, True), before))
     big = plain("big", START + b"begin 2\n" + b"enqueue 2 0 5 - 0 61\n" * 40)
     ended = rqlog("carry", big, "big.carried", preexec_fn=small_files)
-    check("carry on a full disk", (faulty(ended, "NEW"), os.path.exists("big.carried"), os.path.exists("big.carried.rq0")), (True, False, False))
+    left = [it for it in os.listdir(".") if it.startswith("big.carried")]
+    check("carry on a full disk", (faulty(ended, "NEW"), left), (True, []))
 
 
 def nobody_listens() -> None:
