@@ -1,29 +1,25 @@
 #!/usr/bin/env python3
 """Tries rqlog from outside: what it appends, marks and carries on, what it refuses, and what it leaves of a file.
 
-usage: appending.py RQ RQLOG
-What must stand in a log is made here, byte by byte, as docs/FORMAT.md has it; what a restart must say of it is told by RQ. Prints a
-line for each thing that is not as it must be, and at last `N passed, M failed`.
+usage: appending.py RQ RQLOG [PART ..]
+What must stand in a log is made here, byte by byte, as docs/FORMAT.md has it; what a restart must say of it is told by RQ. With
+PART only those parts are tried. Prints a line for each thing that is not as it must be, and at last `N passed, M failed`.
 """
 from __future__ import annotations
-import fcntl, json, os, re, resource, shutil, signal, subprocess, sys, tempfile, time
+import json, os, re, sys, tempfile
+from collections.abc import Callable
 
-import trying
-from trying import DONE, Ended, check, content, log_of, put, run
+import counting, unharmed
+from trying import DONE, check, content, put, run
+from writing import MORE, START, START_BODIES, appended, plain, rqlog, says
 
-sys.path.insert(0, os.path.join(os.path.dirname(os.path.abspath(__file__)), "..", "bench"))
 from common import HEADER, chained, header_of, pieces_of
-from records import begin, checkpoint, commit, define, enqueue, kill, register, spelled
+from records import begin, checkpoint, commit, kill, spelled
 
-RQLOG = os.path.abspath(sys.argv[2])
 GAP = b"\xff\xff\xff\xffrq carried log at 96"
 CARRIED_AT = 96
 MOST = 2**32 - 1
-NOBODY = 65534
 
-START = b"define jobs 0 -\nregister 0 ann\nbegin 1\nenqueue 1 0 5 - 0 61\ncommit 1\n"
-MORE = b"begin 2\ndequeue 2 0 ann 10\nenqueue 2 0 8 - 0 62\ncommit 2\n"
-START_BODIES = [define(b"jobs"), register(0, b"ann"), begin(1), enqueue(1, 0), commit(1)]
 REPORT = re.compile(rb"front (\d+) records, (\d+) of (\d+) bytes, (\w+)\n(.*)", re.DOTALL)
 
 # A line, and the rule that it breaks behind START and `begin 5`.
@@ -41,31 +37,12 @@ UNLAWFUL = {
     b"enqueue 7 0 5 - 0 61": b"unit 7 is not open",
     b"dequeue 7 3 - 0": b"queue 3 is not defined",
 }
-NO_LINES = [b"begin 01\n", b"\n", b"begin 2", b"begin\n", b"enqueue 1 0 256 - 0 61\n", b"kill 0 3\n", b"\xff\xfe\n"]
+NO_LINES = [b"begin 01\n", b"\n", b"begin 2", b"begin\n", b"enqueue 1 0 256 - 0 61\n", b"kill 0\n", b"\xff\xfe\n"]
 # Words that are no line of the program.
 NO_WORDS = ["", "append", "carry a.log", "close a.log", "appends a.log", "restart", "restart a.log one", "audit a.log 1 1",
             "checkpoint", "append a.log --sometimes", "restart a.log 4294967296"]
 NO_PLANS = ["restart a.log 0", "restart a.log 65", "restart a.log 1 0", "restart a.log 1 1000001", "append a.log --workers 0",
             "checkpoint a.log --workers 65", "audit a.log 0", "close a.log out 65"]
-
-
-def rqlog(*words: object, script: bytes = b"", **options: object) -> Ended:
-    """How rqlog ends, and what it prints, with the script on its standard input."""
-    done = subprocess.run([RQLOG, *map(str, words)], input=script, capture_output=True, timeout=120, **options)
-    return done.returncode, done.stdout, done.stderr
-
-
-def says(text: str | bytes, status: int = 1, printed: bytes = b"") -> Ended:
-    text = text.encode() if isinstance(text, str) else text
-    return status, printed, b"rqlog: " + text + b"\n"
-
-
-def appended(count: int, length: int) -> Ended:
-    return 0, b"appended %d records, %d bytes\n" % (count, length), b""
-
-
-def plain(name: str, script: bytes = START, word: str = "make") -> str:
-    return log_of(script, name, word)
 
 
 def carried_header(version: int, link: bytes) -> bytes:
@@ -152,14 +129,33 @@ def refuses() -> None:
     check("append a long line", rqlog("append", log, script=long + b"\n"), want)
 
 
+def rules() -> None:
+    """Rules that no line behind START breaks: each script, its last line, and what is said of it."""
+    queues = b"".join(b"define q%d 0 -\n" % number for number in range(4096))
+    nested = b"define dead 0 -\ndefine worse 2 0\n"
+    for name, script, line, rule in [("nested", nested, b"define jobs 3 1", b"error queue 1 has an error queue"),
+                                     ("many", queues, b"define more 0 -", b"4096 queues are defined already"),
+                                     ("unknown", START + b"begin 5\n", b"enqueue 5 0 5 bob 1 61", b"bob is not registered with queue 0")]:
+        log = plain(name, script)
+        before = content(log)
+        want = says(b"script line 1: " + line + b": " + rule + b"; nothing was appended")
+        check(f"append {line!r}", (rqlog("append", log, script=line + b"\n"), content(log)), (want, before))
+    log = plain("two", nested, "make2")
+    check("append a nested error queue in version 2", rqlog("append", log, script=b"define jobs 3 1\n")[0], 0)
+
+
 def kills() -> None:
-    """A KILL is a line of version 2 alone; as bytes in version 1 it ends the front by its form, and nothing is appended."""
+    """A KILL is a record of version 2 alone: a line of it is refused by its rule, and as bytes it ends the front by its form."""
     two = plain("two", START, "make2")
     want = appended(1, os.path.getsize(two) + 49)
     check("append a kill", rqlog("append", two, script=b"kill 0 3\n"), want)
-    one = put("killed.log", chained(header_of(1), [*START_BODIES, kill(0, 3)]))
+    one = plain("one")
     before = content(one)
-    check("append behind a kill", (rqlog("append", one, script=MORE), content(one)),
+    want = says("script line 1: kill 0 3: version 1 has no kill; nothing was appended")
+    check("append a kill in version 1", (rqlog("append", one, script=b"kill 0 3\n"), content(one)), (want, before))
+    put("killed.log", chained(header_of(1), [*START_BODIES, kill(0, 3)]))
+    before = content("killed.log")
+    check("append behind a kill", (rqlog("append", "killed.log", script=MORE), content("killed.log")),
           (says("LOG: its front ends by form: rqlook check tells where"), before))
 
 
@@ -185,24 +181,42 @@ def damaged() -> None:
 def cut_anywhere() -> None:
     """Each beginning of appended bytes: the report is that of the records wholly there, and the next append cuts the rest."""
     log = plain("cut")
-    start = len(content(log))
+    start = content(log)
     check("append to be cut", rqlog("append", log, script=MORE)[0], 0)
-    whole, fronts = content(log), [start]
+    wrong = wrong_beginnings(log, start, 5, lambda: run("restart", log, 1, 1)[1])
+    check("beginnings of appended bytes", wrong, [])
+
+
+def cut_behind_a_carry() -> None:
+    """The same behind the checkpoint with which a log begins that was carried on, by both restarts of it; a cut log is carried on."""
+    rqlog("carry", put("cut.log", content(plain("old")) + b"\0\0"), "cut.carried")
+    rqlog("carry", "old.log", "new.carried")
+    start = content("new.carried")
+    check("carry a cut log", content("cut.carried"), start)
+    check("append to be cut, carried", rqlog("append", "new.carried", script=MORE)[0], 0)
+    for name, by in {"rqlog": lambda: rqlog("restart", "new.carried")[1], "rq": lambda: restarted_at("new.carried", CARRIED_AT)}.items():
+        put("new.carried", start)
+        rqlog("append", "new.carried", script=MORE)
+        check(f"beginnings behind a carry, {name}", wrong_beginnings("new.carried", start, 6, by, every=7), [])
+
+
+def wrong_beginnings(log: str, start: bytes, records: int, report: Callable[[], bytes], every: int = 1) -> list[int]:
+    """At which bytes behind the start, where so many records are, a cut log says anything else than it must, or is not mended."""
+    whole, fronts = content(log), [len(start)]
     while fronts[-1] < len(whole):
         fronts.append(fronts[-1] + 36 + int.from_bytes(whole[fronts[-1]:fronts[-1] + 4], "big"))
     lines = MORE.splitlines(keepends=True)
     wrong = []
-    for end in range(start, len(whole) + 1):
+    for end in {*range(len(start), len(whole) + 1, every), *fronts}:
         put(log, whole[:end])
         there = max(at for at, front in enumerate(fronts) if front <= end)
         why = b"whole" if end == fronts[there] else b"cut"
-        said = REPORT.fullmatch(run("restart", log, 1, 1)[1])
-        if not said or said.groups()[:4] != (b"%d" % (5 + there), b"%d" % fronts[there], b"%d" % end, why):
-            wrong.append(end)
+        said = REPORT.fullmatch(report())
+        is_told = said and said.groups()[:4] == (b"%d" % (records + there), b"%d" % fronts[there], b"%d" % end, why)
         ended = rqlog("append", log, script=b"".join(lines[there:]))
-        if ended != appended(4 - there, len(whole)) or content(log) != whole:
+        if not is_told or ended != appended(4 - there, len(whole)) or content(log) != whole:
             wrong.append(end)
-    check("beginnings of appended bytes", wrong, [])
+    return wrong
 
 
 def marks() -> None:
@@ -244,7 +258,6 @@ def carries() -> None:
     check("restarts agree", rqlog("restart", "third.carried", 2, 10)[1], restarted_at("third.carried", CARRIED_AT))
     check("restart of a plain log", rqlog("restart", one), (0, restarted(one), b""))
     marks_carried(one)
-    not_over("third.carried")
 
 
 def marks_carried(one: str) -> None:
@@ -263,96 +276,30 @@ def marks_carried(one: str) -> None:
     check("its bytes", content("out"), content("one.closed"))
 
 
-def not_over(log: str) -> None:
-    """A new log takes nobody's place."""
-    before = content(log)
-    for new in (log, "one.log"):
-        kept = content(new)
-        check(f"carry onto {new}", (rqlog("carry", log, new), content(new), content(log)),
-              (says("NEW: it is there already: name a file that is not", 3), kept, before))
+def without_a_beginning() -> None:
+    """A file that begins as a carried log and has no checkpoint at 96, or one that spells no state: all lines refuse it."""
+    rqlog("carry", plain("old"), "new.carried")
+    good, link = content("new.carried"), content("old.log")[-32:]
+    none, bad = says("no checkpoint: rqlook check tells what the file is"), says("bad checkpoint: rqlook check tells what the file is")
+    kinds = {end: (good[:end], none) for end in (64, 80, 96, 99, len(good) - 1)}
+    kinds |= {"turned": (good[:120] + bytes([good[120] ^ 1]) + good[121:], none),
+              "no state": (carried_bytes(1, link, [checkpoint(b"")]), bad),
+              "another record": (carried_bytes(1, link, [begin(2), *[checkpoint(b"")] * 2]), none)}
+    for kind, (bytes_, want) in kinds.items():
+        put("wrong.carried", bytes_)
+        for line in ("append {}", "checkpoint {}", "carry {} third", "restart {}", "audit {}", "close {} third"):
+            ended = rqlog(*line.format("wrong.carried").split(), script=MORE), content("wrong.carried"), os.path.exists("third")
+            check(f"{line}, {kind}", ended, (want, bytes_, False))
 
 
-def faults() -> None:
-    """Files that cannot be opened, read or written."""
-    log = plain("fault")
-    for line in ("append none.log", "checkpoint none.log", "carry none.log new", "restart none.log", "audit none.log", "close none.log o"):
-        ended = rqlog(*line.split(), script=MORE)
-        check(line, (ended[0], ended[1], ended[2].startswith(b"rqlog: LOG: ")), (3, b"", True))
-    ended = rqlog("append", log, "none.script")
-    check("no script", (ended[0], ended[2].startswith(b"rqlog: SCRIPT: ")), (3, True))
-    os.mkdir("folder")
-    for name in ("folder", "/dev/null"):
-        ended = rqlog("append", name, script=MORE)
-        check(f"append {name}", (ended[0], ended[2].startswith(b"rqlog: LOG: ")), (3, True))
-    ended = rqlog("carry", log, "missing/new")
-    check("carry into no folder", (ended[0], ended[2].startswith(b"rqlog: NEW: ")), (3, True))
-
-
-def read_only() -> None:
-    """A log that may not be written, as nobody, whom permissions bind."""
-    if os.getuid() != 0:
-        return
-    log = plain("kept")
-    os.chmod(".", 0o755)
-    os.chmod(log, 0o444)
-    before = content(log)
-    for line in ("append kept.log", "checkpoint kept.log"):
-        ended = rqlog(*line.split(), script=MORE, user=NOBODY, group=NOBODY)
-        check(f"{line}, read-only", (ended[0], ended[2].startswith(b"rqlog: LOG: "), content(log)), (3, True, before))
-
-
-def links() -> None:
-    """A symbolic link is followed; what came into the place of the file is not."""
-    log = plain("real")
-    os.symlink("real.log", "link.log")
-    ended = rqlog("append", "link.log", script=MORE)
-    check("append by a link", (ended[0], os.path.islink("link.log"), content(log)), (0, True, content(plain("whole", START + MORE))))
-    os.symlink("ring.log", "ring.log")
-    ended = rqlog("append", "ring.log", script=MORE)
-    check("append by a ring", (ended[0], ended[2].startswith(b"rqlog: LOG: ")), (3, True))
-
-
-def two_writers() -> None:
-    """While another program holds the log's lock nothing is written, and it is said."""
-    log = plain("held")
-    before = content(log)
-    with open(log, "rb") as other:
-        fcntl.flock(other, fcntl.LOCK_EX)
-        for line in ("append held.log", "checkpoint held.log", "carry held.log held.new"):
-            check(f"{line}, held", (rqlog(*line.split(), script=MORE), content(log)),
-                  (says("LOG: another program writes it: try again", 3), before))
-        check("restart, held", rqlog("restart", log)[0], 0)
-    check("append, free again", rqlog("append", log, script=MORE)[0], 0)
-    race()
-
-
-def race() -> None:
-    """Many at once: each appends its own, or is told that another writes."""
-    log = plain("race")
-    units = [subprocess.Popen([RQLOG, "append", log], stdin=subprocess.PIPE, stdout=subprocess.PIPE, stderr=subprocess.PIPE) for _ in range(8)]
-    ends = [it.communicate(b"register 0 r%d\n" % at)[1] for at, it in enumerate(units)]
-    done = sum(it.returncode == 0 for it in units)
-    others = {end for it, end in zip(units, ends) if it.returncode}
-    said = REPORT.fullmatch(restarted(log))
-    check("a race", (said[1], said[4], others <= {b"rqlog: LOG: another program writes it: try again\n"}), (b"%d" % (5 + done), b"whole", True))
-
-
-def small_files() -> None:
-    """No file may pass a length: a write past it fails, as on a full disk."""
-    signal.signal(signal.SIGXFSZ, signal.SIG_IGN)
-    resource.setrlimit(resource.RLIMIT_FSIZE, (700, 700))
-
-
-def on_a_full_disk() -> None:
-    """What was written of the frames is taken back; no new file stays."""
-    log = plain("full")
-    before = content(log)
-    script = b"begin 2\n" + b"enqueue 2 0 5 - 0 " + b"61" * 50 + b"\n"
-    ended = rqlog("append", log, script=script + b"enqueue 2 0 5 - 0 61\n" * 20, preexec_fn=small_files)
-    check("append on a full disk", (ended[0], ended[2].endswith(b": nothing was appended\n"), content(log)), (3, True, before))
-    big = plain("big", START + b"begin 2\n" + b"enqueue 2 0 5 - 0 61\n" * 40)
-    ended = rqlog("carry", big, "big.carried", preexec_fn=small_files)
-    check("carry on a full disk", (ended[0], os.path.exists("big.carried"), os.path.exists("big.carried.rq0")), (3, False, False))
+def by_pipes() -> None:
+    """A log of either kind may be read from a pipe."""
+    log = plain("piped", START + b"checkpoint\n")
+    rqlog("carry", log, "piped.carried")
+    for name in (log, "piped.carried"):
+        for line in ("restart {}", "audit {}", "close {} closed.log"):
+            ended = [(rqlog(*line.format(it).split(), script=content(name)), content("closed.log")) for it in (name, "/dev/stdin")]
+            check(f"{line.format(name)}, by a pipe", ended[1], ended[0])
 
 
 def near_the_end() -> None:
@@ -376,86 +323,13 @@ def near_the_end() -> None:
             check(f"carry with {room} left", (ended[0], ended[2]), (0, warned))
 
 
-def killed_at_any_moment() -> None:
-    """A run that is killed leaves the log as before, or with whole frames more and at most a part of one."""
-    log = plain("killed")
-    before = content(log)
-    script = put("long.script", b"".join(b"begin %d\nenqueue %d 0 5 - 0 61\ncommit %d\n" % (n, n, n) for n in range(2, 20002)))
-    whole = chained(header_of(1), [*START_BODIES, *(body for n in range(2, 20002) for body in (begin(n), enqueue(n, 0), commit(n)))])
-    wrong = []
-    for tries in range(24):
-        put(log, before)
-        going = subprocess.Popen([RQLOG, "append", log, script], stdout=subprocess.DEVNULL, stderr=subprocess.DEVNULL)
-        time.sleep(tries * 0.012)
-        going.kill()
-        going.wait()
-        left = content(log)
-        if not whole.startswith(left) or len(left) < len(before):
-            wrong.append(tries)
-    check("killed at any moment", wrong, [])
+PARTS = [words, appends, refuses, rules, kills, damaged, cut_anywhere, marks, carries, cut_behind_a_carry, without_a_beginning, by_pipes]
+PARTS += [near_the_end, *unharmed.PARTS]
 
 
-def shim_of_faults() -> str | None:
-    """The library that ends one call on a file otherwise than well; none where there is no C compiler."""
-    if not shutil.which("cc"):
-        return None
-    shim = os.path.abspath("fault.so")
-    source = os.path.join(trying.HERE, "..", "bench", "fault.c")
-    subprocess.run(["cc", "-O1", "-shared", "-fPIC", source, "-o", shim, "-ldl"], check=True)
-    return shim
-
-
-def ended_at(shim: str, number: int, how: str, log: str) -> tuple[Ended, bool]:
-    """How an append ends of which this call fails, or is the last; and whether there is such a call."""
-    seen, tells = os.pipe()
-    asked = {"LD_PRELOAD": shim, "FAULT": str(number), "FAULT_HOW": how, "FAULT_TOLD": str(tells)}
-    ended = rqlog("append", log, "more.script", env={**os.environ, **asked}, pass_fds=[tells])
-    os.close(tells)
-    with os.fdopen(seen, "rb") as file:
-        return ended, bool(file.read())
-
-
-def is_right(ended: Ended, how: str, left: bytes, before: bytes, whole: bytes) -> bool:
-    """Whether the log is as it was, with the beginning of a frame behind it, or has a beginning of what was appended."""
-    status, _, said = ended
-    front = before[:-2]
-    if status == 0:
-        return left == whole
-    if said.endswith(b"nothing was appended\n"):
-        return left in (before, front)
-    return left == before or left.startswith(front) and whole.startswith(left)
-
-
-def at_every_call() -> None:
-    """Each call on a file fails in turn, or is the last one before the run is killed; the next run finds the front."""
-    shim = shim_of_faults()
-    if shim is None:
-        print("no C compiler: no call on a file is let fail")
-        return
-    log = plain("called")
-    front, whole = content(log), content(plain("whole", START + MORE))
-    before = front + b"\0\0"
-    put("more.script", MORE)
-    for how in ("fails", "kills"):
-        wrong, number = [], 1
-        while True:
-            put(log, before)
-            ended, was_met = ended_at(shim, number, how, log)
-            if not was_met:
-                break
-            if not is_right(ended, how, content(log), before, whole):
-                wrong.append((number, ended))
-            if rqlog("append", log)[0] != 0 or b", whole" not in restarted(log):
-                wrong.append((number, "the next run"))
-            number += 1
-        check(f"append where a call {how}", (wrong, number > 5), ([], True))
-
-
-def main() -> int:
-    parts = [words, appends, refuses, kills, damaged, cut_anywhere, marks, carries, faults, read_only, links, two_writers,
-             on_a_full_disk, at_every_call, near_the_end, killed_at_any_moment]
+def main() -> None:
     top = os.getcwd()
-    for part in parts:
+    for part in [it for it in PARTS if not sys.argv[3:] or it.__name__ in sys.argv[3:]]:
         with tempfile.TemporaryDirectory(prefix="rqlog-") as folder:
             os.chdir(folder)
             try:
@@ -463,9 +337,9 @@ def main() -> int:
             except Exception as fault:
                 check(part.__name__, repr(fault), "no exception")
             os.chdir(top)
-    print(f"{trying.passed} passed, {trying.failed} failed")
-    return 1 if trying.failed else 0
+    print(counting.told())
+    sys.exit(counting.failed != 0)
 
 
 if __name__ == "__main__":
-    sys.exit(main())
+    main()

@@ -20,6 +20,8 @@ PROCESSORS = ["x86-64-v2", "x86-64-v3"]
 # No folder that has a toolchain.
 PATH = os.pathsep.join(it for it in os.get_exec_path() if not os.path.exists(os.path.join(it, "rt")))
 LINE = ["restart", "a log", "1", "1"]
+# A line of each program.
+LINES = {"rq": LINE, "rqlook": ["dump", "a log"], "rqlog": ["append", "a log"]}
 SOURCES = ["crates/low/src/lib.rt", "crates/low/specs/Lib.antt", "crates/low/proofs/Lib.antt", "crates/rq/src/main.rt"]
 SOURCES += ["crates/rqlook/src/main.rt", "crates/rqlog/src/main.rt"]
 # What is beside them, or is nothing of rq.
@@ -93,8 +95,7 @@ class Clone:
 
 def is_of(clone: Clone, name: str) -> str:
     """Which program was run, by what it tells."""
-    words = LINE if name == "rq" else ["dump", "a log"]
-    return clone.run(name, *words)[1].split(" ")[0].rsplit("-x86", 1)[0]
+    return clone.run(name, *LINES[name])[1].split(" ")[0].rsplit("-x86", 1)[0]
 
 
 def words(clone: Clone) -> None:
@@ -119,6 +120,7 @@ def shipping(clone: Clone) -> None:
     check("a check", clone.run("tools/ship", "--check")[0::2], (0, ""))
     status, out, said = clone.run("rq", *LINE)
     check("a shipped program", (status, out.split(" ", 1)[1], said), (0, f"{SETTINGS} {' '.join(LINE)}\n", ""))
+    check("each shipped program", [is_of(clone, it) for it in LINES], list(LINES))
     check("with other settings", clone.run("rq", *LINE, GLIBC_TUNABLES="a=1")[1].split(" ")[1], "a=1")
     check("wrong words", clone.run("rq", "--help")[1].split(" ", 1)[1], f"{SETTINGS} --help\n")
     check("its proof", clone.run("rq", "--prove", kit=True)[1].splitlines()[-1].endswith("has the same bytes"), True)
@@ -202,8 +204,9 @@ def installing(clone: Clone) -> None:
     check("nothing to take away", clone.run("tools/install", "--uninstall", prefix)[0], 1)
     for _ in range(2):
         check("installing", (clone.run("tools/install", prefix)[0], files_below(prefix)), (0, INSTALLED))
-    ran = ended([os.path.join(prefix, "bin", "rq"), "a b"], {"PATH": PATH})
-    check("an installed program", ran[1].split(" ", 1)[1:], [f"{SETTINGS} a b\n"])
+    for name in LINES:
+        status, out, _ = ended([os.path.join(prefix, "bin", name), "a b"], {"PATH": PATH})
+        check(f"{name}, installed", (status, out.startswith(f"{name}-x86"), out.split(" ", 1)[1:]), (0, True, [f"{SETTINGS} a b\n"]))
     put(os.path.join(prefix, "bin", "rq"), "another")
     check("over a file of another", (clone.run("tools/install", prefix)[0], files_below(prefix)), (1, INSTALLED))
     check("taking away", (clone.run("tools/install", "--uninstall", prefix)[0], files_below(prefix)), (0, ["bin/rq"]))

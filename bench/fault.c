@@ -99,6 +99,18 @@ int rename(const char *from, const char *to) {
   return is_wrong() ? wrong() : next(from, to);
 }
 
+int link(const char *from, const char *to) {
+  static int (*next)(const char *, const char *);
+  if (!next) next = dlsym(RTLD_NEXT, "link");
+  return is_wrong() ? wrong() : next(from, to);
+}
+
+int linkat(int in, const char *from, int to_in, const char *to, int flags) {
+  static int (*next)(int, const char *, int, const char *, int);
+  if (!next) next = dlsym(RTLD_NEXT, "linkat");
+  return is_wrong() ? wrong() : next(in, from, to_in, to, flags);
+}
+
 int close(int file) {
   static int (*next)(int);
   if (!next) next = dlsym(RTLD_NEXT, "close");

@@ -2,13 +2,14 @@
 """Cuts drawn scripts into pieces that rqlog appends to a log, marks and carries on at drawn places, and holds the restart of what comes
 out against that of the log which `rq make` makes of the whole script at once: the reports are equal but for numbers of bytes.
 
-usage: pieces.py RQ RQLOG [--scripts N] [--seed N] [--folder DIR]
+usage: pieces.py RQ RQLOG [--scripts N] [--seed N] [--jobs N] [--folder DIR]
 A checkpoint and a file that is carried on are a line `checkpoint` of the whole script; `--close` is an ABORT for each open unit before
-it. Half of the scripts are of version 2. The ends are cut off as well, at a drawn byte of what was appended last. The last line is
-`N passed, M failed`, by scripts.
+it. Half of the scripts are of version 2. The ends are cut off as well, at a drawn byte of what was appended last. With --jobs so many
+scripts are tried at a time. The last line is `N passed, M failed`, by scripts.
 """
 from __future__ import annotations
-import json, os, random, re, subprocess, sys
+import argparse, json, os, random, re, subprocess, sys, tempfile
+from concurrent.futures import ThreadPoolExecutor
 from dataclasses import dataclass, field
 
 from common import parsed, parser
@@ -155,8 +156,6 @@ class Pieces:
     def carry(self) -> None:
         self.files += 1
         new = self.path(f"{self.files}.carried")
-        if os.path.exists(new):
-            os.remove(new)
         self.do("carry", self.log, new)
         self.log, self.tail = new, 0
         self.script.append("checkpoint")
@@ -182,24 +181,31 @@ class Pieces:
         return self.agree()
 
 
+def is_same(options: argparse.Namespace, seed: int) -> bool:
+    """Whether the script of this seed says the same in pieces; tells which does not."""
+    with tempfile.TemporaryDirectory(dir=options.folder) as room:
+        try:
+            same = Pieces(options.program, options.rqlog, room, seed).run()
+        except (RuntimeError, subprocess.CalledProcessError) as fault:
+            print(f"script {seed}: {fault}", flush=True)
+            return False
+    if not same:
+        print(f"script {seed} differs", flush=True)
+    return same
+
+
 def main() -> int:
     words = parser()
     words.add_argument("rqlog")
     words.add_argument("--scripts", type=int, default=10_000)
     words.add_argument("--seed", type=int, default=1)
+    words.add_argument("--jobs", type=int, default=1)
     options = parsed(words)
-    passed = failed = 0
-    for seed in range(options.seed, options.seed + options.scripts):
-        try:
-            same = Pieces(options.program, options.rqlog, options.folder, seed).run()
-        except RuntimeError as fault:
-            print(f"script {seed}: {fault}", flush=True)
-            same = False
-        passed, failed = passed + same, failed + (not same)
-        if not same:
-            print(f"script {seed} differs", flush=True)
-    print(f"{passed} passed, {failed} failed")
-    return 1 if failed else 0
+    seeds = range(options.seed, options.seed + options.scripts)
+    with ThreadPoolExecutor(options.jobs) as pool:
+        found = list(pool.map(lambda seed: is_same(options, seed), seeds))
+    print(f"{found.count(True)} passed, {found.count(False)} failed")
+    return 1 if False in found else 0
 
 
 if __name__ == "__main__":
