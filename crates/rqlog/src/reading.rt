@@ -3,7 +3,7 @@
 ghost use Rattle.std.specs.Prelude.{◌≤◌, List, ℕ, length, IfOk, OnOk};
 ghost use Rattle.rq_restart.specs.GrowingFronts.{GoesAlong};
 
-use crate::failing::{Refusal, Which};
+use crate::failing::{Refusal, Which, unread};
 use rq_journal::{Fault, Plan, is_carried};
 use rq_restart::{GrowingFront, JudgedFront};
 use std::fs::{self, File, Files};
@@ -31,8 +31,7 @@ fn within(read: io::Result<Vec<u8>>, which: Which) -> Result<Vec<u8>, Refusal> {
     match read {
         Ok(bytes) if bytes.len() as u64 >= LIMIT => Err(Refusal::Refused(Fault::TooLong)),
         Ok(bytes) => Ok(bytes),
-        Err(error) if error.kind() == ErrorKind::OutOfMemory => Err(Refusal::Memory),
-        Err(error) => Err(Refusal::Unread(which, error)),
+        Err(error) => Err(unread(which, error)),
     }
 }
 
