@@ -2,9 +2,10 @@
 
 use crate::appending::{Written, frames_of};
 use crate::failing::{Refusal, Which};
-use crate::files::HeldLog;
+use crate::files::{HeldLog, put};
 use crate::fronts::{front_in, opened_front};
 use crate::marking::{closed_carried, mark};
+use crate::placing::{expect_free, name_one_file, put_new};
 use crate::reading::{begins_carried, opened, rest_of_log, script_in};
 use crate::telling::{audit_text, tell_appended, tell_carried, tell_marked, warn_of_end};
 use clap::ArgMatches;
@@ -12,7 +13,7 @@ use rq_file::Patient;
 use rq_journal::{CARRIED_AT, Fault, Plan, audit_carried, carried, carried_again, is_carried};
 use rq_restart::closed;
 use rq_tool::{Open, OverRead, OverWrite};
-use std::fs::{self, File};
+use std::fs::File;
 use std::io;
 use std::rt::{Clock, Files};
 use std::thread::Threads;
@@ -27,6 +28,14 @@ fn plan_of(words: &ArgMatches<'_>) -> Result<Plan, Refusal> {
     };
     let grain = words.get_one::<u32>("GRAIN").unwrap_or(GRAIN);
     Plan::new(workers, grain).ok_or(Refusal::Plan)
+}
+
+// What was done stands, also if the output fails that was to tell it.
+fn told(done: io::Result<()>) -> Result<(), Refusal> {
+    match done {
+        Ok(()) => Ok(()),
+        Err(error) => Err(Refusal::Untold(error)),
+    }
 }
 
 // Writes the frames of a script behind a log, and tells so, or why its lines are refused.
@@ -49,7 +58,7 @@ where
     if refused.as_ref().map_or(true, |refused| refused.is_kept) {
         held.append(rt, read, used, &frames)?;
         let len = used.saturating_add(frames.len()) as u64;
-        tell_appended(rt, json, count, used as u64, len)?;
+        told(tell_appended(rt, json, count, used as u64, len))?;
     }
     match refused {
         Some(refused) => Err(Refusal::Line(refused)),
@@ -78,7 +87,7 @@ where
     let made = mark(rt, rt.alloc(), &bytes, plan, words.get_flag("close"))?;
     held.append(rt, bytes.len(), made.used, &made.frames)?;
     let len = made.used.saturating_add(made.frames.len()) as u64;
-    Ok(tell_marked(rt, words.get_flag("json"), made.offset as u64, len)?)
+    told(tell_marked(rt, words.get_flag("json"), made.offset as u64, len))
 }
 
 // How many records stand before a log that goes on from this one.
@@ -110,28 +119,14 @@ where
     R: Files<File = File> + Print + Eprint + AllocGlobal + Threads + Sync,
 {
     let new = words.get_str("NEW").unwrap_or("-");
-    if fs::symlink_metadata(rt, new).map_or(false, |found| found.is_file()) {
-        return Err(Refusal::There);
-    }
+    expect_free(rt, new)?;
     let mut held = HeldLog::to_read(rt, log)?;
     let bytes = rest_of_log(rt, held.file())?;
     let next = next_behind(rt, &bytes, plan)?;
     let made = carried_on(rt, &bytes, plan)?;
-    put(rt, new, Which::New, &made)?;
+    put_new(rt, new, &made)?;
     warn_of_end(rt, next);
-    Ok(tell_carried(rt, words.get_flag("json"), next, made.len() as u64)?)
-}
-
-// Makes a file of these bytes, whole or not at all.
-fn put<R>(rt: &R, to: &str, which: Which, bytes: &[u8]) -> Result<(), Refusal>
-where
-    R: Files<File = File> + AllocGlobal,
-{
-    match rq_file::put(rt, to, bytes) {
-        Ok(()) => Ok(()),
-        Err(error) if error.kind() == io::ErrorKind::OutOfMemory => Err(Refusal::Memory),
-        Err(error) => Err(Refusal::Unwritten(which, error)),
-    }
+    told(tell_carried(rt, words.get_flag("json"), next, made.len() as u64))
 }
 
 fn restart<R>(rt: &R, log: &str, plan: &Plan) -> Result<(), Refusal>
@@ -165,10 +160,26 @@ where
     Ok(closed(rt, rt.alloc(), bytes, plan)?)
 }
 
+// Closes a log in its own place, while no other program writes it.
+fn close_in_place<R>(rt: &R, log: &str, plan: &Plan) -> Result<(), Refusal>
+where
+    R: Files<File = File> + AllocGlobal + Threads + Sync,
+{
+    let mut held = HeldLog::to_replace(rt, log)?;
+    let bytes = rest_of_log(rt, held.file())?;
+    let read = bytes.len();
+    let made = closed_of(rt, bytes, plan)?;
+    held.expect_as_read(rt, read)?;
+    put(rt, log, Which::Out, &made)
+}
+
 fn close<R>(rt: &R, log: &str, plan: &Plan, out: &str) -> Result<(), Refusal>
 where
     R: Files<File = File> + AllocGlobal + Threads + Sync,
 {
+    if name_one_file(rt, log, out) {
+        return close_in_place(rt, out, plan);
+    }
     let mut file = opened(rt, log)?;
     let bytes = rest_of_log(rt, &mut file)?;
     let made = closed_of(rt, bytes, plan)?;

@@ -91,6 +91,8 @@ pub(crate) enum Refusal {
     Refused(Fault),
     /// The output fails.
     Output(io::Error),
+    /// It is done, and the output fails that was to tell so.
+    Untold(io::Error),
     /// Memory is refused.
     Memory,
 }
@@ -123,6 +125,22 @@ impl From<Fault> for Refusal {
             _ => Refusal::Refused(fault),
         }
     }
+}
+
+/// Why a file cannot be read.
+pub(crate) fn unread(which: Which, error: io::Error) -> Refusal {
+    if error.kind() == io::ErrorKind::OutOfMemory {
+        return Refusal::Memory;
+    }
+    Refusal::Unread(which, error)
+}
+
+/// Why a file cannot be made or written.
+pub(crate) fn unwritten(which: Which, error: io::Error) -> Refusal {
+    if error.kind() == io::ErrorKind::OutOfMemory {
+        return Refusal::Memory;
+    }
+    Refusal::Unwritten(which, error)
 }
 
 // What to do about a fault.
@@ -166,6 +184,10 @@ impl fmt::Display for Refusal {
                 write!(f, "{fault}{advice}")
             }
             Refusal::Output(error) => write!(f, "standard output: {error}"),
+            Refusal::Untold(error) => write!(
+                f,
+                "standard output: {error}: it is done all the same"
+            ),
             Refusal::Memory => f.write_str("resources"),
         }
     }
@@ -181,7 +203,8 @@ impl Refusal {
             | Refusal::Held
             | Refusal::There
             | Refusal::Changed
-            | Refusal::Output(_) => STREAM,
+            | Refusal::Output(_)
+            | Refusal::Untold(_) => STREAM,
             Refusal::Damaged(_) | Refusal::Full | Refusal::Ended => REFUSED,
             Refusal::Line(refused) => told_line(refused),
             Refusal::Refused(fault) => fault.exit(),

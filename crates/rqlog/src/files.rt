@@ -1,6 +1,6 @@
 //! The file of a log, which one program writes at a time.
 
-use crate::failing::{Refusal, Remains, Which};
+use crate::failing::{Refusal, Remains, Which, unread, unwritten};
 use rq_file::NamedFile;
 use std::fs::{File, Files, OpenFile, OpenOptions, TryLockError};
 use std::io::{self, ErrorKind, Seek, SeekFrom, Write};
@@ -11,9 +11,22 @@ pub(crate) struct HeldLog {
     place: NamedFile<File>,
 }
 
-// Takes the lock of a log's writers.
-fn lock(file: &File) -> Result<(), Refusal> {
-    match file.try_lock() {
+// How a log is held.
+#[derive(Clone, Copy)]
+enum Hold {
+    // Nobody else has it.
+    Alone,
+    // Nobody writes it.
+    Unwritten,
+}
+
+// Takes the lock of a log's writers, or of its readers.
+fn lock(file: &File, hold: Hold) -> Result<(), Refusal> {
+    let locked = match hold {
+        Hold::Alone => file.try_lock(),
+        Hold::Unwritten => file.try_lock_shared(),
+    };
+    match locked {
         Ok(()) => Ok(()),
         Err(TryLockError::WouldBlock) => Err(Refusal::Held),
         Err(TryLockError::Error(error)) => Err(Refusal::Unwritten(Which::Log, error)),
@@ -23,16 +36,21 @@ fn lock(file: &File) -> Result<(), Refusal> {
 impl HeldLog {
     // Opens the file of a log. Once it has the lock, the file must still have its name: else another
     // program put its own there while this one came.
-    fn open<R>(rt: &R, path: &str, options: &OpenOptions) -> Result<HeldLog, Refusal>
+    fn open<R>(rt: &R, path: &str, options: &OpenOptions, hold: Hold) -> Result<HeldLog, Refusal>
     where
         R: Files<File = File> + AllocGlobal,
     {
-        let place = match NamedFile::open(rt, path, options) {
-            Ok(place) => place,
-            Err(error) if error.kind() == ErrorKind::OutOfMemory => return Err(Refusal::Memory),
-            Err(error) => return Err(Refusal::Unread(Which::Log, error)),
-        };
-        lock(place.file())?;
+        match NamedFile::open(rt, path, options) {
+            Ok(place) => HeldLog::held(rt, place, hold),
+            Err(error) => Err(unread(Which::Log, error)),
+        }
+    }
+
+    fn held<R>(rt: &R, place: NamedFile<File>, hold: Hold) -> Result<HeldLog, Refusal>
+    where
+        R: Files<File = File>,
+    {
+        lock(place.file(), hold)?;
         if !place.is_there(rt) {
             return Err(Refusal::Changed);
         }
@@ -46,7 +64,17 @@ impl HeldLog {
     {
         let mut options = OpenOptions::new();
         options.read(true);
-        HeldLog::open(rt, path, &options)
+        HeldLog::open(rt, path, &options, Hold::Unwritten)
+    }
+
+    /// Opens the file of a log that another is to replace.
+    pub(crate) fn to_replace<R>(rt: &R, path: &str) -> Result<HeldLog, Refusal>
+    where
+        R: Files<File = File> + AllocGlobal,
+    {
+        let mut options = OpenOptions::new();
+        options.read(true);
+        HeldLog::open(rt, path, &options, Hold::Alone)
     }
 
     /// Opens the file of a log to read it and to write it.
@@ -56,7 +84,7 @@ impl HeldLog {
     {
         let mut options = OpenOptions::new();
         options.read(true).write(true);
-        HeldLog::open(rt, path, &options)
+        HeldLog::open(rt, path, &options, Hold::Alone)
     }
 
     /// The file.
@@ -64,10 +92,16 @@ impl HeldLog {
         self.place.file_mut()
     }
 
-    // Whether the file has its name, and still so many bytes.
-    fn is_as_read<R: Files<File = File>>(&self, rt: &R, bytes: usize) -> bool {
+    /// Refuses a file that has its name no more, or not so many bytes as were read.
+    pub(crate) fn expect_as_read<R>(&self, rt: &R, bytes: usize) -> Result<(), Refusal>
+    where
+        R: Files<File = File>,
+    {
         let len = OpenFile::metadata(self.place.file()).map_or(u64::MAX, |found| found.len());
-        len == bytes as u64 && self.place.is_there(rt)
+        if len == bytes as u64 && self.place.is_there(rt) {
+            return Ok(());
+        }
+        Err(Refusal::Changed)
     }
 
     // Makes the log so long again, and answers what is left of it.
@@ -90,9 +124,7 @@ impl HeldLog {
         used: usize,
         frames: &[u8],
     ) -> Result<(), Refusal> {
-        if !self.is_as_read(rt, read) {
-            return Err(Refusal::Changed);
-        }
+        self.expect_as_read(rt, read)?;
         match write_behind(self.place.file_mut(), read, used, frames) {
             Ok(()) => Ok(()),
             Err(error) => {
@@ -111,4 +143,15 @@ fn write_behind(file: &mut File, read: usize, used: usize, frames: &[u8]) -> io:
     file.seek(SeekFrom::Start(used as u64))?;
     file.write_all(frames)?;
     OpenFile::sync_all(file)
+}
+
+/// Makes a file of these bytes, whole or not at all.
+pub(crate) fn put<R>(rt: &R, to: &str, which: Which, bytes: &[u8]) -> Result<(), Refusal>
+where
+    R: Files<File = File> + AllocGlobal,
+{
+    match rq_file::put(rt, to, bytes) {
+        Ok(()) => Ok(()),
+        Err(error) => Err(unwritten(which, error)),
+    }
 }

@@ -34,22 +34,25 @@ impl Standing {
         self.appender.version()
     }
 
+    /// Whether a state behind so many records more can be spelled.
+    pub(crate) fn has_numbers(&self, count: usize) -> bool {
+        count as u64 <= NUMBERS.saturating_sub(self.next)
+    }
+
     /// Whether no state behind one more record can be spelled.
     pub(crate) fn is_at_end(&self) -> bool {
-        self.next >= NUMBERS
+        !self.has_numbers(1)
     }
 }
 
 // How many records were numbered before the first frame: the spelling of the state that a log begins
 // with tells it first, behind the length and the kind of its checkpoint.
 fn numbered_before(bytes: &[u8]) -> u64 {
-    if !is_carried(bytes) {
+    let at = CARRIED_AT + 5;
+    if !is_carried(bytes) || bytes.len() < at + 8 {
         return 0;
     }
-    match bytes.get(CARRIED_AT + 5..CARRIED_AT + 13) {
-        Some(next) => BigEndian::read_u64(next),
-        None => 0,
-    }
+    BigEndian::read_u64(&bytes[at..])
 }
 
 // Where a log was opened, before whose first frame so many records were numbered.

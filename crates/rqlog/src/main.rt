@@ -8,6 +8,7 @@ mod failing;
 mod files;
 mod fronts;
 mod marking;
+mod placing;
 mod reading;
 mod telling;
 mod words;

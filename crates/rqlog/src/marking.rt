@@ -36,13 +36,16 @@ fn aborts_of(alloc: Global, state: &State) -> Result<Vec<Record>, AllocError> {
     Ok(aborts)
 }
 
-// Appends these records, all of which may follow.
+// Appends these records, all of which are lawful there.
 fn append_all(
     alloc: Global,
     standing: &mut Standing,
     records: &[Record],
     frames: &mut Vec<u8>,
 ) -> Result<(), Refusal> {
+    if !standing.has_numbers(records.len()) {
+        return Err(Refusal::Ended);
+    }
     match standing.appender.append_each(alloc, records, frames) {
         (_, None) => {
             standing.next = standing.next.saturating_add(records.len() as u64);

@@ -3,9 +3,10 @@
 ghost use Rattle.std.specs.Prelude.{◌≤◌, List, ℕ, length, IfOk, OnOk};
 ghost use Rattle.rq_restart.specs.GrowingFronts.{GoesAlong};
 
-use crate::failing::{Refusal, Which};
+use crate::failing::{Refusal, Which, unread};
 use rq_journal::{Fault, Plan, is_carried};
 use rq_restart::{GrowingFront, JudgedFront};
+use std::alloc::{AllocError, Global};
 use std::fs::{self, File, Files};
 use std::io::{self, ErrorKind, Read};
 use std::os::unix::fs::FileExt;
@@ -31,8 +32,7 @@ fn within(read: io::Result<Vec<u8>>, which: Which) -> Result<Vec<u8>, Refusal> {
     match read {
         Ok(bytes) if bytes.len() as u64 >= LIMIT => Err(Refusal::Refused(Fault::TooLong)),
         Ok(bytes) => Ok(bytes),
-        Err(error) if error.kind() == ErrorKind::OutOfMemory => Err(Refusal::Memory),
-        Err(error) => Err(Refusal::Unread(which, error)),
+        Err(error) => Err(unread(which, error)),
     }
 }
 
@@ -82,6 +82,11 @@ where
     Ok(count)
 }
 
+// Room for what is read at a time.
+fn room_for_piece(alloc: Global) -> Result<Vec<u8>, AllocError> {
+    vec![in alloc; 0u8; PIECE]
+}
+
 /// The front of the log in an open file, read from where that stands, and how many bytes there are.
 /// No more of them is held than a window.
 pub(crate) fn judged_log<R>(
@@ -93,7 +98,7 @@ where
     R: AllocGlobal + Threads + Sync,
 {
     let alloc = rt.alloc();
-    let mut piece = vec![in alloc; 0u8; PIECE]?;
+    let mut piece = room_for_piece(alloc)?;
     let (mut front, mut total) = (GrowingFront::new(alloc), 0usize);
     for _ in 0..u64::MAX {
         let count = feed_piece(rt, file, &mut piece, &mut front, plan)?;
