@@ -6,7 +6,7 @@ use crate::files::{HeldLog, put};
 use crate::fronts::{front_in, opened_front};
 use crate::marking::{closed_carried, mark};
 use crate::placing::{expect_free, name_one_file, put_new};
-use crate::reading::{begins_carried, opened, rest_of_log, script_in};
+use crate::reading::{begun_log, log_from, opened, rest_of_log, script_in};
 use crate::telling::{audit_text, tell_appended, tell_carried, tell_marked, warn_of_end};
 use clap::ArgMatches;
 use rq_file::Patient;
@@ -14,7 +14,7 @@ use rq_journal::{CARRIED_AT, Fault, Plan, audit_carried, carried, carried_again,
 use rq_restart::closed;
 use rq_tool::{Open, OverRead, OverWrite};
 use std::fs::File;
-use std::io;
+use std::io::{self, Read};
 use std::rt::{Clock, Files};
 use std::thread::Threads;
 
@@ -133,9 +133,8 @@ fn restart<R>(rt: &R, log: &str, plan: &Plan) -> Result<(), Refusal>
 where
     R: Files<File = File> + Print + Clock + AllocGlobal + Threads + Sync,
 {
-    let file = opened(rt, log)?;
-    let is_carried = begins_carried(&file);
-    let mut input = OverRead::new(file);
+    let (is_carried, from) = begun_log(rt, opened(rt, log)?)?;
+    let mut input = OverRead::new(from);
     let mut output = OverWrite::new(Patient {
         rt,
         inner: io::writer(rt),
@@ -187,12 +186,12 @@ where
 }
 
 // Tells which checkpoints of a log are true that was carried on.
-fn tell_audit<R>(rt: &R, file: File, plan: &Plan) -> Result<(), Refusal>
+fn tell_audit<R, F>(rt: &R, from: F, plan: &Plan) -> Result<(), Refusal>
 where
-    R: Files<File = File> + Print + AllocGlobal + Threads + Sync,
+    R: Print + AllocGlobal + Threads + Sync,
+    F: Read + Drop,
 {
-    let mut file = file;
-    let bytes = rest_of_log(rt, &mut file)?;
+    let bytes = log_from(rt, from)?;
     let found = audit_carried(rt, rt.alloc(), &bytes, plan)?;
     let text = audit_text(rt.alloc(), &found)?;
     Ok(rt.write_all(text.as_bytes())?)
@@ -202,11 +201,11 @@ fn audit<R>(rt: &R, log: &str, plan: &Plan) -> Result<(), Refusal>
 where
     R: Files<File = File> + Print + Clock + AllocGlobal + Threads + Sync,
 {
-    let file = opened(rt, log)?;
-    if begins_carried(&file) {
-        return tell_audit(rt, file, plan);
+    let (is_carried, from) = begun_log(rt, opened(rt, log)?)?;
+    if is_carried {
+        return tell_audit(rt, from, plan);
     }
-    let mut input = OverRead::new(file);
+    let mut input = OverRead::new(from);
     let mut output = OverWrite::new(Patient {
         rt,
         inner: io::writer(rt),

@@ -2,7 +2,7 @@
 
 use crate::fronts::Standing;
 use rq_journal::{NotTaken, Rule};
-use rq_record::{Fault, KeptRecord, Record};
+use rq_record::{Fault, KeptRecord, Record, Version};
 use rq_writer::{ScriptLine, line_at, read_line};
 use std::alloc::{AllocError, Global};
 use std::fmt;
@@ -113,6 +113,15 @@ fn rule_of(alloc: Global, standing: &Standing, record: &Record) -> Reason {
     }
 }
 
+// Why a line is not appended that the log's version does not have.
+fn reason_unread(alloc: Global, standing: &Standing, text: &[u8]) -> Reason {
+    match read_line(alloc, Version::Two, text) {
+        Ok(ScriptLine::Told(record)) => rule_of(alloc, standing, &record),
+        Err(Fault::Resources) => Reason::Memory,
+        _ => Reason::NoLine,
+    }
+}
+
 // Why the record is not taken.
 fn reason_of(alloc: Global, standing: &Standing, record: &Record, why: NotTaken) -> Reason {
     match why {
@@ -133,7 +142,7 @@ fn append_line(
         Ok(ScriptLine::Told(record)) => record,
         Ok(ScriptLine::Spelled) => return Err(Reason::Checkpoint),
         Err(Fault::Resources) => return Err(Reason::Memory),
-        Err(_) => return Err(Reason::NoLine),
+        Err(_) => return Err(reason_unread(alloc, standing, text)),
     };
     if standing.is_at_end() {
         return Err(Reason::Ended);

@@ -8,7 +8,7 @@ use rq_journal::{Fault, Plan, is_carried};
 use rq_restart::{GrowingFront, JudgedFront};
 use std::alloc::{AllocError, Global};
 use std::fs::{self, File, Files};
-use std::io::{self, ErrorKind, Read};
+use std::io::{self, Chain, Cursor, ErrorKind, Read};
 use std::os::unix::fs::FileExt;
 use std::thread::Threads;
 
@@ -36,12 +36,33 @@ fn within(read: io::Result<Vec<u8>>, which: Which) -> Result<Vec<u8>, Refusal> {
     }
 }
 
-/// The bytes of a log from its open file, read from where that stands.
-pub(crate) fn rest_of_log<A: AllocGlobal>(rt: &A, file: &mut File) -> Result<Vec<u8>, Refusal> {
-    within(read_to_limit(rt, &*file), Which::Log)
+/// The bytes of a log.
+pub(crate) fn log_from<A, F>(rt: &A, from: F) -> Result<Vec<u8>, Refusal>
+where
+    A: AllocGlobal,
+    F: Read + Drop,
+{
+    within(read_to_limit(rt, from), Which::Log)
 }
 
-/// Whether the log of an open file was carried on. What has no places, as a pipe, was not.
+/// The bytes of a log from its open file, read from where that stands.
+pub(crate) fn rest_of_log<A: AllocGlobal>(rt: &A, file: &mut File) -> Result<Vec<u8>, Refusal> {
+    log_from(rt, &*file)
+}
+
+/// Whether the log of an open file or pipe was carried on, and all its bytes, to be read.
+pub(crate) fn begun_log<A: AllocGlobal>(
+    rt: &A,
+    file: File,
+) -> Result<(bool, Chain<Cursor<Vec<u8>>, File>), Refusal> {
+    let mut beginning = Vec::new(rt.alloc());
+    match (&file).take(BEGINNING as u64).read_to_end(&mut beginning) {
+        Ok(_) => Ok((is_carried(&beginning), Cursor::new(beginning).chain(file))),
+        Err(error) => Err(unread(Which::Log, error)),
+    }
+}
+
+/// Whether the log of an open file was carried on.
 pub(crate) fn begins_carried(file: &File) -> bool {
     let mut beginning = [0; BEGINNING];
     match file.read_at(&mut beginning, 0) {
