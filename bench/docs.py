@@ -1,16 +1,16 @@
 #!/usr/bin/env python3
 """Runs the commands that the documents show, and compares what they print.
 
-usage: docs.py [--program RQ] [--look RQLOOK] [FILE.md ..]
+usage: docs.py [--program RQ] [--look RQLOOK] [--write RQLOG] [FILE.md ..]
 Without files: README.md and docs/*.md.
 
 A document shows a terminal session at the top of the clone: a fenced block marked `sh`, in which a line that begins with
 `$ ` is a command, lines that begin with `> ` go on with it, and the lines below, up to the next command or the end of the
 block, are all that it prints, on standard output and standard error. Each session that names `./rq` is run. The sessions of one document are run in turn in
-one folder, which has `rq`, `rqlook`, `examples` and `bench` of the clone and starts without any other file; `./rq` is then a link.
+one folder, which has `rq`, `rqlook`, `rqlog`, `examples` and `bench` of the clone and starts without any other file; `./rq` is then a link.
 A fenced block that names `./rq` and is no such session is counted as a difference. Other blocks are not run.
 
-With --program and --look a built program stands in the place of a root script. The last line is `N passed, M failed`, by commands.
+With --program, --look and --write a built program stands in the place of a root script. The last line is `N passed, M failed`, by commands.
 """
 from __future__ import annotations
 import argparse, glob, os, subprocess, sys, tempfile
@@ -97,13 +97,14 @@ def main() -> int:
     words = argparse.ArgumentParser()
     words.add_argument("--program", default=os.path.join(TOP, "rq"))
     words.add_argument("--look", default=os.path.join(TOP, "rqlook"))
+    words.add_argument("--write", default=os.path.join(TOP, "rqlog"))
     words.add_argument("files", nargs="*")
     options = words.parse_args()
     files = options.files or [os.path.join(TOP, "README.md"), *sorted(glob.glob(os.path.join(TOP, "docs", "*.md")))]
     count, wrong = 0, 0
     for path in files:
         with tempfile.TemporaryDirectory(prefix="rq-docs-") as folder:
-            fill(folder, {"rq": options.program, "rqlook": options.look})
+            fill(folder, {"rq": options.program, "rqlook": options.look, "rqlog": options.write})
             ran, differing = tried(path, folder)
             count, wrong = count + ran, wrong + differing
     print(f"{count - wrong} passed, {wrong} failed")

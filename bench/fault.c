@@ -69,6 +69,12 @@ int fsync(int file) {
   return is_wrong() ? wrong() : next(file);
 }
 
+int ftruncate(int file, off_t length) {
+  static int (*next)(int, off_t);
+  if (!next) next = dlsym(RTLD_NEXT, "ftruncate");
+  return is_wrong() ? wrong() : next(file, length);
+}
+
 ssize_t readlink(const char *path, char *out, size_t count) {
   static ssize_t (*next)(const char *, char *, size_t);
   if (!next) next = dlsym(RTLD_NEXT, "readlink");
@@ -91,6 +97,18 @@ int rename(const char *from, const char *to) {
   static int (*next)(const char *, const char *);
   if (!next) next = dlsym(RTLD_NEXT, "rename");
   return is_wrong() ? wrong() : next(from, to);
+}
+
+int link(const char *from, const char *to) {
+  static int (*next)(const char *, const char *);
+  if (!next) next = dlsym(RTLD_NEXT, "link");
+  return is_wrong() ? wrong() : next(from, to);
+}
+
+int linkat(int in, const char *from, int to_in, const char *to, int flags) {
+  static int (*next)(int, const char *, int, const char *, int);
+  if (!next) next = dlsym(RTLD_NEXT, "linkat");
+  return is_wrong() ? wrong() : next(in, from, to_in, to, flags);
 }
 
 int close(int file) {

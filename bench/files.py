@@ -1,14 +1,14 @@
 #!/usr/bin/env python3
-"""Ends `rq make`, `rq close`, `rq upgrade` and `rqlook page` at every place where a file can fail, and counts what they leave otherwise
-than they must.
+"""Ends `rq make`, `rq close`, `rq upgrade`, `rqlook page`, `rqlog close` and `rqlog carry` at every place where a file can fail, and
+counts what they leave otherwise than they must. What is appended to in place, `.ci/appending.py` tries.
 
-usage: files.py RQ [--look RQLOOK] [--folder DIR]
+usage: files.py RQ [--look RQLOOK] [--write RQLOG] [--folder DIR]
 The file that is made must be there as it was before, or whole and new; new wherever the program says that all went well, with
 the mode that it had and, for root, its owner and group, and beside it nothing may be left. Only a run that was killed may leave
 the file that it was writing, `LOG.rq0`, which others may not read who may not read the old one, and then the next run must do
-its work all the same. A symbolic link stays one, also where it named nothing. RQ is the built program itself. Ends with status
-1 where something is wrong, or where no call on a file was met. The last line is `N passed, M failed`: runs that left all as it must
-be, and things that are wrong.
+its work all the same; but `carry` never makes a file that is there. A symbolic link stays one, also where it named nothing. RQ
+is the built program itself. Ends with status 1 where something is wrong, or where no call on a file was met. The last line is
+`N passed, M failed`: runs that left all as it must be, and things that are wrong.
 """
 from __future__ import annotations
 import os, resource, shutil, signal, stat, subprocess, sys
@@ -31,6 +31,8 @@ class Work(NamedTuple):
     name: str
     words: list[str]
     new: bytes
+    # Whether it is refused where the file is there.
+    is_once: bool = False
 
 
 def content(path: str) -> bytes | None:
@@ -148,9 +150,10 @@ class Room:
             if how == "kills":
                 if status != -signal.SIGKILL:
                     told(f"{self.case}, {what}", f"status {status}")
+                want = 3 if self.work.is_once and os.path.exists(self.log) else 0
                 again = self.run()
                 self.look(what + ", and again", again, {"log.rq0"})
-                if again != 0:
+                if again != want:
                     told(f"{self.case}, {what}", f"the next run ends with {again}")
 
     def forbidden(self) -> int:
@@ -174,13 +177,15 @@ class Room:
 
 def made(program: str, words: list[str], path: str) -> bytes:
     """What a command puts into a file."""
-    subprocess.run([program, *(word.format(log=path) for word in words)], check=True)
+    subprocess.run([program, *(word.format(log=path) for word in words)], check=True, stdout=subprocess.DEVNULL)
     with open(path, "rb") as file:
-        return file.read()
+        new = file.read()
+    os.remove(path)
+    return new
 
 
-def rooms(program: str, look: str | None, folder: str) -> list[Room]:
-    """Each command, over a file and over none, by its name and by a link."""
+def rooms(program: str, look: str | None, write: str | None, folder: str) -> list[Room]:
+    """Each command, over a file and over none, by its name and by a link; what may not be there, over none alone."""
     script = os.path.join(EXAMPLES, "error-queue.script")
     opened, out = os.path.join(folder, "open.log"), os.path.join(folder, "made.log")
     log = made(program, ["make", os.path.join(EXAMPLES, "checkpoint.script"), "{log}"], out)[:-COMMIT_FRAME]
@@ -188,26 +193,31 @@ def rooms(program: str, look: str | None, folder: str) -> list[Room]:
         file.write(log)
     lines = [["make", script, "{log}"], ["close", opened, "{log}", "2"], ["upgrade", opened, "{log}", "2"]]
     works = [(program, Work(line[0], line, made(program, line, out))) for line in lines]
-    again = [Work(f"{work.name} over itself", [work.name, "{log}", "{log}", "2"], work.new) for _, work in works[1:]]
+    again = [(its, Work(f"{work.name} over itself", [work.name, "{log}", "{log}", "2"], work.new)) for its, work in works[1:]]
     if look is not None:
         page = ["page", opened, "{log}"]
         works.append((look, Work("page", page, made(look, page, out))))
-    os.remove(out)
     old = b"the file of before\n" * 200
-    found = [Room(its, folder, work, before, name) for its, work in works for before in (old, None) for name in ("log", "link")]
-    return found + [Room(program, folder, work, log, name) for work in again for name in ("log", "link")]
+    found = []
+    if write is not None:
+        close, carry = ["close", opened, "{log}", "2"], ["carry", "--workers", "2", opened, "{log}"]
+        works.append((write, Work("rqlog close", close, made(write, close, out))))
+        again.append((write, Work("rqlog close over itself", ["close", "{log}", "{log}", "2"], works[-1][1].new)))
+        found = [Room(write, folder, Work("rqlog carry", carry, made(write, carry, out), True), None, "log")]
+    found += [Room(its, folder, work, before, name) for its, work in works for before in (old, None) for name in ("log", "link")]
+    return found + [Room(its, folder, work, log, name) for its, work in again for name in ("log", "link")]
 
 
 def main() -> None:
     words = parser()
     words.add_argument("--look")
+    words.add_argument("--write")
     options = parsed(words)
-    program = os.path.abspath(options.program)
-    look = options.look and os.path.abspath(options.look)
+    program, look, write = (it and os.path.abspath(it) for it in (options.program, options.look, options.write))
     os.umask(0o022)
     shim = os.path.join(options.folder, "fault.so")
     subprocess.run(["cc", "-O2", "-shared", "-fPIC", os.path.join(HERE, "fault.c"), "-o", shim, "-ldl"], check=True)
-    for room in rooms(program, look, options.folder):
+    for room in rooms(program, look, write, options.folder):
         room.whole()
         refused = room.short_files() + room.forbidden()
         fails, kills = room.faults(shim, "fails"), room.faults(shim, "kills")

@@ -9,8 +9,9 @@ the stories of some elements and units; `check` is compared with `rq audit`, and
 in each of the six ways, and what the dump says of its end is compared; odd payloads are shown; a script ends before a record that no
 line tells; and wrong words, a missing file, a closed output and refused memory are tried. With --scripts, so many more logs are made,
 told as scripts and made again. With --speed, a dump and a check of a log of so many MiB are timed beside a restart and an audit.
-With --own no peer is wanted: the logs are those of the scripts in examples/, and one of units on many queues with checkpoints. The
-last line is `N passed, M failed`, by answers.
+With --own no peer is wanted: the logs are those of the scripts in examples/, and one of units on many queues with checkpoints. Each log
+with a true checkpoint is carried on there into a file of its own, too: what is shown of it must be what is shown of the whole log from
+there on, at its offsets. The last line is `N passed, M failed`, by answers.
 """
 from __future__ import annotations
 import argparse, glob, json, os, random, resource, shutil, subprocess, sys
@@ -358,6 +359,61 @@ def more_scripts(rq: str, look: str, peer: str, folder: str, count: int) -> None
         same_script(rq, look, path, folder)
 
 
+# Behind the header of a log that was carried on, and where its checkpoint stands.
+GAP = b"\xff\xff\xff\xffrq carried log at 96"
+CARRIED_AT = 96
+
+
+def moved(line: str, by: int) -> str:
+    """A line of a record, so many bytes behind where it stood."""
+    offset, rest = line.split(" ", 1)
+    return f"{int(offset) + by} {rest}"
+
+
+def story_behind(story: str, at: int, end: list[str]) -> list[str]:
+    """The lines of a story from an offset on, where it is carried to, and the lines of its end."""
+    lines = story.splitlines()
+    last = next(place for place, line in enumerate(lines) if line.startswith("front ends"))
+    kept = [moved(line, CARRIED_AT - at) for line in lines[:last] if int(line.split(" ", 1)[0]) >= at]
+    return kept + end + lines[last + 1:] if kept else []
+
+
+def carried_stories(look: str, path: str, stories: Stories, at: int, end: list[str], draw: random.Random) -> None:
+    """What an open unit put in or took is told by number when it ends: so lines are compared without their order."""
+    for subject, word, told_of in (("element", "story", stories.elements), ("unit", "unit", stories.units)):
+        for it in draw.sample(sorted(told_of), min(10, len(told_of))) + sorted(told_of)[-3:]:
+            want = story_behind(stories.of(subject, it), at, end)
+            status, text = told(look, word, path, str(it))
+            check(f"{path}, the story of {subject} {it}", (status, sorted(text.splitlines())), (0 if want else 1, sorted(want)))
+
+
+def carried(rq: str, look: str, log: str, folder: str, draw: random.Random) -> None:
+    """The log from a true checkpoint on, in a file of its own."""
+    true = [int(line.split()[1]) for line in told(rq, "audit", log, "4")[1].splitlines() if line.endswith("true")]
+    if not true:
+        return
+    at, path = draw.choice(true), os.path.join(folder, "look.carried")
+    with open(log, "rb") as source:
+        whole = source.read()
+    with open(path, "wb") as to:
+        to.write(whole[:HEADER] + GAP + whole[at - 32:])
+    records, size = records_of(bodies_of(whole)), len(whole) + CARRIED_AT - at
+    shown_here = [it | {"offset": it["offset"] + CARRIED_AT - at} for it in records if it["offset"] >= at]
+    end = ["carried: begins with the checkpoint at 96", f"front ends behind {len(records)} records, at {size} of {size} bytes, whole: nothing follows"]
+    front = {"carried_at": CARRIED_AT, "records": len(records), "used": size, "total": size, "why": "whole", "reason": "nothing follows"}
+    for words, wanted in [([], shown_here)] + wanted_by(draw, shown_here):
+        same_lines(look, path, words, wanted, ("\n".join(end), {"front": front}))
+    check(f"{path}'s findings", told(look, "check", path), (1, f"carried: use rqlog\n{end[1]}\n"))
+    _, want = told(rq, "restart-at", path, str(CARRIED_AT), "4", "1000")
+    check(f"{path} as text", told(look, "report", path), (0, f"{end[0]}\n{want}"))
+    report = json.loads(told(look, "report", path, "--json")[1])
+    check(f"{path} as JSON", (text_of(report), report["front"]), (want, front))
+    check(f"{path}, queue 0", told(look, "report", path, "--queue", "0"), (0, by_queue(want)[0]))
+    carried_stories(look, path, Stories(records, len(whole)), at, end, draw)
+    for words in (["script", path], ["page", path, "-"]):
+        check(f"what {words} says", said(look, *words), (1, f"rqlook: {path}: carried: use rqlog restart\n"))
+
+
 def speeds(rq: str, look: str, peer: str, folder: str, mib: int) -> None:
     for shape in ["small", "kib", "errors"]:
         log = log_of(peer, folder, shape, mib)
@@ -415,6 +471,8 @@ def main() -> int:
         small = log_of(peer, folder, "small", options.mib, 2)
     for log in logs:
         look_at(options, log, draw)
+        if options.own:
+            carried(rq, look, log, folder, draw)
     reasons(rq, look, small, folder)
     odd_payloads(rq, look, folder)
     kills(rq, look, folder)

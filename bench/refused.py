@@ -31,10 +31,10 @@ class Counts(NamedTuple):
 
 
 class Sweep:
-    """Runs of the program that are refused something."""
+    """Runs of the program that are refused something, and how one must end that could not do without."""
 
-    def __init__(self, program: str, folder: str) -> None:
-        self.program = program
+    def __init__(self, program: str, folder: str, refused: Outcome = REFUSED) -> None:
+        self.program, self.refused = program, refused
         self.shim = os.path.join(folder, "refuse.so")
         self.made = os.path.join(folder, "made")
         os.makedirs(self.made, exist_ok=True)
@@ -69,7 +69,7 @@ class Sweep:
             came, ended = self.refused_at(words, 0 if is_thread else number, number if is_thread else 0)
             if not came:
                 return Counts(sum(ends.values()), **ends)
-            end = "same" if ended == ample else "resources" if ended == REFUSED else "wrong"
+            end = "same" if ended == ample else "resources" if ended == self.refused else "wrong"
             ends[end] += 1
             if end == "wrong":
                 what = "thread" if is_thread else "allocation"

@@ -16,7 +16,7 @@ from common import HERE
 
 CRATES = os.path.join(HERE, "..", "crates")
 TESTS = {"rq_layer_rows", "rq_rows", "rq_look_rows", "rq_journal_rows", "rq_scarce"}
-PROGRAMS = {"rq", "rqlook"}
+PROGRAMS = {"rq", "rqlook", "rqlog"}
 
 HEAD = re.compile(r"^( *)(pub(?:\([a-z]+\))? )?(?:const )?fn (\w+)", re.M)
 BLOCK = re.compile(r"^impl(?:<[^{]*?>)? (?:[\w:<>, ]+ for )?&?(\w+)", re.M)

@@ -4,7 +4,7 @@
 # shellcheck shell=sh
 
 # The programs, and the processors for which each is shipped. A program for a processor is the file NAME-CPU.
-programs='rq rqlook'
+programs='rq rqlook rqlog'
 # shellcheck disable=SC2034
 processors='x86-64-v2 x86-64-v3'
 # Programs that the repository brings, and those that were built here; each folder has receipts.

@@ -1,6 +1,6 @@
 //! A log as one page that a browser shows.
 
-ghost use Rattle.std.specs.Prelude.{ℕ, ◌++◌, ◌⊎◌, List, IfErr, OnOk};
+ghost use Rattle.std.specs.Prelude.{ℕ, ◌++◌, ◌⊎◌, List, None, IfErr, OnOk};
 ghost use Rattle.std.specs.Io.KnownBytes.{Appends};
 ghost use Rattle.rq_front.specs.Chains.{IsLog};
 ghost use Rattle.rq_look.specs.Looks.{IsBroken, IsRefusal, StaysUnshown};
@@ -46,10 +46,10 @@ fn contents_of<R: Threads + Sync>(
 ) -> Result<Contents, Trouble>
     ensures log { OnOk result (IsLog bytes.now) }
     ensures refused { IfErr result
-        (λ e. (IsLog bytes.now × IsBroken e) ⊎ IsRefusal bytes.now e) }
+        (λ e. (IsLog bytes.now × IsBroken e) ⊎ IsRefusal None bytes.now e) }
 {
     let restarted = restart(rt, alloc, bytes, plan, &Open)?;
-    let end = end_after(rt, alloc, bytes, &restarted, plan)?;
+    let end = end_after(rt, alloc, bytes, None, &restarted, plan)?;
     let checkpoints = audit(rt, alloc, bytes, plan)?;
     let seen = surveyed(alloc, bytes, &end, restarted.state())?;
     Ok(Contents {
@@ -105,7 +105,7 @@ where
     ensures whole { OnOk result ((put : List ℕ)
         × Appends (W.contents output.old) (W.contents output.new) (put ++ page_foot)) }
     ensures refused { IfErr result
-        (StaysUnshown bytes.now (W.contents output.old) (W.contents output.new)) }
+        (StaysUnshown None bytes.now (W.contents output.old) (W.contents output.new)) }
 {
     let contents = contents_of(rt, alloc, bytes, plan)?;
     put_page(alloc, &contents, name, output)

@@ -11,7 +11,7 @@ use crate::frames::{Placed, PlacedFrames};
 use crate::numbered::{Numbered, kind_of};
 use crate::paging::courses::{BINS, Curve, along};
 use crate::trouble::Trouble;
-use rq_record::{Fault, KeptRecord as Record, QueueNo};
+use rq_record::{Fault, KeptRecord, QueueNo};
 use rq_state::State;
 use std::alloc::{AllocError, Global};
 use std::collections::BTreeMap;
@@ -54,7 +54,7 @@ fn change_of(it: &Numbered, effect: Effect) -> Option<(u32, bool)> {
         Effect::Taken => it.queue().map(|queue| (queue.0, false)),
         // A commit's elements were taken before; a KILL's was free.
         Effect::Gone => match &it.record {
-            Record::Kill { queue, .. } => Some((queue.0, false)),
+            KeptRecord::Kill { queue, .. } => Some((queue.0, false)),
             _ => None,
         },
         Effect::Put | Effect::Undone => None,
@@ -79,12 +79,12 @@ impl Survey {
     // A record that begins or ends a unit, or defines a queue.
     fn take_record(&mut self, alloc: Global, it: &Numbered, bin: u64) -> Result<(), AllocError> {
         match &it.record {
-            Record::Define { .. } => self.depths.push(Curve::new(alloc))?,
-            Record::Begin { unit } => {
+            KeptRecord::Define { .. } => self.depths.push(Curve::new(alloc))?,
+            KeptRecord::Begin { unit } => {
                 self.begun.insert(unit.0, it.offset)?;
                 self.open.change(bin, true)?
             }
-            Record::Commit { unit } | Record::Abort { unit } => {
+            KeptRecord::Commit { unit } | KeptRecord::Abort { unit } => {
                 self.begun.remove(&unit.0);
                 self.open.change(bin, false)?
             }
@@ -160,7 +160,7 @@ pub(super) fn surveyed(
 ) -> Result<Survey, Trouble>
     ensures { IfErr result IsBroken }
 {
-    let mut machine = Queues::new(alloc);
+    let mut machine = Queues::of(alloc, &State::empty(alloc))?;
     let mut seen = Survey::new(alloc)?;
     for placed in PlacedFrames::of(bytes, end.used) {
         seen.follow(alloc, placed, &mut machine, end.total)?;
