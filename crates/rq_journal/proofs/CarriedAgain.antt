@@ -73,7 +73,7 @@ module _ (b : List ℕ) (f : RedoneFront) (h : IsRedoneAt b 96 f) where
       ap (λ (z : List ℕ). last_of z xs) linked ∙ sym (last_of_join (start version) records xs) in
       let first = begun.there.checkpoint in
       let high : 96 ≤ length new = omega (arith, first.frame.whole.room, length-drop 96 new) in
-      let ahead : before 96 (new ++ more) ≡ link = part_more new more 64 32 (omega (arith, high)) ∙ begun.link in
+      let ahead : before 96 (new ++ more) ≡ link = part_more new more 64 32 (omega (arith, high)) ∙ begun.linked in
       let kept_is : kept ≡ state_bytes state =
       ap (drop 1)
       (sym at.checkpoint.body ∙ ap body_in (drop-append-le 96 new more high)

@@ -6,15 +6,12 @@ use Rattle.std.specs.Global.{Vec}
 use Rattle.std.proofs.lemmas.List.{append-nil, length-append}
 use Rattle.rq_model.specs.Records.{Record, Checkpoint, Version}
 use Rattle.rq_model.specs.Spelling.{body_of}
-use Rattle.rq_model.specs.Frames.{log_limit, header, start, frame, frames_of, last_of, before, Length}
-use Rattle.rq_model.specs.Frames.{Whole}
+use Rattle.rq_model.specs.Frames.{log_limit, header, start, frame, frames_of, last_of, Length}
 use Rattle.rq_model.specs.LogLaws.{FrontsAreSpelt}
 use Rattle.rq_model.specs.States.{State, empty}
 use Rattle.rq_model.specs.Machine.{run}
 use Rattle.rq_model.specs.StateSpelling.{state_bytes, SpellsState}
 use Rattle.rq_model.specs.Fronts.{IsFront, IsRestart, Ends, restarted}
-use Rattle.rq_model.specs.Checkpoints.{IsRestartAt}
-use Rattle.rq_model.specs.Carrying.{IsFrontAt}
 use Rattle.rq_model.specs.Continuing.{begun_anew, carried_gap, StartsAnew, GapIsLoud, IsCarriedGap, AnewJoins}
 use Rattle.rq_model.proofs.Runs.{frame_long}
 use Rattle.rq_model.proofs.Longest.{log_ends}
@@ -70,7 +67,7 @@ module _ (version : Version) (p : List ℕ) (s : State) (body : List ℕ) (long 
       let made = starts version p s carried_gap long spelt is.small (anew_short version p s long is.small) in
       subst (IsBegunIn version p s) (sym (new_is ∙ whole)) (record {
         bytes = refl;
-        link = made.1;
+        linked = made.1;
         there = made.0;
         restart = made.2;
         loud = loud loud_law gap;

@@ -28,7 +28,7 @@ Begins version link body (Err e) = e ≡ Resources
 -- state; one of the whole finds no record, and says `length`
 pub record IsBegunIn (version : Version) (link : List ℕ) (s : State) (new : List ℕ) : Type 0 where
   pub bytes : new ≡ begun_anew version link s carried_gap
-  pub link : before 96 new ≡ link
+  pub linked : before 96 new ≡ link
   pub there : IsFrontAt new 96 version s (state_bytes s) [] []
   pub restart : IsRestartAt new 96
       (restarted (run s (Checkpoint (state_bytes s) ∷ [])) 0 (length new) (Ends Whole))

@@ -11,7 +11,7 @@ pub returns-in_err-front : goal.returns-in_err-front
 returns-in_err-front g c =
     let b = c.args.bytes.now in
     let e = c.in_err-front.field-0.0 in
-    let answer : c.from_residual-in_err-front.result ≡ Err e = search rules in
+    let answer : c.from_residual.result ≡ Err e = search rules in
     subst (λ (r : Result (Vec ℕ) Fault). CarriesAgain b r) (sym answer) (refused_again b e c.in_err-front.ensures)
 
 pub returns-in_err-checkpoint : goal.returns-in_err-checkpoint
