@@ -75,7 +75,8 @@ impl Audit {
 }
 
 /// Where the checkpoints stand in the front of a log that was carried on, and which of them are true,
-/// with the state that it begins with taken at its word. Refused as `carried_keeper` is.
+/// with the state that it begins with taken at its word. Refused
+/// as `open_carried` is.
 pub fn audit_carried<R: Threads + Sync>(
     rt: &R,
     alloc: Global,

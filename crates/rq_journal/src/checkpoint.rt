@@ -1,10 +1,7 @@
 //! A checkpoint of a state.
 
-ghost use Rattle.std.specs.Prelude.{◌≡◌, ◌≤◌, IfOk};
-ghost use Rattle.rq_model.specs.Records.{Checkpoint};
-ghost use Rattle.rq_model.specs.StateSpelling.{state_bytes};
-ghost use Rattle.rq_record.specs.Views.{record_of};
-ghost use Rattle.rq_journal.specs.Checkpoints.{IsCheckpointOf, SpellsBody};
+ghost use Rattle.std.specs.Prelude.{◌≤◌};
+ghost use Rattle.rq_journal.specs.Checkpoints.{MakesCheckpoint, SpellsAny, SpellsAnyBody, SpellsBody};
 
 use rq_record::{CheckBytes, Fault, Record, encode};
 use rq_state::{State, spell};
@@ -31,7 +28,7 @@ pub(crate) fn checkpoint_body(alloc: Global, state: &State) -> Result<Vec<u8>, F
 /// The spelling of a state that may number any records. `TooLong` if these are more than
 /// 4,294,967,295.
 pub(crate) fn spelled(alloc: Global, state: &State) -> Result<Vec<u8>, Fault>
-    ensures { IfOk result (λ spelled. spelled.items ≡ state_bytes state.now) }
+    ensures { SpellsAny state.now result }
 {
     if state.next() > NUMBERS {
         return Err(Fault::TooLong);
@@ -42,7 +39,7 @@ pub(crate) fn spelled(alloc: Global, state: &State) -> Result<Vec<u8>, Fault>
 /// The body of a checkpoint of a state that may number any records. `TooLong` if these are more than
 /// 4,294,967,295.
 pub(crate) fn body_of_any(alloc: Global, state: &State) -> Result<Vec<u8>, Fault>
-    ensures { IfOk result (λ body. IsCheckpointOf state.now body.items) }
+    ensures { SpellsAnyBody state.now result }
 {
     if state.next() > NUMBERS {
         return Err(Fault::TooLong);
@@ -53,7 +50,7 @@ pub(crate) fn body_of_any(alloc: Global, state: &State) -> Result<Vec<u8>, Fault
 /// A checkpoint of a state. `TooLong` if it numbers more than 4,294,967,295 records, `TooLarge` if
 /// its spelling has more than 268,435,455 bytes, and `Resources` if memory is refused.
 pub fn checkpoint_of(alloc: Global, state: &State) -> Result<Record, Fault>
-    ensures { IfOk result (λ r. record_of r ≡ Checkpoint (state_bytes state.now)) }
+    ensures { MakesCheckpoint state.now result }
 {
     match CheckBytes::new(spelled(alloc, state)?) {
         Some(bytes) => Ok(Record::Checkpoint { bytes }),

@@ -14,11 +14,10 @@ mod writing;
 
 pub use appender::{Appender, NotTaken};
 pub use auditing::{Truth, audit_carried};
-pub use carrying::{CARRIED_AT, carried, is_carried};
+pub use carrying::{CARRIED_AT, carried, carried_again, is_carried};
 pub use checkpoint::checkpoint_of;
-pub use continuing::{carried_again, carried_keeper, open_carried};
 pub use marking::marked;
-pub use opening::{Opened, open, opened_behind};
+pub use opening::{Opened, open, open_carried, opened_behind};
 pub use rq_catalog::Rule;
 pub use rq_record::Fault;
 pub use rq_restart::{Plan, Why};

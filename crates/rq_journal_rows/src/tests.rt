@@ -1,6 +1,11 @@
-use rq_journal::{NotTaken, Opened, carried, frames_behind, is_carried, marked, open};
+use rq_journal::{
+    NotTaken, Opened, Truth, audit_carried, carried, carried_again, frames_behind, is_carried,
+    marked, open, open_carried,
+};
 use rq_record::{KeptRecord, QueueNo, Record, UnitNo, Version};
-use rq_restart::{Open, Plan, Why, audit, restart, restart_at};
+use rq_restart::{
+    GrowingFront, Open, Plan, Why, audit, judged_front_at, redone_front_at, restart, restart_at,
+};
 use rq_writer::make;
 use std::alloc::Global;
 use std::test::Fail;
@@ -108,5 +113,53 @@ fn a_log_is_marked_and_carried_on(rt: HostRuntime) -> Result<(), Fail> {
     let log = marked(&rt, rt.alloc(), log, &plan)?;
     assert!(rt; audit(&rt, rt.alloc(), &log, &plan)?.as_slice() == [(at, true)].as_slice());
     assert!(rt; says_the_same(&rt, &log, at, &plan));
+    Ok(())
+}
+
+// Whether the log that was carried on is opened behind its checkpoint.
+fn is_opened_behind<R: Threads + Sync + AllocGlobal>(rt: &R, new: &[u8], plan: &Plan) -> bool {
+    match open_carried(rt, rt.alloc(), new, plan) {
+        Ok(opened) => opened.used == new.len() && opened.records == 1 && opened.why == Why::Whole,
+        Err(_) => false,
+    }
+}
+
+// Whether the front from the checkpoint on ends with the log, with this next record number.
+fn ends_with<R: Threads + Sync + AllocGlobal>(rt: &R, new: &[u8], next: u64, plan: &Plan) -> bool {
+    let redone = redone_front_at(rt, rt.alloc(), new, 96, plan);
+    let is_redone = redone.is_ok_and(|it| it.used == new.len() && it.state.next() == next);
+    let judged = judged_front_at(rt, rt.alloc(), new, 96, plan);
+    is_redone && judged.is_ok_and(|it| it.used == new.len() && it.records == 1)
+}
+
+#[test]
+fn a_carried_log_goes_on(rt: HostRuntime) -> Result<(), Fail> {
+    let plan = Plan::new(1, 1).ok_or("plan")?;
+    let log = log_of(&rt, ONE_ELEMENT)?;
+    let new = carried(&rt, rt.alloc(), &log, &plan)?;
+    assert!(rt; is_opened_behind(&rt, &new, &plan) && ends_with(&rt, &new, 5, &plan));
+    assert!(rt;
+        audit_carried(&rt, rt.alloc(), &new, &plan)?.as_slice() == [(96, Truth::Carried)].as_slice()
+    );
+    let again = carried_again(&rt, rt.alloc(), &new, &plan)?;
+    assert!(rt; is_carried(&again) && ends_with(&rt, &again, 6, &plan));
+    Ok(())
+}
+
+// Whether a front goes along with the log in two pieces, to its end.
+fn goes_along<R: Threads + Sync + AllocGlobal>(rt: &R, log: &[u8], plan: &Plan) -> bool {
+    let mut front = GrowingFront::new(rt.alloc());
+    let (first, more) = log.split_at(log.len() / 2);
+    let is_taken = front.feed(rt, rt.alloc(), first, plan).is_ok()
+        && front.feed(rt, rt.alloc(), more, plan).is_ok();
+    let judged = front.judged(rt, rt.alloc(), plan);
+    is_taken && judged.is_ok_and(|it| it.used == log.len() && it.records == 4)
+}
+
+#[test]
+fn a_front_grows_with_its_log(rt: HostRuntime) -> Result<(), Fail> {
+    let plan = Plan::new(1, 1).ok_or("plan")?;
+    let log = log_of(&rt, ONE_ELEMENT)?;
+    assert!(rt; goes_along(&rt, &log, &plan));
     Ok(())
 }
