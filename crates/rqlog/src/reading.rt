@@ -6,6 +6,7 @@ ghost use Rattle.rq_restart.specs.GrowingFronts.{GoesAlong};
 use crate::failing::{Refusal, Which, unread};
 use rq_journal::{Fault, Plan, is_carried};
 use rq_restart::{GrowingFront, JudgedFront};
+use std::alloc::{AllocError, Global};
 use std::fs::{self, File, Files};
 use std::io::{self, ErrorKind, Read};
 use std::os::unix::fs::FileExt;
@@ -81,6 +82,11 @@ where
     Ok(count)
 }
 
+// Room for what is read at a time.
+fn room_for_piece(alloc: Global) -> Result<Vec<u8>, AllocError> {
+    vec![in alloc; 0u8; PIECE]
+}
+
 /// The front of the log in an open file, read from where that stands, and how many bytes there are.
 /// No more of them is held than a window.
 pub(crate) fn judged_log<R>(
@@ -92,7 +98,7 @@ where
     R: AllocGlobal + Threads + Sync,
 {
     let alloc = rt.alloc();
-    let mut piece = vec![in alloc; 0u8; PIECE]?;
+    let mut piece = room_for_piece(alloc)?;
     let (mut front, mut total) = (GrowingFront::new(alloc), 0usize);
     for _ in 0..u64::MAX {
         let count = feed_piece(rt, file, &mut piece, &mut front, plan)?;
