@@ -11,7 +11,7 @@ use std::fmt;
 const TOLD: usize = 100;
 
 /// Why a line is not appended.
-#[derive(Clone, Copy, Debug)]
+#[derive(Clone, Copy)]
 pub(crate) enum Reason {
     /// It is no line of a script.
     NoLine,
@@ -41,7 +41,7 @@ impl fmt::Display for Reason {
 }
 
 /// The first line that is not appended, and what becomes of those before it.
-#[derive(Debug, Drop)]
+#[derive(Drop)]
 pub(crate) struct LineRefused {
     /// Its number, from 1.
     pub(crate) line: u64,

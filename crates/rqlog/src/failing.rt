@@ -21,7 +21,7 @@ const STREAM: u8 = 3;
 const MEMORY: u8 = 4;
 
 /// A file that the words name.
-#[derive(Clone, Copy, Debug)]
+#[derive(Clone, Copy)]
 pub(crate) enum Which {
     Log,
     Script,
@@ -41,7 +41,7 @@ impl fmt::Display for Which {
 }
 
 /// What a write that failed left of the log.
-#[derive(Clone, Copy, Debug)]
+#[derive(Clone, Copy)]
 pub(crate) enum Remains {
     /// The log is as it was.
     AsItWas,
@@ -59,7 +59,7 @@ impl fmt::Display for Remains {
 }
 
 /// Why the program ends before it is done.
-#[derive(Debug, Drop)]
+#[derive(Drop)]
 pub(crate) enum Refusal {
     /// The words are no command.
     Words(clap::Error),

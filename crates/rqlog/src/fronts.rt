@@ -4,11 +4,10 @@ use crate::failing::Refusal;
 use crate::reading::{begins_carried, judged_log, rest_of_log};
 use byteorder::{BigEndian, ByteOrder};
 use rq_journal::{
-    Appender, CARRIED_AT, Fault, Opened, Plan, Why, carried_keeper, is_carried, open, open_carried,
-    opened_behind,
+    Appender, CARRIED_AT, Fault, Opened, Plan, Why, is_carried, open, open_carried, opened_behind,
 };
 use rq_record::Version;
-use rq_restart::{Keeper, redone_front};
+use rq_restart::{Keeper, redone_front, redone_front_at};
 use std::alloc::Global;
 use std::fs::File;
 use std::thread::Threads;
@@ -132,9 +131,10 @@ pub(crate) fn keeper_behind<R: Threads + Sync>(
     bytes: &[u8],
     plan: &Plan,
 ) -> Result<Keeper, Fault> {
-    if is_carried(bytes) {
-        return carried_keeper(rt, alloc, bytes, plan);
-    }
-    let front = redone_front(rt, alloc, bytes, plan)?;
+    let front = if is_carried(bytes) {
+        redone_front_at(rt, alloc, bytes, CARRIED_AT as u64, plan)?
+    } else {
+        redone_front(rt, alloc, bytes, plan)?
+    };
     Ok(Keeper::new(front.version, front.state))
 }

@@ -1,36 +1,27 @@
 //! The file of a new log, which takes nobody's place.
 
 use crate::failing::{Refusal, Which, unwritten};
-use crate::files::put;
 use rq_file::Names;
 use std::fs::{self, File, Files, Metadata, OpenFile};
 use std::io::{self, ErrorKind, Write};
 use std::os::unix::fs::MetadataExt;
 use std::path::Path;
 
-/// Refuses a name for a new log under which there is a file, or a link to where one could be.
-pub(crate) fn expect_free<R>(rt: &R, new: &str) -> Result<(), Refusal>
-where
-    R: Files<File = File> + AllocGlobal,
-{
-    if fs::symlink_metadata(rt, new).is_err() {
-        return Ok(());
+/// Refuses a name for a new log under which something stands.
+pub(crate) fn expect_free<R: Files<File = File>>(rt: &R, new: &str) -> Result<(), Refusal> {
+    if fs::symlink_metadata(rt, new).is_ok() {
+        return Err(Refusal::There);
     }
-    match Names::of(rt, new) {
-        Ok(None) => Ok(()),
-        Ok(Some(_)) => Err(Refusal::There),
-        Err(error) => Err(unwritten(Which::New, error)),
-    }
+    Ok(())
 }
 
-/// Makes the file of a new log, whole or not at all. What came under its name meanwhile stays. What
-/// is no file, as a pipe, is written as it is.
+/// Makes the file of a new log, whole or not at all. What came under its name meanwhile stays.
 pub(crate) fn put_new<R>(rt: &R, new: &str, bytes: &[u8]) -> Result<(), Refusal>
 where
     R: Files<File = File> + AllocGlobal,
 {
     match Names::of(rt, new) {
-        Ok(None) => put(rt, new, Which::New, bytes),
+        Ok(None) => Err(Refusal::There),
         Ok(Some(names)) => made_new(made_under(rt, &names, new, bytes)),
         Err(error) => Err(unwritten(Which::New, error)),
     }
