@@ -56,11 +56,7 @@ fn is_chain<R: Threads + Sync + AllocGlobal>(
 
 // Whether the chain from the second body's frame on has the last three bodies, and one from a place
 // within a frame has none.
-fn is_told<R: Threads + Sync + AllocGlobal>(
-    rt: &R,
-    log: &[u8],
-    grain: u32,
-) -> Result<bool, Fault> {
+fn is_told<R: Threads + Sync + AllocGlobal>(rt: &R, log: &[u8], grain: u32) -> Result<bool, Fault> {
     let bodies = [(91, 9), (136, 24), (196, 9)];
     let all = is_chain(rt, log, 87, grain, (&bodies, 237, Rest::Whole))?;
     let none = is_chain(rt, log, 88, grain, (&[], 88, Rest::Cut))?;

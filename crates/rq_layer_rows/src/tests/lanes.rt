@@ -133,7 +133,10 @@ fn a_wrong_digest_in_any_lane_is_found(rt: HostRuntime) -> Result<(), Fail> {
     for count in [1, 7, 8, 9, 37] {
         let lens = TWENTIES.get(..count).ok_or("lengths")?;
         for grain in [1, 8, 1000] {
-            assert!(rt; finds_each(&rt, lens, grain)?, "{count} frames, grain {grain}");
+            assert!(rt;
+                finds_each(&rt, lens, grain)?,
+                "{count} frames, grain {grain}"
+            );
         }
     }
     Ok(())

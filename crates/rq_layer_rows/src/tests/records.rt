@@ -47,7 +47,10 @@ fn names_of_each_length_are_kept(rt: HostRuntime) -> Result<(), Fail> {
 
 // Whether the first of two names is before the other, and is itself.
 fn are_in_order(alloc: Global, first: &[u8], second: &[u8]) -> Result<bool, Fail> {
-    let (first, second) = (Name::new(first).ok_or("name")?, Name::new(second).ok_or("name")?);
+    let (first, second) = (
+        Name::new(first).ok_or("name")?,
+        Name::new(second).ok_or("name")?,
+    );
     let before = KeptName::of(alloc, &first)?;
     let behind = KeptName::of(alloc, &second)?;
     let same = before == KeptName::of(alloc, &first)?;
@@ -164,7 +167,10 @@ fn checkpoint_of_log(alloc: Global, length: usize) -> Result<(Option<usize>, usi
 #[test]
 fn a_long_payload_is_a_part_of_the_log_that_is_lent(rt: HostRuntime) -> Result<(), Fail> {
     for (length, more) in [(0, 0), (22, 0), (23, 1), (65_535, 1)] {
-        assert!(rt; payload_of_log(rt.alloc(), length)? == (Some(length), more), "{length}");
+        assert!(rt;
+            payload_of_log(rt.alloc(), length)? == (Some(length), more),
+            "{length}"
+        );
     }
     Ok(())
 }
@@ -172,7 +178,10 @@ fn a_long_payload_is_a_part_of_the_log_that_is_lent(rt: HostRuntime) -> Result<(
 #[test]
 fn a_checkpoint_is_a_part_of_the_log_that_is_lent(rt: HostRuntime) -> Result<(), Fail> {
     for length in [1, 52, 65_536] {
-        assert!(rt; checkpoint_of_log(rt.alloc(), length)? == (Some(length), 1), "{length}");
+        assert!(rt;
+            checkpoint_of_log(rt.alloc(), length)? == (Some(length), 1),
+            "{length}"
+        );
     }
     Ok(())
 }

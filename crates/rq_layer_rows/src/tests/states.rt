@@ -31,7 +31,11 @@ fn what_spells_no_state_is_refused(rt: HostRuntime) -> Result<(), Fail> {
 // The spelling of nothing, but for the count of one list.
 fn with_count(list: usize) -> [u8; 52] {
     let mut bytes = [0u8; 52];
-    for byte in bytes.iter_mut().skip(list.saturating_mul(4).saturating_add(32)).take(4) {
+    for byte in bytes
+        .iter_mut()
+        .skip(list.saturating_mul(4).saturating_add(32))
+        .take(4)
+    {
         *byte = 0xff;
     }
     bytes
