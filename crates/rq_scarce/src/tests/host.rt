@@ -48,7 +48,14 @@ impl Scarce {
         Ok(scarce)
     }
 
-    /// Leaves this many bytes of the store, side by side, and free to be cut into blocks of any
+    /// Takes all memory.
+    pub fn whole(alloc: Global) -> Result<Scarce, AllocError> {
+        let mut scarce = Scarce::begin(alloc)?;
+        scarce.leave(0)?;
+        Ok(scarce)
+    }
+
+    /// Leaves so many bytes of the store, side by side, and free to be cut into blocks of any
     /// sizes.
     pub fn leave(&mut self, bytes: usize) -> Result<(), AllocError> {
         let all = bytes.saturating_add(PIN);
