@@ -13,8 +13,7 @@ use std::io::Cursor;
 use std::test::Fail;
 use std::thread::Threads;
 
-// An element of `jobs` goes to `dead` at its second abort, where `ann` finds it at its second
-// look.
+// An element of `jobs` goes to `dead` at its second abort; `ann` finds it there at its second look.
 const ARRIVAL: &[u8] = b"define dead 0 -\n\
     define jobs 2 0\n\
     register 0 ann\n\
@@ -34,7 +33,7 @@ const ARRIVAL: &[u8] = b"define dead 0 -\n\
     dequeue 5 0 ann 71\n\
     commit 5\n";
 
-// A checkpoint with a unit open, which commits behind it. The log has 724 bytes, and 679 before the
+// A checkpoint with a unit open, which commits after it. The log has 724 bytes, and 679 before the
 // last record.
 const CHECKPOINT: &[u8] = b"define jobs 0 -\n\
     register 0 ann\n\

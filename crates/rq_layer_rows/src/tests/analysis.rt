@@ -13,8 +13,7 @@ const FIRST: Who = Some(("ann", 70));
 
 const SECOND: Who = Some(("ann", 71));
 
-// An element of `jobs` goes to `dead` at its second abort, where `ann` finds it at its second
-// look.
+// An element of `jobs` goes to `dead` at its second abort; `ann` finds it there at its second look.
 const ARRIVAL: &[Plain] = &[
     Define(0, NO_QUEUE, "dead"),
     Define(2, 0, "jobs"),

@@ -253,7 +253,7 @@ fn state_by_hand(alloc: Global) -> Result<State, Fail>
     Ok(built(alloc, queue, ann, payload)?)
 }
 
-// The part of its queue behind a KILL of the element, and what left it.
+// The part of its queue after a KILL of the element, and what left it.
 fn killed(alloc: Global, state: &State) -> Result<(Part, Vec<Move>), Fault>
     requires { (queue ann payload : List ℕ) × (state.now ≡ by_hand queue ann payload) }
 {

@@ -24,7 +24,7 @@ fn chain_from<R: Threads + Sync + AllocGlobal>(
     Ok(Some(found))
 }
 
-// Whether the bodies stand at these places, with these lengths.
+// Whether the bodies are at these places, with these lengths.
 fn are_spans(spans: &[Span], bodies: &[(usize, usize)]) -> bool {
     if spans.len() != bodies.len() {
         return false;
@@ -37,7 +37,7 @@ fn are_spans(spans: &[Span], bodies: &[(usize, usize)]) -> bool {
     true
 }
 
-// Whether the chain from a place of the log has these bodies, an end and this behind it.
+// Whether the chain from a place of the log has these bodies, an end and this after it.
 fn is_chain<R: Threads + Sync + AllocGlobal>(
     rt: &R,
     log: &[u8],

@@ -99,7 +99,7 @@ fn are_both(parcels: Option<Vec<Parcel>>) -> bool {
     matches!(&parcels, Some(parcels) if parcels.len() == 2 && in_order(parcels))
 }
 
-// Whether so many arrived, and nothing is kept.
+// Whether this many arrived, and nothing is kept.
 fn all_arrived(closing: &Closing<Parcel>, arrived: u32) -> bool {
     closing.arrived() == arrived && closing.home().is_empty()
 }

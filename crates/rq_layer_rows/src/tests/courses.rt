@@ -170,7 +170,7 @@ fn goes_right<R: Threads + Sync + AllocGlobal>(
     Ok(is_after(&state) && gate.are_in_order())
 }
 
-// Whether each of 50 replays by so many workers does.
+// Whether each of 50 replays by this many workers does.
 fn all_go_right<R: Threads + Sync + AllocGlobal>(
     rt: &R,
     lawful: &Lawful,

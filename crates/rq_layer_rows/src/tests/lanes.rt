@@ -13,7 +13,7 @@ pub struct Framed {
     pub ends: Vec<usize>,
 }
 
-// Appends the frame behind another's digest of a body of `len` bytes, all of them `byte`.
+// Appends the frame of a body of `len` bytes, all of them `byte`, after this last digest.
 fn append_frame(
     alloc: Global,
     log: &mut Vec<u8>,
@@ -28,7 +28,7 @@ fn append_frame(
     Ok(frame(last, &body, log)?)
 }
 
-// The same behind the last digest of the log.
+// The same after the log's own last digest.
 fn append(alloc: Global, framed: &mut Framed, len: usize, byte: u8) -> Result<(), Fail> {
     let from = framed.log.len().saturating_sub(32);
     let mut last = [0u8; 32];
@@ -88,7 +88,7 @@ fn flip_frames(framed: &mut Framed, places: &[usize]) {
     }
 }
 
-// Whether the first of these frames is found, where the digests of all of them are wrong.
+// Whether the first of these frames is found, if the digests of all of them are wrong.
 fn finds<R: Threads + Sync + AllocGlobal>(
     rt: &R,
     framed: &mut Framed,
@@ -101,7 +101,7 @@ fn finds<R: Threads + Sync + AllocGlobal>(
     Ok(right.is_some() && right == places.first().copied())
 }
 
-// Whether each frame is found, where its digest alone is wrong.
+// Whether each frame is found, if its digest alone is wrong.
 fn finds_each_of<R: Threads + Sync + AllocGlobal>(
     rt: &R,
     framed: &mut Framed,

@@ -25,7 +25,7 @@ pub enum Plain {
 
 const PAYLOAD: &[u8] = b"a payload that is longer than a short one";
 
-/// What stands for no queue.
+/// The number that means no queue.
 pub const NO_QUEUE: u32 = u32::MAX;
 
 fn named(name: &str) -> Result<Name, Fail> {

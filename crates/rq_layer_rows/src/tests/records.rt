@@ -144,7 +144,7 @@ fn read_among(alloc: Global, bytes: &[u8], log: &ArcSlice<u8>) -> Result<KeptRec
 }
 
 // How many bytes the payload or the checkpoint has that is read of a body among others, all of them
-// as they were written, and how many more hold the lent log then.
+// as they were written, and how many more the lent log holds then.
 fn read_of(alloc: Global, bytes: &[u8], lent: &[u8]) -> Result<(Option<usize>, usize), Fail> {
     let log = ArcSlice::from_slice(alloc, lent)?;
     let before = ArcSlice::strong_count(&log);
@@ -153,7 +153,7 @@ fn read_of(alloc: Global, bytes: &[u8], lent: &[u8]) -> Result<(Option<usize>, u
     Ok((as_written(&record), more))
 }
 
-// The same where the log that is lent has the body.
+// The same if the log that is lent has the body.
 fn payload_of_log(alloc: Global, length: usize) -> Result<(Option<usize>, usize), Fail> {
     let bytes = payload_among_others(alloc, length)?;
     read_of(alloc, &bytes, &bytes)
@@ -186,7 +186,7 @@ fn a_checkpoint_is_a_part_of_the_log_that_is_lent(rt: HostRuntime) -> Result<(),
     Ok(())
 }
 
-// Whether what the body has is a copy, where this log is lent.
+// Whether what the body has is a copy, if this log is lent.
 fn is_copied(alloc: Global, bytes: &[u8], lent: &[u8]) -> Result<bool, Fail> {
     Ok(read_of(alloc, bytes, lent)? == (Some(100), 0))
 }

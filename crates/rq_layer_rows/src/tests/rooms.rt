@@ -32,7 +32,7 @@ fn one_took(left: &Left, taken: &[u32], rest: &[u32]) -> bool {
     left.seats() == 1 && left.taken(0) == taken && left.left() == rest
 }
 
-// Whether two seats took these numbers, and so many are left.
+// Whether two seats took these numbers, and this many are left.
 fn two_took(left: &Left, first: &[u32], second: &[u32], rest: usize) -> bool {
     let both = left.seats() == 2 && left.taken(0) == first && left.taken(1) == second;
     both && left.left().len() == rest
@@ -70,7 +70,7 @@ fn a_seat_alone_takes_all_before_none(rt: HostRuntime) -> Result<(), Fail> {
     Ok(())
 }
 
-// Whether each of two seats takes none where no list has a number.
+// Whether each of two seats takes none if no list has a number.
 fn takes_none(alloc: Global) -> Result<bool, Fault> {
     let (room, mut seats) = Room::open(alloc, two(alloc, &[], &[])?)?;
     let x = seats[0].take(&room);
@@ -116,7 +116,7 @@ fn a_seat_without_a_list_steals(rt: HostRuntime) -> Result<(), Fail> {
     Ok(())
 }
 
-// Whether a seat takes of its own list, where the first has one too.
+// Whether a seat takes of its own list, if the first has one too.
 fn takes_own(alloc: Global) -> Result<bool, Fault> {
     let (room, mut seats) = Room::open(alloc, two(alloc, &[0, 1], &[2])?)?;
     let x = seats[1].take(&room);
@@ -124,7 +124,7 @@ fn takes_own(alloc: Global) -> Result<bool, Fault> {
     Ok(x == Some(2) && two_took(&left, &[], &[2], 2))
 }
 
-// Whether what that seat took is told first where it is handed in first.
+// Whether what that seat took is told first if it is handed in first.
 fn told_in_order_of_close(alloc: Global) -> Result<bool, Fault> {
     let (room, mut seats) = Room::open(alloc, two(alloc, &[0, 1], &[2])?)?;
     let x = seats[1].take(&room);
@@ -202,7 +202,7 @@ fn four_took_all(alloc: Global, left: &Left) -> Result<bool, AllocError> {
     Ok(all && sorted(alloc, left)?.iter().copied().eq(0..4_000))
 }
 
-// Four lists that count on from one to the next: so many numbers, and so many in each of the
+// Four lists that count on from one to the next: this many numbers, and this many in each of the
 // others.
 fn four(alloc: Global, first: usize, others: usize) -> Result<Vec<Vec<u32>>, AllocError>
     requires { (first ≤ 4000) × (others ≤ 1000) }

@@ -63,7 +63,7 @@ fn appended(alloc: Global, what: &What, record: &Record) -> Result<Vec<u8>, Fail
     Ok(out)
 }
 
-// Whether so many bytes are appended, however little memory there is, or none.
+// Whether this many bytes are appended, however little memory there is, or none.
 fn appends_of<R: Threads + Sync + AllocGlobal>(
     rt: &R,
     what: &What,
@@ -93,7 +93,7 @@ fn long_record(alloc: Global) -> Result<Record, Fail> {
     })
 }
 
-// The same, where the record is that one.
+// The same for that record.
 fn appends<R: Threads + Sync + AllocGlobal>(
     rt: &R,
     what: What,

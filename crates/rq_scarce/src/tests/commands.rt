@@ -65,7 +65,7 @@ const CHECKPOINT_REPORT: &[u8] = b"front 10 records, 724 of 724 bytes, whole\n\
     e 7 from 0 priority 8 attempts 0 62\n\
     r ann dequeue tag 10 element 3\n";
 
-// Whether a restart by so many workers is.
+// Whether a restart by this many workers is.
 fn restarts<R: Threads + Sync + AllocGlobal>(rt: &R, workers: u32) -> Result<bool, Fail> {
     let plan = Plan::new(workers, 1).ok_or("plan")?;
     let log = log_of(rt, ARRIVAL)?;

@@ -55,7 +55,7 @@ impl Scarce {
         Ok(scarce)
     }
 
-    /// Leaves so many bytes of the store, side by side, and free to be cut into blocks of any
+    /// Leaves this many bytes of the store, side by side, and free to be cut into blocks of any
     /// sizes.
     pub fn leave(&mut self, bytes: usize) -> Result<(), AllocError> {
         let all = bytes.saturating_add(PIN);

@@ -111,7 +111,7 @@ fn second_took(left: &Left) -> bool {
     both && left.taken(1) == [2u32].as_slice() && left.left().len() == 2
 }
 
-// Whether it does, and the room is closed, where no memory is left.
+// Whether it does, and the room is closed, if no memory is left.
 fn closes(alloc: Global) -> Result<bool, Fault> {
     let (room, mut seats) = Room::open(alloc, two(alloc)?)?;
     let scarce = Scarce::whole(alloc)?;
@@ -144,7 +144,7 @@ fn both_arrived(closing: &Closing<Parcel>) -> bool {
     closing.arrived() == 2 && closing.last() == Some(1) && closing.home().is_empty()
 }
 
-// Whether a countdown goes so to its end where no memory is left. What is answered is held until
+// Whether a countdown goes so to its end if no memory is left. What is answered is held until
 // then, since it gives memory back.
 fn ends(alloc: Global) -> Result<bool, Fault> {
     let (countdown, mut passes) = Countdown::<Parcel>::open(alloc, (), 2, 2)?;

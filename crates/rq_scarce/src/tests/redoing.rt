@@ -18,8 +18,8 @@ use std::alloc::Global;
 use std::test::Fail;
 use std::thread::Threads;
 
-// An element leaves its queue by an abort, and its error queue by another, for the end of the
-// chain, where a registrant that is still at work takes it.
+// An abort takes an element out of its queue, and another takes it out of its error queue, to the
+// end of the chain. A registrant that is still at work takes it there.
 const CHAINED: &[u8] = b"define dead 0 -\n\
     define late 1 0\n\
     define jobs 1 1\n\
@@ -158,7 +158,7 @@ fn chained<R: Threads + Sync + AllocGlobal>(rt: &R) -> Result<Lawful, Fail> {
 }
 
 // Whether the replay has the same state, however little memory there is, or none. No thread is
-// started before: where no memory is left, each is refused.
+// started before: if no memory is left, each is refused.
 fn replays_by<R: Threads + Sync + AllocGlobal>(
     rt: &R,
     lawful: &Lawful,
@@ -174,7 +174,7 @@ fn replays_by<R: Threads + Sync + AllocGlobal>(
     is_right(rt, &mut call)
 }
 
-// Whether it does, by so many workers.
+// Whether it does, by this many workers.
 fn replays<R: Threads + Sync + AllocGlobal>(rt: &R, workers: u32) -> Result<bool, Fail> {
     let plan = Plan::new(workers, 1).ok_or("plan")?;
     let lawful = chained(rt)?;

@@ -170,7 +170,7 @@ impl<R: Wait> Gate for Relief<'_, R> {
 }
 
 // Whether a run on two workers at the gate was refused memory and wrote nothing, or wrote the
-// report; nothing, where it did neither.
+// report; nothing if it did neither.
 fn was_refused<R, G>(rt: &R, log: &[u8], gate: &G) -> Result<Option<bool>, Fail>
 where
     R: Threads + Sync + AllocGlobal,
@@ -186,8 +186,8 @@ where
     })
 }
 
-// Whether one restart was, where memory was there again a while later: all queues entered, and two
-// of them in the famine of a run that was refused. Nothing, where that is not so.
+// Whether one restart was, if memory was there again a while later: all queues entered, and two of
+// them in the famine of a run that was refused. Nothing if that is not so.
 fn relieved<R: Threads + Wait + Sync + AllocGlobal>(
     rt: &R,
     log: &[u8],
