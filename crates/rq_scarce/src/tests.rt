@@ -68,7 +68,7 @@ const MAKE_TWO: Command<'static> = Command::Make2 {
     log: "log",
 };
 
-// How a command ends, and nothing of what else is known of it.
+// How a command ends, without what else is known about it.
 fn acted<R, I, O>(rt: &R, command: &Command<'_>, input: &mut I, output: &mut O) -> Result<(), Fault>
 where
     R: Threads + Sync + AllocGlobal,

@@ -11,7 +11,7 @@ use rq_state::State;
 use std::alloc::Global;
 use std::test::Fail;
 
-// In which versions a record is lawful where it stands.
+// The versions in which a record is lawful where it stands.
 #[derive(Drop)]
 enum Lawful {
     InBoth,
