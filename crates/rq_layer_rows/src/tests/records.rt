@@ -145,12 +145,21 @@ fn read_among(alloc: Global, bytes: &[u8], log: &ArcSlice<u8>) -> Result<KeptRec
 
 // How many bytes the payload or the checkpoint has that is read of a body among others, all of them
 // as they were written, and how many more the lent log holds then.
+fn read_in(
+    alloc: Global,
+    bytes: &[u8],
+    log: &ArcSlice<u8>,
+) -> Result<(Option<usize>, usize), Fail> {
+    let before = ArcSlice::strong_count(log);
+    let record = read_among(alloc, bytes, log)?;
+    let more = ArcSlice::strong_count(log).saturating_sub(before);
+    Ok((as_written(&record), more))
+}
+
+// The same of these bytes as the lent log.
 fn read_of(alloc: Global, bytes: &[u8], lent: &[u8]) -> Result<(Option<usize>, usize), Fail> {
     let log = ArcSlice::from_slice(alloc, lent)?;
-    let before = ArcSlice::strong_count(&log);
-    let record = read_among(alloc, bytes, &log)?;
-    let more = ArcSlice::strong_count(&log).saturating_sub(before);
-    Ok((as_written(&record), more))
+    read_in(alloc, bytes, &log)
 }
 
 // The same if the log that is lent has the body.

@@ -63,6 +63,23 @@ fn appended(alloc: Global, what: &What, record: &Record) -> Result<Vec<u8>, Fail
     Ok(out)
 }
 
+// Whether a vector has this then, however little memory there is, or what it had before.
+fn is_appended<R: Threads + Sync + AllocGlobal>(
+    rt: &R,
+    what: &What,
+    record: &Record,
+    want: &[u8],
+) -> Result<bool, Fail> {
+    let out = Vec::new(rt.alloc());
+    let mut call = Call::Append(Appending {
+        what,
+        record,
+        want,
+        out,
+    });
+    is_right(rt, &mut call)
+}
+
 // Whether this many bytes are appended, however little memory there is, or none.
 fn appends_of<R: Threads + Sync + AllocGlobal>(
     rt: &R,
@@ -72,13 +89,7 @@ fn appends_of<R: Threads + Sync + AllocGlobal>(
 ) -> Result<bool, Fail> {
     let want = appended(rt.alloc(), what, record)?;
     let more = want.len().saturating_sub(BEFORE.len());
-    let mut call = Call::Append(Appending {
-        what,
-        record,
-        want: &want,
-        out: Vec::new(rt.alloc()),
-    });
-    Ok(more == bytes && is_right(rt, &mut call)?)
+    Ok(more == bytes && is_appended(rt, what, record, &want)?)
 }
 
 // An ENQUEUE with 500 bytes.
