@@ -8,8 +8,8 @@ use std::test::Fail;
 /// Whose an operation is: a registrant's, by its name and a tag, or nobody's.
 pub type Who = Option<(&'static str, u64)>;
 
-/// A record by its numbers and names. What is enqueued has priority 5 and is one byte.
-#[derive(Clone, Copy)]
+/// A record by its numbers and names. What is enqueued has priority 5 and 41 bytes.
+#[derive(Drop)]
 pub enum Plain {
     Define(u16, u32, &'static str),
     Register(u32, &'static str),
@@ -22,6 +22,8 @@ pub enum Plain {
     Checkpoint,
     Kill(u32, u64),
 }
+
+const PAYLOAD: &[u8] = b"a payload that is longer than a short one";
 
 /// The number that means no queue.
 pub const NO_QUEUE: u32 = u32::MAX;
@@ -58,7 +60,7 @@ fn deregister(queue: u32, name: &str) -> Result<Record, Fail> {
 
 fn enqueue(alloc: Global, unit: u64, queue: u32, who: Who) -> Result<Record, Fail> {
     let by = by(who)?;
-    let payload = Payload::new(Vec::from_slice(alloc, b"a")?).ok_or("payload")?;
+    let payload = Payload::new(Vec::from_slice(alloc, PAYLOAD)?).ok_or("payload")?;
     let (unit, queue) = (UnitNo(unit), QueueNo(queue));
     Ok(Record::Enqueue {
         unit,

@@ -48,6 +48,13 @@ impl Scarce {
         Ok(scarce)
     }
 
+    /// Takes all memory.
+    pub fn whole(alloc: Global) -> Result<Scarce, AllocError> {
+        let mut scarce = Scarce::begin(alloc)?;
+        scarce.leave(0)?;
+        Ok(scarce)
+    }
+
     /// Leaves this many bytes of the store, side by side, and free to be cut into blocks of any
     /// sizes.
     pub fn leave(&mut self, bytes: usize) -> Result<(), AllocError> {
