@@ -7,7 +7,7 @@ use crate::failing::{Refusal, Which, unread};
 use rq_journal::{Fault, Plan, is_carried};
 use rq_restart::{GrowingFront, JudgedFront};
 use std::alloc::{AllocError, Global};
-use std::fs::{self, File, Files, OpenFile};
+use std::fs::{self, File, Files};
 use std::io::{self, Chain, Cursor, ErrorKind, Read};
 use std::os::unix::fs::FileExt;
 use std::thread::Threads;
@@ -21,19 +21,8 @@ const BEGINNING: usize = 64;
 // So many bytes of a log are read at a time.
 const PIECE: usize = 1_048_576;
 
-// Nothing, with room for the bytes of a file and for one more, which tells that these are all: so
-// nothing is moved. Where the system refuses it, and of what has no length, as a pipe, the room grows
-// as the bytes come.
-fn roomy(alloc: Global, file: &File) -> Vec<u8> {
-    let len = OpenFile::metadata(file).map_or(0, |found| found.len());
-    match Vec::with_capacity(alloc, len.min(LIMIT) as usize + 1) {
-        Ok(bytes) => bytes,
-        Err(_) => Vec::new(alloc),
-    }
-}
-
-fn read_to_limit<R: Read + Drop>(room: Vec<u8>, from: R) -> io::Result<Vec<u8>> {
-    let mut bytes = room;
+fn read_to_limit<R: Read + Drop, A: AllocGlobal>(rt: &A, from: R) -> io::Result<Vec<u8>> {
+    let mut bytes = Vec::new(rt.alloc());
     from.take(LIMIT).read_to_end(&mut bytes)?;
     Ok(bytes)
 }
@@ -53,13 +42,12 @@ where
     A: AllocGlobal,
     F: Read + Drop,
 {
-    within(read_to_limit(Vec::new(rt.alloc()), from), Which::Log)
+    within(read_to_limit(rt, from), Which::Log)
 }
 
 /// The bytes of a log from its open file, read from where that stands.
 pub(crate) fn rest_of_log<A: AllocGlobal>(rt: &A, file: &mut File) -> Result<Vec<u8>, Refusal> {
-    let room = roomy(rt.alloc(), file);
-    within(read_to_limit(room, &*file), Which::Log)
+    log_from(rt, &*file)
 }
 
 /// Whether the log of an open file or pipe was carried on, and all its bytes, to be read.
@@ -157,10 +145,10 @@ where
     R: Files<File = File> + Input + AllocGlobal,
 {
     if path == "-" {
-        return within(read_to_limit(Vec::new(rt.alloc()), rt.reader()), Which::Script);
+        return within(read_to_limit(rt, rt.reader()), Which::Script);
     }
     match fs::open(rt, path) {
-        Ok(file) => within(read_to_limit(Vec::new(rt.alloc()), file), Which::Script),
+        Ok(file) => within(read_to_limit(rt, file), Which::Script),
         Err(error) => Err(Refusal::Unread(Which::Script, error)),
     }
 }
