@@ -1,3 +1,6 @@
+ghost use Rattle.std.specs.Prelude.{List, ℕ, OnOk};
+ghost use Rattle.rq_restart.specs.GrowingFronts.{GoesAlong};
+
 use rq_journal::{
     NotTaken, Opened, Truth, audit_carried, carried, carried_again, checkpoint_of, frames_behind,
     is_carried, marked, open, open_carried,
@@ -219,20 +222,38 @@ fn false_checkpoints_of_a_carried_log_are_told(rt: HostRuntime) -> Result<(), Fa
     Ok(())
 }
 
+// A front goes along with more of a log.
+fn feed<R: Threads + Sync + AllocGlobal>(
+    rt: &R,
+    front: &mut GrowingFront,
+    more: &[u8],
+    plan: &Plan,
+) -> Result<(), Fail>
+    requires { (b : List ℕ) × GoesAlong b front.old }
+    ensures { OnOk result ((b : List ℕ) × GoesAlong b front.new) }
+{
+    front.feed(rt, rt.alloc(), more, plan)?;
+    Ok(())
+}
+
 // Whether a front goes along with the log in two pieces, to its end.
-fn goes_along<R: Threads + Sync + AllocGlobal>(rt: &R, log: &[u8], plan: &Plan) -> bool {
+fn goes_along<R: Threads + Sync + AllocGlobal>(
+    rt: &R,
+    log: &[u8],
+    plan: &Plan,
+) -> Result<bool, Fail> {
     let mut front = GrowingFront::new(rt.alloc());
     let (first, more) = log.split_at(log.len() / 2);
-    let is_taken = front.feed(rt, rt.alloc(), first, plan).is_ok()
-        && front.feed(rt, rt.alloc(), more, plan).is_ok();
-    let judged = front.judged(rt, rt.alloc(), plan);
-    is_taken && judged.is_ok_and(|it| it.used == log.len() && it.records == 4)
+    feed(rt, &mut front, first, plan)?;
+    feed(rt, &mut front, more, plan)?;
+    let judged = front.judged(rt, rt.alloc(), plan)?;
+    Ok(judged.used == log.len() && judged.records == 4)
 }
 
 #[test]
 fn a_front_grows_with_its_log(rt: HostRuntime) -> Result<(), Fail> {
     let plan = Plan::new(1, 1).ok_or("plan")?;
     let log = log_of(&rt, ONE_ELEMENT)?;
-    assert!(rt; goes_along(&rt, &log, &plan));
+    assert!(rt; goes_along(&rt, &log, &plan)?);
     Ok(())
 }
