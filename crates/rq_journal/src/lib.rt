@@ -6,7 +6,6 @@ mod appender;
 mod auditing;
 mod carrying;
 mod checkpoint;
-mod continuing;
 mod framing;
 mod marking;
 mod opening;

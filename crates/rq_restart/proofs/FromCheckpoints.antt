@@ -1,7 +1,8 @@
 -- The front of a log from a checkpoint on: its first record is the checkpoint.
 use Rattle.std.proofs.Common.{◌≡◌, ℕ, ◌+◌, ◌-◌, ◌≤◌, true, false, List, [], ◌∷◌, ◌++◌, length, take, drop, refl, sym, ap}
-use Rattle.std.proofs.Common.{subst, ◌∙◌, append_assoc, arith}
+use Rattle.std.proofs.Common.{subst, ◌∙◌, append_assoc, arith, Bool}
 use Rattle.std.specs.Prelude.{Result, Ok, Err, IfOk, IfErr}
+use Rattle.std.specs.Global.{Vec}
 use Rattle.std.proofs.lemmas.List.{length-append, length-take, length-drop, take-append-drop, drop-drop}
 use Rattle.rq_model.specs.Records.{Record, Checkpoint, Version}
 use Rattle.rq_model.specs.Spelling.{body_of}
@@ -23,6 +24,7 @@ use Rattle.rq_catalog.specs.Judges.{StandsIn}
 use Rattle.rq_restart.specs.declared.checkpoint.Begun.{Begun}
 use Rattle.rq_restart.specs.declared.passing.Reach.{Reach}
 use Rattle.rq_restart.specs.declared.redone.RedoneFront.{RedoneFront}
+use Rattle.rq_restart.specs.Audits.{AuditsAt}
 use Rattle.rq_restart.specs.Checkpoints.{IsBegun}
 use Rattle.rq_restart.specs.Ends.{IsFrontFrom, end_at}
 use Rattle.rq_restart.specs.Passes.{AreJudged}
@@ -207,3 +209,21 @@ redoes_at b offset x is rs end why h (Ok f) behind refused =
     }
 redoes_at b offset x is rs end why h (Err e) behind refused =
     subst (λ (z : Fault). RedoesFrontAt b offset (Err z)) (sym refused) tt
+
+-- Audited.
+
+pub audits_at : (b : List ℕ) (offset : ℕ) (x : Begun) (is : IsBegun b offset x) (rs : List Record) (end : ℕ) (why : Why)
+    → IsFrontFrom (version_of x.version) x.state b offset rs end why → (result : Result (Vec (ℕ × Bool)) Fault)
+    → IfErr result (λ e. e ≡ Resources) → AuditsAt b offset result
+audits_at b offset x is rs end why h (Ok v) refused =
+    let has = from_checkpoint b offset x is rs end why h in
+    record {
+      version = version_of x.version;
+      base = x.state;
+      kept = is.kept;
+      after = has.after;
+      rest = drop end b;
+      front = has.from.front;
+    }
+audits_at b offset x is rs end why h (Err e) refused =
+    subst (λ (z : Fault). AuditsAt b offset (Err z)) (sym refused) tt
