@@ -8,7 +8,9 @@ use Rattle.rq_restart.specs.Views.{why_of}
 use Rattle.rq_look.specs.declared.ends.End.{End}
 use Rattle.rq_record.specs.declared.fault.Fault.{Fault}
 use Rattle.rq_record.specs.declared.fault.Fault.TheVariants.{Resources}
-use Rattle.rq_look.specs.Looks.{end_text, end_line, end_finding, front_end_of, RefusedFrom}
+use Rattle.rq_model.specs.Reports.{IsText}
+use Rattle.rq_look.specs.Looks.{end_text, end_line, end_finding, front_end_of, RefusedFrom, IsRestartFrom}
+use Rattle.rq_look.specs.Looks.{IsReportFrom}
 
 -- some text was appended
 abbrev pub AppendsSome : Option (List ℕ) → Option (List ℕ) → Type 0
@@ -44,3 +46,9 @@ memory_refused (Some at) b = tt
 
 pub resources_refused : (at : Option ℕ) (b : List ℕ) (e : Fault) → e ≡ Resources → RefusedFrom at b e
 resources_refused at b e p = subst (λ (f : Fault). RefusedFrom at b f) (sym p) (memory_refused at b)
+
+-- the text of a restart is the report from where that begins
+pub report_from : (at : Option ℕ) (b text : List ℕ) (r : Restarted) → IsRestartFrom at b r → IsText r text
+    → IsReportFrom at b text
+report_from None b text r is told = (r, is, told)
+report_from (Some at) b text r is told = (r, is, told)

@@ -204,7 +204,7 @@ fn put_both<W: Write>(first: &[u8], second: &[u8], output: &mut W) -> io::Result
 /// wanted.
 ///
 /// Refuses what `report_json` refuses, in the same way.
-#[tactic(auto, using(crate::proofs::Puts::resources_refused))]
+#[tactic(auto, using(crate::proofs::Puts::resources_refused, crate::proofs::Puts::report_from))]
 pub fn report<R, W>(
     rt: &R,
     alloc: Global,

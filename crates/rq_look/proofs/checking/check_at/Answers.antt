@@ -10,6 +10,6 @@ returns-clause-checked g c =
       reason,
       end.1,
       refl,
-      c.in_ok-put_end.ensures ∙ ap (λ (t : List ℕ). t ++ _) c.in_ok-text.ensures
+      c.in_ok-put_end.ensures ∙ ap (λ (t : List ℕ). t ++ _) c.in_ok-text.ensures.ok
           ∙ ap (λ (t : List ℕ). codes "carried: use rqlog\n" ++ t) (same_line end.0 c.in_ok-end.end reason end.2),
     )
