@@ -72,6 +72,9 @@ OBJECTS = """\
 {"front":{"records":4,"used":237,"total":237,"why":"whole","reason":"nothing follows"}}
 """
 CUT = "front ends behind 3 records, at 192 of 236 bytes, cut: 44 bytes follow, and the frame has 45\n"
+# More units at a time than a log has as a rule.
+OPEN = "".join(f"begin {unit}\n" for unit in range(1, 1501))
+OPEN_END = "front ends behind 1500 records, at 67540 of 67540 bytes, whole: nothing follows\n"
 LAW = "front ends behind 1 records, at 87 of 132 bytes, law: unit 1 is not open\n"
 
 
@@ -93,6 +96,7 @@ ROWS = [
     Row("dump LOG --kind enqueue --json", ONE_ELEMENT, whole, 0, OBJECTS),
     Row("dump LOG --limit 0", ONE_ELEMENT, lambda log: log[:-1], 0, CUT),
     Row("dump LOG --limit 0", "define jobs 0 -\ncommit 1\n", whole, 0, LAW),
+    Row("dump LOG --limit 0", OPEN, whole, 0, OPEN_END),
     Row("dump LOG --unit 2", TWO_UNITS, whole, 0, BEGIN + ENQUEUE + COMMIT + END),
     Row("dump LOG --unit 2 --from 329", TWO_UNITS, whole, 0, COMMIT + END),
     Row("dump LOG --unit 2 --limit 1", TWO_UNITS, whole, 0, BEGIN + END),
