@@ -203,9 +203,9 @@ fn tell<W: io::Write>(
 {
     let first = first_state(alloc, bytes, end.at)?;
     let frames = frames_behind(bytes, &first, end.at, end.used);
-    let machine = Queues::of(alloc, &first)?;
+    let before = Queues::of(alloc, &first)?;
     let mut text = String::new(alloc);
-    let Some(machine) = tell_front(alloc, frames, machine, subject, &mut text, output)? else {
+    let Some(machine) = tell_front(alloc, frames, before, subject, &mut text, output)? else {
         return Err(Trouble::Nothing(subject));
     };
     put_beginning(&mut text, end.at)?;
