@@ -1,0 +1,4 @@
+mod Acting
+mod Ending
+mod Arriving
+mod Closing

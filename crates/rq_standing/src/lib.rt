@@ -1,0 +1,14 @@
+//! The queues as they stand, which go along with records in place: one record after the other is
+//! judged and done, at the cost of the members that it touches.
+#![tactic(auto)]
+
+mod arriving;
+mod ending;
+mod operating;
+mod queues;
+mod standing;
+mod taken;
+
+pub use queues::Queues;
+pub use standing::Standing;
+pub use taken::Taken;

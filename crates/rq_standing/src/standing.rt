@@ -1,0 +1,55 @@
+//! The queues as they stand, and the judge of what comes.
+
+ghost use Rattle.std.specs.Prelude.{◌≡◌, IfOk, OnOk, IfErr};
+ghost use Rattle.rq_model.specs.Machine as machine;
+ghost use Rattle.rq_model.specs.Records as records;
+ghost use Rattle.rq_model.specs.States.{State, empty};
+ghost use Rattle.rq_record.specs.Views.{record_of, version_of};
+ghost use Rattle.rq_record.specs.declared.fault.Fault.TheVariants.{Resources};
+ghost use Rattle.rq_standing.specs.Stands.{Stands, Answers, behind};
+
+use crate::queues::Queues;
+use crate::taken::Taken;
+use rq_catalog::Judge;
+use rq_record::{Fault, KeptRecord, Version};
+use std::alloc::Global;
+
+/// The queues as they stand, which go along with records in place. It says of each record whether
+/// it is lawful, does it where it is, and costs no more than the members that the record touches,
+/// times a logarithm. Records whose state is wanted at once go by `replay`.
+#[derive(Drop)]
+pub struct Standing {
+    judge: Judge,
+    queues: Queues,
+}
+
+impl Standing {
+    /// No queues yet, by the rules of the version. Takes no memory.
+    pub fn new(alloc: Global, version: Version) -> Standing
+        ensures { Stands (version_of version) result empty }
+    {
+        Standing {
+            judge: Judge::new(alloc, version),
+            queues: Queues::new(alloc),
+        }
+    }
+
+    /// Does a record, where it is lawful; where it is not, nothing changes. The answer says which,
+    /// and which element a DEQUEUE took. Refused with `Resources` alone, and then it is of no more
+    /// use.
+    pub fn take(&mut self, alloc: Global, what: &KeptRecord) -> Result<Taken, Fault>
+        requires { (version : records.Version) × (s : State) × Stands version self.old s }
+        ensures answer { IfOk result (λ taken. (version : records.Version) (s : State) →
+            Stands version self.old s → Answers version s (record_of what.now) taken) }
+        ensures stands { IfOk result (λ taken. (version : records.Version) (s : State) →
+            Stands version self.old s
+            → Stands version self.new (behind s (record_of what.now) taken)) }
+        ensures refused { IfErr result (λ e. e ≡ Resources) }
+    {
+        if !self.judge.take(what)? {
+            return Ok(Taken::Unlawful);
+        }
+        let element = self.queues.take(alloc, what)?;
+        Ok(Taken::Done(element))
+    }
+}
