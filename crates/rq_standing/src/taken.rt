@@ -3,7 +3,7 @@
 use rq_record::ElemId;
 
 /// What became of a record.
-#[derive(Clone, Copy, Debug, Drop)]
+#[derive(Clone, Copy, PartialEq, Eq, Debug)]
 pub enum Taken {
     /// It is not lawful, and nothing was done.
     Unlawful,
