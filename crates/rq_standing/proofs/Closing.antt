@@ -109,7 +109,7 @@ midway s u queues old mid size parts ended q within = ended q
 -- what an ABORT goes over, and what was sent
 pub record Aborting (s : State) (u : ℕ) (queues : List ℕ) (ms : List Move) (old mid : List Part) : Type 0 where
   pub well : IsWellFormed s
-  pub then : IsWellFormed (step s (Abort u))
+  pub after : IsWellFormed (step s (Abort u))
   pub size : length old ≡ length s.definitions
   pub same : length mid ≡ length old
   pub parts : AreParts s old
@@ -122,14 +122,14 @@ pub can_arrive : UnitEndsByParts → (s : State) (u : ℕ) (queues : List ℕ) (
 can_arrive law s u queues ms old mid a q within =
     let here : q < length s.definitions = subst (λ n. q < n) (a.same ∙ a.size) within in
     subst (λ (p : Part). AreNew (coming q ms) p.elements) (sym (midway s u queues old mid a.size a.parts a.ended q here))
-    (law.arrives s u q queues ms a.well a.then here a.named (a.sends q)).1
+    (law.arrives s u q queues ms a.well a.after here a.named (a.sends q)).1
 
 pub aborted_parts : UnitEndsByParts → (s : State) (u : ℕ) (queues : List ℕ) (ms : List Move) (old mid new : List Part)
     → Aborting s u queues ms old mid → HaveArrived ms mid new → AreParts (step s (Abort u)) new
 aborted_parts law s u queues ms old mid new a arrived q within =
     arrived q (subst (λ n. q < n) (sym (a.same ∙ a.size)) within)
     ∙ ap (receive (coming q ms)) (midway s u queues old mid a.size a.parts a.ended q within)
-    ∙ (law.arrives s u q queues ms a.well a.then within a.named (a.sends q)).0
+    ∙ (law.arrives s u q queues ms a.well a.after within a.named (a.sends q)).0
 
 -- attempts are fewer than records
 pub room_of : (s : State) (old : List Part) → IsWellFormed s → length old ≡ length s.definitions → AreParts s old

@@ -22,7 +22,7 @@ receive_all-requires c =
     can_arrive c.step_by_parts.ensures.ends s u c.named_by-queues.queues.items c.in_ok-sent.sent.items
     c.args.self.now.parts.items _ (record {
       well = may.holds.well;
-      then = c.runs_are_well_formed.ensures.runs c.requires.may.0 s (Abort u ∷ []) may.holds.well
+      after = c.runs_are_well_formed.ensures.runs c.requires.may.0 s (Abort u ∷ []) may.holds.well
           (and_from (is_lawful c.requires.may.0 s (Abort u)) true may.lawful refl);
       size = may.holds.size;
       same = c.in_ok-sent.ensures.size;
@@ -37,7 +37,7 @@ receive_all-requires c =
 pub returns-clause-moved : goal.returns-clause-moved
 returns-clause-moved c = λ version s may.
     let u = c.args.unit.0 in
-    let then = c.runs_are_well_formed.ensures.runs version s (Abort u ∷ []) may.holds.well
+    let after = c.runs_are_well_formed.ensures.runs version s (Abort u ∷ []) may.holds.well
     (and_from (is_lawful version s (Abort u)) true may.lawful refl) in
     record {
       next = refl;
@@ -47,7 +47,7 @@ returns-clause-moved c = λ version s may.
       parts = aborted_parts c.step_by_parts.ensures.ends s u c.named_by-queues.queues.items c.in_ok-sent.sent.items
           c.args.self.now.parts.items _ _ (record {
             well = may.holds.well;
-            then = then;
+            after = then;
             size = may.holds.size;
             same = c.in_ok-sent.ensures.size;
             parts = may.holds.parts;
@@ -57,6 +57,6 @@ returns-clause-moved c = λ version s may.
                 (subst (λ n. Send n u _ (transfers_at s (Abort u))) (sym may.holds.next)
                 (all_send c.step_by_parts.ensures.step s u c.args.self.now.parts.items may.holds.well may.holds.size may.holds.parts));
           }) c.in_ok-receive_all.ensures.received;
-      engaged = engaged_then c.step_by_parts.ensures.step s (Abort u) u c.args.self.now.units.entries _ then
+      engaged = engaged_then c.step_by_parts.ensures.step s (Abort u) u c.args.self.now.units.entries _ after
           (closed_unit u s.units) (λ q v. refl) may.holds.engaged c.named_by-queues.ensures.others;
     }
