@@ -47,7 +47,7 @@ returns-clause-moved c = λ version s may.
       parts = aborted_parts c.step_by_parts.ensures.ends s u c.named_by-queues.queues.items c.in_ok-sent.sent.items
           c.args.self.now.parts.items _ _ (record {
             well = may.holds.well;
-            after = then;
+            after = after;
             size = may.holds.size;
             same = c.in_ok-sent.ensures.size;
             parts = may.holds.parts;
