@@ -153,8 +153,8 @@ def modes() -> None:
 
 
 def die_in_writing() -> None:
-    """Lets a process write no file of more than 100 bytes: it is killed where it goes on, and leaves no core file. Nothing of
-    the mode that a file is made with is masked."""
+    """Lets a process write no file of more than 100 bytes: it is killed when it writes on, and leaves no core file. Its files
+    get the modes that it asks for, since nothing is masked."""
     os.umask(0)
     resource.setrlimit(resource.RLIMIT_CORE, (0, 0))
     resource.setrlimit(resource.RLIMIT_FSIZE, (100, 100))
@@ -162,7 +162,7 @@ def die_in_writing() -> None:
 
 def modes_meanwhile() -> None:
     """A file that is to take another's place may be read by nobody else while it is written, whoever may read that. A new
-    one has its own mode from the beginning. Both are seen of a run that is killed midway."""
+    one has its own mode from the beginning. A run that is killed midway shows both."""
     log, _ = log_of_bytes(64, "written")
     killed = -signal.SIGXFSZ, b"", b""
     for line in [["make", "written.script", "judged/out"], ["close", log, "judged/out", 1], ["upgrade", log, "judged/out", 1]]:

@@ -416,8 +416,8 @@ def addresses() -> None:
 
 
 def given_back() -> None:
-    """Where those 4 GiB are just granted, what a log does not fill of them serves what is made of it, which is many times as
-    much as was left beside them."""
+    """If the bound just grants those 4 GiB, the room that the log does not fill is given back: what is made of the log needs
+    many times what the bound leaves beside them."""
     units = b"".join(b"begin %d\nenqueue %d 0 5 - 0 -\ncommit %d\n" % (u, u, u) for u in range(1, 30001))
     log = log_of(b"define jobs 0 -\n" + units + b"checkpoint\n", "records")
     _, told, _ = run("audit", log, 1)
@@ -451,8 +451,8 @@ def long_log() -> str:
 
 
 def halfway_log() -> str:
-    """The offset of the one checkpoint of a log, amid thousands of records of many queues. Those behind it are long: their
-    digests are worth several threads."""
+    """The offset of the one checkpoint of a log, amid thousands of records of many queues. The payloads behind it are long:
+    their digests are worth several threads."""
     defined = b"".join(b"define q%d 0 -\n" % q for q in range(96))
     lines = b"begin %d\nenqueue %d %d 1 - 0 %s\ncommit %d\n"
     units = [lines % (u, u, u % 96, b"5a" * (1 if u <= 4000 else 2000), u) for u in range(1, 6001)]

@@ -6,9 +6,9 @@ RQ is the built program. Each time is the best of the runs, taken in turn at bot
 The bounds: from n to 2n a restart and an audit grow at most 2.6 times; a restart takes at most 4 times as long as the peer;
 an audit at most 3 times as long as a restart of the same log; neither holds more than 6 times the log in memory, and where
 each record leaves as much behind as one can, 11 times; a restart from a checkpoint that tells of as many members as its
-bytes can holds at most 60 times the log; the report is the peer's. Of a log of less than 15 MB, which none is by default,
-what a restart of an empty log holds is no part of what is held. Prints a table and each bound that is missed, and exits
-with 1 if any is. A run that takes longer than the limit is stopped, and counts as the limit. With --keep the logs stay in
+bytes can holds at most 60 times the log; the report is the peer's. If a log is shorter than 15 MB, what a restart of an empty
+log holds is taken off; by default no log whose memory is judged is so short. Prints a table and each bound that is missed,
+and exits with 1 if any is. A run that takes longer than the limit is stopped, and counts as the limit. With --keep the logs stay in
 DIR, and those that stand there are taken as they are.
 """
 from __future__ import annotations

@@ -251,16 +251,21 @@ def unseen(look: str, log: str) -> None:
         check(f"what {words} shows", (status, [c for c in text if c != "\n" and is_hidden(c)]), (0, []))
 
 
-def odd_payloads(rq: str, look: str, folder: str) -> None:
-    """Payloads that look like HTML, that have characters of many bytes, or that are no text."""
-    script, log = os.path.join(folder, "odd.script"), os.path.join(folder, "odd.log")
-    payloads = [text.encode() for text in ODD] + [b"\xff" * 32, b"\xff" * 33]
-    lines = ["define jobs 0 -", "begin 1"] + [f"enqueue 1 0 5 - 0 {payload.hex() or '-'}" for payload in payloads] + ["commit 1"]
+def made_log(rq: str, path: str, command: str, lines: list[str]):
+    """The log of a script of these lines, as a file beside it, and its records."""
+    script, log = f"{path}.script", f"{path}.log"
     with open(script, "w", encoding="utf-8") as to:
         to.write("\n".join(lines) + "\n")
-    subprocess.run([rq, "make", script, log], check=True)
+    subprocess.run([rq, command, script, log], check=True)
     with open(log, "rb") as source:
-        records = records_of(bodies_of(source.read()))
+        return log, records_of(bodies_of(source.read()))
+
+
+def odd_payloads(rq: str, look: str, folder: str) -> None:
+    """Payloads that look like HTML, that have characters of many bytes, or that are no text."""
+    payloads = [text.encode() for text in ODD] + [b"\xff" * 32, b"\xff" * 33]
+    lines = ["define jobs 0 -", "begin 1"] + [f"enqueue 1 0 5 - 0 {payload.hex() or '-'}" for payload in payloads] + ["commit 1"]
+    log, records = made_log(rq, os.path.join(folder, "odd"), "make", lines)
     same_dump(look, log, records, random.Random(2))
     same_reports(rq, look, log, random.Random(2))
     same_stories(look, log, records, 20, random.Random(3))
@@ -270,16 +275,11 @@ def odd_payloads(rq: str, look: str, folder: str) -> None:
 
 def kills(rq: str, look: str, folder: str) -> None:
     """KILLs of elements that are of another queue, held by a unit, not free yet, or free, and of none."""
-    script, log = os.path.join(folder, "kills.script"), os.path.join(folder, "kills.log")
     # elements 3 to 5, and 12 of a unit that stays open
     lines = ["define jobs 0 -", "define others 0 -", "begin 1", "enqueue 1 0 5 - 0 61", "enqueue 1 0 5 - 0 62", "enqueue 1 0 5 - 0 63"]
     lines += ["kill 0 3", "commit 1", "kill 1 3", "kill 1 4", "begin 2", "dequeue 2 0 - 0", "enqueue 2 1 5 - 0 64", "kill 0 3"]
     lines += ["kill 0 4", "kill 0 4", "kill 1 5", "kill 0 99"]
-    with open(script, "w", encoding="utf-8") as to:
-        to.write("\n".join(lines) + "\n")
-    subprocess.run([rq, "make2", script, log], check=True)
-    with open(log, "rb") as source:
-        records = records_of(bodies_of(source.read()))
+    log, records = made_log(rq, os.path.join(folder, "kills"), "make2", lines)
     same_dump(look, log, records, random.Random(4))
     same_reports(rq, look, log, random.Random(4))
     same_stories(look, log, records, 20, random.Random(4))
