@@ -10,8 +10,8 @@ CONST = re.compile(r"^(?:pub(?:\([^)]*\))? )?(?:const|static) (\w+)")
 CLAUSE = re.compile(r"^\s*(?:ghost|requires|ensures)\b", re.M)
 # As many wrong bodies are tried in one check at most.
 MOST = 32
-# The folder, beside the other wrong bodies of a crate, of those that the gate tries in each run.
-EACH_TIME = "each-time"
+# The folder of a crate's wrong bodies, and those in it of the ones that the gate tries in each run, and in turn.
+OTHERS, EACH_TIME, IN_TURN = "wrong-bodies", "each-time", "in-turn"
 
 
 class Function(NamedTuple):
@@ -72,9 +72,9 @@ def pairs_of(text: str) -> Iterator[Tuple[str, str, str]]:
 
 
 def edits_of(folder: str) -> List[Edit]:
-    """The edits of the crate in this folder, by name, those that the gate tries in each run among them."""
+    """The edits of the crate in this folder, by name, of all folders of wrong bodies."""
     crate, found = os.path.basename(folder), []
-    for part in ("must-fail", "wrong-bodies", os.path.join("wrong-bodies", EACH_TIME)):
+    for part in ("must-fail", OTHERS, os.path.join(OTHERS, EACH_TIME), os.path.join(OTHERS, IN_TURN)):
         at = os.path.join(folder, part)
         for name in os.listdir(at) if os.path.isdir(at) else ():
             if name.endswith(".edit"):
