@@ -1,9 +1,10 @@
 #!/usr/bin/env python3
 """Proves and builds programs from nothing, over a copy of what they are made of, and tells how far it is.
 
-usage: prove.py FOLDER PROGRAM-CPU ..
+usage: prove.py [--after-gate] FOLDER PROGRAM-CPU ..
 Run at the top of the clone. Leaves each program, for that processor, as FOLDER/PROGRAM-CPU, and what was said as FOLDER/log. Ends
-with 70 where a crate was not proved or a program not built.
+with 70 if a crate was not proved or a program not built. With --after-gate it takes the libraries that the gate (`rt ci`) proved
+in this clone, if it proved all of them of the files as they stand.
 
 `rt ci` proves the libraries: crates side by side, each over the statements of those below it, without their wrong bodies. A kit
 whose rt keeps what it passed, as that of rattle-kit-13f does, proves of them later only what has changed since, and the crates
@@ -12,6 +13,9 @@ proved and compiled by rattle itself, over the same statements.
 """
 from __future__ import annotations
 import os, re, shutil, signal, subprocess, sys, tempfile, time
+
+sys.dont_write_bytecode = True
+from wrong.places import is_of_the_gate, rtlib
 
 TRIPLE = "x86_64-unknown-linux-gnu"
 # What no proof of a crate and no program reads.
@@ -151,8 +155,9 @@ class Telling:
 class Builds:
     """Programs that are built in one place."""
 
-    def __init__(self, place: str, folder: str, builds: dict[str, str]):
+    def __init__(self, place: str, folder: str, builds: dict[str, str], after_gate: bool):
         self.place, self.folder, self.builds, self.lines = place, folder, builds, lines_by_crate()
+        self.after_gate = after_gate
         self.log = os.path.join(folder, "log")
         self.kit = os.path.dirname(subprocess.run(["rt", "doc"], capture_output=True, check=True, text=True).stdout.strip())
         self.telling = Telling(Estimate(self.lines, builds), list(builds))
@@ -183,10 +188,22 @@ class Builds:
             self.telling.clear()
         return all(run.returncode == 0 for run in runs.values())
 
+    def take(self, libraries: list[str]) -> bool:
+        """Takes the libraries that the gate proved in this clone; answers whether it proved all of them of these files."""
+        crates = {it.name: it for it in rtlib().crates_below(os.getcwd())}
+        if not all(is_of_the_gate(crates[it]) for it in libraries):
+            return False
+        for it in libraries:
+            shutil.copytree(crates[it].rlib, self.library(it))
+            self.telling.end(it, "was proved before")
+        return True
+
     def prove(self) -> bool:
         """Whether the libraries are proved."""
         libraries, programs = below(self.lines, *self.builds.values()), sorted(set(self.builds.values()))
         copy(self.place, self.lines, libraries, programs)
+        if self.after_gate and self.take(libraries):
+            return True
         return self.follow({"libraries": self.start(["rt", "ci"], os.path.join(self.place, "libraries"))})
 
     def library(self, name: str) -> str:
@@ -240,7 +257,9 @@ def keeps() -> bool:
 
 
 def main() -> int:
-    folder, *builds = sys.argv[1:]
+    words = sys.argv[1:]
+    after_gate = words[:1] == ["--after-gate"]
+    folder, *builds = words[after_gate:]
     if not shutil.which("rt"):
         print("the toolchain is not there: no rt is found on the PATH", file=sys.stderr)
         return 70
@@ -249,7 +268,7 @@ def main() -> int:
     os.makedirs(folder, exist_ok=True)
     try:
         with tempfile.TemporaryDirectory(prefix="rq-build-") as place:
-            return Builds(place, os.path.abspath(folder), {it: it.partition("-")[0] for it in builds}).run()
+            return Builds(place, os.path.abspath(folder), {it: it.partition("-")[0] for it in builds}, after_gate).run()
     except KeyboardInterrupt:
         what = "proved libraries are kept: the same line goes on from there" if keeps() else "this kit keeps nothing"
         print(f"{' and '.join(builds)}: stopped; {what}", file=sys.stderr)
