@@ -190,6 +190,8 @@ class Builds:
 
     def take(self, libraries: list[str]) -> bool:
         """Takes the libraries that the gate proved in this clone; answers whether it proved all of them of these files."""
+        if not all(os.path.isdir(os.path.join("crates", it, "out", "rlib")) for it in libraries):
+            return False
         crates = {it.name: it for it in rtlib().crates_below(os.getcwd())}
         if not all(is_of_the_gate(crates[it]) for it in libraries):
             return False
