@@ -1,6 +1,7 @@
 """Where the libraries below a crate stand, and what earlier checks of a crate kept."""
 from __future__ import annotations
 import contextlib, functools, importlib.machinery, importlib.util, os, resource, shutil, subprocess, sys, tempfile
+from concurrent.futures import ThreadPoolExecutor
 from typing import Any, Callable, Dict, Iterator, List, NamedTuple
 
 # The toolchain's folder.
@@ -90,8 +91,9 @@ def places(top: str, wanted: Dict[str, int], jobs: int, tell: Callable[[str], No
             yield {name: place_of(crates[name], kept_of(crates[name])) for name in wanted}
         elif all(is_of_the_gate(it) for it in needed):
             # (one batch alone takes no longer from nothing)
-            seeds = {name: seeded(crates[name], os.path.join(room, name)) if count > 1 else "" for name, count in wanted.items()}
-            yield {name: place_of(crates[name], seeds[name]) for name in wanted}
+            with ThreadPoolExecutor(jobs) as pool:
+                seeds = [pool.submit(seeded, crates[name], os.path.join(room, name)) if wanted[name] > 1 else None for name in wanted]
+            yield {name: place_of(crates[name], seed.result() if seed else "") for name, seed in zip(wanted, seeds)}
         else:
             tell("libraries are proved first, in a copy")
             shutil.copytree(os.path.join(top, "crates"), os.path.join(room, "crates"), ignore=shutil.ignore_patterns("out"))
