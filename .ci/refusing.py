@@ -23,7 +23,7 @@ def scarce() -> None:
         ample = sweep.outcome(words)
         memory, threads = sweep.counted(words, ample, 1, False), sweep.counted(words, ample, 1, True)
         ends = memory.wrong, threads.wrong, memory.resources > 0
-        check(f"`{' '.join(words)}` where each allocation and each thread is refused in turn", ends, (0, 0, True))
+        check(f"`{' '.join(words)}` if each allocation and each thread is refused in turn", ends, (0, 0, True))
 
 
 PARTS = [scarce]

@@ -5,7 +5,7 @@ copy of the crate, and says which alterations the prover accepts.
     bench/alter.py [--copy DIR] [--results FILE] [--only WORD] [--share K/N] [--backwards] [--seconds S] [--list] [--accepted]
 
 Each alteration is first held against the worked facts, or, in a chapter of laws, against the function that has the law
-(`rt check --only`, some 4 seconds), and against the whole crate (some 9 seconds) only where these let it through. There
+(`rt check --only`, some 4 seconds), and against the whole crate (some 9 seconds) only if these let it through. There
 are about 850 alterations, a third of them of statements of laws. What is known is kept in FILE (one JSON object a line)
 and is not tried again, so a run can be broken off and taken up. `no definition` means that the altered chapter itself is
 ill typed, `no answer` that the prover came to no end. `--only` takes those whose place has the word, `--share K/N` the
@@ -114,7 +114,7 @@ def prepare(copy):
 
 
 def proves(crate, only=None):
-    """Whether the crate is proved, or one function of it, and what the prover said; None where it came to no end."""
+    """Whether the crate is proved, or one function of it, and what the prover said; None if it came to no end."""
     command = ["rt", "check", "--jobs", "1"] + (["--only", only] if only else [])
     run = subprocess.Popen(command, cwd=crate, stdout=subprocess.PIPE, stderr=subprocess.STDOUT, text=True, start_new_session=True)
     try:

@@ -1,5 +1,5 @@
 #!/usr/bin/env python3
-"""Times closing a log beside restarting it, where 64,000 units are open.
+"""Times closing a log in which 64,000 units are open, beside a restart of it.
 
 usage: closing.py RQ [--mib N] [--rounds N] [--folder DIR] [--memory DIR]
 Makes two logs, one of long frames and one of short ones, in which no unit ends: so a restart prints no element, and what it takes

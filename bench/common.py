@@ -131,7 +131,7 @@ def upgraded(program: str, log: str, workers: str) -> tuple[str, bytes]:
 
 
 def upgrade_agrees(program: str, peer: str, log: str, want: bytes) -> bool:
-    """Whether the upgraded log is right, where this is the peer's report of the log; what was made is taken away."""
+    """Whether the upgraded log is right, if this is the peer's report of the log; what was made is taken away."""
     first, rest = want.split(b"\n", 1)
     words = first.decode().split()
     out, made = upgraded(program, log, "2")

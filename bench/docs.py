@@ -68,7 +68,7 @@ def fill(folder: str, programs: dict[str, str]):
 
 
 def differs(path: str, folder: str, command: Command) -> bool:
-    """Runs a command, and tells where it prints something else."""
+    """Runs a command, and tells whether it prints something else."""
     done = subprocess.run(["sh", "-c", command.words], cwd=folder, stdin=subprocess.DEVNULL, stdout=subprocess.PIPE, stderr=subprocess.STDOUT)
     printed = done.stdout.decode("utf-8", "replace")
     if printed == command.wanted:

@@ -1,7 +1,7 @@
 #!/usr/bin/env python3
 """Holds random scripts beside what reports alone tell of them: each request of a unit that commits is shown once, was done once
 or was killed once; no other number is told; each client's line is its latest operation of a unit that commits; and the report
-stays the same where the ABORTs of the open units stand in the log.
+stays the same if the ABORTs of the open units stand in the log.
 
 usage: fates.py RQ [N] [--seed S] [--words "2 1000"] [--folder DIR]
 N is the number of scripts; --words are the words behind `restart LOG` (none for a peer that takes no more).
@@ -9,7 +9,7 @@ It counts records and lines, and is no other machine. What was taken is told by 
 whose line tells the element if its unit commits. What was killed is told by two reports: a number that has a line before a KILL
 of it and none behind it. Scripts with queues of their own stand side by side in one log, so that one report tells of many. Half
 of the logs are damaged: cut, with one bit turned, or with a record that is not lawful in their midst; then the front counts.
-Ends with status 1 where a script fails.
+Ends with status 1 if a script fails.
 """
 from __future__ import annotations
 import multiprocessing, os, random, subprocess, sys
@@ -62,7 +62,7 @@ class Record(NamedTuple):
 
 
 class Script:
-    """A random script, lawful where its queues, units and names are its own. Its segments end at its KILLs."""
+    """A random script, lawful if its queues, units and names are its own. Its segments end at its KILLs."""
 
     def __init__(self, draw: random.Random, version: int, number: int) -> None:
         self.draw, self.version, self.number = draw, version, number

@@ -6,8 +6,8 @@ usage: files.py RQ [--look RQLOOK] [--write RQLOG] [--folder DIR]
 The file that is made must be there as it was before, or whole and new; new wherever the program says that all went well, with
 the mode that it had and, for root, its owner and group, and beside it nothing may be left. Only a run that was killed may leave
 the file that it was writing, `LOG.rq0`, which others may not read who may not read the old one, and then the next run must do
-its work all the same; but `carry` never makes a file that is there. A symbolic link stays one, also where it named nothing. RQ
-is the built program itself. Ends with status 1 where something is wrong, or where no call on a file was met. The last line is
+its work all the same; but `carry` never makes a file that is there. A symbolic link stays one, also if it named nothing. RQ
+is the built program itself. Ends with status 1 if something is wrong, or if no call on a file was met. The last line is
 `N passed, M failed`: runs that left all as it must be, and things that are wrong.
 """
 from __future__ import annotations
@@ -31,7 +31,7 @@ class Work(NamedTuple):
     name: str
     words: list[str]
     new: bytes
-    # Whether it is refused where the file is there.
+    # Whether it is refused if the file is there.
     is_once: bool = False
 
 

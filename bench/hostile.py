@@ -4,7 +4,7 @@
 usage: hostile.py RQ [--records N] [--runs N] [--workers N] [--limit SECONDS] [--folder DIR] [--keep] [SHAPE ..]
 RQ is the built program. Each time is the best of the runs, taken in turn at both lengths and with the peer (peer.rs).
 The bounds: from n to 2n a restart and an audit grow at most 2.6 times; a restart takes at most 4 times as long as the peer;
-an audit at most 3 times as long as a restart of the same log; neither holds more than 6 times the log in memory, and where
+an audit at most 3 times as long as a restart of the same log; neither holds more than 6 times the log in memory, and if
 each record leaves as much behind as one can, 11 times; a restart from a checkpoint that tells of as many members as its
 bytes can holds at most 60 times the log; the report is the peer's. If a log is shorter than 15 MB, what a restart of an empty
 log holds is taken off; by default no log whose memory is judged is so short. Prints a table and each bound that is missed,
@@ -226,7 +226,7 @@ def taking_unit(unit: int) -> Records:
 
 
 def none_told(place: int, unit: int) -> bytes:
-    """A checkpoint that has all right where so many units have committed, but tells of no element."""
+    """A checkpoint that has all right if so many units have committed, but tells of no element."""
     return spelled((place, unit, unit, 0), [b"jobs"], [])
 
 
@@ -484,7 +484,7 @@ def units_from_one_group(groups: int) -> Iterator[int]:
     """Units for which the search begins at one group of so many, and of each lower number of groups.
 
     Modulo 2^64 + 1, a product of 128 bits is its low half less its high one. So that difference, divided by the factor,
-    is what to multiply. Where it has zeros for the low bits of both its halves, the product's halves mostly agree in
+    is what to multiply. If it has zeros for the low bits of both its halves, the product's halves mostly agree in
     these bits, and xor makes zeros of them.
     """
     inverse = pow(FACTOR ^ 16, -1, 2**64 + 1)
@@ -684,7 +684,7 @@ def own_memory(options) -> int:
 
 
 class Tried:
-    """A shape at one length: the peer's restart, the program's, and its audit, where the shape is for audits."""
+    """A shape at one length: the peer's restart, the program's, and its audit, if the shape is for audits."""
 
     def __init__(self, options, peer: str, name: str, records: int):
         self.log = log = os.path.join(options.folder, f"{name}.{records}")
@@ -709,7 +709,7 @@ class Tried:
         return max(self.held(it) for it in (self.restart, self.audit) if it)
 
     def memory_at(self) -> float:
-        """That of a restart from the checkpoint, where there is one."""
+        """That of a restart from the checkpoint, if there is one."""
         return self.held(self.at) if self.at else 0
 
     def held(self, timed: Timed) -> float:

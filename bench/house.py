@@ -2,13 +2,13 @@
 """Lists what the house rules do not want: definitions that nothing reaches, names that stand for two things, and forwarders.
 
 usage: house.py
-- A definition or lemma of `specs/` or `proofs/` is reached where a contract, an answer to a goal or a ghost member names it, or
+- A definition or lemma of `specs/` or `proofs/` is reached if a contract, an answer to a goal or a ghost member names it, or
   a definition that is reached. Names are told apart by the crate and not by the file: so this can take one for reached that is
   not, and never the other way round.
-- A name stands for two things where the definitions of two crates have it and say different things, or where two crates have a
+- A name stands for two things if the definitions of two crates have it and say different things, or if two crates have a
   type of that name. Types of tests are left out, and those without fields: they only name a function of clauses.
-- A function only forwards where it is private, has one caller, and its body is one call with its own parameters.
-Ends with status 1 where there is one of any of these.
+- A function only forwards if it is private, has one caller, and its body is one call with its own parameters.
+Ends with status 1 if there is one of any of these.
 """
 from __future__ import annotations
 import glob, os, re, sys

@@ -6,7 +6,7 @@ A run that is refused must write what it writes with ample memory, or end with s
 no file either. With no COMMAND, sweeps each command over the logs of two scripts in `examples/`, and restarts and upgrades logs
 that are large enough for what runs on large logs alone: records decoded by several workers, digests checked beside the analysis and in
 lanes, a report made in pieces. Of these each Nth allocation is refused, for a prime N. A COMMAND that writes a file names it
-`{made}/NAME`. RQ is the built program itself. Ends with status 1 where a run ended otherwise, or where no allocation of a
+`{made}/NAME`. RQ is the built program itself. Ends with status 1 if a run ended otherwise, or if no allocation of a
 command was met.
 """
 from __future__ import annotations
@@ -77,7 +77,7 @@ class Sweep:
             number += step
 
     def row(self, name: str, words: list[str], step: int = 1) -> int:
-        """Prints a line of the table, and tells how many runs ended otherwise than they must; one more where none was refused."""
+        """Prints a line of the table, and tells how many runs ended otherwise than they must; one more if none was refused."""
         words = [word.replace("{made}", self.made) for word in words]
         ample = self.outcome(words)
         memory = self.counted(words, ample, step, False)

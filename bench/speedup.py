@@ -3,7 +3,7 @@
 
 usage: speedup.py RQ [--mib N] [--rounds N] [--grain N] [SHAPE ..]
 In each round: one restart with one worker, one with four. For each of them `/proc/stat` tells for how long the host ran
-something else in place of a core that wanted to run (stolen time). A round counts as one on free cores where that was at
+something else in place of a core that wanted to run (stolen time). A round counts as one on free cores if that was at
 most three of a hundred parts of what the restart could use, one core or four, in both.
 """
 from __future__ import annotations

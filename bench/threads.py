@@ -3,7 +3,7 @@
 
 usage: threads.py RQ LOG WORKERS [RUNS]
 Told by `strace`, which sees threads start and end. The calling thread works as well, and what it still does when the
-others have ended is not in a stretch (`redo.py` sees it). The stretches are, in their order: the digests, decoding (where there
+others have ended is not in a stretch (`redo.py` sees it). The stretches are, in their order: the digests, decoding (if there
 are bodies enough), and the redo of the queues, one stretch. The best of the runs, stretch by stretch. With
 one worker no thread is started. RQ is the built program itself, not the root script.
 """

@@ -5,8 +5,8 @@ usage: untested.py [--direct]
 A public call is a function that a library's `lib.rt` exports, or a public method of a type that it exports; a law, which takes
 and answers nothing, is none. A test reaches
 what it names, and what the functions name that it reaches; with --direct, what it names itself. Functions are told apart by
-their names and, where they belong to one, by their types: so this can take a call for reached that shares its name with
-another one, and never the other way round. Ends with status 1 where there is one.
+their names and, if they belong to one, by their types: so this can take a call for reached that shares its name with
+another one, and never the other way round. Ends with status 1 if there is one.
 """
 from __future__ import annotations
 import argparse, glob, os, re, sys

@@ -1,5 +1,5 @@
 #!/usr/bin/env python3
-"""Times upgrading a log beside restarting it, where 64,000 units are open, and beside the digests of the new chain on one thread.
+"""Times upgrading a log in which 64,000 units are open, beside a restart of it and the digests of the new chain on one thread.
 
 usage: upgrading.py RQ [--mib N] [--rounds N] [--folder DIR] [--memory DIR] [--without-sha]
 Logs and times are those of closing.py, with `upgrade` in place of `close`. In each round the peer also reads the log and chains its

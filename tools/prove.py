@@ -3,7 +3,7 @@
 
 usage: prove.py FOLDER PROGRAM-CPU ..
 Run at the top of the clone. Leaves each program, for that processor, as FOLDER/PROGRAM-CPU, and what was said as FOLDER/log. Ends
-with 70 where a crate was not proved or a program not built.
+with 70 if a crate was not proved or a program not built.
 
 `rt ci` proves the libraries: crates side by side, each over the statements of those below it, without their wrong bodies. A kit
 whose rt keeps what it passed, as that of rattle-kit-13f does, proves of them later only what has changed since, and the crates
@@ -95,7 +95,7 @@ class Estimate:
         self.behind += 0 if was_kept else before - self.rest()
 
     def minutes(self, seconds: float, since: float) -> int:
-        """Minutes from now, where so many seconds have gone, and these of them since something ended."""
+        """Minutes from now, if so many seconds have gone, and these of them since something ended."""
         pace = (seconds - since + EXPECTED) / (self.behind + EXPECTED)
         return max(1, round((self.rest() * pace - since) / 60))
 
