@@ -4,7 +4,7 @@ import os, sys
 
 from trying import HERE, RQ, built, check, lines_of
 
-sys.path.insert(0, os.path.join(HERE, "..", "bench"))
+sys.path.insert(0, os.path.join(HERE, "..", "bench", "faults"))
 from refused import Sweep
 
 SMALL = ["make one.script MADE", "make two.script MADE", "restart two.log 1 1", "restart two.log 2 1"]

@@ -208,7 +208,7 @@ class Growth(NamedTuple):
 
 def at_every_call() -> None:
     """Each call on a file fails in turn, or is the last one before the run is killed."""
-    shim = built("../bench/fault")
+    shim = built("../bench/faults/fault")
     if shim is None:
         print("no C compiler: no call on a file is let fail")
         return
@@ -241,7 +241,7 @@ class Appends(Sweep):
 
 def scarce() -> None:
     """Each allocation and each thread is refused in turn: a run ends the same all the same, or says so and changes nothing."""
-    if built("../bench/fault") is None:
+    if built("../bench/faults/fault") is None:
         print("no C compiler: no allocation is refused")
         return
     put("more.script", MORE)

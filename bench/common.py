@@ -151,6 +151,29 @@ def upgrade_agrees(program: str, peer: str, log: str, want: bytes) -> bool:
     return right
 
 
+def checkpoints_script(path: str, mib: int, checkpoints: int) -> None:
+    """Units on 64 queues that enqueue and dequeue payloads of 256 bytes; checkpoints at even distances."""
+    rng = random.Random(7)
+    size = unit = 0
+    every = (mib << 20) // checkpoints
+    due = every
+    with open(path, "w") as out:
+        for queue in range(64):
+            out.write(f"define work{queue} 0 -\n")
+        while size < mib << 20:
+            unit += 1
+            out.write(f"begin {unit}\n")
+            for _ in range(4):
+                out.write(f"enqueue {unit} {rng.randrange(64)} {rng.randrange(8)} - 0 {'a5' * 256}\n")
+            for _ in range(4):
+                out.write(f"dequeue {unit} {rng.randrange(64)} - 0\n")
+            out.write(f"commit {unit}\n")
+            size += 2 * 45 + 4 * (59 + 256) + 4 * 58
+            if size >= due:
+                out.write("checkpoint\n")
+                due += every
+
+
 class Run(NamedTuple):
     """How a command ended: its wall seconds, its peak memory in KiB and its status."""
     seconds: float

@@ -1,7 +1,6 @@
-#!/usr/bin/env python3
 """Where a command of the program spends its time: seconds of processor time by layer, from samples of `perf record`.
 
-usage: layers.py RQ COMMAND [WORD ...]      for example: layers.py RQ restart LOG 1 1000
+usage: time layers RQ COMMAND [WORD ...]      for example: time layers RQ restart LOG 1 1000
 A sample counts for the innermost layer in its stack. Samples in the C library and the kernel whose stack cannot be read
 are listed as memory and files: they are copies of payloads, page faults and reads. RQ is the built program itself, not
 the root script.
@@ -56,7 +55,3 @@ def main() -> None:
     print("| layer | seconds | share |\n|---|---|---|")
     for layer, took in found.items():
         print(f"| {layer} | {took:.2f} | {100 * took / total:.0f} % |")
-
-
-if __name__ == "__main__":
-    main()

@@ -1,7 +1,6 @@
-#!/usr/bin/env python3
 """Times restarts of logs of two lengths, and says how many times as long and as much memory the longer one takes.
 
-usage: growth.py RQ [--mib 16,256] [--workers 1,4] [--runs N] [--warm MIB] [--pool MIB] [--peer] [--folder DIR] [SHAPE ..]
+usage: time growth RQ [--mib 16,256] [--workers 1,4] [--runs N] [--warm MIB] [--pool MIB] [--peer] [--folder DIR] [SHAPE ..]
 Each time is the best of the runs. The two logs take turns: a log of 16 MiB that was just read stands in the processor's
 cache, which no log does that is found after a crash, so a longer one is read in between. Memory is the peak beside the log.
 A host may take back what its guest frees. Then the first to touch a page waits for it, and a long log touches many. --warm
@@ -54,7 +53,7 @@ def timed(words: list[str], warm: int) -> tuple[float, int]:
     """The wall seconds of a run, and its peak memory in KiB."""
     if warm:
         # in a process of its own, which gives all back
-        subprocess.run([sys.executable, __file__, "--touch", str(warm)], check=True)
+        subprocess.run([sys.executable, os.path.dirname(__file__), "growth", "--touch", str(warm)], check=True)
     return seconds(words)
 
 
@@ -79,6 +78,9 @@ def columns(options, peer: str) -> Iterator[tuple[str, list[str]]]:
 
 
 def main() -> None:
+    if sys.argv[1:2] == ["--touch"]:
+        touch(int(sys.argv[2]))
+        return
     words = parser()
     words.add_argument("shapes", nargs="*", default=SHAPES)
     words.add_argument("--mib", default="16,256")
@@ -99,10 +101,3 @@ def main() -> None:
         for shape in options.shapes:
             logs = [log_of(peer, options.folder, shape, mib) for mib in sizes]
             print(f"| {shape} | " + " | ".join(cell(line, logs, options) for _, line in shown) + " |", flush=True)
-
-
-if __name__ == "__main__":
-    if sys.argv[1:2] == ["--touch"]:
-        touch(int(sys.argv[2]))
-    else:
-        main()

@@ -2,7 +2,7 @@
 """Alters every numeral, operator, constructor and text of the definitions in crates/rq_model/specs, one at a time, in a
 copy of the crate, and says which alterations the prover accepts.
 
-    bench/alter.py [--copy DIR] [--results FILE] [--only WORD] [--share K/N] [--backwards] [--seconds S] [--list] [--accepted]
+    bench/house/alter.py [--copy DIR] [--results FILE] [--only WORD] [--share K/N] [--backwards] [--seconds S] [--list] [--accepted]
 
 Each alteration is first held against the worked facts, or, in a chapter of laws, against the function that has the law
 (`rt check --only`, some 4 seconds), and against the whole crate (some 9 seconds) only if these let it through. There
@@ -25,7 +25,7 @@ import subprocess
 import sys
 import time
 
-ROOT = pathlib.Path(__file__).resolve().parent.parent
+ROOT = pathlib.Path(__file__).resolve().parents[2]
 CRATE = "rq_model"
 BELOW = ("rq_bytes",)  # what it stands on
 SPECS = ROOT / "crates" / CRATE / "specs"

@@ -9,8 +9,9 @@ The last line is `N passed, M failed`, by what was compared.
 """
 from __future__ import annotations
 import os, subprocess, sys
-from checkpoints import script
-from common import COMPARED, PLANS, built_peer, log_of, parsed, parser, report, upgrade_agrees
+
+sys.path.insert(0, os.path.dirname(os.path.dirname(os.path.abspath(__file__))))
+from common import COMPARED, PLANS, built_peer, checkpoints_script, log_of, parsed, parser, report, upgrade_agrees
 
 # The shape of the log that has true checkpoints.
 CHECKPOINTS = "checkpoints"
@@ -28,7 +29,7 @@ def logs_of(program: str, peer: str, folder: str, shape: str, mib: int, seeds: r
     if shape != CHECKPOINTS:
         return [log_of(peer, folder, shape, mib, seed) for seed in seeds]
     text, log = os.path.join(folder, "agree.script"), os.path.join(folder, f"{shape}.agree.{mib}")
-    script(text, mib, 5)
+    checkpoints_script(text, mib, 5)
     subprocess.run([program, "make", text, log], check=True)
     os.remove(text)
     return [log]

@@ -1,9 +1,8 @@
-#!/usr/bin/env python3
 """When the threads of a restart run: the wall seconds of each stretch in which there are several.
 
-usage: threads.py RQ LOG WORKERS [RUNS]
+usage: time threads RQ LOG WORKERS [RUNS]
 Told by `strace`, which sees threads start and end. The calling thread works as well, and what it still does when the
-others have ended is not in a stretch (`redo.py` sees it). The stretches are, in their order: the digests, decoding (if there
+others have ended is not in a stretch (`time redo` sees it). The stretches are, in their order: the digests, decoding (if there
 are bodies enough), and the redo of the queues, one stretch. The best of the runs, stretch by stretch. With
 one worker no thread is started. RQ is the built program itself, not the root script.
 """
@@ -37,7 +36,3 @@ def main() -> None:
     program, log, workers = sys.argv[1:4]
     runs = [stretches([program, "restart", log, workers, "1000"]) for _ in range(int(sys.argv[4]) if len(sys.argv) > 4 else 3)]
     print(" ".join(f"{min(times):.3f}" for times in zip(*runs)))
-
-
-if __name__ == "__main__":
-    main()

@@ -1,7 +1,6 @@
-#!/usr/bin/env python3
 """How long the redo of the queues takes: the wall seconds from its first sample to its last, whatever threads do it.
 
-usage: redo.py RQ [--tree] [--mib N] [--rounds N]
+usage: time redo RQ [--tree] [--mib N] [--rounds N]
 Over `skew` with one worker and with four, and over `lone` and `own` with four, in turn: both have the operations of `skew` on
 its first queue alone, so their redo is that of this queue. In `lone` a record that touches no queue stands in place of each
 other operation, so that those of the queue lie where they lie in `skew`; in `own` nothing does. With --tree over `tree`, where
@@ -47,7 +46,3 @@ def main() -> None:
     print("| log | workers | best | median |\n|---|---|---|---|")
     for (shape, workers), took in found.items():
         print(f"| {shape} | {workers} | {min(took):.3f} | {statistics.median(took):.3f} |")
-
-
-if __name__ == "__main__":
-    main()

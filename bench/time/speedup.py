@@ -1,7 +1,6 @@
-#!/usr/bin/env python3
 """How much faster a restart is on four workers than on one, and how much of the cores the host kept meanwhile.
 
-usage: speedup.py RQ [--mib N] [--rounds N] [--grain N] [SHAPE ..]
+usage: time speedup RQ [--mib N] [--rounds N] [--grain N] [SHAPE ..]
 In each round: one restart with one worker, one with four. For each of them `/proc/stat` tells for how long the host ran
 something else in place of a core that wanted to run (stolen time). A round counts as one on free cores if that was at
 most three of a hundred parts of what the restart could use, one core or four, in both.
@@ -57,7 +56,3 @@ def main() -> None:
             rounds.append((one, four, max(from_one, from_four)))
         print(line(shape, "on free cores", [each for each in rounds if each[2] <= FREE]))
         print(line(shape, "all", rounds), flush=True)
-
-
-if __name__ == "__main__":
-    main()

@@ -1,7 +1,6 @@
-#!/usr/bin/env python3
 """Times closing a log in which 64,000 units are open, beside a restart of it.
 
-usage: closing.py RQ [--mib N] [--rounds N] [--folder DIR] [--memory DIR]
+usage: time closing RQ [--mib N] [--rounds N] [--folder DIR] [--memory DIR]
 Makes two logs, one of long frames and one of short ones, in which no unit ends: so a restart prints no element, and what it takes
 is a restart less its report. Each round restarts the log, closes it into the folder that is kept in memory, closes it onto the
 disk of the other folder, and has `dd conv=fsync` write as many bytes there. Prints the best seconds of each, what the two ways to
@@ -23,7 +22,3 @@ def main() -> None:
                 times.round(options.program, log, workers, options.folder, options.memory)
             print(f"{options.mib} MiB, payloads of {payload} bytes, {workers} workers: {times.line()}", flush=True)
     os.rmdir(options.memory)
-
-
-if __name__ == "__main__":
-    main()

@@ -16,7 +16,7 @@ from __future__ import annotations
 import argparse, glob, os, re, sys
 from typing import NamedTuple
 
-TOP = os.path.dirname(os.path.dirname(os.path.abspath(__file__)))
+TOP = os.path.dirname(os.path.dirname(os.path.dirname(os.path.abspath(__file__))))
 LONGEST = 30
 CODE = re.compile(r"``[^`]+``|`[^`]+`")
 LINK = re.compile(r"\[([^\]]*)\]\(([^)\s]*)\)")

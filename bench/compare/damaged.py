@@ -10,6 +10,7 @@ itself ends the front. The last line is `N passed, M failed`, by what was compar
 from __future__ import annotations
 import os, random, sys
 
+sys.path.insert(0, os.path.dirname(os.path.dirname(os.path.abspath(__file__))))
 from common import COMPARED, DAMAGES, PLANS, built_peer, log_of, parsed, parser, report, upgrade_agrees
 
 

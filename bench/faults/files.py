@@ -14,6 +14,7 @@ from __future__ import annotations
 import os, resource, shutil, signal, stat, subprocess, sys
 from typing import NamedTuple
 
+sys.path.insert(0, os.path.dirname(os.path.dirname(os.path.abspath(__file__))))
 from common import HERE, parsed, parser
 
 NOBODY = 65534
@@ -216,7 +217,7 @@ def main() -> None:
     program, look, write = (it and os.path.abspath(it) for it in (options.program, options.look, options.write))
     os.umask(0o022)
     shim = os.path.join(options.folder, "fault.so")
-    subprocess.run(["cc", "-O2", "-shared", "-fPIC", os.path.join(HERE, "fault.c"), "-o", shim, "-ldl"], check=True)
+    subprocess.run(["cc", "-O2", "-shared", "-fPIC", os.path.join(HERE, "faults", "fault.c"), "-o", shim, "-ldl"], check=True)
     for room in rooms(program, look, write, options.folder):
         room.whole()
         refused = room.short_files() + room.forbidden()

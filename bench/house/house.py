@@ -14,6 +14,7 @@ from __future__ import annotations
 import glob, os, re, sys
 from typing import NamedTuple
 
+sys.path.insert(0, os.path.dirname(os.path.dirname(os.path.abspath(__file__))))
 from common import HERE
 from untested import TESTS
 

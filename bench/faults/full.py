@@ -10,6 +10,7 @@ import os, resource, subprocess, sys, time
 from collections.abc import Iterator
 from hashlib import sha256
 
+sys.path.insert(0, os.path.dirname(os.path.dirname(os.path.abspath(__file__))))
 from common import HEADER, header_of, parsed, parser
 from records import begin, define
 

@@ -1,7 +1,6 @@
-#!/usr/bin/env python3
 """Times the parts of a restart apart from one another: reading the file, the digests of the chain, and the rest.
 
-usage: shares.py RQ [--mib N] [--runs N] [--workers 1,2,4] [--grain N] [--folder DIR] [SHAPE ...]
+usage: time shares RQ [--mib N] [--runs N] [--workers 1,2,4] [--grain N] [--folder DIR] [SHAPE ...]
 Beside each log two others are made of it. In the one the first frame has no length, so the program only reads the file.
 In the other the first body is no record and the frames are chained anew, so it reads the file and checks every digest,
 and then has nothing to redo. The differences of the three times are the digests' and the rest's: decoding, analysis,
@@ -60,7 +59,3 @@ def main() -> None:
         for count in workers:
             cells = [f"{now:.3f} ({first / now:.2f})" for now, first in zip(parts[count], parts[workers[0]])]
             print(f"| {shape} | {count} | " + " | ".join(cells) + " |", flush=True)
-
-
-if __name__ == "__main__":
-    main()

@@ -15,6 +15,7 @@ from __future__ import annotations
 import functools, hashlib, itertools, math, os, struct, subprocess, sys
 from collections.abc import Callable, Iterable, Iterator
 
+sys.path.insert(0, os.path.dirname(os.path.dirname(os.path.abspath(__file__))))
 from common import HEADER, Run, built_peer, header_of, parsed, parser, write_log
 from records import NO_QUEUE, abort, begin, checkpoint, commit, define, dequeue, deregister, enqueue, kill, listed, register
 from records import spelled

@@ -6,8 +6,9 @@ The gate builds for x86-64-v2 alone. The others are a build for x86-64-v3 and on
 answer, its exit status with it, is compared with the first one's.
 """
 from __future__ import annotations
-import os, random, subprocess
+import os, random, subprocess, sys
 
+sys.path.insert(0, os.path.dirname(os.path.dirname(os.path.abspath(__file__))))
 from common import COMPARED, DAMAGES, PLANS, built_peer, log_of, parsed, parser
 
 

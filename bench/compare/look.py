@@ -17,8 +17,8 @@ from __future__ import annotations
 import argparse, glob, json, os, random, resource, shutil, subprocess, sys
 from html.parser import HTMLParser
 
-import checkpoints
-from common import COMPARED, HEADER, HERE, NO_RECORD, UNLAWFUL, best, bodies_of, built_peer, chained, header_of, log_of, parsed, parser, write_log
+sys.path.insert(0, os.path.dirname(os.path.dirname(os.path.abspath(__file__))))
+from common import COMPARED, HEADER, HERE, NO_RECORD, UNLAWFUL, best, bodies_of, built_peer, chained, checkpoints_script, header_of, log_of, parsed, parser, write_log
 from looked import Stories, compact, is_hidden, line_of, records_of, shown
 from records import begin, commit, define, enqueue, register
 from schema import report_misfits
@@ -426,7 +426,7 @@ def speeds(rq: str, look: str, peer: str, folder: str, mib: int) -> None:
 def own_logs(rq: str, folder: str) -> list[str]:
     """The logs of the scripts in examples/ that are whole, and at last one of units on many queues."""
     many, logs = os.path.join(folder, "many.script"), []
-    checkpoints.script(many, 1, 4)
+    checkpoints_script(many, 1, 4)
     for script in [*sorted(glob.glob(os.path.join(HERE, "..", "examples", "**", "*.script"), recursive=True)), many]:
         log = os.path.join(folder, f"own.{len(logs)}")
         with open(script, "rb") as lines:

@@ -1,8 +1,7 @@
-#!/usr/bin/env python3
 """Times upgrading a log in which 64,000 units are open, beside a restart of it and the digests of the new chain on one thread.
 
-usage: upgrading.py RQ [--mib N] [--rounds N] [--folder DIR] [--memory DIR] [--without-sha]
-Logs and times are those of closing.py, with `upgrade` in place of `close`. In each round the peer also reads the log and chains its
+usage: time upgrading RQ [--mib N] [--rounds N] [--folder DIR] [--memory DIR] [--without-sha]
+Logs and times are those of `time closing`, with `upgrade` in place of `close`. In each round the peer also reads the log and chains its
 frames anew, on one thread over OpenSSL: each digest is of the one before it, so more workers take nothing off that. With
 --without-sha OpenSSL does without the processor's SHA instructions, as the program does.
 """
@@ -29,7 +28,3 @@ def main() -> None:
             print(f"{options.mib} MiB, payloads of {payload} bytes, {workers} workers: {times.line()}, "
                   f"new digests by the peer {digests:.2f} s ({times.memory / digests:.2f})", flush=True)
     os.rmdir(options.memory)
-
-
-if __name__ == "__main__":
-    main()

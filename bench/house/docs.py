@@ -15,7 +15,7 @@ With --program, --look and --write a built program stands in the place of a root
 from __future__ import annotations
 import argparse, glob, os, subprocess, sys, tempfile
 
-TOP = os.path.dirname(os.path.dirname(os.path.abspath(__file__)))
+TOP = os.path.dirname(os.path.dirname(os.path.dirname(os.path.abspath(__file__))))
 
 
 class Command:

@@ -12,6 +12,7 @@ import argparse, json, os, random, re, subprocess, sys, tempfile
 from concurrent.futures import ThreadPoolExecutor
 from dataclasses import dataclass, field
 
+sys.path.insert(0, os.path.dirname(os.path.dirname(os.path.abspath(__file__))))
 from common import parsed, parser
 
 FIRST = re.compile(rb"front (\d+) records, (\d+) of (\d+) bytes, (\w+)\n")

@@ -1,7 +1,6 @@
-#!/usr/bin/env python3
 """How fast a state is read from a checkpoint, and spelled into one.
 
-usage: states.py RQ [--mb N] [--folder DIR]
+usage: time states RQ [--mb N] [--folder DIR]
 Makes logs whose one checkpoint, behind all other records, spells a state of N MB: elements with payloads of 16, 256 and
 4,096 bytes. Reading is timed by two checkpoints that are refused: one at its first list and one at its last byte, with
 the same digests; the difference is the time of all that lies between. Spelling is timed by a script with one checkpoint
@@ -62,7 +61,3 @@ def main() -> None:
         early, late = (best([options.program, "restart-at", path, str(frame), "1", "1000"], 1) for path in files)
         read, spelled = late - early, twice - once
         print(f"| {payload} bytes | {size:.0f} MB | {read:.2f} s, {size / read:.0f} MB/s | {spelled:.2f} s, {size / spelled:.0f} MB/s |")
-
-
-if __name__ == "__main__":
-    main()

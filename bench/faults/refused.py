@@ -13,6 +13,7 @@ from __future__ import annotations
 import os, subprocess, sys, time
 from typing import NamedTuple
 
+sys.path.insert(0, os.path.dirname(os.path.dirname(os.path.abspath(__file__))))
 from common import HERE, built_peer, log_of, parsed, parser
 
 # Status, standard output, standard error, and the files that were made.
@@ -38,7 +39,7 @@ class Sweep:
         self.shim = os.path.join(folder, "refuse.so")
         self.made = os.path.join(folder, "made")
         os.makedirs(self.made, exist_ok=True)
-        source = os.path.join(HERE, "refuse.c")
+        source = os.path.join(HERE, "faults", "refuse.c")
         subprocess.run(["cc", "-O2", "-shared", "-fPIC", source, "-o", self.shim, "-ldl"], check=True)
 
     def outcome(self, words: list[str], **options: object) -> Outcome:
