@@ -96,7 +96,7 @@ def attacks() -> None:
 
 
 def put_anew(old: bytes | None) -> None:
-    """An empty folder but for the old file, where there is one."""
+    """An empty folder but for the old file, if there is one."""
     shutil.rmtree("judged", ignore_errors=True)
     os.mkdir("judged")
     if old is not None:
@@ -108,7 +108,7 @@ def left() -> dict[str, bytes | None]:
 
 
 def calls() -> None:
-    """What is done with a file before it is told to be made: where one of it fails, or where the file is exchanged."""
+    """What is done with a file before it is told to be made: if one of it fails, or if the file is exchanged."""
     shim = built("calls")
     if shim is None:
         print("no C compiler: the calls that end the work on a file are not seen")
@@ -124,7 +124,7 @@ def calls() -> None:
                 put_anew(old)
                 ended = run_told(shim, "CALLS_TOLD", *line, CALLS_FAIL=letter), left()
                 want = (WRITE_FAULT, CALLS[:at + 1]), {"out": new} if letter == "d" else kept
-                check(f"{line[0]} where call {letter} fails", ended, want)
+                check(f"{line[0]} if call {letter} fails", ended, want)
     exchanged(shim, log, closed)
 
 
@@ -134,7 +134,7 @@ def exchanged(shim: str, log: str, closed: bytes) -> None:
         put_anew(OLD)
         asked = {"CALLS_SWAP": letter, "CALLS_FROM": put("theirs.file", SECRET), "CALLS_TO": f"judged/{name}"}
         ended, _ = run_told(shim, "CALLS_TOLD", "close", log, "judged/out", 1, **asked)
-        check(f"close where {name} is exchanged", (ended, left()), (WRITE_FAULT, want))
+        check(f"close if {name} is exchanged", (ended, left()), (WRITE_FAULT, want))
 
 
 def modes() -> None:
@@ -211,7 +211,7 @@ def by_process_paths() -> None:
 
 
 def run_into_slow_pipe(*words: object) -> Ended:
-    """How the program ends where its standard output does not block, and is read after a while, bit by bit."""
+    """How the program ends if its standard output does not block, and is read after a while, bit by bit."""
     seen, told = os.pipe()
     os.set_blocking(told, False)
     with subprocess.Popen([RQ, *map(str, words)], stdout=told, stderr=subprocess.PIPE) as started:
@@ -229,7 +229,7 @@ def run_into_slow_pipe(*words: object) -> Ended:
 
 
 def slow_readers() -> None:
-    """A report that is read slowly is whole, also where the output does not block."""
+    """A report that is read slowly is whole, also if the output does not block."""
     log, _ = log_of_bytes(128, "slow")
     check("a report into a pipe that does not block", run_into_slow_pipe("restart", log, 1, 1), run("restart", log, 1, 1))
 

@@ -87,7 +87,7 @@ class Clone:
         return ended([self.at(words[0]), *words[1:]], env)
 
     def refuses(self, what: str, reason: str) -> None:
-        """A line of the program is refused where there is no toolchain, and wrong words need none."""
+        """A line of the program is refused if there is no toolchain, and wrong words need none."""
         status, out, said = self.run("rq", *LINE)
         check(f"{what}: a line", (status, out, reason in said, NO_TOOLCHAIN in said), (70, "", True, True))
         check(f"{what}: wrong words", self.run("rq", "restart")[0], 2)

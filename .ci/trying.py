@@ -15,7 +15,7 @@ READ_FAULT = (3, b"", b"rq: read fault\n")
 WRITE_FAULT = (3, b"", b"rq: write fault\n")
 RESOURCES = (4, b"", b"rq: resources\n")
 
-# What these words stand for, where nothing else is said.
+# What these words stand for, if nothing else is said.
 USUAL = {"OFFSET": "40", "WORKERS": "1", "GRAIN": "1", "MADE": "made"}
 
 Words = list[object]
@@ -84,7 +84,7 @@ def making(path: str, *words: object, **options: object) -> tuple[Ended, bytes |
 
 
 def built(name: str, *libraries: str) -> str | None:
-    """The library of the source of this name, to be loaded before the C library; none where there is no C compiler."""
+    """The library of the source of this name, to be loaded before the C library; none if there is no C compiler."""
     compiler = shutil.which("cc") or shutil.which("gcc") or shutil.which("clang")
     if compiler is None:
         return None

@@ -1,4 +1,4 @@
-"""What rqlog leaves of files: where one can't be opened or written, where a call on it fails or is the last, where another program writes
+"""What rqlog leaves of files: if one can't be opened or written, if a call on it fails or is the last, if another program writes
 too, and where links, folders, pipes and devices stand."""
 from __future__ import annotations
 import fcntl, os, re, resource, shutil, signal, subprocess, time
@@ -208,7 +208,7 @@ class Growth(NamedTuple):
 
 def at_every_call() -> None:
     """Each call on a file fails in turn, or is the last one before the run is killed."""
-    shim = built("../bench/fault")
+    shim = built("../bench/faults/fault")
     if shim is None:
         print("no C compiler: no call on a file is let fail")
         return
@@ -220,7 +220,7 @@ def at_every_call() -> None:
         growth = Growth(line, content(plain("begins", begins)), content(plain("whole", begins + goes_on)))
         for how in ("fails", "kills"):
             found, number = growth.wrong(shim, log, how)
-            check(f"{line[0]} where a call {how}", (found, number > 5), ([], True))
+            check(f"{line[0]} if a call {how}", (found, number > 5), ([], True))
 
 
 class Appends(Sweep):
@@ -241,7 +241,7 @@ class Appends(Sweep):
 
 def scarce() -> None:
     """Each allocation and each thread is refused in turn: a run ends the same all the same, or says so and changes nothing."""
-    if built("../bench/fault") is None:
+    if built("../bench/faults/fault") is None:
         print("no C compiler: no allocation is refused")
         return
     put("more.script", MORE)
@@ -252,7 +252,7 @@ def scarce() -> None:
         ample = sweep.outcome(line)
         memory, threads = sweep.counted(line, ample, 1, False), sweep.counted(line, ample, 1, True)
         ends = ample[0], memory.wrong, threads.wrong, memory.resources > 0
-        check(f"{line[0]} where each allocation and each thread is refused in turn", ends, (0, 0, 0, True))
+        check(f"{line[0]} if each allocation and each thread is refused in turn", ends, (0, 0, 0, True))
 
 
 def attacks() -> None:

@@ -4,7 +4,8 @@ import os, subprocess, sys
 
 from trying import Ended, log_of
 
-sys.path.insert(0, os.path.join(os.path.dirname(os.path.abspath(__file__)), "..", "bench"))
+BENCH = os.path.join(os.path.dirname(os.path.abspath(__file__)), "..", "bench")
+sys.path[:0] = [BENCH, os.path.join(BENCH, "faults")]
 from records import begin, commit, define, enqueue, register
 
 RQLOG = os.path.abspath(sys.argv[2])

@@ -1,4 +1,4 @@
-# Runs a program of this clone: the one that the repository brings, where it is made of these sources, else one that is built of
+# Runs a program of this clone: the one that the repository brings, if it is made of these sources, else one that is built of
 # them first. Sourced by the script of each program, which names it.
 # here: the top of the clone; name: the program, which is a crate
 # shellcheck shell=sh

@@ -99,7 +99,7 @@ class Estimate:
         self.behind += 0 if was_kept else before - self.rest()
 
     def minutes(self, seconds: float, since: float) -> int:
-        """Minutes from now, where so many seconds have gone, and these of them since something ended."""
+        """Minutes from now, if so many seconds have gone, and these of them since something ended."""
         pace = (seconds - since + EXPECTED) / (self.behind + EXPECTED)
         return max(1, round((self.rest() * pace - since) / 60))
 

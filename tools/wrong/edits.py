@@ -97,7 +97,7 @@ def holder_of(head: str) -> str:
 
 
 def functions_of(path: str, text: str) -> List[Span]:
-    """The functions of the file. The files are laid out: a function ends at a brace below its head, and where it has a contract
+    """The functions of the file. The files are laid out: a function ends at a brace below its head, and if it has a contract
     its body begins at one."""
     holders = [(it.start(), text.find("\n}", it.end()), holder_of(it[0])) for it in HOLDER.finditer(text)]
     found = []
@@ -204,7 +204,7 @@ class Calls:
 
 def few_of(edits: List[Edit], texts: Texts, most: int, wide: int, widest: int) -> Batch:
     """Of these edits the first, and as many others as one check takes with it: `most` in all, and so that it proves no more than
-    `wide` functions, or those that the first needs. There is none where that one needs more than `widest`."""
+    `wide` functions, or those that the first needs. There is none if that one needs more than `widest`."""
     made, calls = Batch(texts), Calls(texts)
     below: FrozenSet[Function] = frozenset()
     for edit in edits:

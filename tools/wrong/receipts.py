@@ -92,7 +92,7 @@ def written(top: str, crate: str, receipt: Receipt) -> None:
 
 
 def receipt_of(top: str, crate: str) -> Receipt:
-    """The crate's receipt as it stands; an empty one, where there is none or it cannot be read."""
+    """The crate's receipt as it stands; an empty one, if there is none or it cannot be read."""
     sums: Dict[str, str] = {}
     lines: Dict[str, Line] = {}
     try:
