@@ -410,8 +410,10 @@ def carried(rq: str, look: str, log: str, folder: str, draw: random.Random) -> N
     check(f"{path} as JSON", (text_of(report), report["front"]), (want, front))
     check(f"{path}, queue 0", told(look, "report", path, "--queue", "0"), (0, by_queue(want)[0]))
     carried_stories(look, path, Stories(records, len(whole)), at, end, draw)
-    for words in (["script", path], ["page", path, "-"]):
-        check(f"what {words} says", said(look, *words), (1, f"rqlook: {path}: carried: use rqlog restart\n"))
+    same_page(look, path)
+    begun = ["carried", "begins with the checkpoint at 96, which is taken at its word"]
+    check(f"where {path}'s page begins", begun in page_of(look, path).rows, True)
+    check(f"{path}'s script", said(look, "script", path), (1, f"rqlook: {path}: carried: use rqlog restart\n"))
 
 
 def speeds(rq: str, look: str, peer: str, folder: str, mib: int) -> None:

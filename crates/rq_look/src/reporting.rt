@@ -51,8 +51,8 @@ fn report_shown<'a>(
     })
 }
 
-// The restart of a log, from the checkpoint on at an offset, if there is one.
-fn restarted_from<R: Threads + Sync>(
+/// The restart of a log, from the checkpoint on at an offset, if there is one.
+pub(crate) fn restarted_from<R: Threads + Sync>(
     rt: &R,
     alloc: Global,
     bytes: &[u8],

@@ -88,7 +88,7 @@ fn scripts<R: Threads + Sync + AllocGlobal>(rt: &R, log: &[u8], plan: &Plan) -> 
 
 fn makes_a_page<R: Threads + Sync + AllocGlobal>(rt: &R, log: &[u8], plan: &Plan) -> bool {
     let mut shown = Vec::new(rt.alloc());
-    let done = page(rt, rt.alloc(), log, plan, "a.log", &mut shown);
+    let done = page(rt, rt.alloc(), log, None, plan, "a.log", &mut shown);
     done.is_ok() && shown.starts_with(b"<!DOCTYPE html>\n") && shown.ends_with(b"</html>\n")
 }
 

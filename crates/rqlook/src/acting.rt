@@ -14,11 +14,6 @@ use std::thread::Threads;
 // The grain of each plan, in frames.
 const GRAIN: u32 = 1000;
 
-// Whether a command begins with the first record of a log, and so shows none that was carried on.
-fn begins_with_the_first(command: &str) -> bool {
-    matches!(command, "script" | "page")
-}
-
 fn plan_of(words: &ArgMatches<'_>) -> Option<Plan> {
     Plan::new(words.get_one::<u32>("workers")?, GRAIN)
 }
@@ -133,12 +128,18 @@ where
 }
 
 // The page of a log, in memory.
-fn page_of<R>(rt: &R, bytes: &[u8], plan: &Plan, file: &str) -> Result<Vec<u8>, Trouble>
+fn page_of<R>(
+    rt: &R,
+    bytes: &[u8],
+    at: Option<u64>,
+    plan: &Plan,
+    file: &str,
+) -> Result<Vec<u8>, Trouble>
 where
     R: AllocGlobal + Threads + Sync,
 {
     let mut made = Vec::new(rt.alloc());
-    match rq_look::page(rt, rt.alloc(), bytes, plan, file, &mut made) {
+    match rq_look::page(rt, rt.alloc(), bytes, at, plan, file, &mut made) {
         Ok(()) => Ok(made),
         // A write into memory fails for want of it alone.
         Err(Trouble::Output(_)) => Err(Trouble::Log(Fault::Resources)),
@@ -147,7 +148,14 @@ where
 }
 
 // Makes the page of a log. Its file is whole or as it was, and never the log.
-fn page<R>(rt: &R, bytes: &[u8], plan: &Plan, file: &str, to: &str) -> Result<bool, Failure>
+fn page<R>(
+    rt: &R,
+    bytes: &[u8],
+    at: Option<u64>,
+    plan: &Plan,
+    file: &str,
+    to: &str,
+) -> Result<bool, Failure>
 where
     R: Files + Print + AllocGlobal + Threads + Sync,
     R::File: AsFd,
@@ -155,7 +163,7 @@ where
     if is_over_log(rt, file, to) {
         return Err(Failure::Same);
     }
-    let made = match page_of(rt, bytes, plan, file) {
+    let made = match page_of(rt, bytes, at, plan, file) {
         Ok(made) => made,
         Err(trouble) => {
             return Err(Failure::Refused(String::from_str(rt.alloc(), file)?, trouble));
@@ -188,11 +196,12 @@ where
     let bytes = log_in(rt, file, watch)?;
     watch.begins(rt, &bytes);
     let at = begins_at(&bytes);
-    if at.is_some() && begins_with_the_first(name) {
+    // A script begins with the first record of a log.
+    if at.is_some() && name == "script" {
         return Err(Failure::Carried(String::from_str(rt.alloc(), file)?));
     }
     if let Some(to) = words.get_str("OUT") {
-        return page(rt, &bytes, &plan, file, to);
+        return page(rt, &bytes, at, &plan, file, to);
     }
     match perform(rt, name, words, &bytes, at, &plan, watch) {
         Ok(fine) => Ok(fine),
