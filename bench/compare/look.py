@@ -411,7 +411,7 @@ def carried(rq: str, look: str, log: str, folder: str, draw: random.Random) -> N
     check(f"{path}, queue 0", told(look, "report", path, "--queue", "0"), (0, by_queue(want)[0]))
     carried_stories(look, path, Stories(records, len(whole)), at, end, draw)
     same_page(look, path)
-    begun = ["carried", "begins with the checkpoint at 96, which is taken at its word"]
+    begun = ["begins with the checkpoint at 96, which is taken at its word"]
     check(f"where {path}'s page begins", begun in page_of(look, path).rows, True)
     check(f"{path}'s script", said(look, "script", path), (1, f"rqlook: {path}: carried: use rqlog restart\n"))
 
