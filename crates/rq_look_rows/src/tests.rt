@@ -1,6 +1,5 @@
-use rq_look::{
-    Plan, Subject, Wanted, begins_at, check, dump, page, report, report_json, script, story,
-};
+use rq_look::{Plan, Subject, Wanted, begins_at, check, dump, report, report_json, script, story};
+use rq_page::page;
 use rq_writer::make;
 use std::alloc::Global;
 use std::test::Fail;

@@ -138,7 +138,7 @@ where
     R: AllocGlobal + Threads + Sync,
 {
     let mut made = Vec::new(rt.alloc());
-    match rq_look::page(rt, rt.alloc(), bytes, plan, file, &mut made) {
+    match rq_page::page(rt, rt.alloc(), bytes, plan, file, &mut made) {
         Ok(()) => Ok(made),
         // A write into memory fails for want of it alone.
         Err(Trouble::Output(_)) => Err(Trouble::Log(Fault::Resources)),
