@@ -15,11 +15,11 @@ there on, at its offsets. The last line is `N passed, M failed`, by answers.
 """
 from __future__ import annotations
 import argparse, glob, json, os, random, resource, shutil, subprocess, sys
-from html.parser import HTMLParser
 
 import checkpoints
 from common import COMPARED, HEADER, HERE, NO_RECORD, UNLAWFUL, best, bodies_of, built_peer, chained, header_of, log_of, parsed, parser, write_log
-from looked import Stories, compact, is_hidden, line_of, records_of, shown
+from looked import Stories, compact, is_hidden, line_of, records_of
+from paged import ALL, SHOWN, TAGS, WORDS, Page, Told, payload
 from records import begin, commit, define, enqueue, register
 from schema import report_misfits
 
@@ -145,59 +145,55 @@ def same_stories(look: str, log: str, records: list[dict], count: int, draw: ran
     check(f"{log}, the story of no element", told(look, "story", log, str(len(records))), (1, ""))
 
 
-class Page(HTMLParser):
-    """The tags of a page, and the texts of its tables' cells, row by row."""
-
-    def __init__(self) -> None:
-        super().__init__()
-        self.tags: set[str] = set()
-        self.words: set[str] = set()
-        self.rows: list[list[str]] = []
-        self.inside = False
-
-    def handle_starttag(self, tag: str, attrs: list[tuple[str, str | None]]) -> None:
-        self.tags.add(tag)
-        self.words.update(name for name, _ in attrs)
-        if tag == "tr":
-            self.rows.append([])
-        if tag == "td":
-            self.rows[-1].append("")
-        self.inside = tag == "td" or self.inside and tag != "tr"
-
-    def handle_endtag(self, tag: str) -> None:
-        self.inside = self.inside and tag != "td"
-
-    def handle_data(self, data: str) -> None:
-        if self.inside and self.rows and self.rows[-1]:
-            self.rows[-1][-1] += data
-
-
-TAGS = {"html", "head", "meta", "title", "style", "body", "h1", "h2", "p", "bdi", "table", "tr", "th", "td", "svg", "g", "rect", "path",
-        "div", "span", "ul", "li", "details", "summary"}
-WORDS = {"lang", "charset", "http-equiv", "content", "name", "class", "colspan", "viewbox", "preserveaspectratio", "role", "x", "y", "width",
-         "height", "d"}
-
-
-def page_of(look: str, log: str) -> Page:
-    status, text = told(look, "page", log, "-")
+def page_of(look: str, log: str, *words: str) -> Page:
+    status, text = told(look, "page", log, "-", *words)
     page = Page()
     page.feed(text)
-    check(f"{log}'s page has other parts", (status, page.tags - TAGS, page.words - WORDS), (0, set(), set()))
+    check(f"{log}'s page has other parts", (status, page.tags - TAGS, page.words - WORDS, page.wrong), (0, set(), set(), []))
+    check(f"{log}'s page has links that lead nowhere", [it for it in page.links if it[1:] not in set(page.ids)][:5], [])
     return page
 
 
-def same_page(look: str, log: str) -> None:
-    """The rows of the page's queues, elements and registrants against the report."""
-    report, page = json.loads(told(look, "report", log, "--json")[1]), page_of(look, log)
-    rows = [row for row in page.rows if len(row) in (4, 5, 7)]
+ORDERS = {"depth": lambda it: (-len(it["elements"]), it["number"]), "number": lambda it: it["number"], "name": lambda it: it["name"]}
+
+
+def queue_rows(queues: list[dict], order: str) -> list[list[str]]:
+    """The rows of the page's queues, elements and registrants, of a report's queues."""
+    names = [f"{it['number']} {it['name']}" for it in queues]
     want = []
-    for queue in report["queues"]:
-        want.append([str(queue["number"]), queue["name"], str(queue["limit"]), or_dash(queue["error"]), str(len(queue["elements"]))])
-        want += [[str(e["id"]), str(e["from"]), str(e["priority"]), str(e["attempts"]), shown(e["payload"], False)]
-                 for e in queue["elements"][:1000]]
+    for queue in sorted(queues, key=ORDERS[order]):
+        error = "-" if queue["error"] is None else names[queue["error"]]
+        want.append([f"{names[queue['number']]}limit {queue['limit']}, error queue {error}", f"{len(queue['elements']):,}"])
+        want += [[str(e["id"]), names[e["from"]], str(e["priority"]), f"{e['attempts']:,}", payload(e["payload"])] for e in queue["elements"][:SHOWN]]
         want += [[r["name"]] + ([r["last"]["kind"], str(r["last"]["tag"]), or_dash(r["last"]["element"])] if r["last"] else ["-", "", ""])
                  for r in queue["registrants"]]
-    check(f"{log}'s page", [row[:5] if len(row) == 7 else row for row in rows], want)
+    return want
+
+
+def shown_rows(page: Page) -> list[list[str]]:
+    """The same as the page has them."""
+    found = []
+    for name, cells in page.rows:
+        if name[:1] == "q" and name[1:].isdecimal():
+            found.append(cells[:2])
+        elif name == "" and len(cells) in (4, 5) and cells[0] not in ("element", "registrant", "queue", "record"):
+            found.append(cells)
+    return found
+
+
+def same_page(look: str, log: str, records: list[dict]) -> None:
+    """The rows of the page's queues, elements and registrants against the report, and those of lives and records against the log."""
+    report = json.loads(told(look, "report", log, "--json")[1])
+    for order in ORDERS:
+        page = page_of(look, log, "--order", order)
+        check(f"{log}'s page by {order}", shown_rows(page), queue_rows(report["queues"], order))
+    if len(records) > ALL:
+        return
+    lives = Told(records, Stories(records, os.path.getsize(log)), [it["name"] for it in report["queues"]])
+    rows = dict(page.rows)
+    check(f"{log}'s page, elements", {name: cells for name, cells in rows.items() if name[:1] == "e" and name[1:].isdecimal()}, lives.elements())
+    for name, want in lives.rows().items():
+        check(f"{log}'s page, {name}", rows.get(name, [])[:3], want)
 
 
 def damages(log: bytes) -> list[tuple[str, str, bytes]]:
@@ -232,7 +228,7 @@ def reasons(rq: str, look: str, log: str, folder: str) -> None:
         front = json.loads(told(look, "dump", path, "--limit", "0", "--json")[1])["front"]
         check(f"the same as JSON, {why}", (front["why"], front["reason"]), (why, want.split(": ", 1)[1]))
         check(f"a report's end as JSON, {why}", json.loads(told(look, "report", path, "--json")[1])["front"], front)
-        check(f"a page's end, {why}", [f"{why}: {front['reason']}"] in page_of(look, path).rows, True)
+        check(f"a page's end, {why}", ["behind it", f"{why}: {front['reason']}"] in [cells for _, cells in page_of(look, path).rows], True)
         check(f"a report's front by {why}", told(rq, "restart", path, "4", "1000")[1].split("\n", 1)[0],
               f"front {front['records']} records, {front['used']} of {front['total']} bytes, {why}")
         same_check(rq, look, path)
@@ -248,6 +244,8 @@ def unseen(look: str, log: str) -> None:
     for words in (["dump", log], ["dump", log, "--full"], ["dump", log, "--json"], ["report", log], ["report", log, "--json"], ["unit", log, "1"],
                   ["script", log], ["page", log, "-"]):
         status, text = told(look, *words)
+        # a page has a mark before each tab that it keeps
+        text = text.replace("\u21e5\t", "") if words[0] == "page" else text
         check(f"what {words} shows", (status, [c for c in text if c != "\n" and is_hidden(c)]), (0, []))
 
 
@@ -269,7 +267,7 @@ def odd_payloads(rq: str, look: str, folder: str) -> None:
     same_dump(look, log, records, random.Random(2))
     same_reports(rq, look, log, random.Random(2))
     same_stories(look, log, records, 20, random.Random(3))
-    same_page(look, log)
+    same_page(look, log, records)
     unseen(look, log)
 
 
@@ -447,7 +445,7 @@ def look_at(options: argparse.Namespace, log: str, draw: random.Random) -> None:
     same_dump(look, log, records, draw)
     same_check(rq, look, log)
     same_stories(look, log, records, options.stories, draw)
-    same_page(look, log)
+    same_page(look, log, records)
 
 
 def main() -> int:

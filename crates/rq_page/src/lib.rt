@@ -1,14 +1,23 @@
-//! A log as one page that a browser shows.
+//! A log as one page that a browser shows: what `rq_look` finds in a log, drawn.
 #![tactic(auto)]
 
-mod courses;
+mod asking;
+mod curves;
+mod histories;
+mod lives;
 mod markup;
 mod paging;
+mod payloads;
 mod pictures;
+mod records;
+mod shown;
+mod steps;
 mod style;
 mod summaries;
 mod surveys;
 mod tables;
 mod units;
 
+pub use asking::{Asked, Order};
+pub use markup::put_text;
 pub use paging::page;

@@ -1,24 +1,30 @@
 //! A log as one page that a browser shows.
 
-ghost use Rattle.std.specs.Prelude.{ℕ, ◌++◌, ◌⊎◌, List, None, IfErr, OnOk};
+ghost use Rattle.std.specs.Prelude.{ℕ, ◌≡◌, ◌++◌, ◌⊎◌, List, None, IfOk, IfErr, OnOk, string_bytes};
 ghost use Rattle.std.specs.Io.KnownBytes.{Appends};
 ghost use Rattle.rq_front.specs.Chains.{IsLog};
 ghost use Rattle.rq_look.specs.Looks.{IsBroken, IsRefusal, StaysUnshown};
 ghost use Rattle.rq_page.specs.Markup.{page_foot};
 
+use crate::asking::Asked;
+use crate::histories::{put_elements, put_registrants, put_units};
+use crate::lives::{Lives, lives_of};
 use crate::markup::{put_foot, put_head};
 use crate::pictures::put_picture;
-use crate::summaries::put_summary;
+use crate::records::put_records;
+use crate::shown::Shown;
+use crate::style::{STYLE, sum_of_style};
+use crate::summaries::{Parts, put_header, put_parts, put_summary};
 use crate::surveys::{Survey, surveyed};
 use crate::tables::put_queues;
-use crate::units::put_units;
-use rq_look::{End, Trouble, end_after, finish};
+use crate::units::put_open;
+use rq_look::{End, Trouble, end_after};
 use rq_restart::{Open, Plan, Restarted, audit, restart};
-use std::alloc::Global;
+use std::alloc::{AllocError, Global};
 use std::io::Write;
 use std::thread::Threads;
 
-// What a page shows of a log.
+// What a page shows of a log, beside lives.
 #[derive(Drop)]
 struct Contents {
     restarted: Restarted,
@@ -49,42 +55,115 @@ fn contents_of<R: Threads + Sync>(
     })
 }
 
+fn parts_of(lives: &Lives) -> Parts {
+    Parts {
+        elements: !lives.elements.is_empty(),
+        units: !lives.units.is_empty(),
+        registrants: !lives.registrants.is_empty(),
+        records: lives.count > 0,
+    }
+}
+
+// Puts what stands before the queues.
+fn put_top(
+    alloc: Global,
+    text: &mut String,
+    bytes: &[u8],
+    contents: &Contents,
+    lives: &Lives,
+    asked: &Asked<'_>,
+) -> Result<(), AllocError> {
+    let (restarted, end) = (&contents.restarted, &contents.end);
+    let sum = sum_of_style(alloc)?;
+    put_head(text, asked.name, STYLE, sum.as_str())?;
+    put_header(text, asked, restarted, end)?;
+    put_parts(text, parts_of(lives))?;
+    text.push_str("<main>\n")?;
+    put_summary(
+        alloc,
+        text,
+        bytes,
+        restarted,
+        end,
+        contents.checkpoints.as_slice(),
+    )
+}
+
+// Puts what the log's length, its units and its queues show.
+fn put_middle(
+    alloc: Global,
+    text: &mut String,
+    shown: &Shown<'_>,
+    contents: &Contents,
+    asked: &Asked<'_>,
+) -> Result<(), AllocError> {
+    let (seen, end) = (&contents.seen, &contents.end);
+    let state = contents.restarted.state();
+    put_picture(alloc, text, seen, end, contents.checkpoints.as_slice())?;
+    put_open(text, shown, seen, end)?;
+    put_queues(alloc, text, shown, seen, state, end, asked.order)
+}
+
+// Puts the lives that are shown.
+fn put_lives(text: &mut String, shown: &Shown<'_>, lives: &Lives) -> Result<(), AllocError> {
+    put_elements(text, shown, lives)?;
+    put_units(text, shown, lives)?;
+    put_registrants(text, shown, lives)?;
+    put_records(text, lives.rows.as_str(), lives.count, lives.more)?;
+    text.push_str("</main>\n")
+}
+
+// The text of the page.
+fn text_of(
+    alloc: Global,
+    bytes: &[u8],
+    contents: &Contents,
+    asked: &Asked<'_>,
+) -> Result<String, Trouble>
+    ensures whole { IfOk result (λ text. (put : List ℕ) × (string_bytes text ≡ put ++ page_foot)) }
+    ensures refused { IfErr result IsBroken }
+{
+    let (restarted, end) = (&contents.restarted, &contents.end);
+    let shown = Shown::of(asked, restarted.state().definitions(), end.records);
+    let lives = lives_of(alloc, bytes, end, &shown, contents.checkpoints.as_slice())?;
+    let mut text = String::new(alloc);
+    put_top(alloc, &mut text, bytes, contents, &lives, asked)?;
+    put_middle(alloc, &mut text, &shown, contents, asked)?;
+    put_lives(&mut text, &shown, &lives)?;
+    put_foot(&mut text)?;
+    Ok(text)
+}
+
 fn put_page<W: Write>(
     alloc: Global,
+    bytes: &[u8],
     contents: &Contents,
-    name: &str,
+    asked: &Asked<'_>,
     output: &mut W,
 ) -> Result<(), Trouble>
     ensures whole { OnOk result ((put : List ℕ)
         × Appends (W.contents output.old) (W.contents output.new) (put ++ page_foot)) }
     ensures refused { IfErr result IsBroken }
 {
-    let (restarted, end, seen) = (&contents.restarted, &contents.end, &contents.seen);
-    let checkpoints = contents.checkpoints.as_slice();
-    let mut text = String::new(alloc);
-    put_head(&mut text, name)?;
-    put_summary(&mut text, restarted, end, checkpoints)?;
-    put_picture(alloc, &mut text, seen, end, checkpoints)?;
-    put_units(&mut text, seen, end)?;
-    put_queues(alloc, &mut text, seen, restarted.state(), output)?;
-    put_foot(&mut text)?;
-    finish(&mut text, output)?;
+    let text = text_of(alloc, bytes, contents, asked)?;
+    output.write_all(text.as_bytes())?;
     Ok(())
 }
 
-/// Writes a log under a name as one page of HTML: its front, a picture of the log along its length,
-/// the units that were open at the front's end, and each queue with its depth along the log and its
-/// elements. The page has no parts outside and no script. Its pictures have bins: it grows with the
-/// queues, their registrants and the first 1,000 elements of each, and not with the records.
+/// Writes a log as one page of HTML: where its front ends and why, a picture of the log along its
+/// length, the units that were open at the front's end, and each queue with its depth along the log
+/// and its elements; and what became of each element, unit and registrant, record by record, if the
+/// front has at most 4,000 records, and else of those that are asked for. The page has no parts
+/// outside and no script. It is made in memory, and its length is bounded whatever the log is.
 ///
-/// Refuses what a restart refuses, and before anything is written; else with `Output` where the
-/// output fails, and with `Resources` where memory is refused, and then some of it may be written.
+/// Refuses what a restart refuses, and with `Resources` where memory is refused, and before anything
+/// is written; and with `Output` where the output fails, and then some of it may be written.
 pub fn page<R, W>(
     rt: &R,
     alloc: Global,
     bytes: &[u8],
     plan: &Plan,
-    name: &str,
+    asked: &Asked<'_>,
     output: &mut W,
 ) -> Result<(), Trouble>
 where
@@ -97,5 +176,5 @@ where
         (StaysUnshown None bytes.now (W.contents output.old) (W.contents output.new)) }
 {
     let contents = contents_of(rt, alloc, bytes, plan)?;
-    put_page(alloc, &contents, name, output)
+    put_page(alloc, bytes, &contents, asked, output)
 }

@@ -4,12 +4,18 @@ ghost use Rattle.std.specs.Prelude.{◌≡◌, IfErr};
 ghost use Rattle.rq_record.specs.declared.fault.Fault.TheVariants.{Resources};
 ghost use Rattle.rq_look.specs.Looks.{IsBroken};
 
-use crate::courses::{BINS, Curve, along};
+use crate::curves::{Curve, bin_of};
 use rq_look::{Effect, End, Event, Numbered, Placed, PlacedFrames, Queues, Trouble, kind_of};
 use rq_record::{Fault, KeptRecord, QueueNo};
 use rq_state::State;
 use std::alloc::{AllocError, Global};
 use std::collections::BTreeMap;
+
+/// In so many bins the length of a log is cut.
+pub(crate) const BINS: u64 = 200;
+
+/// In so many it is cut for the depth of a queue.
+pub(crate) const FEW_BINS: u64 = 64;
 
 /// How many records of each kind begin in a bin.
 pub(crate) type Bin = BTreeMap<&'static str, u64>;
@@ -25,11 +31,6 @@ pub(crate) struct Survey {
     pub(crate) open: Curve,
     /// The offset of the BEGIN of each unit that is open.
     pub(crate) begun: BTreeMap<u64, u64>,
-}
-
-/// The bin of an offset in a log of so many bytes.
-pub(crate) fn bin_of(offset: u64, total: u64) -> u64 {
-    along(offset, total, BINS).min(BINS - 1)
 }
 
 // Counts one more record of this kind.
@@ -126,17 +127,17 @@ impl Survey {
         events: &[Event],
         total: u64,
     ) -> Result<(), AllocError> {
-        let bin = bin_of(it.offset, total);
+        let bin = bin_of(it.offset, total, BINS);
         if let Some(kinds) = self.bins.get_mut(bin as usize) {
             count(kinds, kind_of(&it.record))?;
         }
         self.take_record(alloc, it, bin)?;
-        self.take_events(it, events, bin)
+        self.take_events(it, events, bin_of(it.offset, total, FEW_BINS))
     }
 
-    // Behind the front no unit is open, and the depths are those after the restart's aborts.
-    fn close(&mut self, state: &State, bin: u64) -> Result<(), AllocError> {
-        self.open.set(bin, 0)?;
+    // Behind the front the depths are those after the restart's aborts.
+    fn close(&mut self, state: &State, end: &End) -> Result<(), AllocError> {
+        let bin = bin_of(end.used, end.total, FEW_BINS);
         let mut number: u32 = 0;
         for depth in self.depths.iter_mut() {
             depth.set(bin, state.elements_of(QueueNo(number)).len() as u64)?;
@@ -160,6 +161,6 @@ pub(crate) fn surveyed(
     for placed in PlacedFrames::of(bytes, end.used) {
         seen.follow(alloc, placed, &mut machine, end.total)?;
     }
-    seen.close(state, bin_of(end.used, end.total))?;
+    seen.close(state, end)?;
     Ok(seen)
 }

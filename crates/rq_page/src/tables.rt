@@ -1,208 +1,405 @@
 //! The queues, each with its depth along the log, its elements and its registrants.
 
-ghost use Rattle.std.specs.Prelude.{ℕ, List, IfErr, OnOk};
-ghost use Rattle.std.specs.Io.KnownBytes.{Appends};
-ghost use Rattle.rq_look.specs.Looks.{IsBroken};
-
-use crate::markup::put_text;
-use crate::surveys::Survey;
-use rq_look::{
-    RegistrantShown, Trouble, free_elements, put_bytes, queue_number, registrants_shown, relieve,
-};
-use rq_record::QueueNo;
+use crate::asking::Order;
+use crate::curves::{Frame, along, put_axis};
+use crate::markup::Piece::{Count, Number, Tag, Text};
+use crate::markup::put;
+use crate::payloads::put_payload;
+use crate::shown::{QUEUES, Shown};
+use crate::surveys::{FEW_BINS, Survey};
+use rq_look::{End, LastShown, RegistrantShown, free_elements, registrants_shown};
+use rq_record::{Name, QueueNo};
 use rq_state::{Definition, KeptElement as Element, State};
 use std::alloc::{AllocError, Global};
-use std::fmt::Write;
-use std::io;
+use std::cmp::Reverse;
+
+// As many queues stand open; those behind them are folded.
+const OPEN: usize = 100;
 
 // As many elements of a queue are shown: those that would be taken first.
 const SHOWN: usize = 1000;
 
-// A name has none of the characters that HTML takes for its own.
-fn put_row(
+// While a page has fewer bytes, more elements and registrants are put, and payloads can be folded
+// out.
+const ROOM: usize = 900_000;
+
+const WHOLE: usize = 500_000;
+
+// The width and the height of a queue's curve.
+const WIDTH: u64 = 128;
+
+const HEIGHT: u64 = 24;
+
+// A queue, by what queues are put in order.
+#[derive(Clone, Copy)]
+struct Line {
+    number: u32,
+    depth: usize,
+    name: Name,
+}
+
+// What a page shows its queues with.
+#[derive(Clone, Copy)]
+struct Hall<'a> {
+    shown: Shown<'a>,
+    seen: &'a Survey,
+    state: &'a State,
+    end: &'a End,
+}
+
+fn lines_of(
+    alloc: Global,
+    definitions: &[Definition],
+    state: &State,
+) -> Result<Vec<Line>, AllocError> {
+    let mut lines = Vec::with_capacity(alloc, definitions.len())?;
+    let mut number: u32 = 0;
+    for definition in definitions {
+        lines.push(Line {
+            number,
+            depth: state.elements_of(QueueNo(number)).len(),
+            name: definition.name,
+        })?;
+        number = number.saturating_add(1);
+    }
+    Ok(lines)
+}
+
+// Puts the queues in order.
+fn arrange(lines: &mut Vec<Line>, order: Order) {
+    match order {
+        Order::Depth => lines.sort_unstable_by_key(|line| (Reverse(line.depth), line.number)),
+        Order::Number => {}
+        Order::Name => lines.sort_unstable_by_key(|line| (line.name, line.number)),
+    }
+}
+
+fn put_curve(text: &mut String, hall: &Hall<'_>, number: u32) -> Result<(), AllocError> {
+    let frame = Frame {
+        width: WIDTH,
+        height: HEIGHT,
+        end: along(hall.end.used, hall.end.total, WIDTH),
+        bins: FEW_BINS,
+    };
+    match hall.seen.depths.get(number as usize) {
+        Some(curve) => {
+            put(
+                text,
+                &[
+                    Tag("<td>"),
+                    Count(curve.most()),
+                    Tag("</td><td><div class=\"plot\">"),
+                ],
+            )?;
+            curve.put(text, &frame, "Free elements along the log")?;
+            text.push_str("</div></td>")
+        }
+        None => text.push_str("<td></td><td></td>"),
+    }
+}
+
+// Puts a queue by its number and its name, with its limit and its error queue.
+fn put_name(
     text: &mut String,
-    seen: &Survey,
+    hall: &Hall<'_>,
     number: u32,
     definition: &Definition,
-    depth: usize,
 ) -> Result<(), AllocError> {
-    let (name, limit) = (definition.name.text(), definition.limit);
-    write!(
+    let digits = Number(u64::from(number));
+    put(
         text,
-        "<tr class=\"queue\"><td>{number}</td><td>{name}</td><td>{limit}</td><td>"
+        &[
+            Tag("<tr class=\"queue\" id=\"q"),
+            digits,
+            Tag("\"><th scope=\"row\">"),
+            digits,
+            Tag(" <b>"),
+            Text(definition.name.text()),
+            Tag("</b><small>limit "),
+            Number(u64::from(definition.limit)),
+            Tag(", error queue "),
+        ],
     )?;
-    match queue_number(definition.error) {
-        Some(error) => write!(text, "{error}")?,
-        None => text.push('-')?,
-    }
-    write!(text, "</td><td>{depth}</td>")?;
-    match seen.depths.get(number as usize) {
-        Some(course) => {
-            let most = course.most();
-            write!(text, "<td>{most}</td><td>")?;
-            course.put(text, "course", 200, 30)?;
-        }
-        None => text.push_str("<td></td><td>")?,
-    }
+    hall.shown.put_error(text, definition.error)?;
+    text.push_str("</small></th>")
+}
+
+fn put_row(
+    text: &mut String,
+    hall: &Hall<'_>,
+    line: &Line,
+    definition: &Definition,
+) -> Result<(), AllocError> {
+    put_name(text, hall, line.number, definition)?;
+    put(text, &[Tag("<td>"), Count(line.depth as u64), Tag("</td>")])?;
+    put_curve(text, hall, line.number)?;
+    text.push_str("</tr>\n")
+}
+
+fn put_element(
+    alloc: Global,
+    text: &mut String,
+    shown: &Shown<'_>,
+    e: &Element,
+) -> Result<(), AllocError> {
+    text.push_str("<tr><th scope=\"row\">")?;
+    shown.put_element(text, e.id.0)?;
+    text.push_str("</th><td>")?;
+    shown.put_queue(text, e.origin.0)?;
+    put(
+        text,
+        &[
+            Tag("</td><td>"),
+            Number(u64::from(e.priority)),
+            Tag("</td><td>"),
+            Count(e.attempts),
+            Tag("</td><td>"),
+        ],
+    )?;
+    put_payload(alloc, text, e.payload.bytes(), text.len() < WHOLE)?;
     text.push_str("</td></tr>\n")
 }
 
-fn put_cells(text: &mut String, e: &Element, payload: &str) -> Result<(), AllocError> {
-    let (id, origin) = (e.id.0, e.origin.0);
-    let (priority, attempts) = (e.priority, e.attempts);
-    write!(
-        text,
-        "<tr><td>{id}</td><td>{origin}</td><td>{priority}</td>\
-         <td>{attempts}</td><td class=\"payload\"><bdi>"
-    )?;
-    put_text(text, payload)?;
-    text.push_str("</bdi></td></tr>\n")
-}
-
-fn put_element(alloc: Global, text: &mut String, e: &Element) -> Result<(), AllocError> {
-    let mut payload = String::new(alloc);
-    put_bytes(alloc, &mut payload, e.payload.bytes(), false)?;
-    put_cells(text, e, payload.as_str())
-}
-
-fn put_elements<W: io::Write>(
+// Puts the first elements, as far as there is room. Answers how many.
+fn put_rows(
     alloc: Global,
     text: &mut String,
+    shown: &Shown<'_>,
     elements: &[&Element],
-    output: &mut W,
-) -> Result<(), Trouble>
-    ensures only { OnOk result
-        ((put : List ℕ) × Appends (W.contents output.old) (W.contents output.new) put) }
-    ensures refused { IfErr result IsBroken }
-{
+) -> Result<usize, AllocError> {
+    let mut count: usize = 0;
+    for e in elements.iter().take(SHOWN) {
+        if text.len() >= ROOM {
+            break;
+        }
+        put_element(alloc, text, shown, e)?;
+        count = count.saturating_add(1);
+    }
+    Ok(count)
+}
+
+// Puts how many more there are than are shown.
+fn put_more(text: &mut String, all: usize, count: usize) -> Result<(), AllocError> {
+    if all <= count {
+        return Ok(());
+    }
+    let more = Count(all.saturating_sub(count) as u64);
+    put(text, &[Tag("<p>and "), more, Tag(" more</p>\n")])
+}
+
+fn put_elements(
+    alloc: Global,
+    text: &mut String,
+    shown: &Shown<'_>,
+    elements: &[&Element],
+) -> Result<(), AllocError> {
     if elements.is_empty() {
         return Ok(());
     }
     text.push_str(
-        "<table><tr><th>element</th><th>from</th><th>priority</th><th>attempts</th>\
-        <th>payload</th></tr>\n",
+        "<table><caption>Elements, in the order in which they would be taken</caption>\n<tr>\
+        <th scope=\"col\">element</th><th scope=\"col\">from</th><th scope=\"col\">priority</th>\
+        <th scope=\"col\">attempts</th><th scope=\"col\">payload</th></tr>\n",
     )?;
-    for e in elements.iter().take(SHOWN) {
-        put_element(alloc, text, e)?;
-        relieve(text, output)?;
-    }
+    let count = put_rows(alloc, text, shown, elements)?;
     text.push_str("</table>\n")?;
-    if elements.len() > SHOWN {
-        let more = elements.len().saturating_sub(SHOWN);
-        write!(text, "<p>and {more} more</p>\n")?;
-    }
-    Ok(())
+    put_more(text, elements.len(), count)
 }
 
-// A name and a kind have none of the characters that HTML takes for its own.
-fn put_registrant(text: &mut String, it: &RegistrantShown<'_>) -> Result<(), AllocError> {
-    let name = it.name;
-    write!(text, "<tr><td>{name}</td>")?;
-    let Some(last) = it.last else {
-        return text.push_str("<td>-</td><td></td><td></td></tr>\n");
-    };
-    let (kind, tag) = (last.kind, last.tag);
-    write!(text, "<td>{kind}</td><td>{tag}</td><td>")?;
+// Puts what a registrant did last.
+fn put_last(text: &mut String, shown: &Shown<'_>, last: &LastShown<'_>) -> Result<(), AllocError> {
+    put(
+        text,
+        &[
+            Tag("</th><td>"),
+            Text(last.kind),
+            Tag("</td><td>"),
+            Number(last.tag),
+            Tag("</td><td>"),
+        ],
+    )?;
     match last.element {
-        Some(element) => write!(text, "{element}")?,
+        Some(element) => shown.put_element(text, element)?,
         None => text.push('-')?,
     }
     text.push_str("</td></tr>\n")
 }
 
-fn put_registrants<W: io::Write>(
+fn put_registrant(
     text: &mut String,
+    shown: &Shown<'_>,
+    queue: u32,
+    it: &RegistrantShown<'_>,
+) -> Result<(), AllocError> {
+    text.push_str("<tr><th scope=\"row\">")?;
+    shown.put_registrant(text, queue, it.name)?;
+    match &it.last {
+        Some(last) => put_last(text, shown, last),
+        None => text.push_str("</th><td>-</td><td></td><td></td></tr>\n"),
+    }
+}
+
+fn put_registrant_rows(
+    text: &mut String,
+    shown: &Shown<'_>,
+    queue: u32,
     registrants: &[RegistrantShown<'_>],
-    output: &mut W,
-) -> Result<(), Trouble>
-    ensures only { OnOk result
-        ((put : List ℕ) × Appends (W.contents output.old) (W.contents output.new) put) }
-    ensures refused { IfErr result IsBroken }
-{
+) -> Result<usize, AllocError> {
+    let mut count: usize = 0;
+    for it in registrants {
+        if text.len() >= ROOM {
+            break;
+        }
+        put_registrant(text, shown, queue, it)?;
+        count = count.saturating_add(1);
+    }
+    Ok(count)
+}
+
+fn put_registrants(
+    text: &mut String,
+    shown: &Shown<'_>,
+    queue: u32,
+    registrants: &[RegistrantShown<'_>],
+) -> Result<(), AllocError> {
     if registrants.is_empty() {
         return Ok(());
     }
     text.push_str(
-        "<table><tr><th>registrant</th><th>last operation</th><th>tag</th><th>element</th></tr>\n",
+        "<table><caption>Registrants, and what they did last</caption>\n<tr>\
+        <th scope=\"col\">registrant</th><th scope=\"col\">last operation</th>\
+        <th scope=\"col\">tag</th><th scope=\"col\">element</th></tr>\n",
     )?;
-    for it in registrants {
-        put_registrant(text, it)?;
-        relieve(text, output)?;
-    }
+    let count = put_registrant_rows(text, shown, queue, registrants)?;
     text.push_str("</table>\n")?;
-    Ok(())
+    put_more(text, registrants.len(), count)
 }
 
 // Puts what folds out below a queue, where there is anything.
-fn put_fold<W: io::Write>(
+fn put_fold(
     alloc: Global,
     text: &mut String,
+    shown: &Shown<'_>,
+    queue: u32,
     elements: &[&Element],
     registrants: &[RegistrantShown<'_>],
-    output: &mut W,
-) -> Result<(), Trouble>
-    ensures only { OnOk result
-        ((put : List ℕ) × Appends (W.contents output.old) (W.contents output.new) put) }
-    ensures refused { IfErr result IsBroken }
-{
+) -> Result<(), AllocError> {
     if elements.is_empty() && registrants.is_empty() {
         return Ok(());
     }
-    let (many, known) = (elements.len(), registrants.len());
-    write!(
+    put(
         text,
-        "<tr class=\"fold\"><td colspan=\"7\"><details><summary>elements: {many}, \
-        registrants: {known}</summary>\n"
+        &[
+            Tag("<tr class=\"fold\"><td colspan=\"4\"><details><summary>elements: "),
+            Count(elements.len() as u64),
+            Tag(", registrants: "),
+            Count(registrants.len() as u64),
+            Tag("</summary>\n"),
+        ],
     )?;
-    put_elements(alloc, text, elements, output)?;
-    put_registrants(text, registrants, output)?;
-    text.push_str("</details></td></tr>\n")?;
-    Ok(())
+    put_elements(alloc, text, shown, elements)?;
+    put_registrants(text, shown, queue, registrants)?;
+    text.push_str("</details></td></tr>\n")
 }
 
-fn put_queue<W: io::Write>(
+fn put_queue(
     alloc: Global,
     text: &mut String,
-    seen: &Survey,
-    state: &State,
-    numbered: (u32, &Definition),
-    output: &mut W,
-) -> Result<(), Trouble>
-    ensures only { OnOk result
-        ((put : List ℕ) × Appends (W.contents output.old) (W.contents output.new) put) }
-    ensures refused { IfErr result IsBroken }
-{
-    let (number, definition) = numbered;
-    let elements = free_elements(alloc, state, QueueNo(number))?;
-    let registrants = registrants_shown(alloc, state, QueueNo(number))?;
-    put_row(text, seen, number, definition, elements.len())?;
-    put_fold(alloc, text, &elements, &registrants, output)?;
-    relieve(text, output)?;
-    Ok(())
+    hall: &Hall<'_>,
+    line: &Line,
+) -> Result<(), AllocError> {
+    let Some(definition) = hall.shown.definitions.get(line.number as usize) else {
+        return Ok(());
+    };
+    let queue = QueueNo(line.number);
+    let elements = free_elements(alloc, hall.state, queue)?;
+    let registrants = registrants_shown(alloc, hall.state, queue)?;
+    put_row(text, hall, line, definition)?;
+    put_fold(
+        alloc,
+        text,
+        &hall.shown,
+        line.number,
+        &elements,
+        &registrants,
+    )
 }
 
-/// Puts the queues by number. What is much is written meanwhile.
-pub(crate) fn put_queues<W: io::Write>(
+// Puts these queues as a table.
+fn put_table(
     alloc: Global,
     text: &mut String,
-    seen: &Survey,
-    state: &State,
-    output: &mut W,
-) -> Result<(), Trouble>
-    ensures only { OnOk result
-        ((put : List ℕ) × Appends (W.contents output.old) (W.contents output.new) put) }
-    ensures refused { IfErr result IsBroken }
-{
+    hall: &Hall<'_>,
+    lines: &[Line],
+) -> Result<(), AllocError> {
     text.push_str(
-        "<h2>Queues</h2>\n<div class=\"scroll\"><table>\n<tr><th>queue</th><th>name</th>\
-        <th>limit</th><th>error queue</th>",
+        "<table class=\"queues\">\n<caption>Queues after the restart, with what they held along the \
+        log</caption>\n<tr><th scope=\"col\">queue</th><th scope=\"col\">elements</th>\
+        <th scope=\"col\">at most</th><th scope=\"col\">along the log",
     )?;
-    text.push_str("<th>elements</th><th>at most</th><th>along the log</th></tr>\n")?;
-    let mut number: u32 = 0;
-    for definition in state.definitions() {
-        put_queue(alloc, text, seen, state, (number, definition), output)?;
-        number = number.saturating_add(1);
+    put_axis(text, hall.end.total)?;
+    text.push_str("</th></tr>\n")?;
+    for line in lines {
+        put_queue(alloc, text, hall, line)?;
     }
-    text.push_str("</table></div>\n")?;
-    Ok(())
+    text.push_str("</table>\n")
+}
+
+// Puts the queues behind the first as a table that is folded, as many as are shown.
+fn put_more_queues(
+    alloc: Global,
+    text: &mut String,
+    hall: &Hall<'_>,
+    lines: &[Line],
+) -> Result<(), AllocError> {
+    if lines.is_empty() {
+        return Ok(());
+    }
+    let many = Count(lines.len() as u64);
+    put(
+        text,
+        &[
+            Tag("<details class=\"more\"><summary>"),
+            many,
+            Tag(" more queues</summary>\n"),
+        ],
+    )?;
+    put_table(alloc, text, hall, lines)?;
+    text.push_str("</details>\n")
+}
+
+fn put_order(text: &mut String, order: Order) -> Result<(), AllocError> {
+    text.push_str(match order {
+        Order::Depth => "<p>By the number of their elements, the most first.</p>\n",
+        Order::Number => "<p>By number.</p>\n",
+        Order::Name => "<p>By name.</p>\n",
+    })
+}
+
+/// Puts the queues in the order that is asked for: the first 100 open, as many as 1,000 folded.
+pub(crate) fn put_queues(
+    alloc: Global,
+    text: &mut String,
+    shown: &Shown<'_>,
+    seen: &Survey,
+    state: &State,
+    end: &End,
+    order: Order,
+) -> Result<(), AllocError> {
+    let hall = Hall {
+        shown: *shown,
+        seen,
+        state,
+        end,
+    };
+    let mut lines = lines_of(alloc, shown.definitions, state)?;
+    arrange(&mut lines, order);
+    let count = lines.len().min(QUEUES);
+    let (open, folded) = lines[..count].split_at(count.min(OPEN));
+    text.push_str("<section id=\"queues\">\n<h2>Queues</h2>\n")?;
+    put_order(text, order)?;
+    put_table(alloc, text, &hall, open)?;
+    put_more_queues(alloc, text, &hall, folded)?;
+    put_more(text, lines.len(), count)?;
+    text.push_str("</section>\n")
 }

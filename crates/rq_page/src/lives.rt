@@ -1,0 +1,341 @@
+//! What became of elements, units and registrants, found by a walk over the front.
+
+ghost use Rattle.std.specs.Prelude.{◌≡◌, IfErr};
+ghost use Rattle.rq_record.specs.declared.fault.Fault.TheVariants.{Resources};
+ghost use Rattle.rq_look.specs.Looks.{IsBroken};
+
+use crate::records::put_row;
+use crate::shown::Shown;
+use crate::steps::{At, Step, step_of};
+use rq_look::{End, Event, Numbered, Placed, PlacedFrames, Queues, Trouble, unit_of};
+use rq_record::{Fault, KeptBy, KeptName, KeptRecord, Name, QueueNo};
+use rq_state::State;
+use std::alloc::{AllocError, Global};
+use std::collections::BTreeMap;
+
+// While the rows have fewer bytes, more of them are made.
+const ROWS: usize = 2_500_000;
+
+/// The steps of those whose lives are shown.
+#[derive(Drop)]
+pub(crate) struct Lives {
+    /// The rows of the records.
+    pub(crate) rows: String,
+    /// How many these are.
+    pub(crate) count: u64,
+    /// How many more there would be.
+    pub(crate) more: u64,
+    /// The steps of each element.
+    pub(crate) elements: BTreeMap<u64, Vec<Step>>,
+    /// The steps of each unit.
+    pub(crate) units: BTreeMap<u64, Vec<Step>>,
+    /// The steps of each registrant, by queue and name.
+    pub(crate) registrants: BTreeMap<(u32, Name), Vec<Step>>,
+}
+
+// Adds a step to the life of a number.
+fn add(
+    alloc: Global,
+    lives: &mut BTreeMap<u64, Vec<Step>>,
+    number: u64,
+    step: Step,
+) -> Result<(), AllocError> {
+    if let Some(steps) = lives.get_mut(&number) {
+        steps.push(step)?;
+        return Ok(());
+    }
+    let mut steps = Vec::new(alloc);
+    steps.push(step)?;
+    lives.insert(number, steps)?;
+    Ok(())
+}
+
+// A life without a step for each number that was asked for.
+fn begun(alloc: Global, asked: &[u64]) -> Result<BTreeMap<u64, Vec<Step>>, AllocError> {
+    let mut lives = BTreeMap::new(alloc);
+    for number in asked.iter().copied() {
+        lives.insert(number, Vec::new(alloc))?;
+    }
+    Ok(lives)
+}
+
+// What a unit does by a record that has no element, if it is one of a unit.
+fn step_of_unit(it: &Numbered) -> Option<Step> {
+    let at = At::Record(it.number);
+    match &it.record {
+        KeptRecord::Begin { .. } => Some(Step::of("begins", "begins", at)),
+        KeptRecord::Commit { .. } => Some(Step::of("free", "commits", at)),
+        KeptRecord::Abort { .. } => Some(Step::of("back", "aborts", at)),
+        _ => None,
+    }
+}
+
+// The element of the first event.
+fn element_in(events: &[Event]) -> Option<u64> {
+    match events.first() {
+        Some(Event::To(element, _)) => Some(*element),
+        _ => None,
+    }
+}
+
+impl Lives {
+    // Before the first record.
+    fn new(alloc: Global, shown: &Shown<'_>) -> Result<Lives, AllocError> {
+        Ok(Lives {
+            rows: String::new(alloc),
+            count: 0,
+            more: 0,
+            elements: begun(alloc, shown.elements)?,
+            units: begun(alloc, shown.units)?,
+            registrants: BTreeMap::new(alloc),
+        })
+    }
+
+    // What happens to elements. Answers whether one of them is shown.
+    fn take_elements(
+        &mut self,
+        alloc: Global,
+        shown: &Shown<'_>,
+        events: &[Event],
+        at: At,
+        unit: Option<u64>,
+    ) -> Result<bool, AllocError> {
+        let mut is_shown = false;
+        for event in events {
+            let Event::To(element, _) = event else {
+                continue;
+            };
+            if shown.has_element(*element) {
+                let step = Step {
+                    element: None,
+                    unit,
+                    ..step_of(event, at)
+                };
+                add(alloc, &mut self.elements, *element, step)?;
+                is_shown = true;
+            }
+        }
+        Ok(is_shown)
+    }
+
+    // What a unit does. Answers whether it is shown.
+    fn take_unit(
+        &mut self,
+        alloc: Global,
+        shown: &Shown<'_>,
+        it: &Numbered,
+        events: &[Event],
+    ) -> Result<bool, AllocError> {
+        let Some(unit) = unit_of(&it.record) else {
+            return Ok(false);
+        };
+        if !shown.has_unit(unit.0) {
+            return Ok(false);
+        }
+        let step = match (step_of_unit(it), events.first()) {
+            (Some(step), _) => step,
+            (None, Some(event)) => step_of(event, At::Record(it.number)),
+            (None, None) => return Ok(true),
+        };
+        add(alloc, &mut self.units, unit.0, step)?;
+        Ok(true)
+    }
+
+    fn take_registrant(
+        &mut self,
+        alloc: Global,
+        queue: QueueNo,
+        name: &KeptName,
+        step: Step,
+    ) -> Result<(), AllocError> {
+        let key = (queue.0, name.name());
+        if let Some(steps) = self.registrants.get_mut(&key) {
+            steps.push(step)?;
+            return Ok(());
+        }
+        let mut steps = Vec::new(alloc);
+        steps.push(step)?;
+        self.registrants.insert(key, steps)?;
+        Ok(())
+    }
+
+    // An operation of a registrant, if it is one's.
+    fn take_operation(
+        &mut self,
+        alloc: Global,
+        queue: QueueNo,
+        by: &KeptBy,
+        step: Step,
+    ) -> Result<(), AllocError> {
+        let Some(name) = by.name() else {
+            return Ok(());
+        };
+        let tag = by.by().map(|by| by.tag);
+        self.take_registrant(alloc, queue, name, Step { tag, ..step })
+    }
+
+    // What a registrant does.
+    fn take_named(
+        &mut self,
+        alloc: Global,
+        it: &Numbered,
+        events: &[Event],
+    ) -> Result<(), AllocError> {
+        let (at, element) = (At::Record(it.number), element_in(events));
+        let unit = unit_of(&it.record).map(|unit| unit.0);
+        match &it.record {
+            KeptRecord::Register { queue, name } => {
+                let step = Step::of("begins", "is registered", at);
+                self.take_registrant(alloc, *queue, name, step)
+            }
+            KeptRecord::Deregister { queue, name } => {
+                let step = Step::of("gone", "is registered no more", at);
+                self.take_registrant(alloc, *queue, name, step)
+            }
+            KeptRecord::Enqueue { queue, by, .. } => {
+                let step = Step::of("put", "puts in", at);
+                let step = Step {
+                    element,
+                    unit,
+                    ..step
+                };
+                self.take_operation(alloc, *queue, by, step)
+            }
+            KeptRecord::Dequeue { queue, by, .. } => {
+                let words = if element.is_some() {
+                    "takes"
+                } else {
+                    "finds no element"
+                };
+                let step = Step::of("taken", words, at);
+                let step = Step {
+                    element,
+                    unit,
+                    ..step
+                };
+                self.take_operation(alloc, *queue, by, step)
+            }
+            _ => Ok(()),
+        }
+    }
+
+    // The row of a record, where there is room for it.
+    fn take_row(
+        &mut self,
+        alloc: Global,
+        shown: &Shown<'_>,
+        it: &Numbered,
+        events: &[Event],
+        truth: bool,
+    ) -> Result<(), AllocError> {
+        if self.rows.len() >= ROWS {
+            self.more = self.more.saturating_add(1);
+            return Ok(());
+        }
+        self.count = self.count.saturating_add(1);
+        put_row(alloc, &mut self.rows, shown, it, events, truth)
+    }
+
+    // A record, and what happens at it.
+    fn take(
+        &mut self,
+        alloc: Global,
+        shown: &Shown<'_>,
+        it: &Numbered,
+        events: &[Event],
+        truth: bool,
+    ) -> Result<(), AllocError> {
+        let unit = unit_of(&it.record).map(|unit| unit.0);
+        let of_element = self.take_elements(alloc, shown, events, At::Record(it.number), unit)?;
+        let of_unit = self.take_unit(alloc, shown, it, events)?;
+        if shown.all {
+            self.take_named(alloc, it, events)?;
+        }
+        if shown.all || of_element || of_unit {
+            self.take_row(alloc, shown, it, events, truth)?;
+        }
+        Ok(())
+    }
+
+    // What the restart does to a unit that is open.
+    fn take_restart(
+        &mut self,
+        alloc: Global,
+        shown: &Shown<'_>,
+        unit: u64,
+        events: &[Event],
+    ) -> Result<(), AllocError> {
+        self.take_elements(alloc, shown, events, At::Restart, Some(unit))?;
+        if shown.has_unit(unit) {
+            let step = Step::of("back", "aborted", At::Restart);
+            add(alloc, &mut self.units, unit, step)?;
+        }
+        Ok(())
+    }
+
+    // What the restart does behind the front.
+    fn close(
+        &mut self,
+        alloc: Global,
+        shown: &Shown<'_>,
+        machine: &mut Queues,
+    ) -> Result<(), AllocError> {
+        for unit in machine.open_units(alloc)?.iter().copied() {
+            machine.abort(unit)?;
+            self.take_restart(alloc, shown, unit, machine.events())?;
+        }
+        Ok(())
+    }
+
+    // The next record of the front, and what happens at it.
+    fn follow(
+        &mut self,
+        alloc: Global,
+        shown: &Shown<'_>,
+        placed: Placed<'_>,
+        machine: &mut Queues,
+        truths: &BTreeMap<u64, bool>,
+    ) -> Result<(), Fault>
+        ensures { IfErr result (λ e. e ≡ Resources) }
+    {
+        let it = machine.follow(alloc, placed)?;
+        let truth = truths.get(&it.offset).copied().unwrap_or(true);
+        self.take(alloc, shown, &it, machine.events(), truth)?;
+        Ok(())
+    }
+}
+
+// Which checkpoints are true, by their offsets.
+fn truths_of(
+    alloc: Global,
+    checkpoints: &[(u64, bool)],
+) -> Result<BTreeMap<u64, bool>, AllocError> {
+    let mut truths = BTreeMap::new(alloc);
+    for (offset, truth) in checkpoints {
+        truths.insert(*offset, *truth)?;
+    }
+    Ok(truths)
+}
+
+/// The lives that are shown of a log, of whose checkpoints it is known whether they are true.
+pub(crate) fn lives_of(
+    alloc: Global,
+    bytes: &[u8],
+    end: &End,
+    shown: &Shown<'_>,
+    checkpoints: &[(u64, bool)],
+) -> Result<Lives, Trouble>
+    ensures { IfErr result IsBroken }
+{
+    let mut lives = Lives::new(alloc, shown)?;
+    if shown.is_nobody() {
+        return Ok(lives);
+    }
+    let truths = truths_of(alloc, checkpoints)?;
+    let mut machine = Queues::of(alloc, &State::empty(alloc))?;
+    for placed in PlacedFrames::of(bytes, end.used) {
+        lives.follow(alloc, shown, placed, &mut machine, &truths)?;
+    }
+    lives.close(alloc, shown, &mut machine)?;
+    Ok(lives)
+}
