@@ -59,7 +59,7 @@ class Browser:
         words = {"id": self.count, "method": what, "params": how} | ({"sessionId": self.tab} if self.tab else {})
         os.write(self.out, json.dumps(words).encode() + b"\0")
         while True:
-            said = self.next(60)
+            said = self.next(240)
             if said.get("id") == self.count:
                 if "error" in said:
                     raise RuntimeError(f"{what}: {said['error']}")
@@ -77,7 +77,7 @@ class Browser:
         self.events, begun = [], time.monotonic()
         self.ask("Page.navigate", url="file://" + os.path.abspath(path))
         while not any(it.get("method") == "Page.loadEventFired" for it in self.events):
-            self.events.append(self.next(60))
+            self.events.append(self.next(240))
         # shown, not only read: two frames are drawn
         self.tell("new Promise(done => requestAnimationFrame(() => requestAnimationFrame(() => done(1))))")
         return time.monotonic() - begun

@@ -193,7 +193,7 @@ def same_page(look: str, log: str, records: list[dict]) -> None:
     rows = dict(page.rows)
     check(f"{log}'s page, elements", {name: cells for name, cells in rows.items() if name[:1] == "e" and name[1:].isdecimal()}, lives.elements())
     for name, want in lives.rows().items():
-        check(f"{log}'s page, {name}", rows.get(name, [])[:3], want)
+        check(f"{log}'s page, {name}", rows.get(name), want)
 
 
 def damages(log: bytes) -> list[tuple[str, str, bytes]]:

@@ -2,7 +2,7 @@
 from __future__ import annotations
 from html.parser import HTMLParser
 
-from looked import Stories, is_hidden, text_of
+from looked import Machine, Stories, is_hidden, text_of
 
 TAGS = {"html", "head", "meta", "title", "style", "body", "header", "main", "nav", "section", "h1", "h2", "p", "a", "b", "i", "small", "code", "bdi",
         "table", "caption", "tr", "th", "td", "svg", "g", "rect", "path", "div", "span", "ul", "ol", "li", "dl", "dt", "dd", "details", "summary"}
@@ -12,7 +12,7 @@ EMPTY = {"meta", "rect", "path"}
 # What must stand first in a picture and in a table, so that each has a name.
 NAMES = {"svg": "title", "table": "caption"}
 # As many records have a front of which all lives are shown; as many elements of a queue are; as many characters of a payload are at once.
-ALL, SHOWN, FIRST = 4000, 1000, 32
+ALL, SHOWN, FIRST = 4000, 1000, 80
 
 
 class Page(HTMLParser):
@@ -105,6 +105,8 @@ class Told:
 
     def __init__(self, records: list[dict], stories: Stories, names: list[str]) -> None:
         self.names, self.records, self.stories = names, records, stories
+        machine = Machine()
+        self.events = {it["record"]: machine.step(it) for it in records}
 
     def queue(self, number: int) -> str:
         return f"{number} {self.names[number]}"
@@ -131,6 +133,11 @@ class Told:
         unit = words[words.index("unit") + 1] if "unit" in words else None
         before, behind = self.happens(said)
         return f"{number} {before}{behind}" + (f", unit {unit}" if unit else "") + "|"
+
+    def event(self, event: tuple[int | None, str]) -> str:
+        """What happens at a record, as a step of its row."""
+        element, said = event
+        return "finds no element|" if element is None else f"element {element} {''.join(self.happens(said))}|"
 
     def elements(self) -> dict[str, list[str]]:
         """The row of each element, by its id."""
@@ -159,4 +166,5 @@ class Told:
 
     def rows(self) -> dict[str, list[str]]:
         """The row of each record but its events, by its id."""
-        return {f"r{it['record']}": [str(it["record"]), str(it["offset"]), self.record(it)] for it in self.records if it["kind"] != "checkpoint"}
+        return {f"r{it['record']}": [str(it["record"]), str(it["offset"]), self.record(it), "".join(map(self.event, self.events[it["record"]]))]
+                for it in self.records if it["kind"] != "checkpoint"}

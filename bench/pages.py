@@ -14,7 +14,7 @@ import argparse, base64, hashlib, os, re, shutil, subprocess, sys
 import pagelogs
 from browser import Browser, found
 from common import parsed, parser
-from paged import TAGS, WORDS, Page
+from paged import FIRST, TAGS, WORDS, Page
 
 MIB = 1 << 20
 # The most bytes of the page of each log.
@@ -106,7 +106,7 @@ def shown_as(payload: bytes) -> str | None:
         text = payload.decode()
     except UnicodeDecodeError:
         return None
-    return text[:32] if all(c.isprintable() for c in text[:32]) else None
+    return text[:FIRST] if all(c.isprintable() for c in text[:FIRST]) else None
 
 
 def browsed(paths: dict[str, str], look: str, seconds: float) -> None:

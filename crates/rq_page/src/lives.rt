@@ -70,11 +70,16 @@ fn step_of_unit(it: &Numbered) -> Option<Step> {
     }
 }
 
-// The element of the first event.
-fn element_in(events: &[Event]) -> Option<u64> {
-    match events.first() {
-        Some(Event::To(element, _)) => Some(*element),
-        _ => None,
+// What an operation does: it has one event.
+fn step_of_operation(it: &Numbered, events: &[Event]) -> Step {
+    let at = At::Record(it.number);
+    let step = match events.first() {
+        Some(event) => step_of(event, at),
+        None => Step::of("none", "does nothing", at),
+    };
+    Step {
+        unit: unit_of(&it.record).map(|unit| unit.0),
+        ..step
     }
 }
 
@@ -181,8 +186,7 @@ impl Lives {
         it: &Numbered,
         events: &[Event],
     ) -> Result<(), AllocError> {
-        let (at, element) = (At::Record(it.number), element_in(events));
-        let unit = unit_of(&it.record).map(|unit| unit.0);
+        let at = At::Record(it.number);
         match &it.record {
             KeptRecord::Register { queue, name } => {
                 let step = Step::of("begins", "is registered", at);
@@ -192,28 +196,8 @@ impl Lives {
                 let step = Step::of("gone", "is registered no more", at);
                 self.take_registrant(alloc, *queue, name, step)
             }
-            KeptRecord::Enqueue { queue, by, .. } => {
-                let step = Step::of("put", "puts in", at);
-                let step = Step {
-                    element,
-                    unit,
-                    ..step
-                };
-                self.take_operation(alloc, *queue, by, step)
-            }
-            KeptRecord::Dequeue { queue, by, .. } => {
-                let words = if element.is_some() {
-                    "takes"
-                } else {
-                    "finds no element"
-                };
-                let step = Step::of("taken", words, at);
-                let step = Step {
-                    element,
-                    unit,
-                    ..step
-                };
-                self.take_operation(alloc, *queue, by, step)
+            KeptRecord::Enqueue { queue, by, .. } | KeptRecord::Dequeue { queue, by, .. } => {
+                self.take_operation(alloc, *queue, by, step_of_operation(it, events))
             }
             _ => Ok(()),
         }

@@ -6,7 +6,7 @@ use std::alloc::{AllocError, Global};
 use std::str::from_utf8;
 
 // As many characters or bytes are shown at once.
-const FIRST: usize = 32;
+const FIRST: usize = 80;
 
 // Puts a character; the end of a line and a tab with a mark before them, so that both are seen.
 fn put_kept(text: &mut String, c: char) -> Result<(), AllocError> {

@@ -178,7 +178,7 @@ pub(crate) fn put_records(
         return Ok(());
     }
     text.push_str(
-        "<section id=\"records\">\n<h2>Records</h2>\n<div class=\"scroll\"><table class=\"lives\">\n\
+        "<section id=\"records\">\n<h2>Records</h2>\n<div class=\"scroll\"><table class=\"lives records\">\n\
         <caption>Each record with what happens at it",
     )?;
     if more > 0 {

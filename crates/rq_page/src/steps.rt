@@ -95,8 +95,9 @@ fn put_element(
 ) -> Result<(), AllocError> {
     match element {
         Some(element) => {
-            text.push_str(" element ")?;
-            shown.put_element(text, element)
+            text.push_str("element ")?;
+            shown.put_element(text, element)?;
+            text.push(' ')
         }
         None => Ok(()),
     }
@@ -155,8 +156,8 @@ pub(crate) fn put_step(
 ) -> Result<(), AllocError> {
     put(text, &[Tag("<li class=\""), Tag(step.class), Tag("\">")])?;
     put_at(text, step.at)?;
-    text.push_str(step.words)?;
     put_element(text, shown, step.element)?;
+    text.push_str(step.words)?;
     put_place(text, shown, step.queue, step.attempts)?;
     put_doer(text, shown, step.unit, step.tag)?;
     text.push_str("</li>")

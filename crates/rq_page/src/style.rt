@@ -49,7 +49,7 @@ table { border-collapse: collapse; width: 100%; font-variant-numeric: tabular-nu
 caption { text-align: left; color: var(--faint); font-size: .85rem; padding-bottom: .3rem; }
 th, td { text-align: left; padding: .25rem .8rem .25rem 0; border-top: 1px solid var(--line); vertical-align: top; }
 th { font-weight: 600; }
-th[scope=\"col\"] { color: var(--faint); font-size: .85rem; border-top: 0; vertical-align: bottom; }
+th[scope=\"col\"] { color: var(--faint); font-size: .85rem; border-top: 0; vertical-align: bottom; white-space: nowrap; }
 .front th { width: 12rem; color: var(--faint); }
 .front td { overflow-wrap: anywhere; }
 code, .text { font-family: ui-monospace, \"SFMono-Regular\", Menlo, Consolas, monospace; font-size: .92em; overflow-wrap: anywhere; }
@@ -59,7 +59,7 @@ i { color: var(--faint); }
 small { display: block; color: var(--faint); font-weight: 400; }
 summary { cursor: pointer; color: var(--link); }
 details table { background: var(--soft); border-radius: .4rem; margin: .4rem 0; }
-details details { display: inline-block; max-width: 100%; vertical-align: top; }
+.text + details { display: inline-block; max-width: 100%; vertical-align: top; margin-left: .6rem; }
 details th, details td { padding-left: .6rem; }
 details caption { padding: .3rem .6rem; }
 .queue > * { padding-top: .5rem; } .queue th { width: 40%; overflow-wrap: anywhere; }
@@ -85,7 +85,7 @@ ul.legend { list-style: none; padding: 0; margin: .6rem 0 0; display: flex; flex
 ol { list-style: none; padding: 0; margin: 0; display: flex; flex-wrap: wrap; gap: .25rem; }
 ol li { border-left: 3px solid var(--k); background: var(--soft); border-radius: .2rem; padding: 0 .5rem; overflow-wrap: anywhere; }
 td > b { border-left: 3px solid var(--k); padding-left: .4rem; }
-.lives td { overflow-wrap: anywhere; }
+.lives td { overflow-wrap: anywhere; } .records td:nth-child(3) { width: 58%; }
 .lives td bdi { display: inline-block; max-width: 100%; }
 tr:target > * { background: var(--hit); }
 @media (max-width: 40rem) {
@@ -93,11 +93,13 @@ tr:target > * { background: var(--hit); }
   th, td { padding-right: .4rem; }
   .front th { width: 7rem; }
   .queues, .queues tbody, .queues th, .queues td, .queues caption, .fold { display: block; }
-  .queues th[scope=\"col\"] { display: none; } .queues > tbody > tr > th[scope=\"col\"]:last-child { display: block; border: 0; }
-  .queue { display: grid; grid-template-columns: 6rem 6rem 1fr; border-top: 1px solid var(--line); padding: .4rem 0; }
+  .queues > tbody > tr { display: block; } .queues > tbody > tr > th[scope=\"col\"] { display: none; }
+  .queues > tbody > tr > th[scope=\"col\"]:last-child { display: block; padding: 0; }
+  .queues > tbody > .queue { display: grid; grid-template-columns: auto auto 1fr; gap: 0 .8rem; border-top: 1px solid var(--line); padding: .4rem 0; }
   .queue th { grid-column: 1 / -1; width: auto; } .queue > * { border: 0; padding: 0; }
   .queue td:nth-child(2)::before { content: \"elements \"; color: var(--faint); } .queue td:nth-child(3)::before { content: \"at most \"; color: var(--faint); }
-  details table { display: table; } .fold table, .fold table th, .fold table td { display: revert; border-top: 1px solid var(--line); }
+  .fold table, .fold table tbody, .fold table th, .fold table td, .fold table caption { display: revert; }
+  .fold table { font-size: .85rem; } .fold table th, .fold table td { border-top: 1px solid var(--line); padding: .2rem .3rem; }
   .lives, .lives tbody, .lives tr, .lives th, .lives td, .lives caption { display: block; }
   .lives th[scope=\"col\"] { display: none; }
   .lives th, .lives td { border: 0; padding: .05rem 0; }
