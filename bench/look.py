@@ -181,19 +181,32 @@ def shown_rows(page: Page) -> list[list[str]]:
     return found
 
 
-def same_page(look: str, log: str, records: list[dict]) -> None:
+def same_page(look: str, log: str, records: list[dict], draw: random.Random) -> None:
     """The rows of the page's queues, elements and registrants against the report, and those of lives and records against the log."""
     report = json.loads(told(look, "report", log, "--json")[1])
     for order in ORDERS:
         page = page_of(look, log, "--order", order)
         check(f"{log}'s page by {order}", shown_rows(page), queue_rows(report["queues"], order))
-    if len(records) > ALL:
-        return
     lives = Told(records, Stories(records, os.path.getsize(log)), [it["name"] for it in report["queues"]])
     rows = dict(page.rows)
+    if "r0" not in rows and len(records) > ALL:
+        some_lives(look, log, lives, draw)
+        return
     check(f"{log}'s page, elements", {name: cells for name, cells in rows.items() if name[:1] == "e" and name[1:].isdecimal()}, lives.elements())
     for name, want in lives.rows().items():
         check(f"{log}'s page, {name}", rows.get(name), want)
+
+
+def some_lives(look: str, log: str, lives: Told, draw: random.Random) -> None:
+    """Those of two elements that are asked for, and of a unit, of a log too long for all."""
+    elements = lives.elements()
+    asked, unit = draw.sample(sorted(elements), min(2, len(elements))), draw.choice(sorted(lives.stories.units))
+    words = [word for name in asked for word in ("--element", name[1:])]
+    rows = dict(page_of(look, log, *words, "--unit", str(unit)).rows)
+    for name in asked:
+        check(f"{log}'s page, {name} alone", rows.get(name), elements[name])
+    wanted = {it["record"] for it in lives.records if it.get("unit") == unit}
+    check(f"{log}'s page, unit {unit} alone", {name for name in (f"r{it}" for it in wanted) if name not in rows} | {f"u{unit}"} - set(rows), set())
 
 
 def damages(log: bytes) -> list[tuple[str, str, bytes]]:
@@ -267,7 +280,7 @@ def odd_payloads(rq: str, look: str, folder: str) -> None:
     same_dump(look, log, records, random.Random(2))
     same_reports(rq, look, log, random.Random(2))
     same_stories(look, log, records, 20, random.Random(3))
-    same_page(look, log, records)
+    same_page(look, log, records, random.Random(5))
     unseen(look, log)
 
 
@@ -445,7 +458,7 @@ def look_at(options: argparse.Namespace, log: str, draw: random.Random) -> None:
     same_dump(look, log, records, draw)
     same_check(rq, look, log)
     same_stories(look, log, records, options.stories, draw)
-    same_page(look, log, records)
+    same_page(look, log, records, draw)
 
 
 def main() -> int:

@@ -4,15 +4,16 @@ from html.parser import HTMLParser
 
 from looked import Machine, Stories, is_hidden, text_of
 
-TAGS = {"html", "head", "meta", "title", "style", "body", "header", "main", "nav", "section", "h1", "h2", "p", "a", "b", "i", "small", "code", "bdi",
+TAGS = {"html", "head", "meta", "title", "style", "body", "header", "main", "nav", "section", "h1", "h2", "p", "a", "b", "strong", "i", "small", "code", "bdi",
         "table", "caption", "tr", "th", "td", "svg", "g", "rect", "path", "div", "span", "ul", "ol", "li", "dl", "dt", "dd", "details", "summary"}
 WORDS = {"lang", "charset", "http-equiv", "content", "name", "class", "id", "href", "scope", "colspan", "viewbox", "preserveaspectratio", "role",
          "aria-label", "x", "y", "width", "height", "d"}
 EMPTY = {"meta", "rect", "path"}
 # What must stand first in a picture and in a table, so that each has a name.
 NAMES = {"svg": "title", "table": "caption"}
-# As many records have a front of which all lives are shown; as many elements of a queue are; as many characters of a payload are at once.
-ALL, SHOWN, FIRST = 4000, 1000, 80
+# The lives of all are shown of so many records, and more if they fit; as many elements of a queue are; as many characters of a payload are
+# at once.
+ALL, SHOWN, FIRST = 1500, 1000, 80
 
 
 class Page(HTMLParser):

@@ -1,16 +1,13 @@
 //! The lives of elements, units and registrants, a row each.
 
 use crate::lives::Lives;
-use crate::markup::Piece::{Count, Number, Tag, Text};
+use crate::markup::Piece::{Number, Tag, Text};
 use crate::markup::{Piece, put};
 use crate::shown::Shown;
 use crate::steps::{Step, put_steps};
 use rq_record::Name;
 use std::alloc::AllocError;
 use std::collections::BTreeMap;
-
-// While a page has fewer bytes, more lives are put.
-const ROOM: usize = 4_500_000;
 
 // What stands before a table of lives: its name, what it is about, and the heads of its columns.
 fn put_top(
@@ -36,13 +33,9 @@ fn put_top(
     )
 }
 
-// What stands behind it, and how many lives there would be more.
-fn put_bottom(text: &mut String, more: u64) -> Result<(), AllocError> {
-    text.push_str("</table></div>\n")?;
-    if more > 0 {
-        put(text, &[Tag("<p>and "), Count(more), Tag(" more</p>\n")])?;
-    }
-    text.push_str("</section>\n")
+// What stands behind it.
+fn put_bottom(text: &mut String) -> Result<(), AllocError> {
+    text.push_str("</table></div>\n</section>\n")
 }
 
 // Puts a row: what its life is of, and its steps.
@@ -60,17 +53,14 @@ fn put_life(
     text.push_str("</td></tr>\n")
 }
 
-// Puts the life of a number, unless the page is full. Answers how many were left out.
+// Puts the life of a number.
 fn put_numbered(
     text: &mut String,
     shown: &Shown<'_>,
     kind: &'static str,
     number: u64,
     steps: &[Step],
-) -> Result<u64, AllocError> {
-    if text.len() >= ROOM {
-        return Ok(1);
-    }
+) -> Result<(), AllocError> {
     let digits = Number(number);
     let head = [
         Tag("<tr id=\""),
@@ -80,8 +70,7 @@ fn put_numbered(
         digits,
         Tag("</th><td>"),
     ];
-    put_life(text, shown, &head, steps)?;
-    Ok(0)
+    put_life(text, shown, &head, steps)
 }
 
 fn put_all_numbered(
@@ -89,13 +78,11 @@ fn put_all_numbered(
     shown: &Shown<'_>,
     kind: &'static str,
     lives: &BTreeMap<u64, Vec<Step>>,
-) -> Result<u64, AllocError> {
-    let mut more: u64 = 0;
+) -> Result<(), AllocError> {
     for (number, steps) in lives {
-        let left_out = put_numbered(text, shown, kind, *number, steps)?;
-        more = more.saturating_add(left_out);
+        put_numbered(text, shown, kind, *number, steps)?;
     }
-    Ok(more)
+    Ok(())
 }
 
 /// Puts what became of elements.
@@ -114,8 +101,8 @@ pub(crate) fn put_elements(
         "What became of each element, record by record",
         "<th scope=\"col\">element</th>",
     )?;
-    let more = put_all_numbered(text, shown, "e", &lives.elements)?;
-    put_bottom(text, more)
+    put_all_numbered(text, shown, "e", &lives.elements)?;
+    put_bottom(text)
 }
 
 /// Puts what units did.
@@ -134,20 +121,17 @@ pub(crate) fn put_units(
         "What each unit did, record by record",
         "<th scope=\"col\">unit</th>",
     )?;
-    let more = put_all_numbered(text, shown, "u", &lives.units)?;
-    put_bottom(text, more)
+    put_all_numbered(text, shown, "u", &lives.units)?;
+    put_bottom(text)
 }
 
-// Puts the life of a registrant, unless the page is full. Answers how many were left out.
+// Puts the life of a registrant.
 fn put_registrant(
     text: &mut String,
     shown: &Shown<'_>,
     registrant: &(u32, Name),
     steps: &[Step],
-) -> Result<u64, AllocError> {
-    if text.len() >= ROOM {
-        return Ok(1);
-    }
+) -> Result<(), AllocError> {
     let (queue, name) = (registrant.0, registrant.1.text());
     put(
         text,
@@ -162,21 +146,18 @@ fn put_registrant(
         ],
     )?;
     shown.put_queue(text, queue)?;
-    put_life(text, shown, &[Tag("</td><td>")], steps)?;
-    Ok(0)
+    put_life(text, shown, &[Tag("</td><td>")], steps)
 }
 
 fn put_all_registrants(
     text: &mut String,
     shown: &Shown<'_>,
     lives: &Lives,
-) -> Result<u64, AllocError> {
-    let mut more: u64 = 0;
+) -> Result<(), AllocError> {
     for (registrant, steps) in &lives.registrants {
-        let left_out = put_registrant(text, shown, registrant, steps)?;
-        more = more.saturating_add(left_out);
+        put_registrant(text, shown, registrant, steps)?;
     }
-    Ok(more)
+    Ok(())
 }
 
 /// Puts what registrants did.
@@ -195,6 +176,6 @@ pub(crate) fn put_registrants(
         "What each registrant did, record by record",
         "<th scope=\"col\">registrant</th><th scope=\"col\">queue</th>",
     )?;
-    let more = put_all_registrants(text, shown, lives)?;
-    put_bottom(text, more)
+    put_all_registrants(text, shown, lives)?;
+    put_bottom(text)
 }

@@ -6,7 +6,7 @@ ghost use Rattle.rq_look.specs.Looks.{IsBroken};
 
 use crate::records::put_row;
 use crate::shown::Shown;
-use crate::steps::{At, Step, step_of};
+use crate::steps::{At, STEPS, Step, step_of};
 use rq_look::{End, Event, Numbered, Placed, PlacedFrames, Queues, Trouble, unit_of};
 use rq_record::{Fault, KeptBy, KeptName, KeptRecord, Name, QueueNo};
 use rq_state::State;
@@ -14,7 +14,7 @@ use std::alloc::{AllocError, Global};
 use std::collections::BTreeMap;
 
 // While the rows have fewer bytes, more of them are made.
-const ROWS: usize = 2_500_000;
+const ROWS: usize = 1_800_000;
 
 /// The steps of those whose lives are shown.
 #[derive(Drop)]
@@ -25,12 +25,22 @@ pub(crate) struct Lives {
     pub(crate) count: u64,
     /// How many more there would be.
     pub(crate) more: u64,
+    /// The number of the first record that is left out.
+    pub(crate) until: u64,
     /// The steps of each element.
     pub(crate) elements: BTreeMap<u64, Vec<Step>>,
     /// The steps of each unit.
     pub(crate) units: BTreeMap<u64, Vec<Step>>,
     /// The steps of each registrant, by queue and name.
     pub(crate) registrants: BTreeMap<(u32, Name), Vec<Step>>,
+}
+
+// Adds a step to a life, unless it has as many as are kept.
+fn keep(steps: &mut Vec<Step>, step: Step) -> Result<(), AllocError> {
+    if steps.len() < STEPS {
+        steps.push(step)?;
+    }
+    Ok(())
 }
 
 // Adds a step to the life of a number.
@@ -41,8 +51,7 @@ fn add(
     step: Step,
 ) -> Result<(), AllocError> {
     if let Some(steps) = lives.get_mut(&number) {
-        steps.push(step)?;
-        return Ok(());
+        return keep(steps, step);
     }
     let mut steps = Vec::new(alloc);
     steps.push(step)?;
@@ -90,6 +99,7 @@ impl Lives {
             rows: String::new(alloc),
             count: 0,
             more: 0,
+            until: u64::MAX,
             elements: begun(alloc, shown.elements)?,
             units: begun(alloc, shown.units)?,
             registrants: BTreeMap::new(alloc),
@@ -155,8 +165,7 @@ impl Lives {
     ) -> Result<(), AllocError> {
         let key = (queue.0, name.name());
         if let Some(steps) = self.registrants.get_mut(&key) {
-            steps.push(step)?;
-            return Ok(());
+            return keep(steps, step);
         }
         let mut steps = Vec::new(alloc);
         steps.push(step)?;
@@ -214,6 +223,7 @@ impl Lives {
     ) -> Result<(), AllocError> {
         if self.rows.len() >= ROWS {
             self.more = self.more.saturating_add(1);
+            self.until = self.until.min(it.number);
             return Ok(());
         }
         self.count = self.count.saturating_add(1);

@@ -104,8 +104,29 @@ fn put_middle(
     put_queues(alloc, text, shown, seen, state, end, asked.order)
 }
 
+// Whose lives are shown: those of all if they fit.
+fn fitting<'a>(
+    alloc: Global,
+    bytes: &[u8],
+    end: &End,
+    shown: Shown<'a>,
+) -> Result<Shown<'a>, Trouble>
+    ensures { IfErr result IsBroken }
+{
+    if !shown.all {
+        return Ok(shown);
+    }
+    let lives = lives_of(alloc, bytes, end, &shown, &[])?;
+    Ok(if lives.more > 0 {
+        shown.of_asked()
+    } else {
+        shown
+    })
+}
+
 // Puts the lives that are shown.
 fn put_lives(text: &mut String, shown: &Shown<'_>, lives: &Lives) -> Result<(), AllocError> {
+    let shown = &shown.with_rows_until(lives.until);
     put_elements(text, shown, lives)?;
     put_units(text, shown, lives)?;
     put_registrants(text, shown, lives)?;
@@ -125,6 +146,7 @@ fn text_of(
 {
     let (restarted, end) = (&contents.restarted, &contents.end);
     let shown = Shown::of(asked, restarted.state().definitions(), end.records);
+    let shown = fitting(alloc, bytes, end, shown)?;
     let lives = lives_of(alloc, bytes, end, &shown, contents.checkpoints.as_slice())?;
     let mut text = String::new(alloc);
     put_top(alloc, &mut text, bytes, contents, &lives, asked)?;
@@ -152,8 +174,8 @@ fn put_page<W: Write>(
 
 /// Writes a log as one page of HTML: where its front ends and why, a picture of the log along its
 /// length, the units that were open at the front's end, and each queue with its depth along the log
-/// and its elements; and what became of each element, unit and registrant, record by record, if the
-/// front has at most 4,000 records, and else of those that are asked for. The page has no parts
+/// and its elements; and what became of each element, unit and registrant, record by record, if all
+/// of it fits, and else of those that are asked for. The page has no parts
 /// outside and no script. It is made in memory, and its length is bounded whatever the log is.
 ///
 /// Refuses what a restart refuses, and with `Resources` where memory is refused, and before anything

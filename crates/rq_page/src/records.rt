@@ -10,7 +10,7 @@ use rq_record::{KeptBy, KeptRecord, QueueNo};
 use std::alloc::{AllocError, Global};
 
 // While the rows have fewer bytes, payloads can be folded out.
-const WHOLE: usize = 1_000_000;
+const WHOLE: usize = 500_000;
 
 fn put_unit(text: &mut String, shown: &Shown<'_>, record: &KeptRecord) -> Result<(), AllocError> {
     match unit_of(record) {

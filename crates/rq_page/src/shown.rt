@@ -7,8 +7,8 @@ use rq_record::QueueNo;
 use rq_state::Definition;
 use std::alloc::AllocError;
 
-// Of a log of at most so many records the lives of all are shown.
-const ALL: u64 = 4000;
+// Of a log of more records the lives of all are never shown.
+const ALL: u64 = 10_000;
 
 /// As many queues are shown.
 pub(crate) const QUEUES: usize = 1000;
@@ -24,6 +24,8 @@ pub(crate) struct Shown<'a> {
     pub(crate) elements: &'a [u64],
     /// The units that were asked for.
     pub(crate) units: &'a [u64],
+    /// The number of the first record that has no row though it has to do with these.
+    pub(crate) until: u64,
 }
 
 impl<'a> Shown<'a> {
@@ -34,7 +36,18 @@ impl<'a> Shown<'a> {
             all: records <= ALL,
             elements: asked.elements,
             units: asked.units,
+            until: u64::MAX,
         }
+    }
+
+    /// The same, where the lives of all do not fit.
+    pub(crate) fn of_asked(self) -> Shown<'a> {
+        Shown { all: false, ..self }
+    }
+
+    /// The same, where the rows of records end before this one.
+    pub(crate) fn with_rows_until(self, until: u64) -> Shown<'a> {
+        Shown { until, ..self }
     }
 
     /// Whether nobody's life is shown.
@@ -85,6 +98,11 @@ impl<'a> Shown<'a> {
         put_link(text, "e", element, self.has_element(element))
     }
 
+    /// Puts a record by its number.
+    pub(crate) fn put_record(&self, text: &mut String, record: u64) -> Result<(), AllocError> {
+        put_link(text, "r", record, record < self.until)
+    }
+
     /// Puts a unit by its number.
     pub(crate) fn put_unit(&self, text: &mut String, unit: u64) -> Result<(), AllocError> {
         put_link(text, "u", unit, self.has_unit(unit))
@@ -123,8 +141,8 @@ impl<'a> Shown<'a> {
     }
 }
 
-/// Puts a number, with a link to what it names if that is shown.
-pub(crate) fn put_link(
+// Puts a number, with a link to what it names if that is shown.
+fn put_link(
     text: &mut String,
     kind: &'static str,
     number: u64,

@@ -2,9 +2,15 @@
 
 use crate::markup::Piece::{Count, Number, Tag};
 use crate::markup::put;
-use crate::shown::{Shown, put_link};
+use crate::shown::Shown;
 use rq_look::{Effect, Event};
 use std::alloc::AllocError;
+
+/// As many steps of one life are kept.
+pub(crate) const STEPS: usize = 10_000;
+
+// While a page has fewer bytes, more steps are put.
+const ROOM: usize = 3_000_000;
 
 /// Where something happened.
 #[derive(Clone, Copy)]
@@ -137,11 +143,11 @@ fn put_doer(
     }
 }
 
-fn put_at(text: &mut String, at: At) -> Result<(), AllocError> {
+fn put_at(text: &mut String, shown: &Shown<'_>, at: At) -> Result<(), AllocError> {
     match at {
         At::Here => Ok(()),
         At::Record(record) => {
-            put_link(text, "r", record, true)?;
+            shown.put_record(text, record)?;
             text.push(' ')
         }
         At::Restart => text.push_str("at the restart "),
@@ -155,7 +161,7 @@ pub(crate) fn put_step(
     step: &Step,
 ) -> Result<(), AllocError> {
     put(text, &[Tag("<li class=\""), Tag(step.class), Tag("\">")])?;
-    put_at(text, step.at)?;
+    put_at(text, shown, step.at)?;
     put_element(text, shown, step.element)?;
     text.push_str(step.words)?;
     put_place(text, shown, step.queue, step.attempts)?;
@@ -163,15 +169,29 @@ pub(crate) fn put_step(
     text.push_str("</li>")
 }
 
-/// Puts the steps of a life, one behind the other.
+// Puts as many steps as there is room for, and answers how many these are.
+fn put_first(text: &mut String, shown: &Shown<'_>, steps: &[Step]) -> Result<usize, AllocError> {
+    let mut count: usize = 0;
+    for step in steps {
+        if text.len() >= ROOM {
+            break;
+        }
+        put_step(text, shown, step)?;
+        count = count.saturating_add(1);
+    }
+    Ok(count)
+}
+
+/// Puts the steps of a life, one behind the other, and whether some are left out.
 pub(crate) fn put_steps(
     text: &mut String,
     shown: &Shown<'_>,
     steps: &[Step],
 ) -> Result<(), AllocError> {
     text.push_str("<ol>")?;
-    for step in steps {
-        put_step(text, shown, step)?;
+    let count = put_first(text, shown, steps)?;
+    if count < steps.len() || count >= STEPS {
+        text.push_str("<li class=\"none\">more is left out</li>")?;
     }
     text.push_str("</ol>")
 }
