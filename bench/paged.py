@@ -150,7 +150,11 @@ class Told:
 
     def record(self, it: dict) -> str:
         """What a record says."""
-        words = [it["kind"]] + [f"unit {it['unit']}"] * ("unit" in it) + [f"queue {self.queue(it['queue'])}"] * ("queue" in it)
+        words = [it["kind"]]
+        if "unit" in it:
+            words.append(f"unit {it['unit']}")
+        if "queue" in it:
+            words.append(f"queue {self.queue(it['queue'])}")
         if it["kind"] == "define":
             words.append(f"limit {it['limit']} error queue {self.queue(it['error']) if 'error' in it else '-'}")
         elif it["kind"] in ("register", "deregister"):

@@ -4,6 +4,7 @@
 mod asking;
 mod curves;
 mod histories;
+mod holdings;
 mod lives;
 mod markup;
 mod paging;
@@ -17,6 +18,7 @@ mod summaries;
 mod surveys;
 mod tables;
 mod units;
+mod walks;
 
 pub use asking::{Asked, Order};
 pub use markup::put_text;

@@ -1,15 +1,10 @@
-//! What became of elements, units and registrants, found by a walk over the front.
-
-ghost use Rattle.std.specs.Prelude.{◌≡◌, IfErr};
-ghost use Rattle.rq_record.specs.declared.fault.Fault.TheVariants.{Resources};
-ghost use Rattle.rq_look.specs.Looks.{IsBroken};
+//! What became of elements, units and registrants.
 
 use crate::records::put_row;
 use crate::shown::Shown;
 use crate::steps::{At, STEPS, Step, step_of};
-use rq_look::{End, Event, Numbered, Placed, PlacedFrames, Queues, Trouble, unit_of};
-use rq_record::{Fault, KeptBy, KeptName, KeptRecord, Name, QueueNo};
-use rq_state::State;
+use rq_look::{Event, Numbered, unit_of};
+use rq_record::{KeptBy, KeptName, KeptRecord, Name, QueueNo};
 use std::alloc::{AllocError, Global};
 use std::collections::BTreeMap;
 
@@ -93,8 +88,8 @@ fn step_of_operation(it: &Numbered, events: &[Event]) -> Step {
 }
 
 impl Lives {
-    // Before the first record.
-    fn new(alloc: Global, shown: &Shown<'_>) -> Result<Lives, AllocError> {
+    /// Before the first record.
+    pub(crate) fn new(alloc: Global, shown: &Shown<'_>) -> Result<Lives, AllocError> {
         Ok(Lives {
             rows: String::new(alloc),
             count: 0,
@@ -230,8 +225,8 @@ impl Lives {
         put_row(alloc, &mut self.rows, shown, it, events, truth)
     }
 
-    // A record, and what happens at it.
-    fn take(
+    /// A record, and what happens at it. The truth is that of a checkpoint.
+    pub(crate) fn take(
         &mut self,
         alloc: Global,
         shown: &Shown<'_>,
@@ -251,8 +246,8 @@ impl Lives {
         Ok(())
     }
 
-    // What the restart does to a unit that is open.
-    fn take_restart(
+    /// What the restart does to a unit that is open.
+    pub(crate) fn take_restart(
         &mut self,
         alloc: Global,
         shown: &Shown<'_>,
@@ -266,70 +261,4 @@ impl Lives {
         }
         Ok(())
     }
-
-    // What the restart does behind the front.
-    fn close(
-        &mut self,
-        alloc: Global,
-        shown: &Shown<'_>,
-        machine: &mut Queues,
-    ) -> Result<(), AllocError> {
-        for unit in machine.open_units(alloc)?.iter().copied() {
-            machine.abort(unit)?;
-            self.take_restart(alloc, shown, unit, machine.events())?;
-        }
-        Ok(())
-    }
-
-    // The next record of the front, and what happens at it.
-    fn follow(
-        &mut self,
-        alloc: Global,
-        shown: &Shown<'_>,
-        placed: Placed<'_>,
-        machine: &mut Queues,
-        truths: &BTreeMap<u64, bool>,
-    ) -> Result<(), Fault>
-        ensures { IfErr result (λ e. e ≡ Resources) }
-    {
-        let it = machine.follow(alloc, placed)?;
-        let truth = truths.get(&it.offset).copied().unwrap_or(true);
-        self.take(alloc, shown, &it, machine.events(), truth)?;
-        Ok(())
-    }
-}
-
-// Which checkpoints are true, by their offsets.
-fn truths_of(
-    alloc: Global,
-    checkpoints: &[(u64, bool)],
-) -> Result<BTreeMap<u64, bool>, AllocError> {
-    let mut truths = BTreeMap::new(alloc);
-    for (offset, truth) in checkpoints {
-        truths.insert(*offset, *truth)?;
-    }
-    Ok(truths)
-}
-
-/// The lives that are shown of a log, of whose checkpoints it is known whether they are true.
-pub(crate) fn lives_of(
-    alloc: Global,
-    bytes: &[u8],
-    end: &End,
-    shown: &Shown<'_>,
-    checkpoints: &[(u64, bool)],
-) -> Result<Lives, Trouble>
-    ensures { IfErr result IsBroken }
-{
-    let mut lives = Lives::new(alloc, shown)?;
-    if shown.is_nobody() {
-        return Ok(lives);
-    }
-    let truths = truths_of(alloc, checkpoints)?;
-    let mut machine = Queues::of(alloc, &State::empty(alloc))?;
-    for placed in PlacedFrames::of(bytes, end.used) {
-        lives.follow(alloc, shown, placed, &mut machine, &truths)?;
-    }
-    lives.close(alloc, shown, &mut machine)?;
-    Ok(lives)
 }

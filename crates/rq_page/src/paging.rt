@@ -8,7 +8,7 @@ ghost use Rattle.rq_page.specs.Markup.{page_foot};
 
 use crate::asking::Asked;
 use crate::histories::{put_elements, put_registrants, put_units};
-use crate::lives::{Lives, lives_of};
+use crate::lives::Lives;
 use crate::markup::{put_foot, put_head};
 use crate::pictures::put_picture;
 use crate::records::put_records;
@@ -18,6 +18,7 @@ use crate::summaries::{Parts, put_header, put_parts, put_summary};
 use crate::surveys::{Survey, surveyed};
 use crate::tables::put_queues;
 use crate::units::put_open;
+use crate::walks::lives_of;
 use rq_look::{End, Trouble, end_after};
 use rq_restart::{Open, Plan, Restarted, audit, restart};
 use std::alloc::{AllocError, Global};

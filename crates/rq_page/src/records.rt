@@ -114,8 +114,8 @@ fn put_fields(
         KeptRecord::Enqueue { .. } => put_enqueued(alloc, text, shown, it),
         KeptRecord::Dequeue { queue, by, .. } => put_by(text, shown, *queue, by),
         KeptRecord::Kill { element, .. } => {
-            text.push_str(" element ")?;
-            shown.put_element(text, element.0)
+            // It may be none: what happens has the link.
+            put(text, &[Tag(" element "), Number(element.0)])
         }
         KeptRecord::Checkpoint { bytes } => put_checkpoint(text, bytes.bytes().len(), truth),
         _ => Ok(()),
