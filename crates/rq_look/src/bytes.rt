@@ -55,7 +55,7 @@ fn put_hex(
 /// Puts bytes as a text where they are printable, else as digits, and `-` for none; the first of
 /// them alone where they are not wanted in full, and then their number behind, if these are not
 /// all.
-pub fn put_bytes(
+pub(crate) fn put_bytes(
     alloc: Global,
     text: &mut String,
     bytes: &[u8],

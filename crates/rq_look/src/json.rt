@@ -65,7 +65,7 @@ pub(crate) struct Shown<'a> {
 }
 
 /// The queue of a number, unless the number stands for none.
-pub fn queue_number(queue: QueueNo) -> Option<u32> {
+pub(crate) fn queue_number(queue: QueueNo) -> Option<u32> {
     if queue == QueueNo::NONE {
         None
     } else {

@@ -9,7 +9,7 @@ use std::io::{self, Write};
 const ROOM: usize = 65_536;
 
 /// Writes the text, which is then empty.
-pub fn finish<W: Write>(text: &mut String, output: &mut W) -> io::Result<()>
+pub(crate) fn finish<W: Write>(text: &mut String, output: &mut W) -> io::Result<()>
     ensures { OnOk result
         (Appends (W.contents output.old) (W.contents output.new) (string_bytes text.old)
         × (string_bytes text.new ≡ [])) }
@@ -20,7 +20,7 @@ pub fn finish<W: Write>(text: &mut String, output: &mut W) -> io::Result<()>
 }
 
 /// Writes the text where there is much of it: all of it, or nothing.
-pub fn relieve<W: Write>(text: &mut String, output: &mut W) -> io::Result<()>
+pub(crate) fn relieve<W: Write>(text: &mut String, output: &mut W) -> io::Result<()>
     ensures written { OnOk result ((put : List ℕ)
         × Appends (W.contents output.old) (W.contents output.new) put
         × (string_bytes text.old ≡ put ++ string_bytes text.new)) }
