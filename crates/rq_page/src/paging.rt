@@ -105,34 +105,44 @@ fn put_middle(
     put_queues(alloc, text, shown, seen, state, end, asked.order)
 }
 
-// Whose lives are shown: those of all if they fit.
-fn fitting<'a>(
-    alloc: Global,
-    bytes: &[u8],
-    end: &End,
-    shown: Shown<'a>,
-) -> Result<Shown<'a>, Trouble>
+// Whether the lives of all are shown: if they may be and fit.
+fn all_fit(alloc: Global, bytes: &[u8], end: &End, shown: &Shown<'_>) -> Result<bool, Trouble>
     ensures { IfErr result IsBroken }
 {
     if !shown.all {
-        return Ok(shown);
+        return Ok(false);
     }
-    let lives = lives_of(alloc, bytes, end, &shown, &[])?;
-    Ok(if lives.more > 0 {
-        shown.of_asked()
-    } else {
-        shown
-    })
+    let lives = lives_of(alloc, bytes, end, shown, &[])?;
+    Ok(lives.more == 0)
 }
 
 // Puts the lives that are shown.
 fn put_lives(text: &mut String, shown: &Shown<'_>, lives: &Lives) -> Result<(), AllocError> {
-    let shown = &shown.with_rows_until(lives.until);
-    put_elements(text, shown, lives)?;
-    put_units(text, shown, lives)?;
-    put_registrants(text, shown, lives)?;
+    let mut shown = *shown;
+    shown.until = lives.until;
+    put_elements(text, &shown, lives)?;
+    put_units(text, &shown, lives)?;
+    put_registrants(text, &shown, lives)?;
     put_records(text, lives.rows.as_str(), lives.count, lives.more)?;
     text.push_str("</main>\n")
+}
+
+// Puts all parts, one behind the other.
+fn put_all(
+    alloc: Global,
+    text: &mut String,
+    bytes: &[u8],
+    contents: &Contents,
+    shown: &Shown<'_>,
+    lives: &Lives,
+    asked: &Asked<'_>,
+) -> Result<(), AllocError>
+    ensures { OnOk result ((put : List ℕ) × (string_bytes text.new ≡ put ++ page_foot)) }
+{
+    put_top(alloc, text, bytes, contents, lives, asked)?;
+    put_middle(alloc, text, shown, contents, asked)?;
+    put_lives(text, shown, lives)?;
+    put_foot(text)
 }
 
 // The text of the page.
@@ -145,15 +155,12 @@ fn text_of(
     ensures whole { IfOk result (λ text. (put : List ℕ) × (string_bytes text ≡ put ++ page_foot)) }
     ensures refused { IfErr result IsBroken }
 {
-    let (restarted, end) = (&contents.restarted, &contents.end);
-    let shown = Shown::of(asked, restarted.state().definitions(), end.records);
-    let shown = fitting(alloc, bytes, end, shown)?;
+    let end = &contents.end;
+    let mut shown = Shown::of(asked, contents.restarted.state().definitions(), end.records);
+    shown.all = all_fit(alloc, bytes, end, &shown)?;
     let lives = lives_of(alloc, bytes, end, &shown, contents.checkpoints.as_slice())?;
     let mut text = String::new(alloc);
-    put_top(alloc, &mut text, bytes, contents, &lives, asked)?;
-    put_middle(alloc, &mut text, &shown, contents, asked)?;
-    put_lives(&mut text, &shown, &lives)?;
-    put_foot(&mut text)?;
+    put_all(alloc, &mut text, bytes, contents, &shown, &lives, asked)?;
     Ok(text)
 }
 

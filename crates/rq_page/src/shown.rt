@@ -40,16 +40,6 @@ impl<'a> Shown<'a> {
         }
     }
 
-    /// The same, where the lives of all do not fit.
-    pub(crate) fn of_asked(self) -> Shown<'a> {
-        Shown { all: false, ..self }
-    }
-
-    /// The same, where the rows of records end before this one.
-    pub(crate) fn with_rows_until(self, until: u64) -> Shown<'a> {
-        Shown { until, ..self }
-    }
-
     /// Whether nobody's life is shown.
     pub(crate) fn is_nobody(&self) -> bool {
         !self.all && self.elements.is_empty() && self.units.is_empty()
