@@ -12,6 +12,9 @@ use std::alloc::{AllocError, Global};
 // While the rows have fewer bytes, payloads can be folded out.
 const WHOLE: usize = 500_000;
 
+// As many events of a record are shown: a COMMIT has one for each operation of its unit.
+const EVENTS: usize = 1000;
+
 fn put_unit(text: &mut String, shown: &Shown<'_>, record: &KeptRecord) -> Result<(), AllocError> {
     match unit_of(record) {
         Some(unit) => {
@@ -124,8 +127,15 @@ fn put_fields(
 
 fn put_events(text: &mut String, shown: &Shown<'_>, events: &[Event]) -> Result<(), AllocError> {
     text.push_str("<ol>")?;
-    for event in events {
+    for event in events.iter().take(EVENTS) {
         put_step(text, shown, &step_of(event, At::Here))?;
+    }
+    if events.len() > EVENTS {
+        let more = Count(events.len().saturating_sub(EVENTS) as u64);
+        put(
+            text,
+            &[Tag("<li class=\"none\">and "), more, Tag(" more</li>")],
+        )?;
     }
     text.push_str("</ol>")
 }
