@@ -85,12 +85,3 @@ pub(crate) fn judge(bytes: &[u8], at: usize) -> Judged
         end: at + FRAME_LEN + len,
     }
 }
-
-/// Whether a frame stands at an offset and is right in itself.
-pub fn is_right_at(bytes: &[u8], at: usize) -> bool
-    requires after { 32 ≤ at }
-    requires within { at ≤ length bytes.now }
-    ensures { IsTrue result ↔ IsRightAt bytes.now at }
-{
-    judge(bytes, at).is_right
-}

@@ -10,4 +10,3 @@ mod places;
 mod runs;
 
 pub use finding::{Found, behind};
-pub use frames::is_right_at;
