@@ -4,9 +4,9 @@ docs/LOOKING.md and docs/FORMAT.md alone, asks each place in turn and knows no b
 
 usage: behind.py RQ RQLOOK [--logs N] [--seed N] [--jobs N] [--hostile MIB] [--folder DIR]
 Each log has one to three damaged places: a changed byte in a body, in a digest or in a length; bytes that are removed; bytes that are put
-in. Compared are the lines of `check` and the offsets of `dump --behind --json`. The log of 100,010 records with one byte changed at a
-tenth of it is one of them. With --hostile logs of so many MiB and of twice as many are looked at that want to make the search slow: a table of seconds, with those
-of `rq restart` of the same file and of a log of that length that is whole. The last line is `N passed, M failed`, by logs.
+in. Compared are the lines of `check` and the offsets of `dump --behind --json`. One more log has 100,010 records
+and one byte changed at a tenth: 90,259 right frames. With --hostile logs of so many MiB and of twice as many are looked at that want to
+make the search slow: a table of seconds, with those of `rq restart` of the same file and of a log of that length that is whole. The last line is `N passed, M failed`, by logs.
 """
 from __future__ import annotations
 import argparse, hashlib, json, os, random, struct, subprocess, sys, time
@@ -192,12 +192,12 @@ def frames_are_whole(log: bytes) -> bool:
 
 
 def of_many_records() -> bytes:
-    """100,010 records, of which one byte is changed at a tenth of the log."""
+    """100,010 records, of which the body of number 9,750 is changed, at a tenth of the log: 90,259 right frames stand behind."""
     bodies = [define(b"jobs")] + [register(0, f"r{it}".encode()) for it in range(9)]
     for unit in range(1, 25001):
         bodies += [begin(unit), enqueue(unit, 0, b"r1", unit, b"payload"), dequeue(unit, 0, b"r2", unit), commit(unit)]
     log = bytearray(chained(header_of(1), bodies))
-    log[len(log) // 10] ^= 1
+    log[frames_of(bytes(log))[9750][0] + 6] ^= 1
     return bytes(log)
 
 
@@ -216,7 +216,7 @@ def run(*words: str) -> bytes:
 
 def told_of(rqlook: str, path: str) -> Told:
     lines = run(rqlook, "check", path).splitlines(keepends=True)
-    shown = [json.loads(line) for line in run(rqlook, "dump", path, "--behind", "--limit", "1000000000", "--json").splitlines()]
+    shown = [json.loads(line) for line in run(rqlook, "dump", path, "--behind", "--json").splitlines()]
     front = shown[-1]["front"]
     return Told(front["used"], front["total"], b"".join(line for line in lines if line.startswith((b"behind it ", b"the search"))),
                 [line["offset"] for line in shown[:-1] if line.get("behind") is True and "offset" in line])

@@ -76,6 +76,20 @@ CUT = "front ends behind 3 records, at 192 of 236 bytes, cut: 44 bytes follow, a
 OPEN = "".join(f"begin {unit}\n" for unit in range(1, 1501))
 OPEN_END = "front ends behind 1500 records, at 67540 of 67540 bytes, whole: nothing follows\n"
 LAW = "front ends behind 1 records, at 87 of 132 bytes, law: unit 1 is not open\n"
+# What stands behind these fronts: the beginning of a COMMIT, and a COMMIT that is right and not lawful.
+NOTHING_BEHIND = "behind it no frame is right in itself; 44 bytes fit nothing\n"
+ONE_BEHIND = "behind it 1 frames are right in themselves, the first at 87; 0 bytes fit nothing\n"
+# A log whose BEGIN is another unit's: its frame is wrong, and the two behind it are right.
+BEGUN_OTHERWISE = """\
+40 0 define queue 0 name jobs limit 0 error -
+132 behind enqueue unit 1 queue 0 priority 5 by - payload "a"
+192 behind commit unit 1
+behind it 2 frames are right in themselves, the first at 132; 45 bytes fit nothing
+"""
+OBJECTS_BEHIND = """\
+{"offset":132,"behind":true,"kind":"enqueue","unit":1,"queue":0,"priority":5,"payload":{"hex":"61","text":"a"}}
+{"behind":{"frames":2,"first":132,"unfit":45}}
+"""
 
 
 class Row(NamedTuple):
@@ -102,6 +116,9 @@ ROWS = [
     Row("dump LOG --unit 2 --limit 1", TWO_UNITS, whole, 0, BEGIN + END),
     Row("dump LOG --queue 1", TWO_UNITS, whole, 0, DEFINE + REGISTER + ENQUEUE + END),
     Row("dump LOG --registrant ann", TWO_UNITS, whole, 0, REGISTER + ENQUEUE + END),
+    # what stands behind the front
+    Row("check LOG", ONE_ELEMENT, lambda log: log[:-1], 1, CUT + NOTHING_BEHIND),
+    Row("check LOG", "define jobs 0 -\ncommit 1\n", whole, 1, LAW + ONE_BEHIND),
     # what a check finds
     Row("check LOG", "define jobs 0 -\ncheckpoint\n", whole, 0, ""),
     Row("check LOG", "define jobs 0 -\ncheckpoint-hex 00\n", whole, 1,
@@ -165,6 +182,29 @@ def on_the_page(rqlook: Program) -> tuple[int, str, list[str], bool]:
     return status, text[:16] + text[-8:], [part for part in ON_THE_PAGE if part in text], "<b>" in text
 
 
+def but_the_end(rqlook: Program, *words: str) -> tuple[int, str]:
+    """What a dump shows before its last line."""
+    status, output, _ = rqlook.run(*words)
+    return status, "".join(output.decode().splitlines(keepends=True)[:-1])
+
+
+def behind_one(rqlook: Program, rq: Program) -> Iterator[Question]:
+    """What stands behind a changed byte, shown and saved."""
+    log = rq.log_of(ONE_ELEMENT)
+    path = rq.file(log[:99] + b"\2" + log[100:])
+    yield Question("rqlook dump --behind", functools.partial(but_the_end, rqlook, "dump", path, "--behind"), (0, BEGUN_OTHERWISE))
+    words = ("dump", path, "--behind", "--json", "--kind", "enqueue")
+    yield Question("rqlook dump --behind --json", functools.partial(but_the_end, rqlook, *words), (0, OBJECTS_BEHIND))
+    want = (0, ["define jobs 0 -", "#132 enqueue 1 0 5 - 0 61", "#192 commit 1"])
+    yield Question("rqlook salvage", functools.partial(records_saved, rqlook, path), want)
+
+
+def records_saved(rqlook: Program, log: str) -> tuple[int, list[str]]:
+    """The lines of a salvage but for its words."""
+    status, output, _ = rqlook.run("salvage", log, "-")
+    return status, [line for line in output.decode().splitlines() if not line.startswith("# ")]
+
+
 def of_one_log(rqlook: Program, rq: Program) -> Iterator[Question]:
     log = rq.file(rq.log_of(SECOND_ABORT))
     yield Question("rqlook report --json", functools.partial(json_end, rqlook, log), told(JSON_END))
@@ -179,5 +219,6 @@ def questions_of(rq: Program) -> Callable[[Program], Iterator[Question]]:
     def questions(rqlook: Program) -> Iterator[Question]:
         yield from tables_of(rqlook, rq)
         yield from of_one_log(rqlook, rq)
+        yield from behind_one(rqlook, rq)
         yield from fronts_of_windows(rqlook, rq)
     return questions

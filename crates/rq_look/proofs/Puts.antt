@@ -5,6 +5,8 @@ use Rattle.std.proofs.KnownBytes.{Appends-trans}
 use Rattle.rq_model.specs.Fronts.{Restarted}
 use Rattle.rq_restart.specs.FrontEnds.{IsEndOf}
 use Rattle.rq_restart.specs.Views.{why_of}
+use Rattle.rq_behind.specs.declared.finding.Found.{Found}
+use Rattle.rq_look.specs.Rests.{behind_finding}
 use Rattle.rq_look.specs.declared.ends.End.{End}
 use Rattle.rq_record.specs.declared.fault.Fault.{Fault}
 use Rattle.rq_record.specs.declared.fault.Fault.TheVariants.{Resources}
@@ -38,6 +40,11 @@ pub same_finding : (r : Restarted) (end : End) (reason : List ℕ) → IsEndOf r
     → end_finding end.records end.used end.total (why_of end.why) reason
     ≡ end_finding r.records r.used r.total r.why reason
 same_finding r end reason e = λ i. end_finding (e.records i) (e.used i) (e.total i) (e.why i) reason
+
+-- and so are the lines of what stands behind it
+pub same_rest : (r : Restarted) (end : End) (behind : Found) → IsEndOf r (front_end_of end)
+    → behind_finding (why_of end.why) behind end.total ≡ behind_finding r.why behind r.total
+same_rest r end behind e = λ i. behind_finding (e.why i) behind (e.total i)
 
 -- each log may be refused for want of memory
 memory_refused : (at : Option ℕ) (b : List ℕ) → RefusedFrom at b Resources

@@ -75,7 +75,12 @@ fn chain_reason(alloc: Global, before: &[u8], rest: &[u8]) -> Result<String, All
     format!(in alloc; "the digest is {stated}, and that of the bytes {digest}")
 }
 
-fn form_reason(alloc: Global, version: Version, body: &[u8]) -> Result<String, AllocError> {
+/// Why no record of the version has the body.
+pub(crate) fn form_reason(
+    alloc: Global,
+    version: Version,
+    body: &[u8],
+) -> Result<String, AllocError> {
     match misfit_of(version, body) {
         Some((at, misfit)) => format!(in alloc; "byte {at} of the body: {misfit}"),
         None => String::from_str(alloc, "no record has the body"),

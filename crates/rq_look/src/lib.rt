@@ -4,6 +4,7 @@
 #![tactic(auto)]
 
 mod beginning;
+mod beyond;
 mod bytes;
 mod checking;
 mod dumping;
@@ -20,8 +21,10 @@ mod paging;
 mod pieces;
 mod queues;
 mod reporting;
+mod salvaging;
 mod scripting;
 mod sheet;
+mod standing;
 mod telling;
 mod trouble;
 mod wanted;
@@ -33,6 +36,7 @@ pub use hidden::Seen;
 pub use paging::page;
 pub use reporting::{report, report_json};
 pub use rq_restart::{Fault, Plan};
+pub use salvaging::salvage;
 pub use scripting::script;
 pub use telling::{Subject, story};
 pub use trouble::Trouble;

@@ -16,7 +16,7 @@ const GRAIN: u32 = 1000;
 
 // Whether a command begins with the first record of a log, and so shows none that was carried on.
 fn begins_with_the_first(command: &str) -> bool {
-    matches!(command, "script" | "page")
+    matches!(command, "script" | "salvage" | "page")
 }
 
 fn plan_of(words: &ArgMatches<'_>) -> Option<Plan> {
@@ -132,13 +132,17 @@ where
     }
 }
 
-// The page of a log, in memory.
-fn page_of<R>(rt: &R, bytes: &[u8], plan: &Plan, file: &str) -> Result<Vec<u8>, Trouble>
+// The page of a log, or its script with what stands behind its front, in memory.
+fn made_of<R>(rt: &R, name: &str, bytes: &[u8], plan: &Plan, file: &str) -> Result<Vec<u8>, Trouble>
 where
     R: AllocGlobal + Threads + Sync,
 {
     let mut made = Vec::new(rt.alloc());
-    match rq_look::page(rt, rt.alloc(), bytes, plan, file, &mut made) {
+    let done = match name {
+        "page" => rq_look::page(rt, rt.alloc(), bytes, plan, file, &mut made),
+        _ => rq_look::salvage(rt, rt.alloc(), bytes, plan, &mut made),
+    };
+    match done {
         Ok(()) => Ok(made),
         // A write into memory fails for want of it alone.
         Err(Trouble::Output(_)) => Err(Trouble::Log(Fault::Resources)),
@@ -146,8 +150,15 @@ where
     }
 }
 
-// Makes the page of a log. Its file is whole or as it was, and never the log.
-fn page<R>(rt: &R, bytes: &[u8], plan: &Plan, file: &str, to: &str) -> Result<bool, Failure>
+// Makes the page of a log, or its salvage. The file is whole or as it was, and never the log.
+fn make<R>(
+    rt: &R,
+    name: &str,
+    bytes: &[u8],
+    plan: &Plan,
+    file: &str,
+    to: &str,
+) -> Result<bool, Failure>
 where
     R: Files + Print + AllocGlobal + Threads + Sync,
     R::File: AsFd,
@@ -155,7 +166,7 @@ where
     if is_over_log(rt, file, to) {
         return Err(Failure::Same);
     }
-    let made = match page_of(rt, bytes, plan, file) {
+    let made = match made_of(rt, name, bytes, plan, file) {
         Ok(made) => made,
         Err(trouble) => {
             return Err(Failure::Refused(String::from_str(rt.alloc(), file)?, trouble));
@@ -192,7 +203,7 @@ where
         return Err(Failure::Carried(String::from_str(rt.alloc(), file)?));
     }
     if let Some(to) = words.get_str("OUT") {
-        return page(rt, &bytes, &plan, file, to);
+        return make(rt, name, &bytes, &plan, file, to);
     }
     match perform(rt, name, words, &bytes, at, &plan, watch) {
         Ok(fine) => Ok(fine),
