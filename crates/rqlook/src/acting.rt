@@ -10,6 +10,7 @@ use std::io::{self, ErrorKind, Printer};
 use std::os::fd::AsFd;
 use std::rt::{Clock, Files};
 use std::thread::Threads;
+use std::time::Instant;
 
 // The grain of each plan, in frames.
 const GRAIN: u32 = 1000;
@@ -111,6 +112,36 @@ where
     Ok(true)
 }
 
+// Tells how long a megabyte of the log took, where there is a clock.
+fn tell_time<R: Eprint + Clock>(rt: &R, bytes: &[u8], begun: Option<Instant>) {
+    let Some(elapsed) = begun.and_then(|begun| begun.elapsed(rt).ok()) else {
+        return;
+    };
+    let each = elapsed.as_micros() / (bytes.len() as u128 / 1_000_000).max(1);
+    let _ = eprintln!(rt; "rqlook: {each} microseconds for a megabyte");
+}
+
+fn stats<R>(
+    rt: &R,
+    bytes: &[u8],
+    at: Option<u64>,
+    plan: &Plan,
+    words: &ArgMatches<'_>,
+) -> Result<bool, Trouble>
+where
+    R: Print + Eprint + Clock + AllocGlobal + Threads + Sync,
+{
+    let begun = if words.get_flag("time") {
+        Instant::now(rt).ok()
+    } else {
+        None
+    };
+    let mut output = io::writer(rt);
+    rq_look::stats(rt, rt.alloc(), bytes, at, plan, words.get_flag("json"), &mut output)?;
+    tell_time(rt, bytes, begun);
+    Ok(true)
+}
+
 fn perform<R>(
     rt: &R,
     name: &str,
@@ -127,6 +158,7 @@ where
         "dump" => dump(rt, bytes, at, plan, words, watch),
         "check" => check(rt, bytes, at, plan, words.get_flag("quiet")),
         "report" => report(rt, bytes, at, plan, words),
+        "stats" => stats(rt, bytes, at, plan, words),
         "story" | "unit" => story(rt, bytes, at, plan, words),
         _ => rq_look::script(rt, rt.alloc(), bytes, plan, &mut output(rt, watch)),
     }

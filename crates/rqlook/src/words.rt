@@ -151,6 +151,21 @@ fn salvage<'a>(alloc: Global) -> Result<Command<'a>, Error> {
     )
 }
 
+fn stats<'a>(alloc: Global) -> Result<Command<'a>, Error> {
+    Ok(
+        Command::new(alloc, "stats")
+            .about("Shows numbers of the log: records by kind, units by outcome, and what is greatest")
+            .arg(log(alloc))?
+            .arg(flag(alloc, "json", "Shows them as JSON"))?
+            .arg(flag(
+                alloc,
+                "time",
+                "Tells on standard error how long a megabyte of the log took",
+            ))?
+            .arg(workers(alloc))?,
+    )
+}
+
 fn number<'a>(alloc: Global, name: &'a str, help: &'a str) -> Arg<'a> {
     Arg::new(alloc, name)
         .required(true)
@@ -203,6 +218,7 @@ pub(crate) fn program<'a>(alloc: Global) -> Result<Command<'a>, Error> {
             .subcommand(report(alloc)?)?
             .subcommand(script(alloc)?)?
             .subcommand(salvage(alloc)?)?
+            .subcommand(stats(alloc)?)?
             .subcommand(story(alloc)?)?
             .subcommand(unit(alloc)?)?
             .subcommand(page(alloc)?)?,
