@@ -1,0 +1,6 @@
+mod Units
+mod Acting
+mod Defining
+mod UnitEnds
+mod Arrivals
+mod Closing
