@@ -1,4 +1,4 @@
-use Rattle.std.proofs.Common.{◌≡◌, arith, reverse, subst, sym, List}
+use Rattle.std.proofs.Common.{◌≡◌, ◌∙◌, ap, arith, reverse, subst, sym, List}
 use Rattle.std.proofs.lemmas.List.{reverse-reverse}
 use Rattle.rq_model.specs.Queues.{Move}
 use Rattle.rq_standing.proofs.Arrivals.{AreLeft, all_left, none_left, next_new, left_next, popped}
@@ -6,7 +6,7 @@ use Rattle.rq_standing.proofs.arriving.receive_all.Goals as goal
 
 pub loop-arrival-init : goal.loop-arrival-init
 loop-arrival-init c = subst (λ (ms : List Move). AreLeft ms c.args.arrivals.items c.args.parts.now.items c.args.parts.now.items)
-    (sym (reverse-reverse c.args.arrivals.items))
+    (sym (ap reverse c.reverse.ensures.items ∙ reverse-reverse c.args.arrivals.items))
     (all_left c.args.arrivals.items c.args.parts.now.items c.requires.new)
 
 pub receive_on-requires : goal.receive_on-requires

@@ -1,4 +1,4 @@
-use Rattle.std.proofs.Common.{arith, ◌∙◌, ◌<◌, [], refl, sym, subst}
+use Rattle.std.proofs.Common.{arith, ◌∙◌, ◌<◌, [], get_or, refl, sym, subst}
 use Rattle.rq_model.specs.Records.{Abort}
 use Rattle.rq_standing.specs.Parts.{Sends}
 use Rattle.rq_standing.proofs.UnitEnds.{end_next, sends_next, none_sent, room_next}
@@ -14,8 +14,9 @@ loop-queue-init c = record {
 pub abort_on-requires : goal.abort_on-requires
 abort_on-requires c = record {
   room = λ within.
-      room_next c.args.place c.args.unit.0 _ c.args.parts.now.items c.loop-queue.parts.items c.loop-queue.invariant.ended _
-      (c.requires.room _ (subst (λ n. _ < n) c.loop-queue.invariant.size within));
+      let q = get_or c.args.queues.now c.loop-queue.queue-index 0 in
+      room_next c.args.place c.args.unit.0 _ c.args.parts.now.items c.loop-queue.parts.items c.loop-queue.invariant.ended q
+      (c.requires.room q (subst (λ n. q < n) c.loop-queue.invariant.size within));
 }
 
 pub loop-queue-preserved : goal.loop-queue-preserved
