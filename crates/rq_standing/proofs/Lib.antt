@@ -1,4 +1,5 @@
 mod Units
+mod StateUnits
 mod Acting
 mod Defining
 mod UnitEnds

@@ -4,15 +4,22 @@ use Rattle.std.proofs.Common.{refl, sym, ap, ◌∙◌, subst, arith}
 use Rattle.std.specs.Prelude.{◌==◌, nat_lt, if◌then◌else◌}
 use Rattle.std.specs.List.{list_any, AllByRecursion}
 use Rattle.std.specs.Ordering.{nat_cmp, is_eq}
+use Rattle.std.specs.declared.cmp.Ordering.TheVariants.{Less}
+use Rattle.std.specs.List.Sorted.{IsStrictlySortedBy}
+use Rattle.std.specs.BTreeMap.{keys, is_at, IsOrdered}
+use Rattle.std.specs.BTreeSet.{btree_set}
+use Rattle.std.proofs.lemmas.Cmp.{nat_cmp_total}
+use Rattle.std.proofs.lemmas.Map.Lookups.{btree_set_from_contains, exact_unsigned}
+use Rattle.std.proofs.lemmas.Map.Made.{is_some-lookup}
 use Rattle.std.proofs.lemmas.Bool.{and_parts, false≢true, ltb-true, eqb-true}
 use Rattle.rq_model.specs.Records.{Record, Define, Register, Deregister, Begin, Enqueue, Dequeue, Commit, Abort}
 use Rattle.rq_model.specs.Records.{Checkpoint, Kill, Version}
 use Rattle.rq_model.specs.States.{State}
-use Rattle.rq_model.specs.WellFormed.{IsWellFormed}
+use Rattle.rq_model.specs.WellFormed.{IsWellFormed, Ordered}
 use Rattle.rq_model.specs.Machine.{is_open, is_lawful, closed_units, step}
 use Rattle.rq_model.specs.Queues.{is_engaged, engages}
 use Rattle.rq_model.specs.StepLaws.{StepByParts}
-use Rattle.rq_model.proofs.Lists.{by_cases}
+use Rattle.rq_model.proofs.Lists.{by_cases, each_weaker}
 use Rattle.rq_standing.specs.Standings.{named, unit_in}
 use Rattle.rq_standing.specs.Units.{AreUnits, is_open_in, queues_of, engages_in}
 use Rattle.rq_standing.specs.declared.open_units.OpenUnits.{OpenUnits}
@@ -21,7 +28,7 @@ or_nothing : (b : Bool) → (b || false) ≡ b
 or_nothing true = refl
 or_nothing false = refl
 
-any_both : (p : ℕ → Bool) (xs ys : List ℕ) → list_any p (xs ++ ys) ≡ (list_any p xs || list_any p ys)
+pub any_both : (p : ℕ → Bool) (xs ys : List ℕ) → list_any p (xs ++ ys) ≡ (list_any p xs || list_any p ys)
 any_both p [] ys = refl
 any_both p (x ∷ xs) ys = ap (λ b. p x || b) (any_both p xs ys) ∙ or_joined (p x) (list_any p xs) (list_any p ys)
   where
@@ -36,7 +43,7 @@ other_unit : (unit u : ℕ) → (unit == u) ≡ false → is_eq (nat_cmp unit u)
 other_unit unit u h = grind (arith, h)
 
 -- the units are as they were, with the queues that they were filed with
-same_number : (unit u : ℕ) → is_eq (nat_cmp unit u) ≡ (unit == u)
+pub same_number : (unit u : ℕ) → is_eq (nat_cmp unit u) ≡ (unit == u)
 same_number unit u = by_cases (unit == u) (λ b. (unit == u) ≡ b → is_eq (nat_cmp unit u) ≡ b)
     (λ _ t. same_unit unit u t) (λ _ f. other_unit unit u f) refl
 
@@ -244,3 +251,28 @@ units_ended law s r unit x y well closed nobody opened queues are = record {
       (queues u ∙ ap (λ b. if b then [] else queues_of x u) (other_unit unit u other)) ∙ are.engaged u q before)
       refl;
 }
+
+-- The open units in their order.
+
+rises : (us : List ℕ) → Ordered (λ u v. u < v) us → IsStrictlySortedBy nat_cmp us
+unfolding IsStrictlySortedBy
+rises [] h = tt
+rises (u ∷ us) h = (each_weaker (λ v. u < v) (λ v. nat_cmp u v ≡ Less) (below u) us h.0, rises us h.1)
+  where
+    below : (u v : ℕ) → u < v → nat_cmp u v ≡ Less
+    below u v l = grind (arith, l)
+
+has_unit : (u : ℕ) (us : List ℕ) → list_any (λ v. v == u) us ≡ list_any (is_at (nat_cmp u)) us
+has_unit u [] = refl
+has_unit u (v ∷ us) = ap (λ b. b || list_any (λ v. v == u) us) (sym (same_number u v ∙ turned u v))
+    ∙ ap (λ b. is_at (nat_cmp u) v || b) (has_unit u us)
+  where
+    turned : (a b : ℕ) → (a == b) ≡ (b == a)
+    turned a b = grind arith
+
+-- the units of a state, rising, are the keys
+pub keys_are : (x : OpenUnits) (s : State) → IsWellFormed s → IsOrdered nat_cmp x.named → AreUnits x s
+    → keys x.named ≡ s.units
+keys_are x s well ordered are = btree_set_from_contains nat_cmp_total (btree_set (keys x.named)) (btree_set s.units)
+    ordered (rises s.units well.units_rise)
+    (λ u. sym (is_some-lookup (is_at (nat_cmp u)) x.named.entries) ∙ are.open u ∙ has_unit u s.units) exact_unsigned

@@ -4,10 +4,12 @@
 
 mod arriving;
 mod ending;
+mod gathering;
 mod open_units;
 mod operating;
 mod queues;
 mod standing;
+mod starting;
 mod taken;
 
 pub use open_units::OpenUnits;

@@ -1,10 +1,14 @@
 //! The open units, and the queues that each of them named.
 
-ghost use Rattle.std.specs.Prelude.{◌≡◌, ◌==◌, ℕ, [], ◌&&◌, ◌||◌, true, false, OnOk, IfErr};
+ghost use Rattle.std.specs.Prelude.{◌≡◌, ◌==◌, ℕ, [], ◌&&◌, ◌||◌, true, false, IfOk, OnOk, IfErr, map};
 ghost use Rattle.std.specs.Prelude.{if◌then◌else◌};
+ghost use Rattle.std.specs.BTreeMap.{keys, IsOrdered};
 ghost use Rattle.std.specs.Ordering.{nat_cmp, is_eq};
+ghost use Rattle.rq_model.specs.States.{State};
+ghost use Rattle.rq_model.specs.WellFormed.{IsWellFormed};
 ghost use Rattle.rq_record.specs.declared.fault.Fault.TheVariants.{Resources};
-ghost use Rattle.rq_standing.specs.Units.{is_open_in, queues_of, engages_in};
+ghost use Rattle.rq_state.specs.Views.{unit_of};
+ghost use Rattle.rq_standing.specs.Units.{AreUnits, is_open_in, queues_of, engages_in};
 
 use rq_record::{Fault, QueueNo, UnitNo};
 use std::alloc::Global;
@@ -66,4 +70,26 @@ impl OpenUnits {
             None => Vec::new(alloc),
         }
     }
+
+    /// Their numbers, rising.
+    pub(crate) fn numbers(&self, alloc: Global) -> Result<Vec<UnitNo>, Fault>
+        ensures numbers { IfOk result (λ units. (s : State) → IsWellFormed s → AreUnits self.now s
+            → map unit_of units.items ≡ s.units) }
+        ensures refused { IfErr result (λ e. e ≡ Resources) }
+    {
+        let units = listed(alloc, &self.named)?;
+        Ok(units)
+    }
+}
+
+fn listed(alloc: Global, named: &BTreeMap<u64, Vec<u64>>) -> Result<Vec<UnitNo>, Fault>
+    ensures listed { IfOk result (λ units. map unit_of units.items ≡ keys named.now) }
+    ensures ordered { IfOk result (λ _. IsOrdered nat_cmp named.now) }
+    ensures refused { IfErr result (λ e. e ≡ Resources) }
+{
+    let mut units = Vec::new(alloc);
+    for unit in named.keys() {
+        units.push(UnitNo(*unit))?;
+    }
+    Ok(units)
 }

@@ -14,6 +14,7 @@ use crate::arriving::receive_all;
 use crate::ending::{abort_all, commit_all};
 use crate::open_units::OpenUnits;
 use crate::operating::{act_on, dequeue_on};
+use crate::starting::{definitions_of, open_units_of, parts_of};
 use rq_queue::{KeptOp, Part};
 use rq_record::{ElemId, Fault, KeptBy, KeptRecord, QueueNo, UnitNo};
 use rq_state::Definition;
@@ -23,13 +24,13 @@ use std::alloc::Global;
 /// and definitions of a state.
 #[derive(Drop)]
 pub struct Queues {
-    next: u64,
-    greatest: u64,
-    committed: u64,
-    aborted: u64,
-    definitions: Vec<Definition>,
-    parts: Vec<Part>,
-    units: OpenUnits,
+    pub(crate) next: u64,
+    pub(crate) greatest: u64,
+    pub(crate) committed: u64,
+    pub(crate) aborted: u64,
+    pub(crate) definitions: Vec<Definition>,
+    pub(crate) parts: Vec<Part>,
+    pub(crate) units: OpenUnits,
 }
 
 impl Queues {
@@ -47,6 +48,26 @@ impl Queues {
             parts: Vec::new(alloc),
             units: OpenUnits::none(alloc),
         }
+    }
+
+    /// The queues of the state. Refused with `Resources` alone.
+    pub(crate) fn of(alloc: Global, state: &rq_state::State) -> Result<Queues, Fault>
+        ensures holds { IfOk result (λ x. Holds x state.now) }
+        ensures refused { IfErr result (λ e. e ≡ Resources) }
+    {
+        state.is_well_formed();
+        let definitions = definitions_of(alloc, state)?;
+        let parts = parts_of(alloc, state)?;
+        let units = open_units_of(alloc, state)?;
+        Ok(Queues {
+            next: state.next(),
+            greatest: state.greatest(),
+            committed: state.committed(),
+            aborted: state.aborted(),
+            definitions,
+            parts,
+            units,
+        })
     }
 
     fn define(&mut self, alloc: Global, definition: Definition) -> Result<(), Fault>

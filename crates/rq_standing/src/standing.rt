@@ -34,6 +34,16 @@ impl Standing {
         }
     }
 
+    /// The queues of the state, by the rules of the version. Refused with `Resources` alone.
+    pub fn of(alloc: Global, version: Version, state: &rq_state::State) -> Result<Standing, Fault>
+        ensures stands { IfOk result (λ x. Stands (version_of version) x state.now) }
+        ensures refused { IfErr result (λ e. e ≡ Resources) }
+    {
+        let judge = Judge::of(alloc, version, state)?;
+        let queues = Queues::of(alloc, state)?;
+        Ok(Standing { judge, queues })
+    }
+
     /// Does a record if it is lawful. If not, nothing changes, and the answer names a rule that it
     /// breaks. Refused with `Resources` alone: nothing is known of it from then on, so nobody can
     /// show that it stands anywhere, as this call asks.
@@ -54,5 +64,15 @@ impl Standing {
             Some(rule) => Ok(Taken::Unlawful(rule)),
             None => unreachable!(),
         }
+    }
+
+    /// The state in which it stands. Refused with `Resources` alone.
+    pub fn into_state(self, alloc: Global) -> Result<rq_state::State, Fault>
+        requires { (version : records.Version) × (s : State) × Stands version self s }
+        ensures state { IfOk result (λ t. (version : records.Version) (s : State) →
+            Stands version self s → t ≡ s) }
+        ensures refused { IfErr result (λ e. e ≡ Resources) }
+    {
+        self.queues.into_state(alloc)
     }
 }
