@@ -1,6 +1,6 @@
-// Tells of the calls that end the work on a file, by a letter on the descriptor in CALLS_TOLD: f where a file is synced,
-// r where one is renamed, d where a folder is synced. That of the letter in CALLS_FAIL fails. Before that of the letter in
-// CALLS_SWAP, and behind it where it renames, somebody else puts the file CALLS_FROM under the name CALLS_TO. `folders.py`
+// Tells of the calls that end the work on a file, by a letter on the descriptor in CALLS_TOLD: f when a file is synced,
+// r when one is renamed, d when a folder is synced. That of the letter in CALLS_FAIL fails. Before that of the letter in
+// CALLS_SWAP, and behind it when it renames, somebody else puts the file CALLS_FROM under the name CALLS_TO. `folders.py`
 // loads this before the C library.
 #define _GNU_SOURCE
 #include <dlfcn.h>

@@ -1,6 +1,7 @@
 """Files in folders that others may write, and what is done with a file before it is told to be made."""
 from __future__ import annotations
 import os, resource, shutil, signal, stat, subprocess, threading, time
+from collections.abc import Callable
 
 from trying import DONE, RQ, WRITE_FAULT, Ended, built, check, content, log_of, put, run, run_told
 
@@ -48,42 +49,54 @@ def attacker(folder: str) -> tuple[int, int]:
     return child, seen
 
 
-def withstands(log: str, closed: bytes) -> bool:
-    """Whether a close into that folder leaves the other file alone, and says of what it makes what is so."""
+def does_no_harm(making: Callable[[], bool]) -> bool:
+    """Whether what makes `out` in that folder leaves the other file alone, and says of what it makes what is so."""
     for name in ("theirs/out", "theirs/out.rq0"):
         if os.path.lexists(name):
             os.remove(name)
-    os.chown(put("theirs/out", OLD), NOBODY, NOBODY)
-    ended = run("close", log, "theirs/out", 1)
-    secret = os.stat("secret")
-    told = ended == WRITE_FAULT or ended == DONE and content("theirs/out") == closed and not os.path.islink("theirs/out")
+    told, secret = making(), os.stat("secret")
     return told and (secret.st_uid, stat.S_IMODE(secret.st_mode), content("secret")) == (0, 0o600, SECRET)
 
 
-def attacks() -> None:
+def attack(what: str, tries: int, making: Callable[[], bool]) -> None:
     """Root makes a file in a folder of somebody else, who puts a link in the place of what is written."""
     if os.geteuid() != 0:
         print("not root: nobody else's folder is tried")
         return
-    log, closed = log_of_bytes(1024, "attacked")
     os.mkdir("theirs")
     os.chown("theirs", NOBODY, NOBODY)
     os.chmod(put("secret", SECRET), 0o600)
     child, seen = attacker("theirs")
     try:
-        withstood = sum(withstands(log, closed) for _ in range(TRIES))
+        withstood = sum(does_no_harm(making) for _ in range(tries))
     finally:
         os.kill(child, signal.SIGKILL)
         os.waitpid(child, 0)
     with os.fdopen(seen, "rb") as file:
         met = len(file.read())
-    check("closes into a folder where somebody puts links that do no harm", withstood, TRIES)
+    check(f"{what} into a folder where somebody puts links that do no harm", withstood, tries)
     if met == 0:
         print("whoever puts links was too slow each time: this says nothing")
 
 
+def is_made(bytes_: bytes) -> bool:
+    return content("theirs/out") == bytes_ and not os.path.islink("theirs/out")
+
+
+def attacks() -> None:
+    """A log is closed over a file in such a folder."""
+    log, closed = log_of_bytes(1024, "attacked")
+
+    def making() -> bool:
+        os.chown(put("theirs/out", OLD), NOBODY, NOBODY)
+        ended = run("close", log, "theirs/out", 1)
+        return ended == WRITE_FAULT or ended == DONE and is_made(closed)
+
+    attack("closes", TRIES, making)
+
+
 def put_anew(old: bytes | None) -> None:
-    """An empty folder but for the old file, where there is one."""
+    """An empty folder but for the old file, if there is one."""
     shutil.rmtree("judged", ignore_errors=True)
     os.mkdir("judged")
     if old is not None:
@@ -95,7 +108,7 @@ def left() -> dict[str, bytes | None]:
 
 
 def calls() -> None:
-    """What is done with a file before it is told to be made: where one of it fails, or where the file is exchanged."""
+    """What is done with a file before it is told to be made: if one of it fails, or if the file is exchanged."""
     shim = built("calls")
     if shim is None:
         print("no C compiler: the calls that end the work on a file are not seen")
@@ -111,7 +124,7 @@ def calls() -> None:
                 put_anew(old)
                 ended = run_told(shim, "CALLS_TOLD", *line, CALLS_FAIL=letter), left()
                 want = (WRITE_FAULT, CALLS[:at + 1]), {"out": new} if letter == "d" else kept
-                check(f"{line[0]} where call {letter} fails", ended, want)
+                check(f"{line[0]} if call {letter} fails", ended, want)
     exchanged(shim, log, closed)
 
 
@@ -121,7 +134,7 @@ def exchanged(shim: str, log: str, closed: bytes) -> None:
         put_anew(OLD)
         asked = {"CALLS_SWAP": letter, "CALLS_FROM": put("theirs.file", SECRET), "CALLS_TO": f"judged/{name}"}
         ended, _ = run_told(shim, "CALLS_TOLD", "close", log, "judged/out", 1, **asked)
-        check(f"close where {name} is exchanged", (ended, left()), (WRITE_FAULT, want))
+        check(f"close if {name} is exchanged", (ended, left()), (WRITE_FAULT, want))
 
 
 def modes() -> None:
@@ -198,7 +211,7 @@ def by_process_paths() -> None:
 
 
 def run_into_slow_pipe(*words: object) -> Ended:
-    """How the program ends where its standard output does not block, and is read after a while, bit by bit."""
+    """How the program ends if its standard output does not block, and is read after a while, bit by bit."""
     seen, told = os.pipe()
     os.set_blocking(told, False)
     with subprocess.Popen([RQ, *map(str, words)], stdout=told, stderr=subprocess.PIPE) as started:
@@ -216,7 +229,7 @@ def run_into_slow_pipe(*words: object) -> Ended:
 
 
 def slow_readers() -> None:
-    """A report that is read slowly is whole, also where the output does not block."""
+    """A report that is read slowly is whole, also if the output does not block."""
     log, _ = log_of_bytes(128, "slow")
     check("a report into a pipe that does not block", run_into_slow_pipe("restart", log, 1, 1), run("restart", log, 1, 1))
 

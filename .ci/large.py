@@ -104,7 +104,7 @@ def ordinary() -> None:
 
 
 def told_right(ended: Ended, want: bytes) -> Ended:
-    """How a run ended, without a report where that is the right one, and with its beginning where it is not."""
+    """How a run ended, without a report if that is the right one, and with its beginning if it is not."""
     status, wrote, complaint = ended
     return status, b"" if wrote == want else wrote[:200], complaint
 

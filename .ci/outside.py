@@ -69,7 +69,7 @@ ALONE += ["audit halfway.log 1", "close halfway.log halfway.closed 1", "upgrade 
 PIECES = 2 * len(os.sched_getaffinity(0))
 
 def commands() -> None:
-    """Every command, where all is well."""
+    """Every command, if all is well."""
     one = log_of(ONE_ELEMENT, "one")
     check("the log of a script", content(one), content(os.path.join(EXAMPLES, "one-element.log")))
     check("the empty script", len(content(log_of(b"", "empty")) or b""), 40)
@@ -481,7 +481,7 @@ def redone_log() -> str:
 
 def threads() -> None:
     """How many threads a plan starts: none for one worker. For more so many that each has its own, and no more of them
-    at a time; those that check digests, where the grain leaves several pieces, are two for each core at most."""
+    at a time; those that check digests, if the grain leaves several pieces, are two for each core at most."""
     shim = built("threads", "-lpthread")
     if shim is None:
         print("no C compiler: threads are not counted")

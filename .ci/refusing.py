@@ -4,7 +4,7 @@ import os, sys
 
 from trying import HERE, RQ, built, check, lines_of
 
-sys.path.insert(0, os.path.join(HERE, "..", "bench"))
+sys.path.insert(0, os.path.join(HERE, "..", "bench", "faults"))
 from refused import Sweep
 
 SMALL = ["make one.script MADE", "make two.script MADE", "restart two.log 1 1", "restart two.log 2 1"]
@@ -23,7 +23,7 @@ def scarce() -> None:
         ample = sweep.outcome(words)
         memory, threads = sweep.counted(words, ample, 1, False), sweep.counted(words, ample, 1, True)
         ends = memory.wrong, threads.wrong, memory.resources > 0
-        check(f"`{' '.join(words)}` where each allocation and each thread is refused in turn", ends, (0, 0, True))
+        check(f"`{' '.join(words)}` if each allocation and each thread is refused in turn", ends, (0, 0, True))
 
 
 PARTS = [scarce]

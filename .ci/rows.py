@@ -3,7 +3,7 @@
 
 usage: rows.py RQ [RQLOOK] [--theme THEME]
 The tables stand in `tables/`, a file for each theme: scripts or bytes, what is damaged, the line, and what it must print
-and end with. They hold what the documents promise, and nothing that the program told. What `rqlook` shows is asked where
+and end with. They hold what the documents promise, and nothing that the program told. What `rqlook` shows is asked if
 that program is named too. Prints a line for each thing that is not as it must be, and at last `N passed, M failed`.
 """
 from __future__ import annotations

@@ -1,5 +1,5 @@
 #!/usr/bin/env python3
-"""Tries ./rq, ./rqlook, tools/ship and tools/install in a small clone, with programs and a toolchain that only tell how they were
+"""Tries ./rq, ./rqlook, ./rqlog, tools/ship and tools/install in a small clone, with programs and a toolchain that only tell how they were
 called: which program is run, when one is built, what is refused and installed.
 
 usage: scripts.py
@@ -20,13 +20,16 @@ PROCESSORS = ["x86-64-v2", "x86-64-v3"]
 # No folder that has a toolchain.
 PATH = os.pathsep.join(it for it in os.get_exec_path() if not os.path.exists(os.path.join(it, "rt")))
 LINE = ["restart", "a log", "1", "1"]
+# A line of each program.
+LINES = {"rq": LINE, "rqlook": ["dump", "a log"], "rqlog": ["append", "a log"]}
 SOURCES = ["crates/low/src/lib.rt", "crates/low/specs/Lib.antt", "crates/low/proofs/Lib.antt", "crates/rq/src/main.rt"]
-SOURCES += ["crates/rqlook/src/main.rt"]
+SOURCES += ["crates/rqlook/src/main.rt", "crates/rqlog/src/main.rt"]
 # What is beside them, or is nothing of rq.
 OTHERS = ["crates/low/src/.lib.rt.swp", "crates/low/src/lib.rt~", "crates/low/out/x.rt", "crates/rqlook/src/main.rt", "docs/rq.1"]
 # Words that are no line of the programs.
 NO_LINES = [[], ["--help"], ["restart"], ["restart", "a", "1"], ["make", "a", "b", "c"], ["audit", "a"], ["Make", "a", "b"]]
 NO_LOOKS = [[], ["--help"], ["dump"], ["dump", "--help"], ["show", "a"]]
+NO_WRITES = [[], ["--help"], ["append"], ["carry", "a"], ["close", "a"], ["append", "a", "--help"], ["write", "a"]]
 # What stands for the toolchain: `rt ci` proves, `rattle build` makes what the program is to be, `rattle-link` leaves it.
 TOOLS = {
     "bin/rt": 'case $1 in doc) echo "$KIT/START";; version) echo kit;; ci) echo "rt: low proved"; [ -z "$REFUSE" ];; esac',
@@ -36,8 +39,8 @@ TOOLS = {
 }
 SETTINGS = "glibc.malloc.hugetlb=1:glibc.malloc.mmap_threshold=524288:glibc.malloc.trim_threshold=16777216"
 NO_TOOLCHAIN = "the toolchain is not there"
-INSTALLED = ["bin/rq", "bin/rqlook", "libexec/rq/installed", "libexec/rq/rq", "libexec/rq/rqlook"]
-INSTALLED += ["share/man/man1/rq.1", "share/man/man1/rqlook.1"]
+INSTALLED = ["bin/rq", "bin/rqlog", "bin/rqlook", "libexec/rq/installed", "libexec/rq/rq", "libexec/rq/rqlog", "libexec/rq/rqlook"]
+INSTALLED += ["share/man/man1/rq.1", "share/man/man1/rqlog.1", "share/man/man1/rqlook.1"]
 
 
 def put(path: str, text: str, mode: int = 0o644) -> None:
@@ -66,9 +69,9 @@ class Clone:
         self.folder, self.kit = os.path.join(folder, "a clone"), os.path.join(folder, "kit")
         for name in ("tools", "docs"):
             shutil.copytree(os.path.join(TOP, name), self.at(name), ignore=shutil.ignore_patterns("measured", "__pycache__"))
-        for name in ("rq", "rqlook", "HANDLES"):
+        for name in ("rq", "rqlook", "rqlog", "HANDLES"):
             shutil.copy(os.path.join(TOP, name), self.at(name))
-        put(self.at("crates.txt"), "low: byteorder\nrq: low\nrqlook: low\n")
+        put(self.at("crates.txt"), "low: byteorder\nrq: low\nrqlook: low\nrqlog: low\n")
         for name in SOURCES:
             put(self.at(name), name)
         for name, text in TOOLS.items():
@@ -84,7 +87,7 @@ class Clone:
         return ended([self.at(words[0]), *words[1:]], env)
 
     def refuses(self, what: str, reason: str) -> None:
-        """A line of the program is refused where there is no toolchain, and wrong words need none."""
+        """A line of the program is refused if there is no toolchain, and wrong words need none."""
         status, out, said = self.run("rq", *LINE)
         check(f"{what}: a line", (status, out, reason in said, NO_TOOLCHAIN in said), (70, "", True, True))
         check(f"{what}: wrong words", self.run("rq", "restart")[0], 2)
@@ -92,8 +95,7 @@ class Clone:
 
 def is_of(clone: Clone, name: str) -> str:
     """Which program was run, by what it tells."""
-    words = LINE if name == "rq" else ["dump", "a log"]
-    return clone.run(name, *words)[1].split(" ")[0].rsplit("-x86", 1)[0]
+    return clone.run(name, *LINES[name])[1].split(" ")[0].rsplit("-x86", 1)[0]
 
 
 def words(clone: Clone) -> None:
@@ -103,6 +105,8 @@ def words(clone: Clone) -> None:
         check(f"{line} before a build", clone.run("rq", *line, kit=True), (2, "", "rq: usage\n"))
     for line in NO_LOOKS:
         check(f"rqlook {line} before a build", clone.run("rqlook", *line, kit=True), (2, "", "rqlook: usage\n"))
+    for line in NO_WRITES:
+        check(f"rqlog {line} before a build", clone.run("rqlog", *line, kit=True), (2, "", "rqlog: usage\n"))
     check("nothing was built", os.path.exists(clone.at("build")), False)
 
 
@@ -112,10 +116,11 @@ def shipping(clone: Clone) -> None:
     check("a refused proof ships nothing", (refused, os.path.exists(clone.at("dist/receipt"))), (70, False))
     status, out, _ = clone.run("tools/ship", kit=True)
     check("shipping", (status, out.count("new"), sorted(os.listdir(clone.at("dist")))),
-          (0, 4, ["receipt", *(f"{name}-{cpu}" for name in ("rq", "rqlook") for cpu in PROCESSORS)]))
+          (0, 6, ["receipt", *(f"{name}-{cpu}" for name in ("rq", "rqlog", "rqlook") for cpu in PROCESSORS)]))
     check("a check", clone.run("tools/ship", "--check")[0::2], (0, ""))
     status, out, said = clone.run("rq", *LINE)
     check("a shipped program", (status, out.split(" ", 1)[1], said), (0, f"{SETTINGS} {' '.join(LINE)}\n", ""))
+    check("each shipped program", [is_of(clone, it) for it in LINES], list(LINES))
     check("with other settings", clone.run("rq", *LINE, GLIBC_TUNABLES="a=1")[1].split(" ")[1], "a=1")
     check("wrong words", clone.run("rq", "--help")[1].split(" ", 1)[1], f"{SETTINGS} --help\n")
     check("its proof", clone.run("rq", "--prove", kit=True)[1].splitlines()[-1].endswith("has the same bytes"), True)
@@ -199,8 +204,9 @@ def installing(clone: Clone) -> None:
     check("nothing to take away", clone.run("tools/install", "--uninstall", prefix)[0], 1)
     for _ in range(2):
         check("installing", (clone.run("tools/install", prefix)[0], files_below(prefix)), (0, INSTALLED))
-    ran = ended([os.path.join(prefix, "bin", "rq"), "a b"], {"PATH": PATH})
-    check("an installed program", ran[1].split(" ", 1)[1:], [f"{SETTINGS} a b\n"])
+    for name in LINES:
+        status, out, _ = ended([os.path.join(prefix, "bin", name), "a b"], {"PATH": PATH})
+        check(f"{name}, installed", (status, out.startswith(f"{name}-x86"), out.split(" ", 1)[1:]), (0, True, [f"{SETTINGS} a b\n"]))
     put(os.path.join(prefix, "bin", "rq"), "another")
     check("over a file of another", (clone.run("tools/install", prefix)[0], files_below(prefix)), (1, INSTALLED))
     check("taking away", (clone.run("tools/install", "--uninstall", prefix)[0], files_below(prefix)), (0, ["bin/rq"]))

@@ -15,7 +15,7 @@ READ_FAULT = (3, b"", b"rq: read fault\n")
 WRITE_FAULT = (3, b"", b"rq: write fault\n")
 RESOURCES = (4, b"", b"rq: resources\n")
 
-# What these words stand for, where nothing else is said.
+# What these words stand for, if nothing else is said.
 USUAL = {"OFFSET": "40", "WORKERS": "1", "GRAIN": "1", "MADE": "made"}
 
 Words = list[object]
@@ -84,20 +84,20 @@ def making(path: str, *words: object, **options: object) -> tuple[Ended, bytes |
 
 
 def built(name: str, *libraries: str) -> str | None:
-    """The library of this name, to be loaded before the C library; none where there is no C compiler."""
+    """The library of the source of this name, to be loaded before the C library; none if there is no C compiler."""
     compiler = shutil.which("cc") or shutil.which("gcc") or shutil.which("clang")
     if compiler is None:
         return None
-    shim = os.path.abspath(f"{name}.so")
+    shim = os.path.abspath(f"{os.path.basename(name)}.so")
     source = os.path.join(HERE, f"{name}.c")
     subprocess.run([compiler, "-O1", "-shared", "-fPIC", source, "-o", shim, "-ldl", *libraries], check=True)
     return shim
 
 
-def run_told(shim: str, told_in: str, *words: object, **given: str) -> tuple[Ended, bytes]:
+def run_told(shim: str, told_in: str, *words: object, by: Callable[..., Ended] = run, **given: str) -> tuple[Ended, bytes]:
     """How the program ends with such a library, and what that tells on the descriptor that it finds in a variable."""
     seen, told = os.pipe()
-    ended = run(*words, env={**os.environ, "LD_PRELOAD": shim, told_in: str(told), **given}, pass_fds=[told])
+    ended = by(*words, env={**os.environ, "LD_PRELOAD": shim, told_in: str(told), **given}, pass_fds=[told])
     os.close(told)
     with os.fdopen(seen, "rb") as file:
         return ended, file.read()

@@ -131,7 +131,7 @@ def upgraded(program: str, log: str, workers: str) -> tuple[str, bytes]:
 
 
 def upgrade_agrees(program: str, peer: str, log: str, want: bytes) -> bool:
-    """Whether the upgraded log is right, where this is the peer's report of the log; what was made is taken away."""
+    """Whether the upgraded log is right, if this is the peer's report of the log; what was made is taken away."""
     first, rest = want.split(b"\n", 1)
     words = first.decode().split()
     out, made = upgraded(program, log, "2")
@@ -149,6 +149,29 @@ def upgrade_agrees(program: str, peer: str, log: str, want: bytes) -> bool:
     os.remove(again)
     os.remove(out)
     return right
+
+
+def checkpoints_script(path: str, mib: int, checkpoints: int) -> None:
+    """Units on 64 queues that enqueue and dequeue payloads of 256 bytes; checkpoints at even distances."""
+    rng = random.Random(7)
+    size = unit = 0
+    every = (mib << 20) // checkpoints
+    due = every
+    with open(path, "w") as out:
+        for queue in range(64):
+            out.write(f"define work{queue} 0 -\n")
+        while size < mib << 20:
+            unit += 1
+            out.write(f"begin {unit}\n")
+            for _ in range(4):
+                out.write(f"enqueue {unit} {rng.randrange(64)} {rng.randrange(8)} - 0 {'a5' * 256}\n")
+            for _ in range(4):
+                out.write(f"dequeue {unit} {rng.randrange(64)} - 0\n")
+            out.write(f"commit {unit}\n")
+            size += 2 * 45 + 4 * (59 + 256) + 4 * 58
+            if size >= due:
+                out.write("checkpoint\n")
+                due += every
 
 
 class Run(NamedTuple):

@@ -1,7 +1,7 @@
 #!/usr/bin/env python3
 """Breaks the lines of proofs that are longer than 120 columns, at spaces, as near the top of the term as may be.
 
-usage: columns.py [FILE ..]        all proofs of the repository, where none is named
+usage: columns.py [FILE ..]        all proofs of the repository, if none is named
 Then `rt fmt` in the crate's folder, and once more: it writes a record that is broken with a line for each field. What it
 gives is a proposal, and means the same; a proof that reads better otherwise is broken by hand. Comments stay.
 """
@@ -18,7 +18,7 @@ KEEP_NEXT = {"λ", ":", "let", "pub", "where", "record", "use"}
 
 
 def price_of(before: str, ahead: str, is_head: bool) -> int | None:
-    """What it costs to break between these, or None where no line is broken."""
+    """What it costs to break between these, or None if no line is broken."""
     behind = before.rsplit(" ", 1)[-1]
     bare = behind.lstrip(OPEN)
     in_binders = re.search(r"λ [^.]*$", before) and not bare.endswith(".")

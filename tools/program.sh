@@ -1,4 +1,4 @@
-# Runs a program of this clone: the one that the repository brings, where it is made of these sources, else one that is built of
+# Runs a program of this clone: the one that the repository brings, if it is made of these sources, else one that is built of
 # them first. Sourced by the script of each program, which names it.
 # here: the top of the clone; name: the program, which is a crate
 # shellcheck shell=sh
@@ -42,6 +42,13 @@ may_be_line() {
         *) return 1 ;;
         esac
         ;;
+    rqlog)
+        case $1 in
+        append | checkpoint | restart | audit) [ $# -gt 1 ] ;;
+        carry | close) [ $# -gt 2 ] ;;
+        *) return 1 ;;
+        esac
+        ;;
     esac
 }
 
@@ -50,6 +57,7 @@ tell_documents() {
     [ ! -t 2 ] || case $name in
     rq) echo "rq: its lines stand in README.md and in its manual: man $here/docs/rq.1" >&2 ;;
     rqlook) echo "rqlook: its lines stand in docs/LOOKING.md and in its manual: man $here/docs/rqlook.1" >&2 ;;
+    rqlog) echo "rqlog: its lines stand in docs/OPERATING.md and in its manual: man $here/docs/rqlog.1" >&2 ;;
     esac
 }
 

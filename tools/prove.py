@@ -1,9 +1,10 @@
 #!/usr/bin/env python3
 """Proves and builds programs from nothing, over a copy of what they are made of, and tells how far it is.
 
-usage: prove.py FOLDER PROGRAM-CPU ..
+usage: prove.py [--over-proved] FOLDER PROGRAM-CPU ..
 Run at the top of the clone. Leaves each program, for that processor, as FOLDER/PROGRAM-CPU, and what was said as FOLDER/log. Ends
-with 70 where a crate was not proved or a program not built.
+with 70 if a crate was not proved or a program not built. With --over-proved it takes the libraries that `rt` or the gate proved in
+this clone, if all of them were proved of the files as they stand.
 
 `rt ci` proves the libraries: crates side by side, each over the statements of those below it, without their wrong bodies. A kit
 whose rt keeps what it passed, as that of rattle-kit-13f does, proves of them later only what has changed since, and the crates
@@ -12,6 +13,9 @@ proved and compiled by rattle itself, over the same statements.
 """
 from __future__ import annotations
 import os, re, shutil, signal, subprocess, sys, tempfile, time
+
+sys.dont_write_bytecode = True
+from wrong.places import is_of_the_gate, rtlib
 
 TRIPLE = "x86_64-unknown-linux-gnu"
 # What no proof of a crate and no program reads.
@@ -95,7 +99,7 @@ class Estimate:
         self.behind += 0 if was_kept else before - self.rest()
 
     def minutes(self, seconds: float, since: float) -> int:
-        """Minutes from now, where so many seconds have gone, and these of them since something ended."""
+        """Minutes from now, if so many seconds have gone, and these of them since something ended."""
         pace = (seconds - since + EXPECTED) / (self.behind + EXPECTED)
         return max(1, round((self.rest() * pace - since) / 60))
 
@@ -151,8 +155,9 @@ class Telling:
 class Builds:
     """Programs that are built in one place."""
 
-    def __init__(self, place: str, folder: str, builds: dict[str, str]):
+    def __init__(self, place: str, folder: str, builds: dict[str, str], over_proved: bool):
         self.place, self.folder, self.builds, self.lines = place, folder, builds, lines_by_crate()
+        self.over_proved = over_proved
         self.log = os.path.join(folder, "log")
         self.kit = os.path.dirname(subprocess.run(["rt", "doc"], capture_output=True, check=True, text=True).stdout.strip())
         self.telling = Telling(Estimate(self.lines, builds), list(builds))
@@ -183,10 +188,24 @@ class Builds:
             self.telling.clear()
         return all(run.returncode == 0 for run in runs.values())
 
+    def take(self, libraries: list[str]) -> bool:
+        """Takes the libraries that were proved in this clone; answers whether all were, of the files as they stand."""
+        if not all(os.path.isdir(os.path.join("crates", it, "out", "rlib")) for it in libraries):
+            return False
+        crates = {it.name: it for it in rtlib().crates_below(os.getcwd())}
+        if not all(crates[it].is_built() or is_of_the_gate(crates[it]) for it in libraries):
+            return False
+        for it in libraries:
+            shutil.copytree(crates[it].rlib, self.library(it))
+            self.telling.end(it, "was proved before")
+        return True
+
     def prove(self) -> bool:
         """Whether the libraries are proved."""
         libraries, programs = below(self.lines, *self.builds.values()), sorted(set(self.builds.values()))
         copy(self.place, self.lines, libraries, programs)
+        if self.over_proved and self.take(libraries):
+            return True
         return self.follow({"libraries": self.start(["rt", "ci"], os.path.join(self.place, "libraries"))})
 
     def library(self, name: str) -> str:
@@ -240,7 +259,9 @@ def keeps() -> bool:
 
 
 def main() -> int:
-    folder, *builds = sys.argv[1:]
+    words = sys.argv[1:]
+    over_proved = words[:1] == ["--over-proved"]
+    folder, *builds = words[over_proved:]
     if not shutil.which("rt"):
         print("the toolchain is not there: no rt is found on the PATH", file=sys.stderr)
         return 70
@@ -249,7 +270,7 @@ def main() -> int:
     os.makedirs(folder, exist_ok=True)
     try:
         with tempfile.TemporaryDirectory(prefix="rq-build-") as place:
-            return Builds(place, os.path.abspath(folder), {it: it.partition("-")[0] for it in builds}).run()
+            return Builds(place, os.path.abspath(folder), {it: it.partition("-")[0] for it in builds}, over_proved).run()
     except KeyboardInterrupt:
         what = "proved libraries are kept: the same line goes on from there" if keeps() else "this kit keeps nothing"
         print(f"{' and '.join(builds)}: stopped; {what}", file=sys.stderr)

@@ -4,13 +4,13 @@
 # shellcheck shell=sh
 
 # The programs, and the processors for which each is shipped. A program for a processor is the file NAME-CPU.
-programs='rq rqlook'
+programs='rq rqlook rqlog'
 # shellcheck disable=SC2034
 processors='x86-64-v2 x86-64-v3'
 # Programs that the repository brings, and those that were built here; each folder has receipts.
 shipped=$here/dist
 built=$here/build
-# Most of a restart's memory is touched once. Pages of 2 MiB, where the kernel gives them on request, cost fewer faults. A block
+# Most of a restart's memory is touched once. Pages of 2 MiB, if the kernel gives them on request, cost fewer faults. A block
 # of 512 KiB or more goes back to the system as soon as it is freed: glibc would raise that bound to 32 MiB by itself. Up to
 # 16 MiB of smaller ones stay: an audit makes a state for each checkpoint that may be true, and needs as much again for the next.
 # shellcheck disable=SC2034
@@ -82,7 +82,7 @@ is_as_told() {
     [ -f "$2" ] && has_line "$1" "$(receipt_of_file "$2")"
 }
 
-# Prints the file of a program for a processor that is made of sources of this sum, and fails where there is none.
+# Prints the file of a program for a processor that is made of sources of this sum, and fails if there is none.
 program_of() {
     if is_made_of "$shipped/receipt" "$1" "$3" && is_as_told "$shipped/receipt" "$shipped/$1-$2"; then
         echo "$shipped/$1-$2"

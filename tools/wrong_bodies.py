@@ -4,18 +4,18 @@
 usage: wrong_bodies.py [--jobs N] [--said FOLDER] [--write] [CRATE | CRATE/EDIT ..]
        wrong_bodies.py --receipt
        wrong_bodies.py --gate [--jobs N]
-A wrong body is an edit of `crates/NAME/must-fail`, which `rt ci` tries too, of `crates/NAME/wrong-bodies`, or of `each-time` in
-that. It must be refused by a goal of a function that it changes: one that stays open, or whose answer no longer proves it. It
+A wrong body is an edit of `crates/NAME/must-fail`, which `rt ci` tries too, of `crates/NAME/wrong-bodies`, or of `each-time` or
+`in-turn` in that. It must be refused by a goal of a function that it changes: one that stays open, or whose answer no longer proves it. It
 fails if it is not refused, if it is refused only in another function or since a proof file names what it took away, or if it no
 longer applies.
 With no words all are tried. --write then writes the receipt of each crate whose wrong bodies were all tried and all refused
 (`crates/NAME/wrong-bodies/receipt`), the only file in the checkout that is written. --said keeps what each check said.
---receipt proves nothing: it holds each wrong body against its receipt, which is of this toolchain, of this text of the edit,
-of the crate and of all crates below it. --gate does that too, but tries all wrong bodies of crates that are not what their
-receipt is of, and those of `each-time` of all crates. Then it tries others as they are drawn, anew in each run: a few of one
-crate at least, and a few of another if both take no more than two processor minutes, as it reckons. Libraries are taken as the
-checkout has them, if `rt` built them of these files; else all are proved first in a copy, which takes what other checkouts on the
-machine hold.
+--receipt proves nothing: it holds each wrong body against its receipt, which is of the toolchain's logic, of this text of the
+edit, of the crate and of all crates below it. --gate does that too, but tries all wrong bodies of crates that are not what their
+receipt is of, those of `each-time` of all crates, and of those of `in-turn` a few of one crate, drawn anew in each run. Then it
+tries others, drawn in the same way: a few of one crate at least, and a few of another if both take no more than two processor
+minutes, as it reckons. Libraries are taken as the checkout has them, if `rt` built them of these files; else all are proved first
+in a copy, which takes what other checkouts on the machine hold.
 """
 from __future__ import annotations
 import argparse, os, random, signal, sys, threading
@@ -24,7 +24,7 @@ from typing import Dict, List, Optional, Sequence, Tuple
 
 sys.dont_write_bytecode = True
 from wrong.checks import Tried, stop, tried
-from wrong.edits import EACH_TIME, Batch, Edit, applied, batches_of, edits_of, few_of
+from wrong.edits import EACH_TIME, IN_TURN, OTHERS, Batch, Edit, applied, batches_of, edits_of, few_of
 from wrong.places import places
 from wrong.receipts import Sums, gone, held, made_of, receipt_of, written
 from wrong.verdicts import Verdict
@@ -33,8 +33,9 @@ TOP = os.path.dirname(os.path.dirname(os.path.abspath(__file__)))
 # The processor seconds that the gate spends on drawn wrong bodies, what it reckons a check of them at before it knows better, and
 # how many batches it draws at most, of how many wrong bodies.
 SECONDS, RECKONED, DRAWN, FEW = 120, 60, 2, 8
-# How many functions the check of a batch that is drawn proves, as a rule and at most: some two seconds each.
-WIDE, WIDEST = 25, 60
+# How many functions the check of a batch that is drawn proves as a rule: some two seconds each. What a batch may need at most, of
+# those that are tried in turn and of all others.
+WIDE, WIDEST = 25, {IN_TURN: 1000, OTHERS: 60}
 
 
 def tell(line: str) -> None:
@@ -170,15 +171,15 @@ def functions_of(batch: Batch) -> List[str]:
     return [lines[it.name].function for it in batch.edits]
 
 
-def drawn(run: Run, crates: List[str]) -> List[Batch]:
-    """Small batches of these crates, drawn anew in each run: a wrong body and a few others of its crate. From nothing a check
-    proves all that the functions call, so those that call half a crate are left to a change of that crate."""
-    left = [it for crate in crates for it in run.edits[crate] if it.part() == "wrong-bodies"]
+def drawn(run: Run, crates: List[str], part: str, count: int) -> List[Batch]:
+    """Small batches of these crates, drawn anew in each run from a folder of wrong bodies: one and a few others of its crate. From
+    nothing a check proves all that the functions call, so others that call half a crate are left to a change of that crate."""
+    left = [it for crate in crates for it in run.edits[crate] if it.part() == part]
     random.shuffle(left)
     made: List[Batch] = []
-    while left and len(made) < DRAWN:
+    while left and len(made) < count:
         crate = left[0].crate
-        some = few_of([it for it in left if it.crate == crate], run.sums.texts(crate), FEW, WIDE, WIDEST)
+        some = few_of([it for it in left if it.crate == crate], run.sums.texts(crate), FEW, WIDE, WIDEST[part])
         left = [it for it in left[1:] if it not in some.edits]
         made += [some] if some.edits else []
     return made
@@ -204,14 +205,15 @@ def against_receipts(run: Run) -> Tuple[Dict[str, str], List[str]]:
 
 def gate(run: Run) -> Dict[str, str]:
     """What is wrong by the receipts, once the wrong bodies were tried of crates that are not what theirs are of, those that each
-    gate tries, and some that are drawn."""
+    gate tries, some of those that are tried in turn, and some of the others."""
     wrong, same = against_receipts(run)
     changed = [crate for crate, edits in run.edits.items() if edits and crate not in same]
     for crate in changed:
         tell(f"{crate}: not what its receipt is of; its {len(run.edits[crate])} are tried")
     run.try_all([it for crate in changed for it in run.batches(crate)])
     each = {crate: [it for it in run.edits[crate] if it.part() == EACH_TIME] for crate in same}
-    run.try_all([it for crate in same for it in run.batches(crate, each[crate])], drawn(run, same), by_receipts=True)
+    due = [it for crate in same for it in run.batches(crate, each[crate])] + drawn(run, same, IN_TURN, 1)
+    run.try_all(due, drawn(run, same, OTHERS, DRAWN), by_receipts=True)
     labels = {it.label() for it in run.found}
     wrong = {label: why for label, why in wrong.items() if label not in labels}
     for edit, verdict in run.found.items():

@@ -36,9 +36,9 @@ class Row(NamedTuple):
     # How many bytes the log has.
     bytes: int
     audit: str
-    # The report of a restart, where it is asked for.
+    # The report of a restart, if it is asked for.
     restart: str | None
-    # What a restart says from an offset, and where it is refused.
+    # What a restart says from an offset, and the offsets at which it is refused.
     at: dict[int, str]
     refused_at: dict[int, Ended]
 

@@ -5,7 +5,7 @@ from collections.abc import Iterator
 
 from .asking import PLANS, Program, Question, changed, flipped, is_same, makes, reports, whole
 
-# How the unit ends that takes a queue's element: by the queue's number modulo 3, and not at all where that is 1.
+# How the unit ends that takes a queue's element: by the queue's number modulo 3, and not at all if that is 1.
 ENDS = {0: "abort", 2: "commit"}
 
 

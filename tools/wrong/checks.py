@@ -31,7 +31,7 @@ def link_or_copy(one: str, other: str) -> str:
 
 
 def limits_of(batch: Batch, functions: Sequence[str]) -> List[str]:
-    """The words that limit a check to these functions, or else to the modules that the batch changes; none where the crate's
+    """The words that limit a check to these functions, or else to the modules that the batch changes; none if the crate's
     root is one of these."""
     # (a closure is checked with its function, under a name of its own)
     if functions and not any("fn" in it.split("::") for it in functions):

@@ -10,8 +10,8 @@ CONST = re.compile(r"^(?:pub(?:\([^)]*\))? )?(?:const|static) (\w+)")
 CLAUSE = re.compile(r"^\s*(?:ghost|requires|ensures)\b", re.M)
 # As many wrong bodies are tried in one check at most.
 MOST = 32
-# The folder, beside the other wrong bodies of a crate, of those that the gate tries in each run.
-EACH_TIME = "each-time"
+# The folder of a crate's wrong bodies, and those in it of the ones that the gate tries in each run, and in turn.
+OTHERS, EACH_TIME, IN_TURN = "wrong-bodies", "each-time", "in-turn"
 
 
 class Function(NamedTuple):
@@ -72,9 +72,9 @@ def pairs_of(text: str) -> Iterator[Tuple[str, str, str]]:
 
 
 def edits_of(folder: str) -> List[Edit]:
-    """The edits of the crate in this folder, by name, those that the gate tries in each run among them."""
+    """The edits of the crate in this folder, by name, of all folders of wrong bodies."""
     crate, found = os.path.basename(folder), []
-    for part in ("must-fail", "wrong-bodies", os.path.join("wrong-bodies", EACH_TIME)):
+    for part in ("must-fail", OTHERS, os.path.join(OTHERS, EACH_TIME), os.path.join(OTHERS, IN_TURN)):
         at = os.path.join(folder, part)
         for name in os.listdir(at) if os.path.isdir(at) else ():
             if name.endswith(".edit"):
@@ -97,7 +97,7 @@ def holder_of(head: str) -> str:
 
 
 def functions_of(path: str, text: str) -> List[Span]:
-    """The functions of the file. The files are laid out: a function ends at a brace below its head, and where it has a contract
+    """The functions of the file. The files are laid out: a function ends at a brace below its head, and if it has a contract
     its body begins at one."""
     holders = [(it.start(), text.find("\n}", it.end()), holder_of(it[0])) for it in HOLDER.finditer(text)]
     found = []
@@ -204,7 +204,7 @@ class Calls:
 
 def few_of(edits: List[Edit], texts: Texts, most: int, wide: int, widest: int) -> Batch:
     """Of these edits the first, and as many others as one check takes with it: `most` in all, and so that it proves no more than
-    `wide` functions, or those that the first needs. There is none where that one needs more than `widest`."""
+    `wide` functions, or those that the first needs. There is none if that one needs more than `widest`."""
     made, calls = Batch(texts), Calls(texts)
     below: FrozenSet[Function] = frozenset()
     for edit in edits:

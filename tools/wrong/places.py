@@ -1,6 +1,7 @@
 """Where the libraries below a crate stand, and what earlier checks of a crate kept."""
 from __future__ import annotations
 import contextlib, functools, importlib.machinery, importlib.util, os, resource, shutil, subprocess, sys, tempfile
+from concurrent.futures import ThreadPoolExecutor
 from typing import Any, Callable, Dict, Iterator, List, NamedTuple
 
 # The toolchain's folder.
@@ -80,18 +81,19 @@ def prove_in(room: str, names: List[str], jobs: int, tell: Callable[[str], None]
 
 @contextlib.contextmanager
 def places(top: str, wanted: Dict[str, int], jobs: int, tell: Callable[[str], None]) -> Iterator[Dict[str, Place]]:
-    """Where to check each of these crates, of which so many batches are tried: over the checkout's own libraries, over those that
-    the gate left, or over libraries that are proved in a copy of it."""
+    """Where to check each of these crates, of which so many batches are tried: over the checkout's own libraries and those that the
+    gate left, or over libraries that are proved in a copy of it. A crate of which no check kept anything is first checked as it
+    stands."""
     module = rtlib()
     crates = {it.name: it for it in module.crates_below(top)}
     needed = [it for it in crates.values() if any(it is crates[name] or it in crates[name].below() for name in wanted)]
     with tempfile.TemporaryDirectory(prefix="wrong-bodies-") as room:
-        if all(it.is_built() for it in needed):
-            yield {name: place_of(crates[name], kept_of(crates[name])) for name in wanted}
-        elif all(is_of_the_gate(it) for it in needed):
+        if all(it.is_built() or is_of_the_gate(it) for it in needed):
             # (one batch alone takes no longer from nothing)
-            seeds = {name: seeded(crates[name], os.path.join(room, name)) if count > 1 else "" for name, count in wanted.items()}
-            yield {name: place_of(crates[name], seeds[name]) for name in wanted}
+            bare = [name for name, count in wanted.items() if count > 1 and not os.path.isdir(kept_of(crates[name]))]
+            with ThreadPoolExecutor(jobs) as pool:
+                seeds = dict(zip(bare, pool.map(lambda name: seeded(crates[name], os.path.join(room, name)), bare)))
+            yield {name: place_of(crates[name], seeds.get(name, kept_of(crates[name]))) for name in wanted}
         else:
             tell("libraries are proved first, in a copy")
             shutil.copytree(os.path.join(top, "crates"), os.path.join(room, "crates"), ignore=shutil.ignore_patterns("out"))

@@ -8,7 +8,7 @@ from wrong.places import KIT
 from wrong.verdicts import Verdict
 
 HEAD = """# By which goal each wrong body of this crate was refused. `tools/wrong_bodies.py --write` makes this file.
-# kit: the toolchain. crate: its code, definitions and proofs, its line of crates.txt, and all that of the crates below.
+# logic: the toolchain's logic. crate: its code, definitions and proofs, its line of crates.txt, and all that of the crates below.
 # Then of each wrong body its name, the sum of its file, the function that sins and what is not proved of it.
 """
 
@@ -22,9 +22,9 @@ class Line(NamedTuple):
 
 
 class Receipt(NamedTuple):
-    """The sums of the toolchain and of the crate with those below it, and a line for each wrong body, by its name."""
+    """The toolchain's logic, the sum of the crate with those below it, and a line for each wrong body, by its name."""
 
-    kit: str
+    logic: str
     crate: str
     lines: Dict[str, Line]
 
@@ -38,9 +38,9 @@ def bytes_of(path: str) -> bytes:
         return file.read()
 
 
-def kit_sum() -> str:
-    """The sum of the texts that name the toolchain."""
-    return sum_of(*(bytes_of(os.path.join(KIT, name)) for name in ("KIT-ID", "WHAT")))
+def logic() -> str:
+    """The sum of the toolchain's logic, as `rt version` and the last line of each check name it. Kits of one logic judge alike."""
+    return bytes_of(os.path.join(KIT, "KIT-ID")).decode().split()[-1]
 
 
 def edit_sum(edit: Edit) -> str:
@@ -79,7 +79,7 @@ def path_of(top: str, crate: str) -> str:
 
 def text_of(receipt: Receipt) -> str:
     rows = [f"{name} {it.sum} {it.function} {it.goal}\n" for name, it in sorted(receipt.lines.items())]
-    return f"{HEAD}kit {receipt.kit}\ncrate {receipt.crate}\n" + "".join(rows)
+    return f"{HEAD}logic {receipt.logic}\ncrate {receipt.crate}\n" + "".join(rows)
 
 
 def written(top: str, crate: str, receipt: Receipt) -> None:
@@ -92,7 +92,7 @@ def written(top: str, crate: str, receipt: Receipt) -> None:
 
 
 def receipt_of(top: str, crate: str) -> Receipt:
-    """The crate's receipt as it stands; an empty one, where there is none or it cannot be read."""
+    """The crate's receipt as it stands; an empty one, if there is none or it cannot be read."""
     sums: Dict[str, str] = {}
     lines: Dict[str, Line] = {}
     try:
@@ -101,23 +101,23 @@ def receipt_of(top: str, crate: str) -> Receipt:
         rows = []
     for row in rows:
         words = row.split(" ", 3)
-        if len(words) == 2 and words[0] in ("kit", "crate"):
+        if len(words) == 2 and words[0] in ("logic", "crate"):
             sums[words[0]] = words[1]
         elif len(words) == 4 and not row.startswith("#"):
             lines[words[0]] = Line(*words[1:])
-    return Receipt(sums.get("kit", ""), sums.get("crate", ""), lines)
+    return Receipt(sums.get("logic", ""), sums.get("crate", ""), lines)
 
 
 def made_of(sums: Sums, crate: str, verdicts: Dict[Edit, Verdict]) -> Receipt:
     """The receipt that these verdicts on all wrong bodies of the crate come to."""
     lines = {it.name: Line(edit_sum(it), verdict.function, verdict.told) for it, verdict in verdicts.items()}
-    return Receipt(kit_sum(), sums.crate(crate), lines)
+    return Receipt(logic(), sums.crate(crate), lines)
 
 
 def held(sums: Sums, crate: str, edits: List[Edit]) -> Tuple[bool, Dict[str, str]]:
     """Whether the receipt is of this toolchain and this crate, and why it does not hold for some wrong bodies, by their names."""
     receipt, wrong = receipt_of(sums.top, crate), {}
-    is_same = receipt.kit == kit_sum() and receipt.crate == sums.crate(crate)
+    is_same = receipt.logic == logic() and receipt.crate == sums.crate(crate)
     for edit in edits:
         line = receipt.lines.get(edit.name)
         if line is None:
@@ -125,7 +125,7 @@ def held(sums: Sums, crate: str, edits: List[Edit]) -> Tuple[bool, Dict[str, str
         elif line.sum != edit_sum(edit):
             wrong[edit.name] = "it is not the text that its receipt is of"
         elif not is_same:
-            wrong[edit.name] = "the toolchain, the crate or one below it is not what its receipt is of"
+            wrong[edit.name] = "the logic, the crate or one below it is not what its receipt is of"
     return is_same, wrong
 
 

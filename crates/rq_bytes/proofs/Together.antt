@@ -54,7 +54,7 @@ reads_sized {n} {write} {r} reads = record {
       ∙ rw (reads.again (length p) (p ++ rest) lt tt) ((reads_piece (length p)).again p rest refl tt);
 }
 
--- what make gives, which fields takes apart again
+-- what make builds, and fields takes apart again
 pub reads_made : {X Y : Type 0} {P : X → Type 0} {s : X → List ℕ} {Q : Y → Type 0} {t : Y → List ℕ}
     {Ends : List ℕ → Type 0} {r : Reader X} (make : X → Y) (fields : Y → X)
     → ((x : X) → P x → Q (make x) × (s x ≡ t (make x))) → ((y : Y) → Q y → P (fields y) × (make (fields y) ≡ y))
@@ -113,7 +113,7 @@ reads_alone {X} {P} {s} {r} reads = record {
   again = λ x rest fits ends. rw (reads.again x rest fits tt, reads_ending.again tt rest tt ends) refl;
 }
 
--- other words for the same
+-- the same law in other words
 pub alike : {X : Type 0} {P : X → Type 0} {s : X → List ℕ} {Ends : List ℕ → Type 0} {r : Reader X} (Q : X → Type 0)
     → ((x : X) → P x → Q x) → ((x : X) → Q x → P x) → Reads P s Ends r → Reads Q s Ends r
 alike Q there back h = record {
@@ -125,7 +125,7 @@ alike Q there back h = record {
 
 -- Values by cases.
 
--- what is read behind a byte was spelled so, with the byte in front
+-- what is read after a byte was spelled that way, with the byte in front
 abbrev pub TakesBehind : {X : Type 0} → (X → Type 0) → (X → List ℕ) → (List ℕ → Type 0) → (ℕ → Reader X) → Type 0
 TakesBehind {X} P s Ends behind = (n : ℕ) (bytes : List ℕ) (x : X × List ℕ) → IsBytes bytes → behind n bytes ≡ Some x
     → Takes P s Ends (n ∷ bytes) x
@@ -133,7 +133,7 @@ TakesBehind {X} P s Ends behind = (n : ℕ) (bytes : List ℕ) (x : X × List �
 pub in_no_case : {X : Type 0} {P : X → Type 0} {s : X → List ℕ} {Ends : List ℕ → Type 0} → TakesBehind P s Ends no_case
 in_no_case n bytes x fits e = absurd cc
 
--- what make gives, behind this byte
+-- what make builds, after this byte
 pub at_byte : {X Y : Type 0} {P : X → Type 0} {s : X → List ℕ} {Q : Y → Type 0} {t : Y → List ℕ}
     {Ends : List ℕ → Type 0} {r : Reader X} (n : ℕ) (make : X → Y)
     → Reads P s Ends r → ((x : X) → P x → Q (make x) × (n ∷ s x ≡ t (make x))) → (bytes : List ℕ) (y : Y × List ℕ)
@@ -179,7 +179,7 @@ reads_tagged {X} {P} {s} {Ends} {behind} cases again = record {
 
 -- What follows.
 
--- one spelling is no beginning of another
+-- no spelling is the beginning of another
 pub told : {X : Type 0} {P : X → Type 0} {s : X → List ℕ} {r : Reader X} → Reads P s Any r → (x y : X) (a b : List ℕ)
     → P x → P y → s x ++ a ≡ s y ++ b → (x ≡ y) × (a ≡ b)
 told {X} {P} {s} {r} reads x y a b p q e = let same : ◌≡◌ {A = X × List ℕ} (x, a) (y, b) =

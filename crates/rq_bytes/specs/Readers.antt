@@ -1,4 +1,4 @@
--- Readers: the value at the front of the bytes with the bytes behind it, or none.
+-- Readers: a value read from the front of the bytes, with the bytes after it; or none.
 use Rattle.std.specs.Prelude.{ℕ, zero, suc, List, [], ◌∷◌, length, take, drop, Option, Some, None}
 use Rattle.std.specs.Prelude.{Bool, nat_lt, ◌==◌, if◌then◌else◌, ⊤}
 use Rattle.byteorder.specs.Endian.{big_number}
@@ -17,7 +17,7 @@ abbrev pub byte : Reader ℕ
 byte [] = None
 byte (b ∷ bytes) = Some (b, bytes)
 
--- a number in so many bytes
+-- a number in this many bytes
 abbrev pub number : ℕ → Reader ℕ
 number n bytes = if nat_lt (length bytes) n then None else Some (big_number n bytes, drop n bytes)
 
@@ -28,7 +28,7 @@ piece n bytes = if nat_lt (length bytes) n then None else Some (take n bytes, dr
 abbrev pub all : Reader (List ℕ)
 all bytes = Some (bytes, [])
 
--- nothing, which is everywhere
+-- nothing, which can always be read
 abbrev pub nothing : Reader (⊤)
 nothing bytes = Some (tt, bytes)
 
@@ -38,7 +38,7 @@ ending bytes = if length bytes == 0 then Some (tt, []) else None
 
 -- Readers put together.
 
--- one behind the other
+-- one after the other
 infixr 20 ◌then◌
 abbrev pub ◌then◌ : {X Y : Type 0} → Reader X → Reader Y → Reader (X × Y)
 (r then s) bytes = do
@@ -46,7 +46,7 @@ abbrev pub ◌then◌ : {X Y : Type 0} → Reader X → Reader Y → Reader (X �
   y ← s x.1
   Some ((x.0, y.0), y.1)
 
--- a number, and as many bytes
+-- a number, then that many bytes
 abbrev pub sized : Reader ℕ → Reader (List ℕ)
 sized r bytes = r bytes >>= λ n. piece n.0 n.1
 
@@ -62,26 +62,26 @@ tested test r bytes = do
   x ← r bytes
   if test x.0 then Some x else None
 
--- nothing behind it
+-- the value, if nothing follows it
 abbrev pub alone : {X : Type 0} → Reader X → Reader X
 alone r bytes = do
   x ← r bytes
   last ← ending x.1
   Some (x.0, last.1)
 
--- a byte, and what it says stands behind it
+-- a byte, then what that byte calls for
 abbrev pub tagged : {X : Type 0} → (ℕ → Reader X) → Reader X
 tagged behind bytes = byte bytes >>= λ n. behind n.0 n.1
 
--- this reader behind the byte k, behind others those
+-- after the byte k this reader, after any other byte the others
 abbrev pub case : {X : Type 0} → ℕ → Reader X → (ℕ → Reader X) → ℕ → Reader X
 case k r others n bytes = if n == k then r bytes else others n bytes
 
--- nothing behind any byte
+-- no reader after any byte
 abbrev pub no_case : {X : Type 0} → ℕ → Reader X
 no_case n bytes = None
 
--- so many members
+-- this many members
 unfoldable pub members : {X : Type 0} → Reader X → ℕ → Reader (List X)
 members r zero bytes = Some ([], bytes)
 members r (suc n) bytes = do
@@ -93,7 +93,7 @@ members r (suc n) bytes = do
 unfoldable pub counted_members : {X : Type 0} → Reader X → Reader (List X)
 counted_members r bytes = number 4 bytes >>= λ count. members r count.0 count.1
 
--- the bytes behind what is read
+-- the bytes after what is read
 abbrev pub after_of : {X : Type 0} → Option (X × List ℕ) → Option (List ℕ)
 after_of (Some x) = Some x.1
 after_of None = None

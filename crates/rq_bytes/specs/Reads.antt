@@ -1,4 +1,4 @@
--- The law of a reader: what is read was spelled so, and what is spelled so is read again.
+-- The law of a reader: what it reads was spelled that way, and what is spelled is read again.
 use Rattle.std.specs.Prelude.{◌≡◌, ℕ, ◌<◌, List, [], ◌++◌, Some, ⊤}
 use Rattle.std.proofs.Common.{get_or}
 use Rattle.rq_bytes.specs.Readers.{Reader}
@@ -20,8 +20,8 @@ pub record Takes
   pub rest_fits : IsBytes x.1
   pub ends : Ends x.1
 
--- Of the values with P, each is read where it is spelled, and each that is read was spelled, where
--- the bytes behind it are as Ends says
+-- If the bytes after a value are as Ends says: a value with P is read from its spelling, and a
+-- value that is read has P and was spelled that way
 pub record Reads
     {X : Type 0}
     (P : X → Type 0)
@@ -42,7 +42,7 @@ Any rest = ⊤
 abbrev pub End : List ℕ → Type 0
 End rest = rest ≡ []
 
--- two values, one behind the other: their properties and their spellings
+-- two values, one after the other: their properties and their spellings
 abbrev pub Both : {X Y : Type 0} → (X → Type 0) → (Y → Type 0) → X × Y → Type 0
 Both P Q x = P x.0 × Q x.1
 

@@ -6,8 +6,8 @@ ghost use Rattle.rq_bytes.specs.Readers.{byte, number, piece, sized, ending};
 use byteorder::{BigEndian, ByteOrder};
 use std::marker::Model;
 
-/// The bytes that are left. What a call answers it takes off their front; after `None`, where fewer
-/// are left than it wants, nothing is said of what is left.
+/// The bytes that are left. A call takes what it returns from their front. If fewer are left than
+/// it wants, it returns `None`; what is left after that is not specified.
 #[derive(Drop)]
 pub struct Cursor<'a> {
     rest: &'a [u8],
@@ -78,7 +78,7 @@ impl<'a> Cursor<'a> {
         Some(BigEndian::read_u64(bytes))
     }
 
-    /// So many bytes.
+    /// The next `count` bytes.
     pub fn piece(&mut self, count: usize) -> Option<&'a [u8]>
         ensures piece { option_map (λ p. (p.now, self.new)) result ≡ piece count self.old }
         ensures long { IfSome result (λ p. length p.now ≡ count) }
@@ -92,7 +92,7 @@ impl<'a> Cursor<'a> {
         Some(piece)
     }
 
-    /// A byte, and as many bytes behind it.
+    /// Reads a length of one byte, then that many bytes, and returns these.
     pub fn sized_u8(&mut self) -> Option<&'a [u8]>
         ensures piece { option_map (λ p. (p.now, self.new)) result ≡ sized byte self.old }
         ensures bounded { IfSome result (λ p. length p.now ≤ 255) }
@@ -101,7 +101,7 @@ impl<'a> Cursor<'a> {
         self.piece(size as usize)
     }
 
-    /// A number of two bytes, and as many bytes behind it.
+    /// Reads a length of two bytes, then that many bytes, and returns these.
     pub fn sized_u16(&mut self) -> Option<&'a [u8]>
         ensures piece { option_map (λ p. (p.now, self.new)) result ≡ sized (number 2) self.old }
         ensures bounded { IfSome result (λ p. length p.now ≤ 65535) }
@@ -117,7 +117,7 @@ impl<'a> Cursor<'a> {
         self.rest
     }
 
-    /// The end: `None` where a byte is left.
+    /// The end: `None` if a byte is left.
     pub fn end(self) -> Option<()>
         ensures { option_map (λ e. (e, [])) result ≡ ending self.entry }
     {

@@ -1,4 +1,4 @@
-//! Numbers and pieces behind the bytes that are there.
+//! Appends numbers and pieces to bytes.
 
 ghost use Rattle.std.specs.Prelude.{◌∷◌, []};
 ghost use Rattle.std.specs.Int.{w16, w32, w64, to_be_bytes};
@@ -7,7 +7,7 @@ ghost use Rattle.rq_bytes.specs.Writing.{AppendsWhole};
 use byteorder::{BigEndian, ByteOrder};
 use std::alloc::AllocError;
 
-/// Appends the bytes. An `Err`, where memory runs out, changes nothing.
+/// Appends the bytes. If memory runs out, `Err` is returned and nothing changes.
 pub fn put(out: &mut Vec<u8>, bytes: &[u8]) -> Result<(), AllocError>
     ensures { AppendsWhole out.old.items out.new.items bytes.now result }
 {
@@ -15,14 +15,14 @@ pub fn put(out: &mut Vec<u8>, bytes: &[u8]) -> Result<(), AllocError>
     Ok(())
 }
 
-/// Appends the byte. An `Err`, where memory runs out, changes nothing.
+/// Appends the byte. If memory runs out, `Err` is returned and nothing changes.
 pub fn put_u8(out: &mut Vec<u8>, n: u8) -> Result<(), AllocError>
     ensures { AppendsWhole out.old.items out.new.items (n ∷ []) result }
 {
     put(out, &[n])
 }
 
-/// Appends the number in two bytes. An `Err`, where memory runs out, changes nothing.
+/// Appends the number in two bytes. If memory runs out, `Err` is returned and nothing changes.
 pub fn put_u16(out: &mut Vec<u8>, n: u16) -> Result<(), AllocError>
     ensures { AppendsWhole out.old.items out.new.items (to_be_bytes w16 n) result }
 {
@@ -31,7 +31,7 @@ pub fn put_u16(out: &mut Vec<u8>, n: u16) -> Result<(), AllocError>
     put(out, &cell)
 }
 
-/// Appends the number in four bytes. An `Err`, where memory runs out, changes nothing.
+/// Appends the number in four bytes. If memory runs out, `Err` is returned and nothing changes.
 pub fn put_u32(out: &mut Vec<u8>, n: u32) -> Result<(), AllocError>
     ensures { AppendsWhole out.old.items out.new.items (to_be_bytes w32 n) result }
 {
@@ -40,7 +40,7 @@ pub fn put_u32(out: &mut Vec<u8>, n: u32) -> Result<(), AllocError>
     put(out, &cell)
 }
 
-/// Appends the number in eight bytes. An `Err`, where memory runs out, changes nothing.
+/// Appends the number in eight bytes. If memory runs out, `Err` is returned and nothing changes.
 pub fn put_u64(out: &mut Vec<u8>, n: u64) -> Result<(), AllocError>
     ensures { AppendsWhole out.old.items out.new.items (to_be_bytes w64 n) result }
 {

@@ -162,7 +162,7 @@ module _ (version : Version) (c : Catalogue) (s : State) (rs : List Record) (n :
       → IsAnalysis version s (map record_of rs) (record { lawful = n; catalogue = c })
   ends_at_one r e h may = ends_unlawful r h (sym (ap (may_take version c) e) ∙ may)
 
--- where an analysis goes on
+-- if an analysis goes on, all records so far are lawful, and its catalogue follows them
 pub goes_on : (version : Version) (c : Catalogue) (s : State) (rs : List Record) (n : ℕ) → n ≤ length rs
     → IsAnalysis version s (upto n rs) (record { lawful = n; catalogue = c })
     → (all_lawful version s (upto n rs) ≡ true) × Follows c s (upto n rs)

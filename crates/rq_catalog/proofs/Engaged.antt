@@ -52,7 +52,7 @@ closed_more true false k = refl
 closed_more false true k = refl
 closed_more false false k = refl
 
--- what is begun engaged nothing
+-- a unit that is begun has engaged nothing
 begun_more : (o b k : Bool) → (k ≡ true → b ≡ false) → (o && k) ≡ ((o || b) && k)
 begun_more true b k h = refl
 begun_more false b false h = sym (and_false b)
@@ -134,7 +134,7 @@ engaged_begun version s xs q u well lawful h =
     ))
     (λ _ _ o. begun_later version s xs q u well lawful o) refl h
 
--- a unit that is begun next engaged nothing
+-- the unit that is begun next has engaged nothing
 begins_anew : (version : Version) (s : State) (xs : List model.Record) (q u v : ℕ) → IsWellFormed s
     → all_lawful version s xs ≡ true → (is_engaged s q u || list_any (engages q u) xs) ≡ true → (run s xs).greatest < v
     → (v == u) ≡ false

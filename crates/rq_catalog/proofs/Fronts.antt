@@ -49,7 +49,7 @@ parted version s (r ∷ rs) = at (is_lawful version s r) refl (parted version (s
         subst (λ (b : Bool). IsParted version s (r ∷ rs) (cond b (r ∷ lawful_front version (step s r) rs) [])) (sym e)
         it
 
--- so many records from the front are the lawful ones
+-- this many records from the front are the lawful ones
 taken : (version : Version) (s : State) (rs : List Record)
     → take (length (lawful_front version s rs)) rs ≡ lawful_front version s rs
 taken version s rs =
@@ -66,7 +66,7 @@ more_is kept [] = le-ltb (length kept) (length (kept ++ [])) (omega (arith, leng
 more_is kept (r ∷ more) = lt-ltb (length kept) (length (kept ++ r ∷ more))
     (omega (arith, length-append kept (r ∷ more)))
 
--- so are so many of the code's own records
+-- so are this many of the code's own records
 pub kept_is : (version : Version) (s : State) (all kept : List Own) (n : ℕ) → kept ≡ take n all
     → n ≡ length (lawful_front version s (map record_of all))
     → map record_of kept ≡ lawful_front version s (map record_of all)
@@ -74,7 +74,7 @@ kept_is version s all kept n is count =
     let rs = map record_of all in
     ap (map record_of) is ∙ sym (take-map record_of n all) ∙ ap (λ (k : ℕ). take k rs) count ∙ taken version s rs
 
--- what is said of a list is said of its lawful beginning
+-- an analysis of a list is one of its lawful beginning
 pub analysis_of_front : (version : Version) (s : State) (rs : List Record) (a : Analysis) → IsAnalysis version s rs a
     → IsAnalysis version s (lawful_front version s rs) a
 analysis_of_front version s rs a is =
@@ -90,7 +90,7 @@ analysis_of_front version s rs a is =
       catalogue = subst (λ (xs : List Record). Follows a.catalogue s xs) same is.catalogue;
     }
 
--- what is said of lawful records is said of the beginning of a list that begins with them
+-- an analysis of lawful records is one of the beginning of a list that begins with them
 pub analysis_of_beginning : (version : Version) (s : State) (rs more : List Record) (all : List Own) (a : Analysis)
     → all_lawful version s rs ≡ true → IsAnalysis version s rs a → map record_of all ≡ rs ++ more
     → (a.lawful ≤ length all) × IsAnalysis version s (map record_of (take a.lawful all)) a
@@ -103,7 +103,7 @@ analysis_of_beginning version s rs more all a lawful is whole =
       subst (λ (xs : List Record). IsAnalysis version s xs a) (sym first) is,
     )
 
--- what is said of lawful records by the rules of one version is said by another's in which they are lawful
+-- if records are lawful in two versions, an analysis by the one is an analysis by the other
 analysis_elsewhere : (version other : Version) (s : State) (rs : List Record) (a : Analysis)
     → all_lawful version s rs ≡ true → all_lawful other s rs ≡ true → IsAnalysis version s rs a
     → IsAnalysis other s rs a
@@ -120,7 +120,7 @@ analysis_elsewhere version other s rs a lawful again is =
       catalogue = subst (λ (xs : List Record). Follows a.catalogue s xs) same is.catalogue;
     }
 
--- what is lawful in any version is so in version 2, and so is what is said of it
+-- what is lawful in any version is lawful in version 2, and its analysis is one in version 2
 pub lawful_in_two : VersionTwoIsWider → (version : Version) (s : State) (rs : List Record)
     → all_lawful version s rs ≡ true → all_lawful Two s rs ≡ true
 lawful_in_two wider One s rs lawful = wider s rs lawful

@@ -67,7 +67,7 @@ below [] n h = refl
 below (u ∷ units) n h =
     ap (λ b. cond b (Some u) (unit_in units n)) (ne_eqb u.number n (λ e. omega (arith, h.0, e))) ∙ below units n h.1
 
--- two units of which one can be the one that is looked for
+-- two units, one of which can be the one that is looked for
 either : (a b n : ℕ) (u x : Unit) (o : Option Unit) → a < b
     → cond (a == n) (Some u) (cond (b == n) (Some x) o) ≡ cond (b == n) (Some x) (cond (a == n) (Some u) o)
 either a b n u x o h =
@@ -148,7 +148,7 @@ same_numbers [] i x at = refl
 same_numbers (u ∷ units) zero x at = ap (λ v. v ∷ numbers units) (sym (some_is u.number x.number at))
 same_numbers (u ∷ units) (suc i) x at = ap (λ l. u.number ∷ l) (same_numbers units i x at)
 
--- Only what is behind those below has to be looked at.
+-- Only what comes after those below has to be looked at.
 
 pub behind : (units : List Unit) (k n : ℕ) → AllByRecursion (λ v. v < n) (numbers (take k units))
     → unit_in units n ≡ unit_in (drop k units) n
@@ -239,7 +239,7 @@ engaged_none units n k u q h =
     (subst (λ m. unit_in units m ≡ None) (eqb-true n u e) h))))
     (λ _ _. ap (λ b. b || engages_at units u q) (sym (and_false (has_unit units u)))) refl
 
--- What a search by halves says.
+-- What a binary search says.
 
 equal_numbers : (a b : ℕ) → nat_cmp a b ≡ Equal → a ≡ b
 equal_numbers a b e = grind arith
@@ -261,7 +261,7 @@ pub not_found : (units : List Unit) (n : ℕ) → list_any (λ (u : Unit). is_eq
 not_found [] n h = refl
 not_found (u ∷ units) n h = grind (arith, not_found units n)
 
--- where the search looks at what is behind those below alone
+-- if the search looks only at what comes after those below
 module _ (units tail : List Unit) (k n i : ℕ) (part : tail ≡ drop k units) where
   pub found_behind : i < length tail → ((d : Unit) → nat_cmp (slice_index_or tail i d).number n ≡ Equal)
       → HasNumber units (k + i) n
@@ -318,7 +318,7 @@ queues_of units i n x up some at q =
     sym (ap (λ o. option_map_or (λ (v : Unit). list_any (λ w. w == q) v.queues.items) o false)
     (found units i n up some ∙ at))
 
--- A turn of the loop over the units, of which those that are open are listed.
+-- A turn of the loop that lists the open units.
 
 number_at : (units : List Unit) (i : ℕ) (x : Unit) → slice_get units i ≡ Some x
     → slice_index_or (numbers units) i 0 ≡ x.number

@@ -146,7 +146,7 @@ any_both p [] ys = refl
 any_both p (x ∷ xs) ys = by_cases (p x) (λ b. (b || list_any p (xs ++ ys)) ≡ ((b || list_any p xs) || list_any p ys))
     (λ _. refl) (λ _. any_both p xs ys)
 
--- a unit is open where its outcome is
+-- a unit is open if its outcome is
 abbrev pub is_open_outcome : Option Outcome → Bool
 is_open_outcome None = false
 is_open_outcome (Some o) = is_still_open o

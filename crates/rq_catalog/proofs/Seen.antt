@@ -1,4 +1,4 @@
--- Units in the order in which they were begun.
+-- Units in the order in which they began.
 use Rattle.std.proofs.Common.{◌≡◌, ℕ, zero, suc, ◌+◌, ◌<◌, ◌≤◌, Bool, true, false, cond, ◌||◌, ◌&&◌, List, [], ◌∷◌}
 use Rattle.std.proofs.Common.{◌++◌, length, map, refl, sym, ap, ◌∙◌, arith, take, get_or, append_assoc}
 use Rattle.std.proofs.Common.{Some, None}

@@ -15,7 +15,7 @@ use Rattle.rq_catalog.specs.Catalogues.{Follows}
 abbrev pub outcome_in : Analysis → ℕ → Option machine.Outcome
 outcome_in a unit = option_map outcome_of (outcome_at a.catalogue.units unit)
 
--- the units that the analysis has as open, in the order in which they were begun
+-- the units that are open in the analysis, in the order in which they began
 abbrev pub open_in : Analysis → List ℕ
 open_in a = filter (λ unit. is_open_in (outcome_at a.catalogue.units unit))
     (numbers a.catalogue.units)

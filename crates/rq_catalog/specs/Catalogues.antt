@@ -25,7 +25,7 @@ use Rattle.rq_catalog.specs.declared.outcome.Outcome.{Outcome}
 use Rattle.rq_catalog.specs.declared.outcome.Outcome.TheVariants.{Committed, Aborted, Open}
 use Rattle.rq_catalog.specs.declared.catalogue.Catalogue.{Catalogue}
 
--- an error queue of version 1 has none itself
+-- an error queue of version 1 has no error queue itself
 abbrev pub may_be_error_in : Version → List ℕ → ℕ → Bool
 may_be_error_in One errors error = slice_index_or errors error no_queue == no_queue
 may_be_error_in Two errors error = true
@@ -87,7 +87,7 @@ outcome_after place (Commit unit) u old = cond (nat_eq unit.0 u) (Some (Committe
 outcome_after place (Abort unit) u old = cond (nat_eq unit.0 u) (Some (Aborted place)) old
 outcome_after place r u old = old
 
--- the units in the order in which they were begun
+-- the units in the order in which they began
 abbrev pub begun_after : Record → List ℕ → List ℕ
 begun_after (Begin unit) old = old ++ unit.0 ∷ []
 begun_after r old = old

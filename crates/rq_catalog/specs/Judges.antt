@@ -1,4 +1,4 @@
--- Where a judge stands, and what a record changes of it.
+-- What a judge knows, and what a record changes in it.
 use Rattle.std.specs.Prelude.{ℕ, ◌≡◌, Bool, true, false, cond, List, map, nat_eq}
 use Rattle.std.specs.List.{list_any}
 use Rattle.std.specs.Str.{bytes_eq}
@@ -30,7 +30,7 @@ pub record StandsIn (version : Version) (j : Judge) (s : State) : Type 0 where
   pub rules : version_of j.version ≡ version
   pub knows : KnowsState j s
 
--- wherever j stands, k stands too
+-- whatever state j stands at, k stands at it too
 abbrev pub KeepsStanding : Judge → Judge → Type 0
 KeepsStanding j k = (version : Version) (s : State) → StandsIn version j s → StandsIn version k s
 

@@ -25,7 +25,7 @@ is_on_roll sets k = list_any (is_at (slice_cmp nat_cmp k.1)) (names_with sets k.
 abbrev pub is_registered_in : RegisteredNames → ℕ × List ℕ → Bool
 is_registered_in registrants k = is_on_roll registrants.by_queue.items k
 
--- nobody is named, or somebody who is registered with the queue
+-- nobody is named, or somebody who is registered with the queue is
 abbrev pub is_known_in : RegisteredNames → ℕ → Option By → Bool
 is_known_in registrants queue None = true
 is_known_in registrants queue (Some by) = is_registered_in registrants (queue, by.name)

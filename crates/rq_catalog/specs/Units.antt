@@ -22,7 +22,7 @@ unit_in (u ∷ units) number = cond (u.number == number) (Some u) (unit_in units
 abbrev pub outcome_at : List Unit → ℕ → Option Outcome
 outcome_at units number = option_map (λ (u : Unit). u.outcome) (unit_in units number)
 
--- the queue is among those that stand with the unit
+-- the queue is among those that are kept with the unit
 abbrev pub engages_at : List Unit → ℕ → ℕ → Bool
 engages_at units number queue =
     option_map_or (λ (u : Unit). list_any (λ v. v == queue) u.queues.items)

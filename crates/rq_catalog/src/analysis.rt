@@ -37,9 +37,9 @@ pub fn analyse(alloc: Global, state: &State, records: &[Record]) -> Result<Analy
     analyse_in(alloc, Version::One, state, records)
 }
 
-/// Analyses the records that follow the state, by the rules of the version. A record is lawful
-/// where it may come after those before it; the first that is not lawful ends the pass, and nothing
-/// is said of it or of those behind it. Refused with `Resources` alone.
+/// Analyses the records that follow the state, by the rules of the version. A record is lawful if
+/// it may come after those before it. The first unlawful record ends the pass, and nothing is said
+/// of it or of the records after it. Refused only with `Resources`.
 pub fn analyse_in(
     alloc: Global,
     version: Version,
@@ -55,7 +55,7 @@ pub fn analyse_in(
     analyse_kept(alloc, version, state, &kept)
 }
 
-/// The same of records that are kept, of which nothing is copied.
+/// The same for records that are kept; nothing of them is copied.
 pub fn analyse_kept(
     alloc: Global,
     version: Version,
@@ -76,9 +76,9 @@ pub fn analyse_kept(
 }
 
 impl Analysis {
-    /// Goes on behind the records that were analysed by the rules of the version, which are lawful
-    /// and with which these begin: so the analysis of them all costs no more than what is new.
-    /// Refused with `Resources` alone.
+    /// Continues an analysis. These records begin with those that were analysed by the rules of the
+    /// version, which are all lawful. So the analysis of them all costs no more than what is new.
+    /// Refused only with `Resources`.
     pub fn go_on(
         self,
         alloc: Global,
@@ -115,7 +115,7 @@ impl Analysis {
         self.lawful
     }
 
-    /// What became of the unit in the lawful records; `None` where it was neither open in the state
+    /// What became of the unit in the lawful records; `None` if it was neither open in the state
     /// nor begun by one of them.
     pub fn outcome(&self, unit: UnitNo) -> Option<Outcome>
         ensures { option_map outcome_of result ≡ outcome_in self.now unit.0 }
@@ -123,9 +123,9 @@ impl Analysis {
         self.catalogue.units.outcome(unit.0)
     }
 
-    /// The lawful records that touch the queue, rising: the place of each in the log, and its index
-    /// in the list that was analysed. A COMMIT or ABORT touches the queues that its unit engaged.
-    /// None for a queue that there is not.
+    /// The lawful records that touch the queue, in rising order: the place of each in the log, and
+    /// its index in the list that was analysed. A COMMIT or ABORT touches the queues that its unit
+    /// engaged. Empty if there is no such queue.
     pub fn touching(&self, queue: QueueNo) -> &[(u64, usize)]
         ensures { result.now ≡ touched self.now queue.0 }
     {
@@ -149,7 +149,8 @@ impl Analysis {
         self.catalogue.aborted
     }
 
-    /// The units that are open after the lawful records, rising. Refused with `Resources` alone.
+    /// The units that are open after the lawful records, in rising order. Refused only with
+    /// `Resources`.
     pub fn open_units(&self, alloc: Global) -> Result<Vec<UnitNo>, Fault>
         ensures units { IfOk result (λ units. map unit_of units.items ≡ open_in self.now) }
         ensures refused { IfErr result (λ e. e ≡ Resources) }

@@ -1,4 +1,4 @@
-//! What lawfulness looks at, and what is noted on the way.
+//! What lawfulness depends on, and what is noted on the way.
 
 ghost use Rattle.std.specs.Prelude.{◌≡◌, ℕ, ◌==◌, ◌&&◌, ◌||◌, List, ◌++◌, [], ◌∷◌, map, OnOk};
 ghost use Rattle.std.specs.Prelude.{IfErr, nat_lt, nat_eq, length, cond, true, false, ◌+◌, ◌<◌};
@@ -23,8 +23,8 @@ use indexmap::IndexSet;
 use rq_record::{Fault, KeptBy, KeptRecord, Name, QueueNo, Version};
 use std::alloc::Global;
 
-/// What lawfulness looks at, which is queues, registrants and units, and what is noted on the way:
-/// the queues that each open unit engaged, the records that touch each queue, and the counts.
+/// What lawfulness depends on (queues, registrants and units), and what is noted on the way: the
+/// queues that each open unit engaged, the records that touch each queue, and the counts.
 #[derive(Drop)]
 pub(crate) struct Catalogue {
     pub(crate) names: IndexSet<Name>,

@@ -6,14 +6,14 @@ ghost use Rattle.rq_catalog.specs.Catalogues.{is_limit_in, may_be_error_in, may_
 
 use rq_record::{QueueNo, Version};
 
-/// Whether there is the queue.
+/// Whether the queue exists.
 pub(crate) fn is_defined(errors: &[u32], queue: u32) -> bool
     ensures { result ≡ nat_lt queue (length errors.now) }
 {
     (queue as usize) < errors.len()
 }
 
-// An error queue of version 1 has none itself.
+// In version 1 an error queue has no error queue itself.
 fn may_be_error(version: Version, errors: &[u32], error: u32) -> bool
     requires { error < length errors.now }
     ensures { result ≡ may_be_error_in (version_of version) errors.now error }

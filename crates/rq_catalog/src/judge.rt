@@ -21,9 +21,9 @@ use rq_state::State;
 use std::alloc::Global;
 use std::collections::BTreeSet;
 
-/// Says of records, one after the other, whether each is lawful behind the lawful ones before it.
-/// It keeps what lawfulness looks at alone, which is queues, registrants and open units: so it does
-/// not grow with the records.
+/// Says of records, one after the other, whether each is lawful after the lawful ones before it. It
+/// keeps only what lawfulness depends on: queues, registrants and open units. So it does not grow
+/// with the records.
 #[derive(Drop)]
 pub struct Judge {
     pub(crate) version: Version,
@@ -49,7 +49,7 @@ impl Judge {
         }
     }
 
-    /// The judge by the rules of the version, behind the state. Refused with `Resources` alone.
+    /// The judge by the rules of the version, after the state. Refused only with `Resources`.
     pub fn of(alloc: Global, version: Version, state: &State) -> Result<Judge, Fault>
         ensures stands { IfOk result (λ judge. StandsIn (version_of version) judge state.now) }
         ensures refused { IfErr result (λ e. e ≡ Resources) }
@@ -77,8 +77,8 @@ impl Judge {
         self.version
     }
 
-    /// Whether the record is lawful behind those that were taken; where it is, it is taken. Refused
-    /// with `Resources` alone, and then nothing is taken.
+    /// Whether the record is lawful after those that were taken. If it is, it is taken. Refused
+    /// only with `Resources`, and then nothing is taken.
     pub fn take(&mut self, next: &KeptRecord) -> Result<bool, Fault>
         ensures lawful { IfOk result
             (λ lawful. (version : records.Version) (s : State) → StandsIn version self.old s
@@ -97,7 +97,7 @@ impl Judge {
         Ok(is_lawful)
     }
 
-    /// Whether the record is lawful behind those that were taken.
+    /// Whether the record is lawful after those that were taken.
     pub(crate) fn may_take(&self, next: &KeptRecord) -> bool
         ensures { (s : State) → KnowsState self.now s
             → result ≡ machine.is_lawful (version_of self.now.version) s (record_of next.now) }
@@ -125,7 +125,7 @@ impl Judge {
         }
     }
 
-    /// Whether there is the queue.
+    /// Whether the queue exists.
     pub(crate) fn is_defined(&self, queue: QueueNo) -> bool
         ensures many { result ≡ nat_lt queue.0 (length self.now.errors.items) }
         ensures state { (s : State) → KnowsState self.now s

@@ -9,7 +9,7 @@ ghost use Rattle.rq_state.specs.Orders.{listed};
 
 use rq_record::Fault;
 
-/// Adds a record to those that touch the queue, where it is one.
+/// Adds a record to those that touch the queue, if the list has the queue.
 pub(crate) fn touch(
     touching: &mut Vec<Vec<(u64, usize)>>,
     queue: u32,

@@ -8,10 +8,10 @@ use rq_record::{Fault, KeptBy, KeptName, Name};
 use std::alloc::Global;
 use std::collections::BTreeSet;
 
-/// The names that are registered with each queue, in order, so that one is found by halves. Whoever
-/// writes a log chooses the names, and could choose those that a table of hashes puts into one
-/// place. Where names come in order, a set has room for about twice as many as it holds: so each
-/// takes 16 bytes there, where a `Name` would take 65.
+/// The names that are registered with each queue, in order, so that a binary search finds one.
+/// Whoever writes a log chooses the names, and could choose names that a hash table puts into one
+/// place. If names come in order, a set has room for about twice as many as it holds. So each takes
+/// 16 bytes there; a `Name` would take 65.
 #[derive(Drop)]
 pub(crate) struct RegisteredNames {
     alloc: Global,
@@ -76,7 +76,7 @@ impl RegisteredNames {
         Ok(())
     }
 
-    /// Ends the registration of the name with the queue, where there is one.
+    /// Ends the registration of the name with the queue, if there is one.
     pub(crate) fn deregister(&mut self, queue: u32, name: &KeptName)
         ensures { (k : ℕ × List ℕ) → is_registered_in self.new k
             ≡ cond (key_eq (queue, name.now) k) false (is_registered_in self.old k) }

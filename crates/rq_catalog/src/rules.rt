@@ -1,6 +1,6 @@
 //! Which rule of the machine a record breaks.
 
-ghost use Rattle.std.specs.Prelude.{◌≡◌, IfSome, false};
+ghost use Rattle.std.specs.Prelude.{◌≡◌, IfSome, false, true, is_some, not};
 ghost use Rattle.rq_model.specs.Records as records;
 ghost use Rattle.rq_model.specs.States.{State};
 ghost use Rattle.rq_model.specs.Machine as machine;
@@ -11,7 +11,7 @@ use crate::judge::Judge;
 use rq_record::{KeptBy, KeptRecord, Name, QueueNo, UnitNo, Version};
 use std::fmt;
 
-// The most queues that there are.
+// The greatest number of queues.
 const QUEUES: usize = 4096;
 
 // The greatest limit of a queue.
@@ -124,8 +124,11 @@ impl Judge {
         }
     }
 
-    // A rule that a record breaks which is not lawful. Each checkpoint is lawful.
-    fn rule_of(&self, next: &KeptRecord) -> Option<Rule> {
+    // A rule that an unlawful record breaks. Each checkpoint is lawful.
+    fn rule_of(&self, next: &KeptRecord) -> Option<Rule>
+        ensures { (version : records.Version) (s : State) →
+            machine.is_lawful version s (record_of next.now) ≡ false → is_some result ≡ true }
+    {
         Some(match next {
             KeptRecord::Define { limit, error, name } => {
                 self.definition_rule(*limit, *error, name.name())
@@ -149,11 +152,13 @@ impl Judge {
         })
     }
 
-    /// A rule that the record breaks behind those that were taken, if it is not lawful there. Which
-    /// rule that is, is tested.
+    /// A rule that the record breaks after those that were taken; none exactly if it is lawful
+    /// there. Tests check which rule it is.
     pub fn broken(&self, next: &KeptRecord) -> Option<Rule>
-        ensures { IfSome result (λ _. (version : records.Version) (s : State) →
+        ensures unlawful { IfSome result (λ _. (version : records.Version) (s : State) →
             StandsIn version self.now s → machine.is_lawful version s (record_of next.now) ≡ false) }
+        ensures exact { (version : records.Version) (s : State) → StandsIn version self.now s
+            → is_some result ≡ not (machine.is_lawful version s (record_of next.now)) }
     {
         if self.may_take(next) {
             return None;

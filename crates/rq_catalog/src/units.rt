@@ -18,8 +18,8 @@ use std::alloc::Global;
 use std::marker::Model;
 use std::mem;
 
-// Most records name a unit that was begun lately: it is looked for among so many of the last where
-// it can be there, and else among all.
+// Most records name a unit that was begun lately. So the search looks among this many of the last
+// units if the unit can be there, and else among all.
 const RECENT: usize = 64;
 
 /// A unit: its number, what became of it, and the queues that it engaged, while it is open.
@@ -30,8 +30,8 @@ pub(crate) struct Unit {
     queues: Vec<u32>,
 }
 
-/// Units in the order in which they were begun, which is that of their numbers: so one is found by
-/// halves. Whoever writes a log chooses the numbers, and could choose those that a table of hashes
+/// Units in the order in which they were begun, which is that of their numbers: so a binary search
+/// finds one. Whoever writes a log chooses the numbers, and could choose numbers that a hash table
 /// puts into one place.
 #[derive(Drop)]
 pub(crate) struct Units {
@@ -51,7 +51,7 @@ impl Model for Units {
     ghost invariant = { λ u. Ordered (λ a b. a < b) (numbers u.list.items) };
 }
 
-// Where those begin among which the unit is, if it is there at all.
+// The unit stands at this index or after it, if it is there at all.
 fn search_from(units: &[Unit], number: u64) -> usize
     requires { Ordered (λ a b. a < b) (numbers units.now) }
     ensures bound { result ≤ length units.now }
@@ -78,7 +78,7 @@ fn index_of(units: &[Unit], number: u64) -> Option<usize>
     }
 }
 
-// Adds the unit to the open ones, where it is open.
+// Adds the unit to the open ones, if it is open.
 fn push_open(unit: &Unit, units: &mut Vec<UnitNo>) -> Result<(), Fault>
     ensures opened { OnOk result (map unit_of units.new.items
         ≡ (if is_open_in (Some unit.now.outcome)
@@ -102,7 +102,7 @@ impl Units {
         }
     }
 
-    /// What became of the unit; `None` where it is not there.
+    /// What became of the unit; `None` if it is not there.
     pub(crate) fn outcome(&self, number: u64) -> Option<Outcome>
         ensures { result ≡ outcome_at self.now number }
     {
@@ -112,7 +112,7 @@ impl Units {
         }
     }
 
-    /// The units that are open, rising.
+    /// The units that are open, in rising order.
     pub(crate) fn open_units(&self, alloc: Global) -> Result<Vec<UnitNo>, Fault>
         ensures units { IfOk result (λ units. map unit_of units.items
             ≡ filter (λ u. is_open_in (outcome_at self.now u)) (numbers self.now)) }
@@ -125,7 +125,7 @@ impl Units {
         Ok(units)
     }
 
-    /// Begins a unit behind all others.
+    /// Begins a unit that comes after all others.
     pub(crate) fn begin(&mut self, alloc: Global, number: u64) -> Result<(), Fault>
         requires { AllByRecursion (λ v. v < number) (numbers self.old) }
         ensures numbers { OnOk result (numbers self.new ≡ numbers self.old ++ number ∷ []) }
@@ -143,7 +143,7 @@ impl Units {
         Ok(())
     }
 
-    /// Adds a queue to those that the unit engaged, where it is there.
+    /// Adds a queue to those that the unit engaged, if the unit is there.
     pub(crate) fn engage(&mut self, number: u64, queue: u32) -> Result<(), Fault>
         ensures numbers { numbers self.new ≡ numbers self.old }
         ensures outcomes { (u : ℕ) → outcome_at self.new u ≡ outcome_at self.old u }

@@ -27,7 +27,7 @@ flat_long f d (x ∷ xs) = ap length (flat_append f (d x) (flat_map d xs))
     ∙ sym (sum_by-cons (λ y. length (flat_map f (d y))) x xs)
 
 module _ {T : Type 0} where
-  -- where each source has an arrival, each has one outbox that was not given back
+  -- if each source has an arrival, each has one outbox that was not given back
   all_kept : (n : ℕ) (es : List (Entry T)) (j : ℕ)
       → ((i : ℕ) → i < n → (k : ℕ) → k ≡ j + i → (x : T) × (kept_for k es ≡ x ∷ [])) → length (kept_from j n es) ≡ n
   all_kept zero es j each = refl
@@ -37,7 +37,7 @@ module _ {T : Type 0} where
       all_kept n es (suc j) (λ i near k e. each (suc i) (omega arith) k (omega (arith, e))) in
       omega (arith, length-append (kept_for j es) (kept_from (suc j) n es), first, rest)
 
-  -- where each source of a countdown has an arrival, one was told Last
+  -- if each source of a countdown has an arrival, one was told Last
   pub told_last : (n : ℕ) (es : List (Entry T)) (arrived : ℕ) (home : List T) → 0 < n → Settled n es arrived home
       → ((i : ℕ) → i < n → 0 < length (arrivals_for i es)) → length (last_lists es) ≡ 1
   told_last n es arrived home some s each =
@@ -96,7 +96,7 @@ module _ {T : Type 0} (w : Web) where
         no_lasts x none hs f.1,
       )
 
-  -- one step of the induction: where the queues of greater numbers were redone once, this one was
+  -- one step of the induction: if the queues of greater numbers were redone once, so was this one
   step : (hs : List (Hand T)) → IsWebClosed w hs → (x : ℕ) → x < w.n → ((y : ℕ) → x < y → y < w.n → Once hs y) → (m : ℕ)
       → length (w.sources x) ≡ m → Once hs x
   step hs c x near above zero is = all_redid x near hs c.follow

@@ -48,7 +48,7 @@ module _ (job : Job) (chain : CountdownChain) (is : IsChainOf job chain) (q e : 
   pub there : at chain.slots.items e < length chain.countdowns.items
   there = is.web.fed e within fed
 
-  -- who is the last is given what left the sources
+  -- the last is given what left the sources
   pub given : (cd : Countdown Outbox Target) (k : ℕ) (boxes : List Outbox) → k ≡ at chain.slots.items e
       → cd ≡ slice_index_or chain.countdowns.items k cd
       → (length boxes ≡ sources_of cd)

@@ -44,7 +44,7 @@ few_from p n (x ∷ xs) = by_cases (p x)
     (λ b. length (cond b (n ∷ indices_of p (n + 1) xs) (indices_of p (n + 1) xs)) ≤ length (x ∷ xs))
     (λ _. omega (arith, few_from p (n + 1) xs)) (λ _. omega (arith, few_from p (n + 1) xs))
 
--- in a list in which nothing stands twice, what stands at two indices stands at one
+-- if nothing occurs twice in a list, what is at two indices is at one
 pub same_index : (ks : List ℕ) → Ordered (λ a b. a ≢ b) ks → (i j : ℕ) → i < length ks → j < length ks
     → slice_index_or ks i 0 ≡ slice_index_or ks j 0 → i ≡ j
 same_index [] h i j l m e = absurd (omega (arith, l))

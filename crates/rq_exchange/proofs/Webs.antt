@@ -1,4 +1,4 @@
--- How the queues stand to each other, once the countdowns are opened.
+-- How the queues are linked, once the countdowns are opened.
 use Rattle.std.proofs.Common.{◌≡◌, ◌⊎◌, ℕ, zero, suc, ◌<◌, List, length, sym, ◌∙◌, subst, arith, inl, inr, true, Vec}
 use Rattle.std.proofs.Common.{Global}
 use Rattle.std.specs.Prelude.{slice_index_or, ◌==◌}

@@ -51,11 +51,11 @@ pub record IsChainOf (job : Job) (chain : CountdownChain) : Type 0 where
       e < length job.definitions.now → 0 < length (listed job.sources.now e)
       → IsCountdownOf job e (slice_index_or chain.countdowns.items (at chain.slots.items e) d)
 
--- each countdown has as many passes
+-- each countdown has this many passes
 abbrev pub HasPasses : CountdownChain → ℕ → Type 0
 HasPasses chain workers = All (λ c. passes_of c ≡ workers) chain.countdowns.items
 
--- there is such a queue, and it is no queue's error queue
+-- the queue exists, and it is no queue's error queue
 abbrev pub IsBare : Job → ℕ → Type 0
 IsBare job queue = (queue < length job.definitions.now) × (listed job.sources.now queue ≡ [])
 

@@ -44,8 +44,8 @@ pub record IsAlone (x : ℕ) (lists : List (List ℕ)) : Type 0 where
 
 -- Each queue is redone by one thread, once. What leaves a queue is handed in by the thread that
 -- redid it, as often. An error queue is redone by the thread that was told Last, as often as it was
--- told so; and all its sources have arrived, so that one thread was, once, and was given what left
--- them all
+-- told so. All sources of the error queue have arrived, so one thread was told Last, once, and was
+-- given what left them all
 pub record StartsByLast (errors : List ℕ) (c : Course) : Type 0 where
   pub once : (x : ℕ) → x < length errors → IsAlone x (redone_of c)
   pub handed_in : (x i k : ℕ) → x < length errors

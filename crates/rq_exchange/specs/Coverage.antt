@@ -15,7 +15,7 @@ pub record Hand (T : Type 0) : Type 0 where
   pub diaries : List (List (Entry T))
 
 module _ {T : Type 0} where
-  -- the arrivals at the countdown at this index; none where there is none
+  -- the arrivals at the countdown at this index; none if it does not exist
   abbrev pub told_at : List (List (Entry T)) → ℕ → List (Entry T)
   told_at diaries slot = slice_index_or diaries slot []
 
@@ -27,7 +27,7 @@ module _ {T : Type 0} where
   abbrev pub arrived_at : ℕ → List (List (Entry T)) → ℕ → ℕ
   arrived_at i diaries slot = length (arrivals_for i (told_at diaries slot))
 
--- the queue to begin next: the error queue, where its outboxes were given out
+-- the queue to begin next: the error queue, if its outboxes were given out
 abbrev pub asked : {B : Type 0} → ℕ → Option B → List ℕ
 asked e None = []
 asked e (Some b) = e ∷ []
@@ -36,8 +36,8 @@ asked e (Some b) = e ∷ []
 abbrev pub source_at : (ℕ → List ℕ) → ℕ → ℕ → ℕ
 source_at sources e i = slice_index_or (sources e) i 0
 
--- How n queues stand to each other: the error queue of each, the queues whose error queue it is,
--- the index of its countdown among so many, and its index among the sources of its error queue
+-- How n queues are linked: the error queue of each, the queues whose error queue it is, the index
+-- of its countdown among this many, and its index among the sources of its error queue
 pub record Web : Type 0 where
   pub n : ℕ
   pub error : ℕ → ℕ
@@ -60,7 +60,7 @@ pub record IsWeb (w : Web) : Type 0 where
 
 module _ {T : Type 0} where
   -- What a thread began to redo is what it was given and the queues whose countdown told it Last.
-  -- For each queue that it redid it arrived, once for each time, where that queue is a source.
+  -- For each queue that it redid it arrived, once for each time, if that queue is a source.
   pub record DiariesTell (w : Web) (starts begun redone : List ℕ) (diaries : List (List (Entry T)))
       : Type 0 where
     pub long : length diaries ≡ w.count
@@ -68,8 +68,8 @@ module _ {T : Type 0} where
     pub arrived : (e i : ℕ) → e < w.n → i < length (w.sources e)
         → arrived_at i diaries (w.slot e) ≡ times (source_at w.sources e i) redone
 
-  -- a queue more was redone, and what left it was handed on: the error queue is to begin next,
-  -- where its outboxes were given out
+  -- a queue more was redone, and what left it was handed on: the error queue is to begin next, if
+  -- its outboxes were given out
   abbrev pub HandsOn : {B : Type 0} → Web → ℕ → ℕ → Option B
       → List (List (Entry T)) → List (List (Entry T)) → Type 0
   HandsOn w queue error given old new = (starts begun redone : List ℕ) →

@@ -14,8 +14,8 @@ Fall errors = (k : ℕ) → k < length errors → at errors k < length errors �
 abbrev pub naming : List ℕ → ℕ → List ℕ
 naming errors queue = indices_of (λ e. e == queue) 0 errors
 
--- of the first m queues, each stands at its rank among the sources of its error queue, where that
--- is one of count queues
+-- each of the first m queues is at its rank among the sources of its error queue, if that is one of
+-- count queues
 pub record AreRanks (errors : List ℕ) (count m : ℕ) (ranks : List ℕ) : Type 0 where
   pub long : length ranks ≡ m
   pub ranked : (q : ℕ) → q < m → at errors q < count

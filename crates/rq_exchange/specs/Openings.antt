@@ -14,7 +14,7 @@ use Rattle.rq_exchange.specs.Chains.{IsCountdownOf}
 use Rattle.rq_exchange.specs.Links.{at}
 
 module _ {g : Ghosts Outbox Target} where
-  -- all passes of the countdown, so many; nobody has arrived with one
+  -- all passes of the countdown, this many; nobody has arrived with one
   pub record IsFreshColumn (workers : ℕ) (c : Countdown Outbox Target)
       (column : Vec (Pass Outbox Target g)) : Type 0 where
     pub own : All (λ p. IsPassOf c p) column.items
@@ -22,7 +22,7 @@ module _ {g : Ghosts Outbox Target} where
     pub passes : passes_of c ≡ workers
     pub blank : All (λ p. history_of p ≡ []) column.items
 
-  -- a countdown more, where the queue has sources, and its passes
+  -- if the queue has sources, one more countdown, and its passes
   pub record AddsCountdown (job : Job) (workers queue : ℕ)
       (countdowns : List (Countdown Outbox Target)) (columns : List (Vec (Pass Outbox Target g)))
       (slot : ℕ) (after : List (Countdown Outbox Target)) (more : List (Vec (Pass Outbox Target g)))

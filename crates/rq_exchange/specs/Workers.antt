@@ -24,8 +24,8 @@ use Rattle.rq_pool.specs.declared.countdown.pass.Pass.{Pass}
 use Rattle.rq_exchange.specs.Chains.{web_of, ArePasses, IsRedone, hand_of, diaries_of}
 use Rattle.rq_exchange.specs.Coverage.{HasFollowed, told_at}
 
--- the thread has a pass of each countdown, its parts are right, and its passes tell of the queues
--- that it began with, these
+-- the thread has a pass of each countdown, its parts are right, and its passes tell of these queues
+-- that it began with
 pub record HasKept (job : Job) (chain : CountdownChain) (starts : List ℕ) (k : WorkDone)
     : Type 0 where
   pub passes : ArePasses chain k.passes.items
@@ -56,7 +56,7 @@ pub record AreHandedBack (job : Job) (chain : CountdownChain) (room : Room)
   pub seats : All (IsSeatOf room) back
   pub keep : AllKeep job chain (map taken_of back) all
 
--- where all workers worked so, their seats and what they keep are handed back
+-- if all workers worked so, their seats and what they keep are handed back
 abbrev pub HandsBack : List (Result Ended Fault) → List Seat → List WorkDone → Type 0
 HandsBack ended back all = (job : Job) (chain : CountdownChain) (room : Room) →
     All (Works job chain room) ended → AreHandedBack job chain room (length ended) back all
@@ -75,7 +75,7 @@ abbrev pub IsFreshWorker : CountdownChain → Room → Worker → Type 0
 IsFreshWorker chain room w = IsSeatOf room w.seat × (taken_of w.seat ≡ [])
     × ArePasses chain w.passes.items × All (λ p. history_of p ≡ []) w.passes.items
 
--- where the seats and the passes are fresh, the workers that they make are
+-- if the seats and the passes are fresh, so are the workers that they make
 abbrev pub Pairs : {g : Ghosts Outbox Target} → List Seat
     → List (Vec (Pass Outbox Target g)) → List Worker → Type 0
 Pairs seats rows workers = (chain : CountdownChain) (room : Room) → All (IsFreshSeat room) seats

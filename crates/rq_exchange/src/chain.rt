@@ -22,8 +22,8 @@ use rq_state::State;
 use std::alloc::Global;
 use std::collections::LinkedList;
 
-/// A countdown for each queue that has sources, and where each queue's countdown stands: past the
-/// last where it has none.
+/// A countdown for each queue that has sources, and the index of each queue's countdown. If a queue
+/// has none, the index is past the last.
 #[derive(Drop)]
 pub(crate) struct CountdownChain {
     pub countdowns: Vec<Countdown<Outbox>>,
@@ -31,8 +31,8 @@ pub(crate) struct CountdownChain {
 }
 
 impl CountdownChain {
-    /// Hands what left a queue to its error queue. Who is the last to do so is given what left all
-    /// its sources.
+    /// Hands what left a queue to its error queue. The last to do so is given what left all its
+    /// sources.
     pub(crate) fn hand_on(
         &self,
         job: &Job,
@@ -98,8 +98,8 @@ fn target_of(job: &Job, queue: u32) -> Target
     }
 }
 
-// Opens the countdown of a queue that has sources, and answers where it stands; past the last
-// where the queue has none.
+// Opens the countdown of a queue that has sources, and answers its index. If the queue has none,
+// the index is past the last.
 fn open_one(
     alloc: Global,
     job: &Job,

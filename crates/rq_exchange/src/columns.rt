@@ -8,7 +8,7 @@ ghost use Rattle.rq_record.specs.declared.fault.Fault.TheVariants.{Resources};
 use rq_record::Fault;
 use std::alloc::Global;
 
-/// As many lists, each empty.
+/// This many lists, each empty.
 pub(crate) fn bare<T: Drop>(alloc: Global, count: usize) -> Result<Vec<Vec<T>>, Fault>
     ensures len { IfOk result (λ lists. length lists.items ≡ count) }
     ensures listed { IfOk result (λ lists. (x : ℕ) → listed lists.items x ≡ []) }

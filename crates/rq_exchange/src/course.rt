@@ -1,4 +1,4 @@
-//! How a replay went, for contracts alone.
+//! How a replay went, only for contracts.
 
 ghost use Rattle.std.specs.Prelude.{◌≡◌, [], map};
 ghost use Rattle.rq_exchange.specs.Boards.{queue_of};
@@ -10,8 +10,8 @@ use std::alloc::Global;
 use std::collections::LinkedList;
 
 /// How a replay went: which queues each thread redid, and what the countdown of each error queue
-/// told each thread. The latter is what the countdowns answered at their close; nothing but a
-/// countdown makes a closing.
+/// told each thread. The latter is what the countdowns answered at their close; only a countdown
+/// makes a closing.
 #[derive(Drop)]
 pub struct Course {
     closings: Vec<Closing<Outbox>>,

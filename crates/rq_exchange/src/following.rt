@@ -1,5 +1,5 @@
-//! What a thread does: it redoes a queue, and hands on what left it. Who hands on as the last
-//! redoes the error queue next.
+//! What a thread does: it redoes a queue, and hands on what left it. The last to hand on redoes the
+//! error queue next.
 
 ghost use Rattle.std.specs.Prelude.{◌≡◌, ◌<◌, ◌++◌, ◌∷◌, [], ℕ, List, length, All, IfOk, IfErr};
 ghost use Rattle.std.specs.Prelude.{IfSome};
@@ -57,8 +57,7 @@ fn step<G: Gate>(
     }
 }
 
-/// Redoes a queue without sources, and then each error queue that was waiting for this thread
-/// alone.
+/// Redoes a queue without sources, and then each error queue that was waiting only for this thread.
 pub(crate) fn follow<G: Gate>(
     alloc: Global,
     job: &Job,

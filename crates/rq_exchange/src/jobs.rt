@@ -19,7 +19,7 @@ use rq_record::{Fault, KeptRecord, QueueNo};
 use rq_state::{Definition, State};
 use std::alloc::Global;
 
-/// The state, the lawful records behind it, and what these say of each queue.
+/// The state, the lawful records after it, and what these say of each queue.
 #[derive(Drop)]
 pub(crate) struct Job<'a> {
     pub state: &'a State,
@@ -62,7 +62,7 @@ impl Job<'_> {
         }
     }
 
-    // The part of the queue before the records; that of a queue which they define is empty.
+    // The part of the queue before the records; it is empty for a queue that the records define.
     fn part_before(&self, alloc: Global, queue: u32) -> Result<Part, Fault>
         requires job { IsJob self.now }
         requires defined { queue < length self.now.definitions.now }

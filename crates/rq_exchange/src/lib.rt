@@ -1,6 +1,6 @@
 //! Replay: the state after the records, redone by queue on workers that take from a room. No worker
-//! waits for another: whoever hands in the last of what leaves an error queue's sources redoes that
-//! queue next.
+//! waits for another: whoever is the last to hand in what leaves an error queue's sources redoes
+//! that queue next.
 #![tactic(auto)]
 
 mod arrivals;

@@ -1,4 +1,4 @@
-//! Which queue is the error queue of which.
+//! The error queue of each queue, and its sources.
 
 ghost use Rattle.std.specs.Prelude.{◌≡◌, ◌<◌, ◌≤◌, ◌+◌, ◌==◌, ◌∷◌, ◌++◌, [], ℕ, length, map};
 ghost use Rattle.std.specs.Prelude.{if◌then◌else◌, IfOk, IfErr, OnOk};
@@ -30,7 +30,7 @@ pub(crate) fn errors_of(alloc: Global, definitions: &[Definition]) -> Result<Vec
     Ok(errors)
 }
 
-// Adds a queue to the list of a number, where there is one. Answers how many were there before it.
+// Adds a queue to the list of a number, if there is one. Answers how many were there before it.
 fn list(lists: &mut Vec<Vec<u32>>, number: u32, queue: u32) -> Result<u32, Fault>
     requires few { number < length lists.old.items → length (listed lists.old.items number) ≤ 4096 }
     ensures len { length lists.new.items ≡ length lists.old.items }
@@ -50,8 +50,8 @@ fn list(lists: &mut Vec<Vec<u32>>, number: u32, queue: u32) -> Result<u32, Fault
     Ok(rank as u32)
 }
 
-/// The sources of each of so many queues, those whose error queue it is; and which of these each
-/// queue is.
+/// The sources of each of the first `count` queues, which are those whose error queue it is, and
+/// the rank of each queue among the sources of its error queue.
 pub(crate) fn sources_of(
     alloc: Global,
     count: usize,

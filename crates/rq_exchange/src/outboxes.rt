@@ -20,7 +20,7 @@ pub struct Outbox {
     pub moves: Vec<KeptMove>,
 }
 
-/// What each source of an error queue is to hand in, for contracts alone.
+/// What each source of an error queue is to hand in, only for contracts.
 #[derive(Drop)]
 pub struct Target {
     pub due: Diary<LinkedList<KeptMove>>,

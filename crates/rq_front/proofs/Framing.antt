@@ -13,7 +13,7 @@ use Rattle.rq_model.specs.Records.{Version, One, Two}
 use Rattle.rq_model.specs.Frames.{stated, body_in, digest_in, HasFrame, HasRightFrame, HasHeader, before, magic}
 use Rattle.rq_model.proofs.Runs.{length-sha256}
 
--- bytes that begin with the header are 40 at least
+-- bytes that begin with the header are at least 40
 pub log_long : (version : Version) (b : List ℕ) → HasHeader version b → 40 ≤ length b
 log_long One b e = omega (arith, ap length e, length-take 40 b, length-sha256 (magic One))
 log_long Two b e = omega (arith, ap length e, length-take 40 b, length-sha256 (magic Two))
@@ -44,7 +44,7 @@ head_is b at len fits low frame is =
     ∙ ap (λ (x : List ℕ). before at b ++ take (4 + stated (drop at b)) x) past
     ∙ ap (λ (x : List ℕ). before at b ++ x) (front_is (drop at b) (IsBytes-drop at b fits) frame)
 
--- the 32 bytes behind the body
+-- the 32 bytes after the body
 sum_is : (b : List ℕ) (at len : ℕ) → len ≡ stated (drop at b)
     → slice_range b (at + 4 + len) (at + 36 + len) ≡ digest_in (drop at b)
 sum_is b at len is =

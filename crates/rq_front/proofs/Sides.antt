@@ -17,7 +17,7 @@ use Rattle.rq_front.specs.declared.spans.Span.{Span}
 use Rattle.rq_bytes.specs.Reads.{IsBytes}
 use Rattle.rq_front.proofs.Framing.{right_exactly}
 
--- where the lanes find the digest right, it is right
+-- if the lanes find the digest right, it is right
 one_right : (b : List ℕ) → IsBytes b → (s : Span) → IsSpanOf b s → lanes.HasDigestBehind b (message_of s) → IsRight b s
 one_right b bytes s is r =
     let at = s.start - 4 in
@@ -39,7 +39,7 @@ all_right b bytes spans are right = λ k d lt.
     one_right b bytes (get_or spans k d) (are k d lt)
     (subst (lanes.HasDigestBehind b) (get_or-map message_of spans k d (message_of d) lt) here)
 
--- what holds of two lists side by side holds of both
+-- what holds for two lists side by side holds for both
 each_of_both : (P : Span → Type 0) (xs ys : List Span) → AllByRecursion P (xs ++ ys)
     → AllByRecursion P xs × AllByRecursion P ys
 each_of_both P [] ys h = (tt, h)
@@ -56,7 +56,7 @@ each_turn P (s ∷ ss) first second =
     → AllByRecursion P (s ∷ ss))
     (λ _ f r. (f.0, each_turn P ss f.1 r)) (λ _ f r. (r.0, each_turn P ss f r.1)) first second
 
--- so where the lanes find the digests of both turns right, all are
+-- so if the lanes find the digests of both turns right, all are
 pub both_turns_right : (b : List ℕ) → IsBytes b → (spans : List Span) → All (IsSpanOf b) spans
     → All (lanes.HasDigestBehind b)
     (map message_of (filter (has_turn First) spans) ++ map message_of (filter (has_turn Second) spans))

@@ -52,7 +52,7 @@ pub record Walked (b : List ℕ) (at : ℕ) (spans : List Span) (end : ℕ) : Ty
   pub are : spans ≡ spans_from at (bodies_at b spans)
   pub few : at + 37 * length spans ≤ end
 
--- the first frame of a walk, and what is behind it
+-- the first frame of a walk, and what follows it
 record Stepped (b : List ℕ) (at : ℕ) (s : Span) : Type 0 where
   body : body_at b s ≡ body_in (drop at b)
   size : length (body_at b s) ≡ s.len
@@ -124,7 +124,7 @@ walked law b at (s ∷ ss) end bytes le h right =
       few = omega (arith, more.few, some);
     }
 
--- what `chain` answers of the spans, the end and what follows
+-- what `chain` returns for the spans, the end and what follows
 pub record Found (b : List ℕ) (at : ℕ) (spans : List Span) (end : ℕ) (rest : Rest) : Type 0 where
   pub run : IsFrameRun b at (bodies_at b spans) end rest
   pub are : spans ≡ spans_from at (bodies_at b spans)

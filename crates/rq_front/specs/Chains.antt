@@ -1,4 +1,4 @@
--- What `chain` answers.
+-- What `chain` returns.
 use Rattle.std.specs.Prelude.{ℕ, ◌+◌, ◌<◌, ◌≤◌, List, [], ◌∷◌, length, map, slice_range, ⊤}
 use Rattle.rq_model.specs.Records.{Version}
 use Rattle.rq_model.specs.Frames as model
@@ -16,13 +16,13 @@ body_at b s = slice_range b s.start (s.start + s.len)
 abbrev pub bodies_at : List ℕ → List Span → List (List ℕ)
 bodies_at b spans = map (body_at b) spans
 
--- the spans of bodies whose frames stand one after the other from an offset
+-- the spans of the bodies of frames that follow one after the other from an offset on
 abbrev pub spans_from : ℕ → List (List ℕ) → List Span
 spans_from at [] = []
 spans_from at (body ∷ bodies) = record { start = at + 4; len = length body }
     ∷ spans_from (at + 36 + length body) bodies
 
--- what follows, in the words of the model
+-- what follows, in terms of the model
 abbrev pub rest_of : Rest → model.Rest
 rest_of Whole = model.Whole
 rest_of Cut = model.Cut

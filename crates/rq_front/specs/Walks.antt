@@ -1,4 +1,4 @@
--- A walk along the lengths of a log, before any digest is looked at.
+-- A walk along the lengths of a log, before any digest is checked.
 use Rattle.std.specs.Prelude.{◌≡◌, ℕ, ◌+◌, ◌*◌, ◌-◌, ◌≤◌, ◌<◌, Bool, not, nat_le, List}
 use Rattle.std.specs.Prelude.{[], ◌∷◌, length, take, drop, All}
 use Rattle.std.specs.List.{HoldsAt}
@@ -11,14 +11,14 @@ use Rattle.rq_front.specs.declared.spans.Chain.{Chain}
 use Rattle.rq_front.specs.declared.spans.Walk.{Walk}
 use Rattle.rq_front.specs.Chains.{bodies_at, rest_of, spans_from}
 
--- frames stand one after the other from an offset to an end, their digests aside, with bodies at
--- these spans
+-- frames follow one after the other from an offset to an end, whatever their digests, with bodies
+-- at these spans
 abbrev pub IsWalk : List ℕ → ℕ → List Span → ℕ → Type 0
 IsWalk b at [] end = end ≡ at
 IsWalk b at (s ∷ ss) end = (s.start ≡ at + 4) × (s.len ≡ stated (drop at b))
     × HasFrame (drop at b) × IsWalk b (at + 36 + s.len) ss end
 
--- the span is that of the body of a frame, its digest aside, with 32 bytes before it
+-- the span is that of the body of a frame, whatever its digest, with 32 bytes before it
 pub record IsSpanOf (b : List ℕ) (s : Span) : Type 0 where
   pub after : 36 ≤ s.start
   pub frame : HasFrame (drop (s.start - 4) b)
@@ -28,7 +28,8 @@ pub record IsSpanOf (b : List ℕ) (s : Span) : Type 0 where
 abbrev pub IsRight : List ℕ → Span → Type 0
 IsRight b s = HasRightFrame (before (s.start - 4) b) (drop (s.start - 4) b)
 
--- what the digest of the frame at an offset is of: the 32 bytes before it, its length and its body
+-- what the digest of the frame at an offset is taken over: the 32 bytes before it, its length and
+-- its body
 abbrev pub message_at : ℕ → ℕ → Message
 message_at at len = record { start = at - 32; len = 36 + len }
 
@@ -36,7 +37,7 @@ message_at at len = record { start = at - 32; len = 36 + len }
 abbrev pub message_of : Span → Message
 message_of s = message_at (s.start - 4) s.len
 
--- whether a frame has the first turn in the lanes, which the long ones have, or the second
+-- whether a frame has this turn in the lanes: long ones have the first, all others the second
 abbrev pub has_turn : Turn → Span → Bool
 has_turn First s = nat_le 16384 s.len
 has_turn Second s = not (nat_le 16384 s.len)

@@ -19,29 +19,29 @@ use std::thread::Threads;
 // How many frames are checked side by side. No answer depends on it.
 const LANES: usize = 8;
 
-// The pieces of a log that are shared among threads: about as many, each of so many bytes.
+// About how many pieces a log is cut into for threads, and the bounds of a piece in bytes.
 const PIECES: usize = 16;
 
 const PIECE_LEAST: usize = 1_048_576;
 
 const PIECE_MOST: usize = 4_194_304;
 
-// The body of a frame that is a piece of its own: among others its lane would run on alone, slower
-// than `sha2`.
+// The body of a frame that is a piece of its own: among others its lane would at last run by
+// itself, slower than `sha2`.
 const LONG: usize = 1_048_576;
 
 // The body of a frame that the lanes take before shorter ones.
 const LONG_AMONG_OTHERS: usize = 16_384;
 
-// Some of the spans, side by side: where they begin among all, and where they end.
+// Some neighbouring spans: where they begin among all, and where they end.
 #[derive(Clone, Copy, Debug)]
 struct Piece {
     from: usize,
     to: usize,
 }
 
-// When the lanes are given a frame: long ones come first, since behind all others their lanes would
-// run on alone.
+// When the lanes are given a frame: long ones come first, since after all others their lanes would
+// run by themselves.
 #[derive(Clone, Copy, Debug)]
 enum Turn {
     First,
@@ -49,7 +49,7 @@ enum Turn {
 }
 
 // Whether the digest of the frame at an offset is right. The 32 bytes before it, the length and the
-// body stand side by side.
+// body are side by side.
 fn is_right(bytes: &[u8], at: usize, len: usize) -> bool
     requires after { 32 ≤ at }
     requires frame { HasFrame (drop at bytes.now) }
@@ -74,7 +74,7 @@ fn wrong_among(bytes: &[u8], spans: &[Span]) -> Option<usize>
     None
 }
 
-// What the digest of the frame at an offset is of, with the digest behind it.
+// The bytes that the digest of the frame at an offset is taken over, with the digest after them.
 fn message_at(bytes: &[u8], at: usize, len: usize) -> Message
     requires after { 32 ≤ at }
     requires frame { HasFrame (drop at bytes.now) }
@@ -115,7 +115,8 @@ fn taken(given: Lanes<LANES>, bytes: &[u8], spans: &[Span], turn: Turn) -> Lanes
     lanes
 }
 
-// Whether the lanes find every digest right. They are sound: on `false` nothing is known.
+// Whether the lanes find every digest right. `true` can be relied on; after `false` nothing is
+// known.
 fn are_right(bytes: &[u8], spans: &[Span]) -> bool
     requires { All (IsSpanOf bytes.now) spans.now }
     ensures { IsTrue result → All (IsRight bytes.now) spans.now }
@@ -138,8 +139,8 @@ fn wrong_in_part(bytes: &[u8], spans: &[Span]) -> Option<usize>
     wrong_among(bytes, spans)
 }
 
-// How many frames at the front make up a piece: so many bytes, up to a long frame, and no fewer
-// frames than the grain.
+// How many frames at the front make up a piece: as many as reach `size` bytes, up to a long frame,
+// and no fewer than the grain.
 fn piece_of(spans: &[Span], grain: usize, size: usize) -> usize
     requires some { 1 ≤ length spans.now }
     requires grain { 1 ≤ grain }
@@ -154,8 +155,8 @@ fn piece_of(spans: &[Span], grain: usize, size: usize) -> usize
     frames.max(grain).min(spans.len())
 }
 
-// The first span of a piece whose frame has a wrong digest. No more than a part of the piece is
-// gone through twice.
+// The first span of a piece whose frame has a wrong digest. At most a part of the piece is gone
+// through twice.
 fn wrong_in(bytes: &[u8], spans: &[Span]) -> Option<usize>
     requires { All (IsSpanOf bytes.now) spans.now }
     ensures none { IfNone result (All (IsRight bytes.now) spans.now) }
@@ -200,8 +201,8 @@ fn cut(alloc: Global, spans: &[Span], grain: usize) -> Result<Vec<Piece>, AllocE
     Ok(pieces)
 }
 
-/// The first span whose frame has a wrong digest, looked for in pieces by several threads. Where
-/// memory runs out for the pieces, it is one thread's work.
+/// The first span whose frame has a wrong digest. Several threads look for it in pieces; if memory
+/// runs out for the pieces, one thread does it all.
 pub(crate) fn first_wrong<R: Threads + Sync>(
     rt: &R,
     alloc: Global,

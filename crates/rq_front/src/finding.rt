@@ -17,8 +17,8 @@ use std::thread::Threads;
 
 /// The version of a log. Takes no memory.
 ///
-/// `TooLong` answers more than 4,294,967,295 bytes, and otherwise `NotALog` bytes that begin with
-/// no header.
+/// `TooLong` is returned for more than 4,294,967,295 bytes, and otherwise `NotALog` if the bytes do
+/// not begin with a header.
 pub fn log_version(bytes: &[u8]) -> Result<Version, Fault>
     ensures header { IfOk result (λ v. HasHeader (version_of v) bytes.now) }
     ensures short { OnOk result (length bytes.now ≤ log_limit) }
@@ -30,11 +30,11 @@ pub fn log_version(bytes: &[u8]) -> Result<Version, Fault>
     version(bytes).ok_or(Fault::NotALog)
 }
 
-/// The frames of a log from the offset `from` on by their lengths alone, and what follows them.
-/// Whoever has work for the bodies that needs no digest does it while `Walk::checked` runs.
+/// The frames of a log from the offset `from` on by their lengths only, and what follows them. Work
+/// on the bodies that needs no digest can be done while `Walk::checked` runs.
 ///
-/// `TooLong` answers more than 4,294,967,295 bytes, and otherwise `NotALog` bytes that begin with
-/// no header; `Resources` where memory runs out.
+/// `TooLong` is returned for more than 4,294,967,295 bytes, and otherwise `NotALog` if the bytes do
+/// not begin with a header; `Resources` if memory runs out.
 pub fn walk(alloc: Global, bytes: &[u8], from: usize) -> Result<Walk, Fault>
     requires after { 40 ≤ from }
     requires within { 40 ≤ length bytes.now → from ≤ length bytes.now }
@@ -49,9 +49,9 @@ pub fn walk(alloc: Global, bytes: &[u8], from: usize) -> Result<Walk, Fault>
 }
 
 impl Walk {
-    /// The longest run of right frames, which is the walk up to its first wrong digest. Where the
+    /// The longest run of right frames, which is the walk up to its first wrong digest. If the
     /// runtime gives threads, they check the digests in pieces of `grain` frames or more; the
-    /// answer is the same for any number of them. `bytes` are those of the walk.
+    /// answer is the same for any number of threads. `bytes` are those of the walk.
     pub fn checked<R: Threads + Sync>(self, rt: &R, bytes: &[u8], grain: u32) -> Chain
         requires grain { 1 ≤ grain }
         requires walk { (from : ℕ) × Walks bytes.now from self }
@@ -70,12 +70,12 @@ impl Walk {
     }
 }
 
-/// The longest run of right frames in a log from the offset `from` on, and what follows it. Where
-/// the runtime gives threads, they check the digests in pieces of `grain` frames or more; the
-/// answer is the same for any number of them.
+/// The longest run of right frames in a log from the offset `from` on, and what follows it. If the
+/// runtime gives threads, they check the digests in pieces of `grain` frames or more; the answer is
+/// the same for any number of threads.
 ///
-/// `TooLong` answers more than 4,294,967,295 bytes, and otherwise `NotALog` bytes that begin with
-/// no header; `Resources` where memory runs out.
+/// `TooLong` is returned for more than 4,294,967,295 bytes, and otherwise `NotALog` if the bytes do
+/// not begin with a header; `Resources` if memory runs out.
 pub fn chain<R: Threads + Sync>(
     rt: &R,
     alloc: Global,
@@ -92,7 +92,7 @@ pub fn chain<R: Threads + Sync>(
         (λ c. c.spans.items ≡ spans_from from (bodies_at bytes.now c.spans.items)) }
     ensures inside { IfOk result
         (λ c. All (λ s. s.start + s.len ≤ length bytes.now) c.spans.items) }
-    // A frame has 37 bytes at least.
+    // A frame has at least 37 bytes.
     ensures few { IfOk result (λ c. from + 37 * length c.spans.items ≤ length bytes.now) }
     ensures log { OnOk result ((length bytes.now ≤ log_limit) × IsHeaded bytes.now) }
     ensures refused { IfErr result (Refused bytes.now) }

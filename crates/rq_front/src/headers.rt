@@ -32,7 +32,7 @@ fn has_header(version: Version, bytes: &[u8]) -> bool
     &bytes[..8] == magic.as_slice() && &bytes[8..HEADER_LEN] == digest.as_slice()
 }
 
-/// The version whose header the first 40 bytes are; none where they are no header. Takes no memory.
+/// The version whose header the first 40 bytes are; none if they are not a header. Takes no memory.
 pub fn version(bytes: &[u8]) -> Option<Version>
     ensures some { IfSome result (λ v. HasHeader (version_of v) bytes.now) }
     ensures none { IfNone result (IsHeaded bytes.now → ⊥) }

@@ -1,4 +1,4 @@
-//! A walk along the lengths of a log, before any digest is looked at.
+//! A walk along the lengths of a log, before any digest is checked.
 
 ghost use Rattle.std.specs.Prelude.{◌≡◌, ◌≤◌, ℕ, List, length, drop, IfOk, IfErr};
 ghost use Rattle.rq_model.specs.Frames.{HasFrame, IsRest, stated};
@@ -9,7 +9,7 @@ use crate::{BODY_LIMIT, Chain, FRAME_LEN, Rest, Span};
 use byteorder::{BigEndian, ByteOrder};
 use std::alloc::{AllocError, Global};
 
-// The length of the body of the frame at the front, its digest aside, or what stands there instead.
+// The length of the body of the frame at the front, whatever its digest, or what is there instead.
 fn length_in(bytes: &[u8]) -> Result<usize, Rest>
     ensures ok { IfOk result (λ len. HasFrame bytes.now × (len ≡ stated bytes.now)) }
     ensures err { IfErr result (λ rest. (p : List ℕ) → IsRest p bytes.now (rest_of rest)) }
@@ -37,7 +37,7 @@ fn behind(bytes: &[u8], at: usize) -> &[u8]
     &bytes[at..]
 }
 
-/// The spans of the frames from an offset on, by their lengths alone.
+/// The spans of the frames from an offset on, by their lengths only.
 pub(crate) fn walk(alloc: Global, bytes: &[u8], from: usize) -> Result<Chain, AllocError>
     requires { from ≤ length bytes.now }
     ensures walk { IfOk result (λ c. IsWalk bytes.now from c.spans.items c.end) }

@@ -13,12 +13,12 @@ pub use headers::version;
 pub use spans::{Chain, Rest, Span, Walk};
 pub use writing::{frame, header, header_of};
 
-/// The bytes of a header: 8 of the name and the version, and 32 of their digest. The first frame of
-/// a log begins behind them.
+/// The bytes of a header: 8 for the name and the version, and 32 for their digest. The first frame
+/// of a log begins after them.
 pub const HEADER_LEN: usize = 40;
 
-/// The bytes of a frame beside its body: 4 of the body's length before it, and 32 of a digest
-/// behind it.
+/// The bytes of a frame other than its body: 4 before it for its length, and 32 after it for a
+/// digest.
 pub const FRAME_LEN: usize = 36;
 
 /// The most bytes that a log has.

@@ -16,7 +16,7 @@ use sha2::{Digest, Sha256};
 /// Appends the header of a log of this version: `RQLOG`, two zero bytes, the version, and the
 /// SHA-256 (FIPS 180-4) of these 8 bytes.
 ///
-/// `Resources` answers where memory runs out; `out` is then as before.
+/// `Resources` is returned if memory runs out; `out` is then as before.
 pub fn header_of(version: Version, out: &mut Vec<u8>) -> Result<(), Fault>
     ensures { Appends out.old.items out.new.items (frames.header (version_of version)) result }
 {
@@ -35,10 +35,10 @@ pub fn header(out: &mut Vec<u8>) -> Result<(), Fault>
     header_of(Version::One, out)
 }
 
-/// Appends the frame of a body that follows the 32 bytes `prev`: the length of the body in 4 bytes,
-/// the body, and the SHA-256 of `prev`, the length and the body.
+/// Appends the frame of a body after the 32 bytes `prev`: the length of the body in 4 bytes, the
+/// body, and the SHA-256 of `prev`, the length and the body.
 ///
-/// `Resources` answers where memory runs out; `out` is then as before.
+/// `Resources` is returned if memory runs out; `out` is then as before.
 pub fn frame(prev: &[u8; 32], body: &[u8], out: &mut Vec<u8>) -> Result<(), Fault>
     requires { IsBodyLength (length body.now) }
     ensures { Appends out.old.items out.new.items (frames.frame prev.now body.now) result }

@@ -7,14 +7,11 @@ use Rattle.std.proofs.lemmas.List.{append-nil, length-append}
 use Rattle.rq_model.specs.Records.{Record, Checkpoint, Version}
 use Rattle.rq_model.specs.Spelling.{body_of}
 use Rattle.rq_model.specs.Frames.{log_limit, header, start, frame, frames_of, last_of, Length}
-use Rattle.rq_model.specs.Frames.{Whole}
 use Rattle.rq_model.specs.LogLaws.{FrontsAreSpelt}
 use Rattle.rq_model.specs.States.{State, empty}
 use Rattle.rq_model.specs.Machine.{run}
 use Rattle.rq_model.specs.StateSpelling.{state_bytes, SpellsState}
 use Rattle.rq_model.specs.Fronts.{IsFront, IsRestart, Ends, restarted}
-use Rattle.rq_model.specs.Checkpoints.{IsRestartAt}
-use Rattle.rq_model.specs.Carrying.{IsFrontAt}
 use Rattle.rq_model.specs.Continuing.{begun_anew, carried_gap, StartsAnew, GapIsLoud, IsCarriedGap, AnewJoins}
 use Rattle.rq_model.proofs.Runs.{frame_long}
 use Rattle.rq_model.proofs.Longest.{log_ends}
@@ -24,7 +21,7 @@ use Rattle.rq_record.specs.declared.fault.Fault.{Fault}
 use Rattle.rq_restart.specs.declared.redone.RedoneFront.{RedoneFront}
 use Rattle.rq_restart.specs.RedoneFronts.{IsRedone}
 use Rattle.rq_journal.specs.Checkpoints.{IsCheckpointOf}
-use Rattle.rq_journal.specs.Carries.{Begins, IsCarriedOn, StaysHere, Carries}
+use Rattle.rq_journal.specs.Carries.{Begins, IsBegunIn, IsCarriedOn, StaysHere, Carries}
 
 -- how long it is
 anew_short : (version : Version) (p : List ℕ) (s : State) → length p ≡ 32 → length (state_bytes s) ≤ 268435455
@@ -46,6 +43,36 @@ anew_short version p s long small =
       frame_long p body,
     )
 
+-- what begins anew with the body of a checkpoint
+module _ (version : Version) (p : List ℕ) (s : State) (body : List ℕ) (long : length p ≡ 32) (is : IsCheckpointOf s body)
+    (spelt : SpellsState version s (state_bytes s)) where
+  abbrev anew : List ℕ
+  anew = begun_anew version p s carried_gap
+
+  whole : header version ++ (carried_gap ++ (p ++ frame p body)) ≡ anew
+  whole = ap (λ (z : List ℕ). header version ++ (carried_gap ++ (p ++ z)))
+      (ap (frame p) is.bytes ∙ sym (append-nil (frame p (body_of (Checkpoint (state_bytes s))))))
+
+  loud : GapIsLoud → IsCarriedGap → IsRestart anew (restarted empty (length anew - 40) (length anew) (Ends Length))
+  loud law gap =
+      let bytes : List ℕ = p ++ frames_of p (Checkpoint (state_bytes s) ∷ []) in
+      let rest : length (carried_gap ++ bytes) ≡ length anew - 40 =
+      omega (arith, length-append (header version) (carried_gap ++ bytes), header_long version) in
+      subst (λ (n : ℕ). IsRestart anew (restarted empty n (length anew) (Ends Length))) rest
+      (law version carried_gap bytes gap.room gap.loud (anew_short version p s long is.small))
+
+  pub begun_in : StartsAnew → GapIsLoud → IsCarriedGap → (new : List ℕ)
+      → new ≡ header version ++ (carried_gap ++ (p ++ frame p body)) → IsBegunIn version p s new
+  begun_in starts loud_law gap new new_is =
+      let made = starts version p s carried_gap long spelt is.small (anew_short version p s long is.small) in
+      subst (IsBegunIn version p s) (sym (new_is ∙ whole)) (record {
+        bytes = refl;
+        linked = made.1;
+        there = made.0;
+        restart = made.2;
+        loud = loud loud_law gap;
+      })
+
 module _ (b : List ℕ) (f : RedoneFront) (body : List ℕ) (h : IsRedone b f) (is : IsCheckpointOf f.state body) where
   abbrev version : Version
   version = version_of f.version
@@ -56,53 +83,26 @@ module _ (b : List ℕ) (f : RedoneFront) (body : List ℕ) (h : IsRedone b f) (
   abbrev link : List ℕ
   link = last_of (start version) h.records
 
-  long : length link ≡ 32
-  long = (log_ends version h.records).2
-
-  small : length (state_bytes state) ≤ 268435455
-  small = subst (λ (z : State). length (state_bytes z) ≤ 268435455) h.state is.small
-
-  spelt : FrontsAreSpelt → SpellsState version state (state_bytes state)
-  spelt law = law b version h.records [] (drop f.used b)
+  spelt_here : FrontsAreSpelt → SpellsState version state (state_bytes state)
+  spelt_here law = law b version h.records [] (drop f.used b)
       (subst (λ (z : List Record). IsFront b version z (drop f.used b)) (sym (append-nil h.records)) h.front)
-
-  whole : header version ++ (carried_gap ++ (f.last ++ frame f.last body)) ≡ begun_anew version link state carried_gap
-  whole =
-      let point : body ≡ body_of (Checkpoint (state_bytes state)) =
-      is.bytes ∙ ap (λ (z : State). body_of (Checkpoint (state_bytes z))) h.state in
-      (λ i. header version ++ (carried_gap ++ (h.last i ++ frame (h.last i) (point i))))
-      ∙ ap (λ (z : List ℕ). header version ++ (carried_gap ++ (link ++ z)))
-      (sym (append-nil (frame link (body_of (Checkpoint (state_bytes state))))))
-
-  loud : GapIsLoud → IsCarriedGap → (new : List ℕ) → new ≡ begun_anew version link state carried_gap
-      → IsRestart new (restarted empty (length new - 40) (length new) (Ends Length))
-  loud law gap new new_is =
-      let bytes : List ℕ = link ++ frames_of link (Checkpoint (state_bytes state) ∷ []) in
-      let rest : length (carried_gap ++ bytes) ≡ length (begun_anew version link state carried_gap) - 40 =
-      omega (arith, length-append (header version) (carried_gap ++ bytes), header_long version) in
-      subst (λ (z : List ℕ). IsRestart z (restarted empty (length z - 40) (length z) (Ends Length))) (sym new_is)
-      (subst (λ (n : ℕ). IsRestart (begun_anew version link state carried_gap)
-      (restarted empty n (length (begun_anew version link state carried_gap)) (Ends Length))) rest
-      (law version carried_gap bytes gap.room gap.loud (anew_short version link state long small)))
 
   pub carried_on : (new : List ℕ) → FrontsAreSpelt → StartsAnew → GapIsLoud → IsCarriedGap → AnewJoins
       → new ≡ header version ++ (carried_gap ++ (f.last ++ frame f.last body)) → IsCarriedOn b new
   carried_on new law starts loud_law gap join new_is =
-      let all : new ≡ begun_anew version link state carried_gap = new_is ∙ whole in
-      let made = starts version link state carried_gap long (spelt law) small (anew_short version link state long small) in
-      let kept = state_bytes state in
+      let here = subst (λ (z : State). IsCheckpointOf z body) h.state is in
+      let all = new_is
+      ∙ ap (λ (z : List ℕ). header version ++ (carried_gap ++ (z ++ frame z body))) h.last in
+      let begun = begun_in version link state body (log_ends version h.records).2 here (spelt_here law) starts loud_law gap
+      new all in
       record {
         version = version;
         records = h.records;
         rest = drop f.used b;
         front = h.front;
-        bytes = all;
-        there = subst (λ (z : List ℕ). IsFrontAt z 96 version state kept [] []) (sym all) made.0;
-        restart = subst (λ (z : List ℕ). IsRestartAt z 96
-            (restarted (run state (Checkpoint kept ∷ [])) 0 (length z) (Ends Whole))) (sym all) made.2;
-        loud = loud loud_law gap new all;
+        begun = begun;
         joins = λ more s kept after left at. join b (new ++ more) more version h.records (drop f.used b) carried_gap
-            s kept after left h.front small (ap (λ (z : List ℕ). z ++ more) all) at;
+            s kept after left h.front here.small (ap (λ (z : List ℕ). z ++ more) begun.bytes) at;
       }
 
   pub carries : (result : Result (Vec ℕ) Fault) → FrontsAreSpelt → StartsAnew → GapIsLoud → IsCarriedGap → AnewJoins

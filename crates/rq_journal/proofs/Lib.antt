@@ -3,3 +3,5 @@ mod Standing
 mod Behind
 mod WithCheckpoint
 mod CarriedOn
+mod AnyState
+mod CarriedAgain

@@ -1,18 +1,21 @@
 -- A log that goes on from another.
-use Rattle.std.specs.Prelude.{◌≡◌, ◌<◌, ◌-◌, ℕ, List, [], ◌∷◌, ◌++◌, length, drop, Result, Ok, Err}
+use Rattle.std.specs.Prelude.{◌≡◌, ◌<◌, ◌≤◌, ◌⊎◌, ◌-◌, ℕ, List, [], ◌∷◌, ◌++◌, length, drop, Result, Ok, Err}
 use Rattle.std.specs.Global.{Vec}
 use Rattle.rq_model.specs.Records.{Record, Checkpoint, Version}
-use Rattle.rq_model.specs.Frames.{header, start, frame, frames_of, last_of, Length, Whole}
+use Rattle.rq_model.specs.Frames.{log_limit, header, start, frame, frames_of, last_of, before}
+use Rattle.rq_model.specs.Frames.{Length, Whole}
 use Rattle.rq_model.specs.States.{State, empty}
 use Rattle.rq_model.specs.Machine.{run}
-use Rattle.rq_model.specs.StateSpelling.{state_bytes}
+use Rattle.rq_model.specs.StateSpelling.{state_bytes, SpellsState}
 use Rattle.rq_model.specs.Fronts.{IsLongest, IsFront, IsRestart, Ends, restarted}
 use Rattle.rq_model.specs.Checkpoints.{IsRestartAt}
+use Rattle.rq_model.specs.Appending.{MayFollow}
 use Rattle.rq_model.specs.Carrying.{IsFrontAt}
 use Rattle.rq_model.specs.Continuing.{begun_anew, carried_gap}
 use Rattle.rq_record.specs.declared.fault.Fault.{Fault}
-use Rattle.rq_record.specs.declared.fault.Fault.TheVariants.{Resources, TooLarge}
+use Rattle.rq_record.specs.declared.fault.Fault.TheVariants.{Resources, TooLarge, TooLong}
 use Rattle.rq_front.specs.Chains.{Refused}
+use Rattle.rq_restart.specs.Restarts.{RefusedAt}
 
 -- the first frame behind a header, the gap of carried files and these 32 bytes, or memory was
 -- refused
@@ -21,27 +24,34 @@ Begins version link body (Ok v) =
     v.items ≡ header version ++ (carried_gap ++ (link ++ frame link body))
 Begins version link body (Err e) = e ≡ Resources
 
--- The log that goes on from the front of b: it begins anew at the checkpoint of the state there, by
--- the digests of b. A restart from the checkpoint begins in that state; one of the whole finds no
--- record, and says `length`
+-- new begins anew in the state, behind these 32 bytes. A restart from its checkpoint begins in that
+-- state; one of the whole finds no record, and says `length`
+pub record IsBegunIn (version : Version) (link : List ℕ) (s : State) (new : List ℕ) : Type 0 where
+  pub bytes : new ≡ begun_anew version link s carried_gap
+  pub linked : before 96 new ≡ link
+  pub there : IsFrontAt new 96 version s (state_bytes s) [] []
+  pub restart : IsRestartAt new 96
+      (restarted (run s (Checkpoint (state_bytes s) ∷ [])) 0 (length new) (Ends Whole))
+  pub loud : IsRestart new (restarted empty (length new - 40) (length new) (Ends Length))
+
+-- whatever stands behind new, its front from 96 on is that of these records, and its own, in one log
+abbrev pub JoinsBehind : Version → List Record → List ℕ → Type 0
+JoinsBehind version records new =
+    (more : List ℕ) (s : State) (kept : List ℕ) (after : List Record) (left : List ℕ) →
+    IsFrontAt (new ++ more) 96 version s kept after left
+    → IsLongest version empty (start version)
+    (frames_of (start version) records ++ drop 96 (new ++ more))
+    (records ++ Checkpoint kept ∷ after) left
+    × (run s (Checkpoint kept ∷ after) ≡ run empty (records ++ Checkpoint kept ∷ after))
+
+-- The log that goes on from the front of b: it begins anew in the state there, by the digests of b
 pub record IsCarriedOn (b new : List ℕ) : Type 0 where
   pub version : Version
   pub records : List Record
   pub rest : List ℕ
   pub front : IsFront b version records rest
-  pub bytes : new ≡ begun_anew version (last_of (start version) records) (run empty records)
-      carried_gap
-  pub there : IsFrontAt new 96 version (run empty records) (state_bytes (run empty records)) [] []
-  pub restart : IsRestartAt new 96
-      (restarted (run (run empty records) (Checkpoint (state_bytes (run empty records)) ∷ [])) 0
-      (length new) (Ends Whole))
-  pub loud : IsRestart new (restarted empty (length new - 40) (length new) (Ends Length))
-  pub joins : (more : List ℕ) (s : State) (kept : List ℕ) (after : List Record) (left : List ℕ) →
-      IsFrontAt (new ++ more) 96 version s kept after left
-      → IsLongest version empty (start version)
-      (frames_of (start version) records ++ drop 96 (new ++ more))
-      (records ++ Checkpoint kept ∷ after) left
-      × (run s (Checkpoint kept ∷ after) ≡ run empty (records ++ Checkpoint kept ∷ after))
+  pub begun : IsBegunIn version (last_of (start version) records) (run empty records) new
+  pub joins : JoinsBehind version records new
 
 -- why b is not carried: the spelling of the state behind its front would be too long, or else as it
 -- is refused
@@ -53,3 +63,42 @@ StaysHere b e = Refused b e
 abbrev pub Carries : List ℕ → Result (Vec ℕ) Fault → Type 0
 Carries b (Ok v) = IsCarriedOn b v.items
 Carries b (Err e) = StaysHere b e
+
+-- The log that goes on from the front of one that was carried on itself. Where b begins in the state
+-- behind some records, and by their digests, new joins these and the front of b
+pub record IsCarriedAgain (b new : List ℕ) : Type 0 where
+  pub version : Version
+  pub base : State
+  pub kept : List ℕ
+  pub after : List Record
+  pub rest : List ℕ
+  pub front : IsFrontAt b 96 version base kept after rest
+  pub begun : IsBegunIn version (last_of (before 96 b) (Checkpoint kept ∷ after))
+      (run base (Checkpoint kept ∷ after)) new
+  pub joins : (records : List Record) → MayFollow version empty records
+      → before 96 b ≡ last_of (start version) records
+      → SpellsState version (run empty records) kept
+      → JoinsBehind version (records ++ Checkpoint kept ∷ after) new
+
+-- the state behind the front of b from 96 on
+pub record IsStateOf (b : List ℕ) (s : State) : Type 0 where
+  pub version : Version
+  pub base : State
+  pub kept : List ℕ
+  pub after : List Record
+  pub rest : List ℕ
+  pub front : IsFrontAt b 96 version base kept after rest
+  pub state : s ≡ run base (Checkpoint kept ∷ after)
+
+-- why b is not carried again: the spelling of that state would be too long, or it numbers too many
+-- records; or else as it is refused
+abbrev pub StaysThere : List ℕ → Fault → Type 0
+StaysThere b TooLarge = (s : State) × IsStateOf b s × (s.next ≤ 4294967295)
+    × (268435455 < length (state_bytes s))
+StaysThere b TooLong = (log_limit < length b)
+    ⊎ ((s : State) × IsStateOf b s × (4294967295 < s.next))
+StaysThere b e = RefusedAt b 96 e
+
+abbrev pub CarriesAgain : List ℕ → Result (Vec ℕ) Fault → Type 0
+CarriesAgain b (Ok v) = IsCarriedAgain b v.items
+CarriesAgain b (Err e) = StaysThere b e

@@ -1,14 +1,16 @@
 -- A log that is opened to write behind its front.
-use Rattle.std.specs.Prelude.{◌≡◌, ℕ, List, length, drop, Result, Ok, Err}
-use Rattle.rq_model.specs.Records.{Record, Version}
-use Rattle.rq_model.specs.Frames.{start, log_of, last_of}
-use Rattle.rq_model.specs.States.{empty}
+use Rattle.std.specs.Prelude.{◌≡◌, ℕ, ◌+◌, List, ◌∷◌, length, drop, Result, Ok, Err}
+use Rattle.rq_model.specs.Records.{Record, Checkpoint, Version}
+use Rattle.rq_model.specs.Frames.{start, log_of, frames_of, last_of, before}
+use Rattle.rq_model.specs.States.{State, empty}
 use Rattle.rq_model.specs.Machine.{run}
 use Rattle.rq_model.specs.Fronts.{IsFront, IsWhy}
+use Rattle.rq_model.specs.Carrying.{IsFrontAt}
 use Rattle.rq_record.specs.declared.fault.Fault.{Fault}
 use Rattle.rq_front.specs.Chains.{Refused}
+use Rattle.rq_restart.specs.Restarts.{RefusedAt}
 use Rattle.rq_restart.specs.Views.{why_of}
-use Rattle.rq_journal.specs.Places.{StandsBehind, behind_header}
+use Rattle.rq_journal.specs.Places.{StandsBehind, behind_header, at_checkpoint}
 use Rattle.rq_journal.specs.declared.opening.Opened.{Opened}
 
 -- the appender stands behind the front of b, which ends here for this reason
@@ -26,3 +28,24 @@ pub record IsOpened (b : List ℕ) (o : Opened) : Type 0 where
 abbrev pub Opens : List ℕ → Result Opened Fault → Type 0
 Opens b (Ok o) = IsOpened b o
 Opens b (Err e) = Refused b e
+
+-- the appender stands behind the front of b from the checkpoint at an offset, which ends here for
+-- this reason
+pub record IsOpenedAt (b : List ℕ) (offset : ℕ) (o : Opened) : Type 0 where
+  pub version : Version
+  pub base : State
+  pub kept : List ℕ
+  pub after : List Record
+  pub front : IsFrontAt b offset version base kept after (drop o.used b)
+  pub ends : IsWhy version (run base (Checkpoint kept ∷ after))
+      (last_of (before offset b) (Checkpoint kept ∷ after)) (drop o.used b) (why_of o.why)
+  pub used : o.used
+      ≡ offset + length (frames_of (before offset b) (Checkpoint kept ∷ after))
+  pub count : o.records ≡ length (Checkpoint kept ∷ after)
+  pub stands : StandsBehind (at_checkpoint version base b offset) (Checkpoint kept ∷ after)
+      o.appender
+
+-- that, at the checkpoint of a carried log, or why b is refused
+abbrev pub OpensCarried : List ℕ → Result Opened Fault → Type 0
+OpensCarried b (Ok o) = IsOpenedAt b 96 o
+OpensCarried b (Err e) = RefusedAt b 96 e

@@ -1,7 +1,7 @@
 -- Where records are appended, and where an appender stands.
 use Rattle.std.specs.Prelude.{◌≡◌, ℕ, ◌+◌, ◌≤◌, List, length}
 use Rattle.rq_model.specs.Records.{Record, Version}
-use Rattle.rq_model.specs.Frames.{log_limit, start, frames_of, last_of}
+use Rattle.rq_model.specs.Frames.{log_limit, start, frames_of, last_of, before}
 use Rattle.rq_model.specs.States.{State, empty}
 use Rattle.rq_model.specs.Machine.{run}
 use Rattle.rq_model.specs.Appending.{MayFollow}
@@ -20,6 +20,11 @@ pub record Place : Type 0 where
 abbrev pub behind_header : Version → Place
 behind_header version =
     record { version = version; state = empty; link = start version; ahead = 40 }
+
+-- before the checkpoint at an offset of b, in the state that it spells
+abbrev pub at_checkpoint : Version → State → List ℕ → ℕ → Place
+at_checkpoint version s b offset =
+    record { version = version; state = s; link = before offset b; ahead = offset }
 
 -- how many bytes there are with the frames of these records
 abbrev pub length_with : Place → List Record → ℕ

@@ -4,12 +4,12 @@ ghost use Rattle.std.specs.Prelude.{◌≡◌, length, true, take, drop};
 ghost use Rattle.rq_model.specs.Frames.{IsBodyLength};
 ghost use Rattle.rq_model.specs.Continuing.{carried_gap};
 ghost use Rattle.rq_record.specs.Views.{version_of};
-ghost use Rattle.rq_journal.specs.Carries.{Begins, Carries};
+ghost use Rattle.rq_journal.specs.Carries.{Begins, Carries, CarriesAgain};
 
-use crate::checkpoint::checkpoint_body;
+use crate::checkpoint::{body_of_any, checkpoint_body};
 use rq_front::{FRAME_LEN, HEADER_LEN, frame, header_of, version};
 use rq_record::{Fault, Version};
-use rq_restart::{Plan, redone_front};
+use rq_restart::{Plan, redone_front, redone_front_at};
 use std::alloc::Global;
 use std::marker::Sync;
 use std::thread::Threads;
@@ -69,4 +69,25 @@ pub fn carried<R: Threads + Sync>(
     let front = redone_front(rt, alloc, bytes, plan)?;
     let body = checkpoint_body(alloc, &front.state)?;
     begun(alloc, front.version, &front.last, &body)
+}
+
+/// A log that goes on from the state behind the front of one that was itself carried on, as `carried`
+/// makes one.
+///
+/// Refuses with `TooLarge` a state whose spelling has more than 268,435,455 bytes, with `TooLong` one
+/// with more than 4,294,967,295 records over all files, and else as `open_carried` does.
+pub fn carried_again<R: Threads + Sync>(
+    rt: &R,
+    alloc: Global,
+    bytes: &[u8],
+    plan: &Plan,
+) -> Result<Vec<u8>, Fault>
+    ensures { CarriesAgain bytes.now result }
+{
+    rq_model::one_spelling();
+    rq_model::logs_begun_anew();
+    rq_model::continued_logs();
+    let front = redone_front_at(rt, alloc, bytes, CARRIED_AT as u64, plan)?;
+    let checkpoint = body_of_any(alloc, &front.state)?;
+    begun(alloc, front.version, &front.last, &checkpoint)
 }

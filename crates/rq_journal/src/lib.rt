@@ -3,6 +3,7 @@
 #![tactic(auto)]
 
 mod appender;
+mod auditing;
 mod carrying;
 mod checkpoint;
 mod framing;
@@ -11,9 +12,11 @@ mod opening;
 mod writing;
 
 pub use appender::{Appender, NotTaken};
-pub use carrying::{CARRIED_AT, carried, is_carried};
+pub use auditing::{Truth, audit_carried};
+pub use carrying::{CARRIED_AT, carried, carried_again, is_carried};
+pub use checkpoint::checkpoint_of;
 pub use marking::marked;
-pub use opening::{Opened, open, opened_behind};
+pub use opening::{Opened, open, open_carried, opened_behind};
 pub use rq_catalog::Rule;
 pub use rq_record::Fault;
 pub use rq_restart::{Plan, Why};

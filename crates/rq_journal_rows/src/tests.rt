@@ -1,6 +1,15 @@
-use rq_journal::{NotTaken, Opened, carried, frames_behind, is_carried, marked, open};
-use rq_record::{KeptRecord, QueueNo, Record, UnitNo, Version};
-use rq_restart::{Open, Plan, Why, audit, restart, restart_at};
+ghost use Rattle.std.specs.Prelude.{List, ℕ, OnOk};
+ghost use Rattle.rq_restart.specs.GrowingFronts.{GoesAlong};
+
+use rq_journal::{
+    NotTaken, Opened, Truth, audit_carried, carried, carried_again, checkpoint_of, frames_behind,
+    is_carried, marked, open, open_carried,
+};
+use rq_record::{CheckBytes, KeptRecord, QueueNo, Record, UnitNo, Version};
+use rq_restart::{
+    GrowingFront, Open, Plan, Why, audit, audit_at, judged_front_at, redone_front_at, restart,
+    restart_at,
+};
 use rq_writer::make;
 use std::alloc::Global;
 use std::test::Fail;
@@ -108,5 +117,143 @@ fn a_log_is_marked_and_carried_on(rt: HostRuntime) -> Result<(), Fail> {
     let log = marked(&rt, rt.alloc(), log, &plan)?;
     assert!(rt; audit(&rt, rt.alloc(), &log, &plan)?.as_slice() == [(at, true)].as_slice());
     assert!(rt; says_the_same(&rt, &log, at, &plan));
+    Ok(())
+}
+
+// Whether the log that was carried on is opened behind its checkpoint.
+fn is_opened_behind<R: Threads + Sync + AllocGlobal>(rt: &R, new: &[u8], plan: &Plan) -> bool {
+    match open_carried(rt, rt.alloc(), new, plan) {
+        Ok(opened) => opened.used == new.len() && opened.records == 1 && opened.why == Why::Whole,
+        Err(_) => false,
+    }
+}
+
+// Whether the front from the checkpoint on ends with the log, with this next record number.
+fn ends_with<R: Threads + Sync + AllocGlobal>(rt: &R, new: &[u8], next: u64, plan: &Plan) -> bool {
+    let redone = redone_front_at(rt, rt.alloc(), new, 96, plan);
+    let is_redone = redone.is_ok_and(|it| it.used == new.len() && it.state.next() == next);
+    let judged = judged_front_at(rt, rt.alloc(), new, 96, plan);
+    is_redone && judged.is_ok_and(|it| it.used == new.len() && it.records == 1)
+}
+
+#[test]
+fn a_carried_log_goes_on(rt: HostRuntime) -> Result<(), Fail> {
+    let plan = Plan::new(1, 1).ok_or("plan")?;
+    let log = log_of(&rt, ONE_ELEMENT)?;
+    let new = carried(&rt, rt.alloc(), &log, &plan)?;
+    assert!(rt; is_opened_behind(&rt, &new, &plan) && ends_with(&rt, &new, 5, &plan));
+    assert!(rt;
+        audit_carried(&rt, rt.alloc(), &new, &plan)?.as_slice() == [(96, Truth::Carried)].as_slice()
+    );
+    let again = carried_again(&rt, rt.alloc(), &new, &plan)?;
+    assert!(rt; is_carried(&again) && ends_with(&rt, &again, 6, &plan));
+    Ok(())
+}
+
+// A checkpoint of these bytes, of which the last of the record number and of the count of committed
+// units are these.
+fn point(alloc: Global, bytes: &[u8], next: u8, committed: u8) -> Result<Record, Fail> {
+    let mut kept = Vec::new(alloc);
+    kept.extend_from_slice(bytes)?;
+    for (at, byte) in [(7, next), (23, committed)] {
+        if let Some(it) = kept.get_mut(at) {
+            *it = byte;
+        }
+    }
+    let bytes = CheckBytes::new(kept).ok_or("few")?;
+    Ok(Record::Checkpoint { bytes })
+}
+
+// The log with these records behind its front, all of which are taken.
+fn with_records<R: Threads + Sync + AllocGlobal>(
+    rt: &R,
+    log: Vec<u8>,
+    records: &[Record],
+    plan: &Plan,
+) -> Result<Vec<u8>, Fail> {
+    let mut appender = open_carried(rt, rt.alloc(), &log, plan)?.appender;
+    let mut log = log;
+    if appender.append_each(rt.alloc(), records, &mut log) != (records.len(), None) {
+        return Err("not taken".into());
+    }
+    Ok(log)
+}
+
+// A log that begins with a checkpoint of `ONE_ELEMENT`, and goes on with four more: of one record
+// more, of the same number again, of another count, and of 8 bytes.
+fn with_points<R: Threads + Sync + AllocGlobal>(rt: &R, plan: &Plan) -> Result<Vec<u8>, Fail> {
+    let log = log_of(rt, ONE_ELEMENT)?;
+    let new = carried(rt, rt.alloc(), &log, plan)?;
+    let state = redone_front_at(rt, rt.alloc(), &new, 96, plan)?.state;
+    let Record::Checkpoint { bytes } = checkpoint_of(rt.alloc(), &state)? else {
+        return Err("no checkpoint".into());
+    };
+    let all = bytes.bytes();
+    let short = all.get(..8).ok_or("short")?;
+    let points = [
+        point(rt.alloc(), all, 5, 1)?,
+        point(rt.alloc(), all, 5, 1)?,
+        point(rt.alloc(), all, 7, 2)?,
+        point(rt.alloc(), short, 8, 1)?,
+        point(rt.alloc(), all, 9, 1)?,
+    ];
+    with_records(rt, new, &points, plan)
+}
+
+#[test]
+fn false_checkpoints_of_a_carried_log_are_told(rt: HostRuntime) -> Result<(), Fail> {
+    let plan = Plan::new(2, 1).ok_or("plan")?;
+    let log = with_points(&rt, &plan)?;
+    let found = audit_carried(&rt, rt.alloc(), &log, &plan)?;
+    let from_there = audit_at(&rt, rt.alloc(), &log, 96, &plan)?;
+    let mut truths = found.iter().map(|it| it.1);
+    assert!(rt;
+        truths.eq([
+            Truth::Carried,
+            Truth::True,
+            Truth::False,
+            Truth::False,
+            Truth::False,
+            Truth::True,
+        ])
+    );
+    let mut flags = from_there.iter().map(|it| it.1);
+    assert!(rt; flags.eq([true, true, false, false, false, true]));
+    Ok(())
+}
+
+// A front goes along with more of a log.
+fn feed<R: Threads + Sync + AllocGlobal>(
+    rt: &R,
+    front: &mut GrowingFront,
+    more: &[u8],
+    plan: &Plan,
+) -> Result<(), Fail>
+    requires { (b : List ℕ) × GoesAlong b front.old }
+    ensures { OnOk result ((b : List ℕ) × GoesAlong b front.new) }
+{
+    front.feed(rt, rt.alloc(), more, plan)?;
+    Ok(())
+}
+
+// Whether a front goes along with the log in two pieces, to its end.
+fn goes_along<R: Threads + Sync + AllocGlobal>(
+    rt: &R,
+    log: &[u8],
+    plan: &Plan,
+) -> Result<bool, Fail> {
+    let mut front = GrowingFront::new(rt.alloc());
+    let (first, more) = log.split_at(log.len() / 2);
+    feed(rt, &mut front, first, plan)?;
+    feed(rt, &mut front, more, plan)?;
+    let judged = front.judged(rt, rt.alloc(), plan)?;
+    Ok(judged.used == log.len() && judged.records == 4)
+}
+
+#[test]
+fn a_front_grows_with_its_log(rt: HostRuntime) -> Result<(), Fail> {
+    let plan = Plan::new(1, 1).ok_or("plan")?;
+    let log = log_of(&rt, ONE_ELEMENT)?;
+    assert!(rt; goes_along(&rt, &log, &plan)?);
     Ok(())
 }

@@ -1,4 +1,4 @@
--- The blocks of a padded message, from where its bytes stand.
+-- The blocks of a padded message, from where its bytes lie.
 use Rattle.std.proofs.Common.{◌≡◌, ℕ, zero, suc, ◌+◌, ◌-◌, ◌*◌, ◌/◌, ◌%◌, ◌≤◌, ◌<◌, List, length, take, drop}
 use Rattle.std.proofs.Common.{refl, sym, ap, ◌∙◌, arith, slice_index}
 use Rattle.std.proofs.lemmas.List.{length-take, length-drop, drop-take, drop-drop, take-take}
@@ -13,7 +13,7 @@ use Rattle.rq_lanes.proofs.Tails.{block_whole, block_tail, padded_blocks}
 pub length-text : (b : List ℕ) (m : Message) → m.start + m.len ≤ length b → length (text b m) ≡ m.len
 length-text b m le = omega (arith, length-take (m.start + m.len - m.start) (drop m.start b), length-drop m.start b)
 
--- a block that is whole in the message
+-- a block that lies wholly in the message
 pub block_of_text : (b : List ℕ) (m : Message) (k from : ℕ) (x : List ℕ) → m.start + m.len ≤ length b
     → k * 64 + 64 ≤ m.len → from ≡ m.start + k * 64
     → x ≡ take (from + 64 - from) (drop from b) → x ≡ take 64 (drop (k * 64) (padded_message (text b m)))
@@ -49,7 +49,7 @@ block_first_tail b l k f at =
     let place : (n / 64 + 0) * 64 ≡ k * 64 = omega arith in
     sym (ap (λ (i : ℕ). take 64 (drop i (padded_message (text b l.message)))) (sym place) ∙ t)
 
--- the block behind it
+-- the block after it
 pub block_second_tail : (b : List ℕ) (l : Lane) (k : ℕ) → Fills b l → l.message.len / 64 < k → k < l.due - l.born
     → take 64 (drop 64 l.tail) ≡ take 64 (drop (k * 64) (padded_message (text b l.message)))
 block_second_tail b l k f above below =
@@ -89,7 +89,7 @@ below_eight P p0 p1 p2 p3 p4 p5 p6 p7 (suc (suc (suc (suc (suc (suc zero)))))) h
 below_eight P p0 p1 p2 p3 p4 p5 p6 p7 (suc (suc (suc (suc (suc (suc (suc zero))))))) h = p7
 below_eight P p0 p1 p2 p3 p4 p5 p6 p7 (suc (suc (suc (suc (suc (suc (suc (suc n)))))))) h = absurd (omega arith)
 
--- word i of a lane stands in row i
+-- word i of a lane is in row i
 pub word_of_lane : (hash : List (List ℕ)) (j i : ℕ) → i < 8 → slice_index (lane j hash) i ≡ word_in hash i j
 word_of_lane hash j = below_eight (λ i. slice_index (lane j hash) i ≡ word_in hash i j) refl refl refl refl refl refl
     refl refl

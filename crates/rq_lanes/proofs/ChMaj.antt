@@ -1,5 +1,5 @@
--- Ch and Maj in fewer operations, bit by bit; after the proofs of the crate `sha2` (MIT or Apache-2.0), which exports
--- none.
+-- Ch and Maj in fewer operations, bit by bit; after the proofs of the crate `sha2` (MIT or
+-- Apache-2.0), which exports none.
 use Rattle.std.proofs.Common.{◌≡◌, ℕ, ◌+◌, ◌-◌, ◌%◌, ◌^◌, ◌<◌, min, bit_and, bit_xor, arith}
 use Rattle.std.proofs.lemmas.Nat.{and_le_l, and_le_r, xor_lt}
 use Rattle.std.proofs.lemmas.Nat.Bits.{bit_at-lt, bit_at_and, bit_at_not, bit_at_xor, same_from_bits}

@@ -90,7 +90,7 @@ stays lanes j l m at ne =
     }
 
 module _ {n : ℕ} (b : List ℕ) (s : Lanes n) (ms : List Message) where
-  -- a lane that has no message any more
+  -- a lane that no longer has a message
   pub released : (j : ℕ) (l : Lane) → j < length s.lanes → l.busy ≡ false → AccountsFor b s ms
       → (s.right ≡ true → (held s.lanes j).busy ≡ true → HasDigestBehind b (held s.lanes j).message)
       → AccountsFor {n = n} b
@@ -173,12 +173,12 @@ module _ {n : ℕ} (b : List ℕ) (s : Lanes n) (ms : List Message) where
         (h.known (sym right ∙ truth));
   }
 
-  -- once a wrong digest was seen, whatever the messages are
+  -- after a wrong digest was seen, whatever the messages are
   pub wrong_seen : (more : List Message) → AccountsFor b s ms
       → AccountsFor {n = n} b (record { lanes = s.lanes; hash = s.hash; clock = s.clock; right = false }) more
   wrong_seen more h = record { each = h.each; known = λ (truth : false ≡ true). cc }
 
-  -- lanes without a message have none that is not right
+  -- if no lane has a message and no wrong digest was seen, each message is right
   pub all_right : s.right ≡ true → ((k : ℕ) → k < length s.lanes → (held s.lanes k).busy ≡ false) → AccountsFor b s ms
       → All (HasDigestBehind b) ms
   all_right truth idle h = λ k d lt. elim (h.known truth k d lt) [

@@ -1,4 +1,4 @@
--- Messages in some bytes, each with its digest behind it, and the lanes that take them in.
+-- Messages in some bytes, each with its digest after it, and the lanes that take them in.
 use Rattle.std.specs.Prelude.{◌≡◌, ◌⊎◌, ℕ, ◌+◌, ◌-◌, ◌*◌, ◌/◌, ◌%◌, ◌≤◌, ◌<◌, ◌++◌, true, false}
 use Rattle.std.specs.Prelude.{List, [], length, take, drop, get_or, slice_range, All}
 use Rattle.sha2.specs.Sha256.{hash_after, initial_hash_256, padded_message, padding, sha256}
@@ -11,7 +11,7 @@ use Rattle.rq_lanes.specs.declared.lanes.Lanes.{Lanes}
 abbrev pub text : List ℕ → Message → List ℕ
 text b m = slice_range b m.start (m.start + m.len)
 
--- the 32 bytes behind the message are its digest
+-- the 32 bytes after the message are its digest
 pub record HasDigestBehind (b : List ℕ) (m : Message) : Type 0 where
   pub within : m.start + m.len + 32 ≤ length b
   pub digest : slice_range b (m.start + m.len) (m.start + m.len + 32) ≡ sha256 (text b m)
@@ -24,11 +24,11 @@ pub record Fills (b : List ℕ) (l : Lane) : Type 0 where
   pub tail : take (l.message.len % 64 + (119 - l.message.len % 64) % 64 + 9) l.tail
       ≡ drop (l.message.len / 64 * 64) (text b l.message) ++ padding (length (text b l.message))
 
--- the block of the lane's padded message that is taken in when the clock is here
+-- the block of the lane's padded message that is taken in at this clock
 abbrev pub block_at : List ℕ → Lane → ℕ → List ℕ
 block_at b l clock = take 64 (drop ((clock - l.born) * 64) (padded_message (text b l.message)))
 
--- the hash value has taken in the blocks of the lane's message that are before the clock
+-- the hash value has taken in the blocks of the lane's message before the clock
 pub record HasTakenIn (b : List ℕ) (l : Lane) (clock : ℕ) (words : List ℕ) : Type 0 where
   pub fills : Fills b l
   pub begun : l.born ≤ clock
@@ -48,8 +48,7 @@ pub record IsInLane (lanes : List Lane) (m : Message) : Type 0 where
   pub busy : (held lanes index).busy ≡ true
   pub same : (held lanes index).message ≡ m
 
--- of the messages that these lanes were given, each is right or in a lane, unless a wrong one was
--- seen
+-- each message that these lanes were given is right or in a lane, unless a wrong one was seen
 pub record AccountsFor {n : ℕ} (b : List ℕ) (s : Lanes n) (ms : List Message) : Type 0 where
   pub each : (j : ℕ) → j < length s.lanes → (held s.lanes j).busy ≡ true
       → HasTakenIn b (held s.lanes j) s.clock (lane j s.hash)

@@ -27,8 +27,8 @@ fn front(zeros: usize) -> &'static [u8]
     &PADDING[..zeros + 1]
 }
 
-/// The last block or two of a message of `len` bytes, of which `rest` are the bytes after its last
-/// whole block.
+/// The last block or two of a message of `len` bytes; `rest` are the bytes after its last whole
+/// block.
 pub(crate) fn tail(rest: &[u8], len: u64) -> [u8; 128]
     requires { length rest.now ≡ len % 64 }
     ensures { take (len % 64 + (119 - len % 64) % 64 + 9) result ≡ rest.now ++ padding len }

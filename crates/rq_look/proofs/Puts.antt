@@ -1,12 +1,16 @@
 -- Writing text after text.
-use Rattle.std.proofs.Common.{◌≡◌, ◌++◌, ◌∙◌, ℕ, List, Option, sym, ap, subst, append_assoc}
+use Rattle.std.proofs.Common.{◌≡◌, ◌++◌, ◌∙◌, ℕ, List, Option, Some, None, sym, ap, subst, append_assoc}
 use Rattle.std.specs.Io.KnownBytes.{Appends}
 use Rattle.std.proofs.KnownBytes.{Appends-trans}
 use Rattle.rq_model.specs.Fronts.{Restarted}
 use Rattle.rq_restart.specs.FrontEnds.{IsEndOf}
 use Rattle.rq_restart.specs.Views.{why_of}
 use Rattle.rq_look.specs.declared.ends.End.{End}
-use Rattle.rq_look.specs.Looks.{end_text, end_line, end_finding, front_end_of}
+use Rattle.rq_record.specs.declared.fault.Fault.{Fault}
+use Rattle.rq_record.specs.declared.fault.Fault.TheVariants.{Resources}
+use Rattle.rq_model.specs.Reports.{IsText}
+use Rattle.rq_look.specs.Looks.{end_text, end_line, end_finding, front_end_of, RefusedFrom, IsRestartFrom}
+use Rattle.rq_look.specs.Looks.{IsReportFrom}
 
 -- some text was appended
 abbrev pub AppendsSome : Option (List ℕ) → Option (List ℕ) → Type 0
@@ -34,3 +38,17 @@ pub same_finding : (r : Restarted) (end : End) (reason : List ℕ) → IsEndOf r
     → end_finding end.records end.used end.total (why_of end.why) reason
     ≡ end_finding r.records r.used r.total r.why reason
 same_finding r end reason e = λ i. end_finding (e.records i) (e.used i) (e.total i) (e.why i) reason
+
+-- each log may be refused for want of memory
+memory_refused : (at : Option ℕ) (b : List ℕ) → RefusedFrom at b Resources
+memory_refused None b = tt
+memory_refused (Some at) b = tt
+
+pub resources_refused : (at : Option ℕ) (b : List ℕ) (e : Fault) → e ≡ Resources → RefusedFrom at b e
+resources_refused at b e p = subst (λ (f : Fault). RefusedFrom at b f) (sym p) (memory_refused at b)
+
+-- the text of a restart is the report from where that begins
+pub report_from : (at : Option ℕ) (b text : List ℕ) (r : Restarted) → IsRestartFrom at b r → IsText r text
+    → IsReportFrom at b text
+report_from None b text r is told = (r, is, told)
+report_from (Some at) b text r is told = (r, is, told)

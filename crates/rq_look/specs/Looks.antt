@@ -1,17 +1,19 @@
 -- What a look at a log promises.
 use Rattle.std.specs.Prelude.{◌≡◌, ℕ, ◌<◌, ◌≤◌, ◌⊎◌, Bool, true, false, ◌&&◌, ⊤}
 use Rattle.std.specs.Prelude.{if◌then◌else◌}
-use Rattle.std.specs.Prelude.{List, [], ◌++◌, length, map, codes, Option, Some, None}
+use Rattle.std.specs.Prelude.{List, [], ◌++◌, length, map, codes, Option, Some, None, Err}
 use Rattle.std.specs.List.{flat_map, list_all}
 use Rattle.std.specs.Fmt.{decimal}
 use Rattle.std.specs.Io.KnownBytes.{Appends}
 use Rattle.rq_model.specs.Frames.{Whole, Cut, Length, Digest}
 use Rattle.rq_model.specs.Fronts.{Why, Ends, Form, Law, Restarted, IsRestart}
 use Rattle.rq_model.specs.Reports.{IsReport, why_text}
-use Rattle.rq_model.specs.Checkpoints.{IsAudit}
+use Rattle.rq_model.specs.Checkpoints.{IsAudit, IsRestartAt, IsReportAt}
+use Rattle.rq_record.specs.declared.fault.Fault.{Fault}
 use Rattle.rq_record.specs.declared.fault.Fault.TheVariants.{Resources}
 use Rattle.rq_front.specs.Chains.{IsLog, Refused}
 use Rattle.rq_restart.specs.Audits.{audited_of}
+use Rattle.rq_restart.specs.Restarts.{RestartsAt}
 use Rattle.rq_restart.specs.declared.ends.FrontEnd.{FrontEnd}
 use Rattle.rq_look.specs.declared.ends.End.{End}
 use Rattle.rq_look.specs.declared.trouble.Trouble.{Trouble}
@@ -31,6 +33,22 @@ is_whole Law = false
 -- of checkpoints, each with its offset and whether it is true
 abbrev pub all_true : List (ℕ × Bool) → Bool
 all_true found = list_all (λ x. x.1) found
+
+-- the restart of b, or that from the checkpoint at an offset
+abbrev pub IsRestartFrom : Option ℕ → List ℕ → Restarted → Type 0
+IsRestartFrom None b r = IsRestart b r
+IsRestartFrom (Some at) b r = IsRestartAt b at r
+
+-- b is refused as this restart of it is
+abbrev pub RefusedFrom : Option ℕ → List ℕ → Fault → Type 0
+RefusedFrom None b e = Refused b e
+RefusedFrom (Some at) b e = RestartsAt b at (Err e)
+
+-- the line that says at which offset the checkpoint stands that a log begins with
+abbrev pub beginning_text : Option ℕ → List ℕ
+beginning_text None = []
+beginning_text (Some at) =
+    codes "carried: begins with the checkpoint at " ++ (decimal at ++ codes "\n")
 
 -- whether b is whole
 abbrev pub IsKnownWhole : List ℕ → Bool → Type 0
@@ -52,17 +70,18 @@ abbrev pub end_line : Restarted → List ℕ → List ℕ
 end_line r reason = end_text r.records r.used r.total r.why reason
 
 -- the text is this line of b, with some reason
-abbrev pub IsEndText : List ℕ → List ℕ → Type 0
-IsEndText b text = (r : Restarted) × (reason : List ℕ) × IsRestart b r × (text ≡ end_line r reason)
+abbrev pub IsEndText : Option ℕ → List ℕ → List ℕ → Type 0
+IsEndText at b text =
+    (r : Restarted) × (reason : List ℕ) × IsRestartFrom at b r × (text ≡ end_line r reason)
 
 -- the last line of a dump of b: an object of JSON, or this line
-abbrev pub IsClosing : List ℕ → Bool → List ℕ → Type 0
-IsClosing b true text = (object : List ℕ) × (text ≡ object ++ codes "\n")
-IsClosing b false text = IsEndText b text
+abbrev pub IsClosing : Option ℕ → List ℕ → Bool → List ℕ → Type 0
+IsClosing at b true text = (object : List ℕ) × (text ≡ object ++ codes "\n")
+IsClosing at b false text = IsEndText at b text
 
 -- some text is appended, and then the last line of a dump of b
-abbrev pub EndsDump : List ℕ → Bool → Option (List ℕ) → Option (List ℕ) → Type 0
-EndsDump b json old new = (records closing : List ℕ) × IsClosing b json closing
+abbrev pub EndsDump : Option ℕ → List ℕ → Bool → Option (List ℕ) → Option (List ℕ) → Type 0
+EndsDump at b json old new = (records closing : List ℕ) × IsClosing at b json closing
     × Appends old new (records ++ closing)
 
 -- the line of where a front ends, unless nothing follows it
@@ -76,18 +95,21 @@ checkpoint_finding x = if x.1 then [] else codes "the checkpoint at "
     ++ (decimal x.0 ++ codes " does not spell the state before it\n")
 
 -- whether b is whole, and each checkpoint of its front true; and the text has these lines of b,
--- with some reason
-abbrev pub IsFindings : List ℕ → Bool → List ℕ → Type 0
-IsFindings b fine text = (r : Restarted) × (found : List (ℕ × Bool)) × (reason : List ℕ)
+-- with some reason. Of what begins with a checkpoint this is not known: the text says so, and where
+-- the front ends
+abbrev pub IsFindings : Option ℕ → List ℕ → Bool → List ℕ → Type 0
+IsFindings None b fine text = (r : Restarted) × (found : List (ℕ × Bool)) × (reason : List ℕ)
     × IsRestart b r × IsAudit b (map audited_of found)
     × (fine ≡ (is_whole r.why && all_true found))
     × (text ≡ end_finding r.records r.used r.total r.why reason
     ++ flat_map checkpoint_finding found)
+IsFindings (Some at) b fine text = (r : Restarted) × (reason : List ℕ) × IsRestartAt b at r
+    × (fine ≡ false) × (text ≡ codes "carried: use rqlog\n" ++ end_line r reason)
 
 -- b is refused as a restart of it is
-abbrev pub IsRefusal : List ℕ → Trouble → Type 0
-IsRefusal b (Log fault) = Refused b fault
-IsRefusal b _ = ⊥
+abbrev pub IsRefusal : Option ℕ → List ℕ → Trouble → Type 0
+IsRefusal at b (Log fault) = RefusedFrom at b fault
+IsRefusal at b _ = ⊥
 
 -- so is told where memory or the output is refused
 abbrev pub IsBroken : Trouble → Type 0
@@ -96,8 +118,8 @@ IsBroken (Output error) = ⊤
 IsBroken _ = ⊥
 
 -- b is not shown: it is refused, and the output holds what it held; or it is a log, and broke off
-abbrev pub StaysUnshown : List ℕ → Option (List ℕ) → Option (List ℕ) → Trouble → Type 0
-StaysUnshown b old new e = (IsLog b × IsBroken e) ⊎ (IsRefusal b e × (new ≡ old))
+abbrev pub StaysUnshown : Option ℕ → List ℕ → Option (List ℕ) → Option (List ℕ) → Trouble → Type 0
+StaysUnshown at b old new e = (IsLog b × IsBroken e) ⊎ (IsRefusal at b e × (new ≡ old))
 
 -- a script broke off: so is told of a record that no script tells, and of what `IsBroken` says
 abbrev pub BreaksOff : Trouble → Type 0
@@ -106,7 +128,7 @@ BreaksOff e = IsBroken e
 
 -- there is no whole script of b: it is not shown, or it is a log and its script broke off
 abbrev pub StaysUntold : List ℕ → Option (List ℕ) → Option (List ℕ) → Trouble → Type 0
-StaysUntold b old new e = (IsLog b × BreaksOff e) ⊎ StaysUnshown b old new e
+StaysUntold b old new e = (IsLog b × BreaksOff e) ⊎ StaysUnshown None b old new e
 
 -- the story of the subject is missing, and the output holds what it held; or it broke off
 abbrev pub LacksStory : Subject → Option (List ℕ) → Option (List ℕ) → Trouble → Type 0
@@ -114,10 +136,10 @@ LacksStory subject old new (Nothing told) = (told ≡ subject) × (new ≡ old)
 LacksStory subject old new e = IsBroken e
 
 -- there is no whole story of the subject in b: b is not shown, or it is a log that lacks one
-abbrev pub StaysWithoutStory : List ℕ → Subject → Option (List ℕ) → Option (List ℕ) → Trouble
-    → Type 0
-StaysWithoutStory b subject old new e = (IsLog b × LacksStory subject old new e)
-    ⊎ StaysUnshown b old new e
+abbrev pub StaysWithoutStory : Option ℕ → List ℕ → Subject → Option (List ℕ) → Option (List ℕ)
+    → Trouble → Type 0
+StaysWithoutStory at b subject old new e = (IsLog b × LacksStory subject old new e)
+    ⊎ StaysUnshown at b old new e
 
 -- the restart of b has a queue of this number, if one is wanted
 abbrev pub HasQueue : Restarted → Option ℕ → Type 0
@@ -125,29 +147,35 @@ HasQueue r None = ⊤
 HasQueue r (Some queue) = queue < length r.state.definitions
 
 -- a queue is wanted that b does not have
-abbrev pub IsNoQueue : List ℕ → Option ℕ → ℕ → Type 0
-IsNoQueue b wanted queue = (wanted ≡ Some queue)
-    × (r : Restarted) × IsRestart b r × (length r.state.definitions ≤ queue)
+abbrev pub IsNoQueue : Option ℕ → List ℕ → Option ℕ → ℕ → Type 0
+IsNoQueue at b wanted queue = (wanted ≡ Some queue)
+    × (r : Restarted) × IsRestartFrom at b r × (length r.state.definitions ≤ queue)
 
 -- why b has no report with the queue that is wanted: it is refused, or has no such queue
-abbrev pub LacksReport : List ℕ → Option ℕ → Trouble → Type 0
-LacksReport b wanted (NoQueue queue) = IsNoQueue b wanted queue
-LacksReport b wanted e = IsRefusal b e
+abbrev pub LacksReport : Option ℕ → List ℕ → Option ℕ → Trouble → Type 0
+LacksReport at b wanted (NoQueue queue) = IsNoQueue at b wanted queue
+LacksReport at b wanted e = IsRefusal at b e
 
 -- b is a log that has the queue, if one is wanted
-abbrev pub HasWanted : List ℕ → Option ℕ → Type 0
-HasWanted b wanted = IsLog b × (r : Restarted) × IsRestart b r × HasQueue r wanted
+abbrev pub HasWanted : Option ℕ → List ℕ → Option ℕ → Type 0
+HasWanted at b wanted = IsLog b × (r : Restarted) × IsRestartFrom at b r × HasQueue r wanted
 
 -- there is no report of b: it lacks one, and the output holds what it held; or it has one, and the
 -- output was refused
-abbrev pub StaysUnreported : List ℕ → Option ℕ → Option (List ℕ) → Option (List ℕ) → Trouble
-    → Type 0
-StaysUnreported b wanted old new (Output error) = HasWanted b wanted
-StaysUnreported b wanted old new e = LacksReport b wanted e × (new ≡ old)
+abbrev pub StaysUnreported : Option ℕ → List ℕ → Option ℕ → Option (List ℕ) → Option (List ℕ)
+    → Trouble → Type 0
+StaysUnreported at b wanted old new (Output error) = HasWanted at b wanted
+StaysUnreported at b wanted old new e = LacksReport at b wanted e × (new ≡ old)
 
--- where no queue is wanted alone, the report of b is appended; else b is a log that has the queue,
--- and some text is
-abbrev pub PutsReport : List ℕ → Option ℕ → Option (List ℕ) → Option (List ℕ) → Type 0
-PutsReport b None old new = (text : List ℕ) × IsReport b text × Appends old new text
-PutsReport b (Some queue) old new = HasWanted b (Some queue)
+-- the text is the report of b, or that from the checkpoint at an offset
+abbrev pub IsReportFrom : Option ℕ → List ℕ → List ℕ → Type 0
+IsReportFrom None b text = IsReport b text
+IsReportFrom (Some at) b text = IsReportAt b at text
+
+-- where no queue is wanted alone, the report of b is appended, behind the line that says where b
+-- begins; else b is a log that has the queue, and some text is
+abbrev pub PutsReport : Option ℕ → List ℕ → Option ℕ → Option (List ℕ) → Option (List ℕ) → Type 0
+PutsReport at b None old new = (text : List ℕ) × IsReportFrom at b text
+    × Appends old new (beginning_text at ++ text)
+PutsReport at b (Some queue) old new = HasWanted at b (Some queue)
     × (text : List ℕ) × Appends old new text

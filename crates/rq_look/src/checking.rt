@@ -1,13 +1,13 @@
 //! Whether a log is whole, and each of its checkpoints true.
 
-ghost use Rattle.std.specs.Prelude.{◌≡◌, ◌&&◌, ◌++◌, IfOk, IfErr, OnOk, string_bytes};
+ghost use Rattle.std.specs.Prelude.{◌≡◌, ◌&&◌, ◌++◌, None, Some, IfOk, IfErr, OnOk, string_bytes};
 ghost use Rattle.std.specs.List.{flat_map};
 ghost use Rattle.rq_restart.specs.Views.{why_of};
 ghost use Rattle.rq_look.specs.Looks as looks;
 ghost use Rattle.rq_look.specs.Looks.{IsFindings, IsRefusal, all_true, checkpoint_finding};
 ghost use Rattle.rq_look.specs.Looks.{end_finding};
 
-use crate::ends::{End, end_of, is_whole, put_end};
+use crate::ends::{End, end_at, is_whole, put_end, whole_end};
 use crate::trouble::Trouble;
 use rq_restart::{Plan, audit};
 use std::alloc::{AllocError, Global};
@@ -73,23 +73,62 @@ fn text_of(alloc: Global, end: &End, checkpoints: &[(u64, bool)]) -> Result<Stri
     Ok(text)
 }
 
-/// Whether a log is whole and each checkpoint of its front true, and what is wrong with it.
-///
-/// Refuses what a restart refuses.
-pub fn check<R: Threads + Sync>(
+// Whether a log is whole and each checkpoint of its front true.
+fn check_whole<R: Threads + Sync>(
     rt: &R,
     alloc: Global,
     bytes: &[u8],
     plan: &Plan,
 ) -> Result<Findings, Trouble>
     ensures checked { IfOk result
-        (λ found. IsFindings bytes.now found.fine (string_bytes found.text)) }
-    ensures refused { IfErr result (IsRefusal bytes.now) }
+        (λ found. IsFindings None bytes.now found.fine (string_bytes found.text)) }
+    ensures refused { IfErr result (IsRefusal None bytes.now) }
 {
-    let end = end_of(rt, alloc, bytes, plan)?;
+    let end = whole_end(rt, alloc, bytes, plan)?;
     let checkpoints = audit(rt, alloc, bytes, plan)?;
     Ok(Findings {
         fine: is_fine(&end, &checkpoints),
         text: text_of(alloc, &end, &checkpoints)?,
     })
+}
+
+// Where a log ends that begins with the checkpoint at an offset. Its file alone does not tell whether
+// that is true.
+fn check_at<R: Threads + Sync>(
+    rt: &R,
+    alloc: Global,
+    bytes: &[u8],
+    at: u64,
+    plan: &Plan,
+) -> Result<Findings, Trouble>
+    ensures checked { IfOk result
+        (λ found. IsFindings (Some at) bytes.now found.fine (string_bytes found.text)) }
+    ensures refused { IfErr result (IsRefusal (Some at) bytes.now) }
+{
+    let end = end_at(rt, alloc, bytes, at, plan)?;
+    let mut text = String::from_str(alloc, "carried: use rqlog\n")?;
+    put_end(&mut text, &end)?;
+    Ok(Findings { fine: false, text })
+}
+
+/// Whether a log is whole and each checkpoint of its front true, and what is wrong with it. Of a log
+/// that begins with the checkpoint at an offset it is not known whether this is true: the text says
+/// so, and where its front ends.
+///
+/// Refuses what a restart refuses, from there if there is an offset.
+pub fn check<R: Threads + Sync>(
+    rt: &R,
+    alloc: Global,
+    bytes: &[u8],
+    at: Option<u64>,
+    plan: &Plan,
+) -> Result<Findings, Trouble>
+    ensures checked { IfOk result
+        (λ found. IsFindings at bytes.now found.fine (string_bytes found.text)) }
+    ensures refused { IfErr result (IsRefusal at bytes.now) }
+{
+    match at {
+        None => check_whole(rt, alloc, bytes, plan),
+        Some(at) => check_at(rt, alloc, bytes, at, plan),
+    }
 }

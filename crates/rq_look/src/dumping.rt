@@ -1,18 +1,19 @@
 //! A line for each record of a log.
 
-ghost use Rattle.std.specs.Prelude.{◌≡◌, ◌++◌, ℕ, List, IfErr, OnOk, string_bytes};
+ghost use Rattle.std.specs.Prelude.{◌≡◌, ◌++◌, ℕ, List, Option, IfErr, OnOk, string_bytes};
 ghost use Rattle.std.specs.Io.KnownBytes.{Appends};
-ghost use Rattle.rq_model.specs.Fronts.{Restarted, IsRestart};
+ghost use Rattle.rq_model.specs.Fronts.{Restarted};
 ghost use Rattle.rq_restart.specs.FrontEnds.{IsEndOf};
 ghost use Rattle.rq_front.specs.Chains.{IsLog};
-ghost use Rattle.rq_look.specs.Looks.{EndsDump, IsBroken, IsClosing, StaysUnshown};
-ghost use Rattle.rq_look.specs.Looks.{front_end_of};
+ghost use Rattle.rq_look.specs.Looks.{EndsDump, IsBroken, IsClosing, IsRestartFrom};
+ghost use Rattle.rq_look.specs.Looks.{StaysUnshown, front_end_of};
 
-use crate::ends::{End, end_of, put_end};
+use crate::beginning::{first_state, frames_behind};
+use crate::ends::{End, end_of, put_beginning, put_end};
 use crate::frames::{Placed, PlacedFrames};
 use crate::json::{closing_of, record_shown, spelled_out};
 use crate::lines::put_record;
-use crate::numbered::{Numbered, queues_behind};
+use crate::numbered::{Numbered, queues_behind, queues_of};
 use crate::sheet::{finish, relieve};
 use crate::trouble::Trouble;
 use crate::wanted::Wanted;
@@ -55,8 +56,9 @@ fn put_closing(
     end: &End,
     wanted: &Wanted<'_>,
 ) -> Result<(), Trouble>
-    ensures closing { OnOk result ((b : List ℕ) (r : Restarted) → IsRestart b r
-        → IsEndOf r (front_end_of end.now) → (line : List ℕ) × IsClosing b wanted.now.json line
+    ensures closing { OnOk result ((at : Option ℕ) (b : List ℕ) (r : Restarted)
+        → IsRestartFrom at b r → IsEndOf r (front_end_of end.now)
+        → (line : List ℕ) × IsClosing at b wanted.now.json line
         × (string_bytes text.new ≡ string_bytes text.old ++ line)) }
     ensures refused { IfErr result IsBroken }
 {
@@ -108,11 +110,11 @@ fn put_wanted<W: Write>(
     Ok(is_wanted)
 }
 
-// Puts those records of the front that are wanted.
+// Puts those records of the front that are wanted. So many queues are defined before the first.
 fn put_records<W: Write>(
     alloc: Global,
-    bytes: &[u8],
-    used: u64,
+    frames: PlacedFrames<'_>,
+    before: u32,
     wanted: &Wanted<'_>,
     text: &mut String,
     output: &mut W,
@@ -121,9 +123,9 @@ fn put_records<W: Write>(
         ((put : List ℕ) × Appends (W.contents output.old) (W.contents output.new) put) }
     ensures refused { IfErr result IsBroken }
 {
-    let mut queues = 0;
+    let mut queues = before;
     let mut left = wanted.limit;
-    for placed in PlacedFrames::of(bytes, used) {
+    for placed in frames {
         if left == 0 {
             return Ok(());
         }
@@ -135,15 +137,28 @@ fn put_records<W: Write>(
     Ok(())
 }
 
+// Puts, before the last line, with which checkpoint the log begins. In JSON the last line has it.
+fn put_origin(text: &mut String, end: &End, wanted: &Wanted<'_>) -> Result<(), Trouble>
+    ensures { IfErr result IsBroken }
+{
+    if !wanted.json {
+        put_beginning(text, end.at)?;
+    }
+    Ok(())
+}
+
 /// Writes a line for each record of the front that is wanted, and a last one that says where the
-/// front ends and why: what is shown is what a restart sees.
+/// front ends and why: what is shown is what a restart sees, from the checkpoint on at the offset, if
+/// there is one. Then the last line but one, or the last one in JSON, says so.
 ///
-/// Refuses what a restart refuses, and before anything is written; else with `Output` where the
-/// output fails, and with `Resources` where memory is refused, and then some of it may be written.
+/// Refuses what a restart from there refuses, and before anything is written; else with `Output`
+/// where the output fails, and with `Resources` where memory is refused, and then some of it may be
+/// written.
 pub fn dump<R, W>(
     rt: &R,
     alloc: Global,
     bytes: &[u8],
+    at: Option<u64>,
     plan: &Plan,
     wanted: &Wanted<'_>,
     output: &mut W,
@@ -152,14 +167,18 @@ where
     R: Threads + Sync,
     W: Write,
     ensures log { OnOk result (IsLog bytes.now) }
-    ensures last { OnOk result (EndsDump bytes.now wanted.now.json
+    ensures last { OnOk result (EndsDump at bytes.now wanted.now.json
         (W.contents output.old) (W.contents output.new)) }
     ensures refused { IfErr result
-        (StaysUnshown bytes.now (W.contents output.old) (W.contents output.new)) }
+        (StaysUnshown at bytes.now (W.contents output.old) (W.contents output.new)) }
 {
-    let end = end_of(rt, alloc, bytes, plan)?;
+    let end = end_of(rt, alloc, bytes, at, plan)?;
+    let first = first_state(alloc, bytes, at)?;
+    let frames = frames_behind(bytes, &first, at, end.used);
+    let queues = queues_of(first.definitions());
     let mut text = String::new(alloc);
-    put_records(alloc, bytes, end.used, wanted, &mut text, output)?;
+    put_records(alloc, frames, queues, wanted, &mut text, output)?;
+    put_origin(&mut text, &end, wanted)?;
     put_closing(alloc, &mut text, &end, wanted)?;
     finish(&mut text, output)?;
     Ok(())

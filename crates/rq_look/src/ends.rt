@@ -1,31 +1,35 @@
 //! Where the front of a log ends, and why.
 
-ghost use Rattle.std.specs.Prelude.{◌≡◌, ◌++◌, string_bytes, IfOk, IfErr, OnOk};
+ghost use Rattle.std.specs.Prelude.{◌≡◌, ◌++◌, Some, string_bytes, IfOk, IfErr, OnOk};
 ghost use Rattle.rq_model.specs.Fronts as fronts;
 ghost use Rattle.rq_model.specs.Fronts.{IsRestart};
-ghost use Rattle.rq_front.specs.Chains.{IsHeaded, Refused, IsLog};
+ghost use Rattle.rq_model.specs.Checkpoints.{IsRestartAt};
+ghost use Rattle.rq_front.specs.Chains.{Refused, IsLog};
 ghost use Rattle.rq_record.specs.declared.fault.Fault.TheVariants.{Resources};
 ghost use Rattle.rq_restart.specs.FrontEnds.{IsEndOf};
 ghost use Rattle.rq_restart.specs.Views.{why_of};
 ghost use Rattle.rq_look.specs.Looks as looks;
-ghost use Rattle.rq_look.specs.Looks.{end_text, front_end_of};
+ghost use Rattle.rq_look.specs.Looks.{beginning_text, end_text, front_end_of};
+ghost use Rattle.rq_look.specs.Looks.{IsRestartFrom, RefusedFrom};
 
 use crate::frames::{first_frame, stated_length};
 use crate::misfits::misfit_of;
-use crate::rules::{Rule, broken};
+use rq_catalog::Rule;
 use rq_front::{FRAME_LEN, version};
+use rq_journal::{Appender, open, open_carried};
 use rq_record::{Fault, Version, decode_kept};
 use rq_report::why_word;
-use rq_restart::{FrontEnd, Plan, Restarted, Why, front_end, front_state};
-use rq_state::State;
+use rq_restart::{FrontEnd, Open, Plan, Restarted, Why, front_end, restart_at};
 use sha2::{Digest, Sha256};
 use std::alloc::{AllocError, Global};
 use std::fmt::Write;
 use std::thread::Threads;
 
-/// Where the front of a log ends, and why, in a sentence.
+/// Where the front of a log ends, and why, in a sentence; and where the checkpoint stands that the
+/// log begins with, if it was carried on.
 #[derive(Drop)]
 pub(crate) struct End {
+    pub(crate) at: Option<u64>,
     pub(crate) records: u64,
     pub(crate) used: u64,
     pub(crate) total: u64,
@@ -78,17 +82,33 @@ fn form_reason(alloc: Global, version: Version, body: &[u8]) -> Result<String, A
     }
 }
 
-// The rule that the record of a body breaks in the state, if it is a record and breaks one.
-fn rule_of(
+// What judges the records behind the front of a log, of which the end was found: so memory alone is
+// refused.
+fn judge_behind<R: Threads + Sync>(
+    rt: &R,
     alloc: Global,
-    version: Version,
-    state: &State,
-    body: &[u8],
-) -> Result<Option<Rule>, Fault>
+    bytes: &[u8],
+    at: Option<u64>,
+    plan: &Plan,
+) -> Result<Appender, Fault>
     ensures { IfErr result (λ e. e ≡ Resources) }
 {
-    match decode_kept(alloc, version, body) {
-        Ok(record) => Ok(broken(version, state, &record)),
+    let opened = match at {
+        None => open(rt, alloc, bytes, plan),
+        Some(_) => open_carried(rt, alloc, bytes, plan),
+    };
+    match opened {
+        Ok(opened) => Ok(opened.appender),
+        Err(_) => Err(Fault::Resources),
+    }
+}
+
+// The rule that the record of a body breaks there, if it is a record and breaks one.
+fn rule_of(alloc: Global, judge: &Appender, body: &[u8]) -> Result<Option<Rule>, Fault>
+    ensures { IfErr result (λ e. e ≡ Resources) }
+{
+    match decode_kept(alloc, judge.version(), body) {
+        Ok(record) => Ok(judge.broken(&record)),
         Err(Fault::Form) => Ok(None),
         Err(_) => Err(Fault::Resources),
     }
@@ -97,15 +117,15 @@ fn rule_of(
 fn law_reason<R: Threads + Sync>(
     rt: &R,
     alloc: Global,
-    version: Version,
     bytes: &[u8],
+    at: Option<u64>,
     body: &[u8],
     plan: &Plan,
 ) -> Result<String, Fault>
-    ensures { IfErr result (Refused bytes.now) }
+    ensures { IfErr result (λ e. e ≡ Resources) }
 {
-    let state = front_state(rt, alloc, bytes, plan)?;
-    match rule_of(alloc, version, &state, body)? {
+    let judge = judge_behind(rt, alloc, bytes, at, plan)?;
+    match rule_of(alloc, &judge, body)? {
         Some(rule) => Ok(format!(in alloc; "{rule}")?),
         None => Ok(String::from_str(alloc, "the record is not lawful")?),
     }
@@ -122,24 +142,21 @@ fn reason_of<R: Threads + Sync>(
     rt: &R,
     alloc: Global,
     bytes: &[u8],
-    end: (u64, Why),
+    at: Option<u64>,
+    end: &FrontEnd,
     plan: &Plan,
 ) -> Result<String, Fault>
-    requires { IsHeaded bytes.now }
-    ensures { IfErr result (Refused bytes.now) }
+    ensures { IfErr result (λ e. e ≡ Resources) }
 {
-    let (used, why) = end;
-    let Some(version) = version(bytes) else {
-        return Err(Fault::NotALog);
-    };
-    let (before, rest) = bytes.split_at(bytes.len().min(used as usize));
-    match why {
+    let version = version(bytes).unwrap_or(Version::Two);
+    let (before, rest) = bytes.split_at(bytes.len().min(end.used as usize));
+    match end.why {
         Why::Whole => Ok(String::from_str(alloc, "nothing follows")?),
         Why::Cut => Ok(cut_reason(alloc, rest)?),
         Why::Length => Ok(length_reason(alloc, rest)?),
         Why::Chain => Ok(chain_reason(alloc, before, rest)?),
         Why::Form => Ok(form_reason(alloc, version, body_of(rest))?),
-        Why::Law => law_reason(rt, alloc, version, bytes, body_of(rest), plan),
+        Why::Law => law_reason(rt, alloc, bytes, at, body_of(rest), plan),
     }
 }
 
@@ -148,14 +165,15 @@ fn told<R: Threads + Sync>(
     rt: &R,
     alloc: Global,
     bytes: &[u8],
+    at: Option<u64>,
     end: FrontEnd,
     plan: &Plan,
 ) -> Result<End, Fault>
-    requires { IsHeaded bytes.now }
     ensures end { IfOk result
         (λ told. (r : fronts.Restarted) → IsEndOf r end → IsEndOf r (front_end_of told)) }
-    ensures refused { IfErr result (Refused bytes.now) }
+    ensures refused { IfErr result (λ e. e ≡ Resources) }
 {
+    let reason = reason_of(rt, alloc, bytes, at, &end, plan)?;
     let FrontEnd {
         records,
         used,
@@ -163,11 +181,12 @@ fn told<R: Threads + Sync>(
         why,
     } = end;
     Ok(End {
+        at,
         records,
         used,
         total,
         why,
-        reason: reason_of(rt, alloc, bytes, (used, why), plan)?,
+        reason,
     })
 }
 
@@ -176,12 +195,12 @@ pub(crate) fn end_after<R: Threads + Sync>(
     rt: &R,
     alloc: Global,
     bytes: &[u8],
+    at: Option<u64>,
     r: &Restarted,
     plan: &Plan,
 ) -> Result<End, Fault>
-    requires { IsHeaded bytes.now }
     ensures end { IfOk result (λ end. IsEndOf r.now (front_end_of end)) }
-    ensures refused { IfErr result (Refused bytes.now) }
+    ensures refused { IfErr result (λ e. e ≡ Resources) }
 {
     let end = FrontEnd {
         records: r.records(),
@@ -189,12 +208,12 @@ pub(crate) fn end_after<R: Threads + Sync>(
         total: r.total(),
         why: r.why(),
     };
-    let told = told(rt, alloc, bytes, end, plan)?;
+    let told = told(rt, alloc, bytes, at, end, plan)?;
     Ok(told)
 }
 
-/// Where the front of a log ends. No queue is redone for it, unless a record there breaks a rule.
-pub(crate) fn end_of<R: Threads + Sync>(
+/// Where the front of a log ends. No queue is redone for it.
+pub(crate) fn whole_end<R: Threads + Sync>(
     rt: &R,
     alloc: Global,
     bytes: &[u8],
@@ -206,8 +225,55 @@ pub(crate) fn end_of<R: Threads + Sync>(
     ensures refused { IfErr result (Refused bytes.now) }
 {
     let end = front_end(rt, alloc, bytes, plan)?;
-    let told = told(rt, alloc, bytes, end, plan)?;
+    let told = told(rt, alloc, bytes, None, end, plan)?;
     Ok(told)
+}
+
+/// Where the front of a log ends that begins with the checkpoint at an offset.
+pub(crate) fn end_at<R: Threads + Sync>(
+    rt: &R,
+    alloc: Global,
+    bytes: &[u8],
+    at: u64,
+    plan: &Plan,
+) -> Result<End, Fault>
+    ensures log { OnOk result (IsLog bytes.now) }
+    ensures end { IfOk result (λ end. (r : fronts.Restarted) × IsRestartAt bytes.now at r
+        × IsEndOf r (front_end_of end)) }
+    ensures refused { IfErr result (RefusedFrom (Some at) bytes.now) }
+{
+    let restarted = restart_at(rt, alloc, bytes, at, plan, &Open)?;
+    let end = end_after(rt, alloc, bytes, Some(at), &restarted, plan)?;
+    Ok(end)
+}
+
+/// Where the front of a log ends, from the checkpoint on at an offset, if there is one.
+pub(crate) fn end_of<R: Threads + Sync>(
+    rt: &R,
+    alloc: Global,
+    bytes: &[u8],
+    at: Option<u64>,
+    plan: &Plan,
+) -> Result<End, Fault>
+    ensures log { OnOk result (IsLog bytes.now) }
+    ensures end { IfOk result (λ end. (r : fronts.Restarted) × IsRestartFrom at bytes.now r
+        × IsEndOf r (front_end_of end)) }
+    ensures refused { IfErr result (RefusedFrom at bytes.now) }
+{
+    match at {
+        None => whole_end(rt, alloc, bytes, plan),
+        Some(at) => end_at(rt, alloc, bytes, at, plan),
+    }
+}
+
+/// Puts with which checkpoint a log begins that was carried on; of another, nothing.
+pub(crate) fn put_beginning(text: &mut String, at: Option<u64>) -> Result<(), AllocError>
+    ensures { OnOk result (string_bytes text.new ≡ string_bytes text.old ++ beginning_text at) }
+{
+    match at {
+        None => Ok(()),
+        Some(at) => write!(text, "carried: begins with the checkpoint at {at}\n"),
+    }
 }
 
 /// Puts where the front ends, as a line.

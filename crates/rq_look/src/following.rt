@@ -5,8 +5,9 @@ ghost use Rattle.rq_record.specs.declared.fault.Fault.TheVariants.{Resources};
 
 use crate::events::{Effect, Event};
 use crate::frames::Placed;
-use crate::numbered::{Numbered, queues_behind};
-use rq_record::{ElemId, Fault, KeptRecord as Record, QueueNo, UnitNo};
+use crate::numbered::{Numbered, queues_behind, queues_of};
+use rq_record::{ElemId, Fault, KeptRecord, QueueNo, UnitNo};
+use rq_state::{KeptElement, Mark, State};
 use std::alloc::{AllocError, Global};
 use std::cmp::Reverse;
 use std::collections::{BTreeMap, BTreeSet};
@@ -46,8 +47,8 @@ pub(crate) struct Queues {
 }
 
 impl Queues {
-    /// Before the first record.
-    pub(crate) fn new(alloc: Global) -> Queues {
+    // Before the first record.
+    fn new(alloc: Global) -> Queues {
         Queues {
             events: Vec::new(alloc),
             defined: 0,
@@ -55,6 +56,48 @@ impl Queues {
             kept: BTreeMap::new(alloc),
             open: BTreeMap::new(alloc),
         }
+    }
+
+    /// Behind a state. What an open unit put in or took is told by number when it ends.
+    pub(crate) fn of(alloc: Global, state: &State) -> Result<Queues, AllocError> {
+        let mut queues = Queues::new(alloc);
+        queues.defined = queues_of(state.definitions());
+        for definition in state.definitions() {
+            queues.define(alloc, definition.limit, definition.error)?;
+        }
+        queues.take_units(alloc, state.units())?;
+        queues.take_elements(state.elements())?;
+        Ok(queues)
+    }
+
+    fn take_units(&mut self, alloc: Global, units: &[UnitNo]) -> Result<(), AllocError> {
+        for unit in units {
+            self.open.insert(unit.0, Vec::new(alloc))?;
+        }
+        Ok(())
+    }
+
+    fn take_elements(&mut self, elements: &[KeptElement]) -> Result<(), AllocError> {
+        for e in elements {
+            self.take_element(e)?;
+        }
+        Ok(())
+    }
+
+    fn take_element(&mut self, e: &KeptElement) -> Result<(), AllocError> {
+        let element = e.id.0;
+        let kept = Queued {
+            home: e.home.0,
+            priority: e.priority,
+            attempts: e.attempts,
+        };
+        let (unit, fresh) = match e.mark {
+            Mark::Free => return self.release(element, kept),
+            Mark::Fresh(unit) => (unit, true),
+            Mark::Held(unit) => (unit, false),
+        };
+        self.kept.insert(element, kept)?;
+        self.own(unit, Owned { element, fresh })
     }
 
     /// The units that are open, rising.
@@ -193,7 +236,7 @@ impl Queues {
     // Does an operation, and answers what happens.
     fn operate(&mut self, it: &Numbered) -> Result<Option<Event>, AllocError> {
         match &it.record {
-            Record::Enqueue {
+            KeptRecord::Enqueue {
                 unit,
                 queue,
                 priority,
@@ -206,8 +249,8 @@ impl Queues {
                 };
                 Ok(Some(self.put(*unit, it.number, kept)?))
             }
-            Record::Dequeue { unit, queue, .. } => Ok(Some(self.take(*unit, *queue)?)),
-            Record::Kill { queue, element } => Ok(Some(self.kill(*queue, *element))),
+            KeptRecord::Dequeue { unit, queue, .. } => Ok(Some(self.take(*unit, *queue)?)),
+            KeptRecord::Kill { queue, element } => Ok(Some(self.kill(*queue, *element))),
             _ => Ok(None),
         }
     }
@@ -215,12 +258,12 @@ impl Queues {
     // Does a record that is lawful here, and adds what happens.
     fn step(&mut self, alloc: Global, it: &Numbered) -> Result<(), AllocError> {
         match &it.record {
-            Record::Define { limit, error, .. } => self.define(alloc, *limit, *error)?,
-            Record::Begin { unit } => {
+            KeptRecord::Define { limit, error, .. } => self.define(alloc, *limit, *error)?,
+            KeptRecord::Begin { unit } => {
                 self.open.insert(unit.0, Vec::new(alloc))?;
             }
-            Record::Commit { unit } => self.end(unit.0, true)?,
-            Record::Abort { unit } => self.end(unit.0, false)?,
+            KeptRecord::Commit { unit } => self.end(unit.0, true)?,
+            KeptRecord::Abort { unit } => self.end(unit.0, false)?,
             _ => {
                 if let Some(event) = self.operate(it)? {
                     self.events.push(event)?;

@@ -81,6 +81,26 @@ impl<'a> PlacedFrames<'a> {
     }
 }
 
+impl<'a> PlacedFrames<'a> {
+    /// Those from an offset on, in the first `used` bytes; the first record has the number.
+    pub(crate) fn beginning_at(
+        bytes: &'a [u8],
+        offset: u64,
+        number: u64,
+        used: u64,
+    ) -> PlacedFrames<'a> {
+        let rest = match bytes.get(offset as usize..used as usize) {
+            Some(rest) => rest,
+            None => &[],
+        };
+        PlacedFrames {
+            rest,
+            offset,
+            number,
+        }
+    }
+}
+
 impl<'a> Iterator for PlacedFrames<'a> {
     type Item = Placed<'a>;
 

@@ -4,7 +4,7 @@ use crate::bytes::is_plain;
 use crate::ends::End;
 use crate::hidden::is_hidden;
 use crate::numbered::{Numbered, by_of, element_of, kind_of, registrant_of, unit_of};
-use rq_record::{KeptRecord as Record, QueueNo};
+use rq_record::{KeptRecord, QueueNo};
 use rq_report::why_word;
 use serde::Serialize;
 use std::alloc::{AllocError, Global};
@@ -73,9 +73,9 @@ pub(crate) fn queue_number(queue: QueueNo) -> Option<u32> {
     }
 }
 
-fn definition_of(record: &Record) -> (Option<&str>, Option<u16>, Option<u32>) {
+fn definition_of(record: &KeptRecord) -> (Option<&str>, Option<u16>, Option<u32>) {
     match record {
-        Record::Define { limit, error, name } => {
+        KeptRecord::Define { limit, error, name } => {
             (Some(name.text()), Some(*limit), queue_number(*error))
         }
         _ => (None, None, None),
@@ -84,10 +84,10 @@ fn definition_of(record: &Record) -> (Option<&str>, Option<u16>, Option<u32>) {
 
 fn payload_of(
     alloc: Global,
-    record: &Record,
+    record: &KeptRecord,
 ) -> Result<(Option<u8>, Option<PayloadShown<'_>>), AllocError> {
     match record {
-        Record::Enqueue {
+        KeptRecord::Enqueue {
             priority,
             payload,
             ..
@@ -99,9 +99,9 @@ fn payload_of(
     }
 }
 
-fn checkpoint_of(alloc: Global, record: &Record) -> Result<Option<DigitsShown>, AllocError> {
+fn checkpoint_of(alloc: Global, record: &KeptRecord) -> Result<Option<DigitsShown>, AllocError> {
     match record {
-        Record::Checkpoint { bytes } => Ok(Some(DigitsShown {
+        KeptRecord::Checkpoint { bytes } => Ok(Some(DigitsShown {
             hex: hex::encode(alloc, bytes.bytes())?,
         })),
         _ => Ok(None),
@@ -131,9 +131,11 @@ pub(crate) fn record_shown(alloc: Global, it: &Numbered) -> Result<Shown<'_>, Al
     })
 }
 
-/// Where a front ends.
+/// Where a front ends, and where the checkpoint stands that a log begins with which was carried on.
 #[derive(Clone, Copy, Serialize)]
 pub(crate) struct FrontShown<'a> {
+    #[serde(skip_serializing_if = "Option::is_none")]
+    carried_at: Option<u64>,
     records: u64,
     used: u64,
     total: u64,
@@ -150,6 +152,7 @@ pub(crate) struct ClosingShown<'a> {
 /// Where the front ends.
 pub(crate) fn front_of(end: &End) -> FrontShown<'_> {
     FrontShown {
+        carried_at: end.at,
         records: end.records,
         used: end.used,
         total: end.total,

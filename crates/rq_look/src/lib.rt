@@ -1,7 +1,9 @@
 //! What a log holds, shown: its records, its front, its report, its script, whether its checkpoints
-//! are true, what became of an element, and a page of all of it.
+//! are true, what became of an element, and a page of all of it. A log that was carried on is shown
+//! from the checkpoint on that it begins with.
 #![tactic(auto)]
 
+mod beginning;
 mod bytes;
 mod checking;
 mod dumping;
@@ -18,13 +20,13 @@ mod paging;
 mod pieces;
 mod queues;
 mod reporting;
-mod rules;
 mod scripting;
 mod sheet;
 mod telling;
 mod trouble;
 mod wanted;
 
+pub use beginning::begins_at;
 pub use checking::{Findings, check};
 pub use dumping::dump;
 pub use hidden::Seen;

@@ -2,11 +2,11 @@
 
 use crate::bytes::put_bytes;
 use crate::numbered::{Numbered, by_of, kind_of, unit_of};
-use rq_record::{KeptRecord as Record, QueueNo};
+use rq_record::{KeptRecord, QueueNo};
 use std::alloc::{AllocError, Global};
 use std::fmt::Write;
 
-fn put_unit(text: &mut String, record: &Record) -> Result<(), AllocError> {
+fn put_unit(text: &mut String, record: &KeptRecord) -> Result<(), AllocError> {
     if let Some(unit) = unit_of(record) {
         let unit = unit.0;
         write!(text, " unit {unit}")?;
@@ -22,7 +22,7 @@ fn put_queue(text: &mut String, it: &Numbered) -> Result<(), AllocError> {
     Ok(())
 }
 
-fn put_by(text: &mut String, record: &Record) -> Result<(), AllocError> {
+fn put_by(text: &mut String, record: &KeptRecord) -> Result<(), AllocError> {
     match by_of(record) {
         Some(by) => {
             let (name, tag) = (by.name.text(), by.tag);
@@ -51,16 +51,21 @@ fn put_definition(
 fn put_fields(
     alloc: Global,
     text: &mut String,
-    record: &Record,
+    record: &KeptRecord,
     full: bool,
 ) -> Result<(), AllocError> {
     match record {
-        Record::Define { limit, error, name } => put_definition(text, name.text(), *limit, *error),
-        Record::Register { name, .. } | Record::Deregister { name, .. } => {
+        KeptRecord::Define { limit, error, name } => put_definition(
+            text,
+            name.text(),
+            *limit,
+            *error,
+        ),
+        KeptRecord::Register { name, .. } | KeptRecord::Deregister { name, .. } => {
             text.push_str(" name ")?;
             text.push_str(name.text())
         }
-        Record::Enqueue {
+        KeptRecord::Enqueue {
             priority,
             payload,
             ..
@@ -70,12 +75,12 @@ fn put_fields(
             text.push_str(" payload ")?;
             put_bytes(alloc, text, payload.bytes(), full)
         }
-        Record::Dequeue { .. } => put_by(text, record),
-        Record::Kill { element, .. } => {
+        KeptRecord::Dequeue { .. } => put_by(text, record),
+        KeptRecord::Kill { element, .. } => {
             let element = element.0;
             write!(text, " element {element}")
         }
-        Record::Checkpoint { bytes } => {
+        KeptRecord::Checkpoint { bytes } => {
             text.push_str(" bytes ")?;
             put_bytes(alloc, text, bytes.bytes(), full)
         }

@@ -8,7 +8,8 @@ ghost use Rattle.rq_record.specs.declared.fault.Fault.TheVariants.{Resources};
 ghost use Rattle.rq_look.specs.Scripts.{by_in};
 
 use crate::frames::Placed;
-use rq_record::{By, ElemId, Fault, KeptRecord as Record, QueueNo, UnitNo, Version, decode_kept};
+use rq_record::{By, ElemId, Fault, KeptRecord, QueueNo, UnitNo, Version, decode_kept};
+use rq_state::Definition;
 use std::alloc::Global;
 
 /// A record of the front, with the offset of its frame, its number, and how many queues are defined
@@ -18,7 +19,7 @@ pub(crate) struct Numbered {
     pub(crate) offset: u64,
     pub(crate) number: u64,
     pub(crate) queues: u32,
-    pub(crate) record: Record,
+    pub(crate) record: KeptRecord,
 }
 
 impl Numbered {
@@ -44,12 +45,12 @@ impl Numbered {
     /// The queue that it defines or names.
     pub(crate) fn queue(&self) -> Option<QueueNo> {
         match &self.record {
-            Record::Define { .. } => Some(QueueNo(self.queues)),
-            Record::Register { queue, .. }
-            | Record::Deregister { queue, .. }
-            | Record::Enqueue { queue, .. }
-            | Record::Dequeue { queue, .. }
-            | Record::Kill { queue, .. } => Some(*queue),
+            KeptRecord::Define { .. } => Some(QueueNo(self.queues)),
+            KeptRecord::Register { queue, .. }
+            | KeptRecord::Deregister { queue, .. }
+            | KeptRecord::Enqueue { queue, .. }
+            | KeptRecord::Dequeue { queue, .. }
+            | KeptRecord::Kill { queue, .. } => Some(*queue),
             _ => None,
         }
     }
@@ -63,33 +64,40 @@ pub(crate) fn queues_behind(queues: u32, body: &[u8]) -> u32 {
     }
 }
 
+/// How many queues these define.
+pub(crate) fn queues_of(definitions: &[Definition]) -> u32 {
+    u32::try_from(definitions.len()).unwrap_or(u32::MAX)
+}
+
 /// The unit that a record names.
-pub(crate) fn unit_of(record: &Record) -> Option<UnitNo> {
+pub(crate) fn unit_of(record: &KeptRecord) -> Option<UnitNo> {
     match record {
-        Record::Begin { unit }
-        | Record::Commit { unit }
-        | Record::Abort { unit }
-        | Record::Enqueue { unit, .. }
-        | Record::Dequeue { unit, .. } => Some(*unit),
+        KeptRecord::Begin { unit }
+        | KeptRecord::Commit { unit }
+        | KeptRecord::Abort { unit }
+        | KeptRecord::Enqueue { unit, .. }
+        | KeptRecord::Dequeue { unit, .. } => Some(*unit),
         _ => None,
     }
 }
 
 /// The registrant that an operation names.
-pub(crate) fn by_of(r: &Record) -> Option<By>
+pub(crate) fn by_of(r: &KeptRecord) -> Option<By>
     ensures { result ≡ by_in (record_of r.now) }
 {
     match r {
-        Record::Enqueue { by, .. } | Record::Dequeue { by, .. } => by.by(),
+        KeptRecord::Enqueue { by, .. } | KeptRecord::Dequeue { by, .. } => by.by(),
         _ => None,
     }
 }
 
 /// The registrant that a record names.
-pub(crate) fn registrant_of(record: &Record) -> Option<&str> {
+pub(crate) fn registrant_of(record: &KeptRecord) -> Option<&str> {
     match record {
-        Record::Register { name, .. } | Record::Deregister { name, .. } => Some(name.text()),
-        Record::Enqueue { by, .. } | Record::Dequeue { by, .. } => match by.name() {
+        KeptRecord::Register { name, .. } | KeptRecord::Deregister { name, .. } => Some(
+            name.text(),
+        ),
+        KeptRecord::Enqueue { by, .. } | KeptRecord::Dequeue { by, .. } => match by.name() {
             Some(name) => Some(name.text()),
             None => None,
         },
@@ -98,25 +106,25 @@ pub(crate) fn registrant_of(record: &Record) -> Option<&str> {
 }
 
 /// The element that a record kills.
-pub(crate) fn element_of(record: &Record) -> Option<ElemId> {
+pub(crate) fn element_of(record: &KeptRecord) -> Option<ElemId> {
     match record {
-        Record::Kill { element, .. } => Some(*element),
+        KeptRecord::Kill { element, .. } => Some(*element),
         _ => None,
     }
 }
 
 /// The word for a kind of record.
-pub(crate) fn kind_of(record: &Record) -> &'static str {
+pub(crate) fn kind_of(record: &KeptRecord) -> &'static str {
     match record {
-        Record::Define { .. } => "define",
-        Record::Register { .. } => "register",
-        Record::Deregister { .. } => "deregister",
-        Record::Begin { .. } => "begin",
-        Record::Enqueue { .. } => "enqueue",
-        Record::Dequeue { .. } => "dequeue",
-        Record::Commit { .. } => "commit",
-        Record::Abort { .. } => "abort",
-        Record::Checkpoint { .. } => "checkpoint",
-        Record::Kill { .. } => "kill",
+        KeptRecord::Define { .. } => "define",
+        KeptRecord::Register { .. } => "register",
+        KeptRecord::Deregister { .. } => "deregister",
+        KeptRecord::Begin { .. } => "begin",
+        KeptRecord::Enqueue { .. } => "enqueue",
+        KeptRecord::Dequeue { .. } => "dequeue",
+        KeptRecord::Commit { .. } => "commit",
+        KeptRecord::Abort { .. } => "abort",
+        KeptRecord::Checkpoint { .. } => "checkpoint",
+        KeptRecord::Kill { .. } => "kill",
     }
 }

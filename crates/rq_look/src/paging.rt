@@ -3,7 +3,7 @@
 ghost use Rattle.std.specs.Prelude.{ℕ, ◌++◌, ◌⊎◌, List, IfErr, OnOk};
 ghost use Rattle.std.specs.Io.KnownBytes.{Appends};
 ghost use Rattle.rq_front.specs.Chains.{IsLog};
-ghost use Rattle.rq_look.specs.Looks.{IsBroken, IsRefusal, StaysUnshown};
+ghost use Rattle.rq_look.specs.Looks.{IsBroken, IsRefusal, RefusedFrom, StaysUnshown};
 ghost use Rattle.rq_look.specs.Markup.{page_foot};
 
 mod courses;
@@ -22,9 +22,10 @@ use crate::paging::summaries::put_summary;
 use crate::paging::surveys::{Survey, surveyed};
 use crate::paging::tables::put_queues;
 use crate::paging::units::put_units;
+use crate::reporting::restarted_from;
 use crate::sheet::finish;
 use crate::trouble::Trouble;
-use rq_restart::{Open, Plan, Restarted, audit, restart};
+use rq_restart::{Fault, Plan, Restarted, audit, audit_at};
 use std::alloc::Global;
 use std::io::Write;
 use std::thread::Threads;
@@ -38,19 +39,36 @@ struct Contents {
     seen: Survey,
 }
 
+// Which checkpoints are true, from the one on at an offset, if there is one.
+fn audited_from<R: Threads + Sync>(
+    rt: &R,
+    alloc: Global,
+    bytes: &[u8],
+    at: Option<u64>,
+    plan: &Plan,
+) -> Result<Vec<(u64, bool)>, Fault>
+    ensures { IfErr result (RefusedFrom at bytes.now) }
+{
+    match at {
+        None => audit(rt, alloc, bytes, plan),
+        Some(at) => audit_at(rt, alloc, bytes, at, plan),
+    }
+}
+
 fn contents_of<R: Threads + Sync>(
     rt: &R,
     alloc: Global,
     bytes: &[u8],
+    at: Option<u64>,
     plan: &Plan,
 ) -> Result<Contents, Trouble>
     ensures log { OnOk result (IsLog bytes.now) }
     ensures refused { IfErr result
-        (λ e. (IsLog bytes.now × IsBroken e) ⊎ IsRefusal bytes.now e) }
+        (λ e. (IsLog bytes.now × IsBroken e) ⊎ IsRefusal at bytes.now e) }
 {
-    let restarted = restart(rt, alloc, bytes, plan, &Open)?;
-    let end = end_after(rt, alloc, bytes, &restarted, plan)?;
-    let checkpoints = audit(rt, alloc, bytes, plan)?;
+    let restarted = restarted_from(rt, alloc, bytes, at, plan)?;
+    let end = end_after(rt, alloc, bytes, at, &restarted, plan)?;
+    let checkpoints = audited_from(rt, alloc, bytes, at, plan)?;
     let seen = surveyed(alloc, bytes, &end, restarted.state())?;
     Ok(Contents {
         restarted,
@@ -86,14 +104,17 @@ fn put_page<W: Write>(
 /// Writes a log under a name as one page of HTML: its front, a picture of the log along its length,
 /// the units that were open at the front's end, and each queue with its depth along the log and its
 /// elements. The page has no parts outside and no script. Its pictures have bins: it grows with the
-/// queues, their registrants and the first 1,000 elements of each, and not with the records.
+/// queues, their registrants and the first 1,000 elements of each, and not with the records. Of a
+/// log that begins with the checkpoint at an offset it shows what comes from there on.
 ///
-/// Refuses what a restart refuses, and before anything is written; else with `Output` where the
+/// Refuses what a restart refuses, from there if there is an offset, and before anything is written;
+/// else with `Output` where the
 /// output fails, and with `Resources` where memory is refused, and then some of it may be written.
 pub fn page<R, W>(
     rt: &R,
     alloc: Global,
     bytes: &[u8],
+    at: Option<u64>,
     plan: &Plan,
     name: &str,
     output: &mut W,
@@ -105,8 +126,8 @@ where
     ensures whole { OnOk result ((put : List ℕ)
         × Appends (W.contents output.old) (W.contents output.new) (put ++ page_foot)) }
     ensures refused { IfErr result
-        (StaysUnshown bytes.now (W.contents output.old) (W.contents output.new)) }
+        (StaysUnshown at bytes.now (W.contents output.old) (W.contents output.new)) }
 {
-    let contents = contents_of(rt, alloc, bytes, plan)?;
+    let contents = contents_of(rt, alloc, bytes, at, plan)?;
     put_page(alloc, &contents, name, output)
 }

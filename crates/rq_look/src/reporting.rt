@@ -2,23 +2,22 @@
 
 ghost use Rattle.std.specs.Prelude.{◌≡◌, ◌++◌, ℕ, List, codes, IfOk, IfErr, OnOk, string_bytes};
 ghost use Rattle.std.specs.Io.KnownBytes.{Appends};
-ghost use Rattle.rq_model.specs.Fronts.{IsRestart};
 ghost use Rattle.rq_model.specs.Reports.{IsText};
 ghost use Rattle.rq_record.specs.declared.fault.Fault.TheVariants.{Resources};
 ghost use Rattle.rq_front.specs.Chains.{IsLog};
-ghost use Rattle.rq_look.specs.Looks.{HasQueue, HasWanted, LacksReport, PutsReport};
-ghost use Rattle.rq_look.specs.Looks.{StaysUnreported};
+ghost use Rattle.rq_look.specs.Looks.{HasQueue, HasWanted, IsRestartFrom, LacksReport};
+ghost use Rattle.rq_look.specs.Looks.{PutsReport, RefusedFrom, StaysUnreported, beginning_text};
 ghost use Rattle.rq_look.specs.declared.trouble.Trouble.TheVariants.{Log};
 
-use crate::ends::{End, end_after};
+use crate::ends::{End, end_after, put_beginning};
 use crate::json::{FrontShown, front_of, spelled_out};
 use crate::queues::{QueueShown, queues_shown};
 use crate::trouble::Trouble;
 use rq_report::{OverWrite, write_report_by};
-use rq_restart::{Fault, Open, Plan, Restarted, restart};
+use rq_restart::{Fault, Open, Plan, Restarted, restart, restart_at};
 use serde::Serialize;
 use std::alloc::{AllocError, Global};
-use std::io::Write;
+use std::io::{self, Write};
 use std::thread::Threads;
 
 #[derive(Clone, Copy, Serialize)]
@@ -52,19 +51,38 @@ fn report_shown<'a>(
     })
 }
 
-// The restart of a log that has the queue, if one is wanted.
+/// The restart of a log, from the checkpoint on at an offset, if there is one.
+pub(crate) fn restarted_from<R: Threads + Sync>(
+    rt: &R,
+    alloc: Global,
+    bytes: &[u8],
+    at: Option<u64>,
+    plan: &Plan,
+) -> Result<Restarted, Fault>
+    ensures log { OnOk result (IsLog bytes.now) }
+    ensures restart { IfOk result (λ r. IsRestartFrom at bytes.now r) }
+    ensures refused { IfErr result (RefusedFrom at bytes.now) }
+{
+    match at {
+        None => restart(rt, alloc, bytes, plan, &Open),
+        Some(at) => restart_at(rt, alloc, bytes, at, plan, &Open),
+    }
+}
+
+// The same of a log that has the queue, if one is wanted.
 fn restarted_with<R: Threads + Sync>(
     rt: &R,
     alloc: Global,
     bytes: &[u8],
+    at: Option<u64>,
     plan: &Plan,
     wanted: Option<u32>,
 ) -> Result<Restarted, Trouble>
     ensures log { OnOk result (IsLog bytes.now) }
-    ensures restart { IfOk result (λ r. IsRestart bytes.now r × HasQueue r wanted) }
-    ensures refused { IfErr result (LacksReport bytes.now wanted) }
+    ensures restart { IfOk result (λ r. IsRestartFrom at bytes.now r × HasQueue r wanted) }
+    ensures refused { IfErr result (LacksReport at bytes.now wanted) }
 {
-    let restarted = restart(rt, alloc, bytes, plan, &Open)?;
+    let restarted = restarted_from(rt, alloc, bytes, at, plan)?;
     match wanted {
         Some(queue) if queue as usize >= restarted.state().definitions().len() => {
             Err(Trouble::NoQueue(queue))
@@ -91,15 +109,17 @@ fn json_of(
 }
 
 /// Writes the report of a log as one value of JSON, with all of its queues or the one that is
-/// wanted.
+/// wanted; from the checkpoint on at an offset, if there is one, and then its front says so.
 ///
-/// Refuses with `NoQueue` a queue that is not defined, and else what a restart refuses; with
+/// Refuses with `NoQueue` a queue that is not defined, and else what this restart refuses; with
 /// `Resources` where memory is refused, before anything is written, and with `Output` where the
 /// output fails.
+#[tactic(auto, using(crate::proofs::Puts::resources_refused))]
 pub fn report_json<R, W>(
     rt: &R,
     alloc: Global,
     bytes: &[u8],
+    at: Option<u64>,
     plan: &Plan,
     wanted: Option<u32>,
     output: &mut W,
@@ -107,14 +127,14 @@ pub fn report_json<R, W>(
 where
     R: Threads + Sync,
     W: Write,
-    ensures log { OnOk result (HasWanted bytes.now wanted) }
+    ensures log { OnOk result (HasWanted at bytes.now wanted) }
     ensures line { OnOk result ((text : List ℕ)
         × Appends (W.contents output.old) (W.contents output.new) (text ++ codes "\n")) }
     ensures refused { IfErr result
-        (StaysUnreported bytes.now wanted (W.contents output.old) (W.contents output.new)) }
+        (StaysUnreported at bytes.now wanted (W.contents output.old) (W.contents output.new)) }
 {
-    let restarted = restarted_with(rt, alloc, bytes, plan, wanted)?;
-    let end = end_after(rt, alloc, bytes, &restarted, plan)?;
+    let restarted = restarted_with(rt, alloc, bytes, at, plan, wanted)?;
+    let end = end_after(rt, alloc, bytes, at, &restarted, plan)?;
     let text = json_of(alloc, &restarted, &end, wanted)?;
     output.write_all(text.as_bytes())?;
     Ok(())
@@ -160,13 +180,36 @@ fn lines_of(text: &[u8], queue: u32) -> &[u8] {
     }
 }
 
-/// Writes the report of a log as text, or those lines of it that are of the queue that is wanted.
+// The line that says with which checkpoint the log begins, if it was carried on.
+fn beginning_of(alloc: Global, at: Option<u64>) -> Result<String, AllocError>
+    ensures { IfOk result (λ text. string_bytes text ≡ beginning_text at) }
+{
+    let mut text = String::new(alloc);
+    put_beginning(&mut text, at)?;
+    Ok(text)
+}
+
+// Writes one text behind the other.
+fn put_both<W: Write>(first: &[u8], second: &[u8], output: &mut W) -> io::Result<()>
+    ensures { OnOk result
+        (Appends (W.contents output.old) (W.contents output.new) (first.now ++ second.now)) }
+{
+    output.write_all(first)?;
+    output.write_all(second)?;
+    Ok(())
+}
+
+/// Writes the report of a log as text, or those lines of it that are of the queue that is wanted; from
+/// the checkpoint on at an offset, if there is one, and then a first line says so, unless a queue is
+/// wanted.
 ///
 /// Refuses what `report_json` refuses, in the same way.
+#[tactic(auto, using(crate::proofs::Puts::resources_refused, crate::proofs::Puts::report_from))]
 pub fn report<R, W>(
     rt: &R,
     alloc: Global,
     bytes: &[u8],
+    at: Option<u64>,
     plan: &Plan,
     wanted: Option<u32>,
     output: &mut W,
@@ -175,15 +218,16 @@ where
     R: Threads + Sync,
     W: Write,
     ensures report { OnOk result
-        (PutsReport bytes.now wanted (W.contents output.old) (W.contents output.new)) }
+        (PutsReport at bytes.now wanted (W.contents output.old) (W.contents output.new)) }
     ensures refused { IfErr result
-        (StaysUnreported bytes.now wanted (W.contents output.old) (W.contents output.new)) }
+        (StaysUnreported at bytes.now wanted (W.contents output.old) (W.contents output.new)) }
 {
-    let restarted = restarted_with(rt, alloc, bytes, plan, wanted)?;
+    let restarted = restarted_with(rt, alloc, bytes, at, plan, wanted)?;
     let text = text_of(rt, alloc, &restarted, plan)?;
+    let beginning = beginning_of(alloc, at)?;
     match wanted {
         Some(queue) => output.write_all(lines_of(&text, queue))?,
-        None => output.write_all(&text)?,
+        None => put_both(beginning.as_bytes(), &text, output)?,
     }
     Ok(())
 }

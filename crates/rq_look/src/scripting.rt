@@ -17,12 +17,12 @@ ghost use Rattle.rq_look.specs.Looks.{BreaksOff, IsKnownWhole, StaysUntold};
 ghost use Rattle.rq_look.specs.Scripts.{IsDash, LeavesBody, LeavesOut, PutsScript, by_in};
 ghost use Rattle.rq_look.specs.Scripts.{script_line};
 
-use crate::ends::{end_of, is_whole};
+use crate::ends::{is_whole, whole_end};
 use crate::frames::{Placed, PlacedFrames};
 use crate::numbered::{Numbered, by_of};
 use crate::sheet::{finish, relieve};
 use crate::trouble::Trouble;
-use rq_record::{KeptBy, KeptName, KeptRecord as Record, QueueNo, UnitNo};
+use rq_record::{KeptBy, KeptName, KeptRecord, QueueNo, UnitNo};
 use rq_restart::Plan;
 use std::alloc::{AllocError, Global};
 use std::thread::Threads;
@@ -158,20 +158,20 @@ fn put_checkpoint(alloc: Global, text: &mut String, bytes: &[u8]) -> Result<(), 
 }
 
 // Puts a record, but for the end of its line.
-fn put_record(alloc: Global, text: &mut String, r: &Record) -> Result<(), AllocError>
+fn put_record(alloc: Global, text: &mut String, r: &KeptRecord) -> Result<(), AllocError>
     ensures text { OnOk result
         (string_bytes text.new ≡ string_bytes text.old ++ record_text (record_of r.now)) }
     ensures tellable { OnOk result
         (IsNamed (by_in (record_of r.now)) → IsTellable (record_of r.now)) }
 {
     match r {
-        Record::Define { limit, error, name } => put_definition(text, name, *limit, *error),
-        Record::Register { queue, name } => put_named(text, "register ", *queue, name),
-        Record::Deregister { queue, name } => put_named(text, "deregister ", *queue, name),
-        Record::Begin { unit } => put_unit(text, "begin ", *unit),
-        Record::Commit { unit } => put_unit(text, "commit ", *unit),
-        Record::Abort { unit } => put_unit(text, "abort ", *unit),
-        Record::Enqueue {
+        KeptRecord::Define { limit, error, name } => put_definition(text, name, *limit, *error),
+        KeptRecord::Register { queue, name } => put_named(text, "register ", *queue, name),
+        KeptRecord::Deregister { queue, name } => put_named(text, "deregister ", *queue, name),
+        KeptRecord::Begin { unit } => put_unit(text, "begin ", *unit),
+        KeptRecord::Commit { unit } => put_unit(text, "commit ", *unit),
+        KeptRecord::Abort { unit } => put_unit(text, "abort ", *unit),
+        KeptRecord::Enqueue {
             unit,
             queue,
             priority,
@@ -181,12 +181,12 @@ fn put_record(alloc: Global, text: &mut String, r: &Record) -> Result<(), AllocE
             put_unit_and_queue(text, "enqueue ", *unit, *queue)?;
             put_element(alloc, text, *priority, by, payload.bytes())
         }
-        Record::Dequeue { unit, queue, by } => {
+        KeptRecord::Dequeue { unit, queue, by } => {
             put_unit_and_queue(text, "dequeue ", *unit, *queue)?;
             put_who(text, by)
         }
-        Record::Checkpoint { bytes } => put_checkpoint(alloc, text, bytes.bytes()),
-        Record::Kill { queue, element } => {
+        KeptRecord::Checkpoint { bytes } => put_checkpoint(alloc, text, bytes.bytes()),
+        KeptRecord::Kill { queue, element } => {
             let (queue, element) = (queue.0, element.0);
             write!(text, "kill {queue} {element}")
         }
@@ -194,7 +194,7 @@ fn put_record(alloc: Global, text: &mut String, r: &Record) -> Result<(), AllocE
 }
 
 // Whether the operation names the registrant whom a script takes for nobody.
-fn is_untold(r: &Record) -> bool
+fn is_untold(r: &KeptRecord) -> bool
     ensures dash { result ≡ true → IsDash (by_in (record_of r.now)) }
     ensures named { result ≡ false → IsNamed (by_in (record_of r.now)) }
 {
@@ -204,7 +204,7 @@ fn is_untold(r: &Record) -> bool
     }
 }
 
-fn put_line(alloc: Global, text: &mut String, r: &Record) -> Result<(), AllocError>
+fn put_line(alloc: Global, text: &mut String, r: &KeptRecord) -> Result<(), AllocError>
     ensures line { OnOk result
         (string_bytes text.new ≡ string_bytes text.old ++ script_line (record_of r.now)) }
     ensures tellable { OnOk result
@@ -284,7 +284,7 @@ where
     ensures refused { IfErr result
         (StaysUntold bytes.now (W.contents output.old) (W.contents output.new)) }
 {
-    let end = end_of(rt, alloc, bytes, plan)?;
+    let end = whole_end(rt, alloc, bytes, plan)?;
     put_records(alloc, bytes, end.used, output)?;
     Ok(is_whole(end.why))
 }

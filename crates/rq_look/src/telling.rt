@@ -6,7 +6,8 @@ ghost use Rattle.rq_record.specs.declared.fault.Fault.TheVariants.{Resources};
 ghost use Rattle.rq_front.specs.Chains.{IsLog};
 ghost use Rattle.rq_look.specs.Looks.{IsBroken, LacksStory, StaysWithoutStory};
 
-use crate::ends::{End, end_of, put_end};
+use crate::beginning::{first_state, frames_behind};
+use crate::ends::{End, end_of, put_beginning, put_end};
 use crate::events::Event;
 use crate::following::Queues;
 use crate::frames::{Placed, PlacedFrames};
@@ -126,11 +127,12 @@ fn tell_record<W: io::Write>(
     Ok(count)
 }
 
-// Tells of each record of the front, and answers the queues behind it, if anything was told.
+// Tells of each record of the front, which begins behind these queues, and answers the queues behind
+// it, if anything was told.
 fn tell_front<W: io::Write>(
     alloc: Global,
-    bytes: &[u8],
-    used: u64,
+    frames: PlacedFrames<'_>,
+    machine: Queues,
     subject: Subject,
     text: &mut String,
     output: &mut W,
@@ -142,9 +144,8 @@ fn tell_front<W: io::Write>(
         → W.contents output.new ≡ W.contents output.old) }
     ensures refused { IfErr result IsBroken }
 {
-    let mut machine = Queues::new(alloc);
-    let mut told = 0u64;
-    for placed in PlacedFrames::of(bytes, used) {
+    let (mut machine, mut told) = (machine, 0u64);
+    for placed in frames {
         let count = tell_record(alloc, placed, subject, &mut machine, text, output)?;
         told = told.saturating_add(count);
     }
@@ -200,10 +201,14 @@ fn tell<W: io::Write>(
     ensures refused { IfErr result
         (LacksStory subject (W.contents output.old) (W.contents output.new)) }
 {
+    let first = first_state(alloc, bytes, end.at)?;
+    let frames = frames_behind(bytes, &first, end.at, end.used);
+    let before = Queues::of(alloc, &first)?;
     let mut text = String::new(alloc);
-    let Some(machine) = tell_front(alloc, bytes, end.used, subject, &mut text, output)? else {
+    let Some(machine) = tell_front(alloc, frames, before, subject, &mut text, output)? else {
         return Err(Trouble::Nothing(subject));
     };
+    put_beginning(&mut text, end.at)?;
     put_end(&mut text, end)?;
     tell_restart(alloc, &mut text, machine, subject)?;
     finish(&mut text, output)?;
@@ -211,7 +216,8 @@ fn tell<W: io::Write>(
 }
 
 /// Writes what became of an element, or what a unit did: a line for each record of the front that
-/// has to do with it, where the front ends, and what the restart's aborts do to it.
+/// has to do with it, where the front ends, and what the restart's aborts do to it. The front begins
+/// with the checkpoint at the offset, if there is one, and then a line says so.
 ///
 /// Refuses with `Nothing` a subject of which there is nothing to tell, and then nothing is written;
 /// else as `dump` does.
@@ -219,6 +225,7 @@ pub fn story<R, W>(
     rt: &R,
     alloc: Global,
     bytes: &[u8],
+    at: Option<u64>,
     plan: &Plan,
     subject: Subject,
     output: &mut W,
@@ -229,9 +236,9 @@ where
     ensures log { OnOk result (IsLog bytes.now) }
     ensures only { OnOk result
         ((put : List ℕ) × Appends (W.contents output.old) (W.contents output.new) put) }
-    ensures refused { IfErr result (StaysWithoutStory bytes.now subject
+    ensures refused { IfErr result (StaysWithoutStory at bytes.now subject
         (W.contents output.old) (W.contents output.new)) }
 {
-    let end = end_of(rt, alloc, bytes, plan)?;
+    let end = end_of(rt, alloc, bytes, at, plan)?;
     tell(alloc, bytes, &end, subject, output)
 }

@@ -1,5 +1,8 @@
-use rq_look::{Plan, Subject, Wanted, check, dump, page, report, report_json, script, story};
+use rq_look::{
+    Plan, Subject, Wanted, begins_at, check, dump, page, report, report_json, script, story,
+};
 use rq_writer::make;
+use std::alloc::Global;
 use std::test::Fail;
 use std::thread::Threads;
 
@@ -20,6 +23,19 @@ const REPORT: &[u8] = b"queue 0 jobs limit 0 error -\ne 2 from 0 priority 5 atte
 
 const JSON_END: &[u8] = b"      \"registrants\": []\n    }\n  ]\n}\n";
 
+// A log with a checkpoint at 192, while a unit is open.
+const MARKED: &[u8] = b"define jobs 0 -\nbegin 1\nenqueue 1 0 5 - 0 61\ncheckpoint\ncommit 1\n";
+
+// What stands behind the header of a log that was carried on.
+const GAP: &[u8] = b"\xff\xff\xff\xffrq carried log at 96";
+
+const CARRIED_STORY: &[u8] = b"241 4 commit unit 1: element 2 is free in queue 0\n\
+    carried: begins with the checkpoint at 96\n\
+    front ends behind 5 records, at 286 of 286 bytes, whole: nothing follows\n";
+
+const CARRIED_FINDINGS: &[u8] = b"carried: use rqlog\n\
+    front ends behind 5 records, at 286 of 286 bytes, whole: nothing follows\n";
+
 // All records, a line each.
 const ALL: Wanted<'static> = Wanted {
     from: 0,
@@ -34,25 +50,33 @@ const ALL: Wanted<'static> = Wanted {
 
 fn dumps<R: Threads + Sync + AllocGlobal>(rt: &R, log: &[u8], plan: &Plan) -> bool {
     let mut shown = Vec::new(rt.alloc());
-    let done = dump(rt, rt.alloc(), log, plan, &ALL, &mut shown);
+    let done = dump(rt, rt.alloc(), log, None, plan, &ALL, &mut shown);
     done.is_ok() && shown.as_slice() == DUMP
 }
 
 fn tells<R: Threads + Sync + AllocGlobal>(rt: &R, log: &[u8], plan: &Plan) -> bool {
     let mut shown = Vec::new(rt.alloc());
-    let done = story(rt, rt.alloc(), log, plan, Subject::Element(2), &mut shown);
+    let done = story(
+        rt,
+        rt.alloc(),
+        log,
+        None,
+        plan,
+        Subject::Element(2),
+        &mut shown,
+    );
     done.is_ok() && shown.as_slice() == STORY
 }
 
 fn reports<R: Threads + Sync + AllocGlobal>(rt: &R, log: &[u8], plan: &Plan) -> bool {
     let mut shown = Vec::new(rt.alloc());
-    let done = report(rt, rt.alloc(), log, plan, Some(0), &mut shown);
+    let done = report(rt, rt.alloc(), log, None, plan, Some(0), &mut shown);
     done.is_ok() && shown.as_slice() == REPORT
 }
 
 fn reports_json<R: Threads + Sync + AllocGlobal>(rt: &R, log: &[u8], plan: &Plan) -> bool {
     let mut shown = Vec::new(rt.alloc());
-    let done = report_json(rt, rt.alloc(), log, plan, Some(0), &mut shown);
+    let done = report_json(rt, rt.alloc(), log, None, plan, Some(0), &mut shown);
     done.is_ok() && shown.ends_with(JSON_END)
 }
 
@@ -64,13 +88,43 @@ fn scripts<R: Threads + Sync + AllocGlobal>(rt: &R, log: &[u8], plan: &Plan) -> 
 
 fn makes_a_page<R: Threads + Sync + AllocGlobal>(rt: &R, log: &[u8], plan: &Plan) -> bool {
     let mut shown = Vec::new(rt.alloc());
-    let done = page(rt, rt.alloc(), log, plan, "a.log", &mut shown);
+    let done = page(rt, rt.alloc(), log, None, plan, "a.log", &mut shown);
     done.is_ok() && shown.starts_with(b"<!DOCTYPE html>\n") && shown.ends_with(b"</html>\n")
 }
 
 fn finds_nothing<R: Threads + Sync + AllocGlobal>(rt: &R, log: &[u8], plan: &Plan) -> bool {
-    match check(rt, rt.alloc(), log, plan) {
+    match check(rt, rt.alloc(), log, None, plan) {
         Ok(found) => found.fine && found.text.is_empty(),
+        Err(_) => false,
+    }
+}
+
+// The log from its checkpoint on, in a file of its own.
+fn carried(alloc: Global, log: &[u8]) -> Result<Vec<u8>, Fail> {
+    let mut file = Vec::new(alloc);
+    file.extend_from_slice(log.get(..40).ok_or("header")?)?;
+    file.extend_from_slice(GAP)?;
+    file.extend_from_slice(log.get(160..).ok_or("checkpoint")?)?;
+    Ok(file)
+}
+
+fn tells_carried<R: Threads + Sync + AllocGlobal>(rt: &R, log: &[u8], plan: &Plan) -> bool {
+    let (at, mut shown) = (begins_at(log), Vec::new(rt.alloc()));
+    let done = story(
+        rt,
+        rt.alloc(),
+        log,
+        at,
+        plan,
+        Subject::Element(2),
+        &mut shown,
+    );
+    done.is_ok() && shown.as_slice() == CARRIED_STORY
+}
+
+fn finds_it_carried<R: Threads + Sync + AllocGlobal>(rt: &R, log: &[u8], plan: &Plan) -> bool {
+    match check(rt, rt.alloc(), log, begins_at(log), plan) {
+        Ok(found) => !found.fine && found.text.as_bytes() == CARRIED_FINDINGS,
         Err(_) => false,
     }
 }
@@ -86,5 +140,14 @@ fn a_log_is_shown_by_each_call(rt: HostRuntime) -> Result<(), Fail> {
     assert!(rt; scripts(&rt, &log, &plan), "script");
     assert!(rt; makes_a_page(&rt, &log, &plan), "page");
     assert!(rt; finds_nothing(&rt, &log, &plan), "check");
+    let carried = carried(rt.alloc(), &make(&rt, rt.alloc(), MARKED, &plan)?)?;
+    assert!(rt;
+        tells_carried(&rt, &carried, &plan),
+        "story of a log that was carried on"
+    );
+    assert!(rt;
+        finds_it_carried(&rt, &carried, &plan),
+        "check of a log that was carried on"
+    );
     Ok(())
 }

@@ -1,4 +1,4 @@
--- What restarts answer accounts for the front.
+-- Restarts account for the front.
 use Rattle.std.proofs.Common.{◌≡◌, ℕ, ◌<◌, ◌≤◌, ◌^◌, true, List, [], ◌∷◌, ◌++◌, length, map, Option}
 use Rattle.std.proofs.Common.{◌+◌, None, sym}
 use Rattle.std.proofs.Common.{ap, ◌∙◌, subst, arith, length-append}
@@ -116,7 +116,7 @@ checkpoint_accounts b offset version rs rest r front true_here at =
 
 -- Lines.
 
--- an ENQUEUE is none of the ABORTs
+-- an ENQUEUE is not one of the ABORTs
 in_front : (rs before after : List Record) (us : List ℕ) (unit queue priority : ℕ) (by : Option By) (payload : List ℕ)
     → rs ++ map Abort us ≡ before ++ Enqueue unit queue priority by payload ∷ after → length before < length rs
 in_front [] [] after [] unit queue priority by payload e = absurd (omega (arith, ap length e))

@@ -1,4 +1,4 @@
--- Elements of distinct ids, and one more put in.
+-- Elements with distinct ids, and one more put in.
 use Rattle.std.proofs.Common.{◌≢◌, Bool, cond, not, List, [], ◌∷◌, ◌++◌, sym}
 use Rattle.std.specs.List.{filter, AllByRecursion}
 use Rattle.rq_model.specs.States.{Element, put, id_before}
@@ -11,7 +11,7 @@ use Rattle.rq_model.proofs.Lists.{by_cases, each_weaker}
 abbrev pub Apart : List Element → Type 0
 Apart es = Ordered (λ a b. a.id ≢ b.id) es
 
--- what holds of both halves holds of all
+-- what holds for both halves holds for all
 each_half : (P : Element → Type 0) (p : Element → Bool) (xs : List Element)
     → AllByRecursion P (filter p xs ++ filter (λ y. not (p y)) xs) → AllByRecursion P xs
 each_half P p [] h = tt
@@ -53,7 +53,7 @@ apart_halves p (x ∷ xs) h = by_cases (p x)
       apart_halves p xs out.1,
     )) h
 
--- where all ids differ after one was put in, its id was new
+-- if all ids differ after one was put in, its id was new
 put_apart : (e : Element) (es : List Element) → Apart (put id_before e es)
     → AllByRecursion (λ z. z.id ≢ e.id) es × Apart es
 put_apart e es h =

@@ -1,4 +1,4 @@
--- Records behind a front, and what a crash leaves of them.
+-- Records after a front, and what a crash leaves of them.
 use Rattle.std.proofs.Common.{◌≡◌, ℕ, ◌≤◌, List, [], ◌∷◌, ◌++◌, length, take, drop, refl, sym, ap}
 use Rattle.std.proofs.Common.{subst, ◌∙◌, append_assoc, arith}
 use Rattle.std.specs.List.{AllByRecursion}
@@ -89,7 +89,7 @@ appended_is_front b version records rest xs front new short =
     own_front version (records ++ xs)
     (both_follow version empty records xs (front_follows b version records rest front) new) short
 
--- of two lists that begin the same bytes the longer begins with the shorter
+-- if two lists begin the same bytes, the longer begins with the shorter
 pub longer_begins : (version : Version) (p x y : List ℕ) (rs found : List Record) → AllByRecursion (IsRecord version) rs
     → AllByRecursion (IsRecord version) found → length rs ≤ length found
     → frames_of p rs ++ x ≡ frames_of p found ++ y → (others : List Record) × (found ≡ rs ++ others)

@@ -23,8 +23,8 @@ use Rattle.rq_model.specs.FateLaws.{OneFate, OneRequest, AllAreFree, RunsEnd}
 use Rattle.rq_model.specs.Fates.{with_aborts, done, kills}
 use Rattle.rq_model.proofs.Closed.{are_ended}
 
--- What a mark is worth, where c says which units will commit: a Fresh one is yet to come, a Held one
--- is done already.
+-- What a mark is worth if c says which units will commit: a Fresh one is yet to come, a Held one is
+-- done already.
 abbrev worth : (ℕ → Bool) → Mark → ℕ
 worth c Free = 1
 worth c (Fresh u) = if c u then 1 else 0
@@ -108,7 +108,7 @@ abort_total c d u p cu same ks (e ∷ es) =
     grind (arith, more, w))
     (λ f. let w = abort_one c d u p cu same (definition_at ks e.home) e f in omega (arith, more, w))
 
--- DEQUEUE: one at most passes
+-- DEQUEUE: at most one passes
 
 abbrev pub AtMostOne : (Element → Bool) → List Element → Type 0
 AtMostOne b es = Ordered (λ x y. b x ≡ true → b y ≡ true → ⊥) es
@@ -184,7 +184,7 @@ best_pairs q all (e ∷ es) rise h = (
 pub best_once : (q : ℕ) (es : List Element) → Ordered (λ e f. e.id < f.id) es → AtMostOne (is_best q es) es
 best_once q es rise = best_pairs q es es rise (beaten q es)
 
--- KILL: one at most passes
+-- KILL: at most one passes
 
 none_killed : (c : ℕ → Bool) (p : ℕ) (b : Element → Bool) (es : List Element) → AllByRecursion (λ e. b e ≡ true
     → ⊥) es
@@ -289,7 +289,7 @@ total_shown p (e ∷ es) h =
     ≡ length (cond b (e ∷ filter (has_id p) es) (filter (has_id p) es)))
     (λ _. grind (arith, more, w)) (λ _. grind (arith, more))
 
--- Of a lawful log whose units have all ended
+-- For a lawful log whose units have all ended
 fate_of_closed : (version : Version) (all : List Record) (p : ℕ) → all_lawful version empty all ≡ true
     → (run empty all).units ≡ []
     → shown p (run empty all) + (counted (is_taken_for_good p) empty all + counted (is_kill p) empty all)
@@ -303,7 +303,7 @@ fate_of_closed version all p lawful none =
     let all_of = balance version p empty all empty_is_well_formed lawful in
     omega (arith, last, all_of)
 
--- The records and the ABORTs behind them
+-- The records and the ABORTs after them
 pub runs_end : RunsEnd
 runs_end version rs lawful = ((are_ended version rs lawful).lawful, run_join empty rs (aborts (run empty rs)))
 
@@ -317,7 +317,7 @@ one_fate version rs p lawful =
     ap (λ (t : State). shown p t + (done p (with_aborts rs) + kills p (with_aborts rs))) (sym joined)
     ∙ fate_of_closed version (with_aborts rs) p all_lawful_too (none_open version rs lawful)
 
--- One request at most.
+-- At most one request.
 
 request_place : (p : ℕ) (s : State) (r : Record) (rs : List Record) → is_request p s (r ∷ rs) ≡ true → s.next ≡ p
 request_place p s (Define limit error name) rs h = grind arith

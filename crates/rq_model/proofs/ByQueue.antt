@@ -1,4 +1,4 @@
--- A queue alone makes of its operations and of what arrives what the whole machine makes of it.
+-- A queue by itself makes of its operations and of what arrives what the whole machine makes of it.
 use Rattle.std.proofs.Common.{◌≡◌, ℕ, ◌+◌, ◌<◌, ◌≤◌, Bool, true, false, cond, List, [], ◌∷◌, ◌++◌, map, refl, sym, ap}
 use Rattle.std.proofs.Common.{◌∙◌, subst, arith}
 use Rattle.std.specs.Prelude.{◌==◌, nat_lt, nat_le, ⊤}
@@ -41,7 +41,7 @@ pub arrivals_of-append : (q : ℕ) (xs ys : List Transfer)
     → arrivals_of q (xs ++ ys) ≡ arrivals_of q xs ++ arrivals_of q ys
 arrivals_of-append q xs ys = ap (map (λ (t : Transfer). t.move)) (filter-append _ xs ys) ∙ map-append _ _ _
 
-moves_of-append : (q : ℕ) (xs ys : List Transfer) → moves_of q (xs ++ ys) ≡ moves_of q xs ++ moves_of q ys
+pub moves_of-append : (q : ℕ) (xs ys : List Transfer) → moves_of q (xs ++ ys) ≡ moves_of q xs ++ moves_of q ys
 moves_of-append q xs ys = ap (map (λ (t : Transfer). t.move)) (filter-append _ xs ys) ∙ map-append _ _ _
 
 pub arrivals_since : (s : State) (rs : List Record) (q : ℕ) → Since s.next (arrivals s rs q)
@@ -82,7 +82,7 @@ from_none n now later place h l = filter-append (λ m. nat_le place m.place) now
     ∙ ap (λ ms. ms ++ from_place place later)
     (filter_none (λ m. nat_le place m.place) now (each_weaker _ _ (λ m e. lt-leb place m.place (omega arith)) now h))
 
-absorb : (n : ℕ) (p : Part) (ops : List Op) (now later : List Move) → At n now → OpsSince (n + 1) ops
+pub absorb : (n : ℕ) (p : Part) (ops : List Op) (now later : List Move) → At n now → OpsSince (n + 1) ops
     → redone p ops (now ++ later) ≡ redone (receive now p) ops later
 absorb n p [] now later h l = receive-append now later p
 absorb n p (op ∷ ops) now later h l =
@@ -94,7 +94,7 @@ absorb n p (op ∷ ops) now later h l =
     ∙ ap (λ (p : Part). redone (act op.place op.does p) ops (from_place op.place later))
     (receive-append now (before_place op.place later) p)
 
-absorb_sent : (n : ℕ) (p : Part) (ops : List Op) (now later : List Move) → At n now → OpsSince (n + 1) ops
+pub absorb_sent : (n : ℕ) (p : Part) (ops : List Op) (now later : List Move) → At n now → OpsSince (n + 1) ops
     → all_sent p ops (now ++ later) ≡ all_sent (receive now p) ops later
 absorb_sent n p [] now later h l = refl
 absorb_sent n p (op ∷ ops) now later h l =

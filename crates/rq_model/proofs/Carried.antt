@@ -1,4 +1,4 @@
--- At a checkpoint: the front of a true one, and a log that grows behind one.
+-- At a checkpoint: the front of a true one, and a log that grows after one.
 use Rattle.std.proofs.Common.{ℕ, ◌-◌, ◌≤◌, List, [], ◌∷◌, ◌++◌, length, take, drop, ap, ◌∙◌, arith}
 use Rattle.std.proofs.lemmas.List.{append-nil, length-drop, take-append-le, drop-append-le}
 use Rattle.rq_model.specs.Records.{Record, Checkpoint, Version}
@@ -26,7 +26,7 @@ pub within : (b : List ℕ) (offset : ℕ) (version : Version) (s : State) (kept
     (rest : List ℕ) → IsFrontAt b offset version s kept after rest → offset ≤ length b
 within b offset version s kept after rest h = omega (arith, h.checkpoint.frame.whole.room, length-drop offset b)
 
--- what is linked stays so if bytes come behind it
+-- what is linked stays linked if bytes come after it
 link_grows : (b part : List ℕ) (offset : ℕ) → 32 ≤ offset → offset ≤ length b
     → IsLinked (b ++ part) offset (before offset b) (drop offset b ++ part)
 link_grows b part offset low high = record {

@@ -62,7 +62,7 @@ latest_comm l n [] h = refl
 latest_comm l n (m ∷ ms) h = latest_comm (later l m.last) n ms h.1 ∙ ap (λ z. latest z ms)
     (later_comm l n.last m.last h.0)
 
--- of two kinds, one after the other
+-- for two kinds, one after the other
 latest_both : (l : Option Last) (a b : Note → Bool) (ns : List Note) → Ordered (λ
     (n m : Note). n.last.place < m.last.place) ns
     → ((n : Note) → a n ≡ true → b n ≡ false)
@@ -79,7 +79,7 @@ latest_both l a b (n ∷ ns) rise apart =
     ∙ latest_both (later l n.last) a b ns rise.1 apart)
     (λ _. latest_both l a b ns rise.1 apart)) refl
 
--- Registrants: one at most is the client.
+-- Registrants: at most one is the client.
 
 same_key : (q : ℕ) (n : List ℕ) (r t : Registrant) → is_registrant q n r ≡ true → is_registrant q n t ≡ true
     → registrant_before r t ≡ true → ⊥
@@ -118,7 +118,7 @@ pub itself : (q : ℕ) (n : List ℕ) (last : Option Last) → is_registrant q n
     (record { queue = q; name = n; last = last }) ≡ true
 itself q n last = let a = eq-eqb q q refl in let b = (bytes_eq-Decides n n).1 refl in grind (arith, a, b)
 
--- what is left of it where nothing else goes
+-- what is left of it if nothing else goes
 pub filter_gone : {X : Type 0} (p g : X → Bool) → ((x : X) → p x ≡ true → g x ≡ true) → (xs : List X)
     → filter p (filter (λ x. not (g x)) xs) ≡ []
 filter_gone p g f [] = refl

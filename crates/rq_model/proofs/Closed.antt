@@ -1,4 +1,4 @@
--- A closed log, and what stands of it while its tail is written.
+-- A closed log, and what there is of it while its tail is written.
 use Rattle.std.proofs.Common.{◌≡◌, ℕ, ◌+◌, ◌-◌, ◌<◌, ◌≤◌, true, List, [], ◌∷◌, ◌++◌, length, map, take, drop, refl, sym}
 use Rattle.std.proofs.Common.{ap, subst, ◌∙◌, arith}
 use Rattle.std.proofs.Math.Seq.{take-length, take-append-add}
@@ -19,7 +19,7 @@ use Rattle.rq_model.proofs.Appended.{front_follows, appended_is_front}
 use Rattle.rq_model.proofs.Tails.{aborts_follow, crash_in_the_tail}
 use Rattle.rq_model.proofs.Found.{front_restart, restart_lines}
 
--- the numbers after so many aborts, where no unit is open any more
+-- the numbers after this many aborts, if no unit is open any more
 pub record AreAborted (s t : State) (count : ℕ) : Type 0 where
   pub units : t.units ≡ []
   pub next : t.next ≡ s.next + count

@@ -1,4 +1,4 @@
--- Files that go on behind a header, a gap and 32 bytes of link.
+-- Files that go on after a header, a gap and a link of 32 bytes.
 use Rattle.std.proofs.Common.{◌≡◌, ℕ, ◌+◌, ◌-◌, ◌≤◌, List, [], ◌∷◌, ◌++◌, length, drop, refl, sym, ap, subst}
 use Rattle.std.proofs.Common.{◌∙◌, append_assoc, arith}
 use Rattle.std.proofs.lemmas.List.{length-append, length-drop, take_at, append-nil}
@@ -20,7 +20,7 @@ use Rattle.rq_model.proofs.Restarts.{header_long, front_spelt}
 use Rattle.rq_model.proofs.FromCheckpoints.{front_at, restart_at, ends_at, true_is_same}
 use Rattle.rq_model.proofs.Carried.{within}
 
--- what stands in such a file
+-- what is in such a file
 pub record GoesOn (version : Version) (new p bytes : List ℕ) (there : ℕ) : Type 0 where
   pub header : HasHeader version new
   pub at : IsLinked new there p bytes
@@ -47,7 +47,7 @@ goes_on version p bytes gap long =
       );
     }
 
--- A checkpoint and all bytes behind it, moved.
+-- A checkpoint and all bytes after it, moved.
 
 moved_goes : (b : List ℕ) (offset : ℕ) (version : Version) (s : State) (kept : List ℕ) (after : List Record)
     (rest gap : List ℕ) → IsFrontAt b offset version s kept after rest

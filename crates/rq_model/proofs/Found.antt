@@ -1,4 +1,4 @@
--- Of bytes with a header the front is found, and why it ends.
+-- In bytes with a header the front is found, and why it ends.
 use Rattle.std.proofs.Common.{◌≡◌, ◌⊎◌, inl, inr, ℕ, zero, suc, ◌+◌, ◌≤◌, true, false, List, [], ◌∷◌, ◌++◌, length}
 use Rattle.std.proofs.Common.{take, drop, Option, Some, None, refl, sym, ap, subst, ◌∙◌, arith}
 use Rattle.std.proofs.lemmas.Bool.{and_from, cases_lt, cases_Bool}
@@ -39,7 +39,7 @@ spells_or_not version body fits = read (record_read version body) refl
     read None e = inr (λ r its. let clash =
         sym e ∙ read_again body r (reads_record version) its.0 its.1 in absurd cc)
 
--- a frame stands there whose digest is right, or one line says what follows
+-- there is a frame whose digest is right, or one line says what follows
 found_frame : (p bytes : List ℕ) → HasRightFrame p bytes ⊎ ((why : Rest) × IsRest p bytes why)
 found_frame p bytes = elim (cases_lt 0 (length bytes)) [
   | inr none ↦ inr (Whole, nil_from_length bytes (omega (arith, none)))
@@ -101,7 +101,7 @@ nothing_found version s p bytes why ends =
       ends = ends;
     }
 
--- one record more
+-- one more record
 found_first : (version : Version) (s : State) (p bytes after : List ℕ) (r : Record) → IsRecord version r
     → is_lawful version s r ≡ true → bytes ≡ frame p (body_of r) ++ after
     → Found version (step s r) (digest p (body_of r)) after → Found version s p bytes
@@ -194,7 +194,7 @@ pub lines_report : (b : List ℕ) (r : Restarted) (queues : List ℕ) → IsRest
 lines_report b r queues restart lines =
     record { restart = restart; lines = lines; report = (r, restart, (queues, lines, refl)) }
 
--- what a restart answers has queue lines
+-- what a restart returns has queue lines
 pub restart_lines : (b : List ℕ) (r : Restarted) → IsRestart b r → (queues : List ℕ) × HasReport b r queues
 restart_lines b r restart =
     let keeps = runs_are_well_formed restart.version empty restart.records empty_is_well_formed

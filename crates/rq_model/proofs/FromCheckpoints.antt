@@ -118,7 +118,7 @@ header_of Two One e = absurd cc
 pub one_version : OneVersion
 one_version b v w h k = header_of v w (sym h ∙ k)
 
--- what a restart from an offset says of a front from there
+-- what a restart from an offset says about a front from there
 pub record EndsAt (b : List ℕ) (offset : ℕ) (version : Version) (s : State) (rs : List Record) (rest : List ℕ)
     (t : Restarted) : Type 0 where
   pub why : Why
@@ -157,7 +157,7 @@ one_restart_at b offset r t h k =
     let whys = one_why _ _ _ _ h.why _ h.ends again.ends in
     h.answer ∙ ap (restarted _ _ _) whys ∙ sym again.answer
 
--- where there is a restart from a true checkpoint, there is one of the whole
+-- if there is a restart from a true checkpoint, there is one of the whole
 pub true_back : (b : List ℕ) (offset : ℕ) (t : Restarted) → TrueAt b offset → IsRestartAt b offset t
     → (r : Restarted) × IsRestart b r
 true_back b offset t (records, kept, h, spelled) at =

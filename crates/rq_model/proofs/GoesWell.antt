@@ -23,7 +23,7 @@ use Rattle.rq_model.proofs.ByQueue.{Since, At, OpsSince, arrivals_at, arrivals_o
 use Rattle.rq_model.proofs.ByQueue.{receive-append, before_all, from_none, since_before, since_from}
 use Rattle.rq_model.proofs.Apart.{Apart, are_new, new_append}
 
--- what an operation meets, where these arrivals come first and those later
+-- what an operation finds, if these arrivals come first and those later
 abbrev Meets : Part → Op → List Op → List Move × List Move → Type 0
 Meets p op ops ms = AreNew ms.0 p.elements
     × (IsReady op.place op.does (receive ms.0 p) × GoesWell (act op.place op.does (receive ms.0 p)) ops ms.1)
@@ -47,14 +47,14 @@ goes_on = record { arrives = arrives; acts = acts; ends = λ p m ms h. h }
 
 -- The run.
 
-first_goes : (b : Bool) (place : ℕ) (r : Record) (p : Part) (ops : List Op) (ms : List Move) → Since place ms
+pub first_goes : (b : Bool) (place : ℕ) (r : Record) (p : Part) (ops : List Op) (ms : List Move) → Since place ms
     → (b ≡ true → IsReady place r p)
     → GoesWell (cond b (act place r p) p) ops ms → GoesWell p (cond b (record { place = place; does = r } ∷ ops) ops) ms
 first_goes true place r p ops ms l ready h =
     subst (Meets p _ ops) (λ i. (sym (since_before place ms l) i, sym (since_from place ms l) i)) (tt, (ready refl, h))
 first_goes false place r p ops ms l ready h = h
 
-absorb_goes : (n : ℕ) (p : Part) (ops : List Op) (now later : List Move) → At n now → OpsSince (n + 1) ops
+pub absorb_goes : (n : ℕ) (p : Part) (ops : List Op) (now later : List Move) → At n now → OpsSince (n + 1) ops
     → AreNew now p.elements → GoesWell (receive now p) ops later → GoesWell p ops (now ++ later)
 absorb_goes n p [] now later a l new h = new_append now later p.elements new h
 absorb_goes n p (op ∷ ops) now later a l new h =
@@ -81,7 +81,7 @@ is_of s₀ past q (Abort unit) h = tt
 is_of s₀ past q (Checkpoint bytes) h = tt
 is_of s₀ past q (Kill k element) h = eqb-true k q h
 
-ready : (d : Definition) (s : State) (q n : ℕ) (r : Record) → IsWellFormed s → s.next + (n + 1) < 2 ^ 64 → IsOf q r
+pub ready : (d : Definition) (s : State) (q n : ℕ) (r : Record) → IsWellFormed s → s.next + (n + 1) < 2 ^ 64 → IsOf q r
     → IsReady s.next r (core d s q)
 ready d s q n r well fits named = record {
   of_queue = named;
@@ -95,7 +95,7 @@ ready d s q n r well fits named = record {
       (each_weaker (IsNote s) (λ n. n.last.place < s.next) (λ n h. h.last.place) s.notes well.notes);
 }
 
-rising_apart : (es : List Element) → Ordered (λ e f. e.id < f.id) es → Apart es
+pub rising_apart : (es : List Element) → Ordered (λ e f. e.id < f.id) es → Apart es
 rising_apart es h = ordered_weaker _ _ (λ e f l k. absurd (let n : ⊥ = omega (arith, l, k) in n)) es h
 
 goes : (version : Version) (s₀ : State) (past : List Record) (s : State) (rs : List Record) (q : ℕ) (d : Definition)

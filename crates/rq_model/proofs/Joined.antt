@@ -58,7 +58,7 @@ files_join b offset version s kept records after rest old front linked spelled =
       ap (λ (z : State). run z xs) is ∙ sym (run_join empty records xs),
     )
 
--- the checkpoint that the file begins with is read again, whatever stands behind it
+-- the checkpoint that the file begins with is read again, whatever follows it
 pub anew_joins : AnewJoins
 anew_joins b new more version records rest gap s kept after left front small whole h =
     let p = last_of (start version) records in

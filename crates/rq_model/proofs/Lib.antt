@@ -56,3 +56,6 @@ mod Continued
 mod Later
 mod Joined
 mod Along
+pub mod StepParts
+pub mod UnitEnds
+pub mod ChosenOps

@@ -1,4 +1,4 @@
--- What stands before and behind an offset, where frames lead to it.
+-- What is before and after an offset, if frames lead to it.
 use Rattle.std.proofs.Common.{◌≡◌, ℕ, ◌+◌, ◌-◌, ◌≤◌, List, [], ◌++◌, length, take, drop, sym, ap, ◌∙◌, append_assoc}
 use Rattle.std.proofs.Common.{arith}
 use Rattle.std.proofs.lemmas.List.{length-append, length-take, length-drop, take_at, drop_at, take-append-drop}
@@ -12,7 +12,7 @@ pub record IsLinked (b : List ℕ) (offset : ℕ) (p bytes : List ℕ) : Type 0 
   pub ahead : before offset b ≡ p
   pub behind : drop offset b ≡ bytes
 
--- behind 32 bytes p stand the frames of records: what follows is linked to the last of these
+-- the frames of records follow 32 bytes p: what comes next is linked to the last of these
 pub linked : (b left p : List ℕ) (rs : List Record) (bytes : List ℕ) (offset : ℕ) → length p ≡ 32
     → b ≡ left ++ (p ++ (frames_of p rs ++ bytes)) → offset ≡ length left + 32 + length (frames_of p rs)
     → IsLinked b offset (last_of p rs) bytes
@@ -37,7 +37,7 @@ linked b left p rs bytes offset long whole there =
           ∙ drop_at ((left ++ kept) ++ q) bytes offset end;
     }
 
--- the 32 bytes before an offset within b are 32, and stand there
+-- the 32 bytes before an offset within b are 32, and are there
 pub before_long : (b : List ℕ) (offset : ℕ) → 32 ≤ offset → offset ≤ length b → length (before offset b) ≡ 32
 before_long b offset low high =
     omega (arith, length-take 32 (drop (offset - 32) b), length-drop (offset - 32) b, low, high)

@@ -1,4 +1,4 @@
--- A listing is made by putting elements in order, so each answer has a text.
+-- Putting elements in order makes a listing, so whatever a restart returns has a text.
 use Rattle.std.proofs.Common.{◌≡◌, ◌⊎◌, inl, inr, ℕ, ◌+◌, ◌<◌, Bool, true, false, cond, List, [], ◌∷◌, ◌++◌, refl}
 use Rattle.std.proofs.Common.{sym, ap, ◌∙◌, arith}
 use Rattle.std.specs.Prelude.{not, ◌≢◌, filter}

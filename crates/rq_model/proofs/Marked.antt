@@ -37,7 +37,7 @@ checkpoint_is_true b version records rest front small short = (
   refl,
 )
 
--- The number of the next record tells nothing of the queues.
+-- The number of the next record tells nothing about the queues.
 
 aborts_bumped : (us : List ℕ) (s : State) (n : ℕ) → run (record s { next = n }) (map Abort us)
     ≡ record (run s (map Abort us)) { next = n + length us }

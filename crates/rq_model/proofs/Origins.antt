@@ -1,5 +1,5 @@
--- Each element has its ENQUEUE, its home is reached from there, and the limits that it left and its
--- attempts are its tries.
+-- Each element has its ENQUEUE, its home is reached from there, and its tries are the limits that
+-- it left behind plus its attempts.
 use Rattle.std.proofs.Common.{◌≡◌, ◌≢◌, ℕ, ◌+◌, ◌≤◌, Bool, true, false, not, ◌&&◌, List, [], ◌∷◌, ◌++◌, length, refl}
 use Rattle.std.proofs.Common.{sym, ap, ◌∙◌, subst, arith, append_assoc, length-append}
 use Rattle.std.specs.Prelude.{if◌then◌else◌, ◌==◌}
@@ -35,7 +35,7 @@ later_enqueued : (past : List Record) (r : Record) (p unit queue priority : ℕ)
 later_enqueued past r p unit queue priority payload h =
     record { before = h.before; by = h.by; there = later_at past r p h.before _ h.there }
 
--- One home more.
+-- One more home.
 
 path_on : (ds : List Definition) (queue : ℕ) (homes : List ℕ) (home next : ℕ) → IsPath ds queue homes home
     → IsNextHome ds home next → IsPath ds queue (homes ++ next ∷ []) next

@@ -1,4 +1,5 @@
--- The law of records: what is read of a body is spelled so, and what is spelled so is read again.
+-- The law of records: what is read of a body was spelled that way, and what is spelled is read
+-- again.
 use Rattle.std.proofs.Common.{◌≡◌, ℕ, ◌≤◌, List, ◌∷◌, ◌++◌, length, Option, Some, None, refl, sym, ap}
 use Rattle.std.proofs.Common.{arith}
 use Rattle.std.specs.Prelude.{IsTrue, drop}

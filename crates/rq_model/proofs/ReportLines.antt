@@ -196,7 +196,7 @@ passed_line : (head line rest : List ℕ) → IsLine line → begins_with head (
 passed_line head line rest is other = after_line head line rest is
     ∙ ap (λ b. (if b then 1 else 0) + lines_that_begin head true rest) other ∙ omega arith
 
--- Numbers in front of a space.
+-- Numbers before a space.
 
 not_space : (y : ℕ) → is_name_byte y ≡ true → y ≡ 32 → ⊥
 not_space y h e = let no : is_name_byte 32 ≡ true = subst (λ (z : ℕ). is_name_byte z ≡ true) e h in grind (arith, no)
@@ -375,7 +375,7 @@ queues_told p queue (d ∷ ds) s low fits named narrow =
     let order = tally_order (has_id p) free in
     omega (arith, more, here, order)
 
--- one element, which stands in one queue
+-- one element, which is in one queue
 abbrev at_one : (Element → Bool) → ℕ → List Definition → Element → ℕ
 at_one f queue [] e = 0
 at_one f queue (d ∷ ds) e = (if is_free_at queue e && f e then 1 else 0) + at_one f (queue + 1) ds e
@@ -442,7 +442,7 @@ all_at f ds (e ∷ es) h =
     let apart = first_apart f 0 ds e es in
     omega (arith, more, here, apart)
 
--- how many lines of the text of an answer begin with `e p `
+-- how many lines of the text of a restart begin with `e p `
 pub text_told : (p : ℕ) (r : Restarted) → p < 2 ^ 64 → AllByRecursion FitsDefinition r.state.definitions
     → AllByRecursion FitsRegistrant r.state.registrants → AllByRecursion IsNarrow r.state.elements
     → AllByRecursion (StandsIn r.state.definitions) r.state.elements

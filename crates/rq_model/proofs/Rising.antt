@@ -1,4 +1,4 @@
--- Moves stand in the order of places and ids.
+-- Moves are ordered by place and id.
 use Rattle.std.proofs.Common.{◌≡◌, Bool, true, List, map, arith, inl, inr}
 use Rattle.std.specs.Prelude.{◌==◌}
 use Rattle.std.specs.List.{filter}

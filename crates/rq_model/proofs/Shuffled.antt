@@ -1,4 +1,4 @@
--- What returns to a queue at an ABORT and what arrives there is put in in any order.
+-- What returns to a queue at an ABORT and what arrives there can be put in in any order.
 use Rattle.std.proofs.Common.{◌≡◌, ◌≢◌, inl, inr, ℕ, ◌+◌, ◌<◌, ◌≤◌, Bool, true, false, cond, List, [], ◌∷◌, ◌++◌, map}
 use Rattle.std.proofs.Common.{refl, sym, ap, subst, ◌∙◌, arith}
 use Rattle.std.specs.Prelude.{◌==◌, ◌&&◌, not, IsPermutation}
@@ -172,7 +172,7 @@ put_shuffled xs ys es same once rising =
     (IsPermutation-trans _ _ _ (IsPermutation-sym (xs ++ es) (put_each xs es) (each_shuffles xs es))
     (IsPermutation-trans (xs ++ es) (ys ++ es) (put_each ys es) both (each_shuffles ys es)))
 
--- What an ABORT leaves in a queue is what it leaves alone and what returns, put in.
+-- What an ABORT leaves in a queue is what it does not touch and what returns, put in.
 
 put_each-append : (xs ys es : List Element) → put_each (xs ++ ys) es ≡ put_each ys (put_each xs es)
 put_each-append [] ys es = refl
@@ -188,6 +188,22 @@ put_moves : (ms : List Move) (es : List Element) → put_each (map (λ m. m.elem
 put_moves [] es = refl
 put_moves (m ∷ ms) es = put_moves ms (put id_before m.element es)
 
+-- so it makes none for what arrives
+pub arrivals_shuffled : (ms ns : List Move) (es : List Element)
+    → IsPermutation (map (λ (m : Move). m.element) ms) (map (λ (m : Move). m.element) ns) → Rising es
+    → Rising (put_all ms es) → put_all ns es ≡ put_all ms es
+arrivals_shuffled ms ns es same rising after =
+    let xs : List Element = map (λ (m : Move). m.element) ms in
+    let ys : List Element = map (λ (m : Move). m.element) ns in
+    let once : Once (xs ++ es) =
+    λ id. omega (
+      arith,
+      rising_once (put_all ms es) after id,
+      ap (count id) (put_moves ms es),
+      count_shuffled id (xs ++ es) (put_each xs es) (each_shuffles xs es),
+    ) in
+    sym (put_moves ns es) ∙ sym (put_shuffled xs ys es same once rising) ∙ put_moves ms es
+
 module _ (u : ℕ) (d : Definition) where
   abbrev stays : Element → Bool
   stays e = not (is_marked u e.mark)
@@ -198,7 +214,7 @@ module _ (u : ℕ) (d : Definition) where
   abbrev is_kept : Element → Bool
   is_kept e = not (is_fresh u e.mark) && not (leaves d u e)
 
-  -- an element is left alone, returns, or is no more in the queue
+  -- an element is not touched, returns, or is no longer in the queue
   data Fate (e : Element) : Type 0 where
     Stays : stays e ≡ true → returns e ≡ false → is_kept e ≡ true → is_held u e.mark ≡ false → Fate e
     Returns : stays e ≡ false → returns e ≡ true → is_kept e ≡ true → Fate e

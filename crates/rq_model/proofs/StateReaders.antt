@@ -1,4 +1,5 @@
--- The law of states: what is read of a spelling is spelled so, and what is spelled so is read again.
+-- The law of states: what is read of a spelling was spelled that way, and what is spelled is read
+-- again.
 use Rattle.std.proofs.Common.{◌≡◌, ℕ, ◌^◌, ◌<◌, List, [], ◌∷◌, ◌++◌, length, Option}
 use Rattle.std.proofs.Common.{Some, None, refl, arith}
 use Rattle.std.specs.Prelude.{IsTrue, IfSome}

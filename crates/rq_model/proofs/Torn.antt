@@ -1,4 +1,4 @@
--- A beginning of frames is whole ones, counted, and what is cut of the next.
+-- A beginning of frames is whole frames, counted, and the cut part of the next.
 use Rattle.std.proofs.Common.{◌≡◌, inl, inr, ℕ, suc, ◌+◌, ◌<◌, ◌≤◌, List, [], ◌∷◌, ◌++◌, length, take, drop}
 use Rattle.std.proofs.Common.{refl, sym, ap, subst, ◌∙◌, append_assoc, arith}
 use Rattle.std.specs.List.{AllByRecursion}
@@ -13,7 +13,7 @@ use Rattle.rq_model.specs.Appending.{IsCleanEnd}
 use Rattle.rq_model.proofs.Bodies.{body_fits}
 use Rattle.rq_model.proofs.Runs.{frame_long, frame_reads}
 
--- whole frames, so many that the next is not there, and what is cut of it
+-- whole frames, as many as there are, and the cut part of the next
 pub record IsTorn (p part : List ℕ) (xs : List Record) : Type 0 where
   pub count : ℕ
   pub rest : List ℕ
@@ -31,7 +31,7 @@ more_long p x xs k =
     let others = frames_of (digest p (body_of x)) (take k xs) in
     omega (arith, length-append (frame p (body_of x)) others, frame_long p (body_of x))
 
--- a frame, and others behind it
+-- a frame, and others after it
 taken : (n : ℕ) (f part rest p body : List ℕ) (xs : List Record) → f ≡ take n part
     → drop n part ≡ frames_of (digest p body) xs ++ rest → part ≡ (f ++ frames_of (digest p body) xs) ++ rest
 taken n f part rest p body xs front behind =

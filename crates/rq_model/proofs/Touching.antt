@@ -1,4 +1,4 @@
--- The records that touch a queue, by what stands before each.
+-- The records that touch a queue, by what comes before each.
 use Rattle.std.proofs.Common.{rules}
 use Rattle.std.proofs.Common.{◌≡◌, inl, inr, ℕ, ◌+◌, ◌<◌, true, cond, List, [], ◌∷◌, ◌++◌, length, sym, ap}
 use Rattle.std.proofs.Common.{◌∙◌, append_assoc, arith}
@@ -11,7 +11,7 @@ use Rattle.rq_model.specs.Laws.{TouchingIsExact}
 use Rattle.rq_model.proofs.Lists.{by_cases, each_weaker}
 use Rattle.rq_model.proofs.ByQueue.{ops_since}
 
--- the record behind some of rs touches the queue, where `done` stands before rs
+-- the record after some of rs touches the queue, if `done` comes before rs
 abbrev Touch : ℕ → State → List Record → List Record → ℕ → Op → Type 0
 Touch place s done rs queue op = (before after : List Record) × (rs ≡ before ++ op.does ∷ after)
     × (op.place ≡ place + length before) × (touches s (done ++ before) queue op.does ≡ true)

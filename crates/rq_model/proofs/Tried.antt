@@ -23,7 +23,7 @@ use Rattle.rq_model.proofs.Balance.{swapped}
 use Rattle.rq_model.specs.Fates.{has_id, counted, is_try_at, is_leave, IsBounded}
 use Rattle.rq_model.specs.FateLaws.{BoundedTries, AttemptsAreTries}
 
--- The definitions that there are in the end.
+-- The definitions that there are at the end.
 
 abbrev pub Agrees : List Definition → State → Type 0
 Agrees all s = (k : ℕ) → k < length s.definitions → definition_at all k ≡ definition_at s.definitions k
@@ -140,7 +140,7 @@ module _ (ds : List Definition) (T M : ℕ → ℕ → ℕ) (s : State) (u : ℕ
   abbrev Moved : ℕ → ℕ → ℕ
   Moved p h = M p h + bit (move_at p h)
 
-  -- what the tests say of an element that is there
+  -- what the tests say about an element that is there
   record Alone (e : Element) : Type 0 where
     pub tries : (h : ℕ) → try_at e.id h ≡ ((e.home == h) && is_held u e.mark)
     pub moves : (h : ℕ) → move_at e.id h ≡ ((e.home == h) && leaves (definition_at s.definitions h) u e)

@@ -22,7 +22,7 @@ bodies = grind arith
 pub widths : WorkedWidths
 widths = grind arith
 
--- a frame that states n, in so many bytes
+-- a frame that states n, in this many bytes
 frame_of : (xs : List ℕ) (n long : ℕ) → stated xs ≡ n → length xs ≡ long → 1 ≤ n → n ≤ 268435456 → 36 + n ≤ long
     → HasFrame xs
 frame_of xs n long is has one most room = grind arith

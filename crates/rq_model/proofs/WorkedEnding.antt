@@ -25,7 +25,7 @@ use Rattle.rq_model.proofs.Longest.{front_stops, one_front}
 use Rattle.rq_model.proofs.WorkedReports.{size, log_size, is_who, is_record, all_pass, front_says, log_says}
 use Rattle.rq_model.proofs.WorkedReports.{whole_front, true_log}
 
--- a log with something behind its records that is no right frame
+-- a log whose records are followed by something that is no right frame
 ends_says : (version : Version) (rs : List Record) (rest : List ℕ) (n : ℕ) (why : Rest) (text : List ℕ)
     → list_all (is_record version) rs ≡ true → all_lawful version empty rs ≡ true → length rest ≡ n
     → IsRest (last_of (sha256 (magic version)) rs) rest why → nat_le (40 + size rs + n) log_limit ≡ true

@@ -43,7 +43,7 @@ final_kept version s h =
     (subst (λ (rs : List Record). all_lawful version s rs ≡ true) all
     (crash_is_harmless version s (length (aborts s)) h).0)
 
--- where the front and its end are known, so is the report
+-- if the front and its end are known, so is the report
 pub front_says : (b : List ℕ) (version : Version) (rs : List Record) (rest : List ℕ) (why : Why)
     → IsFront b version rs rest → IsWhy version (run empty rs) (last_of (sha256 (magic version)) rs) rest why
     → IsReport b (text_made (restarted (run empty rs) (length rest) (length b) why))
@@ -192,7 +192,7 @@ worked_logs = record {
   kill_cut = log_says Two (take 9 kill_log) _ refl refl refl refl;
 }
 
--- where a record is not lawful, the front ends before it
+-- if a record is not lawful, the front ends before it
 unlawful_says : (version : Version) (rs : List Record) (r : Record) (after : List Record) (text : List ℕ)
     → list_all (is_record version) (rs ++ r ∷ []) ≡ true → all_lawful version empty rs ≡ true
     → is_lawful version (run empty rs) r ≡ false

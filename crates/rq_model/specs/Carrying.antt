@@ -19,14 +19,14 @@ pub record IsFrontAt (b : List ℕ) (offset : ℕ) (version : Version) (s : Stat
   pub spells : SpellsState version s kept
   pub front : IsLongest version s (before offset b) (drop offset b) (Checkpoint kept ∷ after) rest
 
--- At a true checkpoint there is one, and it is the later part of the whole front
+-- A true checkpoint has one, and it is the later part of the whole front
 abbrev pub TrueHasFront : Type 0
 TrueHasFront = (b : List ℕ) (offset : ℕ) → TrueAt b offset →
     (version : Version) × (records after : List Record) × (kept rest : List ℕ)
     × IsFront b version (records ++ Checkpoint kept ∷ after) rest
     × IsFrontAt b offset version (run empty records) kept after rest
 
--- what a crash leaves if records were being appended behind such a front
+-- what a crash leaves if records were being appended to such a front
 pub record IsLeftAt (b : List ℕ) (offset : ℕ) (version : Version) (s : State) (kept : List ℕ)
     (after xs : List Record) (part : List ℕ) : Type 0 where
   pub count : ℕ

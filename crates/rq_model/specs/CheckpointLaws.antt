@@ -6,8 +6,8 @@ use Rattle.rq_model.specs.States.{State}
 use Rattle.rq_model.specs.StateSpelling.{SpellsState}
 use Rattle.rq_model.specs.Checkpoints.{IsCheckpointAt, IsReportAt}
 
--- Every checkpoint of a log that spells a state has a report, and so a restart, from there; it
--- need not be a true one, nor stand in the front
+-- From every checkpoint of a log that spells a state there is a report, and so a restart. It need
+-- not be true, nor lie in the front
 abbrev pub EveryCheckpointHasReport : Type 0
 EveryCheckpointHasReport =
     (version : Version) (b : List ℕ) (offset : ℕ) (kept : List ℕ) (s : State) → AreBytes b

@@ -1,4 +1,4 @@
--- A closed log, and why it stands in the place of the log that was closed.
+-- A closed log, and why it can take the place of the log that was closed.
 use Rattle.std.specs.Prelude.{◌≡◌, ℕ, ◌+◌, ◌≤◌, List, [], ◌++◌, length, take}
 use Rattle.rq_model.specs.Records.{Record, Version}
 use Rattle.rq_model.specs.Frames.{log_limit, log_of, AreBytes, Whole}
@@ -8,7 +8,7 @@ use Rattle.rq_model.specs.Fronts.{IsFront, Restarted, IsRestart, Ends}
 use Rattle.rq_model.specs.Tails.{IsTail}
 use Rattle.rq_model.specs.LogLaws.{HasReport}
 
--- The front of b, and the tail of b behind it
+-- The front of b, and the tail of b after it
 pub record IsClosedBy (b tail closed : List ℕ) : Type 0 where
   pub version : Version
   pub records : List Record
@@ -24,15 +24,15 @@ IsClosed b closed = (tail : List ℕ) × IsClosedBy b tail closed
 abbrev pub OneClosed : Type 0
 OneClosed = (b x y : List ℕ) → IsClosed b x → IsClosed b y → x ≡ y
 
--- The front of a closed log is the front of b with the aborts of the open units behind, and nothing
--- stands after it
+-- The front of a closed log is the front of b, then the aborts of the open units; nothing follows
+-- it
 abbrev pub ClosedFront : Type 0
 ClosedFront =
     (b closed : List ℕ) (version : Version) (records : List Record) (rest : List ℕ) →
     IsClosed b closed → length closed ≤ log_limit → IsFront b version records rest
     → IsFront closed version (records ++ aborts (run empty records)) []
 
--- what a restart answers of a closed log of so many bytes: the same state, and all of it is front;
+-- what a restart of a closed log of this length returns: the same state, and all of it is front;
 -- the units that were cut off are aborted
 abbrev pub when_closed : Restarted → ℕ → Restarted
 when_closed r total =
@@ -52,8 +52,8 @@ abbrev pub HaveSameQueues : List ℕ → List ℕ → Type 0
 HaveSameQueues b c = (r t : Restarted) × (queues : List ℕ)
     × HasReport b r queues × HasReport c t queues
 
--- A closed log has the restart of b, and is whole; however much of its tail is there, the queue
--- lines are those of b; to close it again changes nothing
+-- A closed log has the restart of b, and is whole. However much of its tail is there, the queue
+-- lines are those of b. Closing it again changes nothing
 pub record StandsFor (b closed : List ℕ) : Type 0 where
   pub found : Restarted
   pub restart : IsRestart b found
@@ -61,7 +61,7 @@ pub record StandsFor (b closed : List ℕ) : Type 0 where
   pub crash : (n : ℕ) → found.used ≤ n → HaveSameQueues b (take n closed)
   pub again : (twice : List ℕ) → IsClosed closed twice → twice ≡ closed
 
--- so does each that is no longer than a log may be
+-- so does each closed log that is no longer than a log may be
 abbrev pub ClosedStands : Type 0
 ClosedStands = (b closed : List ℕ) → AreBytes b → IsClosed b closed
     → length closed ≤ log_limit → StandsFor b closed

@@ -1,4 +1,4 @@
--- A log that goes on in another file: behind a header, a gap and the 32 bytes that link the files.
+-- A log that goes on in another file: after a header, a gap and the 32 bytes that link the files.
 use Rattle.std.specs.Prelude.{◌≡◌, ℕ, ◌+◌, ◌-◌, ◌≤◌, List, [], ◌∷◌, ◌++◌, length, drop, codes}
 use Rattle.rq_model.specs.Records.{Record, Checkpoint, Version}
 use Rattle.rq_model.specs.Frames.{log_limit, header, start, frames_of, last_of, before, IsBodyLength}
@@ -11,15 +11,15 @@ use Rattle.rq_model.specs.Checkpoints.{TrueAt, IsRestartAt}
 use Rattle.rq_model.specs.Appending.{MayFollow, FitsCheckpoint}
 use Rattle.rq_model.specs.Carrying.{IsFrontAt}
 
--- all bytes of b from a checkpoint on, and the 32 bytes before it, behind a header and a gap
+-- all bytes of b from a checkpoint on, and the 32 bytes before it, after a header and a gap
 abbrev pub moved : Version → List ℕ → ℕ → List ℕ → List ℕ
 moved version b offset gap = header version ++ (gap ++ (before offset b ++ drop offset b))
 
--- where the checkpoint stands there
+-- where the checkpoint is then
 abbrev pub moved_to : List ℕ → ℕ
 moved_to gap = 72 + length gap
 
--- what a restart from the checkpoint answers there: the same, but for the numbers of bytes
+-- what a restart from the checkpoint returns there: the same, apart from the numbers of bytes
 abbrev pub when_moved : ℕ → ℕ → Restarted → Restarted
 when_moved offset there r = record r {
   used = r.used + there - offset;
@@ -51,7 +51,7 @@ abbrev pub begun_anew : Version → List ℕ → State → List ℕ → List ℕ
 begun_anew version p s gap =
     header version ++ (gap ++ (p ++ frames_of p (Checkpoint (state_bytes s) ∷ [])))
 
--- From there a restart begins with the state, and all is whole. The checkpoint stood in no log
+-- From there a restart begins with the state, and all is whole. The checkpoint was in no log
 -- before: the old one may be full
 abbrev pub StartsAnew : Type 0
 StartsAnew =
@@ -64,7 +64,7 @@ StartsAnew =
     (restarted (run s (Checkpoint (state_bytes s) ∷ [])) 0
     (length (begun_anew version p s gap)) (Ends Whole))
 
--- So the state behind any front goes on: its open units, elements, registrants and numbers, and the
+-- So the state after any front goes on: its open units, elements, registrants and numbers, and the
 -- chain of digests
 abbrev pub FrontGoesOn : Type 0
 FrontGoesOn =
@@ -85,7 +85,7 @@ GapIsLoud =
     (restarted empty (length (gap ++ bytes)) (length (header version ++ (gap ++ bytes)))
     (Ends Length))
 
--- the gap of a carried file: such a length, and words for whoever looks. The checkpoint stands at 96
+-- the gap of a carried file: such a length, and words for whoever looks. The checkpoint is at 96
 abbrev pub carried_gap : List ℕ
 carried_gap = 255 ∷ 255 ∷ 255 ∷ 255 ∷ codes "rq carried log at 96"
 
@@ -108,7 +108,7 @@ LaterSaysTheSame =
 
 -- Files join: let the link be the last 32 bytes of records that a log may begin with, and let the
 -- checkpoint spell their state. Then the front there is that of all records in one log of any
--- length, and so is the state behind it
+-- length, and so is the state after it
 abbrev pub FilesJoin : Type 0
 FilesJoin =
     (b : List ℕ) (offset : ℕ) (version : Version) (s : State) (kept : List ℕ)
@@ -120,7 +120,7 @@ FilesJoin =
     (records ++ Checkpoint kept ∷ after) rest
     × (run s (Checkpoint kept ∷ after) ≡ run empty (records ++ Checkpoint kept ∷ after))
 
--- So a file that was begun anew behind a front joins it, whatever was written there since
+-- So a file that was begun anew after a front joins it, whatever was written there since
 abbrev pub AnewJoins : Type 0
 AnewJoins =
     (b new more : List ℕ) (version : Version) (records : List Record) (rest gap : List ℕ)

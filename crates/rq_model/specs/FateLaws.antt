@@ -1,5 +1,5 @@
--- No request is lost, done twice or tried without end, and who registers again learns how far it
--- came.
+-- No request is lost, done twice or tried without end, and a client that registers again learns how
+-- far it came.
 use Rattle.std.specs.Prelude.{◌≡◌, ◌≢◌, ◌≤◌, ℕ, ◌+◌, Bool, true, List, ◌++◌, None}
 use Rattle.std.specs.List.{AllByRecursion}
 use Rattle.rq_model.specs.Records.{Record, Version}
@@ -12,13 +12,13 @@ use Rattle.rq_model.specs.Fates.{tries_at, leavings, IsBounded, remains, hears}
 
 -- One fate.
 
--- As often as a number was requested it is shown, was done or was killed
+-- How often a number is shown, was done and was killed adds up to how often it was requested
 abbrev pub OneFate : Type 0
 OneFate = (version : Version) (rs : List Record) (p : ℕ) → all_lawful version empty rs ≡ true
     → shown p (final (run empty rs)) + (done p (with_aborts rs) + kills p (with_aborts rs))
     ≡ requests p (with_aborts rs)
 
--- and it is requested once at most
+-- and it is requested at most once
 abbrev pub OneRequest : Type 0
 OneRequest = (rs : List Record) (p : ℕ) → requests p rs ≤ 1
 
@@ -30,15 +30,15 @@ CommittedHasOneFate =
     → IsCommitted rs unit
     → shown p (final (run empty rs)) + (done p (with_aborts rs) + kills p (with_aborts rs)) ≡ 1
 
--- What no unit that commits enqueued was never taken
+-- What no committing unit enqueued was never taken
 abbrev pub OthersAreUntaken : Type 0
 OthersAreUntaken = (version : Version) (rs : List Record) (p : ℕ)
     → all_lawful version empty rs ≡ true → requests p rs ≡ 0 → takes p rs ≡ 0
 
 -- Elements.
 
--- an element is as the ENQUEUE of its own number made it; it stands where its limits led it; its
--- tries are the limits that it left behind and its attempts
+-- an element is as the ENQUEUE of its own number made it; it is where its limits led it; its tries
+-- are the limits that it left behind plus its attempts
 pub record IsAsEnqueued (rs : List Record) (s : State) (e : Element) : Type 0 where
   pub unit : ℕ
   pub enqueued : IsEnqueued rs e.id unit e.origin e.priority e.payload
@@ -46,7 +46,7 @@ pub record IsAsEnqueued (rs : List Record) (s : State) (e : Element) : Type 0 wh
   pub path : IsPath s.definitions e.origin homes e.home
   pub tried : tries e.id rs ≡ limits_left s.definitions e.origin homes + e.attempts
 
--- Each element of a lawful run is so
+-- Each element of a lawful run is like this
 abbrev pub AllAsEnqueued : Type 0
 AllAsEnqueued = (version : Version) (rs : List Record) → all_lawful version empty rs ≡ true
     → AllByRecursion (IsAsEnqueued rs (run empty rs)) (run empty rs).elements
@@ -76,13 +76,13 @@ abbrev pub AttemptsAreTries : Type 0
 AttemptsAreTries = (version : Version) (rs : List Record) → all_lawful version empty rs ≡ true
     → AllByRecursion (λ e. e.attempts ≡ tries_at e.id e.home rs) (run empty rs).elements
 
--- At the end a number was taken as often as it was tried and done
+-- At the end, how often a number was taken is how often it was tried plus how often it was done
 abbrev pub TakesAreTries : Type 0
 TakesAreTries = (version : Version) (rs : List Record) (p : ℕ) → all_lawful version empty rs ≡ true
     → takes p (with_aborts rs) ≡ tries p (with_aborts rs) + done p (with_aborts rs)
 
--- The records and the ABORTs behind them are lawful, and end where a restart does: so what is said
--- of runs is said of what a report shows
+-- The records and the ABORTs after them are lawful, and end where a restart does: so what holds for
+-- runs holds for what a report shows
 abbrev pub RunsEnd : Type 0
 RunsEnd = (version : Version) (rs : List Record) → all_lawful version empty rs ≡ true
     → (all_lawful version empty (with_aborts rs) ≡ true)
@@ -96,14 +96,14 @@ HowFar = (version : Version) (rs : List Record) → all_lawful version empty rs 
     → AllByRecursion (λ r. r.last ≡ latest None (hears r.queue r.name empty rs))
     (run empty rs).registrants
 
--- Who is registered has registered, with no DEREGISTER behind
+-- Whoever is registered has a REGISTER with no DEREGISTER after it
 abbrev pub WhoIsRegistered : Type 0
 WhoIsRegistered = (rs : List Record) (queue : ℕ) (name : List ℕ)
     → is_registered (run empty rs) queue name ≡ remains queue name rs
 
 -- What the counts mean.
 
--- Where the count is 0 no record passes, and where it is 1 exactly one does
+-- If the count is 0, no record passes; if it is 1, exactly one does
 abbrev pub CountIsNone : Type 0
 CountIsNone = (test : State → List Record → Bool) (s : State) (rs : List Record) (p : ℕ)
     → counted test s rs ≡ 0 → IsPassing test s rs p → ⊥
@@ -113,7 +113,7 @@ CountIsOne = (test : State → List Record → Bool) (s : State) (rs : List Reco
     → counted test s rs ≡ 1
     → (p : ℕ) × IsPassing test s rs p × ((q : ℕ) → IsPassing test s rs q → q ≡ p)
 
--- What the records ahead say of an open unit is its outcome
+-- The outcome of an open unit is what the records ahead say
 abbrev pub OutcomeIsAhead : Type 0
 OutcomeIsAhead = (version : Version) (before ahead : List Record) (unit : ℕ)
     → all_lawful version empty (before ++ ahead) ≡ true → is_open (run empty before) unit ≡ true

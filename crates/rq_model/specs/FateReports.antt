@@ -1,4 +1,4 @@
--- What restarts answer of requests and clients: a restart changes nothing of it.
+-- What restarts say about requests and clients: a restart changes nothing of it.
 use Rattle.std.specs.Prelude.{◌≡◌, ◌≢◌, ◌<◌, ◌≤◌, ◌^◌, ℕ, ◌+◌, ◌==◌, Bool, true, ◌&&◌}
 use Rattle.std.specs.Prelude.{if◌then◌else◌, List, [], ◌∷◌, ◌++◌, length, take, None, codes}
 use Rattle.std.specs.List.{AllByRecursion}
@@ -17,7 +17,7 @@ use Rattle.rq_model.specs.Fates.{with_aborts, requests, takes, done, kills, show
 use Rattle.rq_model.specs.Fates.{leavings, IsBounded, remains, hears}
 use Rattle.rq_model.specs.FateLaws.{IsAsEnqueued}
 
--- what a state says of the requests and clients of records that were run, with the ABORTs behind
+-- what a state says about the requests and clients of records that were run, with the ABORTs after
 -- them
 pub record Accounts (rs : List Record) (s : State) : Type 0 where
   pub fates : (p : ℕ) → shown p s + (done p rs + kills p rs) ≡ requests p rs
@@ -38,14 +38,14 @@ RestartAccounts =
     (b : List ℕ) (version : Version) (rs : List Record) (rest : List ℕ) (r : Restarted) →
     IsFront b version rs rest → IsRestart b r → Accounts (with_aborts rs) r.state
 
--- so does that of the closed log
+-- so does a restart of the closed log
 abbrev pub ClosedAccounts : Type 0
 ClosedAccounts =
     (b closed : List ℕ) (version : Version) (rs : List Record) (rest : List ℕ) (r : Restarted) →
     AreBytes b → IsFront b version rs rest → IsClosed b closed → length closed ≤ log_limit
     → IsRestart closed r → Accounts (with_aborts rs) r.state
 
--- that of the front with a beginning of its tail
+-- a restart of the front with a beginning of its tail
 abbrev pub BeginningAccounts : Type 0
 BeginningAccounts =
     (b tail part missing : List ℕ) (version : Version) (rs : List Record) (rest : List ℕ)
@@ -53,7 +53,7 @@ BeginningAccounts =
     → tail ≡ part ++ missing → length (log_of version rs ++ part) ≤ log_limit
     → IsRestart (log_of version rs ++ part) r → Accounts (with_aborts rs) r.state
 
--- and one from a true checkpoint
+-- and a restart from a true checkpoint
 abbrev pub CheckpointAccounts : Type 0
 CheckpointAccounts =
     (b : List ℕ) (offset : ℕ) (version : Version) (rs : List Record) (rest : List ℕ)
@@ -65,7 +65,7 @@ CheckpointAccounts =
 abbrev pub begins_with : List ℕ → List ℕ → Bool
 begins_with head text = bytes_eq (take (length head) text) head
 
--- how many lines of a text begin so; `starts` says whether the text begins a line
+-- how many lines of a text begin this way; `starts` says whether the text begins a line
 abbrev pub lines_that_begin : List ℕ → Bool → List ℕ → ℕ
 lines_that_begin head starts [] = 0
 lines_that_begin head starts (b ∷ text) =
@@ -76,7 +76,7 @@ lines_that_begin head starts (b ∷ text) =
 abbrev pub element_lines : ℕ → List ℕ → ℕ
 element_lines p text = lines_that_begin (codes "e " ++ (decimal p ++ codes " ")) true text
 
--- In a report of the log each number of 64 bits, as those of records are, has a line as often as it
+-- In a report of the log each number of 64 bits, as record numbers are, has a line as often as it
 -- was requested, less how often it was done and killed
 abbrev pub ReportAccounts : Type 0
 ReportAccounts =

@@ -31,14 +31,14 @@ pub record IsEnqueued (rs : List Record) (p unit queue priority : ℕ) (payload 
 abbrev pub IsCommitted : List Record → ℕ → Type 0
 IsCommitted rs unit = (place : ℕ) × (outcome_from 0 unit rs ≡ Committed place)
 
--- the records, and behind them the ABORTs of the units that are still open
+-- the records, then the ABORTs of the units that are still open
 abbrev pub with_aborts : List Record → List Record
 with_aborts rs = rs ++ aborts (run empty rs)
 
 -- Counts.
 
--- how many records of a run pass a test; it sees the state before the record and the records from
--- it on
+-- how many records of a run pass a test; the test sees the state before the record, and the records
+-- from it on
 abbrev pub counted : (State → List Record → Bool) → State → List Record → ℕ
 counted test s [] = 0
 counted test s (r ∷ rs) = (if test s (r ∷ rs) then 1 else 0) + counted test (step s r) rs
@@ -54,7 +54,7 @@ is_committed (Committed place) = true
 is_committed (Aborted place) = false
 is_committed Open = false
 
--- the unit commits in the records ahead, of which the first has the number `place`
+-- the unit commits in the records ahead; the first of these has the number `place`
 abbrev pub commits : ℕ → List Record → ℕ → Bool
 commits place ahead unit = is_committed (outcome_from place unit ahead)
 
@@ -74,18 +74,18 @@ is_request p s (Enqueue unit queue priority by payload ∷ ahead) =
     (s.next == p) && commits (s.next + 1) ahead unit
 is_request p s rs = false
 
--- a DEQUEUE that p is taken by, since it is the best element of the queue
+-- a DEQUEUE that takes p, since p is the best element of the queue
 abbrev pub is_take : ℕ → State → List Record → Bool
 is_take p s (Dequeue unit queue by ∷ ahead) = is_that p (best queue s.elements)
 is_take p s rs = false
 
--- a DEQUEUE that p is taken by, of a unit that commits
+-- a DEQUEUE that takes p, of a unit that commits
 abbrev pub is_taken_for_good : ℕ → State → List Record → Bool
 is_taken_for_good p s (Dequeue unit queue by ∷ ahead) =
     is_that p (best queue s.elements) && commits (s.next + 1) ahead unit
 is_taken_for_good p s rs = false
 
--- a KILL of p that meets it Free in the queue that it names
+-- a KILL of p that finds it Free in the queue that it names
 abbrev pub is_kill : ℕ → State → List Record → Bool
 is_kill p s (Kill queue element ∷ ahead) = (element == p)
     && list_any (λ e. is_free_at queue e && (e.id == element)) s.elements
@@ -104,7 +104,7 @@ done p rs = counted (is_taken_for_good p) empty rs
 abbrev pub kills : ℕ → List Record → ℕ
 kills p rs = counted (is_kill p) empty rs
 
--- how often it is there
+-- how often p is in the state
 abbrev pub shown : ℕ → State → ℕ
 shown p s = length (filter (has_id p) s.elements)
 
@@ -140,14 +140,14 @@ is_try_at p home s (Abort unit ∷ ahead) =
     list_any (λ e. has_id p e && ((e.home == home) && is_held unit e.mark)) s.elements
 is_try_at p home s rs = false
 
--- and by which p leaves it for its error queue
+-- and by it p leaves for its error queue
 abbrev pub is_leave : ℕ → ℕ → State → List Record → Bool
 is_leave p home s (Abort unit ∷ ahead) =
     list_any (λ e. has_id p e && ((e.home == home)
     && leaves (definition_at s.definitions home) unit e)) s.elements
 is_leave p home s rs = false
 
--- how often p was tried, in whatever queue and in that one, and how often it left that one
+-- how often p was tried, in any queue and in this one, and how often it left this one
 abbrev pub tries : ℕ → List Record → ℕ
 tries p rs = counted (is_try p) empty rs
 
@@ -163,7 +163,7 @@ IsBounded limit tried left = ((tried < limit) × (left ≡ 0)) ⊎ ((tried ≡ l
 
 -- Clients.
 
--- the operation of a client, where the record is one
+-- the operation of a client, if the record is one
 abbrev pub operation : State → Record → List Note
 operation s (Enqueue unit queue priority by payload) =
     noted s.next unit queue by Enqueued (Some s.next)
@@ -180,13 +180,13 @@ abbrev pub deregisters : ℕ → List ℕ → Record → Bool
 deregisters queue name (Deregister q n) = (q == queue) && bytes_eq n name
 deregisters queue name r = false
 
--- a REGISTER of the client has no DEREGISTER of it behind
+-- a REGISTER of the client has no DEREGISTER of it after it
 abbrev pub remains : ℕ → List ℕ → List Record → Bool
 remains queue name [] = false
 remains queue name (r ∷ rs) =
     (registers queue name r && not (list_any (deregisters queue name) rs)) || remains queue name rs
 
--- the operation names the client, its unit commits, and no DEREGISTER of the client stands behind
+-- the operation names the client, its unit commits, and no DEREGISTER of the client follows
 abbrev pub is_heard : ℕ → List ℕ → ℕ → List Record → Note → Bool
 is_heard queue name place ahead n = is_note_of queue name n
     && (commits place ahead n.unit && not (list_any (deregisters queue name) ahead))

@@ -1,4 +1,4 @@
--- The front of a log that grows, and what goes along with it.
+-- The front of a log that grows, and what is kept along with it.
 use Rattle.std.specs.Prelude.{◌≡◌, ◌≤◌, ℕ, List, ◌++◌, length, drop}
 use Rattle.rq_model.specs.Records.{Record, Version}
 use Rattle.rq_model.specs.Frames.{log_limit, header, start, log_of, last_of, before}
@@ -7,7 +7,7 @@ use Rattle.rq_model.specs.Machine.{run}
 use Rattle.rq_model.specs.Fronts.{Begins, IsLongest, IsFront, IsWhy, Why, IsRestart, restarted}
 use Rattle.rq_model.specs.Appending.{MayFollow}
 
--- If bytes come behind a log, its front is the old one, and what is found in the bytes behind that
+-- If bytes are added to a log, its front is the old one, and what is found in the bytes after that
 abbrev pub FrontGrows : Type 0
 FrontGrows =
     (b more : List ℕ) (version : Version) (records xs : List Record) (rest left : List ℕ) (why : Why)
@@ -23,7 +23,7 @@ FrontStays =
     → IsFront b version records rest → IsFront (b ++ more) w found left
     → (w ≡ version) × (others : List Record) × (found ≡ records ++ others)
 
--- what goes along with bytes of any length: their version, the records so far, the bytes behind
+-- what is kept along with bytes of any length: their version, the records so far, the bytes after
 -- these, and why they end
 pub record IsAlong (b : List ℕ) (version : Version) (records : List Record) (rest : List ℕ)
     (why : Why) : Type 0 where
@@ -39,13 +39,13 @@ AlongIsFront =
     → IsFront b version records rest
     × IsRestart b (restarted (run empty records) (length rest) (length b) why)
 
--- the window on what comes: a header, the last 32 bytes of the records so far, and bytes behind
+-- the window on what comes: a header, the last 32 bytes of the records so far, and the bytes after
 -- them
 abbrev pub window_of : Version → List Record → List ℕ → List ℕ
 window_of version records bytes = header version ++ (last_of (start version) records ++ bytes)
 
--- The records that are found in the window from 72 on come behind those so far, and where they end
--- the next window begins
+-- The records found in the window from 72 on follow those so far, and the next window begins where
+-- they end
 abbrev pub WindowGoesOn : Type 0
 WindowGoesOn =
     (b more window : List ℕ) (version : Version) (records xs : List Record) (rest : List ℕ)

@@ -13,6 +13,9 @@ pub mod Queues
 pub mod Redo
 pub mod Laws
 pub mod Ready
+pub mod StepLaws
+pub mod Chosen
+pub mod UnitEnds
 pub mod LogLaws
 pub mod CheckpointLaws
 pub mod Closing

@@ -10,11 +10,11 @@ use Rattle.rq_model.specs.Queues.{Move, moves, arrivals}
 abbrev pub earlier : Move → Move → Bool
 earlier m n = nat_lt m.place n.place || ((m.place == n.place) && nat_lt m.element.id n.element.id)
 
--- each before all that stand behind it
+-- each before all that follow it
 abbrev pub Rise : List Move → Type 0
 Rise ms = Ordered (λ m n. earlier m n ≡ true) ms
 
--- What leaves a queue stands in the order of places and ids
+-- What leaves a queue is ordered by place and id
 abbrev pub MovesRise : Type 0
 MovesRise = (version : Version) (s : State) (rs : List Record) (queue : ℕ) →
     IsWellFormed s → all_lawful version s rs ≡ true → Rise (moves s rs queue)

@@ -1,4 +1,4 @@
--- What each operation and each arrival of a redo meets in the queue's part.
+-- What each operation and each arrival of a redo finds in the queue's part.
 use Rattle.std.specs.Prelude.{◌≡◌, ◌≢◌, ⊤, ℕ, ◌+◌, ◌<◌, ◌≤◌, ◌^◌, true, List, [], ◌∷◌, length}
 use Rattle.std.specs.List.{AllByRecursion}
 use Rattle.rq_model.specs.Records.{Record, Register, Deregister, Enqueue, Dequeue, Kill, Version}
@@ -18,7 +18,7 @@ IsOf queue (Kill k element) = k ≡ queue
 IsOf queue r = ⊤
 
 -- the part is ready for an operation at the place: all in it is older and at home, and attempts do
--- not run over
+-- not overflow
 pub record IsReady (place : ℕ) (r : Record) (p : Part) : Type 0 where
   pub of_queue : IsOf p.queue r
   pub homes : AllByRecursion (λ e. e.home ≡ p.queue) p.elements
@@ -26,7 +26,7 @@ pub record IsReady (place : ℕ) (r : Record) (p : Part) : Type 0 where
   pub room : AllByRecursion (λ e. e.attempts + 1 < 2 ^ 64) p.elements
   pub notes : AllByRecursion (λ n. n.last.place < place) p.notes
 
--- each of them, put in behind those before it, has an id that no other has
+-- each of them, put in after those before it, has an id that no other has
 abbrev pub AreNew : List Move → List Element → Type 0
 AreNew [] es = ⊤
 AreNew (m ∷ ms) es = AllByRecursion (λ e. e.id ≢ m.element.id) es

@@ -10,7 +10,7 @@ use Rattle.rq_model.specs.Spelling.{is_name}
 unfoldable pub name_left : Reader (List ℕ)
 name_left = tested is_name all
 
--- so many bytes at most, to the end
+-- at most this many bytes, to the end
 unfoldable pub at_most : ℕ → Reader (List ℕ)
 at_most limit = tested (λ bytes. nat_le (length bytes) limit) all
 
@@ -23,7 +23,7 @@ nobody tag = None
 abbrev pub somebody : List ℕ × ℕ → Option By
 somebody x = Some (record { name = x.0; tag = x.1 })
 
--- nobody, whose tag is 0, behind the byte 0; else a name of so many bytes and a tag
+-- after the byte 0 nobody, with the tag 0; after another byte a name of that many bytes, and a tag
 abbrev pub who_behind : ℕ → Reader (Option By)
 who_behind = case 0 (made nobody (tested is_zero (number 8)))
     (λ n. made somebody (tested is_name (piece n) then number 8))
@@ -53,7 +53,7 @@ dequeue_read = alone (number 8 then number 4 then who_read)
 unfoldable pub checkpoint_read : Reader (List ℕ)
 checkpoint_read = at_most 268435455
 
--- in version 2 alone
+-- only in version 2
 unfoldable pub kill_read : Version → Reader (ℕ × ℕ)
 kill_read One bytes = None
 kill_read Two bytes = alone (number 4 then number 8) bytes
@@ -78,7 +78,7 @@ dequeue_from x = Dequeue x.0 x.1.0 x.1.1
 abbrev pub kill_from : ℕ × ℕ → Record
 kill_from x = Kill x.0 x.1
 
--- the record behind its kind
+-- the record after its kind
 unfoldable pub record_behind : Version → ℕ → Reader Record
 record_behind version =
     case 1 (made define_from define_read) (case 2 (made register_from registration_read)

@@ -12,7 +12,7 @@ use Rattle.rq_model.specs.States.{Note, Definition, Registrant, State}
 unfoldable pub name_read : Reader (List ℕ)
 name_read = tested is_name (sized byte)
 
--- 18446744073709551615 stands for none
+-- 18446744073709551615 means none
 abbrev pub id_from : ℕ → Option ℕ
 id_from n = if n == 18446744073709551615 then None else Some n
 
@@ -31,7 +31,7 @@ unfoldable pub mark_read : Reader Mark
 mark_read = tagged (case 0 (made (always Free) nothing)
     (case 1 (made Fresh (number 8)) (case 2 (made Held (number 8)) no_case)))
 
--- place, tag and element of an operation, behind its kind
+-- place, tag and element of an operation, after its kind
 unfoldable pub operation_read : Reader (ℕ × (ℕ × Option ℕ))
 operation_read = number 8 then number 8 then id_read
 

@@ -1,4 +1,4 @@
--- An upgraded log, and what it says of the log that was upgraded.
+-- An upgraded log, and what it says about the log that was upgraded.
 use Rattle.std.specs.Prelude.{◌≡◌, ◌↔◌, ℕ, List, []}
 use Rattle.rq_model.specs.Records.{Record, Version, Two}
 use Rattle.rq_model.specs.Frames.{Whole, AreBytes}
@@ -7,13 +7,13 @@ use Rattle.rq_model.specs.Checkpoints.{HasCheckpoint, TrueAt, Audited, IsAudit, 
 use Rattle.rq_model.specs.Tails.{IsUpgraded}
 use Rattle.rq_model.specs.LogLaws.{HasReport}
 
--- what a restart answers of an upgraded log: the same, and all of it is front
+-- what a restart of an upgraded log returns: the same, and all of it is front
 abbrev pub when_upgraded : Restarted → Restarted
 when_upgraded r = record r { total = r.used; why = Ends Whole }
 
--- An upgraded log has the restart of b, and is whole; both reports have the same queue lines; the
--- same checkpoints stand at the same offsets, and the same of them are true; from each true one the
--- restart is the same, and whole; to upgrade it again changes nothing
+-- An upgraded log has the restart of b, and is whole. Both reports have the same queue lines. The
+-- same checkpoints are at the same offsets, and the same of them are true. From each true one the
+-- restart is the same, and whole. Upgrading it again changes nothing
 pub record SaysTheSame (b upgraded : List ℕ) : Type 0 where
   pub found : Restarted
   pub restart : IsRestart b found

@@ -10,7 +10,7 @@ use Rattle.rq_model.specs.Tails.{IsTail, IsUpgraded}
 use Rattle.rq_model.specs.WorkedLogs.{Says, lines, nothing_done, one_element_log, best_first_log}
 use Rattle.rq_model.specs.WorkedLogs.{checkpoint_log}
 
--- the 32 bytes before the frame behind so many records of the log with one element
+-- the 32 bytes before the frame that follows this many records of the log with one element
 abbrev pub behind : ℕ → List ℕ
 behind count = last_of (start One) (take count one_element_log)
 

@@ -1,5 +1,5 @@
--- Names, records, frames, states and lines of a report, byte by byte, and each limit at its edge on
--- both sides.
+-- Names, records, frames, states and lines of a report, byte by byte, and each limit on both sides
+-- of its edge.
 use Rattle.std.specs.Prelude.{◌≡◌, ◌≤◌, ℕ, true, false, List, [], ◌∷◌, ◌++◌, length, map, filter}
 use Rattle.std.specs.Prelude.{Some, None, replicate, codes}
 use Rattle.std.specs.List.{range_with_len}
@@ -57,7 +57,7 @@ pub record WorkedBodies : Type 0 where
   pub checkpoint : body_of (Checkpoint (1 ∷ 2 ∷ [])) ≡ 9 ∷ 1 ∷ 2 ∷ []
   pub kill : body_of (Kill 0x01020304 5) ≡ 10 ∷ 1 ∷ 2 ∷ 3 ∷ 4 ∷ eight 5
 
--- The greatest value of each field is a record's, and one more is none's.
+-- The greatest value of each field is in a record; one more is in none.
 pub record WorkedWidths : Type 0 where
   pub define : IsRecord One (Define 65535 4294967295 jobs)
   pub define_limit : IsRecord One (Define 65536 0 jobs) → ⊥
@@ -146,7 +146,7 @@ pub record WorkedFrames : Type 0 where
   pub before_34 : before 34 (range_with_len 0 40) ≡ range_with_len 2 32
   pub no_frame : IsFrameRun (range_with_len 0 40) 40 [] 40 Whole
 
--- What follows a run of frames, behind any 32 bytes.
+-- What follows a run of frames, after any 32 bytes.
 pub record WorkedRests (p : List ℕ) : Type 0 where
   pub whole : IsRest p [] Whole
   pub not_whole : IsRest p (0 ∷ []) Whole → ⊥

@@ -15,7 +15,7 @@ use Rattle.rq_model.specs.Fronts.{Restarted}
 use Rattle.rq_model.specs.Reports.{front_line, units_line, queue_text, IsReport}
 use Rattle.rq_model.specs.Checkpoints.{IsReportAt}
 
--- The text of an answer, made by putting the elements in order.
+-- The text of what a restart returns, made by putting the elements in order.
 
 abbrev pub in_order : List Element → List Element
 in_order [] = []

@@ -283,7 +283,7 @@ pub record WorkedQueues : Type 0 where
         move = record { place = 21; element = element 8 0 0 2 0 (0x63 ∷ []) Free };
       } ∷ []
 
--- What an operation makes of a part, where nothing arrives, it makes of the state.
+-- If nothing arrives, an operation makes of a part what it makes of the state.
 abbrev pub Acts : Record → Type 0
 Acts r = act 20 r (part_of busy 1) ≡ part_of (step busy r) 1
 

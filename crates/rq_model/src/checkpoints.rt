@@ -2,8 +2,8 @@
 
 ghost use Rattle.rq_model.specs.CheckpointLaws.{EveryCheckpointHasReport};
 
-/// Every checkpoint of a log that spells a state has a report from there; `one_report` says that it
-/// has one restart.
+/// From every checkpoint of a log that spells a state there is a report; `one_report` says that
+/// there is one restart.
 pub fn every_checkpoint_has_report()
     ensures { EveryCheckpointHasReport }
 {}

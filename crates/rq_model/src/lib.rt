@@ -1,4 +1,4 @@
-//! What is promised of the restart of a recoverable queue manager: its definitions, in specs/, and
+//! The promises about restarting a recoverable queue manager: their definitions, in specs/, and
 //! their laws, each on a function below that does nothing.
 #![tactic(auto)]
 
@@ -30,6 +30,9 @@ ghost use Rattle.rq_model.specs.WorkedFormats.{WorkedFrames, AllRests, WorkedSta
 ghost use Rattle.rq_model.specs.WorkedFormats.{WorkedLines};
 ghost use Rattle.rq_model.specs.WorkedEnds.{WorkedEnds};
 ghost use Rattle.rq_model.specs.Ready.{RedoGoesWell, GoesOn};
+ghost use Rattle.rq_model.specs.Chosen.{ChosenProjection, ChosenGoesWell};
+ghost use Rattle.rq_model.specs.StepLaws.{StepByParts, MidwayPart};
+ghost use Rattle.rq_model.specs.UnitEnds.{UnitEndsByParts};
 ghost use Rattle.rq_model.specs.Laws.{Projection, ArrivalsAreMerged, LawfulnessLooksAt};
 ghost use Rattle.rq_model.specs.Laws.{PartsDecide, IdsDiffer, PutInAnyOrder, AnyOrder};
 ghost use Rattle.rq_model.specs.Laws.{QueueIsDecided, TouchingIsExact, LawfulFrontIsLongest};
@@ -56,14 +59,14 @@ pub fn one_spelling()
     ensures state { BytesSpellOneState }
 {}
 
-/// Where a length is in range and the digest is right, the frame of the body stands, and no other.
+/// If a length is in range and the digest is right, the frame of the body is there, and no other.
 pub fn frames_are_right()
     ensures right { FrameIsRight }
     ensures frame { RightIsFrame }
 {}
 
-/// A run of frames behind which no right frame stands is the longest; there is one, and one line
-/// says what follows.
+/// If no right frame follows a run of frames, the run is the longest. There is one longest run, and
+/// one line says what follows it.
 pub fn one_run()
     ensures stops { RunStops }
     ensures run { OneRun }
@@ -83,7 +86,7 @@ pub fn lawfulness_looks_at()
     ensures { LawfulnessLooksAt }
 {}
 
-/// The longest lawful beginning of records is lawful, a beginning, and no shorter than another.
+/// The longest lawful beginning of records is lawful, a beginning, and no shorter than any other.
 pub fn lawful_front_is_longest()
     ensures { LawfulFrontIsLongest }
 {}
@@ -104,8 +107,8 @@ pub fn runs_fit()
     ensures { RunsFit }
 {}
 
-/// Bytes have one version's header; version 1 makes no chains of error queues, and version 2 takes
-/// all that version 1 takes.
+/// Bytes have at most one version's header. Version 1 makes no chains of error queues, and version
+/// 2 takes all that version 1 takes.
 pub fn versions()
     ensures header { OneVersion }
     ensures wider { RecordIsWider }
@@ -113,14 +116,13 @@ pub fn versions()
     ensures two { VersionTwoIsWider }
 {}
 
-/// The numbers, definitions and open units after a run are decided by the records and the outcomes
-/// alone.
+/// The numbers, definitions and open units after a run depend only on the records and the outcomes.
 pub fn numbers_after()
     ensures { NumbersAfter }
 {}
 
-/// Lawful records at whose end a line of WHY applies are the longest; there is one front, and one
-/// line of WHY.
+/// If a line of WHY applies at the end of lawful records, they are the longest. There is one front,
+/// and one line of WHY.
 pub fn one_front()
     ensures stops { FrontStops }
     ensures longest { OneLongest }
@@ -129,7 +131,7 @@ pub fn one_front()
     ensures from_run { RunGivesFront }
 {}
 
-/// Every string of bytes with a header, and no longer than a log may be, has a report.
+/// Every string of bytes that has a header and is no longer than a log may be has a report.
 pub fn every_log_has_report()
     ensures { EveryLogHasReport }
 {}
@@ -144,13 +146,13 @@ pub fn one_report()
     ensures audit { OneAudit }
 {}
 
-/// The first `used` bytes of a log are its front's, and the rest stands behind them.
+/// The first `used` bytes of a log are those of its front, and the rest follows them.
 pub fn used_is_the_front()
     ensures { UsedIsFront }
 {}
 
-/// The state after each beginning of a front is well formed and has a spelling, also by its first
-/// point.
+/// The state after each beginning of a front is well formed, its first point included, and has a
+/// spelling.
 pub fn fronts_are_spelt()
     ensures { FrontsAreSpelt }
 {}
@@ -160,25 +162,25 @@ pub fn true_checkpoints_say_the_same()
     ensures { TrueIsSame }
 {}
 
-/// A text is the report from a true checkpoint exactly where it is the report.
+/// A text is the report from a true checkpoint exactly if it is the report.
 pub fn true_checkpoints_report_the_same()
     ensures { TrueSaysTheSame }
 {}
 
-/// Whatever beginning of the final aborts stands in the log, the final state is the same.
+/// Whatever beginning of the final aborts is in the log, the final state is the same.
 pub fn crash_is_harmless()
     ensures { CrashIsHarmless }
 {}
 
-/// Whatever beginning of the tail stands behind the front, there is a restart, its state is the
-/// same, and so are the queue lines.
+/// Whatever beginning of the tail follows the front, there is a restart, its state is the same, and
+/// so are the queue lines.
 pub fn crash_in_the_tail()
     ensures state { CrashInTheTail }
     ensures report { CrashSaysTheSame }
 {}
 
-/// A log is closed in one way; the closed log stands in its place, also while its tail is written,
-/// and to close it again changes nothing.
+/// A log is closed in one way. The closed log can replace that log, also while its tail is written,
+/// and closing it again changes nothing.
 pub fn closed_logs()
     ensures one { OneClosed }
     ensures front { ClosedFront }
@@ -186,13 +188,13 @@ pub fn closed_logs()
 {}
 
 /// A log in version 2 has the front, the restart, the report, the checkpoints and the audit of the
-/// log it was made of, and to upgrade it again changes nothing.
+/// log that it was made from, and upgrading it again changes nothing.
 pub fn upgrade_is_the_same()
     ensures { UpgradeIsSame }
 {}
 
 /// A crash while records are appended to a log loses none whose frame is whole, and invents none.
-/// Once all frames are there, all records are in the front. Whatever comes behind, they stay there.
+/// Once all frames are there, all records are in the front. Whatever follows, they stay there.
 pub fn appended_logs()
     ensures frames { CrashInFrames }
     ensures crash { CrashWhileAppending }
@@ -200,22 +202,22 @@ pub fn appended_logs()
     ensures stays { WrittenStays }
 {}
 
-/// A checkpoint of the state behind the front, appended to it, is true, and the report has the same
-/// queue lines.
+/// If a checkpoint of the state after the front is appended to it, the checkpoint is true, and the
+/// report has the same queue lines.
 pub fn appended_checkpoints()
     ensures truth { CheckpointIsTrue }
     ensures queues { CheckpointSaysTheSame }
 {}
 
-/// Whatever comes behind a log, no record of its front is taken back: the new front is the old one
-/// and what is found behind it.
+/// Whatever is added to a log, no record of its front is taken back: the new front is the old one
+/// and what is found after it.
 pub fn growing_logs()
     ensures grows { FrontGrows }
     ensures stays { FrontStays }
 {}
 
-/// Who keeps the records so far and the bytes behind them knows the front of a log that grows. To go
-/// on, a header, the last 32 bytes of the records and the bytes behind them are enough.
+/// Whoever keeps the records so far and the bytes after them knows the front of a log that grows.
+/// To go on, a header, the last 32 bytes of the records and the bytes after them are enough.
 pub fn followed_logs()
     ensures front { AlongIsFront }
     ensures window { WindowGoesOn }
@@ -228,7 +230,7 @@ pub fn carried_logs()
     ensures crash { CrashWhileCarriedGrows }
 {}
 
-/// A checkpoint and all bytes behind it restart in another file to the same, and so does a later
+/// A checkpoint and all bytes after it restart to the same in another file, and so does a later
 /// checkpoint there. A restart of the whole file finds no record, and says so. The files join: the
 /// last one has the front of all records together.
 pub fn continued_logs()
@@ -238,7 +240,7 @@ pub fn continued_logs()
     ensures join { FilesJoin }
 {}
 
-/// The state behind the front of a log, full or not, begins a new file by a checkpoint: its open
+/// The state after the front of a log, full or not, begins a new file with a checkpoint: its open
 /// units, elements, registrants and numbers go on, and so do the digests. Whatever is written
 /// there, the files join.
 pub fn logs_begun_anew()
@@ -248,32 +250,46 @@ pub fn logs_begun_anew()
     ensures gap { IsCarriedGap }
 {}
 
-/// What stays in a queue at an abort and what arrives have distinct ids, and are put in in any
+/// What stays in a queue at an abort and what arrives have distinct ids, and can be put in in any
 /// order.
 pub fn any_order()
     ensures ids { IdsDiffer }
     ensures order { PutInAnyOrder }
 {}
 
-/// In whatever order what returns to a queue at an abort and what arrives there is put in, it holds
-/// the same elements.
+/// In any order of putting in what returns to a queue at an abort and what arrives there, the queue
+/// ends with the same elements.
 pub fn any_list_in_any_order()
     ensures { AnyOrder }
 {}
 
-/// A well-formed state is decided by its numbers, units, definitions and parts.
+/// One record moves the part of each queue by itself, and so does the end of a unit.
+pub fn step_by_parts()
+    ensures step { StepByParts }
+    ensures ends { UnitEndsByParts }
+{}
+
+/// In mid-run the part of a queue is that of the state after the records so far, and a redo of more
+/// operations than those that touch the queue gives the same.
+pub fn redo_in_pieces()
+    ensures midway { MidwayPart }
+    ensures chosen { ChosenProjection }
+    ensures goes { ChosenGoesWell }
+{}
+
+/// A well-formed state is determined by its numbers, units, definitions and parts.
 pub fn parts_decide()
     ensures { PartsDecide }
 {}
 
-/// A queue's part after a run, and what left it meanwhile, are decided by its part before, the
+/// A queue's part after a run, and what left it meanwhile, are determined by its part before, the
 /// operations that touch it and what arrives.
 pub fn projection()
     ensures { Projection }
 {}
 
-/// The records that touch a queue are those that do after the records before them, each once,
-/// rising.
+/// The list of records that touch a queue has exactly those that do so after the records before
+/// them, each once, rising.
 pub fn touching_is_exact()
     ensures { TouchingIsExact }
 {}
@@ -300,14 +316,15 @@ pub fn arrivals_are_merged()
     ensures { ArrivalsAreMerged }
 {}
 
-/// What leaves a queue, and what arrives in one, stands in the order of places and ids.
+/// What leaves a queue, and what arrives in one, is ordered by place and id.
 pub fn moves_rise()
     ensures moves { MovesRise }
     ensures arrivals { ArrivalsRise }
 {}
 
-/// No request is lost, done twice or made up: as often as a number was requested, once at most, it
-/// is shown, was done or was killed. What no unit that commits enqueued was never taken.
+/// No request is lost, done twice or made up. A number is requested at most once. How often it is
+/// shown, was done and was killed adds up to how often it was requested. What no committing unit
+/// enqueued was never taken.
 pub fn one_fate()
     ensures sum { OneFate }
     ensures request { OneRequest }
@@ -315,8 +332,8 @@ pub fn one_fate()
     ensures others { OthersAreUntaken }
 {}
 
-/// Each element of a lawful run is as the ENQUEUE of its own number made it, and stands where its
-/// limits led it; what is left at the end is Free.
+/// Each element of a lawful run is as the ENQUEUE of its own number made it, and is where its
+/// limits led it. What is left at the end is Free.
 pub fn as_enqueued()
     ensures elements { AllAsEnqueued }
     ensures record_of { OneRecord }
@@ -331,8 +348,8 @@ pub fn bounded_tries()
     ensures takes { TakesAreTries }
 {}
 
-/// Who registers again learns how far it came: a registrant's last operation is the latest that it
-/// hears of, and who is registered has registered, with no DEREGISTER behind.
+/// A client that registers again learns how far it came: a registrant's last operation is the
+/// latest that it hears of, and whoever is registered has a REGISTER with no DEREGISTER after it.
 pub fn how_far()
     ensures last { HowFar }
     ensures registered { WhoIsRegistered }
@@ -346,8 +363,8 @@ pub fn counts_mean()
     ensures ends { RunsEnd }
 {}
 
-/// A restart changes nothing of it: of a log, of the closed log, of each beginning of it that holds
-/// the front, and from a true checkpoint, a restart accounts for each request and client.
+/// A restart changes nothing of this: a restart of a log, of the closed log, of each beginning of
+/// it that holds the front, or from a true checkpoint accounts for each request and client.
 pub fn restarts_account()
     ensures restart { RestartAccounts }
     ensures beginning { BeginningAccounts }
@@ -355,9 +372,9 @@ pub fn restarts_account()
     ensures checkpoint { CheckpointAccounts }
 {}
 
-/// A line `e p ..` stands in the report of a log, in that of its front with a beginning of the
-/// tail, and in that from a true checkpoint, as often as number p was requested, less how often it
-/// was done or killed.
+/// The report of a log has a line `e p ..` as often as number p was requested, less how often it
+/// was done or killed. So has the report of its front with a beginning of the tail, and the report
+/// from a true checkpoint.
 pub fn reports_account()
     ensures report { ReportAccounts }
     ensures beginning { BeginningReportAccounts }
@@ -386,8 +403,8 @@ pub fn worked_machine()
     ensures redo { WorkedRedo }
 {}
 
-/// Names, records, frames, states and the lines of a report, byte by byte, and each limit at its
-/// edge on both sides.
+/// Names, records, frames, states and the lines of a report, byte by byte, and each limit on both
+/// sides of its edge.
 pub fn worked_formats()
     ensures names { WorkedNames }
     ensures bodies { WorkedBodies }

@@ -89,13 +89,13 @@ none_filled n (d ∷ ds) all = let none = ap owner_count (all 0 d (omega arith))
 pub same_lists : (decks : List Deck) → map list_in (map deck_id decks) ≡ map deck_list decks
 same_lists decks = map_map deck_id list_in decks
 
--- there are as many of them
+-- there are as many of them as lists
 pub as_many : (decks : List Deck) (lists : Vec (Vec ℕ Global) Global) → map deck_list decks ≡ map vec_items lists.items
     → length decks ≡ vec_len lists
 as_many decks lists e = sym (length-map decks deck_list) ∙ ap length e ∙ length-map lists.items vec_items
     ∙ sym lists.ok.0
 
--- decks that were lent as a slice are the slice, where each is still the deck that it was
+-- decks that were lent as a slice are the slice, if each is still the deck that it was
 pub as_lent : (decks : Vec Deck Global) (new : List Deck) → map deck_id new ≡ map deck_id decks.items
     → (with_items decks new).items ≡ new
 as_lent decks new same = with_items_is decks new

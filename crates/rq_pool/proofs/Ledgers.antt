@@ -19,7 +19,7 @@ pub ledger_alone : (list taken : List ℕ) (takens : List (List ℕ)) → taken 
 ledger_alone list taken takens front one x = let h : ℕ → ℕ = λ y. cond (y == x) 1 0 in let t =
     ap (sum_by (times x)) one in let f = ap (times x) front in omega (arith, sum_by-take-drop h list (length taken))
 
--- what is said of all weights is said of each number
+-- what holds for all weights holds for each number
 pub ledger_of : (deal takens : List (List ℕ)) (left : List ℕ)
     → ((h : ℕ → ℕ) → sum_by (sum_by h) takens + sum_by h left ≡ sum_by (sum_by h) deal) → Ledger deal takens left
 ledger_of deal takens left sums x = sums (λ y. cond (y == x) 1 0)

@@ -44,7 +44,7 @@ sum_by-map f g (x ∷ xs) =
 pub sum_by_same : {A : Type 0} (f : A → ℕ) (xs ys : List A) → map f xs ≡ map f ys → sum_by f xs ≡ sum_by f ys
 sum_by_same f xs ys e = sym (sum-map f xs) ∙ ap sum e ∙ sum-map f ys
 
--- one more at the front of what is to come is one more behind
+-- an element added at the end of a list comes first when the list is reversed
 pub one_more_behind : {A : Type 0} (before : List A) (x : A) (after : List A)
     → (before ++ x ∷ []) ++ reverse after ≡ before ++ reverse (after ++ x ∷ [])
 one_more_behind before x after = append_assoc before (x ∷ []) (reverse after)
@@ -55,7 +55,7 @@ nothing_at zero j = refl
 nothing_at (suc n) zero = refl
 nothing_at (suc n) (suc j) = nothing_at n j
 
--- what stands first of what is dropped to stands there
+-- the first of what is left is what was at that index
 pub first_of_drop : {A : Type 0} (xs : List A) (k : ℕ) (y : A) (ys : List A) → drop k xs ≡ y ∷ ys
     → (slice_get xs k ≡ Some y) × (drop (suc k) xs ≡ ys)
 first_of_drop [] zero y ys e = absurd (cc)

@@ -22,7 +22,7 @@ parts_of v = v.parts
 abbrev weight : (ℕ → ℕ) → Share → ℕ
 weight h v = sum_by h v.taken
 
--- beside a pass with all parts, each other has none
+-- if a pass has all parts, every other pass has none
 others_none : (views : List Share) (port : ℕ) (v : Share) (j : ℕ) (u : Share) → get_elem? views port ≡ some v
     → sum_by parts_of views ≡ v.parts → j ≢ port → get_elem? views j ≡ some u → u.parts ≡ 0
 others_none views port v j u at all other here = let w : Share = share 0 [] [] in let t =

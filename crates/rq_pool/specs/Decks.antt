@@ -39,12 +39,12 @@ pub record IsStocked (n m : ℕ) (deck : Deck) : Type 0 where
   pub reserved : n ≤ vec_capacity deck.passes
   pub owner : deck.owner ≡ None
 
--- the owner of the deck's deque, of which each of n seats has one part
+-- the owner of the deck's deque; n seats have one part each
 abbrev pub IsOwnerOf : ℕ → Deck → Worker ℕ Global Share DealRule → Type 0
 IsOwnerOf n deck o = (worker_deque o ≡ stealer_deque deck.thief) × (worker_flavor o ≡ 0)
     × ((worker_view o).dealt ≡ deck.list.items) × ((worker_view o).parts + n ≡ 256)
 
--- an owner that a seat of n has not yet, and all that its deque was dealt
+-- an owner that a seat of n does not have yet, and all that its deque was dealt
 abbrev pub IsWhole : ℕ → Worker ℕ Global Share DealRule → Type 0
 IsWhole n owner = (worker_flavor owner ≡ 0)
     × ((worker_view owner).parts + n ≡ 256) × ((worker_view owner).taken ≡ [])
@@ -67,12 +67,12 @@ pub record IsComplete (deck : Deck) : Type 0 where
   pub passes : All (IsPassOf (worker_deque owner)) deck.passes.items
   pub parts : (worker_view owner).parts + sum_by parts_of deck.passes.items ≡ 256
 
--- the weight of what the owner took, where it came back
+-- the weight of what the owner took, if it came back
 abbrev pub owner_weight : (ℕ → ℕ) → Option (Worker ℕ Global Share DealRule) → ℕ
 owner_weight h None = 0
 owner_weight h (Some owner) = sum_by h (worker_view owner).taken
 
--- 1 where the owner came back
+-- 1 if the owner came back
 abbrev pub owner_count : Option (Worker ℕ Global Share DealRule) → ℕ
 owner_count None = 0
 owner_count (Some owner) = 1

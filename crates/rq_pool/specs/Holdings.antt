@@ -2,9 +2,8 @@
 use Rattle.std.specs.Prelude.{◌≡◌, ℕ, ◌+◌, ◌<◌, ◌≤◌, List, [], length, sum_by, slice_index_or}
 use Rattle.rq_pool.specs.declared.deque.Share.{Share}
 
--- the view of the deque of the seat's number, what it stole from each, its own aside, and the list
--- of all that it took; nothing was taken more often than it was dealt, however the numbers are
--- weighed
+-- the view of the deque of the seat's number, what it stole from each but its own, and the list of
+-- all that it took; nothing was taken more often than it was dealt, however the numbers are weighed
 pub record Holds (lists : List (List ℕ)) (number : ℕ) (v : Share)
     (stolens : List (List ℕ)) (taken : List ℕ) : Type 0 where
   pub numbered : number < length lists

@@ -1,11 +1,11 @@
--- What was dealt is what the seats took and what is left, each number as often.
+-- What was dealt is what the seats took plus what is left: each number occurs as often.
 use Rattle.std.specs.Prelude.{◌≡◌, ℕ, ◌+◌, ◌==◌, List, length, count_by, sum_by}
 
--- how often x stands in the list
+-- how often x occurs in the list
 abbrev pub times : ℕ → List ℕ → ℕ
 times x xs = count_by (λ y. y == x) xs
 
--- how often x stands in all lists together
+-- how often x occurs in all lists together
 abbrev pub times_in : ℕ → List (List ℕ) → ℕ
 times_in x lists = sum_by (times x) lists
 

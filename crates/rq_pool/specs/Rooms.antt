@@ -18,7 +18,7 @@ use Rattle.rq_pool.specs.Sources.{source_id, stolen}
 use Rattle.rq_pool.specs.Holdings.{Holds}
 use Rattle.rq_pool.specs.Vaults.{reach}
 
--- the deques of the room, as the seat names them that its vault was told of
+-- the deques of the room, named by the seat that its vault was told of
 abbrev pub ids_of : DequeRoom → List DeckId
 ids_of room = reach room.vault.table.shared.key
 
@@ -35,7 +35,7 @@ deal_in (Several room) = lists_of room
 abbrev pub deal_of : Room → List (List ℕ)
 deal_of room = deal_in room.body
 
--- how many seats such a room has
+-- how many seats a room with this body has
 abbrev pub seats_in : Body → ℕ
 seats_in (Single room) = 1
 seats_in (Several room) = length (ids_of room)
@@ -44,7 +44,7 @@ seats_in (Several room) = length (ids_of room)
 abbrev pub seats_of : Room → ℕ
 seats_of room = seats_in room.body
 
--- what a seat alone, or one beside others, has taken
+-- what a seat has taken, alone or beside others
 abbrev pub taken_in : Place → List ℕ
 taken_in (Alone seat) = seat.taken.items
 taken_in (Beside seat) = seat.taken.items
@@ -53,7 +53,7 @@ taken_in (Beside seat) = seat.taken.items
 abbrev pub taken_of : Seat → List ℕ
 taken_of seat = taken_in seat.place
 
--- alone, a seat has taken the list so far
+-- a seat alone has taken the list so far
 pub record IsListSeat (list : List ℕ) (seat : ListSeat) : Type 0 where
   pub front : seat.taken.items ≡ take (length seat.taken.items) list
   pub reserved : length list ≤ vec_capacity seat.taken

@@ -2,7 +2,7 @@
 use Rattle.std.specs.Prelude.{ℕ, List}
 use Rattle.rq_pool.specs.declared.deque.Share.{Share}
 
--- so many parts of the right to know the whole, what was dealt to the deque, and what the pass took
+-- its parts of the right to know the whole, what was dealt to the deque, and what the pass took
 -- from it
 abbrev pub share : ℕ → List ℕ → List ℕ → Share
 share parts dealt taken = record { parts = parts; dealt = dealt; taken = taken }

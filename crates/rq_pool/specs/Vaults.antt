@@ -10,7 +10,7 @@ use Rattle.rq_pool.specs.declared.seat.Place.TheVariants.{Alone, Beside}
 use Rattle.rq_pool.specs.Decks.{DeckId, deck_id, IsOpen, filled}
 use Rattle.rq_pool.specs.Sources.{source_id}
 
--- the deques that a seat alone, or one beside others, takes from
+-- the deques that a seat takes from, alone or beside others
 abbrev pub reach_at : Place → List DeckId
 reach_at (Alone seat) = []
 reach_at (Beside seat) = map source_id seat.sources.items

@@ -53,8 +53,8 @@ impl<T: Fits> Countdown<T> {
     ghost use Rattle.rq_pool.specs.Countdowns.Words.{history_of};
 
     /// A countdown of 1 to 4,095 sources, which are numbered from 0, with 1 to 64 passes. All
-    /// memory of it and of its passes is taken here; `Resources` where the host refuses it, and
-    /// then the key is dropped.
+    /// memory of it and of its passes is taken here. `Resources` if the host refuses it, and then
+    /// the key is dropped.
     pub fn open(
         alloc: Global,
         key: T::Key,

@@ -10,7 +10,7 @@ use crate::settle::settled;
 use crate::source::Source;
 use std::alloc::{AllocError, Global};
 
-/// A deque, the list that was dealt to it, and its owner and passes as far as no seat has them.
+/// A deque, the list that was dealt to it, and those of its owner and passes that no seat has.
 #[derive(Drop)]
 pub(crate) struct Deck {
     pub(crate) thief: Thief,
@@ -67,7 +67,7 @@ impl Deck {
     ghost use Rattle.rq_pool.specs.Decks.{IsStocked, deck_id};
     ghost use Rattle.rq_pool.specs.Sources.{source_id, stolen};
 
-    /// A pass of each deque, for a seat. After it, `rest` seats of n are to get theirs.
+    /// A pass of each deque, for a seat. After that, `rest` seats of n still have none.
     pub(crate) fn draw_all(
         alloc: Global,
         decks: &mut [Deck],
@@ -125,7 +125,7 @@ impl Deck {
 impl Deck {
     ghost use Rattle.rq_pool.specs.Decks.{IsOpen, IsOwnerOf, deck_id, filled, taken_weight};
 
-    // Takes in the owner. There was none before: two have more than all parts.
+    // Takes in the owner. There was none before: two would have more than all parts.
     fn seat(&mut self, owner: Owner, n: usize)
         requires few { n ≤ 64 }
         requires owner { IsOwnerOf n self.old owner }

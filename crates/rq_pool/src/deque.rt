@@ -12,8 +12,8 @@ use crossbeam_deque::{Pass, Steal, Stealer, Worker};
 use std::alloc::{AllocError, Global};
 use std::collections::LinkedList;
 
-/// A pass's parts of the right to know the whole, what was dealt, and what it took. No value of it
-/// is made.
+/// A pass's parts of the right to know the whole, what was dealt, and what it took. No value of
+/// this type is made.
 pub(crate) struct Share {
     pub(crate) parts: u64,
     pub(crate) dealt: LinkedList<u32>,
@@ -163,8 +163,8 @@ pub(crate) fn gather(owner: &mut Owner, pass: DequePass)
     owner.absorb::<Parts>(pass);
 }
 
-/// Two owners of one deque have no more than all parts together. So there are no two whose parts
-/// are more.
+/// Two owners of one deque have no more than all parts together. So two whose parts are more cannot
+/// exist.
 pub(crate) fn together(one: &mut Owner, mut two: Owner)
     requires { (worker_deque two ≡ worker_deque one.old) × (0 < (worker_view one.old).parts) }
     ensures { (worker_view one.old).parts + (worker_view two).parts ≤ 256 }

@@ -1,6 +1,6 @@
 //! What a worker passes before it begins a task.
 
-/// A worker calls `enter` with the number of a task after it took the task and before it does it.
+/// A worker calls `enter` with the number of a task after it takes the task and before it does it.
 pub trait Gate {
     fn enter(&self, task: u32);
 }

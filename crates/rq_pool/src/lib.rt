@@ -1,6 +1,6 @@
-//! How work is shared. A room deals numbers to seats, which take them, and at the close what was
-//! taken and what is left is the deal. A countdown gathers what its sources hand in, and gives it
-//! all to who hands in the last.
+//! How work is shared. A room is a work-stealing pool of numbers: when it is closed, what was taken
+//! plus what is left is exactly what was dealt. A countdown gathers what its sources hand in, and
+//! gives it all to whoever hands in last.
 #![tactic(auto)]
 
 mod countdown;

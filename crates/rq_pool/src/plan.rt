@@ -15,7 +15,7 @@ pub struct Plan {
 impl Plan {
     ghost use Rattle.rq_pool.specs.Plans.{workers_of, grain_of};
 
-    /// The plan of this many workers and this many frames a grain, where both are in their range.
+    /// The plan of this many workers and this many frames a grain, if both are in their range.
     pub fn new(workers: u32, grain: u32) -> Option<Plan>
         ensures range { IsSome result
             ↔ ((1 ≤ workers) × (workers ≤ 64) × (1 ≤ grain) × (grain ≤ 1000000)) }

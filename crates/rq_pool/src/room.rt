@@ -18,8 +18,7 @@ pub struct Room {
     pub(crate) body: Body,
 }
 
-/// Whether it has one seat: a plain list, without an atomic step, or a stealing deque for each
-/// seat.
+/// If it has one seat, a plain list, without an atomic step; if several, a stealing deque for each.
 #[derive(Drop)]
 pub(crate) enum Body {
     Single(ListRoom),
@@ -31,8 +30,8 @@ impl Room {
     ghost use Rattle.rq_pool.specs.Rooms.{IsSeatOf, taken_of, deal_of, seats_of};
 
     /// A room with a seat for each list, 1 to 64 of them, with at most 65,536 numbers in all. The
-    /// same number may stand more than once. All memory of the room and of its seats is taken here;
-    /// `Resources` where the host refuses it, and then the lists are dropped.
+    /// same number may occur more than once. All memory of the room and of its seats is taken here.
+    /// `Resources` if the host refuses it, and then the lists are dropped.
     pub fn open(alloc: Global, mut lists: Vec<Vec<u32>>) -> Result<(Room, Vec<Seat>), Fault>
         requires seats { (1 ≤ vec_len lists) × (vec_len lists ≤ 64) }
         requires short { size (map vec_items lists.items) ≤ 65536 }
@@ -80,7 +79,7 @@ impl Room {
     ghost use Rattle.rq_pool.specs.Rooms.{takens_of};
 
     /// What the seats have taken, in the order in which they are handed in, and what is left.
-    /// Together these hold each number as often as the deal does. The seats are those of this room,
+    /// Together these hold each number as often as it was dealt. The seats are those of this room,
     /// all of them, in any order. It takes no memory and waits for nobody.
     pub fn close(self, seats: Vec<Seat>) -> Left
         requires seats { All (IsSeatOf self) seats.items }

@@ -9,7 +9,7 @@ use crate::list_room::ListSeat;
 use crate::room::{Body, Room};
 use crate::source::Source;
 
-/// Who holds it takes numbers of its room, in any thread.
+/// Its holder takes numbers of its room, in any thread.
 #[derive(Drop)]
 pub struct Seat {
     pub(crate) place: Place,
@@ -27,10 +27,10 @@ impl Seat {
     ghost use Rattle.rq_pool.specs.Rooms.{IsSeatOf, taken_of, deal_of, seats_of};
 
     /// A dealt number: the next of the seat's own list, or else one of another seat's that a single
-    /// steal at each of them in turn finds. None where neither gives one, which in a room of
-    /// several does not say that none is left: a steal that must be tried again counts as none. A
-    /// seat alone is told None only once it has taken the whole deal. It takes no memory and waits
-    /// for nobody.
+    /// steal at each of them in turn finds. None if neither gives one. In a room of several that
+    /// does not say that none is left: a steal that must be tried again counts as none. The seat of
+    /// a room of one is told None only after it has taken the whole deal. It takes no memory and
+    /// waits for nobody.
     pub fn take(&mut self, room: &Room) -> Option<u32>
         requires seat { IsSeatOf room.now self.old }
         ensures seat { IsSeatOf room.now self.new }

@@ -1,4 +1,4 @@
-//! Where a room that threads share keeps its decks: the one slot of a table that nobody steps on.
+//! Where a room shared by threads keeps its decks: the one slot of a table that nobody steps on.
 
 ghost use Rattle.std.specs.Prelude.{◌≡◌, IfOk};
 ghost use Rattle.rq_pool.specs.Vaults.{Keeps, reach};

@@ -72,7 +72,7 @@ marked_more items free rest old new e s taken h =
         (IsPermutation-sym ((s.left ++ s.list) ++ e ∷ s.right) (e ∷ ((s.left ++ s.list) ++ s.right))
         (IsPermutation-middle (s.left ++ s.list) e s.right)))
 
--- keys differ where ids do
+-- keys differ if ids do
 free_total : IsTotalOrder free_cmp
 free_total = then_total (on_total (λ (k : Reverse ℕ × ℕ). k.0.0) (back_total nat_cmp_total))
     (on_total (λ (k : Reverse ℕ × ℕ). k.1) nat_cmp_total)
@@ -93,7 +93,7 @@ distinct_keys (x ∷ es) keyed apart = (others es keyed.1 apart.0, distinct_keys
     others [] k n = tt
     others (y ∷ ys) k n = (unlike x y keyed.0 k.0 n.0, others ys k.1 n.1)
 
--- entries whose keys differ are those that stand under the same keys, in some order
+-- entries whose keys differ are those under the same keys, in some order
 abbrev is_same : Reverse ℕ × ℕ → Reverse ℕ × ℕ → Bool
 is_same = eq_by_cmp free_cmp
 

@@ -45,7 +45,7 @@ none_free queue (x ∷ es) h = each_append (λ f. is_free_at queue f ≡ false) 
     (each_weaker (λ f. is_marked x.0 f.mark ≡ true) (λ f. is_free_at queue f ≡ false)
     (λ f t. ap (λ b. b && (f.home == queue)) (not_free x.0 f.mark t)) x.1.items h.0) (none_free queue es h.1)
 
--- what stands behind the first entry is behind its element
+-- what comes after the first entry comes after its element
 all_behind : (queue : ℕ) (x : Entry) (es : List Entry) → IsKeyed x → AllByRecursion IsKeyed es
     → AllByRecursion (λ (k : Reverse ℕ × ℕ). rank_cmp (x.0.0.0, x.0.1) (k.0.0, k.1) ≡ Less) (keys_of es)
     → AllByRecursion (IsBehind queue x.1) (values_of es)
@@ -57,7 +57,7 @@ all_behind queue x (e ∷ es) a b h = (
   all_behind queue x es a b.1 h.1,
 )
 
--- the first entry is Free in the queue, and all others are behind it
+-- the first entry is Free in the queue, and all others come after it
 pub first_facts : (queue : ℕ) (x : Entry) (all rest : List Entry) (old : Lists) → all ≡ x ∷ rest
     → AllByRecursion IsKeyed all → AllByRecursion IsOfUnit old
     → AllByRecursion (λ (k : Reverse ℕ × ℕ). rank_cmp (x.0.0.0, x.0.1) (k.0.0, k.1) ≡ Less) (keys_of rest)

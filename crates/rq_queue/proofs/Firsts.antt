@@ -11,7 +11,7 @@ use Rattle.rq_model.specs.States.{Element, Held, id_before}
 use Rattle.rq_model.specs.Machine.{is_free_at, comes_first, is_best, best, best_held, marked}
 use Rattle.rq_model.proofs.Lists.{by_cases, map_all, each_weaker}
 
--- e stands before f, where that is Free
+-- e comes before f, if f is Free
 abbrev pub IsBehind : ℕ → Element → Element → Type 0
 IsBehind queue e f = is_free_at queue f ≡ true → (comes_first e f ≡ true) × (comes_first f e ≡ false)
 
@@ -45,7 +45,7 @@ first_held unit queue e es t h i = cond (first_best queue e es t h i) (marked (H
     (each_weaker (IsBehind queue e) (λ f. cond (is_best queue (e ∷ es) f) (marked (Held unit) f) f ≡ f)
     (λ f k. ap (λ b. cond b (marked (Held unit) f) f) (not_best queue e f es t k)) es h) i
 
--- the first that passes, where all that pass have the id
+-- the first that passes, if all that pass have the id
 find_among : (p : Element → Bool) (id : ℕ) (es : List Element) → AllByRecursion (λ e. p e ≡ true → e.id ≡ id) es
     → list_any p es ≡ true → option_map (λ (e : Element). e.id) (find p es) ≡ Some id
 find_among p id [] h k = absurd (false≢true k)
@@ -76,7 +76,7 @@ best_is queue e es t h = find_among (is_best queue (sorted (e ∷ es))) e.id (so
     ∙ ap (λ b. b || list_any (is_best queue (sorted (e ∷ es))) es)
     (best_any_order queue (e ∷ es) e ∙ first_best queue e es t h))
 
--- where none is Free there is no best
+-- if none is Free, there is no best
 pub no_best : (queue : ℕ) (es : List Element) → AllByRecursion (λ f. is_free_at queue f ≡ false) es
     → best queue (sorted es) ≡ None
 no_best queue es h = find_none (is_best queue (sorted es)) (sorted es)

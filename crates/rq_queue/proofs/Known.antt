@@ -25,7 +25,7 @@ use Rattle.rq_queue.proofs.Sorting.{apart_into, each_front, each_put, each_sorte
 use Rattle.rq_queue.proofs.Sorting.{filter_sorted}
 use Rattle.rq_queue.proofs.Units.{Lists, same_key}
 
--- what stands under an id once it is put there, and under all others
+-- what is under an id after it is put there, and under all others
 equal_keys : (k : ℕ) → is_eq (nat_cmp k k) ≡ true
 equal_keys k = grind (arith)
 
@@ -159,7 +159,7 @@ pub known_unsorted : (o : Option (BTreeMap ℕ ℕ)) (es : List Element) → Are
 known_unsorted None es h = tt
 known_unsorted (Some by_id) es h = each_unsorted (IsKnown by_id.entries) es h
 
--- The element of an id, where its priority is known.
+-- The element of an id, if its priority is known.
 
 no_such : (id : ℕ) (by_id : List (ℕ × ℕ)) → lookup (is_at (nat_cmp id)) by_id ≡ None → (e : Element) → IsKnown by_id e
     → not (e.id == id) ≡ true

@@ -33,7 +33,7 @@ less_leads p i q j h = (
 pub behind : (queue : ℕ) (e f : Element) → rank_cmp (e.priority, e.id) (f.priority, f.id) ≡ Less → IsBehind queue e f
 behind queue e f h free = less_leads e.priority e.id f.priority f.id h
 
--- e stands in front, is Free, and goes to the end as Held
+-- e is at the front, is Free, and goes to the end as Held
 pub taken : PutInAnyOrder → (unit queue : ℕ) (e : Element) (free held : List Element) → is_free_at queue e ≡ true
     → AllByRecursion (IsBehind queue e) free → AllByRecursion (λ f. is_free_at queue f ≡ false) held
     → Apart (e ∷ free ++ held)
@@ -54,7 +54,7 @@ taken law unit queue e free held t first rest apart =
         (each_weaker (λ (f : Element). e.id ≢ f.id) (λ (f : Element). f.id ≢ e.id) (λ f n s. n (sym s))
         (free ++ held) apart.0)
 
--- where none is Free, nothing changes
+-- if none is Free, nothing changes
 pub none_held : (unit queue : ℕ) (es : List Element) → AllByRecursion (λ f. is_free_at queue f ≡ false) es
     → sorted es ≡ best_held unit queue (sorted es)
 none_held unit queue es h =

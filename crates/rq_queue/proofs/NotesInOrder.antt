@@ -111,7 +111,7 @@ outside p q xs x h = filter-append q (filter p xs) (x ∷ filter (λ y. not (p y
 abbrev pub Rising : List Note → Type 0
 Rising es = Ordered (λ a b. a.last.place < b.last.place) es
 
--- a rising list is what stands before a number, and then the rest
+-- a rising list is its part before a number, and then the rest
 halves : (x : Note) (xs : List Note) → Rising xs
     → filter (λ y. place_before y x) xs ++ filter (λ y. not (place_before y x)) xs ≡ xs
 halves x [] h = refl
@@ -127,7 +127,7 @@ halves x (y ∷ ys) h = by_cases (nat_lt y.last.place x.last.place)
     (λ z l. ap not (le-ltb z.last.place x.last.place (omega (arith, ltb-false y.last.place x.last.place n)))) ys
     h.0) i)
 
--- what stands in a by_place list stood in the list
+-- what is in a by_place list was in the list
 each_put : (P : Note → Type 0) (x : Note) (xs : List Note) → P x → AllByRecursion P xs
     → AllByRecursion P (put place_before x xs)
 each_put P x xs h k = each_append P (filter (λ y. place_before y x) xs) (x ∷ filter (λ y. not (place_before y x)) xs)
@@ -180,7 +180,7 @@ filter_sorted p (x ∷ xs) h = by_cases (p x)
     (λ t u. outside (λ y. place_before y x) p (by_place xs) x u
     ∙ (ap (filter p) (halves x (by_place xs) (rising_sorted xs h.1)) ∙ filter_sorted p xs h.1)) refl
 
--- where an element stands in the list makes no difference
+-- where an element is in the list makes no difference
 pub sorted_from : PutInAnyOrder → (xs : List Note) (y : Note) (ys : List Note) → Apart (xs ++ y ∷ ys)
     → by_place (xs ++ y ∷ ys) ≡ put place_before y (by_place (xs ++ ys))
 sorted_from law [] y ys h = refl

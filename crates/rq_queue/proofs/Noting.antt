@@ -73,7 +73,7 @@ filtered_by_place p es h =
           ordered_filter (λ (a b : NoteEntry). a.0 < b.0) p es h.rising;
     }
 
--- One more, behind all others.
+-- One more, after all others.
 
 is_less : (a b : ℕ) → a < b → nat_cmp a b ≡ Less
 is_less a b h = ap (λ t. cond t Less (cond (a == b) Equal Greater)) (lt-ltb a b h)
@@ -127,7 +127,7 @@ is_equal Equal h = refl
 is_equal Greater h = absurd (false≢true h)
 
 module _ {K : Type 0} (R : K → K → Ordering) (total : IsTotalOrder R) (key : Note → K) where
-  -- the place stands under the note's key
+  -- the place is under the note's key
   abbrev pub IsFiled : List (K × Vec ℕ) → NoteEntry → Type 0
   IsFiled index e = has_place e.0 (filed R (key e.1) index) ≡ true
 
@@ -161,7 +161,7 @@ module _ {K : Type 0} (R : K → K → Ordering) (total : IsTotalOrder R) (key :
       ((λ i. has_place (sym here i) (filed R (sym at i) new)) ∙ newly_filed k p old new more, tt)
 
   module _ (k : K) (own : Note → Bool) (same : (n : Note) → is_eq (R k (key n)) ≡ own n) where
-    -- all places of the key's notes stand under it
+    -- all places of the key's notes are under it
     pub all_filed : (index : List (K × Vec ℕ)) (es : List NoteEntry) → AllByRecursion (IsFiled index) es
         → AllByRecursion (λ (e : NoteEntry). own e.1 ≡ true → has_place e.0 (filed R k index) ≡ true) es
     all_filed index es h = each_weaker (IsFiled index)
@@ -182,7 +182,7 @@ module _ {K : Type 0} (R : K → K → Ordering) (total : IsTotalOrder R) (key :
 not_here : (k m n : ℕ) → m < n → is_eq (nat_cmp k n) ≡ true → is_eq (nat_cmp k m) ≡ false
 not_here k m n l t = grind (arith, nat_tests)
 
--- what stands at the place is what is found there
+-- what is at the place is what is found there
 found : (k : ℕ) (es : List NoteEntry) → Ordered (λ (a b : NoteEntry). a.0 < b.0) es
     → AllByRecursion (λ (e : NoteEntry). is_eq (nat_cmp k e.0) ≡ true → lookup (is_at (nat_cmp k)) es ≡ Some e.1) es
 found k [] h = tt
@@ -198,7 +198,7 @@ own_there : (whose : Whose) (k : ℕ) (b : Bool) (es : List NoteEntry) → Order
 own_there whose k b es h o = each_weaker _ _ (λ e f t. sym (ap (has_own whose) (f (equal_numbers k e.0 ∙ t))) ∙ o) es
     (found k es h)
 
--- none of theirs stands there
+-- none of theirs is there
 pub none_drawn : (whose : Whose) (k : ℕ) (es : List NoteEntry) → AreByPlace es
     → has_own whose (lookup (is_at (nat_cmp k)) es) ≡ false → es ≡ left whose (k ∷ []) es
 none_drawn whose k es h o =
@@ -206,7 +206,7 @@ none_drawn whose k es h o =
     (each_weaker _ _ (λ e f. by_cases (k == e.0) (λ b. not ((b || false) && is_own whose e.1) ≡ true)
     (λ t. ap not (f t)) (λ _. refl)) es (own_there whose k false es h.rising o)))
 
--- one of theirs stands there
+-- one of theirs is there
 pub one_drawn : (whose : Whose) (k : ℕ) (es : List NoteEntry) → AreByPlace es
     → has_own whose (lookup (is_at (nat_cmp k)) es) ≡ true
     → remove_entry (is_at (nat_cmp k)) es ≡ left whose (k ∷ []) es

@@ -159,7 +159,7 @@ pub told_none : (unit : ℕ) (rs : List Registrant) → map (told unit []) rs �
 told_none unit [] = refl
 told_none unit (r ∷ rs) = λ i. r ∷ told_none unit rs i
 
--- One behind all others.
+-- One after all others.
 
 pub added_last : (r : Registrant) (es : List RollEntry)
     → AllByRecursion (λ x. registrant_before x r ≡ true) (map registrant_of es)

@@ -134,7 +134,7 @@ module _ {K V : Type 0} (R : K → K → Ordering) (total : IsTotalOrder R) wher
   appended k v (x ∷ es) h = ap (λ o. match_ordering o ((k, v) ∷ x ∷ es) ((x.0, v) ∷ es) (x ∷ insert_entry R es k v))
       (turned R total x.0 k Less h.0) ∙ ap (λ (xs : List (K × V)). x ∷ xs) (appended k v es h.1)
 
-  -- a new key, where the entries are seen as f sees them
+  -- a new key, if the entries are seen as f sees them
   module _ {X : Type 0} (before : X → X → Bool) (f : K × V → X)
       (same : (a b : K × V) → is_lt (R a.0 b.0) ≡ before (f a) (f b)) where
     pub inserted : (k : K) (v : V) (es : List (K × V)) → Up es

@@ -75,7 +75,7 @@ outside p q xs x h = filter-append q (filter p xs) (x ∷ filter (λ y. not (p y
 abbrev pub Rising : List Element → Type 0
 Rising es = Ordered (λ a b. a.id < b.id) es
 
--- a rising list is what stands before a number, and then the rest
+-- a rising list is its part before a number, and then the rest
 halves : (x : Element) (xs : List Element) → Rising xs
     → filter (λ y. id_before y x) xs ++ filter (λ y. not (id_before y x)) xs ≡ xs
 halves x [] h = refl
@@ -90,7 +90,7 @@ halves x (y ∷ ys) h = by_cases (nat_lt y.id x.id)
     (each_weaker (λ z. y.id < z.id) (λ z. not (id_before z x) ≡ true)
     (λ z l. ap not (le-ltb z.id x.id (omega (arith, ltb-false y.id x.id n)))) ys h.0) i)
 
--- what stands in a sorted list stood in the list
+-- what is in a sorted list was in the list
 pub each_put : (P : Element → Type 0) (x : Element) (xs : List Element) → P x → AllByRecursion P xs
     → AllByRecursion P (put id_before x xs)
 each_put P x xs h k = each_append P (filter (λ y. id_before y x) xs) (x ∷ filter (λ y. not (id_before y x)) xs)
@@ -146,7 +146,7 @@ pub all_sorted : (p : Element → Bool) (xs : List Element) → list_all p (sort
 all_sorted p [] = refl
 all_sorted p (x ∷ xs) = all_put p x (sorted xs) ∙ ap (λ b. p x && b) (all_sorted p xs)
 
--- where an element stands in the list makes no difference
+-- where an element is in the list makes no difference
 pub sorted_from : PutInAnyOrder → (xs : List Element) (y : Element) (ys : List Element) → Apart (xs ++ y ∷ ys)
     → sorted (xs ++ y ∷ ys) ≡ put id_before y (sorted (xs ++ ys))
 sorted_from law [] y ys h = refl
@@ -251,7 +251,7 @@ put_last e xs h = λ i. filter_all (λ y. id_before y e) xs h i ++ e
     ∷ filter_none (λ y. not (id_before y e)) xs
     (each_weaker (λ y. id_before y e ≡ true) (λ y. not (id_before y e) ≡ false) (λ y t. ap not t) xs h) i
 
--- what holds of all that stand in a sorted list holds of all
+-- what holds for all that are in a sorted list holds for all
 each_half : (P : Element → Type 0) (p : Element → Bool) (xs : List Element) → AllByRecursion P (filter p xs)
     → AllByRecursion P (filter (λ y. not (p y)) xs) → AllByRecursion P xs
 each_half P p [] h k = tt

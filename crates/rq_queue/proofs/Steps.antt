@@ -17,7 +17,7 @@ op_well goes p ops i op ms l o h well =
     (subst (λ (os : List Op). GoesWell p os ms) (drop_more ops i op l ∙ ap (λ (x : Op). x ∷ drop (i + 1) ops) (sym o))
     well)
 
--- the next arrival is new, where no operation is left that stands before it
+-- the next arrival is new, if no operation before it is left
 pub arrived_well : GoesOn → (p : Part) (ops : List Op) (m : Move) (ms : List Move)
     → ((op : Op) (rest : List Op) → ops ≡ op ∷ rest → m.place < op.place) → GoesWell p ops (m ∷ ms)
     → AllByRecursion (λ e. e.id ≢ m.element.id) p.elements × GoesWell (receive (m ∷ []) p) ops ms
@@ -44,7 +44,7 @@ op_sent steps p q ops i op ms old new l o e s h =
     ∙ (ap (λ (x : List Move). x ++ all_sent (act op.place op.does p) (drop (i + 1) ops) ms) (sym s)
     ∙ ap (λ (x : Part). new ++ all_sent x (drop (i + 1) ops) ms) (sym e))))
 
--- the next arrival is put in, where no operation is left that stands before it
+-- the next arrival is put in, if no operation before it is left
 pub arrived : RedoSteps → (p : Part) (ops : List Op) (m : Move) (ms : List Move)
     → ((op : Op) (rest : List Op) → ops ≡ op ∷ rest → m.place < op.place)
     → (redone p ops (m ∷ ms) ≡ redone (receive (m ∷ []) p) ops ms)

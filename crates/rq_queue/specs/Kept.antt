@@ -23,7 +23,7 @@ IsKeyed e = (e.0 ≡ (record { 0 = e.1.priority }, e.1.id)) × (is_free e.1.mark
 abbrev pub IsOfUnit : ℕ × Vec Element → Type 0
 IsOfUnit e = AllByRecursion (λ x. is_marked e.0 x.mark ≡ true) e.1.items
 
--- e stands at the end of the list of its unit, and the others stay
+-- e is at the end of the list of its unit, and the others stay
 pub record Stowed (e : Element) (old new : List (ℕ × Vec Element)) : Type 0 where
   pub list : List Element
   pub front : List Element

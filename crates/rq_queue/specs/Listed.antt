@@ -16,8 +16,8 @@ contents a = values_of a.free.entries ++ items_of a.marked.entries
 abbrev pub elements_inside : Inside → List Element
 elements_inside a = sorted (contents a)
 
--- each Free element stands under its key, each other one with its unit, and numbers differ;
--- priorities that are kept are theirs
+-- each Free element is under its key, each other one with its unit, and numbers differ; priorities
+-- that are kept are theirs
 pub record IsShelved (a : Inside) : Type 0 where
   pub keyed : AllByRecursion IsKeyed a.free.entries
   pub of_units : AllByRecursion IsOfUnit a.marked.entries

@@ -1,5 +1,5 @@
--- How the notes of a queue are kept: by place, and under each unit and registrant the places where
--- its notes stand.
+-- How the notes of a queue are kept: by place, and under each unit and registrant the places of its
+-- notes.
 use Rattle.std.specs.Prelude.{◌≡◌, ◌≢◌, ◌<◌, ◌==◌, ℕ, Bool, true, false, not, ◌&&◌, List, Option}
 use Rattle.std.specs.Prelude.{Some, None, [], ◌∷◌, ◌++◌, filter}
 use Rattle.std.specs.BTreeMap.{is_at}
@@ -26,11 +26,11 @@ Apart ns = Ordered (λ a b. a.last.place ≢ b.last.place) ns
 abbrev pub Rises : List Note → Type 0
 Rises ns = Ordered (λ a b. a.last.place < b.last.place) ns
 
--- a place, with the note that stands there
+-- a place, with the note at it
 abbrev pub NoteEntry : Type 0
 NoteEntry = ℕ × Note
 
--- each note stands at its place, and the places rise
+-- each note is at its place, and the places rise
 pub record AreByPlace (es : List NoteEntry) : Type 0 where
   pub placed : AllByRecursion (λ (e : NoteEntry). e.0 ≡ e.1.last.place) es
   pub rising : Ordered (λ (a b : NoteEntry). a.0 < b.0) es
@@ -43,12 +43,12 @@ abbrev pub list_of : Option (Vec ℕ) → List ℕ
 list_of None = []
 list_of (Some places) = places.items
 
--- the places that stand under a key
+-- the places under a key
 abbrev pub filed : {K : Type 0} → (K → K → Ordering) → K → List (K × Vec ℕ) → List ℕ
 filed R k es = list_of (lookup (is_at (R k)) es)
 
--- each place of a note stands under its unit and under its registrant; what else stands there may
--- be out of date
+-- each place of a note is under its unit and under its registrant; other places there may be out of
+-- date
 pub record AreKept (all : List NoteEntry) (units : List (ℕ × Vec ℕ))
     (names : List ((ℕ × List ℕ) × Vec ℕ)) : Type 0 where
   pub by_place : AreByPlace all

@@ -6,11 +6,11 @@ use Rattle.std.specs.Map.{lookup}
 use Rattle.std.specs.Ordering.{nat_cmp}
 use Rattle.rq_model.specs.States.{Element}
 
--- the priority of the element stands under its id
+-- the priority of the element is kept under its id
 abbrev pub IsKnown : List (ℕ × ℕ) → Element → Type 0
 IsKnown by_id e = lookup (is_at (nat_cmp e.id)) by_id ≡ Some e.priority
 
--- that of each element does, where priorities are kept
+-- so is that of each element, if priorities are kept
 abbrev pub AreKnown : Option (BTreeMap ℕ ℕ) → List Element → Type 0
 AreKnown None es = ⊤
 AreKnown (Some by_id) es = AllByRecursion (IsKnown by_id.entries) es

@@ -15,7 +15,7 @@ use rq_record::Fault;
 use std::alloc::Global;
 use std::collections::BTreeMap;
 
-// Whether a note of theirs stands at the place.
+// Whether a note of theirs is at the place.
 fn stands(all: &BTreeMap<u64, KeptNote>, place: u64, whose: &Whose) -> bool
     ensures { result ≡ has_own whose.now (lookup (is_at (nat_cmp place)) all.now.entries) }
 {

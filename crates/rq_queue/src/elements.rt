@@ -23,15 +23,15 @@ use std::alloc::Global;
 use std::collections::BTreeMap;
 use std::marker::Model;
 
-/// The elements of a queue, by id. Free ones stand by priority and id, so that the best one is the
-/// first; the others stand with the unit that marks them. So an operation costs the logarithm of
-/// their number for each element that it changes.
+/// The elements of a queue, by id. Free ones are ordered by priority and id, so that the best one
+/// is the first; the others are kept with the unit that marks them. So an operation costs the
+/// logarithm of their number for each element that it changes.
 ///
-/// From the first KILL on the priority of each element stands under its id, since a KILL names no
-/// priority. An entry may be of an element that has gone: it is only where to look. A queue without
-/// a KILL keeps none.
+/// From the first KILL on, the priority of each element is kept under its id, since a KILL names no
+/// priority. An entry may be of an element that has gone: it only says where to look. A queue
+/// without a KILL keeps none.
 #[derive(Drop)]
-pub(crate) struct Elements {
+pub struct Elements {
     free: BTreeMap<Rank, KeptElement>,
     marked: BTreeMap<u64, Vec<KeptElement>>,
     priorities: Option<BTreeMap<u64, u8>>,
@@ -52,7 +52,7 @@ impl Model for Elements {
 
 impl Elements {
     /// No element.
-    pub(crate) fn none(alloc: Global) -> Elements
+    pub fn none(alloc: Global) -> Elements
         ensures { result ≡ [] }
     {
         Elements {
@@ -142,8 +142,9 @@ impl Elements {
         self.push(alloc, e)
     }
 
-    /// The best element becomes Held; all are in the queue. Its id, if there is one.
-    pub(crate) fn hold_best(
+    /// The best element becomes Held. Answers its id, if there is one. All elements are in the
+    /// queue.
+    pub fn hold_best(
         self,
         alloc: Global,
         unit: UnitNo,
@@ -225,7 +226,7 @@ impl Elements {
         })
     }
 
-    /// The Free element of that id goes, if there is one; all are in the queue.
+    /// The Free element of that id goes, if there is one. All elements are in the queue.
     pub(crate) fn kill(self, alloc: Global, queue: QueueNo, id: ElemId) -> Result<Elements, Fault>
         requires { AllByRecursion (λ (x : model.Element). x.home ≡ queue.0) self }
         ensures done { IfOk result (λ v. v ≡ machine.killed queue.0 id.0 self) }

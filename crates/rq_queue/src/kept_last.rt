@@ -9,8 +9,8 @@ use rq_state::Last;
 use std::alloc::Global;
 use std::marker::Model;
 
-/// The last operation of a registrant, where there is one, in 16 bytes and 40 elsewhere: of many
-/// registrants that a log brings in most may have none yet.
+/// The last operation of a registrant, if there is one, in 16 bytes and 40 elsewhere. A log may
+/// bring in many registrants, and most of them may have none yet.
 #[derive(Drop)]
 pub(crate) struct KeptLast {
     last: Option<Box<Last>>,
@@ -57,8 +57,8 @@ impl KeptLast {
         }
     }
 
-    /// Hears of another operation: it is the last one then, where its place is greater. Refused
-    /// with Resources.
+    /// Hears of another operation: it becomes the last one, if its place is greater. Refused with
+    /// Resources.
     pub(crate) fn hear(&mut self, alloc: Global, other: &Last) -> Result<(), Fault>
         ensures later { OnOk result (self.new ≡ machine.later self.old other.now) }
         ensures refused { IfErr result (λ e. e ≡ Resources) }

@@ -9,8 +9,8 @@ use rq_state::{Last, Note};
 use std::alloc::Global;
 use std::marker::Model;
 
-/// A note in 8 bytes and 72 of its own, where a `Note` takes 120: a unit may make many, and a map
-/// whose keys come in order has room for about twice as many as it holds.
+/// A note in 8 bytes and 72 of its own; a `Note` takes 120. A unit may make many, and a map whose
+/// keys come in order has room for about twice as many as it holds.
 #[derive(Drop)]
 pub(crate) struct KeptNote {
     held: Box<Held>,

@@ -1,5 +1,5 @@
-//! Redo of one queue: its part of the state, the operations that touch it and what arrives from
-//! other queues give its part after the run and what left it for its error queue.
+//! Redo of one queue. Its part of the state, the operations that touch it and what arrives from
+//! other queues give two things: its part after the run, and what left it for its error queue.
 #![tactic(auto)]
 
 mod departures;
@@ -20,7 +20,10 @@ mod registrants;
 mod shelves;
 mod whose;
 
+pub use elements::Elements;
 pub use moves::{KeptMove, Move};
+pub use notes::Notes;
 pub use operations::{KeptOp, Op};
 pub use part::Part;
+pub use places::{file, unfiled};
 pub use redoing::{redo, redo_kept};

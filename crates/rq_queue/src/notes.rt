@@ -20,11 +20,11 @@ use std::alloc::Global;
 use std::collections::BTreeMap;
 use std::marker::Model;
 
-/// The notes of a queue, by place. Under each unit and each registrant stand the places of its
-/// notes, so that the end of a unit and a DEREGISTER cost their own notes alone. Such a list may
-/// keep the place of a note that has gone: it is only where to look.
+/// The notes of a queue, by place. The places of its notes are listed under each unit and each
+/// registrant, so that the end of a unit and a DEREGISTER cost only their own notes. A list may
+/// keep the place of a note that has gone: it only says where to look.
 #[derive(Drop)]
-pub(crate) struct Notes {
+pub struct Notes {
     all: BTreeMap<u64, KeptNote>,
     units: BTreeMap<u64, Vec<u64>>,
     names: BTreeMap<(u32, KeptName), Vec<u64>>,
@@ -45,7 +45,7 @@ impl Model for Notes {
 
 impl Notes {
     /// No note.
-    pub(crate) fn none(alloc: Global) -> Notes
+    pub fn none(alloc: Global) -> Notes
         ensures { result ≡ [] }
     {
         Notes {
@@ -94,8 +94,8 @@ impl Notes {
         listed(alloc, self.all)
     }
 
-    /// Adds the note of an operation, where somebody is named.
-    pub(crate) fn note(
+    /// Adds the note of an operation, if somebody is named.
+    pub fn note(
         self,
         alloc: Global,
         place: u64,

@@ -28,9 +28,11 @@ use std::mem::replace;
 pub struct Part {
     queue: QueueNo,
     definition: Definition,
-    elements: Elements,
+    /// Its elements.
+    pub elements: Elements,
     registrants: Registrants,
-    notes: Notes,
+    /// Its notes.
+    pub notes: Notes,
 }
 
 impl Model for Part {
@@ -119,7 +121,7 @@ impl Part {
         add(fields, elements, registrants, notes)
     }
 
-    /// The same of fields that are kept, to which the elements themselves go.
+    /// The same for fields that are kept: the elements themselves go there.
     pub fn pour_kept(self, fields: &mut KeptFields) -> Result<(), Fault>
         ensures elements { Grows fields.old.elements.items
             self.elements fields.new.elements.items result }
@@ -142,7 +144,7 @@ impl Part {
     }
 
     /// Puts in what arrives.
-    pub(crate) fn receive(&mut self, alloc: Global, arrival: KeptMove) -> Result<(), Fault>
+    pub fn receive(&mut self, alloc: Global, arrival: KeptMove) -> Result<(), Fault>
         requires new { AllByRecursion
             (λ (e : states.Element). e.id ≢ arrival.element.id) self.old.elements }
         ensures part { OnOk result (self.new ≡ redo_words.receive (arrival ∷ []) self.old) }
@@ -202,7 +204,8 @@ impl Part {
         Ok(())
     }
 
-    fn commit(&mut self, alloc: Global, unit: UnitNo) -> Result<(), Fault>
+    /// Commits a unit in the queue. A part that refuses is no longer of use.
+    pub fn commit(&mut self, alloc: Global, unit: UnitNo) -> Result<(), Fault>
         ensures done { OnOk result
             (self.new ≡ redo_words.act 0 (records.Commit unit.0) self.old) }
         ensures refused { IfErr result (λ e. e ≡ Resources) }
@@ -217,7 +220,9 @@ impl Part {
         Ok(())
     }
 
-    fn abort(
+    /// Aborts a unit in the queue, and adds what leaves it for its error queue. A part that refuses
+    /// is no longer of use.
+    pub fn abort(
         &mut self,
         alloc: Global,
         place: u64,
@@ -274,13 +279,8 @@ impl Part {
         Ok(())
     }
 
-    /// Does one operation of the queue. A part that refuses is of no more use.
-    pub(crate) fn act(
-        &mut self,
-        alloc: Global,
-        op: &KeptOp,
-        sent: &mut Vec<KeptMove>,
-    ) -> Result<(), Fault>
+    /// Does one operation of the queue. A part that refuses is no longer of use.
+    pub fn act(&mut self, alloc: Global, op: &KeptOp, sent: &mut Vec<KeptMove>) -> Result<(), Fault>
         requires ready { IsReady op.now.place op.now.does self.old }
         ensures part { OnOk result
             (self.new ≡ redo_words.act op.now.place op.now.does self.old) }

@@ -10,7 +10,7 @@ use std::alloc::Global;
 use std::collections::BTreeMap;
 
 /// Takes the list of a key out.
-pub(crate) fn unfiled<K: Ord + Drop>(
+pub fn unfiled<K: Ord + Drop>(
     alloc: Global,
     index: BTreeMap<K, Vec<u64>>,
     key: &K,
@@ -27,7 +27,7 @@ pub(crate) fn unfiled<K: Ord + Drop>(
 }
 
 /// Puts a place at the end of the list of a key.
-pub(crate) fn file<K: Ord + Drop>(
+pub fn file<K: Ord + Drop>(
     alloc: Global,
     index: BTreeMap<K, Vec<u64>>,
     key: K,

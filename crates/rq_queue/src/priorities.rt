@@ -1,5 +1,5 @@
-//! The priority of each element by its id. A KILL names an id alone, and Free elements stand by
-//! priority first.
+//! The priority of each element by its id. A KILL names only an id, and Free elements are ordered
+//! by priority first.
 
 ghost use Rattle.std.specs.Prelude.{◌≡◌, ◌≢◌, ◌==◌, ◌∷◌, ◌++◌, [], List, not, filter, IfOk, IfErr};
 ghost use Rattle.std.specs.List.{AllByRecursion};
@@ -17,7 +17,7 @@ use std::alloc::Global;
 use std::cmp::Reverse;
 use std::collections::BTreeMap;
 
-/// Where priorities are kept, that of an element of a new id is kept too.
+/// Keeps the priority of an element of a new id too, if priorities are kept.
 pub(crate) fn kept_with(
     priorities: Option<BTreeMap<u64, u8>>,
     e: &KeptElement,
@@ -101,8 +101,7 @@ pub(crate) fn known(
     }
 }
 
-/// The Free elements without the one of that id, if there is one: its priority says where it
-/// stands.
+/// The Free elements without the one of that id, if there is one: its priority says where it is.
 pub(crate) fn without(
     free: BTreeMap<Rank, KeptElement>,
     by_id: &BTreeMap<u64, u8>,

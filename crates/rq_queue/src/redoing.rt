@@ -19,12 +19,12 @@ use crate::part::Part;
 use rq_record::{Fault, KeptRecord};
 use std::alloc::Global;
 
-// Of so many operations the records are looked at together.
+// The records of this many operations are looked at together.
 const AHEAD: usize = 256;
 
-// Makes room for a move of each ABORT among the next operations, once for so many. To look at their
-// records together also spares waiting: they lie apart in a long log, and a processor asks for many
-// at a time.
+// Makes room for a move of each ABORT among the next operations, for this many at once. Looking at
+// their records together also spares waiting: they lie apart in a long log, and a processor asks
+// for many at a time.
 fn make_room(ops: &[KeptOp], done: usize, sent: &mut Vec<KeptMove>) -> Result<(), Fault>
     requires { done ≤ length ops.now }
     ensures same { sent.new.items ≡ sent.old.items }
@@ -41,8 +41,8 @@ fn make_room(ops: &[KeptOp], done: usize, sent: &mut Vec<KeptMove>) -> Result<()
     Ok(())
 }
 
-// Does the operations from an index in the list on, as far as they stand at `until` or before. How
-// many are done then.
+// Does the operations from an index in the list on, as far as their places are `until` or before.
+// Answers how many are done then.
 fn catch_up(
     alloc: Global,
     part: &mut Part,
@@ -111,7 +111,7 @@ fn redo_in_order(
         part.receive(alloc, arrival)?;
     }
     catch_up(alloc, &mut part, ops, done, u64::MAX, &mut sent)?;
-    // What left stands until its receiver comes to it, and most ABORTs send nothing.
+    // What left is kept until its receiver comes to it, and most ABORTs send nothing.
     sent.shrink_to_fit();
     Ok((part, sent))
 }
@@ -143,7 +143,7 @@ pub fn redo(
     Ok((part, moves))
 }
 
-/// The same of what is kept, of which nothing is copied.
+/// The same for what is kept; nothing of it is copied.
 pub fn redo_kept(
     alloc: Global,
     part: Part,

@@ -45,7 +45,7 @@ impl Registrants {
         }
     }
 
-    /// These registrants, which are in order.
+    /// These registrants, in order.
     pub(crate) fn of(alloc: Global, items: Vec<Registrant>) -> Result<Registrants, Fault>
         requires { Ordered (λ r t. model.registrant_before r t ≡ true) items.items }
         ensures done { IfOk result (λ v. v ≡ items.items) }
@@ -60,7 +60,7 @@ impl Registrants {
         Ok(all)
     }
 
-    // Adds a registrant that stands behind all others.
+    // Adds a registrant that comes after all others.
     fn push(self, alloc: Global, r: Registrant) -> Result<Registrants, Fault>
         requires { AllByRecursion (λ x. model.registrant_before x r ≡ true) self }
         ensures done { IfOk result (λ v. v ≡ self ++ r ∷ []) }
@@ -100,7 +100,7 @@ impl Registrants {
         Ok(Registrants { lasts })
     }
 
-    /// The name is registered no longer.
+    /// Ends the registration of a name.
     pub(crate) fn deregister(
         self,
         alloc: Global,

@@ -1,4 +1,4 @@
-//! Where the elements of a queue stand: Free ones under their keys, the others with their units.
+//! Where the elements of a queue are: Free ones under their keys, the others with their units.
 
 ghost use Rattle.std.specs.Prelude.{◌≡◌, ◌≢◌, ◌+◌, ◌<◌, ◌^◌, ◌∷◌, ◌++◌, [], true, List, filter};
 ghost use Rattle.std.specs.Prelude.{None, IfOk, IfErr};
@@ -21,7 +21,7 @@ use std::alloc::Global;
 use std::cmp::Reverse;
 use std::collections::BTreeMap;
 
-/// Where a Free element stands among the others: by priority, the greatest first, and then by id.
+/// The position of a Free element among the others: by priority, the greatest first, then by id.
 pub(crate) type Rank = (Reverse<u8>, u64);
 
 /// Takes the list of a unit out.
@@ -70,7 +70,8 @@ pub(crate) fn stow(
     Ok(marked)
 }
 
-/// Takes those that units mark out of elements, to stand with their units: Free ones are left.
+/// Takes the elements that units mark out of the list, and puts them with their units. Free ones
+/// are left.
 pub(crate) fn parted(
     alloc: Global,
     items: Vec<KeptElement>,
@@ -155,8 +156,8 @@ pub(crate) fn all_freed(
     Ok(free)
 }
 
-/// Puts what an ABORT of the unit leaves of its elements under their keys. Those that leave the
-/// queue.
+/// Puts what an ABORT of the unit leaves of its elements under their keys. Answers those that leave
+/// the queue.
 pub(crate) fn all_returned(
     alloc: Global,
     free: BTreeMap<Rank, KeptElement>,

@@ -1,4 +1,4 @@
--- What is kept of a body answers for it.
+-- A result that keeps what is read from a body decodes the body.
 use Rattle.std.proofs.Common.{◌≡◌, ℕ, List, [], Option, Some, None, refl}
 use Rattle.std.specs.Prelude.{Result, Ok, Err, IsSome}
 use Rattle.rq_bytes.specs.Reads.{IsBytes}

@@ -1,4 +1,4 @@
--- What stands in a kept name.
+-- The contents of a kept name.
 use Rattle.std.specs.Prelude.{◌≡◌, ℕ, ◌≤◌, List, length, take, IsTrue, ⊤}
 use Rattle.rq_model.specs.Spelling.{is_name}
 use Rattle.rq_record.specs.declared.kept_name.Form.{Form}

@@ -1,4 +1,4 @@
--- Where the bytes of a checkpoint stand.
+-- Where the bytes of a checkpoint lie.
 use Rattle.std.specs.Prelude.{ℕ, ◌+◌, ◌≤◌, List, length, slice_range}
 use Rattle.std.specs.Arc.{arc_slice_items}
 use Rattle.rq_record.specs.declared.check_bytes.Kept.{Kept}

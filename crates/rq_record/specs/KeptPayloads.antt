@@ -1,4 +1,4 @@
--- Where the bytes of a payload stand.
+-- Where the bytes of a payload lie.
 use Rattle.std.specs.Prelude.{ℕ, ◌+◌, ◌≤◌, List, length, take, slice_range}
 use Rattle.std.specs.Arc.{arc_slice_items}
 use Rattle.rq_record.specs.declared.kept_payload.Bytes.{Bytes}

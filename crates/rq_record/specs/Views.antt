@@ -1,4 +1,4 @@
--- What a record and a version of the code are among the words of the model.
+-- What a record and a version of the code are in terms of the model.
 use Rattle.std.specs.Prelude.{ℕ, List, Option}
 use Rattle.rq_model.specs.Records as model
 use Rattle.rq_record.specs.declared.record.RecordOf.{RecordOf}
@@ -8,7 +8,7 @@ use Rattle.rq_record.specs.declared.record.RecordOf.TheVariants.{Checkpoint, Kil
 use Rattle.rq_record.specs.declared.version.Version.{Version}
 use Rattle.rq_record.specs.declared.version.Version.TheVariants.{One, Two}
 
--- a record, kept or not: a name, whom an operation is by and a payload are the model's
+-- a record, kept or not: a name, who an operation is by and a payload are the model's
 abbrev pub Record : Type 0
 Record = RecordOf (List ℕ) (Option model.By) (List ℕ)
 

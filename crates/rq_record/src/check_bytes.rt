@@ -12,8 +12,8 @@ use std::sync::ArcSlice;
 // A record has at most 268,435,456 bytes, and the first is its kind.
 const LIMIT: usize = 268_435_455;
 
-/// What stands in a checkpoint record behind its kind byte, at most 268,435,455 bytes: a part of
-/// the log where that is lent.
+/// The bytes of a checkpoint record after its kind byte, at most 268,435,455: a part of the log if
+/// that is lent.
 #[derive(Drop)]
 pub struct CheckBytes {
     bytes: Kept,
@@ -41,7 +41,7 @@ impl Model for CheckBytes {
 }
 
 impl CheckBytes {
-    /// These bytes; none where there are more than 268,435,455, which are dropped. Takes no memory.
+    /// These bytes; none if there are more than 268,435,455, which are dropped. Takes no memory.
     pub fn new(bytes: Vec<u8>) -> Option<CheckBytes>
         ensures bounded { IsSome result ↔ (length bytes.items ≤ 268435455) }
         ensures bytes { IfSome result (λ p. p ≡ bytes.items) }
@@ -53,8 +53,8 @@ impl CheckBytes {
         Some(CheckBytes { bytes })
     }
 
-    /// Bytes that may be the last ones before an end in a log that may be lent: then they are a
-    /// part of it, and else a copy.
+    /// Bytes that may be the last ones before an end in a log that may be lent. If they are, the
+    /// result is a part of that log, else a copy.
     pub(crate) fn lent(
         alloc: Global,
         log: &LentLog,
@@ -77,8 +77,8 @@ impl CheckBytes {
         Ok(CheckBytes::new(Vec::from_slice(alloc, bytes)?))
     }
 
-    /// The same bytes: of a part of a log that part, and else a copy. `Resources` where memory runs
-    /// out.
+    /// The same bytes: a part of a log stays that part, others are copied. `Resources` if memory
+    /// runs out.
     pub fn copied(&self, alloc: Global) -> Result<CheckBytes, Fault>
         ensures copied { IfOk result (λ p. p ≡ self.now) }
         ensures refused { IfErr result (λ e. e ≡ Resources) }

@@ -7,8 +7,8 @@ ghost use Rattle.rq_record.specs.Faults.{exit_of};
 use std::alloc::{AllocError, AllocFailed};
 use thiserror::Error;
 
-/// The one list of faults of all calls. A call that answers a fault leaves what it was lent as its
-/// own text says.
+/// The one list of faults, for all calls. The text of each call says how it leaves what it was lent
+/// if it returns a fault.
 #[derive(Clone, Copy, PartialEq, Eq, Debug, Error)]
 pub enum Fault {
     /// A body spells no record.
@@ -17,8 +17,9 @@ pub enum Fault {
     /// The bytes do not begin with the header of a log.
     #[error("not a log")]
     NotALog,
-    /// A log or a script has more than 4,294,967,295 bytes, a log that is made would have them, or
-    /// a front that is kept would have more records. A log that is closed answers `TooLarge`.
+    /// A log or a script has more than 4,294,967,295 bytes, a log to be made would have them, or a
+    /// front to be kept would have more records. If a log is closed and would have them then, the
+    /// fault is `TooLarge`.
     #[error("too long")]
     TooLong,
     /// The spelling of a state is longer than the 268,435,455 bytes that a checkpoint record holds;
@@ -31,10 +32,10 @@ pub enum Fault {
     /// The host refused memory.
     #[error("resources")]
     Resources,
-    /// No checkpoint record stands at the offset.
+    /// There is no checkpoint record at the offset.
     #[error("no checkpoint")]
     NoCheckpoint,
-    /// The line of this number, counted from 1, is no line of a script.
+    /// The line with this number, counted from 1, is no line of a script.
     #[error("script line {0}")]
     Script(u64),
     /// The input could not be read.
@@ -62,8 +63,8 @@ impl<T: Drop> From<AllocFailed<T>> for Fault {
 }
 
 impl Fault {
-    /// The exit status of a program that ends by this fault: 4 where memory was refused, 3 where
-    /// reading or writing failed, else 1.
+    /// The exit status of a program that ends by this fault: 4 if memory was refused, 3 if reading
+    /// or writing failed, else 1.
     pub fn exit(&self) -> u8
         ensures { result ≡ exit_of self.now }
     {

@@ -35,7 +35,8 @@ impl Model for KeptBy {
 }
 
 impl KeptBy {
-    /// Keeps who an operation is by. `Resources` where memory runs out; nobody takes none.
+    /// Keeps who an operation is by. `Resources` if memory runs out; an operation by nobody takes
+    /// none.
     pub fn of(alloc: Global, by: &Option<By>) -> Result<KeptBy, Fault>
         ensures kept { IfOk result (λ k. k ≡ by.now) }
         ensures refused { IfErr result (λ e. e ≡ Resources) }
@@ -47,7 +48,7 @@ impl KeptBy {
         }
     }
 
-    /// The same of who is lent.
+    /// The same for a `LentBy`.
     pub(crate) fn of_lent(alloc: Global, by: Option<LentBy<'_>>) -> Result<KeptBy, Fault>
         ensures kept { IfOk result (λ k. k ≡ by.entry) }
         ensures refused { IfErr result (λ e. e ≡ Resources) }

@@ -15,13 +15,13 @@ use std::alloc::Global;
 use std::cmp::Ordering;
 use std::marker::Model;
 
-/// A name in 16 bytes, where a `Name` takes 65: a log has many records, and most names are short.
+/// A name in 16 bytes; a `Name` takes 65. A log has many records, and most names are short.
 #[derive(Drop)]
 pub struct KeptName {
     form: Form,
 }
 
-// A short name stands where it is kept, a longer one in memory of its own.
+// A short name is kept in place, a longer one in memory of its own.
 #[derive(Drop)]
 enum Form {
     Short { len: u8, bytes: [u8; 14] },
@@ -40,7 +40,7 @@ impl Model for KeptName {
 }
 
 impl KeptName {
-    /// Keeps the name. `Resources` where memory runs out; a name of at most 14 bytes takes none.
+    /// Keeps the name. `Resources` if memory runs out; a name of at most 14 bytes takes none.
     pub fn of(alloc: Global, name: &Name) -> Result<KeptName, Fault>
         ensures kept { IfOk result (λ n. n ≡ name.now) }
         ensures refused { IfErr result (λ e. e ≡ Resources) }
@@ -49,7 +49,7 @@ impl KeptName {
         KeptName::of_lent(alloc, name.lent())
     }
 
-    /// The same of a name that is lent.
+    /// The same for a name that is lent.
     pub(crate) fn of_lent(alloc: Global, name: LentName<'_>) -> Result<KeptName, Fault>
         ensures kept { IfOk result (λ n. n ≡ name.entry) }
         ensures refused { IfErr result (λ e. e ≡ Resources) }
@@ -78,7 +78,7 @@ impl KeptName {
         }
     }
 
-    /// The same bytes as a text: each of them is a character of ASCII.
+    /// The same bytes as text: each of them is an ASCII character.
     pub fn text(&self) -> &str
         ensures { result.now ≡ self.now }
     {

@@ -11,14 +11,14 @@ use std::alloc::Global;
 use std::marker::Model;
 use std::sync::ArcSlice;
 
-/// A payload in 24 bytes, for records and elements, of which a log has many. Up to 22 bytes stand
-/// in it; more are shared by its copies, and with the log where it is lent.
+/// A payload in 24 bytes, for records and elements, of which a log has many. Up to 22 bytes are
+/// kept in place; more are shared by its copies, and with the log if that is lent.
 #[derive(Drop)]
 pub struct KeptPayload {
     bytes: Bytes,
 }
 
-// An array of 22, how many of it count, and the tag: 24 bytes, no more than a `Vec` without its
+// An array of 22, how many of these count, and the tag: 24 bytes, no more than a `Vec` without its
 // items.
 #[derive(Drop)]
 enum Bytes {
@@ -58,7 +58,7 @@ fn inline(bytes: &[u8]) -> KeptPayload
     }
 }
 
-// Keeps so many bytes as a payload may have.
+// Keeps these bytes, which are no more than a payload may have.
 fn kept(alloc: Global, bytes: &[u8]) -> Result<KeptPayload, Fault>
     requires { length bytes.now ≤ 65535 }
     ensures kept { IfOk result (λ p. p ≡ bytes.now) }
@@ -77,7 +77,7 @@ fn kept(alloc: Global, bytes: &[u8]) -> Result<KeptPayload, Fault>
 }
 
 impl KeptPayload {
-    /// Keeps the payload. `Resources` where memory runs out; one of at most 22 bytes takes none.
+    /// Keeps the payload. `Resources` if memory runs out; a payload of at most 22 bytes takes none.
     pub fn of(alloc: Global, payload: &Payload) -> Result<KeptPayload, Fault>
         ensures kept { IfOk result (λ p. p ≡ payload.now) }
         ensures refused { IfErr result (λ e. (e ≡ Resources) × (22 < length payload.now)) }
@@ -85,8 +85,8 @@ impl KeptPayload {
         kept(alloc, payload.bytes())
     }
 
-    /// Keeps a payload of these bytes; none where there are more than 65,535, and then no memory is
-    /// asked for. Up to 22 bytes take none. `Resources` where memory runs out.
+    /// Keeps a payload of these bytes; none if there are more than 65,535, and then no memory is
+    /// asked for. Up to 22 bytes take none. `Resources` if memory runs out.
     pub fn from_slice(alloc: Global, bytes: &[u8]) -> Result<Option<KeptPayload>, Fault>
         ensures bounded { IfOk result (λ p. IsSome p ↔ (length bytes.now ≤ 65535)) }
         ensures bytes { IfOk result (λ p. IfSome p (λ q. q ≡ bytes.now)) }
@@ -99,8 +99,8 @@ impl KeptPayload {
         Ok(Some(kept(alloc, bytes)?))
     }
 
-    /// The same, of bytes that may be the last ones before an end in a log that may be lent: then a
-    /// long payload is a part of it.
+    /// The same for bytes that may be the last ones before an end in a log that may be lent. If
+    /// they are, a long payload is a part of that log.
     pub(crate) fn lent(
         alloc: Global,
         log: &LentLog,
@@ -135,7 +135,7 @@ impl KeptPayload {
         }
     }
 
-    /// The payload that is kept, in memory of its own. `Resources` where memory runs out.
+    /// The payload that is kept, in memory of its own. `Resources` if memory runs out.
     pub fn payload(&self, alloc: Global) -> Result<Payload, Fault>
         ensures same { IfOk result (λ p. p ≡ self.now) }
         ensures refused { IfErr result (λ e. e ≡ Resources) }
@@ -143,7 +143,7 @@ impl KeptPayload {
         Ok(Payload::of_checked(Vec::from_slice(alloc, self.bytes())?))
     }
 
-    /// A payload of the same bytes, none of which is copied into memory. `Resources` where they are
+    /// A payload of the same bytes, none of which is copied into memory. `Resources` if they are
     /// shared too often.
     pub fn copied(&self) -> Result<KeptPayload, Fault>
         ensures copied { IfOk result (λ p. p ≡ self.now) }

@@ -10,15 +10,15 @@ use crate::kept_payload::KeptPayload;
 use crate::record::{Record, RecordOf};
 use std::alloc::Global;
 
-/// A record in 56 bytes, where a `Record` takes more than twice as many. It says the same: so to
-/// clauses the two are one.
+/// A record in 56 bytes; a `Record` takes more than twice as many. It says the same, so clauses
+/// treat the two as one.
 pub type KeptRecord = RecordOf<KeptName, KeptBy, KeptPayload>;
 
 // A restart holds all records at once.
 const _: () = prove!(std::mem::size_of::<KeptRecord>() <= 56);
 
 impl KeptRecord {
-    /// Keeps the record. `Resources` where memory runs out.
+    /// Keeps the record. `Resources` if memory runs out.
     pub fn of(alloc: Global, r: &Record) -> Result<KeptRecord, Fault>
         ensures kept { IfOk result (λ k. k ≡ r.now) }
         ensures refused { IfErr result (λ e. e ≡ Resources) }
@@ -68,7 +68,7 @@ impl KeptRecord {
         })
     }
 
-    /// The record that is kept, as a caller takes it apart. `Resources` where memory runs out.
+    /// The record that is kept, as a caller takes it apart. `Resources` if memory runs out.
     pub fn record(self, alloc: Global) -> Result<Record, Fault>
         ensures same { IfOk result (λ r. r ≡ self) }
         ensures refused { IfErr result (λ e. e ≡ Resources) }
@@ -114,7 +114,7 @@ impl KeptRecord {
     }
 }
 
-/// Keeps the records, in their order. `Resources` where memory runs out.
+/// Keeps the records, in their order. `Resources` if memory runs out.
 pub fn kept_records(alloc: Global, records: &[Record]) -> Result<Vec<KeptRecord>, Fault>
     ensures kept { IfOk result (λ v. v.items ≡ records.now) }
     ensures refused { IfErr result (λ e. e ≡ Resources) }

@@ -9,9 +9,9 @@ use crate::fault::Fault;
 use std::marker::Model;
 use std::sync::ArcSlice;
 
-/// A log whose bytes the records that are read from it may share, or none. What is read does not
-/// depend on it: it spares the copies of checkpoints and of long payloads, each of which then keeps
-/// the whole log in memory.
+/// A log whose bytes may be shared by the records that are read from it, or none. What is read does
+/// not depend on it. It spares the copies of checkpoints and of long payloads; each of these then
+/// keeps the whole log in memory.
 #[derive(Drop)]
 pub struct LentLog {
     pub(crate) log: Option<ArcSlice<u8>>,
@@ -34,7 +34,7 @@ impl LentLog {
         LentLog { log: None }
     }
 
-    /// This log, of which nothing is copied. `Resources` where it is shared too often.
+    /// This log; nothing of it is copied. `Resources` if it is shared too often.
     pub fn of(log: &ArcSlice<u8>) -> Result<LentLog, Fault>
         ensures lent { IfOk result (λ lent. lent ≡ Some (arc_slice_items log.now)) }
         ensures refused { IfErr result (λ e. e ≡ Resources) }
@@ -44,7 +44,7 @@ impl LentLog {
         })
     }
 
-    /// The log and where its part before an end begins, where it is lent and the part is these
+    /// The log, and where its part before an end begins, if the log is lent and that part is these
     /// bytes.
     pub(crate) fn part_before(
         &self,

@@ -17,8 +17,8 @@ use std::cmp::Ordering;
 use std::hash::{Hash, Hasher};
 use std::marker::Model;
 
-/// 1 to 64 bytes of `a-z`, `0-9`, `-`, `.` and `_`. What stands behind them in the array is 0, so
-/// that two names are equal, or in order, where their arrays are.
+/// 1 to 64 bytes of `a-z`, `0-9`, `-`, `.` and `_`. The rest of the array is 0, so two names are
+/// equal, or in order, if their arrays are.
 #[derive(Clone, Copy, Debug)]
 pub struct Name {
     bytes: [u8; 64],
@@ -71,17 +71,17 @@ pub(crate) fn padded<const N: usize>(bytes: &[u8]) -> [u8; N]
     kept
 }
 
-/// The bytes of a name as a text: each of them is a character of ASCII.
+/// The bytes of a name as text: each of them is an ASCII character.
 pub(crate) fn text_of(name: &[u8]) -> &str
     requires { IsTrue (is_name name.now) }
     ensures { result.now ≡ name.now }
 {
-    // The contract says that they are: a test would read them again each time two are compared.
+    // The contract says that they are: a test would read them again at each comparison.
     unsafe { std::str::from_utf8_unchecked(name) }
 }
 
 impl Name {
-    /// The name of these bytes; none where they are none. Takes no memory.
+    /// The name with these bytes; none if they are not a name. Takes no memory.
     pub fn new(bytes: &[u8]) -> Option<Name>
         ensures { result ≡ (if is_name bytes.now then Some bytes.now else None) }
     {
@@ -92,7 +92,7 @@ impl Name {
         }
     }
 
-    /// The name of these bytes, which are known to be one.
+    /// The name with these bytes, which are known to be one.
     pub(crate) fn of_checked(bytes: &[u8]) -> Name
         requires { IsTrue (is_name bytes.now) }
         ensures { result ≡ bytes.now }
@@ -111,7 +111,7 @@ impl Name {
         &self.bytes[..self.len as usize]
     }
 
-    /// The same bytes as a text: each of them is a character of ASCII.
+    /// The same bytes as text: each of them is an ASCII character.
     pub fn text(&self) -> &str
         ensures { result.now ≡ self.now }
     {
@@ -128,8 +128,8 @@ impl Name {
     }
 }
 
-/// A name where its bytes stand. What is read is kept from here, and is not copied into the 65
-/// bytes of a `Name` before.
+/// A name where its bytes lie. What is read is kept straight from here, without a copy into the 65
+/// bytes of a `Name`.
 #[derive(Drop)]
 pub(crate) struct LentName<'a> {
     bytes: &'a [u8],
@@ -147,7 +147,7 @@ impl<'a> Model for LentName<'a> {
 }
 
 impl<'a> LentName<'a> {
-    /// The name of these bytes; none where they are none.
+    /// The name with these bytes; none if they are not a name.
     pub(crate) fn new(bytes: &'a [u8]) -> Option<LentName<'a>>
         ensures { result ≡ (if is_name bytes.now then Some bytes.now else None) }
     {

@@ -21,7 +21,7 @@ impl Model for Payload {
 }
 
 impl Payload {
-    /// These bytes; none where there are more than 65,535, which are dropped. Takes no memory.
+    /// These bytes; none if there are more than 65,535, which are dropped. Takes no memory.
     pub fn new(bytes: Vec<u8>) -> Option<Payload>
         ensures bounded { IsSome result ↔ (length bytes.items ≤ 65535) }
         ensures bytes { IfSome result (λ p. p ≡ bytes.items) }
@@ -32,7 +32,7 @@ impl Payload {
         Some(Payload::of_checked(bytes))
     }
 
-    /// The payload of these bytes, which are known to be no more than one may have.
+    /// The payload with these bytes, which are known to be no more than one may have.
     pub(crate) fn of_checked(bytes: Vec<u8>) -> Payload
         requires { length bytes.items ≤ 65535 }
         ensures { result ≡ bytes.items }

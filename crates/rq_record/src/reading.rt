@@ -1,6 +1,6 @@
-//! From bytes to a record. Each kind's function answers the record or its fault in one `Result`:
-//! `Form` for bytes that spell none, which is found before memory is asked for. What reads a part
-//! and takes no memory answers an `Option`.
+//! From bytes to a record. The function for each kind returns the record or its fault in one
+//! `Result`. If the bytes spell none, the fault is `Form`, which is found before memory is asked
+//! for. Functions that read a part and take no memory return an `Option`.
 
 ghost use Rattle.std.specs.Prelude.{◌≡◌, ◌+◌, ◌≤◌, [], length, slice_range, option_map};
 ghost use Rattle.rq_bytes.specs.Readers.{made};
@@ -247,7 +247,7 @@ fn record(
     of_kind(alloc, version, log, end, kind, bytes)
 }
 
-// The record that a body of this version spells, which may end at an end in a log that may be lent.
+// The record that a body of this version spells; it may end at an end in a log that may be lent.
 fn decode_lent(
     alloc: Global,
     version: Version,
@@ -260,11 +260,10 @@ fn decode_lent(
     record(alloc, version, log, end, body)
 }
 
-/// The record that `len` bytes of a log from `start` on spell, kept: `decode_kept` of that
-/// body.
+/// The record that `len` bytes of a log from `start` on spell, kept: `decode_kept` of that body.
 ///
-/// Where the log is lent as well, a checkpoint, and a payload of more than 22 bytes, are parts of
-/// it and no copies.
+/// If the log is lent as well, a checkpoint, or a payload of more than 22 bytes, is a part of it
+/// and no copy.
 pub fn decode_at(
     alloc: Global,
     version: Version,
@@ -283,8 +282,8 @@ pub fn decode_at(
 
 /// The record that a body of this version spells, kept.
 ///
-/// `Form` answers exactly a body that spells none, and is found before memory is asked for;
-/// `Resources` answers a body that spells one whose names or bytes could not be kept.
+/// `Form` is returned exactly if the body spells none; this is found before memory is asked for.
+/// `Resources` is returned if the body spells one whose names or bytes could not be kept.
 pub fn decode_kept(alloc: Global, version: Version, body: &[u8]) -> Result<KeptRecord, Fault>
     ensures decodes { Decodes (version_of version) body.now result }
 {
@@ -293,8 +292,8 @@ pub fn decode_kept(alloc: Global, version: Version, body: &[u8]) -> Result<KeptR
 
 /// The record that a body of this version spells.
 ///
-/// `Form` answers exactly a body that spells none, and is found before memory is asked for;
-/// `Resources` answers a body that spells one whose names or bytes could not be kept.
+/// `Form` is returned exactly if the body spells none; this is found before memory is asked for.
+/// `Resources` is returned if the body spells one whose names or bytes could not be kept.
 pub fn decode_in(alloc: Global, version: Version, body: &[u8]) -> Result<Record, Fault>
     ensures decodes { Decodes (version_of version) body.now result }
 {

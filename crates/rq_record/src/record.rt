@@ -7,7 +7,7 @@ use crate::name::{LentName, Name};
 use crate::payload::Payload;
 use std::marker::Model;
 
-/// The number of a queue: how many DEFINE records stand before its own.
+/// The number of a queue: how many DEFINE records come before its own.
 #[derive(Clone, Copy, PartialEq, Eq, PartialOrd, Ord, Hash, Debug)]
 pub struct QueueNo(pub u32);
 
@@ -58,7 +58,7 @@ impl By {
     }
 }
 
-/// What a `By` says, with its name where its bytes stand.
+/// A `By` whose name is where its bytes lie.
 #[derive(Drop)]
 pub(crate) struct LentBy<'a> {
     pub(crate) name: LentName<'a>,
@@ -76,10 +76,10 @@ impl<'a> Model for LentBy<'a> {
 /// A record of the log, as a caller makes it and takes it apart.
 pub type Record = RecordOf<Name, Option<By>, Payload>;
 
-/// A record of the log; version 1 has all but the last. Whether it is lawful after those before it
-/// is no matter of its form: each number may be any of its width. `N` is what holds a name, `B`
-/// whom an operation is by, and `P` a payload: those of a `Record` are made without memory, those
-/// of a `KeptRecord` take few bytes.
+/// A record of the log; version 1 has all kinds but the last. Whether it is lawful after the
+/// records before it is no matter of its form: each number may be any of its width. `N` holds a
+/// name, `B` holds who an operation is by, and `P` holds a payload. Those of a `Record` are made
+/// without memory; those of a `KeptRecord` take few bytes.
 #[derive(Drop)]
 pub enum RecordOf<N, B, P> {
     /// Defines the next queue: how many failed attempts an element may have, 0 for no limit, and
@@ -118,7 +118,7 @@ pub enum RecordOf<N, B, P> {
         queue: QueueNo,
         by: B,
     },
-    /// Ends a unit: what it did stands.
+    /// Ends a unit: what it did is kept.
     Commit {
         unit: UnitNo,
     },
@@ -130,8 +130,8 @@ pub enum RecordOf<N, B, P> {
     Checkpoint {
         bytes: CheckBytes,
     },
-    /// Removes an element from a queue where it is free there, at once and outside units. Version 2
-    /// alone has it.
+    /// Removes an element from a queue if it is free there, at once and outside units. Only version
+    /// 2 has it.
     Kill {
         queue: QueueNo,
         element: ElemId,

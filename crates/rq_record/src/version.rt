@@ -1,6 +1,6 @@
 //! The version of a log.
 
-/// The version of a log, which its header names and which holds for the whole log.
+/// The version of a log: its header names it, and it holds for the whole log.
 #[derive(Clone, Copy, PartialEq, Eq, Debug)]
 pub enum Version {
     /// An error queue has no error queue itself, and no record kills an element.

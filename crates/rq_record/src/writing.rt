@@ -177,9 +177,9 @@ fn put_body(out: &mut Vec<u8>, r: &Record) -> Result<(), Fault>
     }
 }
 
-/// Appends the one body of the record, which is its body in every version that has its kind.
+/// Appends the one body of the record. It is the same in every version that has this kind.
 ///
-/// `Resources` answers where memory runs out; `out` is then as before.
+/// `Resources` is returned if memory runs out; `out` is then as before.
 pub fn encode(r: &Record, out: &mut Vec<u8>) -> Result<(), Fault>
     ensures bytes { Appends out.old.items out.new.items (body_of (record_of r.now)) result }
     ensures spelled { OnOk result ((version : Version) → HasKind version (record_of r.now)

@@ -122,7 +122,7 @@ rank_total : IsTotalOrder rank_cmp
 rank_total = then_total (on_total (λ (k : ℕ × ℕ). k.0) (back_total nat_cmp_total))
     (on_total (λ (k : ℕ × ℕ). k.1) nat_cmp_total)
 
--- one that is not behind comes first
+-- an element that does not come after another comes first
 not_behind : (a b c d : ℕ) → is_lt (ordering_then (nat_cmp a b) (nat_cmp c d)) ≡ false
     → (nat_lt b a || ((b == a) && nat_le d c)) ≡ true
 not_behind a b c d h =

@@ -33,7 +33,7 @@ parts_of ds from middle to low high =
     ∙ ap (λ (xs : List Definition). take (middle - from) (drop from ds) ++ take (to - middle) xs)
     (drop-drop (middle - from) from ds ∙ ap (λ (n : ℕ). drop n ds) back))
 
--- the lines of some queues, and behind them those of the next ones
+-- the lines of some queues, and after them those of the next ones
 pub both_are : (s : State) (from middle to : ℕ) (front back : List ℕ) → from ≤ middle → middle ≤ to
     → to ≤ length s.definitions → AreLinesOf s from middle front → AreLinesOf s middle to back
     → AreLinesOf s from to (front ++ back)

@@ -75,7 +75,7 @@ piece_fails_by A before mid after old held new text front piece rest faults.NoCh
 piece_fails_by A before mid after old held new text front piece rest (faults.Script n) e same h d = absurd d
 piece_fails_by A before mid after old held new text front piece rest faults.ReadFailed e same h d = absurd d
 
--- where a piece is not all written, neither is the text
+-- if a piece is not all written, neither is the text
 pub piece_fails : {A : Type 0} (before mid after : ℕ) (old held new : Option (List ℕ)) (text front piece rest : List ℕ)
     (result : Result A Fault) (x : Fault) → result ≡ Err x → text ≡ (front ++ piece) ++ rest → mid ≡ before
     → Appends old held front → Delivers mid after held new piece result → Delivers before after old new text result

@@ -19,7 +19,7 @@ Delivers before after old new text (Err faults.WriteFailed) =
 Delivers before after old new text (Err _) = ⊥
 
 -- the report is written; or the writer failed once, and a beginning of it is written; or memory was
--- refused, and nothing is
+-- refused, and nothing is written
 abbrev pub Reports : {A : Type 0} → Restarted → ℕ → ℕ
     → Option (List ℕ) → Option (List ℕ) → Result A Fault → Type 0
 Reports r before after old new (Ok x) = (text : List ℕ) × IsText r text

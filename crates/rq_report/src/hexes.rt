@@ -7,8 +7,8 @@ ghost use Rattle.rq_model.specs.Reports.{hex_of, payload_text};
 use std::alloc::AllocError;
 use std::str::from_utf8;
 
-// Puts bytes. Their digits are made side by side in the room: one by one they would cost a look at
-// the text's room each.
+// Puts bytes. Their digits are made side by side in `room` first: put one by one, each would cost a
+// look at the room that the text has.
 fn put_through(text: &mut String, room: &mut [u8], bytes: &[u8]) -> Result<(), AllocError>
     requires { length room.old ≡ 2 * length bytes.now }
     ensures { OnOk result

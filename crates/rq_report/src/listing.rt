@@ -22,7 +22,7 @@ fn is_free(e: &KeptElement) -> bool
     }
 }
 
-// Adds an element where it is free.
+// Adds an element if it is free.
 fn list<'a>(found: &mut Vec<&'a KeptElement>, e: &'a KeptElement) -> Result<(), AllocError>
     ensures { OnOk result (map (λ e. e.now) found.new.items
         ≡ map (λ e. e.now) found.old.items ++ filter (λ e. model.is_free e.mark) (e.now ∷ [])) }
@@ -51,7 +51,7 @@ fn free_elements<'a>(
     Ok(found)
 }
 
-// By what elements are put in order.
+// The key by which elements are put in order.
 fn rank(e: &KeptElement) -> (Reverse<u8>, u64)
     ensures { result ≡ (record { 0 = e.now.priority }, e.now.id) }
 {

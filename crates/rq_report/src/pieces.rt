@@ -14,8 +14,8 @@ use std::alloc::{AllocError, Global};
 use std::marker::Sync;
 use std::thread::{Threads, join};
 
-// One thread makes the report of a log of at most as many bytes, so that the restart of a short log
-// starts none for it.
+// The report of a log of at most this many bytes is made by one thread, so that the restart of a
+// short log starts no threads for it.
 const SHORT: u64 = 1_048_576;
 
 // The lines of the queues from one of them up to another, as one piece.
@@ -36,8 +36,8 @@ fn one_piece(
     Ok(vec![in alloc; text]?)
 }
 
-// The lines of the queues from one of them up to another, in about as many pieces: each half of the
-// queues by itself.
+// The lines of the queues from one of them up to another, in about this many pieces: each half of
+// the queues by itself.
 #[cycle(halves)]
 fn queue_pieces<R: Threads + Sync>(
     rt: &R,

@@ -13,12 +13,12 @@ pub trait Input {
     // How many of its reads failed.
     ghost faults: { Self → ℕ };
 
-    // The bytes that it still has to give, where they are known.
+    // The bytes that it still has to give, if they are known.
     ghost remaining: { Self → Option (List ℕ) } = { λ _. None };
 
     /// Reads into the front of the piece, and answers how many bytes. It answers 0 for a piece that
-    /// is not empty only at the end. Refused with `ReadFailed` where the read failed, which adds
-    /// one to the count of faults and takes no byte.
+    /// is not empty only at the end. Refused with `ReadFailed` if the read failed, which adds one
+    /// to the count of faults and takes no byte.
     fn read(&mut self, piece: &mut [u8]) -> Result<usize, Fault>
         requires { faults self.old < 18446744073709551615 }
         ensures bound { IfOk result (λ n. n ≤ length piece.new) }
@@ -33,12 +33,12 @@ pub trait Output {
     // How many of its writes failed.
     ghost faults: { Self → ℕ };
 
-    // The bytes that it holds, where they are known.
+    // The bytes that it holds, if they are known.
     ghost contents: { Self → Option (List ℕ) } = { λ _. None };
 
     /// Writes bytes from the front of the piece, and answers how many: at least one of a piece that
-    /// is not empty. Refused with `WriteFailed` where the write failed, which adds one to the count
-    /// of faults and writes no byte.
+    /// is not empty. Refused with `WriteFailed` if the write failed, which adds one to the count of
+    /// faults and writes no byte.
     fn write(&mut self, piece: &[u8]) -> Result<usize, Fault>
         requires { faults self.old < 18446744073709551615 }
         ensures bound { IfOk result (λ n. n ≤ length piece.now) }
@@ -49,7 +49,7 @@ pub trait Output {
             (λ e. (e ≡ WriteFailed) × (faults self.new ≡ faults self.old + 1)) };
 }
 
-// One read of a reader of std, tried again where it was interrupted.
+// One read of a reader of std, tried again if it was interrupted.
 fn read_some<R: Read>(inner: &mut R, piece: &mut [u8]) -> Result<usize, Fault>
     ensures bound { IfOk result (λ n. n ≤ length piece.new) }
     ensures bytes { ReadConsumes (R.remaining inner.old) (R.remaining inner.new) result piece.new }
@@ -65,7 +65,7 @@ fn read_some<R: Read>(inner: &mut R, piece: &mut [u8]) -> Result<usize, Fault>
     Err(Fault::ReadFailed)
 }
 
-// One write to a writer of std, tried again where it was interrupted. One that takes none of some
+// One write to a writer of std, tried again if it was interrupted. A write that takes none of some
 // bytes has failed.
 fn write_some<W: Write>(inner: &mut W, piece: &[u8]) -> Result<usize, Fault>
     ensures bound { IfOk result (λ n. n ≤ length piece.now) }
@@ -83,7 +83,7 @@ fn write_some<W: Write>(inner: &mut W, piece: &[u8]) -> Result<usize, Fault>
     Err(Fault::WriteFailed)
 }
 
-/// Reads from any reader of std. A read that was interrupted is tried again, and is no fault.
+/// Reads from any reader of std. An interrupted read is tried again, and is no fault.
 #[derive(Drop)]
 pub struct OverRead<R: Read> {
     inner: R,
@@ -121,8 +121,8 @@ impl<R: Read> Input for OverRead<R> {
     }
 }
 
-/// Writes to any writer of std. A write that was interrupted is tried again, and is no fault; one
-/// that takes none of some bytes is one.
+/// Writes to any writer of std. An interrupted write is tried again, and is no fault. A write that
+/// takes none of some bytes is a fault.
 #[derive(Drop)]
 pub struct OverWrite<W: Write> {
     inner: W,

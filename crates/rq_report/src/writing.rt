@@ -42,8 +42,8 @@ fn write_pieces<W: Output>(output: &mut W, pieces: &[String]) -> Result<(), Faul
 
 /// Writes the report of what a restart answered: the front, the units, then each queue with its
 /// free elements in order and its registrants by name. The whole text is made first. Refused with
-/// `Resources` where the host refuses memory, and then nothing is written; with `WriteFailed` where
-/// the writer failed, and then a beginning of the text is written.
+/// `Resources` if the host refuses memory, and then nothing is written; with `WriteFailed` if the
+/// writer failed, and then a beginning of the text is written.
 pub fn write_report<W: Output>(alloc: Global, r: &Restarted, output: &mut W) -> Result<(), Fault>
     requires { W.faults output.old < 18446744073709551615 }
     ensures { Reports r.now (W.faults output.old) (W.faults output.new)
@@ -55,8 +55,8 @@ pub fn write_report<W: Output>(alloc: Global, r: &Restarted, output: &mut W) -> 
     }
 }
 
-/// What `write_report` does, its text made by the plan's workers. Where that is worth no threads,
-/// it is made whole.
+/// Does what `write_report` does, with the text made by the plan's workers. If that is not worth
+/// threads, the text is made whole.
 pub fn write_report_by<R, W>(
     rt: &R,
     alloc: Global,

@@ -19,3 +19,4 @@ pub mod Windows
 pub mod Pieces
 pub mod Headers
 pub mod Keepers
+pub mod FromCheckpoints

@@ -53,12 +53,12 @@ part_more x more at size fits =
     ∙ take-append-le size (drop at x) more (omega (arith, fits, length-drop at x))
 
 -- a frame is read alike
-record IsSameFrame (x y : List ℕ) : Type 0 where
-  framed : HasFrame y
-  body : body_in y ≡ body_in x
-  sum : digest_in y ≡ digest_in x
+pub record IsSameFrame (x y : List ℕ) : Type 0 where
+  pub framed : HasFrame y
+  pub body : body_in y ≡ body_in x
+  pub sum : digest_in y ≡ digest_in x
 
-frame_more : (x more : List ℕ) → HasFrame x → IsSameFrame x (x ++ more)
+pub frame_more : (x more : List ℕ) → HasFrame x → IsSameFrame x (x ++ more)
 frame_more x more h =
     let room = h.room in
     let same : stated (x ++ more) ≡ stated x = stated_more x more (omega (arith, room)) in

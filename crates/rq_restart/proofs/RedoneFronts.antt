@@ -1,28 +1,47 @@
 -- The front of a log, and the state behind it.
-use Rattle.std.proofs.Common.{◌≡◌, ℕ, ◌≤◌, List, length, ap, ◌∙◌, arith}
+use Rattle.std.proofs.Common.{◌≡◌, ℕ, ◌≤◌, List, length, drop, ap, subst, sym, ◌∙◌, arith}
+use Rattle.std.specs.Prelude.{Result, Ok, Err, IfOk, IfErr}
 use Rattle.std.proofs.lemmas.List.{length-take}
-use Rattle.rq_model.specs.Records.{Record}
-use Rattle.rq_model.specs.Frames.{log_limit, HasHeader, before}
+use Rattle.rq_model.specs.Records.{Record, Version}
+use Rattle.rq_model.specs.Frames.{log_limit, HasHeader, log_of, start, last_of}
 use Rattle.rq_model.specs.LogLaws.{LogEnds}
 use Rattle.rq_model.specs.States.{empty}
-use Rattle.rq_model.specs.Machine.{run}
-use Rattle.rq_model.specs.Fronts.{Why}
-use Rattle.rq_record.specs.Views.{version_of}
+use Rattle.rq_model.specs.Fronts.{IsFront, Why}
+use Rattle.rq_record.specs.declared.fault.Fault.{Fault}
+use Rattle.rq_record.specs.declared.fault.Fault.TheVariants.{Resources}
 use Rattle.rq_restart.specs.Ends.{IsFrontFrom}
 use Rattle.rq_restart.specs.declared.redone.RedoneFront.{RedoneFront}
-use Rattle.rq_restart.specs.RedoneFronts.{IsRedone}
+use Rattle.rq_restart.specs.RedoneFronts.{IsRedone, IsStateBehind, RedoesFront}
 use Rattle.rq_restart.proofs.Endings.{front_of}
 
 -- the front behind the header, and the state behind it
-pub redone : LogEnds → (b : List ℕ) (rs : List Record) (f : RedoneFront) (why : Why) → length b ≤ log_limit
-    → HasHeader (version_of f.version) b → IsFrontFrom (version_of f.version) empty b 40 rs f.used why
-    → f.last ≡ before f.used b → f.state ≡ run empty rs → IsRedone b f
-redone law b rs f why short head h last state =
-    let is = front_of (version_of f.version) law b rs f.used why short head h in
+redone : LogEnds → (b : List ℕ) (version : Version) (rs : List Record) (end : ℕ) (why : Why) (f : RedoneFront)
+    → length b ≤ log_limit → HasHeader version b → IsFrontFrom version empty b 40 rs end why
+    → IsStateBehind version empty b rs end f → IsRedone b f
+redone law b version rs end why f short head h behind =
+    let is = front_of version law b rs end why short head h in
+    let rules = sym behind.rules in
     record {
       records = rs;
-      front = is.front;
-      used = omega (arith, ap length is.bytes, length-take f.used b, h.within);
-      last = last ∙ is.last;
-      state = state;
+      front = subst (λ (v : Version). IsFront b v rs (drop f.used b)) rules
+          (subst (λ (n : ℕ). IsFront b version rs (drop n b)) (sym behind.used) is.front);
+      used = omega (
+        arith,
+        behind.used,
+        ap length is.bytes,
+        length-take end b,
+        h.within,
+        ap (λ (v : Version). length (log_of v rs)) rules,
+      );
+      last = behind.last ∙ is.last ∙ ap (λ (v : Version). last_of (start v) rs) rules;
+      state = behind.state;
     }
+
+pub redoes : LogEnds → (b : List ℕ) (version : Version) (rs : List Record) (end : ℕ) (why : Why)
+    → length b ≤ log_limit → HasHeader version b → IsFrontFrom version empty b 40 rs end why
+    → (result : Result RedoneFront Fault) → IfOk result (IsStateBehind version empty b rs end)
+    → IfErr result (λ e. e ≡ Resources) → RedoesFront b result
+redoes law b version rs end why short head h (Ok f) behind refused =
+    redone law b version rs end why f short head h behind
+redoes law b version rs end why short head h (Err e) behind refused =
+    subst (λ (z : Fault). RedoesFront b (Err z)) (sym refused) tt

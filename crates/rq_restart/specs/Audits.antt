@@ -4,18 +4,20 @@ use Rattle.std.specs.Prelude.{length}
 use Rattle.std.specs.Prelude.{map, take, slice_index_or, Result, Ok, Err}
 use Rattle.std.specs.Str.{bytes_eq}
 use Rattle.std.specs.Global.{Vec}
-use Rattle.rq_model.specs.Records.{Record, Checkpoint, Two}
+use Rattle.rq_model.specs.Records.{Record, Checkpoint, Version, Two}
 use Rattle.rq_model.specs.Spelling.{body_of}
 use Rattle.rq_model.specs.Frames.{log_limit}
 use Rattle.rq_model.specs.States.{State, empty}
 use Rattle.rq_model.specs.Machine.{step, run, all_lawful}
 use Rattle.rq_model.specs.StateSpelling.{state_bytes}
 use Rattle.rq_model.specs.Checkpoints.{Audited, IsAudit}
+use Rattle.rq_model.specs.Carrying.{IsFrontAt}
 use Rattle.rq_state.specs.Inside.{state_of}
 use Rattle.rq_record.specs.declared.fault.Fault.{Fault}
 use Rattle.rq_record.specs.declared.fault.Fault.TheVariants.{Resources}
 use Rattle.rq_front.specs.declared.spans.Span.{Span}
 use Rattle.rq_front.specs.Chains.{IsHeaded, Refused}
+use Rattle.rq_restart.specs.Restarts.{RefusedAt}
 use Rattle.rq_restart.specs.declared.auditing.AuditSoFar.{AuditSoFar}
 use Rattle.rq_record.specs.Views.{Record as Own}
 use Rattle.rq_restart.specs.Worth.{member_bytes, IsTallied, IsWithin, KeepsAllBut, Counts, lost_by}
@@ -82,3 +84,17 @@ pub record PassesRecord (w : AuditSoFar) (r : Own) (v : AuditSoFar) : Type 0 whe
 abbrev pub Audits : List ℕ → Result (Vec (ℕ × Bool)) Fault → Type 0
 Audits b (Ok v) = (length b ≤ log_limit) × IsHeaded b × IsAudit b (map audited_of v.items)
 Audits b (Err e) = Refused b e
+
+-- a log with a front from the checkpoint at an offset on
+pub record HasFrontAt (b : List ℕ) (offset : ℕ) : Type 0 where
+  pub version : Version
+  pub base : State
+  pub kept : List ℕ
+  pub after : List Record
+  pub rest : List ℕ
+  pub front : IsFrontAt b offset version base kept after rest
+
+-- that front is gone through, or why there is none. Nothing is said of what is found there
+abbrev pub AuditsAt : List ℕ → ℕ → Result (Vec (ℕ × Bool)) Fault → Type 0
+AuditsAt b offset (Ok v) = HasFrontAt b offset
+AuditsAt b offset (Err e) = RefusedAt b offset e

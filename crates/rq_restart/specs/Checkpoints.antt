@@ -5,12 +5,10 @@ use Rattle.rq_model.specs.Frames.{HasHeader}
 use Rattle.rq_model.specs.StateSpelling.{SpellsState}
 use Rattle.rq_model.specs.Checkpoints.{IsCheckpointAt}
 use Rattle.rq_record.specs.declared.fault.Fault.{Fault}
-use Rattle.rq_record.specs.declared.fault.Fault.TheVariants.{NoCheckpoint, BadCheckpoint}
 use Rattle.rq_record.specs.Views.{version_of}
-use Rattle.rq_front.specs.Chains.{Refused}
 use Rattle.rq_restart.specs.declared.checkpoint.Begun.{Begun}
 use Rattle.rq_restart.specs.Ends.{IsChain}
-use Rattle.rq_restart.specs.Restarts.{HasNoCheckpoint, HasBadCheckpoint}
+use Rattle.rq_restart.specs.Restarts.{RefusedAt}
 
 -- what stands behind the kind of a checkpoint's body
 abbrev pub kept_of : List ℕ → Option (List ℕ)
@@ -33,9 +31,7 @@ pub record IsBegun (b : List ℕ) (offset : ℕ) (x : Begun) : Type 0 where
 -- that, or why there is none
 abbrev pub BeginsAt : List ℕ → ℕ → Result Begun Fault → Type 0
 BeginsAt b offset (Ok x) = IsBegun b offset x
-BeginsAt b offset (Err NoCheckpoint) = HasNoCheckpoint b offset
-BeginsAt b offset (Err BadCheckpoint) = HasBadCheckpoint b offset
-BeginsAt b offset (Err e) = Refused b e
+BeginsAt b offset (Err e) = RefusedAt b offset e
 
 -- the offset, where it lies behind the header and in the bytes; else one where no frame stands
 abbrev pub chain_start : ℕ → ℕ → ℕ

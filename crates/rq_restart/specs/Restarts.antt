@@ -33,9 +33,14 @@ HasBadCheckpoint b offset = (length b ≤ log_limit) × (version : Version) × H
     × (kept : List ℕ) × IsCheckpointAt b offset kept
     × ((s : State) → SpellsState version s kept → ⊥)
 
+-- why nothing begins at the offset of b: no checkpoint stands there, or a bad one; or b is too long,
+-- or no log
+abbrev pub RefusedAt : List ℕ → ℕ → Fault → Type 0
+RefusedAt b offset NoCheckpoint = HasNoCheckpoint b offset
+RefusedAt b offset BadCheckpoint = HasBadCheckpoint b offset
+RefusedAt b offset e = Refused b e
+
 -- the restart of b from the checkpoint at the offset, or why there is none
 abbrev pub RestartsAt : List ℕ → ℕ → Result Restarted Fault → Type 0
 RestartsAt b offset (Ok r) = (length b ≤ log_limit) × IsHeaded b × IsRestartAt b offset r
-RestartsAt b offset (Err NoCheckpoint) = HasNoCheckpoint b offset
-RestartsAt b offset (Err BadCheckpoint) = HasBadCheckpoint b offset
-RestartsAt b offset (Err e) = Refused b e
+RestartsAt b offset (Err e) = RefusedAt b offset e

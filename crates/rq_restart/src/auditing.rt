@@ -35,12 +35,12 @@ use std::marker::Sync;
 use std::sync::ArcSlice;
 use std::thread::Threads;
 
-// So many bytes of a checkpoint cost about as much as a record.
-const BYTES_OF_A_RECORD: usize = 64;
+/// So many bytes of a checkpoint cost about as much as a record.
+pub(crate) const BYTES_OF_A_RECORD: usize = 64;
 
-// Whether these are the bytes that spell the state, which is spelled only where its spelling has as
-// many.
-fn is_spelled(alloc: Global, fields: &KeptFields, kept: &[u8]) -> Result<bool, Fault>
+/// Whether these are the bytes that spell the state, which is spelled only where its spelling has as
+/// many.
+pub(crate) fn is_spelled(alloc: Global, fields: &KeptFields, kept: &[u8]) -> Result<bool, Fault>
     requires next { fields.now.next ≤ 4294967295 }
     requires well_formed { IsWellFormed (state_of fields.now) }
     requires short { length kept.now ≤ 268435455 }
@@ -117,8 +117,8 @@ impl AuditSoFar {
     }
 }
 
-// The bytes of a state's members, each in its shortest form.
-fn member_bytes_of(fields: &KeptFields) -> u128
+/// The bytes of a state's members, each in its shortest form.
+pub(crate) fn member_bytes_of(fields: &KeptFields) -> u128
     ensures { result ≡ member_bytes (state_of fields.now) }
 {
     7 * fields.definitions.len() as u128
@@ -209,9 +209,9 @@ pub(crate) fn visit<R: Threads + Sync>(
     })
 }
 
-// The records of a front. What its analysis lists is as much again as a log of short frames, and an
-// audit needs none of it: so that goes here.
-fn records_alone(front: Front) -> Vec<KeptRecord>
+/// The records of a front. What its analysis lists is as much again as a log of short frames, and an
+/// audit needs none of it: so that goes here.
+pub(crate) fn records_alone(front: Front) -> Vec<KeptRecord>
     ensures { result.items ≡ front.records.items }
 {
     front.records

@@ -1,11 +1,13 @@
 //! The front of a log, and who judges what may stand behind it.
 
 ghost use Rattle.std.specs.Prelude.{◌≡◌};
-ghost use Rattle.rq_restart.specs.JudgedFronts.{JudgesFront};
+ghost use Rattle.rq_restart.specs.JudgedFronts.{JudgesFront, JudgesFrontAt};
 
+use crate::checkpoint::begin_at;
 use crate::framing::before;
+use crate::front::end_of;
 use crate::grain::grain_of;
-use crate::passing::PassSoFar;
+use crate::passing::{PassSoFar, judge_each};
 use crate::restarted::Why;
 use rq_catalog::Judge;
 use rq_front::log_version;
@@ -22,7 +24,7 @@ pub struct JudgedFront {
     pub judge: Judge,
     /// The front's last 32 bytes.
     pub last: [u8; 32],
-    /// How many of the log's bytes the front and its header take.
+    /// How many of the log's bytes the front takes, and all that stands before it.
     pub used: usize,
     /// How many records it has.
     pub records: usize,
@@ -57,6 +59,35 @@ pub fn judged_front<R: Threads + Sync>(
         last: before(bytes, offset),
         used: offset,
         records,
+        why,
+    })
+}
+
+/// The front of a log from the checkpoint at an offset on, with a judge of what may stand behind it:
+/// it begins in the state that the checkpoint spells. No record is kept, and no queue is redone.
+///
+/// Refused as `restart_at` is.
+pub fn judged_front_at<R: Threads + Sync>(
+    rt: &R,
+    alloc: Global,
+    bytes: &[u8],
+    offset: u64,
+    plan: &Plan,
+) -> Result<JudgedFront, Fault>
+    ensures { JudgesFrontAt bytes.now offset result }
+{
+    rq_model::frames_are_right();
+    rq_model::frames_join();
+    rq_model::one_front();
+    let begun = begin_at(rt, alloc, bytes, offset, plan)?;
+    let mut judge = Judge::of(alloc, begun.version, &begun.state)?;
+    let reach = judge_each(alloc, &mut judge, bytes, &begun.found.spans)?;
+    let (end, why) = end_of(&begun.found, reach.read, reach.lawful);
+    Ok(JudgedFront {
+        judge,
+        last: before(bytes, end),
+        used: end,
+        records: reach.lawful,
         why,
     })
 }

@@ -5,7 +5,9 @@
 
 mod audit_laws;
 mod auditing;
+mod auditing_at;
 mod before;
+mod bounded;
 mod checkpoint;
 mod ends;
 mod finishing;
@@ -29,11 +31,12 @@ mod window;
 
 pub use audit_laws::every_log_has_audit;
 pub use auditing::{audit, audit_lent};
+pub use auditing_at::audit_at;
 pub use ends::{FrontEnd, front_end};
 pub use growing::GrowingFront;
-pub use judged::{JudgedFront, judged_front};
+pub use judged::{JudgedFront, judged_front, judged_front_at};
 pub use keeper::Keeper;
-pub use redone::{RedoneFront, front_state, redone_front};
+pub use redone::{RedoneFront, front_state, redone_front, redone_front_at};
 pub use restarted::{Restarted, Why};
 pub use restarting::{restart, restart_lent};
 pub use restarting_at::{restart_at, restart_lent_at};

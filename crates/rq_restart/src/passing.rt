@@ -32,11 +32,11 @@ pub(crate) enum Verdict {
     NoRecord,
 }
 
-// How many bodies were read as records, and how many of these, which are the first, are lawful.
+/// How many bodies were read as records, and how many of these, which are the first, are lawful.
 #[derive(Clone, Copy, Debug)]
-struct Reach {
-    read: usize,
-    lawful: usize,
+pub(crate) struct Reach {
+    pub(crate) read: usize,
+    pub(crate) lawful: usize,
 }
 
 /// How far a pass over a log has come: behind so many lawful records, to this offset.
@@ -69,8 +69,8 @@ pub(crate) fn judge_one(alloc: Global, judge: &mut Judge, body: &[u8]) -> Result
     }
 }
 
-// Goes over the bodies as far as they are those of lawful records.
-fn judge_each(
+/// Goes over the bodies as far as they are those of lawful records.
+pub(crate) fn judge_each(
     alloc: Global,
     judge: &mut Judge,
     bytes: &[u8],

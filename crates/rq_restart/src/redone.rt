@@ -1,10 +1,18 @@
 //! The front of a log, and the state behind it.
 
-ghost use Rattle.std.specs.Prelude.{◌≡◌};
+ghost use Rattle.std.specs.Prelude.{◌≡◌, ◌≤◌, ℕ, length, map, IfOk, IfErr};
+ghost use Rattle.rq_model.specs.Frames.{log_limit};
+ghost use Rattle.rq_record.specs.Views.{record_of, version_of};
+ghost use Rattle.rq_record.specs.declared.fault.Fault.TheVariants.{Resources};
+ghost use Rattle.rq_catalog.specs.Analyses.{IsAnalysis};
+ghost use Rattle.rq_restart.specs.Ends.{IsFrontFrom};
 ghost use Rattle.rq_restart.specs.Restarts.{FindsState};
-ghost use Rattle.rq_restart.specs.RedoneFronts.{RedoesFront};
+ghost use Rattle.rq_restart.specs.RedoneFronts.{IsStateBehind, RedoesFront, RedoesFrontAt};
+ghost use Rattle.rq_restart.specs.Views.{why_of};
 
+use crate::checkpoint::begin_at;
 use crate::framing::before;
+use crate::front::{Front, front_of};
 use crate::restarting::whole_front;
 use rq_exchange::replay_analysed;
 use rq_pool::{Open, Plan};
@@ -23,8 +31,46 @@ pub struct RedoneFront {
     pub state: State,
     /// The front's last 32 bytes.
     pub last: [u8; 32],
-    /// How many of the log's bytes the front and its header take.
+    /// How many of the log's bytes the front takes, and all that stands before it.
     pub used: usize,
+}
+
+// The state behind a front of the log that begins in a state.
+fn state_behind<R: Threads + Sync>(
+    rt: &R,
+    alloc: Global,
+    version: Version,
+    state: &State,
+    bytes: &[u8],
+    front: Front,
+    plan: &Plan,
+) -> Result<RedoneFront, Fault>
+    requires next { state.now.next ≤ 4294967295 }
+    requires short { length bytes.now ≤ log_limit }
+    requires front { (from : ℕ) × (40 ≤ from) × IsFrontFrom (version_of version) state.now bytes.now
+        from (map record_of front.records.items) front.end (why_of front.why) }
+    requires analysis { IsAnalysis (version_of version) state.now
+        (map record_of front.records.items) front.analysis }
+    ensures behind { IfOk result (IsStateBehind (version_of version) state.now bytes.now
+        (map record_of front.records.items) front.end) }
+    ensures refused { IfErr result (λ e. e ≡ Resources) }
+{
+    rq_model::versions();
+    let redone = replay_analysed(
+        rt,
+        alloc,
+        state,
+        &front.records,
+        &front.analysis,
+        plan,
+        &Open,
+    )?;
+    Ok(RedoneFront {
+        version,
+        state: redone,
+        last: before(bytes, front.end),
+        used: front.end,
+    })
 }
 
 /// The state after the front of a log, before any abort, and where the front ends.
@@ -40,23 +86,35 @@ pub fn redone_front<R: Threads + Sync>(
     ensures { RedoesFront bytes.now result }
 {
     rq_model::frames_join();
-    rq_model::versions();
     let (version, front) = whole_front(rt, alloc, &LentLog::none(), bytes, plan)?;
-    let state = replay_analysed(
+    state_behind(rt, alloc, version, &State::empty(alloc), bytes, front, plan)
+}
+
+/// The state after the front of a log from the checkpoint at an offset on, before any abort, and
+/// where the front ends: it begins in the state that the checkpoint spells.
+///
+/// Refused as `restart_at` is.
+pub fn redone_front_at<R: Threads + Sync>(
+    rt: &R,
+    alloc: Global,
+    bytes: &[u8],
+    offset: u64,
+    plan: &Plan,
+) -> Result<RedoneFront, Fault>
+    ensures { RedoesFrontAt bytes.now offset result }
+{
+    let begun = begin_at(rt, alloc, bytes, offset, plan)?;
+    let front = front_of(
         rt,
         alloc,
-        &State::empty(alloc),
-        &front.records,
-        &front.analysis,
+        begun.version,
+        &LentLog::none(),
+        bytes,
+        &begun.found,
+        &begun.state,
         plan,
-        &Open,
     )?;
-    Ok(RedoneFront {
-        version,
-        state,
-        last: before(bytes, front.end),
-        used: front.end,
-    })
+    state_behind(rt, alloc, begun.version, &begun.state, bytes, front, plan)
 }
 
 /// The state after the front of a log, before any abort: open units stay open.

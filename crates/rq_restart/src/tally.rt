@@ -85,8 +85,8 @@ impl Tally {
         self.count_unit(unit)
     }
 
-    // A unit is spoken of once more.
-    fn count_unit(&mut self, unit: u64) -> Result<(), Fault>
+    /// A unit is spoken of once more.
+    pub(crate) fn count_unit(&mut self, unit: u64) -> Result<(), Fault>
         requires { of_unit self.old unit + 1 < 2 ^ 64 }
         ensures frame { self.new ≡ record self.old { units = self.new.units } }
         ensures units { OnOk result ((u : ℕ) → of_unit self.new u
@@ -98,8 +98,8 @@ impl Tally {
         Ok(())
     }
 
-    // A registrant is named once more.
-    fn count_registrant(&mut self, queue: u32, name: Name) -> Result<(), Fault>
+    /// A registrant is named once more.
+    pub(crate) fn count_registrant(&mut self, queue: u32, name: Name) -> Result<(), Fault>
         requires { of_registrant self.old (queue, name) + 1 < 2 ^ 64 }
         ensures frame { self.new ≡ record self.old { registrants = self.new.registrants } }
         ensures registrants { OnOk result

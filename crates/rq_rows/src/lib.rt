@@ -1,4 +1,4 @@
-//! What no line of the program shows of a log, as tests which cross the crates: nothing but tests.
+//! What no line of the program shows of a log, in tests that cross the crates: nothing but tests.
 #![tactic(auto)]
 
 #[cfg(test)]

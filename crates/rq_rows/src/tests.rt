@@ -35,7 +35,7 @@ fn log_of<R: Threads + Sync + AllocGlobal>(rt: &R, script: &[u8]) -> Result<Vec<
     Ok(make(rt, rt.alloc(), script, &plan)?)
 }
 
-// Whether a run by so many workers, at a gate, writes this report of the log.
+// Whether a run by this many workers, at a gate, writes this report of the log.
 fn reports<R, G>(rt: &R, log: &[u8], workers: u32, gate: &G, report: &[u8]) -> bool
 where
     R: Threads + Sync + AllocGlobal,

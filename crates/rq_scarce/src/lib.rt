@@ -1,4 +1,4 @@
-//! What the calls answer where the host has little memory left, or none: nothing but tests.
+//! What the calls answer if the host has little memory left, or none: nothing but tests.
 #![tactic(auto)]
 
 #[cfg(test)]

@@ -9,61 +9,54 @@ mod sweeping;
 mod workers;
 
 use rq_tool::{Command, Fault, Input, Open, Output, OverRead, OverWrite, act};
-use std::alloc::Global;
 use std::io::Cursor;
 use std::test::Fail;
 use std::thread::Threads;
 
-// An element of `jobs` goes to `dead` at its second abort, where `ann` finds it at its second
-// look.
-const ARRIVAL: [&str; 18] = [
-    "define dead 0 -",
-    "define jobs 2 0",
-    "register 0 ann",
-    "begin 1",
-    "enqueue 1 1 5 - 0 61",
-    "commit 1",
-    "begin 2",
-    "dequeue 2 1 - 0",
-    "abort 2",
-    "begin 3",
-    "dequeue 3 1 - 0",
-    "begin 4",
-    "dequeue 4 0 ann 70",
-    "commit 4",
-    "abort 3",
-    "begin 5",
-    "dequeue 5 0 ann 71",
-    "commit 5",
-];
+// An element of `jobs` goes to `dead` at its second abort; `ann` finds it there at its second look.
+const ARRIVAL: &[u8] = b"define dead 0 -\n\
+    define jobs 2 0\n\
+    register 0 ann\n\
+    begin 1\n\
+    enqueue 1 1 5 - 0 61\n\
+    commit 1\n\
+    begin 2\n\
+    dequeue 2 1 - 0\n\
+    abort 2\n\
+    begin 3\n\
+    dequeue 3 1 - 0\n\
+    begin 4\n\
+    dequeue 4 0 ann 70\n\
+    commit 4\n\
+    abort 3\n\
+    begin 5\n\
+    dequeue 5 0 ann 71\n\
+    commit 5\n";
 
-// A checkpoint with a unit open, which commits behind it.
-const CHECKPOINT: [&str; 10] = [
-    "define jobs 0 -",
-    "register 0 ann",
-    "begin 1",
-    "enqueue 1 0 5 - 0 61",
-    "commit 1",
-    "begin 2",
-    "dequeue 2 0 ann 10",
-    "enqueue 2 0 8 - 0 62",
-    "checkpoint",
-    "commit 2",
-];
+// A checkpoint with a unit open, which commits after it. The log has 724 bytes, and 679 before the
+// last record.
+const CHECKPOINT: &[u8] = b"define jobs 0 -\n\
+    register 0 ann\n\
+    begin 1\n\
+    enqueue 1 0 5 - 0 61\n\
+    commit 1\n\
+    begin 2\n\
+    dequeue 2 0 ann 10\n\
+    enqueue 2 0 8 - 0 62\n\
+    checkpoint\n\
+    commit 2\n";
 
 // The same, closed while the unit is open.
-const CLOSED: [&str; 10] = [
-    "define jobs 0 -",
-    "register 0 ann",
-    "begin 1",
-    "enqueue 1 0 5 - 0 61",
-    "commit 1",
-    "begin 2",
-    "dequeue 2 0 ann 10",
-    "enqueue 2 0 8 - 0 62",
-    "checkpoint",
-    "abort 2",
-];
+const CLOSED: &[u8] = b"define jobs 0 -\n\
+    register 0 ann\n\
+    begin 1\n\
+    enqueue 1 0 5 - 0 61\n\
+    commit 1\n\
+    begin 2\n\
+    dequeue 2 0 ann 10\n\
+    enqueue 2 0 8 - 0 62\n\
+    checkpoint\n\
+    abort 2\n";
 
 const MAKE: Command<'static> = Command::Make {
     script: "script",
@@ -75,17 +68,7 @@ const MAKE_TWO: Command<'static> = Command::Make2 {
     log: "log",
 };
 
-// The lines, each ended by LF.
-fn lines(alloc: Global, lines: &[&str]) -> Result<Vec<u8>, Fail> {
-    let mut bytes = Vec::new(alloc);
-    for line in lines {
-        bytes.extend_from_slice(line.as_bytes())?;
-        bytes.push(b'\n')?;
-    }
-    Ok(bytes)
-}
-
-// How a command ends, and nothing of what else is known of it.
+// How a command ends, without what else is known about it.
 fn acted<R, I, O>(rt: &R, command: &Command<'_>, input: &mut I, output: &mut O) -> Result<(), Fault>
 where
     R: Threads + Sync + AllocGlobal,
@@ -114,15 +97,14 @@ fn answer<R: Threads + Sync + AllocGlobal>(
 fn log_in<R: Threads + Sync + AllocGlobal>(
     rt: &R,
     make: &Command<'_>,
-    script: &[&str],
+    script: &[u8],
 ) -> Result<Vec<u8>, Fail> {
-    let script = lines(rt.alloc(), script)?;
-    let (done, log) = answer(rt, make, &script, Vec::new(rt.alloc()));
+    let (done, log) = answer(rt, make, script, Vec::new(rt.alloc()));
     done?;
     Ok(log)
 }
 
 // The log of a script, in version 1.
-fn log_of<R: Threads + Sync + AllocGlobal>(rt: &R, script: &[&str]) -> Result<Vec<u8>, Fail> {
+fn log_of<R: Threads + Sync + AllocGlobal>(rt: &R, script: &[u8]) -> Result<Vec<u8>, Fail> {
     log_in(rt, &MAKE, script)
 }

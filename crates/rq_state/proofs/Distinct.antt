@@ -1,4 +1,4 @@
--- Names that differ, in whatever order.
+-- Names that differ, in any order.
 use Rattle.std.proofs.Common.{rules}
 use Rattle.std.proofs.Common.{◌≡◌, ℕ, ◌+◌, ◌≤◌, Bool, true, false, List, [], ◌∷◌, refl, sym, ap, ◌∙◌, subst, arith}
 use Rattle.std.specs.Prelude.{◌↔◌, IsTrue, if◌then◌else◌}
@@ -57,7 +57,7 @@ differ_moved xs ys moved h = few_differ ys
     (λ n. subst (λ m. m ≤ 1) (sym (number_sum _ ys ∙ sum_by-IsPermutation _ xs ys moved ∙ sym (number_sum _ xs)))
     (differ_few xs h n))
 
--- Sorted names differ where each is before the next.
+-- Sorted names differ if each is before the next.
 
 before_differs : (a b : List ℕ) → name_before a b ≡ true → bytes_eq a b ≡ false
 before_differs a b h = sym (is_eq-slice_cmp a b) ∙ not_both _ h
@@ -91,7 +91,7 @@ ordered_both R S T f (x ∷ xs) h k = (each_two (R x) (S x) (T x) (f x) xs h.0 k
 name_is_order : IsStrictWeakOrder name_before
 name_is_order = ranks_by nat_list_cmp_total (λ n. n)
 
--- a strict rise of what a sort leaves tells whether the names differ
+-- what a sort leaves rises strictly exactly if the names differ
 pub names_told : (xs ys : List (List ℕ)) (r : Bool) → IsPermutation xs ys → IsSorted (slice_cmp nat_cmp) ys
     → IsAllAdjacentAnswer (λ a b t. t ≡ name_before a b) ys r → IsTrue r ↔ Differ xs
 names_told xs ys r moved sorted answer =

@@ -1,4 +1,4 @@
--- What std's sort leaves is the list with each put in.
+-- What std's sort leaves is the list with each member put in.
 use Rattle.std.proofs.Common.{◌≡◌, ℕ, suc, ◌+◌, ◌<◌, Bool, true, false, List, [], ◌∷◌, length, map}
 use Rattle.std.proofs.Common.{refl, sym, ◌∙◌, subst, arith}
 use Rattle.std.specs.Prelude.{◌==◌, ◌&&◌, nat_eq, nat_lt, slice_index_or}

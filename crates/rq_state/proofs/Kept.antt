@@ -1,4 +1,5 @@
--- What is read and keeps what it must is the state that the bytes spell, and no bytes of a state break it.
+-- If what is read keeps what it must, it is the state that the bytes spell; what is read from a
+-- state's bytes always does.
 use Rattle.std.proofs.Common.{◌≡◌, ℕ, List, [], Option, Some, None, Err, refl, sym, ◌∙◌, arith}
 use Rattle.std.proofs.lemmas.Option.{same_Some}
 use Rattle.rq_model.specs.Records.{Version}
@@ -72,7 +73,7 @@ not_read version bytes faults.BadCheckpoint byte form nothing = no_state version
 not_read version bytes faults.Resources byte form nothing = formed bytes byte form
 not_read version bytes e byte form nothing = grind arith
 
--- nor do bytes of which something else is read
+-- nor do bytes from which something is read that does not keep it all
 pub not_kept : (version : Version) (bytes : List ℕ) (t : State) (e : Fault) → IsBytes bytes
     → alone state_read bytes ≡ Some (t, []) → TellsWhether {A = Unit {0}} (KeepsAll version t) (Err e)
     → ReadsState version bytes (Err e)
@@ -82,7 +83,7 @@ not_kept version bytes t faults.BadCheckpoint byte is told =
 not_kept version bytes t faults.Resources byte is told = spelled bytes _ byte is
 not_kept version bytes t e byte is told = absurd told
 
--- where there is no room for what is read and keeps it all
+-- if there is no room for what is read and keeps it all
 pub not_built : (version : Version) (bytes : List ℕ) (t : State) (e : Fault) → IsBytes bytes
     → alone state_read bytes ≡ Some (t, []) → e ≡ faults.Resources → ReadsState version bytes (Err e)
 not_built version bytes t e byte is refused = grind (arith, spelled bytes _ byte is)

@@ -15,7 +15,7 @@ at_next R (x ∷ []) h k d l = grind arith
 at_next R (x ∷ y ∷ ys) h zero d l = h.0.0
 at_next R (x ∷ y ∷ ys) h (suc k) d l = grind (arith, at_next R (y ∷ ys) h.1 k d (omega arith))
 
--- and back, where the order goes through
+-- and back, if the order is transitive
 pub from_next : {X : Type 0} (R : X → X → Type 0) → ((x y z : X) → R x y → R y z → R x z) → (xs : List X)
     → AllAdjacentBelow R xs (length xs) → Ordered R xs
 from_next R through [] h = tt

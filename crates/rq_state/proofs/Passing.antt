@@ -7,7 +7,7 @@ use Rattle.rq_model.specs.StateReading.{definition_read, registrant_read, elemen
 use Rattle.rq_model.specs.StateReading.{state_read}
 use Rattle.rq_state.specs.Reading.{passed, form_read}
 
--- the members that are left, where the first is there or is missing
+-- the members that are left, whether the first is there or missing
 one_more : {X : Type 0} (reader : Reader X) (n : ℕ) (bytes : List ℕ) (first : Option (⊤ × List ℕ))
     → passed reader bytes ≡ first → passed (members reader (suc n)) bytes
     ≡ (first >>= λ x. passed (members reader n) x.1)
@@ -31,7 +31,7 @@ one_more {X} reader n bytes first e = at_first (reader bytes) refl
     at_first (Some x) e = rw e (others x.0 (members reader n x.1))
     at_first None e = rw e refl
 
--- what passing so many members gives is the total
+-- what passing this many members gives is the total
 pub record Passing {X : Type 0} (reader : Reader X) (n : ℕ) (bytes : List ℕ)
     (total : Option (⊤ × List ℕ)) : Type 0 where
   pub left : passed (members reader n) bytes ≡ total
@@ -44,6 +44,17 @@ passes_on {X} {reader} {count} {i} {bytes} x after so_far lt h =
       left = sym (one_more _ _ bytes (Some (tt, after)) (rw (← h) refl))
           ∙ grind arith;
     }
+
+pub goes_past : {X : Type 0} {reader : Reader X} {count i : ℕ} {bytes : List ℕ} {total : Option (⊤ × List ℕ)} (x : ⊤)
+    (after : List ℕ) → Passing reader (count - i) bytes total → i < count → Some (x, after) ≡ passed reader bytes
+    → Passing reader (count - (i + 1)) after total
+goes_past {X} {reader} {count} {i} {bytes} x after so_far lt h =
+    record { left = sym (one_more _ _ bytes (Some (x, after)) (sym h)) ∙ grind arith }
+
+pub stopped : {X : Type 0} {reader : Reader X} {count i : ℕ} {bytes : List ℕ} {total : Option (⊤ × List ℕ)}
+    → Passing reader (count - i) bytes total → i < count → None ≡ passed reader bytes → None ≡ total
+stopped {X} {reader} {count} {i} {bytes} so_far lt h =
+    sym (one_more reader (count - (i + 1)) bytes None (sym h)) ∙ grind arith
 
 pub stops : {X : Type 0} {reader : Reader X} {count i : ℕ} {bytes : List ℕ} {total : Option (⊤ × List ℕ)}
     → Passing reader (count - i) bytes total → i < count → None ≡ reader bytes → None ≡ total
@@ -58,7 +69,7 @@ is_past {X} {reader} {count} {i} {bytes} so_far le =
     ap (λ (n : ℕ). passed (members reader n) bytes) (sym k) ∙ so_far.left
 
 -- what a loop past members needs
-pub ruleset passing = (passes_on, stops, is_past)
+pub ruleset passing = (passes_on, goes_past, stopped, stops, is_past)
 
 -- Readers that read to the same place.
 
@@ -84,7 +95,7 @@ into_made {X} {Y} {Z} {r} {s} f h = grind arith
 same_alone : {X Y : Type 0} {r : Reader X} {s : Reader Y} → SamePlace r s → SamePlace (alone r) (alone s)
 same_alone {X} {Y} {r} {s} h = grind arith
 
--- the form is there where a state is read
+-- if a state is read, its form is there
 pub form_is : SamePlace form_read (alone state_read)
 unfolding form_read state_read
 form_is = same_alone (into_made state_from

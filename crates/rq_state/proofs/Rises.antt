@@ -1,4 +1,4 @@
--- What a test of each member with the next says.
+-- What a test of each member and the next says.
 use Rattle.std.proofs.Common.{◌≡◌, ℕ, ◌<◌, Bool, true, false, List, length, ◌∙◌, map, [], ◌∷◌, ◌≤◌, arith}
 use Rattle.std.specs.Prelude.{◌↔◌, IsTrue, nat_lt}
 use Rattle.std.specs.List.{IsAllAdjacentAnswer}

@@ -28,7 +28,7 @@ found : {X : Type 0} (p : X → Bool) (xs : List X) (i : ℕ) → i < length xs 
 found p [] i lt h = grind arith
 found p (x ∷ xs) i lt h = list_any_at p (x ∷ xs) i x lt (h x)
 
--- a search by a key answers as the test of each member does
+-- a search by a key gives what testing each member gives
 pub searched_by : {X K : Type 0} (key : X → K) (R : K → K → Ordering) → IsTotalOrder R
     → (xs : List X) (b : K) (r : Result ℕ ℕ) → IsSearchInRange r (length xs)
     → IsBinarySearchResult (λ y. R (key y) b) xs r

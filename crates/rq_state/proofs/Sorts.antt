@@ -32,7 +32,7 @@ some_of p (y ∷ ys) x k h = ⊎_elim (λ e. grind arith)
     (λ _. omega (arith, some_of p ys x m h))) k
 
 module _ {X : Type 0} (before : X → X → Bool) (irreflexive : (x : X) → before x x ≡ false) where
-  -- the same members, as often by each test
+  -- the same members: as many pass each test
   pub record Same (xs ys : List X) : Type 0 where
     pub members : AllByRecursion (λ y. IsIn y xs) ys
     pub often : (p : X → Bool) → number_of p ys ≡ number_of p xs
@@ -189,7 +189,7 @@ module _ {X : Type 0} (before : X → X → Bool) (irreflexive : (x : X) → bef
       shift : (a b c d : ℕ) → b + c ≡ d → b + (a + c) ≡ a + d
       shift a b c d h = omega (arith, h)
 
-  -- what a sort leaves is what putting each in gives, where the keys are distinct
+  -- if the keys are distinct, a sort leaves what putting each in gives
   pub sorted_is : (xs ys : List X) → IsPermutation xs ys → Ordered (λ a b. before b a ≡ false) ys
       → Ordered (λ a b. before a b ≡ true) (put_in_order before xs) → ys ≡ put_in_order before xs
   sorted_is xs ys moved weak strict = only_order before irreflexive (put_in_order before xs) ys strict weak (record {

@@ -1,4 +1,4 @@
--- What tells of one thing tells of what is the same.
+-- What tells whether one thing holds tells whether an equivalent one does.
 use Rattle.std.proofs.Common.{arith}
 use Rattle.std.proofs.Common.{Result, Ok, Err}
 use Rattle.rq_record.specs.declared.fault.Fault.{Fault}
@@ -12,7 +12,7 @@ tells_from P Q (Err faults.BadCheckpoint) there back told = grind arith
 tells_from P Q (Err faults.Resources) there back told = tt
 tells_from P Q (Err e) there back told = absurd told
 
--- an exit that refutes a part refutes the whole
+-- a fault that refutes a part refutes the whole
 pub tells_not : (P Q : Type 0) (e : Fault) → (Q → P) → TellsWhether {A = Unit {0}} P (Err e)
     → TellsWhether {A = Unit {0}} Q (Err e)
 tells_not P Q faults.BadCheckpoint back told = grind arith

@@ -18,7 +18,7 @@ use Rattle.rq_state.specs.Tests.{note_test}
 and_true : (a b : Bool) → a ≡ true → b ≡ true → (a && b) ≡ true
 and_true a b h k = grind arith
 
--- each member passes the test where each has the property
+-- if the test decides the property, all pass exactly if all have it
 pub each_tested : {X : Type 0} (p : X → Bool) (P : X → Type 0) → ((x : X) → p x ≡ true → P x)
     → ((x : X) → P x → p x ≡ true) → (xs : List X) → IsTrue (list_all p xs) ↔ AllByRecursion P xs
 each_tested {X} p P there back xs = (passes xs, passed xs)

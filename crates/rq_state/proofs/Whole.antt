@@ -37,7 +37,7 @@ module _ {X : Type 0} (before : X → X → Bool) (order : IsStrictWeakOrder bef
   irreflexive x = by_cases (before x x) (λ b. before x x ≡ b → before x x ≡ false) (λ _ e. order.one_way x x e)
       (λ _ e. e) refl
 
-  -- what is put in stands in order
+  -- a list stays in order when one is put in
   weak_put : (x : X) (zs : List X) → Ordered (λ a b. before b a ≡ false) zs
       → Ordered (λ a b. before b a ≡ false) (put before x zs)
   weak_put x zs h =

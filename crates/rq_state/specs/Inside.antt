@@ -8,7 +8,7 @@ use Rattle.rq_state.specs.declared.fields.FieldsOf.{FieldsOf}
 abbrev pub Fields : Type 0
 Fields = FieldsOf model.Element
 
--- the fields, with their lists as they stand
+-- the fields, with their lists as they are
 abbrev pub state_of : Fields → model.State
 state_of f = record {
   next = f.next;

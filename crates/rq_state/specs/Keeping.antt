@@ -9,7 +9,7 @@ use Rattle.rq_model.specs.StateSpelling.{IsDeepFor}
 use Rattle.rq_record.specs.declared.fault.Fault.{Fault}
 use Rattle.rq_record.specs.declared.fault.Fault.TheVariants.{Resources, BadCheckpoint}
 
--- that it holds, or that it does not, or that memory ran out
+-- it holds, or it does not, or memory ran out
 abbrev pub TellsWhether : {A : Type 0} → Type 0 → Result A Fault → Type 0
 TellsWhether P (Ok x) = P
 TellsWhether P (Err BadCheckpoint) = P → ⊥

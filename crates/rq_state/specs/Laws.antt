@@ -16,11 +16,11 @@ of_parts s =
       notes = gathered (λ p. p.notes) (part_of s) (length s.definitions);
     }
 
--- What all queues' parts have, put in order, is the state
+-- The members of all queues' parts, put in order, are the state
 abbrev pub PartsMakeTheState : Type 0
 PartsMakeTheState = (s : State) → IsWellFormed s → state_in_order (of_parts s) ≡ s
 
--- the same numbers and definitions, and the same members in whatever order
+-- the same numbers and definitions, and the same members in any order
 pub record HasSame (s t : State) : Type 0 where
   pub next : t.next ≡ s.next
   pub greatest : t.greatest ≡ s.greatest
@@ -32,6 +32,6 @@ pub record HasSame (s t : State) : Type 0 where
   pub elements : IsPermutation s.elements t.elements
   pub notes : IsPermutation s.notes t.notes
 
--- A state's members in whatever order, put in order, are the state
+-- A state's members in any order, put in order, are the state
 abbrev pub AnyOrderMakesTheState : Type 0
 AnyOrderMakesTheState = (s t : State) → IsWellFormed s → HasSame s t → state_in_order t ≡ s

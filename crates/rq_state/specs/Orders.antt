@@ -33,6 +33,6 @@ abbrev pub indices_of : {X : Type 0} → (X → Bool) → ℕ → List X → Lis
 indices_of p n [] = []
 indices_of p n (x ∷ xs) = if p x then n ∷ indices_of p (n + 1) xs else indices_of p (n + 1) xs
 
--- what a table has for a queue: nothing where there is no queue
+-- what a table has for a queue: nothing if there is no such queue
 abbrev pub listed : {X : Type 0} → List (Vec X) → ℕ → List X
 listed table queue = slice_index_or (map (λ v. v.items) table) queue []

@@ -1,4 +1,4 @@
--- Tables that stand beside a state's lists.
+-- Tables beside a state's lists.
 use Rattle.std.specs.Prelude.{ℕ, ◌≡◌, ◌==◌, List}
 use Rattle.std.specs.Global.{Vec}
 use Rattle.rq_model.specs.States.{Element, Note, Registrant}

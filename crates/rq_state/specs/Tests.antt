@@ -1,4 +1,4 @@
--- Each member's part of being well formed, as a test.
+-- What being well formed asks of each member, as a test.
 use Rattle.std.specs.Prelude.{ℕ, ◌+◌, ◌==◌, nat_lt, nat_le, Bool, true, false, ◌&&◌, ◌||◌, List, []}
 use Rattle.std.specs.Prelude.{◌∷◌, length, Option, Some, None}
 use Rattle.std.specs.List.{list_all}

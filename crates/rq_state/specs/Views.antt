@@ -1,4 +1,4 @@
--- What marks and kinds of the code are among the words of the model.
+-- What marks and kinds of the code are in terms of the model.
 use Rattle.std.specs.Prelude.{ℕ, Option, option_map}
 use Rattle.rq_state.specs.declared.members.Mark.{Mark}
 use Rattle.rq_state.specs.declared.members.Mark.TheVariants.{Free, Fresh, Held}
@@ -17,7 +17,7 @@ abbrev pub kind_of : OpKind → model.Kind
 kind_of Enqueue = model.Enqueued
 kind_of Dequeue = model.Dequeued
 
--- the number of an element, where there is one
+-- the number of an element, if there is one
 abbrev pub id_of : Option ElemId → Option ℕ
 id_of element = option_map (λ e. e.0) element
 

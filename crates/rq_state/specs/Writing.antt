@@ -1,4 +1,4 @@
--- What a call that spells answers.
+-- What a call that spells returns.
 use Rattle.std.specs.Prelude.{◌≡◌, ℕ, List, ◌++◌, Result, Ok, Err, ⊤}
 
 -- the text is appended, or memory ran out on the way

@@ -13,7 +13,7 @@ use rq_record::{Fault, QueueNo};
 use std::alloc::Global;
 
 impl State {
-    /// The elements of a queue by id, with payloads of the same bytes; none where no queue has the
+    /// The elements of a queue by id, with payloads of the same bytes; none if no queue has the
     /// number.
     pub fn copied_elements_of(
         &self,
@@ -27,7 +27,7 @@ impl State {
         Ok(copies)
     }
 
-    /// The registrants of a queue by name; none where no queue has the number.
+    /// The registrants of a queue by name; none if no queue has the number.
     pub fn copied_registrants_of(
         &self,
         alloc: Global,
@@ -41,7 +41,7 @@ impl State {
         Ok(copies)
     }
 
-    /// The notes of a queue by place; none where no queue has the number.
+    /// The notes of a queue by place; none if no queue has the number.
     pub fn copied_notes_of(&self, alloc: Global, queue: QueueNo) -> Result<Vec<Note>, Fault>
         ensures notes { IfOk result (λ v. v.items ≡ notes_at queue.0 self.now.notes) }
         ensures refused { IfErr result (λ e. e ≡ Resources) }

@@ -15,8 +15,8 @@ pub type Fields = FieldsOf<Element>;
 /// What a state is made from, as it keeps it.
 pub type KeptFields = FieldsOf<KeptElement>;
 
-/// What a state is made from: definitions by number, the other lists in any order. `E` is an
-/// element: an `Element` or a `KeptElement`.
+/// What a state is made from: definitions by number, the other lists in any order. `E` is the type
+/// of elements: `Element` or `KeptElement`.
 #[derive(Drop)]
 pub struct FieldsOf<E> {
     /// The next record number.
@@ -40,8 +40,8 @@ pub struct FieldsOf<E> {
 }
 
 impl KeptFields {
-    /// Keeps the fields, with their lists as they stand. `Resources` where memory runs out; the
-    /// fields are then dropped.
+    /// Keeps the fields, with their lists as they are. `Resources` if memory runs out; the fields
+    /// are then dropped.
     pub fn of(alloc: Global, fields: Fields) -> Result<KeptFields, Fault>
         ensures kept { IfOk result (λ k. state_of k ≡ state_of fields) }
         ensures refused { IfErr result (λ e. e ≡ Resources) }

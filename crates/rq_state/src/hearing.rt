@@ -8,7 +8,7 @@ use crate::members::{Last, Note, Registrant};
 use rq_record::{Name, QueueNo, UnitNo};
 
 impl Last {
-    /// Hears of another operation: it becomes that one where its place is greater.
+    /// Hears of another operation: it becomes that one if its place is greater.
     pub fn hear(&mut self, other: &Last)
         ensures { Some self.new ≡ machine.later (Some self.old) other.now }
     {
@@ -49,7 +49,7 @@ impl Note {
 }
 
 impl Registrant {
-    /// Hears of an operation: its last one is that of greater place; at equal places the one so
+    /// Hears of an operation: the last one is the one of greater place; at equal places the one so
     /// far.
     pub fn hear(&mut self, other: &Last)
         ensures { self.new ≡ record self.old { last = machine.later self.old.last other.now } }

@@ -1,5 +1,5 @@
-//! What a spelled state must keep before it is one: each piece is tested, and what breaks it is
-//! refused.
+//! What a spelled state must keep before it is a state: each piece is tested, and fields that break
+//! one are refused.
 
 ghost use Rattle.std.specs.Prelude.{◌≡◌, ◌<◌, ◌↔◌, IsTrue, false, true, map, IfOk, IfErr};
 ghost use Rattle.std.specs.Str.{bytes_eq};
@@ -32,7 +32,7 @@ const GREATEST_NEXT: u64 = 4_294_967_295;
 // The most queues that may be defined.
 const MOST_QUEUES: usize = 4096;
 
-// No more queues and records than their bounds, and no more units and registrants than records.
+// Queues and records stay within their bounds, and units and registrants are no more than records.
 fn are_numbers(fields: &KeptFields) -> bool
     ensures { IsTrue result ↔ KeepsNumbers (state_of fields.now) }
 {
@@ -57,7 +57,7 @@ fn names_of(alloc: Global, definitions: &[Definition]) -> Result<Vec<Name>, Faul
     Ok(names)
 }
 
-// Whether no two of these names are equal: none is then, once they are sorted, beside its like.
+// Whether no two of these names are equal: after sorting, no name is next to its equal.
 fn do_names_differ(mut names: Vec<Name>) -> bool
     ensures { IsTrue result ↔ Ordered (λ a b. bytes_eq a b ≡ false) names.items }
 {
@@ -65,7 +65,7 @@ fn do_names_differ(mut names: Vec<Name>) -> bool
     names.is_sorted_by(|one, next| one < next)
 }
 
-// Goes on where it holds.
+// Goes on if it holds.
 fn kept(holds: bool) -> Result<(), Fault>
     ensures { TellsWhether (IsTrue holds) result }
 {
@@ -127,8 +127,8 @@ fn check_notes(fields: &KeptFields) -> Result<(), Fault>
     kept(are_notes(fields))
 }
 
-/// That the fields are those of a well-formed state of the version, or BadCheckpoint, or Resources
-/// where there is no room to sort names.
+/// Checks that the fields are those of a well-formed state of the version. `BadCheckpoint` if they
+/// are not, `Resources` if there is no room to sort names.
 pub(crate) fn check(alloc: Global, version: Version, fields: &KeptFields) -> Result<(), Fault>
     ensures { TellsWhether (KeepsAll (version_of version) (state_of fields.now)) result }
 {

@@ -8,8 +8,8 @@ use rq_record::{ElemId, Fault, KeptPayload, QueueNo};
 use std::alloc::Global;
 use std::marker::Model;
 
-/// An element of a queue, as a state keeps it: with its payload in 24 bytes, short ones without
-/// memory of their own. It says what an `Element` says.
+/// An element of a queue, as a state keeps it: its payload takes 24 bytes, and a short one no
+/// memory of its own. It says what an `Element` says.
 #[derive(Drop)]
 pub struct KeptElement {
     /// The record number of the enqueue that made it.
@@ -20,7 +20,7 @@ pub struct KeptElement {
     pub origin: QueueNo,
     /// Greater ones are taken first.
     pub priority: u8,
-    /// How often an aborted unit gave it back since it is in its home.
+    /// How often an aborted unit gave it back since it came to its home.
     pub attempts: u64,
     /// The bytes that its enqueue gave it, at most 65,535.
     pub payload: KeptPayload,
@@ -46,7 +46,7 @@ impl Model for KeptElement {
 }
 
 impl KeptElement {
-    /// Keeps the element. `Resources` where memory runs out.
+    /// Keeps the element. `Resources` if memory runs out.
     pub fn of(alloc: Global, e: &Element) -> Result<KeptElement, Fault>
         ensures kept { IfOk result (λ k. k ≡ e.now) }
         ensures refused { IfErr result (λ e. e ≡ Resources) }
@@ -76,7 +76,7 @@ impl KeptElement {
         self.home
     }
 
-    /// An element with a payload of the same bytes; Resources where these are shared too often.
+    /// An element with a payload of the same bytes; `Resources` if these are shared too often.
     pub fn copied(&self) -> Result<KeptElement, Fault>
         ensures copied { IfOk result (λ e. e ≡ self.now) }
         ensures refused { IfErr result (λ e. e ≡ Resources) }
@@ -94,7 +94,7 @@ impl KeptElement {
 }
 
 impl Element {
-    /// The element that is kept, as a caller takes it apart. `Resources` where memory runs out.
+    /// The element that is kept, as a caller takes it apart. `Resources` if memory runs out.
     pub fn of(alloc: Global, kept: &KeptElement) -> Result<Element, Fault>
         ensures same { IfOk result (λ e. e ≡ kept.now) }
         ensures refused { IfErr result (λ e. e ≡ Resources) }
@@ -111,7 +111,7 @@ impl Element {
     }
 }
 
-/// Keeps the elements, in their order. `Resources` where memory runs out.
+/// Keeps the elements, in their order. `Resources` if memory runs out.
 pub fn kept_elements(alloc: Global, elements: &[Element]) -> Result<Vec<KeptElement>, Fault>
     ensures kept { IfOk result (λ v. v.items ≡ elements.now) }
     ensures refused { IfErr result (λ e. e ≡ Resources) }
@@ -123,8 +123,8 @@ pub fn kept_elements(alloc: Global, elements: &[Element]) -> Result<Vec<KeptElem
     Ok(kept)
 }
 
-/// The elements that are kept, in their order, as a caller takes them apart. `Resources` where
-/// memory runs out.
+/// The elements that are kept, in their order, as a caller takes them apart. `Resources` if memory
+/// runs out.
 pub fn told_elements(alloc: Global, kept: &[KeptElement]) -> Result<Vec<Element>, Fault>
     ensures same { IfOk result (λ v. v.items ≡ kept.now) }
     ensures refused { IfErr result (λ e. e ≡ Resources) }

@@ -1,5 +1,5 @@
-//! The state of the queue manager: what it keeps, looks into it, how it is made of its queues'
-//! parts, and its one spelling in bytes.
+//! The state of the queue manager: what it keeps, how it is looked into, how it is made of its
+//! queues' parts, and its one spelling in bytes.
 #![tactic(auto)]
 
 mod copies;

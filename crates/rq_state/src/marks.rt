@@ -86,7 +86,7 @@ impl KeptElement {
         self.is_held(unit) && home.limit != 0 && self.attempts + 1 == home.limit as u64
     }
 
-    /// As it arrives in the error queue of its home.
+    /// The element as it arrives in the error queue of its home.
     pub fn moved(self, home: &Definition) -> KeptElement
         ensures { result ≡ machine.moved home.now self }
     {
@@ -101,8 +101,8 @@ impl KeptElement {
         }
     }
 
-    /// As an ABORT of the unit leaves it in its queue: Free with one attempt more, if the unit
-    /// holds it.
+    /// The element as an ABORT of the unit leaves it in its queue: Free with one attempt more, if
+    /// the unit holds it.
     pub fn returned(self, unit: UnitNo) -> KeptElement
         requires { self.attempts + 1 < 2 ^ 64 }
         ensures { result ≡ machine.returned unit.0 self }
@@ -121,7 +121,7 @@ impl KeptElement {
         }
     }
 
-    /// As a Free element.
+    /// The element made Free.
     pub fn unmarked(self) -> KeptElement
         ensures { result ≡ machine.marked model.Free self }
     {

@@ -6,12 +6,12 @@ ghost use Rattle.rq_model.specs.States as model;
 use rq_record::{ElemId, Name, Payload, QueueNo, UnitNo};
 use std::marker::Model;
 
-/// Whose an element is for now.
+/// Who has an element for now.
 #[derive(Clone, Copy, PartialEq, Eq, Debug)]
 pub enum Mark {
     /// Nobody's: the next dequeue may take it.
     Free,
-    /// An open unit put it in; it is seen by nobody before that unit commits.
+    /// An open unit put it in; nobody sees it before that unit commits.
     Fresh(UnitNo),
     /// An open unit took it out; it comes back if that unit aborts.
     Held(UnitNo),
@@ -37,7 +37,7 @@ pub struct Element {
     pub origin: QueueNo,
     /// Greater ones are taken first.
     pub priority: u8,
-    /// How often an aborted unit gave it back since it is in its home.
+    /// How often an aborted unit gave it back since it came to its home.
     pub attempts: u64,
     /// The bytes that its enqueue gave it, at most 65,535.
     pub payload: Payload,
@@ -71,7 +71,7 @@ pub struct Last {
     pub kind: OpKind,
     /// The tag that the registrant gave with the operation.
     pub tag: u64,
-    /// The element put in, or the one taken; none where a dequeue found nothing.
+    /// The element put in, or the one taken; none if a dequeue found nothing.
     pub element: Option<ElemId>,
 }
 
@@ -110,7 +110,7 @@ impl Last {
     }
 }
 
-/// An operation of an open unit that named a registrant: its last one, should the unit commit.
+/// An operation of an open unit that named a registrant: its last one, if the unit commits.
 #[derive(Drop)]
 pub struct Note {
     /// The open unit that the operation is in.
@@ -174,10 +174,9 @@ impl Note {
 /// A queue as it was defined.
 #[derive(Drop)]
 pub struct Definition {
-    /// The abort at which an element that came back so often leaves the queue, 1 to 1,000; 0 for
-    /// never.
+    /// The number of aborts at which an element leaves the queue, 1 to 1,000; 0 for never.
     pub limit: u16,
-    /// Where an element goes at the limit; QueueNo::NONE where the limit is 0.
+    /// Where an element goes at the limit; `QueueNo::NONE` if the limit is 0.
     pub error: QueueNo,
     pub name: Name,
 }
@@ -203,12 +202,12 @@ impl Definition {
     }
 }
 
-/// Somebody who is registered with a queue.
+/// A registrant of a queue.
 #[derive(Drop)]
 pub struct Registrant {
     pub queue: QueueNo,
     pub name: Name,
-    /// Its last operation in a committed unit, where there is one.
+    /// Its last operation in a committed unit, if there is one.
     pub last: Option<Last>,
 }
 
@@ -221,14 +220,14 @@ impl Model for Registrant {
 }
 
 impl Registrant {
-    /// Its queue and name, by which registrants are in order.
+    /// Its queue and name, by which registrants are ordered.
     pub fn key(&self) -> (u32, Name)
         ensures { result ≡ (self.now.queue, self.now.name) }
     {
         (self.queue.0, self.name)
     }
 
-    /// Whether it stands before the other, by queue and then by name.
+    /// Whether it comes before the other, by queue and then by name.
     pub(crate) fn is_before(&self, other: &Registrant) -> bool
         ensures { result ≡ model.registrant_before self.now other.now }
     {

@@ -15,7 +15,7 @@ use crate::state::State;
 use rq_record::{Fault, Version};
 use std::alloc::Global;
 
-/// The state that these bytes spell in a log of version 1, as `read_in` says it.
+/// The state that these bytes spell in a log of version 1: `read_in` of that version.
 pub fn read(alloc: Global, bytes: &[u8]) -> Result<State, Fault>
     ensures { ReadsState One bytes.now result }
 {
@@ -23,8 +23,8 @@ pub fn read(alloc: Global, bytes: &[u8]) -> Result<State, Fault>
 }
 
 /// The state that these bytes spell in a log of the version, as a checkpoint record holds them
-/// behind its kind. BadCheckpoint where they spell none: a member out of order or doubled, a count
-/// that does not fit, bytes left over, or fields that no state of the version has; Resources where
+/// after its kind. `BadCheckpoint` if they spell none: a member is out of order or doubled, a count
+/// does not fit, bytes are left over, or no state of the version has these fields. `Resources` if
 /// there is no room for the state.
 pub fn read_in(alloc: Global, version: Version, bytes: &[u8]) -> Result<State, Fault>
     ensures { ReadsState (version_of version) bytes.now result }

@@ -19,7 +19,7 @@ use rq_record::{Fault, QueueNo, UnitNo};
 use std::alloc::Global;
 use std::marker::Model;
 
-/// What the queue manager keeps, and where the members of each queue stand in its lists.
+/// What the queue manager keeps, and where the members of each queue are in its lists.
 #[derive(Drop)]
 pub struct State {
     fields: KeptFields,
@@ -68,8 +68,8 @@ impl State {
         }
     }
 
-    /// The state of the fields, with their lists put in order. Where memory runs out, Resources, and
-    /// the fields are dropped.
+    /// The state of the fields, with their lists put in order. If memory runs out, `Resources` is
+    /// returned and the fields are dropped.
     pub fn build(alloc: Global, fields: Fields) -> Result<State, Fault>
         requires { IsWellFormed (state_in_order (state_of fields)) }
         ensures built { IfOk result (λ s. s ≡ state_in_order (state_of fields)) }
@@ -78,7 +78,7 @@ impl State {
         State::build_kept(alloc, KeptFields::of(alloc, fields)?)
     }
 
-    /// The same of fields that are kept, of which nothing is copied.
+    /// The same for fields that are kept; nothing of them is copied.
     pub fn build_kept(alloc: Global, mut fields: KeptFields) -> Result<State, Fault>
         requires { IsWellFormed (state_in_order (state_of fields)) }
         ensures built { IfOk result (λ s. s ≡ state_in_order (state_of fields)) }
@@ -92,8 +92,8 @@ impl State {
         Ok(state)
     }
 
-    /// The state of fields whose lists are in order already. Where there is no memory for the
-    /// tables of each queue's members, Resources, and the fields are dropped.
+    /// The state of fields whose lists are in order already. If there is no memory for the tables
+    /// of each queue's members, `Resources` is returned and the fields are dropped.
     pub fn of_ordered(alloc: Global, fields: KeptFields) -> Result<State, Fault>
         requires { IsWellFormed (state_of fields) }
         ensures built { IfOk result (λ s. s ≡ state_of fields) }
@@ -119,7 +119,7 @@ impl State {
         &self.fields
     }
 
-    /// Its fields alone, with their lists in order.
+    /// Only its fields, with their lists in order.
     pub fn into_fields(self) -> KeptFields
         ensures fields { state_of result ≡ self }
         ensures well_formed { IsWellFormed self }
@@ -127,8 +127,7 @@ impl State {
         self.fields
     }
 
-    /// The number that the next record gets. What is well formed is so for each look into the
-    /// state.
+    /// The number that the next record gets. Its contract also says that the state is well formed.
     pub fn next(&self) -> u64
         ensures next { result ≡ self.now.next }
         ensures well_formed { IsWellFormed self.now }
@@ -192,7 +191,7 @@ impl State {
         &self.fields.notes
     }
 
-    /// Where a queue's elements stand in the list of elements, rising; none where no queue has the
+    /// Where a queue's elements are in the list of elements, rising; none if no queue has the
     /// number.
     pub fn elements_of(&self, queue: QueueNo) -> &[usize]
         ensures within { AllByRecursion (λ index. index < length self.now.elements) result.now }
@@ -203,8 +202,8 @@ impl State {
         listed_at(&self.homes, queue)
     }
 
-    /// Where a queue's registrants stand in the list of registrants, rising; none where no queue
-    /// has the number.
+    /// Where a queue's registrants are in the list of registrants, rising; none if no queue has the
+    /// number.
     pub fn registrants_of(&self, queue: QueueNo) -> &[usize]
         ensures within { AllByRecursion (λ index. index < length self.now.registrants) result.now }
         ensures registrants { (r : model.Registrant) →
@@ -214,8 +213,7 @@ impl State {
         listed_at(&self.registered, queue)
     }
 
-    /// Where a queue's notes stand in the list of notes, rising; none where no queue has the
-    /// number.
+    /// Where a queue's notes are in the list of notes, rising; none if no queue has the number.
     pub fn notes_of(&self, queue: QueueNo) -> &[usize]
         ensures within { AllByRecursion (λ index. index < length self.now.notes) result.now }
         ensures notes { (n : model.Note) →

@@ -17,19 +17,19 @@ mod sizes;
 
 use crate::fields::KeptFields;
 use crate::state::State;
-use crate::writing::lists::{put_definitions, put_elements, put_notes, put_registrants, put_units};
+use crate::writing::lists::{put_all, put_units};
 pub use crate::writing::sizes::{fields_len, spelled_len};
 use rq_bytes::put_u64;
 use rq_record::Fault;
 use std::alloc::{AllocError, Global};
 
-// The greatest length of a spelling, as a checkpoint record holds it behind its kind.
+// The greatest length of a spelling, as a checkpoint record holds it after its kind.
 const BOUND: u128 = 268_435_455;
 
 /// The bytes of a checkpoint of this state, at most 268,435,455: four counts, then definitions by
 /// number, open units rising, registrants by queue and name, elements by id and notes by place,
-/// each list behind the number of its members. TooLarge where they would be more, told before
-/// memory is taken; Resources where there is no room for them.
+/// each list after the number of its members. `TooLarge` if there would be more bytes, which is
+/// known before memory is taken; `Resources` if there is no room for them.
 pub fn spell(alloc: Global, state: &State) -> Result<Vec<u8>, Fault>
     requires { state.now.next ≤ 4294967295 }
     ensures { Spelled state.now result }
@@ -37,7 +37,7 @@ pub fn spell(alloc: Global, state: &State) -> Result<Vec<u8>, Fault>
     spell_fields(alloc, state.fields())
 }
 
-/// The same of fields whose lists are in order.
+/// The same for fields whose lists are in order.
 pub fn spell_fields(alloc: Global, fields: &KeptFields) -> Result<Vec<u8>, Fault>
     requires next { fields.now.next ≤ 4294967295 }
     requires well_formed { IsWellFormed (state_of fields.now) }
@@ -70,9 +70,9 @@ fn put_members(out: &mut Vec<u8>, fields: &KeptFields) -> Result<(), AllocError>
         ++ (counted element_bytes fields.now.elements.items
         ++ counted note_bytes fields.now.notes.items)) result }
 {
-    put_registrants(out, &fields.registrants)?;
-    put_elements(out, &fields.elements)?;
-    put_notes(out, &fields.notes)
+    put_all(out, &fields.registrants)?;
+    put_all(out, &fields.elements)?;
+    put_all(out, &fields.notes)
 }
 
 fn put_fields(out: &mut Vec<u8>, fields: &KeptFields) -> Result<(), AllocError>
@@ -81,7 +81,7 @@ fn put_fields(out: &mut Vec<u8>, fields: &KeptFields) -> Result<(), AllocError>
     ensures { PutsSpelling out.old.items out.new.items (state_bytes (state_of fields.now)) result }
 {
     put_numbers(out, fields)?;
-    put_definitions(out, &fields.definitions)?;
+    put_all(out, &fields.definitions)?;
     put_units(out, &fields.units)?;
     put_members(out, fields)
 }

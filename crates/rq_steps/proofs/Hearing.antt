@@ -36,14 +36,14 @@ one_of P [] i d l h = let no : ⊥ = omega (arith, l) in absurd no
 one_of P (x ∷ xs) zero d l h = h.0
 one_of P (x ∷ xs) (suc i) d l h = one_of P xs i d (omega (arith, l)) h.1
 
--- a member that is there, whatever stands for one that is not
+-- a member that is there, whatever the default is
 pub any_default : {X : Type 0} (xs : List X) (i : ℕ) (d e : X) → i < length xs
     → slice_index_or xs i d ≡ slice_index_or xs i e
 any_default [] i d e l = let no : ⊥ = omega (arith, l) in absurd no
 any_default (x ∷ xs) zero d e l = refl
 any_default (x ∷ xs) (suc i) d e l = any_default xs i d e (omega (arith, l))
 
--- behind all that come before it, in front of all others
+-- after all that come before it, in front of all others
 put_at : {X : Type 0} (before : X → X → Bool) (x : X) (xs : List X) (i : ℕ) → i ≤ length xs
     → ((k : ℕ) (d : X) → k < i → before (slice_index_or xs k d) x ≡ true)
     → ((k : ℕ) (d : X) → i ≤ k → k < length xs → before (slice_index_or xs k d) x ≡ false)
@@ -77,7 +77,7 @@ note_is n r = equal_keys (n.queue, n.name) (registrant_key r)
 abbrev InOrder : List Registrant → Type 0
 InOrder rs = Ordered (λ a b. registrant_before a b ≡ true) rs
 
--- what a search that finds nothing says of the others
+-- what a search that finds nothing says about the others
 sides : (k : ℕ × List ℕ) (rs : List Registrant) (i : ℕ)
     → IsBinarySearchResult (λ y. key_cmp (registrant_key y) k) rs (Err i)
     → InOrder rs → IsPartitionPoint (λ y. key_cmp (registrant_key y) k ≡ Less)

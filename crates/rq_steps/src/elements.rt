@@ -94,8 +94,8 @@ pub(crate) fn committed(elements: Vec<KeptElement>, unit: UnitNo) -> Vec<KeptEle
     all_freed(elements, unit)
 }
 
-// As an ABORT of the unit leaves an element that is no Fresh one of it: where the unit holds it,
-// Free with one attempt more, or in the error queue of its home.
+// What an ABORT of the unit makes of an element that is not a Fresh one of it. If the unit holds
+// it, it is Free with one attempt more, or in the error queue of its home.
 fn give_back(e: &mut KeptElement, unit: UnitNo, definitions: &[Definition])
     requires home { e.old.home < length definitions.now }
     requires room { e.old.attempts + 1 < 2 ^ 64 }
@@ -114,7 +114,7 @@ fn give_back(e: &mut KeptElement, unit: UnitNo, definitions: &[Definition])
     e.mark = Mark::Free;
 }
 
-// Elements, none of them a Fresh one of the unit, as an ABORT of the unit leaves them.
+// The elements, none of them a Fresh one of the unit, as an ABORT of the unit leaves them.
 fn all_given_back(
     elements: Vec<KeptElement>,
     unit: UnitNo,
@@ -150,7 +150,7 @@ pub(crate) fn aborted(
     all_given_back(elements, unit, definitions)
 }
 
-// Whether the first of two comes before the second, or is it.
+// Whether the first of two comes before the second, or is the same.
 fn comes_first(e: &KeptElement, f: &KeptElement) -> bool
     ensures { result ≡ machine.comes_first e.now f.now }
 {
@@ -165,7 +165,7 @@ fn at(elements: &[KeptElement], index: usize) -> &KeptElement
     &elements[index]
 }
 
-// The index of the best of the queue, given the one before an index and the element there.
+// The index of the best of the queue, given the best before an index and the element there.
 fn better(
     elements: &[KeptElement],
     best: Option<usize>,
@@ -189,7 +189,7 @@ fn better(
     Some(index)
 }
 
-// The index of the best element of the queue; none where none of it is Free.
+// The index of the best element of the queue; none if none of the queue is Free.
 fn best_index(elements: &[KeptElement], queue: QueueNo) -> Option<usize>
     ensures { IsBestAmong queue.0 elements.now elements.now result }
 {
@@ -200,8 +200,8 @@ fn best_index(elements: &[KeptElement], queue: QueueNo) -> Option<usize>
     best
 }
 
-/// The elements after a DEQUEUE from the queue in the unit, and the id of the one that it takes,
-/// where one of the queue is Free.
+/// The elements after a DEQUEUE from the queue in the unit, and the id of the element that it
+/// takes, if one of the queue is Free.
 pub(crate) fn held(
     elements: Vec<KeptElement>,
     unit: UnitNo,

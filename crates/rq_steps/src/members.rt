@@ -11,7 +11,7 @@ ghost use Rattle.rq_steps.specs.Hearing.{heard_of};
 use rq_record::{ElemId, Fault, KeptBy, Name, QueueNo, UnitNo};
 use rq_state::{Last, Note, OpKind, Registrant};
 
-/// The unit is open no longer.
+/// Removes the unit from the open units.
 pub(crate) fn close_unit(units: &mut Vec<UnitNo>, unit: UnitNo)
     ensures { map unit_of units.new.items
         ≡ machine.closed_units unit.0 (map unit_of units.old.items) }
@@ -19,14 +19,14 @@ pub(crate) fn close_unit(units: &mut Vec<UnitNo>, unit: UnitNo)
     units.retain(|open_one| open_one.0 != unit.0);
 }
 
-/// The notes of the unit go.
+/// Removes the notes of the unit.
 pub(crate) fn close_notes(notes: &mut Vec<Note>, unit: UnitNo)
     ensures { notes.new.items ≡ machine.closed_notes unit.0 notes.old.items }
 {
     notes.retain(|note| !note.is_by(unit));
 }
 
-/// The notes of the registrant go.
+/// Removes the notes of the registrant.
 pub(crate) fn unnote(notes: &mut Vec<Note>, queue: QueueNo, name: &Name)
     ensures { notes.new.items ≡ machine.unnoted queue.0 name.now notes.old.items }
 {
@@ -40,14 +40,14 @@ fn is_registrant(registrant: &Registrant, queue: QueueNo, name: &Name) -> bool
     registrant.queue.0 == queue.0 && registrant.name == *name
 }
 
-/// The name is registered with the queue no longer.
+/// Removes the registration of the name with the queue.
 pub(crate) fn deregister(registrants: &mut Vec<Registrant>, queue: QueueNo, name: &Name)
     ensures { registrants.new.items ≡ machine.deregistered queue.0 name.now registrants.old.items }
 {
     registrants.retain(|registrant| !is_registrant(registrant, queue, name));
 }
 
-/// Adds the note of an operation, where somebody is named.
+/// Adds the note of an operation, if somebody is named.
 pub(crate) fn note(
     notes: &mut Vec<Note>,
     place: u64,
@@ -79,7 +79,7 @@ pub(crate) fn note(
     Ok(())
 }
 
-/// The name is registered with the queue.
+/// Registers the name with the queue, if it is not yet registered.
 pub(crate) fn register(
     registrants: &mut Vec<Registrant>,
     queue: QueueNo,
@@ -115,7 +115,7 @@ fn hear(registrants: &mut Vec<Registrant>, note: &Note)
     }
 }
 
-/// The registrants hear of the unit's notes among these.
+/// Each registrant hears of the unit's notes among these.
 pub(crate) fn tell(registrants: &mut Vec<Registrant>, notes: &[Note], unit: UnitNo)
     requires { Ordered (λ r t. model.registrant_before r t ≡ true) registrants.old.items }
     ensures { registrants.new.items ≡ map (machine.told unit.0 notes.now) registrants.old.items }

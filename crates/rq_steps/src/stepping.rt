@@ -15,7 +15,7 @@ use crate::members::{close_notes, close_unit, deregister, note, register, tell, 
 use rq_record::{ElemId, Fault, KeptBy, KeptName, KeptPayload, KeptRecord, QueueNo, UnitNo};
 use rq_state::{Definition, KeptFields, OpKind};
 
-// A queue more.
+// Adds a queue.
 fn defined(
     fields: KeptFields,
     limit: u16,
@@ -35,7 +35,7 @@ fn defined(
     Ok(fields)
 }
 
-// A unit more.
+// Adds a unit.
 fn begun(fields: KeptFields, unit: UnitNo) -> Result<KeptFields, Fault>
     ensures begun { IfOk result (λ f. state_of f ≡ change (state_of fields) (Begin unit.0)) }
     ensures refused { IfErr result (λ e. e ≡ Resources) }
@@ -46,7 +46,7 @@ fn begun(fields: KeptFields, unit: UnitNo) -> Result<KeptFields, Fault>
     Ok(fields)
 }
 
-// A registrant more, unless the name is registered with the queue already.
+// Adds a registrant, unless the name is registered with the queue already.
 fn registered(fields: KeptFields, queue: QueueNo, name: &KeptName) -> Result<KeptFields, Fault>
     requires { IsWellFormed (state_of fields) }
     ensures registered { IfOk result
@@ -58,7 +58,7 @@ fn registered(fields: KeptFields, queue: QueueNo, name: &KeptName) -> Result<Kep
     Ok(fields)
 }
 
-// A registrant less.
+// Removes a registrant.
 fn deregistered(fields: KeptFields, queue: QueueNo, name: &KeptName) -> KeptFields
     ensures { state_of result ≡ change (state_of fields) (Deregister queue.0 name.now) }
 {
@@ -69,7 +69,7 @@ fn deregistered(fields: KeptFields, queue: QueueNo, name: &KeptName) -> KeptFiel
     fields
 }
 
-// An element more.
+// Adds an element.
 fn enqueued(
     fields: KeptFields,
     unit: UnitNo,
@@ -99,7 +99,7 @@ fn enqueued(
     Ok(fields)
 }
 
-// The best element of a queue is held, where one of the queue is free.
+// The best element of a queue is held, if one of the queue is Free.
 fn dequeued(
     fields: KeptFields,
     unit: UnitNo,
@@ -128,7 +128,7 @@ fn dequeued(
     Ok(fields)
 }
 
-// A unit's work stands.
+// A unit's work is kept.
 fn settled(fields: KeptFields, unit: UnitNo) -> KeptFields
     requires well_formed { IsWellFormed (state_of fields) }
     requires next { fields.next ≤ 4294967295 }
@@ -157,7 +157,7 @@ fn undone(fields: KeptFields, unit: UnitNo) -> KeptFields
     fields
 }
 
-// What a record does, but for the record number.
+// What a record does, apart from the record number.
 fn changed(fields: KeptFields, rec: &KeptRecord) -> Result<KeptFields, Fault>
     requires well_formed { IsWellFormed (state_of fields) }
     requires next { fields.next ≤ 4294967295 }
@@ -190,10 +190,10 @@ fn changed(fields: KeptFields, rec: &KeptRecord) -> Result<KeptFields, Fault>
     }
 }
 
-/// The fields of the state behind a record, whether or not the record is lawful. It costs the
-/// members of the lists that the record may change, and takes memory for what it adds alone: where
-/// that is refused, Resources, and the fields are dropped. A record that adds nothing, as a COMMIT,
-/// is never refused.
+/// The fields of the state after a record, whether or not the record is lawful. Its cost is the
+/// number of members of the lists that the record may change. It takes memory only for what it
+/// adds. If that is refused, `Resources` is returned and the fields are dropped. A record that adds
+/// nothing, such as a COMMIT, is never refused.
 pub fn stepped(fields: KeptFields, rec: &KeptRecord) -> Result<KeptFields, Fault>
     requires well_formed { IsWellFormed (state_of fields) }
     requires next { fields.next ≤ 4294967295 }

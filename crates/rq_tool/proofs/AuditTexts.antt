@@ -12,6 +12,7 @@ use Rattle.rq_tool.specs.AuditTexts.{audit_line, AuditsLog, AuditsOnly, AuditsRe
 use Rattle.rq_front.specs.Chains.{IsLog}
 use Rattle.rq_tool.specs.Headline.{IsBeforeWriting}
 use Rattle.rq_tool.proofs.Told.{IsSame, refused_read}
+use Rattle.rq_tool.proofs.Delivered.{delivered}
 
 abbrev Found : Type 0
 Found = Result (Vec (ℕ × Bool)) Fault
@@ -46,31 +47,13 @@ audit_fault bytes (Err faults.WriteFailed) h = absurd h
 pub written_audit : (b text : List ℕ) (found : List Audited) (before after : ℕ) (old new : Option (List ℕ))
     (result : Result (Unit {0}) Fault) → IsLog b → IsAudit b found → text ≡ flat_map audit_line found
     → Delivers before after old new text result → AuditsLog b old new result
-written_audit b text found before after old new (Ok done) log is spelled w = (log, text, (found, is, spelled), w.1)
-written_audit b text found before after old new (Err faults.WriteFailed) log is spelled w =
-    (log, text, (found, is, spelled), w.1)
-written_audit b text found before after old new (Err faults.Resources) log is spelled w = absurd w
-written_audit b text found before after old new (Err faults.Form) log is spelled w = absurd w
-written_audit b text found before after old new (Err faults.NotALog) log is spelled w = absurd w
-written_audit b text found before after old new (Err faults.TooLong) log is spelled w = absurd w
-written_audit b text found before after old new (Err faults.TooLarge) log is spelled w = absurd w
-written_audit b text found before after old new (Err faults.BadCheckpoint) log is spelled w = absurd w
-written_audit b text found before after old new (Err faults.NoCheckpoint) log is spelled w = absurd w
-written_audit b text found before after old new (Err (faults.Script n)) log is spelled w = absurd w
-written_audit b text found before after old new (Err faults.ReadFailed) log is spelled w = absurd w
+written_audit b text found before after old new result log is spelled w = delivered (λ r. AuditsLog b old new r)
+    before after old new text result (λ _ all. (log, text, (found, is, spelled), all))
+    (λ front. (log, text, (found, is, spelled), front)) w
 
 pub written_audit_only : (b text : List ℕ) (found : List Audited) (before after : ℕ) (old new : Option (List ℕ))
     (result : Result (Unit {0}) Fault) → IsAudit b found → text ≡ flat_map audit_line found
     → Delivers before after old new text result → AuditsOnly old new result
-written_audit_only b text found before after old new (Ok done) is spelled w = (b, text, (found, is, spelled), w.1)
-written_audit_only b text found before after old new (Err faults.WriteFailed) is spelled w =
-    (b, text, (found, is, spelled), w.1)
-written_audit_only b text found before after old new (Err faults.Resources) is spelled w = absurd w
-written_audit_only b text found before after old new (Err faults.Form) is spelled w = absurd w
-written_audit_only b text found before after old new (Err faults.NotALog) is spelled w = absurd w
-written_audit_only b text found before after old new (Err faults.TooLong) is spelled w = absurd w
-written_audit_only b text found before after old new (Err faults.TooLarge) is spelled w = absurd w
-written_audit_only b text found before after old new (Err faults.BadCheckpoint) is spelled w = absurd w
-written_audit_only b text found before after old new (Err faults.NoCheckpoint) is spelled w = absurd w
-written_audit_only b text found before after old new (Err (faults.Script n)) is spelled w = absurd w
-written_audit_only b text found before after old new (Err faults.ReadFailed) is spelled w = absurd w
+written_audit_only b text found before after old new result is spelled w = delivered (λ r. AuditsOnly old new r)
+    before after old new text result (λ _ all. (b, text, (found, is, spelled), all))
+    (λ front. (b, text, (found, is, spelled), front)) w

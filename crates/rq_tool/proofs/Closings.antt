@@ -11,6 +11,7 @@ use Rattle.rq_restart.specs.Tails.{Closes}
 use Rattle.rq_tool.specs.Closings.{IsBeforeClosing, IsClosedLog, IsTooLargeToClose, ClosesLog, ClosesOnly, ClosesRead}
 use Rattle.rq_tool.specs.Headline.{IsBeforeWriting, RestartsRead}
 use Rattle.rq_tool.proofs.Told.{IsSame, refused_read}
+use Rattle.rq_tool.proofs.Delivered.{delivered}
 
 abbrev Found : Type 0
 Found = Result (Vec ℕ) Fault
@@ -89,29 +90,11 @@ refused_early faults.WriteFailed h = h
 -- what is written of a closed log is written of its bytes
 pub written_closed : (b log : List ℕ) (before after : ℕ) (old new : Option (List ℕ)) (result : Result (Unit {0}) Fault)
     → IsClosedLog b log → Delivers before after old new log result → ClosesLog b old new result
-written_closed b log before after old new (Ok done) is w = (log, is, w.1)
-written_closed b log before after old new (Err faults.WriteFailed) is w = (log, is, w.1)
-written_closed b log before after old new (Err faults.Resources) is w = absurd w
-written_closed b log before after old new (Err faults.Form) is w = absurd w
-written_closed b log before after old new (Err faults.NotALog) is w = absurd w
-written_closed b log before after old new (Err faults.TooLong) is w = absurd w
-written_closed b log before after old new (Err faults.TooLarge) is w = absurd w
-written_closed b log before after old new (Err faults.BadCheckpoint) is w = absurd w
-written_closed b log before after old new (Err faults.NoCheckpoint) is w = absurd w
-written_closed b log before after old new (Err (faults.Script n)) is w = absurd w
-written_closed b log before after old new (Err faults.ReadFailed) is w = absurd w
+written_closed b log before after old new result is w = delivered (λ r. ClosesLog b old new r) before after
+    old new log result (λ _ all. (log, is, all)) (λ front. (log, is, front)) w
 
 pub written_closed_only : (b log : List ℕ) (before after : ℕ) (old new : Option (List ℕ))
     (result : Result (Unit {0}) Fault) → IsClosedLog b log → Delivers before after old new log result
     → ClosesOnly old new result
-written_closed_only b log before after old new (Ok done) is w = (b, log, is, w.1)
-written_closed_only b log before after old new (Err faults.WriteFailed) is w = (b, log, is, w.1)
-written_closed_only b log before after old new (Err faults.Resources) is w = absurd w
-written_closed_only b log before after old new (Err faults.Form) is w = absurd w
-written_closed_only b log before after old new (Err faults.NotALog) is w = absurd w
-written_closed_only b log before after old new (Err faults.TooLong) is w = absurd w
-written_closed_only b log before after old new (Err faults.TooLarge) is w = absurd w
-written_closed_only b log before after old new (Err faults.BadCheckpoint) is w = absurd w
-written_closed_only b log before after old new (Err faults.NoCheckpoint) is w = absurd w
-written_closed_only b log before after old new (Err (faults.Script n)) is w = absurd w
-written_closed_only b log before after old new (Err faults.ReadFailed) is w = absurd w
+written_closed_only b log before after old new result is w = delivered (λ r. ClosesOnly old new r) before after
+    old new log result (λ _ all. (b, log, is, all)) (λ front. (b, log, is, front)) w

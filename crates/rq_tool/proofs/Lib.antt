@@ -6,3 +6,4 @@ pub mod AuditTexts
 pub mod Plans
 pub mod Closings
 pub mod Upgrades
+pub mod Delivered

@@ -10,6 +10,7 @@ use Rattle.rq_report.specs.Streams.{Delivers}
 use Rattle.rq_writer.specs.Made.{Made}
 use Rattle.rq_tool.specs.Scripts.{IsLogOf, IsMakeFault, Makes, MakesOnly, MakesRead}
 use Rattle.rq_tool.proofs.Told.{IsSame}
+use Rattle.rq_tool.proofs.Delivered.{delivered}
 
 abbrev MakesLog : Version → List ℕ → Result (Vec ℕ) Fault → Type 0
 MakesLog version = Made version (λ v. v.items)
@@ -66,29 +67,11 @@ made_fault version script (Err faults.WriteFailed) h = absurd h
 pub written_log : (version : Version) (b log : List ℕ) (before after : ℕ) (old new : Option (List ℕ))
     (result : Result (Unit {0}) Fault) → IsLogOf version b log → Delivers before after old new log result
     → Makes version b old new result
-written_log version b log before after old new (Ok done) is w = (log, is, w.1)
-written_log version b log before after old new (Err faults.WriteFailed) is w = (log, is, w.1)
-written_log version b log before after old new (Err faults.Resources) is w = absurd w
-written_log version b log before after old new (Err faults.Form) is w = absurd w
-written_log version b log before after old new (Err faults.NotALog) is w = absurd w
-written_log version b log before after old new (Err faults.TooLong) is w = absurd w
-written_log version b log before after old new (Err faults.TooLarge) is w = absurd w
-written_log version b log before after old new (Err faults.BadCheckpoint) is w = absurd w
-written_log version b log before after old new (Err faults.NoCheckpoint) is w = absurd w
-written_log version b log before after old new (Err (faults.Script n)) is w = absurd w
-written_log version b log before after old new (Err faults.ReadFailed) is w = absurd w
+written_log version b log before after old new result is w = delivered (λ r. Makes version b old new r) before
+    after old new log result (λ _ all. (log, is, all)) (λ front. (log, is, front)) w
 
 pub written_log_only : (version : Version) (b log : List ℕ) (before after : ℕ) (old new : Option (List ℕ))
     (result : Result (Unit {0}) Fault) → IsLogOf version b log → Delivers before after old new log result
     → MakesOnly version old new result
-written_log_only version b log before after old new (Ok done) is w = (b, log, is, w.1)
-written_log_only version b log before after old new (Err faults.WriteFailed) is w = (b, log, is, w.1)
-written_log_only version b log before after old new (Err faults.Resources) is w = absurd w
-written_log_only version b log before after old new (Err faults.Form) is w = absurd w
-written_log_only version b log before after old new (Err faults.NotALog) is w = absurd w
-written_log_only version b log before after old new (Err faults.TooLong) is w = absurd w
-written_log_only version b log before after old new (Err faults.TooLarge) is w = absurd w
-written_log_only version b log before after old new (Err faults.BadCheckpoint) is w = absurd w
-written_log_only version b log before after old new (Err faults.NoCheckpoint) is w = absurd w
-written_log_only version b log before after old new (Err (faults.Script n)) is w = absurd w
-written_log_only version b log before after old new (Err faults.ReadFailed) is w = absurd w
+written_log_only version b log before after old new result is w = delivered (λ r. MakesOnly version old new r) before
+    after old new log result (λ _ all. (b, log, is, all)) (λ front. (b, log, is, front)) w

@@ -12,6 +12,7 @@ use Rattle.rq_restart.specs.Upgrades.{Upgrades}
 use Rattle.rq_tool.specs.Headline.{IsBeforeWriting}
 use Rattle.rq_tool.specs.Upgrades.{IsUpgradedLog, UpgradesLog, UpgradesOnly, UpgradesRead}
 use Rattle.rq_tool.proofs.Told.{IsSame, refused_read}
+use Rattle.rq_tool.proofs.Delivered.{delivered}
 
 -- an upgraded log says the same
 abbrev Law : Type 0
@@ -55,29 +56,11 @@ upgraded_fault bytes (Err faults.WriteFailed) h = absurd h
 pub written_upgraded : (b log : List ℕ) (before after : ℕ) (old new : Option (List ℕ))
     (result : Result (Unit {0}) Fault) → IsUpgradedLog b log → Delivers before after old new log result
     → UpgradesLog b old new result
-written_upgraded b log before after old new (Ok done) is w = (log, is, w.1)
-written_upgraded b log before after old new (Err faults.WriteFailed) is w = (log, is, w.1)
-written_upgraded b log before after old new (Err faults.Resources) is w = absurd w
-written_upgraded b log before after old new (Err faults.Form) is w = absurd w
-written_upgraded b log before after old new (Err faults.NotALog) is w = absurd w
-written_upgraded b log before after old new (Err faults.TooLong) is w = absurd w
-written_upgraded b log before after old new (Err faults.TooLarge) is w = absurd w
-written_upgraded b log before after old new (Err faults.BadCheckpoint) is w = absurd w
-written_upgraded b log before after old new (Err faults.NoCheckpoint) is w = absurd w
-written_upgraded b log before after old new (Err (faults.Script n)) is w = absurd w
-written_upgraded b log before after old new (Err faults.ReadFailed) is w = absurd w
+written_upgraded b log before after old new result is w = delivered (λ r. UpgradesLog b old new r) before after
+    old new log result (λ _ all. (log, is, all)) (λ front. (log, is, front)) w
 
 pub written_upgraded_only : (b log : List ℕ) (before after : ℕ) (old new : Option (List ℕ))
     (result : Result (Unit {0}) Fault) → IsUpgradedLog b log → Delivers before after old new log result
     → UpgradesOnly old new result
-written_upgraded_only b log before after old new (Ok done) is w = (b, log, is, w.1)
-written_upgraded_only b log before after old new (Err faults.WriteFailed) is w = (b, log, is, w.1)
-written_upgraded_only b log before after old new (Err faults.Resources) is w = absurd w
-written_upgraded_only b log before after old new (Err faults.Form) is w = absurd w
-written_upgraded_only b log before after old new (Err faults.NotALog) is w = absurd w
-written_upgraded_only b log before after old new (Err faults.TooLong) is w = absurd w
-written_upgraded_only b log before after old new (Err faults.TooLarge) is w = absurd w
-written_upgraded_only b log before after old new (Err faults.BadCheckpoint) is w = absurd w
-written_upgraded_only b log before after old new (Err faults.NoCheckpoint) is w = absurd w
-written_upgraded_only b log before after old new (Err (faults.Script n)) is w = absurd w
-written_upgraded_only b log before after old new (Err faults.ReadFailed) is w = absurd w
+written_upgraded_only b log before after old new result is w = delivered (λ r. UpgradesOnly old new r) before after
+    old new log result (λ _ all. (b, log, is, all)) (λ front. (b, log, is, front)) w

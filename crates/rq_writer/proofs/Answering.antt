@@ -50,7 +50,7 @@ tells_none : (version : Version) (text : List ℕ) → line_at version text ≡ 
 tells_none version text none l tells = let found : line_at version text ≡ Some l =
     ap (line_at version) tells.1 ∙ line_again version l tells.0 in absurd cc
 
--- an answer that is not for want of memory
+-- an answer other than a refusal of memory
 abbrev IsOther : Result (List ℕ) Fault → Type 0
 IsOther (Err faults.Resources) = ⊥
 IsOther r = ⊤
@@ -63,14 +63,14 @@ made : (version : Version) (script : List ℕ) (ls : List Line) (rs : List Recor
 made version script ls rs begins =
     (Ok (log_of version rs), ((ls, rs, begins, refl), is_other (Ok (log_of version rs)) tt))
 
--- what stands next is no line
+-- what comes next is no line
 untold : (version : Version) (script : List ℕ) (ls : List Line) (rs : List Record) (rest : List ℕ)
     → BeginsWithLines version script ls rs rest → 0 < length rest → NoLine version rest → HasAnswer version script
 untold version script ls rs rest begins some none =
     let result : Result (List ℕ) Fault = Err (faults.Script (length ls + 1)) in
     (result, ((ls, rs, rest, record { begins = begins; some = some; none = none; is = refl }), is_other result tt))
 
--- the next line adds a record: the log has no room for it, or all goes on behind it
+-- the next line adds a record: the log has no room for it, or all goes on after it
 one_more : (version : Version) (script : List ℕ) (ls : List Line) (rs : List Record) (rest : List ℕ)
     (x : List ℕ × List ℕ) (l : Line) (r : Record) → BeginsWithLines version script ls rs rest → AreLogged version rs
     → Some x ≡ cut_at 10 rest → Tells version l x.0 → Adds version rs l r
@@ -140,7 +140,7 @@ at_line version laws script ls rs rest x Spelled begins logged found tells later
           (s, is, short, refl) later
     ]
 
--- what stands next, cut at its first LF: a text that is read as a line, or as none
+-- what comes next, cut at its first LF: a text that is read as a line, or as none
 at_text : (version : Version) → FrontLaws → (script : List ℕ) (ls : List Line) (rs : List Record) (rest : List ℕ)
     (x : List ℕ × List ℕ) (o : Option Line) → BeginsWithLines version script ls rs rest → AreLogged version rs
     → 0 < length rest → Some x ≡ cut_at 10 rest → line_at version x.0 ≡ o
@@ -163,7 +163,7 @@ at_rest version laws script ls rs rest (Some x) begins logged some found later =
     at_text version laws script ls rs rest x (line_at version x.0) begins logged some (sym found) refl
     (later x (sym found))
 
--- what stands behind a line is shorter
+-- what comes after a line is shorter
 shorter : (n : ℕ) (rest : List ℕ) (x : List ℕ × List ℕ) → length rest ≤ suc n → Some x ≡ cut_at 10 rest
     → length x.1 ≤ n
 shorter n rest x few found =

@@ -49,7 +49,7 @@ pub cut_takes : (b : ℕ) (bytes : List ℕ) (x : List ℕ × List ℕ) → cut_
 cut_takes b [] x e = absurd cc
 cut_takes b (c ∷ cs) x e = cut_by b c cs x (eqb c b) refl (cut_takes b cs) e
 
--- what has no such byte is cut behind itself
+-- a text that has no such byte is cut after itself
 abbrev pub Lacks : ℕ → List ℕ → Type 0
 Lacks b front = AllByRecursion (λ c. eqb c b ≡ false) front
 

@@ -116,12 +116,12 @@ pub cut_line : (version : Version) (l : Line) (after : List ℕ) → IsLine vers
     → cut_at 10 (line_text l ++ 10 ∷ after) ≡ Some (line_text l, after)
 cut_line version l after h = cut_again 10 (line_text l) after (line_lacks version l h)
 
--- where no LF stands, no line does
+-- if there is no LF, there is no line
 pub no_lf : (version : Version) (rest : List ℕ) → None ≡ cut_at 10 rest → NoLine version rest
 no_lf version rest none l after is e = let found : cut_at 10 rest ≡ Some (line_text l, after) =
     ap (cut_at 10) e ∙ cut_line version l after is in absurd cc
 
--- where the first text tells no line, no line stands
+-- if the first text tells no line, there is no line
 pub no_tale : (version : Version) (rest : List ℕ) (x : List ℕ × List ℕ) → Some x ≡ cut_at 10 rest
     → TellsNone version x.0 → NoLine version rest
 no_tale version rest x found none l after is e =

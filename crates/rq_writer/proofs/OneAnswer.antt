@@ -69,7 +69,7 @@ longer version joins before (l ∷ ls) after h =
 data End : Type 0 where
   Done Untold Large Long : End
 
--- behind the lines that added these records: nothing, no line, a checkpoint of a state that is too
+-- after the lines that added these records: nothing, no line, a checkpoint of a state that is too
 -- large, or a line for which the log has no room
 abbrev Ends : Version → List Record → List ℕ → End → Type 0
 Ends version rs rest Done = rest ≡ []
@@ -79,7 +79,7 @@ Ends version rs rest Large = (after : List ℕ) × (s : State) × (rest ≡ ende
 Ends version rs rest Long = (l : Line) × (r : Record) × (after : List ℕ) × (rest ≡ ended l ++ after) × IsLine version l
     × Adds version rs l r × (log_limit < length (log_of version (rs ++ r ∷ [])))
 
--- the answer behind so many lines
+-- the answer after this many lines
 abbrev answer_of : Version → ℕ → List Record → End → Result (List ℕ) Fault
 answer_of version n rs Done = Ok (log_of version rs)
 answer_of version n rs Untold = Err (faults.Script (n + 1))
@@ -142,7 +142,7 @@ is_ended version script (Err faults.NoCheckpoint) (made, some) = absurd made
 is_ended version script (Err faults.ReadFailed) (made, some) = absurd made
 is_ended version script (Err faults.WriteFailed) (made, some) = absurd made
 
--- Behind the same lines a script ends in one way.
+-- After the same lines a script ends in one way.
 
 nothing_left : (l : Line) (rest after : List ℕ) → rest ≡ [] → rest ≡ ended l ++ after → ⊥
 nothing_left l rest after none e =
@@ -152,7 +152,7 @@ told_after_all : (version : Version) (l : Line) (rest after : List ℕ) → NoLi
     → rest ≡ ended l ++ after → ⊥
 told_after_all version l rest after none is e = none l after is (e ∙ append_assoc (line_text l) (10 ∷ []) after)
 
--- where a checkpoint of a state that is too large stands, no line adds a record
+-- if a checkpoint of a state that is too large comes next, no line adds a record
 too_large : (version : Version) → OneFront → (rs : List Record) (rest : List ℕ) (l : Line) (r : Record)
     (after : List ℕ) → Ends version rs rest Large → rest ≡ ended l ++ after → IsLine version l → Adds version rs l r → ⊥
 too_large version front rs rest l r after (behind, s, e, state, long) whole is adds =
@@ -179,7 +179,7 @@ one_end version front rs rest Long Untold h k = absurd (told_after_all version h
 one_end version front rs rest Large Long h k = absurd (too_large version front rs rest k.0 k.1 k.2 h k.3 k.4 k.5)
 one_end version front rs rest Long Large h k = absurd (too_large version front rs rest h.0 h.1 h.2 k h.3 h.4 h.5)
 
--- A line more stands behind those lines, and the log has room for its record
+-- One more line follows those lines, and the log has room for its record
 record GoesOn (version : Version) (rs : List Record) (rest : List ℕ) : Type 0 where
   pub line : Line
   pub more : Record
@@ -202,7 +202,7 @@ no_end version front rs rest Long (l, r, after, e, is, adds, long) on =
     (subst (λ (m : Line). Adds version rs m r) same.0 adds) on.adds in
     omega (arith, long, on.fits, ap (λ (q : Record). length (log_of version (rs ++ q ∷ []))) one)
 
--- Two lists of lines at the front of a script are the same, or one goes on behind the other.
+-- Two lists of lines at the front of a script are the same, or one goes on after the other.
 
 abbrev Compares : Version → List Line → List Line → List Record → List Record → List ℕ → List ℕ → Type 0
 Compares version ls ms rs qs rest more = ((length ls ≡ length ms) × (rs ≡ qs) × (rest ≡ more))

@@ -28,7 +28,7 @@ pub ended_keeps : (version : Version) (s : State) (since rs : List Record) (r : 
 ended_keeps version s since rs r h =
     (h.0, h.1, h.2 ++ r ∷ [], ap (λ l. l ++ r ∷ []) h.3 ∙ append_assoc h.0 (h.1 ∷ h.2) (r ∷ []), h.4, h.5, h.6)
 
--- The records behind the state are run as far as they are lawful.
+-- The records after the state are run as far as they are lawful.
 pub caught_up : (version : Version) (s : State) (since rs : List Record) → Splits version s since false rs
     → Splits version (run s (lawful_front version s since))
     [] (nat_lt (length (lawful_front version s since)) (length since)) rs
@@ -133,7 +133,7 @@ some_are_front version stops one gives done first more s logged lawful unlawful 
       e,
     )
 
--- where nothing stands behind the state, it is that after the front
+-- if nothing follows the state, it is the state after the front
 pub split_is_state : (version : Version) → RunStops → RecordHasOneBody → RunGivesFront
     → (s : State) (ended : Bool) (rs : List Record) → Splits version s [] ended rs → AreLogged version rs
     → IsStateOf version rs s

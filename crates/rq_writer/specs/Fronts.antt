@@ -16,7 +16,7 @@ use Rattle.rq_writer.specs.Made.{IsStateOf, Adds, spelling_limit}
 use Rattle.rq_writer.specs.Script.{Spelled}
 use Rattle.rq_writer.specs.declared.front.MadeFront.{MadeFront}
 
--- the state is that after the first records, and the others stand behind; or the first of the
+-- the state is the one after the first records, and the others follow it; or the first of the
 -- others is unlawful
 abbrev pub Splits : Version → State → List Record → Bool → List Record → Type 0
 Splits version s since false rs = (done : List Record) × (rs ≡ done ++ since)

@@ -19,7 +19,7 @@ ended l = line_text l ++ 10 ∷ []
 abbrev pub script_of : List Line → List ℕ
 script_of ls = flat_map ended ls
 
--- no line stands at the front
+-- there is no line at the front
 abbrev pub NoLine : Version → List ℕ → Type 0
 NoLine version rest = (l : Line) (after : List ℕ) →
     IsLine version l → rest ≡ line_text l ++ 10 ∷ after → ⊥
@@ -39,7 +39,7 @@ Adds version rs (Told told) r = r ≡ told
 Adds version rs Spelled r = (s : State) × IsStateOf version rs s
     × (length (state_bytes s) ≤ spelling_limit) × (r ≡ Checkpoint (state_bytes s))
 
--- the records that lines add, one after the other, behind those before
+-- the records that lines add, one after the other, after those before
 abbrev pub AreAdded : Version → List Record → List Line → List Record → Type 0
 AreAdded version before [] after = after ≡ before
 AreAdded version before (l ∷ ls) after = (r : Record) × Adds version before l r
@@ -54,7 +54,7 @@ pub record BeginsWithLines (version : Version) (script : List ℕ)
   pub added : AreAdded version [] ls rs
   pub fits : length (log_of version rs) ≤ log_limit
 
--- what stands after these lines is no line
+-- what comes after these lines is no line
 pub record Stops (version : Version) (script : List ℕ) (number : ℕ)
     (ls : List Line) (rs : List Record) (rest : List ℕ) : Type 0 where
   pub begins : BeginsWithLines version script ls rs rest

@@ -28,7 +28,7 @@ abbrev pub Starts : Version → Result Log Fault → Type 0
 Starts version (Ok log) = HoldsRecords version log []
 Starts version (Err e) = e ≡ faults.Resources
 
--- the next line's text and what stands behind it
+-- the next line's text and what comes after it
 abbrev pub NextLine : {X : Type 0} → (X → List ℕ × List ℕ) → ℕ → List ℕ → Result X Fault → Type 0
 NextLine view number rest (Ok x) = Some (view x) ≡ cut_at 10 rest
 NextLine view number rest (Err (faults.Script n)) = (n ≡ number) × (None ≡ cut_at 10 rest)

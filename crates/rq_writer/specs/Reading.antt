@@ -25,13 +25,13 @@ abbrev pub Gives : {X Y : Type 0} → (X → Y) → Result X Fault → Option Y 
 Gives view (Ok x) read = read ≡ Some (view x)
 Gives view (Err e) read = Fails e read
 
--- what stands before the first such byte, and what behind it
+-- what comes before the first such byte, and what after it
 abbrev pub cut_at : ℕ → List ℕ → Option (List ℕ × List ℕ)
 cut_at byte [] = None
 cut_at byte (b ∷ bytes) = if b == byte then Some ([], bytes)
     else (cut_at byte bytes >>= λ x. Some (b ∷ x.0, x.1))
 
--- a field, and what stands behind its space
+-- a field, and what comes after its space
 abbrev pub field_at : List ℕ → Option (List ℕ × List ℕ)
 field_at bytes = cut_at 32 bytes
 
@@ -164,7 +164,7 @@ abbrev pub kill_line_in : Version → List ℕ → Option Record
 kill_line_in One bytes = None
 kill_line_in Two bytes = kill_line bytes
 
--- the record that a first word and what stands behind it tell
+-- the record that a first word and what comes after it tell
 unfoldable pub told_by : Version → List ℕ → List ℕ → Option Record
 told_by version word bytes =
     if bytes_eq word (codes "define") then define_line bytes
@@ -193,7 +193,7 @@ abbrev pub line_at : Version → List ℕ → Option Line
 line_at version text = if bytes_eq text (codes "checkpoint")
     then Some Spelled else told_line version text
 
--- a line that the text tells, or Form where no line has this text
+-- a line that the text tells, or Form if no line has this text
 abbrev pub ReadsLine : Version → List ℕ → Result code.ScriptLine Fault → Type 0
 ReadsLine version text (Ok l) = Tells version (line_of l) text
 ReadsLine version text (Err faults.Form) = (l : Line) → Tells version l text → ⊥

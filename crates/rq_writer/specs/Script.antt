@@ -7,7 +7,7 @@ use Rattle.rq_model.specs.Spelling.{IsRecord}
 use Rattle.rq_model.specs.Reports.{payload_text, error_text}
 use Rattle.rq_model.specs.Frames.{AreBytes}
 
--- a line: a record in so many words, or a checkpoint of the state so far
+-- a line: a record in words, or a checkpoint of the state so far
 pub data Line : Type 0 where
   Told : (r : Record) → Line
   Spelled : Line

@@ -8,7 +8,7 @@ ghost use Rattle.rq_writer.specs.Reading as spec;
 
 use rq_record::{By, Fault, Name, QueueNo};
 
-/// What stands before the first such byte, and what behind it.
+/// What comes before the first such byte, and what after it.
 pub(crate) fn cut(byte: u8, bytes: &[u8]) -> Option<(&[u8], &[u8])>
     ensures { option_map (λ x. (x.0.now, x.1.now)) result ≡ spec.cut_at byte bytes.now }
 {

@@ -17,8 +17,8 @@ use rq_state::{State, spell};
 use std::alloc::Global;
 use std::thread::Threads;
 
-// The state behind those of the records that are lawful in the version, each after those before
-// it, and how many these are.
+// The state after those of the records that are lawful in the version, each after those before it,
+// and how many these are.
 fn run_lawful<R: Threads + Sync>(
     rt: &R,
     alloc: Global,
@@ -42,7 +42,7 @@ fn run_lawful<R: Threads + Sync>(
     Ok((state, count))
 }
 
-/// The state after the first records of the log, and the records behind these, until one of them is
+/// The state after the first records of the log, and the records after these, until one of them is
 /// found to be unlawful. So a checkpoint costs the records since the one before it, not the whole
 /// log.
 #[derive(Drop)]
@@ -53,7 +53,7 @@ pub(crate) struct MadeFront {
 }
 
 impl MadeFront {
-    /// That of a log without records.
+    /// The front of a log without records.
     pub(crate) fn start(alloc: Global) -> MadeFront
         ensures { (version : model.Version) → IsFrontAfter version result [] }
     {
@@ -78,7 +78,7 @@ impl MadeFront {
         Ok(())
     }
 
-    // Runs the records behind the state, as far as they are lawful.
+    // Runs the records after the state, as far as they are lawful.
     fn catch_up<R: Threads + Sync>(
         &mut self,
         rt: &R,
@@ -108,8 +108,8 @@ impl MadeFront {
         Ok(())
     }
 
-    /// A checkpoint of the state after the front of the log. `TooLarge` where its spelling is too
-    /// long for a record.
+    /// A checkpoint of the state after the front of the log. `TooLarge` if its spelling is too long
+    /// for a record.
     pub(crate) fn spelled<R: Threads + Sync>(
         &mut self,
         rt: &R,

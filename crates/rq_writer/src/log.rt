@@ -23,7 +23,7 @@ pub(crate) struct Log {
     front: MadeFront,
 }
 
-// The record that a line adds. `Script` where the text is no line.
+// The record that a line adds. `Script` if the text is no line.
 fn record_at<R: Threads + Sync>(
     rt: &R,
     alloc: Global,
@@ -62,7 +62,7 @@ fn framed_len(out: &[u8], body: &[u8]) -> usize
     out.len() + body.len() + FRAME_LEN
 }
 
-// Appends the frame of a record. `TooLong` where the log would pass 4,294,967,295 bytes.
+// Appends the frame of a record. `TooLong` if the log would pass 4,294,967,295 bytes.
 fn append(alloc: Global, out: &mut Vec<u8>, last: &[u8; 32], r: &Record) -> Result<(), Fault>
     requires { length out.old.items ≤ 4294967295 }
     ensures { Framed out.old.items out.new.items last.now (record_of r.now) result }

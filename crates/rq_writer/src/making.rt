@@ -12,7 +12,7 @@ use rq_record::{Fault, Version};
 use std::alloc::Global;
 use std::thread::Threads;
 
-/// The text of the next line of a script, and what stands behind it. `Script` with the line's number
+/// The text of the next line of a script, and what comes after it. `Script` with the line's number
 /// if it has no end.
 pub fn line_at(number: u64, rest: &[u8]) -> Result<(&[u8], &[u8]), Fault>
     ensures { NextLine (λ x. (x.0.now, x.1.now)) number rest.now result }
@@ -24,13 +24,12 @@ pub fn line_at(number: u64, rest: &[u8]) -> Result<(&[u8], &[u8]), Fault>
 }
 
 /// The log of a script in a version: the header, then one frame for each line. Records are written
-/// as told, also unlawful ones; a line `checkpoint` is told the state after the front of the log so
-/// far. A line `kill` is one in version 2 alone.
+/// as told, unlawful ones too. A line `checkpoint` becomes a checkpoint of the state after the
+/// front of the log so far. A line `kill` is a line only in version 2.
 ///
-/// The fault of the earliest line that has one: `Script` with its number, counted from 1, where it
-/// is no line; `TooLarge` for a `checkpoint` whose spelling has more than 268,435,455 bytes;
-/// `TooLong` where the log would pass 4,294,967,295 bytes. `Resources` where the host refuses
-/// memory.
+/// The fault of the earliest line that has one: `Script` with its number, counted from 1, if it is
+/// no line; `TooLarge` for a `checkpoint` whose spelling has more than 268,435,455 bytes; `TooLong`
+/// if the log would pass 4,294,967,295 bytes. `Resources` if the host refuses memory.
 pub fn make_in<R: Threads + Sync>(
     rt: &R,
     alloc: Global,

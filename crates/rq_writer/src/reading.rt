@@ -201,7 +201,7 @@ fn line(alloc: Global, version: Version, text: &[u8]) -> Result<ScriptLine, Faul
     told_line(alloc, version, text)
 }
 
-/// The line that the text tells in the version. `Form` where no line has this text.
+/// The line that the text tells in the version. `Form` if no line has this text.
 pub fn read_line(alloc: Global, version: Version, text: &[u8]) -> Result<ScriptLine, Fault>
     ensures { ReadsLine (version_of version) text.now result }
 {

@@ -2,8 +2,8 @@
 
 ghost use Rattle.rq_writer.specs.MadeLaws.{EveryScriptHasAnswer, OneAnswer};
 
-/// Every script, of whatever bytes, has a log or a fault, and it has one alone: where a line has a
-/// fault, that of the earliest such line.
+/// Every script, of whatever bytes, has a log or a fault, and only one. If a line has a fault, the
+/// script's fault is that of the earliest such line.
 pub fn one_answer()
     ensures some { EveryScriptHasAnswer }
     ensures one { OneAnswer }

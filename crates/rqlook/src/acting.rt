@@ -5,7 +5,7 @@ use crate::reading::{is_over_log, log_in};
 use crate::watching::{Watch, Watched};
 use crate::words::{records_asked, subject_asked};
 use clap::ArgMatches;
-use rq_look::{Fault, Plan, Trouble};
+use rq_look::{Fault, Plan, Trouble, begins_at};
 use std::io::{self, ErrorKind, Printer};
 use std::os::fd::AsFd;
 use std::rt::{Clock, Files};
@@ -20,11 +20,17 @@ fn plan_of(words: &ArgMatches<'_>) -> Option<Plan> {
 
 // Prints what a check finds, unless it is to say nothing. Answers whether it finds nothing, also
 // where nobody reads on: what it finds is known before it is written.
-fn check<R>(rt: &R, bytes: &[u8], plan: &Plan, quiet: bool) -> Result<bool, Trouble>
+fn check<R>(
+    rt: &R,
+    bytes: &[u8],
+    at: Option<u64>,
+    plan: &Plan,
+    quiet: bool,
+) -> Result<bool, Trouble>
 where
     R: Print + AllocGlobal + Threads + Sync,
 {
-    let found = rq_look::check(rt, rt.alloc(), bytes, plan)?;
+    let found = rq_look::check(rt, rt.alloc(), bytes, at, plan)?;
     if quiet {
         return Ok(found.fine);
     }
@@ -35,16 +41,22 @@ where
     }
 }
 
-fn report<R>(rt: &R, bytes: &[u8], plan: &Plan, words: &ArgMatches<'_>) -> Result<bool, Trouble>
+fn report<R>(
+    rt: &R,
+    bytes: &[u8],
+    at: Option<u64>,
+    plan: &Plan,
+    words: &ArgMatches<'_>,
+) -> Result<bool, Trouble>
 where
     R: Print + AllocGlobal + Threads + Sync,
 {
     let queue = words.get_one::<u32>("queue");
     let mut output = io::writer(rt);
     if words.get_flag("json") {
-        rq_look::report_json(rt, rt.alloc(), bytes, plan, queue, &mut output)?;
+        rq_look::report_json(rt, rt.alloc(), bytes, at, plan, queue, &mut output)?;
     } else {
-        rq_look::report(rt, rt.alloc(), bytes, plan, queue, &mut output)?;
+        rq_look::report(rt, rt.alloc(), bytes, at, plan, queue, &mut output)?;
     }
     Ok(true)
 }
@@ -57,6 +69,7 @@ fn output<R: Print + Eprint + Clock>(rt: &R, watch: Watch) -> Watched<'_, R, Pri
 fn dump<R>(
     rt: &R,
     bytes: &[u8],
+    at: Option<u64>,
     plan: &Plan,
     words: &ArgMatches<'_>,
     watch: Watch,
@@ -65,16 +78,31 @@ where
     R: Print + Eprint + Clock + AllocGlobal + Threads + Sync,
 {
     let wanted = records_asked(words);
-    rq_look::dump(rt, rt.alloc(), bytes, plan, &wanted, &mut output(rt, watch))?;
+    let mut output = output(rt, watch);
+    rq_look::dump(rt, rt.alloc(), bytes, at, plan, &wanted, &mut output)?;
     Ok(true)
 }
 
-fn story<R>(rt: &R, bytes: &[u8], plan: &Plan, words: &ArgMatches<'_>) -> Result<bool, Trouble>
+fn story<R>(
+    rt: &R,
+    bytes: &[u8],
+    at: Option<u64>,
+    plan: &Plan,
+    words: &ArgMatches<'_>,
+) -> Result<bool, Trouble>
 where
     R: Print + AllocGlobal + Threads + Sync,
 {
     let subject = subject_asked(words);
-    rq_look::story(rt, rt.alloc(), bytes, plan, subject, &mut io::writer(rt))?;
+    rq_look::story(
+        rt,
+        rt.alloc(),
+        bytes,
+        at,
+        plan,
+        subject,
+        &mut io::writer(rt),
+    )?;
     Ok(true)
 }
 
@@ -83,6 +111,7 @@ fn perform<R>(
     name: &str,
     words: &ArgMatches<'_>,
     bytes: &[u8],
+    at: Option<u64>,
     plan: &Plan,
     watch: Watch,
 ) -> Result<bool, Trouble>
@@ -90,21 +119,27 @@ where
     R: Print + Eprint + Clock + AllocGlobal + Threads + Sync,
 {
     match name {
-        "dump" => dump(rt, bytes, plan, words, watch),
-        "check" => check(rt, bytes, plan, words.get_flag("quiet")),
-        "report" => report(rt, bytes, plan, words),
-        "story" | "unit" => story(rt, bytes, plan, words),
+        "dump" => dump(rt, bytes, at, plan, words, watch),
+        "check" => check(rt, bytes, at, plan, words.get_flag("quiet")),
+        "report" => report(rt, bytes, at, plan, words),
+        "story" | "unit" => story(rt, bytes, at, plan, words),
         _ => rq_look::script(rt, rt.alloc(), bytes, plan, &mut output(rt, watch)),
     }
 }
 
 // The page of a log, in memory.
-fn page_of<R>(rt: &R, bytes: &[u8], plan: &Plan, file: &str) -> Result<Vec<u8>, Trouble>
+fn page_of<R>(
+    rt: &R,
+    bytes: &[u8],
+    at: Option<u64>,
+    plan: &Plan,
+    file: &str,
+) -> Result<Vec<u8>, Trouble>
 where
     R: AllocGlobal + Threads + Sync,
 {
     let mut made = Vec::new(rt.alloc());
-    match rq_look::page(rt, rt.alloc(), bytes, plan, file, &mut made) {
+    match rq_look::page(rt, rt.alloc(), bytes, at, plan, file, &mut made) {
         Ok(()) => Ok(made),
         // A write into memory fails for want of it alone.
         Err(Trouble::Output(_)) => Err(Trouble::Log(Fault::Resources)),
@@ -113,7 +148,14 @@ where
 }
 
 // Makes the page of a log. Its file is whole or as it was, and never the log.
-fn page<R>(rt: &R, bytes: &[u8], plan: &Plan, file: &str, to: &str) -> Result<bool, Failure>
+fn page<R>(
+    rt: &R,
+    bytes: &[u8],
+    at: Option<u64>,
+    plan: &Plan,
+    file: &str,
+    to: &str,
+) -> Result<bool, Failure>
 where
     R: Files + Print + AllocGlobal + Threads + Sync,
     R::File: AsFd,
@@ -121,7 +163,7 @@ where
     if is_over_log(rt, file, to) {
         return Err(Failure::Same);
     }
-    let made = match page_of(rt, bytes, plan, file) {
+    let made = match page_of(rt, bytes, at, plan, file) {
         Ok(made) => made,
         Err(trouble) => {
             return Err(Failure::Refused(String::from_str(rt.alloc(), file)?, trouble));
@@ -153,10 +195,15 @@ where
     let file = words.get_str("LOG").unwrap_or("-");
     let bytes = log_in(rt, file, watch)?;
     watch.begins(rt, &bytes);
-    if let Some(to) = words.get_str("OUT") {
-        return page(rt, &bytes, &plan, file, to);
+    let at = begins_at(&bytes);
+    // A script begins with the first record of a log.
+    if at.is_some() && name == "script" {
+        return Err(Failure::Carried(String::from_str(rt.alloc(), file)?));
     }
-    match perform(rt, name, words, &bytes, &plan, watch) {
+    if let Some(to) = words.get_str("OUT") {
+        return page(rt, &bytes, at, &plan, file, to);
+    }
+    match perform(rt, name, words, &bytes, at, &plan, watch) {
         Ok(fine) => Ok(fine),
         Err(trouble) => Err(Failure::Refused(String::from_str(rt.alloc(), file)?, trouble)),
     }

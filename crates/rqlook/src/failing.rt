@@ -5,7 +5,8 @@ use rq_look::{Seen, Trouble};
 use std::alloc::AllocError;
 use std::io;
 
-// The exit status where there is no such thing in the log, or a record that no script tells.
+// The exit status where there is no such thing in the log, a record that no script tells, or a log
+// that was carried on.
 const REFUSED: u8 = 1;
 
 // The exit status of words that are no command.
@@ -30,6 +31,8 @@ pub(crate) enum Failure {
     Unread(String, io::Error),
     /// The file was read and is refused.
     Refused(String, Trouble),
+    /// The log of the file was carried on: what is asked for begins with the first record.
+    Carried(String),
     /// The file cannot be written.
     Unwritten(String, io::Error),
     /// The page was to be written over its log.
@@ -115,6 +118,13 @@ impl Failure {
                 STREAM
             }
             Failure::Refused(file, trouble) => refused(rt, file.as_str(), trouble),
+            Failure::Carried(file) => {
+                let _ = eprintln!(rt;
+                    "rqlook: {}: carried: use rqlog restart",
+                    told(file.as_str())
+                );
+                REFUSED
+            }
             Failure::Output(error) => output_failed(rt, error),
             Failure::Memory => {
                 let _ = eprintln!(rt; "rqlook: resources");

@@ -3,7 +3,7 @@
 use super::plain::{NO_QUEUE, Plain, Who, records_of};
 use Plain::{Abort, Begin, Commit, Define, Dequeue, Enqueue, Register};
 use rq_catalog::{Analysis, Outcome, analyse};
-use rq_record::{QueueNo, UnitNo};
+use rq_record::{Fault, QueueNo, Record, UnitNo};
 use rq_state::State;
 use std::alloc::Global;
 use std::test::Fail;
@@ -13,9 +13,8 @@ const FIRST: Who = Some(("ann", 70));
 
 const SECOND: Who = Some(("ann", 71));
 
-// An element of `jobs` goes to `dead` at its second abort, where `ann` finds it at its second
-// look.
-const ARRIVAL: [Plain; 18] = [
+// An element of `jobs` goes to `dead` at its second abort; `ann` finds it there at its second look.
+const ARRIVAL: &[Plain] = &[
     Define(0, NO_QUEUE, "dead"),
     Define(2, 0, "jobs"),
     Register(0, "ann"),
@@ -56,42 +55,72 @@ fn have(analysis: &Analysis, outcomes: &[(u64, Outcome)]) -> bool {
 
 // Whether the records at these places touch the queue, and no others.
 fn touch(analysis: &Analysis, queue: u32, places: &[u64]) -> bool {
-    let touching = analysis.touching(QueueNo(queue)).iter();
-    touching.map(|at| at.0).eq(places.iter().copied())
+    let touching = analysis.touching(QueueNo(queue));
+    if touching.len() != places.len() {
+        return false;
+    }
+    for (at, place) in touching.iter().zip(places) {
+        if at.0 != *place {
+            return false;
+        }
+    }
+    true
 }
 
-// How many of these records are lawful, and whether the outcomes are told, and which records touch
-// each queue.
-fn told(alloc: Global) -> Result<(usize, bool, bool), Fail> {
-    let records = records_of(alloc, &ARRIVAL)?;
-    let analysis = analyse(alloc, &State::empty(alloc), &records)?;
-    let outcomes = have(&analysis, &OUTCOMES) && analysis.outcome(UnitNo(6)).is_none();
-    let dead = touch(&analysis, 0, &[2, 12, 13, 16, 17]);
-    let jobs = touch(&analysis, 1, &[4, 5, 7, 8, 10, 14]);
-    let touching = dead && jobs && touch(&analysis, 2, &[]);
-    Ok((analysis.lawful(), outcomes, touching))
+// Whether the outcomes of its units are told.
+fn outcomes_are_told(analysis: &Analysis) -> bool {
+    have(analysis, &OUTCOMES) && analysis.outcome(UnitNo(6)).is_none()
+}
+
+// Whether is told which records touch each queue.
+fn touching_is_told(analysis: &Analysis) -> bool {
+    let dead = touch(analysis, 0, &[2, 12, 13, 16, 17]);
+    let jobs = touch(analysis, 1, &[4, 5, 7, 8, 10, 14]);
+    dead && jobs && touch(analysis, 2, &[])
+}
+
+// What is told of the records.
+fn analysed(alloc: Global, records: &[Record]) -> Result<Analysis, Fault> {
+    let start = State::empty(alloc);
+    analyse(alloc, &start, records)
+}
+
+/// What is told of a table's records.
+pub(super) fn analysis_of(alloc: Global, table: &[Plain]) -> Result<Analysis, Fail> {
+    let records = records_of(alloc, table)?;
+    Ok(analysed(alloc, &records)?)
 }
 
 #[test]
 fn outcomes_and_touched_queues(rt: HostRuntime) -> Result<(), Fail> {
-    assert_eq!(rt; told(rt.alloc())?, (18, true, true));
+    let analysis = analysis_of(rt.alloc(), ARRIVAL)?;
+    let told = (
+        analysis.lawful(),
+        outcomes_are_told(&analysis),
+        touching_is_told(&analysis),
+    );
+    assert_eq!(rt; told, (18, true, true));
     Ok(())
 }
 
-// How many records of a table are lawful, how many units commit and abort, and which stay open.
-fn counts(alloc: Global, table: &[Plain]) -> Result<(usize, [u64; 2], Vec<UnitNo>), Fail> {
-    let records = records_of(alloc, table)?;
-    let analysis = analyse(alloc, &State::empty(alloc), &records)?;
-    let ended = [analysis.committed(), analysis.aborted()];
-    Ok((analysis.lawful(), ended, analysis.open_units(alloc)?))
+// Six lawful records: of the units that they begin, one commits, one aborts, and two stay open.
+const TWO_OPEN: &[Plain] = &[Begin(1), Begin(2), Begin(4), Commit(2), Begin(5), Abort(1)];
+
+// Whether these two are told to be open.
+fn are_open(alloc: Global, analysis: &Analysis) -> Result<bool, Fault> {
+    let open = analysis.open_units(alloc)?;
+    Ok(open.as_slice() == [UnitNo(4), UnitNo(5)].as_slice())
+}
+
+// Whether the analysis has these counts and open units.
+fn tells_open(alloc: Global) -> Result<bool, Fail> {
+    let analysis = analysis_of(alloc, TWO_OPEN)?;
+    let ended = (analysis.lawful(), analysis.committed(), analysis.aborted());
+    Ok(are_open(alloc, &analysis)? && ended == (6, 1, 1))
 }
 
 #[test]
 fn an_analysis_has_counts_and_open_units(rt: HostRuntime) -> Result<(), Fail> {
-    let table = [Begin(1), Begin(2), Begin(4), Commit(2), Begin(5), Abort(1)];
-    let (lawful, ended, open) = counts(rt.alloc(), &table)?;
-    assert_eq!(rt; lawful, 6);
-    assert_eq!(rt; ended, [1, 1]);
-    assert!(rt; open.as_slice() == [UnitNo(4), UnitNo(5)].as_slice());
+    assert!(rt; tells_open(rt.alloc())?);
     Ok(())
 }

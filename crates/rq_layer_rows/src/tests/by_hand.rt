@@ -1,4 +1,4 @@
-//! Records, elements and moves as a caller writes them, by their types alone, and the calls that
+//! Records, elements and moves as a caller writes them, using only their types, and the calls that
 //! take them.
 
 ghost use Rattle.std.specs.Prelude.{◌≡◌, ℕ, List, IfOk};
@@ -6,17 +6,21 @@ ghost use Rattle.rq_model.specs.States as states;
 ghost use Rattle.rq_state.specs.Inside.{state_of};
 ghost use Rattle.rq_layer_rows.specs.ByHand.{by_hand, element_by_hand};
 
+use super::analysis::analysis_of;
 use super::courses::lawful_front;
-use rq_catalog::{Outcome, analyse};
+use super::plain::{NO_QUEUE, Plain, record_of, records_of};
+use Plain::{
+    Abort, Begin, Checkpoint, Commit, Define, Dequeue, Deregister, Enqueue, Kill, Register,
+};
+use rq_catalog::Outcome;
 use rq_exchange::replay;
 use rq_pool::{Open, Plan};
 use rq_queue::{Move, Op, Part, redo};
 use rq_record::{
-    By, CheckBytes, ElemId, Fault, Name, Payload, QueueNo, Record, UnitNo, Version, decode,
-    decode_in, encode,
+    ElemId, Fault, Name, Payload, QueueNo, Record, UnitNo, Version, decode, decode_in, encode,
 };
 use rq_state::{Definition, Element, Fields, Last, Mark, OpKind, Registrant, State, read, spell};
-use std::alloc::Global;
+use std::alloc::{AllocError, Global};
 use std::test::Fail;
 use std::thread::Threads;
 
@@ -24,97 +28,54 @@ fn name(bytes: &[u8]) -> Result<Name, Fail> {
     Ok(Name::new(bytes).ok_or("name")?)
 }
 
-fn payload(alloc: Global, bytes: &[u8]) -> Result<Payload, Fail> {
-    let bytes = Vec::from_slice(alloc, bytes)?;
-    Ok(Payload::new(bytes).ok_or("payload")?)
-}
+// A record of each kind, in the order of their numbers.
+const KINDS: &[Plain] = &[
+    Define(0, NO_QUEUE, "jobs"),
+    Register(0, "ann"),
+    Deregister(0, "ann"),
+    Begin(1),
+    ENQUEUE,
+    Dequeue(1, 0, None),
+    Commit(1),
+    Abort(1),
+    Checkpoint,
+    Kill(0, 3),
+];
 
-fn define() -> Result<Record, Fail> {
-    Ok(Record::Define {
-        limit: 0,
-        error: QueueNo::NONE,
-        name: name(b"jobs")?,
-    })
-}
+const ENQUEUE: Plain = Enqueue(1, 0, Some(("ann", 70)));
 
-fn register() -> Result<Record, Fail> {
-    Ok(Record::Register {
-        queue: QueueNo(0),
-        name: name(b"ann")?,
-    })
-}
-
-fn deregister() -> Result<Record, Fail> {
-    Ok(Record::Deregister {
-        queue: QueueNo(0),
-        name: name(b"ann")?,
-    })
-}
-
-fn by_ann() -> Result<Option<By>, Fail> {
-    Ok(Some(By {
-        name: name(b"ann")?,
-        tag: 70,
-    }))
-}
-
-fn enqueue(alloc: Global) -> Result<Record, Fail> {
-    Ok(Record::Enqueue {
-        unit: UnitNo(1),
-        queue: QueueNo(0),
-        priority: 5,
-        by: by_ann()?,
-        payload: payload(alloc, b"a payload that is longer than a short one")?,
-    })
-}
-
-fn checkpoint(alloc: Global) -> Result<Record, Fail> {
-    let bytes = CheckBytes::new(Vec::new(alloc)).ok_or("bytes")?;
-    Ok(Record::Checkpoint { bytes })
-}
-
-// A record of each kind, by its place in a list.
-fn of_kind(alloc: Global, kind: u8) -> Result<Record, Fail> {
-    let (unit, queue) = (UnitNo(1), QueueNo(0));
-    match kind {
-        1 => define(),
-        2 => register(),
-        3 => deregister(),
-        4 => Ok(Record::Begin { unit }),
-        5 => enqueue(alloc),
-        6 => Ok(Record::Dequeue {
-            unit,
-            queue,
-            by: None,
-        }),
-        7 => Ok(Record::Commit { unit }),
-        8 => Ok(Record::Abort { unit }),
-        9 => checkpoint(alloc),
-        _ => Ok(Record::Kill {
-            queue,
-            element: ElemId(3),
-        }),
-    }
-}
-
-fn body(alloc: Global, record: &Record) -> Result<Vec<u8>, Fail> {
+fn body(alloc: Global, record: &Record) -> Result<Vec<u8>, Fault> {
     let mut bytes = Vec::new(alloc);
     encode(record, &mut bytes)?;
     Ok(bytes)
 }
 
-// Whether a record of the kind is spelled, read and spelled again.
-fn comes_back(alloc: Global, kind: u8) -> Result<bool, Fail> {
-    let first = body(alloc, &of_kind(alloc, kind)?)?;
-    let again = decode_in(alloc, Version::Two, &first)?;
-    Ok(first.first() == Some(&kind) && body(alloc, &again)? == first)
+// The body of the record that a body spells.
+fn again(alloc: Global, bytes: &[u8]) -> Result<Vec<u8>, Fault> {
+    let record = decode_in(alloc, Version::Two, bytes)?;
+    body(alloc, &record)
+}
+
+// The body of a record by its numbers and names.
+fn body_of(alloc: Global, plain: &Plain) -> Result<Vec<u8>, Fail> {
+    let record = record_of(alloc, plain)?;
+    Ok(body(alloc, &record)?)
+}
+
+// Whether a record of this kind is spelled, read and spelled again.
+fn comes_back(alloc: Global, kind: u8, plain: &Plain) -> Result<bool, Fail> {
+    let first = body_of(alloc, plain)?;
+    Ok(first.first() == Some(&kind) && again(alloc, &first)? == first)
 }
 
 #[test]
 fn a_record_of_each_kind_comes_back(rt: HostRuntime) -> Result<(), Fail> {
-    for kind in 1..11u8 {
-        assert!(rt; comes_back(rt.alloc(), kind)?, "kind {kind}");
+    let mut kind = 0u8;
+    for plain in KINDS {
+        kind = kind.wrapping_add(1);
+        assert!(rt; comes_back(rt.alloc(), kind, plain)?, "kind {kind}");
     }
+    assert_eq!(rt; kind, 10);
     Ok(())
 }
 
@@ -135,28 +96,32 @@ fn is_enqueue(record: &Record) -> bool {
     }
 }
 
+// Whether that is what its body spells.
+fn is_taken_apart(alloc: Global) -> Result<bool, Fail> {
+    let bytes = body_of(alloc, &ENQUEUE)?;
+    Ok(is_enqueue(&decode(alloc, &bytes)?))
+}
+
 #[test]
 fn a_record_is_taken_apart(rt: HostRuntime) -> Result<(), Fail> {
-    let bytes = body(rt.alloc(), &enqueue(rt.alloc())?)?;
-    assert!(rt; is_enqueue(&decode(rt.alloc(), &bytes)?));
+    assert!(rt; is_taken_apart(rt.alloc())?);
     Ok(())
 }
 
 // A queue, a registrant, and an element that it enqueued.
-fn records(alloc: Global) -> Result<Vec<Record>, Fail> {
-    let mut records = Vec::new(alloc);
-    for kind in [1, 2, 4, 5, 7] {
-        records.push(of_kind(alloc, kind)?)?;
-    }
-    Ok(records)
-}
+const RECORDS: &[Plain] = &[
+    Define(0, NO_QUEUE, "jobs"),
+    Register(0, "ann"),
+    Begin(1),
+    ENQUEUE,
+    Commit(1),
+];
 
 #[test]
 fn records_are_analysed(rt: HostRuntime) -> Result<(), Fail> {
-    let start = State::empty(rt.alloc());
-    let analysis = analyse(rt.alloc(), &start, &records(rt.alloc())?)?;
-    assert_eq!(rt; analysis.lawful(), 5);
-    assert!(rt; analysis.outcome(UnitNo(1)) == Some(Outcome::Committed(4)));
+    let analysis = analysis_of(rt.alloc(), RECORDS)?;
+    let outcome = analysis.outcome(UnitNo(1));
+    assert!(rt; analysis.lawful() == 5 && outcome == Some(Outcome::Committed(4)));
     Ok(())
 }
 
@@ -196,7 +161,7 @@ fn has_registrant(state: &State) -> bool {
 #[test]
 fn records_are_replayed(rt: HostRuntime) -> Result<(), Fail> {
     let plan = Plan::new(2, 1).ok_or("plan")?;
-    let state = replayed(&rt, records(rt.alloc())?, &plan)?;
+    let state = replayed(&rt, records_of(rt.alloc(), RECORDS)?, &plan)?;
     assert!(rt; has_element(&state) && has_registrant(&state));
     Ok(())
 }
@@ -234,31 +199,39 @@ fn no_fields(alloc: Global) -> Fields
 }
 
 // Fields with one queue, a registrant, and an element that it enqueued.
-fn fields(alloc: Global, queue: Name, ann: Name, payload: Payload) -> Result<Fields, Fault>
+fn fields(alloc: Global, queue: Name, ann: Name, payload: Payload) -> Result<Fields, AllocError>
     ensures { IfOk result (λ f. state_of f ≡ by_hand queue ann payload) }
 {
-    let last = Some(Last {
-        place: 0,
-        kind: OpKind::Enqueue,
-        tag: 70,
-        element: Some(ElemId(0)),
-    });
-    let mut fields = no_fields(alloc);
-    fields.next = 2;
-    fields.greatest = 1;
-    fields.committed = 1;
-    fields.definitions.push(Definition {
+    let mut definitions = Vec::with_capacity(alloc, 1)?;
+    let mut registrants = Vec::with_capacity(alloc, 1)?;
+    let mut elements = Vec::with_capacity(alloc, 1)?;
+    definitions.push_reserved(Definition {
         limit: 0,
         error: QueueNo::NONE,
         name: queue,
-    })?;
-    fields.registrants.push(Registrant {
+    });
+    registrants.push_reserved(Registrant {
         queue: QueueNo(0),
         name: ann,
-        last,
-    })?;
-    fields.elements.push(element(payload))?;
-    Ok(fields)
+        last: Some(Last {
+            place: 0,
+            kind: OpKind::Enqueue,
+            tag: 70,
+            element: Some(ElemId(0)),
+        }),
+    });
+    elements.push_reserved(element(payload));
+    Ok(Fields {
+        next: 2,
+        greatest: 1,
+        committed: 1,
+        aborted: 0,
+        definitions,
+        units: Vec::new(alloc),
+        registrants,
+        elements,
+        notes: Vec::new(alloc),
+    })
 }
 
 // Their state.
@@ -269,7 +242,18 @@ fn built(alloc: Global, queue: Name, ann: Name, payload: Payload) -> Result<Stat
     State::build(alloc, fields)
 }
 
-// The part of its queue behind a KILL of the element, and what left it.
+// The state of a queue `jobs` where `ann` enqueued one byte.
+fn state_by_hand(alloc: Global) -> Result<State, Fail>
+    ensures { IfOk result
+        (λ s. (queue ann payload : List ℕ) × (s ≡ by_hand queue ann payload)) }
+{
+    let queue = name(b"jobs")?;
+    let ann = name(b"ann")?;
+    let payload = Payload::new(Vec::from_slice(alloc, b"a")?).ok_or("payload")?;
+    Ok(built(alloc, queue, ann, payload)?)
+}
+
+// The part of its queue after a KILL of the element, and what left it.
 fn killed(alloc: Global, state: &State) -> Result<(Part, Vec<Move>), Fault>
     requires { (queue ann payload : List ℕ) × (state.now ≡ by_hand queue ann payload) }
 {
@@ -285,37 +269,45 @@ fn killed(alloc: Global, state: &State) -> Result<(Part, Vec<Move>), Fault>
     redo(alloc, part, &ops, Vec::new(alloc))
 }
 
-// How many elements and registrants the part has then, and how many moves there are.
-fn left(alloc: Global, payload: Payload) -> Result<[usize; 3], Fail> {
-    let queue = name(b"jobs")?;
-    let ann = name(b"ann")?;
-    let state = built(alloc, queue, ann, payload)?;
-    let (part, moves) = killed(alloc, &state)?;
+// How many elements and registrants a part has.
+fn poured(alloc: Global, part: Part) -> Result<[usize; 2], Fault> {
     let mut fields = no_fields(alloc);
     part.pour(&mut fields)?;
-    Ok([fields.elements.len(), fields.registrants.len(), moves.len()])
+    Ok([fields.elements.len(), fields.registrants.len()])
+}
+
+// Whether the KILL leaves a registrant, no element, and no move.
+fn is_killed(alloc: Global) -> Result<bool, Fail> {
+    let state = state_by_hand(alloc)?;
+    let (part, moves) = killed(alloc, &state)?;
+    let none = moves.is_empty();
+    Ok(none && poured(alloc, part)? == [0, 1])
 }
 
 #[test]
 fn a_part_is_redone(rt: HostRuntime) -> Result<(), Fail> {
-    let payload = payload(rt.alloc(), b"a")?;
-    assert_eq!(rt; left(rt.alloc(), payload)?, [0, 1, 0]);
+    assert!(rt; is_killed(rt.alloc())?);
     Ok(())
 }
 
-// Whether the built state is spelled and read.
-fn is_read(alloc: Global, payload: Payload) -> Result<bool, Fail> {
-    let state = built(alloc, name(b"jobs")?, name(b"ann")?, payload)?;
+// Whether these bytes spell a state with one element and one registrant.
+fn is_read(alloc: Global, spelled: &[u8]) -> Result<bool, Fault> {
+    let state = read(alloc, spelled)?;
+    Ok(state.element_count() == 1 && state.registrant_count() == 1)
+}
+
+// Whether the built state spells such a one.
+fn is_spelled(alloc: Global) -> Result<bool, Fail> {
+    let state = state_by_hand(alloc)?;
     if state.next() != 2 || state.element_count() != 1 {
         return Ok(false);
     }
-    let again = read(alloc, &spell(alloc, &state)?)?;
-    Ok(again.element_count() == 1 && again.registrant_count() == 1)
+    let spelled = spell(alloc, &state)?;
+    Ok(is_read(alloc, &spelled)?)
 }
 
 #[test]
 fn a_state_is_built_and_spelled(rt: HostRuntime) -> Result<(), Fail> {
-    let payload = payload(rt.alloc(), b"a")?;
-    assert!(rt; is_read(rt.alloc(), payload)?);
+    assert!(rt; is_spelled(rt.alloc())?);
     Ok(())
 }

@@ -3,7 +3,9 @@ ghost use Rattle.std.specs.Prelude.{◌≡◌, ◌<◌, All, IfSome, length};
 ghost use Rattle.rq_pool.specs.Countdowns.History.{Fit};
 ghost use Rattle.rq_pool.specs.Countdowns.Words.{IsPassOf, sources_of};
 
-use rq_pool::{Arrival, Countdown, Fits, Pass};
+use rq_pool::{Arrival, Closing, Countdown, Fits, Pass};
+use rq_record::Fault;
+use std::alloc::Global;
 use std::sync::atomic::{AtomicBool, AtomicU32, Ordering};
 use std::test::Fail;
 use std::thread;
@@ -30,24 +32,44 @@ fn in_order(parcels: &[Parcel]) -> bool {
     all
 }
 
+fn is_not_last(answer: Arrival<Parcel>) -> bool {
+    matches!(&answer, Arrival::NotLast)
+}
+
+// Whether the parcel of this number comes back.
+fn is_twice(answer: Arrival<Parcel>, number: u32) -> bool {
+    matches!(&answer, Arrival::Twice(parcel) if parcel.number == number)
+}
+
+// Whether these are the parcels of the sources 0 and 2.
+fn are_first_and_third(parcels: &[Parcel]) -> bool {
+    parcels.len() == 2 && parcels[0].number == 0 && parcels[1].number == 2
+}
+
+// Whether these two arrived, and no last one.
+fn first_and_third_arrived(closing: Closing<Parcel>) -> bool {
+    let two = closing.arrived() == 2 && closing.last().is_none();
+    let seen = are_first_and_third(closing.home());
+    two && seen && are_first_and_third(&closing.into_home())
+}
+
+// Whether a source that arrives by one pass and then by another is told so.
+fn tells_twice(alloc: Global) -> Result<bool, Fault> {
+    let (countdown, mut passes) = Countdown::<Parcel>::open(alloc, (), 3, 2)?;
+    let first = is_not_last(countdown.arrive(&mut passes[0], 0, Parcel { number: 0 }));
+    let second = is_not_last(countdown.arrive(&mut passes[1], 2, Parcel { number: 2 }));
+    let again = is_twice(countdown.arrive(&mut passes[0], 2, Parcel { number: 2 }), 2);
+    let arrived = first_and_third_arrived(countdown.close(passes));
+    Ok(first && second && again && arrived)
+}
+
 #[test]
 fn a_source_that_arrives_twice_is_told(rt: HostRuntime) -> Result<(), Fail> {
-    let (countdown, mut passes) = Countdown::<Parcel>::open(rt.alloc(), (), 3, 2)?;
-    let first = countdown.arrive(&mut passes[0], 0, Parcel { number: 0 });
-    let second = countdown.arrive(&mut passes[1], 2, Parcel { number: 2 });
-    let again = countdown.arrive(&mut passes[0], 2, Parcel { number: 2 });
-    assert!(rt; matches!(&first, Arrival::NotLast) && matches!(&second, Arrival::NotLast));
-    assert!(rt; matches!(&again, Arrival::Twice(parcel) if parcel.number == 2));
-    let closing = countdown.close(passes);
-    assert!(rt; closing.arrived() == 2 && closing.last().is_none());
-    let seen = closing.home();
-    assert!(rt; seen.len() == 2 && seen[0].number == 0 && seen[1].number == 2);
-    let kept = closing.into_home();
-    assert!(rt; kept.len() == 2 && kept[0].number == 0 && kept[1].number == 2);
+    assert!(rt; tells_twice(rt.alloc())?);
     Ok(())
 }
 
-// Hands in a parcel. Who is last goes on with all of them.
+// Hands in a parcel. The last goes on with all of them.
 fn hand_in(
     countdown: &Countdown<Parcel>,
     pass: &mut Pass<Parcel>,
@@ -68,15 +90,32 @@ fn hand_in(
     }
 }
 
+fn is_none(parcels: Option<Vec<Parcel>>) -> bool {
+    parcels.is_none()
+}
+
+// Whether these are both parcels.
+fn are_both(parcels: Option<Vec<Parcel>>) -> bool {
+    matches!(&parcels, Some(parcels) if parcels.len() == 2 && in_order(parcels))
+}
+
+// Whether this many arrived, and nothing is kept.
+fn all_arrived(closing: &Closing<Parcel>, arrived: u32) -> bool {
+    closing.arrived() == arrived && closing.home().is_empty()
+}
+
+// Whether the last of two sources is given both parcels.
+fn gives_both(alloc: Global) -> Result<bool, Fault> {
+    let (countdown, mut passes) = Countdown::<Parcel>::open(alloc, (), 2, 2)?;
+    let first = is_none(hand_in(&countdown, &mut passes[0], Parcel { number: 1 }));
+    let second = are_both(hand_in(&countdown, &mut passes[1], Parcel { number: 0 }));
+    let closing = countdown.close(passes);
+    Ok(first && second && closing.last() == Some(1) && all_arrived(&closing, 2))
+}
+
 #[test]
 fn the_last_of_two_is_given_both(rt: HostRuntime) -> Result<(), Fail> {
-    let (countdown, mut passes) = Countdown::<Parcel>::open(rt.alloc(), (), 2, 2)?;
-    let first = hand_in(&countdown, &mut passes[0], Parcel { number: 1 });
-    let second = hand_in(&countdown, &mut passes[1], Parcel { number: 0 });
-    assert!(rt; first.is_none());
-    assert!(rt; matches!(&second, Some(parcels) if parcels.len() == 2 && in_order(parcels)));
-    let closing = countdown.close(passes);
-    assert!(rt; closing.arrived() == 2 && closing.last() == Some(1) && closing.home().is_empty());
+    assert!(rt; gives_both(rt.alloc())?);
     Ok(())
 }
 
@@ -122,16 +161,21 @@ fn arrive_all<R: Threads + Sync>(
     );
 }
 
-#[test]
-fn one_of_sixty_four_threads_is_last(rt: HostRuntime) -> Result<(), Fail> {
+// Whether one of sixty-four threads is told that it is last, and given all parcels.
+fn one_is_last<R: Threads + Sync + AllocGlobal>(rt: &R) -> Result<bool, Fault> {
     let (countdown, mut passes) = Countdown::<Parcel>::open(rt.alloc(), (), 64, 64)?;
     let seen = Seen {
         lasts: AtomicU32::new(0),
         whole: AtomicBool::new(false),
     };
-    arrive_all(&rt, &countdown, passes.as_mut_slice(), &seen);
+    arrive_all(rt, &countdown, passes.as_mut_slice(), &seen);
     let closing = countdown.close(passes);
-    assert!(rt; seen.lasts.load(Ordering::SeqCst) == 1 && seen.whole.load(Ordering::SeqCst));
-    assert!(rt; closing.arrived() == 64 && closing.last().is_some() && closing.home().is_empty());
+    let one = seen.lasts.load(Ordering::SeqCst) == 1 && seen.whole.load(Ordering::SeqCst);
+    Ok(one && closing.last().is_some() && all_arrived(&closing, 64))
+}
+
+#[test]
+fn one_of_sixty_four_threads_is_last(rt: HostRuntime) -> Result<(), Fail> {
+    assert!(rt; one_is_last(&rt)?);
     Ok(())
 }

@@ -27,7 +27,7 @@ const QUEUES: usize = 5;
 
 // Two queues with one error queue, one whose error queue is the first of the two, and one with
 // none. What leaves the last of the chain by an abort goes on to its end by two more.
-const CHAINED: [Plain; 14] = [
+const CHAINED: &[Plain] = &[
     Define(0, NO_QUEUE, "dead"),
     Define(1, 0, "first"),
     Define(1, 0, "second"),
@@ -76,7 +76,7 @@ fn lawful_of(alloc: Global, records: Vec<Record>) -> Result<Lawful, Fault> {
 }
 
 // The state after the records, and how the replay went: one thread redid a queue, once, and no
-// other did; of an error queue that queues lead to, this is the thread that was told Last, once,
+// other did. For an error queue that queues lead to, this is the thread that was told Last, once,
 // and nobody else was told so.
 fn traced<R: Threads + Sync + AllocGlobal, G: Gate + Sync>(
     rt: &R,
@@ -101,7 +101,7 @@ fn traced<R: Threads + Sync + AllocGlobal, G: Gate + Sync>(
     Ok((state, course))
 }
 
-// As which each queue entered, counted from 1.
+// The position at which each queue entered, counted from 1.
 #[derive(Drop)]
 struct Entries {
     count: AtomicU32,
@@ -158,19 +158,39 @@ fn is_after(state: &State) -> bool {
     same
 }
 
+// Whether a replay by the plan goes so.
+fn goes_right<R: Threads + Sync + AllocGlobal>(
+    rt: &R,
+    lawful: &Lawful,
+    plan: &Plan,
+) -> Result<bool, Fault> {
+    let gate = Entries::none();
+    let (state, course) = traced(rt, lawful, plan, &gate)?;
+    drop(course);
+    Ok(is_after(&state) && gate.are_in_order())
+}
+
+// Whether each of 50 replays by this many workers does.
+fn all_go_right<R: Threads + Sync + AllocGlobal>(
+    rt: &R,
+    lawful: &Lawful,
+    workers: u32,
+) -> Result<bool, Fail> {
+    let plan = Plan::new(workers, 1).ok_or("plan")?;
+    for _ in 0..50 {
+        if !goes_right(rt, lawful, &plan)? {
+            return Ok(false);
+        }
+    }
+    Ok(true)
+}
+
 #[test]
 fn the_last_arrival_begins_an_error_queue(rt: HostRuntime) -> Result<(), Fail> {
-    let lawful = lawful_of(rt.alloc(), records_of(rt.alloc(), &CHAINED)?)?;
+    let lawful = lawful_of(rt.alloc(), records_of(rt.alloc(), CHAINED)?)?;
     assert_eq!(rt; lawful.records.len(), 14);
     for workers in [1, 2, 4] {
-        let plan = Plan::new(workers, 1).ok_or("plan")?;
-        for _ in 0..50 {
-            let gate = Entries::none();
-            let (state, course) = traced(&rt, &lawful, &plan, &gate)?;
-            assert!(rt; is_after(&state), "{workers} workers");
-            assert!(rt; gate.are_in_order(), "{workers} workers");
-            drop(course);
-        }
+        assert!(rt; all_go_right(&rt, &lawful, workers)?, "{workers} workers");
     }
     Ok(())
 }

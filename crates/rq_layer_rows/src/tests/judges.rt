@@ -1,17 +1,18 @@
 //! What a judge says of records, one after the other.
+ghost use Rattle.std.specs.Prelude.{◌≤◌, ℕ};
 
 use super::plain::{NO_QUEUE, Plain, Who, define, record_of};
 use Plain::{
     Abort, Begin, Checkpoint, Commit, Define, Dequeue, Deregister, Enqueue, Kill, Register,
 };
 use rq_catalog::{Judge, analyse_kept};
-use rq_record::{KeptRecord, Version};
+use rq_record::{Fault, KeptRecord, Record, Version};
 use rq_state::State;
 use std::alloc::Global;
 use std::test::Fail;
 
-// In which versions a record is lawful where it stands.
-#[derive(Clone, Copy, Debug)]
+// The versions in which a record is lawful where it stands.
+#[derive(Drop)]
 enum Lawful {
     InBoth,
     InTwo,
@@ -20,10 +21,10 @@ enum Lawful {
 
 use Lawful::{InBoth, InNone, InTwo};
 
-// A record, and where it is lawful.
+// A record, and the versions in which it is lawful.
 type Case = (Lawful, Plain);
 
-fn is_lawful_in(lawful: Lawful, version: Version) -> bool {
+fn is_lawful_in(lawful: &Lawful, version: Version) -> bool {
     match lawful {
         Lawful::InBoth => true,
         Lawful::InTwo => version == Version::Two,
@@ -31,15 +32,40 @@ fn is_lawful_in(lawful: Lawful, version: Version) -> bool {
     }
 }
 
-// Whether the catalogue takes all of the records.
-fn are_lawful(alloc: Global, version: Version, records: &[KeptRecord]) -> Result<bool, Fail> {
-    let start = State::empty(alloc);
-    let analysis = analyse_kept(alloc, version, &start, records)?;
-    Ok(analysis.lawful() == records.len())
+// How many of the records the catalogue takes after a state.
+fn lawful_after(
+    alloc: Global,
+    version: Version,
+    start: &State,
+    records: &[KeptRecord],
+) -> Result<usize, Fault>
+    requires { start.now.next ≤ 4294967295 }
+{
+    let analysis = analyse_kept(alloc, version, start, records)?;
+    Ok(analysis.lawful())
 }
 
-// Whether the judge, and the catalogue over the lawful records and this one, say what stands
-// beside the record. It is one of the lawful ones then, or it is not.
+// Whether the catalogue takes all of the records.
+fn are_lawful(alloc: Global, version: Version, records: &[KeptRecord]) -> Result<bool, Fault> {
+    let start = State::empty(alloc);
+    Ok(lawful_after(alloc, version, &start, records)? == records.len())
+}
+
+fn kept(alloc: Global, plain: &Plain) -> Result<KeptRecord, Fail> {
+    let record = record_of(alloc, plain)?;
+    Ok(KeptRecord::of(alloc, &record)?)
+}
+
+// Whether the judge takes the last of the records.
+fn takes_last(judge: &mut Judge, records: &[KeptRecord]) -> Result<bool, Fail> {
+    match records.last() {
+        Some(last) => Ok(judge.take(last)?),
+        None => Ok(false),
+    }
+}
+
+// Whether the judge, and the catalogue over the lawful records and this one, say what is noted
+// beside the record. The record is then one of the lawful ones, or it is not.
 fn agree(
     alloc: Global,
     version: Version,
@@ -47,19 +73,19 @@ fn agree(
     taken: &mut Vec<KeptRecord>,
     case: &Case,
 ) -> Result<bool, Fail> {
-    let want = is_lawful_in(case.0, version);
-    let next = KeptRecord::of(alloc, &record_of(alloc, &case.1)?)?;
-    let says = judge.take(&next)?;
-    taken.push(next)?;
+    let want = is_lawful_in(&case.0, version);
+    let before = taken.len();
+    taken.push(kept(alloc, &case.1)?)?;
+    let says = takes_last(judge, taken)?;
     let found = are_lawful(alloc, version, taken)?;
     if !want {
-        taken.pop();
+        taken.truncate(before);
     }
     Ok(says == want && found == want)
 }
 
-// The first place where they do not agree. The judge goes on behind unlawful records. What it
-// borrows it need not drop at each of its ends.
+// The first place where they do not agree. The judge goes on after unlawful records. What this
+// function borrows, it need not drop at each of its ends.
 fn first_of(
     alloc: Global,
     version: Version,
@@ -75,7 +101,7 @@ fn first_of(
     Ok(None)
 }
 
-// The first place where the judge of the version, or the catalogue, does not say what stands
+// The first place where the judge of the version, or the catalogue, does not say what is noted
 // beside the record.
 fn first_wrong(alloc: Global, version: Version, cases: &[Case]) -> Result<Option<usize>, Fail> {
     let mut judge = Judge::new(alloc, version);
@@ -87,7 +113,7 @@ const ANN: Who = Some(("ann", 7));
 
 const BOB: Who = Some(("bob", 7));
 
-const DEFINITIONS: [Case; 11] = [
+const DEFINITIONS: &[Case] = &[
     (InNone, Define(1, 0, "dead")),
     (InBoth, Define(0, NO_QUEUE, "dead")),
     (InNone, Define(0, NO_QUEUE, "dead")),
@@ -101,7 +127,7 @@ const DEFINITIONS: [Case; 11] = [
     (InBoth, Checkpoint),
 ];
 
-const REGISTRANTS: [Case; 11] = [
+const REGISTRANTS: &[Case] = &[
     (InNone, Register(0, "ann")),
     (InBoth, Define(0, NO_QUEUE, "jobs")),
     (InBoth, Define(0, NO_QUEUE, "mail")),
@@ -115,7 +141,7 @@ const REGISTRANTS: [Case; 11] = [
     (InNone, Deregister(0, "ann")),
 ];
 
-const OPERATIONS: [Case; 21] = [
+const OPERATIONS: &[Case] = &[
     (InBoth, Define(0, NO_QUEUE, "jobs")),
     (InBoth, Define(0, NO_QUEUE, "mail")),
     (InBoth, Register(0, "ann")),
@@ -139,7 +165,7 @@ const OPERATIONS: [Case; 21] = [
     (InNone, Enqueue(1, 0, None)),
 ];
 
-const UNITS: [Case; 16] = [
+const UNITS: &[Case] = &[
     (InNone, Commit(1)),
     (InNone, Abort(1)),
     (InNone, Begin(0)),
@@ -158,7 +184,7 @@ const UNITS: [Case; 16] = [
     (InBoth, Begin(u64::MAX)),
 ];
 
-const KILLS: [Case; 8] = [
+const KILLS: &[Case] = &[
     (InNone, Kill(0, 0)),
     (InBoth, Define(0, NO_QUEUE, "jobs")),
     (InTwo, Kill(0, 0)),
@@ -170,11 +196,11 @@ const KILLS: [Case; 8] = [
 ];
 
 const TABLES: [(&str, &[Case]); 5] = [
-    ("definitions", &DEFINITIONS),
-    ("registrants", &REGISTRANTS),
-    ("operations", &OPERATIONS),
-    ("units", &UNITS),
-    ("kills", &KILLS),
+    ("definitions", DEFINITIONS),
+    ("registrants", REGISTRANTS),
+    ("operations", OPERATIONS),
+    ("units", UNITS),
+    ("kills", KILLS),
 ];
 
 #[test]
@@ -188,20 +214,36 @@ fn a_judge_says_what_the_catalogue_says(rt: HostRuntime) -> Result<(), Fail> {
     Ok(())
 }
 
-// Whether the judge takes one more queue, of a name with this number.
-fn takes_queue(alloc: Global, judge: &mut Judge, number: u32) -> Result<bool, Fail> {
+// The definition of a queue with this number in its name.
+fn queue_of(alloc: Global, number: u32) -> Result<Record, Fail> {
     let name = format!(in alloc; "q{number}")?;
-    let next = KeptRecord::of(alloc, &define(0, NO_QUEUE, &name)?)?;
+    define(0, NO_QUEUE, name.as_str())
+}
+
+fn queue(alloc: Global, number: u32) -> Result<KeptRecord, Fail> {
+    let record = queue_of(alloc, number)?;
+    Ok(KeptRecord::of(alloc, &record)?)
+}
+
+fn takes_queue(alloc: Global, judge: &mut Judge, number: u32) -> Result<bool, Fail> {
+    let next = queue(alloc, number)?;
     Ok(judge.take(&next)?)
+}
+
+// Which of 4,097 queues is the first that the judge refuses.
+fn first_refused(alloc: Global, judge: &mut Judge) -> Result<Option<u32>, Fail> {
+    for number in 0..4097u32 {
+        if !takes_queue(alloc, judge, number)? {
+            return Ok(Some(number));
+        }
+    }
+    Ok(None)
 }
 
 #[test]
 fn a_judge_takes_4096_queues(rt: HostRuntime) -> Result<(), Fail> {
     let mut judge = Judge::new(rt.alloc(), Version::Two);
-    assert!(rt; judge.version() == Version::Two);
-    for number in 0..4097u32 {
-        let taken = takes_queue(rt.alloc(), &mut judge, number)?;
-        assert_eq!(rt; taken, number < 4096, "queue {number}");
-    }
+    let first = first_refused(rt.alloc(), &mut judge)?;
+    assert!(rt; judge.version() == Version::Two && first == Some(4096));
     Ok(())
 }

@@ -13,18 +13,29 @@ pub struct Framed {
     pub ends: Vec<usize>,
 }
 
-// Appends the frame of a body of `len` bytes, all of them `byte`.
-fn append(alloc: Global, framed: &mut Framed, len: usize, byte: u8) -> Result<(), Fail> {
+// Appends the frame of a body of `len` bytes, all of them `byte`, after this last digest.
+fn append_frame(
+    alloc: Global,
+    log: &mut Vec<u8>,
+    last: &[u8; 32],
+    len: usize,
+    byte: u8,
+) -> Result<(), Fail> {
     let body = Vec::from_elem(alloc, byte, len)?;
     if body.is_empty() || 2_000_000 < body.len() {
-        return Ok(());
+        return Err("length".into());
     }
+    Ok(frame(last, &body, log)?)
+}
+
+// The same after the log's own last digest.
+fn append(alloc: Global, framed: &mut Framed, len: usize, byte: u8) -> Result<(), Fail> {
     let from = framed.log.len().saturating_sub(32);
     let mut last = [0u8; 32];
     for (place, byte) in last.iter_mut().zip(framed.log.iter().skip(from)) {
         *place = *byte;
     }
-    frame(&last, &body, &mut framed.log)?;
+    append_frame(alloc, &mut framed.log, &last, len, byte)?;
     framed.ends.push(framed.log.len())?;
     Ok(())
 }
@@ -44,7 +55,7 @@ pub fn log_of_lengths(alloc: Global, lens: &[usize]) -> Result<Framed, Fail> {
     Ok(framed)
 }
 
-// How many frames of a log are right, where a wrong digest follows them.
+// How many frames of a log are right, if a wrong digest follows them.
 fn right_before<R: Threads + Sync + AllocGlobal>(
     rt: &R,
     log: &[u8],
@@ -69,11 +80,39 @@ fn flip(log: &mut Vec<u8>, end: usize) {
 }
 
 // The same with the frames of these numbers.
-fn flip_frames(log: &mut Vec<u8>, ends: &[usize], places: &[usize]) -> Result<(), Fail> {
+fn flip_frames(framed: &mut Framed, places: &[usize]) {
     for place in places {
-        flip(log, *ends.get(*place).ok_or("frame")?);
+        if let Some(end) = framed.ends.get(*place).copied() {
+            flip(&mut framed.log, end);
+        }
     }
-    Ok(())
+}
+
+// Whether the first of these frames is found, if the digests of all of them are wrong.
+fn finds<R: Threads + Sync + AllocGlobal>(
+    rt: &R,
+    framed: &mut Framed,
+    places: &[usize],
+    grain: u32,
+) -> Result<bool, Fault> {
+    flip_frames(framed, places);
+    let right = right_before(rt, &framed.log, grain)?;
+    flip_frames(framed, places);
+    Ok(right.is_some() && right == places.first().copied())
+}
+
+// Whether each frame is found, if its digest alone is wrong.
+fn finds_each_of<R: Threads + Sync + AllocGlobal>(
+    rt: &R,
+    framed: &mut Framed,
+    grain: u32,
+) -> Result<bool, Fault> {
+    for place in 0..framed.ends.len() {
+        if !finds(rt, framed, &[place], grain)? {
+            return Ok(false);
+        }
+    }
+    Ok(true)
 }
 
 // Whether the first wrong digest is found, wherever it is among the frames of these lengths.
@@ -82,49 +121,41 @@ fn finds_each<R: Threads + Sync + AllocGlobal>(
     lens: &[usize],
     grain: u32,
 ) -> Result<bool, Fail> {
-    let Framed { mut log, ends } = log_of_lengths(rt.alloc(), lens)?;
-    if right_before(rt, &log, grain)?.is_some() || ends.len() != lens.len() {
-        return Ok(false);
-    }
-    for (i, end) in ends.iter().enumerate() {
-        flip(&mut log, *end);
-        if right_before(rt, &log, grain)? != Some(i) {
-            return Ok(false);
-        }
-        flip(&mut log, *end);
-    }
-    Ok(true)
+    let mut framed = log_of_lengths(rt.alloc(), lens)?;
+    let whole = framed.ends.len() == lens.len() && right_before(rt, &framed.log, grain)?.is_none();
+    Ok(whole && finds_each_of(rt, &mut framed, grain)?)
 }
 
-// Twenty lengths from one on.
-fn lengths(alloc: Global, first: usize) -> Result<Vec<usize>, Fail> {
-    let mut lens = Vec::new(alloc);
-    for more in 0..20 {
-        lens.push(first.saturating_add(more))?;
-    }
-    Ok(lens)
-}
+const TWENTIES: [usize; 37] = [20; 37];
 
 #[test]
 fn a_wrong_digest_in_any_lane_is_found(rt: HostRuntime) -> Result<(), Fail> {
     for count in [1, 7, 8, 9, 37] {
-        let lens = Vec::from_elem(rt.alloc(), 20usize, count)?;
+        let lens = TWENTIES.get(..count).ok_or("lengths")?;
         for grain in [1, 8, 1000] {
-            let found = finds_each(&rt, &lens, grain)?;
-            assert!(rt; found, "{count} frames, grain {grain}");
+            assert!(rt;
+                finds_each(&rt, lens, grain)?,
+                "{count} frames, grain {grain}"
+            );
         }
     }
     Ok(())
 }
 
+// Twenty lengths from one on.
+fn lengths(first: usize) -> [usize; 20] {
+    let mut lens = [0; 20];
+    for (more, len) in lens.iter_mut().enumerate() {
+        *len = first.saturating_add(more);
+    }
+    lens
+}
+
 #[test]
 fn a_wrong_digest_of_any_length_is_found(rt: HostRuntime) -> Result<(), Fail> {
-    let mut first = 1;
-    for _ in 0..15 {
-        let lens = lengths(rt.alloc(), first)?;
-        let found = finds_each(&rt, &lens, 1000)?;
-        assert!(rt; found, "from {first} on");
-        first = first.saturating_add(20);
+    for twenties in 0..15usize {
+        let first = twenties.saturating_mul(20).saturating_add(1);
+        assert!(rt; finds_each(&rt, &lengths(first), 1000)?, "from {first} on");
     }
     Ok(())
 }
@@ -136,56 +167,69 @@ fn lengths_about_the_ends_of_blocks(rt: HostRuntime) -> Result<(), Fail> {
         19, 20, 26, 27, 28, 29, 82, 83, 84, 85, 91, 92, 93, 147, 148, 4059, 4060, 9000,
     ];
     for grain in [1, 1000] {
-        let found = finds_each(&rt, &lens, grain)?;
-        assert!(rt; found, "{grain}");
+        assert!(rt; finds_each(&rt, &lens, grain)?, "{grain}");
     }
     Ok(())
+}
+
+// The first of these frames that are not found. Beside a frame stands the grain.
+fn first_missed<R: Threads + Sync + AllocGlobal>(
+    rt: &R,
+    framed: &mut Framed,
+    table: &[(&[usize], u32)],
+) -> Result<Option<usize>, Fault> {
+    for (places, grain) in table {
+        if !finds(rt, framed, *places, *grain)? {
+            return Ok(places.first().copied());
+        }
+    }
+    Ok(None)
 }
 
 #[test]
 fn the_first_of_two_wrong_digests_is_found(rt: HostRuntime) -> Result<(), Fail> {
-    let lens = Vec::from_elem(rt.alloc(), 30usize, 24)?;
-    let Framed { mut log, ends } = log_of_lengths(rt.alloc(), &lens)?;
-    for (first, second) in [(0, 7), (8, 9), (9, 15), (16, 23), (3, 20)] {
-        flip_frames(&mut log, &ends, &[first, second])?;
-        let right = right_before(&rt, &log, 1)?;
-        assert!(rt; right == Some(first), "{first} and {second}");
-        flip_frames(&mut log, &ends, &[first, second])?;
-    }
+    let mut framed = log_of_lengths(rt.alloc(), &[30; 24])?;
+    let pairs: [(&[usize], u32); 5] = [
+        (&[0, 7], 1),
+        (&[8, 9], 1),
+        (&[9, 15], 1),
+        (&[16, 23], 1),
+        (&[3, 20], 1),
+    ];
+    assert_eq!(rt; first_missed(&rt, &mut framed, &pairs)?, None);
     Ok(())
+}
+
+// 4,100 frames of 1,036 bytes.
+fn many(alloc: Global) -> Result<Framed, Fail> {
+    let lens = Vec::from_elem(alloc, 1000usize, 4100)?;
+    log_of_lengths(alloc, &lens)
 }
 
 #[test]
 fn wrong_digests_at_the_ends_of_pieces(rt: HostRuntime) -> Result<(), Fail> {
-    // Frames of 1,036 bytes: 1,013 of them are a piece of 1 MiB, and 4,049 one of 4 MiB, as one
-    // thread takes them.
-    let lens = Vec::from_elem(rt.alloc(), 1000usize, 4100)?;
-    let Framed { mut log, ends } = log_of_lengths(rt.alloc(), &lens)?;
-    for (place, grain) in [
-        (0, 1),
-        (1012, 1),
-        (1013, 1),
-        (4048, 1_000_000),
-        (4049, 1_000_000),
-        (4099, 1),
-    ] {
-        flip_frames(&mut log, &ends, &[place])?;
-        let right = right_before(&rt, &log, grain)?;
-        assert!(rt; right == Some(place), "{place} at {grain}");
-        flip_frames(&mut log, &ends, &[place])?;
-    }
+    // 1,013 of the frames are a piece of 1 MiB, and 4,049 one of 4 MiB, as one thread takes them.
+    let mut framed = many(rt.alloc())?;
+    let ends: [(&[usize], u32); 6] = [
+        (&[0], 1),
+        (&[1012], 1),
+        (&[1013], 1),
+        (&[4048], 1_000_000),
+        (&[4049], 1_000_000),
+        (&[4099], 1),
+    ];
+    assert_eq!(rt; first_missed(&rt, &mut framed, &ends)?, None);
     Ok(())
 }
 
 #[test]
 fn long_frames_among_short_ones(rt: HostRuntime) -> Result<(), Fail> {
-    // The lanes take a body of 16 KiB before shorter ones, and one of 1 MiB is checked alone.
+    // The lanes take a body of 16 KiB before shorter ones, and one of 1 MiB is checked by itself.
     let lens = [
         20, 16_383, 16_384, 30, 1_048_575, 1_048_576, 40, 60_000, 1_100_000, 1_100_000, 20,
     ];
     for grain in [1, 4, 1000] {
-        let found = finds_each(&rt, &lens, grain)?;
-        assert!(rt; found, "{grain}");
+        assert!(rt; finds_each(&rt, &lens, grain)?, "{grain}");
     }
     Ok(())
 }

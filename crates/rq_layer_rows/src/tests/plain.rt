@@ -1,5 +1,5 @@
-//! Records as plain data. No record of a table is alive beside another while it is made: so a table
-//! is cheap to prove, and a list of records that may each be refused memory is dear.
+//! Records as plain data. While a record of a table is made, no other record of the table is alive.
+//! So a table is cheap to prove; a list of records, each of which may be refused memory, is dear.
 
 use rq_record::{By, CheckBytes, ElemId, Name, Payload, QueueNo, Record, UnitNo};
 use std::alloc::Global;
@@ -8,8 +8,8 @@ use std::test::Fail;
 /// Whose an operation is: a registrant's, by its name and a tag, or nobody's.
 pub type Who = Option<(&'static str, u64)>;
 
-/// A record by its numbers and names. What is enqueued has priority 5 and is one byte.
-#[derive(Clone, Copy)]
+/// A record by its numbers and names. What is enqueued has priority 5 and 41 bytes.
+#[derive(Drop)]
 pub enum Plain {
     Define(u16, u32, &'static str),
     Register(u32, &'static str),
@@ -23,7 +23,9 @@ pub enum Plain {
     Kill(u32, u64),
 }
 
-/// What stands for no queue.
+const PAYLOAD: &[u8] = b"a payload that is longer than a short one";
+
+/// The number that means no queue.
 pub const NO_QUEUE: u32 = u32::MAX;
 
 fn named(name: &str) -> Result<Name, Fail> {
@@ -58,7 +60,7 @@ fn deregister(queue: u32, name: &str) -> Result<Record, Fail> {
 
 fn enqueue(alloc: Global, unit: u64, queue: u32, who: Who) -> Result<Record, Fail> {
     let by = by(who)?;
-    let payload = Payload::new(Vec::from_slice(alloc, b"a")?).ok_or("payload")?;
+    let payload = Payload::new(Vec::from_slice(alloc, PAYLOAD)?).ok_or("payload")?;
     let (unit, queue) = (UnitNo(unit), QueueNo(queue));
     Ok(Record::Enqueue {
         unit,

@@ -8,51 +8,72 @@ use std::alloc::Global;
 use std::sync::ArcSlice;
 use std::test::Fail;
 
+fn checkpoint(alloc: Global, byte: u8, length: usize) -> Result<CheckBytes, Fail> {
+    let bytes = Vec::from_elem(alloc, byte, length)?;
+    Ok(CheckBytes::new(bytes).ok_or("too long")?)
+}
+
 #[test]
 fn names_checkpoints_and_bodies_are_read(rt: HostRuntime) -> Result<(), Fail> {
     assert_eq!(rt; Name::new(b"ann").ok_or("name")?.text(), "ann");
-    let bytes = Vec::from_slice(rt.alloc(), &[0; 52])?;
-    assert_eq!(rt; CheckBytes::new(bytes).ok_or("bytes")?.bytes().len(), 52);
-    assert_eq!(rt; decode(rt.alloc(), &[]).err(), Some(Fault::Form));
+    assert_eq!(rt; checkpoint(rt.alloc(), 0, 52)?.bytes().len(), 52);
+    assert!(rt; decode(rt.alloc(), &[]).err() == Some(Fault::Form));
     Ok(())
 }
 
-// Whether a name is kept, alone and beside a tag.
-fn is_kept(alloc: Global, name: Name) -> Result<bool, Fail> {
-    let kept = KeptName::of(alloc, &name)?;
-    let by = KeptBy::of(alloc, &Some(By { name, tag: 70 }))?;
-    let alone = kept.name() == name && kept.bytes() == name.bytes();
-    let beside = by.name().is_some_and(|of| of.text() == name.text());
-    Ok(alone && beside && by.by().is_some_and(|of| of.tag == 70))
+fn is_kept_alone(alloc: Global, name: &Name) -> Result<bool, Fault> {
+    let kept = KeptName::of(alloc, name)?;
+    Ok(kept.name() == *name && kept.bytes() == name.bytes())
+}
+
+fn is_kept_beside_a_tag(alloc: Global, name: Name) -> Result<bool, Fault> {
+    let kept = KeptBy::of(alloc, &Some(By { name, tag: 70 }))?;
+    match (kept.name(), kept.by()) {
+        (Some(of), Some(by)) => Ok(of.text() == name.text() && by.tag == 70),
+        _ => Ok(false),
+    }
 }
 
 #[test]
 fn names_of_each_length_are_kept(rt: HostRuntime) -> Result<(), Fail> {
     for length in 1..65 {
         let name = Name::new(&[b'a'; 64][..length]).ok_or("name")?;
-        assert!(rt; is_kept(rt.alloc(), name)?, "{length} bytes");
+        let kept = is_kept_alone(rt.alloc(), &name)? && is_kept_beside_a_tag(rt.alloc(), name)?;
+        assert!(rt; kept, "{length} bytes");
     }
     assert!(rt; KeptBy::of(rt.alloc(), &None)?.by().is_none());
     Ok(())
 }
 
+// Whether the first of two names is before the other, and is itself.
+fn are_in_order(alloc: Global, first: &[u8], second: &[u8]) -> Result<bool, Fail> {
+    let (first, second) = (
+        Name::new(first).ok_or("name")?,
+        Name::new(second).ok_or("name")?,
+    );
+    let before = KeptName::of(alloc, &first)?;
+    let behind = KeptName::of(alloc, &second)?;
+    let same = before == KeptName::of(alloc, &first)?;
+    Ok(same && before < behind && behind > before && before != behind)
+}
+
 #[test]
 fn kept_names_are_in_the_order_of_their_bytes(rt: HostRuntime) -> Result<(), Fail> {
-    let name = Name::new(&[b'a'; 20]).ok_or("name")?;
-    let short = KeptName::of(rt.alloc(), &Name::new(b"ab").ok_or("name")?)?;
-    let long = KeptName::of(rt.alloc(), &name)?;
-    assert!(rt; long < short && short > long && long != short);
-    assert!(rt; long == KeptName::of(rt.alloc(), &name)?);
+    assert!(rt; are_in_order(rt.alloc(), &[b'a'; 20], b"ab")?);
     Ok(())
+}
+
+fn payload(alloc: Global, length: usize) -> Result<Payload, Fail> {
+    let bytes = Vec::from_elem(alloc, b'p', length)?;
+    Ok(Payload::new(bytes).ok_or("too long")?)
 }
 
 // Whether a payload of this length is kept, and copied.
 fn keeps_payload(alloc: Global, length: usize) -> Result<bool, Fail> {
-    let payload = Payload::new(Vec::from_elem(alloc, b'p', length)?).ok_or("long")?;
-    let kept = KeptPayload::of(alloc, &payload)?;
+    let kept = KeptPayload::of(alloc, &payload(alloc, length)?)?;
     let copied = kept.copied()?;
-    let bytes = payload.bytes();
-    Ok(bytes.len() == length && kept.bytes() == bytes && copied.bytes() == bytes)
+    let same = kept.bytes() == copied.bytes() && are_p(copied.bytes());
+    Ok(same && copied.bytes().len() == length)
 }
 
 #[test]
@@ -61,12 +82,12 @@ fn payloads_of_each_kind_of_length_are_kept(rt: HostRuntime) -> Result<(), Fail>
         assert!(rt; keeps_payload(rt.alloc(), length)?, "{length} bytes");
     }
     let long = Vec::from_elem(rt.alloc(), b'p', 65536)?;
-    assert!(rt; KeptPayload::from_slice(rt.alloc(), &long)?.is_none());
-    assert!(rt; Payload::new(long).is_none());
+    let kept = KeptPayload::from_slice(rt.alloc(), &long)?.is_some();
+    assert!(rt; !kept && Payload::new(long).is_none());
     Ok(())
 }
 
-// The body of a record, between a byte before and a byte behind.
+// The body of a record, between a byte before and a byte after.
 fn among_others(alloc: Global, record: &Record) -> Result<Vec<u8>, Fail> {
     let mut bytes = Vec::new(alloc);
     bytes.push(0)?;
@@ -77,52 +98,88 @@ fn among_others(alloc: Global, record: &Record) -> Result<Vec<u8>, Fail> {
 
 // The body of an ENQUEUE with a payload of this length, among others.
 fn payload_among_others(alloc: Global, length: usize) -> Result<Vec<u8>, Fail> {
-    let payload = Vec::from_elem(alloc, b'p', length)?;
     let record = Record::Enqueue {
         priority: 5,
         queue: QueueNo(0),
         unit: UnitNo(1),
         by: None,
-        payload: Payload::new(payload).ok_or("too long")?,
+        payload: payload(alloc, length)?,
     };
     among_others(alloc, &record)
 }
 
 // The body of a checkpoint of this length, among others.
 fn checkpoint_among_others(alloc: Global, length: usize) -> Result<Vec<u8>, Fail> {
-    let bytes = Vec::from_elem(alloc, b'p', length)?;
-    let bytes = CheckBytes::new(bytes).ok_or("too long")?;
+    let bytes = checkpoint(alloc, b'p', length)?;
     among_others(alloc, &Record::Checkpoint { bytes })
 }
 
-// How many bytes the payload or the checkpoint has that is read of a body among others, all of them
-// as they were written, and how many more hold the lent log then.
-fn read_of(alloc: Global, bytes: &[u8], log: &ArcSlice<u8>) -> Result<(usize, usize), Fail> {
-    let lent = LentLog::of(log)?;
-    let before = ArcSlice::strong_count(log);
+fn are_p(bytes: &[u8]) -> bool {
+    for byte in bytes {
+        if *byte != b'p' {
+            return false;
+        }
+    }
+    true
+}
+
+// How many bytes the payload or the checkpoint of the record has, all of them as they were written.
+fn as_written(record: &KeptRecord) -> Option<usize> {
+    let bytes = match record {
+        KeptRecord::Enqueue { payload, .. } => payload.bytes(),
+        KeptRecord::Checkpoint { bytes } => bytes.bytes(),
+        _ => return None,
+    };
+    are_p(bytes).then_some(bytes.len())
+}
+
+// The record whose body is among others.
+fn read_among(alloc: Global, bytes: &[u8], log: &ArcSlice<u8>) -> Result<KeptRecord, Fail> {
     let len = bytes.len().saturating_sub(2);
     if bytes.len() < len.saturating_add(1) {
         return Err("no body".into());
     }
-    let record = decode_at(alloc, Version::One, &lent, bytes, 1, len)?;
-    let read = match &record {
-        KeptRecord::Enqueue { payload, .. } => payload.bytes(),
-        KeptRecord::Checkpoint { bytes } => bytes.bytes(),
-        _ => return Err("another record".into()),
-    };
-    if read.iter().any(|byte| *byte != b'p') {
-        return Err("other bytes".into());
-    }
+    let lent = LentLog::of(log)?;
+    Ok(decode_at(alloc, Version::One, &lent, bytes, 1, len)?)
+}
+
+// How many bytes the payload or the checkpoint has that is read of a body among others, all of them
+// as they were written, and how many more the lent log holds then.
+fn read_in(
+    alloc: Global,
+    bytes: &[u8],
+    log: &ArcSlice<u8>,
+) -> Result<(Option<usize>, usize), Fail> {
+    let before = ArcSlice::strong_count(log);
+    let record = read_among(alloc, bytes, log)?;
     let more = ArcSlice::strong_count(log).saturating_sub(before);
-    Ok((read.len(), more))
+    Ok((as_written(&record), more))
+}
+
+// The same of these bytes as the lent log.
+fn read_of(alloc: Global, bytes: &[u8], lent: &[u8]) -> Result<(Option<usize>, usize), Fail> {
+    let log = ArcSlice::from_slice(alloc, lent)?;
+    read_in(alloc, bytes, &log)
+}
+
+// The same if the log that is lent has the body.
+fn payload_of_log(alloc: Global, length: usize) -> Result<(Option<usize>, usize), Fail> {
+    let bytes = payload_among_others(alloc, length)?;
+    read_of(alloc, &bytes, &bytes)
+}
+
+fn checkpoint_of_log(alloc: Global, length: usize) -> Result<(Option<usize>, usize), Fail> {
+    let bytes = checkpoint_among_others(alloc, length)?;
+    read_of(alloc, &bytes, &bytes)
 }
 
 #[test]
 fn a_long_payload_is_a_part_of_the_log_that_is_lent(rt: HostRuntime) -> Result<(), Fail> {
     for (length, more) in [(0, 0), (22, 0), (23, 1), (65_535, 1)] {
-        let bytes = payload_among_others(rt.alloc(), length)?;
-        let log = ArcSlice::from_slice(rt.alloc(), &bytes)?;
-        assert_eq!(rt; read_of(rt.alloc(), &bytes, &log)?, (length, more));
+        assert!(rt;
+            payload_of_log(rt.alloc(), length)? == (Some(length), more),
+            "{length}"
+        );
     }
     Ok(())
 }
@@ -130,11 +187,17 @@ fn a_long_payload_is_a_part_of_the_log_that_is_lent(rt: HostRuntime) -> Result<(
 #[test]
 fn a_checkpoint_is_a_part_of_the_log_that_is_lent(rt: HostRuntime) -> Result<(), Fail> {
     for length in [1, 52, 65_536] {
-        let bytes = checkpoint_among_others(rt.alloc(), length)?;
-        let log = ArcSlice::from_slice(rt.alloc(), &bytes)?;
-        assert_eq!(rt; read_of(rt.alloc(), &bytes, &log)?, (length, 1));
+        assert!(rt;
+            checkpoint_of_log(rt.alloc(), length)? == (Some(length), 1),
+            "{length}"
+        );
     }
     Ok(())
+}
+
+// Whether what the body has is a copy, if this log is lent.
+fn is_copied(alloc: Global, bytes: &[u8], lent: &[u8]) -> Result<bool, Fail> {
+    Ok(read_of(alloc, bytes, lent)? == (Some(100), 0))
 }
 
 #[test]
@@ -142,9 +205,9 @@ fn what_is_no_part_of_the_log_that_is_lent_is_a_copy(rt: HostRuntime) -> Result<
     let payload = payload_among_others(rt.alloc(), 100)?;
     let checkpoint = checkpoint_among_others(rt.alloc(), 100)?;
     for other in [&[b'q'; 200][..], &[b'p'; 60][..], &[][..]] {
-        let log = ArcSlice::from_slice(rt.alloc(), other)?;
-        assert_eq!(rt; read_of(rt.alloc(), &payload, &log)?, (100, 0));
-        assert_eq!(rt; read_of(rt.alloc(), &checkpoint, &log)?, (100, 0));
+        let copied = is_copied(rt.alloc(), &payload, other)?
+            && is_copied(rt.alloc(), &checkpoint, other)?;
+        assert!(rt; copied, "{} bytes", other.len());
     }
     Ok(())
 }

@@ -1,56 +1,87 @@
 //! Rooms by known numbers, with one thread and with four, and plans at the ends of their ranges.
-ghost use Rattle.std.specs.Prelude.{◌≡◌, ◌≤◌, All, IfOk, length, vec_len};
+ghost use Rattle.std.specs.Prelude.{◌≡◌, ◌≤◌, All, IfOk, [], ◌∷◌, length, map, vec_items, vec_len};
+ghost use Rattle.rq_pool.specs.Ledger.{size};
 ghost use Rattle.rq_pool.specs.Rooms.{IsSeatOf, seats_of};
 
 use rq_pool::{Gate, Left, Open, Plan, Room, Seat};
+use rq_record::Fault;
 use std::alloc::{AllocError, Global};
 use std::test::Fail;
 use std::thread;
 use std::thread::Threads;
 
+// One list.
+fn one(alloc: Global, list: &[u32]) -> Result<Vec<Vec<u32>>, AllocError>
+    ensures { IfOk result (λ v. map vec_items v.items ≡ list.now ∷ []) }
+{
+    let list = Vec::from_slice(alloc, list)?;
+    Ok(Vec::from_array(alloc, [list])?)
+}
+
+// Two lists.
+fn two(alloc: Global, first: &[u32], second: &[u32]) -> Result<Vec<Vec<u32>>, AllocError>
+    ensures { IfOk result (λ v. map vec_items v.items ≡ first.now ∷ second.now ∷ []) }
+{
+    let first = Vec::from_slice(alloc, first)?;
+    let second = Vec::from_slice(alloc, second)?;
+    Ok(Vec::from_array(alloc, [first, second])?)
+}
+
+// Whether one seat took these numbers, and these are left.
+fn one_took(left: &Left, taken: &[u32], rest: &[u32]) -> bool {
+    left.seats() == 1 && left.taken(0) == taken && left.left() == rest
+}
+
+// Whether two seats took these numbers, and this many are left.
+fn two_took(left: &Left, first: &[u32], second: &[u32], rest: usize) -> bool {
+    let both = left.seats() == 2 && left.taken(0) == first && left.taken(1) == second;
+    both && left.left().len() == rest
+}
+
+// Whether a seat alone takes the first number of its list, and leaves the other.
+fn takes_one(alloc: Global) -> Result<bool, Fault> {
+    let (room, mut seats) = Room::open(alloc, one(alloc, &[5, 5])?)?;
+    let x = seats[0].take(&room);
+    let taken = seats[0].taken() == [5u32].as_slice();
+    let left = room.close(seats);
+    Ok(x == Some(5) && taken && one_took(&left, &[5], &[5]))
+}
+
 #[test]
 fn a_room_of_one_goes_on_in_its_list(rt: HostRuntime) -> Result<(), Fail> {
-    let mut lists = Vec::new(rt.alloc());
-    lists.push([5u32, 5].to_vec(rt.alloc())?)?;
-    let (room, mut seats) = Room::open(rt.alloc(), lists)?;
-    let x = seats[0].take(&room);
-    assert!(rt; x == Some(5));
-    assert_eq!(rt; seats[0].taken(), [5u32].as_slice());
-    let left = room.close(seats);
-    assert!(rt; left.seats() == 1);
-    assert_eq!(rt; left.left(), [5u32].as_slice());
-    assert_eq!(rt; left.taken(0), [5u32].as_slice());
+    assert!(rt; takes_one(rt.alloc())?);
     Ok(())
+}
+
+// Whether a seat alone takes both numbers of its list, and then none.
+fn takes_all(alloc: Global) -> Result<bool, Fault> {
+    let (room, mut seats) = Room::open(alloc, one(alloc, &[5, 5])?)?;
+    let first = seats[0].take(&room);
+    let second = seats[0].take(&room);
+    let third = seats[0].take(&room);
+    let left = room.close(seats);
+    let both = first == Some(5) && second == Some(5);
+    Ok(both && third.is_none() && one_took(&left, &[5, 5], &[]))
 }
 
 #[test]
 fn a_seat_alone_takes_all_before_none(rt: HostRuntime) -> Result<(), Fail> {
-    let mut lists = Vec::new(rt.alloc());
-    lists.push([5u32, 5].to_vec(rt.alloc())?)?;
-    let (room, mut seats) = Room::open(rt.alloc(), lists)?;
-    let first = seats[0].take(&room);
-    let second = seats[0].take(&room);
-    let third = seats[0].take(&room);
-    assert!(rt; first == Some(5) && second == Some(5) && third.is_none());
-    let left = room.close(seats);
-    assert!(rt; left.seats() == 1 && left.left().is_empty());
-    assert_eq!(rt; left.taken(0), [5u32, 5].as_slice());
+    assert!(rt; takes_all(rt.alloc())?);
     Ok(())
+}
+
+// Whether each of two seats takes none if no list has a number.
+fn takes_none(alloc: Global) -> Result<bool, Fault> {
+    let (room, mut seats) = Room::open(alloc, two(alloc, &[], &[])?)?;
+    let x = seats[0].take(&room);
+    let y = seats[1].take(&room);
+    let left = room.close(seats);
+    Ok(x.is_none() && y.is_none() && two_took(&left, &[], &[], 0))
 }
 
 #[test]
 fn an_empty_deal_gives_none(rt: HostRuntime) -> Result<(), Fail> {
-    let mut lists = Vec::new(rt.alloc());
-    lists.push(Vec::new(rt.alloc()))?;
-    lists.push(Vec::new(rt.alloc()))?;
-    let (room, mut seats) = Room::open(rt.alloc(), lists)?;
-    let x = seats[0].take(&room);
-    let y = seats[1].take(&room);
-    assert!(rt; x.is_none() && y.is_none());
-    let left = room.close(seats);
-    assert!(rt; left.seats() == 2);
-    assert!(rt; left.left().is_empty());
-    assert!(rt; left.taken(0).is_empty() && left.taken(1).is_empty());
+    assert!(rt; takes_none(rt.alloc())?);
     Ok(())
 }
 
@@ -68,39 +99,55 @@ fn first_found(room: &Room, seat: &mut Seat) -> Option<u32>
     None
 }
 
+// Whether a seat without a list takes one of the other's numbers.
+fn steals(alloc: Global) -> Result<bool, Fault> {
+    let (room, mut seats) = Room::open(alloc, two(alloc, &[0, 1], &[])?)?;
+    let x = first_found(&room, &mut seats[1]);
+    let left = room.close(seats);
+    match x {
+        Some(x) => Ok(x < 2 && two_took(&left, &[], &[x], 1)),
+        None => Ok(false),
+    }
+}
+
 #[test]
 fn a_seat_without_a_list_steals(rt: HostRuntime) -> Result<(), Fail> {
-    let mut lists = Vec::new(rt.alloc());
-    lists.push([0u32, 1].to_vec(rt.alloc())?)?;
-    lists.push(Vec::new(rt.alloc()))?;
-    let (room, mut seats) = Room::open(rt.alloc(), lists)?;
-    let x = first_found(&room, &mut seats[1]);
-    assert!(rt; x == Some(0) || x == Some(1));
-    let left = room.close(seats);
-    assert!(rt; left.seats() == 2);
-    assert!(rt; left.taken(0).is_empty());
-    assert!(rt; left.taken(1).len() == 1 && left.left().len() == 1);
+    assert!(rt; steals(rt.alloc())?);
     Ok(())
+}
+
+// Whether a seat takes of its own list, if the first has one too.
+fn takes_own(alloc: Global) -> Result<bool, Fault> {
+    let (room, mut seats) = Room::open(alloc, two(alloc, &[0, 1], &[2])?)?;
+    let x = seats[1].take(&room);
+    let left = room.close(seats);
+    Ok(x == Some(2) && two_took(&left, &[], &[2], 2))
+}
+
+// Whether what that seat took is told first if it is handed in first.
+fn told_in_order_of_close(alloc: Global) -> Result<bool, Fault> {
+    let (room, mut seats) = Room::open(alloc, two(alloc, &[0, 1], &[2])?)?;
+    let x = seats[1].take(&room);
+    seats.reverse();
+    let left = room.close(seats);
+    Ok(x == Some(2) && two_took(&left, &[2], &[], 2))
 }
 
 #[test]
 fn a_seat_takes_of_its_own_list_first(rt: HostRuntime) -> Result<(), Fail> {
-    let mut lists = Vec::new(rt.alloc());
-    lists.push([0u32, 1].to_vec(rt.alloc())?)?;
-    lists.push([2u32].to_vec(rt.alloc())?)?;
-    let (room, mut seats) = Room::open(rt.alloc(), lists)?;
-    let x = seats[1].take(&room);
-    assert!(rt; x == Some(2));
-    let left = room.close(seats);
-    assert!(rt; left.seats() == 2);
-    assert_eq!(rt; left.taken(1), [2u32].as_slice());
-    assert!(rt; left.left().len() == 2);
+    assert!(rt; takes_own(rt.alloc())?);
     Ok(())
 }
 
-// So many numbers, from `first` on.
+#[test]
+fn seats_are_told_apart_by_the_order_of_the_close(rt: HostRuntime) -> Result<(), Fail> {
+    assert!(rt; told_in_order_of_close(rt.alloc())?);
+    Ok(())
+}
+
+// This many numbers, from `first` on.
 fn counted(alloc: Global, first: u32, count: usize) -> Result<Vec<u32>, AllocError>
-    requires { (first ≤ 4000) × (count ≤ 4000) }
+    requires { (first ≤ 10000) × (count ≤ 4000) }
     ensures { IfOk result (λ v. length v.items ≡ count) }
 {
     let mut list = Vec::with_capacity(alloc, count)?;
@@ -149,47 +196,57 @@ fn sorted(alloc: Global, left: &Left) -> Result<Vec<u32>, AllocError> {
     Ok(all)
 }
 
+// Whether four seats took the numbers 0 to 3,999, each once, and none is left.
+fn four_took_all(alloc: Global, left: &Left) -> Result<bool, AllocError> {
+    let all = left.seats() == 4 && left.left().is_empty();
+    Ok(all && sorted(alloc, left)?.iter().copied().eq(0..4_000))
+}
+
+// Four lists that count on from one to the next: this many numbers, and this many in each of the
+// others.
+fn four(alloc: Global, first: usize, others: usize) -> Result<Vec<Vec<u32>>, AllocError>
+    requires { (first ≤ 4000) × (others ≤ 1000) }
+    ensures { IfOk result (λ v. (vec_len v ≡ 4) × (size (map vec_items v.items) ≤ 65536)) }
+{
+    let from = first as u32;
+    let more = others as u32;
+    let one = counted(alloc, 0, first)?;
+    let two = counted(alloc, from, others)?;
+    let three = counted(alloc, from + more, others)?;
+    let four = counted(alloc, from + 2 * more, others)?;
+    Ok(Vec::from_array(alloc, [one, two, three, four])?)
+}
+
+// Whether four threads take all of them.
+fn four_take_all<R: Threads + Sync + AllocGlobal>(
+    rt: &R,
+    lists: Vec<Vec<u32>>,
+) -> Result<bool, Fault>
+    requires { (vec_len lists ≡ 4) × (size (map vec_items lists.items) ≤ 65536) }
+{
+    let (room, seats) = Room::open(rt.alloc(), lists)?;
+    let left = drained_by_threads(rt, room, seats)?;
+    Ok(four_took_all(rt.alloc(), &left)?)
+}
+
 #[test]
 fn four_takers_leave_nothing(rt: HostRuntime) -> Result<(), Fail> {
-    let mut lists = Vec::new(rt.alloc());
-    lists.push(counted(rt.alloc(), 0, 1_000)?)?;
-    lists.push(counted(rt.alloc(), 1_000, 1_000)?)?;
-    lists.push(counted(rt.alloc(), 2_000, 1_000)?)?;
-    lists.push(counted(rt.alloc(), 3_000, 1_000)?)?;
-    let (room, seats) = Room::open(rt.alloc(), lists)?;
-    let left = drained_by_threads(&rt, room, seats)?;
-    assert!(rt; left.seats() == 4 && left.left().is_empty());
-    assert_eq!(rt; sorted(rt.alloc(), &left)?, counted(rt.alloc(), 0, 4_000)?);
+    assert!(rt; four_take_all(&rt, four(rt.alloc(), 1_000, 1_000)?)?);
     Ok(())
 }
 
 #[test]
 fn all_dealt_to_one_is_taken_by_four(rt: HostRuntime) -> Result<(), Fail> {
-    let mut lists = Vec::new(rt.alloc());
-    lists.push(counted(rt.alloc(), 0, 4_000)?)?;
-    lists.push(Vec::new(rt.alloc()))?;
-    lists.push(Vec::new(rt.alloc()))?;
-    lists.push(Vec::new(rt.alloc()))?;
-    let (room, seats) = Room::open(rt.alloc(), lists)?;
-    let left = drained_by_threads(&rt, room, seats)?;
-    assert!(rt; left.seats() == 4 && left.left().is_empty());
-    assert_eq!(rt; sorted(rt.alloc(), &left)?, counted(rt.alloc(), 0, 4_000)?);
+    assert!(rt; four_take_all(&rt, four(rt.alloc(), 4_000, 0)?)?);
     Ok(())
 }
 
-#[test]
-fn seats_are_told_apart_by_the_order_of_the_close(rt: HostRuntime) -> Result<(), Fail> {
-    let mut lists = Vec::new(rt.alloc());
-    lists.push([0u32, 1].to_vec(rt.alloc())?)?;
-    lists.push([2u32].to_vec(rt.alloc())?)?;
-    let (room, mut seats) = Room::open(rt.alloc(), lists)?;
-    let x = seats[1].take(&room);
-    seats.reverse();
-    let left = room.close(seats);
-    assert!(rt; x == Some(2) && left.seats() == 2);
-    assert_eq!(rt; left.taken(0), [2u32].as_slice());
-    assert!(rt; left.taken(1).is_empty());
-    Ok(())
+// Whether there is a plan of these numbers, which has them, or none if they are not good.
+fn is_told(workers: u32, grain: u32, good: bool) -> bool {
+    match Plan::new(workers, grain) {
+        Some(plan) => good && plan.workers() == workers && plan.grain() == grain,
+        None => !good,
+    }
 }
 
 #[test]
@@ -202,11 +259,7 @@ fn plans_at_the_ends_of_their_ranges(rt: HostRuntime) -> Result<(), Fail> {
         (1, 0, false),
         (1, 1_000_001, false),
     ] {
-        let plan = Plan::new(workers, grain);
-        assert!(rt; plan.is_some() == good, "at {workers} and {grain}");
-        if let Some(plan) = plan {
-            assert!(rt; plan.workers() == workers && plan.grain() == grain);
-        }
+        assert!(rt; is_told(workers, grain, good), "at {workers} and {grain}");
     }
     Ok(())
 }

@@ -59,6 +59,18 @@ fn put_checkpoints(text: &mut String, checkpoints: &[(u64, bool)]) -> Result<(),
     text.push_str("</td></tr>\n")
 }
 
+// Puts with which checkpoint a log begins that was carried on.
+fn put_carried(text: &mut String, at: Option<u64>) -> Result<(), AllocError> {
+    match at {
+        None => Ok(()),
+        Some(at) => write!(
+            text,
+            "<tr><th>carried</th><td>begins with the checkpoint at {at}, which is taken at its \
+            word</td></tr>\n"
+        ),
+    }
+}
+
 /// Puts the numbers of a report's first two lines, how much there is after the restart, and the
 /// checkpoints, of each of which it is known whether it is true.
 pub(super) fn put_summary(
@@ -68,6 +80,7 @@ pub(super) fn put_summary(
     checkpoints: &[(u64, bool)],
 ) -> Result<(), AllocError> {
     text.push_str("<table class=\"front\">\n")?;
+    put_carried(text, end.at)?;
     put_front(text, end)?;
     put_units(text, r)?;
     put_counts(text, r)?;

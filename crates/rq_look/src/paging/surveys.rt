@@ -4,14 +4,16 @@ ghost use Rattle.std.specs.Prelude.{◌≡◌, IfErr};
 ghost use Rattle.rq_record.specs.declared.fault.Fault.TheVariants.{Resources};
 ghost use Rattle.rq_look.specs.Looks.{IsBroken};
 
+use crate::beginning::{first_state, frames_behind};
 use crate::ends::End;
 use crate::events::{Effect, Event};
 use crate::following::Queues;
-use crate::frames::{Placed, PlacedFrames};
+use crate::frames::Placed;
 use crate::numbered::{Numbered, kind_of};
 use crate::paging::courses::{BINS, Curve, along};
+use crate::queues::free_elements;
 use crate::trouble::Trouble;
-use rq_record::{Fault, KeptRecord as Record, QueueNo};
+use rq_record::{Fault, KeptRecord, QueueNo};
 use rq_state::State;
 use std::alloc::{AllocError, Global};
 use std::collections::BTreeMap;
@@ -28,7 +30,8 @@ pub(super) struct Survey {
     pub(super) depths: Vec<Curve>,
     /// The open units.
     pub(super) open: Curve,
-    /// The offset of the BEGIN of each unit that is open.
+    /// The offset of the BEGIN of each unit that is open; of one that was open where the log was
+    /// carried on, that of the checkpoint that the log begins with.
     pub(super) begun: BTreeMap<u64, u64>,
 }
 
@@ -54,11 +57,18 @@ fn change_of(it: &Numbered, effect: Effect) -> Option<(u32, bool)> {
         Effect::Taken => it.queue().map(|queue| (queue.0, false)),
         // A commit's elements were taken before; a KILL's was free.
         Effect::Gone => match &it.record {
-            Record::Kill { queue, .. } => Some((queue.0, false)),
+            KeptRecord::Kill { queue, .. } => Some((queue.0, false)),
             _ => None,
         },
         Effect::Put | Effect::Undone => None,
     }
+}
+
+// How many free elements a queue has in a state, from a bin on.
+fn depth_at(alloc: Global, state: &State, queue: QueueNo, bin: u64) -> Result<Curve, AllocError> {
+    let mut depth = Curve::new(alloc);
+    depth.set(bin, free_elements(alloc, state, queue)?.len() as u64)?;
+    Ok(depth)
 }
 
 impl Survey {
@@ -79,12 +89,12 @@ impl Survey {
     // A record that begins or ends a unit, or defines a queue.
     fn take_record(&mut self, alloc: Global, it: &Numbered, bin: u64) -> Result<(), AllocError> {
         match &it.record {
-            Record::Define { .. } => self.depths.push(Curve::new(alloc))?,
-            Record::Begin { unit } => {
+            KeptRecord::Define { .. } => self.depths.push(Curve::new(alloc))?,
+            KeptRecord::Begin { unit } => {
                 self.begun.insert(unit.0, it.offset)?;
                 self.open.change(bin, true)?
             }
-            Record::Commit { unit } | Record::Abort { unit } => {
+            KeptRecord::Commit { unit } | KeptRecord::Abort { unit } => {
                 self.begun.remove(&unit.0);
                 self.open.change(bin, false)?
             }
@@ -139,6 +149,23 @@ impl Survey {
         self.take_events(it, events, bin)
     }
 
+    // The queues and the open units of the state that the log begins with.
+    fn begin(&mut self, alloc: Global, first: &State, end: &End) -> Result<(), AllocError> {
+        let at = end.at.unwrap_or(0);
+        let bin = bin_of(at, end.total);
+        for unit in first.units() {
+            self.begun.insert(unit.0, at)?;
+        }
+        self.open.set(bin, first.units().len() as u64)?;
+        let mut number: u32 = 0;
+        for _ in first.definitions() {
+            self.depths
+                .push(depth_at(alloc, first, QueueNo(number), bin)?)?;
+            number = number.saturating_add(1);
+        }
+        Ok(())
+    }
+
     // Behind the front no unit is open, and the depths are those after the restart's aborts.
     fn close(&mut self, state: &State, bin: u64) -> Result<(), AllocError> {
         self.open.set(bin, 0)?;
@@ -160,9 +187,11 @@ pub(super) fn surveyed(
 ) -> Result<Survey, Trouble>
     ensures { IfErr result IsBroken }
 {
-    let mut machine = Queues::new(alloc);
+    let first = first_state(alloc, bytes, end.at)?;
+    let mut machine = Queues::of(alloc, &first)?;
     let mut seen = Survey::new(alloc)?;
-    for placed in PlacedFrames::of(bytes, end.used) {
+    seen.begin(alloc, &first, end)?;
+    for placed in frames_behind(bytes, &first, end.at, end.used) {
         seen.follow(alloc, placed, &mut machine, end.total)?;
     }
     seen.close(state, bin_of(end.used, end.total))?;

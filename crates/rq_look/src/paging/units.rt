@@ -16,6 +16,14 @@ const BAR: u64 = 12;
 // As many units are shown: those that have been open longest.
 const SHOWN: usize = 100;
 
+// Puts where a unit began: one that was open where the log was carried on began before it.
+fn put_begun(text: &mut String, begun: u64, end: &End) -> Result<(), AllocError> {
+    if end.at == Some(begun) {
+        return text.push_str("begun before");
+    }
+    write!(text, "begun at {begun}")
+}
+
 fn put_bar(text: &mut String, unit: u64, begun: u64, end: &End, y: u64) -> Result<(), AllocError> {
     let x = along(begun, end.total, WIDTH - 2);
     let until = along(end.used, end.total, WIDTH);
@@ -23,8 +31,10 @@ fn put_bar(text: &mut String, unit: u64, begun: u64, end: &End, y: u64) -> Resul
     write!(
         text,
         "<rect class=\"unit\" x=\"{x}\" y=\"{y}\" width=\"{width}\" height=\"8\">\
-        <title>unit {unit}, begun at {begun}</title></rect>\n"
-    )
+        <title>unit {unit}, "
+    )?;
+    put_begun(text, begun, end)?;
+    text.push_str("</title></rect>\n")
 }
 
 fn put_bars(text: &mut String, seen: &Survey, end: &End) -> Result<(), AllocError> {
@@ -42,10 +52,12 @@ fn put_bars(text: &mut String, seen: &Survey, end: &End) -> Result<(), AllocErro
 }
 
 // Puts which units these are.
-fn put_names(text: &mut String, seen: &Survey) -> Result<(), AllocError> {
+fn put_names(text: &mut String, seen: &Survey, end: &End) -> Result<(), AllocError> {
     text.push_str("<p>From the oldest:")?;
     for (unit, begun) in seen.begun.iter().take(SHOWN) {
-        write!(text, " {unit} (begun at {begun})")?;
+        write!(text, " {unit} (")?;
+        put_begun(text, *begun, end)?;
+        text.push(')')?;
     }
     if seen.begun.len() > SHOWN {
         let more = seen.begun.len().saturating_sub(SHOWN);
@@ -67,5 +79,5 @@ pub(super) fn put_units(text: &mut String, seen: &Survey, end: &End) -> Result<(
         return Ok(());
     }
     put_bars(text, seen, end)?;
-    put_names(text, seen)
+    put_names(text, seen, end)
 }

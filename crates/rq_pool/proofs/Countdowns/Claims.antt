@@ -35,7 +35,7 @@ module _ {T K : Type 0} (fits : K → ℕ → T → Type 0) (terms : Terms K) wh
   abbrev M : Type 0
   M = Me (Option T) (View T K)
 
-  -- where one is not shut, nobody was told Last
+  -- if one is not shut, nobody was told Last
   pub still_open : (views : List (View T K)) (ps : List (Phase T)) (i : ℕ) (p : Phase T) → get_elem? ps i ≡ some p
       → is_shut p ≡ 0 → (IsOpen views ps ⊎ IsShut views ps) → IsOpen views ps
   still_open views ps i p at e (inl o) = o

@@ -42,7 +42,7 @@ module _ {A T K : Type 0} (g : A → View T K) where
   refused_snoc (y ∷ xs) x = ap (λ l. (g y).refused ++ l) (refused_snoc xs x)
       ∙ sym (append_assoc (g y).refused (all_refused (map g xs)) (g x).refused)
 
-  -- what is left of the passes, and v, which has what the others made, make up all passes
+  -- v has what the others made; v and what is left of the passes make up all passes
   abbrev pub Holds : List A → View T K → List A → Type 0
   Holds xs v all = (total parts (map g xs) + v.parts ≡ total parts (map g all))
       × (all_made (map g xs) ++ v.made ≡ all_made (map g all))

@@ -41,7 +41,7 @@ module _ {T : Type 0} where
   away_only (gone x) h = absurd (omega arith)
   away_only (back x) h = absurd (omega arith)
 
-  -- where none waits and none is shut, all are at home
+  -- if none waits and none is shut, all are at home
   all_home : (ps : List (Phase T)) → count ps ≡ 0 → ((i : ℕ) (p : Phase T) → get_elem? ps i ≡ some p → is_shut p ≡ 0)
       → (ys : List T) × (ps ≡ map home ys)
   all_home [] z none_shut = ([], refl)

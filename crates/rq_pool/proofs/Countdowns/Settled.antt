@@ -19,14 +19,14 @@ abbrev pub kept_from : {T : Type 0} → ℕ → ℕ → List (Made T) → List T
 kept_from i zero ms = []
 kept_from i (suc n) ms = kept_for i ms ++ kept_from (suc i) n ms
 
--- what those were given that were told Last
+-- what the arrivals that were told Last were given
 abbrev pub told_lists : {T : Type 0} → List (Made T) → List (List T)
 told_lists [] = []
 told_lists (m ∷ ms) = add_some m.told (told_lists ms)
 
--- For each source that has an arrival, exactly one was not answered Twice. Where some source has none, nobody was told
--- Last and all that was kept is at home. Else one was told Last, and was given what was kept, in the order of the
--- sources
+-- For each source that has an arrival, exactly one was not answered Twice. If some source has none,
+-- nobody was told Last, and all that was kept is at home. Otherwise one was told Last, and was
+-- given what was kept, in the order of the sources
 pub record SettledViews {T : Type 0} (n : ℕ) (made : List (Made T)) (refused : List ℕ) (arrived : ℕ)
     (home : List T) : Type 0 where
   pub once : (i : ℕ) → i < n → ((kept_for i made ≡ []) × ((k : ℕ) → get_elem? refused k ≢ some i))

@@ -146,7 +146,7 @@ module _ {T : Type 0} where
       one none = refl
       one (some y) = refl
 
-  -- where none is away, what waits and what is kept are all
+  -- if none is away, what waits and what is kept are all
   outs_long : (ps : List (Phase T)) → ((i : ℕ) (p : Phase T) → get_elem? ps i ≡ some p → is_away p ≡ 0)
       → count ps + length (outs ps) ≡ length ps
   outs_long [] none_away = refl

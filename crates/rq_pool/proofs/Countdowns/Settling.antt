@@ -78,7 +78,7 @@ module _ {T : Type 0} where
       go false is (Last ys) none unset rec = ap (λ b. only b (e ∷ []) ++ arrivals_for i es) is
           ∙ rec (sym (ap (λ b. only b (e.outbox ∷ []) ++ kept_for i es) is) ∙ none) unset
 
-  -- each source has one at most; where n are kept, each has one
+  -- each source has one at most; if n are kept, each has one
   abbrev One : ℕ → List (Entry T) → Type 0
   One i es = (kept_for i es ≡ []) ⊎ ((x : T) × (kept_for i es ≡ x ∷ []))
 
@@ -124,7 +124,7 @@ module _ {T : Type 0} where
       go true none rec = absurd (let q = ap length none in omega arith)
       go false none rec = rec none
 
-  -- where one of the n sources from j on has no kept outbox, fewer than n are kept
+  -- if one of the n sources from j on has no kept outbox, fewer than n are kept
   fewer : (es : List (Entry T)) (j n : ℕ) → ((i : ℕ) → i < n → (k : ℕ) → j + i ≡ k → One k es) → (i : ℕ) → i < n
       → (k : ℕ) → j + i ≡ k → kept_for k es ≡ [] → length (kept_from j n es) < n
   fewer es j zero each i near k e none = absurd (omega arith)
@@ -139,7 +139,7 @@ module _ {T : Type 0} where
       ⊎_elim (λ nothing. let z = ap length nothing in omega arith) (λ one. let z = ap length one.1 in omega arith)
       (each 0 (omega arith) j (omega arith))
 
-  -- where fewer than n are kept, one of the sources has no arrival
+  -- if fewer than n are kept, one of the sources has no arrival
   found : (es : List (Entry T)) (j n : ℕ)
       → ((i : ℕ) → i < n → (k : ℕ) → j + i ≡ k → (arrivals_for k es ≡ []) ⊎ ((x : T) × (kept_for k es ≡ x ∷ [])))
       → length (kept_from j n es) < n → (i : ℕ) × (i < n) × (arrivals_for (j + i) es ≡ [])

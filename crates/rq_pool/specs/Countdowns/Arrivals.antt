@@ -8,13 +8,13 @@ use Rattle.rq_pool.specs.declared.countdown.arrival.Arrival.{Arrival}
 use Rattle.rq_pool.specs.declared.countdown.arrival.Arrival.TheVariants.{Twice, NotLast, Last}
 use Rattle.rq_pool.specs.Countdowns.History.{flat_map, refused_outboxes, back_in}
 
--- the list where the test holds, and nothing else
+-- the list if the test holds, and nothing otherwise
 abbrev pub only : {A : Type 0} → Bool → List A → List A
 only true xs = xs
 only false xs = []
 
 module _ {T : Type 0} where
-  -- the outbox x, where the answer did not give it back
+  -- the outbox x, if the answer did not give it back
   abbrev pub if_kept : T → Arrival T → List T
   if_kept x (Twice y) = []
   if_kept x NotLast = x ∷ []
@@ -39,7 +39,7 @@ module _ {T : Type 0} where
   kept_from i zero es = []
   kept_from i (suc n) es = kept_for i es ++ kept_from (suc i) n es
 
-  -- what those were given that were answered Last
+  -- what the arrivals that were answered Last were given
   abbrev pub last_lists : List (Entry T) → List (List T)
   last_lists = flat_map (λ e. if_last e.answer)
 
@@ -47,10 +47,10 @@ module _ {T : Type 0} where
   abbrev pub SomeMissing : ℕ → List (Entry T) → Type 0
   SomeMissing n es = (i : ℕ) × (i < n) × (arrivals_for i es ≡ [])
 
-  -- The arrivals es were all that were made for the n sources of a countdown.
-  -- Of the arrivals for a source exactly one was not answered Twice, and Twice gave each outbox
-  -- back. Where some source has no arrival, nobody was answered Last and what was kept is at home.
-  -- Else one was, with what was kept: the ith for the source i.
+  -- The arrivals es were all that were made for the n sources of a countdown. Of the arrivals for a
+  -- source exactly one was not answered Twice, and Twice gave each outbox back. If some source has
+  -- no arrival, nobody was answered Last and what was kept is at home. Otherwise one was, with what
+  -- was kept: the ith for the source i.
   pub record Settled (n : ℕ) (es : List (Entry T)) (arrived : ℕ) (home : List T) : Type 0 where
     pub once : (i : ℕ) → i < n → (arrivals_for i es ≡ []) ⊎ ((x : T) × (kept_for i es ≡ x ∷ []))
     pub gave_back : back_in es ≡ refused_outboxes es

@@ -27,7 +27,7 @@ module _ {T : Type 0} where
   abbrev pub entry : ℕ → T → Arrival T → Entry T
   entry i x a = record { source = i; outbox = x; answer = a }
 
--- x where the answer is Twice, and nothing else
+-- x if the answer is Twice, and nothing otherwise
 abbrev pub if_twice : {T A : Type 0} → A → Arrival T → List A
 if_twice x (Twice y) = x ∷ []
 if_twice x NotLast = []

@@ -102,8 +102,8 @@ module _ {T K : Type 0} where
     pub each_pass : (j : ℕ) (v : View T K) → get_elem? s.views j ≡ some v → Knows terms.key phases v
     pub told_once : IsOpen s.views phases ⊎ IsShut s.views phases
 
-  -- The flag was clear: nobody was told Last, and the pass has the slot. Else the source is one
-  -- more that was refused
+  -- If the flag was clear, nobody was told Last, and the pass has the slot. Otherwise the source is
+  -- one more that was refused
   abbrev pub claimed : Step (Option T) → Me (Option T) (View T K)
       → ℕ → Me (Option T) (View T K) → Type 0
   claimed st me found me' = let i : ℕ = st.word - 1 in let v = me.0 in
@@ -131,7 +131,7 @@ module _ {T K : Type 0} where
   abbrev pub right_of : View T K → View T K
   right_of v = view 1 v.key None [] []
 
-  -- two passes are made one: what the second made stands before what the first made
+  -- two passes are made one: what the second made comes before what the first made
   abbrev pub both_of : View T K → View T K → View T K
   both_of v w = view (v.parts + w.parts) v.key None (w.made ++ v.made) (w.refused ++ v.refused)
 

@@ -9,7 +9,7 @@ use Rattle.rq_pool.specs.Countdowns.History.{flat_map, if_twice}
 use Rattle.rq_pool.specs.Countdowns.Rule.{made_of}
 
 module _ {T : Type 0} where
-  -- the arrival, where it was not answered Twice
+  -- the arrival, if it was not answered Twice
   abbrev pub made_by : ℕ → T → Arrival T → List (Made T)
   made_by i x (Twice y) = []
   made_by i x NotLast = made_of i x None ∷ []

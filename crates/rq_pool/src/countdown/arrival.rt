@@ -17,7 +17,7 @@ pub enum Arrival<T> {
     Last(Vec<T>),
 }
 
-/// One arrival: its source, its outbox and its answer. No value of it is made.
+/// One arrival: its source, its outbox and its answer. No value of this type is made.
 pub struct Entry<T> {
     pub source: u32,
     pub outbox: T,

@@ -9,7 +9,7 @@ use diary::{Diary, Listing};
 use std::collections::LinkedList;
 
 /// How many sources arrived, who was last, and the outboxes that nobody was given. Contracts see
-/// the arrivals of each pass too: no value of it is made but by a countdown that closes.
+/// the arrivals of each pass too. Only a countdown that closes makes a value of this type.
 #[derive(Drop)]
 pub struct Closing<T> {
     pub(crate) arrived: u32,
@@ -38,8 +38,8 @@ impl<T> Closing<T> {
         self.arrived
     }
 
-    /// The index, in the list handed in, of the pass that was answered `Last`. None where some
-    /// source had no arrival.
+    /// The index, in the list handed in, of the pass that was answered `Last`. None if some source
+    /// had no arrival.
     pub fn last(&self) -> Option<usize>
         ensures last { result ≡ last_in self.now }
     {

@@ -2,8 +2,8 @@
 
 ghost use Rattle.std.specs.Prelude.{ℕ};
 
-/// What a source hands in. Whether it fits a key at a source is for contracts alone: who arrives
-/// owes it, and who is last is told it of all that it is given.
+/// What a source hands in. Whether it fits a key at a source is only for contracts: whoever arrives
+/// owes it, and whoever is last is told it of all that it is given.
 pub trait Fits: Drop {
     type Key: Drop;
 

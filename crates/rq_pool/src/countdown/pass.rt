@@ -12,7 +12,7 @@ use crate::countdown::fits::Fits;
 use crate::countdown::steps::Chair;
 use diary::Diary;
 
-/// Who holds it arrives for sources of its countdown, in any thread. Contracts see its arrivals.
+/// Its holder arrives for sources of its countdown, in any thread. Contracts see its arrivals.
 #[derive(Drop)]
 pub struct Pass<T: Fits> {
     pub(crate) seat: Chair<T>,

@@ -1,4 +1,4 @@
-//! The rule of the table, and what each step on it tells. These types are for the proofs alone.
+//! The rule of the table, and what each step on it tells. These types are only for proofs.
 
 ghost use Rattle.std.specs.Prelude.{ℕ, Some, None, []};
 ghost use Rattle.rq_pool.specs.Countdowns.Rule.{Held, view, claimed, tallied, hands_back, both_of};

@@ -20,7 +20,7 @@ pub(crate) type Board<T> = Shared<
 
 pub(crate) type Chair<T> = Seat<Option<T>, View<T, <T as Fits>::Key>>;
 
-/// Sets the source's flag. Where it was clear, the seat has the source's slot.
+/// Sets the source's flag. If it was clear, the seat has the source's slot.
 pub(crate) fn claim<T: Fits>(board: &Board<T>, seat: &mut Chair<T>, source: u32) -> bool
     requires own { (seat.old.table_id ≡ board.now.table_id)
         × (board.now.table_id.words ≡ board.now.table_id.slots + 1)
@@ -55,8 +55,8 @@ pub(crate) fn place<T: Fits>(board: &Board<T>, seat: &mut Chair<T>, source: u32,
     }
 }
 
-/// Hands the outbox in and counts its source. Says whether the source was the last; then the seat
-/// has all slots.
+/// Hands the outbox in and counts its source. Says whether the source was the last; if it was, the
+/// seat has all slots.
 pub(crate) fn hand_in<T: Fits>(
     board: &Board<T>,
     seat: &mut Chair<T>,

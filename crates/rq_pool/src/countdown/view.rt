@@ -1,8 +1,8 @@
-//! What a pass knows. No value of these types is made, but of `Terms`.
+//! What a pass knows. Of these types only `Terms` has values that are made.
 
 use std::collections::LinkedList;
 
-/// An arrival that was not answered `Twice`. `told` has the outboxes where the answer was `Last`.
+/// An arrival that was not answered `Twice`. `told` has the outboxes if the answer was `Last`.
 pub(crate) struct Made<T> {
     pub(crate) source: u32,
     pub(crate) outbox: T,

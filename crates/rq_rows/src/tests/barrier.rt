@@ -1,4 +1,4 @@
-//! An error queue that does not wait for queues whose error queue it is not.
+//! An error queue does not wait for queues that are not its sources.
 
 use super::threads::look;
 use super::{log_of, reports};
@@ -14,7 +14,7 @@ const REPORT: &[u8] = b"front 3 records, 175 of 175 bytes, whole\n\
     queue 1 a limit 1 error 0\n\
     queue 2 b limit 0 error -\n";
 
-// A queue that looks for the flag which the error queue of another one sets.
+// A queue that looks for the flag set by another queue's error queue.
 #[derive(Drop)]
 struct Looking {
     error_there: AtomicBool,

@@ -1,4 +1,4 @@
-//! Calls that no line of the program makes, or makes by others alone, each once, with ample memory.
+//! Calls that the program never makes, or makes only through others, each once, with ample memory.
 
 use super::scripts::{CHECKPOINT, ONE_ELEMENT};
 use super::{PLANS, log_of};
@@ -13,7 +13,7 @@ use std::io::Cursor;
 use std::test::Fail;
 use std::thread::Threads;
 
-// The state behind the checkpoint, where a unit is open that took one element and put in another.
+// The state after the checkpoint, in which a unit is open that took one element and put in another.
 fn state_at_checkpoint<R: Threads + Sync + AllocGlobal>(rt: &R) -> Result<State, Fail> {
     let log = log_of(rt, CHECKPOINT)?;
     let plan = Plan::new(1, 1).ok_or("plan")?;

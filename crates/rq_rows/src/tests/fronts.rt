@@ -8,8 +8,8 @@ use std::alloc::Global;
 use std::test::Fail;
 use std::thread::Threads;
 
-// Unit 2 is open behind the first eight records: it holds element 3, has put in element 7 and has a
-// note of ann. The checkpoint behind them has the bytes that this state spells.
+// Unit 2 is open after the first eight records: it holds element 3, has put in element 7 and has a
+// note of ann. The checkpoint after them has the bytes that this state spells.
 const INSIDE_A_UNIT: &[u8] = b"define jobs 0 -\n\
     register 0 ann\n\
     begin 1\n\

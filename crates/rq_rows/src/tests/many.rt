@@ -60,7 +60,7 @@ fn take_out(script: &mut String, queue: u32) -> Result<(), Fail> {
     Ok(())
 }
 
-// A checkpoint stands behind the definitions, at `CHECKPOINT_AT`.
+// A checkpoint follows the definitions, at `CHECKPOINT_AT`.
 fn script(alloc: Global) -> Result<String, Fail> {
     let mut script = String::new(alloc);
     define_all(&mut script)?;
@@ -88,7 +88,7 @@ impl Gate for Entries {
     }
 }
 
-// Room for 201 queues, of which none has entered.
+// Room for 201 queues, none of which has entered.
 fn no_entries(alloc: Global) -> Result<Entries, Fail> {
     let mut queues = Vec::new(alloc);
     for _ in 0..201 {

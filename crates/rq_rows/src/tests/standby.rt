@@ -152,7 +152,7 @@ fn read_again<R: Threads + Sync + AllocGlobal>(
     Ok(read_in(rt.alloc(), Version::One, &spelled)?)
 }
 
-// Whether a keeper that begins behind a beginning of the log goes on to its end by these records.
+// Whether a keeper that starts after a beginning of the log goes on to its end by these records.
 fn goes_on_behind<R: Threads + Sync + AllocGlobal>(
     rt: &R,
     log: &[u8],
@@ -177,7 +177,7 @@ fn a_keeper_goes_on_from_a_checkpoint(rt: HostRuntime) -> Result<(), Fail> {
     Ok(())
 }
 
-// The records of a log, and two more, of which the first is not lawful.
+// The records of a log, and two more, the first of which is not lawful.
 fn with_two_more<R: Threads + Sync + AllocGlobal>(
     rt: &R,
     log: &[u8],
@@ -189,7 +189,7 @@ fn with_two_more<R: Threads + Sync + AllocGlobal>(
 }
 
 // Whether a keeper takes four of these records, stands where the log's front ends, and then takes
-// the last one alone.
+// only the last one.
 fn stops<R: Threads + Sync + AllocGlobal>(rt: &R, log: &[u8], records: &[KeptRecord]) -> bool {
     let (Some(plan), Some(last)) = (Plan::new(2, 1), records.get(5..)) else {
         return false;
@@ -209,8 +209,8 @@ fn a_keeper_stops_before_an_unlawful_record(rt: HostRuntime) -> Result<(), Fail>
     Ok(())
 }
 
-// How many records a keeper takes of a script that puts in an element, and how many of a KILL
-// behind it; and how many elements there are then.
+// How many records a keeper takes of a script that puts in an element, and how many of a KILL after
+// it; and how many elements there are then.
 fn after_kill<R: Threads + Sync + AllocGlobal>(
     rt: &R,
     version: Version,

@@ -20,8 +20,8 @@ const REPORT: &[u8] = b"front 14 records, 745 of 745 bytes, whole\n\
     queue 1 jobs limit 1 error 0\n";
 
 // Gives at most 7 bytes a call. Each call that does not come after an interrupted one is
-// interrupted, where that is asked for; the call of one number, from 1, those interrupted aside,
-// fails.
+// interrupted, if that is asked for. The call of one number fails; calls are counted from 1,
+// without those interrupted.
 #[derive(Drop)]
 struct Rough<'a> {
     inner: Cursor<&'a [u8]>,
@@ -102,9 +102,9 @@ impl Write for Narrow {
     }
 }
 
-// Whether a run whose read of one number fails tells so and writes nothing, or, where no read is of
-// that number, writes the report. There are 105 calls of 7 bytes; two of 5, where the header ends
-// and where the log does; and one that finds the end.
+// Whether a run whose read of one number fails says so and writes nothing; or, if no read has that
+// number, writes the report. There are 105 calls of 7 bytes; two of 5, where the header ends and
+// where the log does; and one that finds the end.
 fn reads<R: Threads + Sync + AllocGlobal>(
     rt: &R,
     workers: u32,
@@ -141,9 +141,9 @@ fn a_read_that_fails_is_told_and_nothing_is_written(rt: HostRuntime) -> Result<(
     Ok(())
 }
 
-// Whether a run whose write of one number fails tells so and leaves a beginning of the report, or,
-// where no write is of that number, writes all of it. There are 68 calls that take 3 bytes, and one
-// that takes the last 2.
+// Whether a run whose write of one number fails says so and leaves a beginning of the report; or,
+// if no write has that number, writes all of it. There are 68 calls that take 3 bytes, and one that
+// takes the last 2.
 fn writes<R: Threads + Sync + AllocGlobal>(
     rt: &R,
     workers: u32,

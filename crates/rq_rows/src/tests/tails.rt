@@ -7,7 +7,7 @@ use rq_tool::Plan;
 use std::test::Fail;
 use std::thread::Threads;
 
-// Two units are open behind the first eight records. The last two are the tail that aborts them.
+// Two units are open after the first eight records. The last two are the tail that aborts them.
 const TWO_OPEN: &[u8] = b"define jobs 0 -\n\
     begin 1\n\
     enqueue 1 0 5 - 0 61\n\

@@ -1,4 +1,4 @@
-//! Reports whose text one thread makes or several.
+//! Reports whose text is made by one thread or by several.
 
 use super::scripts::ONE_ELEMENT;
 use super::{PLANS, log_of};
@@ -21,7 +21,7 @@ fn restarted<R: Threads + Sync + AllocGlobal>(rt: &R, log: &[u8]) -> Result<Rest
     Ok(restart(rt, rt.alloc(), log, &plan, &Open)?)
 }
 
-// The text that one thread writes; nothing where it fails.
+// The text that one thread writes; nothing if it fails.
 fn by_one_thread(alloc: Global, state: &Restarted) -> Vec<u8> {
     let mut output = OverWrite::new(Vec::new(alloc));
     match write_report(alloc, state, &mut output) {

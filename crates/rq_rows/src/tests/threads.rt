@@ -25,7 +25,7 @@ const THREE_REPORT: &[u8] = b"front 7 records, 380 of 380 bytes, whole\n\
     e 5 from 1 priority 0 attempts 0 -\n\
     queue 2 c limit 0 error -\n";
 
-// Two queues, of which each looks for the other's flag; a third may look for the first's.
+// Two queues, each of which looks for the other's flag; a third may look for the first's.
 #[derive(Drop)]
 struct Meeting {
     first: u32,
@@ -79,7 +79,7 @@ fn meeting_of(first: u32, second: u32) -> Meeting {
     }
 }
 
-// Whether each flag was seen that was looked for.
+// Whether each flag that was looked for was seen.
 fn all_saw(gate: &Meeting) -> bool {
     gate.first_saw.load(Ordering::SeqCst)
         && gate.second_saw.load(Ordering::SeqCst)
@@ -119,7 +119,7 @@ impl<'a, R: Clock + Sync> Gate for Entered<'a, R> {
     }
 }
 
-// Three queues, of which the second has 2,000 elements.
+// Three queues, the second of which has 2,000 elements.
 fn long_script(alloc: Global) -> Result<Vec<u8>, Fail> {
     let begins = b"define a 0 -\ndefine b 0 -\ndefine c 0 -\nbegin 1\n";
     let mut script = Vec::from_slice(alloc, begins.as_slice())?;

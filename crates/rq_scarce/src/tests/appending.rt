@@ -21,21 +21,16 @@ const BEFORE: [u8; 3] = *b"RQL";
 
 /// What is appended to a vector that is full, and what it has then with ample memory.
 #[derive(Drop)]
-pub struct Appending {
-    what: What,
-    record: Record,
-    body: [u8; 600],
+pub struct Appending<'a> {
+    what: &'a What,
+    record: &'a Record,
+    want: &'a [u8],
     out: Vec<u8>,
-    want: Vec<u8>,
 }
 
-impl Appending {
+impl Appending<'_> {
     pub fn call(&mut self) -> Result<(), Fault> {
-        match self.what {
-            What::Header => header(&mut self.out),
-            What::Frame => frame(&[7; 32], &self.body, &mut self.out),
-            What::Body => encode(&self.record, &mut self.out),
-        }
+        append(self.what, self.record, &mut self.out)
     }
 
     pub fn prepare(&mut self, alloc: Global) -> Result<(), Fail> {
@@ -44,7 +39,7 @@ impl Appending {
     }
 
     pub fn is_whole(&self) -> bool {
-        self.out == self.want
+        self.out.as_slice() == self.want
     }
 
     pub fn is_untouched(&self) -> bool {
@@ -52,32 +47,71 @@ impl Appending {
     }
 }
 
-// Whether so many bytes are appended, however little memory there is, or none.
+// Appends the header, a frame, or the record's body.
+fn append(what: &What, record: &Record, out: &mut Vec<u8>) -> Result<(), Fault> {
+    match what {
+        What::Header => header(out),
+        What::Frame => frame(&[7; 32], &[5; 600], out),
+        What::Body => encode(record, out),
+    }
+}
+
+// What a vector has then, with ample memory.
+fn appended(alloc: Global, what: &What, record: &Record) -> Result<Vec<u8>, Fail> {
+    let mut out = Vec::from_slice(alloc, &BEFORE)?;
+    append(what, record, &mut out)?;
+    Ok(out)
+}
+
+// Whether a vector has this then, however little memory there is, or what it had before.
+fn is_appended<R: Threads + Sync + AllocGlobal>(
+    rt: &R,
+    what: &What,
+    record: &Record,
+    want: &[u8],
+) -> Result<bool, Fail> {
+    let out = Vec::new(rt.alloc());
+    let mut call = Call::Append(Appending {
+        what,
+        record,
+        want,
+        out,
+    });
+    is_right(rt, &mut call)
+}
+
+// Whether this many bytes are appended, however little memory there is, or none.
+fn appends_of<R: Threads + Sync + AllocGlobal>(
+    rt: &R,
+    what: &What,
+    record: &Record,
+    bytes: usize,
+) -> Result<bool, Fail> {
+    let want = appended(rt.alloc(), what, record)?;
+    let more = want.len().saturating_sub(BEFORE.len());
+    Ok(more == bytes && is_appended(rt, what, record, &want)?)
+}
+
+// An ENQUEUE with 500 bytes.
+fn long_record(alloc: Global) -> Result<Record, Fail> {
+    let payload = Vec::from_slice(alloc, &[0x61; 500])?;
+    Ok(Record::Enqueue {
+        unit: UnitNo(1),
+        queue: QueueNo(0),
+        priority: 5,
+        by: None,
+        payload: Payload::new(payload).ok_or("payload")?,
+    })
+}
+
+// The same for that record.
 fn appends<R: Threads + Sync + AllocGlobal>(
     rt: &R,
     what: What,
     bytes: usize,
 ) -> Result<bool, Fail> {
-    let alloc = rt.alloc();
-    let record = Record::Enqueue {
-        unit: UnitNo(1),
-        queue: QueueNo(0),
-        priority: 5,
-        by: None,
-        payload: Payload::new(Vec::from_slice(alloc, &[0x61; 500])?).ok_or("payload")?,
-    };
-    let mut appending = Appending {
-        what,
-        record,
-        body: [5; 600],
-        out: Vec::from_slice(alloc, &BEFORE)?,
-        want: Vec::new(alloc),
-    };
-    appending.call()?;
-    let want = Vec::from_slice(alloc, &appending.out)?;
-    let more = want.len().saturating_sub(BEFORE.len());
-    appending.want = want;
-    Ok(more == bytes && is_right(rt, Call::Append(appending))?)
+    let record = long_record(rt.alloc())?;
+    appends_of(rt, &what, &record, bytes)
 }
 
 #[test]

@@ -1,9 +1,8 @@
 //! The commands: a report, a log or an audit is whole, or nothing is written.
 
 use super::sweeping::{Call, is_right};
-use super::{ARRIVAL, CHECKPOINT, CLOSED, MAKE, answer, lines, log_of};
+use super::{ARRIVAL, CHECKPOINT, CLOSED, MAKE, answer, log_of};
 use rq_tool::{Command, Fault, Plan};
-use std::alloc::Global;
 use std::mem;
 use std::test::Fail;
 use std::thread::Threads;
@@ -12,8 +11,8 @@ use std::thread::Threads;
 #[derive(Drop)]
 pub struct Acting<'a> {
     command: Command<'a>,
-    bytes: Vec<u8>,
-    want: Vec<u8>,
+    bytes: &'a [u8],
+    want: &'a [u8],
     written: Vec<u8>,
 }
 
@@ -24,13 +23,13 @@ impl Acting<'_> {
 
     pub fn call<R: Threads + Sync + AllocGlobal>(&mut self, rt: &R) -> Result<(), Fault> {
         let room = mem::replace(&mut self.written, Vec::new(rt.alloc()));
-        let (done, written) = answer(rt, &self.command, &self.bytes, room);
+        let (done, written) = answer(rt, &self.command, self.bytes, room);
         self.written = written;
         done
     }
 
     pub fn is_whole(&self) -> bool {
-        self.written == self.want
+        self.written.as_slice() == self.want
     }
 
     pub fn is_untouched(&self) -> bool {
@@ -42,110 +41,120 @@ impl Acting<'_> {
 fn acts<R: Threads + Sync + AllocGlobal>(
     rt: &R,
     command: Command<'_>,
-    bytes: Vec<u8>,
-    want: Vec<u8>,
+    bytes: &[u8],
+    want: &[u8],
 ) -> Result<bool, Fail> {
-    let written = Vec::with_capacity(rt.alloc(), want.len())?;
-    let acting = Acting {
+    let mut call = Call::Act(Acting {
         command,
         bytes,
         want,
-        written,
-    };
-    is_right(rt, Call::Act(acting))
+        written: Vec::with_capacity(rt.alloc(), want.len())?,
+    });
+    is_right(rt, &mut call)
 }
 
-const ARRIVAL_REPORT: [&str; 5] = [
-    "front 18 records, 926 of 926 bytes, whole",
-    "units 3 committed, 2 aborted, 0 cut off",
-    "queue 0 dead limit 0 error -",
-    "r ann dequeue tag 71 element 4",
-    "queue 1 jobs limit 2 error 0",
-];
+const ARRIVAL_REPORT: &[u8] = b"front 18 records, 926 of 926 bytes, whole\n\
+    units 3 committed, 2 aborted, 0 cut off\n\
+    queue 0 dead limit 0 error -\n\
+    r ann dequeue tag 71 element 4\n\
+    queue 1 jobs limit 2 error 0\n";
 
-const CHECKPOINT_REPORT: [&str; 5] = [
-    "front 10 records, 724 of 724 bytes, whole",
-    "units 2 committed, 0 aborted, 0 cut off",
-    "queue 0 jobs limit 0 error -",
-    "e 7 from 0 priority 8 attempts 0 62",
-    "r ann dequeue tag 10 element 3",
-];
+const CHECKPOINT_REPORT: &[u8] = b"front 10 records, 724 of 724 bytes, whole\n\
+    units 2 committed, 0 aborted, 0 cut off\n\
+    queue 0 jobs limit 0 error -\n\
+    e 7 from 0 priority 8 attempts 0 62\n\
+    r ann dequeue tag 10 element 3\n";
+
+// Whether a restart by this many workers is.
+fn restarts<R: Threads + Sync + AllocGlobal>(rt: &R, workers: u32) -> Result<bool, Fail> {
+    let plan = Plan::new(workers, 1).ok_or("plan")?;
+    let log = log_of(rt, ARRIVAL)?;
+    acts(
+        rt,
+        Command::Restart { log: "log", plan },
+        &log,
+        ARRIVAL_REPORT,
+    )
+}
 
 #[test]
 fn a_restart_is_whole_or_refused(rt: HostRuntime) -> Result<(), Fail> {
-    let plan = Plan::new(1, 1).ok_or("plan")?;
-    let log = log_of(&rt, &ARRIVAL)?;
-    let want = lines(rt.alloc(), &ARRIVAL_REPORT)?;
-    assert!(rt; acts(&rt, Command::Restart { log: "log", plan }, log, want)?);
+    assert!(rt; restarts(&rt, 1)?);
     Ok(())
 }
 
 #[test]
 fn a_restart_without_threads_is_whole_or_refused(rt: HostRuntime) -> Result<(), Fail> {
-    let plan = Plan::new(2, 1).ok_or("plan")?;
-    let log = log_of(&rt, &ARRIVAL)?;
-    let want = lines(rt.alloc(), &ARRIVAL_REPORT)?;
-    assert!(rt; acts(&rt, Command::Restart { log: "log", plan }, log, want)?);
+    assert!(rt; restarts(&rt, 2)?);
     Ok(())
+}
+
+// Whether this command on the log with the checkpoint is.
+fn acts_on_checkpoint<R: Threads + Sync + AllocGlobal>(
+    rt: &R,
+    command: Command<'_>,
+    want: &[u8],
+) -> Result<bool, Fail> {
+    let log = log_of(rt, CHECKPOINT)?;
+    acts(rt, command, &log, want)
 }
 
 #[test]
 fn a_restart_from_a_checkpoint_is_whole_or_refused(rt: HostRuntime) -> Result<(), Fail> {
-    let plan = Plan::new(1, 1).ok_or("plan")?;
     let command = Command::RestartAt {
         log: "log",
         offset: 447,
-        plan,
+        plan: Plan::new(1, 1).ok_or("plan")?,
     };
-    let log = log_of(&rt, &CHECKPOINT)?;
-    let want = lines(rt.alloc(), &CHECKPOINT_REPORT)?;
-    assert!(rt; acts(&rt, command, log, want)?);
+    assert!(rt; acts_on_checkpoint(&rt, command, CHECKPOINT_REPORT)?);
     Ok(())
 }
 
 #[test]
 fn an_audit_is_whole_or_refused(rt: HostRuntime) -> Result<(), Fail> {
     let plan = Plan::new(1, 1).ok_or("plan")?;
-    let log = log_of(&rt, &CHECKPOINT)?;
-    let want = lines(rt.alloc(), &["checkpoint 447 true"])?;
-    assert!(rt; acts(&rt, Command::Audit { log: "log", plan }, log, want)?);
+    let command = Command::Audit { log: "log", plan };
+    assert!(rt; acts_on_checkpoint(&rt, command, b"checkpoint 447 true\n")?);
     Ok(())
+}
+
+// Whether this log's close is.
+fn closes<R: Threads + Sync + AllocGlobal>(rt: &R, log: &[u8]) -> Result<bool, Fail> {
+    let command = Command::Close {
+        log: "log",
+        out: "out",
+        plan: Plan::new(1, 1).ok_or("plan")?,
+    };
+    let want = log_of(rt, CLOSED)?;
+    acts(rt, command, log, &want)
 }
 
 #[test]
 fn a_close_is_whole_or_refused(rt: HostRuntime) -> Result<(), Fail> {
-    let plan = Plan::new(1, 1).ok_or("plan")?;
-    let command = Command::Close {
-        log: "log",
-        out: "out",
-        plan,
-    };
-    let log = log_of(&rt, &CHECKPOINT[..9])?;
-    let want = log_of(&rt, &CLOSED)?;
-    assert!(rt; acts(&rt, command, log, want)?);
+    let log = log_of(&rt, CHECKPOINT)?;
+    assert!(rt; closes(&rt, log.get(..679).ok_or("log")?)?);
     Ok(())
 }
 
-// Whether the script's log has so many bytes, and is made so, however little memory there is, or
+// Whether the script's log has this many bytes, and is made so, however little memory there is, or
 // not at all.
 fn makes<R: Threads + Sync + AllocGlobal>(
     rt: &R,
-    script: &[&str],
+    script: &[u8],
     bytes: usize,
 ) -> Result<bool, Fail> {
     let want = log_of(rt, script)?;
-    let len = want.len();
-    Ok(len == bytes && acts(rt, MAKE, lines(rt.alloc(), script)?, want)?)
+    Ok(want.len() == bytes && acts(rt, MAKE, script, &want)?)
 }
 
 #[test]
 fn a_log_with_an_arrival_is_made_or_refused(rt: HostRuntime) -> Result<(), Fail> {
-    assert!(rt; makes(&rt, &ARRIVAL, 926)?);
+    assert!(rt; makes(&rt, ARRIVAL, 926)?);
     Ok(())
 }
 
 #[test]
 fn a_log_with_a_checkpoint_is_made_or_refused(rt: HostRuntime) -> Result<(), Fail> {
-    assert!(rt; makes(&rt, &CHECKPOINT, 724)?);
+    assert!(rt; makes(&rt, CHECKPOINT, 724)?);
     Ok(())
 }

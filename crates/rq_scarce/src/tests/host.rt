@@ -2,23 +2,23 @@
 
 use std::alloc::{AllocError, Global};
 
-// How many bytes a block of the store has: so few that the host does not take it from elsewhere.
+// How many bytes a block of the store has. It is too small for the host to take it from elsewhere.
 const BLOCK: usize = 100_000;
 
 // How many of them.
 const BLOCKS: usize = 16;
 
-// The host keeps freed blocks of so many sizes apart for the next ones of their size: up to 1,032
-// bytes, in steps of 16.
+// The host keeps freed blocks of this many sizes apart, for the next ones of their size: up to
+// 1,032 bytes, in steps of 16.
 const SIZES: usize = 64;
 
-// It keeps so many of each size.
+// It keeps this many of each size.
 const KEPT: usize = 7;
 
 // A block of a size that is not kept apart.
 const PIN: usize = 1_088;
 
-/// The host's memory, all of it taken but a store of which a round leaves a part.
+/// The host's memory, all of it taken except a store, of which a round leaves a part.
 #[derive(Drop)]
 pub struct Scarce {
     alloc: Global,
@@ -48,7 +48,14 @@ impl Scarce {
         Ok(scarce)
     }
 
-    /// Leaves so many bytes of the store, side by side, and free to be cut into blocks of any
+    /// Takes all memory.
+    pub fn whole(alloc: Global) -> Result<Scarce, AllocError> {
+        let mut scarce = Scarce::begin(alloc)?;
+        scarce.leave(0)?;
+        Ok(scarce)
+    }
+
+    /// Leaves this many bytes of the store, side by side, and free to be cut into blocks of any
     /// sizes.
     pub fn leave(&mut self, bytes: usize) -> Result<(), AllocError> {
         let all = bytes.saturating_add(PIN);

@@ -10,7 +10,7 @@ use super::sweeping::{Call, is_right};
 use super::{MAKE_TWO, log_in};
 use rq_catalog::analyse_in;
 use rq_exchange::replay;
-use rq_front::walk;
+use rq_front::{Span, walk};
 use rq_record::{Record, Version, decode_in};
 use rq_state::{State, spell};
 use rq_tool::{Fault, Open, Plan};
@@ -18,38 +18,47 @@ use std::alloc::Global;
 use std::test::Fail;
 use std::thread::Threads;
 
-// An element leaves its queue by an abort, and its error queue by another, for the end of the
-// chain, where a registrant that is still at work takes it.
-const CHAINED: [&str; 15] = [
-    "define dead 0 -",
-    "define late 1 0",
-    "define jobs 1 1",
-    "register 0 ann",
-    "begin 1",
-    "enqueue 1 2 5 - 0 61",
-    "commit 1",
-    "begin 2",
-    "dequeue 2 2 - 0",
-    "abort 2",
-    "begin 3",
-    "dequeue 3 1 - 0",
-    "abort 3",
-    "begin 4",
-    "dequeue 4 0 ann 70",
-];
+// An abort takes an element out of its queue, and another takes it out of its error queue, to the
+// end of the chain. A registrant that is still at work takes it there.
+const CHAINED: &[u8] = b"define dead 0 -\n\
+    define late 1 0\n\
+    define jobs 1 1\n\
+    register 0 ann\n\
+    begin 1\n\
+    enqueue 1 2 5 - 0 61\n\
+    commit 1\n\
+    begin 2\n\
+    dequeue 2 2 - 0\n\
+    abort 2\n\
+    begin 3\n\
+    dequeue 3 1 - 0\n\
+    abort 3\n\
+    begin 4\n\
+    dequeue 4 0 ann 70\n";
+
+// The record whose body is there.
+fn record_at(alloc: Global, log: &[u8], span: &Span) -> Result<Record, Fail> {
+    let end = span.start.saturating_add(span.len);
+    let body = log.get(span.start..end).ok_or("body")?;
+    Ok(decode_in(alloc, Version::Two, body)?)
+}
+
+// The records whose bodies are there.
+fn records_at(alloc: Global, log: &[u8], spans: &[Span]) -> Result<Vec<Record>, Fail> {
+    let mut records = Vec::new(alloc);
+    for span in spans {
+        records.push(record_at(alloc, log, span)?)?;
+    }
+    Ok(records)
+}
 
 // The records of a log of version 2, as its frames stand.
 fn records_of(alloc: Global, log: &[u8]) -> Result<Vec<Record>, Fail> {
-    let mut records = Vec::new(alloc);
     if log.len() < 40 {
-        return Ok(records);
+        return Err("header".into());
     }
-    for span in walk(alloc, log, 40)?.spans() {
-        let end = span.start.saturating_add(span.len);
-        let body = log.get(span.start..end).ok_or("body")?;
-        records.push(decode_in(alloc, Version::Two, body)?)?;
-    }
-    Ok(records)
+    let found = walk(alloc, log, 40)?;
+    records_at(alloc, log, found.spans())
 }
 
 // Records that are lawful from the start.
@@ -92,7 +101,7 @@ fn replayed<R: Threads + Sync + AllocGlobal>(
     replay(rt, rt.alloc(), &start, &lawful.records, plan, &Open)
 }
 
-// The spelling of the state; nothing, where its next record number is past the greatest.
+// The spelling of the state; nothing if its next record number is past the greatest.
 fn spelled(alloc: Global, state: &State) -> Result<Vec<u8>, Fail> {
     if state.next() > u64::from(u32::MAX) {
         return Ok(Vec::new(alloc));
@@ -102,26 +111,26 @@ fn spelled(alloc: Global, state: &State) -> Result<Vec<u8>, Fail> {
 
 /// Lawful records, the spelling of the state after them, and that state.
 #[derive(Drop)]
-pub struct Replaying {
+pub struct Replaying<'a> {
     plan: Plan,
-    lawful: Lawful,
-    want: Vec<u8>,
+    lawful: &'a Lawful,
+    want: &'a [u8],
     state: Option<State>,
 }
 
-impl Replaying {
+impl Replaying<'_> {
     pub fn prepare(&mut self) {
         self.state = None;
     }
 
     pub fn call<R: Threads + Sync + AllocGlobal>(&mut self, rt: &R) -> Result<(), Fault> {
-        self.state = Some(replayed(rt, &self.lawful, &self.plan)?);
+        self.state = Some(replayed(rt, self.lawful, &self.plan)?);
         Ok(())
     }
 
     pub fn is_whole(&self, alloc: Global) -> Result<bool, Fail> {
         match &self.state {
-            Some(state) => Ok(spelled(alloc, state)? == self.want),
+            Some(state) => Ok(spelled(alloc, state)?.as_slice() == self.want),
             None => Ok(false),
         }
     }
@@ -134,24 +143,42 @@ impl Replaying {
 // The spelling of the state after the records, as one worker has it with ample memory.
 fn wanted<R: Threads + Sync + AllocGlobal>(rt: &R, lawful: &Lawful) -> Result<Vec<u8>, Fail> {
     let alone = Plan::new(1, 1).ok_or("plan")?;
-    spelled(rt.alloc(), &replayed(rt, lawful, &alone)?)
+    let state = replayed(rt, lawful, &alone)?;
+    spelled(rt.alloc(), &state)
+}
+
+// The 15 lawful records of that script. Its log has 777 bytes.
+fn chained<R: Threads + Sync + AllocGlobal>(rt: &R) -> Result<Lawful, Fail> {
+    let log = log_in(rt, &MAKE_TWO, CHAINED)?;
+    if log.len() != 777 {
+        return Err("length".into());
+    }
+    let records = records_of(rt.alloc(), &log)?;
+    Ok(lawful_of(rt.alloc(), records)?)
 }
 
 // Whether the replay has the same state, however little memory there is, or none. No thread is
-// started before: where no memory is left, each is refused.
-fn replays<R: Threads + Sync + AllocGlobal>(rt: &R, workers: u32) -> Result<bool, Fail> {
-    let plan = Plan::new(workers, 1).ok_or("plan")?;
-    let log = log_in(rt, &MAKE_TWO, &CHAINED)?;
-    let lawful = lawful_of(rt.alloc(), records_of(rt.alloc(), &log)?)?;
-    let all = lawful.records.len() == 15 && log.len() == 777;
-    let want = wanted(rt, &lawful)?;
-    let replaying = Replaying {
+// started before: if no memory is left, each is refused.
+fn replays_by<R: Threads + Sync + AllocGlobal>(
+    rt: &R,
+    lawful: &Lawful,
+    plan: Plan,
+) -> Result<bool, Fail> {
+    let want = wanted(rt, lawful)?;
+    let mut call = Call::Replay(Replaying {
         plan,
         lawful,
-        want,
+        want: &want,
         state: None,
-    };
-    Ok(all && is_right(rt, Call::Replay(replaying))?)
+    });
+    is_right(rt, &mut call)
+}
+
+// Whether it does, by this many workers.
+fn replays<R: Threads + Sync + AllocGlobal>(rt: &R, workers: u32) -> Result<bool, Fail> {
+    let plan = Plan::new(workers, 1).ok_or("plan")?;
+    let lawful = chained(rt)?;
+    Ok(lawful.records.len() == 15 && replays_by(rt, &lawful, plan)?)
 }
 
 #[test]

@@ -13,7 +13,7 @@ use std::thread::Threads;
 // By how many bytes what a round leaves grows: less than any block takes.
 const STEP: usize = 16;
 
-// So many rounds without a refusal are enough.
+// This many rounds without a refusal are enough.
 const ENOUGH: u32 = 500;
 
 // The most rounds.
@@ -23,10 +23,10 @@ const ROUNDS: usize = 20_000;
 #[derive(Drop)]
 pub enum Call<'a> {
     Act(Acting<'a>),
-    Append(Appending),
+    Append(Appending<'a>),
     Arrive(Arriving),
     Open(Opening),
-    Replay(Replaying),
+    Replay(Replaying<'a>),
 }
 
 impl Call<'_> {
@@ -115,7 +115,7 @@ impl Tally {
     }
 }
 
-// Calls where so many bytes are left.
+// Calls with this many bytes left.
 fn round<R: Threads + Sync + AllocGlobal>(
     rt: &R,
     scarce: &mut Scarce,
@@ -129,22 +129,34 @@ fn round<R: Threads + Sync + AllocGlobal>(
     Ok(answer)
 }
 
-/// Whether the call is right however little memory there is: calls with ever more, until that is
-/// enough.
-pub fn is_right<R: Threads + Sync + AllocGlobal>(rt: &R, mut call: Call<'_>) -> Result<bool, Fail> {
+// Calls with ever more, until that is enough.
+fn rounds<R: Threads + Sync + AllocGlobal>(
+    rt: &R,
+    scarce: &mut Scarce,
+    call: &mut Call<'_>,
+    tally: &mut Tally,
+) -> Result<(), Fail> {
+    for place in 0..ROUNDS {
+        let answer = round(rt, scarce, STEP * place, call)?;
+        tally.count(rt.alloc(), call, answer)?;
+        if tally.last >= ENOUGH {
+            break;
+        }
+    }
+    Ok(())
+}
+
+/// Whether the call is right however little memory there is.
+pub fn is_right<R: Threads + Sync + AllocGlobal>(
+    rt: &R,
+    call: &mut Call<'_>,
+) -> Result<bool, Fail> {
     let mut tally = Tally {
         refused: 0,
         wrong: 0,
         last: 0,
     };
     let mut scarce = Scarce::begin(rt.alloc())?;
-    for place in 0..ROUNDS {
-        let answer = round(rt, &mut scarce, STEP * place, &mut call)?;
-        tally.count(rt.alloc(), &call, answer)?;
-        if tally.last >= ENOUGH {
-            break;
-        }
-    }
-    drop(scarce);
+    rounds(rt, &mut scarce, call, &mut tally)?;
     Ok(tally.is_right())
 }

@@ -1,7 +1,7 @@
-//! What workers do where one of them is refused memory.
+//! What workers do if one of them is refused memory.
 
 use super::host::{room, take_all};
-use super::{lines, log_of};
+use super::log_of;
 use rq_tool::{Fault, Gate, OverRead, OverWrite, Plan, run};
 use std::alloc::Global;
 use std::io::Cursor;
@@ -11,43 +11,39 @@ use std::test::Fail;
 use std::thread::Threads;
 
 // Six queues, with an element in each.
-const SIX: [&str; 14] = [
-    "define a 0 -",
-    "define b 0 -",
-    "define c 0 -",
-    "define d 0 -",
-    "define e 0 -",
-    "define f 0 -",
-    "begin 1",
-    "enqueue 1 0 0 - 0 61",
-    "enqueue 1 1 0 - 0 62",
-    "enqueue 1 2 0 - 0 63",
-    "enqueue 1 3 0 - 0 64",
-    "enqueue 1 4 0 - 0 65",
-    "enqueue 1 5 0 - 0 66",
-    "commit 1",
-];
+const SIX: &[u8] = b"define a 0 -\n\
+    define b 0 -\n\
+    define c 0 -\n\
+    define d 0 -\n\
+    define e 0 -\n\
+    define f 0 -\n\
+    begin 1\n\
+    enqueue 1 0 0 - 0 61\n\
+    enqueue 1 1 0 - 0 62\n\
+    enqueue 1 2 0 - 0 63\n\
+    enqueue 1 3 0 - 0 64\n\
+    enqueue 1 4 0 - 0 65\n\
+    enqueue 1 5 0 - 0 66\n\
+    commit 1\n";
 
-const SIX_REPORT: [&str; 14] = [
-    "front 14 records, 754 of 754 bytes, whole",
-    "units 1 committed, 0 aborted, 0 cut off",
-    "queue 0 a limit 0 error -",
-    "e 7 from 0 priority 0 attempts 0 61",
-    "queue 1 b limit 0 error -",
-    "e 8 from 1 priority 0 attempts 0 62",
-    "queue 2 c limit 0 error -",
-    "e 9 from 2 priority 0 attempts 0 63",
-    "queue 3 d limit 0 error -",
-    "e 10 from 3 priority 0 attempts 0 64",
-    "queue 4 e limit 0 error -",
-    "e 11 from 4 priority 0 attempts 0 65",
-    "queue 5 f limit 0 error -",
-    "e 12 from 5 priority 0 attempts 0 66",
-];
+const SIX_REPORT: &[u8] = b"front 14 records, 754 of 754 bytes, whole\n\
+    units 1 committed, 0 aborted, 0 cut off\n\
+    queue 0 a limit 0 error -\n\
+    e 7 from 0 priority 0 attempts 0 61\n\
+    queue 1 b limit 0 error -\n\
+    e 8 from 1 priority 0 attempts 0 62\n\
+    queue 2 c limit 0 error -\n\
+    e 9 from 2 priority 0 attempts 0 63\n\
+    queue 3 d limit 0 error -\n\
+    e 10 from 3 priority 0 attempts 0 64\n\
+    queue 4 e limit 0 error -\n\
+    e 11 from 4 priority 0 attempts 0 65\n\
+    queue 5 f limit 0 error -\n\
+    e 12 from 5 priority 0 attempts 0 66\n";
 
 const QUEUES: u32 = 6;
 
-// Looks up to 100,000,000 times whether so many were counted.
+// Looks up to 100,000,000 times whether this many were counted.
 fn look(counted: &AtomicU32, least: u32) -> bool {
     for _ in 0..100_000_000 {
         if counted.load(Ordering::SeqCst) >= least {
@@ -63,20 +59,24 @@ fn count(counted: &AtomicU32) -> u32 {
 }
 
 // What the restart of six queues writes at a gate, and how it ends.
-fn restarted<R, G>(rt: &R, workers: u32, gate: &G) -> Result<(Result<(), Fault>, Vec<u8>), Fail>
+fn restarted<R, G>(
+    rt: &R,
+    log: &[u8],
+    workers: u32,
+    gate: &G,
+) -> Result<(Result<(), Fault>, Vec<u8>), Fail>
 where
     R: Threads + Sync + AllocGlobal,
     G: Gate + Sync,
 {
     let plan = Plan::new(workers, 1).ok_or("plan")?;
-    let log = log_of(rt, &SIX)?;
-    let mut input = OverRead::new(Cursor::new(log.as_slice()));
     let mut output = OverWrite::new(Vec::with_capacity(rt.alloc(), 1000)?);
+    let mut input = OverRead::new(Cursor::new(log));
     let done = run(rt, rt.alloc(), &mut input, &mut output, &plan, gate);
     Ok((done, output.into_inner()))
 }
 
-// A gate where all memory is taken at the entry of a number, counted from 1.
+// A gate that takes all memory at the entry of a number, counted from 1.
 #[derive(Drop)]
 struct Famine<'a, R: Wait> {
     rt: &'a R,
@@ -94,9 +94,23 @@ impl<R: Wait> Gate for Famine<'_, R> {
     }
 }
 
+// Whether the run of one worker at the gate writes nothing, and says that memory was refused.
+fn is_refused<R, G>(rt: &R, log: &[u8], gate: &G) -> Result<bool, Fail>
+where
+    R: Threads + Sync + AllocGlobal,
+    G: Gate + Sync,
+{
+    let (done, written) = restarted(rt, log, 1, gate)?;
+    Ok(done.err() == Some(Fault::Resources) && written.is_empty())
+}
+
 // Whether one worker that is refused memory at this entry enters no more, and its run writes
 // nothing and says so.
-fn stops_at<R: Threads + Wait + Sync + AllocGlobal>(rt: &R, at: u32) -> Result<bool, Fail> {
+fn stops_at<R: Threads + Wait + Sync + AllocGlobal>(
+    rt: &R,
+    log: &[u8],
+    at: u32,
+) -> Result<bool, Fail> {
     let gate = Famine {
         rt,
         alloc: rt.alloc(),
@@ -104,22 +118,21 @@ fn stops_at<R: Threads + Wait + Sync + AllocGlobal>(rt: &R, at: u32) -> Result<b
         entries: AtomicU32::new(0),
         held: Mutex::new(room(rt.alloc())?),
     };
-    let (done, written) = restarted(rt, 1, &gate)?;
-    let entries = gate.entries.load(Ordering::SeqCst);
-    drop(gate);
-    Ok(done.err() == Some(Fault::Resources) && written.is_empty() && entries == at)
+    let refused = is_refused(rt, log, &gate)?;
+    Ok(refused && gate.entries.load(Ordering::SeqCst) == at)
 }
 
 #[test]
 fn who_is_refused_draws_no_more(rt: HostRuntime) -> Result<(), Fail> {
+    let log = log_of(&rt, SIX)?;
     for at in 1..=QUEUES {
-        assert!(rt; stops_at(&rt, at)?, "at entry {at}");
+        assert!(rt; stops_at(&rt, &log, at)?, "at entry {at}");
     }
     Ok(())
 }
 
-// A gate where the first who enters takes all memory once another is there, and that one gives it
-// back a while later.
+// A gate at which the first that enters takes all memory once another is there, and that other one
+// gives it back a while later.
 #[derive(Drop)]
 struct Relief<'a, R: Wait> {
     rt: &'a R,
@@ -156,11 +169,29 @@ impl<R: Wait> Gate for Relief<'_, R> {
     }
 }
 
-// One restart on two workers: how it ends, what it writes, how many entered in all, and how many
-// while there was no memory.
+// Whether a run on two workers at the gate was refused memory and wrote nothing, or wrote the
+// report; nothing if it did neither.
+fn was_refused<R, G>(rt: &R, log: &[u8], gate: &G) -> Result<Option<bool>, Fail>
+where
+    R: Threads + Sync + AllocGlobal,
+    G: Gate + Sync,
+{
+    let (done, written) = restarted(rt, log, 2, gate)?;
+    let whole = done.is_ok() && written.as_slice() == SIX_REPORT;
+    let refused = done.err() == Some(Fault::Resources) && written.is_empty();
+    Ok(if whole || refused {
+        Some(refused)
+    } else {
+        None
+    })
+}
+
+// Whether one restart was, if memory was there again a while later: all queues entered, and two of
+// them in the famine of a run that was refused. Nothing if that is not so.
 fn relieved<R: Threads + Wait + Sync + AllocGlobal>(
     rt: &R,
-) -> Result<(Result<(), Fault>, Vec<u8>, u32, u32), Fail> {
+    log: &[u8],
+) -> Result<Option<bool>, Fail> {
     let gate = Relief {
         rt,
         alloc: rt.alloc(),
@@ -169,25 +200,25 @@ fn relieved<R: Threads + Wait + Sync + AllocGlobal>(
         entries_in_famine: AtomicU32::new(0),
         held: Mutex::new(room(rt.alloc())?),
     };
-    let (done, written) = restarted(rt, 2, &gate)?;
-    let entries = gate.entries.load(Ordering::SeqCst);
-    let in_famine = gate.entries_in_famine.load(Ordering::SeqCst);
-    Ok((done, written, entries, in_famine))
+    let refused = was_refused(rt, log, &gate)?;
+    let all = gate.entries.load(Ordering::SeqCst) == QUEUES;
+    let two = gate.entries_in_famine.load(Ordering::SeqCst) == 2;
+    Ok(if all && (two || refused == Some(false)) {
+        refused
+    } else {
+        None
+    })
 }
 
 #[test]
 fn the_others_go_on_to_their_none(rt: HostRuntime) -> Result<(), Fail> {
-    let want = lines(rt.alloc(), &SIX_REPORT)?;
+    let log = log_of(&rt, SIX)?;
     let mut refused = 0u32;
     for _ in 0..20 {
-        let (done, written, entries, in_famine) = relieved(&rt)?;
-        assert_eq!(rt; entries, QUEUES);
-        match done {
-            Ok(()) => assert!(rt; written == want),
-            Err(fault) => {
-                assert!(rt; fault == Fault::Resources && written.is_empty() && in_famine == 2);
-                refused = refused.wrapping_add(1);
-            }
+        match relieved(&rt, &log)? {
+            Some(true) => refused = refused.wrapping_add(1),
+            Some(false) => (),
+            None => return Err("neither refused nor whole".into()),
         }
     }
     assert!(rt; refused > 0);

@@ -42,7 +42,7 @@ pub(crate) fn do_notes_rise(notes: &[Note]) -> bool
     notes.is_sorted_by(|one, next| one.place() < next.place())
 }
 
-/// Each definition by its number, which is its place.
+/// Each definition by its number, which is its index.
 pub(crate) fn are_definitions(definitions: &[Definition]) -> bool
     ensures { result ≡ definitions_test 0 definitions.now }
 {

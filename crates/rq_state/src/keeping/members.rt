@@ -50,7 +50,7 @@ fn limit_of(definitions: &[Definition], queue: QueueNo) -> u16
     }
 }
 
-/// Its error queue, where it has one, has none itself.
+/// If it has an error queue, that one has none itself.
 pub(crate) fn is_one_deep(definitions: &[Definition], definition: &Definition) -> bool
     ensures { result ≡ depth_test definitions.now definition.now }
 {
@@ -74,8 +74,8 @@ fn is_below_limit(limit: u16, attempts: u64) -> bool
     limit == 0 || attempts < limit as u64
 }
 
-/// An element below the next record number, in queues that are defined, of an open unit where it is
-/// marked.
+/// An element below the next record number, in queues that are defined; if it is marked, its unit
+/// is open.
 pub(crate) fn is_element(fields: &KeptFields, element: &KeptElement) -> bool
     requires { Ordered (λ u v. u < v) (map unit_of fields.now.units.items) }
     ensures { result ≡ element_test (state_of fields.now) element.now }

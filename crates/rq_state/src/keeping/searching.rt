@@ -17,7 +17,7 @@ pub(crate) fn has_unit(units: &[UnitNo], unit: UnitNo) -> bool
     units.binary_search_by_key(&unit.0, |one| one.0).is_ok()
 }
 
-/// Whether somebody of that name is among these registrants, which rise by queue and name.
+/// Whether a registrant of that name is among these, which rise by queue and name.
 pub(crate) fn has_registrant(registrants: &[Registrant], queue: QueueNo, name: Name) -> bool
     requires { Ordered (λ r t. registrant_before r t ≡ true) registrants.now }
     ensures { result ≡ list_any (is_registrant queue.0 name) registrants.now }

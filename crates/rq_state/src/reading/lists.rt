@@ -1,4 +1,4 @@
-//! The lists of a state, each behind its count.
+//! The lists of a state, each after its count.
 
 ghost use Rattle.std.specs.Prelude.{[], map};
 ghost use Rattle.rq_state.specs.Views.{unit_of};
@@ -11,37 +11,35 @@ ghost use Rattle.rq_model.specs.StateReading.{note_read, state_read};
 use crate::fields::KeptFields;
 use crate::kept_element::KeptElement;
 use crate::members::{Definition, Note, Registrant};
-use crate::reading::members::{
-    take_definition, take_element, take_note, take_registrant, take_unit,
-};
+use crate::reading::members::{Member, take_unit};
 use rq_bytes::Cursor;
 use rq_record::{Fault, UnitNo};
 use std::alloc::Global;
 
 #[tactic(auto, using(crate::proofs::Loop::begins, crate::proofs::Loop::ends))]
-fn take_definitions(
+fn take_members<M: Member>(
     alloc: Global,
     count: u32,
     bytes: &mut Cursor<'_>,
-) -> Result<Vec<Definition>, Fault>
+) -> Result<Vec<M>, Fault>
     ensures { GivesFromCheckpoint (λ x. (x.items, bytes.new)) result
-        (members definition_read count bytes.old) }
+        (members M.read count bytes.old) }
 {
     let mut members = Vec::new(alloc);
     for _ in 0..count {
-        let member = take_definition(bytes).ok_or(Fault::BadCheckpoint)?;
+        let member = M::take(alloc, bytes)?;
         members.push(member)?;
     }
     Ok(members)
 }
 
 #[tactic(auto, unfolding(rq_bytes::specs::Readers::counted_members))]
-fn take_all_definitions(alloc: Global, bytes: &mut Cursor<'_>) -> Result<Vec<Definition>, Fault>
+fn take_all<M: Member>(alloc: Global, bytes: &mut Cursor<'_>) -> Result<Vec<M>, Fault>
     ensures { GivesFromCheckpoint (λ x. (x.items, bytes.new)) result
-        (counted_members definition_read bytes.old) }
+        (counted_members M.read bytes.old) }
 {
     let count = bytes.u32().ok_or(Fault::BadCheckpoint)?;
-    take_definitions(alloc, count, bytes)
+    take_members(alloc, count, bytes)
 }
 
 #[tactic(auto, using(crate::proofs::Loop::begins, crate::proofs::Loop::ends))]
@@ -66,80 +64,6 @@ fn take_all_units(alloc: Global, bytes: &mut Cursor<'_>) -> Result<Vec<UnitNo>, 
     take_units(alloc, count, bytes)
 }
 
-#[tactic(auto, using(crate::proofs::Loop::begins, crate::proofs::Loop::ends))]
-fn take_registrants(
-    alloc: Global,
-    count: u32,
-    bytes: &mut Cursor<'_>,
-) -> Result<Vec<Registrant>, Fault>
-    ensures { GivesFromCheckpoint (λ x. (x.items, bytes.new)) result
-        (members registrant_read count bytes.old) }
-{
-    let mut members = Vec::new(alloc);
-    for _ in 0..count {
-        let member = take_registrant(bytes).ok_or(Fault::BadCheckpoint)?;
-        members.push(member)?;
-    }
-    Ok(members)
-}
-
-#[tactic(auto, unfolding(rq_bytes::specs::Readers::counted_members))]
-fn take_all_registrants(alloc: Global, bytes: &mut Cursor<'_>) -> Result<Vec<Registrant>, Fault>
-    ensures { GivesFromCheckpoint (λ x. (x.items, bytes.new)) result
-        (counted_members registrant_read bytes.old) }
-{
-    let count = bytes.u32().ok_or(Fault::BadCheckpoint)?;
-    take_registrants(alloc, count, bytes)
-}
-
-#[tactic(auto, using(crate::proofs::Loop::begins, crate::proofs::Loop::ends))]
-fn take_elements(
-    alloc: Global,
-    count: u32,
-    bytes: &mut Cursor<'_>,
-) -> Result<Vec<KeptElement>, Fault>
-    ensures { GivesFromCheckpoint (λ x. (x.items, bytes.new)) result
-        (members element_read count bytes.old) }
-{
-    let mut members = Vec::new(alloc);
-    for _ in 0..count {
-        let member = take_element(alloc, bytes)?;
-        members.push(member)?;
-    }
-    Ok(members)
-}
-
-#[tactic(auto, unfolding(rq_bytes::specs::Readers::counted_members))]
-fn take_all_elements(alloc: Global, bytes: &mut Cursor<'_>) -> Result<Vec<KeptElement>, Fault>
-    ensures { GivesFromCheckpoint (λ x. (x.items, bytes.new)) result
-        (counted_members element_read bytes.old) }
-{
-    let count = bytes.u32().ok_or(Fault::BadCheckpoint)?;
-    take_elements(alloc, count, bytes)
-}
-
-#[tactic(auto, using(crate::proofs::Loop::begins, crate::proofs::Loop::ends))]
-fn take_notes(alloc: Global, count: u32, bytes: &mut Cursor<'_>) -> Result<Vec<Note>, Fault>
-    ensures { GivesFromCheckpoint (λ x. (x.items, bytes.new)) result
-        (members note_read count bytes.old) }
-{
-    let mut members = Vec::new(alloc);
-    for _ in 0..count {
-        let member = take_note(bytes).ok_or(Fault::BadCheckpoint)?;
-        members.push(member)?;
-    }
-    Ok(members)
-}
-
-#[tactic(auto, unfolding(rq_bytes::specs::Readers::counted_members))]
-fn take_all_notes(alloc: Global, bytes: &mut Cursor<'_>) -> Result<Vec<Note>, Fault>
-    ensures { GivesFromCheckpoint (λ x. (x.items, bytes.new)) result
-        (counted_members note_read bytes.old) }
-{
-    let count = bytes.u32().ok_or(Fault::BadCheckpoint)?;
-    take_notes(alloc, count, bytes)
-}
-
 #[tactic(auto, unfolding(rq_model::specs::StateReading::state_read))]
 fn take_fields(alloc: Global, bytes: &mut Cursor<'_>) -> Result<KeptFields, Fault>
     ensures { GivesFromCheckpoint (λ x. (state_of x, bytes.new)) result
@@ -149,11 +73,11 @@ fn take_fields(alloc: Global, bytes: &mut Cursor<'_>) -> Result<KeptFields, Faul
     let greatest = bytes.u64().ok_or(Fault::BadCheckpoint)?;
     let committed = bytes.u64().ok_or(Fault::BadCheckpoint)?;
     let aborted = bytes.u64().ok_or(Fault::BadCheckpoint)?;
-    let definitions = take_all_definitions(alloc, bytes)?;
+    let definitions = take_all::<Definition>(alloc, bytes)?;
     let units = take_all_units(alloc, bytes)?;
-    let registrants = take_all_registrants(alloc, bytes)?;
-    let elements = take_all_elements(alloc, bytes)?;
-    let notes = take_all_notes(alloc, bytes)?;
+    let registrants = take_all::<Registrant>(alloc, bytes)?;
+    let elements = take_all::<KeptElement>(alloc, bytes)?;
+    let notes = take_all::<Note>(alloc, bytes)?;
     Ok(KeptFields {
         next,
         greatest,

@@ -1,14 +1,14 @@
-//! Members of a state from the front of the bytes that are left. After `None` nothing is said of
-//! what is left, and nobody reads on.
+//! Members of a state from the front of the bytes that are left. After `None`, what is left is not
+//! specified, and nobody reads on.
 
-ghost use Rattle.std.specs.Prelude.{◌≡◌, ◌≤◌, length, option_map, IfSome, Some};
+ghost use Rattle.std.specs.Prelude.{◌≡◌, ◌≤◌, ℕ, List, Option, length, option_map, IfSome, Some};
 ghost use Rattle.rq_model.specs.StateReading.{name_read, definition_read, id_from, id_read};
 ghost use Rattle.rq_model.specs.StateReading.{kind_read, operation_read, last_from, last_read};
 ghost use Rattle.rq_model.specs.StateReading.{registrant_read, mark_read, element_from};
 ghost use Rattle.rq_model.specs.StateReading.{element_read, note_read};
 ghost use Rattle.rq_bytes.specs.Readers.{number, made};
 ghost use Rattle.rq_state.specs.Views.{mark_of, kind_of, id_of, unit_of};
-ghost use Rattle.rq_state.specs.Reading.{GivesFromCheckpoint};
+ghost use Rattle.rq_state.specs.Reading.{GivesFromCheckpoint, passed};
 
 use crate::kept_element::KeptElement;
 use crate::members::{Definition, Last, Mark, Note, OpKind, Registrant};
@@ -209,4 +209,69 @@ pub(crate) fn take_note(bytes: &mut Cursor<'_>) -> Option<Note>
             element,
         },
     })
+}
+
+/// A member of one of a state's lists, and how it is read.
+pub(crate) trait Member: Drop {
+    ghost read: { List ℕ → Option (Self × List ℕ) };
+
+    /// The member at the front of the bytes.
+    fn take(alloc: Global, bytes: &mut Cursor<'_>) -> Result<Self, Fault>
+        ensures { GivesFromCheckpoint (λ x. (x, bytes.new)) result (read bytes.old) };
+
+    /// Goes past a member, and takes no memory.
+    fn pass(bytes: &mut Cursor<'_>) -> Option<()>
+        ensures { option_map (λ done. (done, bytes.new)) result ≡ passed read bytes.old };
+}
+
+impl Member for Definition {
+    ghost read = { definition_read };
+
+    fn take(_alloc: Global, bytes: &mut Cursor<'_>) -> Result<Definition, Fault> {
+        take_definition(bytes).ok_or(Fault::BadCheckpoint)
+    }
+
+    fn pass(bytes: &mut Cursor<'_>) -> Option<()> {
+        let _member = take_definition(bytes)?;
+        Some(())
+    }
+}
+
+impl Member for Registrant {
+    ghost read = { registrant_read };
+
+    fn take(_alloc: Global, bytes: &mut Cursor<'_>) -> Result<Registrant, Fault> {
+        take_registrant(bytes).ok_or(Fault::BadCheckpoint)
+    }
+
+    fn pass(bytes: &mut Cursor<'_>) -> Option<()> {
+        let _member = take_registrant(bytes)?;
+        Some(())
+    }
+}
+
+impl Member for Note {
+    ghost read = { note_read };
+
+    fn take(_alloc: Global, bytes: &mut Cursor<'_>) -> Result<Note, Fault> {
+        take_note(bytes).ok_or(Fault::BadCheckpoint)
+    }
+
+    fn pass(bytes: &mut Cursor<'_>) -> Option<()> {
+        let _member = take_note(bytes)?;
+        Some(())
+    }
+}
+
+impl Member for KeptElement {
+    ghost read = { element_read };
+
+    fn take(alloc: Global, bytes: &mut Cursor<'_>) -> Result<KeptElement, Fault> {
+        take_element(alloc, bytes)
+    }
+
+    fn pass(bytes: &mut Cursor<'_>) -> Option<()> {
+        let _member = element_fields(bytes)?;
+        Some(())
+    }
 }

@@ -1,6 +1,6 @@
-//! Members of a state behind what is spelled already.
+//! Appends members of a state to what is spelled already.
 
-ghost use Rattle.std.specs.Prelude.{◌++◌, ◌∷◌, [], length};
+ghost use Rattle.std.specs.Prelude.{◌≡◌, ◌++◌, ◌∷◌, [], ℕ, List, length};
 ghost use Rattle.std.specs.Int.{w16, w64, to_be_bytes};
 ghost use Rattle.rq_model.specs.StateSpelling.{name_bytes, element_number, kind_byte};
 ghost use Rattle.rq_model.specs.StateSpelling.{definition_bytes, last_bytes, registrant_bytes};
@@ -11,6 +11,7 @@ ghost use Rattle.rq_state.specs.Writing.{PutsSpelling};
 use crate::kept_element::KeptElement;
 use crate::members::{Definition, Last, Mark, Note, Registrant};
 use crate::writing::output::{put_id, put_kind, put_name, put_payload};
+use crate::writing::sizes::{definition_size, element_size, note_size, registrant_size};
 use rq_bytes::{put_u8, put_u16, put_u32, put_u64};
 use std::alloc::AllocError;
 
@@ -100,7 +101,7 @@ pub(crate) fn put_element(out: &mut Vec<u8>, element: &KeptElement) -> Result<()
     put_element_end(out, element)
 }
 
-// The kind, the tag and the element of a note's operation: its place stands in front.
+// The kind, the tag and the element of a note's operation; its place comes before them.
 fn put_done(out: &mut Vec<u8>, last: &Last) -> Result<(), AllocError>
     ensures { PutsSpelling out.old.items out.new.items
         (kind_byte last.now.kind ∷ (to_be_bytes w64 last.now.tag
@@ -127,4 +128,65 @@ pub(crate) fn put_note(out: &mut Vec<u8>, note: &Note) -> Result<(), AllocError>
     put_u64(out, note.unit.0)?;
     put_u32(out, note.queue.0)?;
     put_note_end(out, note)
+}
+
+/// A member of one of a state's lists, and how it is spelled.
+pub(crate) trait Spell: Drop {
+    ghost spelling: { Self → List ℕ };
+
+    /// Appends its spelling.
+    fn put(&self, out: &mut Vec<u8>) -> Result<(), AllocError>
+        ensures { PutsSpelling out.old.items out.new.items (spelling self.now) result };
+
+    /// How many bytes its spelling has.
+    fn size(&self) -> u32
+        ensures { result ≡ length (spelling self.now) };
+}
+
+impl Spell for Definition {
+    ghost spelling = { definition_bytes };
+
+    fn put(&self, out: &mut Vec<u8>) -> Result<(), AllocError> {
+        put_definition(out, self)
+    }
+
+    fn size(&self) -> u32 {
+        definition_size(self)
+    }
+}
+
+impl Spell for Registrant {
+    ghost spelling = { registrant_bytes };
+
+    fn put(&self, out: &mut Vec<u8>) -> Result<(), AllocError> {
+        put_registrant(out, self)
+    }
+
+    fn size(&self) -> u32 {
+        registrant_size(self)
+    }
+}
+
+impl Spell for KeptElement {
+    ghost spelling = { element_bytes };
+
+    fn put(&self, out: &mut Vec<u8>) -> Result<(), AllocError> {
+        put_element(out, self)
+    }
+
+    fn size(&self) -> u32 {
+        element_size(self)
+    }
+}
+
+impl Spell for Note {
+    ghost spelling = { note_bytes };
+
+    fn put(&self, out: &mut Vec<u8>) -> Result<(), AllocError> {
+        put_note(out, self)
+    }
+
+    fn size(&self) -> u32 {
+        note_size(self)
+    }
 }

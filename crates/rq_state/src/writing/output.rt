@@ -1,4 +1,4 @@
-//! Names, payloads, ids and kinds behind what is spelled already.
+//! Appends names, payloads, ids and kinds to what is spelled already.
 
 ghost use Rattle.std.specs.Prelude.{◌≤◌, ◌++◌, ◌∷◌, [], length};
 ghost use Rattle.std.specs.Int.{w16, w64, to_be_bytes};

@@ -1,4 +1,4 @@
-//! How long a spelling is, told before the first byte of it.
+//! How long a spelling is, known before its first byte is written.
 
 ghost use Rattle.std.specs.Prelude.{◌≡◌, ◌≤◌, ◌*◌, length, map};
 ghost use Rattle.std.specs.List.{flat_map};
@@ -12,9 +12,10 @@ use crate::fields::KeptFields;
 use crate::kept_element::KeptElement;
 use crate::members::{Definition, Last, Mark, Note, Registrant};
 use crate::state::State;
+use crate::writing::members::Spell;
 use rq_record::UnitNo;
 
-fn definition_size(definition: &Definition) -> u32
+pub(crate) fn definition_size(definition: &Definition) -> u32
     ensures { result ≡ length (definition_bytes definition.now) }
 {
     7 + definition.name.bytes().len() as u32
@@ -30,7 +31,7 @@ fn last_size(last: &Option<Last>) -> u32
     }
 }
 
-fn registrant_size(registrant: &Registrant) -> u32
+pub(crate) fn registrant_size(registrant: &Registrant) -> u32
     ensures { result ≡ length (registrant_bytes registrant.now) }
 {
     5 + registrant.name.bytes().len() as u32 + last_size(&registrant.last)
@@ -46,58 +47,25 @@ fn mark_size(mark: Mark) -> u32
     }
 }
 
-fn element_size(element: &KeptElement) -> u32
+pub(crate) fn element_size(element: &KeptElement) -> u32
     ensures { result ≡ length (element_bytes element.now) }
 {
     27 + mark_size(element.mark) + element.payload.bytes().len() as u32
 }
 
-fn note_size(note: &Note) -> u32
+pub(crate) fn note_size(note: &Note) -> u32
     ensures { result ≡ length (note_bytes note.now) }
 {
     38 + note.name.bytes().len() as u32
 }
 
-fn definitions_size(members: &[Definition]) -> u128
-    ensures size { result ≡ length (flat_map definition_bytes members.now) }
+fn size_of_all<M: Spell>(members: &[M]) -> u128
+    ensures size { result ≡ length (flat_map M.spelling members.now) }
     ensures small { result ≤ 4294967295 * length members.now }
 {
     let mut total = 0;
     for member in members {
-        total += definition_size(member) as u128;
-    }
-    total
-}
-
-fn registrants_size(members: &[Registrant]) -> u128
-    ensures size { result ≡ length (flat_map registrant_bytes members.now) }
-    ensures small { result ≤ 4294967295 * length members.now }
-{
-    let mut total = 0;
-    for member in members {
-        total += registrant_size(member) as u128;
-    }
-    total
-}
-
-fn elements_size(members: &[KeptElement]) -> u128
-    ensures size { result ≡ length (flat_map element_bytes members.now) }
-    ensures small { result ≤ 4294967295 * length members.now }
-{
-    let mut total = 0;
-    for member in members {
-        total += element_size(member) as u128;
-    }
-    total
-}
-
-fn notes_size(members: &[Note]) -> u128
-    ensures size { result ≡ length (flat_map note_bytes members.now) }
-    ensures small { result ≤ 4294967295 * length members.now }
-{
-    let mut total = 0;
-    for member in members {
-        total += note_size(member) as u128;
+        total += member.size() as u128;
     }
     total
 }
@@ -109,22 +77,22 @@ fn units_size(members: &[UnitNo]) -> u128
     8 * members.len() as u128
 }
 
-/// The number of bytes that spell a state, also where they are more than a checkpoint holds. It
-/// takes no memory.
+/// The number of bytes that spell a state, also if they are more than a checkpoint holds. It takes
+/// no memory.
 pub fn spelled_len(state: &State) -> u128
     ensures { result ≡ length (state_bytes state.now) }
 {
     fields_len(state.fields())
 }
 
-/// The same of fields whose lists are in order.
+/// The same for fields whose lists are in order.
 pub fn fields_len(fields: &KeptFields) -> u128
     ensures { result ≡ length (state_bytes (state_of fields.now)) }
 {
     // four numbers of 8 bytes and five counts of 4
-    52 + definitions_size(&fields.definitions)
+    52 + size_of_all(&fields.definitions)
         + units_size(&fields.units)
-        + registrants_size(&fields.registrants)
-        + elements_size(&fields.elements)
-        + notes_size(&fields.notes)
+        + size_of_all(&fields.registrants)
+        + size_of_all(&fields.elements)
+        + size_of_all(&fields.notes)
 }

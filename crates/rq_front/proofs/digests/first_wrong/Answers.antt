@@ -51,7 +51,7 @@ index-requires g c =
     c.with_min_len.ensures.base c.par_iter.ensures (omega arith) c.in-Ok.ensures c.in_ok-index.ensures in
     omega (arith, found.0)
 
--- it begins behind right spans
+-- it begins after right spans
 begins : (b : List ℕ) (spans : List Span) (ps : List Piece) (it there : Iter Piece) (k : ℕ) (p : Piece) → it ≡ there
     → iter_slice there ≡ ps → length ps < 2 ^ 64
     → AreSideBySide 0 ps (length spans)

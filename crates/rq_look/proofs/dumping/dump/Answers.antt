@@ -7,8 +7,8 @@ returns-clause-last g c =
     let held = g.W.Write.contents in
     let end = c.in_ok-end.ensures.end in
     let records = c.in_ok-put_records.ensures.only in
-    let closing = c.in_ok-put_closing.ensures.closing c.args.bytes.now end.0 end.1 end.2 in
-    let text = string_bytes c.put_records.new.text in (
+    let closing = c.in_ok-put_closing.ensures.closing c.args.at c.args.bytes.now end.0 end.1 end.2 in
+    let text = string_bytes c.put_origin.new.text in (
       records.0 ++ text,
       closing.0,
       closing.1,

@@ -4,11 +4,11 @@ use Rattle.rq_look.proofs.Puts.{same_line}
 use Rattle.rq_look.proofs.dumping.put_closing.Goals as goal
 
 pub returns-in_ok-put_end-clause-closing : goal.returns-in_ok-put_end-clause-closing
-returns-in_ok-put_end-clause-closing c = λ b r is e.
+returns-in_ok-put_end-clause-closing c = λ at b r is e.
     let reason = string_bytes c.args.end.now.reason in
     let line : List ℕ = end_line r reason in (
       line,
-      subst (λ (j : Bool). IsClosing b j line) (sym c.if-wanted.false) (r, reason, is, refl),
+      subst (λ (j : Bool). IsClosing at b j line) (sym c.if-wanted.false) (r, reason, is, refl),
       c.in_ok-put_end.ensures ∙ ap (λ (t : List ℕ). string_bytes c.args.text.now ++ t)
           (same_line r c.args.end.now reason e),
     )

@@ -2,7 +2,7 @@ use Rattle.std.proofs.Common.{◌≡◌, ℕ, List, ◌++◌, length}
 use Rattle.std.specs.Io.KnownBytes.{Appends}
 use Rattle.rq_report.proofs.writing.write_all.Given as goal
 
--- what stands before the rest is written, and the writer has not failed
+-- what comes before the rest is written, and the writer has not failed
 abbrev pub invariant-loop-rest : goal.invariant-loop-rest
 invariant-loop-rest g l =
     let held = g.W.Output.contents in

@@ -1,30 +1,20 @@
-use Rattle.std.proofs.Common.{◌≡◌, List, map, subst, sym, ◌∙◌}
-use Rattle.rq_model.specs.Records.{Two}
-use Rattle.rq_model.specs.States.{State, empty}
-use Rattle.rq_model.specs.Machine.{run}
-use Rattle.rq_record.specs.Views.{Record, record_of, version_of}
-use Rattle.rq_catalog.specs.Analyses.{IsAnalysis}
-use Rattle.rq_catalog.proofs.Fronts.{analysis_is_wider}
+use Rattle.std.proofs.Common.{map, subst}
+use Rattle.std.specs.Prelude.{IfOk}
+use Rattle.rq_model.specs.States.{State}
+use Rattle.rq_record.specs.Views.{record_of, version_of}
+use Rattle.rq_restart.specs.RedoneFronts.{IsStateBehind}
 use Rattle.rq_restart.specs.Views.{why_of}
-use Rattle.rq_restart.proofs.RedoneFronts.{redone}
+use Rattle.rq_restart.proofs.RedoneFronts.{redoes}
 use Rattle.rq_restart.proofs.redone.redone_front.Goals as goal
-
-pub replay_analysed-requires-clause-analysis : goal.replay_analysed-requires-clause-analysis
-replay_analysed-requires-clause-analysis g c κs within =
-    let front = c.in_ok-version.front in
-    let is = c.in_ok-version.ensures in
-    let wide = analysis_is_wider c.versions.ensures.two (version_of c.in_ok-version.version) empty
-    (map record_of front.records.items) front.analysis is.front.longest.begins.lawful is.analysis in
-    let here = subst (λ (xs : List Record). IsAnalysis Two empty (map record_of xs) front.analysis)
-    (sym c.deref.ensures.value) wide in
-    subst (λ (s : State). IsAnalysis Two s (map record_of c.deref.result.now) front.analysis) (sym c.empty.ensures) here
 
 pub returns : goal.returns
 returns g c =
+    let b = c.args.bytes.now in
     let front = c.in_ok-version.front in
     let is = c.in_ok-version.ensures in
+    let version = version_of c.in_ok-version.version in
     let rs = map record_of front.records.items in
-    let state : c.in_ok-state.state ≡ run empty rs = c.in_ok-state.ensures.state
-    ∙ (λ i. run (c.empty.ensures i) (map record_of (c.deref.ensures.value i))) in
-    redone c.frames_join.ensures.end c.args.bytes.now rs _ (why_of front.why) is.short is.header is.front
-    c.before-2.ensures state
+    redoes c.frames_join.ensures.end b version rs front.end (why_of front.why) is.short is.header is.front
+    c.state_behind-2.result
+    (subst (λ (s : State). IfOk c.state_behind-2.result (IsStateBehind version s b rs front.end)) c.empty.ensures
+    c.state_behind-2.ensures.behind) c.state_behind-2.ensures.refused

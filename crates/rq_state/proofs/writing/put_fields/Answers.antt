@@ -13,13 +13,13 @@ put_members-requires c = are_few _ c.requires.well_formed c.requires.next
 pub returns : goal.returns
 returns c =
     let s = state_of c.args.fields.now in
-    let defined : c.put_definitions.new.out.items
+    let defined : c.put_all.new.out.items
     ≡ c.put_numbers.new.out.items ++ counted definition_bytes s.definitions =
-    c.in_ok-put_definitions.ensures ∙ ap (λ ds. c.put_numbers.new.out.items ++ counted definition_bytes ds)
+    c.in_ok-put_all.ensures ∙ ap (λ ds. c.put_numbers.new.out.items ++ counted definition_bytes ds)
     c.deref.ensures.value in
-    let open_units : c.put_units.new.out.items ≡ c.put_definitions.new.out.items ++ counted (to_be_bytes w64) s.units =
+    let open_units : c.put_units.new.out.items ≡ c.put_all.new.out.items ++ counted (to_be_bytes w64) s.units =
     grind arith in
-    joined_all c.args.out.now.items c.put_numbers.new.out.items c.put_definitions.new.out.items
+    joined_all c.args.out.now.items c.put_numbers.new.out.items c.put_all.new.out.items
     c.put_units.new.out.items c.put_members.new.out.items
     (to_be_bytes w64 s.next) (to_be_bytes w64 s.greatest) (to_be_bytes w64 s.committed) (to_be_bytes w64 s.aborted)
     (counted definition_bytes s.definitions) (counted (to_be_bytes w64) s.units)

@@ -1,11 +1,11 @@
 use Rattle.std.proofs.Common.{◌≡◌, ℕ, ◌+◌, ◌≤◌, ◌++◌, List, length, refl, sym, ap, subst, ◌∙◌, arith}
+use Rattle.std.specs.Prelude.{if◌then◌else◌}
 use Rattle.rq_model.specs.Spelling.{body_of}
 use Rattle.rq_model.specs.Frames.{IsBodyLength, frame, digest}
 use Rattle.rq_model.specs.Machine.{is_lawful, run, step}
-use Rattle.std.specs.Bool.{if◌then◌else◌}
-use Rattle.rq_record.specs.Views.{Record}
-use Rattle.rq_catalog.specs.Judges.{StandsIn}
+use Rattle.rq_record.specs.Views as code
 use Rattle.rq_record.specs.Views.{record_of}
+use Rattle.rq_catalog.specs.Judges.{StandsIn}
 use Rattle.rq_journal.proofs.Taking.{body_fits, one_longer, stands_still, moves_on}
 use Rattle.rq_journal.proofs.appender.Appender.append.Goals as goal
 
@@ -43,13 +43,19 @@ returns-in-Ok-true-clause-taken c at rs h =
     c.in-Ok-append_frame.ensures.last ∙ ap (digest a.last) body in
     let bytes = c.in-Ok-append_frame.ensures.bytes
     ∙ (λ i. c.args.out.now.items ++ frame (h.last i) (body i)) in
+    let here = run at.state rs in
+    let taken = c.in-Ok-true.field-0 in
+    let kept = c.in-Ok-of.ensures.kept in
     let room : a.len + (36 + c.len-size.result) ≤ 4294967295 =
     omega (arith, c.if-size-saturating_sub.false, c.saturating_sub.ensures) in (
       moves_on at rs r a c.take.new.self c.in-Ok-append_frame.last
           (a.len + (36 + c.len-size.result)) c.in-Ok-true.field-0 h c.in-Ok.ensures.spelled
           c.in-Ok-true.field-0-test
-          (c.in-Ok-true.ensures.lawful at.version _ h.judge ∙ ap (λ (x : Record). is_lawful at.version (run at.state rs) (record_of x)) c.in-Ok-of.ensures.kept)
-          (subst (λ (x : Record). StandsIn at.version c.take.new.self (if c.in-Ok-true.field-0 then step (run at.state rs) (record_of x) else run at.state rs)) c.in-Ok-of.ensures.kept (c.in-Ok-true.ensures.stands at.version _ h.judge)) last (omega (arith, size)) room _ refl refl refl,
+          (c.in-Ok-true.ensures.lawful at.version here h.judge
+          ∙ ap (λ (k : code.Record). is_lawful at.version here (record_of k)) kept)
+          (subst (λ (k : code.Record). StandsIn at.version c.take.new.self
+          (if taken then step here (record_of k) else here)) kept
+          (c.in-Ok-true.ensures.stands at.version here h.judge)) last (omega (arith, size)) room _ refl refl refl,
       bytes,
     )
 
@@ -58,7 +64,9 @@ returns-in-Ok-false-clause-refused c at rs h =
     let r = record_of c.args.next.now in
     let made = c.in-Ok.ensures.bytes ∙ ap (λ (l : List ℕ). l ++ body_of r) c.new-body.ensures.items in
     let size : c.len-size.result ≡ length (body_of r) = omega (arith, c.len-size.ensures, ap length made) in (
-      sym (c.in-Ok-false.ensures.lawful at.version _ h.judge ∙ ap (λ (x : Record). is_lawful at.version (run at.state rs) (record_of x)) c.in-Ok-of.ensures.kept) ∙ c.in-Ok-false.field-0-test,
+      sym (c.in-Ok-false.ensures.lawful at.version (run at.state rs) h.judge
+          ∙ ap (λ (k : code.Record). is_lawful at.version (run at.state rs) (record_of k)) c.in-Ok-of.ensures.kept)
+          ∙ c.in-Ok-false.field-0-test,
       omega (
         arith,
         one_longer at rs r,
@@ -72,6 +80,10 @@ returns-in-Ok-false-clause-refused c at rs h =
 
 pub returns-in-Ok-false-clause-stays : goal.returns-in-Ok-false-clause-stays
 returns-in-Ok-false-clause-stays c at rs h =
+    let here = run at.state rs in
+    let taken = c.in-Ok-false.field-0 in
     stands_still at rs (record_of c.args.next.now) c.args.self.now c.take.new.self
-    c.in-Ok-false.field-0 h c.in-Ok-false.field-0-test
-    (subst (λ (x : Record). StandsIn at.version c.take.new.self (if c.in-Ok-false.field-0 then step (run at.state rs) (record_of x) else run at.state rs)) c.in-Ok-of.ensures.kept (c.in-Ok-false.ensures.stands at.version _ h.judge)) _ refl refl refl
+    taken h c.in-Ok-false.field-0-test
+    (subst (λ (k : code.Record). StandsIn at.version c.take.new.self
+    (if taken then step here (record_of k) else here)) c.in-Ok-of.ensures.kept
+    (c.in-Ok-false.ensures.stands at.version here h.judge)) _ refl refl refl

@@ -1,0 +1,492 @@
+#!/usr/bin/env python3
+"""Holds what `rqlook` shows against what `rq` says and what the log's bytes are, over many logs, and counts what differs.
+
+usage: look.py RQ RQLOOK [--own] [--seeds N] [--stories N] [--mib N] [--scripts N] [--speed MIB] [--folder DIR]
+For each shape and seed of the peer's logs: the report as JSON is held against its schema, told as text again, and compared with `rq
+restart`; the lines of each queue alone with those of the whole; the script is made a log again by `rq make`, and compared byte by
+byte; each line of a dump, whole and by each option, as text and as JSON, with what is made of the log's bytes here (looked.py); so are
+the stories of some elements and units; `check` is compared with `rq audit`, and the page with the report. Then a small log is damaged
+in each of the six ways, and what the dump says of its end is compared; odd payloads are shown; a script ends before a record that no
+line tells; and wrong words, a missing file, a closed output and refused memory are tried. With --scripts, so many more logs are made,
+told as scripts and made again. With --speed, a dump and a check of a log of so many MiB are timed beside a restart and an audit.
+With --own no peer is wanted: the logs are those of the scripts in examples/, and one of units on many queues with checkpoints. Each log
+with a true checkpoint is carried on there into a file of its own, too: what is shown of it must be what is shown of the whole log from
+there on, at its offsets. The last line is `N passed, M failed`, by answers.
+"""
+from __future__ import annotations
+import argparse, glob, json, os, random, resource, shutil, subprocess, sys
+from html.parser import HTMLParser
+
+sys.path.insert(0, os.path.dirname(os.path.dirname(os.path.abspath(__file__))))
+from common import COMPARED, HEADER, HERE, NO_RECORD, UNLAWFUL, best, bodies_of, built_peer, chained, checkpoints_script, header_of, log_of, parsed, parser, write_log
+from looked import Stories, compact, is_hidden, line_of, records_of, shown
+from records import begin, commit, define, enqueue, register
+from schema import report_misfits
+
+compared = differing = 0
+
+
+def check(name: str, got: object, want: object) -> None:
+    global compared, differing
+    compared += 1
+    if got != want:
+        differing += 1
+        print(f"{name}: {str(got)[:300]!r} in place of {str(want)[:300]!r}", flush=True)
+
+
+def told(*words: str) -> tuple[int, str]:
+    done = subprocess.run(words, capture_output=True)
+    return done.returncode, done.stdout.decode()
+
+
+def or_dash(value: object) -> str:
+    return "-" if value is None else str(value)
+
+
+def text_of(report: dict) -> str:
+    """The report's text, from its JSON."""
+    front, units = report["front"], report["units"]
+    lines = [f"front {front['records']} records, {front['used']} of {front['total']} bytes, {front['why']}",
+             f"units {units['committed']} committed, {units['aborted']} aborted, {units['cut_off']} cut off"]
+    for queue in report["queues"]:
+        lines.append(f"queue {queue['number']} {queue['name']} limit {queue['limit']} error {or_dash(queue['error'])}")
+        for e in queue["elements"]:
+            lines.append(f"e {e['id']} from {e['from']} priority {e['priority']} attempts {e['attempts']} {e['payload']['hex'] or '-'}")
+            if "text" in e["payload"]:
+                check("a payload's text", e["payload"]["text"].encode().hex(), e["payload"]["hex"])
+        for r in queue["registrants"]:
+            last = r["last"]
+            lines.append(f"r {r['name']} " + (f"{last['kind']} tag {last['tag']} element {or_dash(last['element'])}" if last else "none"))
+    return "\n".join(lines) + "\n"
+
+
+def by_queue(text: str) -> list[str]:
+    """The lines of each queue of a report."""
+    queues: list[str] = []
+    for line in text.splitlines(keepends=True)[2:]:
+        if line.startswith("queue "):
+            queues.append("")
+        queues[-1] += line
+    return queues
+
+
+def same_reports(rq: str, look: str, log: str, draw: random.Random) -> None:
+    _, want = told(rq, "restart", log, "4", "1000")
+    check(f"{log} as text", told(look, "report", log), (0, want))
+    report = json.loads(told(look, "report", log, "--json")[1])
+    check(f"{log} as JSON", text_of(report), want)
+    check(f"{log} as JSON by its schema", report_misfits(report), [])
+    queues = by_queue(want)
+    # the last one is always among them: behind its lines no other's begin
+    for number in {*draw.sample(range(len(queues)), min(3, len(queues))), len(queues) - 1}:
+        check(f"{log}, queue {number}", told(look, "report", log, "--queue", str(number))[1], queues[number])
+        one = json.loads(told(look, "report", log, "--json", "--queue", str(number))[1])
+        check(f"{log}, queue {number} as JSON", by_queue(text_of(one)), [queues[number]])
+
+
+def same_script(rq: str, look: str, log: str, folder: str) -> None:
+    script, made = os.path.join(folder, "look.script"), os.path.join(folder, "look.log")
+    with open(script, "wb") as to:
+        check(f"{log}'s script", subprocess.run([look, "script", log], stdout=to).returncode, 0)
+    with open(log, "rb") as source:
+        version = source.read(8)[7]
+    subprocess.run([rq, "make2" if version == 2 else "make", script, made], check=True)
+    check(f"{log} of its script", subprocess.run(["cmp", "-s", log, made]).returncode, 0)
+
+
+def wanted_by(draw: random.Random, records: list[dict]) -> list[tuple[list[str], list[dict]]]:
+    """Each option of a dump with a value that some record has, two of them together, and the records that fit."""
+    chosen = {field: draw.choice([it for it in records if field in it])[field]
+              for field in ("unit", "queue", "registrant", "kind") if any(field in it for it in records)}
+    found = [([f"--{field}", str(value)], [it for it in records if it.get(field) == value]) for field, value in chosen.items()]
+    start = draw.choice(records)["offset"] - draw.randrange(2)
+    behind = [it for it in records if it["offset"] >= start]
+    found.append((["--from", str(start)], behind))
+    found.append((["--limit", "3"], records[:3]))
+    both = [it for it in behind if it["kind"] == "enqueue"]
+    found.append((["--from", str(start), "--kind", "enqueue", "--limit", "2"], both[:2]))
+    return found
+
+
+def same_lines(look: str, log: str, words: list[str], records: list[dict], closing: tuple[str, dict]) -> None:
+    """A dump with these options as JSON, as text and as text in full."""
+    as_json = [compact(it) for it in records] + [compact(closing[1])]
+    check(f"{log} {words} as JSON", told(look, "dump", log, "--json", *words), (0, "\n".join(as_json) + "\n"))
+    for full in ([], ["--full"]):
+        want = [line_of(it, bool(full)) for it in records] + [closing[0]]
+        check(f"{log} {words} {full}", told(look, "dump", log, *words, *full), (0, "\n".join(want) + "\n"))
+
+
+def same_dump(look: str, log: str, records: list[dict], draw: random.Random) -> None:
+    """Compares each line of the dump, of all records and of those that an option asks for."""
+    size, count = os.path.getsize(log), len(records)
+    line = f"front ends behind {count} records, at {size} of {size} bytes, whole: nothing follows"
+    front = {"records": count, "used": size, "total": size, "why": "whole", "reason": "nothing follows"}
+    for words, wanted in [([], records)] + wanted_by(draw, records):
+        same_lines(look, log, words, wanted, (line, {"front": front}))
+
+
+def same_check(rq: str, look: str, log: str) -> None:
+    false = [line.split()[1] for line in told(rq, "audit", log, "4")[1].splitlines() if line.endswith("false")]
+    whole = told(rq, "restart", log, "4", "1000")[1].split("\n", 1)[0].endswith("whole")
+    status, text = told(look, "check", log)
+    check(f"{log}'s findings", (status, text.count("the checkpoint at"), text.count("front ends")),
+          (0 if whole and not false else 1, len(false), 0 if whole else 1))
+    check(f"{log}'s findings, not said", told(look, "check", log, "-q"), (status, ""))
+
+
+def same_stories(look: str, log: str, records: list[dict], count: int, draw: random.Random) -> None:
+    """The stories of some elements and some units, among them the last ones, which may be open."""
+    stories = Stories(records, os.path.getsize(log))
+    for subject, word, told_of in (("element", "story", stories.elements), ("unit", "unit", stories.units)):
+        numbers = sorted(told_of)
+        for it in draw.sample(numbers, min(count, len(numbers))) + numbers[-3:]:
+            check(f"{log}, the story of {subject} {it}", told(look, word, log, str(it)), (0, stories.of(subject, it)))
+    check(f"{log}, the story of no element", told(look, "story", log, str(len(records))), (1, ""))
+
+
+class Page(HTMLParser):
+    """The tags of a page, and the texts of its tables' cells, row by row."""
+
+    def __init__(self) -> None:
+        super().__init__()
+        self.tags: set[str] = set()
+        self.words: set[str] = set()
+        self.rows: list[list[str]] = []
+        self.inside = False
+
+    def handle_starttag(self, tag: str, attrs: list[tuple[str, str | None]]) -> None:
+        self.tags.add(tag)
+        self.words.update(name for name, _ in attrs)
+        if tag == "tr":
+            self.rows.append([])
+        if tag == "td":
+            self.rows[-1].append("")
+        self.inside = tag == "td" or self.inside and tag != "tr"
+
+    def handle_endtag(self, tag: str) -> None:
+        self.inside = self.inside and tag != "td"
+
+    def handle_data(self, data: str) -> None:
+        if self.inside and self.rows and self.rows[-1]:
+            self.rows[-1][-1] += data
+
+
+TAGS = {"html", "head", "meta", "title", "style", "body", "h1", "h2", "p", "bdi", "table", "tr", "th", "td", "svg", "g", "rect", "path",
+        "div", "span", "ul", "li", "details", "summary"}
+WORDS = {"lang", "charset", "http-equiv", "content", "name", "class", "colspan", "viewbox", "preserveaspectratio", "role", "x", "y", "width",
+         "height", "d"}
+
+
+def page_of(look: str, log: str) -> Page:
+    status, text = told(look, "page", log, "-")
+    page = Page()
+    page.feed(text)
+    check(f"{log}'s page has other parts", (status, page.tags - TAGS, page.words - WORDS), (0, set(), set()))
+    return page
+
+
+def same_page(look: str, log: str) -> None:
+    """The rows of the page's queues, elements and registrants against the report."""
+    report, page = json.loads(told(look, "report", log, "--json")[1]), page_of(look, log)
+    rows = [row for row in page.rows if len(row) in (4, 5, 7)]
+    want = []
+    for queue in report["queues"]:
+        want.append([str(queue["number"]), queue["name"], str(queue["limit"]), or_dash(queue["error"]), str(len(queue["elements"]))])
+        want += [[str(e["id"]), str(e["from"]), str(e["priority"]), str(e["attempts"]), shown(e["payload"], False)]
+                 for e in queue["elements"][:1000]]
+        want += [[r["name"]] + ([r["last"]["kind"], str(r["last"]["tag"]), or_dash(r["last"]["element"])] if r["last"] else ["-", "", ""])
+                 for r in queue["registrants"]]
+    check(f"{log}'s page", [row[:5] if len(row) == 7 else row for row in rows], want)
+
+
+def damages(log: bytes) -> list[tuple[str, str, bytes]]:
+    """A log damaged in each of the six ways, the first being none, with what the dump must say of its end."""
+    bodies, end = bodies_of(log), len(log)
+    last = end - 36 - len(bodies[-1])
+    behind = chained(log[:HEADER], bodies + [UNLAWFUL])
+    return [
+        ("whole", f"{end} of {end} bytes, whole: nothing follows", log),
+        ("cut", f"{last} of {end - 1} bytes, cut: {end - 1 - last} bytes follow, and the frame has {end - last}", log[:-1]),
+        ("length", f"{end} of {end + 4} bytes, length: a body of 0 bytes is stated, and one has 1 to 268435456", log + bytes(4)),
+        ("chain", f"{last} of {end} bytes, chain: the digest is {log[-32:-1].hex()}{log[-1] ^ 1:02x}, and that of the bytes {log[-32:].hex()}",
+         log[:-1] + bytes([log[-1] ^ 1])),
+        ("form", f"{end} of {end + 45} bytes, form: byte 0 of the body: no record has the kind 0", chained(log[:HEADER], bodies + [NO_RECORD])),
+        ("law", f"{end} of {end + 45} bytes, law: unit {2**64 - 1} is not open", behind),
+    ]
+
+
+def reasons(rq: str, look: str, log: str, folder: str) -> None:
+    path = os.path.join(folder, "look.damaged")
+    with open(log, "rb") as source:
+        whole = source.read()
+    lines = [line_of(it, False) for it in records_of(bodies_of(whole))]
+    for why, want, text in damages(whole):
+        with open(path, "wb") as to:
+            to.write(text)
+        front = lines[:-1] if why in ("cut", "chain") else lines
+        end = f"front ends behind {len(front)} records, at {want}"
+        check(f"the lines of a log that ends by {why}", told(look, "dump", path)[1].splitlines(), [*front, end])
+        said = told(look, "dump", path, "--limit", "0")[1]
+        check(f"what ends a log by {why}", said.split(" records, at ", 1)[1], want + "\n")
+        front = json.loads(told(look, "dump", path, "--limit", "0", "--json")[1])["front"]
+        check(f"the same as JSON, {why}", (front["why"], front["reason"]), (why, want.split(": ", 1)[1]))
+        check(f"a report's end as JSON, {why}", json.loads(told(look, "report", path, "--json")[1])["front"], front)
+        check(f"a page's end, {why}", [f"{why}: {front['reason']}"] in page_of(look, path).rows, True)
+        check(f"a report's front by {why}", told(rq, "restart", path, "4", "1000")[1].split("\n", 1)[0],
+              f"front {front['records']} records, {front['used']} of {front['total']} bytes, {why}")
+        same_check(rq, look, path)
+
+
+ODD = ["<script>alert(1)</script>", "</td></table>", "&amp; \" ' \\", "\u202egnp.exe", "\u4e2d" * 20, "\u4e2d" * 32, "\u4e2d" * 33, "x" * 32, "x" * 33,
+       "a\tb", "a\nb", "\x1b[2J", "\x7f", "\x9b2J", "", "e\u0301", "\u05d0\u05d1", "\U0001f600", *(f"a{c}b" for c in
+       "\u00ad\u061c\u200b\u200c\u200d\u200e\u200f\u2028\u2029\u202a\u202d\u2060\u2066\u2069\u206f\ufeff\ufff9\U0001d173\U000e0041")]
+
+
+def unseen(look: str, log: str) -> None:
+    """No line shows a character that is hidden, and JSON tells each by its number."""
+    for words in (["dump", log], ["dump", log, "--full"], ["dump", log, "--json"], ["report", log], ["report", log, "--json"], ["unit", log, "1"],
+                  ["script", log], ["page", log, "-"]):
+        status, text = told(look, *words)
+        check(f"what {words} shows", (status, [c for c in text if c != "\n" and is_hidden(c)]), (0, []))
+
+
+def made_log(rq: str, path: str, command: str, lines: list[str]):
+    """The log of a script of these lines, as a file beside it, and its records."""
+    script, log = f"{path}.script", f"{path}.log"
+    with open(script, "w", encoding="utf-8") as to:
+        to.write("\n".join(lines) + "\n")
+    subprocess.run([rq, command, script, log], check=True)
+    with open(log, "rb") as source:
+        return log, records_of(bodies_of(source.read()))
+
+
+def odd_payloads(rq: str, look: str, folder: str) -> None:
+    """Payloads that look like HTML, that have characters of many bytes, or that are no text."""
+    payloads = [text.encode() for text in ODD] + [b"\xff" * 32, b"\xff" * 33]
+    lines = ["define jobs 0 -", "begin 1"] + [f"enqueue 1 0 5 - 0 {payload.hex() or '-'}" for payload in payloads] + ["commit 1"]
+    log, records = made_log(rq, os.path.join(folder, "odd"), "make", lines)
+    same_dump(look, log, records, random.Random(2))
+    same_reports(rq, look, log, random.Random(2))
+    same_stories(look, log, records, 20, random.Random(3))
+    same_page(look, log)
+    unseen(look, log)
+
+
+def kills(rq: str, look: str, folder: str) -> None:
+    """KILLs of elements that are of another queue, held by a unit, not free yet, or free, and of none."""
+    # elements 3 to 5, and 12 of a unit that stays open
+    lines = ["define jobs 0 -", "define others 0 -", "begin 1", "enqueue 1 0 5 - 0 61", "enqueue 1 0 5 - 0 62", "enqueue 1 0 5 - 0 63"]
+    lines += ["kill 0 3", "commit 1", "kill 1 3", "kill 1 4", "begin 2", "dequeue 2 0 - 0", "enqueue 2 1 5 - 0 64", "kill 0 3"]
+    lines += ["kill 0 4", "kill 0 4", "kill 1 5", "kill 0 99"]
+    log, records = made_log(rq, os.path.join(folder, "kills"), "make2", lines)
+    same_dump(look, log, records, random.Random(4))
+    same_reports(rq, look, log, random.Random(4))
+    same_stories(look, log, records, 20, random.Random(4))
+
+
+def untold(look: str, folder: str) -> None:
+    """A script of a log in which the registrant `-` does something: the lines before that, and which record it is."""
+    log = os.path.join(folder, "untold.log")
+    for count in (0, 1, 3000, 20000):
+        bodies = [define(b"jobs"), register(0, b"-"), begin(1), *[enqueue(1, 0)] * count, enqueue(1, 0, b"-", 1), commit(1)]
+        write_log(log, header_of(1), bodies)
+        done = subprocess.run([look, "script", log], stdout=subprocess.PIPE, stderr=subprocess.PIPE)
+        lines = ["define jobs 0 -", "register 0 -", "begin 1"] + ["enqueue 1 0 5 - 0 61"] * count
+        check(f"a script up to record {len(lines)}", (done.returncode, done.stdout.decode().splitlines(), done.stderr.decode()),
+              (1, lines, f"rqlook: {log}: no script tells record {len(lines)}\n"))
+
+
+def said(*words: str | bytes, **how: object) -> tuple[int, str]:
+    done = subprocess.run(words, stdout=subprocess.DEVNULL, stderr=subprocess.PIPE, **how)
+    return done.returncode, done.stderr.decode(errors="replace")
+
+
+def unread(*words: str) -> tuple[int, str]:
+    """With an output whose reader has gone before a byte is written."""
+    read_end, write_end = os.pipe()
+    os.close(read_end)
+    done = subprocess.run(words, stdout=write_end, stderr=subprocess.PIPE)
+    os.close(write_end)
+    return done.returncode, done.stderr.decode(errors="replace")
+
+
+def cut_off(log: str, folder: str) -> str:
+    """A log whose last byte is missing."""
+    path = os.path.join(folder, "look.cut")
+    with open(log, "rb") as source, open(path, "wb") as to:
+        to.write(source.read()[:-1])
+    return path
+
+
+def refusals(look: str, log: str, folder: str) -> None:
+    """What ends the program before it is done: its status, and what it says."""
+    check("words that are no text", said(look, "dump", b"\xff")[0], 2)
+    check("no command", said(look, "show", log)[0], 2)
+    check("65 workers", said(look, "check", log, "--workers", "65"), (2, "rqlook: workers are 1 to 64\n"))
+    check("no file", said(look, "dump", "/no/such"), (3, "rqlook: /no/such: No such file or directory (os error 2)\n"))
+    check("a name that hides", said(look, "dump", "/no/\x1b[2J\u202e"),
+          (3, "rqlook: /no/\\u{1b}[2J\\u{202e}: No such file or directory (os error 2)\n"))
+    check("no log", said(look, "dump", look), (1, f"rqlook: {look}: not a log\n"))
+    check("a page nowhere", said(look, "page", log, "/no/such"), (3, "rqlook: /no/such: No such file or directory (os error 2)\n"))
+    check("a page over its log", said(look, "page", log, os.path.join(folder, ".", os.path.basename(log)))[0], 2)
+    with open(log, "rb") as source:
+        check("a page over standard input's file", said(look, "page", "-", log, stdin=source)[0], 2)
+    aside = os.path.join(folder, "look.aside")
+    os.makedirs(aside, exist_ok=True)
+    shutil.copy(log, os.path.join(aside, "-"))
+    check("a page of a file that is named -", said(look, "page", "./-", "-", cwd=aside)[0], 0)
+    check("the version", told(look, "--version")[0], 0)
+    little = lambda: resource.setrlimit(resource.RLIMIT_AS, (48 << 20, 48 << 20))
+    big = os.path.join(folder, "look.big")
+    with open(big, "wb") as to:
+        to.truncate(64 << 20)
+    check("a log that memory does not hold", said(look, "dump", big, preexec_fn=little), (4, f"rqlook: {big}: resources\n"))
+    reader = subprocess.Popen([look, "dump", log], stdout=subprocess.PIPE, stderr=subprocess.PIPE)
+    reader.stdout.readline()
+    reader.stdout.close()
+    check("a closed output", (reader.wait(), reader.stderr.read()), (0, b""))
+    check("findings that nobody reads", unread(look, "check", cut_off(log, folder)), (1, ""))
+    check("a dump that nobody reads", unread(look, "dump", log), (0, ""))
+    check("a name that begins with a hyphen", said(look, "dump", log, "--registrant", "-x"), (0, ""))
+
+
+def more_scripts(rq: str, look: str, peer: str, folder: str, count: int) -> None:
+    """So many logs, told as scripts and made again; none is kept."""
+    path = os.path.join(folder, "look.once")
+    for seed in range(1000, 1000 + count):
+        subprocess.run([peer, "gen", path, COMPARED[seed % len(COMPARED)], str(seed), "1"], check=True, stderr=subprocess.DEVNULL)
+        same_script(rq, look, path, folder)
+
+
+# Behind the header of a log that was carried on, and where its checkpoint stands.
+GAP = b"\xff\xff\xff\xffrq carried log at 96"
+CARRIED_AT = 96
+
+
+def moved(line: str, by: int) -> str:
+    """A line of a record, so many bytes behind where it stood."""
+    offset, rest = line.split(" ", 1)
+    return f"{int(offset) + by} {rest}"
+
+
+def story_behind(story: str, at: int, end: list[str]) -> list[str]:
+    """The lines of a story from an offset on, where it is carried to, and the lines of its end."""
+    lines = story.splitlines()
+    last = next(place for place, line in enumerate(lines) if line.startswith("front ends"))
+    kept = [moved(line, CARRIED_AT - at) for line in lines[:last] if int(line.split(" ", 1)[0]) >= at]
+    return kept + end + lines[last + 1:] if kept else []
+
+
+def carried_stories(look: str, path: str, stories: Stories, at: int, end: list[str], draw: random.Random) -> None:
+    """What an open unit put in or took is told by number when it ends: so lines are compared without their order."""
+    for subject, word, told_of in (("element", "story", stories.elements), ("unit", "unit", stories.units)):
+        for it in draw.sample(sorted(told_of), min(10, len(told_of))) + sorted(told_of)[-3:]:
+            want = story_behind(stories.of(subject, it), at, end)
+            status, text = told(look, word, path, str(it))
+            check(f"{path}, the story of {subject} {it}", (status, sorted(text.splitlines())), (0 if want else 1, sorted(want)))
+
+
+def carried(rq: str, look: str, log: str, folder: str, draw: random.Random) -> None:
+    """The log from a true checkpoint on, in a file of its own."""
+    true = [int(line.split()[1]) for line in told(rq, "audit", log, "4")[1].splitlines() if line.endswith("true")]
+    if not true:
+        return
+    at, path = draw.choice(true), os.path.join(folder, "look.carried")
+    with open(log, "rb") as source:
+        whole = source.read()
+    with open(path, "wb") as to:
+        to.write(whole[:HEADER] + GAP + whole[at - 32:])
+    records, size = records_of(bodies_of(whole)), len(whole) + CARRIED_AT - at
+    shown_here = [it | {"offset": it["offset"] + CARRIED_AT - at} for it in records if it["offset"] >= at]
+    end = ["carried: begins with the checkpoint at 96", f"front ends behind {len(records)} records, at {size} of {size} bytes, whole: nothing follows"]
+    front = {"carried_at": CARRIED_AT, "records": len(records), "used": size, "total": size, "why": "whole", "reason": "nothing follows"}
+    for words, wanted in [([], shown_here)] + wanted_by(draw, shown_here):
+        same_lines(look, path, words, wanted, ("\n".join(end), {"front": front}))
+    check(f"{path}'s findings", told(look, "check", path), (1, f"carried: use rqlog\n{end[1]}\n"))
+    _, want = told(rq, "restart-at", path, str(CARRIED_AT), "4", "1000")
+    check(f"{path} as text", told(look, "report", path), (0, f"{end[0]}\n{want}"))
+    report = json.loads(told(look, "report", path, "--json")[1])
+    check(f"{path} as JSON", (text_of(report), report["front"]), (want, front))
+    check(f"{path}, queue 0", told(look, "report", path, "--queue", "0"), (0, by_queue(want)[0]))
+    carried_stories(look, path, Stories(records, len(whole)), at, end, draw)
+    same_page(look, path)
+    begun = ["begins with the checkpoint at 96, which is taken at its word"]
+    check(f"where {path}'s page begins", begun in page_of(look, path).rows, True)
+    check(f"{path}'s script", said(look, "script", path), (1, f"rqlook: {path}: carried: use rqlog restart\n"))
+
+
+def speeds(rq: str, look: str, peer: str, folder: str, mib: int) -> None:
+    for shape in ["small", "kib", "errors"]:
+        log = log_of(peer, folder, shape, mib)
+        restart, audit = best([rq, "restart", log, "4", "1000"]), best([rq, "audit", log, "4"])
+        dump, found = best([look, "dump", log]), best([look, "check", log])
+        print(f"{shape}: dump {os.path.getsize(log) / dump / 1e6:.0f} MB/s ({dump:.2f} s), check {found:.2f} s, "
+              f"{found / (restart + audit):.2f} of a restart ({restart:.2f} s) and an audit ({audit:.2f} s)", flush=True)
+
+
+def own_logs(rq: str, folder: str) -> list[str]:
+    """The logs of the scripts in examples/ that are whole, and at last one of units on many queues."""
+    many, logs = os.path.join(folder, "many.script"), []
+    checkpoints_script(many, 1, 4)
+    for script in [*sorted(glob.glob(os.path.join(HERE, "..", "examples", "**", "*.script"), recursive=True)), many]:
+        log = os.path.join(folder, f"own.{len(logs)}")
+        with open(script, "rb") as lines:
+            version = "make2" if b"\nkill " in lines.read() else "make"
+        subprocess.run([rq, version, script, log], check=True)
+        if told(rq, "restart", log, "1", "1000")[1].split("\n", 1)[0].endswith("whole"):
+            logs.append(log)
+    return logs
+
+
+def look_at(options: argparse.Namespace, log: str, draw: random.Random) -> None:
+    """All that a whole log is shown as."""
+    rq, look = options.program, options.look
+    with open(log, "rb") as source:
+        records = records_of(bodies_of(source.read()))
+    same_reports(rq, look, log, draw)
+    same_script(rq, look, log, options.folder)
+    same_dump(look, log, records, draw)
+    same_check(rq, look, log)
+    same_stories(look, log, records, options.stories, draw)
+    same_page(look, log)
+
+
+def main() -> int:
+    words = parser()
+    words.add_argument("look")
+    words.add_argument("--own", action="store_true")
+    words.add_argument("--seeds", type=int, default=3)
+    words.add_argument("--stories", type=int, default=10)
+    words.add_argument("--mib", type=int, default=1)
+    words.add_argument("--scripts", type=int, default=0)
+    words.add_argument("--speed", type=int, default=0)
+    options = parsed(words)
+    rq, look, folder = options.program, options.look, options.folder
+    draw = random.Random(1)
+    if options.own:
+        logs = own_logs(rq, folder)
+        small = logs[-1]
+    else:
+        peer = built_peer(folder)
+        logs = [log_of(peer, folder, shape, options.mib, seed) for shape in COMPARED for seed in range(2, 2 + options.seeds)]
+        small = log_of(peer, folder, "small", options.mib, 2)
+    for log in logs:
+        look_at(options, log, draw)
+        if options.own:
+            carried(rq, look, log, folder, draw)
+    reasons(rq, look, small, folder)
+    odd_payloads(rq, look, folder)
+    kills(rq, look, folder)
+    untold(look, folder)
+    refusals(look, small, folder)
+    if not options.own:
+        more_scripts(rq, look, peer, folder, options.scripts)
+    if options.speed and not options.own:
+        speeds(rq, look, peer, folder, options.speed)
+    print(f"{compared - differing} passed, {differing} failed")
+    return 1 if differing else 0
+
+
+if __name__ == "__main__":
+    sys.exit(main())

@@ -1,0 +1,149 @@
+#!/usr/bin/env python3
+"""Refuses the program each of its allocations in turn, and each of its threads, and counts how the runs end.
+
+usage: refused.py RQ [--step N] [--folder DIR] [COMMAND ..]
+A run that is refused must write what it writes with ample memory, or end with status 4, say `resources`, and write nothing,
+no file either. With no COMMAND, sweeps each command over the logs of two scripts in `examples/`, and restarts and upgrades logs
+that are large enough for what runs on large logs alone: records decoded by several workers, digests checked beside the analysis and in
+lanes, a report made in pieces. Of these each Nth allocation is refused, for a prime N. A COMMAND that writes a file names it
+`{made}/NAME`. RQ is the built program itself. Ends with status 1 if a run ended otherwise, or if no allocation of a
+command was met.
+"""
+from __future__ import annotations
+import os, subprocess, sys, time
+from typing import NamedTuple
+
+sys.path.insert(0, os.path.dirname(os.path.dirname(os.path.abspath(__file__))))
+from common import HERE, built_peer, log_of, parsed, parser
+
+# Status, standard output, standard error, and the files that were made.
+Outcome = tuple[int, bytes, bytes, dict[str, bytes]]
+# The bytes of the last frame of that log, a COMMIT.
+COMMIT_FRAME = 45
+REFUSED: Outcome = (4, b"", b"rq: resources\n", {})
+
+
+class Counts(NamedTuple):
+    """How many runs were refused, and of these, how many ended the same, with `resources`, and otherwise."""
+    refused: int
+    same: int
+    resources: int
+    wrong: int
+
+
+class Sweep:
+    """Runs of the program that are refused something, and how one must end that could not do without."""
+
+    def __init__(self, program: str, folder: str, refused: Outcome = REFUSED) -> None:
+        self.program, self.refused = program, refused
+        self.shim = os.path.join(folder, "refuse.so")
+        self.made = os.path.join(folder, "made")
+        os.makedirs(self.made, exist_ok=True)
+        source = os.path.join(HERE, "faults", "refuse.c")
+        subprocess.run(["cc", "-O2", "-shared", "-fPIC", source, "-o", self.shim, "-ldl"], check=True)
+
+    def outcome(self, words: list[str], **options: object) -> Outcome:
+        """How the program ends; files that it made are read and taken away."""
+        done = subprocess.run([self.program, *words], capture_output=True, **options)
+        files = {}
+        for name in os.listdir(self.made):
+            path = os.path.join(self.made, name)
+            with open(path, "rb") as file:
+                files[name] = file.read()
+            os.remove(path)
+        return done.returncode, done.stdout, done.stderr, files
+
+    def refused_at(self, words: list[str], memory: int, thread: int) -> tuple[bool, Outcome]:
+        """Whether the run came to the allocation or the thread of that number, and how it ended."""
+        seen, told = os.pipe()
+        asked = {"LD_PRELOAD": self.shim, "REFUSE_TOLD": str(told), "REFUSE_MEMORY": str(memory), "REFUSE_THREAD": str(thread)}
+        ended = self.outcome(words, env=os.environ | asked, pass_fds=[told])
+        os.close(told)
+        with os.fdopen(seen, "rb") as file:
+            return file.read() != b"", ended
+
+    def counted(self, words: list[str], ample: Outcome, step: int, is_thread: bool) -> Counts:
+        """Refuses each of a kind, or each `step`th, until a run meets no refusal."""
+        ends = {"same": 0, "resources": 0, "wrong": 0}
+        number = step
+        while True:
+            came, ended = self.refused_at(words, 0 if is_thread else number, number if is_thread else 0)
+            if not came:
+                return Counts(sum(ends.values()), **ends)
+            end = "same" if ended == ample else "resources" if ended == self.refused else "wrong"
+            ends[end] += 1
+            if end == "wrong":
+                what = "thread" if is_thread else "allocation"
+                print(f"`{' '.join(words)}`, {what} {number} refused, ends with", *ended, file=sys.stderr)
+            number += step
+
+    def row(self, name: str, words: list[str], step: int = 1) -> int:
+        """Prints a line of the table, and tells how many runs ended otherwise than they must; one more if none was refused."""
+        words = [word.replace("{made}", self.made) for word in words]
+        ample = self.outcome(words)
+        memory = self.counted(words, ample, step, False)
+        threads = self.counted(words, ample, 1, True)
+        wrong = memory.wrong + threads.wrong
+        if memory.refused == 0:
+            wrong += 1
+            print(f"`{' '.join(words)}`: no allocation was met: is RQ the built program itself?", file=sys.stderr)
+        which = "each" if step == 1 else f"1 in {step}"
+        print(f"| {name} | {which} | {memory.refused} | {memory.same} | {memory.resources} "
+              f"| {threads.refused} | {threads.same} | {threads.resources} | {wrong} |", flush=True)
+        return wrong
+
+
+def of_scripts(sweep: Sweep, folder: str) -> int:
+    """Sweeps each command over the logs of two scripts."""
+    logs = {}
+    wrong = 0
+    for name in ("error-queue", "checkpoint"):
+        script = os.path.join(HERE, "..", "examples", name + ".script")
+        logs[name] = os.path.join(folder, name + ".log")
+        subprocess.run([sweep.program, "make", script, logs[name]], check=True)
+        wrong += sweep.row(f"`make` {name}", ["make", script, "{made}/log"])
+    audit = subprocess.run([sweep.program, "audit", logs["checkpoint"], "1"], check=True, capture_output=True).stdout
+    offset = audit.split()[1].decode()
+    with_open_unit = os.path.join(folder, "open.log")
+    with open(logs["checkpoint"], "rb") as whole, open(with_open_unit, "wb") as cut:
+        cut.write(whole.read()[:-COMMIT_FRAME])
+    for workers in ("1", "2", "4"):
+        for name, log in logs.items():
+            wrong += sweep.row(f"`restart` {name}, {workers}", ["restart", log, workers, "1"])
+        wrong += sweep.row(f"`restart-at` {offset}, {workers}", ["restart-at", logs["checkpoint"], offset, workers, "1"])
+        wrong += sweep.row(f"`audit` checkpoint, {workers}", ["audit", logs["checkpoint"], workers])
+        wrong += sweep.row(f"`close` with an open unit, {workers}", ["close", with_open_unit, "{made}/log", workers])
+        wrong += sweep.row(f"`upgrade` checkpoint, {workers}", ["upgrade", logs["checkpoint"], "{made}/log", workers])
+    return wrong
+
+
+def of_large_logs(sweep: Sweep, folder: str) -> int:
+    """Sweeps restarts of logs in which the bodies for large logs run."""
+    peer = built_peer(folder)
+    wrong = 0
+    for shape, mib, workers, step in (("kib", 2, "4", 11), ("small", 1, "2", 97), ("errors", 2, "4", 53), ("wide", 2, "4", 101)):
+        log = log_of(peer, folder, shape, mib)
+        wrong += sweep.row(f"`restart` {shape} of {mib} MiB, {workers}", ["restart", log, workers, "10"], step)
+    log = log_of(peer, folder, "kib", 2)
+    return wrong + sweep.row("`upgrade` kib of 2 MiB, 4", ["upgrade", log, "{made}/log", "4"], 11)
+
+
+def main() -> None:
+    words = parser()
+    words.add_argument("--step", type=int, default=1)
+    words.add_argument("command", nargs="*")
+    options = parsed(words)
+    sweep = Sweep(options.program, options.folder)
+    print("| command | allocations | refused | the same | resources | threads refused | the same | resources | anything else |")
+    print("|---|---|---|---|---|---|---|---|---|")
+    begun = time.perf_counter()
+    if options.command:
+        wrong = sweep.row(" ".join(options.command[:1]), options.command, options.step)
+    else:
+        wrong = of_scripts(sweep, options.folder) + of_large_logs(sweep, options.folder)
+    print(f"{time.perf_counter() - begun:.0f} s, {wrong} wrong")
+    sys.exit(wrong != 0)
+
+
+if __name__ == "__main__":
+    main()

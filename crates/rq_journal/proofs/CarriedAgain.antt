@@ -1,0 +1,146 @@
+-- A log that goes on from the front of one that was carried on.
+use Rattle.std.proofs.Common.{◌≡◌, ℕ, ◌-◌, ◌≤◌, List, [], ◌∷◌, ◌++◌, length, drop, sym, ap, subst, ◌∙◌, arith, inl, inr}
+use Rattle.std.specs.Prelude.{Result, Ok, Err}
+use Rattle.std.specs.Global.{Vec}
+use Rattle.std.proofs.lemmas.List.{drop-append-le, length-drop, length-take}
+use Rattle.rq_model.specs.Records.{Record, Checkpoint, Version}
+use Rattle.rq_model.specs.Frames.{header, start, frame, bodies_of, last_of, before, body_in}
+use Rattle.rq_model.specs.LogLaws.{BytesSpellOneState}
+use Rattle.rq_model.specs.States.{State, empty}
+use Rattle.rq_model.specs.Machine.{run}
+use Rattle.rq_model.specs.StateSpelling.{state_bytes, SpellsState}
+use Rattle.rq_model.specs.Appending.{MayFollow}
+use Rattle.rq_model.specs.Continuing.{carried_gap, StartsAnew, GapIsLoud, IsCarriedGap, FilesJoin}
+use Rattle.rq_model.proofs.Runs.{last_at_end}
+use Rattle.rq_model.proofs.Longest.{last_of_join}
+use Rattle.rq_model.proofs.Restarts.{both_follow, run_join, spelt_after}
+use Rattle.rq_record.specs.Views.{version_of}
+use Rattle.rq_record.specs.declared.fault.Fault.{Fault}
+use Rattle.rq_record.specs.declared.fault.Fault.TheVariants as faults
+use Rattle.rq_restart.specs.declared.redone.RedoneFront.{RedoneFront}
+use Rattle.rq_restart.specs.RedoneFronts.{IsRedoneAt}
+use Rattle.rq_restart.specs.Restarts.{RefusedAt}
+use Rattle.rq_restart.proofs.Passes.{frame_more, part_more}
+use Rattle.rq_journal.specs.Checkpoints.{HasNoCheckpointOf, IsCheckpointOf}
+use Rattle.rq_journal.specs.Carries.{Begins, CarriesAgain, IsBegunIn, IsCarriedAgain, IsStateOf, JoinsBehind, StaysThere}
+use Rattle.rq_journal.proofs.CarriedOn.{begun_in}
+
+module _ (b : List ℕ) (f : RedoneFront) (h : IsRedoneAt b 96 f) where
+  abbrev version : Version
+  version = version_of f.version
+
+  abbrev xs : List Record
+  xs = Checkpoint h.kept ∷ h.after
+
+  abbrev link : List ℕ
+  link = last_of (before 96 b) xs
+
+  abbrev state : State
+  state = run h.base xs
+
+  may : MayFollow version h.base xs
+  may = record { records = h.front.front.begins.records; lawful = h.front.front.begins.lawful }
+
+  spelt : f.state.next ≤ 4294967295 → SpellsState version state (state_bytes state)
+  spelt low =
+      let spells = h.front.spells in
+      spelt_after version h.base xs spells.keeps spells.fits spells.deep may
+      (subst (λ (z : State). z.next ≤ 4294967295) h.state low)
+
+  long : length link ≡ 32
+  long =
+      let p_long : length (before 96 b) ≡ 32 =
+      omega (
+        arith,
+        length-take 32 (drop (96 - 32) b),
+        length-drop (96 - 32) b,
+        length-drop 96 b,
+        h.front.checkpoint.frame.whole.room,
+      ) in
+      (last_at_end [] (before 96 b) (bodies_of xs) p_long).2
+
+  -- the checkpoint that the file begins with is read again, whatever stands behind it
+  joins : BytesSpellOneState → FilesJoin → (new : List ℕ) → IsBegunIn version link state new → (records : List Record)
+      → MayFollow version empty records → before 96 b ≡ last_of (start version) records
+      → SpellsState version (run empty records) h.kept → JoinsBehind version (records ++ xs) new
+  joins one join new begun records old linked spelled = λ more s kept after left at.
+      let all : List Record = records ++ xs in
+      let base_is : h.base ≡ run empty records =
+      one version version h.base (run empty records) h.kept h.front.spells spelled in
+      let follow = both_follow version empty records xs old (subst (λ (z : State). MayFollow version z xs) base_is may) in
+      let state_is : state ≡ run empty all = ap (λ (z : State). run z xs) base_is ∙ sym (run_join empty records xs) in
+      let link_is : link ≡ last_of (start version) all =
+      ap (λ (z : List ℕ). last_of z xs) linked ∙ sym (last_of_join (start version) records xs) in
+      let first = begun.there.checkpoint in
+      let high : 96 ≤ length new = omega (arith, first.frame.whole.room, length-drop 96 new) in
+      let ahead : before 96 (new ++ more) ≡ link = part_more new more 64 32 (omega (arith, high)) ∙ begun.linked in
+      let kept_is : kept ≡ state_bytes state =
+      ap (drop 1)
+      (sym at.checkpoint.body ∙ ap body_in (drop-append-le 96 new more high)
+      ∙ (frame_more (drop 96 new) more first.frame.whole).body ∙ first.body) in
+      let spells = subst (SpellsState version state) (sym kept_is) begun.there.spells in
+      join (new ++ more) 96 version s kept all after left follow at (ahead ∙ link_is)
+      (subst (λ (z : State). SpellsState version z kept) state_is spells)
+
+  carried_again : (new body : List ℕ) → f.state.next ≤ 4294967295 → IsCheckpointOf f.state body → BytesSpellOneState
+      → StartsAnew → GapIsLoud → IsCarriedGap → FilesJoin
+      → new ≡ header version ++ (carried_gap ++ (f.last ++ frame f.last body)) → IsCarriedAgain b new
+  carried_again new body low is one starts loud gap join new_is =
+      let here = subst (λ (z : State). IsCheckpointOf z body) h.state is in
+      let all = new_is
+      ∙ ap (λ (z : List ℕ). header version ++ (carried_gap ++ (z ++ frame z body))) h.last in
+      let begun = begun_in version link state body long here (spelt low) starts loud gap new all in
+      record {
+        version = version;
+        base = h.base;
+        kept = h.kept;
+        after = h.after;
+        rest = drop f.used b;
+        front = h.front;
+        begun = begun;
+        joins = joins one join new begun;
+      }
+
+  pub carries_again : (body : List ℕ) → f.state.next ≤ 4294967295 → IsCheckpointOf f.state body
+      → (result : Result (Vec ℕ) Fault) → BytesSpellOneState → StartsAnew → GapIsLoud → IsCarriedGap → FilesJoin
+      → Begins version f.last body result → CarriesAgain b result
+  carries_again body low is (Ok v) one starts loud gap join begun =
+      carried_again v.items body low is one starts loud gap join begun
+  carries_again body low is (Err e) one starts loud gap join begun = subst (StaysThere b) (sym begun) tt
+
+  state_of : IsStateOf b f.state
+  state_of = record {
+    version = version;
+    base = h.base;
+    kept = h.kept;
+    after = h.after;
+    rest = drop f.used b;
+    front = h.front;
+    state = h.state;
+  }
+
+  -- a state without a checkpoint is not carried
+  pub no_checkpoint : (e : Fault) → HasNoCheckpointOf f.state e → StaysThere b e
+  no_checkpoint faults.TooLong high = inr (f.state, state_of, high)
+  no_checkpoint faults.TooLarge large = (f.state, state_of, large.0, large.1)
+  no_checkpoint faults.Resources none = tt
+  no_checkpoint faults.Form none = absurd none
+  no_checkpoint faults.NotALog none = absurd none
+  no_checkpoint faults.BadCheckpoint none = absurd none
+  no_checkpoint faults.NoCheckpoint none = absurd none
+  no_checkpoint (faults.Script line) none = absurd none
+  no_checkpoint faults.ReadFailed none = absurd none
+  no_checkpoint faults.WriteFailed none = absurd none
+
+-- nor is a log that is refused
+pub refused_again : (b : List ℕ) (e : Fault) → RefusedAt b 96 e → StaysThere b e
+refused_again b faults.TooLong refused = inl refused
+refused_again b faults.TooLarge refused = absurd refused
+refused_again b faults.Resources refused = tt
+refused_again b faults.Form refused = refused
+refused_again b faults.NotALog refused = refused
+refused_again b faults.BadCheckpoint refused = refused
+refused_again b faults.NoCheckpoint refused = refused
+refused_again b (faults.Script line) refused = refused
+refused_again b faults.ReadFailed refused = refused
+refused_again b faults.WriteFailed refused = refused

@@ -1,9 +1,0 @@
-use Rattle.std.proofs.Common.{◌-◌}
-use Rattle.rq_bytes.specs.Readers.{members}
-use Rattle.rq_model.specs.StateReading.{element_read}
-use Rattle.rq_state.proofs.Loop.{Taking}
-use Rattle.rq_state.proofs.reading.lists.take_elements.Given as goal
-
-abbrev pub invariant-loop : goal.invariant-loop
-invariant-loop l = Taking element_read l.members.items (l.count - l.counter) l.bytes
-    (members element_read l.count l.fn.bytes)

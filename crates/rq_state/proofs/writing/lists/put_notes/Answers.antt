@@ -1,9 +1,0 @@
-use Rattle.std.proofs.Common.{arith}
-use Rattle.std.specs.Int.{w32, to_be_bytes}
-use Rattle.rq_model.specs.StateSpelling.{note_bytes}
-use Rattle.rq_state.proofs.Grown.{grown}
-use Rattle.rq_state.proofs.writing.lists.put_notes.Goals as goal
-
-pub loop-member-preserved : goal.loop-member-preserved
-loop-member-preserved c = grown note_bytes _
-    (to_be_bytes w32 _) _ _ _ _ _ c.loop-member.invariant c.in_ok-put_note.ensures (omega arith) c.member-item.is

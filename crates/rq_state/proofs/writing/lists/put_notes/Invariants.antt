@@ -1,9 +1,0 @@
-use Rattle.std.proofs.Common.{◌≡◌, ◌++◌, length, take}
-use Rattle.std.specs.Int.{w32, to_be_bytes}
-use Rattle.std.specs.List.{flat_map}
-use Rattle.rq_model.specs.StateSpelling.{note_bytes}
-use Rattle.rq_state.proofs.writing.lists.put_notes.Given as goal
-
-abbrev pub invariant-loop-member : goal.invariant-loop-member
-invariant-loop-member l = l.out.items ≡ l.fn.out.items
-    ++ (to_be_bytes w32 (length l.members) ++ flat_map note_bytes (take l.member-index l.members))

@@ -1,0 +1,235 @@
+//! What the program does for each of its commands.
+
+use crate::appending::{Written, frames_of};
+use crate::failing::{Refusal, Which};
+use crate::files::{HeldLog, put};
+use crate::fronts::{front_in, opened_front};
+use crate::marking::{closed_carried, mark};
+use crate::placing::{expect_free, name_one_file, put_new};
+use crate::reading::{begun_log, log_from, opened, rest_of_log, script_in};
+use crate::telling::{audit_text, tell_appended, tell_carried, tell_marked, warn_of_end};
+use clap::ArgMatches;
+use rq_file::Patient;
+use rq_journal::{CARRIED_AT, Fault, Plan, audit_carried, carried, carried_again, is_carried};
+use rq_restart::closed;
+use rq_tool::{Open, OverRead, OverWrite};
+use std::fs::File;
+use std::io::{self, Read};
+use std::rt::{Clock, Files};
+use std::thread::Threads;
+
+// The grain of a line that names none, in frames.
+const GRAIN: u32 = 1000;
+
+fn plan_of(words: &ArgMatches<'_>) -> Result<Plan, Refusal> {
+    let workers = match words.get_one::<u32>("WORKERS") {
+        Some(workers) => workers,
+        None => words.get_one::<u32>("workers").unwrap_or(0),
+    };
+    let grain = words.get_one::<u32>("GRAIN").unwrap_or(GRAIN);
+    Plan::new(workers, grain).ok_or(Refusal::Plan)
+}
+
+// What was done stands, also if the output fails that was to tell it.
+fn told(done: io::Result<()>) -> Result<(), Refusal> {
+    match done {
+        Ok(()) => Ok(()),
+        Err(error) => Err(Refusal::Untold(error)),
+    }
+}
+
+// Writes the frames of a script behind a log, and tells so, or why its lines are refused.
+fn write_script<R>(
+    rt: &R,
+    held: &mut HeldLog,
+    read: usize,
+    used: usize,
+    made: Written,
+    json: bool,
+) -> Result<(), Refusal>
+where
+    R: Files<File = File> + Print,
+{
+    let Written {
+        frames,
+        count,
+        refused,
+    } = made;
+    if refused.as_ref().map_or(true, |refused| refused.is_kept) {
+        held.append(rt, read, used, &frames)?;
+        let len = used.saturating_add(frames.len()) as u64;
+        told(tell_appended(rt, json, count, used as u64, len))?;
+    }
+    match refused {
+        Some(refused) => Err(Refusal::Line(refused)),
+        None => Ok(()),
+    }
+}
+
+fn append<R>(rt: &R, log: &str, plan: &Plan, words: &ArgMatches<'_>) -> Result<(), Refusal>
+where
+    R: Files<File = File> + Input + Print + AllocGlobal + Threads + Sync,
+{
+    let script = script_in(rt, words.get_str("SCRIPT").unwrap_or("-"))?;
+    let mut held = HeldLog::to_write(rt, log)?;
+    let (standing, read) = front_in(rt, held.file(), plan)?;
+    let used = standing.used;
+    let made = frames_of(rt.alloc(), standing, &script, words.get_flag("each"))?;
+    write_script(rt, &mut held, read, used, made, words.get_flag("json"))
+}
+
+fn checkpoint<R>(rt: &R, log: &str, plan: &Plan, words: &ArgMatches<'_>) -> Result<(), Refusal>
+where
+    R: Files<File = File> + Print + AllocGlobal + Threads + Sync,
+{
+    let mut held = HeldLog::to_write(rt, log)?;
+    let bytes = rest_of_log(rt, held.file())?;
+    let made = mark(rt, rt.alloc(), &bytes, plan, words.get_flag("close"))?;
+    held.append(rt, bytes.len(), made.used, &made.frames)?;
+    let len = made.used.saturating_add(made.frames.len()) as u64;
+    told(tell_marked(rt, words.get_flag("json"), made.offset as u64, len))
+}
+
+// How many records stand before a log that goes on from this one.
+fn next_behind<R>(rt: &R, bytes: &[u8], plan: &Plan) -> Result<u64, Refusal>
+where
+    R: AllocGlobal + Threads + Sync,
+{
+    let standing = opened_front(rt, rt.alloc(), bytes, plan)?;
+    if standing.is_at_end() {
+        return Err(Refusal::Ended);
+    }
+    Ok(standing.next)
+}
+
+// A log that goes on from this one.
+fn carried_on<R>(rt: &R, bytes: &[u8], plan: &Plan) -> Result<Vec<u8>, Fault>
+where
+    R: AllocGlobal + Threads + Sync,
+{
+    if is_carried(bytes) {
+        carried_again(rt, rt.alloc(), bytes, plan)
+    } else {
+        carried(rt, rt.alloc(), bytes, plan)
+    }
+}
+
+fn carry<R>(rt: &R, log: &str, plan: &Plan, words: &ArgMatches<'_>) -> Result<(), Refusal>
+where
+    R: Files<File = File> + Print + Eprint + AllocGlobal + Threads + Sync,
+{
+    let new = words.get_str("NEW").unwrap_or("-");
+    expect_free(rt, new)?;
+    let mut held = HeldLog::to_read(rt, log)?;
+    let bytes = rest_of_log(rt, held.file())?;
+    let next = next_behind(rt, &bytes, plan)?;
+    let made = carried_on(rt, &bytes, plan)?;
+    put_new(rt, new, &made)?;
+    warn_of_end(rt, next);
+    told(tell_carried(rt, words.get_flag("json"), next, made.len() as u64))
+}
+
+fn restart<R>(rt: &R, log: &str, plan: &Plan) -> Result<(), Refusal>
+where
+    R: Files<File = File> + Print + Clock + AllocGlobal + Threads + Sync,
+{
+    let (is_carried, from) = begun_log(rt, opened(rt, log)?)?;
+    let mut input = OverRead::new(from);
+    let mut output = OverWrite::new(Patient {
+        rt,
+        inner: io::writer(rt),
+    });
+    if is_carried {
+        let offset = CARRIED_AT as u64;
+        rq_tool::run_at(rt, rt.alloc(), &mut input, &mut output, offset, plan, &Open)?;
+    } else {
+        rq_tool::run(rt, rt.alloc(), &mut input, &mut output, plan, &Open)?;
+    }
+    Ok(())
+}
+
+// The closed log, plain or carried on.
+fn closed_of<R>(rt: &R, bytes: Vec<u8>, plan: &Plan) -> Result<Vec<u8>, Refusal>
+where
+    R: AllocGlobal + Threads + Sync,
+{
+    if is_carried(&bytes) {
+        return closed_carried(rt, rt.alloc(), bytes, plan);
+    }
+    Ok(closed(rt, rt.alloc(), bytes, plan)?)
+}
+
+// Closes a log in its own place, while no other program writes it.
+fn close_in_place<R>(rt: &R, log: &str, plan: &Plan) -> Result<(), Refusal>
+where
+    R: Files<File = File> + AllocGlobal + Threads + Sync,
+{
+    let mut held = HeldLog::to_replace(rt, log)?;
+    let bytes = rest_of_log(rt, held.file())?;
+    let read = bytes.len();
+    let made = closed_of(rt, bytes, plan)?;
+    held.expect_as_read(rt, read)?;
+    put(rt, log, Which::Out, &made)
+}
+
+fn close<R>(rt: &R, log: &str, plan: &Plan, out: &str) -> Result<(), Refusal>
+where
+    R: Files<File = File> + AllocGlobal + Threads + Sync,
+{
+    if name_one_file(rt, log, out) {
+        return close_in_place(rt, out, plan);
+    }
+    let mut file = opened(rt, log)?;
+    let bytes = rest_of_log(rt, &mut file)?;
+    let made = closed_of(rt, bytes, plan)?;
+    put(rt, out, Which::Out, &made)
+}
+
+// Tells which checkpoints of a log are true that was carried on.
+fn tell_audit<R, F>(rt: &R, from: F, plan: &Plan) -> Result<(), Refusal>
+where
+    R: Print + AllocGlobal + Threads + Sync,
+    F: Read + Drop,
+{
+    let bytes = log_from(rt, from)?;
+    let found = audit_carried(rt, rt.alloc(), &bytes, plan)?;
+    let text = audit_text(rt.alloc(), &found)?;
+    Ok(rt.write_all(text.as_bytes())?)
+}
+
+fn audit<R>(rt: &R, log: &str, plan: &Plan) -> Result<(), Refusal>
+where
+    R: Files<File = File> + Print + Clock + AllocGlobal + Threads + Sync,
+{
+    let (is_carried, from) = begun_log(rt, opened(rt, log)?)?;
+    if is_carried {
+        return tell_audit(rt, from, plan);
+    }
+    let mut input = OverRead::new(from);
+    let mut output = OverWrite::new(Patient {
+        rt,
+        inner: io::writer(rt),
+    });
+    rq_tool::audit_log(rt, rt.alloc(), &mut input, &mut output, plan)?;
+    Ok(())
+}
+
+/// Does the command of the words.
+pub(crate) fn act<R>(rt: &R, matches: &ArgMatches<'_>) -> Result<(), Refusal>
+where
+    R: Files<File = File> + Input + Print + Eprint + Clock + AllocGlobal + Threads + Sync,
+{
+    let Some((name, words)) = matches.subcommand() else {
+        return Ok(());
+    };
+    let plan = plan_of(words)?;
+    let log = words.get_str("LOG").unwrap_or("-");
+    match name {
+        "append" => append(rt, log, &plan, words),
+        "checkpoint" => checkpoint(rt, log, &plan, words),
+        "carry" => carry(rt, log, &plan, words),
+        "restart" => restart(rt, log, &plan),
+        "close" => close(rt, log, &plan, words.get_str("OUT").unwrap_or("-")),
+        _ => audit(rt, log, &plan),
+    }
+}

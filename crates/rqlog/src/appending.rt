@@ -1,0 +1,222 @@
+//! From the lines of a script to the frames of their records.
+
+use crate::fronts::Standing;
+use rq_journal::{NotTaken, Rule};
+use rq_record::{Fault, KeptRecord, Record, Version};
+use rq_writer::{ScriptLine, line_at, read_line};
+use std::alloc::{AllocError, Global};
+use std::fmt;
+
+// So much of a line is told.
+const TOLD: usize = 100;
+
+/// Why a line is not appended.
+#[derive(Clone, Copy)]
+pub(crate) enum Reason {
+    /// It is no line of a script.
+    NoLine,
+    /// It asks for a checkpoint of the state, which no window over the log tells.
+    Checkpoint,
+    /// Its record breaks a rule.
+    Breaks(Rule),
+    /// With it the log would be too long.
+    Full,
+    /// There are as many records as numbers.
+    Ended,
+    /// Memory is refused.
+    Memory,
+}
+
+impl fmt::Display for Reason {
+    fn fmt<W: fmt::Write>(&self, f: &mut fmt::Formatter<W>) -> fmt::Result {
+        match self {
+            Reason::NoLine => f.write_str("no line of a script"),
+            Reason::Checkpoint => f.write_str("use rqlog checkpoint"),
+            Reason::Breaks(rule) => write!(f, "{rule}"),
+            Reason::Full => f.write_str("log is full: carry it on"),
+            Reason::Ended => f.write_str("numbers end at 4294967295: begin a new log"),
+            Reason::Memory => f.write_str("resources"),
+        }
+    }
+}
+
+/// The first line that is not appended, and what becomes of those before it.
+#[derive(Drop)]
+pub(crate) struct LineRefused {
+    /// Its number, from 1.
+    pub(crate) line: u64,
+    /// The beginning of its record's text; nothing if it is no line.
+    text: String,
+    pub(crate) reason: Reason,
+    /// Whether the records before it are appended.
+    pub(crate) is_kept: bool,
+}
+
+impl fmt::Display for LineRefused {
+    fn fmt<W: fmt::Write>(&self, f: &mut fmt::Formatter<W>) -> fmt::Result {
+        let (line, text, reason) = (self.line, self.text.as_str(), self.reason);
+        let before = line.saturating_sub(1);
+        if text.is_empty() {
+            write!(f, "script line {line}: {reason}; ")?;
+        } else {
+            write!(f, "script line {line}: {text}: {reason}; ")?;
+        }
+        if self.is_kept {
+            write!(f, "{before} records before it were appended")
+        } else {
+            f.write_str("nothing was appended")
+        }
+    }
+}
+
+/// The frames of the records of a script.
+#[derive(Drop)]
+pub(crate) struct Written {
+    /// The frames, one behind the other.
+    pub(crate) frames: Vec<u8>,
+    /// How many there are.
+    pub(crate) count: u64,
+    /// Where and why they end before the script does.
+    pub(crate) refused: Option<LineRefused>,
+}
+
+impl Written {
+    fn new(alloc: Global) -> Written {
+        Written {
+            frames: Vec::new(alloc),
+            count: 0,
+            refused: None,
+        }
+    }
+}
+
+// The beginning of a line, which has visible characters alone if it is one of a script.
+fn told(alloc: Global, text: &[u8]) -> Result<String, AllocError> {
+    match std::str::from_utf8(text) {
+        Ok(text) if text.len() <= TOLD => String::from_str(alloc, text),
+        Ok(text) => {
+            let beginning = text.get(..TOLD).unwrap_or("");
+            format!(in alloc; "{beginning}..")
+        }
+        Err(_) => String::from_str(alloc, ""),
+    }
+}
+
+// Which rule a record breaks that is not lawful.
+fn rule_of(alloc: Global, standing: &Standing, record: &Record) -> Reason {
+    let Ok(record) = KeptRecord::of(alloc, record) else {
+        return Reason::Memory;
+    };
+    match standing.appender.broken(&record) {
+        Some(rule) => Reason::Breaks(rule),
+        None => Reason::NoLine,
+    }
+}
+
+// Why a line is not appended that the log's version does not have.
+fn reason_unread(alloc: Global, standing: &Standing, text: &[u8]) -> Reason {
+    match read_line(alloc, Version::Two, text) {
+        Ok(ScriptLine::Told(record)) => rule_of(alloc, standing, &record),
+        Err(Fault::Resources) => Reason::Memory,
+        _ => Reason::NoLine,
+    }
+}
+
+// Why the record is not taken.
+fn reason_of(alloc: Global, standing: &Standing, record: &Record, why: NotTaken) -> Reason {
+    match why {
+        NotTaken::Unlawful => rule_of(alloc, standing, record),
+        NotTaken::Full => Reason::Full,
+        NotTaken::Resources => Reason::Memory,
+    }
+}
+
+// Appends the frame of a line's record.
+fn append_line(
+    alloc: Global,
+    standing: &mut Standing,
+    text: &[u8],
+    frames: &mut Vec<u8>,
+) -> Result<(), Reason> {
+    let record = match read_line(alloc, standing.version(), text) {
+        Ok(ScriptLine::Told(record)) => record,
+        Ok(ScriptLine::Spelled) => return Err(Reason::Checkpoint),
+        Err(Fault::Resources) => return Err(Reason::Memory),
+        Err(_) => return Err(reason_unread(alloc, standing, text)),
+    };
+    if standing.is_at_end() {
+        return Err(Reason::Ended);
+    }
+    match standing.appender.append(alloc, &record, frames) {
+        Ok(()) => {
+            standing.next = standing.next.saturating_add(1);
+            Ok(())
+        }
+        Err(why) => Err(reason_of(alloc, standing, &record, why)),
+    }
+}
+
+// The refusal of a line. What is no line is not shown.
+fn refusal_at(
+    alloc: Global,
+    line: u64,
+    text: &[u8],
+    reason: Reason,
+    is_kept: bool,
+) -> Result<LineRefused, AllocError> {
+    let shown = match reason {
+        Reason::NoLine | Reason::Memory => &[],
+        _ => text,
+    };
+    Ok(LineRefused {
+        line,
+        text: told(alloc, shown)?,
+        reason,
+        is_kept,
+    })
+}
+
+// The text of the next line, what stands behind it, and what came of its record.
+fn append_next<'a>(
+    alloc: Global,
+    standing: &mut Standing,
+    line: u64,
+    rest: &'a [u8],
+    frames: &mut Vec<u8>,
+) -> (&'a [u8], &'a [u8], Result<(), Reason>) {
+    match line_at(line, rest) {
+        Ok((text, after)) => (text, after, append_line(alloc, standing, text, frames)),
+        Err(_) => (rest, rest, Err(Reason::NoLine)),
+    }
+}
+
+/// The frames of the records that a script tells, up to the first that may not follow. Those before
+/// it are kept if that is said.
+pub(crate) fn frames_of(
+    alloc: Global,
+    standing: Standing,
+    script: &[u8],
+    keeps: bool,
+) -> Result<Written, AllocError> {
+    let mut standing = standing;
+    let (mut rest, mut written) = (script, Written::new(alloc));
+    for line in 1..u64::MAX {
+        if rest.is_empty() {
+            break;
+        }
+        let (text, after, done) = append_next(
+            alloc,
+            &mut standing,
+            line,
+            rest,
+            &mut written.frames,
+        );
+        if let Err(reason) = done {
+            written.refused = Some(refusal_at(alloc, line, text, reason, keeps)?);
+            break;
+        }
+        written.count = line;
+        rest = after;
+    }
+    Ok(written)
+}

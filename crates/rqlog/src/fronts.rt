@@ -1,0 +1,140 @@
+//! Where the front of a log ends, plain or carried on.
+
+use crate::failing::Refusal;
+use crate::reading::{begins_carried, judged_log, rest_of_log};
+use byteorder::{BigEndian, ByteOrder};
+use rq_journal::{
+    Appender, CARRIED_AT, Fault, Opened, Plan, Why, is_carried, open, open_carried, opened_behind,
+};
+use rq_record::Version;
+use rq_restart::{Keeper, redone_front, redone_front_at};
+use std::alloc::Global;
+use std::fs::File;
+use std::thread::Threads;
+
+// A state that is spelled numbers at most so many records.
+const NUMBERS: u64 = 4_294_967_295;
+
+/// Stands where the front of a log ends.
+#[derive(Drop)]
+pub(crate) struct Standing {
+    pub(crate) appender: Appender,
+    /// So many bytes the front and what is before it take.
+    pub(crate) used: usize,
+    /// Why the front ends.
+    pub(crate) why: Why,
+    /// The number of the next record, over all files of the log.
+    pub(crate) next: u64,
+}
+
+impl Standing {
+    /// The version by whose rules records follow.
+    pub(crate) fn version(&self) -> Version {
+        self.appender.version()
+    }
+
+    /// Whether a state behind so many records more can be spelled.
+    pub(crate) fn has_numbers(&self, count: usize) -> bool {
+        count as u64 <= NUMBERS.saturating_sub(self.next)
+    }
+
+    /// Whether no state behind one more record can be spelled.
+    pub(crate) fn is_at_end(&self) -> bool {
+        !self.has_numbers(1)
+    }
+}
+
+// How many records were numbered before the first frame: the spelling of the state that a log begins
+// with tells it first, behind the length and the kind of its checkpoint.
+fn numbered_before(bytes: &[u8]) -> u64 {
+    let at = CARRIED_AT + 5;
+    if !is_carried(bytes) || bytes.len() < at + 8 {
+        return 0;
+    }
+    BigEndian::read_u64(&bytes[at..])
+}
+
+// Where a log was opened, before whose first frame so many records were numbered.
+fn standing_at(opened: Opened, before: u64) -> Standing {
+    let Opened {
+        appender,
+        used,
+        records,
+        why,
+    } = opened;
+    Standing {
+        appender,
+        used,
+        why,
+        next: before.saturating_add(records as u64),
+    }
+}
+
+/// Where the front of a log ends.
+pub(crate) fn front_of<R: Threads + Sync>(
+    rt: &R,
+    alloc: Global,
+    bytes: &[u8],
+    plan: &Plan,
+) -> Result<Standing, Fault> {
+    let opened = if is_carried(bytes) {
+        open_carried(rt, alloc, bytes, plan)?
+    } else {
+        open(rt, alloc, bytes, plan)?
+    };
+    Ok(standing_at(opened, numbered_before(bytes)))
+}
+
+// Refuses a front behind which bytes stand that are no beginning of a frame: they hide records, or
+// a fault of the writer.
+fn undamaged(found: Standing) -> Result<Standing, Refusal> {
+    match found.why {
+        Why::Whole | Why::Cut => Ok(found),
+        why => Err(Refusal::Damaged(why)),
+    }
+}
+
+/// Where the front of a log ends, behind which records may follow.
+pub(crate) fn opened_front<R: Threads + Sync>(
+    rt: &R,
+    alloc: Global,
+    bytes: &[u8],
+    plan: &Plan,
+) -> Result<Standing, Refusal> {
+    undamaged(front_of(rt, alloc, bytes, plan)?)
+}
+
+/// Where the front of the log in an open file ends, behind which records may follow, and how many
+/// bytes the file has. Of a plain log no more is held than a window.
+pub(crate) fn front_in<R>(
+    rt: &R,
+    file: &mut File,
+    plan: &Plan,
+) -> Result<(Standing, usize), Refusal>
+where
+    R: AllocGlobal + Threads + Sync,
+{
+    if begins_carried(file) {
+        let bytes = rest_of_log(rt, file)?;
+        let standing = opened_front(rt, rt.alloc(), &bytes, plan)?;
+        return Ok((standing, bytes.len()));
+    }
+    let (front, total) = judged_log(rt, file, plan)?;
+    let standing = undamaged(standing_at(opened_behind(front), 0))?;
+    Ok((standing, total))
+}
+
+/// A keeper of the state behind the front of a log. Open units stay open.
+pub(crate) fn keeper_behind<R: Threads + Sync>(
+    rt: &R,
+    alloc: Global,
+    bytes: &[u8],
+    plan: &Plan,
+) -> Result<Keeper, Fault> {
+    let front = if is_carried(bytes) {
+        redone_front_at(rt, alloc, bytes, CARRIED_AT as u64, plan)?
+    } else {
+        redone_front(rt, alloc, bytes, plan)?
+    };
+    Ok(Keeper::new(front.version, front.state))
+}

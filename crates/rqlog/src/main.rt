@@ -1,0 +1,64 @@
+//! The program `rqlog`: appends to logs, marks them with checkpoints, and carries them on into new
+//! files.
+#![tactic(auto)]
+
+mod acting;
+mod appending;
+mod failing;
+mod files;
+mod fronts;
+mod marking;
+mod placing;
+mod reading;
+mod telling;
+mod words;
+
+use crate::acting::act;
+use crate::failing::Refusal;
+use crate::words::program;
+use std::fs::File;
+use std::process::ExitCode;
+use std::rt::{Clock, Env, Files};
+use std::thread::Threads;
+use std::{env, io};
+
+fn main(rt: HostRuntime) -> ExitCode {
+    match start(&rt) {
+        Ok(()) => ExitCode::SUCCESS,
+        Err(failure) => ExitCode::from(failure.tell(&rt)),
+    }
+}
+
+// Does what the arguments ask for.
+fn start<R>(rt: &R) -> Result<(), Refusal>
+where
+    R: Files<File = File> + Env + Input + Print + Eprint + Clock + AllocGlobal + Threads + Sync,
+{
+    let alloc = rt.alloc();
+    let all: Vec<String> = env::args(rt)
+        .map_err(|error| unread(error))?
+        .collect(alloc)?;
+    let matches = program(alloc)?.try_get_matches_from(all.as_slice());
+    match matches {
+        Ok(matches) => act(rt, &matches),
+        Err(error) => asked(rt, error),
+    }
+}
+
+// Arguments that are no text are no command; if memory ran out nothing is known of them.
+fn unread(error: io::Error) -> Refusal {
+    if error.kind() == io::ErrorKind::OutOfMemory {
+        Refusal::Memory
+    } else {
+        Refusal::NoText
+    }
+}
+
+// Prints the help or the version that was asked for, or refuses the words.
+fn asked<R: Print>(rt: &R, error: clap::Error) -> Result<(), Refusal> {
+    if error.exit_code() == 0 {
+        print!(rt; "{error}")?;
+        return Ok(());
+    }
+    Err(Refusal::from(error))
+}

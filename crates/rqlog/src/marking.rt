@@ -1,0 +1,129 @@
+//! The checkpoint of a state, and the ABORTs of open units.
+
+use crate::failing::Refusal;
+use crate::fronts::{Standing, front_of, keeper_behind, opened_front};
+use rq_journal::{NotTaken, Plan, checkpoint_of};
+use rq_record::{Record, kept_records};
+use rq_restart::Keeper;
+use rq_state::State;
+use std::alloc::{AllocError, Global};
+use std::thread::Threads;
+
+/// A checkpoint that is to stand behind a log.
+#[derive(Drop)]
+pub(crate) struct Marked {
+    /// So many bytes of the log stay.
+    pub(crate) used: usize,
+    /// Where the checkpoint will stand.
+    pub(crate) offset: usize,
+    /// All that is to be written behind them.
+    pub(crate) frames: Vec<u8>,
+}
+
+fn refused(why: NotTaken) -> Refusal {
+    match why {
+        NotTaken::Resources => Refusal::Memory,
+        _ => Refusal::Full,
+    }
+}
+
+// The ABORT of each open unit of a state, rising.
+fn aborts_of(alloc: Global, state: &State) -> Result<Vec<Record>, AllocError> {
+    let mut aborts = Vec::with_capacity(alloc, state.units().len())?;
+    for unit in state.units() {
+        aborts.push(Record::Abort { unit: *unit })?;
+    }
+    Ok(aborts)
+}
+
+// Appends these records, all of which are lawful there.
+fn append_all(
+    alloc: Global,
+    standing: &mut Standing,
+    records: &[Record],
+    frames: &mut Vec<u8>,
+) -> Result<(), Refusal> {
+    if !standing.has_numbers(records.len()) {
+        return Err(Refusal::Ended);
+    }
+    match standing.appender.append_each(alloc, records, frames) {
+        (_, None) => {
+            standing.next = standing.next.saturating_add(records.len() as u64);
+            Ok(())
+        }
+        (_, Some(why)) => Err(refused(why)),
+    }
+}
+
+// Appends an ABORT for each unit that is open in the keeper's state, which takes them too.
+fn end_units<R: Threads + Sync>(
+    rt: &R,
+    alloc: Global,
+    standing: &mut Standing,
+    keeper: &mut Keeper,
+    plan: &Plan,
+    frames: &mut Vec<u8>,
+) -> Result<(), Refusal> {
+    let aborts = aborts_of(alloc, keeper.state())?;
+    append_all(alloc, standing, &aborts, frames)?;
+    let aborts = kept_records(alloc, &aborts)?;
+    keeper.take(rt, alloc, &aborts, plan)?;
+    Ok(())
+}
+
+// Appends a checkpoint of the state, behind which the log stands.
+fn append_checkpoint(
+    alloc: Global,
+    standing: &mut Standing,
+    state: &State,
+    frames: &mut Vec<u8>,
+) -> Result<(), Refusal> {
+    if standing.is_at_end() {
+        return Err(Refusal::Ended);
+    }
+    let checkpoint = checkpoint_of(alloc, state)?;
+    match standing.appender.append(alloc, &checkpoint, frames) {
+        Ok(()) => Ok(()),
+        Err(why) => Err(refused(why)),
+    }
+}
+
+/// A checkpoint of the state behind the front of a log, behind ABORTs of the open units if these are
+/// to end.
+pub(crate) fn mark<R: Threads + Sync>(
+    rt: &R,
+    alloc: Global,
+    bytes: &[u8],
+    plan: &Plan,
+    ends_units: bool,
+) -> Result<Marked, Refusal> {
+    let mut standing = opened_front(rt, alloc, bytes, plan)?;
+    let mut keeper = keeper_behind(rt, alloc, bytes, plan)?;
+    let (used, mut frames) = (standing.used, Vec::new(alloc));
+    if ends_units {
+        end_units(rt, alloc, &mut standing, &mut keeper, plan, &mut frames)?;
+    }
+    let offset = used.saturating_add(frames.len());
+    append_checkpoint(alloc, &mut standing, keeper.state(), &mut frames)?;
+    Ok(Marked {
+        used,
+        offset,
+        frames,
+    })
+}
+
+/// The closed log of one that was carried on.
+pub(crate) fn closed_carried<R: Threads + Sync>(
+    rt: &R,
+    alloc: Global,
+    bytes: Vec<u8>,
+    plan: &Plan,
+) -> Result<Vec<u8>, Refusal> {
+    let mut standing = front_of(rt, alloc, &bytes, plan)?;
+    let keeper = keeper_behind(rt, alloc, &bytes, plan)?;
+    let aborts = aborts_of(alloc, keeper.state())?;
+    let mut made = bytes;
+    made.truncate(standing.used);
+    append_all(alloc, &mut standing, &aborts, &mut made)?;
+    Ok(made)
+}

@@ -1,0 +1,154 @@
+//! Reading logs and scripts.
+
+ghost use Rattle.std.specs.Prelude.{◌≤◌, List, ℕ, length, IfOk, OnOk};
+ghost use Rattle.rq_restart.specs.GrowingFronts.{GoesAlong};
+
+use crate::failing::{Refusal, Which, unread};
+use rq_journal::{Fault, Plan, is_carried};
+use rq_restart::{GrowingFront, JudgedFront};
+use std::alloc::{AllocError, Global};
+use std::fs::{self, File, Files};
+use std::io::{self, Chain, Cursor, ErrorKind, Read};
+use std::os::unix::fs::FileExt;
+use std::thread::Threads;
+
+// One byte more than the longest log has, and the longest script.
+const LIMIT: u64 = 4_294_967_296;
+
+// So many bytes tell whether a log was carried on.
+const BEGINNING: usize = 64;
+
+// So many bytes of a log are read at a time.
+const PIECE: usize = 1_048_576;
+
+fn read_to_limit<R: Read + Drop, A: AllocGlobal>(rt: &A, from: R) -> io::Result<Vec<u8>> {
+    let mut bytes = Vec::new(rt.alloc());
+    from.take(LIMIT).read_to_end(&mut bytes)?;
+    Ok(bytes)
+}
+
+// The bytes that were read, if they are not too many.
+fn within(read: io::Result<Vec<u8>>, which: Which) -> Result<Vec<u8>, Refusal> {
+    match read {
+        Ok(bytes) if bytes.len() as u64 >= LIMIT => Err(Refusal::Refused(Fault::TooLong)),
+        Ok(bytes) => Ok(bytes),
+        Err(error) => Err(unread(which, error)),
+    }
+}
+
+/// The bytes of a log.
+pub(crate) fn log_from<A, F>(rt: &A, from: F) -> Result<Vec<u8>, Refusal>
+where
+    A: AllocGlobal,
+    F: Read + Drop,
+{
+    within(read_to_limit(rt, from), Which::Log)
+}
+
+/// The bytes of a log from its open file, read from where that stands.
+pub(crate) fn rest_of_log<A: AllocGlobal>(rt: &A, file: &mut File) -> Result<Vec<u8>, Refusal> {
+    log_from(rt, &*file)
+}
+
+/// Whether the log of an open file or pipe was carried on, and all its bytes, to be read.
+pub(crate) fn begun_log<A: AllocGlobal>(
+    rt: &A,
+    file: File,
+) -> Result<(bool, Chain<Cursor<Vec<u8>>, File>), Refusal> {
+    let mut beginning = Vec::new(rt.alloc());
+    match (&file).take(BEGINNING as u64).read_to_end(&mut beginning) {
+        Ok(_) => Ok((is_carried(&beginning), Cursor::new(beginning).chain(file))),
+        Err(error) => Err(unread(Which::Log, error)),
+    }
+}
+
+/// Whether the log of an open file was carried on.
+pub(crate) fn begins_carried(file: &File) -> bool {
+    let mut beginning = [0; BEGINNING];
+    match file.read_at(&mut beginning, 0) {
+        Ok(count) => count == BEGINNING && is_carried(&beginning),
+        Err(_) => false,
+    }
+}
+
+// One read, which begins again if a signal ends it.
+fn read_piece(file: &mut File, piece: &mut [u8]) -> Result<usize, Refusal>
+    ensures { IfOk result (λ count. count ≤ length piece.new) }
+{
+    for _ in 0..u64::MAX {
+        match file.read(piece) {
+            Ok(count) => return Ok(count),
+            Err(error) if error.kind() == ErrorKind::Interrupted => {}
+            Err(error) => return Err(Refusal::Unread(Which::Log, error)),
+        }
+    }
+    Err(Refusal::Refused(Fault::ReadFailed))
+}
+
+// Reads on, goes along with what comes, and answers how many bytes these are.
+fn feed_piece<R>(
+    rt: &R,
+    file: &mut File,
+    piece: &mut [u8],
+    front: &mut GrowingFront,
+    plan: &Plan,
+) -> Result<usize, Refusal>
+where
+    R: AllocGlobal + Threads + Sync,
+    requires { (b : List ℕ) × GoesAlong b front.old }
+    ensures { OnOk result ((b : List ℕ) × GoesAlong b front.new) }
+{
+    let count = read_piece(file, piece)?;
+    front.feed(rt, rt.alloc(), &piece[..count], plan)?;
+    Ok(count)
+}
+
+// Room for what is read at a time.
+fn room_for_piece(alloc: Global) -> Result<Vec<u8>, AllocError> {
+    vec![in alloc; 0u8; PIECE]
+}
+
+/// The front of the log in an open file, read from where that stands, and how many bytes there are.
+/// No more of them is held than a window.
+pub(crate) fn judged_log<R>(
+    rt: &R,
+    file: &mut File,
+    plan: &Plan,
+) -> Result<(JudgedFront, usize), Refusal>
+where
+    R: AllocGlobal + Threads + Sync,
+{
+    let alloc = rt.alloc();
+    let mut piece = room_for_piece(alloc)?;
+    let (mut front, mut total) = (GrowingFront::new(alloc), 0usize);
+    for _ in 0..u64::MAX {
+        let count = feed_piece(rt, file, &mut piece, &mut front, plan)?;
+        if count == 0 {
+            break;
+        }
+        total = total.saturating_add(count);
+    }
+    Ok((front.judged(rt, alloc, plan)?, total))
+}
+
+/// Opens a log to read it.
+pub(crate) fn opened<R: Files<File = File>>(rt: &R, path: &str) -> Result<File, Refusal> {
+    match fs::open(rt, path) {
+        Ok(file) => Ok(file),
+        Err(error) => Err(Refusal::Unread(Which::Log, error)),
+    }
+}
+
+/// The bytes of the script in a file, or of standard input for `-`.
+pub(crate) fn script_in<R>(rt: &R, path: &str) -> Result<Vec<u8>, Refusal>
+where
+    R: Files<File = File> + Input + AllocGlobal,
+{
+    if path == "-" {
+        return within(read_to_limit(rt, rt.reader()), Which::Script);
+    }
+    match fs::open(rt, path) {
+        Ok(file) => within(read_to_limit(rt, file), Which::Script),
+        Err(error) => Err(Refusal::Unread(Which::Script, error)),
+    }
+}
