@@ -39,7 +39,7 @@ def bytes_of(path: str) -> bytes:
 
 
 def logic() -> str:
-    """The sum of the toolchain's logic, as `rt version` and the last line of each check name it. Kits of one logic judge alike."""
+    """The sum of the toolchain's logic, as `rt version` and the last line of each check name it: it does not tell kits apart."""
     return bytes_of(os.path.join(KIT, "KIT-ID")).decode().split()[-1]
 
 
