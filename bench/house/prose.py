@@ -2,7 +2,7 @@
 """Holds the documents against what CONTRIBUTING asks of their sentences.
 
 usage: prose.py [--words] [FILE.md ..]
-Without files: README.md, docs/*.md, docs/measured/*.md and bench/README.md.
+Without files: README.md, docs/*.md, docs/measured/*.md, bench/README.md and crates/*/CALLING.md.
 
 - A sentence has at most 30 words. A command, a name or a number in backquotes is one word, and of a link its text counts.
   Headings, tables, fenced blocks and quotations (`>`) are no sentences.
@@ -123,7 +123,7 @@ def main() -> int:
     words.add_argument("--words", action="store_true")
     words.add_argument("files", nargs="*")
     options = words.parse_args()
-    places = ["README.md", "docs/*.md", "docs/measured/*.md", "bench/README.md"]
+    places = ["README.md", "docs/*.md", "docs/measured/*.md", "bench/README.md", "crates/*/CALLING.md"]
     paths = options.files or [path for it in places for path in sorted(glob.glob(os.path.join(TOP, it)))]
     failed, ifs, wheres = 0, 0, 0
     for document in map(read, paths):
