@@ -11,14 +11,14 @@ use Rattle.rq_journal.specs.declared.appender.Appender.{Appender}
 use Rattle.rq_journal.specs.declared.appender.NotTaken.{NotTaken}
 use Rattle.rq_journal.specs.declared.opening.Opened.{Opened}
 use Rattle.rq_journal.specs.Places.{behind_header}
-use Rattle.rq_journal.specs.Appenders.{TakesEach, StopsAt}
+use Rattle.rq_journal.specs.Appenders.{AppendsEach, AppendsUpTo}
 use Rattle.rq_journal.specs.Openings.{IsOpened}
 use Rattle.rq_journal.specs.Writings.{AreWrittenBehind, IsHeldBack}
 use Rattle.rq_journal.proofs.Taking.{later}
 use Rattle.rq_journal.proofs.Standing.{log_long}
 
 pub behind : (b : List ℕ) (o : Opened) (a : Appender) (xs : List Record) (written : List ℕ) → IsOpened b o
-    → TakesEach o.appender a xs [] written → CrashWhileAppending → AppendedIsFront → AreWrittenBehind b xs written
+    → AppendsEach o.appender a xs [] written → CrashWhileAppending → AppendedIsFront → AreWrittenBehind b xs written
 behind b o a xs written h takes crash appended =
     let v = h.version in
     let rs = h.records in
@@ -52,8 +52,8 @@ all_taken n xs none =
     sym (append-nil (take n xs)) ∙ ap (λ (z : List Record). take n xs ++ z) (sym none) ∙ take-append-drop n xs
 
 pub held_back : (b : List ℕ) (o : Opened) (a : Appender) (xs : List Record) (index : ℕ) (written : List ℕ)
-    (why : NotTaken) → IsOpened b o → TakesEach o.appender a (take index xs) [] written
-    → StopsAt o.appender (take index xs) (drop index xs) (Some why) → IsHeldBack b xs index why
+    (why : NotTaken) → IsOpened b o → AppendsEach o.appender a (take index xs) [] written
+    → AppendsUpTo o.appender (take index xs) (drop index xs) (Some why) → IsHeldBack b xs index why
 held_back b o a xs index written why h takes (next, more, left, refused) =
     let v = h.version in
     let rs = h.records in

@@ -22,7 +22,7 @@ use Rattle.rq_restart.specs.RedoneFronts.{IsRedoneAt}
 use Rattle.rq_restart.specs.Restarts.{RefusedAt}
 use Rattle.rq_restart.proofs.Passes.{frame_more, part_more}
 use Rattle.rq_journal.specs.Checkpoints.{HasNoCheckpointOf, IsCheckpointOf}
-use Rattle.rq_journal.specs.Carries.{Begins, CarriesAgain, IsBegunIn, IsCarriedAgain, IsStateOf, JoinsBehind, StaysThere}
+use Rattle.rq_journal.specs.Carries.{BeginsFile, CarriesAgain, IsBegunIn, IsCarriedAgain, IsCarriedState, JoinsBehind, StaysThere}
 use Rattle.rq_journal.proofs.CarriedOn.{begun_in}
 
 module _ (b : List ℕ) (f : RedoneFront) (h : IsRedoneAt b 96 f) where
@@ -103,12 +103,12 @@ module _ (b : List ℕ) (f : RedoneFront) (h : IsRedoneAt b 96 f) where
 
   pub carries_again : (body : List ℕ) → f.state.next ≤ 4294967295 → IsCheckpointOf f.state body
       → (result : Result (Vec ℕ) Fault) → BytesSpellOneState → StartsAnew → GapIsLoud → IsCarriedGap → FilesJoin
-      → Begins version f.last body result → CarriesAgain b result
+      → BeginsFile version f.last body result → CarriesAgain b result
   carries_again body low is (Ok v) one starts loud gap join begun =
       carried_again v.items body low is one starts loud gap join begun
   carries_again body low is (Err e) one starts loud gap join begun = subst (StaysThere b) (sym begun) tt
 
-  state_of : IsStateOf b f.state
+  state_of : IsCarriedState b f.state
   state_of = record {
     version = version;
     base = h.base;

@@ -21,7 +21,7 @@ use Rattle.rq_record.specs.declared.fault.Fault.{Fault}
 use Rattle.rq_restart.specs.declared.redone.RedoneFront.{RedoneFront}
 use Rattle.rq_restart.specs.RedoneFronts.{IsRedone}
 use Rattle.rq_journal.specs.Checkpoints.{IsCheckpointOf}
-use Rattle.rq_journal.specs.Carries.{Begins, IsBegunIn, IsCarriedOn, StaysHere, Carries}
+use Rattle.rq_journal.specs.Carries.{BeginsFile, IsBegunIn, IsCarriedOn, StaysHere, Carries}
 
 -- how long it is
 anew_short : (version : Version) (p : List ℕ) (s : State) → length p ≡ 32 → length (state_bytes s) ≤ 268435455
@@ -106,6 +106,6 @@ module _ (b : List ℕ) (f : RedoneFront) (body : List ℕ) (h : IsRedone b f) (
       }
 
   pub carries : (result : Result (Vec ℕ) Fault) → FrontsAreSpelt → StartsAnew → GapIsLoud → IsCarriedGap → AnewJoins
-      → Begins version f.last body result → Carries b result
+      → BeginsFile version f.last body result → Carries b result
   carries (Ok v) law starts loud_law gap join begun = carried_on v.items law starts loud_law gap join begun
   carries (Err e) law starts loud_law gap join begun = subst (StaysHere b) (sym begun) tt

@@ -21,8 +21,8 @@ use Rattle.rq_catalog.specs.declared.judge.Judge.{Judge}
 use Rattle.rq_catalog.specs.Judges.{StandsIn}
 use Rattle.rq_journal.specs.declared.appender.Appender.{Appender}
 use Rattle.rq_journal.specs.declared.appender.NotTaken.{NotTaken}
-use Rattle.rq_journal.specs.Places.{Place, StandsBehind, length_with}
-use Rattle.rq_journal.specs.Appenders.{Takes, TakesEach, Stays, Refuses, StopsAt}
+use Rattle.rq_journal.specs.Places.{Place, IsAppenderAt, length_with}
+use Rattle.rq_journal.specs.Appenders.{AppendsOne, AppendsEach, KeepsPlace, Refuses, AppendsUpTo}
 
 -- a body fits into a frame
 pub body_fits : (r : Record) → RecordHasOneBody
@@ -67,10 +67,10 @@ one_longer at rs r =
 
 -- the appender behind one record more
 stands_further : (at : Place) (rs : List Record) (r : Record) (a : Appender) (j : Judge) (last : List ℕ) (len : ℕ)
-    → StandsBehind at rs a → ((version : Version) → HasKind version r → Spells version r (body_of r))
+    → IsAppenderAt at rs a → ((version : Version) → HasKind version r → Spells version r (body_of r))
     → is_lawful at.version (run at.state rs) r ≡ true → StandsIn at.version j (step (run at.state rs) r)
     → last ≡ digest (last_of at.link rs) (body_of r) → len ≡ a.len + (36 + length (body_of r)) → len ≤ log_limit
-    → (b : Appender) → b.judge ≡ j → b.last ≡ last → b.len ≡ len → StandsBehind at (rs ++ r ∷ []) b
+    → (b : Appender) → b.judge ≡ j → b.last ≡ last → b.len ≡ len → IsAppenderAt at (rs ++ r ∷ []) b
 stands_further at rs r a j last len h spelled lawful judge last_is len_is short b bj bl bn =
     let version = at.version in
     let here = run at.state rs in
@@ -91,9 +91,9 @@ stands_further at rs r a j last len h spelled lawful judge last_is len_is short 
 
 -- a record that was not taken leaves the appender where it stood
 pub stands_still : (at : Place) (rs : List Record) (r : Record) (a : Appender) (j : Judge) (taken : Bool)
-    → StandsBehind at rs a → taken ≡ false
+    → IsAppenderAt at rs a → taken ≡ false
     → StandsIn at.version j (if taken then step (run at.state rs) r else run at.state rs)
-    → (b : Appender) → b.judge ≡ j → b.last ≡ a.last → b.len ≡ a.len → StandsBehind at rs b
+    → (b : Appender) → b.judge ≡ j → b.last ≡ a.last → b.len ≡ a.len → IsAppenderAt at rs b
 stands_still at rs r a j taken h none judge b bj bl bn = record {
   may = h.may;
   short = h.short;
@@ -106,24 +106,24 @@ stands_still at rs r a j taken h none judge b bj bl bn = record {
 
 -- and one that was taken moves it on
 pub moves_on : (at : Place) (rs : List Record) (r : Record) (a : Appender) (j : Judge) (last : List ℕ) (len : ℕ)
-    (taken : Bool) → StandsBehind at rs a → ((version : Version) → HasKind version r → Spells version r (body_of r))
+    (taken : Bool) → IsAppenderAt at rs a → ((version : Version) → HasKind version r → Spells version r (body_of r))
     → taken ≡ true → taken ≡ is_lawful at.version (run at.state rs) r
     → StandsIn at.version j (if taken then step (run at.state rs) r else run at.state rs)
     → last ≡ digest a.last (body_of r) → len ≡ a.len + (36 + length (body_of r)) → len ≤ log_limit
-    → (b : Appender) → b.judge ≡ j → b.last ≡ last → b.len ≡ len → StandsBehind at (rs ++ r ∷ []) b
+    → (b : Appender) → b.judge ≡ j → b.last ≡ last → b.len ≡ len → IsAppenderAt at (rs ++ r ∷ []) b
 moves_on at rs r a j last len taken h spelled all lawful judge last_is len_is short b bj bl bn =
     stands_further at rs r a j last len h spelled (sym lawful ∙ all)
     (subst (λ (t : Bool). StandsIn at.version j (if t then step (run at.state rs) r else run at.state rs)) all judge)
     (last_is ∙ ap (λ (q : List ℕ). digest q (body_of r)) h.last) len_is short b bj bl bn
 
 -- none taken yet
-pub takes_none : (a : Appender) (old : List ℕ) → TakesEach a a [] old old
+pub takes_none : (a : Appender) (old : List ℕ) → AppendsEach a a [] old old
 takes_none a old at rs h =
-    (subst (λ (z : List Record). StandsBehind at z a) (sym (append-nil rs)) h, sym (append-nil old))
+    (subst (λ (z : List Record). IsAppenderAt at z a) (sym (append-nil rs)) h, sym (append-nil old))
 
 -- one more
 pub takes_one_more : (a b c : Appender) (xs ys : List Record) (r : Record) (old new newer : List ℕ)
-    → TakesEach a b xs old new → Takes b c r new newer → ys ≡ xs ++ r ∷ [] → TakesEach a c ys old newer
+    → AppendsEach a b xs old new → AppendsOne b c r new newer → ys ≡ xs ++ r ∷ [] → AppendsEach a c ys old newer
 takes_one_more a b c xs ys r old new newer some one is at rs h =
     let (there, bytes) = some at rs h in
     let (further, frame_is) = one at (rs ++ xs) there in
@@ -136,25 +136,25 @@ takes_one_more a b c xs ys r old new newer some one is at rs h =
     ∙ sym (append_assoc old (frames_of q xs) (f ++ [])) in
     let link : frame (last_of at.link (rs ++ xs)) (body_of r) ≡ f =
     ap (λ (z : List ℕ). frame z (body_of r)) (last_of_join at.link rs xs) in (
-      subst (λ (z : List Record). StandsBehind at z c) (sym same) further,
+      subst (λ (z : List Record). IsAppenderAt at z c) (sym same) further,
       frame_is ∙ (λ i. bytes i ++ link i) ∙ ap (λ (z : List ℕ). (old ++ frames_of q xs) ++ z) (sym (append-nil f))
           ∙ sym frames,
     )
 
 -- one that was not taken
 pub takes_no_more : (a b c : Appender) (xs : List Record) (old new newer : List ℕ)
-    → TakesEach a b xs old new → Stays b c → newer ≡ new → TakesEach a c xs old newer
+    → AppendsEach a b xs old new → KeepsPlace b c → newer ≡ new → AppendsEach a c xs old newer
 takes_no_more a b c xs old new newer some still same at rs h =
     let (there, bytes) = some at rs h in
     (still at (rs ++ xs) there, same ∙ bytes)
 
 pub stops_there : (a b : Appender) (xs left more : List Record) (r : Record) (why : NotTaken) (old new : List ℕ)
-    → TakesEach a b xs old new → Refuses b r why → left ≡ r ∷ more → StopsAt a xs left (Some why)
+    → AppendsEach a b xs old new → Refuses b r why → left ≡ r ∷ more → AppendsUpTo a xs left (Some why)
 stops_there a b xs left more r why old new some refused is =
     (r, more, is, λ at rs h. refused at (rs ++ xs) (some at rs h).0)
 
 -- what stands behind others may follow them
-pub later : (at : Place) (rs xs : List Record) (a : Appender) → StandsBehind at (rs ++ xs) a
+pub later : (at : Place) (rs xs : List Record) (a : Appender) → IsAppenderAt at (rs ++ xs) a
     → MayFollow at.version (run at.state rs) xs
 later at rs xs a h = record {
   records = (each_cut (IsRecord at.version) rs xs h.may.records).1;

@@ -22,7 +22,7 @@ use Rattle.rq_record.specs.declared.fault.Fault.TheVariants as faults
 use Rattle.rq_restart.specs.declared.redone.RedoneFront.{RedoneFront}
 use Rattle.rq_restart.specs.RedoneFronts.{IsRedone}
 use Rattle.rq_journal.specs.Checkpoints.{IsCheckpointOf}
-use Rattle.rq_journal.specs.Marks.{Framed, IsMarked, IsTooLarge, Marks}
+use Rattle.rq_journal.specs.Marks.{PutsFrame, IsMarked, IsTooLargeToMark, Marks}
 
 -- how long the first bytes are with a frame behind them
 pub framed_long : (b link body : List ℕ) (used : ℕ) → used ≤ length b
@@ -82,7 +82,7 @@ module _ (b : List ℕ) (f : RedoneFront) (body : List ℕ) (h : IsRedone b f) (
         queues = queues b version h.records rest bytes h.front small fits;
       })
 
-  too_long : log_limit < length (take f.used b ++ frame f.last body) → IsTooLarge b
+  too_long : log_limit < length (take f.used b ++ frame f.last body) → IsTooLargeToMark b
   too_long long = record {
     version = version;
     records = h.records;
@@ -92,7 +92,7 @@ module _ (b : List ℕ) (f : RedoneFront) (body : List ℕ) (h : IsRedone b f) (
   }
 
   pub marks : (result : Result (Vec ℕ) Fault) → AreBytes b → CheckpointIsTrue → CheckpointSaysTheSame → TrueSaysTheSame
-      → Framed (take f.used b) f.last body result → Marks b result
+      → PutsFrame (take f.used b) f.last body result → Marks b result
   marks (Ok v) bytes truth queues same framed = is_marked v.items bytes truth queues same framed.0 framed.1
   marks (Err faults.TooLarge) bytes truth queues same framed = too_long framed
   marks (Err faults.Resources) bytes truth queues same framed = tt

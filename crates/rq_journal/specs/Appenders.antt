@@ -4,19 +4,19 @@ use Rattle.rq_model.specs.Records.{Record}
 use Rattle.rq_model.specs.Spelling.{body_of}
 use Rattle.rq_model.specs.Frames.{log_limit, frame, frames_of, last_of}
 use Rattle.rq_model.specs.Machine.{is_lawful, run}
-use Rattle.rq_journal.specs.Places.{Place, StandsBehind, length_with}
+use Rattle.rq_journal.specs.Places.{Place, IsAppenderAt, length_with}
 use Rattle.rq_journal.specs.declared.appender.Appender.{Appender}
 use Rattle.rq_journal.specs.declared.appender.NotTaken.{NotTaken}
 use Rattle.rq_journal.specs.declared.appender.NotTaken.TheVariants.{Unlawful, Full, Resources}
 
--- wherever a stood behind some records, b stands behind the next one too, whose frame is what came
-abbrev pub Takes : Appender → Appender → Record → List ℕ → List ℕ → Type 0
-Takes a b r old new = (at : Place) (rs : List Record) → StandsBehind at rs a
-    → StandsBehind at (rs ++ r ∷ []) b × (new ≡ old ++ frame (last_of at.link rs) (body_of r))
+-- if a stands behind some records, b stands behind the next one too, and its frame is what came
+abbrev pub AppendsOne : Appender → Appender → Record → List ℕ → List ℕ → Type 0
+AppendsOne a b r old new = (at : Place) (rs : List Record) → IsAppenderAt at rs a
+    → IsAppenderAt at (rs ++ r ∷ []) b × (new ≡ old ++ frame (last_of at.link rs) (body_of r))
 
--- wherever a stood, b stands
-abbrev pub Stays : Appender → Appender → Type 0
-Stays a b = (at : Place) (rs : List Record) → StandsBehind at rs a → StandsBehind at rs b
+-- b stands at each place where a stands
+abbrev pub KeepsPlace : Appender → Appender → Type 0
+KeepsPlace a b = (at : Place) (rs : List Record) → IsAppenderAt at rs a → IsAppenderAt at rs b
 
 -- why a record is not taken behind these: it is not lawful there, and there would be room; or there
 -- is none; or memory was refused
@@ -26,17 +26,17 @@ IsRefused at rs r Unlawful = (is_lawful at.version (run at.state rs) r ≡ false
 IsRefused at rs r Full = log_limit < length_with at (rs ++ r ∷ [])
 IsRefused at rs r Resources = ⊤
 
--- wherever a stands
+-- so it is refused at each place where a stands
 abbrev pub Refuses : Appender → Record → NotTaken → Type 0
-Refuses a r why = (at : Place) (rs : List Record) → StandsBehind at rs a → IsRefused at rs r why
+Refuses a r why = (at : Place) (rs : List Record) → IsAppenderAt at rs a → IsRefused at rs r why
 
--- wherever a stood behind some records, b stands behind these too, whose frames are what came
-abbrev pub TakesEach : Appender → Appender → List Record → List ℕ → List ℕ → Type 0
-TakesEach a b xs old new = (at : Place) (rs : List Record) → StandsBehind at rs a
-    → StandsBehind at (rs ++ xs) b × (new ≡ old ++ frames_of (last_of at.link rs) xs)
+-- if a stands behind some records, b stands behind these too, and their frames are what came
+abbrev pub AppendsEach : Appender → Appender → List Record → List ℕ → List ℕ → Type 0
+AppendsEach a b xs old new = (at : Place) (rs : List Record) → IsAppenderAt at rs a
+    → IsAppenderAt at (rs ++ xs) b × (new ≡ old ++ frames_of (last_of at.link rs) xs)
 
 -- why no more are taken behind these: none is left, or the next is refused there
-abbrev pub StopsAt : Appender → List Record → List Record → Option NotTaken → Type 0
-StopsAt a xs left None = left ≡ []
-StopsAt a xs left (Some why) = (next : Record) × (more : List Record) × (left ≡ next ∷ more)
-    × ((at : Place) (rs : List Record) → StandsBehind at rs a → IsRefused at (rs ++ xs) next why)
+abbrev pub AppendsUpTo : Appender → List Record → List Record → Option NotTaken → Type 0
+AppendsUpTo a xs left None = left ≡ []
+AppendsUpTo a xs left (Some why) = (next : Record) × (more : List Record) × (left ≡ next ∷ more)
+    × ((at : Place) (rs : List Record) → IsAppenderAt at rs a → IsRefused at (rs ++ xs) next why)

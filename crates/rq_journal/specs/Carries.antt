@@ -19,10 +19,10 @@ use Rattle.rq_restart.specs.Restarts.{RefusedAt}
 
 -- the first frame behind a header, the gap of carried files and these 32 bytes, or memory was
 -- refused
-abbrev pub Begins : Version → List ℕ → List ℕ → Result (Vec ℕ) Fault → Type 0
-Begins version link body (Ok v) =
+abbrev pub BeginsFile : Version → List ℕ → List ℕ → Result (Vec ℕ) Fault → Type 0
+BeginsFile version link body (Ok v) =
     v.items ≡ header version ++ (carried_gap ++ (link ++ frame link body))
-Begins version link body (Err e) = e ≡ Resources
+BeginsFile version link body (Err e) = e ≡ Resources
 
 -- new begins anew in the state, behind these 32 bytes. A restart from its checkpoint begins in that
 -- state; one of the whole finds no record, and says `length`
@@ -81,7 +81,7 @@ pub record IsCarriedAgain (b new : List ℕ) : Type 0 where
       → JoinsBehind version (records ++ Checkpoint kept ∷ after) new
 
 -- the state behind the front of b from 96 on
-pub record IsStateOf (b : List ℕ) (s : State) : Type 0 where
+pub record IsCarriedState (b : List ℕ) (s : State) : Type 0 where
   pub version : Version
   pub base : State
   pub kept : List ℕ
@@ -93,10 +93,10 @@ pub record IsStateOf (b : List ℕ) (s : State) : Type 0 where
 -- why b is not carried again: the spelling of that state would be too long, or it numbers too many
 -- records; or else as it is refused
 abbrev pub StaysThere : List ℕ → Fault → Type 0
-StaysThere b TooLarge = (s : State) × IsStateOf b s × (s.next ≤ 4294967295)
+StaysThere b TooLarge = (s : State) × IsCarriedState b s × (s.next ≤ 4294967295)
     × (268435455 < length (state_bytes s))
 StaysThere b TooLong = (log_limit < length b)
-    ⊎ ((s : State) × IsStateOf b s × (4294967295 < s.next))
+    ⊎ ((s : State) × IsCarriedState b s × (4294967295 < s.next))
 StaysThere b e = RefusedAt b 96 e
 
 abbrev pub CarriesAgain : List ℕ → Result (Vec ℕ) Fault → Type 0

@@ -16,11 +16,11 @@ use Rattle.rq_record.specs.declared.fault.Fault.TheVariants.{Resources, TooLarge
 use Rattle.rq_front.specs.Chains.{Refused}
 
 -- the bytes and one frame more, or the log would be too long, or memory was refused
-abbrev pub Framed : List ℕ → List ℕ → List ℕ → Result (Vec ℕ) Fault → Type 0
-Framed old link body (Ok v) = (v.items ≡ old ++ frame link body) × (length v.items ≤ log_limit)
-Framed old link body (Err TooLarge) = log_limit < length (old ++ frame link body)
-Framed old link body (Err Resources) = ⊤
-Framed old link body (Err _) = ⊥
+abbrev pub PutsFrame : List ℕ → List ℕ → List ℕ → Result (Vec ℕ) Fault → Type 0
+PutsFrame old link body (Ok v) = (v.items ≡ old ++ frame link body) × (length v.items ≤ log_limit)
+PutsFrame old link body (Err TooLarge) = log_limit < length (old ++ frame link body)
+PutsFrame old link body (Err Resources) = ⊤
+PutsFrame old link body (Err _) = ⊥
 
 -- the log of the front of b with a checkpoint of its state, which is true; the restart from it and
 -- that of the log have one report, with the queue lines of b
@@ -37,7 +37,7 @@ pub record IsMarked (b marked : List ℕ) : Type 0 where
   pub queues : HaveSameQueues b marked
 
 -- the spelling of the state would be too long, or the log with it
-pub record IsTooLarge (b : List ℕ) : Type 0 where
+pub record IsTooLargeToMark (b : List ℕ) : Type 0 where
   pub version : Version
   pub records : List Record
   pub rest : List ℕ
@@ -47,7 +47,7 @@ pub record IsTooLarge (b : List ℕ) : Type 0 where
 
 -- why b is not marked
 abbrev pub StaysUnmarked : List ℕ → Fault → Type 0
-StaysUnmarked b TooLarge = IsTooLarge b
+StaysUnmarked b TooLarge = IsTooLargeToMark b
 StaysUnmarked b e = Refused b e
 
 abbrev pub Marks : List ℕ → Result (Vec ℕ) Fault → Type 0

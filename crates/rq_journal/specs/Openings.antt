@@ -10,7 +10,7 @@ use Rattle.rq_record.specs.declared.fault.Fault.{Fault}
 use Rattle.rq_front.specs.Chains.{Refused}
 use Rattle.rq_restart.specs.Restarts.{RefusedAt}
 use Rattle.rq_restart.specs.Views.{why_of}
-use Rattle.rq_journal.specs.Places.{StandsBehind, behind_header, at_checkpoint}
+use Rattle.rq_journal.specs.Places.{IsAppenderAt, behind_header, at_checkpoint}
 use Rattle.rq_journal.specs.declared.opening.Opened.{Opened}
 
 -- the appender stands behind the front of b, which ends here for this reason
@@ -22,7 +22,7 @@ pub record IsOpened (b : List ℕ) (o : Opened) : Type 0 where
       (drop o.used b) (why_of o.why)
   pub used : o.used ≡ length (log_of version records)
   pub count : o.records ≡ length records
-  pub stands : StandsBehind (behind_header version) records o.appender
+  pub stands : IsAppenderAt (behind_header version) records o.appender
 
 -- that, or why b is refused
 abbrev pub Opens : List ℕ → Result Opened Fault → Type 0
@@ -42,7 +42,7 @@ pub record IsOpenedAt (b : List ℕ) (offset : ℕ) (o : Opened) : Type 0 where
   pub used : o.used
       ≡ offset + length (frames_of (before offset b) (Checkpoint kept ∷ after))
   pub count : o.records ≡ length (Checkpoint kept ∷ after)
-  pub stands : StandsBehind (at_checkpoint version base b offset) (Checkpoint kept ∷ after)
+  pub stands : IsAppenderAt (at_checkpoint version base b offset) (Checkpoint kept ∷ after)
       o.appender
 
 -- that, at the checkpoint of a carried log, or why b is refused

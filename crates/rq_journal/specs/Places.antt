@@ -32,7 +32,7 @@ length_with at rs = at.ahead + length (frames_of at.link rs)
 
 -- the appender stands behind the frames of these records, which may follow there, in a log that is
 -- no longer than one may be
-pub record StandsBehind (at : Place) (rs : List Record) (a : Appender) : Type 0 where
+pub record IsAppenderAt (at : Place) (rs : List Record) (a : Appender) : Type 0 where
   pub may : MayFollow at.version at.state rs
   pub short : length_with at rs ≤ log_limit
   pub judge : StandsIn at.version a.judge (run at.state rs)

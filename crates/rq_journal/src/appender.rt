@@ -1,13 +1,13 @@
 //! What takes records behind the front of a log, and gives their frames.
 
-ghost use Rattle.std.specs.Prelude.{◌≡◌, ◌≤◌, List, [], false, OnOk, IfErr, IfSome};
+ghost use Rattle.std.specs.Prelude.{◌≡◌, ◌≤◌, List, [], OnOk, IfErr, is_some, not};
 ghost use Rattle.std.specs.Prelude.{length, map, take, drop};
 ghost use Rattle.rq_model.specs.Records as model;
 ghost use Rattle.rq_model.specs.Machine.{is_lawful, run};
 ghost use Rattle.rq_model.specs.Frames.{start};
 ghost use Rattle.rq_record.specs.Views.{record_of, version_of};
-ghost use Rattle.rq_journal.specs.Places.{Place, StandsBehind, behind_header};
-ghost use Rattle.rq_journal.specs.Appenders.{Refuses, Stays, StopsAt, Takes, TakesEach};
+ghost use Rattle.rq_journal.specs.Places.{Place, IsAppenderAt, behind_header};
+ghost use Rattle.rq_journal.specs.Appenders.{Refuses, KeepsPlace, AppendsUpTo, AppendsOne, AppendsEach};
 
 use crate::framing::append_frame;
 use rq_catalog::{Judge, Rule};
@@ -41,7 +41,7 @@ impl Appender {
     /// Stands behind the header of a log without records, whose last 32 bytes are `last`.
     pub fn new(alloc: Global, version: Version, last: [u8; 32]) -> Appender
         requires { last ≡ start (version_of version) }
-        ensures { StandsBehind (behind_header (version_of version)) [] result }
+        ensures { IsAppenderAt (behind_header (version_of version)) [] result }
     {
         rq_model::frames_join();
         Appender {
@@ -53,17 +53,16 @@ impl Appender {
 
     /// The version by whose rules it takes records.
     pub fn version(&self) -> Version
-        ensures { (at : Place) (rs : List model.Record) → StandsBehind at rs self.now
+        ensures { (at : Place) (rs : List model.Record) → IsAppenderAt at rs self.now
             → version_of result ≡ at.version }
     {
         self.judge.version()
     }
 
-    /// A rule that the record breaks there, if it is not lawful. Which rule that is, is tested.
+    /// A rule that the record breaks there; none exactly if it is lawful. Tests check which rule it is.
     pub fn broken(&self, next: &KeptRecord) -> Option<Rule>
-        ensures { IfSome result (λ _. (at : Place) (rs : List model.Record) →
-            StandsBehind at rs self.now
-            → is_lawful at.version (run at.state rs) (record_of next.now) ≡ false) }
+        ensures { (at : Place) (rs : List model.Record) → IsAppenderAt at rs self.now
+            → is_some result ≡ not (is_lawful at.version (run at.state rs) (record_of next.now)) }
     {
         self.judge.broken(next)
     }
@@ -78,9 +77,9 @@ impl Appender {
         out: &mut Vec<u8>,
     ) -> Result<(), NotTaken>
         ensures taken { OnOk result
-            (Takes self.old self.new (record_of next.now) out.old.items out.new.items) }
+            (AppendsOne self.old self.new (record_of next.now) out.old.items out.new.items) }
         ensures refused { IfErr result (Refuses self.old (record_of next.now)) }
-        ensures stays { IfErr result (λ why. Stays self.old self.new) }
+        ensures stays { IfErr result (λ why. KeepsPlace self.old self.new) }
         ensures nothing { IfErr result (λ why. out.new.items ≡ out.old.items) }
     {
         rq_model::one_spelling();
@@ -125,9 +124,9 @@ impl Appender {
         out: &mut Vec<u8>,
     ) -> (usize, Option<NotTaken>)
         ensures within { result.0 ≤ length records.now }
-        ensures taken { TakesEach self.old self.new (map record_of (take result.0 records.now))
+        ensures taken { AppendsEach self.old self.new (map record_of (take result.0 records.now))
             out.old.items out.new.items }
-        ensures stops { StopsAt self.old (map record_of (take result.0 records.now))
+        ensures stops { AppendsUpTo self.old (map record_of (take result.0 records.now))
             (map record_of (drop result.0 records.now)) result.1 }
     {
         let mut count = 0;

@@ -4,7 +4,7 @@ ghost use Rattle.std.specs.Prelude.{◌≡◌, length, true, take, drop};
 ghost use Rattle.rq_model.specs.Frames.{IsBodyLength};
 ghost use Rattle.rq_model.specs.Continuing.{carried_gap};
 ghost use Rattle.rq_record.specs.Views.{version_of};
-ghost use Rattle.rq_journal.specs.Carries.{Begins, Carries, CarriesAgain};
+ghost use Rattle.rq_journal.specs.Carries.{BeginsFile, Carries, CarriesAgain};
 
 use crate::checkpoint::{body_of_any, checkpoint_body};
 use rq_front::{FRAME_LEN, HEADER_LEN, frame, header_of, version};
@@ -39,7 +39,7 @@ pub fn is_carried(bytes: &[u8]) -> bool
 // The log of the version whose first frame, that of a body, goes on behind these 32 bytes.
 fn begun(alloc: Global, version: Version, link: &[u8; 32], body: &[u8]) -> Result<Vec<u8>, Fault>
     requires { IsBodyLength (length body.now) }
-    ensures { Begins (version_of version) link.now body.now result }
+    ensures { BeginsFile (version_of version) link.now body.now result }
 {
     let mut out = Vec::new(alloc);
     header_of(version, &mut out)?;

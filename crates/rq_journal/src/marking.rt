@@ -2,7 +2,7 @@
 
 ghost use Rattle.std.specs.Prelude.{◌≤◌, length, take};
 ghost use Rattle.rq_model.specs.Frames.{AreBytes, IsBodyLength, log_limit};
-ghost use Rattle.rq_journal.specs.Marks.{Framed, Marks};
+ghost use Rattle.rq_journal.specs.Marks.{PutsFrame, Marks};
 
 use crate::checkpoint::checkpoint_body;
 use rq_front::{FRAME_LEN, LOG_LIMIT, frame};
@@ -24,7 +24,7 @@ fn framed(bytes: Vec<u8>, used: usize, last: &[u8; 32], body: &[u8]) -> Result<V
     requires within { used ≤ length bytes.items }
     requires short { used ≤ log_limit }
     requires body { IsBodyLength (length body.now) }
-    ensures { Framed (take used bytes.items) last.now body.now result }
+    ensures { PutsFrame (take used bytes.items) last.now body.now result }
 {
     if FRAME_LEN + body.len() > LOG_LIMIT - used {
         return Err(Fault::TooLarge);

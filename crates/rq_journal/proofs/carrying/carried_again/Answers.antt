@@ -3,7 +3,7 @@ use Rattle.std.specs.Prelude.{Result, Err}
 use Rattle.std.specs.Global.{Vec}
 use Rattle.rq_record.specs.declared.fault.Fault.{Fault}
 use Rattle.rq_record.specs.Views.{version_of}
-use Rattle.rq_journal.specs.Carries.{Begins, CarriesAgain}
+use Rattle.rq_journal.specs.Carries.{BeginsFile, CarriesAgain}
 use Rattle.rq_journal.proofs.CarriedAgain.{carries_again, no_checkpoint, refused_again}
 use Rattle.rq_journal.proofs.carrying.carried_again.Goals as goal
 
@@ -26,7 +26,7 @@ pub returns : goal.returns
 returns g c =
     let f = c.in_ok-front.front in
     let body = c.in_ok-checkpoint.checkpoint.items in
-    let begun = subst (λ (z : List ℕ). Begins (version_of f.version) f.last z c.begun.result) c.deref.ensures.value
+    let begun = subst (λ (z : List ℕ). BeginsFile (version_of f.version) f.last z c.begun.result) c.deref.ensures.value
     c.begun.ensures in
     carries_again c.args.bytes.now f c.in_ok-front.ensures body c.in_ok-checkpoint.ensures.0 c.in_ok-checkpoint.ensures.1
     c.begun.result c.one_spelling.ensures.state c.logs_begun_anew.ensures.starts c.continued_logs.ensures.loud

@@ -1,7 +1,7 @@
 use Rattle.std.proofs.Common.{ℕ, List, take, subst}
 use Rattle.rq_model.specs.Frames.{AreBytes}
 use Rattle.rq_restart.specs.RedoneFronts.{IsRedone}
-use Rattle.rq_journal.specs.Marks.{Framed}
+use Rattle.rq_journal.specs.Marks.{PutsFrame}
 use Rattle.rq_journal.proofs.WithCheckpoint.{next_fits, marks}
 use Rattle.rq_journal.proofs.marking.marked.Goals as goal
 
@@ -13,7 +13,7 @@ returns g c =
     let b : List ℕ = c.args.bytes.items in
     let f = c.in_ok-front.front in
     let redone = subst (λ (z : List ℕ). IsRedone z f) c.deref-2.ensures.value c.in_ok-front.ensures in
-    let framed = subst (λ (z : List ℕ). Framed (take f.used b) f.last z c.framed.result) c.deref-3.ensures.value
+    let framed = subst (λ (z : List ℕ). PutsFrame (take f.used b) f.last z c.framed.result) c.deref-3.ensures.value
     c.framed.ensures in
     marks b f c.in_ok-body.body.items redone c.in_ok-body.ensures c.framed.result
     (subst AreBytes c.deref.ensures.value c.are_bytes.ensures) c.appended_checkpoints.ensures.truth

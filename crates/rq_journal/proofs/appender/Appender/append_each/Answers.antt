@@ -2,7 +2,7 @@ use Rattle.std.proofs.Common.{◌≡◌, ℕ, ◌+◌, ◌++◌, [], ◌∷◌, 
 use Rattle.std.proofs.lemmas.List.{map_more, drop_more}
 use Rattle.rq_model.specs.Records as model
 use Rattle.rq_record.specs.Views.{Record, record_of}
-use Rattle.rq_journal.specs.Appenders.{TakesEach}
+use Rattle.rq_journal.specs.Appenders.{AppendsEach}
 use Rattle.rq_journal.proofs.Taking.{takes_one_more, takes_no_more, stops_there}
 use Rattle.rq_journal.proofs.appender.Appender.append_each.Goals as goal
 
@@ -10,7 +10,7 @@ pub returns-in-Err-clause-taken : goal.returns-in-Err-clause-taken
 returns-in-Err-clause-taken c =
     let a = c.args.self.now in
     let old : List ℕ = c.args.out.now.items in
-    let here = subst (λ (n : ℕ). TakesEach a c.loop-next.self
+    let here = subst (λ (n : ℕ). AppendsEach a c.loop-next.self
     (map record_of (take n c.args.records.now)) old c.loop-next.out.items) (sym c.loop-next.invariant.0)
     c.loop-next.invariant.1 in
     takes_no_more a c.loop-next.self c.append.new.self (map record_of (take c.loop-next.count c.args.records.now)) old
@@ -24,7 +24,7 @@ returns-in-Err-clause-stops c =
     let all : List Record = c.args.records.now in
     let r = c.next-item.result in
     let old : List ℕ = c.args.out.now.items in
-    let here = subst (λ (m : ℕ). TakesEach a c.loop-next.self (map record_of (take m all)) old c.loop-next.out.items)
+    let here = subst (λ (m : ℕ). AppendsEach a c.loop-next.self (map record_of (take m all)) old c.loop-next.out.items)
     (sym c.loop-next.invariant.0) c.loop-next.invariant.1 in
     let left : map record_of (drop n all) ≡ record_of r ∷ map record_of (drop (i + 1) all) =
     ap (λ (m : ℕ). map record_of (drop m all)) c.loop-next.invariant.0
@@ -51,6 +51,6 @@ loop-next-preserved c =
 
 pub returns-clause-taken : goal.returns-clause-taken
 returns-clause-taken c =
-    subst (λ (n : ℕ). TakesEach c.args.self.now c.loop-next.self
+    subst (λ (n : ℕ). AppendsEach c.args.self.now c.loop-next.self
     (map record_of (take n c.args.records.now)) c.args.out.now.items c.loop-next.out.items)
     (sym c.loop-next.invariant.0) c.loop-next.invariant.1
