@@ -1,9 +1,4 @@
-pub mod Told
-pub mod Unread
-pub mod ToldAt
-pub mod Scripts
-pub mod AuditTexts
+pub mod Reading
+pub mod Writing
+pub mod Made
 pub mod Plans
-pub mod Closings
-pub mod Upgrades
-pub mod Delivered

@@ -1,5 +1,7 @@
 -- What a call that reads and writes leaves of its reader and its writer.
-use Rattle.std.specs.Prelude.{◌≡◌, ℕ, ◌+◌, ◌<◌, ◌≤◌, ◌⊎◌, List, length, Option, Result, Ok, Err}
+use Rattle.std.specs.Prelude.{◌≡◌, ℕ, ◌+◌, ◌<◌, ◌≤◌, ◌⊎◌, ⊤, List, length, Option, Some, None}
+use Rattle.std.specs.Prelude.{Result, Ok, Err}
+use Rattle.std.specs.Global.{Vec}
 use Rattle.std.specs.Io.KnownBytes.{Consumes, IsAtEnd}
 use Rattle.rq_model.specs.Frames.{log_limit}
 use Rattle.rq_front.specs.Chains.{IsHeaded}
@@ -18,6 +20,24 @@ abbrev pub WriteFaults : {A : Type 0} → ℕ → ℕ → Result A Fault → Typ
 WriteFaults before after (Ok x) = after ≡ before
 WriteFaults before after (Err WriteFailed) = after ≡ before + 1
 WriteFaults before after (Err e) = after ≡ before
+
+-- the bytes that a reader still has to give, if it tells them, and else any
+abbrev pub IsGiven : Option (List ℕ) → List ℕ → Type 0
+IsGiven None b = ⊤
+IsGiven (Some told) b = b ≡ told
+
+-- the bytes b of a file, which are no more than a log has; or one of these reasons why they are
+-- refused, or that a read failed
+abbrev pub ReadsFile : (List ℕ → Fault → Type 0) → List ℕ → Result (Vec ℕ) Fault → Type 0
+ReadsFile IsWhy b (Ok bytes) = (bytes.items ≡ b) × (length b ≤ log_limit)
+ReadsFile IsWhy b (Err ReadFailed) = ⊤
+ReadsFile IsWhy b (Err e) = IsWhy b e
+
+-- why a script is not read: it is too long; or memory is refused
+abbrev pub IsOverlong : List ℕ → Fault → Type 0
+IsOverlong b TooLong = log_limit < length b
+IsOverlong b Resources = ⊤
+IsOverlong b e = ⊥
 
 -- the bytes are all that the reader still had to give, or one more than a log has
 abbrev pub ReadsAll : Option (List ℕ) → Option (List ℕ) → List ℕ → Type 0

@@ -1,17 +1,17 @@
 //! The audit of a log, as it is printed.
 
-ghost use Rattle.std.specs.Prelude.{◌≡◌, ℕ, ◌<◌, ◌++◌, List, Some, IfOk, IfErr, OnOk, map};
+ghost use Rattle.std.specs.Prelude.{◌≡◌, ℕ, ◌<◌, ◌++◌, List, Some, IfOk, OnOk, map};
 ghost use Rattle.std.specs.Prelude.{string_bytes};
 ghost use Rattle.std.specs.List.{flat_map};
-ghost use Rattle.rq_model.specs.Checkpoints.{IsAudit};
+ghost use Rattle.rq_front.specs.Chains.{IsLog, Refused};
 ghost use Rattle.rq_restart.specs.Audits.{Audits, audited_of};
-ghost use Rattle.rq_tool.specs.AuditTexts.{audit_line, AuditsLog, AuditsOnly, AuditsRead};
-ghost use Rattle.rq_tool.specs.Headline.{IsBeforeWriting};
+ghost use Rattle.rq_tool.specs.AuditTexts.{audit_line, AuditsLog, IsAuditText};
 ghost use Rattle.rq_tool.specs.Streams.{ReadFaults, TakesInput, WriteFaults};
+ghost use Rattle.rq_tool.specs.Written.{PutsText};
 
-use crate::input::read_log;
+use crate::door::{Work, through};
 use rq_report::{Input, Output, write_all};
-use rq_restart::{Fault, Plan, audit_lent};
+use rq_restart::{Fault, Open, Plan, audit_lent};
 use std::alloc::{AllocError, Global};
 use std::fmt::Write;
 use std::marker::Sync;
@@ -51,25 +51,25 @@ fn audit_of_read<R: Threads + Sync>(
     audit_lent(rt, alloc, &log, plan)
 }
 
-// The audit of what the input gives.
-fn read_and_audit<R, I>(
+/// Writes a line for each checkpoint of the log.
+pub(crate) fn put_audit<R, O>(
     rt: &R,
     alloc: Global,
-    input: &mut I,
+    bytes: Vec<u8>,
+    output: &mut O,
     plan: &Plan,
-) -> Result<Vec<(u64, bool)>, Fault>
+) -> Result<(), Fault>
 where
     R: Threads + Sync,
-    I: Input,
-    requires { I.faults input.old < 18446744073709551615 }
-    ensures told { (b : List ℕ) → I.remaining input.old ≡ Some b → AuditsRead b result }
-    ensures some { IfOk result (λ found. (b : List ℕ) × IsAudit b (map audited_of found.items)) }
-    ensures refused { IfErr result IsBeforeWriting }
-    ensures takes { TakesInput (I.remaining input.old) (I.remaining input.new) result }
-    ensures faults { ReadFaults (I.faults input.old) (I.faults input.new) result }
+    O: Output,
+    requires { O.faults output.old < 18446744073709551615 }
+    ensures { PutsText (λ text. IsLog bytes.items × IsAuditText bytes.items text) (Refused bytes.items)
+        (O.faults output.old) (O.faults output.new)
+        (O.contents output.old) (O.contents output.new) result }
 {
-    let bytes = read_log(alloc, input)?;
-    audit_of_read(rt, alloc, bytes, plan)
+    let found = audit_of_read(rt, alloc, bytes, plan)?;
+    let text = audit_text(alloc, &found)?;
+    write_all(output, text.as_bytes())
 }
 
 /// Reads the input to its end, but at most 4,294,967,296 bytes, and writes a line for each
@@ -92,12 +92,11 @@ where
     requires writes { O.faults output.old < 18446744073709551615 }
     ensures audits { (b : List ℕ) → I.remaining input.old ≡ Some b
         → AuditsLog b (O.contents output.old) (O.contents output.new) result }
-    ensures quiet { AuditsOnly (O.contents output.old) (O.contents output.new) result }
+    ensures quiet { (b : List ℕ)
+        × AuditsLog b (O.contents output.old) (O.contents output.new) result }
     ensures takes { TakesInput (I.remaining input.old) (I.remaining input.new) result }
     ensures read_faults { ReadFaults (I.faults input.old) (I.faults input.new) result }
     ensures write_faults { WriteFaults (O.faults output.old) (O.faults output.new) result }
 {
-    let found = read_and_audit(rt, alloc, input, plan)?;
-    let text = audit_text(alloc, &found)?;
-    write_all(output, text.as_bytes())
+    through(rt, alloc, input, output, Work::Audit, plan, &Open)
 }

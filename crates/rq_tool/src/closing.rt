@@ -1,33 +1,39 @@
 //! The closed log.
 
-ghost use Rattle.std.specs.Prelude.{◌≡◌, ℕ, ◌<◌, List, Some, IfOk, IfErr};
-ghost use Rattle.rq_tool.specs.Closings.{IsBeforeClosing, IsClosedLog, ClosesLog, ClosesOnly};
-ghost use Rattle.rq_tool.specs.Closings.{ClosesRead};
+ghost use Rattle.std.specs.Prelude.{◌≡◌, ℕ, ◌<◌, List, Some};
+ghost use Rattle.rq_restart.specs.Tails.{StaysOpen};
+ghost use Rattle.rq_tool.specs.Closings.{ClosesLog, IsClosedLog};
 ghost use Rattle.rq_tool.specs.Streams.{ReadFaults, TakesInput, WriteFaults};
+ghost use Rattle.rq_tool.specs.Written.{PutsText};
 
-use crate::input::{are_bytes, read_log};
+use crate::door::{Work, through};
+use crate::input::are_bytes;
 use rq_report::{Input, Output, write_all};
-use rq_restart::{Fault, Plan, closed};
+use rq_restart::{Fault, Open, Plan, closed};
 use std::alloc::Global;
 use std::marker::Sync;
 use std::thread::Threads;
 
-// What the input gives, closed.
-fn read_and_close<R, I>(rt: &R, alloc: Global, input: &mut I, plan: &Plan) -> Result<Vec<u8>, Fault>
+/// Writes the closed log.
+pub(crate) fn put_closed<R, O>(
+    rt: &R,
+    alloc: Global,
+    bytes: Vec<u8>,
+    output: &mut O,
+    plan: &Plan,
+) -> Result<(), Fault>
 where
     R: Threads + Sync,
-    I: Input,
-    requires { I.faults input.old < 18446744073709551615 }
-    ensures told { (b : List ℕ) → I.remaining input.old ≡ Some b → ClosesRead b result }
-    ensures some { IfOk result (λ log. (b : List ℕ) × IsClosedLog b log.items) }
-    ensures refused { IfErr result IsBeforeClosing }
-    ensures takes { TakesInput (I.remaining input.old) (I.remaining input.new) result }
-    ensures faults { ReadFaults (I.faults input.old) (I.faults input.new) result }
+    O: Output,
+    requires { O.faults output.old < 18446744073709551615 }
+    ensures { PutsText (IsClosedLog bytes.items) (StaysOpen bytes.items)
+        (O.faults output.old) (O.faults output.new)
+        (O.contents output.old) (O.contents output.new) result }
 {
     rq_model::closed_logs();
-    let bytes = read_log(alloc, input)?;
     are_bytes(&bytes);
-    closed(rt, alloc, bytes, plan)
+    let log = closed(rt, alloc, bytes, plan)?;
+    write_all(output, &log)
 }
 
 /// Reads the input to its end, but at most 4,294,967,296 bytes, and writes the closed log: its
@@ -55,11 +61,11 @@ where
     requires writes { O.faults output.old < 18446744073709551615 }
     ensures closes { (b : List ℕ) → I.remaining input.old ≡ Some b
         → ClosesLog b (O.contents output.old) (O.contents output.new) result }
-    ensures quiet { ClosesOnly (O.contents output.old) (O.contents output.new) result }
+    ensures quiet { (b : List ℕ)
+        × ClosesLog b (O.contents output.old) (O.contents output.new) result }
     ensures takes { TakesInput (I.remaining input.old) (I.remaining input.new) result }
     ensures read_faults { ReadFaults (I.faults input.old) (I.faults input.new) result }
     ensures write_faults { WriteFaults (O.faults output.old) (O.faults output.new) result }
 {
-    let log = read_and_close(rt, alloc, input, plan)?;
-    write_all(output, &log)
+    through(rt, alloc, input, output, Work::Close, plan, &Open)
 }

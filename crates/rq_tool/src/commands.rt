@@ -3,7 +3,7 @@
 use rq_restart::Plan;
 
 /// What a line of words asks of the program.
-#[derive(Clone, Copy, Debug)]
+#[derive(Clone, Copy)]
 pub enum Command<'a> {
     /// Write the log of a script in version 1.
     Make {

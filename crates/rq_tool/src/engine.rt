@@ -1,12 +1,14 @@
 //! The engine of the program.
 
-ghost use Rattle.std.specs.Prelude.{◌≡◌, ℕ, ◌<◌, List, Some, IfOk, IfErr};
-ghost use Rattle.rq_model.specs.Fronts.{IsRestart};
+ghost use Rattle.std.specs.Prelude.{◌≡◌, ℕ, ◌<◌, List, Some};
+ghost use Rattle.rq_model.specs.Reports.{IsReport};
+ghost use Rattle.rq_front.specs.Chains.{IsLog, Refused};
 ghost use Rattle.rq_restart.specs.Restarts.{Restarts};
 ghost use Rattle.rq_tool.specs.Streams.{ReadFaults, TakesInput, WriteFaults};
-ghost use Rattle.rq_tool.specs.Headline.{IsBeforeWriting, RestartsRead, Runs, WritesOnly};
+ghost use Rattle.rq_tool.specs.Written.{PutsText};
+ghost use Rattle.rq_tool.specs.Headline.{Runs, WritesOnly};
 
-use crate::input::read_log;
+use crate::door::{Work, through};
 use rq_report::{Input, Output, write_report_by};
 use rq_restart::{Fault, Gate, Plan, Restarted, restart_lent};
 use std::alloc::Global;
@@ -32,27 +34,26 @@ where
     restart_lent(rt, alloc, &log, plan, gate)
 }
 
-// The restart of what the input gives.
-fn read_and_restart<R, I, G>(
+/// Writes the report of the log.
+pub(crate) fn put_report<R, O, G>(
     rt: &R,
     alloc: Global,
-    input: &mut I,
+    bytes: Vec<u8>,
+    output: &mut O,
     plan: &Plan,
     gate: &G,
-) -> Result<Restarted, Fault>
+) -> Result<(), Fault>
 where
     R: Threads + Sync,
-    I: Input,
+    O: Output,
     G: Gate + Sync,
-    requires { I.faults input.old < 18446744073709551615 }
-    ensures told { (b : List ℕ) → I.remaining input.old ≡ Some b → RestartsRead b result }
-    ensures some { IfOk result (λ r. (b : List ℕ) × IsRestart b r) }
-    ensures refused { IfErr result IsBeforeWriting }
-    ensures takes { TakesInput (I.remaining input.old) (I.remaining input.new) result }
-    ensures faults { ReadFaults (I.faults input.old) (I.faults input.new) result }
+    requires { O.faults output.old < 18446744073709551615 }
+    ensures { PutsText (λ text. IsLog bytes.items × IsReport bytes.items text) (Refused bytes.items)
+        (O.faults output.old) (O.faults output.new)
+        (O.contents output.old) (O.contents output.new) result }
 {
-    let bytes = read_log(alloc, input)?;
-    restart_read(rt, alloc, bytes, plan, gate)
+    let restarted = restart_read(rt, alloc, bytes, plan, gate)?;
+    write_report_by(rt, alloc, &restarted, plan, output)
 }
 
 /// Reads the input to its end, but at most 4,294,967,296 bytes, restarts, and writes the report.
@@ -81,6 +82,5 @@ where
     ensures read_faults { ReadFaults (I.faults input.old) (I.faults input.new) result }
     ensures write_faults { WriteFaults (O.faults output.old) (O.faults output.new) result }
 {
-    let restarted = read_and_restart(rt, alloc, input, plan, gate)?;
-    write_report_by(rt, alloc, &restarted, plan, output)
+    through(rt, alloc, input, output, Work::Report, plan, gate)
 }

@@ -1,13 +1,16 @@
 //! The engine of the program, from a checkpoint.
 
-ghost use Rattle.std.specs.Prelude.{◌≡◌, ℕ, ◌<◌, List, Some, IfOk, IfErr};
-ghost use Rattle.rq_model.specs.Checkpoints.{IsRestartAt, TrueAt};
+ghost use Rattle.std.specs.Prelude.{◌≡◌, ℕ, ◌<◌, List, Some};
+ghost use Rattle.rq_model.specs.Checkpoints.{IsReportAt, TrueAt};
+ghost use Rattle.rq_front.specs.Chains.{IsLog};
 ghost use Rattle.rq_restart.specs.Restarts.{RestartsAt};
 ghost use Rattle.rq_tool.specs.Streams.{ReadFaults, TakesInput, WriteFaults};
-ghost use Rattle.rq_tool.specs.Headline.{IsBeforeWritingAt, IsTold, RestartsAtRead, RunsAt};
-ghost use Rattle.rq_tool.specs.Headline.{WritesOnlyAt, WritesReport};
+ghost use Rattle.rq_tool.specs.Written.{PutsText};
+ghost use Rattle.rq_tool.specs.Headline.{RunsAt, WritesReport};
+ghost use Rattle.rq_tool.specs.Works.{HasNoReportAt};
 
-use crate::input::{are_bytes, read_log};
+use crate::door::{Work, through};
+use crate::input::are_bytes;
 use rq_report::{Input, Output, write_report_by};
 use rq_restart::{Fault, Gate, Plan, Restarted, restart_lent_at};
 use std::alloc::Global;
@@ -34,34 +37,31 @@ where
     restart_lent_at(rt, alloc, &log, offset, plan, gate)
 }
 
-// The restart of what the input gives, from the checkpoint at an offset.
-fn read_and_restart_at<R, I, G>(
+/// Writes the report of the log from the checkpoint at an offset.
+pub(crate) fn put_report_at<R, O, G>(
     rt: &R,
     alloc: Global,
-    input: &mut I,
+    bytes: Vec<u8>,
+    output: &mut O,
     offset: u64,
     plan: &Plan,
     gate: &G,
-) -> Result<Restarted, Fault>
+) -> Result<(), Fault>
 where
     R: Threads + Sync,
-    I: Input,
+    O: Output,
     G: Gate + Sync,
-    requires { I.faults input.old < 18446744073709551615 }
-    ensures told { (b : List ℕ) → I.remaining input.old ≡ Some b → RestartsAtRead b offset result }
-    ensures some { IfOk result (λ r. (b : List ℕ) × IsRestartAt b offset r) }
-    ensures excluded { (b : List ℕ) → I.remaining input.old ≡ Some b
-        → TrueAt b offset → IsTold b result }
-    ensures refused { IfErr result IsBeforeWritingAt }
-    ensures takes { TakesInput (I.remaining input.old) (I.remaining input.new) result }
-    ensures faults { ReadFaults (I.faults input.old) (I.faults input.new) result }
+    requires { O.faults output.old < 18446744073709551615 }
+    ensures { PutsText (λ text. IsLog bytes.items × IsReportAt bytes.items offset text)
+        (HasNoReportAt bytes.items offset) (O.faults output.old) (O.faults output.new)
+        (O.contents output.old) (O.contents output.new) result }
 {
     rq_model::every_log_has_report();
     rq_model::true_checkpoints_report_the_same();
     rq_model::versions();
-    let bytes = read_log(alloc, input)?;
     are_bytes(&bytes);
-    restart_read_at(rt, alloc, bytes, offset, plan, gate)
+    let restarted = restart_read_at(rt, alloc, bytes, offset, plan, gate)?;
+    write_report_by(rt, alloc, &restarted, plan, output)
 }
 
 /// Reads the input to its end, but at most 4,294,967,296 bytes, restarts from the checkpoint at an
@@ -90,12 +90,12 @@ where
         → RunsAt b offset (O.contents output.old) (O.contents output.new) result }
     ensures same { (b : List ℕ) → I.remaining input.old ≡ Some b → TrueAt b offset
         → WritesReport b (O.contents output.old) (O.contents output.new) result }
-    ensures quiet { WritesOnlyAt offset (O.contents output.old) (O.contents output.new) result }
+    ensures quiet { (b : List ℕ)
+        × RunsAt b offset (O.contents output.old) (O.contents output.new) result }
     ensures takes { TakesInput (I.remaining input.old) (I.remaining input.new) result }
     ensures read_faults { ReadFaults (I.faults input.old) (I.faults input.new) result }
     ensures write_faults { WriteFaults (O.faults output.old) (O.faults output.new) result }
 {
     rq_model::true_checkpoints_report_the_same();
-    let restarted = read_and_restart_at(rt, alloc, input, offset, plan, gate)?;
-    write_report_by(rt, alloc, &restarted, plan, output)
+    through(rt, alloc, input, output, Work::ReportAt(offset), plan, gate)
 }

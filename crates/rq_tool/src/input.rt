@@ -1,14 +1,13 @@
 //! Reading a log, and a script.
 
-ghost use Rattle.std.specs.Prelude.{[], ◌≡◌, ◌⊎◌, ℕ, ◌+◌, ◌<◌, ◌≤◌, ◌++◌, List, Option, Some};
+ghost use Rattle.std.specs.Prelude.{[], ◌≡◌, ℕ, ◌+◌, ◌<◌, ◌≤◌, ◌++◌, List, Option};
 ghost use Rattle.std.specs.Prelude.{length, IfOk, IfErr, OnOk};
 ghost use Rattle.std.specs.Io.KnownBytes.{Consumes, IsAtEnd};
 ghost use Rattle.rq_model.specs.Frames.{AreBytes};
-ghost use Rattle.rq_front.specs.Chains.{IsHeaded};
-ghost use Rattle.rq_record.specs.declared.fault.Fault.TheVariants.{ReadFailed, Resources};
-ghost use Rattle.rq_tool.specs.Headline.{IsBeforeWriting, RestartsRead};
-ghost use Rattle.rq_tool.specs.Streams.{CountsTaken, IsOneOf, IsUnread, ReadFaults, ReadsAll};
-ghost use Rattle.rq_tool.specs.Streams.{ReadsOn, TakesInput, TakesSome};
+ghost use Rattle.rq_front.specs.Chains.{IsHeaded, Refused};
+ghost use Rattle.rq_record.specs.declared.fault.Fault.TheVariants.{ReadFailed, Resources, TooLong};
+ghost use Rattle.rq_tool.specs.Streams.{CountsTaken, IsGiven, IsOneOf, IsOverlong, IsUnread};
+ghost use Rattle.rq_tool.specs.Streams.{ReadFaults, ReadsFile, ReadsOn, TakesInput, TakesSome};
 
 use rq_front::{HEADER_LEN, LOG_LIMIT, version};
 use rq_report::Input;
@@ -98,20 +97,30 @@ fn read_up_to<I: Input>(
     Ok(())
 }
 
-/// The input's bytes to its end, but at most 4,294,967,296 of them: so many are too long for a log,
-/// and for a script.
-pub(crate) fn read_all<I: Input>(alloc: Global, input: &mut I) -> Result<Vec<u8>, Fault>
+// The bytes that were read, unless they are more than a log has.
+fn within(bytes: Vec<u8>) -> Result<Vec<u8>, Fault>
+    ensures fits { IfOk result
+        (λ same. (same.items ≡ bytes.items) × (length bytes.items ≤ 4294967295)) }
+    ensures long { IfErr result (λ e. (e ≡ TooLong) × (4294967295 < length bytes.items)) }
+{
+    if bytes.len() > LOG_LIMIT {
+        return Err(Fault::TooLong);
+    }
+    Ok(bytes)
+}
+
+/// The bytes of a script, which are no more than a log has. At most 4,294,967,296 of them are read.
+pub(crate) fn read_script<I: Input>(alloc: Global, input: &mut I) -> Result<Vec<u8>, Fault>
     requires { I.faults input.old < 18446744073709551615 }
-    ensures bytes { IfOk result
-        (λ bytes. ReadsAll (I.remaining input.old) (I.remaining input.new) bytes.items) }
-    ensures refused { IfErr result (IsOneOf ReadFailed Resources) }
+    ensures reads { (b : List ℕ) × IsGiven (I.remaining input.old) b
+        × ReadsFile IsOverlong b result }
     ensures takes { TakesInput (I.remaining input.old) (I.remaining input.new) result }
     ensures count { ReadFaults (I.faults input.old) (I.faults input.new) result }
 {
     let mut bytes = roomy(alloc);
     let mut piece = room(alloc)?;
     read_up_to(input, &mut piece, &mut bytes, READ_LIMIT)?;
-    Ok(bytes)
+    within(bytes)
 }
 
 // How many bytes an input has of which so many were read, but at most 4,294,967,296. None is kept.
@@ -161,15 +170,11 @@ fn refused<I: Input>(input: &mut I, piece: &mut [u8], first: &[u8]) -> Fault
     }
 }
 
-/// The bytes of a log, to its end, but at most 4,294,967,296 of them: so many are too long. What
+/// The bytes of a log, which are no more than one has. At most 4,294,967,296 of them are read. What
 /// does not begin as a log does is refused without being kept.
 pub(crate) fn read_log<I: Input>(alloc: Global, input: &mut I) -> Result<Vec<u8>, Fault>
     requires { I.faults input.old < 18446744073709551615 }
-    ensures bytes { IfOk result
-        (λ bytes. ReadsAll (I.remaining input.old) (I.remaining input.new) bytes.items) }
-    ensures told { (b : List ℕ) → I.remaining input.old ≡ Some b
-        → IfErr result (λ e. RestartsRead b (Err e)) }
-    ensures refused { IfErr result IsBeforeWriting }
+    ensures reads { (b : List ℕ) × IsGiven (I.remaining input.old) b × ReadsFile Refused b result }
     ensures takes { TakesInput (I.remaining input.old) (I.remaining input.new) result }
     ensures count { ReadFaults (I.faults input.old) (I.faults input.new) result }
 {
@@ -180,5 +185,5 @@ pub(crate) fn read_log<I: Input>(alloc: Global, input: &mut I) -> Result<Vec<u8>
         return Err(refused(input, &mut piece, &bytes));
     };
     read_up_to(input, &mut piece, &mut bytes, READ_LIMIT)?;
-    Ok(bytes)
+    within(bytes)
 }

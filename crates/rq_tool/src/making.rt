@@ -1,21 +1,18 @@
 //! The log of a script.
 
-ghost use Rattle.std.specs.Prelude.{◌≡◌, ℕ, ◌<◌, List, Some, IfOk, IfErr};
-ghost use Rattle.rq_model.specs.Records.{One};
+ghost use Rattle.std.specs.Prelude.{◌≡◌, ℕ, ◌<◌, ◌≤◌, List, Some, length};
 ghost use Rattle.rq_record.specs.Views.{version_of};
-ghost use Rattle.rq_tool.specs.Scripts.{IsLogOf, IsMakeFault, Makes, MakesOnly, MakesRead};
+ghost use Rattle.rq_tool.specs.Scripts.{HasNoLog, IsLogOf, Makes};
 ghost use Rattle.rq_tool.specs.Streams.{ReadFaults, TakesInput, WriteFaults};
+ghost use Rattle.rq_tool.specs.Written.{PutsText};
 
-use crate::input::read_all;
+use crate::input::read_script;
 use rq_report::{Input, Output, write_all};
 use rq_restart::{Fault, Plan, Version};
 use rq_writer::make_in;
 use std::alloc::Global;
 use std::marker::Sync;
 use std::thread::Threads;
-
-// The most bytes that a script has.
-const SCRIPT_LIMIT: usize = 4_294_967_295;
 
 fn one_worker() -> Plan {
     match Plan::new(1, 1000) {
@@ -24,30 +21,25 @@ fn one_worker() -> Plan {
     }
 }
 
-// The log of the script that the input gives, in a version; the script is let go.
-fn read_and_make<R, I>(
+// Writes the log of a script, in a version.
+fn put_log<R, O>(
     rt: &R,
     alloc: Global,
     version: Version,
-    input: &mut I,
-) -> Result<Vec<u8>, Fault>
+    script: Vec<u8>,
+    output: &mut O,
+) -> Result<(), Fault>
 where
     R: Threads + Sync,
-    I: Input,
-    requires { I.faults input.old < 18446744073709551615 }
-    ensures told { (b : List ℕ) → I.remaining input.old ≡ Some b
-        → MakesRead (version_of version) b result }
-    ensures some { IfOk result
-        (λ log. (script : List ℕ) × IsLogOf (version_of version) script log.items) }
-    ensures refused { IfErr result IsMakeFault }
-    ensures takes { TakesInput (I.remaining input.old) (I.remaining input.new) result }
-    ensures faults { ReadFaults (I.faults input.old) (I.faults input.new) result }
+    O: Output,
+    requires faults { O.faults output.old < 18446744073709551615 }
+    requires short { length script.items ≤ 4294967295 }
+    ensures { PutsText (IsLogOf (version_of version) script.items)
+        (HasNoLog (version_of version) script.items) (O.faults output.old) (O.faults output.new)
+        (O.contents output.old) (O.contents output.new) result }
 {
-    let script = read_all(alloc, input)?;
-    if script.len() > SCRIPT_LIMIT {
-        return Err(Fault::TooLong);
-    }
-    make_in(rt, alloc, version, &script, &one_worker())
+    let log = make_in(rt, alloc, version, &script, &one_worker())?;
+    write_all(output, &log)
 }
 
 /// Reads a script to its end, but at most 4,294,967,296 bytes, makes its log in a version, with one
@@ -72,30 +64,12 @@ where
     requires writes { O.faults output.old < 18446744073709551615 }
     ensures makes { (b : List ℕ) → I.remaining input.old ≡ Some b
         → Makes (version_of version) b (O.contents output.old) (O.contents output.new) result }
-    ensures quiet { MakesOnly (version_of version)
-        (O.contents output.old) (O.contents output.new) result }
+    ensures quiet { (b : List ℕ)
+        × Makes (version_of version) b (O.contents output.old) (O.contents output.new) result }
     ensures takes { TakesInput (I.remaining input.old) (I.remaining input.new) result }
     ensures read_faults { ReadFaults (I.faults input.old) (I.faults input.new) result }
     ensures write_faults { WriteFaults (O.faults output.old) (O.faults output.new) result }
 {
-    let log = read_and_make(rt, alloc, version, input)?;
-    write_all(output, &log)
-}
-
-/// Reads a script and writes its log in version 1: `make_log_in` of that version.
-pub fn make_log<R, I, O>(rt: &R, alloc: Global, input: &mut I, output: &mut O) -> Result<(), Fault>
-where
-    R: Threads + Sync,
-    I: Input,
-    O: Output,
-    requires reads { I.faults input.old < 18446744073709551615 }
-    requires writes { O.faults output.old < 18446744073709551615 }
-    ensures makes { (b : List ℕ) → I.remaining input.old ≡ Some b
-        → Makes One b (O.contents output.old) (O.contents output.new) result }
-    ensures quiet { MakesOnly One (O.contents output.old) (O.contents output.new) result }
-    ensures takes { TakesInput (I.remaining input.old) (I.remaining input.new) result }
-    ensures read_faults { ReadFaults (I.faults input.old) (I.faults input.new) result }
-    ensures write_faults { WriteFaults (O.faults output.old) (O.faults output.new) result }
-{
-    make_log_in(rt, alloc, Version::One, input, output)
+    let script = read_script(alloc, input)?;
+    put_log(rt, alloc, version, script, output)
 }

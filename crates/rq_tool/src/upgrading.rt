@@ -1,38 +1,39 @@
 //! The log in version 2.
 
-ghost use Rattle.std.specs.Prelude.{◌≡◌, ℕ, ◌<◌, List, Some, IfOk, IfErr};
-ghost use Rattle.rq_tool.specs.Headline.{IsBeforeWriting};
+ghost use Rattle.std.specs.Prelude.{◌≡◌, ℕ, ◌<◌, List, Some};
+ghost use Rattle.rq_front.specs.Chains.{Refused};
 ghost use Rattle.rq_tool.specs.Streams.{ReadFaults, TakesInput, WriteFaults};
-ghost use Rattle.rq_tool.specs.Upgrades.{IsUpgradedLog, UpgradesLog, UpgradesOnly, UpgradesRead};
+ghost use Rattle.rq_tool.specs.Written.{PutsText};
+ghost use Rattle.rq_tool.specs.Upgrades.{IsUpgradedLog, UpgradesLog};
 
-use crate::input::{are_bytes, read_log};
+use crate::door::{Work, through};
+use crate::input::are_bytes;
 use rq_report::{Input, Output, write_all};
-use rq_restart::{Fault, Plan, upgrade};
+use rq_restart::{Fault, Open, Plan, upgrade};
 use std::alloc::Global;
 use std::marker::Sync;
 use std::thread::Threads;
 
-// What the input gives, in version 2; the bytes are let go.
-fn read_and_upgrade<R, I>(
+/// Writes the log in version 2.
+pub(crate) fn put_upgraded<R, O>(
     rt: &R,
     alloc: Global,
-    input: &mut I,
+    bytes: Vec<u8>,
+    output: &mut O,
     plan: &Plan,
-) -> Result<Vec<u8>, Fault>
+) -> Result<(), Fault>
 where
     R: Threads + Sync,
-    I: Input,
-    requires { I.faults input.old < 18446744073709551615 }
-    ensures told { (b : List ℕ) → I.remaining input.old ≡ Some b → UpgradesRead b result }
-    ensures some { IfOk result (λ log. (b : List ℕ) × IsUpgradedLog b log.items) }
-    ensures refused { IfErr result IsBeforeWriting }
-    ensures takes { TakesInput (I.remaining input.old) (I.remaining input.new) result }
-    ensures faults { ReadFaults (I.faults input.old) (I.faults input.new) result }
+    O: Output,
+    requires { O.faults output.old < 18446744073709551615 }
+    ensures { PutsText (IsUpgradedLog bytes.items) (Refused bytes.items)
+        (O.faults output.old) (O.faults output.new)
+        (O.contents output.old) (O.contents output.new) result }
 {
     rq_model::upgrade_is_the_same();
-    let bytes = read_log(alloc, input)?;
     are_bytes(&bytes);
-    upgrade(rt, alloc, &bytes, plan)
+    let log = upgrade(rt, alloc, &bytes, plan)?;
+    write_all(output, &log)
 }
 
 /// Reads the input to its end, but at most 4,294,967,296 bytes, and writes the log in version 2:
@@ -60,11 +61,11 @@ where
     requires writes { O.faults output.old < 18446744073709551615 }
     ensures upgrades { (b : List ℕ) → I.remaining input.old ≡ Some b
         → UpgradesLog b (O.contents output.old) (O.contents output.new) result }
-    ensures quiet { UpgradesOnly (O.contents output.old) (O.contents output.new) result }
+    ensures quiet { (b : List ℕ)
+        × UpgradesLog b (O.contents output.old) (O.contents output.new) result }
     ensures takes { TakesInput (I.remaining input.old) (I.remaining input.new) result }
     ensures read_faults { ReadFaults (I.faults input.old) (I.faults input.new) result }
     ensures write_faults { WriteFaults (O.faults output.old) (O.faults output.new) result }
 {
-    let log = read_and_upgrade(rt, alloc, input, plan)?;
-    write_all(output, &log)
+    through(rt, alloc, input, output, Work::Upgrade, plan, &Open)
 }

@@ -6,7 +6,7 @@ use rq_queue::Part;
 use rq_record::{QueueNo, UnitNo, Version};
 use rq_restart::{FrontEnd, Restarted, Why, audit, front_end, front_state, restart_at, upgrade};
 use rq_state::{Fields, State};
-use rq_tool::{Command, Open, OverRead, OverWrite, Plan, act, make_log};
+use rq_tool::{Command, Open, OverRead, OverWrite, Plan, act, make_log_in};
 use rq_writer::{decimal_number, make_in};
 use std::alloc::Global;
 use std::io::Cursor;
@@ -215,7 +215,7 @@ fn acts<R: Threads + Sync + AllocGlobal>(
 fn makes<R: Threads + Sync + AllocGlobal>(rt: &R, script: &[u8], log: &[u8]) -> bool {
     let mut input = OverRead::new(Cursor::new(script));
     let mut output = OverWrite::new(Vec::new(rt.alloc()));
-    let done = make_log(rt, rt.alloc(), &mut input, &mut output);
+    let done = make_log_in(rt, rt.alloc(), Version::One, &mut input, &mut output);
     done.is_ok() && output.into_inner().as_slice() == log
 }
 

@@ -1,48 +1,34 @@
-use Rattle.rq_tool.proofs.Told.{all_taken}
-use Rattle.rq_tool.proofs.ToldAt.{no_read_failed, write_failed, written_runs_at, written_only_at, written_true}
+use Rattle.std.proofs.Common.{◌≡◌, List, ℕ}
+use Rattle.rq_model.specs.Checkpoints.{IsReportAt}
+use Rattle.rq_model.specs.Reports.{IsReport}
+use Rattle.rq_front.specs.Chains.{IsLog}
+use Rattle.rq_restart.specs.Restarts.{RefusedAt}
+use Rattle.rq_record.specs.declared.fault.Fault.TheVariants.{Resources}
+use Rattle.rq_tool.specs.Works.{HasNoReportAt}
+use Rattle.rq_tool.proofs.Writing.{writes_else}
 use Rattle.rq_tool.proofs.engine_at.run_at.Goals as goal
 
 pub returns-clause-runs : goal.returns-clause-runs
 returns-clause-runs g c = λ b is.
-    let contents = g.O.Output.contents in
-    let faults = g.O.Output.faults in
-    written_runs_at b c.args.offset c.in_ok-restarted.restarted (faults c.args.output.now)
-    (faults c.write_report_by.new.output) (contents c.args.output.now)
-    (contents c.write_report_by.new.output) c.write_report_by.result
-    (c.in_ok-restarted.ensures.told b is) c.write_report_by.ensures
+    let text = λ (text : List ℕ). IsLog b × IsReportAt b c.args.offset text in
+    writes_else text text (HasNoReportAt b c.args.offset) (RefusedAt b c.args.offset)
+    (g.O.Output.contents c.args.output.now) (g.O.Output.contents c.through.new.output) c.through.result
+    (λ _ is. is) (λ _ why. why.0) (c.through.ensures.writes b is)
 
 pub returns-clause-same : goal.returns-clause-same
 returns-clause-same g c = λ b is true_at.
-    let contents = g.O.Output.contents in
-    let faults = g.O.Output.faults in
-    written_true c.true_checkpoints_report_the_same.ensures b c.args.offset c.in_ok-restarted.restarted
-    (faults c.args.output.now) (faults c.write_report_by.new.output) (contents c.args.output.now)
-    (contents c.write_report_by.new.output)
-    c.write_report_by.result true_at (c.in_ok-restarted.ensures.told b is).1 c.write_report_by.ensures
+    writes_else (λ text. IsLog b × IsReportAt b c.args.offset text) (IsReport b) (HasNoReportAt b c.args.offset)
+    (λ e. e ≡ Resources) (g.O.Output.contents c.args.output.now) (g.O.Output.contents c.through.new.output)
+    c.through.result (λ text is. (c.true_checkpoints_report_the_same.ensures b c.args.offset text true_at).0 is.1)
+    (λ _ why. why.1 true_at) (c.through.ensures.writes b is)
 
 pub returns-clause-quiet : goal.returns-clause-quiet
 returns-clause-quiet g c =
-    let contents = g.O.Output.contents in
-    let faults = g.O.Output.faults in
-    let some = c.in_ok-restarted.ensures.some in
-    written_only_at some.0 c.args.offset c.in_ok-restarted.restarted (faults c.args.output.now)
-    (faults c.write_report_by.new.output) (contents c.args.output.now)
-    (contents c.write_report_by.new.output) c.write_report_by.result some.1 c.write_report_by.ensures
-
-pub returns-clause-read_faults : goal.returns-clause-read_faults
-returns-clause-read_faults g c =
-    no_read_failed c.in_ok-restarted.restarted _ _ (g.I.Input.faults c.args.input.now)
-    (g.I.Input.faults c.read_and_restart_at.new.input) _ _ c.write_report_by.result c.write_report_by.ensures
-    c.in_ok-restarted.ensures.faults
-
-pub returns-clause-write_faults : goal.returns-clause-write_faults
-returns-clause-write_faults g c =
-    write_failed c.in_ok-restarted.restarted (g.O.Output.faults c.args.output.now)
-    (g.O.Output.faults c.write_report_by.new.output) (g.O.Output.contents c.args.output.now)
-    (g.O.Output.contents c.write_report_by.new.output) c.write_report_by.result c.write_report_by.ensures
-
-pub returns-clause-takes : goal.returns-clause-takes
-returns-clause-takes g c =
-    let taken = c.in_ok-restarted.ensures.takes in
-    all_taken (g.I.Input.remaining c.args.input.now)
-    (g.I.Input.remaining c.read_and_restart_at.new.input) taken.0 c.write_report_by.result taken.1
+    let some = c.through.ensures.quiet in
+    let b = some.0 in
+    let text = λ (text : List ℕ). IsLog b × IsReportAt b c.args.offset text in (
+      b,
+      writes_else text text (HasNoReportAt b c.args.offset) (RefusedAt b c.args.offset)
+          (g.O.Output.contents c.args.output.now) (g.O.Output.contents c.through.new.output) c.through.result
+          (λ _ is. is) (λ _ why. why.0) some.1,
+    )

@@ -1,6 +1,6 @@
 use Rattle.std.proofs.Common.{arith, rules}
 use Rattle.std.proofs.lemmas.Grind.{common_steps}
-use Rattle.rq_tool.proofs.Unread.{counts_on}
+use Rattle.rq_tool.proofs.Reading.{counts_on}
 use Rattle.rq_tool.proofs.input.counted.Goals as goal
 
 pub loop-total-preserved : goal.loop-total-preserved

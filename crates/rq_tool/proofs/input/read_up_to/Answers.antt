@@ -2,7 +2,7 @@ use Rattle.std.proofs.Common.{◌≡◌, rules, sym, subst}
 use Rattle.std.specs.Prelude.{Result, Err, IfErr}
 use Rattle.rq_record.specs.declared.fault.Fault.{Fault}
 use Rattle.rq_tool.specs.Streams.{TakesSome}
-use Rattle.rq_tool.proofs.Told.{reads_on, takes_on}
+use Rattle.rq_tool.proofs.Reading.{reads_on, takes_on}
 use Rattle.rq_tool.proofs.input.read_up_to.Goals as goal
 
 pub returns-in_err-count-clause-partly : goal.returns-in_err-count-clause-partly

@@ -1,6 +1,6 @@
 use Rattle.std.proofs.Common.{arith, sym, subst}
 use Rattle.rq_tool.specs.Streams.{IsUnread}
-use Rattle.rq_tool.proofs.Unread.{failed_unread, long_unread, none_unread, short_unread}
+use Rattle.rq_tool.proofs.Reading.{failed_unread, long_unread, none_unread, short_unread}
 use Rattle.rq_tool.proofs.input.refused.Goals as goal
 
 pub returns-then-first-lt-HEADER_LEN-clause-told : goal.returns-then-first-lt-HEADER_LEN-clause-told
