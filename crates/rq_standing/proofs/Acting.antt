@@ -14,8 +14,8 @@ use Rattle.rq_model.specs.Ready.{IsOf}
 use Rattle.rq_model.specs.StepLaws.{StepByParts}
 use Rattle.rq_model.proofs.Lists.{by_cases}
 use Rattle.rq_model.proofs.Decided.{registered_queue}
-use Rattle.rq_standing.specs.Parts.{AreParts, Acted}
-use Rattle.rq_standing.specs.Standings.{Holds, Moved, named}
+use Rattle.rq_standing.specs.Parts.{ArePartsOf, Acted}
+use Rattle.rq_standing.specs.Standings.{HoldsState, Moved, queue_named}
 use Rattle.rq_standing.specs.Units.{AreUnits}
 use Rattle.rq_standing.specs.declared.open_units.OpenUnits.{OpenUnits}
 use Rattle.rq_standing.specs.declared.queues.Queues.{Queues}
@@ -34,7 +34,7 @@ pub record IsOne (s : State) (r : Record) (k : ℕ) : Type 0 where
 same_queue : (k q : ℕ) → Some k ≡ Some q → k ≡ q
 same_queue k q e = grind (arith, e)
 
-pub one_of : (s : State) (r : Record) (k : ℕ) → named r ≡ Some k → IsOne s r k
+pub one_of : (s : State) (r : Record) (k : ℕ) → queue_named r ≡ Some k → IsOne s r k
 one_of s (Register q name) k e = let same = same_queue q k e in
     record {
       of = same;
@@ -98,7 +98,7 @@ one_of s (Checkpoint bytes) k e = absurd (let no : ⊥ = grind (arith, e) in no)
 
 -- a record that names a queue is lawful only where the queue is defined
 pub defined : (version : Version) (s : State) (r : Record) (k : ℕ) → IsWellFormed s → is_lawful version s r ≡ true
-    → named r ≡ Some k → k < length s.definitions
+    → queue_named r ≡ Some k → k < length s.definitions
 defined version s (Register q name) k well h e = subst (λ n. n < length s.definitions) (same_queue q k e) (ltb-true q (length s.definitions) h)
 defined version s (Deregister q name) k well h e = subst (λ n. n < length s.definitions) (same_queue q k e)
     (registered_queue s q name s.registrants well.registrants h)
@@ -116,7 +116,7 @@ defined version s (Checkpoint bytes) k well h e = absurd (let no : ⊥ = grind (
 
 -- the parts go along with the state
 pub acted_parts : StepByParts → (s : State) (r : Record) (k : ℕ) (old new : List Part) → IsWellFormed s
-    → named r ≡ Some k → AreParts s old → Acted s.next r k old new → AreParts (step s r) new
+    → queue_named r ≡ Some k → ArePartsOf s old → Acted s.next r k old new → ArePartsOf (step s r) new
 acted_parts law s r k old new well e parts acted q within =
     let it = one_of s r k e in
     let here : q < length s.definitions = subst (λ ds. q < length ds) it.definitions within in
@@ -127,8 +127,8 @@ acted_parts law s r k old new well e parts acted q within =
     (it.touches q) (λ t. subst (λ n. IsOf n r) (eqb-true k q t) it.of)
 
 -- all but the units is as it was, but for the part
-pub one_moved : StepByParts → (s : State) (r : Record) (k : ℕ) (x y : Queues) (units : OpenUnits) → Holds x s
-    → named r ≡ Some k → y ≡ record x { parts = y.parts } → length y.parts.items ≡ length x.parts.items
+pub one_moved : StepByParts → (s : State) (r : Record) (k : ℕ) (x y : Queues) (units : OpenUnits) → HoldsState x s
+    → queue_named r ≡ Some k → y ≡ record x { parts = y.parts } → length y.parts.items ≡ length x.parts.items
     → Acted x.next r k x.parts.items y.parts.items → AreUnits units (step s r)
     → Moved x (record y { units = units }) (step s r)
 one_moved law s r k x y units holds e frame size acted are =

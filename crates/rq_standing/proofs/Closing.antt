@@ -14,7 +14,7 @@ use Rattle.rq_model.specs.Ready.{AreNew}
 use Rattle.rq_model.specs.StepLaws.{StepByParts}
 use Rattle.rq_model.specs.UnitEnds.{coming, aborted_part, UnitEndsByParts}
 use Rattle.rq_model.proofs.Lists.{by_cases, filter_none, each_weaker, each_filter}
-use Rattle.rq_standing.specs.Parts.{AreParts, part_at, Ended, Send, Sends, Room, CanArrive, HaveArrived}
+use Rattle.rq_standing.specs.Parts.{ArePartsOf, part_at, Ended, Send, Sends, Room, CanArrive, HaveArrived}
 
 or_false : (b : Bool) → (b || false) ≡ b
 or_false true = refl
@@ -27,9 +27,9 @@ and_true false = refl
 -- A COMMIT.
 
 pub committed_parts : StepByParts → (s : State) (u : ℕ) (queues : List ℕ) (old new : List Part) → IsWellFormed s
-    → length old ≡ length s.definitions → AreParts s old
+    → length old ≡ length s.definitions → ArePartsOf s old
     → ((q : ℕ) → is_engaged s q u ≡ true → list_any (λ v. v == q) queues ≡ true)
-    → Ended 0 (Commit u) queues old new → AreParts (step s (Commit u)) new
+    → Ended 0 (Commit u) queues old new → ArePartsOf (step s (Commit u)) new
 committed_parts law s u queues old new well size parts named done q within =
     done q
     ∙ ap (λ b. cond (list_any (λ v. v == q) queues && b) (act 0 (Commit u) (part_at old q)) (part_at old q))
@@ -59,7 +59,7 @@ none_leave law s u q well out = law.sends s (Abort u) q tt
     (λ e h. not_home (length s.definitions) e.home h.home q out) s.elements well.elements))
 
 pub all_send : StepByParts → (s : State) (u : ℕ) (old : List Part) → IsWellFormed s → length old ≡ length s.definitions
-    → AreParts s old → Send s.next u old (transfers_at s (Abort u))
+    → ArePartsOf s old → Send s.next u old (transfers_at s (Abort u))
 all_send law s u old well size parts q = by_cases (nat_lt q (length old))
     (λ b. nat_lt q (length old) ≡ b → moves_of q (transfers_at s (Abort u)) ≡ cond b (sent s.next (Abort u) (part_at old q)) [])
     (λ _ t. law.sends s (Abort u) q tt ∙ ap (sent s.next (Abort u))
@@ -67,7 +67,7 @@ all_send law s u old well size parts q = by_cases (nat_lt q (length old))
     (λ _ f. none_leave law s u q well (ap (nat_lt q) (sym size) ∙ f)) refl
 
 -- the parts without what arrives
-pub midway : (s : State) (u : ℕ) (queues : List ℕ) (old mid : List Part) → length old ≡ length s.definitions → AreParts s old
+pub midway : (s : State) (u : ℕ) (queues : List ℕ) (old mid : List Part) → length old ≡ length s.definitions → ArePartsOf s old
     → Ended s.next (Abort u) queues old mid → (q : ℕ) → q < length s.definitions
     → part_at mid q ≡ aborted_part s u q (list_any (λ v. v == q) queues)
 midway s u queues old mid size parts ended q within = ended q
@@ -82,7 +82,7 @@ pub record Aborting (s : State) (u : ℕ) (queues : List ℕ) (ms : List Move) (
   pub after : IsWellFormed (step s (Abort u))
   pub size : length old ≡ length s.definitions
   pub same : length mid ≡ length old
-  pub parts : AreParts s old
+  pub parts : ArePartsOf s old
   pub named : (q : ℕ) → is_engaged s q u ≡ true → list_any (λ v. v == q) queues ≡ true
   pub ended : Ended s.next (Abort u) queues old mid
   pub sends : Sends queues (transfers_at s (Abort u)) ms
@@ -95,14 +95,14 @@ can_arrive law s u queues ms old mid a q within =
     (law.arrives s u q queues ms a.well a.after here a.named (a.sends q)).1
 
 pub aborted_parts : UnitEndsByParts → (s : State) (u : ℕ) (queues : List ℕ) (ms : List Move) (old mid new : List Part)
-    → Aborting s u queues ms old mid → HaveArrived ms mid new → AreParts (step s (Abort u)) new
+    → Aborting s u queues ms old mid → HaveArrived ms mid new → ArePartsOf (step s (Abort u)) new
 aborted_parts law s u queues ms old mid new a arrived q within =
     arrived q (subst (λ n. q < n) (sym (a.same ∙ a.size)) within)
     ∙ ap (receive (coming q ms)) (midway s u queues old mid a.size a.parts a.ended q within)
     ∙ (law.arrives s u q queues ms a.well a.after within a.named (a.sends q)).0
 
 -- attempts are fewer than records
-pub room_of : (s : State) (old : List Part) → IsWellFormed s → length old ≡ length s.definitions → AreParts s old
+pub room_of : (s : State) (old : List Part) → IsWellFormed s → length old ≡ length s.definitions → ArePartsOf s old
     → s.next + 2 < 2 ^ 64 → (q : ℕ) → q < length old → Room 2 (part_at old q)
 room_of s old well size parts fits q within =
     subst (Room 2) (sym (parts q (subst (λ n. q < n) size within)))

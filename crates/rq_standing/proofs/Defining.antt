@@ -12,7 +12,7 @@ use Rattle.rq_model.specs.Machine.{step}
 use Rattle.rq_model.specs.Queues.{Part, part_of}
 use Rattle.rq_model.specs.StepLaws.{StepByParts}
 use Rattle.rq_model.proofs.Lists.{by_cases}
-use Rattle.rq_standing.specs.Parts.{AreParts, part_at, no_part}
+use Rattle.rq_standing.specs.Parts.{ArePartsOf, part_at, no_part}
 
 last_one : (k n : ℕ) → k < n + 1 → n ≤ k → n ≡ k
 last_one k n l h = omega (arith, l, h)
@@ -31,7 +31,7 @@ one_part_more s ps p are is k l = by_cases (nat_lt k (length ps))
 
 -- a queue is defined
 pub defined_parts : StepByParts → (s : State) (limit error : ℕ) (name : List ℕ) (old : List Part) (p : Part)
-    → IsWellFormed s → length old ≡ length s.definitions → AreParts s old
+    → IsWellFormed s → length old ≡ length s.definitions → ArePartsOf s old
     → p ≡ record {
       queue = length old;
       definition = record { limit = limit; error = error; name = name };
@@ -39,7 +39,7 @@ pub defined_parts : StepByParts → (s : State) (limit error : ℕ) (name : List
       registrants = [];
       notes = [];
     }
-    → AreParts (step s (Define limit error name)) (old ++ p ∷ [])
+    → ArePartsOf (step s (Define limit error name)) (old ++ p ∷ [])
 defined_parts law s limit error name old p well size parts is k l =
     let t = step s (Define limit error name) in
     one_part_more t old p

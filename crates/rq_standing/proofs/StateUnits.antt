@@ -11,7 +11,7 @@ use Rattle.rq_model.specs.Queues.{is_engaged}
 use Rattle.rq_model.specs.StepLaws.{StepByParts}
 use Rattle.rq_model.proofs.Lists.{by_cases}
 use Rattle.rq_catalog.specs.Members.{is_marked_at, is_noted_at}
-use Rattle.rq_standing.specs.Units.{AreUnits, is_open_in, engages_in}
+use Rattle.rq_standing.specs.Units.{AreUnits, has_open, engages_in}
 use Rattle.rq_standing.proofs.Units.{any_both, same_number}
 use Rattle.rq_standing.specs.declared.open_units.OpenUnits.{OpenUnits}
 
@@ -26,10 +26,10 @@ either false true e h = refl
 either false false e h = absurd (false≢true h)
 
 pub all_engaged : StepByParts → (s : State) (x y z : OpenUnits) → IsWellFormed s
-    → ((u : ℕ) → is_open_in x u ≡ is_open s u)
-    → ((u : ℕ) → is_open_in y u ≡ is_open_in x u) → ((u : ℕ) → is_open_in z u ≡ is_open_in y u)
-    → ((u q : ℕ) → engages_in y u q ≡ ((is_open_in x u && list_any (is_marked_at u q) s.elements) || engages_in x u q))
-    → ((u q : ℕ) → engages_in z u q ≡ ((is_open_in y u && list_any (is_noted_at u q) s.notes) || engages_in y u q))
+    → ((u : ℕ) → has_open x u ≡ is_open s u)
+    → ((u : ℕ) → has_open y u ≡ has_open x u) → ((u : ℕ) → has_open z u ≡ has_open y u)
+    → ((u q : ℕ) → engages_in y u q ≡ ((has_open x u && list_any (is_marked_at u q) s.elements) || engages_in x u q))
+    → ((u q : ℕ) → engages_in z u q ≡ ((has_open y u && list_any (is_noted_at u q) s.notes) || engages_in y u q))
     → AreUnits z s
 all_engaged law s x y z well first second third marked noted = record {
   opened = λ u. third u ∙ second u ∙ first u;

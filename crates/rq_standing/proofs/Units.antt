@@ -20,8 +20,8 @@ use Rattle.rq_model.specs.Machine.{is_open, is_lawful, closed_units, step}
 use Rattle.rq_model.specs.Queues.{is_engaged, engages}
 use Rattle.rq_model.specs.StepLaws.{StepByParts}
 use Rattle.rq_model.proofs.Lists.{by_cases, each_weaker}
-use Rattle.rq_standing.specs.Standings.{named, unit_in}
-use Rattle.rq_standing.specs.Units.{AreUnits, is_open_in, queues_of, engages_in}
+use Rattle.rq_standing.specs.Standings.{queue_named, unit_named}
+use Rattle.rq_standing.specs.Units.{AreUnits, has_open, queues_of, engages_in}
 use Rattle.rq_standing.specs.declared.open_units.OpenUnits.{OpenUnits}
 
 or_nothing : (b : Bool) → (b || false) ≡ b
@@ -49,7 +49,7 @@ same_number unit u = by_cases (unit == u) (λ b. (unit == u) ≡ b → is_eq (na
 
 -- Operations.
 
-engages_none : (r : Record) → unit_in r ≡ None → (q u : ℕ) → engages q u r ≡ false
+engages_none : (r : Record) → unit_named r ≡ None → (q u : ℕ) → engages q u r ≡ false
 engages_none (Define limit error name) e q u = refl
 engages_none (Register k name) e q u = refl
 engages_none (Deregister k name) e q u = refl
@@ -69,7 +69,7 @@ pub record IsOperation (r : Record) (unit queue : ℕ) : Type 0 where
   pub engages : (q u : ℕ) → engages q u r ≡ ((unit == u) && (queue == q))
   pub opened : (version : Version) (s : State) → is_lawful version s r ≡ true → is_open s unit ≡ true
 
-pub operation : (r : Record) (unit queue : ℕ) → unit_in r ≡ Some unit → named r ≡ Some queue → IsOperation r unit queue
+pub operation : (r : Record) (unit queue : ℕ) → unit_named r ≡ Some unit → queue_named r ≡ Some queue → IsOperation r unit queue
 operation (Enqueue v k priority by payload) unit queue e f = record {
   engages = λ q u. ap (λ n. (n == u) && (k == q)) (same_some v unit e) ∙ ap (λ n. (unit == u) && (n == q)) (same_some k queue f);
   opened = λ version s h. subst (λ n. is_open s n ≡ true) (same_some v unit e) (and_parts _ _ (and_parts _ _ h).1).0;
@@ -94,7 +94,7 @@ engaged_before law s r nobody q u now = sym (or_nothing (is_engaged s q u))
     ∙ ap (λ b. is_engaged s q u || (b || false)) (sym (nobody q u)) ∙ law.engages s r q u now
 
 -- a record that is no operation, and neither begins nor ends a unit
-pub units_same : StepByParts → (s : State) (r : Record) (x : OpenUnits) → (step s r).units ≡ s.units → unit_in r ≡ None
+pub units_same : StepByParts → (s : State) (r : Record) (x : OpenUnits) → (step s r).units ≡ s.units → unit_named r ≡ None
     → AreUnits x s → AreUnits x (step s r)
 units_same law s r x same nobody are = record {
   opened = λ u. are.opened u ∙ ap (list_any (λ v. v == u)) (sym same);
@@ -104,15 +104,15 @@ units_same law s r x same nobody are = record {
 -- one queue more under a unit that is open
 pub engaged_by : (x y : OpenUnits) (unit queue : ℕ)
     → ((u : ℕ) → queues_of y u
-    ≡ queues_of x u ++ (if is_open_in x u && is_eq (nat_cmp unit u) then queue ∷ [] else []))
-    → (u q : ℕ) → engages_in y u q ≡ ((is_open_in x u && ((queue == q) && (unit == u))) || engages_in x u q)
+    ≡ queues_of x u ++ (if has_open x u && is_eq (nat_cmp unit u) then queue ∷ [] else []))
+    → (u q : ℕ) → engages_in y u q ≡ ((has_open x u && ((queue == q) && (unit == u))) || engages_in x u q)
 engaged_by x y unit queue more u q =
     ap (list_any (λ v. v == q)) (more u)
     ∙ any_both (λ v. v == q) (queues_of x u) _
-    ∙ ap (λ b. engages_in x u q || list_any (λ v. v == q) (if is_open_in x u && b then queue ∷ [] else []))
+    ∙ ap (λ b. engages_in x u q || list_any (λ v. v == q) (if has_open x u && b then queue ∷ [] else []))
     (same_number unit u)
-    ∙ ap (λ b. engages_in x u q || b) (alone (is_open_in x u && (unit == u)))
-    ∙ either (is_open_in x u) (queue == q) (unit == u) (engages_in x u q)
+    ∙ ap (λ b. engages_in x u q || b) (alone (has_open x u && (unit == u)))
+    ∙ either (has_open x u) (queue == q) (unit == u) (engages_in x u q)
   where
     alone : (k : Bool) → list_any (λ v. v == q) (if k then queue ∷ [] else []) ≡ (if k then (queue == q) || false else false)
     alone true = refl
@@ -136,13 +136,13 @@ engaged_by x y unit queue more u q =
     either false false false true = refl
     either false false false false = refl
 
-engaged_more : (x y : OpenUnits) (unit queue u q : ℕ) → is_open_in x unit ≡ true
-    → engages_in y u q ≡ ((is_open_in x u && ((queue == q) && (unit == u))) || engages_in x u q)
+engaged_more : (x y : OpenUnits) (unit queue u q : ℕ) → has_open x unit ≡ true
+    → engages_in y u q ≡ ((has_open x u && ((queue == q) && (unit == u))) || engages_in x u q)
     → (before : Bool) → (before ≡ true → engages_in x u q ≡ true)
     → (before || (((unit == u) && (queue == q)) || false)) ≡ true → engages_in y u q ≡ true
 engaged_more x y unit queue u q here more true had h =
-    more ∙ ap (λ b. (is_open_in x u && ((queue == q) && (unit == u))) || b) (had refl)
-    ∙ or_true (is_open_in x u && ((queue == q) && (unit == u)))
+    more ∙ ap (λ b. (has_open x u && ((queue == q) && (unit == u))) || b) (had refl)
+    ∙ or_true (has_open x u && ((queue == q) && (unit == u)))
   where
     or_true : (b : Bool) → (b || true) ≡ true
     or_true true = refl
@@ -151,14 +151,14 @@ engaged_more x y unit queue u q here more false had h =
     let both = and_parts (unit == u) (queue == q) (sym (or_nothing ((unit == u) && (queue == q))) ∙ h) in
     more
     ∙ ap (λ b. (b && ((queue == q) && (unit == u))) || engages_in x u q)
-    (subst (λ n. is_open_in x n ≡ true) (eqb-true unit u both.0) here)
+    (subst (λ n. has_open x n ≡ true) (eqb-true unit u both.0) here)
     ∙ ap (λ b. (true && (b && (unit == u))) || engages_in x u q) both.1
     ∙ ap (λ b. (true && (true && b)) || engages_in x u q) both.0
 
 -- an operation of a unit that is open
 pub units_engaged : StepByParts → (s : State) (r : Record) (unit queue : ℕ) (x y : OpenUnits) → (step s r).units ≡ s.units
-    → IsOperation r unit queue → is_open s unit ≡ true → ((u : ℕ) → is_open_in y u ≡ is_open_in x u)
-    → ((u q : ℕ) → engages_in y u q ≡ ((is_open_in x u && ((queue == q) && (unit == u))) || engages_in x u q))
+    → IsOperation r unit queue → is_open s unit ≡ true → ((u : ℕ) → has_open y u ≡ has_open x u)
+    → ((u q : ℕ) → engages_in y u q ≡ ((has_open x u && ((queue == q) && (unit == u))) || engages_in x u q))
     → AreUnits x s → AreUnits y (step s r)
 units_engaged law s r unit queue x y same it here opened more are = record {
   opened = λ u. opened u ∙ are.opened u ∙ ap (list_any (λ v. v == u)) (sym same);
@@ -190,7 +190,7 @@ begun_open unit u us = ap (λ b. if b then true else list_any (λ v. v == u) us)
     either false false = refl
 
 pub units_begun : StepByParts → (s : State) (unit : ℕ) (x y : OpenUnits) → IsWellFormed s → nat_lt s.greatest unit ≡ true
-    → ((u : ℕ) → is_open_in y u ≡ (if is_eq (nat_cmp unit u) then true else is_open_in x u))
+    → ((u : ℕ) → has_open y u ≡ (if is_eq (nat_cmp unit u) then true else has_open x u))
     → ((u : ℕ) → queues_of y u ≡ (if is_eq (nat_cmp unit u) then [] else queues_of x u))
     → AreUnits x s → AreUnits y (step s (Begin unit))
 units_begun law s unit x y well lawful opened queues are = record {
@@ -234,8 +234,8 @@ closed_open unit u us = ap (λ b. if b then false else list_any (λ v. v == u) u
     (λ _ other. sym (kept_unit unit u other us)) refl
 
 pub units_ended : StepByParts → (s : State) (r : Record) (unit : ℕ) (x y : OpenUnits) → IsWellFormed (step s r)
-    → (step s r).units ≡ closed_units unit s.units → unit_in r ≡ None
-    → ((u : ℕ) → is_open_in y u ≡ (if is_eq (nat_cmp unit u) then false else is_open_in x u))
+    → (step s r).units ≡ closed_units unit s.units → unit_named r ≡ None
+    → ((u : ℕ) → has_open y u ≡ (if is_eq (nat_cmp unit u) then false else has_open x u))
     → ((u : ℕ) → queues_of y u ≡ (if is_eq (nat_cmp unit u) then [] else queues_of x u))
     → AreUnits x s → AreUnits y (step s r)
 units_ended law s r unit x y well closed nobody opened queues are = record {

@@ -23,8 +23,8 @@ abbrev pub part_at : List Part → ℕ → Part
 part_at parts queue = slice_index_or parts queue no_part
 
 -- the part of each queue stands at its number
-abbrev pub AreParts : State → List Part → Type 0
-AreParts s parts =
+abbrev pub ArePartsOf : State → List Part → Type 0
+ArePartsOf s parts =
     (queue : ℕ) → queue < length s.definitions → part_at parts queue ≡ part_of s queue
 
 -- the operation was done to the part of one queue

@@ -9,8 +9,8 @@ use Rattle.rq_model.specs.Queues.{is_engaged}
 use Rattle.rq_queue.specs.Noted.{filed}
 use Rattle.rq_standing.specs.declared.open_units.OpenUnits.{OpenUnits}
 
-abbrev pub is_open_in : OpenUnits → ℕ → Bool
-is_open_in x unit = is_some (get nat_cmp x.named unit)
+abbrev pub has_open : OpenUnits → ℕ → Bool
+has_open x unit = is_some (get nat_cmp x.named unit)
 
 -- the queues that the unit named, one for each of its operations
 abbrev pub queues_of : OpenUnits → ℕ → List ℕ
@@ -22,6 +22,6 @@ engages_in x unit queue = list_any (λ v. v == queue) (queues_of x unit)
 
 -- they are the open units of the state, and each named all queues in which it has an element or note
 pub record AreUnits (x : OpenUnits) (s : State) : Type 0 where
-  pub opened : (unit : ℕ) → is_open_in x unit ≡ is_open s unit
+  pub opened : (unit : ℕ) → has_open x unit ≡ is_open s unit
   pub engaged : (unit queue : ℕ) → is_engaged s queue unit ≡ true
       → engages_in x unit queue ≡ true

@@ -4,8 +4,8 @@ ghost use Rattle.std.specs.Prelude.{◌≡◌, length, IfOk, IfErr};
 ghost use Rattle.rq_model.specs.States as states;
 ghost use Rattle.rq_record.specs.declared.fault.Fault.TheVariants.{Resources};
 ghost use Rattle.rq_exchange.specs.Gathering.{HasPoured};
-ghost use Rattle.rq_standing.specs.Parts.{AreParts};
-ghost use Rattle.rq_standing.specs.Standings.{Holds};
+ghost use Rattle.rq_standing.specs.Parts.{ArePartsOf};
+ghost use Rattle.rq_standing.specs.Standings.{HoldsState};
 
 use crate::queues::Queues;
 use rq_queue::Part;
@@ -16,7 +16,7 @@ use std::alloc::Global;
 // Pours out the part of every queue, in their order.
 fn pour_all(fields: KeptFields, parts: Vec<Part>) -> Result<KeptFields, Fault>
     ensures poured { IfOk result (λ f. (t : states.State) →
-        length parts.items ≡ length t.definitions → AreParts t parts.items
+        length parts.items ≡ length t.definitions → ArePartsOf t parts.items
         → HasPoured t (length parts.items) fields f) }
     ensures refused { IfErr result (λ e. e ≡ Resources) }
 {
@@ -30,8 +30,8 @@ fn pour_all(fields: KeptFields, parts: Vec<Part>) -> Result<KeptFields, Fault>
 impl Queues {
     /// The state that they hold. Refused only with `Resources`.
     pub(crate) fn into_state(self, alloc: Global) -> Result<State, Fault>
-        requires { (t : states.State) × Holds self t }
-        ensures state { IfOk result (λ s. (t : states.State) → Holds self t → s ≡ t) }
+        requires { (t : states.State) × HoldsState self t }
+        ensures state { IfOk result (λ s. (t : states.State) → HoldsState self t → s ≡ t) }
         ensures refused { IfErr result (λ e. e ≡ Resources) }
     {
         rq_state::parts_make_the_state();

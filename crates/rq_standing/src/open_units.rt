@@ -8,7 +8,7 @@ ghost use Rattle.rq_model.specs.States.{State};
 ghost use Rattle.rq_model.specs.WellFormed.{IsWellFormed};
 ghost use Rattle.rq_record.specs.declared.fault.Fault.TheVariants.{Resources};
 ghost use Rattle.rq_state.specs.Views.{unit_of};
-ghost use Rattle.rq_standing.specs.Units.{AreUnits, is_open_in, queues_of, engages_in};
+ghost use Rattle.rq_standing.specs.Units.{AreUnits, has_open, queues_of, engages_in};
 
 use rq_record::{Fault, QueueNo, UnitNo};
 use std::alloc::Global;
@@ -24,7 +24,7 @@ pub struct OpenUnits {
 impl OpenUnits {
     /// No unit.
     pub(crate) fn none(alloc: Global) -> OpenUnits
-        ensures { (u : ℕ) → is_open_in result u ≡ false }
+        ensures { (u : ℕ) → has_open result u ≡ false }
     {
         OpenUnits {
             named: BTreeMap::new(alloc),
@@ -33,8 +33,8 @@ impl OpenUnits {
 
     /// A unit begins, which has named no queue.
     pub(crate) fn begin(&mut self, alloc: Global, unit: UnitNo) -> Result<(), Fault>
-        ensures opened { OnOk result ((u : ℕ) → is_open_in self.new u
-            ≡ (if is_eq (nat_cmp unit.0 u) then true else is_open_in self.old u)) }
+        ensures opened { OnOk result ((u : ℕ) → has_open self.new u
+            ≡ (if is_eq (nat_cmp unit.0 u) then true else has_open self.old u)) }
         ensures queues { OnOk result ((u : ℕ) → queues_of self.new u
             ≡ (if is_eq (nat_cmp unit.0 u) then [] else queues_of self.old u)) }
         ensures refused { IfErr result (λ e. e ≡ Resources) }
@@ -45,9 +45,9 @@ impl OpenUnits {
 
     /// A unit names a queue, if it is open.
     pub(crate) fn engage(&mut self, unit: UnitNo, queue: QueueNo) -> Result<(), Fault>
-        ensures opened { OnOk result ((u : ℕ) → is_open_in self.new u ≡ is_open_in self.old u) }
+        ensures opened { OnOk result ((u : ℕ) → has_open self.new u ≡ has_open self.old u) }
         ensures engaged { OnOk result ((u q : ℕ) → engages_in self.new u q
-            ≡ ((is_open_in self.old u && ((queue.0 == q) && (unit.0 == u)))
+            ≡ ((has_open self.old u && ((queue.0 == q) && (unit.0 == u)))
             || engages_in self.old u q)) }
         ensures refused { IfErr result (λ e. e ≡ Resources) }
     {
@@ -60,8 +60,8 @@ impl OpenUnits {
     /// A unit ends. The queues that it named.
     pub(crate) fn end(&mut self, alloc: Global, unit: UnitNo) -> Vec<u64>
         ensures queues { result.items ≡ queues_of self.old unit.0 }
-        ensures opened { (u : ℕ) → is_open_in self.new u
-            ≡ (if is_eq (nat_cmp unit.0 u) then false else is_open_in self.old u) }
+        ensures opened { (u : ℕ) → has_open self.new u
+            ≡ (if is_eq (nat_cmp unit.0 u) then false else has_open self.old u) }
         ensures others { (u : ℕ) → queues_of self.new u
             ≡ (if is_eq (nat_cmp unit.0 u) then [] else queues_of self.old u) }
     {

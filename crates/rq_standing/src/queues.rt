@@ -8,7 +8,7 @@ ghost use Rattle.rq_record.specs.Views.{record_of};
 ghost use Rattle.rq_record.specs.declared.fault.Fault.TheVariants.{Resources};
 ghost use Rattle.rq_state.specs.Views.{id_of};
 ghost use Rattle.rq_standing.specs.Parts.{Acted};
-ghost use Rattle.rq_standing.specs.Standings.{Holds, Moved, May, named, unit_in, taken};
+ghost use Rattle.rq_standing.specs.Standings.{HoldsState, Moved, May, queue_named, unit_named, taken};
 
 use crate::arriving::receive_all;
 use crate::ending::{abort_all, commit_all};
@@ -36,7 +36,7 @@ pub struct Queues {
 impl Queues {
     /// No queues.
     pub(crate) fn new(alloc: Global) -> Queues
-        ensures { Holds result empty }
+        ensures { HoldsState result empty }
     {
         rq_model::runs_are_well_formed();
         Queues {
@@ -52,7 +52,7 @@ impl Queues {
 
     /// The queues of the state. Refused with `Resources` alone.
     pub(crate) fn of(alloc: Global, state: &rq_state::State) -> Result<Queues, Fault>
-        ensures holds { IfOk result (λ x. Holds x state.now) }
+        ensures holds { IfOk result (λ x. HoldsState x state.now) }
         ensures refused { IfErr result (λ e. e ≡ Resources) }
     {
         state.is_well_formed();
@@ -72,7 +72,7 @@ impl Queues {
 
     fn define(&mut self, alloc: Global, definition: Definition) -> Result<(), Fault>
         requires few { length self.old.parts.items < 4096 }
-        ensures moved { OnOk result ((s : State) → Holds self.old s → Moved self.old self.new
+        ensures moved { OnOk result ((s : State) → HoldsState self.old s → Moved self.old self.new
             (step s (records.Define definition.limit definition.error definition.name))) }
         ensures refused { IfErr result (λ e. e ≡ Resources) }
     {
@@ -100,7 +100,7 @@ impl Queues {
         requires may { (version : records.Version) × (s : State)
             × May self.old version s (record_of what.now) }
         requires room { self.old.next + 1 < 2 ^ 64 }
-        requires named { named (record_of what.now) ≡ Some queue.0 }
+        requires named { queue_named (record_of what.now) ≡ Some queue.0 }
         ensures frame { self.new ≡ record self.old { parts = self.new.parts } }
         ensures size { length self.new.parts.items ≡ length self.old.parts.items }
         ensures acted { OnOk result (Acted self.old.next (record_of what.now) queue.0
@@ -120,8 +120,8 @@ impl Queues {
         requires may { (version : records.Version) × (s : State)
             × May self.old version s (record_of what.now) }
         requires room { self.old.next + 1 < 2 ^ 64 }
-        requires named { named (record_of what.now) ≡ Some queue.0 }
-        requires nobody { unit_in (record_of what.now) ≡ None }
+        requires named { queue_named (record_of what.now) ≡ Some queue.0 }
+        requires nobody { unit_named (record_of what.now) ≡ None }
         ensures moved { OnOk result ((version : records.Version) (s : State) →
             May self.old version s (record_of what.now)
             → Moved self.old self.new (step s (record_of what.now))) }
@@ -142,8 +142,8 @@ impl Queues {
         requires may { (version : records.Version) × (s : State)
             × May self.old version s (record_of what.now) }
         requires room { self.old.next + 1 < 2 ^ 64 }
-        requires named { named (record_of what.now) ≡ Some queue.0 }
-        requires by { unit_in (record_of what.now) ≡ Some unit.0 }
+        requires named { queue_named (record_of what.now) ≡ Some queue.0 }
+        requires by { unit_named (record_of what.now) ≡ Some unit.0 }
         ensures moved { OnOk result ((version : records.Version) (s : State) →
             May self.old version s (record_of what.now)
             → Moved self.old self.new (step s (record_of what.now))) }
@@ -276,7 +276,7 @@ impl Queues {
             × May self.old version s (record_of what.now) }
         ensures holds { OnOk result ((version : records.Version) (s : State) →
             May self.old version s (record_of what.now)
-            → Holds self.new (step s (record_of what.now))) }
+            → HoldsState self.new (step s (record_of what.now))) }
         ensures took { IfOk result (λ id. (version : records.Version) (s : State) →
             May self.old version s (record_of what.now)
             → id_of id ≡ taken s (record_of what.now)) }

@@ -6,7 +6,7 @@ ghost use Rattle.rq_model.specs.Records as records;
 ghost use Rattle.rq_model.specs.States.{State, empty};
 ghost use Rattle.rq_record.specs.Views.{record_of, version_of};
 ghost use Rattle.rq_record.specs.declared.fault.Fault.TheVariants.{Resources};
-ghost use Rattle.rq_standing.specs.Stands.{Stands, Answers, after};
+ghost use Rattle.rq_standing.specs.Stands.{Stands, IsTakenAs, state_with};
 
 use crate::queues::Queues;
 use crate::taken::Taken;
@@ -50,10 +50,10 @@ impl Standing {
     pub fn take(&mut self, alloc: Global, what: &KeptRecord) -> Result<Taken, Fault>
         requires { (version : records.Version) × (s : State) × Stands version self.old s }
         ensures answer { IfOk result (λ taken. (version : records.Version) (s : State) →
-            Stands version self.old s → Answers version s (record_of what.now) taken) }
+            Stands version self.old s → IsTakenAs version s (record_of what.now) taken) }
         ensures stands { IfOk result (λ taken. (version : records.Version) (s : State) →
             Stands version self.old s
-            → Stands version self.new (after s (record_of what.now) taken)) }
+            → Stands version self.new (state_with s (record_of what.now) taken)) }
         ensures refused { IfErr result (λ e. e ≡ Resources) }
     {
         if self.judge.take(what)? {

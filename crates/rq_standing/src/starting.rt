@@ -5,8 +5,8 @@ ghost use Rattle.std.specs.List.{list_any};
 ghost use Rattle.rq_catalog.specs.Members.{is_marked_at, is_noted_at};
 ghost use Rattle.rq_record.specs.declared.fault.Fault.TheVariants.{Resources};
 ghost use Rattle.rq_state.specs.Views.{unit_of};
-ghost use Rattle.rq_standing.specs.Parts.{AreParts};
-ghost use Rattle.rq_standing.specs.Units.{AreUnits, is_open_in, engages_in};
+ghost use Rattle.rq_standing.specs.Parts.{ArePartsOf};
+ghost use Rattle.rq_standing.specs.Units.{AreUnits, has_open, engages_in};
 
 use crate::open_units::OpenUnits;
 use rq_queue::Part;
@@ -29,7 +29,7 @@ pub(crate) fn definitions_of(alloc: Global, state: &State) -> Result<Vec<Definit
 /// The parts of its queues, copied.
 pub(crate) fn parts_of(alloc: Global, state: &State) -> Result<Vec<Part>, Fault>
     ensures size { IfOk result (λ v. length v.items ≡ length state.now.definitions) }
-    ensures parts { IfOk result (λ v. AreParts state.now v.items) }
+    ensures parts { IfOk result (λ v. ArePartsOf state.now v.items) }
     ensures refused { IfErr result (λ e. e ≡ Resources) }
 {
     state.is_well_formed();
@@ -42,8 +42,8 @@ pub(crate) fn parts_of(alloc: Global, state: &State) -> Result<Vec<Part>, Fault>
 }
 
 fn begin_all(alloc: Global, units: &mut OpenUnits, all: &[UnitNo]) -> Result<(), Fault>
-    ensures opened { OnOk result ((u : ℕ) → is_open_in units.new u
-        ≡ (list_any (λ v. v == u) (map unit_of all.now) || is_open_in units.old u)) }
+    ensures opened { OnOk result ((u : ℕ) → has_open units.new u
+        ≡ (list_any (λ v. v == u) (map unit_of all.now) || has_open units.old u)) }
     ensures refused { IfErr result (λ e. e ≡ Resources) }
 {
     for unit in all {
@@ -53,9 +53,9 @@ fn begin_all(alloc: Global, units: &mut OpenUnits, all: &[UnitNo]) -> Result<(),
 }
 
 fn engage_by_mark(units: &mut OpenUnits, element: &KeptElement) -> Result<(), Fault>
-    ensures opened { OnOk result ((u : ℕ) → is_open_in units.new u ≡ is_open_in units.old u) }
+    ensures opened { OnOk result ((u : ℕ) → has_open units.new u ≡ has_open units.old u) }
     ensures engaged { OnOk result ((u q : ℕ) → engages_in units.new u q
-        ≡ ((is_open_in units.old u && is_marked_at u q element.now) || engages_in units.old u q)) }
+        ≡ ((has_open units.old u && is_marked_at u q element.now) || engages_in units.old u q)) }
     ensures refused { IfErr result (λ e. e ≡ Resources) }
 {
     match element.mark {
@@ -66,9 +66,9 @@ fn engage_by_mark(units: &mut OpenUnits, element: &KeptElement) -> Result<(), Fa
 }
 
 fn engage_by_marks(units: &mut OpenUnits, elements: &[KeptElement]) -> Result<(), Fault>
-    ensures opened { OnOk result ((u : ℕ) → is_open_in units.new u ≡ is_open_in units.old u) }
+    ensures opened { OnOk result ((u : ℕ) → has_open units.new u ≡ has_open units.old u) }
     ensures engaged { OnOk result ((u q : ℕ) → engages_in units.new u q
-        ≡ ((is_open_in units.old u && list_any (is_marked_at u q) elements.now)
+        ≡ ((has_open units.old u && list_any (is_marked_at u q) elements.now)
         || engages_in units.old u q)) }
     ensures refused { IfErr result (λ e. e ≡ Resources) }
 {
@@ -79,9 +79,9 @@ fn engage_by_marks(units: &mut OpenUnits, elements: &[KeptElement]) -> Result<()
 }
 
 fn engage_by_notes(units: &mut OpenUnits, notes: &[Note]) -> Result<(), Fault>
-    ensures opened { OnOk result ((u : ℕ) → is_open_in units.new u ≡ is_open_in units.old u) }
+    ensures opened { OnOk result ((u : ℕ) → has_open units.new u ≡ has_open units.old u) }
     ensures engaged { OnOk result ((u q : ℕ) → engages_in units.new u q
-        ≡ ((is_open_in units.old u && list_any (is_noted_at u q) notes.now)
+        ≡ ((has_open units.old u && list_any (is_noted_at u q) notes.now)
         || engages_in units.old u q)) }
     ensures refused { IfErr result (λ e. e ≡ Resources) }
 {

@@ -13,7 +13,7 @@ use Plain::{
 use rq_catalog::Rule;
 use rq_exchange::replay;
 use rq_pool::{Open, Plan};
-use rq_record::{Fault, KeptRecord, Version};
+use rq_record::{ElemId, Fault, KeptRecord, Version};
 use rq_standing::{Standing, Taken};
 use rq_state::{State, spell};
 use std::alloc::Global;
@@ -97,13 +97,18 @@ fn kept(alloc: Global, plain: &Plain) -> Result<KeptRecord, Fail> {
     Ok(KeptRecord::of(alloc, &record)?)
 }
 
-fn is_wanted(taken: &Taken, want: &Want) -> bool {
-    match (taken, want) {
-        (Taken::Unlawful(_), Want::Nothing) => true,
-        (Taken::Done(None), Want::Done) => true,
-        (Taken::Done(Some(element)), Want::Took(id)) => element.0 == *id,
+// Whether what was done, and the element that was taken, is what is noted beside the record.
+fn is_done(element: Option<ElemId>, want: &Want) -> bool {
+    match (element, want) {
+        (None, Want::Done) => true,
+        (Some(element), Want::Took(id)) => element.0 == *id,
         _ => false,
     }
+}
+
+// The rule that there is no KILL is one of version 1 alone.
+fn is_broken(rule: Rule, want: &Want) -> bool {
+    !matches!(rule, Rule::NoKill) && matches!(want, Want::Nothing)
 }
 
 // Whether what is noted beside the record becomes of it.
@@ -113,19 +118,45 @@ fn takes(alloc: Global, standing: &mut Standing, case: &Case) -> Result<bool, Fa
         (version : records.Version) × (s : states.State) × Stands version standing.new s) }
 {
     let record = kept(alloc, &case.1)?;
-    let taken = standing.take(alloc, &record)?;
-    Ok(is_wanted(&taken, &case.0))
+    match standing.take(alloc, &record)? {
+        Taken::Unlawful(rule) => Ok(is_broken(rule, &case.0)),
+        Taken::Done(element) => Ok(is_done(element, &case.0)),
+    }
 }
 
-// The state after the records. None, if something else became of one than is noted beside it.
-fn stood(alloc: Global, cases: &[Case]) -> Result<Option<State>, Fail> {
-    let mut standing = Standing::new(alloc, Version::Two);
+// Whether what is noted beside each record becomes of it.
+fn goes_on(alloc: Global, standing: &mut Standing, cases: &[Case]) -> Result<bool, Fail>
+    requires { (version : records.Version) × (s : states.State) × Stands version standing.old s }
+    ensures { IfOk result (λ _.
+        (version : records.Version) × (s : states.State) × Stands version standing.new s) }
+{
     for case in cases {
-        if !takes(alloc, &mut standing, case)? {
-            return Ok(None);
+        if !takes(alloc, standing, case)? {
+            return Ok(false);
         }
     }
+    Ok(true)
+}
+
+// The state after the records, from this one on. None, if something else became of one than is
+// noted beside it.
+fn stood_from(alloc: Global, start: &State, cases: &[Case]) -> Result<Option<State>, Fail> {
+    let mut standing = Standing::of(alloc, Version::Two, start)?;
+    if !goes_on(alloc, &mut standing, cases)? {
+        return Ok(None);
+    }
     Ok(Some(standing.into_state(alloc)?))
+}
+
+// The same from the beginning on. Half-way the machine is made anew of its state.
+fn stood(alloc: Global, cases: &[Case]) -> Result<Option<State>, Fail> {
+    let (first, last) = cases.split_at(cases.len() / 2);
+    let mut standing = Standing::new(alloc, Version::Two);
+    if !goes_on(alloc, &mut standing, first)? {
+        return Ok(None);
+    }
+    let state = standing.into_state(alloc)?;
+    stood_from(alloc, &state, last)
 }
 
 // The state after the lawful ones of them, by a replay.
@@ -146,8 +177,16 @@ fn replayed<R: Threads + Sync + AllocGlobal>(
     Ok(replay(rt, alloc, &start, &records, plan, &Open)?)
 }
 
+// The spelling of a state after fewer records than a log can have.
+fn spelled(alloc: Global, state: &State) -> Result<Vec<u8>, Fault> {
+    if state.next() > 4_294_967_295 {
+        return Err(Fault::Resources);
+    }
+    spell(alloc, state)
+}
+
 fn is_same(alloc: Global, one: &State, other: &State) -> Result<bool, Fault> {
-    Ok(spell(alloc, one)? == spell(alloc, other)?)
+    Ok(spelled(alloc, one)? == spelled(alloc, other)?)
 }
 
 // Whether the machine stands in the state that a replay of the records comes to.
@@ -167,7 +206,10 @@ fn agree<R: Threads + Sync + AllocGlobal>(
 fn it_stands_where_a_replay_comes_to(rt: HostRuntime) -> Result<(), Fail> {
     let plan = Plan::new(2, 1).ok_or("plan")?;
     for count in 0..=CASES.len() {
-        assert!(rt; agree(&rt, &CASES[..count], &plan)?, "after {count} records");
+        assert!(rt;
+            agree(&rt, &CASES[..count], &plan)?,
+            "after {count} records"
+        );
     }
     Ok(())
 }

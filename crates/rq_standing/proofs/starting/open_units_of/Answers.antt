@@ -2,7 +2,7 @@ use Rattle.std.proofs.Common.{◌||◌, ◌&&◌, List, ap, ◌∙◌}
 use Rattle.std.specs.List.{list_any}
 use Rattle.rq_model.specs.States.{Element, Note}
 use Rattle.rq_catalog.specs.Members.{is_marked_at, is_noted_at}
-use Rattle.rq_standing.specs.Units.{is_open_in, engages_in}
+use Rattle.rq_standing.specs.Units.{has_open, engages_in}
 use Rattle.rq_standing.proofs.StateUnits.{all_begun, all_engaged}
 use Rattle.rq_standing.proofs.starting.open_units_of.Goals as goal
 
@@ -15,8 +15,8 @@ returns-clause-units c =
     (λ u. all_begun u _ _ _ _ c.units.ensures (c.none-units.ensures u) (c.in_ok-begin_all.ensures.opened u))
     marked.opened noted.opened
     (λ u q. marked.engaged u q
-    ∙ ap (λ (es : List Element). (is_open_in c.begin_all.new.units u && list_any (is_marked_at u q) es)
+    ∙ ap (λ (es : List Element). (has_open c.begin_all.new.units u && list_any (is_marked_at u q) es)
     || engages_in c.begin_all.new.units u q) c.elements.ensures)
     (λ u q. noted.engaged u q
-    ∙ ap (λ (ns : List Note). (is_open_in c.engage_by_marks.new.units u && list_any (is_noted_at u q) ns)
+    ∙ ap (λ (ns : List Note). (has_open c.engage_by_marks.new.units u && list_any (is_noted_at u q) ns)
     || engages_in c.engage_by_marks.new.units u q) c.notes.ensures)

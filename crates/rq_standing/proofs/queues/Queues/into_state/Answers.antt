@@ -9,11 +9,11 @@ use Rattle.rq_state.specs.Inside.{state_of}
 use Rattle.rq_state.specs.Laws.{HasSame}
 use Rattle.rq_state.specs.Orders.{state_in_order, place_before}
 use Rattle.rq_exchange.proofs.Pouring.{members, is_same}
-use Rattle.rq_standing.specs.Standings.{Holds}
+use Rattle.rq_standing.specs.Standings.{HoldsState}
 use Rattle.rq_standing.proofs.queues.Queues.into_state.Goals as goal
 use Rattle.rq_standing.proofs.queues.Queues.into_state.Goals.{In_ok-fields}
 
-same : (c : In_ok-fields) (t : State) → Holds c.args.self t → HasSame t (state_of c.in_ok-fields.fields)
+same : (c : In_ok-fields) (t : State) → HoldsState c.args.self t → HasSame t (state_of c.in_ok-fields.fields)
 same c t holds =
     let poured = c.in_ok-fields.ensures.poured t holds.size holds.parts in
     let whole = c.parts_make_the_state.ensures t holds.well in
@@ -43,7 +43,7 @@ same c t holds =
     }
 
 -- the fields, put in order, are the state
-ordered : (c : In_ok-fields) (t : State) → Holds c.args.self t → state_in_order (state_of c.in_ok-fields.fields) ≡ t
+ordered : (c : In_ok-fields) (t : State) → HoldsState c.args.self t → state_in_order (state_of c.in_ok-fields.fields) ≡ t
 ordered c t holds =
     c.any_order_makes_the_state.ensures t (state_of c.in_ok-fields.fields) holds.well (same c t holds)
 
