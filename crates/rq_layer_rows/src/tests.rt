@@ -8,4 +8,5 @@ mod lanes;
 mod plain;
 mod records;
 mod rooms;
+mod standing;
 mod states;

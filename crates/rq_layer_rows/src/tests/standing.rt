@@ -1,0 +1,230 @@
+//! A machine that takes one record after the other, beside a replay of the same records.
+
+ghost use Rattle.std.specs.Prelude.{IfOk};
+ghost use Rattle.rq_model.specs.Records as records;
+ghost use Rattle.rq_model.specs.States as states;
+ghost use Rattle.rq_standing.specs.Stands.{Stands};
+
+use super::courses::lawful_front;
+use super::plain::{NO_QUEUE, Plain, Who, record_of};
+use Plain::{
+    Abort, Begin, Checkpoint, Commit, Define, Dequeue, Deregister, Enqueue, Kill, Register,
+};
+use rq_catalog::Rule;
+use rq_exchange::replay;
+use rq_pool::{Open, Plan};
+use rq_record::{ElemId, Fault, KeptRecord, Version};
+use rq_standing::{Standing, Taken};
+use rq_state::{State, spell};
+use std::alloc::Global;
+use std::test::Fail;
+use std::thread::Threads;
+
+// What becomes of a record: nothing, it is done, or it takes the element of this id.
+#[derive(Drop)]
+enum Want {
+    Nothing,
+    Done,
+    Took(u64),
+}
+
+use Want::{Done, Nothing, Took};
+
+// A record, and what becomes of it.
+type Case = (Want, Plain);
+
+const ANN: Who = Some(("ann", 70));
+
+const BOB: Who = Some(("bob", 71));
+
+// An error queue, one with an error queue, one whose error queue that is, and one without.
+const CASES: &[Case] = &[
+    (Nothing, Begin(0)),
+    (Done, Define(0, NO_QUEUE, "dead")),
+    (Done, Define(2, 0, "late")),
+    (Done, Define(1, 1, "jobs")),
+    (Nothing, Define(1, 1, "jobs")),
+    (Done, Define(0, NO_QUEUE, "mail")),
+    (Done, Register(2, "ann")),
+    (Done, Register(3, "bob")),
+    (Nothing, Deregister(3, "ann")),
+    (Done, Begin(1)),
+    (Nothing, Begin(1)),
+    (Done, Enqueue(1, 2, ANN)),
+    (Done, Enqueue(1, 2, None)),
+    (Done, Enqueue(1, 3, BOB)),
+    (Nothing, Enqueue(1, 3, ANN)),
+    (Done, Dequeue(1, 2, ANN)),
+    (Done, Begin(2)),
+    (Done, Dequeue(2, 2, None)),
+    (Done, Commit(1)),
+    (Done, Checkpoint),
+    (Took(7), Dequeue(2, 2, ANN)),
+    (Took(9), Dequeue(2, 3, None)),
+    (Took(8), Dequeue(2, 2, None)),
+    (Done, Dequeue(2, 2, None)),
+    (Done, Begin(3)),
+    (Done, Enqueue(3, 2, ANN)),
+    (Done, Enqueue(3, 1, None)),
+    (Done, Abort(2)),
+    (Nothing, Commit(2)),
+    (Took(7), Dequeue(3, 1, None)),
+    (Took(8), Dequeue(3, 1, None)),
+    (Took(9), Dequeue(3, 3, BOB)),
+    (Done, Abort(3)),
+    (Done, Begin(5)),
+    (Took(7), Dequeue(5, 1, None)),
+    (Done, Kill(1, 7)),
+    (Done, Kill(1, 8)),
+    (Done, Kill(1, 8)),
+    (Nothing, Kill(4, 8)),
+    (Done, Deregister(3, "bob")),
+    (Done, Register(3, "bob")),
+    (Done, Register(3, "bob")),
+    (Done, Begin(6)),
+    (Took(9), Dequeue(6, 3, BOB)),
+    (Done, Deregister(3, "bob")),
+    (Done, Abort(5)),
+    (Done, Commit(6)),
+    (Done, Begin(7)),
+    (Took(7), Dequeue(7, 0, None)),
+    (Done, Enqueue(7, 0, None)),
+    (Done, Abort(7)),
+];
+
+fn kept(alloc: Global, plain: &Plain) -> Result<KeptRecord, Fail> {
+    let record = record_of(alloc, plain)?;
+    Ok(KeptRecord::of(alloc, &record)?)
+}
+
+// Whether what was done, and the element that was taken, is what is noted beside the record.
+fn is_done(element: Option<ElemId>, want: &Want) -> bool {
+    match (element, want) {
+        (None, Want::Done) => true,
+        (Some(element), Want::Took(id)) => element.0 == *id,
+        _ => false,
+    }
+}
+
+// The rule that there is no KILL is one of version 1 alone.
+fn is_broken(rule: Rule, want: &Want) -> bool {
+    !matches!(rule, Rule::NoKill) && matches!(want, Want::Nothing)
+}
+
+// Whether what is noted beside the record becomes of it.
+fn takes(alloc: Global, standing: &mut Standing, case: &Case) -> Result<bool, Fail>
+    requires { (version : records.Version) × (s : states.State) × Stands version standing.old s }
+    ensures { IfOk result (λ _.
+        (version : records.Version) × (s : states.State) × Stands version standing.new s) }
+{
+    let record = kept(alloc, &case.1)?;
+    match standing.take(alloc, &record)? {
+        Taken::Unlawful(rule) => Ok(is_broken(rule, &case.0)),
+        Taken::Done(element) => Ok(is_done(element, &case.0)),
+    }
+}
+
+// Whether what is noted beside each record becomes of it.
+fn goes_on(alloc: Global, standing: &mut Standing, cases: &[Case]) -> Result<bool, Fail>
+    requires { (version : records.Version) × (s : states.State) × Stands version standing.old s }
+    ensures { IfOk result (λ _.
+        (version : records.Version) × (s : states.State) × Stands version standing.new s) }
+{
+    for case in cases {
+        if !takes(alloc, standing, case)? {
+            return Ok(false);
+        }
+    }
+    Ok(true)
+}
+
+// The state after the records, from this one on. None, if something else became of one than is
+// noted beside it.
+fn stood_from(alloc: Global, start: &State, cases: &[Case]) -> Result<Option<State>, Fail> {
+    let mut standing = Standing::of(alloc, Version::Two, start)?;
+    if !goes_on(alloc, &mut standing, cases)? {
+        return Ok(None);
+    }
+    Ok(Some(standing.into_state(alloc)?))
+}
+
+// The same from the beginning on. Half-way the machine is made anew of its state.
+fn stood(alloc: Global, cases: &[Case]) -> Result<Option<State>, Fail> {
+    let (first, last) = cases.split_at(cases.len() / 2);
+    let mut standing = Standing::new(alloc, Version::Two);
+    if !goes_on(alloc, &mut standing, first)? {
+        return Ok(None);
+    }
+    let state = standing.into_state(alloc)?;
+    stood_from(alloc, &state, last)
+}
+
+// The state after the lawful ones of them, by a replay.
+fn replayed<R: Threads + Sync + AllocGlobal>(
+    rt: &R,
+    cases: &[Case],
+    plan: &Plan,
+) -> Result<State, Fail> {
+    let alloc = rt.alloc();
+    let mut records = Vec::new(alloc);
+    for case in cases {
+        if !matches!(case.0, Want::Nothing) {
+            records.push(record_of(alloc, &case.1)?)?;
+        }
+    }
+    let start = State::empty(alloc);
+    let records = lawful_front(alloc, &start, records)?;
+    Ok(replay(rt, alloc, &start, &records, plan, &Open)?)
+}
+
+// The spelling of a state after fewer records than a log can have.
+fn spelled(alloc: Global, state: &State) -> Result<Vec<u8>, Fault> {
+    if state.next() > 4_294_967_295 {
+        return Err(Fault::Resources);
+    }
+    spell(alloc, state)
+}
+
+fn is_same(alloc: Global, one: &State, other: &State) -> Result<bool, Fault> {
+    Ok(spelled(alloc, one)? == spelled(alloc, other)?)
+}
+
+// Whether the machine stands in the state that a replay of the records comes to.
+fn agree<R: Threads + Sync + AllocGlobal>(
+    rt: &R,
+    cases: &[Case],
+    plan: &Plan,
+) -> Result<bool, Fail> {
+    let replayed = replayed(rt, cases, plan)?;
+    match stood(rt.alloc(), cases)? {
+        Some(stood) => Ok(is_same(rt.alloc(), &stood, &replayed)?),
+        None => Ok(false),
+    }
+}
+
+#[test]
+fn it_stands_where_a_replay_comes_to(rt: HostRuntime) -> Result<(), Fail> {
+    let plan = Plan::new(2, 1).ok_or("plan")?;
+    for count in 0..=CASES.len() {
+        assert!(rt;
+            agree(&rt, &CASES[..count], &plan)?,
+            "after {count} records"
+        );
+    }
+    Ok(())
+}
+
+// Whether the machine of the version names the rule that there is no KILL.
+fn has_no_kill(alloc: Global, version: Version) -> Result<bool, Fail> {
+    let mut standing = Standing::new(alloc, version);
+    let kill = kept(alloc, &Kill(0, 1))?;
+    let taken = standing.take(alloc, &kill)?;
+    Ok(matches!(taken, Taken::Unlawful(Rule::NoKill)))
+}
+
+#[test]
+fn it_goes_by_the_rules_of_its_version(rt: HostRuntime) -> Result<(), Fail> {
+    assert!(rt; has_no_kill(rt.alloc(), Version::One)?);
+    assert!(rt; !has_no_kill(rt.alloc(), Version::Two)?);
+    Ok(())
+}

@@ -1,0 +1,7 @@
+mod Units
+mod StateUnits
+mod Acting
+mod Defining
+mod UnitEnds
+mod Arrivals
+mod Closing

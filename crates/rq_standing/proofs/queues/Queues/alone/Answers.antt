@@ -1,0 +1,18 @@
+use Rattle.std.proofs.Common.{sym, subst, ap}
+use Rattle.rq_record.specs.Views.{record_of}
+use Rattle.rq_standing.specs.Units.{AreUnits}
+use Rattle.rq_standing.specs.declared.open_units.OpenUnits.{OpenUnits}
+use Rattle.rq_standing.specs.declared.queues.Queues.{Queues}
+use Rattle.rq_standing.proofs.Acting.{one_of, one_moved}
+use Rattle.rq_standing.proofs.Units.{units_same}
+use Rattle.rq_standing.proofs.queues.Queues.alone.Goals as goal
+
+pub returns-clause-moved : goal.returns-clause-moved
+returns-clause-moved c = λ version s may.
+    let r = record_of c.args.what.now in
+    let law = c.step_by_parts.ensures.step in
+    let acted = c.in_ok-act.ensures in
+    one_moved law s r c.args.queue.0 c.args.self.now c.act.new.self c.act.new.self.units may.holds c.requires.named
+    acted.frame acted.size acted.acted
+    (units_same law s r c.act.new.self.units (one_of s r c.args.queue.0 c.requires.named).units c.requires.nobody
+    (subst (λ (x : OpenUnits). AreUnits x s) (sym (ap (λ (q : Queues). q.units) acted.frame)) may.holds.units))

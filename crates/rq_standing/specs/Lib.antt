@@ -1,0 +1,4 @@
+pub mod Parts
+pub mod Units
+pub mod Standings
+pub mod Stands

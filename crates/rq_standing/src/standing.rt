@@ -1,0 +1,78 @@
+//! The queues as they stand, and the judge of what comes.
+
+ghost use Rattle.std.specs.Prelude.{◌≡◌, IfOk, OnOk, IfErr};
+ghost use Rattle.rq_model.specs.Machine as machine;
+ghost use Rattle.rq_model.specs.Records as records;
+ghost use Rattle.rq_model.specs.States.{State, empty};
+ghost use Rattle.rq_record.specs.Views.{record_of, version_of};
+ghost use Rattle.rq_record.specs.declared.fault.Fault.TheVariants.{Resources};
+ghost use Rattle.rq_standing.specs.Stands.{Stands, IsTakenAs, state_with};
+
+use crate::queues::Queues;
+use crate::taken::Taken;
+use rq_catalog::Judge;
+use rq_record::{Fault, KeptRecord, Version};
+use std::alloc::Global;
+
+/// The queues as they stand, which go along with records in place. It says of each record whether
+/// it is lawful, and does it if it is. That costs the members that the record touches, times a
+/// logarithm. A state that is wanted after many records comes sooner by `replay`.
+#[derive(Drop)]
+pub struct Standing {
+    judge: Judge,
+    queues: Queues,
+}
+
+impl Standing {
+    /// No queues yet, by the rules of the version. Takes no memory.
+    pub fn new(alloc: Global, version: Version) -> Standing
+        ensures { Stands (version_of version) result empty }
+    {
+        Standing {
+            judge: Judge::new(alloc, version),
+            queues: Queues::new(alloc),
+        }
+    }
+
+    /// The queues of the state, by the rules of the version. Refused with `Resources` alone.
+    pub fn of(alloc: Global, version: Version, state: &rq_state::State) -> Result<Standing, Fault>
+        ensures stands { IfOk result (λ x. Stands (version_of version) x state.now) }
+        ensures refused { IfErr result (λ e. e ≡ Resources) }
+    {
+        let judge = Judge::of(alloc, version, state)?;
+        let queues = Queues::of(alloc, state)?;
+        Ok(Standing { judge, queues })
+    }
+
+    /// Does a record if it is lawful. If not, nothing changes, and the answer names a rule that it
+    /// breaks. Refused with `Resources` alone: nothing is known of it from then on, so nobody can
+    /// show that it stands anywhere, as this call asks.
+    pub fn take(&mut self, alloc: Global, what: &KeptRecord) -> Result<Taken, Fault>
+        requires { (version : records.Version) × (s : State) × Stands version self.old s }
+        ensures answer { IfOk result (λ taken. (version : records.Version) (s : State) →
+            Stands version self.old s → IsTakenAs version s (record_of what.now) taken) }
+        ensures stands { IfOk result (λ taken. (version : records.Version) (s : State) →
+            Stands version self.old s
+            → Stands version self.new (state_with s (record_of what.now) taken)) }
+        ensures refused { IfErr result (λ e. e ≡ Resources) }
+    {
+        if self.judge.take(what)? {
+            let element = self.queues.take(alloc, what)?;
+            return Ok(Taken::Done(element));
+        }
+        match self.judge.broken(what) {
+            Some(rule) => Ok(Taken::Unlawful(rule)),
+            None => unreachable!(),
+        }
+    }
+
+    /// The state in which it stands. Refused with `Resources` alone.
+    pub fn into_state(self, alloc: Global) -> Result<rq_state::State, Fault>
+        requires { (version : records.Version) × (s : State) × Stands version self s }
+        ensures state { IfOk result (λ t. (version : records.Version) (s : State) →
+            Stands version self s → t ≡ s) }
+        ensures refused { IfErr result (λ e. e ≡ Resources) }
+    {
+        self.queues.into_state(alloc)
+    }
+}

@@ -1,0 +1,106 @@
+//! The queues of a state that is there already.
+
+ghost use Rattle.std.specs.Prelude.{◌≡◌, ℕ, ◌==◌, ◌&&◌, ◌||◌, length, map, IfOk, OnOk, IfErr};
+ghost use Rattle.std.specs.List.{list_any};
+ghost use Rattle.rq_catalog.specs.Members.{is_marked_at, is_noted_at};
+ghost use Rattle.rq_record.specs.declared.fault.Fault.TheVariants.{Resources};
+ghost use Rattle.rq_state.specs.Views.{unit_of};
+ghost use Rattle.rq_standing.specs.Parts.{ArePartsOf};
+ghost use Rattle.rq_standing.specs.Units.{AreUnits, has_open, engages_in};
+
+use crate::open_units::OpenUnits;
+use rq_queue::Part;
+use rq_record::{Fault, QueueNo, UnitNo};
+use rq_state::{Definition, KeptElement, Mark, Note, State};
+use std::alloc::Global;
+
+/// The queues of the state, by number.
+pub(crate) fn definitions_of(alloc: Global, state: &State) -> Result<Vec<Definition>, Fault>
+    ensures definitions { IfOk result (λ v. v.items ≡ state.now.definitions) }
+    ensures refused { IfErr result (λ e. e ≡ Resources) }
+{
+    let mut definitions = Vec::new(alloc);
+    for definition in state.definitions() {
+        definitions.push(definition.copied())?;
+    }
+    Ok(definitions)
+}
+
+/// The parts of its queues, copied.
+pub(crate) fn parts_of(alloc: Global, state: &State) -> Result<Vec<Part>, Fault>
+    ensures size { IfOk result (λ v. length v.items ≡ length state.now.definitions) }
+    ensures parts { IfOk result (λ v. ArePartsOf state.now v.items) }
+    ensures refused { IfErr result (λ e. e ≡ Resources) }
+{
+    state.is_well_formed();
+    let mut parts = Vec::new(alloc);
+    for queue in 0..state.definition_count() {
+        let part = Part::of(alloc, state, QueueNo(queue as u32))?;
+        parts.push(part)?;
+    }
+    Ok(parts)
+}
+
+fn begin_all(alloc: Global, units: &mut OpenUnits, all: &[UnitNo]) -> Result<(), Fault>
+    ensures opened { OnOk result ((u : ℕ) → has_open units.new u
+        ≡ (list_any (λ v. v == u) (map unit_of all.now) || has_open units.old u)) }
+    ensures refused { IfErr result (λ e. e ≡ Resources) }
+{
+    for unit in all {
+        units.begin(alloc, *unit)?;
+    }
+    Ok(())
+}
+
+fn engage_by_mark(units: &mut OpenUnits, element: &KeptElement) -> Result<(), Fault>
+    ensures opened { OnOk result ((u : ℕ) → has_open units.new u ≡ has_open units.old u) }
+    ensures engaged { OnOk result ((u q : ℕ) → engages_in units.new u q
+        ≡ ((has_open units.old u && is_marked_at u q element.now) || engages_in units.old u q)) }
+    ensures refused { IfErr result (λ e. e ≡ Resources) }
+{
+    match element.mark {
+        Mark::Free => Ok(()),
+        Mark::Fresh(unit) => units.engage(unit, element.home),
+        Mark::Held(unit) => units.engage(unit, element.home),
+    }
+}
+
+fn engage_by_marks(units: &mut OpenUnits, elements: &[KeptElement]) -> Result<(), Fault>
+    ensures opened { OnOk result ((u : ℕ) → has_open units.new u ≡ has_open units.old u) }
+    ensures engaged { OnOk result ((u q : ℕ) → engages_in units.new u q
+        ≡ ((has_open units.old u && list_any (is_marked_at u q) elements.now)
+        || engages_in units.old u q)) }
+    ensures refused { IfErr result (λ e. e ≡ Resources) }
+{
+    for element in elements {
+        engage_by_mark(units, element)?;
+    }
+    Ok(())
+}
+
+fn engage_by_notes(units: &mut OpenUnits, notes: &[Note]) -> Result<(), Fault>
+    ensures opened { OnOk result ((u : ℕ) → has_open units.new u ≡ has_open units.old u) }
+    ensures engaged { OnOk result ((u q : ℕ) → engages_in units.new u q
+        ≡ ((has_open units.old u && list_any (is_noted_at u q) notes.now)
+        || engages_in units.old u q)) }
+    ensures refused { IfErr result (λ e. e ≡ Resources) }
+{
+    for note in notes {
+        units.engage(note.unit, note.queue)?;
+    }
+    Ok(())
+}
+
+/// Its open units.
+pub(crate) fn open_units_of(alloc: Global, state: &State) -> Result<OpenUnits, Fault>
+    ensures units { IfOk result (λ x. AreUnits x state.now) }
+    ensures refused { IfErr result (λ e. e ≡ Resources) }
+{
+    rq_model::step_by_parts();
+    state.is_well_formed();
+    let mut units = OpenUnits::none(alloc);
+    begin_all(alloc, &mut units, state.units())?;
+    engage_by_marks(&mut units, state.elements())?;
+    engage_by_notes(&mut units, state.notes())?;
+    Ok(units)
+}
