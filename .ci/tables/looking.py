@@ -130,7 +130,7 @@ JSON_END = """\
 # A file whose name looks like HTML, as does the element of its log; and what stands on its page.
 ODD_NAME = "a<b"
 ELEMENT_B = "define jobs 0 -\nbegin 1\nenqueue 1 0 5 - 0 3c623e\ncommit 1\n"
-ON_THE_PAGE = ["<title>a&lt;b</title>", "<td>4 records, 239 of 239 bytes</td>", "<bdi>&quot;&lt;b&gt;&quot;</bdi>"]
+ON_THE_PAGE = ["<title>a&lt;b</title>", "<td>4 records, 239 of 239 bytes</td>", "<bdi class=\"text\">&lt;b&gt;</bdi>"]
 
 
 def tables_of(rqlook: Program, rq: Program) -> Iterator[Question]:

@@ -15,11 +15,11 @@ there on, at its offsets. The last line is `N passed, M failed`, by answers.
 """
 from __future__ import annotations
 import argparse, glob, json, os, random, resource, shutil, subprocess, sys
-from html.parser import HTMLParser
 
 sys.path.insert(0, os.path.dirname(os.path.dirname(os.path.abspath(__file__))))
 from common import COMPARED, HEADER, HERE, NO_RECORD, UNLAWFUL, best, bodies_of, built_peer, chained, checkpoints_script, header_of, log_of, parsed, parser, write_log
-from looked import Stories, compact, is_hidden, line_of, records_of, shown
+from looked import Stories, compact, is_hidden, line_of, records_of
+from paged import ALL, SHOWN, TAGS, WORDS, Page, Told, payload
 from records import begin, commit, define, enqueue, register
 from schema import report_misfits
 
@@ -145,59 +145,74 @@ def same_stories(look: str, log: str, records: list[dict], count: int, draw: ran
     check(f"{log}, the story of no element", told(look, "story", log, str(len(records))), (1, ""))
 
 
-class Page(HTMLParser):
-    """The tags of a page, and the texts of its tables' cells, row by row."""
-
-    def __init__(self) -> None:
-        super().__init__()
-        self.tags: set[str] = set()
-        self.words: set[str] = set()
-        self.rows: list[list[str]] = []
-        self.inside = False
-
-    def handle_starttag(self, tag: str, attrs: list[tuple[str, str | None]]) -> None:
-        self.tags.add(tag)
-        self.words.update(name for name, _ in attrs)
-        if tag == "tr":
-            self.rows.append([])
-        if tag == "td":
-            self.rows[-1].append("")
-        self.inside = tag == "td" or self.inside and tag != "tr"
-
-    def handle_endtag(self, tag: str) -> None:
-        self.inside = self.inside and tag != "td"
-
-    def handle_data(self, data: str) -> None:
-        if self.inside and self.rows and self.rows[-1]:
-            self.rows[-1][-1] += data
-
-
-TAGS = {"html", "head", "meta", "title", "style", "body", "h1", "h2", "p", "bdi", "table", "tr", "th", "td", "svg", "g", "rect", "path",
-        "div", "span", "ul", "li", "details", "summary"}
-WORDS = {"lang", "charset", "http-equiv", "content", "name", "class", "colspan", "viewbox", "preserveaspectratio", "role", "x", "y", "width",
-         "height", "d"}
-
-
-def page_of(look: str, log: str) -> Page:
-    status, text = told(look, "page", log, "-")
+def page_of(look: str, log: str, *words: str) -> Page:
+    status, text = told(look, "page", log, "-", *words)
     page = Page()
     page.feed(text)
-    check(f"{log}'s page has other parts", (status, page.tags - TAGS, page.words - WORDS), (0, set(), set()))
+    check(f"{log}'s page has other parts", (status, page.tags - TAGS, page.words - WORDS, page.wrong), (0, set(), set(), []))
+    check(f"{log}'s page has links that lead nowhere", [it for it in page.links if it[1:] not in set(page.ids)][:5], [])
     return page
 
 
-def same_page(look: str, log: str) -> None:
-    """The rows of the page's queues, elements and registrants against the report."""
-    report, page = json.loads(told(look, "report", log, "--json")[1]), page_of(look, log)
-    rows = [row for row in page.rows if len(row) in (4, 5, 7)]
+ORDERS = {"depth": lambda it: (-len(it["elements"]), it["number"]), "number": lambda it: it["number"], "name": lambda it: it["name"]}
+
+
+def queue_rows(queues: list[dict], order: str) -> list[list[str]]:
+    """The rows of the page's queues, elements and registrants, of a report's queues."""
+    names = [f"{it['number']} {it['name']}" for it in queues]
     want = []
-    for queue in report["queues"]:
-        want.append([str(queue["number"]), queue["name"], str(queue["limit"]), or_dash(queue["error"]), str(len(queue["elements"]))])
-        want += [[str(e["id"]), str(e["from"]), str(e["priority"]), str(e["attempts"]), shown(e["payload"], False)]
-                 for e in queue["elements"][:1000]]
+    for queue in sorted(queues, key=ORDERS[order]):
+        error = "-" if queue["error"] is None else names[queue["error"]]
+        want.append([f"{names[queue['number']]}limit {queue['limit']}, error queue {error}", f"{len(queue['elements']):,}"])
+        want += [[str(e["id"]), names[e["from"]], str(e["priority"]), f"{e['attempts']:,}", payload(e["payload"])] for e in queue["elements"][:SHOWN]]
         want += [[r["name"]] + ([r["last"]["kind"], str(r["last"]["tag"]), or_dash(r["last"]["element"])] if r["last"] else ["-", "", ""])
                  for r in queue["registrants"]]
-    check(f"{log}'s page", [row[:5] if len(row) == 7 else row for row in rows], want)
+    return want
+
+
+def shown_rows(page: Page) -> list[list[str]]:
+    """The same as the page has them."""
+    found = []
+    for name, cells in page.rows:
+        if name[:1] == "q" and name[1:].isdecimal():
+            found.append(cells[:2])
+        elif name == "" and len(cells) in (4, 5) and cells[0] not in ("element", "registrant", "queue", "record"):
+            found.append(cells)
+    return found
+
+
+def same_queues(look: str, log: str) -> tuple[list[str], Page]:
+    """The rows of the page's queues, elements and registrants against the report. Answers the names of the queues, and a page."""
+    report = json.loads(told(look, "report", log, "--json")[1])
+    for order in ORDERS:
+        page = page_of(look, log, "--order", order)
+        check(f"{log}'s page by {order}", shown_rows(page), queue_rows(report["queues"], order))
+    return [it["name"] for it in report["queues"]], page
+
+
+def same_page(look: str, log: str, records: list[dict], draw: random.Random) -> None:
+    """The rows of the page's queues against the report, and those of lives and records against the log."""
+    names, page = same_queues(look, log)
+    lives = Told(records, Stories(records, os.path.getsize(log)), names)
+    rows = dict(page.rows)
+    if "r0" not in rows and len(records) > ALL:
+        some_lives(look, log, lives, draw)
+        return
+    check(f"{log}'s page, elements", {name: cells for name, cells in rows.items() if name[:1] == "e" and name[1:].isdecimal()}, lives.elements())
+    for name, want in lives.rows().items():
+        check(f"{log}'s page, {name}", rows.get(name), want)
+
+
+def some_lives(look: str, log: str, lives: Told, draw: random.Random) -> None:
+    """Those of two elements that are asked for, and of a unit, of a log too long for all."""
+    elements = lives.elements()
+    asked, unit = draw.sample(sorted(elements), min(2, len(elements))), draw.choice(sorted(lives.stories.units))
+    words = [word for name in asked for word in ("--element", name[1:])]
+    rows = dict(page_of(look, log, *words, "--unit", str(unit)).rows)
+    for name in asked:
+        check(f"{log}'s page, {name} alone", rows.get(name), elements[name])
+    wanted = {it["record"] for it in lives.records if it.get("unit") == unit}
+    check(f"{log}'s page, unit {unit} alone", {name for name in (f"r{it}" for it in wanted) if name not in rows} | {f"u{unit}"} - set(rows), set())
 
 
 def damages(log: bytes) -> list[tuple[str, str, bytes]]:
@@ -232,7 +247,7 @@ def reasons(rq: str, look: str, log: str, folder: str) -> None:
         front = json.loads(told(look, "dump", path, "--limit", "0", "--json")[1])["front"]
         check(f"the same as JSON, {why}", (front["why"], front["reason"]), (why, want.split(": ", 1)[1]))
         check(f"a report's end as JSON, {why}", json.loads(told(look, "report", path, "--json")[1])["front"], front)
-        check(f"a page's end, {why}", [f"{why}: {front['reason']}"] in page_of(look, path).rows, True)
+        check(f"a page's end, {why}", ["behind it", f"{why}: {front['reason']}"] in [cells for _, cells in page_of(look, path).rows], True)
         check(f"a report's front by {why}", told(rq, "restart", path, "4", "1000")[1].split("\n", 1)[0],
               f"front {front['records']} records, {front['used']} of {front['total']} bytes, {why}")
         same_check(rq, look, path)
@@ -248,6 +263,8 @@ def unseen(look: str, log: str) -> None:
     for words in (["dump", log], ["dump", log, "--full"], ["dump", log, "--json"], ["report", log], ["report", log, "--json"], ["unit", log, "1"],
                   ["script", log], ["page", log, "-"]):
         status, text = told(look, *words)
+        # a page has a mark before each tab that it keeps
+        text = text.replace("\u21e5\t", "") if words[0] == "page" else text
         check(f"what {words} shows", (status, [c for c in text if c != "\n" and is_hidden(c)]), (0, []))
 
 
@@ -269,7 +286,7 @@ def odd_payloads(rq: str, look: str, folder: str) -> None:
     same_dump(look, log, records, random.Random(2))
     same_reports(rq, look, log, random.Random(2))
     same_stories(look, log, records, 20, random.Random(3))
-    same_page(look, log)
+    same_page(look, log, records, random.Random(5))
     unseen(look, log)
 
 
@@ -387,6 +404,19 @@ def carried_stories(look: str, path: str, stories: Stories, at: int, end: list[s
             check(f"{path}, the story of {subject} {it}", (status, sorted(text.splitlines())), (0 if want else 1, sorted(want)))
 
 
+def carried_page(look: str, path: str, records: list[dict], stories: Stories, first: int) -> None:
+    """The page of a log that was carried on against the lives of the whole log from this record on; again without an order."""
+    names, page = same_queues(look, path)
+    begun = ["carried", "begins with the checkpoint at 96, which is taken at its word"]
+    check(f"where {path}'s page begins", begun in [cells for _, cells in page.rows], True)
+    rows = dict(page.rows)
+    if f"r{first}" not in rows and len(records) - first > ALL:
+        return
+    for name, want in Told(records, stories, names).behind(first).items():
+        got = rows.get(name, [""])
+        check(f"{path}'s page, {name}", (got[:-1], sorted(got[-1].split("|"))), (want[:-1], sorted(want[-1].split("|"))))
+
+
 def carried(rq: str, look: str, log: str, folder: str, draw: random.Random) -> None:
     """The log from a true checkpoint on, in a file of its own."""
     true = [int(line.split()[1]) for line in told(rq, "audit", log, "4")[1].splitlines() if line.endswith("true")]
@@ -410,9 +440,8 @@ def carried(rq: str, look: str, log: str, folder: str, draw: random.Random) -> N
     check(f"{path} as JSON", (text_of(report), report["front"]), (want, front))
     check(f"{path}, queue 0", told(look, "report", path, "--queue", "0"), (0, by_queue(want)[0]))
     carried_stories(look, path, Stories(records, len(whole)), at, end, draw)
-    same_page(look, path)
-    begun = ["begins with the checkpoint at 96, which is taken at its word"]
-    check(f"where {path}'s page begins", begun in page_of(look, path).rows, True)
+    placed_here = [it | {"offset": it["offset"] + CARRIED_AT - at} for it in records]
+    carried_page(look, path, placed_here, Stories(records, len(whole)), shown_here[0]["record"])
     check(f"{path}'s script", said(look, "script", path), (1, f"rqlook: {path}: carried: use rqlog restart\n"))
 
 
@@ -449,7 +478,7 @@ def look_at(options: argparse.Namespace, log: str, draw: random.Random) -> None:
     same_dump(look, log, records, draw)
     same_check(rq, look, log)
     same_stories(look, log, records, options.stories, draw)
-    same_page(look, log)
+    same_page(look, log, records, draw)
 
 
 def main() -> int:

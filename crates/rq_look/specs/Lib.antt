@@ -1,4 +1,3 @@
 pub mod Looks
-pub mod Markup
 pub mod Scripts
 pub mod Walks

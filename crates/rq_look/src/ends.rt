@@ -28,17 +28,23 @@ use std::thread::Threads;
 /// Where the front of a log ends, and why, in a sentence; and where the checkpoint stands that the
 /// log begins with, if it was carried on.
 #[derive(Drop)]
-pub(crate) struct End {
-    pub(crate) at: Option<u64>,
-    pub(crate) records: u64,
-    pub(crate) used: u64,
-    pub(crate) total: u64,
-    pub(crate) why: Why,
-    pub(crate) reason: String,
+pub struct End {
+    /// The offset of that checkpoint.
+    pub at: Option<u64>,
+    /// The records of the front.
+    pub records: u64,
+    /// The bytes up to the front's end, with the header.
+    pub used: u64,
+    /// All bytes of the log.
+    pub total: u64,
+    /// Why the front ends.
+    pub why: Why,
+    /// The same in a sentence without its full stop.
+    pub reason: String,
 }
 
 /// Whether nothing follows the front.
-pub(crate) fn is_whole(why: Why) -> bool
+pub fn is_whole(why: Why) -> bool
     ensures { result ≡ looks.is_whole (why_of why) }
 {
     match why {
@@ -190,8 +196,9 @@ fn told<R: Threads + Sync>(
     })
 }
 
-/// Where the front ends of which the restart is known.
-pub(crate) fn end_after<R: Threads + Sync>(
+/// Where the front ends of which the restart is known, from the checkpoint on at an offset, if there
+/// is one. Refuses with `Resources` where memory is refused.
+pub fn end_after<R: Threads + Sync>(
     rt: &R,
     alloc: Global,
     bytes: &[u8],

@@ -40,7 +40,7 @@ fn is_format_of_old_scripts(c: char) -> bool {
 /// Whether a character is a control or a format character of Unicode, or separates lines or
 /// paragraphs: it may move a terminal's cursor, take no room, or turn the direction of the text
 /// around it.
-pub(crate) fn is_hidden(c: char) -> bool {
+pub fn is_hidden(c: char) -> bool {
     c.is_control() || matches!(c, '\u{2028}' | '\u{2029}') || is_format(c)
 }
 

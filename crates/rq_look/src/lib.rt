@@ -1,6 +1,6 @@
 //! What a log holds, shown: its records, its front, its report, its script, whether its checkpoints
-//! are true, what became of an element, and a page of all of it. A log that was carried on is shown
-//! from the checkpoint on that it begins with.
+//! are true, and what became of an element. A log that was carried on is shown from the checkpoint on
+//! that it begins with. The page of `rq_page` is made of what is found here.
 #![tactic(auto)]
 
 mod beginning;
@@ -16,7 +16,6 @@ mod json;
 mod lines;
 mod misfits;
 mod numbered;
-mod paging;
 mod pieces;
 mod queues;
 mod reporting;
@@ -26,12 +25,17 @@ mod telling;
 mod trouble;
 mod wanted;
 
-pub use beginning::begins_at;
+pub use beginning::{begins_at, first_state, frames_behind};
 pub use checking::{Findings, check};
 pub use dumping::dump;
-pub use hidden::Seen;
-pub use paging::page;
-pub use reporting::{report, report_json};
+pub use ends::{End, end_after, is_whole};
+pub use events::{Effect, Event};
+pub use following::Queues;
+pub use frames::{Placed, PlacedFrames};
+pub use hidden::{Seen, is_hidden};
+pub use numbered::{Numbered, kind_of, unit_of};
+pub use queues::{LastShown, RegistrantShown, free_elements, registrants_shown};
+pub use reporting::{report, report_json, restarted_from};
 pub use rq_restart::{Fault, Plan};
 pub use scripting::script;
 pub use telling::{Subject, story};

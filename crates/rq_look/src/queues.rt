@@ -18,17 +18,22 @@ struct ElementShown<'a> {
 
 /// The last operation of a registrant.
 #[derive(Clone, Copy, Serialize)]
-pub(crate) struct LastShown<'a> {
-    pub(crate) kind: &'a str,
-    pub(crate) tag: u64,
-    pub(crate) element: Option<u64>,
+pub struct LastShown<'a> {
+    /// `enqueue` or `dequeue`.
+    pub kind: &'a str,
+    /// Its tag.
+    pub tag: u64,
+    /// The element that it put in or took, if there was one.
+    pub element: Option<u64>,
 }
 
 /// A registrant, and what it did last.
 #[derive(Clone, Copy, Serialize)]
-pub(crate) struct RegistrantShown<'a> {
-    pub(crate) name: &'a str,
-    pub(crate) last: Option<LastShown<'a>>,
+pub struct RegistrantShown<'a> {
+    /// The registrant's name.
+    pub name: &'a str,
+    /// Its last operation, if it did any.
+    pub last: Option<LastShown<'a>>,
 }
 
 /// A queue with what it holds.
@@ -53,7 +58,7 @@ fn element_shown(alloc: Global, e: &Element) -> Result<ElementShown<'_>, AllocEr
 }
 
 /// The queue's free elements, in the order in which they would be taken.
-pub(crate) fn free_elements(
+pub fn free_elements(
     alloc: Global,
     state: &State,
     queue: QueueNo,
@@ -105,7 +110,7 @@ fn registrant_shown(r: &Registrant) -> RegistrantShown<'_> {
 }
 
 /// The queue's registrants, by name.
-pub(crate) fn registrants_shown(
+pub fn registrants_shown(
     alloc: Global,
     state: &State,
     queue: QueueNo,

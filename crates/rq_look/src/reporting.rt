@@ -52,7 +52,7 @@ fn report_shown<'a>(
 }
 
 /// The restart of a log, from the checkpoint on at an offset, if there is one.
-pub(crate) fn restarted_from<R: Threads + Sync>(
+pub fn restarted_from<R: Threads + Sync>(
     rt: &R,
     alloc: Global,
     bytes: &[u8],

@@ -1,6 +1,5 @@
-use rq_look::{
-    Plan, Subject, Wanted, begins_at, check, dump, page, report, report_json, script, story,
-};
+use rq_look::{Plan, Subject, Wanted, begins_at, check, dump, report, report_json, script, story};
+use rq_page::{Asked, Order, page, put_text};
 use rq_writer::make;
 use std::alloc::Global;
 use std::test::Fail;
@@ -88,8 +87,29 @@ fn scripts<R: Threads + Sync + AllocGlobal>(rt: &R, log: &[u8], plan: &Plan) -> 
 
 fn makes_a_page<R: Threads + Sync + AllocGlobal>(rt: &R, log: &[u8], plan: &Plan) -> bool {
     let mut shown = Vec::new(rt.alloc());
-    let done = page(rt, rt.alloc(), log, None, plan, "a.log", &mut shown);
+    let asked = Asked {
+        name: "a.log",
+        version: "1.0",
+        order: Order::Depth,
+        elements: &[2],
+        units: &[],
+    };
+    let done = page(
+        rt,
+        rt.alloc(),
+        log,
+        begins_at(log),
+        plan,
+        &asked,
+        &mut shown,
+    );
     done.is_ok() && shown.starts_with(b"<!DOCTYPE html>\n") && shown.ends_with(b"</html>\n")
+}
+
+fn spells_text(alloc: Global) -> Result<bool, Fail> {
+    let mut text = String::new(alloc);
+    put_text(&mut text, "a<b\u{1b}&\"'>")?;
+    Ok(text.as_str() == "a&lt;b\u{241b}&amp;&quot;&#39;&gt;")
 }
 
 fn finds_nothing<R: Threads + Sync + AllocGlobal>(rt: &R, log: &[u8], plan: &Plan) -> bool {
@@ -139,6 +159,7 @@ fn a_log_is_shown_by_each_call(rt: HostRuntime) -> Result<(), Fail> {
     assert!(rt; reports_json(&rt, &log, &plan), "report as JSON");
     assert!(rt; scripts(&rt, &log, &plan), "script");
     assert!(rt; makes_a_page(&rt, &log, &plan), "page");
+    assert!(rt; spells_text(rt.alloc())?, "text");
     assert!(rt; finds_nothing(&rt, &log, &plan), "check");
     let carried = carried(rt.alloc(), &make(&rt, rt.alloc(), MARKED, &plan)?)?;
     assert!(rt;
@@ -148,6 +169,10 @@ fn a_log_is_shown_by_each_call(rt: HostRuntime) -> Result<(), Fail> {
     assert!(rt;
         finds_it_carried(&rt, &carried, &plan),
         "check of a log that was carried on"
+    );
+    assert!(rt;
+        makes_a_page(&rt, &carried, &plan),
+        "page of a log that was carried on"
     );
     Ok(())
 }

@@ -3,9 +3,10 @@
 use crate::failing::Failure;
 use crate::reading::{is_over_log, log_in};
 use crate::watching::{Watch, Watched};
-use crate::words::{records_asked, subject_asked};
+use crate::words::{VERSION, numbers_asked, order_asked, records_asked, subject_asked};
 use clap::ArgMatches;
 use rq_look::{Fault, Plan, Trouble, begins_at};
+use rq_page::Asked;
 use std::io::{self, ErrorKind, Printer};
 use std::os::fd::AsFd;
 use std::rt::{Clock, Files};
@@ -133,18 +134,42 @@ fn page_of<R>(
     bytes: &[u8],
     at: Option<u64>,
     plan: &Plan,
-    file: &str,
+    asked: &Asked<'_>,
 ) -> Result<Vec<u8>, Trouble>
 where
     R: AllocGlobal + Threads + Sync,
 {
     let mut made = Vec::new(rt.alloc());
-    match rq_look::page(rt, rt.alloc(), bytes, at, plan, file, &mut made) {
+    match rq_page::page(rt, rt.alloc(), bytes, at, plan, asked, &mut made) {
         Ok(()) => Ok(made),
         // A write into memory fails for want of it alone.
         Err(Trouble::Output(_)) => Err(Trouble::Log(Fault::Resources)),
         Err(trouble) => Err(trouble),
     }
+}
+
+// The page that the words ask for of a log.
+fn page_asked<R>(
+    rt: &R,
+    bytes: &[u8],
+    at: Option<u64>,
+    plan: &Plan,
+    words: &ArgMatches<'_>,
+    file: &str,
+) -> Result<Vec<u8>, Trouble>
+where
+    R: AllocGlobal + Threads + Sync,
+{
+    let elements = numbers_asked(rt.alloc(), words, "element")?;
+    let units = numbers_asked(rt.alloc(), words, "unit")?;
+    let asked = Asked {
+        name: if file == "-" { "standard input" } else { file },
+        version: VERSION,
+        order: order_asked(words),
+        elements: elements.as_slice(),
+        units: units.as_slice(),
+    };
+    page_of(rt, bytes, at, plan, &asked)
 }
 
 // Makes the page of a log. Its file is whole or as it was, and never the log.
@@ -153,6 +178,7 @@ fn page<R>(
     bytes: &[u8],
     at: Option<u64>,
     plan: &Plan,
+    words: &ArgMatches<'_>,
     file: &str,
     to: &str,
 ) -> Result<bool, Failure>
@@ -163,7 +189,7 @@ where
     if is_over_log(rt, file, to) {
         return Err(Failure::Same);
     }
-    let made = match page_of(rt, bytes, at, plan, file) {
+    let made = match page_asked(rt, bytes, at, plan, words, file) {
         Ok(made) => made,
         Err(trouble) => {
             return Err(Failure::Refused(String::from_str(rt.alloc(), file)?, trouble));
@@ -201,7 +227,7 @@ where
         return Err(Failure::Carried(String::from_str(rt.alloc(), file)?));
     }
     if let Some(to) = words.get_str("OUT") {
-        return page(rt, &bytes, at, &plan, file, to);
+        return page(rt, &bytes, at, &plan, words, file, to);
     }
     match perform(rt, name, words, &bytes, at, &plan, watch) {
         Ok(fine) => Ok(fine),

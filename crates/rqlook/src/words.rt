@@ -2,7 +2,11 @@
 
 use clap::{Arg, ArgAction, ArgMatches, Command, Error, value_parser};
 use rq_look::{Subject, Wanted};
-use std::alloc::Global;
+use rq_page::Order;
+use std::alloc::{AllocError, Global};
+
+/// The program's version.
+pub(crate) const VERSION: &str = "1.0";
 
 // The kinds of record.
 static KINDS: [&str; 10] = [
@@ -17,6 +21,9 @@ static KINDS: [&str; 10] = [
     "checkpoint",
     "kill",
 ];
+
+// The orders of a page's queues.
+static ORDERS: [&str; 3] = ["depth", "number", "name"];
 
 fn log<'a>(alloc: Global) -> Arg<'a> {
     Arg::new(alloc, "LOG")
@@ -157,15 +164,40 @@ fn unit<'a>(alloc: Global) -> Result<Command<'a>, Error> {
     )
 }
 
+// A number that may be given several times.
+fn several<'a>(number: Arg<'a>) -> Arg<'a> {
+    number
+        .action(ArgAction::Append)
+        .value_parser(value_parser!(u64))
+}
+
 fn page<'a>(alloc: Global) -> Result<Command<'a>, Error> {
     let out = Arg::new(alloc, "OUT")
         .required(true)
         .help("The file of the page, or - for standard output");
+    let order = option(alloc, "order", "ORDER", "In which order the queues stand")
+        .value_parser(ORDERS.as_slice())
+        .default_value("depth");
+    let element = option(
+        alloc,
+        "element",
+        "ELEMENT",
+        "Shows what became of this element also where the log is long; may be given several times",
+    );
+    let unit = option(
+        alloc,
+        "unit",
+        "UNIT",
+        "Shows what this unit did also where the log is long; may be given several times",
+    );
     Ok(
         Command::new(alloc, "page")
             .about("Makes a page of HTML that shows the log, with its queues and their elements")
             .arg(log(alloc))?
             .arg(out)?
+            .arg(order)?
+            .arg(several(element))?
+            .arg(several(unit))?
             .arg(workers(alloc))?,
     )
 }
@@ -175,7 +207,7 @@ pub(crate) fn program<'a>(alloc: Global) -> Result<Command<'a>, Error> {
     Ok(
         Command::new(alloc, "rqlook")
             .about("Shows what is in the log of a recoverable queue manager")
-            .version("1.0")
+            .version(VERSION)
             .subcommand_required(true)
             .subcommand(dump(alloc)?)?
             .subcommand(check(alloc)?)?
@@ -193,6 +225,32 @@ pub(crate) fn subject_asked(words: &ArgMatches<'_>) -> Subject {
         Some(unit) => Subject::Unit(unit),
         None => Subject::Element(words.get_one::<u64>("ELEMENT").unwrap_or(0)),
     }
+}
+
+/// In which order the words of a page want its queues.
+pub(crate) fn order_asked(words: &ArgMatches<'_>) -> Order {
+    match words.get_str("order") {
+        Some("number") => Order::Number,
+        Some("name") => Order::Name,
+        _ => Order::Depth,
+    }
+}
+
+/// The numbers that the words of a page give for this name.
+pub(crate) fn numbers_asked(
+    alloc: Global,
+    words: &ArgMatches<'_>,
+    name: &str,
+) -> Result<Vec<u64>, AllocError> {
+    let mut asked = Vec::new(alloc);
+    let Some(numbers) = words.get_many::<u64>(name) else {
+        return Ok(asked);
+    };
+    // Each is a number: the words were refused else.
+    for number in numbers {
+        asked.push(number.unwrap_or(0))?;
+    }
+    Ok(asked)
 }
 
 /// Which records the words of a dump ask for.

@@ -1,0 +1,189 @@
+//! How a number goes along the log.
+
+ghost use Rattle.std.specs.Prelude.{◌≤◌};
+
+use crate::markup::Piece::{Count, Number, Tag};
+use crate::markup::put;
+use std::alloc::{AllocError, Global};
+
+/// Where a part of a whole stands on a line of so many steps.
+pub(crate) fn along(part: u64, whole: u64, steps: u64) -> u64
+    ensures { result ≤ steps }
+{
+    let place = part.saturating_mul(steps).checked_div(whole);
+    place.unwrap_or(0).min(steps)
+}
+
+/// The bin of an offset in a log of so many bytes that is cut into so many bins.
+pub(crate) fn bin_of(offset: u64, total: u64, bins: u64) -> u64 {
+    along(offset, total, bins).min(bins.saturating_sub(1))
+}
+
+// What the number does in one bin: its greatest and its last value there.
+#[derive(Clone, Copy)]
+struct Bin {
+    number: u64,
+    most: u64,
+    last: u64,
+}
+
+/// A picture: its width and its height, where the front ends in it, and in how many bins its width is
+/// cut.
+#[derive(Clone, Copy)]
+pub(crate) struct Frame {
+    pub(crate) width: u64,
+    pub(crate) height: u64,
+    pub(crate) end: u64,
+    pub(crate) bins: u64,
+}
+
+impl Frame {
+    // Where a bin begins, or the front ends before it.
+    fn at(&self, bin: u64) -> u64 {
+        along(bin, self.bins, self.width).min(self.end)
+    }
+
+    // How far below the top a value stands of which the greatest is known.
+    fn below_top(&self, value: u64, most: u64) -> u64 {
+        self.height.saturating_sub(along(value, most, self.height))
+    }
+}
+
+/// How a number goes along the log: each bin in which it changes.
+#[derive(Drop)]
+pub(crate) struct Curve {
+    changed: Vec<Bin>,
+    now: u64,
+    most: u64,
+}
+
+impl Curve {
+    /// Nothing so far.
+    pub(crate) fn new(alloc: Global) -> Curve {
+        Curve {
+            changed: Vec::new(alloc),
+            now: 0,
+            most: 0,
+        }
+    }
+
+    /// The greatest value.
+    pub(crate) fn most(&self) -> u64 {
+        self.most
+    }
+
+    /// The number is from here on, in this bin, another.
+    pub(crate) fn set(&mut self, number: u64, value: u64) -> Result<(), AllocError> {
+        if value == self.now {
+            return Ok(());
+        }
+        let most = self.now.max(value);
+        self.now = value;
+        self.most = self.most.max(value);
+        if let Some(bin) = self.changed.last_mut() {
+            if bin.number == number {
+                bin.most = bin.most.max(value);
+                bin.last = value;
+                return Ok(());
+            }
+        }
+        self.changed.push(Bin {
+            number,
+            most,
+            last: value,
+        })?;
+        Ok(())
+    }
+
+    /// The number is one more, or one fewer.
+    pub(crate) fn change(&mut self, number: u64, grows: bool) -> Result<(), AllocError> {
+        let value = if grows {
+            self.now.saturating_add(1)
+        } else {
+            self.now.saturating_sub(1)
+        };
+        self.set(number, value)
+    }
+
+    // Puts the line through one bin.
+    fn put_bin(&self, text: &mut String, frame: &Frame, bin: Bin) -> Result<(), AllocError> {
+        let (from, to) = (frame.at(bin.number), frame.at(bin.number.saturating_add(1)));
+        let top = frame.below_top(bin.most, self.most);
+        let behind = frame.below_top(bin.last, self.most);
+        put(
+            text,
+            &[
+                Tag("H"),
+                Number(from),
+                Tag("V"),
+                Number(top),
+                Tag("H"),
+                Number(to),
+            ],
+        )?;
+        if behind == top {
+            return Ok(());
+        }
+        put(text, &[Tag("V"), Number(behind)])
+    }
+
+    fn put_line(&self, text: &mut String, frame: &Frame) -> Result<(), AllocError> {
+        for bin in self.changed.iter().copied() {
+            self.put_bin(text, frame, bin)?;
+        }
+        Ok(())
+    }
+
+    /// Puts the curve as a picture, up to where the front ends. Its scale stands beside it, and its
+    /// title says what it shows.
+    pub(crate) fn put(
+        &self,
+        text: &mut String,
+        frame: &Frame,
+        title: &'static str,
+    ) -> Result<(), AllocError> {
+        let (width, height) = (Number(frame.width), Number(frame.height));
+        put(
+            text,
+            &[
+                Tag("<span class=\"scale\"><span>"),
+                Count(self.most),
+                Tag("</span><span>0</span></span><svg viewBox=\"0 0 "),
+                width,
+                Tag(" "),
+                height,
+                Tag("\" preserveAspectRatio=\"none\" role=\"img\"><title>"),
+                Tag(title),
+                Tag(", at most "),
+                Count(self.most),
+                Tag("</title><path d=\"M0 "),
+                height,
+            ],
+        )?;
+        self.put_line(text, frame)?;
+        put(
+            text,
+            &[
+                Tag("H"),
+                Number(frame.end),
+                Tag("V"),
+                height,
+                Tag("Z\"/></svg>"),
+            ],
+        )
+    }
+}
+
+/// Puts the scale below a picture of the whole log.
+pub(crate) fn put_axis(text: &mut String, total: u64) -> Result<(), AllocError> {
+    put(
+        text,
+        &[
+            Tag("<div class=\"axis\"><span>byte 0</span><span>"),
+            Count(total / 2),
+            Tag("</span><span>"),
+            Count(total),
+            Tag("</span></div>\n"),
+        ],
+    )
+}

@@ -1,0 +1,181 @@
+//! The lives of elements, units and registrants, a row each.
+
+use crate::lives::Lives;
+use crate::markup::Piece::{Number, Tag, Text};
+use crate::markup::{Piece, put};
+use crate::shown::Shown;
+use crate::steps::{Step, put_steps};
+use rq_record::Name;
+use std::alloc::AllocError;
+use std::collections::BTreeMap;
+
+// What stands before a table of lives: its name, what it is about, and the heads of its columns.
+fn put_top(
+    text: &mut String,
+    name: &'static str,
+    title: &'static str,
+    about: &'static str,
+    columns: &'static str,
+) -> Result<(), AllocError> {
+    put(
+        text,
+        &[
+            Tag("<section id=\""),
+            Tag(name),
+            Tag("\">\n<h2>"),
+            Tag(title),
+            Tag("</h2>\n<div class=\"scroll\"><table class=\"lives\">\n<caption>"),
+            Tag(about),
+            Tag("</caption>\n<tr>"),
+            Tag(columns),
+            Tag("<th scope=\"col\">life</th></tr>\n"),
+        ],
+    )
+}
+
+// What stands behind it.
+fn put_bottom(text: &mut String) -> Result<(), AllocError> {
+    text.push_str("</table></div>\n</section>\n")
+}
+
+// Puts a row: what its life is of, and its steps.
+fn put_life(
+    text: &mut String,
+    shown: &Shown<'_>,
+    head: &[Piece<'_>],
+    steps: &[Step],
+) -> Result<(), AllocError> {
+    put(text, head)?;
+    if steps.is_empty() {
+        return text.push_str("the front tells nothing of it</td></tr>\n");
+    }
+    put_steps(text, shown, steps)?;
+    text.push_str("</td></tr>\n")
+}
+
+// Puts the life of a number.
+fn put_numbered(
+    text: &mut String,
+    shown: &Shown<'_>,
+    kind: &'static str,
+    number: u64,
+    steps: &[Step],
+) -> Result<(), AllocError> {
+    let digits = Number(number);
+    let head = [
+        Tag("<tr id=\""),
+        Tag(kind),
+        digits,
+        Tag("\"><th scope=\"row\">"),
+        digits,
+        Tag("</th><td>"),
+    ];
+    put_life(text, shown, &head, steps)
+}
+
+fn put_all_numbered(
+    text: &mut String,
+    shown: &Shown<'_>,
+    kind: &'static str,
+    lives: &BTreeMap<u64, Vec<Step>>,
+) -> Result<(), AllocError> {
+    for (number, steps) in lives {
+        put_numbered(text, shown, kind, *number, steps)?;
+    }
+    Ok(())
+}
+
+/// Puts what became of elements.
+pub(crate) fn put_elements(
+    text: &mut String,
+    shown: &Shown<'_>,
+    lives: &Lives,
+) -> Result<(), AllocError> {
+    if lives.elements.is_empty() {
+        return Ok(());
+    }
+    put_top(
+        text,
+        "elements",
+        "Elements",
+        "What became of each element, record by record",
+        "<th scope=\"col\">element</th>",
+    )?;
+    put_all_numbered(text, shown, "e", &lives.elements)?;
+    put_bottom(text)
+}
+
+/// Puts what units did.
+pub(crate) fn put_units(
+    text: &mut String,
+    shown: &Shown<'_>,
+    lives: &Lives,
+) -> Result<(), AllocError> {
+    if lives.units.is_empty() {
+        return Ok(());
+    }
+    put_top(
+        text,
+        "units",
+        "Units",
+        "What each unit did, record by record",
+        "<th scope=\"col\">unit</th>",
+    )?;
+    put_all_numbered(text, shown, "u", &lives.units)?;
+    put_bottom(text)
+}
+
+// Puts the life of a registrant.
+fn put_registrant(
+    text: &mut String,
+    shown: &Shown<'_>,
+    registrant: &(u32, Name),
+    steps: &[Step],
+) -> Result<(), AllocError> {
+    let (queue, name) = (registrant.0, registrant.1.text());
+    put(
+        text,
+        &[
+            Tag("<tr id=\"g"),
+            Number(u64::from(queue)),
+            Tag("-"),
+            Text(name),
+            Tag("\"><th scope=\"row\">"),
+            Text(name),
+            Tag("</th><td>"),
+        ],
+    )?;
+    shown.put_queue(text, queue)?;
+    put_life(text, shown, &[Tag("</td><td>")], steps)
+}
+
+fn put_all_registrants(
+    text: &mut String,
+    shown: &Shown<'_>,
+    lives: &Lives,
+) -> Result<(), AllocError> {
+    for (registrant, steps) in &lives.registrants {
+        put_registrant(text, shown, registrant, steps)?;
+    }
+    Ok(())
+}
+
+/// Puts what registrants did.
+pub(crate) fn put_registrants(
+    text: &mut String,
+    shown: &Shown<'_>,
+    lives: &Lives,
+) -> Result<(), AllocError> {
+    if lives.registrants.is_empty() {
+        return Ok(());
+    }
+    put_top(
+        text,
+        "registrants",
+        "Registrants",
+        "What each registrant did, record by record",
+        "<th scope=\"col\">registrant</th><th scope=\"col\">queue</th>",
+    )?;
+    put_all_registrants(text, shown, lives)?;
+    put_bottom(text)
+}

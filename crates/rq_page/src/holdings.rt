@@ -1,0 +1,184 @@
+//! What a queue holds, to be folded out: its elements and its registrants.
+
+use crate::markup::Piece::{Count, Number, Tag, Text};
+use crate::markup::put;
+use crate::payloads::put_payload;
+use crate::shown::Shown;
+use rq_look::{LastShown, RegistrantShown};
+use rq_state::KeptElement as Element;
+use std::alloc::{AllocError, Global};
+
+// As many elements of a queue are shown: those that would be taken first.
+const SHOWN: usize = 1000;
+
+// While a page has fewer bytes, more elements and registrants are put, and payloads can be folded
+// out.
+const ROOM: usize = 900_000;
+
+const WHOLE: usize = 500_000;
+
+fn put_element(
+    alloc: Global,
+    text: &mut String,
+    shown: &Shown<'_>,
+    e: &Element,
+) -> Result<(), AllocError> {
+    text.push_str("<tr><th scope=\"row\">")?;
+    shown.put_element(text, e.id.0)?;
+    text.push_str("</th><td>")?;
+    shown.put_queue(text, e.origin.0)?;
+    put(
+        text,
+        &[
+            Tag("</td><td>"),
+            Number(u64::from(e.priority)),
+            Tag("</td><td>"),
+            Count(e.attempts),
+            Tag("</td><td>"),
+        ],
+    )?;
+    put_payload(alloc, text, e.payload.bytes(), text.len() < WHOLE)?;
+    text.push_str("</td></tr>\n")
+}
+
+// Puts the first elements, as far as there is room. Answers how many.
+fn put_rows(
+    alloc: Global,
+    text: &mut String,
+    shown: &Shown<'_>,
+    elements: &[&Element],
+) -> Result<usize, AllocError> {
+    let mut count: usize = 0;
+    for e in elements.iter().take(SHOWN) {
+        if text.len() >= ROOM {
+            break;
+        }
+        put_element(alloc, text, shown, e)?;
+        count = count.saturating_add(1);
+    }
+    Ok(count)
+}
+
+/// Puts how many more there are than are shown.
+pub(crate) fn put_more(text: &mut String, all: usize, count: usize) -> Result<(), AllocError> {
+    if all <= count {
+        return Ok(());
+    }
+    let more = Count(all.saturating_sub(count) as u64);
+    put(text, &[Tag("<p>and "), more, Tag(" more</p>\n")])
+}
+
+fn put_elements(
+    alloc: Global,
+    text: &mut String,
+    shown: &Shown<'_>,
+    elements: &[&Element],
+) -> Result<(), AllocError> {
+    if elements.is_empty() {
+        return Ok(());
+    }
+    text.push_str(
+        "<table><caption>Elements, in the order in which they would be taken</caption>\n<tr>\
+        <th scope=\"col\">element</th><th scope=\"col\">from</th><th scope=\"col\">priority</th>\
+        <th scope=\"col\">attempts</th><th scope=\"col\">payload</th></tr>\n",
+    )?;
+    let count = put_rows(alloc, text, shown, elements)?;
+    text.push_str("</table>\n")?;
+    put_more(text, elements.len(), count)
+}
+
+// Puts what a registrant did last.
+fn put_last(text: &mut String, shown: &Shown<'_>, last: &LastShown<'_>) -> Result<(), AllocError> {
+    put(
+        text,
+        &[
+            Tag("</th><td>"),
+            Text(last.kind),
+            Tag("</td><td>"),
+            Number(last.tag),
+            Tag("</td><td>"),
+        ],
+    )?;
+    match last.element {
+        Some(element) => shown.put_element(text, element)?,
+        None => text.push('-')?,
+    }
+    text.push_str("</td></tr>\n")
+}
+
+fn put_registrant(
+    text: &mut String,
+    shown: &Shown<'_>,
+    queue: u32,
+    it: &RegistrantShown<'_>,
+) -> Result<(), AllocError> {
+    text.push_str("<tr><th scope=\"row\">")?;
+    shown.put_registrant(text, queue, it.name)?;
+    match &it.last {
+        Some(last) => put_last(text, shown, last),
+        None => text.push_str("</th><td>-</td><td></td><td></td></tr>\n"),
+    }
+}
+
+fn put_registrant_rows(
+    text: &mut String,
+    shown: &Shown<'_>,
+    queue: u32,
+    registrants: &[RegistrantShown<'_>],
+) -> Result<usize, AllocError> {
+    let mut count: usize = 0;
+    for it in registrants {
+        if text.len() >= ROOM {
+            break;
+        }
+        put_registrant(text, shown, queue, it)?;
+        count = count.saturating_add(1);
+    }
+    Ok(count)
+}
+
+fn put_registrants(
+    text: &mut String,
+    shown: &Shown<'_>,
+    queue: u32,
+    registrants: &[RegistrantShown<'_>],
+) -> Result<(), AllocError> {
+    if registrants.is_empty() {
+        return Ok(());
+    }
+    text.push_str(
+        "<table><caption>Registrants, and what they did last</caption>\n<tr>\
+        <th scope=\"col\">registrant</th><th scope=\"col\">last operation</th>\
+        <th scope=\"col\">tag</th><th scope=\"col\">element</th></tr>\n",
+    )?;
+    let count = put_registrant_rows(text, shown, queue, registrants)?;
+    text.push_str("</table>\n")?;
+    put_more(text, registrants.len(), count)
+}
+
+/// Puts what folds out below a queue, where there is anything.
+pub(crate) fn put_fold(
+    alloc: Global,
+    text: &mut String,
+    shown: &Shown<'_>,
+    queue: u32,
+    elements: &[&Element],
+    registrants: &[RegistrantShown<'_>],
+) -> Result<(), AllocError> {
+    if elements.is_empty() && registrants.is_empty() {
+        return Ok(());
+    }
+    put(
+        text,
+        &[
+            Tag("<tr class=\"fold\"><td colspan=\"4\"><details><summary>elements: "),
+            Count(elements.len() as u64),
+            Tag(", registrants: "),
+            Count(registrants.len() as u64),
+            Tag("</summary>\n"),
+        ],
+    )?;
+    put_elements(alloc, text, shown, elements)?;
+    put_registrants(text, shown, queue, registrants)?;
+    text.push_str("</details></td></tr>\n")
+}

@@ -1,0 +1,25 @@
+//! A log as one page that a browser shows: what `rq_look` finds in a log, drawn.
+#![tactic(auto)]
+
+mod asking;
+mod curves;
+mod histories;
+mod holdings;
+mod lives;
+mod markup;
+mod paging;
+mod payloads;
+mod pictures;
+mod records;
+mod shown;
+mod steps;
+mod style;
+mod summaries;
+mod surveys;
+mod tables;
+mod units;
+mod walks;
+
+pub use asking::{Asked, Order};
+pub use markup::put_text;
+pub use paging::page;

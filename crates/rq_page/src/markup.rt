@@ -1,0 +1,165 @@
+//! The text of HTML.
+
+ghost use Rattle.std.specs.Prelude.{◌≡◌, ◌++◌, true, OnOk, string_bytes};
+ghost use Rattle.rq_page.specs.Markup.{AppendsText, is_text, page_foot};
+
+use crate::markup::Piece::{Count, Number, Tag, Text};
+use rq_look::is_hidden;
+use std::alloc::AllocError;
+use std::fmt::Write;
+
+/// A part of a page. What is of the log is a number or a `Text`: a `Tag` is of this crate alone.
+#[derive(Clone, Copy)]
+pub(crate) enum Piece<'a> {
+    /// Markup, or words beside it.
+    Tag(&'static str),
+    /// A number that names something.
+    Number(u64),
+    /// How many there are of something, with a comma before each three digits.
+    Count(u64),
+    /// A text of which no character is markup.
+    Text(&'a str),
+}
+
+// What groups of three digits count, the greatest first.
+static GROUPS: [u64; 6] = [
+    1_000_000_000_000_000_000,
+    1_000_000_000_000_000,
+    1_000_000_000_000,
+    1_000_000_000,
+    1_000_000,
+    1_000,
+];
+
+// What is shown in the place of a hidden character: the picture of a control, where there is one.
+fn picture_of(c: char) -> char
+    ensures { is_text result ≡ true }
+{
+    match c {
+        '\u{8}' => '\u{2408}',
+        '\t' => '\u{2409}',
+        '\n' => '\u{240a}',
+        '\r' => '\u{240d}',
+        '\u{1b}' => '\u{241b}',
+        '\u{7f}' => '\u{2421}',
+        '\0' => '\u{2400}',
+        _ => '\u{fffd}',
+    }
+}
+
+// A character as it is shown.
+fn visible(c: char) -> char
+    ensures { is_text c ≡ true → is_text result ≡ true }
+{
+    if is_hidden(c) { picture_of(c) } else { c }
+}
+
+/// Puts a character as text, of which none is markup.
+pub(crate) fn put_char(text: &mut String, c: char) -> Result<(), AllocError>
+    ensures { OnOk result (AppendsText (string_bytes text.old) (string_bytes text.new)) }
+{
+    match c {
+        '&' => text.push_str("&amp;"),
+        '<' => text.push_str("&lt;"),
+        '>' => text.push_str("&gt;"),
+        '"' => text.push_str("&quot;"),
+        '\'' => text.push_str("&#39;"),
+        c => text.push(visible(c)),
+    }
+}
+
+/// Puts a text into HTML: each character that HTML takes for its own is spelled out, and each hidden
+/// one is shown by its picture, or as one that is not known. Refuses where memory is refused, and
+/// then some of it may stand there.
+pub fn put_text(text: &mut String, word: &str) -> Result<(), AllocError>
+    ensures { OnOk result (AppendsText (string_bytes text.old) (string_bytes text.new)) }
+{
+    for c in word.chars() {
+        put_char(text, c)?;
+    }
+    Ok(())
+}
+
+// Puts the next three digits of a number, and a comma; nothing, where only zeros were before.
+fn put_group(text: &mut String, digits: u64, is_first: bool) -> Result<(), AllocError> {
+    if is_first {
+        write!(text, "{digits},")
+    } else {
+        write!(text, "{digits:03},")
+    }
+}
+
+fn put_last(text: &mut String, digits: u64, is_first: bool) -> Result<(), AllocError> {
+    if is_first {
+        write!(text, "{digits}")
+    } else {
+        write!(text, "{digits:03}")
+    }
+}
+
+fn put_count(text: &mut String, number: u64) -> Result<(), AllocError> {
+    let mut left = number;
+    let mut is_first = true;
+    for group in GROUPS.iter().copied() {
+        let digits = left.checked_div(group).unwrap_or(0);
+        if digits > 0 || !is_first {
+            put_group(text, digits, is_first)?;
+            is_first = false;
+        }
+        left = left.checked_rem(group).unwrap_or(0);
+    }
+    put_last(text, left, is_first)
+}
+
+fn put_piece(text: &mut String, piece: Piece<'_>) -> Result<(), AllocError> {
+    match piece {
+        Piece::Tag(tag) => text.push_str(tag),
+        Piece::Number(number) => write!(text, "{number}"),
+        Piece::Count(number) => put_count(text, number),
+        Piece::Text(word) => put_text(text, word),
+    }
+}
+
+/// Puts one piece behind the other.
+pub(crate) fn put(text: &mut String, pieces: &[Piece<'_>]) -> Result<(), AllocError> {
+    for piece in pieces {
+        put_piece(text, *piece)?;
+    }
+    Ok(())
+}
+
+/// Puts what stands before the front's summary. No part of the page may be loaded from anywhere, no
+/// script runs, and no style but that of this sum.
+pub(crate) fn put_head<'a>(
+    text: &mut String,
+    name: &'a str,
+    style: &'static str,
+    sum: &'a str,
+) -> Result<(), AllocError> {
+    put(
+        text,
+        &[
+            Tag("<!DOCTYPE html>\n<html lang=\"en\">\n<head>\n<meta charset=\"utf-8\">\n"),
+            Tag("<meta http-equiv=\"Content-Security-Policy\" content=\"default-src 'none'; "),
+            Tag("style-src 'sha256-"),
+            Text(sum),
+            Tag("'; base-uri 'none'; form-action 'none'\">\n"),
+            Tag("<meta name=\"referrer\" content=\"no-referrer\">\n"),
+            Tag("<meta name=\"color-scheme\" content=\"light dark\">\n"),
+            Tag(
+                "<meta name=\"viewport\" content=\"width=device-width, initial-scale=1\">\n<title>",
+            ),
+            Text(name),
+            Tag("</title>\n<style>"),
+            Tag(style),
+            Tag("</style>\n</head>\n<body>\n"),
+        ],
+    )
+}
+
+/// Puts what stands behind the last part.
+pub(crate) fn put_foot(text: &mut String) -> Result<(), AllocError>
+    ensures { OnOk result (string_bytes text.new ≡ string_bytes text.old ++ page_foot) }
+{
+    text.push_str("</body>\n</html>\n")
+}

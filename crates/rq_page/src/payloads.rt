@@ -1,0 +1,101 @@
+//! Payloads: the first of a payload in a line, and all of it where that is asked for.
+
+use crate::markup::Piece::{Count, Tag};
+use crate::markup::{put, put_char};
+use std::alloc::{AllocError, Global};
+use std::str::from_utf8;
+
+// As many characters or bytes are shown at once.
+const FIRST: usize = 80;
+
+// Puts a character; the end of a line and a tab with a mark before them, so that both are seen.
+fn put_kept(text: &mut String, c: char) -> Result<(), AllocError> {
+    match c {
+        '\n' => text.push_str("\u{21b5}\n"),
+        '\t' => text.push_str("\u{21e5}\t"),
+        c => put_char(text, c),
+    }
+}
+
+// Puts the first characters, and answers how many bytes these have.
+fn put_characters(text: &mut String, word: &str, most: usize) -> Result<usize, AllocError> {
+    let mut shown: usize = 0;
+    for c in word.chars().take(most) {
+        put_kept(text, c)?;
+        shown = shown.saturating_add(c.len_utf8());
+    }
+    Ok(shown)
+}
+
+// Puts the first bytes as digits, two each, and answers how many these are.
+fn put_digits(
+    alloc: Global,
+    text: &mut String,
+    bytes: &[u8],
+    most: usize,
+) -> Result<usize, AllocError> {
+    let shown = bytes.len().min(most);
+    let digits = hex::encode(alloc, &bytes[..shown])?;
+    text.push_str(digits.as_str())?;
+    Ok(shown)
+}
+
+// Puts the first of a payload, as text where it is one, and answers how many bytes these have.
+fn put_first(
+    alloc: Global,
+    text: &mut String,
+    bytes: &[u8],
+    most: usize,
+) -> Result<usize, AllocError> {
+    match from_utf8(bytes) {
+        Ok(word) => put_characters(text, word, most),
+        Err(_) => put_digits(alloc, text, bytes, most),
+    }
+}
+
+// Puts what stands before a payload: whether its bytes are shown as digits.
+fn put_form(text: &mut String, bytes: &[u8]) -> Result<(), AllocError> {
+    match from_utf8(bytes) {
+        Ok(_) => text.push_str("<bdi class=\"text\">"),
+        Err(_) => text.push_str("<bdi class=\"text hex\">"),
+    }
+}
+
+// Puts all of a payload, of which the first was put before.
+fn put_rest(alloc: Global, text: &mut String, bytes: &[u8]) -> Result<(), AllocError> {
+    put(
+        text,
+        &[
+            Tag("<details><summary>all "),
+            Count(bytes.len() as u64),
+            Tag(" bytes</summary>"),
+        ],
+    )?;
+    put_form(text, bytes)?;
+    put_first(alloc, text, bytes, bytes.len())?;
+    text.push_str("</bdi></details>")
+}
+
+/// Puts a payload: its first characters, or bytes where it is no text, and how many bytes it has; all
+/// of it to be folded out, if that is wanted.
+pub(crate) fn put_payload(
+    alloc: Global,
+    text: &mut String,
+    bytes: &[u8],
+    whole: bool,
+) -> Result<(), AllocError> {
+    if bytes.is_empty() {
+        return text.push_str("<i>no bytes</i>");
+    }
+    put_form(text, bytes)?;
+    let shown = put_first(alloc, text, bytes, FIRST)?;
+    text.push_str("</bdi>")?;
+    if shown >= bytes.len() {
+        return Ok(());
+    }
+    if whole {
+        return put_rest(alloc, text, bytes);
+    }
+    let count = Count(bytes.len() as u64);
+    put(text, &[Tag("<i>.. "), count, Tag(" bytes</i>")])
+}

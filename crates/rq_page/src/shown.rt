@@ -1,0 +1,182 @@
+//! What is said of things by their numbers: names beside them, and links to where more stands.
+
+use crate::lives::Lives;
+use crate::markup::Piece::{Number, Tag, Text};
+use crate::markup::{Piece, put};
+use rq_record::QueueNo;
+use rq_state::Definition;
+use std::alloc::AllocError;
+
+// Of a log of more records the lives of all are never shown.
+const ALL: u64 = 10_000;
+
+/// As many queues are shown.
+pub(crate) const QUEUES: usize = 1000;
+
+/// Which things a page shows, by which it is known what a link leads to.
+#[derive(Clone, Copy)]
+pub(crate) struct Shown<'a> {
+    /// The queues as they were defined.
+    pub(crate) definitions: &'a [Definition],
+    /// Whether the lives of all are shown.
+    pub(crate) all: bool,
+    /// The elements that were asked for.
+    pub(crate) elements: &'a [u64],
+    /// The units that were asked for.
+    pub(crate) units: &'a [u64],
+    /// The lives that stand on the page, once they are gathered.
+    pub(crate) lives: Option<&'a Lives>,
+}
+
+impl<'a> Shown<'a> {
+    /// What is shown of a log of so many records, with the elements and units that were asked for.
+    pub(crate) fn of(
+        definitions: &'a [Definition],
+        elements: &'a [u64],
+        units: &'a [u64],
+        records: u64,
+    ) -> Shown<'a> {
+        Shown {
+            definitions,
+            all: records <= ALL,
+            elements,
+            units,
+            lives: None,
+        }
+    }
+
+    /// Whether nobody's life is shown.
+    pub(crate) fn is_nobody(&self) -> bool {
+        !self.all && self.elements.is_empty() && self.units.is_empty()
+    }
+
+    /// Whether the life of an element is shown. Of a log that was carried on there may be elements
+    /// to which nothing happens.
+    pub(crate) fn has_element(&self, element: u64) -> bool {
+        match self.lives {
+            Some(lives) => lives.elements.contains_key(&element),
+            None => self.all || self.elements.contains(&element),
+        }
+    }
+
+    /// Whether the life of a unit is shown.
+    pub(crate) fn has_unit(&self, unit: u64) -> bool {
+        match self.lives {
+            Some(lives) => lives.units.contains_key(&unit),
+            None => self.all || self.units.contains(&unit),
+        }
+    }
+
+    // Whether the life of a registrant is shown.
+    fn has_registrant(&self, queue: u32, name: &str) -> bool {
+        match self.lives {
+            Some(lives) => lives.has_registrant(queue, name),
+            None => self.all,
+        }
+    }
+
+    // Whether a record that has to do with these has a row.
+    fn has_record(&self, record: u64) -> bool {
+        match self.lives {
+            Some(lives) => record < lives.until,
+            None => true,
+        }
+    }
+
+    // The name of a queue; none where there is no such queue.
+    fn name_of(&self, queue: u32) -> &'a str {
+        match self.definitions.get(queue as usize) {
+            Some(definition) => definition.name.text(),
+            None => "",
+        }
+    }
+
+    /// Puts a queue by its number and its name.
+    pub(crate) fn put_queue(&self, text: &mut String, queue: u32) -> Result<(), AllocError> {
+        let (digits, name) = (Number(u64::from(queue)), self.name_of(queue));
+        if self.definitions.len() > QUEUES {
+            return put(text, &[digits, Tag(" "), Text(name)]);
+        }
+        put(
+            text,
+            &[
+                Tag("<a href=\"#q"),
+                digits,
+                Tag("\">"),
+                digits,
+                Tag(" "),
+                Text(name),
+                Tag("</a>"),
+            ],
+        )
+    }
+
+    /// Puts an element by its number.
+    pub(crate) fn put_element(&self, text: &mut String, element: u64) -> Result<(), AllocError> {
+        put_link(text, "e", element, self.has_element(element))
+    }
+
+    /// Puts a record by its number.
+    pub(crate) fn put_record(&self, text: &mut String, record: u64) -> Result<(), AllocError> {
+        put_link(text, "r", record, self.has_record(record))
+    }
+
+    /// Puts a unit by its number.
+    pub(crate) fn put_unit(&self, text: &mut String, unit: u64) -> Result<(), AllocError> {
+        put_link(text, "u", unit, self.has_unit(unit))
+    }
+
+    /// Puts a registrant of a queue by its name.
+    pub(crate) fn put_registrant(
+        &self,
+        text: &mut String,
+        queue: u32,
+        name: &str,
+    ) -> Result<(), AllocError> {
+        if !self.has_registrant(queue, name) {
+            return put(text, &[Text(name)]);
+        }
+        put(
+            text,
+            &[
+                Tag("<a href=\"#g"),
+                Number(u64::from(queue)),
+                Tag("-"),
+                Text(name),
+                Tag("\">"),
+                Text(name),
+                Tag("</a>"),
+            ],
+        )
+    }
+
+    /// Puts an error queue, or a dash for none.
+    pub(crate) fn put_error(&self, text: &mut String, error: QueueNo) -> Result<(), AllocError> {
+        if error == QueueNo::NONE {
+            return text.push_str("-");
+        }
+        self.put_queue(text, error.0)
+    }
+}
+
+// Puts a number, with a link to what it names if that is shown.
+fn put_link(
+    text: &mut String,
+    kind: &'static str,
+    number: u64,
+    is_shown: bool,
+) -> Result<(), AllocError> {
+    let digits = Number(number);
+    if !is_shown {
+        return put(text, &[digits]);
+    }
+    let link: [Piece<'_>; 6] = [
+        Tag("<a href=\"#"),
+        Tag(kind),
+        digits,
+        Tag("\">"),
+        digits,
+        Tag("</a>"),
+    ];
+    put(text, &link)
+}

@@ -1,0 +1,197 @@
+//! The steps of lives.
+
+use crate::markup::Piece::{Count, Number, Tag};
+use crate::markup::put;
+use crate::shown::Shown;
+use rq_look::{Effect, Event};
+use std::alloc::AllocError;
+
+/// As many steps of one life are kept.
+pub(crate) const STEPS: usize = 10_000;
+
+// While a page has fewer bytes, more steps are put.
+const ROOM: usize = 3_000_000;
+
+/// Where something happened.
+#[derive(Clone, Copy)]
+pub(crate) enum At {
+    /// Where it is told.
+    Here,
+    /// At the record of this number.
+    Record(u64),
+    /// At the restart, which aborts what is open.
+    Restart,
+}
+
+/// A step of a life: what happened, where, and to or by what.
+#[derive(Clone, Copy)]
+pub(crate) struct Step {
+    /// What happened, in a word by which it is styled too.
+    pub(crate) class: &'static str,
+    /// The same in words.
+    pub(crate) words: &'static str,
+    /// Where it happened.
+    pub(crate) at: At,
+    /// The element to which it happened.
+    pub(crate) element: Option<u64>,
+    /// The queue in which the element then is.
+    pub(crate) queue: Option<u32>,
+    /// The attempts that the element then has.
+    pub(crate) attempts: Option<u64>,
+    /// The unit that did it.
+    pub(crate) unit: Option<u64>,
+    /// The tag under which a registrant did it.
+    pub(crate) tag: Option<u64>,
+}
+
+impl Step {
+    /// Something that happened to nothing in particular.
+    pub(crate) fn of(class: &'static str, words: &'static str, at: At) -> Step {
+        Step {
+            class,
+            words,
+            at,
+            element: None,
+            queue: None,
+            attempts: None,
+            unit: None,
+            tag: None,
+        }
+    }
+}
+
+// What happened to an element.
+fn step_of_effect(effect: Effect, at: At) -> Step {
+    match effect {
+        Effect::Put => Step::of("put", "put in", at),
+        Effect::Taken => Step::of("taken", "taken", at),
+        Effect::Free(queue) => Step {
+            queue: Some(queue),
+            ..Step::of("free", "free in", at)
+        },
+        Effect::Gone => Step::of("gone", "gone", at),
+        Effect::Undone => Step::of("gone", "not put in after all", at),
+        Effect::Back(queue, attempts) => Step {
+            queue: Some(queue),
+            attempts: Some(attempts),
+            ..Step::of("back", "back in", at)
+        },
+        Effect::Moved(queue) => Step {
+            queue: Some(queue),
+            ..Step::of("moved", "moved to", at)
+        },
+    }
+}
+
+/// What happened, and where.
+pub(crate) fn step_of(event: &Event, at: At) -> Step {
+    match event {
+        Event::NoElement => Step::of("none", "finds no element", at),
+        Event::To(element, effect) => Step {
+            element: Some(*element),
+            ..step_of_effect(*effect, at)
+        },
+    }
+}
+
+fn put_element(
+    text: &mut String,
+    shown: &Shown<'_>,
+    element: Option<u64>,
+) -> Result<(), AllocError> {
+    match element {
+        Some(element) => {
+            text.push_str("element ")?;
+            shown.put_element(text, element)?;
+            text.push(' ')
+        }
+        None => Ok(()),
+    }
+}
+
+fn put_place(
+    text: &mut String,
+    shown: &Shown<'_>,
+    queue: Option<u32>,
+    attempts: Option<u64>,
+) -> Result<(), AllocError> {
+    if let Some(queue) = queue {
+        text.push_str(" queue ")?;
+        shown.put_queue(text, queue)?;
+    }
+    match attempts {
+        Some(attempts) => put(text, &[Tag(", attempts "), Count(attempts)]),
+        None => Ok(()),
+    }
+}
+
+fn put_doer(
+    text: &mut String,
+    shown: &Shown<'_>,
+    unit: Option<u64>,
+    tag: Option<u64>,
+) -> Result<(), AllocError> {
+    if let Some(tag) = tag {
+        put(text, &[Tag(", tag "), Number(tag)])?;
+    }
+    match unit {
+        Some(unit) => {
+            text.push_str(", unit ")?;
+            shown.put_unit(text, unit)
+        }
+        None => Ok(()),
+    }
+}
+
+fn put_at(text: &mut String, shown: &Shown<'_>, at: At) -> Result<(), AllocError> {
+    match at {
+        At::Here => Ok(()),
+        At::Record(record) => {
+            shown.put_record(text, record)?;
+            text.push(' ')
+        }
+        At::Restart => text.push_str("at the restart "),
+    }
+}
+
+/// Puts a step, with a link to its record where it is told elsewhere.
+pub(crate) fn put_step(
+    text: &mut String,
+    shown: &Shown<'_>,
+    step: &Step,
+) -> Result<(), AllocError> {
+    put(text, &[Tag("<li class=\""), Tag(step.class), Tag("\">")])?;
+    put_at(text, shown, step.at)?;
+    put_element(text, shown, step.element)?;
+    text.push_str(step.words)?;
+    put_place(text, shown, step.queue, step.attempts)?;
+    put_doer(text, shown, step.unit, step.tag)?;
+    text.push_str("</li>")
+}
+
+// Puts as many steps as there is room for, and answers how many these are.
+fn put_first(text: &mut String, shown: &Shown<'_>, steps: &[Step]) -> Result<usize, AllocError> {
+    let mut count: usize = 0;
+    for step in steps {
+        if text.len() >= ROOM {
+            break;
+        }
+        put_step(text, shown, step)?;
+        count = count.saturating_add(1);
+    }
+    Ok(count)
+}
+
+/// Puts the steps of a life, one behind the other, and whether some are left out.
+pub(crate) fn put_steps(
+    text: &mut String,
+    shown: &Shown<'_>,
+    steps: &[Step],
+) -> Result<(), AllocError> {
+    text.push_str("<ol>")?;
+    let count = put_first(text, shown, steps)?;
+    if count < steps.len() || count >= STEPS {
+        text.push_str("<li class=\"none\">more is left out</li>")?;
+    }
+    text.push_str("</ol>")
+}

@@ -1,0 +1,249 @@
+//! The front's summary.
+
+use crate::asking::Asked;
+use crate::markup::Piece::{Count, Number, Tag, Text};
+use crate::markup::{Piece, put};
+use rq_look::{End, is_whole};
+use rq_report::why_word;
+use rq_restart::Restarted;
+use std::alloc::{AllocError, Global};
+
+// How many of the checkpoints are not true.
+fn false_ones(checkpoints: &[(u64, bool)]) -> usize {
+    checkpoints
+        .iter()
+        .filter(|checkpoint| !checkpoint.1)
+        .count()
+}
+
+// Puts a row: what it is about, and what is said of it.
+fn put_row(text: &mut String, head: &'static str, pieces: &[Piece<'_>]) -> Result<(), AllocError> {
+    put(
+        text,
+        &[Tag("<tr><th scope=\"row\">"), Tag(head), Tag("</th><td>")],
+    )?;
+    put(text, pieces)?;
+    text.push_str("</td></tr>\n")
+}
+
+// Puts with which checkpoint a log begins that was carried on.
+fn put_carried(text: &mut String, at: Option<u64>) -> Result<(), AllocError> {
+    match at {
+        None => Ok(()),
+        Some(at) => put_row(
+            text,
+            "carried",
+            &[
+                Tag("begins with the checkpoint at "),
+                Number(at),
+                Tag(", which is taken at its word"),
+            ],
+        ),
+    }
+}
+
+fn put_length(text: &mut String, end: &End) -> Result<(), AllocError> {
+    put_row(
+        text,
+        "front",
+        &[
+            Count(end.records),
+            Tag(" records, "),
+            Count(end.used),
+            Tag(" of "),
+            Count(end.total),
+            Tag(" bytes"),
+        ],
+    )
+}
+
+// Puts what stands behind the front.
+fn put_reason(text: &mut String, end: &End) -> Result<(), AllocError> {
+    let class = if is_whole(end.why) { "whole" } else { "bad" };
+    put_row(
+        text,
+        "behind it",
+        &[
+            Tag("<span class=\""),
+            Tag(class),
+            Tag("\">"),
+            Text(why_word(end.why)),
+            Tag(": "),
+            Text(end.reason.as_str()),
+            Tag("</span>"),
+        ],
+    )
+}
+
+// Puts the digest of the front's last frame, by which a log is known; of a front without records it
+// is what the header has in its place.
+fn put_digest(alloc: Global, text: &mut String, bytes: &[u8], end: &End) -> Result<(), AllocError> {
+    let to = bytes.len().min(end.used as usize);
+    let digest = hex::encode(alloc, &bytes[to.saturating_sub(32)..to])?;
+    let head = if end.records > 0 {
+        "digest of its last frame"
+    } else {
+        "end of its header"
+    };
+    put_row(
+        text,
+        head,
+        &[Tag("<code>"), Text(digest.as_str()), Tag("</code>")],
+    )
+}
+
+fn put_counts(text: &mut String, r: &Restarted) -> Result<(), AllocError> {
+    put_row(
+        text,
+        "units",
+        &[
+            Count(r.committed()),
+            Tag(" committed, "),
+            Count(r.aborted()),
+            Tag(" aborted, "),
+            Count(r.cut_off()),
+            Tag(" cut off"),
+        ],
+    )?;
+    let state = r.state();
+    put_row(
+        text,
+        "after the restart",
+        &[
+            Count(state.definition_count() as u64),
+            Tag(" queues, "),
+            Count(state.element_count() as u64),
+            Tag(" elements, "),
+            Count(state.registrant_count() as u64),
+            Tag(" registrants"),
+        ],
+    )
+}
+
+fn put_checkpoints(text: &mut String, checkpoints: &[(u64, bool)]) -> Result<(), AllocError> {
+    let (count, wrong) = (Count(checkpoints.len() as u64), false_ones(checkpoints));
+    if wrong == 0 {
+        return put_row(text, "checkpoints", &[count]);
+    }
+    put_row(
+        text,
+        "checkpoints",
+        &[
+            count,
+            Tag(", <span class=\"bad\">of which "),
+            Count(wrong as u64),
+            Tag(" do not spell the state before them</span>"),
+        ],
+    )
+}
+
+/// Puts the numbers of a report's first two lines, by what the log is known, how much there is after
+/// the restart, and the checkpoints, of each of which it is known whether it is true.
+pub(crate) fn put_summary(
+    alloc: Global,
+    text: &mut String,
+    bytes: &[u8],
+    r: &Restarted,
+    end: &End,
+    checkpoints: &[(u64, bool)],
+) -> Result<(), AllocError> {
+    text.push_str(
+        "<section id=\"front\">\n<h2>The front</h2>\n<table class=\"front\">\n<caption>The log, and what a restart \
+        makes of it</caption>\n",
+    )?;
+    put_carried(text, end.at)?;
+    put_length(text, end)?;
+    put_reason(text, end)?;
+    put_digest(alloc, text, bytes, end)?;
+    put_counts(text, r)?;
+    put_checkpoints(text, checkpoints)?;
+    text.push_str("</table>\n</section>\n")
+}
+
+// Puts one of the numbers that are seen first.
+fn put_tile(text: &mut String, name: &'static str, count: u64) -> Result<(), AllocError> {
+    put(
+        text,
+        &[
+            Tag("<div><dt>"),
+            Tag(name),
+            Tag("</dt><dd>"),
+            Count(count),
+            Tag("</dd></div>\n"),
+        ],
+    )
+}
+
+fn put_tiles(text: &mut String, r: &Restarted, end: &End) -> Result<(), AllocError> {
+    let state = r.state();
+    text.push_str("<dl class=\"tiles\">\n")?;
+    put_tile(text, "bytes", end.total)?;
+    put_tile(text, "records", end.records)?;
+    put_tile(text, "queues", state.definition_count() as u64)?;
+    put_tile(text, "elements", state.element_count() as u64)?;
+    put_tile(text, "registrants", state.registrant_count() as u64)?;
+    text.push_str("</dl>\n")
+}
+
+/// Puts the log's name, whether it is whole, who made the page, and the numbers that are seen first.
+pub(crate) fn put_header(
+    text: &mut String,
+    asked: &Asked<'_>,
+    r: &Restarted,
+    end: &End,
+) -> Result<(), AllocError> {
+    let badge = if is_whole(end.why) {
+        "\"><span class=\"badge good\">whole</span>"
+    } else {
+        "\"><span class=\"badge wrong\">not whole</span>"
+    };
+    put(
+        text,
+        &[
+            Tag("<header>\n<h1><bdi>"),
+            Text(asked.name),
+            Tag("</bdi></h1>\n<p class=\"by"),
+            Tag(badge),
+            Tag(" The log of a recoverable queue manager, shown by rqlook "),
+            Text(asked.version),
+            Tag(".</p>\n"),
+        ],
+    )?;
+    put_tiles(text, r, end)?;
+    text.push_str("</header>\n")
+}
+
+// Puts a link to a part of the page.
+fn put_part(text: &mut String, is_there: bool, link: &'static str) -> Result<(), AllocError> {
+    if is_there {
+        text.push_str(link)?;
+    }
+    Ok(())
+}
+
+/// Which parts a page has beside those that each page has.
+#[derive(Clone, Copy)]
+pub(crate) struct Parts {
+    pub(crate) elements: bool,
+    pub(crate) units: bool,
+    pub(crate) registrants: bool,
+    pub(crate) records: bool,
+}
+
+/// Puts links to the parts of the page.
+pub(crate) fn put_parts(text: &mut String, parts: Parts) -> Result<(), AllocError> {
+    text.push_str(
+        "<nav aria-label=\"Parts of the page\"><a href=\"#front\">Front</a> \
+        <a href=\"#log\">Log</a> <a href=\"#open\">Open units</a> \
+        <a href=\"#queues\">Queues</a>",
+    )?;
+    put_part(text, parts.elements, " <a href=\"#elements\">Elements</a>")?;
+    put_part(text, parts.units, " <a href=\"#units\">Units</a>")?;
+    put_part(
+        text,
+        parts.registrants,
+        " <a href=\"#registrants\">Registrants</a>",
+    )?;
+    put_part(text, parts.records, " <a href=\"#records\">Records</a>")?;
+    text.push_str("</nav>\n")
+}

@@ -1,0 +1,213 @@
+//! What one walk over the front finds for a page.
+
+ghost use Rattle.std.specs.Prelude.{◌≡◌, IfErr};
+ghost use Rattle.rq_record.specs.declared.fault.Fault.TheVariants.{Resources};
+ghost use Rattle.rq_look.specs.Looks.{IsBroken};
+
+use crate::curves::{Curve, bin_of};
+use rq_look::{Effect, End, Event, Numbered, Placed, Queues, Trouble, frames_behind, kind_of};
+use rq_record::{Fault, KeptRecord, QueueNo};
+use rq_state::{Mark, State};
+use std::alloc::{AllocError, Global};
+use std::collections::BTreeMap;
+
+/// In so many bins the length of a log is cut.
+pub(crate) const BINS: u64 = 200;
+
+/// In so many it is cut for the depth of a queue.
+pub(crate) const FEW_BINS: u64 = 64;
+
+/// How many records of each kind begin in a bin.
+pub(crate) type Bin = BTreeMap<&'static str, u64>;
+
+/// What one walk over the front finds.
+#[derive(Drop)]
+pub(crate) struct Survey {
+    /// The records by kind, of each bin.
+    pub(crate) bins: Vec<Bin>,
+    /// The free elements of each queue.
+    pub(crate) depths: Vec<Curve>,
+    /// The open units.
+    pub(crate) open: Curve,
+    /// The offset of the BEGIN of each unit that is open; of one that was open where the log was
+    /// carried on, that of the checkpoint that the log begins with.
+    pub(crate) begun: BTreeMap<u64, u64>,
+}
+
+// Counts one more record of this kind.
+fn count(bin: &mut Bin, kind: &'static str) -> Result<(), AllocError> {
+    if let Some(count) = bin.get_mut(&kind) {
+        *count = count.saturating_add(1);
+        return Ok(());
+    }
+    bin.insert(kind, 1)?;
+    Ok(())
+}
+
+// The queue that has one free element more, or one fewer.
+fn change_of(it: &Numbered, effect: Effect) -> Option<(u32, bool)> {
+    match effect {
+        Effect::Free(queue) | Effect::Back(queue, _) | Effect::Moved(queue) => Some((queue, true)),
+        Effect::Taken => it.queue().map(|queue| (queue.0, false)),
+        // A commit's elements were taken before; a KILL's was free.
+        Effect::Gone => match &it.record {
+            KeptRecord::Kill { queue, .. } => Some((queue.0, false)),
+            _ => None,
+        },
+        Effect::Put | Effect::Undone => None,
+    }
+}
+
+// How many free elements a queue has in a state.
+fn free_count(state: &State, queue: QueueNo) -> u64 {
+    let mut count: u64 = 0;
+    for index in state.elements_of(queue) {
+        if let Some(e) = state.elements().get(*index) {
+            if e.mark == Mark::Free {
+                count = count.saturating_add(1);
+            }
+        }
+    }
+    count
+}
+
+// The same, from a bin on.
+fn depth_at(alloc: Global, state: &State, queue: QueueNo, bin: u64) -> Result<Curve, AllocError> {
+    let mut depth = Curve::new(alloc);
+    depth.set(bin, free_count(state, queue))?;
+    Ok(depth)
+}
+
+impl Survey {
+    // Before the first record.
+    fn new(alloc: Global) -> Result<Survey, AllocError> {
+        let mut bins = Vec::with_capacity(alloc, BINS as usize)?;
+        for _ in 0..BINS {
+            bins.push(BTreeMap::new(alloc))?;
+        }
+        Ok(Survey {
+            bins,
+            depths: Vec::new(alloc),
+            open: Curve::new(alloc),
+            begun: BTreeMap::new(alloc),
+        })
+    }
+
+    // A record that begins or ends a unit, or defines a queue.
+    fn take_record(&mut self, alloc: Global, it: &Numbered, bin: u64) -> Result<(), AllocError> {
+        match &it.record {
+            KeptRecord::Define { .. } => self.depths.push(Curve::new(alloc))?,
+            KeptRecord::Begin { unit } => {
+                self.begun.insert(unit.0, it.offset)?;
+                self.open.change(bin, true)?
+            }
+            KeptRecord::Commit { unit } | KeptRecord::Abort { unit } => {
+                self.begun.remove(&unit.0);
+                self.open.change(bin, false)?
+            }
+            _ => {}
+        }
+        Ok(())
+    }
+
+    // What happens to elements at a record.
+    fn take_events(&mut self, it: &Numbered, events: &[Event], bin: u64) -> Result<(), AllocError> {
+        for event in events {
+            let Event::To(_, effect) = event else {
+                continue;
+            };
+            if let Some((queue, grows)) = change_of(it, *effect) {
+                if let Some(depth) = self.depths.get_mut(queue as usize) {
+                    depth.change(bin, grows)?;
+                }
+            }
+        }
+        Ok(())
+    }
+
+    // The next record of the front, and what happens at it.
+    fn follow(
+        &mut self,
+        alloc: Global,
+        placed: Placed<'_>,
+        machine: &mut Queues,
+        total: u64,
+    ) -> Result<(), Fault>
+        ensures { IfErr result (λ e. e ≡ Resources) }
+    {
+        let it = machine.follow(alloc, placed)?;
+        self.take(alloc, &it, machine.events(), total)?;
+        Ok(())
+    }
+
+    // A record, and what happens at it.
+    fn take(
+        &mut self,
+        alloc: Global,
+        it: &Numbered,
+        events: &[Event],
+        total: u64,
+    ) -> Result<(), AllocError> {
+        let bin = bin_of(it.offset, total, BINS);
+        if let Some(kinds) = self.bins.get_mut(bin as usize) {
+            count(kinds, kind_of(&it.record))?;
+        }
+        self.take_record(alloc, it, bin)?;
+        self.take_events(it, events, bin_of(it.offset, total, FEW_BINS))
+    }
+
+    // The units that are open in the state that the log begins with.
+    fn begin_units(&mut self, first: &State, end: &End) -> Result<(), AllocError> {
+        let at = end.at.unwrap_or(0);
+        for unit in first.units() {
+            self.begun.insert(unit.0, at)?;
+        }
+        let bin = bin_of(at, end.total, BINS);
+        self.open.set(bin, first.units().len() as u64)
+    }
+
+    // The queues of the state that the log begins with.
+    fn begin_queues(&mut self, alloc: Global, first: &State, end: &End) -> Result<(), AllocError> {
+        let bin = bin_of(end.at.unwrap_or(0), end.total, FEW_BINS);
+        let mut number: u32 = 0;
+        for _ in first.definitions() {
+            self.depths
+                .push(depth_at(alloc, first, QueueNo(number), bin)?)?;
+            number = number.saturating_add(1);
+        }
+        Ok(())
+    }
+
+    // Behind the front the depths are those after the restart's aborts.
+    fn close(&mut self, state: &State, end: &End) -> Result<(), AllocError> {
+        let bin = bin_of(end.used, end.total, FEW_BINS);
+        let mut number: u32 = 0;
+        for depth in self.depths.iter_mut() {
+            depth.set(bin, state.elements_of(QueueNo(number)).len() as u64)?;
+            number = number.saturating_add(1);
+        }
+        Ok(())
+    }
+}
+
+/// What the front of the log shows that begins behind the first state, and of which the state after
+/// its restart is known.
+pub(crate) fn surveyed(
+    alloc: Global,
+    bytes: &[u8],
+    first: &State,
+    end: &End,
+    state: &State,
+) -> Result<Survey, Trouble>
+    ensures { IfErr result IsBroken }
+{
+    let mut machine = Queues::of(alloc, first)?;
+    let mut seen = Survey::new(alloc)?;
+    seen.begin_units(first, end)?;
+    seen.begin_queues(alloc, first, end)?;
+    for placed in frames_behind(bytes, first, end.at, end.used) {
+        seen.follow(alloc, placed, &mut machine, end.total)?;
+    }
+    seen.close(state, end)?;
+    Ok(seen)
+}

@@ -1,0 +1,230 @@
+//! The queues, each with its depth along the log, its elements and its registrants.
+
+use crate::asking::Order;
+use crate::curves::{Frame, along, put_axis};
+use crate::holdings::{put_fold, put_more};
+use crate::markup::Piece::{Count, Number, Tag, Text};
+use crate::markup::put;
+use crate::shown::{QUEUES, Shown};
+use crate::surveys::{FEW_BINS, Survey};
+use rq_look::{End, free_elements, registrants_shown};
+use rq_record::{Name, QueueNo};
+use rq_state::{Definition, State};
+use std::alloc::{AllocError, Global};
+use std::cmp::Reverse;
+
+// As many queues stand open; those behind them are folded.
+const OPEN: usize = 100;
+
+// The width and the height of a queue's curve.
+const WIDTH: u64 = 128;
+
+const HEIGHT: u64 = 24;
+
+// A queue, by what queues are put in order.
+#[derive(Clone, Copy)]
+struct Line {
+    number: u32,
+    depth: usize,
+    name: Name,
+}
+
+// What a page shows its queues with.
+#[derive(Clone, Copy)]
+struct Hall<'a> {
+    shown: Shown<'a>,
+    seen: &'a Survey,
+    state: &'a State,
+    end: &'a End,
+}
+
+fn lines_of(
+    alloc: Global,
+    definitions: &[Definition],
+    state: &State,
+) -> Result<Vec<Line>, AllocError> {
+    let mut lines = Vec::with_capacity(alloc, definitions.len())?;
+    let mut number: u32 = 0;
+    for definition in definitions {
+        lines.push(Line {
+            number,
+            depth: state.elements_of(QueueNo(number)).len(),
+            name: definition.name,
+        })?;
+        number = number.saturating_add(1);
+    }
+    Ok(lines)
+}
+
+// Puts the queues in order.
+fn arrange(lines: &mut Vec<Line>, order: Order) {
+    match order {
+        Order::Depth => lines.sort_unstable_by_key(|line| (Reverse(line.depth), line.number)),
+        Order::Number => {}
+        Order::Name => lines.sort_unstable_by_key(|line| (line.name, line.number)),
+    }
+}
+
+fn put_curve(text: &mut String, hall: &Hall<'_>, number: u32) -> Result<(), AllocError> {
+    let frame = Frame {
+        width: WIDTH,
+        height: HEIGHT,
+        end: along(hall.end.used, hall.end.total, WIDTH),
+        bins: FEW_BINS,
+    };
+    match hall.seen.depths.get(number as usize) {
+        Some(curve) => {
+            put(
+                text,
+                &[
+                    Tag("<td>"),
+                    Count(curve.most()),
+                    Tag("</td><td><div class=\"plot\">"),
+                ],
+            )?;
+            curve.put(text, &frame, "Free elements along the log")?;
+            text.push_str("</div></td>")
+        }
+        None => text.push_str("<td></td><td></td>"),
+    }
+}
+
+// Puts a queue by its number and its name, with its limit and its error queue.
+fn put_name(
+    text: &mut String,
+    hall: &Hall<'_>,
+    number: u32,
+    definition: &Definition,
+) -> Result<(), AllocError> {
+    let digits = Number(u64::from(number));
+    put(
+        text,
+        &[
+            Tag("<tr class=\"queue\" id=\"q"),
+            digits,
+            Tag("\"><th scope=\"row\">"),
+            digits,
+            Tag(" <strong>"),
+            Text(definition.name.text()),
+            Tag("</strong><small>limit "),
+            Number(u64::from(definition.limit)),
+            Tag(", error queue "),
+        ],
+    )?;
+    hall.shown.put_error(text, definition.error)?;
+    text.push_str("</small></th>")
+}
+
+fn put_row(
+    text: &mut String,
+    hall: &Hall<'_>,
+    line: &Line,
+    definition: &Definition,
+) -> Result<(), AllocError> {
+    put_name(text, hall, line.number, definition)?;
+    put(text, &[Tag("<td>"), Count(line.depth as u64), Tag("</td>")])?;
+    put_curve(text, hall, line.number)?;
+    text.push_str("</tr>\n")
+}
+
+fn put_queue(
+    alloc: Global,
+    text: &mut String,
+    hall: &Hall<'_>,
+    line: &Line,
+) -> Result<(), AllocError> {
+    let Some(definition) = hall.shown.definitions.get(line.number as usize) else {
+        return Ok(());
+    };
+    let queue = QueueNo(line.number);
+    let elements = free_elements(alloc, hall.state, queue)?;
+    let registrants = registrants_shown(alloc, hall.state, queue)?;
+    put_row(text, hall, line, definition)?;
+    put_fold(
+        alloc,
+        text,
+        &hall.shown,
+        line.number,
+        &elements,
+        &registrants,
+    )
+}
+
+// Puts these queues as a table.
+fn put_table(
+    alloc: Global,
+    text: &mut String,
+    hall: &Hall<'_>,
+    lines: &[Line],
+) -> Result<(), AllocError> {
+    text.push_str(
+        "<table class=\"queues\">\n<caption>Queues after the restart, with what they held along the \
+        log</caption>\n<tr><th scope=\"col\">queue</th><th scope=\"col\">elements</th>\
+        <th scope=\"col\">at most</th><th scope=\"col\">along the log",
+    )?;
+    put_axis(text, hall.end.total)?;
+    text.push_str("</th></tr>\n")?;
+    for line in lines {
+        put_queue(alloc, text, hall, line)?;
+    }
+    text.push_str("</table>\n")
+}
+
+// Puts the queues behind the first as a table that is folded, as many as are shown.
+fn put_more_queues(
+    alloc: Global,
+    text: &mut String,
+    hall: &Hall<'_>,
+    lines: &[Line],
+) -> Result<(), AllocError> {
+    if lines.is_empty() {
+        return Ok(());
+    }
+    let many = Count(lines.len() as u64);
+    put(
+        text,
+        &[
+            Tag("<details class=\"more\"><summary>"),
+            many,
+            Tag(" more queues</summary>\n"),
+        ],
+    )?;
+    put_table(alloc, text, hall, lines)?;
+    text.push_str("</details>\n")
+}
+
+fn put_order(text: &mut String, order: Order) -> Result<(), AllocError> {
+    text.push_str(match order {
+        Order::Depth => "<p>By the number of their elements, the most first.</p>\n",
+        Order::Number => "<p>By number.</p>\n",
+        Order::Name => "<p>By name.</p>\n",
+    })
+}
+
+/// Puts the queues in the order that is asked for: the first 100 open, as many as 1,000 folded.
+pub(crate) fn put_queues(
+    alloc: Global,
+    text: &mut String,
+    shown: &Shown<'_>,
+    seen: &Survey,
+    state: &State,
+    end: &End,
+    order: Order,
+) -> Result<(), AllocError> {
+    let hall = Hall {
+        shown: *shown,
+        seen,
+        state,
+        end,
+    };
+    let mut lines = lines_of(alloc, shown.definitions, state)?;
+    arrange(&mut lines, order);
+    let count = lines.len().min(QUEUES);
+    let (open, folded) = lines[..count].split_at(count.min(OPEN));
+    text.push_str("<section id=\"queues\">\n<h2>Queues</h2>\n")?;
+    put_order(text, order)?;
+    put_table(alloc, text, &hall, open)?;
+    put_more_queues(alloc, text, &hall, folded)?;
+    put_more(text, lines.len(), count)?;
+    text.push_str("</section>\n")
+}

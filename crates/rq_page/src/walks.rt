@@ -1,0 +1,83 @@
+//! The walk over the front that finds lives.
+
+ghost use Rattle.std.specs.Prelude.{◌≡◌, IfErr};
+ghost use Rattle.rq_record.specs.declared.fault.Fault.TheVariants.{Resources};
+ghost use Rattle.rq_look.specs.Looks.{IsBroken};
+
+use crate::lives::Lives;
+use crate::shown::Shown;
+use rq_look::{End, Placed, Queues, Trouble, frames_behind};
+use rq_record::Fault;
+use rq_state::State;
+use std::alloc::{AllocError, Global};
+use std::collections::BTreeMap;
+
+impl Lives {
+    // What the restart does behind the front.
+    fn close(
+        &mut self,
+        alloc: Global,
+        shown: &Shown<'_>,
+        machine: &mut Queues,
+    ) -> Result<(), AllocError> {
+        for unit in machine.open_units(alloc)?.iter().copied() {
+            machine.abort(unit)?;
+            self.take_restart(alloc, shown, unit, machine.events())?;
+        }
+        Ok(())
+    }
+
+    // The next record of the front, and what happens at it.
+    fn follow(
+        &mut self,
+        alloc: Global,
+        shown: &Shown<'_>,
+        placed: Placed<'_>,
+        machine: &mut Queues,
+        truths: &BTreeMap<u64, bool>,
+    ) -> Result<(), Fault>
+        ensures { IfErr result (λ e. e ≡ Resources) }
+    {
+        let it = machine.follow(alloc, placed)?;
+        let truth = truths.get(&it.offset).copied().unwrap_or(true);
+        self.take(alloc, shown, &it, machine.events(), truth)?;
+        Ok(())
+    }
+}
+
+// Which checkpoints are true, by their offsets.
+fn truths_of(
+    alloc: Global,
+    checkpoints: &[(u64, bool)],
+) -> Result<BTreeMap<u64, bool>, AllocError> {
+    let mut truths = BTreeMap::new(alloc);
+    for (offset, truth) in checkpoints {
+        truths.insert(*offset, *truth)?;
+    }
+    Ok(truths)
+}
+
+/// The lives that are shown of a log whose front begins behind the first state, and of whose
+/// checkpoints it is known whether they are true.
+pub(crate) fn lives_of(
+    alloc: Global,
+    bytes: &[u8],
+    first: &State,
+    end: &End,
+    shown: &Shown<'_>,
+    checkpoints: &[(u64, bool)],
+) -> Result<Lives, Trouble>
+    ensures { IfErr result IsBroken }
+{
+    let mut lives = Lives::new(alloc, shown)?;
+    if shown.is_nobody() {
+        return Ok(lives);
+    }
+    let truths = truths_of(alloc, checkpoints)?;
+    let mut machine = Queues::of(alloc, first)?;
+    for placed in frames_behind(bytes, first, end.at, end.used) {
+        lives.follow(alloc, shown, placed, &mut machine, &truths)?;
+    }
+    lives.close(alloc, shown, &mut machine)?;
+    Ok(lives)
+}
