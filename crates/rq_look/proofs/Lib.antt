@@ -1,3 +1,4 @@
 pub mod Texts
 pub mod Puts
 pub mod Scripts
+pub mod Standing

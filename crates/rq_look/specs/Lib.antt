@@ -1,4 +1,6 @@
+pub mod Findings
 pub mod Looks
 pub mod Markup
+pub mod Rests
 pub mod Scripts
 pub mod Walks

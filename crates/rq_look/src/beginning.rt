@@ -36,7 +36,7 @@ fn state_at(alloc: Global, bytes: &[u8], at: u64) -> Option<State> {
 
 /// The state behind which the records of a front begin: that of the checkpoint at the offset, if
 /// there is one, which a restart has found there.
-pub(crate) fn first_state(alloc: Global, bytes: &[u8], at: Option<u64>) -> Result<State, Fault>
+pub fn first_state(alloc: Global, bytes: &[u8], at: Option<u64>) -> Result<State, Fault>
     ensures { IfErr result (λ e. e ≡ Resources) }
 {
     let Some(at) = at else {
@@ -50,7 +50,7 @@ pub(crate) fn first_state(alloc: Global, bytes: &[u8], at: Option<u64>) -> Resul
 }
 
 /// The frames of a front that begins behind a state, in the first `used` bytes.
-pub(crate) fn frames_behind<'a>(
+pub fn frames_behind<'a>(
     bytes: &'a [u8],
     first: &State,
     at: Option<u64>,

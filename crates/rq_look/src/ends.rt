@@ -28,17 +28,23 @@ use std::thread::Threads;
 /// Where the front of a log ends, and why, in a sentence; and where the checkpoint stands that the
 /// log begins with, if it was carried on.
 #[derive(Drop)]
-pub(crate) struct End {
-    pub(crate) at: Option<u64>,
-    pub(crate) records: u64,
-    pub(crate) used: u64,
-    pub(crate) total: u64,
-    pub(crate) why: Why,
-    pub(crate) reason: String,
+pub struct End {
+    /// The offset of that checkpoint.
+    pub at: Option<u64>,
+    /// The records of the front.
+    pub records: u64,
+    /// The bytes up to the front's end, with the header.
+    pub used: u64,
+    /// All bytes of the log.
+    pub total: u64,
+    /// Why the front ends.
+    pub why: Why,
+    /// The same in a sentence without its full stop.
+    pub reason: String,
 }
 
 /// Whether nothing follows the front.
-pub(crate) fn is_whole(why: Why) -> bool
+pub fn is_whole(why: Why) -> bool
     ensures { result ≡ looks.is_whole (why_of why) }
 {
     match why {
@@ -75,7 +81,12 @@ fn chain_reason(alloc: Global, before: &[u8], rest: &[u8]) -> Result<String, All
     format!(in alloc; "the digest is {stated}, and that of the bytes {digest}")
 }
 
-fn form_reason(alloc: Global, version: Version, body: &[u8]) -> Result<String, AllocError> {
+/// Why no record of the version has the body.
+pub(crate) fn form_reason(
+    alloc: Global,
+    version: Version,
+    body: &[u8],
+) -> Result<String, AllocError> {
     match misfit_of(version, body) {
         Some((at, misfit)) => format!(in alloc; "byte {at} of the body: {misfit}"),
         None => String::from_str(alloc, "no record has the body"),
@@ -190,8 +201,9 @@ fn told<R: Threads + Sync>(
     })
 }
 
-/// Where the front ends of which the restart is known.
-pub(crate) fn end_after<R: Threads + Sync>(
+/// Where the front ends of which the restart is known, from the checkpoint on at an offset, if there
+/// is one. Refuses with `Resources` where memory is refused.
+pub fn end_after<R: Threads + Sync>(
     rt: &R,
     alloc: Global,
     bytes: &[u8],
@@ -248,7 +260,7 @@ pub(crate) fn end_at<R: Threads + Sync>(
 }
 
 /// Where the front of a log ends, from the checkpoint on at an offset, if there is one.
-pub(crate) fn end_of<R: Threads + Sync>(
+pub fn end_of<R: Threads + Sync>(
     rt: &R,
     alloc: Global,
     bytes: &[u8],
@@ -267,7 +279,7 @@ pub(crate) fn end_of<R: Threads + Sync>(
 }
 
 /// Puts with which checkpoint a log begins that was carried on; of another, nothing.
-pub(crate) fn put_beginning(text: &mut String, at: Option<u64>) -> Result<(), AllocError>
+pub fn put_beginning(text: &mut String, at: Option<u64>) -> Result<(), AllocError>
     ensures { OnOk result (string_bytes text.new ≡ string_bytes text.old ++ beginning_text at) }
 {
     match at {
@@ -277,7 +289,7 @@ pub(crate) fn put_beginning(text: &mut String, at: Option<u64>) -> Result<(), Al
 }
 
 /// Puts where the front ends, as a line.
-pub(crate) fn put_end(text: &mut String, end: &End) -> Result<(), AllocError>
+pub fn put_end(text: &mut String, end: &End) -> Result<(), AllocError>
     ensures { OnOk result (string_bytes text.new ≡ string_bytes text.old
         ++ end_text end.now.records end.now.used end.now.total (why_of end.now.why)
         (string_bytes end.now.reason)) }

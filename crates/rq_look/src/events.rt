@@ -5,7 +5,7 @@ use std::fmt;
 
 /// What happens to an element.
 #[derive(Clone, Copy)]
-pub(crate) enum Effect {
+pub enum Effect {
     /// A unit puts it in.
     Put,
     /// A unit takes it.
@@ -24,7 +24,7 @@ pub(crate) enum Effect {
 
 /// What happens to which element.
 #[derive(Clone, Copy)]
-pub(crate) enum Event {
+pub enum Event {
     /// There is none to take, or to kill.
     NoElement,
     /// This happens to the element of this number.

@@ -38,7 +38,7 @@ struct Shelf {
 /// The queues after some records of a front, as the machine's rules have them, and what happened at
 /// the last one.
 #[derive(Drop)]
-pub(crate) struct Queues {
+pub struct Queues {
     events: Vec<Event>,
     defined: u32,
     shelves: Vec<Shelf>,
@@ -59,7 +59,7 @@ impl Queues {
     }
 
     /// Behind a state. What an open unit put in or took is told by number when it ends.
-    pub(crate) fn of(alloc: Global, state: &State) -> Result<Queues, AllocError> {
+    pub fn of(alloc: Global, state: &State) -> Result<Queues, AllocError> {
         let mut queues = Queues::new(alloc);
         queues.defined = queues_of(state.definitions());
         for definition in state.definitions() {
@@ -101,7 +101,7 @@ impl Queues {
     }
 
     /// The units that are open, rising.
-    pub(crate) fn open_units(&self, alloc: Global) -> Result<Vec<u64>, AllocError> {
+    pub fn open_units(&self, alloc: Global) -> Result<Vec<u64>, AllocError> {
         self.open.keys().copied().collect(alloc)
     }
 
@@ -274,7 +274,7 @@ impl Queues {
     }
 
     /// Does the next record of the front, and answers it.
-    pub(crate) fn follow(&mut self, alloc: Global, placed: Placed<'_>) -> Result<Numbered, Fault>
+    pub fn follow(&mut self, alloc: Global, placed: Placed<'_>) -> Result<Numbered, Fault>
         ensures { IfErr result (λ e. e ≡ Resources) }
     {
         let it = Numbered::of(alloc, placed, self.defined)?;
@@ -285,13 +285,21 @@ impl Queues {
     }
 
     /// Aborts a unit that is open behind the front.
-    pub(crate) fn abort(&mut self, unit: u64) -> Result<(), AllocError> {
+    pub fn abort(&mut self, unit: u64) -> Result<(), AllocError> {
         self.events.clear();
         self.end(unit, false)
     }
 
+    /// How many free elements each queue has, by number.
+    pub fn depths(&self, alloc: Global) -> Result<Vec<u64>, AllocError> {
+        self.shelves
+            .iter()
+            .map(|shelf| shelf.free.len() as u64)
+            .collect(alloc)
+    }
+
     /// What happened at the last record, or at the last abort behind the front.
-    pub(crate) fn events(&self) -> &[Event] {
+    pub fn events(&self) -> &[Event] {
         &self.events
     }
 }

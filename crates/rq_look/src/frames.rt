@@ -49,15 +49,18 @@ pub(crate) fn first_frame(bytes: &[u8]) -> Option<(Frame<'_>, &[u8])>
 
 /// A body, the offset of its frame and the number of its record.
 #[derive(Clone, Copy)]
-pub(crate) struct Placed<'a> {
-    pub(crate) offset: u64,
-    pub(crate) number: u64,
-    pub(crate) body: &'a [u8],
+pub struct Placed<'a> {
+    /// The offset of its frame in the log.
+    pub offset: u64,
+    /// The number of its record, from 0.
+    pub number: u64,
+    /// The body.
+    pub body: &'a [u8],
 }
 
 /// The frames in the first bytes of a log, one after the other.
 #[derive(Clone, Copy)]
-pub(crate) struct PlacedFrames<'a> {
+pub struct PlacedFrames<'a> {
     rest: &'a [u8],
     offset: u64,
     number: u64,

@@ -4,6 +4,7 @@
 #![tactic(auto)]
 
 mod beginning;
+mod beyond;
 mod bytes;
 mod checking;
 mod dumping;
@@ -20,19 +21,28 @@ mod paging;
 mod pieces;
 mod queues;
 mod reporting;
+mod salvaging;
 mod scripting;
 mod sheet;
+mod standing;
 mod telling;
 mod trouble;
 mod wanted;
 
-pub use beginning::begins_at;
+pub use beginning::{begins_at, first_state, frames_behind};
 pub use checking::{Findings, check};
 pub use dumping::dump;
+pub use ends::{End, end_of, put_beginning, put_end};
+pub use events::{Effect, Event};
+pub use following::Queues;
+pub use frames::{Placed, PlacedFrames};
 pub use hidden::Seen;
+pub use json::{FrontShown, front_of};
+pub use numbered::{Numbered, kind_of};
 pub use paging::page;
 pub use reporting::{report, report_json};
 pub use rq_restart::{Fault, Plan};
+pub use salvaging::salvage;
 pub use scripting::script;
 pub use telling::{Subject, story};
 pub use trouble::Trouble;

@@ -15,16 +15,20 @@ use std::alloc::Global;
 /// A record of the front, with the offset of its frame, its number, and how many queues are defined
 /// before it.
 #[derive(Drop)]
-pub(crate) struct Numbered {
-    pub(crate) offset: u64,
-    pub(crate) number: u64,
-    pub(crate) queues: u32,
-    pub(crate) record: KeptRecord,
+pub struct Numbered {
+    /// The offset of its frame in the log.
+    pub offset: u64,
+    /// Its number, from 0.
+    pub number: u64,
+    /// How many queues are defined before it.
+    pub queues: u32,
+    /// The record.
+    pub record: KeptRecord,
 }
 
 impl Numbered {
     /// The record that the body spells. What has a record in version 1 has it in version 2 too.
-    pub(crate) fn of(alloc: Global, placed: Placed<'_>, queues: u32) -> Result<Numbered, Fault>
+    pub fn of(alloc: Global, placed: Placed<'_>, queues: u32) -> Result<Numbered, Fault>
         ensures spelled { IfOk result
             (λ it. Spells Two (record_of it.record) placed.entry.body.now) }
         ensures number { IfOk result (λ it. it.number ≡ placed.entry.number) }
@@ -43,16 +47,23 @@ impl Numbered {
     }
 
     /// The queue that it defines or names.
-    pub(crate) fn queue(&self) -> Option<QueueNo> {
+    pub fn queue(&self) -> Option<QueueNo> {
         match &self.record {
             KeptRecord::Define { .. } => Some(QueueNo(self.queues)),
-            KeptRecord::Register { queue, .. }
-            | KeptRecord::Deregister { queue, .. }
-            | KeptRecord::Enqueue { queue, .. }
-            | KeptRecord::Dequeue { queue, .. }
-            | KeptRecord::Kill { queue, .. } => Some(*queue),
-            _ => None,
+            record => queue_named(record),
         }
+    }
+}
+
+/// The queue that a record names.
+pub(crate) fn queue_named(record: &KeptRecord) -> Option<QueueNo> {
+    match record {
+        KeptRecord::Register { queue, .. }
+        | KeptRecord::Deregister { queue, .. }
+        | KeptRecord::Enqueue { queue, .. }
+        | KeptRecord::Dequeue { queue, .. }
+        | KeptRecord::Kill { queue, .. } => Some(*queue),
+        _ => None,
     }
 }
 
@@ -70,7 +81,7 @@ pub(crate) fn queues_of(definitions: &[Definition]) -> u32 {
 }
 
 /// The unit that a record names.
-pub(crate) fn unit_of(record: &KeptRecord) -> Option<UnitNo> {
+pub fn unit_of(record: &KeptRecord) -> Option<UnitNo> {
     match record {
         KeptRecord::Begin { unit }
         | KeptRecord::Commit { unit }
@@ -114,7 +125,7 @@ pub(crate) fn element_of(record: &KeptRecord) -> Option<ElemId> {
 }
 
 /// The word for a kind of record.
-pub(crate) fn kind_of(record: &KeptRecord) -> &'static str {
+pub fn kind_of(record: &KeptRecord) -> &'static str {
     match record {
         KeptRecord::Define { .. } => "define",
         KeptRecord::Register { .. } => "register",
