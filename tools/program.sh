@@ -38,7 +38,7 @@ may_be_line() {
         ;;
     rqlook)
         case $1 in
-        dump | check | report | script | story | unit | page) [ $# -gt 1 ] ;;
+        dump | check | report | script | salvage | stats | story | unit | page) [ $# -gt 1 ] ;;
         *) return 1 ;;
         esac
         ;;

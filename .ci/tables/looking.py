@@ -1,6 +1,6 @@
 """What `rqlook` shows of logs."""
 from __future__ import annotations
-import functools, os
+import functools, json, os
 from collections.abc import Callable, Iterator
 from typing import NamedTuple
 
@@ -41,6 +41,31 @@ queue 0 dead limit 0 error -
 e 3 from 1 priority 5 attempts 1 6869
 """
 
+NUMBERS = """\
+front ends behind 14 records, at 729 of 729 bytes, whole: nothing follows
+define 2 records, 94 bytes
+begin 4 records, 180 bytes
+enqueue 1 records, 61 bytes
+dequeue 3 records, 174 bytes
+commit 1 records, 45 bytes
+abort 3 records, 135 bytes
+units 1 committed, 3 aborted, 0 cut off
+unit 5 open for 2 records, committed
+unit 6 open for 2 records, aborted
+unit 7 open for 2 records, aborted
+unit 8 open for 2 records, aborted
+payload of 2 bytes at 179, record 3
+queue 0 dead 1 free elements
+queue 0 dead 1 elements moved there by aborts
+"""
+# The same as JSON, but for the first and the longest.
+COUNTED = {
+    "units": {"committed": 1, "aborted": 3, "cut_off": 0},
+    "largest_payloads": [{"bytes": 2, "offset": 179, "record": 3}],
+    "deepest_queues": [{"queue": 0, "name": "dead", "elements": 1}],
+    "error_moves": [{"queue": 0, "name": "dead", "elements": 1}],
+}
+
 # Two units, of which each puts in an element of a queue of its own.
 TWO_UNITS = """\
 define mail 0 -
@@ -76,6 +101,20 @@ CUT = "front ends behind 3 records, at 192 of 236 bytes, cut: 44 bytes follow, a
 OPEN = "".join(f"begin {unit}\n" for unit in range(1, 1501))
 OPEN_END = "front ends behind 1500 records, at 67540 of 67540 bytes, whole: nothing follows\n"
 LAW = "front ends behind 1 records, at 87 of 132 bytes, law: unit 1 is not open\n"
+# What stands behind these fronts: the beginning of a COMMIT, and a COMMIT that is right and not lawful.
+NOTHING_BEHIND = "behind it no frame is right in itself; 44 bytes fit nothing\n"
+ONE_BEHIND = "behind it 1 frames are right in themselves, the first at 87; 0 bytes fit nothing\n"
+# A log whose BEGIN is another unit's: its frame is wrong, and the two behind it are right.
+BEGUN_OTHERWISE = """\
+40 0 define queue 0 name jobs limit 0 error -
+132 behind enqueue unit 1 queue 0 priority 5 by - payload "a"
+192 behind commit unit 1
+behind it 2 frames are right in themselves, the first at 132; 45 bytes fit nothing
+"""
+OBJECTS_BEHIND = """\
+{"offset":132,"behind":true,"kind":"enqueue","unit":1,"queue":0,"priority":5,"payload":{"hex":"61","text":"a"}}
+{"behind":{"frames":2,"first":132,"unfit":45}}
+"""
 
 
 class Row(NamedTuple):
@@ -102,6 +141,9 @@ ROWS = [
     Row("dump LOG --unit 2 --limit 1", TWO_UNITS, whole, 0, BEGIN + END),
     Row("dump LOG --queue 1", TWO_UNITS, whole, 0, DEFINE + REGISTER + ENQUEUE + END),
     Row("dump LOG --registrant ann", TWO_UNITS, whole, 0, REGISTER + ENQUEUE + END),
+    # what stands behind the front
+    Row("check LOG", ONE_ELEMENT, lambda log: log[:-1], 1, CUT + NOTHING_BEHIND),
+    Row("check LOG", "define jobs 0 -\ncommit 1\n", whole, 1, LAW + ONE_BEHIND),
     # what a check finds
     Row("check LOG", "define jobs 0 -\ncheckpoint\n", whole, 0, ""),
     Row("check LOG", "define jobs 0 -\ncheckpoint-hex 00\n", whole, 1,
@@ -112,6 +154,10 @@ ROWS = [
     Row("script LOG", SECOND_ABORT, whole, 0, SECOND_ABORT),
     Row("story LOG 3", SECOND_ABORT, whole, 0, STORY),
     Row("unit LOG 9", SECOND_ABORT, whole, 1, "", "no unit 9"),
+    # numbers
+    Row("stats LOG", SECOND_ABORT, whole, 0, NUMBERS),
+    Row("stats LOG", "begin 1\n", whole, 0, "front ends behind 1 records, at 85 of 85 bytes, whole: nothing follows\n"
+        "begin 1 records, 45 bytes\nunits 0 committed, 0 aborted, 1 cut off\nunit 1 open for 1 records, cut off\n"),
 ]
 
 # How the report of the second queue ends as JSON.
@@ -158,6 +204,12 @@ def json_end(rqlook: Program, log: str) -> Ended:
     return status, output[-len(JSON_END):], said
 
 
+def counted(rqlook: Program, log: str) -> tuple[int, dict]:
+    """Those numbers as JSON that stand in COUNTED."""
+    status, output, _ = rqlook.run("stats", log, "--json")
+    return status, {name: value for name, value in json.loads(output).items() if name in COUNTED}
+
+
 def on_the_page(rqlook: Program) -> tuple[int, str, list[str], bool]:
     """How the page begins and ends, what stands on it, and whether the element does as HTML."""
     status, output, _ = rqlook.run("page", ODD_NAME, "-", cwd=rqlook.folder)
@@ -165,9 +217,33 @@ def on_the_page(rqlook: Program) -> tuple[int, str, list[str], bool]:
     return status, text[:16] + text[-8:], [part for part in ON_THE_PAGE if part in text], "<b>" in text
 
 
+def but_the_end(rqlook: Program, *words: str) -> tuple[int, str]:
+    """What a dump shows before its last line."""
+    status, output, _ = rqlook.run(*words)
+    return status, "".join(output.decode().splitlines(keepends=True)[:-1])
+
+
+def behind_one(rqlook: Program, rq: Program) -> Iterator[Question]:
+    """What stands behind a changed byte, shown and saved."""
+    log = rq.log_of(ONE_ELEMENT)
+    path = rq.file(log[:99] + b"\2" + log[100:])
+    yield Question("rqlook dump --behind", functools.partial(but_the_end, rqlook, "dump", path, "--behind"), (0, BEGUN_OTHERWISE))
+    words = ("dump", path, "--behind", "--json", "--kind", "enqueue")
+    yield Question("rqlook dump --behind --json", functools.partial(but_the_end, rqlook, *words), (0, OBJECTS_BEHIND))
+    want = (0, ["define jobs 0 -", "#132 enqueue 1 0 5 - 0 61", "#192 commit 1"])
+    yield Question("rqlook salvage", functools.partial(records_saved, rqlook, path), want)
+
+
+def records_saved(rqlook: Program, log: str) -> tuple[int, list[str]]:
+    """The lines of a salvage but for its words."""
+    status, output, _ = rqlook.run("salvage", log, "-")
+    return status, [line for line in output.decode().splitlines() if not line.startswith("# ")]
+
+
 def of_one_log(rqlook: Program, rq: Program) -> Iterator[Question]:
     log = rq.file(rq.log_of(SECOND_ABORT))
     yield Question("rqlook report --json", functools.partial(json_end, rqlook, log), told(JSON_END))
+    yield Question("rqlook stats --json", functools.partial(counted, rqlook, log), (0, COUNTED))
     with open(os.path.join(rqlook.folder, ODD_NAME), "wb") as file:
         file.write(rq.log_of(ELEMENT_B))
     want = (0, "<!DOCTYPE html>\n</html>\n", ON_THE_PAGE, False)
@@ -179,5 +255,6 @@ def questions_of(rq: Program) -> Callable[[Program], Iterator[Question]]:
     def questions(rqlook: Program) -> Iterator[Question]:
         yield from tables_of(rqlook, rq)
         yield from of_one_log(rqlook, rq)
+        yield from behind_one(rqlook, rq)
         yield from fronts_of_windows(rqlook, rq)
     return questions

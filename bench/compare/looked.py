@@ -8,6 +8,8 @@ from records import NO_QUEUE
 SHOWN = 32
 # What nobody sees, or what changes how the text around it is shown: controls, format characters, separators of lines and paragraphs.
 HIDDEN = {"Cc", "Cf", "Zl", "Zp"}
+# What belongs to a text and is no character that is seen.
+ESCAPES = {"\n": "\\n", "\r": "\\r", "\t": "\\t"}
 KINDS = ["", "define", "register", "deregister", "begin", "enqueue", "dequeue", "commit", "abort", "checkpoint", "kill"]
 
 
@@ -73,9 +75,9 @@ def shown(it: dict, full: bool) -> str:
     text = text_of(data)
     if not data:
         return "-"
-    if text is not None and not any(map(is_hidden, text)):
+    if text is not None and not any(is_hidden(c) and c not in ESCAPES for c in text):
         part = text if full else text[:SHOWN]
-        spelled, size = '"' + part.replace("\\", "\\\\").replace('"', '\\"') + '"', len(part.encode())
+        spelled, size = '"' + "".join(ESCAPES.get(c, c) for c in part.replace("\\", "\\\\").replace('"', '\\"')) + '"', len(part.encode())
     else:
         part = data if full else data[:SHOWN]
         spelled, size = "hex " + part.hex(), len(part)

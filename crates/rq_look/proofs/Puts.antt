@@ -1,16 +1,21 @@
 -- Writing text after text.
-use Rattle.std.proofs.Common.{◌≡◌, ◌++◌, ◌∙◌, ℕ, List, Option, Some, None, sym, ap, subst, append_assoc}
+use Rattle.std.proofs.Common.{◌≡◌, ◌++◌, ◌∙◌, ℕ, List, Option, Some, None, false, codes, sym, ap, subst, append_assoc}
 use Rattle.std.specs.Io.KnownBytes.{Appends}
 use Rattle.std.proofs.KnownBytes.{Appends-trans}
 use Rattle.rq_model.specs.Fronts.{Restarted}
 use Rattle.rq_restart.specs.FrontEnds.{IsEndOf}
 use Rattle.rq_restart.specs.Views.{why_of}
+use Rattle.rq_behind.specs.declared.finding.Found.{Found}
+use Rattle.rq_look.specs.Rests.{behind_finding, IsChoice}
 use Rattle.rq_look.specs.declared.ends.End.{End}
 use Rattle.rq_record.specs.declared.fault.Fault.{Fault}
 use Rattle.rq_record.specs.declared.fault.Fault.TheVariants.{Resources}
 use Rattle.rq_model.specs.Reports.{IsText}
 use Rattle.rq_look.specs.Looks.{end_text, end_line, end_finding, front_end_of, RefusedFrom, IsRestartFrom}
-use Rattle.rq_look.specs.Looks.{IsReportFrom}
+use Rattle.rq_look.specs.Looks.{IsReportFrom, IsBroken, BreaksOff}
+use Rattle.rq_look.specs.Scripts.{LeavesOut}
+use Rattle.rq_look.specs.declared.trouble.Trouble.{Trouble}
+use Rattle.rq_look.specs.declared.trouble.Trouble.TheVariants.{Log, Output, Untold, NoQueue, Nothing}
 
 -- some text was appended
 abbrev pub AppendsSome : Option (List ℕ) → Option (List ℕ) → Type 0
@@ -39,6 +44,11 @@ pub same_finding : (r : Restarted) (end : End) (reason : List ℕ) → IsEndOf r
     ≡ end_finding r.records r.used r.total r.why reason
 same_finding r end reason e = λ i. end_finding (e.records i) (e.used i) (e.total i) (e.why i) reason
 
+-- and so are the lines of what stands behind it
+pub same_rest : (r : Restarted) (end : End) (behind : Found) → IsEndOf r (front_end_of end)
+    → behind_finding (why_of end.why) behind end.total ≡ behind_finding r.why behind r.total
+same_rest r end behind e = λ i. behind_finding (e.why i) behind (e.total i)
+
 -- each log may be refused for want of memory
 memory_refused : (at : Option ℕ) (b : List ℕ) → RefusedFrom at b Resources
 memory_refused None b = tt
@@ -52,3 +62,24 @@ pub report_from : (at : Option ℕ) (b text : List ℕ) (r : Restarted) → IsRe
     → IsReportFrom at b text
 report_from None b text r is told = (r, is, told)
 report_from (Some at) b text r is told = (r, is, told)
+
+-- what breaks off leaves no record untold
+pub nothing_untold : (b : List ℕ) (old new : Option (List ℕ)) (e : Trouble) → IsBroken e → LeavesOut b old new e
+nothing_untold b old new (Log fault) h = tt
+nothing_untold b old new (Output error) h = tt
+nothing_untold b old new (Untold number) h = absurd h
+nothing_untold b old new (NoQueue queue) h = tt
+nothing_untold b old new (Nothing subject) h = tt
+
+-- and so does a script
+pub broken_off : (e : Trouble) → IsBroken e → BreaksOff e
+broken_off (Log fault) h = h
+broken_off (Output error) h = tt
+broken_off (Untold number) h = tt
+broken_off (NoQueue queue) h = h
+broken_off (Nothing subject) h = h
+
+-- what is put behind a choice belongs to it
+pub choice_goes_on : (text put : List ℕ) → IsChoice false text → IsChoice false (text ++ put)
+choice_goes_on text put h =
+    (h.0 ++ put, ap (λ (t : List ℕ). t ++ put) h.1 ∙ append_assoc (codes "# ") h.0 put)

@@ -1,3 +1,5 @@
+pub mod Findings
 pub mod Looks
+pub mod Rests
 pub mod Scripts
 pub mod Walks

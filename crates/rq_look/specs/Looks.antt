@@ -94,18 +94,6 @@ abbrev pub checkpoint_finding : ℕ × Bool → List ℕ
 checkpoint_finding x = if x.1 then [] else codes "the checkpoint at "
     ++ (decimal x.0 ++ codes " does not spell the state before it\n")
 
--- whether b is whole, and each checkpoint of its front true; and the text has these lines of b,
--- with some reason. Of what begins with a checkpoint this is not known: the text says so, and where
--- the front ends
-abbrev pub IsFindings : Option ℕ → List ℕ → Bool → List ℕ → Type 0
-IsFindings None b fine text = (r : Restarted) × (found : List (ℕ × Bool)) × (reason : List ℕ)
-    × IsRestart b r × IsAudit b (map audited_of found)
-    × (fine ≡ (is_whole r.why && all_true found))
-    × (text ≡ end_finding r.records r.used r.total r.why reason
-    ++ flat_map checkpoint_finding found)
-IsFindings (Some at) b fine text = (r : Restarted) × (reason : List ℕ) × IsRestartAt b at r
-    × (fine ≡ false) × (text ≡ codes "carried: use rqlog\n" ++ end_line r reason)
-
 -- b is refused as a restart of it is
 abbrev pub IsRefusal : Option ℕ → List ℕ → Trouble → Type 0
 IsRefusal at b (Log fault) = RefusedFrom at b fault

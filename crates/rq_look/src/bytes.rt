@@ -13,14 +13,40 @@ pub(crate) fn is_plain(byte: u8) -> bool {
     matches!(byte, b' '..=b'~')
 }
 
-/// The text that the bytes spell, where no character of it is hidden.
+// What stands for a character that is no text by itself but belongs to one: the end of a line, a
+// tab.
+fn escape_of(c: char) -> Option<&'static str> {
+    match c {
+        '\n' => Some("\\n"),
+        '\r' => Some("\\r"),
+        '\t' => Some("\\t"),
+        _ => None,
+    }
+}
+
+fn is_shown(c: char) -> bool {
+    escape_of(c).is_some() || !is_hidden(c)
+}
+
+/// The text that the bytes spell, where no character of it is hidden but for ends of lines and tabs.
 pub(crate) fn printable(bytes: &[u8]) -> Option<&str> {
     let text = from_utf8(bytes).ok()?;
-    if bytes.iter().all(|b| is_plain(*b)) || text.chars().all(|c| !is_hidden(c)) {
+    if bytes.iter().all(|b| is_plain(*b)) || text.chars().all(|c| is_shown(c)) {
         Some(text)
     } else {
         None
     }
+}
+
+// Puts a character of a text between quotation marks, so that it is told from these and seen.
+fn put_shown(text: &mut String, c: char) -> Result<(), AllocError> {
+    if let Some(escape) = escape_of(c) {
+        return text.push_str(escape);
+    }
+    if c == '"' || c == '\\' {
+        text.push('\\')?;
+    }
+    text.push(c)
 }
 
 // Puts the first characters of a text, between quotation marks, and answers how many bytes these
@@ -29,10 +55,7 @@ fn put_quoted(text: &mut String, word: &str, most: usize) -> Result<usize, Alloc
     let mut shown: usize = 0;
     text.push('"')?;
     for c in word.chars().take(most) {
-        if c == '"' || c == '\\' {
-            text.push('\\')?;
-        }
-        text.push(c)?;
+        put_shown(text, c)?;
         shown = shown.saturating_add(c.len_utf8());
     }
     text.push('"')?;

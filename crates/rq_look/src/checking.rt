@@ -4,11 +4,14 @@ ghost use Rattle.std.specs.Prelude.{◌≡◌, ◌&&◌, ◌++◌, None, Some, I
 ghost use Rattle.std.specs.List.{flat_map};
 ghost use Rattle.rq_restart.specs.Views.{why_of};
 ghost use Rattle.rq_look.specs.Looks as looks;
-ghost use Rattle.rq_look.specs.Looks.{IsFindings, IsRefusal, all_true, checkpoint_finding};
-ghost use Rattle.rq_look.specs.Looks.{end_finding};
+ghost use Rattle.rq_look.specs.Findings.{IsFindings};
+ghost use Rattle.rq_look.specs.Looks.{IsRefusal, all_true, checkpoint_finding, end_finding};
+ghost use Rattle.rq_look.specs.Rests.{behind_finding};
 
 use crate::ends::{End, end_at, is_whole, put_end, whole_end};
+use crate::standing::{put_rest, standing_behind};
 use crate::trouble::Trouble;
+use rq_behind::Found;
 use rq_restart::{Plan, audit};
 use std::alloc::{AllocError, Global};
 use std::fmt::Write;
@@ -19,8 +22,8 @@ use std::thread::Threads;
 pub struct Findings {
     /// Whether the log is whole, and each checkpoint of its front true.
     pub fine: bool,
-    /// What is wrong with it, a line each: that its front ends before it does, and each checkpoint
-    /// of the front that is not true.
+    /// What is wrong with it, a line each: that its front ends before it does, then what stands
+    /// behind it; and each checkpoint of the front that is not true.
     pub text: String,
 }
 
@@ -60,13 +63,20 @@ fn front_text(alloc: Global, end: &End) -> Result<String, AllocError>
     Ok(text)
 }
 
-// The line of the front's end, and those of the checkpoints.
-fn text_of(alloc: Global, end: &End, checkpoints: &[(u64, bool)]) -> Result<String, AllocError>
+// The lines of the front's end, of what stands behind it, and of the checkpoints.
+fn text_of(
+    alloc: Global,
+    end: &End,
+    behind: &Found,
+    checkpoints: &[(u64, bool)],
+) -> Result<String, AllocError>
     ensures { IfOk result (λ text. string_bytes text ≡ end_finding end.now.records end.now.used
         end.now.total (why_of end.now.why) (string_bytes end.now.reason)
+        ++ behind_finding (why_of end.now.why) behind.now end.now.total
         ++ flat_map checkpoint_finding checkpoints.now) }
 {
     let mut text = front_text(alloc, end)?;
+    put_rest(&mut text, end, behind)?;
     for (offset, truth) in checkpoints {
         put_checkpoint(&mut text, *offset, *truth)?;
     }
@@ -86,9 +96,10 @@ fn check_whole<R: Threads + Sync>(
 {
     let end = whole_end(rt, alloc, bytes, plan)?;
     let checkpoints = audit(rt, alloc, bytes, plan)?;
+    let behind = standing_behind(alloc, bytes, &end)?;
     Ok(Findings {
         fine: is_fine(&end, &checkpoints),
-        text: text_of(alloc, &end, &checkpoints)?,
+        text: text_of(alloc, &end, &behind, &checkpoints)?,
     })
 }
 
@@ -106,8 +117,10 @@ fn check_at<R: Threads + Sync>(
     ensures refused { IfErr result (IsRefusal (Some at) bytes.now) }
 {
     let end = end_at(rt, alloc, bytes, at, plan)?;
+    let behind = standing_behind(alloc, bytes, &end)?;
     let mut text = String::from_str(alloc, "carried: use rqlog\n")?;
     put_end(&mut text, &end)?;
+    put_rest(&mut text, &end, &behind)?;
     Ok(Findings { fine: false, text })
 }
 

@@ -9,6 +9,7 @@ ghost use Rattle.rq_look.specs.Looks.{EndsDump, IsBroken, IsClosing, IsRestartFr
 ghost use Rattle.rq_look.specs.Looks.{StaysUnshown, front_end_of};
 
 use crate::beginning::{first_state, frames_behind};
+use crate::beyond::put_wanted_behind;
 use crate::ends::{End, end_of, put_beginning, put_end};
 use crate::frames::{Placed, PlacedFrames};
 use crate::json::{closing_of, record_shown, spelled_out};
@@ -111,6 +112,7 @@ fn put_wanted<W: Write>(
 }
 
 // Puts those records of the front that are wanted. So many queues are defined before the first.
+// Answers how many more may be put.
 fn put_records<W: Write>(
     alloc: Global,
     frames: PlacedFrames<'_>,
@@ -118,7 +120,7 @@ fn put_records<W: Write>(
     wanted: &Wanted<'_>,
     text: &mut String,
     output: &mut W,
-) -> Result<(), Trouble>
+) -> Result<u64, Trouble>
     ensures only { OnOk result
         ((put : List ℕ) × Appends (W.contents output.old) (W.contents output.new) put) }
     ensures refused { IfErr result IsBroken }
@@ -127,14 +129,14 @@ fn put_records<W: Write>(
     let mut left = wanted.limit;
     for placed in frames {
         if left == 0 {
-            return Ok(());
+            return Ok(0);
         }
         if put_wanted(alloc, placed, queues, wanted, text, output)? {
             left -= 1;
         }
         queues = queues_behind(queues, placed.body);
     }
-    Ok(())
+    Ok(left)
 }
 
 // Puts, before the last line, with which checkpoint the log begins. In JSON the last line has it.
@@ -149,7 +151,9 @@ fn put_origin(text: &mut String, end: &End, wanted: &Wanted<'_>) -> Result<(), T
 
 /// Writes a line for each record of the front that is wanted, and a last one that says where the
 /// front ends and why: what is shown is what a restart sees, from the checkpoint on at the offset, if
-/// there is one. Then the last line but one, or the last one in JSON, says so.
+/// there is one. Then the last line but one, or the last one in JSON, says so. If what stands behind
+/// the front is wanted, the right frames there stand before these lines, each marked, and how many
+/// they are.
 ///
 /// Refuses what a restart from there refuses, and before anything is written; else with `Output`
 /// where the output fails, and with `Resources` where memory is refused, and then some of it may be
@@ -177,7 +181,8 @@ where
     let frames = frames_behind(bytes, &first, at, end.used);
     let queues = queues_of(first.definitions());
     let mut text = String::new(alloc);
-    put_records(alloc, frames, queues, wanted, &mut text, output)?;
+    let left = put_records(alloc, frames, queues, wanted, &mut text, output)?;
+    put_wanted_behind(alloc, bytes, &end, wanted, left, &mut text, output)?;
     put_origin(&mut text, &end, wanted)?;
     put_closing(alloc, &mut text, &end, wanted)?;
     finish(&mut text, output)?;

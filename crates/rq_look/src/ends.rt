@@ -81,7 +81,12 @@ fn chain_reason(alloc: Global, before: &[u8], rest: &[u8]) -> Result<String, All
     format!(in alloc; "the digest is {stated}, and that of the bytes {digest}")
 }
 
-fn form_reason(alloc: Global, version: Version, body: &[u8]) -> Result<String, AllocError> {
+/// Why no record of the version has the body.
+pub(crate) fn form_reason(
+    alloc: Global,
+    version: Version,
+    body: &[u8],
+) -> Result<String, AllocError> {
     match misfit_of(version, body) {
         Some((at, misfit)) => format!(in alloc; "byte {at} of the body: {misfit}"),
         None => String::from_str(alloc, "no record has the body"),
@@ -255,7 +260,7 @@ pub(crate) fn end_at<R: Threads + Sync>(
 }
 
 /// Where the front of a log ends, from the checkpoint on at an offset, if there is one.
-pub(crate) fn end_of<R: Threads + Sync>(
+pub fn end_of<R: Threads + Sync>(
     rt: &R,
     alloc: Global,
     bytes: &[u8],
@@ -274,7 +279,7 @@ pub(crate) fn end_of<R: Threads + Sync>(
 }
 
 /// Puts with which checkpoint a log begins that was carried on; of another, nothing.
-pub(crate) fn put_beginning(text: &mut String, at: Option<u64>) -> Result<(), AllocError>
+pub fn put_beginning(text: &mut String, at: Option<u64>) -> Result<(), AllocError>
     ensures { OnOk result (string_bytes text.new ≡ string_bytes text.old ++ beginning_text at) }
 {
     match at {
@@ -284,7 +289,7 @@ pub(crate) fn put_beginning(text: &mut String, at: Option<u64>) -> Result<(), Al
 }
 
 /// Puts where the front ends, as a line.
-pub(crate) fn put_end(text: &mut String, end: &End) -> Result<(), AllocError>
+pub fn put_end(text: &mut String, end: &End) -> Result<(), AllocError>
     ensures { OnOk result (string_bytes text.new ≡ string_bytes text.old
         ++ end_text end.now.records end.now.used end.now.total (why_of end.now.why)
         (string_bytes end.now.reason)) }

@@ -290,6 +290,14 @@ impl Queues {
         self.end(unit, false)
     }
 
+    /// How many free elements each queue has, by number.
+    pub fn depths(&self, alloc: Global) -> Result<Vec<u64>, AllocError> {
+        self.shelves
+            .iter()
+            .map(|shelf| shelf.free.len() as u64)
+            .collect(alloc)
+    }
+
     /// What happened at the last record, or at the last abort behind the front.
     pub fn events(&self) -> &[Event] {
         &self.events

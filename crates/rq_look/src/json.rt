@@ -1,9 +1,12 @@
 //! What is written as JSON.
 
+ghost use Rattle.std.specs.Prelude.{◌≡◌};
+
 use crate::bytes::is_plain;
 use crate::ends::End;
 use crate::hidden::is_hidden;
-use crate::numbered::{Numbered, by_of, element_of, kind_of, registrant_of, unit_of};
+use crate::numbered::{Numbered, by_of, element_of, kind_of, queue_named, registrant_of, unit_of};
+use rq_behind::Found;
 use rq_record::{KeptRecord, QueueNo};
 use rq_report::why_word;
 use serde::Serialize;
@@ -38,7 +41,10 @@ impl<'a> PayloadShown<'a> {
 #[derive(Drop, Serialize)]
 pub(crate) struct Shown<'a> {
     offset: u64,
-    record: u64,
+    #[serde(skip_serializing_if = "Option::is_none")]
+    record: Option<u64>,
+    #[serde(skip_serializing_if = "Option::is_none")]
+    behind: Option<bool>,
     kind: &'a str,
     #[serde(skip_serializing_if = "Option::is_none")]
     unit: Option<u64>,
@@ -110,15 +116,77 @@ fn checkpoint_of(alloc: Global, record: &KeptRecord) -> Result<Option<DigitsShow
 
 /// The record with those fields that its kind has.
 pub(crate) fn record_shown(alloc: Global, it: &Numbered) -> Result<Shown<'_>, AllocError> {
-    let record = &it.record;
+    let mut shown = fields_shown(alloc, it.offset, &it.record, it.queue())?;
+    shown.record = Some(it.number);
+    Ok(shown)
+}
+
+/// The same of a record behind the front: its number is not known, nor that of a queue that it
+/// defines.
+pub(crate) fn loose_shown(
+    alloc: Global,
+    offset: u64,
+    record: &KeptRecord,
+) -> Result<Shown<'_>, AllocError> {
+    let mut shown = fields_shown(alloc, offset, record, queue_named(record))?;
+    shown.behind = Some(true);
+    Ok(shown)
+}
+
+/// A frame behind the front whose body spells no record, and why.
+#[derive(Clone, Copy, Serialize)]
+pub(crate) struct UnspelledShown<'a> {
+    pub(crate) offset: u64,
+    pub(crate) behind: bool,
+    pub(crate) reason: &'a str,
+}
+
+/// How many right frames stand behind the front, where the first begins, how many bytes fit nothing,
+/// and where the search gave up.
+#[derive(Clone, Copy, Serialize)]
+struct RestShown {
+    frames: usize,
+    #[serde(skip_serializing_if = "Option::is_none")]
+    first: Option<usize>,
+    unfit: usize,
+    #[serde(skip_serializing_if = "Option::is_none")]
+    gave_up: Option<usize>,
+}
+
+/// The line of what stands behind the front.
+#[derive(Clone, Copy, Serialize)]
+pub(crate) struct BehindShown {
+    behind: RestShown,
+}
+
+/// What stands behind the front.
+pub(crate) fn behind_of(found: &Found) -> BehindShown {
+    BehindShown {
+        behind: RestShown {
+            frames: found.spans.len(),
+            first: found.spans.first().map(|span| span.offset()),
+            unfit: found.unfit,
+            gave_up: found.gave_up,
+        },
+    }
+}
+
+// The fields of a record, which defines or names a queue.
+fn fields_shown(
+    alloc: Global,
+    offset: u64,
+    record: &KeptRecord,
+    queue: Option<QueueNo>,
+) -> Result<Shown<'_>, AllocError> {
     let (name, limit, error) = definition_of(record);
     let (priority, payload) = payload_of(alloc, record)?;
     Ok(Shown {
-        offset: it.offset,
-        record: it.number,
+        offset,
+        record: None,
+        behind: None,
         kind: kind_of(record),
         unit: unit_of(record).map(|unit| unit.0),
-        queue: it.queue().map(|queue| queue.0),
+        queue: queue.map(|queue| queue.0),
         element: element_of(record).map(|element| element.0),
         name,
         limit,
@@ -133,7 +201,7 @@ pub(crate) fn record_shown(alloc: Global, it: &Numbered) -> Result<Shown<'_>, Al
 
 /// Where a front ends, and where the checkpoint stands that a log begins with which was carried on.
 #[derive(Clone, Copy, Serialize)]
-pub(crate) struct FrontShown<'a> {
+pub struct FrontShown<'a> {
     #[serde(skip_serializing_if = "Option::is_none")]
     carried_at: Option<u64>,
     records: u64,
@@ -150,7 +218,12 @@ pub(crate) struct ClosingShown<'a> {
 }
 
 /// Where the front ends.
-pub(crate) fn front_of(end: &End) -> FrontShown<'_> {
+pub fn front_of(end: &End) -> FrontShown<'_>
+    ensures beginning { result.carried_at ≡ end.now.at }
+    ensures records { result.records ≡ end.now.records }
+    ensures used { result.used ≡ end.now.used }
+    ensures total { result.total ≡ end.now.total }
+{
     FrontShown {
         carried_at: end.at,
         records: end.records,

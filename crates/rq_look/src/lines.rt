@@ -1,7 +1,7 @@
 //! A record as a line.
 
 use crate::bytes::put_bytes;
-use crate::numbered::{Numbered, by_of, kind_of, unit_of};
+use crate::numbered::{Numbered, by_of, kind_of, queue_named, unit_of};
 use rq_record::{KeptRecord, QueueNo};
 use std::alloc::{AllocError, Global};
 use std::fmt::Write;
@@ -14,8 +14,8 @@ fn put_unit(text: &mut String, record: &KeptRecord) -> Result<(), AllocError> {
     Ok(())
 }
 
-fn put_queue(text: &mut String, it: &Numbered) -> Result<(), AllocError> {
-    if let Some(queue) = it.queue() {
+fn put_queue(text: &mut String, queue: Option<QueueNo>) -> Result<(), AllocError> {
+    if let Some(queue) = queue {
         let queue = queue.0;
         write!(text, " queue {queue}")?;
     }
@@ -88,6 +88,33 @@ fn put_fields(
     }
 }
 
+// Puts what stands behind the kind of a record, which defines or names a queue.
+fn put_behind_kind(
+    alloc: Global,
+    text: &mut String,
+    record: &KeptRecord,
+    queue: Option<QueueNo>,
+    full: bool,
+) -> Result<(), AllocError> {
+    put_unit(text, record)?;
+    put_queue(text, queue)?;
+    put_fields(alloc, text, record, full)
+}
+
+/// Puts the line of a record behind the front without its end: its offset, `behind`, its kind and its
+/// fields. Its number is not known, nor that of a queue that it defines.
+pub(crate) fn put_loose_record(
+    alloc: Global,
+    text: &mut String,
+    offset: u64,
+    record: &KeptRecord,
+    full: bool,
+) -> Result<(), AllocError> {
+    let kind = kind_of(record);
+    write!(text, "{offset} behind {kind}")?;
+    put_behind_kind(alloc, text, record, queue_named(record), full)
+}
+
 /// Puts the line of a record without its end: its offset, its number, its kind and its fields.
 pub(crate) fn put_record(
     alloc: Global,
@@ -98,7 +125,5 @@ pub(crate) fn put_record(
     let (offset, number) = (it.offset, it.number);
     let kind = kind_of(&it.record);
     write!(text, "{offset} {number} {kind}")?;
-    put_unit(text, &it.record)?;
-    put_queue(text, it)?;
-    put_fields(alloc, text, &it.record, full)
+    put_behind_kind(alloc, text, &it.record, it.queue(), full)
 }

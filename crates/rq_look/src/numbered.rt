@@ -50,13 +50,20 @@ impl Numbered {
     pub fn queue(&self) -> Option<QueueNo> {
         match &self.record {
             KeptRecord::Define { .. } => Some(QueueNo(self.queues)),
-            KeptRecord::Register { queue, .. }
-            | KeptRecord::Deregister { queue, .. }
-            | KeptRecord::Enqueue { queue, .. }
-            | KeptRecord::Dequeue { queue, .. }
-            | KeptRecord::Kill { queue, .. } => Some(*queue),
-            _ => None,
+            record => queue_named(record),
         }
+    }
+}
+
+/// The queue that a record names.
+pub(crate) fn queue_named(record: &KeptRecord) -> Option<QueueNo> {
+    match record {
+        KeptRecord::Register { queue, .. }
+        | KeptRecord::Deregister { queue, .. }
+        | KeptRecord::Enqueue { queue, .. }
+        | KeptRecord::Dequeue { queue, .. }
+        | KeptRecord::Kill { queue, .. } => Some(*queue),
+        _ => None,
     }
 }
 

@@ -193,8 +193,8 @@ fn put_record(alloc: Global, text: &mut String, r: &KeptRecord) -> Result<(), Al
     }
 }
 
-// Whether the operation names the registrant whom a script takes for nobody.
-fn is_untold(r: &KeptRecord) -> bool
+/// Whether the operation names the registrant whom a script takes for nobody.
+pub(crate) fn is_untold(r: &KeptRecord) -> bool
     ensures dash { result ≡ true → IsDash (by_in (record_of r.now)) }
     ensures named { result ≡ false → IsNamed (by_in (record_of r.now)) }
 {
@@ -204,7 +204,8 @@ fn is_untold(r: &KeptRecord) -> bool
     }
 }
 
-fn put_line(alloc: Global, text: &mut String, r: &KeptRecord) -> Result<(), AllocError>
+/// Puts the line of a record.
+pub(crate) fn put_line(alloc: Global, text: &mut String, r: &KeptRecord) -> Result<(), AllocError>
     ensures line { OnOk result
         (string_bytes text.new ≡ string_bytes text.old ++ script_line (record_of r.now)) }
     ensures tellable { OnOk result
@@ -240,7 +241,8 @@ fn put_placed<W: io::Write>(
     Ok(())
 }
 
-fn put_records<W: io::Write>(
+/// Writes the script of the front, of so many bytes.
+pub(crate) fn put_records<W: io::Write>(
     alloc: Global,
     bytes: &[u8],
     used: u64,

@@ -1,7 +1,7 @@
 //! Which records are wanted, and how.
 
 use crate::numbered::{Numbered, kind_of, registrant_of, unit_of};
-use rq_record::{QueueNo, UnitNo};
+use rq_record::{KeptRecord, QueueNo, UnitNo};
 
 /// Which records of a front are to be shown, and how. What is none asks for nothing.
 #[derive(Clone, Copy, Debug)]
@@ -22,6 +22,8 @@ pub struct Wanted<'a> {
     pub full: bool,
     /// Whether each line is an object of JSON.
     pub json: bool,
+    /// Whether the right frames behind the front are shown too.
+    pub behind: bool,
 }
 
 // Whether what was found is what was asked for, if anything was.
@@ -32,9 +34,22 @@ fn is_asked<T: PartialEq + Drop>(asked: Option<T>, found: Option<T>) -> bool {
 impl Wanted<'_> {
     /// Whether the record is wanted.
     pub(crate) fn wants(&self, it: &Numbered) -> bool {
-        is_asked(self.unit.map(UnitNo), unit_of(&it.record))
-            && is_asked(self.queue.map(QueueNo), it.queue())
-            && is_asked(self.registrant, registrant_of(&it.record))
-            && is_asked(self.kind, Some(kind_of(&it.record)))
+        self.wants_record(&it.record, it.queue())
+    }
+
+    /// Whether the record is wanted, which defines or names a queue.
+    pub(crate) fn wants_record(&self, record: &KeptRecord, queue: Option<QueueNo>) -> bool {
+        is_asked(self.unit.map(UnitNo), unit_of(record))
+            && is_asked(self.queue.map(QueueNo), queue)
+            && is_asked(self.registrant, registrant_of(record))
+            && is_asked(self.kind, Some(kind_of(record)))
+    }
+
+    /// Whether what is no record is wanted: if no record is asked for.
+    pub(crate) fn wants_no_record(&self) -> bool {
+        self.unit.is_none()
+            && self.queue.is_none()
+            && self.registrant.is_none()
+            && self.kind.is_none()
     }
 }

@@ -1,5 +1,8 @@
-use rq_look::{Plan, Subject, Wanted, begins_at, check, dump, report, report_json, script, story};
+use rq_look::{
+    Plan, Subject, Wanted, begins_at, check, dump, report, report_json, salvage, script, story,
+};
 use rq_page::{Asked, Order, page, put_text};
+use rq_stats::stats;
 use rq_writer::make;
 use std::alloc::Global;
 use std::test::Fail;
@@ -45,7 +48,29 @@ const ALL: Wanted<'static> = Wanted {
     limit: 100,
     full: false,
     json: false,
+    behind: false,
 };
+
+// What stands behind the front of the log whose BEGIN is damaged.
+const FINDINGS: &str = "behind it 2 frames are right in themselves, the first at 132; \
+    45 bytes fit nothing\n";
+
+const BEHIND: &[u8] = b"132 behind enqueue unit 1 queue 0 priority 5 by - payload \"a\"\n\
+    192 behind commit unit 1\n\
+    behind it 2 frames are right in themselves, the first at 132; 45 bytes fit nothing\n\
+    front ends behind 1 records, at 87 of 237 bytes, chain: ";
+
+const CHOICE: &[u8] = b"# 45 bytes at 87 fit nothing\n#132 enqueue 1 0 5 - 0 61\n#192 commit 1\n";
+
+const NUMBERS: &[u8] = b"front ends behind 4 records, at 237 of 237 bytes, whole: nothing follows\n\
+    define 1 records, 47 bytes\n\
+    begin 1 records, 45 bytes\n\
+    enqueue 1 records, 60 bytes\n\
+    commit 1 records, 45 bytes\n\
+    units 1 committed, 0 aborted, 0 cut off\n\
+    unit 1 open for 2 records, committed\n\
+    payload of 1 bytes at 132, record 2\n\
+    queue 0 jobs 1 free elements\n";
 
 fn dumps<R: Threads + Sync + AllocGlobal>(rt: &R, log: &[u8], plan: &Plan) -> bool {
     let mut shown = Vec::new(rt.alloc());
@@ -112,6 +137,45 @@ fn spells_text(alloc: Global) -> Result<bool, Fail> {
     Ok(text.as_str() == "a&lt;b\u{241b}&amp;&quot;&#39;&gt;")
 }
 
+fn counts<R: Threads + Sync + AllocGlobal>(rt: &R, log: &[u8], plan: &Plan) -> bool {
+    let mut shown = Vec::new(rt.alloc());
+    let done = stats(rt, rt.alloc(), log, None, plan, false, &mut shown);
+    done.is_ok() && shown.as_slice() == NUMBERS
+}
+
+// The log with a byte of its BEGIN changed.
+fn damaged(alloc: Global, log: &[u8]) -> Result<Vec<u8>, Fail> {
+    let mut file = Vec::new(alloc);
+    file.extend_from_slice(log.get(..92).ok_or("before")?)?;
+    file.push(1)?;
+    file.extend_from_slice(log.get(93..).ok_or("behind")?)?;
+    Ok(file)
+}
+
+fn finds_the_rest<R: Threads + Sync + AllocGlobal>(rt: &R, log: &[u8], plan: &Plan) -> bool {
+    match check(rt, rt.alloc(), log, None, plan) {
+        Ok(found) => !found.fine && found.text.ends_with(FINDINGS),
+        Err(_) => false,
+    }
+}
+
+fn dumps_the_rest<R: Threads + Sync + AllocGlobal>(rt: &R, log: &[u8], plan: &Plan) -> bool {
+    let wanted = Wanted {
+        from: 87,
+        behind: true,
+        ..ALL
+    };
+    let mut shown = Vec::new(rt.alloc());
+    let done = dump(rt, rt.alloc(), log, None, plan, &wanted, &mut shown);
+    done.is_ok() && shown.starts_with(BEHIND)
+}
+
+fn salvages<R: Threads + Sync + AllocGlobal>(rt: &R, log: &[u8], plan: &Plan) -> bool {
+    let mut shown = Vec::new(rt.alloc());
+    let done = salvage(rt, rt.alloc(), log, plan, &mut shown);
+    done.is_ok() && shown.starts_with(b"define jobs 0 -\n# front ends ") && shown.ends_with(CHOICE)
+}
+
 fn finds_nothing<R: Threads + Sync + AllocGlobal>(rt: &R, log: &[u8], plan: &Plan) -> bool {
     match check(rt, rt.alloc(), log, None, plan) {
         Ok(found) => found.fine && found.text.is_empty(),
@@ -161,6 +225,7 @@ fn a_log_is_shown_by_each_call(rt: HostRuntime) -> Result<(), Fail> {
     assert!(rt; makes_a_page(&rt, &log, &plan), "page");
     assert!(rt; spells_text(rt.alloc())?, "text");
     assert!(rt; finds_nothing(&rt, &log, &plan), "check");
+    assert!(rt; counts(&rt, &log, &plan), "stats");
     let carried = carried(rt.alloc(), &make(&rt, rt.alloc(), MARKED, &plan)?)?;
     assert!(rt;
         tells_carried(&rt, &carried, &plan),
@@ -174,5 +239,15 @@ fn a_log_is_shown_by_each_call(rt: HostRuntime) -> Result<(), Fail> {
         makes_a_page(&rt, &carried, &plan),
         "page of a log that was carried on"
     );
+    Ok(())
+}
+
+#[test]
+fn what_stands_behind_the_front_is_shown(rt: HostRuntime) -> Result<(), Fail> {
+    let plan = Plan::new(2, 1).ok_or("plan")?;
+    let log = damaged(rt.alloc(), &make(&rt, rt.alloc(), SCRIPT, &plan)?)?;
+    assert!(rt; finds_the_rest(&rt, &log, &plan), "check");
+    assert!(rt; dumps_the_rest(&rt, &log, &plan), "dump");
+    assert!(rt; salvages(&rt, &log, &plan), "salvage");
     Ok(())
 }

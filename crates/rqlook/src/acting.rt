@@ -11,9 +11,15 @@ use std::io::{self, ErrorKind, Printer};
 use std::os::fd::AsFd;
 use std::rt::{Clock, Files};
 use std::thread::Threads;
+use std::time::Instant;
 
 // The grain of each plan, in frames.
 const GRAIN: u32 = 1000;
+
+// Whether a command begins with the first record of a log, and so shows none that was carried on.
+fn begins_with_the_first(command: &str) -> bool {
+    matches!(command, "script" | "salvage")
+}
 
 fn plan_of(words: &ArgMatches<'_>) -> Option<Plan> {
     Plan::new(words.get_one::<u32>("workers")?, GRAIN)
@@ -107,6 +113,44 @@ where
     Ok(true)
 }
 
+// Tells how long a megabyte of the log took, where there is a clock.
+fn tell_time<R: Eprint + Clock>(rt: &R, bytes: &[u8], begun: Option<Instant>) {
+    let Some(elapsed) = begun.and_then(|begun| begun.elapsed(rt).ok()) else {
+        return;
+    };
+    let each = elapsed.as_micros() / (bytes.len() as u128 / 1_000_000).max(1);
+    let _ = eprintln!(rt; "rqlook: {each} microseconds for a megabyte");
+}
+
+fn stats<R>(
+    rt: &R,
+    bytes: &[u8],
+    at: Option<u64>,
+    plan: &Plan,
+    words: &ArgMatches<'_>,
+) -> Result<bool, Trouble>
+where
+    R: Print + Eprint + Clock + AllocGlobal + Threads + Sync,
+{
+    let begun = if words.get_flag("time") {
+        Instant::now(rt).ok()
+    } else {
+        None
+    };
+    let mut output = io::writer(rt);
+    rq_stats::stats(
+        rt,
+        rt.alloc(),
+        bytes,
+        at,
+        plan,
+        words.get_flag("json"),
+        &mut output,
+    )?;
+    tell_time(rt, bytes, begun);
+    Ok(true)
+}
+
 fn perform<R>(
     rt: &R,
     name: &str,
@@ -123,40 +167,22 @@ where
         "dump" => dump(rt, bytes, at, plan, words, watch),
         "check" => check(rt, bytes, at, plan, words.get_flag("quiet")),
         "report" => report(rt, bytes, at, plan, words),
+        "stats" => stats(rt, bytes, at, plan, words),
         "story" | "unit" => story(rt, bytes, at, plan, words),
         _ => rq_look::script(rt, rt.alloc(), bytes, plan, &mut output(rt, watch)),
     }
 }
 
-// The page of a log, in memory.
-fn page_of<R>(
-    rt: &R,
-    bytes: &[u8],
-    at: Option<u64>,
-    plan: &Plan,
-    asked: &Asked<'_>,
-) -> Result<Vec<u8>, Trouble>
-where
-    R: AllocGlobal + Threads + Sync,
-{
-    let mut made = Vec::new(rt.alloc());
-    match rq_page::page(rt, rt.alloc(), bytes, at, plan, asked, &mut made) {
-        Ok(()) => Ok(made),
-        // A write into memory fails for want of it alone.
-        Err(Trouble::Output(_)) => Err(Trouble::Log(Fault::Resources)),
-        Err(trouble) => Err(trouble),
-    }
-}
-
 // The page that the words ask for of a log.
-fn page_asked<R>(
+fn page_of<R>(
     rt: &R,
     bytes: &[u8],
     at: Option<u64>,
     plan: &Plan,
     words: &ArgMatches<'_>,
     file: &str,
-) -> Result<Vec<u8>, Trouble>
+    made: &mut Vec<u8>,
+) -> Result<(), Trouble>
 where
     R: AllocGlobal + Threads + Sync,
 {
@@ -169,12 +195,39 @@ where
         elements: elements.as_slice(),
         units: units.as_slice(),
     };
-    page_of(rt, bytes, at, plan, &asked)
+    rq_page::page(rt, rt.alloc(), bytes, at, plan, &asked, made)
 }
 
-// Makes the page of a log. Its file is whole or as it was, and never the log.
-fn page<R>(
+// The page of a log, or its script with what stands behind its front, in memory.
+fn made_of<R>(
     rt: &R,
+    name: &str,
+    bytes: &[u8],
+    at: Option<u64>,
+    plan: &Plan,
+    words: &ArgMatches<'_>,
+    file: &str,
+) -> Result<Vec<u8>, Trouble>
+where
+    R: AllocGlobal + Threads + Sync,
+{
+    let mut made = Vec::new(rt.alloc());
+    let done = match name {
+        "page" => page_of(rt, bytes, at, plan, words, file, &mut made),
+        _ => rq_look::salvage(rt, rt.alloc(), bytes, plan, &mut made),
+    };
+    match done {
+        Ok(()) => Ok(made),
+        // A write into memory fails for want of it alone.
+        Err(Trouble::Output(_)) => Err(Trouble::Log(Fault::Resources)),
+        Err(trouble) => Err(trouble),
+    }
+}
+
+// Makes the page of a log, or its salvage. The file is whole or as it was, and never the log.
+fn make<R>(
+    rt: &R,
+    name: &str,
     bytes: &[u8],
     at: Option<u64>,
     plan: &Plan,
@@ -189,7 +242,7 @@ where
     if is_over_log(rt, file, to) {
         return Err(Failure::Same);
     }
-    let made = match page_asked(rt, bytes, at, plan, words, file) {
+    let made = match made_of(rt, name, bytes, at, plan, words, file) {
         Ok(made) => made,
         Err(trouble) => {
             return Err(Failure::Refused(String::from_str(rt.alloc(), file)?, trouble));
@@ -222,12 +275,11 @@ where
     let bytes = log_in(rt, file, watch)?;
     watch.begins(rt, &bytes);
     let at = begins_at(&bytes);
-    // A script begins with the first record of a log.
-    if at.is_some() && name == "script" {
+    if at.is_some() && begins_with_the_first(name) {
         return Err(Failure::Carried(String::from_str(rt.alloc(), file)?));
     }
     if let Some(to) = words.get_str("OUT") {
-        return page(rt, &bytes, at, &plan, words, file, to);
+        return make(rt, name, &bytes, at, &plan, words, file, to);
     }
     match perform(rt, name, words, &bytes, at, &plan, watch) {
         Ok(fine) => Ok(fine),

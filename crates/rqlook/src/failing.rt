@@ -35,7 +35,7 @@ pub(crate) enum Failure {
     Carried(String),
     /// The file cannot be written.
     Unwritten(String, io::Error),
-    /// The page was to be written over its log.
+    /// What is made was to be written over its log.
     Same,
     /// The output fails.
     Output(io::Error),
@@ -110,7 +110,7 @@ impl Failure {
                 USAGE
             }
             Failure::Same => {
-                let _ = eprintln!(rt; "rqlook: the page is not written over its log");
+                let _ = eprintln!(rt; "rqlook: nothing is written over its log");
                 USAGE
             }
             Failure::Unread(file, error) | Failure::Unwritten(file, error) => {

@@ -96,6 +96,11 @@ fn dump<'a>(alloc: Global) -> Result<Command<'a>, Error> {
         selecting(alloc, command)?
             .arg(flag(alloc, "full", "Shows payloads whole"))?
             .arg(flag(alloc, "json", "Shows each line as an object of JSON"))?
+            .arg(flag(
+                alloc,
+                "behind",
+                "Shows the right frames behind the front too, each marked so",
+            ))?
             .arg(workers(alloc))?,
     )
 }
@@ -133,6 +138,39 @@ fn script<'a>(alloc: Global) -> Result<Command<'a>, Error> {
                  the log again",
             )
             .arg(log(alloc))?
+            .arg(workers(alloc))?,
+    )
+}
+
+fn salvage<'a>(alloc: Global) -> Result<Command<'a>, Error> {
+    let out = Arg::new(alloc, "OUT")
+        .required(true)
+        .help("The file of the script, or - for standard output");
+    Ok(
+        Command::new(alloc, "salvage")
+            .about(
+                "Makes a script of the front, with the records of the right frames behind it to \
+                 choose from",
+            )
+            .arg(log(alloc))?
+            .arg(out)?
+            .arg(workers(alloc))?,
+    )
+}
+
+fn stats<'a>(alloc: Global) -> Result<Command<'a>, Error> {
+    Ok(
+        Command::new(alloc, "stats")
+            .about(
+                "Shows numbers of the log: records by kind, units by outcome, and what is greatest",
+            )
+            .arg(log(alloc))?
+            .arg(flag(alloc, "json", "Shows them as JSON"))?
+            .arg(flag(
+                alloc,
+                "time",
+                "Tells on standard error how long a megabyte of the log took",
+            ))?
             .arg(workers(alloc))?,
     )
 }
@@ -209,10 +247,13 @@ pub(crate) fn program<'a>(alloc: Global) -> Result<Command<'a>, Error> {
             .about("Shows what is in the log of a recoverable queue manager")
             .version(VERSION)
             .subcommand_required(true)
+            .arg_required_else_help(true)
             .subcommand(dump(alloc)?)?
             .subcommand(check(alloc)?)?
             .subcommand(report(alloc)?)?
             .subcommand(script(alloc)?)?
+            .subcommand(salvage(alloc)?)?
+            .subcommand(stats(alloc)?)?
             .subcommand(story(alloc)?)?
             .subcommand(unit(alloc)?)?
             .subcommand(page(alloc)?)?,
@@ -264,5 +305,6 @@ pub(crate) fn records_asked<'a>(words: &ArgMatches<'a>) -> Wanted<'a> {
         limit: words.get_one::<u64>("limit").unwrap_or(u64::MAX),
         full: words.get_flag("full"),
         json: words.get_flag("json"),
+        behind: words.get_flag("behind"),
     }
 }

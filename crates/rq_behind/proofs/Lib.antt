@@ -1,0 +1,4 @@
+mod Sound
+mod Bodies
+mod Ends
+mod Seeking

@@ -1,0 +1,62 @@
+-- What is found is right, in order and apart.
+use Rattle.std.proofs.Common.{◌≡◌, ℕ, ◌+◌, ◌-◌, ◌≤◌, List, [], ◌∷◌, ◌++◌, length, drop, Option}
+use Rattle.std.proofs.Common.{sym, subst, arith, inl, inr}
+use Rattle.std.specs.Prelude.{All}
+use Rattle.std.proofs.lemmas.List.{length-drop, append-nil, append_assoc}
+use Rattle.std.proofs.lemmas.List.Elements.{All-nil, All-cons}
+use Rattle.rq_model.specs.Records.{Version}
+use Rattle.rq_model.specs.Frames.{HasFrame, stated}
+use Rattle.rq_front.specs.Walks.{IsRight}
+use Rattle.rq_front.specs.declared.spans.Span.{Span}
+use Rattle.rq_behind.specs.Runs.{IsRightAt, end_at}
+use Rattle.rq_behind.specs.Behind.{AreApart, AreFound, IsNext, Here, Led, Sought, LeadsFrom}
+
+-- what lengths lead to stands behind
+led_right : (b : List ℕ) (second p : ℕ) → LeadsFrom b second p → IsRightAt b p × (second ≤ p)
+led_right b second p (inl h) = (subst (IsRightAt b) (sym h.1) h.0, omega arith)
+led_right b second p (inr h) = (subst (IsRightAt b) (sym h.3) h.2, omega arith)
+
+-- the next frame is right, and stands at the offset or behind it
+pub next_right : (version : Version) (b : List ℕ) (at p : ℕ) → IsNext version b at p → IsRightAt b p × (at ≤ p)
+next_right version b at p (Here right e) = (subst (IsRightAt b) (sym e) right, omega arith)
+next_right version b at p (Led wrong led) =
+    let h = led_right b (end_at b at) p led.1 in (h.0, omega arith)
+next_right version b at p (Sought lost found) = (found.run.1.0, omega (arith, found.behind))
+
+-- a frame at an offset ends within the bytes
+pub frame_ends : (b : List ℕ) (at : ℕ) → HasFrame (drop at b) → end_at b at ≤ length b
+frame_ends b at frame = omega (arith, frame.room, length-drop at b)
+
+pub found_right : (version : Version) (b : List ℕ) (at : ℕ) (ss : List Span) (stop : Option ℕ)
+    → AreFound version b at ss stop → All (IsRight b) ss
+found_right version b at [] stop found = All-nil (IsRight b)
+found_right version b at (s ∷ ss) stop found =
+    All-cons (IsRight b) s ss (next_right version b at (s.start - 4) found.1).0
+    (found_right version b (s.start + s.len + 32) ss stop found.3)
+
+pub found_apart : (version : Version) (b : List ℕ) (at : ℕ) (ss : List Span) (stop : Option ℕ) → at ≤ length b
+    → AreFound version b at ss stop → AreApart at (length b) ss
+found_apart version b at [] stop within found = within
+found_apart version b at (s ∷ ss) stop within found =
+    let next = next_right version b at (s.start - 4) found.1 in
+    let ends = frame_ends b (s.start - 4) next.0.whole in (
+      omega (arith, next.1, found.0),
+      found_apart version b (s.start + s.len + 32) ss stop (omega (arith, ends, found.0, found.2)) found.3,
+    )
+
+-- one frame more is found
+pub found_more : (version : Version) (b : List ℕ) (from at : ℕ) (ss : List Span) (s : Span)
+    → ((rest : List Span) (stop : Option ℕ) → AreFound version b at rest stop → AreFound version b from (ss ++ rest) stop)
+    → 4 ≤ s.start → IsNext version b at (s.start - 4) → s.len ≡ stated (drop (s.start - 4) b)
+    → (rest : List Span) (stop : Option ℕ) → AreFound version b (s.start + s.len + 32) rest stop
+    → AreFound version b from ((ss ++ s ∷ []) ++ rest) stop
+found_more version b from at ss s before low next len = λ rest stop more.
+    subst (λ (xs : List Span). AreFound version b from xs stop) (sym (append_assoc ss (s ∷ []) rest))
+    (before (s ∷ rest) stop (low, next, len, more))
+
+-- none is found any more
+pub found_all : (version : Version) (b : List ℕ) (from at : ℕ) (ss : List Span) (stop : Option ℕ)
+    → ((rest : List Span) (end : Option ℕ) → AreFound version b at rest end → AreFound version b from (ss ++ rest) end)
+    → AreFound version b at [] stop → AreFound version b from ss stop
+found_all version b from at ss stop before last =
+    subst (λ (xs : List Span). AreFound version b from xs stop) (append-nil ss) (before [] stop last)

@@ -1,0 +1,156 @@
+//! Whether a body spells a record, which takes no memory.
+
+ghost use Rattle.std.specs.Prelude.{◌≡◌, ◌↔◌, IsTrue, option_map, is_some};
+ghost use Rattle.rq_bytes.specs.Readers.{after_of};
+ghost use Rattle.rq_model.specs.RecordReading.{name_left, who_read, define_read, registration_read};
+ghost use Rattle.rq_model.specs.RecordReading.{unit_read, enqueue_read, dequeue_read};
+ghost use Rattle.rq_model.specs.RecordReading.{at_most, checkpoint_read, kill_read, record_behind, record_read};
+ghost use Rattle.rq_record.specs.Views.{version_of};
+ghost use Rattle.rq_behind.specs.Runs.{SpellsSome};
+
+use rq_bytes::Cursor;
+use rq_record::{Name, Version};
+
+// The most bytes of a payload, and of a checkpoint.
+const PAYLOAD: usize = 65_535;
+
+const CHECKPOINT: usize = 268_435_455;
+
+#[tactic(auto, unfolding(rq_model::specs::RecordReading::name_left))]
+fn name(bytes: Cursor<'_>) -> Option<()>
+    ensures { is_some result ≡ is_some (name_left bytes.entry) }
+{
+    Name::new(bytes.rest())?;
+    Some(())
+}
+
+#[tactic(auto, unfolding(rq_model::specs::RecordReading::who_read))]
+fn who(bytes: &mut Cursor<'_>) -> Option<()>
+    ensures { option_map (λ x. bytes.new) result ≡ after_of (who_read bytes.old) }
+{
+    match bytes.u8()? {
+        0 => {
+            let tag = bytes.u64()?;
+            if tag == 0 { Some(()) } else { None }
+        }
+        size => {
+            Name::new(bytes.piece(size as usize)?)?;
+            bytes.u64()?;
+            Some(())
+        }
+    }
+}
+
+#[tactic(auto, unfolding(rq_model::specs::RecordReading::define_read))]
+fn define(bytes: Cursor<'_>) -> Option<()>
+    ensures { is_some result ≡ is_some (define_read bytes.entry) }
+{
+    let mut bytes = bytes;
+    bytes.u16()?;
+    bytes.u32()?;
+    name(bytes)
+}
+
+#[tactic(auto, unfolding(rq_model::specs::RecordReading::registration_read))]
+fn registration(bytes: Cursor<'_>) -> Option<()>
+    ensures { is_some result ≡ is_some (registration_read bytes.entry) }
+{
+    let mut bytes = bytes;
+    bytes.u32()?;
+    name(bytes)
+}
+
+#[tactic(auto, unfolding(rq_model::specs::RecordReading::unit_read))]
+fn unit(bytes: Cursor<'_>) -> Option<()>
+    ensures { is_some result ≡ is_some (unit_read bytes.entry) }
+{
+    let mut bytes = bytes;
+    bytes.u64()?;
+    bytes.end()
+}
+
+#[tactic(auto, unfolding(rq_model::specs::RecordReading::at_most))]
+fn at_most(limit: usize, bytes: Cursor<'_>) -> Option<()>
+    ensures { is_some result ≡ is_some (at_most limit bytes.entry) }
+{
+    if bytes.rest().len() <= limit {
+        Some(())
+    } else {
+        None
+    }
+}
+
+#[tactic(auto, unfolding(rq_model::specs::RecordReading::enqueue_read))]
+fn enqueue(bytes: Cursor<'_>) -> Option<()>
+    ensures { is_some result ≡ is_some (enqueue_read bytes.entry) }
+{
+    let mut bytes = bytes;
+    bytes.u64()?;
+    bytes.u32()?;
+    bytes.u8()?;
+    who(&mut bytes)?;
+    at_most(PAYLOAD, bytes)
+}
+
+#[tactic(auto, unfolding(rq_model::specs::RecordReading::dequeue_read))]
+fn dequeue(bytes: Cursor<'_>) -> Option<()>
+    ensures { is_some result ≡ is_some (dequeue_read bytes.entry) }
+{
+    let mut bytes = bytes;
+    bytes.u64()?;
+    bytes.u32()?;
+    who(&mut bytes)?;
+    bytes.end()
+}
+
+#[tactic(auto, unfolding(rq_model::specs::RecordReading::checkpoint_read))]
+fn checkpoint(bytes: Cursor<'_>) -> Option<()>
+    ensures { is_some result ≡ is_some (checkpoint_read bytes.entry) }
+{
+    at_most(CHECKPOINT, bytes)
+}
+
+#[tactic(auto, unfolding(rq_model::specs::RecordReading::kill_read))]
+fn kill(version: Version, bytes: Cursor<'_>) -> Option<()>
+    ensures { is_some result ≡ is_some (kill_read (version_of version) bytes.entry) }
+{
+    if version == Version::One {
+        return None;
+    }
+    let mut bytes = bytes;
+    bytes.u32()?;
+    bytes.u64()?;
+    bytes.end()
+}
+
+#[tactic(auto, unfolding(rq_model::specs::RecordReading::record_behind))]
+fn fields(version: Version, kind: u8, bytes: Cursor<'_>) -> Option<()>
+    ensures { is_some result ≡ is_some (record_behind (version_of version) kind bytes.entry) }
+{
+    match kind {
+        1 => define(bytes),
+        2 | 3 => registration(bytes),
+        4 | 7 | 8 => unit(bytes),
+        5 => enqueue(bytes),
+        6 => dequeue(bytes),
+        9 => checkpoint(bytes),
+        10 => kill(version, bytes),
+        _ => None,
+    }
+}
+
+#[tactic(auto, unfolding(rq_model::specs::RecordReading::record_read))]
+fn record(version: Version, body: &[u8]) -> Option<()>
+    ensures { is_some result ≡ is_some (record_read (version_of version) body.now) }
+{
+    let mut bytes = Cursor::new(body);
+    let kind = bytes.u8()?;
+    fields(version, kind, bytes)
+}
+
+/// Whether the body spells a record of the version.
+pub(crate) fn spells_some(version: Version, body: &[u8]) -> bool
+    ensures { IsTrue result ↔ SpellsSome (version_of version) body.now }
+{
+    record(version, body).is_some()
+}

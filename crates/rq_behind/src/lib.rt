@@ -1,0 +1,12 @@
+//! What stands behind the front of a log: the frames there that are right in themselves. A frame is
+//! right in itself if its digest is that of the 32 bytes before it, its length and its body, whatever
+//! stands before those.
+#![tactic(auto)]
+
+mod finding;
+mod forms;
+mod frames;
+mod places;
+mod runs;
+
+pub use finding::{Found, behind};

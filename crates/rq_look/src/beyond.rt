@@ -1,0 +1,221 @@
+//! A line for each right frame behind the front of a log.
+
+ghost use Rattle.std.specs.Prelude.{◌≡◌, ℕ, List, IfErr, OnOk};
+ghost use Rattle.std.specs.Io.KnownBytes.{Appends};
+ghost use Rattle.rq_front.specs.Chains.{IsLog};
+ghost use Rattle.rq_record.specs.declared.fault.Fault.TheVariants.{Resources};
+ghost use Rattle.rq_look.specs.Looks.{IsBroken};
+ghost use Rattle.rq_look.specs.Rests.{EndsFrontOf};
+
+use crate::ends::{End, form_reason};
+use crate::json::{UnspelledShown, behind_of, loose_shown, spelled_out};
+use crate::lines::put_loose_record;
+use crate::numbered::queue_named;
+use crate::sheet::relieve;
+use crate::standing::{put_behind, standing_behind};
+use crate::trouble::Trouble;
+use crate::wanted::Wanted;
+use rq_behind::Found;
+use rq_front::{Span, version};
+use rq_record::{Fault, KeptRecord, Version, decode_kept};
+use std::alloc::Global;
+use std::fmt::Write as _;
+use std::io::Write;
+
+/// The body of a frame behind the front, the offset of the frame and the log's version.
+#[derive(Clone, Copy)]
+pub(crate) struct Loose<'a> {
+    pub(crate) version: Version,
+    pub(crate) offset: u64,
+    pub(crate) body: &'a [u8],
+}
+
+impl<'a> Loose<'a> {
+    /// The body at a span of a log.
+    pub(crate) fn of(bytes: &'a [u8], version: Version, span: Span) -> Loose<'a> {
+        let body = match bytes.get(span.start..span.start.saturating_add(span.len)) {
+            Some(body) => body,
+            None => &[],
+        };
+        Loose {
+            version,
+            offset: span.offset() as u64,
+            body,
+        }
+    }
+
+    /// The record that the body spells; none if it spells none.
+    pub(crate) fn record(&self, alloc: Global) -> Result<Option<KeptRecord>, Fault>
+        ensures { IfErr result (λ e. e ≡ Resources) }
+    {
+        match decode_kept(alloc, self.version, self.body) {
+            Ok(record) => Ok(Some(record)),
+            Err(Fault::Form) => Ok(None),
+            Err(_) => Err(Fault::Resources),
+        }
+    }
+}
+
+// Puts a record in the form that is wanted.
+fn put_shown(
+    alloc: Global,
+    text: &mut String,
+    offset: u64,
+    record: &KeptRecord,
+    wanted: &Wanted<'_>,
+) -> Result<(), Trouble>
+    ensures { IfErr result IsBroken }
+{
+    if wanted.json {
+        let line = loose_shown(alloc, offset, record)?;
+        let json = spelled_out(alloc, serde_json::to_string(alloc, &line)?)?;
+        text.push_str(json.as_str())?;
+    } else {
+        put_loose_record(alloc, text, offset, record, wanted.full)?;
+    }
+    text.push('\n')?;
+    Ok(())
+}
+
+// Puts a frame whose body spells no record in the form that is wanted.
+fn put_unspelled(
+    alloc: Global,
+    text: &mut String,
+    it: &Loose<'_>,
+    wanted: &Wanted<'_>,
+) -> Result<(), Trouble>
+    ensures { IfErr result IsBroken }
+{
+    let (offset, reason) = (it.offset, form_reason(alloc, it.version, it.body)?);
+    if wanted.json {
+        let line = UnspelledShown {
+            offset,
+            behind: true,
+            reason: reason.as_str(),
+        };
+        text.push_str(serde_json::to_string(alloc, &line)?.as_str())?;
+        text.push('\n')?;
+    } else {
+        write!(text, "{offset} behind no record: {reason}\n")?;
+    }
+    Ok(())
+}
+
+// Puts the line of a frame, if it is wanted. Answers whether it is.
+fn put_line(
+    alloc: Global,
+    it: &Loose<'_>,
+    wanted: &Wanted<'_>,
+    text: &mut String,
+) -> Result<bool, Trouble>
+    ensures { IfErr result IsBroken }
+{
+    if it.offset < wanted.from {
+        return Ok(false);
+    }
+    let Some(record) = it.record(alloc)? else {
+        if wanted.wants_no_record() {
+            put_unspelled(alloc, text, it, wanted)?;
+        }
+        return Ok(wanted.wants_no_record());
+    };
+    let is_wanted = wanted.wants_record(&record, queue_named(&record));
+    if is_wanted {
+        put_shown(alloc, text, it.offset, &record, wanted)?;
+    }
+    Ok(is_wanted)
+}
+
+// Puts a frame, if it is wanted. Answers whether it is.
+fn put_frame<W: Write>(
+    alloc: Global,
+    it: &Loose<'_>,
+    wanted: &Wanted<'_>,
+    text: &mut String,
+    output: &mut W,
+) -> Result<bool, Trouble>
+    ensures only { OnOk result
+        ((put : List ℕ) × Appends (W.contents output.old) (W.contents output.new) put) }
+    ensures refused { IfErr result IsBroken }
+{
+    let is_wanted = put_line(alloc, it, wanted, text)?;
+    relieve(text, output)?;
+    Ok(is_wanted)
+}
+
+// Puts those frames that are wanted, so many at most.
+fn put_frames<W: Write>(
+    alloc: Global,
+    bytes: &[u8],
+    spans: &[Span],
+    wanted: &Wanted<'_>,
+    most: u64,
+    text: &mut String,
+    output: &mut W,
+) -> Result<(), Trouble>
+    ensures only { OnOk result
+        ((put : List ℕ) × Appends (W.contents output.old) (W.contents output.new) put) }
+    ensures refused { IfErr result IsBroken }
+{
+    let version = version(bytes).unwrap_or(Version::Two);
+    let mut left = most;
+    for span in spans {
+        if left == 0 {
+            return Ok(());
+        }
+        if put_frame(
+            alloc,
+            &Loose::of(bytes, version, *span),
+            wanted,
+            text,
+            output,
+        )? {
+            left -= 1;
+        }
+    }
+    Ok(())
+}
+
+// Puts how many frames there are in the form that is wanted.
+fn put_count(
+    alloc: Global,
+    text: &mut String,
+    found: &Found,
+    total: u64,
+    wanted: &Wanted<'_>,
+) -> Result<(), Trouble>
+    ensures { IfErr result IsBroken }
+{
+    if wanted.json {
+        text.push_str(serde_json::to_string(alloc, &behind_of(found))?.as_str())?;
+        text.push('\n')?;
+    } else {
+        put_behind(text, found, total)?;
+    }
+    Ok(())
+}
+
+/// Puts the right frames behind the front that are wanted, so many at most, and how many there are;
+/// nothing if what stands behind the front is not wanted.
+pub(crate) fn put_wanted_behind<W: Write>(
+    alloc: Global,
+    bytes: &[u8],
+    end: &End,
+    wanted: &Wanted<'_>,
+    most: u64,
+    text: &mut String,
+    output: &mut W,
+) -> Result<(), Trouble>
+    requires log { IsLog bytes.now }
+    requires end { EndsFrontOf bytes.now end.now }
+    ensures only { OnOk result
+        ((put : List ℕ) × Appends (W.contents output.old) (W.contents output.new) put) }
+    ensures refused { IfErr result IsBroken }
+{
+    if !wanted.behind {
+        return Ok(());
+    }
+    let found = standing_behind(alloc, bytes, end)?;
+    put_frames(alloc, bytes, &found.spans, wanted, most, text, output)?;
+    put_count(alloc, text, &found, end.total, wanted)
+}

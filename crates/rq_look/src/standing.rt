@@ -1,0 +1,94 @@
+//! What stands behind the front of a log.
+
+ghost use Rattle.std.specs.Prelude.{◌≡◌, ◌++◌, List, ℕ, length, IfOk, IfErr, OnOk, string_bytes};
+ghost use Rattle.rq_front.specs.Chains.{IsLog};
+ghost use Rattle.rq_record.specs.declared.fault.Fault.TheVariants.{Resources};
+ghost use Rattle.rq_restart.specs.Views.{why_of};
+ghost use Rattle.rq_look.specs.Rests.{EndsFrontOf, IsBehind, behind_finding, behind_text, count_text};
+ghost use Rattle.rq_look.specs.Rests.{frames_text, given_up_text};
+
+use crate::ends::{End, is_whole};
+use rq_behind::{Found, behind};
+use rq_front::{Span, version};
+use rq_record::Fault;
+use std::alloc::{AllocError, Global};
+use std::fmt::Write;
+
+/// What stands behind the front of a log of which the end is known.
+pub(crate) fn standing_behind(alloc: Global, bytes: &[u8], end: &End) -> Result<Found, Fault>
+    requires log { IsLog bytes.now }
+    requires end { EndsFrontOf bytes.now end.now }
+    ensures found { IfOk result (IsBehind bytes.now end.now.used) }
+    ensures refused { IfErr result (λ e. e ≡ Resources) }
+{
+    // A log has a header, so memory alone is refused.
+    let Some(version) = version(bytes) else {
+        return Err(Fault::Resources);
+    };
+    Ok(behind(alloc, version, bytes, end.used as usize)?)
+}
+
+fn put_frames(text: &mut String, spans: &[Span]) -> Result<(), AllocError>
+    ensures { OnOk result
+        (string_bytes text.new ≡ string_bytes text.old ++ frames_text spans.now) }
+{
+    let Some(first) = spans.first() else {
+        return text.push_str("no frame is right in itself");
+    };
+    let (count, first) = (spans.len(), first.offset());
+    write!(
+        text,
+        "{count} frames are right in themselves, the first at {first}"
+    )
+}
+
+/// Puts where the search gave up, if it did, of so many bytes, as a line.
+pub(crate) fn put_given_up(
+    text: &mut String,
+    gave_up: Option<usize>,
+    total: u64,
+) -> Result<(), AllocError>
+    ensures { OnOk result
+        (string_bytes text.new ≡ string_bytes text.old ++ given_up_text gave_up total) }
+{
+    let Some(place) = gave_up else {
+        return Ok(());
+    };
+    let rest = total.saturating_sub(place as u64);
+    write!(
+        text,
+        "the search gave up at {place}: {rest} bytes were not looked at\n"
+    )
+}
+
+/// Puts how many right frames stand behind a front, where the first begins, and how many bytes fit
+/// nothing, as a line.
+pub(crate) fn put_count(text: &mut String, found: &Found) -> Result<(), AllocError>
+    ensures { OnOk result
+        (string_bytes text.new ≡ string_bytes text.old ++ count_text found.now) }
+{
+    text.push_str("behind it ")?;
+    put_frames(text, &found.spans)?;
+    let unfit = found.unfit;
+    write!(text, "; {unfit} bytes fit nothing\n")
+}
+
+/// Puts what stands behind a front, of so many bytes: this line, and another if the search gave up.
+pub(crate) fn put_behind(text: &mut String, found: &Found, total: u64) -> Result<(), AllocError>
+    ensures { OnOk result
+        (string_bytes text.new ≡ string_bytes text.old ++ behind_text found.now total) }
+{
+    put_count(text, found)?;
+    put_given_up(text, found.gave_up, total)
+}
+
+/// Puts the same behind the line of a front's end, unless nothing follows the front.
+pub(crate) fn put_rest(text: &mut String, end: &End, found: &Found) -> Result<(), AllocError>
+    ensures { OnOk result (string_bytes text.new ≡ string_bytes text.old
+        ++ behind_finding (why_of end.now.why) found.now end.now.total) }
+{
+    if is_whole(end.why) {
+        return Ok(());
+    }
+    put_behind(text, found, end.total)
+}

@@ -1,0 +1,9 @@
+//! Numbers of a log: its records by kind, its units by outcome, and what is greatest in it.
+#![tactic(auto)]
+
+mod greatest;
+mod measures;
+mod shown;
+mod statistics;
+
+pub use statistics::stats;
