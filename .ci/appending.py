@@ -10,6 +10,8 @@ import json, os, re, sys, tempfile
 from collections.abc import Callable
 
 import counting, unharmed
+from tables.asking import MAKE
+from tables.lawful import TABLES, cases
 from trying import DONE, check, content, put, run
 from writing import MORE, START, START_BODIES, appended, plain, rqlog, says
 
@@ -142,6 +144,20 @@ def rules() -> None:
         check(f"append {line!r}", (rqlog("append", log, script=line + b"\n"), content(log)), (want, before))
     log = plain("two", nested, "make2")
     check("append a nested error queue in version 2", rqlog("append", log, script=b"define jobs 3 1\n")[0], 0)
+
+
+def lawful() -> None:
+    """What the judge of a log says of each line of the tables of `tables/lawful.py`, behind the lawful lines before it."""
+    for version, word in MAKE.items():
+        for table in TABLES:
+            log = plain("judged", b"", word)
+            for number, (_, line, is_lawful) in enumerate(cases(table, version)):
+                before = content(log)
+                ended = rqlog("append", log, script=f"{line}\n".encode())
+                said = ended[2].startswith(f"rqlog: script line 1: {line}: ".encode())
+                grew = content(log).startswith(before) and len(content(log)) > len(before)
+                want = (0, False, True) if is_lawful else (1, True, False)
+                check(f"{table} {number}, version {version}, append {line!r}", (ended[0], said, grew), want)
 
 
 def kills() -> None:
@@ -323,7 +339,7 @@ def near_the_end() -> None:
             check(f"carry with {room} left", (ended[0], ended[2]), (0, warned))
 
 
-PARTS = [words, appends, refuses, rules, kills, damaged, cut_anywhere, marks, carries, cut_behind_a_carry, without_a_beginning, by_pipes]
+PARTS = [words, appends, refuses, rules, lawful, kills, damaged, cut_anywhere, marks, carries, cut_behind_a_carry, without_a_beginning, by_pipes]
 PARTS += [near_the_end, *unharmed.PARTS]
 
 

@@ -14,14 +14,15 @@ from concurrent.futures import ThreadPoolExecutor
 # A run leaves nothing in the clone.
 sys.dont_write_bytecode = True
 
-from tables import checkpoints, closing, damages, lines, looking, many, reports, upgrading  # noqa: E402
+from tables import checkpoints, closing, damages, digests, lawful, lines, looking, many, reports, upgrading  # noqa: E402
 from tables.asking import Program, Question  # noqa: E402
 
 Theme = Callable[[Program], Iterator[Question]]
 
 THEMES: dict[str, Theme] = {
-    "reports": reports.questions, "damages": damages.questions, "checkpoints": checkpoints.questions,
-    "closing": closing.questions, "upgrading": upgrading.questions, "lines": lines.questions, "many": many.questions,
+    "reports": reports.questions, "lawful": lawful.questions, "damages": damages.questions, "digests": digests.questions,
+    "checkpoints": checkpoints.questions, "closing": closing.questions, "upgrading": upgrading.questions,
+    "lines": lines.questions, "many": many.questions,
 }
 # So many questions are asked side by side.
 AT_A_TIME = 2 * (os.cpu_count() or 1)

@@ -4,7 +4,7 @@ import functools
 from collections.abc import Iterator
 from typing import NamedTuple
 
-from .asking import BOTH, Ended, Program, Question, audits, first, is_same, refused, reports, reports_at, told
+from .asking import BOTH, Ended, Program, Question, audits, changed, first, is_same, refused, reports, reports_at, told
 from .scripts import CHECKPOINT
 
 NO_CHECKPOINT = refused("no checkpoint")
@@ -168,9 +168,28 @@ def changed_spellings(rq: Program) -> Iterator[Question]:
         yield Question(f"another digit at {place} of the state", ask, told("checkpoint 447 false\n"))
 
 
+def no_states() -> Iterator[tuple[str, bytes]]:
+    """What is nearly the spelling of the state before all records, and spells none."""
+    yield "a byte too few", bytes(51)
+    yield "a byte too many", bytes(53)
+    yield "a record number past the greatest", changed(bytes(52), 3, b"\1")
+    for place in range(5):
+        yield f"a count without members, list {place}", changed(bytes(52), 32 + 4 * place, b"\xff" * 4)
+
+
+def refused_spellings(rq: Program, version: int) -> Iterator[Question]:
+    """The spelling of the state before all records is read whole, and what is none is refused."""
+    yield from reports_at(rq, f"no members, version {version}", rq.log_of(ZEROES, version), 40, ONE_RECORD)
+    for name, spelled in no_states():
+        log = rq.log_of(f"checkpoint-hex {spelled.hex()}\n", version)
+        ask = functools.partial(rq.run, "restart-at", rq.file(log), 40, 1, 1)
+        yield Question(f"{name}, version {version}", ask, refused("bad checkpoint"))
+
+
 def questions(rq: Program) -> Iterator[Question]:
     for version in BOTH:
         for row in ROWS:
             yield from asked(rq, row, version)
         yield from spellings(rq, version)
+        yield from refused_spellings(rq, version)
     yield from changed_spellings(rq)

@@ -1,12 +1,11 @@
 mod analysis;
 mod by_hand;
+mod bytes;
 mod chains;
 mod countdowns;
 mod courses;
-mod judges;
 mod lanes;
 mod plain;
 mod records;
 mod rooms;
 mod standing;
-mod states;

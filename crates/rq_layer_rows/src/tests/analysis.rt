@@ -1,7 +1,7 @@
 //! What the analysis of records tells.
 
 use super::plain::{NO_QUEUE, Plain, Who, records_of};
-use Plain::{Abort, Begin, Commit, Define, Dequeue, Enqueue, Register};
+use Plain::{Abort, Begin, Commit, Define, Dequeue, Enqueue, Kill, Register};
 use rq_catalog::{Analysis, Outcome, analyse};
 use rq_record::{Fault, QueueNo, Record, UnitNo};
 use rq_state::State;
@@ -122,5 +122,28 @@ fn tells_open(alloc: Global) -> Result<bool, Fail> {
 #[test]
 fn an_analysis_has_counts_and_open_units(rt: HostRuntime) -> Result<(), Fail> {
     assert!(rt; tells_open(rt.alloc())?);
+    Ok(())
+}
+
+const JOBS: Plain = Define(0, NO_QUEUE, "jobs");
+
+// Whatever it names, a KILL is no record of version 1.
+const KILLED: [&[Plain]; 5] = [
+    &[JOBS, Kill(0, 0)],
+    &[JOBS, Kill(0, u64::MAX)],
+    &[JOBS, Kill(1, 0)],
+    &[JOBS, Kill(NO_QUEUE, 0)],
+    &[JOBS, Kill(0, 2)],
+];
+
+fn lawful_of(alloc: Global, table: &[Plain]) -> Result<usize, Fail> {
+    Ok(analysis_of(alloc, table)?.lawful())
+}
+
+#[test]
+fn a_kill_is_not_lawful_in_version_1(rt: HostRuntime) -> Result<(), Fail> {
+    for table in KILLED {
+        assert_eq!(rt; lawful_of(rt.alloc(), table)?, 1);
+    }
     Ok(())
 }

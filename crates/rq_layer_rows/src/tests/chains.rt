@@ -1,14 +1,46 @@
 //! Where the frames of a log are.
 
-use super::lanes::log_of_lengths;
-use rq_front::{Chain, Rest, Span, chain, walk};
+use rq_front::{Chain, Rest, Span, chain, frame, header, walk};
 use rq_record::Fault;
+use std::alloc::Global;
 use std::test::Fail;
 use std::thread::Threads;
 
 // The lengths of the bodies of a queue's definition, a unit's begin, an element and the unit's
 // commit.
 const LENGTHS: [usize; 4] = [11, 9, 24, 9];
+
+// A body of each of these lengths. The frame of the first stands behind the header.
+const BODIES: [(usize, usize); 4] = [(44, 11), (91, 9), (136, 24), (196, 9)];
+
+// Appends the frame of a body behind the last digest of a log.
+fn append(log: &mut Vec<u8>, body: &[u8]) -> Result<(), Fault> {
+    let mut last = [0u8; 32];
+    let from = log.len().saturating_sub(32);
+    for (place, byte) in last.iter_mut().zip(log.iter().skip(from)) {
+        *place = *byte;
+    }
+    if body.is_empty() || 24 < body.len() {
+        return Err(Fault::TooLong);
+    }
+    frame(&last, body, log)
+}
+
+// Appends a frame for each of these lengths.
+fn append_each(log: &mut Vec<u8>, lens: &[usize]) -> Result<(), Fault> {
+    for len in lens {
+        append(log, [b'a'; 24].get(..*len).unwrap_or(&[]))?;
+    }
+    Ok(())
+}
+
+// A log with a frame for each of these lengths.
+fn log_of_lengths(alloc: Global, lens: &[usize]) -> Result<Vec<u8>, Fault> {
+    let mut log = Vec::new(alloc);
+    header(&mut log)?;
+    append_each(&mut log, lens)?;
+    Ok(log)
+}
 
 // The chain from a place of the log, if there may be one.
 fn chain_from<R: Threads + Sync + AllocGlobal>(
@@ -54,20 +86,19 @@ fn is_chain<R: Threads + Sync + AllocGlobal>(
     }
 }
 
-// Whether the chain from the second body's frame on has the last three bodies, and one from a place
-// within a frame has none.
+// Whether the chain from the first body's frame on has all bodies, that from the second one's on
+// the last three, and one from a place within a frame none.
 fn is_told<R: Threads + Sync + AllocGlobal>(rt: &R, log: &[u8], grain: u32) -> Result<bool, Fault> {
-    let bodies = [(91, 9), (136, 24), (196, 9)];
-    let all = is_chain(rt, log, 87, grain, (&bodies, 237, Rest::Whole))?;
+    let whole = is_chain(rt, log, 40, grain, (&BODIES, 237, Rest::Whole))?;
+    let three = is_chain(rt, log, 87, grain, (&BODIES[1..], 237, Rest::Whole))?;
     let none = is_chain(rt, log, 88, grain, (&[], 88, Rest::Cut))?;
-    Ok(all && none)
+    Ok(whole && three && none)
 }
 
 #[test]
 fn the_chain_tells_its_spans(rt: HostRuntime) -> Result<(), Fail> {
-    let framed = log_of_lengths(rt.alloc(), &LENGTHS)?;
-    let told = is_told(&rt, &framed.log, 1)? && is_told(&rt, &framed.log, 1000)?;
-    assert!(rt; told && framed.ends.as_slice() == [87usize, 132, 192, 237].as_slice());
+    let log = log_of_lengths(rt.alloc(), &LENGTHS)?;
+    assert!(rt; is_told(&rt, &log, 1)? && is_told(&rt, &log, 1000)?);
     Ok(())
 }
 
@@ -84,10 +115,10 @@ fn is_walked<R: Threads + Sync + AllocGlobal>(rt: &R, log: &[u8]) -> Result<bool
 
 #[test]
 fn a_walk_does_not_look_at_digests(rt: HostRuntime) -> Result<(), Fail> {
-    let mut framed = log_of_lengths(rt.alloc(), &LENGTHS[..2])?;
-    for byte in framed.log.iter_mut().skip(131) {
+    let mut log = log_of_lengths(rt.alloc(), &LENGTHS[..2])?;
+    for byte in log.iter_mut().skip(131) {
         *byte ^= 1;
     }
-    assert!(rt; is_walked(&rt, &framed.log)?);
+    assert!(rt; is_walked(&rt, &log)?);
     Ok(())
 }

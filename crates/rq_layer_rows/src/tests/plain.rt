@@ -42,8 +42,7 @@ fn by(who: Who) -> Result<Option<By>, Fail> {
     }
 }
 
-/// The definition of a queue.
-pub fn define(limit: u16, error: u32, name: &str) -> Result<Record, Fail> {
+fn define(limit: u16, error: u32, name: &str) -> Result<Record, Fail> {
     let (error, name) = (QueueNo(error), named(name)?);
     Ok(Record::Define { limit, error, name })
 }
