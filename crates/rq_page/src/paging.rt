@@ -26,17 +26,34 @@ use std::alloc::{AllocError, Global};
 use std::io::Write;
 use std::thread::Threads;
 
-// What a page shows of a log, beside lives; the state behind which its front begins; and the elements
-// and units that were asked for.
+// What is found of a log: its restart, where its front ends, and which checkpoints are true.
 #[derive(Drop)]
-struct Contents {
+struct Found {
     restarted: Restarted,
-    first: State,
     end: End,
     checkpoints: Vec<(u64, bool)>,
+}
+
+// What a walk over the front finds, and the state behind which the front begins.
+#[derive(Drop)]
+struct Walked {
+    first: State,
     seen: Survey,
+}
+
+// The elements and the units that were asked for.
+#[derive(Drop)]
+struct Wanted {
     elements: Vec<u64>,
     units: Vec<u64>,
+}
+
+// What a page shows of a log, beside lives.
+#[derive(Drop)]
+struct Contents {
+    found: Found,
+    walked: Walked,
+    wanted: Wanted,
 }
 
 // The same, with the lives that stand on the page, and whether these are all.
@@ -63,14 +80,13 @@ fn audited_from<R: Threads + Sync>(
     }
 }
 
-fn contents_of<R: Threads + Sync>(
+fn found_in<R: Threads + Sync>(
     rt: &R,
     alloc: Global,
     bytes: &[u8],
     at: Option<u64>,
     plan: &Plan,
-    asked: &Asked<'_>,
-) -> Result<Contents, Trouble>
+) -> Result<Found, Trouble>
     ensures log { OnOk result (IsLog bytes.now) }
     ensures refused { IfErr result
         (λ e. (IsLog bytes.now × IsBroken e) ⊎ IsRefusal at bytes.now e) }
@@ -78,18 +94,41 @@ fn contents_of<R: Threads + Sync>(
     let restarted = restarted_from(rt, alloc, bytes, at, plan)?;
     let end = end_after(rt, alloc, bytes, at, &restarted, plan)?;
     let checkpoints = audited_from(rt, alloc, bytes, at, plan)?;
-    let first = first_state(alloc, bytes, at)?;
-    let seen = surveyed(alloc, bytes, &first, &end, restarted.state())?;
-    let elements = asked.elements.to_vec(alloc)?;
-    let units = asked.units.to_vec(alloc)?;
-    Ok(Contents {
+    Ok(Found {
         restarted,
-        first,
         end,
         checkpoints,
-        seen,
-        elements,
-        units,
+    })
+}
+
+fn walk_of(alloc: Global, bytes: &[u8], found: &Found) -> Result<Walked, Trouble>
+    ensures { IfErr result IsBroken }
+{
+    let first = first_state(alloc, bytes, found.end.at)?;
+    let seen = surveyed(alloc, bytes, &first, &found.end, found.restarted.state())?;
+    Ok(Walked { first, seen })
+}
+
+fn wanted_of(alloc: Global, asked: &Asked<'_>) -> Result<Wanted, AllocError> {
+    let elements = asked.elements.to_vec(alloc)?;
+    let units = asked.units.to_vec(alloc)?;
+    Ok(Wanted { elements, units })
+}
+
+fn contents_of(
+    alloc: Global,
+    bytes: &[u8],
+    found: Found,
+    asked: &Asked<'_>,
+) -> Result<Contents, Trouble>
+    ensures { IfErr result IsBroken }
+{
+    let walked = walk_of(alloc, bytes, &found)?;
+    let wanted = wanted_of(alloc, asked)?;
+    Ok(Contents {
+        found,
+        walked,
+        wanted,
     })
 }
 
@@ -104,9 +143,13 @@ fn parts_of(lives: &Lives) -> Parts {
 
 // What is shown, as far as it is known before lives are gathered: whether those of all may be.
 fn begun(contents: &Contents) -> Shown<'_> {
-    let (elements, units) = (contents.elements.as_slice(), contents.units.as_slice());
-    let definitions = contents.restarted.state().definitions();
-    let count = contents.end.records.saturating_sub(contents.first.next());
+    let (found, wanted) = (&contents.found, &contents.wanted);
+    let (elements, units) = (wanted.elements.as_slice(), wanted.units.as_slice());
+    let count = found
+        .end
+        .records
+        .saturating_sub(contents.walked.first.next());
+    let definitions = found.restarted.state().definitions();
     Shown::of(definitions, elements, units, count)
 }
 
@@ -116,14 +159,14 @@ fn gathered(alloc: Global, bytes: &[u8], contents: &Contents, all: bool) -> Resu
 {
     let mut shown = begun(contents);
     shown.all = all;
-    let checkpoints = contents.checkpoints.as_slice();
+    let (first, found) = (&contents.walked.first, &contents.found);
     lives_of(
         alloc,
         bytes,
-        &contents.first,
-        &contents.end,
+        first,
+        &found.end,
         &shown,
-        checkpoints,
+        found.checkpoints.as_slice(),
     )
 }
 
@@ -138,9 +181,10 @@ fn all_fit(alloc: Global, bytes: &[u8], contents: &Contents) -> Result<bool, Tro
     Ok(lives.more == 0)
 }
 
-fn told_of(alloc: Global, bytes: &[u8], contents: Contents) -> Result<Told, Trouble>
+fn told_of(alloc: Global, bytes: &[u8], found: Found, asked: &Asked<'_>) -> Result<Told, Trouble>
     ensures { IfErr result IsBroken }
 {
+    let contents = contents_of(alloc, bytes, found, asked)?;
     let all = all_fit(alloc, bytes, &contents)?;
     let lives = gathered(alloc, bytes, &contents, all)?;
     Ok(Told {
@@ -167,13 +211,14 @@ fn put_top(
     told: &Told,
     asked: &Asked<'_>,
 ) -> Result<(), AllocError> {
-    let (restarted, end) = (&told.contents.restarted, &told.contents.end);
+    let found = &told.contents.found;
+    let (restarted, end) = (&found.restarted, &found.end);
     let sum = sum_of_style(alloc)?;
     put_head(text, asked.name, STYLE, sum.as_str())?;
     put_header(text, asked, restarted, end)?;
     put_parts(text, parts_of(&told.lives))?;
     text.push_str("<main>\n")?;
-    let checkpoints = told.contents.checkpoints.as_slice();
+    let checkpoints = found.checkpoints.as_slice();
     put_summary(alloc, text, bytes, restarted, end, checkpoints)
 }
 
@@ -185,9 +230,9 @@ fn put_middle(
     contents: &Contents,
     order: Order,
 ) -> Result<(), AllocError> {
-    let (seen, end) = (&contents.seen, &contents.end);
-    let state = contents.restarted.state();
-    put_picture(alloc, text, seen, end, contents.checkpoints.as_slice())?;
+    let (seen, found) = (&contents.walked.seen, &contents.found);
+    let (state, end) = (found.restarted.state(), &found.end);
+    put_picture(alloc, text, seen, end, found.checkpoints.as_slice())?;
     put_open(text, shown, seen, end)?;
     put_queues(alloc, text, shown, seen, state, end, order)
 }
@@ -263,7 +308,7 @@ where
     ensures refused { IfErr result
         (StaysUnshown at bytes.now (W.contents output.old) (W.contents output.new)) }
 {
-    let contents = contents_of(rt, alloc, bytes, at, plan, asked)?;
-    let told = told_of(alloc, bytes, contents)?;
+    let found = found_in(rt, alloc, bytes, at, plan)?;
+    let told = told_of(alloc, bytes, found, asked)?;
     put_page(alloc, bytes, &told, asked, output)
 }
