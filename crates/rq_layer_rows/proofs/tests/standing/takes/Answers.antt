@@ -1,0 +1,8 @@
+use Rattle.rq_layer_rows.proofs.tests.standing.takes.Goals as goal
+
+pub returns-in-Unlawful : goal.returns-in-Unlawful
+returns-in-Unlawful c =
+    (c.requires.0, _, c.in_ok-rule.ensures.stands c.requires.0 c.requires.1 c.requires.2)
+
+pub returns : goal.returns
+returns c = (c.requires.0, _, c.in_ok-rule.ensures.stands c.requires.0 c.requires.1 c.requires.2)
