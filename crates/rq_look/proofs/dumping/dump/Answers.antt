@@ -8,7 +8,7 @@ returns-clause-last g c =
     let end = c.in_ok-end.ensures.end in
     let front = c.in_ok-left.ensures.only in
     let behind = c.in_ok-put_wanted_behind.ensures.only in
-    let records = both_put (held c.args.output.now) (held c.put_records-left.new.output)
+    let records = both_put (held c.args.output.now) (held c.put_records.new.output)
     (held c.put_wanted_behind.new.output) (front.0, front.1) (behind.0, behind.1) in
     let closing = c.in_ok-put_closing.ensures.closing c.args.at c.args.bytes.now end.0 end.1 end.2 in
     let text = string_bytes c.put_origin.new.text in (
