@@ -1,6 +1,6 @@
 //! The script of a damaged log, with what stands behind its front to choose from.
 
-ghost use Rattle.std.specs.Prelude.{◌≡◌, ◌++◌, ℕ, List, IfErr, IfOk, OnOk, string_bytes};
+ghost use Rattle.std.specs.Prelude.{◌≡◌, ◌++◌, ℕ, List, false, IfErr, IfOk, OnOk, string_bytes};
 ghost use Rattle.std.specs.Io.KnownBytes.{Appends};
 ghost use Rattle.rq_front.specs.Chains.{IsLog};
 ghost use Rattle.rq_restart.specs.Views.{why_of};
