@@ -1,13 +1,11 @@
 //! Numbers of a log: as lines, and as JSON.
 
 ghost use Rattle.std.specs.Prelude.{◌≡◌, ◌++◌, ℕ, List, IfOk, IfErr, OnOk, codes, string_bytes};
-ghost use Rattle.rq_record.specs.declared.fault.Fault.TheVariants.{Resources};
 ghost use Rattle.rq_model.specs.Fronts.{Restarted};
 ghost use Rattle.rq_front.specs.Chains.{IsLog};
 ghost use Rattle.rq_restart.specs.FrontEnds.{IsEndOf};
 ghost use Rattle.rq_restart.specs.Views.{why_of};
-ghost use Rattle.rq_look.specs.Looks.{IsRestartFrom, StaysUnshown, beginning_text, end_text, front_end_of};
-ghost use Rattle.rq_look.specs.declared.trouble.Trouble.TheVariants.{Log};
+ghost use Rattle.rq_look.specs.Looks.{IsBroken, IsRestartFrom, StaysUnshown, beginning_text, end_text, front_end_of};
 ghost use Rattle.rq_stats.specs.Statistics.{AreNumbers, PutsNumbers};
 
 use crate::measures::{Kind, Lasting, Load, Measures, measured};
@@ -104,7 +102,7 @@ fn text_of(
 fn json_of(alloc: Global, shown: &StatisticsShown<'_>) -> Result<String, Trouble>
     ensures line { IfOk result
         (λ text. (object : List ℕ) × (string_bytes text ≡ object ++ codes "\n")) }
-    ensures refused { IfErr result (λ e. e ≡ Log Resources) }
+    ensures refused { IfErr result IsBroken }
 {
     let mut text = serde_json::to_string_pretty(alloc, shown)?;
     text.push('\n')?;
@@ -123,7 +121,7 @@ fn numbers_of(
         × IsEndOf r (front_end_of end.now) }
     ensures numbers { IfOk result
         (λ text. AreNumbers at bytes.now json (string_bytes text)) }
-    ensures refused { IfErr result (λ e. e ≡ Log Resources) }
+    ensures refused { IfErr result IsBroken }
 {
     let first = first_state(alloc, bytes, at)?;
     let frames = frames_behind(bytes, &first, at, end.used);
@@ -131,9 +129,11 @@ fn numbers_of(
     let depths = machine.depths(alloc)?;
     let shown = statistics_shown(alloc, end, &measures, &depths)?;
     if json {
-        return json_of(alloc, &shown);
+        let object = json_of(alloc, &shown)?;
+        return Ok(object);
     }
-    Ok(text_of(alloc, at, end, &shown)?)
+    let text = text_of(alloc, at, end, &shown)?;
+    Ok(text)
 }
 
 /// Writes numbers of a log: where its front ends, the records and bytes of each kind, the units by
