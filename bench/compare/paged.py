@@ -107,7 +107,12 @@ class Told:
     def __init__(self, records: list[dict], stories: Stories, names: list[str]) -> None:
         self.names, self.records, self.stories = names, records, stories
         machine = Machine()
-        self.events = {it["record"]: machine.step(it) for it in records}
+        self.events = {it["record"]: self.told(it, machine.step(it)) for it in records}
+
+    @staticmethod
+    def told(it: dict, events: list[tuple[int | None, str]]) -> list[tuple[int | None, str]]:
+        """What happens at a record; a KILL without effect is told as one."""
+        return events or ([(None, "finds no element")] if it["kind"] == "kill" else [])
 
     def queue(self, number: int) -> str:
         return f"{number} {self.names[number]}"

@@ -119,7 +119,7 @@ def browsed(paths: dict[str, str], look: str, seconds: float) -> None:
                 took = browser.open(path)
                 check(f"{name} in a browser, {width} wide: requests", [it.rsplit("/", 1)[-1] for it in browser.requests()], [os.path.basename(path)])
                 check(f"{name} in a browser, {width} wide: complaints", browser.complaints(), [])
-                check(f"{name} in a browser, {width} wide: title", browser.tell("document.title"), os.path.basename(path)[:-5])
+                check(f"{name} in a browser, {width} wide: title", browser.tell("document.title"), path[:-5])
                 check(f"{name} in a browser, {width} wide: scripts", browser.tell("document.scripts.length"), 0)
                 wide = browser.tell("document.documentElement.scrollWidth")
                 check(f"{name} in a browser, {width} wide: its own width", wide <= width, True)
