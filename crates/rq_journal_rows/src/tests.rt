@@ -43,7 +43,8 @@ fn log_of<R: Threads + Sync + AllocGlobal>(rt: &R, script: &[u8]) -> Result<Vec<
     Ok(make(rt, rt.alloc(), script, &plan)?)
 }
 
-// Whether the records are taken one by one, with these frames, and a second commit is not.
+// Whether the records are taken one by one, with these frames, and a second commit is not. What
+// follows is judged as if nobody had asked for that.
 fn takes(alloc: Global, opened: Opened, frames: &[u8]) -> bool {
     let mut appender = opened.appender;
     let mut out = Vec::new(alloc);
@@ -53,7 +54,11 @@ fn takes(alloc: Global, opened: Opened, frames: &[u8]) -> bool {
             .is_none();
     let each = appender.append_each(alloc, &TAKING, &mut out);
     let again = appender.append(alloc, &TAKING[2], &mut out);
-    is_first && each == (3, None) && again == Err(NotTaken::Unlawful) && out.as_slice() == frames
+    let goes_on = appender
+        .broken(&KeptRecord::Begin { unit: UnitNo(3) })
+        .is_none();
+    let is_refused = again == Err(NotTaken::Unlawful) && goes_on;
+    is_first && each == (3, None) && is_refused && out.as_slice() == frames
 }
 
 // Whether the log is opened at its end, and takes the records.

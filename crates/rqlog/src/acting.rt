@@ -4,7 +4,7 @@ use crate::appending::{Written, frames_of};
 use crate::failing::{Refusal, Which};
 use crate::files::{HeldLog, put};
 use crate::fronts::{front_in, opened_front};
-use crate::marking::{closed_carried, mark};
+use crate::marking::{Marked, closed_carried, mark};
 use crate::placing::{expect_free, name_one_file, put_new};
 use crate::reading::{begun_log, log_from, opened, rest_of_log, script_in};
 use crate::telling::{audit_text, tell_appended, tell_carried, tell_marked, warn_of_end};
@@ -38,32 +38,41 @@ fn told(done: io::Result<()>) -> Result<(), Refusal> {
     }
 }
 
-// Writes the frames of a script behind a log, and tells so, or why its lines are refused.
+// Writes the frames of a script behind a log, and tells so.
 fn write_script<R>(
     rt: &R,
     held: &mut HeldLog,
     read: usize,
     used: usize,
-    made: Written,
+    made: &Written,
     json: bool,
 ) -> Result<(), Refusal>
 where
     R: Files<File = File> + Print,
 {
-    let Written {
-        frames,
-        count,
-        refused,
-    } = made;
-    if refused.as_ref().map_or(true, |refused| refused.is_kept) {
-        held.append(rt, read, used, &frames)?;
-        let len = used.saturating_add(frames.len()) as u64;
-        told(tell_appended(rt, json, count, used as u64, len))?;
+    held.append(rt, read, used, &made.frames)?;
+    let len = used.saturating_add(made.frames.len()) as u64;
+    told(tell_appended(rt, json, made.count, used as u64, len))
+}
+
+// Appends the frames of a script, if any of its lines are kept, or says why one is refused.
+fn append_script<R>(
+    rt: &R,
+    held: &mut HeldLog,
+    plan: &Plan,
+    script: &[u8],
+    words: &ArgMatches<'_>,
+) -> Result<(), Refusal>
+where
+    R: Files<File = File> + Print + AllocGlobal + Threads + Sync,
+{
+    let (standing, read) = front_in(rt, held.file(), plan)?;
+    let used = standing.used;
+    let made = frames_of(rt.alloc(), standing, script, words.get_flag("each"))?;
+    if made.is_kept() {
+        write_script(rt, held, read, used, &made, words.get_flag("json"))?;
     }
-    match refused {
-        Some(refused) => Err(Refusal::Line(refused)),
-        None => Ok(()),
-    }
+    made.lines_refused()
 }
 
 fn append<R>(rt: &R, log: &str, plan: &Plan, words: &ArgMatches<'_>) -> Result<(), Refusal>
@@ -72,10 +81,23 @@ where
 {
     let script = script_in(rt, words.get_str("SCRIPT").unwrap_or("-"))?;
     let mut held = HeldLog::to_write(rt, log)?;
-    let (standing, read) = front_in(rt, held.file(), plan)?;
-    let used = standing.used;
-    let made = frames_of(rt.alloc(), standing, &script, words.get_flag("each"))?;
-    write_script(rt, &mut held, read, used, made, words.get_flag("json"))
+    append_script(rt, &mut held, plan, &script, words)
+}
+
+// Writes a checkpoint behind a log of which so many bytes were read, and tells so.
+fn write_mark<R>(
+    rt: &R,
+    held: &mut HeldLog,
+    read: usize,
+    made: &Marked,
+    json: bool,
+) -> Result<(), Refusal>
+where
+    R: Files<File = File> + Print,
+{
+    held.append(rt, read, made.used, &made.frames)?;
+    let len = made.used.saturating_add(made.frames.len()) as u64;
+    told(tell_marked(rt, json, made.offset as u64, len))
 }
 
 fn checkpoint<R>(rt: &R, log: &str, plan: &Plan, words: &ArgMatches<'_>) -> Result<(), Refusal>
@@ -85,9 +107,7 @@ where
     let mut held = HeldLog::to_write(rt, log)?;
     let bytes = rest_of_log(rt, held.file())?;
     let made = mark(rt, rt.alloc(), &bytes, plan, words.get_flag("close"))?;
-    held.append(rt, bytes.len(), made.used, &made.frames)?;
-    let len = made.used.saturating_add(made.frames.len()) as u64;
-    told(tell_marked(rt, words.get_flag("json"), made.offset as u64, len))
+    write_mark(rt, &mut held, bytes.len(), &made, words.get_flag("json"))
 }
 
 // How many records stand before a log that goes on from this one.
@@ -114,6 +134,18 @@ where
     }
 }
 
+// Makes the file of a log that goes on from this one, and tells so.
+fn carry_bytes<R>(rt: &R, bytes: &[u8], plan: &Plan, new: &str, json: bool) -> Result<(), Refusal>
+where
+    R: Files<File = File> + Print + Eprint + AllocGlobal + Threads + Sync,
+{
+    let next = next_behind(rt, bytes, plan)?;
+    let made = carried_on(rt, bytes, plan)?;
+    put_new(rt, new, &made)?;
+    warn_of_end(rt, next);
+    told(tell_carried(rt, json, next, made.len() as u64))
+}
+
 fn carry<R>(rt: &R, log: &str, plan: &Plan, words: &ArgMatches<'_>) -> Result<(), Refusal>
 where
     R: Files<File = File> + Print + Eprint + AllocGlobal + Threads + Sync,
@@ -122,18 +154,15 @@ where
     expect_free(rt, new)?;
     let mut held = HeldLog::to_read(rt, log)?;
     let bytes = rest_of_log(rt, held.file())?;
-    let next = next_behind(rt, &bytes, plan)?;
-    let made = carried_on(rt, &bytes, plan)?;
-    put_new(rt, new, &made)?;
-    warn_of_end(rt, next);
-    told(tell_carried(rt, words.get_flag("json"), next, made.len() as u64))
+    carry_bytes(rt, &bytes, plan, new, words.get_flag("json"))
 }
 
-fn restart<R>(rt: &R, log: &str, plan: &Plan) -> Result<(), Refusal>
+// Prints the report of a log, plain or carried on.
+fn print_report<R, F>(rt: &R, is_carried: bool, from: F, plan: &Plan) -> Result<(), Fault>
 where
-    R: Files<File = File> + Print + Clock + AllocGlobal + Threads + Sync,
+    R: Print + Clock + AllocGlobal + Threads + Sync,
+    F: Read + Drop,
 {
-    let (is_carried, from) = begun_log(rt, opened(rt, log)?)?;
     let mut input = OverRead::new(from);
     let mut output = OverWrite::new(Patient {
         rt,
@@ -141,11 +170,18 @@ where
     });
     if is_carried {
         let offset = CARRIED_AT as u64;
-        rq_tool::run_at(rt, rt.alloc(), &mut input, &mut output, offset, plan, &Open)?;
+        rq_tool::run_at(rt, rt.alloc(), &mut input, &mut output, offset, plan, &Open)
     } else {
-        rq_tool::run(rt, rt.alloc(), &mut input, &mut output, plan, &Open)?;
+        rq_tool::run(rt, rt.alloc(), &mut input, &mut output, plan, &Open)
     }
-    Ok(())
+}
+
+fn restart<R>(rt: &R, log: &str, plan: &Plan) -> Result<(), Refusal>
+where
+    R: Files<File = File> + Print + Clock + AllocGlobal + Threads + Sync,
+{
+    let (is_carried, from) = begun_log(rt, opened(rt, log)?)?;
+    Ok(print_report(rt, is_carried, from, plan)?)
 }
 
 // The closed log, plain or carried on.
@@ -197,6 +233,20 @@ where
     Ok(rt.write_all(text.as_bytes())?)
 }
 
+// Prints which checkpoints of a plain log are true.
+fn print_audit<R, F>(rt: &R, from: F, plan: &Plan) -> Result<(), Fault>
+where
+    R: Print + Clock + AllocGlobal + Threads + Sync,
+    F: Read + Drop,
+{
+    let mut input = OverRead::new(from);
+    let mut output = OverWrite::new(Patient {
+        rt,
+        inner: io::writer(rt),
+    });
+    rq_tool::audit_log(rt, rt.alloc(), &mut input, &mut output, plan)
+}
+
 fn audit<R>(rt: &R, log: &str, plan: &Plan) -> Result<(), Refusal>
 where
     R: Files<File = File> + Print + Clock + AllocGlobal + Threads + Sync,
@@ -205,13 +255,7 @@ where
     if is_carried {
         return tell_audit(rt, from, plan);
     }
-    let mut input = OverRead::new(from);
-    let mut output = OverWrite::new(Patient {
-        rt,
-        inner: io::writer(rt),
-    });
-    rq_tool::audit_log(rt, rt.alloc(), &mut input, &mut output, plan)?;
-    Ok(())
+    Ok(print_audit(rt, from, plan)?)
 }
 
 /// Does the command of the words.

@@ -1,5 +1,6 @@
 //! From the lines of a script to the frames of their records.
 
+use crate::failing::Refusal;
 use crate::fronts::Standing;
 use rq_journal::{NotTaken, Rule};
 use rq_record::{Fault, KeptRecord, Record, Version};
@@ -48,20 +49,17 @@ pub(crate) struct LineRefused {
     /// The beginning of its record's text; nothing if it is no line.
     text: String,
     pub(crate) reason: Reason,
-    /// Whether the records before it are appended.
-    pub(crate) is_kept: bool,
+    // Whether the records before it are appended.
+    is_kept: bool,
 }
 
 impl fmt::Display for LineRefused {
     fn fmt<W: fmt::Write>(&self, f: &mut fmt::Formatter<W>) -> fmt::Result {
         let (line, text, reason) = (self.line, self.text.as_str(), self.reason);
-        let before = line.saturating_sub(1);
-        if text.is_empty() {
-            write!(f, "script line {line}: {reason}; ")?;
-        } else {
-            write!(f, "script line {line}: {text}: {reason}; ")?;
-        }
+        let colon = if text.is_empty() { "" } else { ": " };
+        write!(f, "script line {line}: {text}{colon}{reason}; ")?;
         if self.is_kept {
+            let before = line.saturating_sub(1);
             write!(f, "{before} records before it were appended")
         } else {
             f.write_str("nothing was appended")
@@ -77,15 +75,30 @@ pub(crate) struct Written {
     /// How many there are.
     pub(crate) count: u64,
     /// Where and why they end before the script does.
-    pub(crate) refused: Option<LineRefused>,
+    refused: Option<LineRefused>,
 }
 
 impl Written {
-    fn new(alloc: Global) -> Written {
-        Written {
-            frames: Vec::new(alloc),
-            count: 0,
-            refused: None,
+    /// Whether the frames are appended: all lines are taken, or those before the first that is not
+    /// are kept.
+    pub(crate) fn is_kept(&self) -> bool {
+        match &self.refused {
+            Some(refused) => refused.is_kept,
+            None => true,
+        }
+    }
+
+    /// Refuses the first line that is not appended, if there is one.
+    pub(crate) fn lines_refused(self) -> Result<(), Refusal> {
+        let Written {
+            frames,
+            refused,
+            ..
+        } = self;
+        drop(frames);
+        match refused {
+            Some(refused) => Err(Refusal::Line(refused)),
+            None => Ok(()),
         }
     }
 }
@@ -190,6 +203,31 @@ fn append_next<'a>(
     }
 }
 
+// Appends the frames of a script's records, up to the first that may not follow, and answers how
+// many there are, and the refusal of that line.
+fn append_lines(
+    alloc: Global,
+    standing: &mut Standing,
+    script: &[u8],
+    keeps: bool,
+    frames: &mut Vec<u8>,
+) -> Result<(u64, Option<LineRefused>), AllocError> {
+    let (mut rest, mut count) = (script, 0u64);
+    for line in 1..u64::MAX {
+        if rest.is_empty() {
+            break;
+        }
+        let (text, after, done) = append_next(alloc, standing, line, rest, frames);
+        if let Err(reason) = done {
+            let refused = refusal_at(alloc, line, text, reason, keeps)?;
+            return Ok((count, Some(refused)));
+        }
+        count = line;
+        rest = after;
+    }
+    Ok((count, None))
+}
+
 /// The frames of the records that a script tells, up to the first that may not follow. Those before
 /// it are kept if that is said.
 pub(crate) fn frames_of(
@@ -198,25 +236,11 @@ pub(crate) fn frames_of(
     script: &[u8],
     keeps: bool,
 ) -> Result<Written, AllocError> {
-    let mut standing = standing;
-    let (mut rest, mut written) = (script, Written::new(alloc));
-    for line in 1..u64::MAX {
-        if rest.is_empty() {
-            break;
-        }
-        let (text, after, done) = append_next(
-            alloc,
-            &mut standing,
-            line,
-            rest,
-            &mut written.frames,
-        );
-        if let Err(reason) = done {
-            written.refused = Some(refusal_at(alloc, line, text, reason, keeps)?);
-            break;
-        }
-        written.count = line;
-        rest = after;
-    }
-    Ok(written)
+    let (mut standing, mut frames) = (standing, Vec::new(alloc));
+    let (count, refused) = append_lines(alloc, &mut standing, script, keeps, &mut frames)?;
+    Ok(Written {
+        frames,
+        count,
+        refused,
+    })
 }

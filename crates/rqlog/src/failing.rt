@@ -20,6 +20,9 @@ const STREAM: u8 = 3;
 // The exit status if memory was refused.
 const MEMORY: u8 = 4;
 
+// What a failing output is called.
+const OUTPUT: &str = "standard output";
+
 /// A file that the words name.
 #[derive(Clone, Copy)]
 pub(crate) enum Which {
@@ -29,14 +32,14 @@ pub(crate) enum Which {
     Out,
 }
 
-impl fmt::Display for Which {
-    fn fmt<W: fmt::Write>(&self, f: &mut fmt::Formatter<W>) -> fmt::Result {
-        f.write_str(match self {
+impl Which {
+    fn text(self) -> &'static str {
+        match self {
             Which::Log => "LOG",
             Which::Script => "SCRIPT",
             Which::New => "NEW",
             Which::Out => "OUT",
-        })
+        }
     }
 }
 
@@ -49,12 +52,12 @@ pub(crate) enum Remains {
     Unknown,
 }
 
-impl fmt::Display for Remains {
-    fn fmt<W: fmt::Write>(&self, f: &mut fmt::Formatter<W>) -> fmt::Result {
-        f.write_str(match self {
-            Remains::AsItWas => "nothing was appended",
-            Remains::Unknown => "some records may stand there: rqlook check tells",
-        })
+impl Remains {
+    fn text(self) -> &'static str {
+        match self {
+            Remains::AsItWas => ": nothing was appended",
+            Remains::Unknown => ": some records may stand there: rqlook check tells",
+        }
     }
 }
 
@@ -162,38 +165,52 @@ fn told_line(refused: &LineRefused) -> u8 {
 impl fmt::Display for Refusal {
     fn fmt<W: fmt::Write>(&self, f: &mut fmt::Formatter<W>) -> fmt::Result {
         match self {
-            Refusal::Words(error) => write!(f, "{error}"),
-            Refusal::NoText => f.write_str("a word is no text"),
-            Refusal::Plan => f.write_str("workers are 1 to 64, and a grain is 1 to 1000000"),
-            Refusal::Unread(which, error) | Refusal::Unwritten(which, error) => {
-                write!(f, "{which}: {error}")
-            }
-            Refusal::Cut(left, error) => write!(f, "LOG: {error}: {left}"),
-            Refusal::Held => f.write_str("LOG: another program writes it: try again"),
-            Refusal::There => f.write_str("NEW: it is there already: name a file that is not"),
-            Refusal::Changed => f.write_str("LOG: it changed meanwhile: try again"),
-            Refusal::Damaged(why) => {
-                let why = why_word(*why);
-                write!(f, "LOG: its front ends by {why}: rqlook check tells where")
-            }
-            Refusal::Line(refused) => write!(f, "{refused}"),
-            Refusal::Full => f.write_str("log is full: carry it on"),
-            Refusal::Ended => f.write_str("numbers end at 4294967295: begin a new log"),
+            Refusal::Words(error) => fmt::Display::fmt(error, f),
+            Refusal::Line(refused) => fmt::Display::fmt(refused, f),
             Refusal::Refused(fault) => {
                 let advice = advice(*fault);
                 write!(f, "{fault}{advice}")
             }
-            Refusal::Output(error) => write!(f, "standard output: {error}"),
-            Refusal::Untold(error) => write!(
-                f,
-                "standard output: {error}: it is done all the same"
-            ),
-            Refusal::Memory => f.write_str("resources"),
+            Refusal::Damaged(why) => {
+                let why = why_word(*why);
+                write!(f, "LOG: its front ends by {why}: rqlook check tells where")
+            }
+            _ => match self.of_file() {
+                Some((file, error, left)) => write!(f, "{file}: {error}{left}"),
+                None => f.write_str(self.text()),
+            },
         }
     }
 }
 
 impl Refusal {
+    // The file that failed, how, and what is left then.
+    fn of_file(&self) -> Option<(&'static str, &io::Error, &'static str)> {
+        match self {
+            Refusal::Unread(which, error) | Refusal::Unwritten(which, error) => {
+                Some((which.text(), error, ""))
+            }
+            Refusal::Cut(left, error) => Some(("LOG", error, left.text())),
+            Refusal::Output(error) => Some((OUTPUT, error, "")),
+            Refusal::Untold(error) => Some((OUTPUT, error, ": it is done all the same")),
+            _ => None,
+        }
+    }
+
+    // What is said of the others, which are all said in the same words.
+    fn text(&self) -> &'static str {
+        match self {
+            Refusal::NoText => "a word is no text",
+            Refusal::Plan => "workers are 1 to 64, and a grain is 1 to 1000000",
+            Refusal::Held => "LOG: another program writes it: try again",
+            Refusal::There => "NEW: it is there already: name a file that is not",
+            Refusal::Changed => "LOG: it changed meanwhile: try again",
+            Refusal::Full => "log is full: carry it on",
+            Refusal::Ended => "numbers end at 4294967295: begin a new log",
+            _ => "resources",
+        }
+    }
+
     fn exit(&self) -> u8 {
         match self {
             Refusal::Words(_) | Refusal::NoText | Refusal::Plan => USAGE,

@@ -36,11 +36,13 @@ fn lock(file: &File, hold: Hold) -> Result<(), Refusal> {
 impl HeldLog {
     // Opens the file of a log. Once it has the lock, the file must still have its name: else another
     // program put its own there while this one came.
-    fn open<R>(rt: &R, path: &str, options: &OpenOptions, hold: Hold) -> Result<HeldLog, Refusal>
+    fn open<R>(rt: &R, path: &str, writes: bool, hold: Hold) -> Result<HeldLog, Refusal>
     where
         R: Files<File = File> + AllocGlobal,
     {
-        match NamedFile::open(rt, path, options) {
+        let mut options = OpenOptions::new();
+        options.read(true).write(writes);
+        match NamedFile::open(rt, path, &options) {
             Ok(place) => HeldLog::held(rt, place, hold),
             Err(error) => Err(unread(Which::Log, error)),
         }
@@ -62,9 +64,7 @@ impl HeldLog {
     where
         R: Files<File = File> + AllocGlobal,
     {
-        let mut options = OpenOptions::new();
-        options.read(true);
-        HeldLog::open(rt, path, &options, Hold::Unwritten)
+        HeldLog::open(rt, path, false, Hold::Unwritten)
     }
 
     /// Opens the file of a log that another is to replace.
@@ -72,9 +72,7 @@ impl HeldLog {
     where
         R: Files<File = File> + AllocGlobal,
     {
-        let mut options = OpenOptions::new();
-        options.read(true);
-        HeldLog::open(rt, path, &options, Hold::Alone)
+        HeldLog::open(rt, path, false, Hold::Alone)
     }
 
     /// Opens the file of a log to read it and to write it.
@@ -82,9 +80,7 @@ impl HeldLog {
     where
         R: Files<File = File> + AllocGlobal,
     {
-        let mut options = OpenOptions::new();
-        options.read(true).write(true);
-        HeldLog::open(rt, path, &options, Hold::Alone)
+        HeldLog::open(rt, path, true, Hold::Alone)
     }
 
     /// The file.

@@ -88,6 +88,29 @@ fn append_checkpoint(
     }
 }
 
+// A checkpoint of the keeper's state where the log stands, behind ABORTs of the open units if
+// these are to end.
+fn marked_by<R: Threads + Sync>(
+    rt: &R,
+    alloc: Global,
+    standing: &mut Standing,
+    keeper: &mut Keeper,
+    plan: &Plan,
+    ends_units: bool,
+) -> Result<Marked, Refusal> {
+    let mut made = Marked {
+        used: standing.used,
+        offset: 0,
+        frames: Vec::new(alloc),
+    };
+    if ends_units {
+        end_units(rt, alloc, standing, keeper, plan, &mut made.frames)?;
+    }
+    made.offset = made.used.saturating_add(made.frames.len());
+    append_checkpoint(alloc, standing, keeper.state(), &mut made.frames)?;
+    Ok(made)
+}
+
 /// A checkpoint of the state behind the front of a log, behind ABORTs of the open units if these are
 /// to end.
 pub(crate) fn mark<R: Threads + Sync>(
@@ -99,17 +122,31 @@ pub(crate) fn mark<R: Threads + Sync>(
 ) -> Result<Marked, Refusal> {
     let mut standing = opened_front(rt, alloc, bytes, plan)?;
     let mut keeper = keeper_behind(rt, alloc, bytes, plan)?;
-    let (used, mut frames) = (standing.used, Vec::new(alloc));
-    if ends_units {
-        end_units(rt, alloc, &mut standing, &mut keeper, plan, &mut frames)?;
-    }
-    let offset = used.saturating_add(frames.len());
-    append_checkpoint(alloc, &mut standing, keeper.state(), &mut frames)?;
-    Ok(Marked {
-        used,
-        offset,
-        frames,
-    })
+    marked_by(rt, alloc, &mut standing, &mut keeper, plan, ends_units)
+}
+
+// The ABORT of each unit that is open behind the front of a log.
+fn aborts_behind<R: Threads + Sync>(
+    rt: &R,
+    alloc: Global,
+    bytes: &[u8],
+    plan: &Plan,
+) -> Result<Vec<Record>, Refusal> {
+    let keeper = keeper_behind(rt, alloc, bytes, plan)?;
+    Ok(aborts_of(alloc, keeper.state())?)
+}
+
+// A log up to where it stands, and these records behind it.
+fn ended_by(
+    alloc: Global,
+    standing: Standing,
+    records: &[Record],
+    bytes: Vec<u8>,
+) -> Result<Vec<u8>, Refusal> {
+    let (mut standing, mut made) = (standing, bytes);
+    made.truncate(standing.used);
+    append_all(alloc, &mut standing, records, &mut made)?;
+    Ok(made)
 }
 
 /// The closed log of one that was carried on.
@@ -119,11 +156,7 @@ pub(crate) fn closed_carried<R: Threads + Sync>(
     bytes: Vec<u8>,
     plan: &Plan,
 ) -> Result<Vec<u8>, Refusal> {
-    let mut standing = front_of(rt, alloc, &bytes, plan)?;
-    let keeper = keeper_behind(rt, alloc, &bytes, plan)?;
-    let aborts = aborts_of(alloc, keeper.state())?;
-    let mut made = bytes;
-    made.truncate(standing.used);
-    append_all(alloc, &mut standing, &aborts, &mut made)?;
-    Ok(made)
+    let standing = front_of(rt, alloc, &bytes, plan)?;
+    let aborts = aborts_behind(rt, alloc, &bytes, plan)?;
+    ended_by(alloc, standing, &aborts, bytes)
 }

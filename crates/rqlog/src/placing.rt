@@ -37,17 +37,25 @@ fn made_new(made: io::Result<()>) -> Result<(), Refusal> {
 }
 
 // Writes the file under a name beside the new one. That name goes again.
-fn made_under<R>(rt: &R, names: &Names, new: &str, bytes: &[u8]) -> io::Result<()>
+fn named_new<R>(rt: &R, names: &Names, new: &str, bytes: &[u8]) -> io::Result<()>
 where
     R: Files<File = File> + AllocGlobal,
 {
-    let folder = folder_of(rt, new)?;
     let mut file = names.options(rt).open(rt, names.new_name())?;
     let named = name_new(rt, &mut file, names, new, bytes);
     let is_moved = matches!(named, Ok(false));
     let settled = names.settle(rt, Some(file), is_moved);
     named?;
-    settled?;
+    settled
+}
+
+// The same, and tells the disk.
+fn made_under<R>(rt: &R, names: &Names, new: &str, bytes: &[u8]) -> io::Result<()>
+where
+    R: Files<File = File> + AllocGlobal,
+{
+    let folder = folder_of(rt, new)?;
+    named_new(rt, names, new, bytes)?;
     OpenFile::sync_all(&folder)
 }
 

@@ -1,7 +1,7 @@
 //! The words of the program.
 
-use clap::{Arg, ArgAction, Command, Error, value_parser};
-use std::alloc::Global;
+use clap::{Arg, ArgAction, Command, value_parser};
+use std::alloc::{AllocError, Global};
 
 fn log<'a>(alloc: Global) -> Arg<'a> {
     Arg::new(alloc, "LOG")
@@ -45,7 +45,30 @@ fn workers<'a>(alloc: Global) -> Arg<'a> {
     number(alloc, "WORKERS", "4", "How many threads work, 1 to 64")
 }
 
-fn append<'a>(alloc: Global) -> Result<Command<'a>, Error> {
+// The command with an argument more. What was refused before comes here too, so that nobody who adds
+// several arguments has to drop some of them wherever memory may be refused.
+fn with<'a>(
+    command: Result<Command<'a>, AllocError>,
+    argument: Arg<'a>,
+) -> Result<Command<'a>, AllocError> {
+    command?.arg(argument)
+}
+
+// The program with a command more, in the same way.
+fn having<'a>(
+    program: Result<Command<'a>, AllocError>,
+    command: Result<Command<'a>, AllocError>,
+) -> Result<Command<'a>, AllocError> {
+    program?.subcommand(command?)
+}
+
+// A command of this name about a log, which is its first argument.
+fn about_log<'a>(alloc: Global, name: &'a str, about: &'a str) -> Result<Command<'a>, AllocError> {
+    Command::new(alloc, name).about(about).arg(log(alloc))
+}
+
+fn append<'a>(alloc: Global) -> Result<Command<'a>, AllocError> {
+    let about = "Appends the records of a script to a log, all of them or none";
     let script = Arg::new(alloc, "SCRIPT")
         .default_value("-")
         .help("The file of the script, or - for standard input");
@@ -54,93 +77,63 @@ fn append<'a>(alloc: Global) -> Result<Command<'a>, Error> {
         "each",
         "Appends the records before the first that is not lawful, in place of none",
     );
-    Ok(
-        Command::new(alloc, "append")
-            .about("Appends the records of a script to a log, all of them or none")
-            .arg(log(alloc))?
-            .arg(script)?
-            .arg(each)?
-            .arg(json(alloc))?
-            .arg(workers_option(alloc))?,
-    )
+    let command = with(about_log(alloc, "append", about), script);
+    let command = with(with(command, each), json(alloc));
+    with(command, workers_option(alloc))
 }
 
-fn checkpoint<'a>(alloc: Global) -> Result<Command<'a>, Error> {
+fn checkpoint<'a>(alloc: Global) -> Result<Command<'a>, AllocError> {
+    let about = "Appends a checkpoint of the state behind a log, and prints its offset";
     let close = flag(alloc, "close", "Ends each open unit before, by an ABORT");
-    Ok(
-        Command::new(alloc, "checkpoint")
-            .about("Appends a checkpoint of the state behind a log, and prints its offset")
-            .arg(log(alloc))?
-            .arg(close)?
-            .arg(json(alloc))?
-            .arg(workers_option(alloc))?,
-    )
+    let command = with(about_log(alloc, "checkpoint", about), close);
+    with(with(command, json(alloc)), workers_option(alloc))
 }
 
-fn carry<'a>(alloc: Global) -> Result<Command<'a>, Error> {
+fn carry<'a>(alloc: Global) -> Result<Command<'a>, AllocError> {
+    let about = "Makes a new log that goes on where a log ends, with its state alone";
     let new = made(
         alloc,
         "NEW",
         "The file of the new log, which is not there yet",
     );
-    Ok(
-        Command::new(alloc, "carry")
-            .about("Makes a new log that goes on where a log ends, with its state alone")
-            .arg(log(alloc))?
-            .arg(new)?
-            .arg(json(alloc))?
-            .arg(workers_option(alloc))?,
-    )
+    let command = with(about_log(alloc, "carry", about), new);
+    with(with(command, json(alloc)), workers_option(alloc))
 }
 
-fn restart<'a>(alloc: Global) -> Result<Command<'a>, Error> {
+fn restart<'a>(alloc: Global) -> Result<Command<'a>, AllocError> {
+    let about = "Prints the report of a log's restart, as rq restart does";
     let grain = number(
         alloc,
         "GRAIN",
         "1000",
         "How many frames a worker checks at once, 1 to 1000000",
     );
-    Ok(
-        Command::new(alloc, "restart")
-            .about("Prints the report of a log's restart, as rq restart does")
-            .arg(log(alloc))?
-            .arg(workers(alloc))?
-            .arg(grain)?,
-    )
+    let command = with(about_log(alloc, "restart", about), workers(alloc));
+    with(command, grain)
 }
 
-fn close<'a>(alloc: Global) -> Result<Command<'a>, Error> {
+fn close<'a>(alloc: Global) -> Result<Command<'a>, AllocError> {
+    let about = "Writes the closed log, as rq close does";
     let out = made(alloc, "OUT", "The file of the closed log, which may be LOG");
-    Ok(
-        Command::new(alloc, "close")
-            .about("Writes the closed log, as rq close does")
-            .arg(log(alloc))?
-            .arg(out)?
-            .arg(workers(alloc))?,
-    )
+    let command = with(about_log(alloc, "close", about), out);
+    with(command, workers(alloc))
 }
 
-fn audit<'a>(alloc: Global) -> Result<Command<'a>, Error> {
-    Ok(
-        Command::new(alloc, "audit")
-            .about("Prints which checkpoints of a log are true, as rq audit does")
-            .arg(log(alloc))?
-            .arg(workers(alloc))?,
-    )
+fn audit<'a>(alloc: Global) -> Result<Command<'a>, AllocError> {
+    let about = "Prints which checkpoints of a log are true, as rq audit does";
+    with(about_log(alloc, "audit", about), workers(alloc))
 }
 
 /// The program's command.
-pub(crate) fn program<'a>(alloc: Global) -> Result<Command<'a>, Error> {
-    Ok(
-        Command::new(alloc, "rqlog")
-            .about("Appends to the log of a recoverable queue manager, marks it and carries it on")
-            .version("1.0")
-            .subcommand_required(true)
-            .subcommand(append(alloc)?)?
-            .subcommand(checkpoint(alloc)?)?
-            .subcommand(carry(alloc)?)?
-            .subcommand(restart(alloc)?)?
-            .subcommand(close(alloc)?)?
-            .subcommand(audit(alloc)?)?,
-    )
+pub(crate) fn program<'a>(alloc: Global) -> Result<Command<'a>, AllocError> {
+    let program = Command::new(alloc, "rqlog")
+        .about("Appends to the log of a recoverable queue manager, marks it and carries it on")
+        .version("1.0")
+        .subcommand_required(true);
+    let program = having(Ok(program), append(alloc));
+    let program = having(program, checkpoint(alloc));
+    let program = having(program, carry(alloc));
+    let program = having(program, restart(alloc));
+    let program = having(program, close(alloc));
+    having(program, audit(alloc))
 }
