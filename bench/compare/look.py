@@ -17,21 +17,12 @@ from __future__ import annotations
 import argparse, glob, json, os, random, resource, shutil, subprocess, sys
 
 sys.path.insert(0, os.path.dirname(os.path.dirname(os.path.abspath(__file__))))
-from common import COMPARED, HEADER, HERE, NO_RECORD, UNLAWFUL, best, bodies_of, built_peer, chained, checkpoints_script, header_of, log_of, parsed, parser, write_log
+from common import (COMPARED, HEADER, HERE, NO_RECORD, UNLAWFUL, best, bodies_of, built_peer, chained, check, checkpoints_script, counted, header_of,
+                    log_of, parsed, parser, write_log)
 from looked import Stories, compact, is_hidden, line_of, records_of
 from paged import ALL, SHOWN, TAGS, WORDS, Page, Told, payload
 from records import begin, commit, define, enqueue, register
 from schema import report_misfits
-
-compared = differing = 0
-
-
-def check(name: str, got: object, want: object) -> None:
-    global compared, differing
-    compared += 1
-    if got != want:
-        differing += 1
-        print(f"{name}: {str(got)[:300]!r} in place of {str(want)[:300]!r}", flush=True)
 
 
 def told(*words: str) -> tuple[int, str]:
@@ -187,7 +178,8 @@ def same_queues(look: str, log: str) -> tuple[list[str], Page]:
     for order in ORDERS:
         page = page_of(look, log, "--order", order)
         shown, whole, short = shown_rows(page), queue_rows(report["queues"], order), queue_rows(report["queues"], order, False)
-        # From some row on, the page has only the first of each payload.
+        # From some row on, the page has only the first of each payload: from the bound on, which is looked for in its bytes.
+        check(f"{log}'s page by {order}, payloads cut", page.wrongly_cut()[:5], [])
         cut = next((at for at, (row, both) in enumerate(zip(shown, zip(whole, short))) if row == both[1] != both[0]), len(whole))
         check(f"{log}'s page by {order}", shown, whole[:cut] + short[cut:])
     return [it["name"] for it in report["queues"]], page
@@ -516,8 +508,7 @@ def main() -> int:
         more_scripts(rq, look, peer, folder, options.scripts)
     if options.speed and not options.own:
         speeds(rq, look, peer, folder, options.speed)
-    print(f"{compared - differing} passed, {differing} failed")
-    return 1 if differing else 0
+    return counted()
 
 
 if __name__ == "__main__":

@@ -3,8 +3,9 @@
 use crate::failing::Failure;
 use crate::reading::{is_over_log, log_in};
 use crate::watching::{Watch, Watched};
-use crate::words::{VERSION, numbers_asked, order_asked, records_asked, subject_asked};
+use crate::words::{numbers_asked, order_asked, records_asked, subject_asked};
 use clap::ArgMatches;
+use rq_file::VERSION;
 use rq_look::{Fault, Plan, Trouble, begins_at};
 use rq_page::Asked;
 use std::io::{self, ErrorKind, Printer};
@@ -26,7 +27,7 @@ fn plan_of(words: &ArgMatches<'_>) -> Option<Plan> {
 }
 
 // Prints what a check finds, unless it is to say nothing. Answers whether it finds nothing, also
-// where nobody reads on: what it finds is known before it is written.
+// if nobody reads on: what it finds is known before it is written.
 fn check<R>(
     rt: &R,
     bytes: &[u8],
@@ -113,7 +114,7 @@ where
     Ok(true)
 }
 
-// Tells how long a megabyte of the log took, where there is a clock.
+// Tells how long a megabyte of the log took, if there is a clock.
 fn tell_time<R: Eprint + Clock>(rt: &R, bytes: &[u8], begun: Option<Instant>) {
     let Some(elapsed) = begun.and_then(|begun| begun.elapsed(rt).ok()) else {
         return;

@@ -5,17 +5,17 @@ use rq_look::{Seen, Trouble};
 use std::alloc::AllocError;
 use std::io;
 
-// The exit status where there is no such thing in the log, a record that no script tells, or a log
+// The exit status if there is no such thing in the log, a record that no script tells, or a log
 // that was carried on.
 const REFUSED: u8 = 1;
 
 // The exit status of words that are no command.
 const USAGE: u8 = 2;
 
-// The exit status where reading or writing failed.
+// The exit status if reading or writing failed.
 const STREAM: u8 = 3;
 
-// The exit status where memory was refused.
+// The exit status if memory was refused.
 const MEMORY: u8 = 4;
 
 /// Why the program ends before it is done.

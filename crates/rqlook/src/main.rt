@@ -18,7 +18,7 @@ use std::rt::{Clock, Env, Files};
 use std::thread::Threads;
 use std::{env, io};
 
-// The exit status where a finding was made.
+// The exit status if a finding was made.
 const FOUND: u8 = 1;
 
 fn main(rt: HostRuntime) -> ExitCode {
@@ -47,7 +47,7 @@ where
     }
 }
 
-// Arguments that are no text are no command; where memory ran out nothing is known of them.
+// Arguments that are no text are no command; if memory ran out nothing is known of them.
 fn unread(error: io::Error) -> Failure {
     if error.kind() == io::ErrorKind::OutOfMemory {
         Failure::Memory

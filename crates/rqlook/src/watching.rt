@@ -1,4 +1,4 @@
-//! How far the work is, told on standard error where a person looks on.
+//! How far the work is, told on standard error if a person looks on.
 
 use std::io::{self, Read, Write};
 use std::rt::Clock;
@@ -27,13 +27,13 @@ impl Watch {
         Watch { begun, is_shown }
     }
 
-    /// The same for the output, which tells by itself how far it is where it is shown.
+    /// The same for the output, which tells by itself how far it is if it is shown.
     pub(crate) fn of_output(self) -> Watch {
         let begun = if self.is_shown { None } else { self.begun };
         Watch { begun, ..self }
     }
 
-    /// Says that the work on the log begins, where it is long.
+    /// Says that the work on the log begins, if it is long.
     pub(crate) fn begins<R: Eprint>(self, rt: &R, bytes: &[u8]) {
         let mib = bytes.len() as u64 / MIB;
         if self.begun.is_some() && mib >= MUCH {

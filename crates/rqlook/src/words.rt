@@ -1,12 +1,10 @@
 //! The words of the program.
 
 use clap::{Arg, ArgAction, ArgMatches, Command, Error, value_parser};
+use rq_file::VERSION;
 use rq_look::{Subject, Wanted};
 use rq_page::Order;
 use std::alloc::{AllocError, Global};
-
-/// The program's version.
-pub(crate) const VERSION: &str = "1.0";
 
 // The kinds of record.
 static KINDS: [&str; 10] = [
@@ -110,8 +108,8 @@ fn check<'a>(alloc: Global) -> Result<Command<'a>, Error> {
     Ok(
         Command::new(alloc, "check")
             .about(
-                "Exits with 0 where the log is whole and each checkpoint true, and with 1 where it \
-                 finds something",
+                "Exits with 0 if the log is whole and each checkpoint true, and with 1 if it finds \
+                 something",
             )
             .arg(log(alloc))?
             .arg(quiet)?
@@ -220,13 +218,13 @@ fn page<'a>(alloc: Global) -> Result<Command<'a>, Error> {
         alloc,
         "element",
         "ELEMENT",
-        "Shows what became of this element also where the log is long; may be given several times",
+        "Shows what became of this element also if the log is long; may be given several times",
     );
     let unit = option(
         alloc,
         "unit",
         "UNIT",
-        "Shows what this unit did also where the log is long; may be given several times",
+        "Shows what this unit did also if the log is long; may be given several times",
     );
     Ok(
         Command::new(alloc, "page")
