@@ -3,12 +3,14 @@
 
 mod acting;
 mod failing;
+mod narrowing;
 mod reading;
 mod watching;
 mod words;
 
 use crate::acting::act;
 use crate::failing::Failure;
+use crate::narrowing::columns_told;
 use crate::watching::Watch;
 use crate::words::program;
 use std::io::IsTerminal;
@@ -22,11 +24,21 @@ use std::{env, io};
 const FOUND: u8 = 1;
 
 fn main(rt: HostRuntime) -> ExitCode {
-    let watch = Watch::new(&rt, rt.stderr().is_terminal(), rt.stdout().is_terminal());
+    let watch = Watch::new(&rt, rt.stderr().is_terminal(), columns_shown(&rt));
     match start(&rt, watch) {
         Ok(true) => ExitCode::SUCCESS,
         Ok(false) => ExitCode::from(FOUND),
         Err(failure) => ExitCode::from(failure.tell(&rt)),
+    }
+}
+
+// How many columns the output has before a person's eyes, 0 if that is not known; none if it goes
+// elsewhere.
+fn columns_shown(rt: &HostRuntime) -> Option<u32> {
+    if rt.stdout().is_terminal() {
+        Some(columns_told(rt))
+    } else {
+        None
     }
 }
 
