@@ -8,11 +8,10 @@ byte; each line of a dump, whole and by each option, as text and as JSON, with w
 the stories of some elements and units; `check` is compared with `rq audit`, and the page with the report. Then a small log is damaged
 in each of the six ways, and what the dump says of its end is compared; odd payloads are shown, whole and in so many columns, on a
 terminal too; a script ends before a record that no line tells; and wrong words, a missing file, a closed output and refused memory are
-tried. With --scripts, so many more logs are made,
-told as scripts and made again. With --speed, a dump and a check of a log of so many MiB are timed beside a restart and an audit.
-With --own no peer is wanted: the logs are those of the scripts in examples/, and one of units on many queues with checkpoints. Each log
-with a true checkpoint is carried on there into a file of its own, too: what is shown of it must be what is shown of the whole log from
-there on, at its offsets. The last line is `N passed, M failed`, by answers.
+tried. With --scripts, so many more logs are made, told as scripts and made again. With --speed, a dump and a check of a log of so many
+MiB are timed beside a restart and an audit. With --own no peer is wanted: the logs are those of the scripts in examples/, and one of
+units on many queues with checkpoints. Each log with a true checkpoint is carried on there into a file of its own, too: what is shown of
+it must be what is shown of the whole log from there on, at its offsets. The last line is `N passed, M failed`, by answers.
 """
 from __future__ import annotations
 import argparse, glob, json, os, pty, random, resource, shutil, subprocess, sys, tty
@@ -35,7 +34,7 @@ def on_terminal(*words: str, **env: str) -> tuple[int, str]:
     """How a command ends, and what it prints on a terminal that changes no byte; the environment has these variables more."""
     reads, writes = pty.openpty()
     tty.setraw(writes)
-    with subprocess.Popen(words, stdin=subprocess.DEVNULL, stdout=writes, env={**without_columns(), **env}) as going:
+    with subprocess.Popen(words, stdin=subprocess.DEVNULL, stdout=writes, stderr=subprocess.DEVNULL, env={**without_columns(), **env}) as going:
         os.close(writes)
         printed = b""
         try:
@@ -268,6 +267,8 @@ def reasons(rq: str, look: str, log: str, folder: str) -> None:
         check(f"a report's front by {why}", told(rq, "restart", path, "4", "1000")[1].split("\n", 1)[0],
               f"front {front['records']} records, {front['used']} of {front['total']} bytes, {why}")
         same_check(rq, look, path)
+        if why == "chain":
+            widths(look, path)
 
 
 ODD = ["<script>alert(1)</script>", "</td></table>", "&amp; \" ' \\", "\u202egnp.exe", "\u4e2d" * 20, "\u4e2d" * 32, "\u4e2d" * 33, "x" * 32, "x" * 33,
