@@ -8,7 +8,8 @@ usage: house.py
 - A name stands for two things if the definitions of two crates have it and say different things, if two crates have a
   type of that name, if two files have a free function of that name for others to call, or if types of two crates have
   such a method. Tests are left out, and so are types without fields: they only name a function of clauses. What
-  `ONE_THING` lists is one thing that is said of two, and methods of `PLAIN` mean what their types make of them.
+  `ONE_THING` lists is one thing that is said of two, methods of `PLAIN` mean what their types make of them, and those of
+  `STAYING` are known to callers.
 - Files are nouns: the name of a file or folder of code that ends with *ing* is no thing, unless a type has that name.
 - A function only forwards if it is private, has one caller, and its body is one call with its own parameters.
 Ends with status 1 if there is one of any of these.
@@ -68,6 +69,7 @@ ONE_THING = {
     "is_by": ("rq_queue rq_state", "whether a note is of the unit"),
     "is_of": ("rq_queue rq_state", "whether a note is of the registrant"),
     "key": ("rq_queue rq_state", "what a member is in order by"),
+    "note": ("rq_queue rq_state", "the note of an operation"),
     "open_units": ("rq_catalog rq_look", "the units that are open"),
     "place": ("rq_queue rq_state", "the record's number in the log"),
     "queue": ("rq_look rq_queue rq_state", "the queue that a value is of"),
@@ -75,6 +77,8 @@ ONE_THING = {
     "tell": ("rqlog rqlook", "says on standard error why a program ends"),
     "version": ("rq_catalog rq_journal rqlog", "the version by whose rules records are judged"),
 }
+# Public calls that say another thing elsewhere and keep their names, since callers know them: of a closed countdown.
+STAYING = {"home", "last"}
 # Words that end with *ing* and are things.
 THINGS = {"beginning", "listing"}
 
@@ -226,7 +230,7 @@ def functions_of_two(calls: list[Called]) -> list[str]:
 
 
 def methods_of_two(calls: list[Called]) -> list[str]:
-    return named_twice([it for it in calls if it.owner and it.name not in PLAIN], lambda it: it.crate)
+    return named_twice([it for it in calls if it.owner and it.name not in PLAIN | STAYING], lambda it: it.crate)
 
 
 def no_things(crate: str) -> list[str]:
