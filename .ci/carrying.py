@@ -2,8 +2,9 @@
 from __future__ import annotations
 import os
 
-from tables import scripts
+from tables import lengths, scripts
 from tables.carried import CARRIED_AT, GAP, with_points
+from tables.checkpoints import SPELLED
 from trying import check, content, put, run
 from writing import MORE, START, appended, plain, rqlog
 
@@ -18,11 +19,14 @@ QUEUES = b"units 1 committed, 0 aborted, 0 cut off\nqueue 0 jobs limit 0 error -
 LONG = START.replace(b"commit 1\n", (b"enqueue 1 0 5 - 0 " + b"5a" * 65535 + b"\n") * 40 + b"commit 1\n")
 
 
+def begun_with(told: bytes, last: bytes) -> bytes:
+    """A file that begins with a checkpoint of these bytes, behind a log with these last bytes."""
+    return header_of(1) + GAP + last + chained(header_of(1)[:8] + last, [checkpoint(told)])[HEADER:]
+
+
 def carried_one(next_record: int, last: bytes) -> bytes:
-    """A file that begins with the state of `ONE_ELEMENT` before this record, behind a log with these last bytes."""
-    body = checkpoint(spelled((next_record, 1, 1, 0), [b"jobs"], [(2, b"a")]))
-    frame = chained(header_of(1)[:8] + last, [body])[HEADER:]
-    return header_of(1) + GAP + last + frame
+    """One that begins with the state of `ONE_ELEMENT` before this record."""
+    return begun_with(spelled((next_record, 1, 1, 0), [b"jobs"], [(2, b"a")]), last)
 
 
 def is_whole(name: str, log: str, records: int) -> None:
@@ -47,6 +51,26 @@ def goes_on() -> None:
     is_whole("a log that is carried again", "second", 6)
 
 
+def within_a_unit() -> None:
+    """A state with an open unit, which has taken one element and put in another, is carried on twice as it is; and marked."""
+    log = plain("within", scripts.CHECKPOINT.removesuffix("commit 2\n").encode())
+    bodies, whole = [bytes(7) + bytes([number]) + SPELLED[8:] for number in (9, 10)], content(log)
+    want = begun_with(bodies[0], whole[-32:])
+    check("carry within a unit", (rqlog("carry", log, "within.first")[0], content("within.first")), (0, want))
+    again = begun_with(bodies[1], want[-32:])
+    check("carry within it again", (rqlog("carry", "within.first", "within.second")[0], content("within.second")), (0, again))
+    marked = chained(header_of(1)[:8] + whole[-32:], [checkpoint(bodies[0])])[HEADER:]
+    check("checkpoint within a unit", (rqlog("checkpoint", log)[0], content(log)), (0, whole + marked))
+
+
+def lengths_appended() -> None:
+    """Names and payloads of each kind of length are appended as `rq make` writes them."""
+    for name, (script, _) in {"names": lengths.names(), "payloads": lengths.payloads()}.items():
+        whole, log = content(plain("lengths", script.encode())), plain("grown", b"")
+        ended = rqlog("append", log, script=script.encode()), content(log) == whole
+        check(f"append {name} of each length", ended, (appended(script.count("\n"), len(whole)), True))
+
+
 def false_checkpoints() -> None:
     """Checkpoints behind the one with which a log begins: of each it is told whether it is true."""
     log, points = with_points(carried_one(4, chained(header_of(1), ONE_BODIES)[-32:]))
@@ -64,4 +88,4 @@ def in_pieces() -> None:
     check("append to it", (rqlog("append", log, script=MORE), content(log) == whole), (appended(4, len(whole)), True))
 
 
-PARTS = [goes_on, false_checkpoints, in_pieces]
+PARTS = [goes_on, within_a_unit, false_checkpoints, in_pieces, lengths_appended]

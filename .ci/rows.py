@@ -14,7 +14,7 @@ from concurrent.futures import ThreadPoolExecutor
 # A run leaves nothing in the clone.
 sys.dont_write_bytecode = True
 
-from tables import checkpoints, closing, damages, digests, lawful, lines, looking, many, reports, shown, upgrading  # noqa: E402
+from tables import checkpoints, closing, damages, digests, lawful, lengths, lines, looking, many, reports, shown, upgrading  # noqa: E402
 from tables.asking import Program, Question  # noqa: E402
 
 Theme = Callable[[Program], Iterator[Question]]
@@ -22,7 +22,7 @@ Theme = Callable[[Program], Iterator[Question]]
 THEMES: dict[str, Theme] = {
     "reports": reports.questions, "lawful": lawful.questions, "damages": damages.questions, "digests": digests.questions,
     "checkpoints": checkpoints.questions, "closing": closing.questions, "upgrading": upgrading.questions,
-    "lines": lines.questions, "many": many.questions,
+    "lines": lines.questions, "many": many.questions, "lengths": lengths.questions,
 }
 # What `rqlook` shows of logs that `rq` makes.
 OF_LOOK: dict[str, Callable[[Program], Theme]] = {"looking": looking.questions_of, "shown": shown.questions_of}

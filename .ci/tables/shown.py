@@ -4,10 +4,10 @@ import functools, re
 from collections.abc import Callable, Iterator
 from typing import NamedTuple
 
-from .asking import Program, Question, changed, whole
+from .asking import Program, Question, changed, first, whole
 from .carried import carried, carried_one, with_points
 from .looking import Row, rows_of
-from .scripts import ONE_ELEMENT
+from .scripts import CHECKPOINT, ONE_ELEMENT
 
 END = "front ends behind 4 records, at 237 of 237 bytes, whole: nothing follows\n"
 STORY = """\
@@ -48,6 +48,8 @@ ROWS = [
     Row("script LOG --workers 2", ONE_ELEMENT, whole, 0, ONE_ELEMENT),
     Row("check LOG --workers 2", ONE_ELEMENT, whole, 0, ""),
     Row("stats LOG --workers 2", ONE_ELEMENT, whole, 0, NUMBERS),
+    Row("dump LOG --limit 0 --workers 2", first(9, CHECKPOINT), whole, 0,
+        "front ends behind 9 records, at 679 of 679 bytes, whole: nothing follows\n"),
     Row("story LOG 2 --workers 2", MARKED, carried_on, 0, CARRIED_STORY),
     Row("check LOG --workers 2", MARKED, carried_on, 1, "carried: use rqlog\n" + CARRIED_END),
 ]
