@@ -28,8 +28,7 @@ use Rattle.rq_catalog.specs.Units.{outcome_at, engages_at}
 use Rattle.rq_state.specs.Orders.{listed}
 use Rattle.rq_catalog.specs.Outcomes.{outcome_of}
 use Rattle.rq_catalog.specs.Grounds.{Knows}
-use Rattle.rq_catalog.specs.Catalogues.{defines}
-use Rattle.rq_catalog.specs.Catalogues.{outcome_after, begun_after, committed_after, aborted_after, engaged_after}
+use Rattle.rq_catalog.specs.Catalogues.{outcome_after, begun_after, engaged_after}
 use Rattle.rq_catalog.specs.Catalogues.{touches_in, Takes}
 use Rattle.rq_catalog.specs.Catalogues.{Follows}
 use Rattle.rq_catalog.proofs.Runs.{run_push, any_push, first, from_push, is_open_outcome, open_by_outcome, unseen}
@@ -47,32 +46,6 @@ or_true true true = refl
 or_true false true = refl
 or_true true false = refl
 or_true false false = refl
-
--- Counts.
-
-committed_step : (t : State) (r : Record) → committed_after r t.committed ≡ (step t (record_of r)).committed
-committed_step t (Define limit error name) = refl
-committed_step t (Register queue name) = refl
-committed_step t (Deregister queue name) = refl
-committed_step t (Begin unit) = refl
-committed_step t (Enqueue priority queue unit by payload) = refl
-committed_step t (Dequeue unit queue by) = refl
-committed_step t (Commit unit) = refl
-committed_step t (Abort unit) = refl
-committed_step t (Checkpoint bytes) = refl
-committed_step t (Kill queue element) = refl
-
-aborted_step : (t : State) (r : Record) → aborted_after r t.aborted ≡ (step t (record_of r)).aborted
-aborted_step t (Define limit error name) = refl
-aborted_step t (Register queue name) = refl
-aborted_step t (Deregister queue name) = refl
-aborted_step t (Begin unit) = refl
-aborted_step t (Enqueue priority queue unit by payload) = refl
-aborted_step t (Dequeue unit queue by) = refl
-aborted_step t (Commit unit) = refl
-aborted_step t (Abort unit) = refl
-aborted_step t (Checkpoint bytes) = refl
-aborted_step t (Kill queue element) = refl
 
 -- Outcomes.
 
@@ -311,14 +284,12 @@ module _ (version : Version) (c : Catalogue) (s : State) (xs : List model.Record
     outcomes = λ u. ap (option_map outcome_of) (t.outcomes u)
         ∙ outcomes_step version s xs r u (outcome_at c.units u) well lawful ok (f.outcomes u);
     units = t.numbers ∙ ap (begun_after r) f.units ∙ numbers_step s xs r;
-    committed = t.committed ∙ ap (committed_after r) f.committed ∙ committed_step (run s xs) r
-        ∙ ap (λ (z : State). z.committed) back;
-    aborted = t.aborted ∙ ap (aborted_after r) f.aborted ∙ aborted_step (run s xs) r
-        ∙ ap (λ (z : State). z.aborted) back;
+    committed = t.committed (run s xs) f.committed ∙ ap (λ (z : State). z.committed) back;
+    aborted = t.aborted (run s xs) f.aborted ∙ ap (λ (z : State). z.aborted) back;
     engaged = λ u q. t.engaged u q ∙ ap (engaged_after r u q) (f.engaged u q)
         ∙ engaged_step version s xs r u q well lawful ok
         ∙ ap (λ z. is_open z u && (is_engaged s q u || list_any (engages q u) (xs ++ record_of r ∷ []))) back;
-    queues = t.queues ∙ ap (λ n. n + defines r) f.queues ∙ longer r
+    queues = t.queues ∙ ap (λ n. n + length (defined_by (record_of r ∷ []))) f.queues ∙ longer
         ∙ ap (λ (z : State). length z.definitions) back;
     touching = λ q. t.touching q
         ∙ ap (λ b. if b then listed c.touching.items q ++ (s.next + length xs, length xs)
@@ -330,18 +301,10 @@ module _ (version : Version) (c : Catalogue) (s : State) (xs : List model.Record
       back : step (run s xs) (record_of r) ≡ run s (xs ++ record_of r ∷ [])
       back = sym (run_push s xs (record_of r))
 
-      longer : (r : Record) → length (run s xs).definitions + defines r
+      longer : length (run s xs).definitions + length (defined_by (record_of r ∷ []))
           ≡ length (step (run s xs) (record_of r)).definitions
-      longer (Define limit error name) = sym (length-append (run s xs).definitions (record { limit = limit; error = error.0; name = name } ∷ []))
-      longer (Register queue name) = omega arith
-      longer (Deregister queue name) = omega arith
-      longer (Begin unit) = omega arith
-      longer (Enqueue priority queue unit by payload) = omega arith
-      longer (Dequeue unit queue by) = omega arith
-      longer (Commit unit) = omega arith
-      longer (Abort unit) = omega arith
-      longer (Checkpoint bytes) = omega arith
-      longer (Kill queue element) = omega arith
+      longer = sym (ap length (run_definitions (run s xs) (record_of r ∷ []))
+          ∙ length-append (run s xs).definitions (defined_by (record_of r ∷ [])))
 
 -- Places.
 

@@ -7,9 +7,9 @@ use Rattle.rq_model.specs.States.{State}
 use Rattle.rq_model.specs.Machine.{is_open, run, step, outcome}
 use Rattle.std.specs.List.{list_any, AllByRecursion}
 use Rattle.rq_model.specs.Laws.{begun}
-use Rattle.rq_model.specs.Queues.{is_engaged, engages}
+use Rattle.rq_model.specs.Queues.{is_engaged, engages, defined_by}
 use Rattle.rq_record.specs.Views.{Record, record_of}
-use Rattle.rq_record.specs.declared.record.RecordOf.TheVariants.{Define, Register, Deregister, Begin}
+use Rattle.rq_record.specs.declared.record.RecordOf.TheVariants.{Register, Deregister, Begin}
 use Rattle.rq_record.specs.declared.record.RecordOf.TheVariants.{Enqueue, Dequeue, Commit, Abort}
 use Rattle.rq_record.specs.declared.record.RecordOf.TheVariants.{Kill}
 use Rattle.rq_catalog.specs.Outcomes.{outcome_of}
@@ -23,11 +23,6 @@ use Rattle.rq_catalog.specs.declared.catalogue.Catalogue.{Catalogue}
 
 -- What a record changes, field by field.
 
--- how many queues it defines
-abbrev pub defines : Record → ℕ
-defines (Define limit error name) = 1
-defines r = 0
-
 abbrev pub outcome_after : ℕ → Record → ℕ → Option Outcome → Option Outcome
 outcome_after place (Begin unit) u old = cond (nat_eq unit.0 u) (Some Open) old
 outcome_after place (Commit unit) u old = cond (nat_eq unit.0 u) (Some (Committed place)) old
@@ -38,14 +33,6 @@ outcome_after place r u old = old
 abbrev pub begun_after : Record → List ℕ → List ℕ
 begun_after (Begin unit) old = old ++ unit.0 ∷ []
 begun_after r old = old
-
-abbrev pub committed_after : Record → ℕ → ℕ
-committed_after (Commit unit) old = old + 1
-committed_after r old = old
-
-abbrev pub aborted_after : Record → ℕ → ℕ
-aborted_after (Abort unit) old = old + 1
-aborted_after r old = old
 
 -- the queues of a unit are kept while it is open
 abbrev pub engaged_after : Record → ℕ → ℕ → Bool → Bool
@@ -88,10 +75,12 @@ pub record Takes (c d : Catalogue) (op : ℕ × ℕ) (r : Record) : Type 0 where
   pub outcomes : (u : ℕ) →
       outcome_at d.units u ≡ outcome_after op.0 r u (outcome_at c.units u)
   pub numbers : numbers d.units ≡ begun_after r (numbers c.units)
-  pub committed : d.committed ≡ committed_after r c.committed
-  pub aborted : d.aborted ≡ aborted_after r c.aborted
+  pub committed : (s : State) → c.committed ≡ s.committed
+      → d.committed ≡ (step s (record_of r)).committed
+  pub aborted : (s : State) → c.aborted ≡ s.aborted → d.aborted ≡ (step s (record_of r)).aborted
   pub engaged : (u q : ℕ) → engages_at d.units u q ≡ engaged_after r u q (engages_at c.units u q)
-  pub queues : length d.touching.items ≡ length c.touching.items + defines r
+  pub queues : length d.touching.items ≡ length c.touching.items
+      + length (defined_by (record_of r ∷ []))
   pub touching : (q : ℕ) →
       listed d.touching.items q ≡ (if touches_in c r q && nat_lt q (length c.touching.items)
       then listed c.touching.items q ++ op ∷ [] else listed c.touching.items q)
