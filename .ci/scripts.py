@@ -6,7 +6,7 @@ usage: scripts.py
 Prints a line for each thing that is not as it must be, and at last `N passed, M failed`.
 """
 from __future__ import annotations
-import os, shutil, subprocess, sys, tempfile
+import fcntl, os, pty, shutil, struct, subprocess, sys, tempfile, termios
 from contextlib import contextmanager
 from typing import Callable, Dict, Iterator, List, Tuple
 
@@ -34,7 +34,7 @@ NO_WRITES = [[], ["--help"], ["append"], ["carry", "a"], ["close", "a"], ["appen
 TOOLS = {
     "bin/rt": 'case $1 in doc) echo "$KIT/START";; version) echo kit;; ci) echo "rt: low proved"; [ -z "$REFUSE" ];; esac',
     "bin/rattle": 'for it in "$@"; do case $it in --cpu=*) cpu=${it#--cpu=};; *.o) to=$it;; esac; done; '
-                  'printf \'#!/bin/sh\\necho %s "$GLIBC_TUNABLES" "$@"\\n\' "$3-$cpu" > "$to"',
+                  'printf \'#!/bin/sh\\necho %s "$GLIBC_TUNABLES" "$@" ${COLUMNS:+columns "$COLUMNS"}\\n\' "$3-$cpu" > "$to"',
     "bin/rattle-link": 'cp "$7" "$6"',
 }
 SETTINGS = "glibc.malloc.hugetlb=1:glibc.malloc.mmap_threshold=524288:glibc.malloc.trim_threshold=16777216"
@@ -60,6 +60,17 @@ def ended(words: List[str], env: Dict[str, str]) -> Tuple[int, str, str]:
     pipes = {"stdin": subprocess.DEVNULL, "stdout": subprocess.PIPE, "stderr": subprocess.PIPE}
     done = subprocess.run(words, env=env, cwd="/", universal_newlines=True, **pipes)
     return done.returncode, done.stdout, done.stderr
+
+
+def on_terminal(words: List[str], env: Dict[str, str], columns: int) -> str:
+    """The last words that a command prints on a terminal of so many columns."""
+    reads, writes = pty.openpty()
+    fcntl.ioctl(writes, termios.TIOCSWINSZ, struct.pack("HHHH", 24, columns, 0, 0))
+    subprocess.run(words, env=env, cwd="/", stdin=subprocess.DEVNULL, stdout=writes, stderr=subprocess.DEVNULL)
+    os.close(writes)
+    printed = os.read(reads, 65536).decode()
+    os.close(reads)
+    return " ".join(printed.split()[-2:])
 
 
 class Clone:
@@ -144,6 +155,20 @@ def more_libraries(lines: str) -> str:
     return lines.replace("byteorder", "byteorder sha2")
 
 
+def widths(what: str, look: str, other: str) -> None:
+    """Scripts that run rqlook and another program: the first is told how many columns the terminal has, if its output is one."""
+    line, env = [look, "dump", "log"], {"PATH": PATH}
+    for columns in (71, 0):
+        check(f"{what} on a terminal of {columns} columns", on_terminal(line, env, columns), f"columns {columns}")
+    check(f"{what} on a terminal, by its variable", on_terminal(line, {**env, "COLUMNS": "50"}, 71), "columns 50")
+    check(f"{what}, another program", on_terminal([other, *LINE[:1], "a", "1", "1"], env, 71), "1 1")
+    check(f"{what} into a pipe", ended(line, env)[1].split()[-2:], ["dump", "log"])
+
+
+def terminals(clone: Clone) -> None:
+    widths("in the clone", clone.at("rqlook"), clone.at("rq"))
+
+
 def changes(clone: Clone) -> None:
     """Each source that counts, and some that do not."""
     for name in [*SOURCES[:4], "HANDLES", "crates.txt", "crates/low/src/more.rt"]:
@@ -207,6 +232,7 @@ def installing(clone: Clone) -> None:
     for name in LINES:
         status, out, _ = ended([os.path.join(prefix, "bin", name), "a b"], {"PATH": PATH})
         check(f"{name}, installed", (status, out.startswith(f"{name}-x86"), out.split(" ", 1)[1:]), (0, True, [f"{SETTINGS} a b\n"]))
+    widths("installed", *(os.path.join(prefix, "bin", name) for name in ("rqlook", "rq")))
     put(os.path.join(prefix, "bin", "rq"), "another")
     check("over a file of another", (clone.run("tools/install", prefix)[0], files_below(prefix)), (1, INSTALLED))
     check("taking away", (clone.run("tools/install", "--uninstall", prefix)[0], files_below(prefix)), (0, ["bin/rq"]))
@@ -235,7 +261,7 @@ def main() -> None:
     os.chmod(folder, 0o755)
     try:
         clone = Clone(folder)
-        for part in (words, shipping, changes, bytes_changed, building, read_only, installing):
+        for part in (words, shipping, terminals, changes, bytes_changed, building, read_only, installing):
             try:
                 part(clone)
             except Exception as fault:

@@ -1,5 +1,5 @@
-"""What the scripts here share: the words of a command line, the peer, its logs and their frames, damages of them, what
-the program makes of them, and times."""
+"""What the scripts here share: texts of the repository, the count of what is as it must be, the words of a command line, the
+peer, its logs and their frames, damages of them, what the program makes of them, and times."""
 from __future__ import annotations
 import argparse, hashlib, os, random, subprocess, sys, time
 from collections.abc import Callable, Iterable, Iterator
@@ -8,6 +8,7 @@ from typing import NamedTuple
 from records import begin, commit, define, enqueue, kill
 
 HERE = os.path.dirname(os.path.abspath(__file__))
+TOP = os.path.dirname(HERE)
 HEADER = 40
 # The logs whose times and memory are told, by the peer's names.
 SHAPES = ["small", "kib", "big", "hot", "names", "wide", "errors", "deep", "kills"]
@@ -22,6 +23,29 @@ UNLAWFUL = commit(2**64 - 1)
 # The logs of which a close and an upgrade are timed have so many open units and queues.
 OPEN_UNITS = 64_000
 OPEN_QUEUES = 64
+
+
+compared = differing = 0
+
+
+def check(name: str, got: object, want: object) -> None:
+    """Counts one more answer, and says what it is if it is not as it must be."""
+    global compared, differing
+    compared += 1
+    if got != want:
+        differing += 1
+        print(f"{name}: {str(got)[:400]!r} in place of {str(want)[:400]!r}", flush=True)
+
+
+def counted() -> int:
+    """Prints the last line, of all that was checked; the exit status."""
+    print(f"{compared - differing} passed, {differing} failed")
+    return 1 if differing else 0
+
+
+def text_in(path: str) -> str:
+    with open(path, encoding="utf-8") as file:
+        return file.read()
 
 
 def parser() -> argparse.ArgumentParser:

@@ -132,4 +132,5 @@ if ! find_program; then
 fi
 may_be_line "$@" || tell_documents
 export GLIBC_TUNABLES="${GLIBC_TUNABLES:-$tunables}"
+[ "$name" != rqlook ] || eval "$tell_columns"
 exec "$program" "$@"

@@ -15,6 +15,10 @@ built=$here/build
 # 16 MiB of smaller ones stay: an audit makes a state for each checkpoint that may be true, and needs as much again for the next.
 # shellcheck disable=SC2034
 tunables=glibc.malloc.hugetlb=1:glibc.malloc.mmap_threshold=524288:glibc.malloc.trim_threshold=16777216
+# What the script of rqlook does before it: if the output is a terminal, the program is told how many columns that has. A shell
+# tells none by itself.
+# shellcheck disable=SC2016,SC2034
+tell_columns='[ ! -t 1 ] || { [ -n "$COLUMNS" ] || COLUMNS=$(stty size <&3 2> /dev/null); export COLUMNS="${COLUMNS#* }"; } 3>&1'
 
 # The widest target of which the processor has every instruction: digests are checked in lanes of its vectors.
 target() {

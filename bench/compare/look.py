@@ -6,37 +6,49 @@ For each shape and seed of the peer's logs: the report as JSON is held against i
 restart`; the lines of each queue alone with those of the whole; the script is made a log again by `rq make`, and compared byte by
 byte; each line of a dump, whole and by each option, as text and as JSON, with what is made of the log's bytes here (looked.py); so are
 the stories of some elements and units; `check` is compared with `rq audit`, and the page with the report. Then a small log is damaged
-in each of the six ways, and what the dump says of its end is compared; odd payloads are shown; a script ends before a record that no
-line tells; and wrong words, a missing file, a closed output and refused memory are tried. With --scripts, so many more logs are made,
-told as scripts and made again. With --speed, a dump and a check of a log of so many MiB are timed beside a restart and an audit.
-With --own no peer is wanted: the logs are those of the scripts in examples/, and one of units on many queues with checkpoints. Each log
-with a true checkpoint is carried on there into a file of its own, too: what is shown of it must be what is shown of the whole log from
-there on, at its offsets. The last line is `N passed, M failed`, by answers.
+in each of the six ways, and what the dump says of its end is compared; odd payloads are shown, whole and in so many columns, on a
+terminal too; a script ends before a record that no line tells; and wrong words, a missing file, a closed output and refused memory are
+tried. With --scripts, so many more logs are made, told as scripts and made again. With --speed, a dump and a check of a log of so many
+MiB are timed beside a restart and an audit. With --own no peer is wanted: the logs are those of the scripts in examples/, and one of
+units on many queues with checkpoints. Each log with a true checkpoint is carried on there into a file of its own, too: what is shown of
+it must be what is shown of the whole log from there on, at its offsets. The last line is `N passed, M failed`, by answers.
 """
 from __future__ import annotations
-import argparse, glob, json, os, random, resource, shutil, subprocess, sys
+import argparse, glob, json, os, pty, random, resource, shutil, subprocess, sys, tty
 
 sys.path.insert(0, os.path.dirname(os.path.dirname(os.path.abspath(__file__))))
-from common import COMPARED, HEADER, HERE, NO_RECORD, UNLAWFUL, best, bodies_of, built_peer, chained, checkpoints_script, header_of, log_of, parsed, parser, write_log
-from looked import Stories, compact, is_hidden, line_of, records_of
+from common import (COMPARED, HEADER, HERE, NO_RECORD, UNLAWFUL, best, bodies_of, built_peer, chained, check, checkpoints_script, counted, header_of,
+                    log_of, parsed, parser, write_log)
+from looked import Stories, columns_of, compact, cut_to, is_hidden, line_of, records_of
 from paged import ALL, SHOWN, TAGS, WORDS, Page, Told, payload
 from records import begin, commit, define, enqueue, register
 from schema import report_misfits
-
-compared = differing = 0
-
-
-def check(name: str, got: object, want: object) -> None:
-    global compared, differing
-    compared += 1
-    if got != want:
-        differing += 1
-        print(f"{name}: {str(got)[:300]!r} in place of {str(want)[:300]!r}", flush=True)
 
 
 def told(*words: str) -> tuple[int, str]:
     done = subprocess.run(words, capture_output=True)
     return done.returncode, done.stdout.decode()
+
+
+def on_terminal(*words: str, **env: str) -> tuple[int, str]:
+    """How a command ends, and what it prints on a terminal that changes no byte; the environment has these variables more."""
+    reads, writes = pty.openpty()
+    tty.setraw(writes)
+    with subprocess.Popen(words, stdin=subprocess.DEVNULL, stdout=writes, stderr=subprocess.DEVNULL, env={**without_columns(), **env}) as going:
+        os.close(writes)
+        printed = b""
+        try:
+            while piece := os.read(reads, 1 << 16):
+                printed += piece
+        except OSError:
+            # nobody can write any more
+            pass
+    os.close(reads)
+    return going.returncode, printed.decode()
+
+
+def without_columns() -> dict[str, str]:
+    return {name: value for name, value in os.environ.items() if name != "COLUMNS"}
 
 
 def or_dash(value: object) -> str:
@@ -187,7 +199,8 @@ def same_queues(look: str, log: str) -> tuple[list[str], Page]:
     for order in ORDERS:
         page = page_of(look, log, "--order", order)
         shown, whole, short = shown_rows(page), queue_rows(report["queues"], order), queue_rows(report["queues"], order, False)
-        # From some row on, the page has only the first of each payload.
+        # From some row on, the page has only the first of each payload: from the bound on, which is looked for in its bytes.
+        check(f"{log}'s page by {order}, payloads cut", page.wrongly_cut()[:5], [])
         cut = next((at for at, (row, both) in enumerate(zip(shown, zip(whole, short))) if row == both[1] != both[0]), len(whole))
         check(f"{log}'s page by {order}", shown, whole[:cut] + short[cut:])
     return [it["name"] for it in report["queues"]], page
@@ -254,6 +267,8 @@ def reasons(rq: str, look: str, log: str, folder: str) -> None:
         check(f"a report's front by {why}", told(rq, "restart", path, "4", "1000")[1].split("\n", 1)[0],
               f"front {front['records']} records, {front['used']} of {front['total']} bytes, {why}")
         same_check(rq, look, path)
+        if why == "chain":
+            widths(look, path)
 
 
 ODD = ["<script>alert(1)</script>", "</td></table>", "&amp; \" ' \\", "\u202egnp.exe", "\u4e2d" * 20, "\u4e2d" * 32, "\u4e2d" * 33, "x" * 32, "x" * 33,
@@ -269,6 +284,36 @@ def unseen(look: str, log: str) -> None:
         # a page has a mark before each tab that it keeps
         text = text.replace("\u21e5\t", "") if words[0] == "page" else text
         check(f"what {words} shows", (status, [c for c in text if c != "\n" and is_hidden(c)]), (0, []))
+
+
+def fitted(text: str, columns: int) -> str:
+    return "".join(f"{cut_to(columns, line)}\n" for line in text.split("\n")[:-1])
+
+
+def widths(look: str, log: str) -> None:
+    """Lines that must fit so many columns, by an option, or since they are for a terminal that has no more; and what is never cut."""
+    for words in (["dump", log], ["dump", log, "--full"], ["report", log], ["stats", log], ["unit", log, "1"], ["check", log]):
+        status, whole = told(look, *words)
+        for columns in (20, 33, 80, 120):
+            want = fitted(whole, columns)
+            check(f"{words} in {columns} columns", told(look, *words, "--width", str(columns)), (status, want))
+            check(f"{words} in {columns} columns, its widest line", max(sum(map(columns_of, it)) for it in want.split("\n")) <= columns, True)
+        check(f"{words} in 7 columns", told(look, *words, "--width", "7"), (status, fitted(whole, 20)))
+        check(f"{words} of any width", told(look, *words, "--width", "0"), (status, whole))
+        full = "--full" in words
+        check(f"{words} on a terminal", on_terminal(look, *words, COLUMNS="33"), (status, whole if full else fitted(whole, 33)))
+        check(f"{words} on a terminal, of another width", on_terminal(look, *words, "--width", "50", COLUMNS="33"), (status, fitted(whole, 50)))
+        check(f"{words} on a terminal, of any width", on_terminal(look, *words, "--width", "0", COLUMNS="33"), (status, whole))
+        for told_columns in ({}, {"COLUMNS": "0"}, {"COLUMNS": "wide"}, {"COLUMNS": ""}):
+            check(f"{words} on a terminal that tells {told_columns}", on_terminal(look, *words, **told_columns), (status, whole))
+        done = subprocess.run([look, *words], stdout=subprocess.PIPE, env={**without_columns(), "COLUMNS": "33"})
+        check(f"{words} into a pipe", (done.returncode, done.stdout.decode()), (status, whole))
+    for words in (["dump", log, "--json"], ["report", log, "--json"], ["stats", log, "--json"], ["script", log], ["page", log, "-"], ["salvage", log, "-"]):
+        check(f"{words} on a terminal", on_terminal(look, *words, COLUMNS="33"), told(look, *words))
+    for words in (["dump", log, "--json"], ["report", log, "--json"], ["stats", log, "--json"]):
+        check(f"{words} in 33 columns", told(look, *words, "--width", "33"), told(look, *words))
+    check("a width that is no number", said(look, "dump", log, "--width", "wide")[0], 2)
+    check("a script of a width", said(look, "script", log, "--width", "33")[0], 2)
 
 
 def made_log(rq: str, path: str, command: str, lines: list[str]):
@@ -291,6 +336,7 @@ def odd_payloads(rq: str, look: str, folder: str) -> None:
     same_stories(look, log, records, 20, random.Random(3))
     same_page(look, log, records, random.Random(5))
     unseen(look, log)
+    widths(look, log)
 
 
 def kills(rq: str, look: str, folder: str) -> None:
@@ -516,8 +562,7 @@ def main() -> int:
         more_scripts(rq, look, peer, folder, options.scripts)
     if options.speed and not options.own:
         speeds(rq, look, peer, folder, options.speed)
-    print(f"{compared - differing} passed, {differing} failed")
-    return 1 if differing else 0
+    return counted()
 
 
 if __name__ == "__main__":

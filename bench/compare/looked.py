@@ -84,6 +84,21 @@ def shown(it: dict, full: bool) -> str:
     return spelled if size == len(data) else f"{spelled}.. {len(data)} bytes"
 
 
+def columns_of(c: str) -> int:
+    """How many columns of a terminal a character takes that is not hidden: none if it stands over another, two if it is wide."""
+    return 0 if unicodedata.category(c) in ("Mn", "Me") else 2 if unicodedata.east_asian_width(c) in "WF" else 1
+
+
+def cut_to(columns: int, line: str) -> str:
+    """The line as it fits so many columns; its mark says how many characters it has more."""
+    if sum(map(columns_of, line)) <= columns:
+        return line
+    room, shown = columns - len(f".. {len(line)} more"), 0
+    while (room := room - columns_of(line[shown])) >= 0:
+        shown += 1
+    return f"{line[:shown]}.. {len(line) - shown} more"
+
+
 def by_of(it: dict) -> str:
     return f"by {it['registrant']} tag {it['tag']}" if "tag" in it else "by -"
 

@@ -1,5 +1,6 @@
 """What stands on a page of `rqlook page`, read; and what must stand there, made of the records of its log."""
 from __future__ import annotations
+import re
 from html.parser import HTMLParser
 
 from looked import Machine, Stories, is_hidden, text_of
@@ -14,6 +15,11 @@ NAMES = {"svg": "title", "table": "caption"}
 # The lives of all are shown of so many records, and more if they fit; as many elements of a queue are; as many characters of a payload are
 # at once.
 ALL, SHOWN, FIRST = 1500, 1000, 80
+# An element's payload can be folded out if it begins before this byte of the page.
+WHOLE = 500_000
+QUEUES = re.compile(rb'<section id="queues">.*?</section>', re.DOTALL)
+# The first of a payload that is not all of it, and whether all of it can be folded out.
+PAYLOAD = re.compile(rb'<bdi class="text(?: hex)?">[^<]*</bdi>(?:(<details>)|<i>\.\. )')
 
 
 class Page(HTMLParser):
@@ -21,6 +27,7 @@ class Page(HTMLParser):
 
     def __init__(self) -> None:
         super().__init__()
+        self.text = ""
         self.tags: set[str] = set()
         self.words: set[str] = set()
         self.open: list[str] = []
@@ -32,6 +39,16 @@ class Page(HTMLParser):
         self.policy, self.style = "", ""
         self.rows: list[tuple[str, list[str]]] = []
         self.going: list[list[str]] = []
+
+    def feed(self, text: str) -> None:
+        self.text += text
+        super().feed(text)
+
+    def wrongly_cut(self) -> list[int]:
+        """Where elements' payloads begin of which all can be folded out and must not, or must and cannot."""
+        queues = QUEUES.search(self.text.encode())
+        found = PAYLOAD.finditer(queues[0]) if queues else ()
+        return [at for at, is_whole in ((queues.start() + it.start(), it[1] is not None) for it in found) if is_whole != (at < WHOLE)]
 
     def handle_starttag(self, tag: str, attrs: list[tuple[str, str | None]]) -> None:
         words = dict(attrs)

@@ -14,22 +14,12 @@ import argparse, base64, hashlib, os, re, shutil, subprocess, sys
 sys.path.insert(0, os.path.dirname(os.path.dirname(os.path.abspath(__file__))))
 import pagelogs
 from browser import Browser, found
-from common import parsed, parser
+from common import check, counted, parsed, parser
 from paged import FIRST, TAGS, WORDS, Page
 
 MIB = 1 << 20
 # The most bytes of the page of each log.
 MOST = {"long": 2 * MIB, "free": 2 * MIB, "queues": 3 * MIB, "dear": 5 * MIB}
-
-compared = differing = 0
-
-
-def check(name: str, got: object, want: object) -> None:
-    global compared, differing
-    compared += 1
-    if got != want:
-        differing += 1
-        print(f"{name}: {str(got)[:400]!r} in place of {str(want)[:400]!r}", flush=True)
 
 
 def page_of(look: str, log: str, *words: str) -> str:
@@ -160,8 +150,7 @@ def main() -> int:
                 check(f"{name}: html5lib", strict_errors(paths[name]), [""])
         else:
             browsed(paths, look, options.seconds)
-    print(f"{compared - differing} passed, {differing} failed")
-    return 1 if differing else 0
+    return counted()
 
 
 if __name__ == "__main__":

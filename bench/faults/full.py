@@ -11,23 +11,13 @@ from collections.abc import Iterator
 from hashlib import sha256
 
 sys.path.insert(0, os.path.dirname(os.path.dirname(os.path.abspath(__file__))))
-from common import HEADER, header_of, parsed, parser
+from common import HEADER, check, counted, header_of, parsed, parser
 from records import begin, define
 
 MOST = 2**32 - 1
 ROOM = 44
 # The longest body of zeros behind a kind, and how much of it is digested at a time.
 LONGEST, PIECE = 268_435_456, bytes(1 << 20)
-
-passed = failed = 0
-
-
-def check(name: str, got: object, want: object) -> None:
-    global passed, failed
-    passed, failed = passed + (got == want), failed + (got != want)
-    if got != want:
-        print(f"{name}: {got!r} in place of {want!r}", flush=True)
-
 
 def lengths(room: int) -> Iterator[int]:
     """The lengths of bodies whose frames fill so many bytes."""
@@ -94,8 +84,7 @@ def main() -> int:
     want = b"units 0 committed, 0 aborted, 1 cut off\nqueue 0 jobs limit 0 error -\nqueue 1 a limit 0 error -\n"
     check("its report", report[1], want)
     os.remove(log)
-    print(f"{passed} passed, {failed} failed")
-    return 1 if failed else 0
+    return counted()
 
 
 if __name__ == "__main__":

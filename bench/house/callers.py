@@ -16,7 +16,9 @@ import glob, os, re, sys, textwrap
 from typing import NamedTuple
 
 sys.dont_write_bytecode = True
-from docs import TOP, blocks
+sys.path.insert(0, os.path.dirname(os.path.dirname(os.path.abspath(__file__))))
+from common import TOP, text_in
+from docs import blocks
 
 FILE = re.compile(r"`(crates/(\w+)/src/[\w/]+\.rt)`")
 WORD = re.compile(r"`(\w+)`")
@@ -31,20 +33,15 @@ class Caller(NamedTuple):
     code: list[str]
 
 
-def read(path: str) -> list[str]:
-    with open(path, encoding="utf-8") as file:
-        return file.read().split("\n")
-
-
 def proved_crates() -> set[str]:
-    lines = (it.partition("#")[0] for it in read(os.path.join(TOP, "crates.txt")))
+    lines = (it.partition("#")[0] for it in text_in(os.path.join(TOP, "crates.txt")).split("\n"))
     return {it.replace(":", " ").split()[0] for it in lines if ":" in it}
 
 
 def tests_of(crates: set[str]) -> set[str]:
     """The names of all tests of these crates."""
     paths = [path for it in crates for path in glob.glob(os.path.join(TOP, "crates", it, "src", "**", "*.rt"), recursive=True)]
-    return {name for path in paths for name in TEST.findall("\n".join(read(path)))}
+    return {name for path in paths for name in TEST.findall(text_in(path))}
 
 
 def paragraph_before(page: list[str], fence: int) -> str:
@@ -54,7 +51,7 @@ def paragraph_before(page: list[str], fence: int) -> str:
 
 
 def callers(path: str) -> list[Caller]:
-    page = read(path)
+    page = text_in(path).split("\n")
     return [Caller(line, paragraph_before(page, line), [it.rstrip("\n") for it in code])
             for line, mark, code in blocks(path) if mark == "rust"]
 
@@ -82,7 +79,7 @@ def trouble(caller: Caller, crates: set[str], tests: set[str]) -> str | None:
         return f"there is no {path}"
     if not any(line.strip() for line in caller.code):
         return "has no lines"
-    if not stands_in(caller.code, read(os.path.join(TOP, path))):
+    if not stands_in(caller.code, text_in(os.path.join(TOP, path)).split("\n")):
         return f"does not stand so in {path}"
     if not tests & set(WORD.findall(caller.before)):
         return "names no test before it that runs it"

@@ -15,7 +15,9 @@ With --program, --look and --write a built program stands in the place of a root
 from __future__ import annotations
 import argparse, glob, os, subprocess, sys, tempfile
 
-TOP = os.path.dirname(os.path.dirname(os.path.dirname(os.path.abspath(__file__))))
+sys.dont_write_bytecode = True
+sys.path.insert(0, os.path.dirname(os.path.dirname(os.path.abspath(__file__))))
+from common import TOP, text_in
 
 
 class Command:
@@ -28,17 +30,16 @@ class Command:
 def blocks(path: str) -> list[tuple[int, str, list[str]]]:
     """The fenced blocks of a document: the line of the fence, its mark, the lines inside."""
     found, inside = [], None
-    with open(path, encoding="utf-8") as lines:
-        for number, line in enumerate(lines, 1):
-            fence = line.strip()
-            if not fence.startswith("```"):
-                if inside:
-                    inside[2].append(line)
-            elif inside:
-                found.append(inside)
-                inside = None
-            else:
-                inside = (number, fence[3:].strip(), [])
+    for number, line in enumerate(text_in(path).splitlines(keepends=True), 1):
+        fence = line.strip()
+        if not fence.startswith("```"):
+            if inside:
+                inside[2].append(line)
+        elif inside:
+            found.append(inside)
+            inside = None
+        else:
+            inside = (number, fence[3:].strip(), [])
     return found
 
 

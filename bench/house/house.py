@@ -15,10 +15,10 @@ import glob, os, re, sys
 from typing import NamedTuple
 
 sys.path.insert(0, os.path.dirname(os.path.dirname(os.path.abspath(__file__))))
-from common import HERE
+from common import TOP, text_in
 from untested import TESTS
 
-CRATES = os.path.abspath(os.path.join(HERE, "..", "crates"))
+CRATES = os.path.join(TOP, "crates")
 # The head of a definition, or of a module with parameters, in which some stand.
 HEAD = re.compile(r"^(?:abbrev |unfolding |unfoldable |pub |record |data )*(?!use |open |infix|ruleset |pub mod |mod )([^\s(){}:]+)(?= [^=\n]*(?::|where)| :)", re.M)
 INNER = re.compile(r"^  (?:abbrev |unfolding |pub |record |data )*([^\s(){}:]+)(?: [^=\n]*?)? :", re.M)
@@ -74,11 +74,6 @@ def antt_files(crate: str) -> list[str]:
     return files_of(crate, "specs/**/*.antt") + files_of(crate, "proofs/**/*.antt")
 
 
-def read(path: str) -> str:
-    with open(path, encoding="utf-8") as file:
-        return file.read()
-
-
 def tokens(text: str) -> set[str]:
     return set(TOKEN.findall(text))
 
@@ -87,7 +82,7 @@ def used_in_code(crate: str) -> set[str]:
     """The words of the crate's code behind its imports, where clauses and ghost members name definitions."""
     words: set[str] = set()
     for path in files_of(crate, "src/**/*.rt"):
-        words |= tokens(re.sub(r"ghost use [^;]*;", "", read(path)))
+        words |= tokens(re.sub(r"ghost use [^;]*;", "", text_in(path)))
     return words
 
 
@@ -102,7 +97,7 @@ def unreached(crates: list[str]) -> list[Definition]:
     for crate in crates:
         live |= used_in_code(crate)
         for path in antt_files(crate):
-            text = read(path)
+            text = text_in(path)
             if is_asked(path):
                 live |= tokens(without_comments(re.sub(r"^use .*$", "", text, flags=re.M)))
             else:
@@ -122,14 +117,14 @@ def doubled(crates: list[str]) -> list[str]:
     said: dict[str, dict[str, str]] = {}
     for crate in crates:
         for path in files_of(crate, "specs/**/*.antt"):
-            for names, text in blocks(read(path)):
+            for names, text in blocks(text_in(path)):
                 for name in names:
                     said.setdefault(name, {})[crate] = " ".join(text.split())
     return [f"{name}: {', '.join(by)}" for name, by in sorted(said.items()) if len(set(by.values())) > 1]
 
 
 def types_of(crate: str) -> set[str]:
-    return {name for path in files_of(crate, "src/**/*.rt") for name in TYPE.findall(read(path))}
+    return {name for path in files_of(crate, "src/**/*.rt") for name in TYPE.findall(text_in(path))}
 
 
 def types_of_two(crates: list[str]) -> list[str]:
@@ -146,7 +141,7 @@ FUNCTION = re.compile(r"^ *fn (\w+)(?:<[^>]*>)?\(([^)]*)\)[^{;]*?\n(?: +(?:requi
 
 def forwarders(crate: str) -> list[str]:
     """Private functions with one caller whose body is one call with their own parameters."""
-    texts = {path: read(path) for path in files_of(crate, "src/**/*.rt")}
+    texts = {path: text_in(path) for path in files_of(crate, "src/**/*.rt")}
     everything = "\n".join(texts.values())
     found = []
     for path, text in texts.items():

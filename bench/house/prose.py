@@ -16,7 +16,9 @@ from __future__ import annotations
 import argparse, glob, os, re, sys
 from typing import NamedTuple
 
-TOP = os.path.dirname(os.path.dirname(os.path.dirname(os.path.abspath(__file__))))
+sys.dont_write_bytecode = True
+sys.path.insert(0, os.path.dirname(os.path.dirname(os.path.abspath(__file__))))
+from common import TOP, text_in
 LONGEST = 30
 CODE = re.compile(r"``[^`]+``|`[^`]+`")
 LINK = re.compile(r"\[([^\]]*)\]\(([^)\s]*)\)")
@@ -43,16 +45,15 @@ class Document(NamedTuple):
 
 def read(path: str) -> Document:
     lines, headings, fenced = [], [], False
-    with open(path, encoding="utf-8") as file:
-        for number, line in enumerate(file, 1):
-            if line.lstrip().startswith("```"):
-                fenced = not fenced
-                lines.append((number, ""))
-            elif line.startswith("#") and not fenced:
-                headings.append(line.lstrip("#").strip())
-                lines.append((number, ""))
-            elif not fenced:
-                lines.append((number, line.rstrip("\n")))
+    for number, line in enumerate(text_in(path).splitlines(), 1):
+        if line.lstrip().startswith("```"):
+            fenced = not fenced
+            lines.append((number, ""))
+        elif line.startswith("#") and not fenced:
+            headings.append(line.lstrip("#").strip())
+            lines.append((number, ""))
+        elif not fenced:
+            lines.append((number, line))
     return Document(path, lines, headings)
 
 
@@ -133,8 +134,7 @@ def main() -> int:
         of_if, of_where = count("if", document), count("where", document)
         failed, ifs, wheres = failed + bool(said), ifs + of_if, wheres + of_where
         if options.words:
-            with open(document.path, encoding="utf-8") as file:
-                print(f"{name}: {len(file.read().split())} words, {len(long)} too long, if {of_if}, where {of_where}")
+            print(f"{name}: {len(text_in(document.path).split())} words, {len(long)} too long, if {of_if}, where {of_where}")
         else:
             print("".join(f"{name}:{it}\n" for it in said), end="")
     if wheres > ifs:

@@ -1,4 +1,4 @@
-//! Files that are whole or not there.
+//! What the programs share: files that are whole or not there, and the version that they tell.
 #![tactic(auto)]
 
 mod late;
@@ -7,9 +7,11 @@ mod names;
 mod paths;
 mod patient;
 mod putting;
+mod version;
 
 pub use late::{Late, in_place};
 pub use named::NamedFile;
 pub use names::Names;
 pub use patient::Patient;
 pub use putting::put;
+pub use version::VERSION;

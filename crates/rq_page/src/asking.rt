@@ -3,11 +3,11 @@
 /// In which order the queues of a page stand.
 #[derive(Clone, Copy, Debug, PartialEq, Eq)]
 pub enum Order {
-    /// The one with the most free elements first, and by number where they have as many.
+    /// The one with the most free elements first, and by number if they have as many.
     Depth,
     /// By number.
     Number,
-    /// By name, and by number where they have the same.
+    /// By name, and by number if they have the same.
     Name,
 }
 

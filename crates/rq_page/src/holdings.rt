@@ -156,7 +156,7 @@ fn put_registrants(
     put_more(text, registrants.len(), count)
 }
 
-/// Puts what folds out below a queue, where there is anything.
+/// Puts what folds out below a queue, if there is anything.
 pub(crate) fn put_fold(
     alloc: Global,
     text: &mut String,

@@ -215,7 +215,7 @@ impl Lives {
         }
     }
 
-    // The row of a record, where there is room for it.
+    // The row of a record, if there is room for it.
     fn take_row(
         &mut self,
         alloc: Global,

@@ -31,7 +31,7 @@ static GROUPS: [u64; 6] = [
     1_000,
 ];
 
-// What is shown in the place of a hidden character: the picture of a control, where there is one.
+// What is shown in the place of a hidden character: the picture of a control, if there is one.
 fn picture_of(c: char) -> char
     ensures { is_text result ≡ true }
 {
@@ -69,7 +69,7 @@ pub(crate) fn put_char(text: &mut String, c: char) -> Result<(), AllocError>
 }
 
 /// Puts a text into HTML: each character that HTML takes for its own is spelled out, and each hidden
-/// one is shown by its picture, or as one that is not known. Refuses where memory is refused, and
+/// one is shown by its picture, or as one that is not known. Refuses if memory is refused, and
 /// then some of it may stand there.
 pub fn put_text(text: &mut String, word: &str) -> Result<(), AllocError>
     ensures { OnOk result (AppendsText (string_bytes text.old) (string_bytes text.new)) }
@@ -80,7 +80,7 @@ pub fn put_text(text: &mut String, word: &str) -> Result<(), AllocError>
     Ok(())
 }
 
-// Puts the next three digits of a number, and a comma; nothing, where only zeros were before.
+// Puts the next three digits of a number, and a comma; nothing, if only zeros were before.
 fn put_group(text: &mut String, digits: u64, is_first: bool) -> Result<(), AllocError> {
     if is_first {
         write!(text, "{digits},")

@@ -1,9 +1,11 @@
 //! A log as one page that a browser shows.
 
-ghost use Rattle.std.specs.Prelude.{ℕ, ◌≡◌, ◌++◌, ◌⊎◌, List, IfErr, OnOk, string_bytes};
+ghost use Rattle.std.specs.Prelude.{ℕ, ◌≡◌, ◌++◌, ◌⊎◌, List, IfOk, IfErr, OnOk, string_bytes};
 ghost use Rattle.std.specs.Io.KnownBytes.{Appends};
+ghost use Rattle.rq_model.specs.Fronts as fronts;
 ghost use Rattle.rq_front.specs.Chains.{IsLog};
-ghost use Rattle.rq_look.specs.Looks.{IsBroken, IsRefusal, RefusedFrom, StaysUnshown};
+ghost use Rattle.rq_look.specs.Looks.{IsBroken, IsRefusal, IsRestartFrom, RefusedFrom};
+ghost use Rattle.rq_look.specs.Looks.{StaysUnshown};
 ghost use Rattle.rq_page.specs.Markup.{page_foot};
 
 use crate::asking::{Asked, Order};
@@ -88,6 +90,7 @@ fn found_in<R: Threads + Sync>(
     plan: &Plan,
 ) -> Result<Found, Trouble>
     ensures log { OnOk result (IsLog bytes.now) }
+    ensures restart { IfOk result (λ found. IsRestartFrom at bytes.now found.restarted) }
     ensures refused { IfErr result
         (λ e. (IsLog bytes.now × IsBroken e) ⊎ IsRefusal at bytes.now e) }
 {
@@ -303,6 +306,8 @@ where
     R: Threads + Sync,
     W: Write,
     ensures log { OnOk result (IsLog bytes.now) }
+    ensures restart { OnOk result
+        ((r : fronts.Restarted) × IsRestartFrom at bytes.now r) }
     ensures whole { OnOk result ((put : List ℕ)
         × Appends (W.contents output.old) (W.contents output.new) (put ++ page_foot)) }
     ensures refused { IfErr result

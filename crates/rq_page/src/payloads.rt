@@ -1,4 +1,4 @@
-//! Payloads: the first of a payload in a line, and all of it where that is asked for.
+//! Payloads: the first of a payload in a line, and all of it if that is asked for.
 
 use crate::markup::Piece::{Count, Tag};
 use crate::markup::{put, put_char};
@@ -40,7 +40,7 @@ fn put_digits(
     Ok(shown)
 }
 
-// Puts the first of a payload, as text where it is one, and answers how many bytes these have.
+// Puts the first of a payload, as text if it is one, and answers how many bytes these have.
 fn put_first(
     alloc: Global,
     text: &mut String,
@@ -76,7 +76,7 @@ fn put_rest(alloc: Global, text: &mut String, bytes: &[u8]) -> Result<(), AllocE
     text.push_str("</bdi></details>")
 }
 
-/// Puts a payload: its first characters, or bytes where it is no text, and how many bytes it has; all
+/// Puts a payload: its first characters, or bytes if it is no text, and how many bytes it has; all
 /// of it to be folded out, if that is wanted.
 pub(crate) fn put_payload(
     alloc: Global,

@@ -83,7 +83,7 @@ impl<'a> Shown<'a> {
         }
     }
 
-    // The name of a queue; none where there is no such queue.
+    // The name of a queue; none if there is no such queue.
     fn name_of(&self, queue: u32) -> &'a str {
         match self.definitions.get(queue as usize) {
             Some(definition) => definition.name.text(),

@@ -154,7 +154,7 @@ fn put_at(text: &mut String, shown: &Shown<'_>, at: At) -> Result<(), AllocError
     }
 }
 
-/// Puts a step, with a link to its record where it is told elsewhere.
+/// Puts a step, with a link to its record if it is told elsewhere.
 pub(crate) fn put_step(
     text: &mut String,
     shown: &Shown<'_>,

@@ -141,8 +141,8 @@ fn numbers_of(
 /// the most free elements after the restart and those to which the most elements moved; of each the
 /// first ten. As lines, or as one value of JSON; from the checkpoint on at an offset, if there is one.
 ///
-/// Refuses what a restart from there refuses; with `Resources` where memory is refused, before
-/// anything is written, and with `Output` where the output fails.
+/// Refuses what a restart from there refuses; with `Resources` if memory is refused, before
+/// anything is written, and with `Output` if the output fails.
 pub fn stats<R, W>(
     rt: &R,
     alloc: Global,

@@ -1,6 +1,7 @@
 //! The words of the program.
 
 use clap::{Arg, ArgAction, Command, Error, value_parser};
+use rq_file::VERSION;
 use std::alloc::Global;
 
 fn log<'a>(alloc: Global) -> Arg<'a> {
@@ -134,7 +135,7 @@ pub(crate) fn program<'a>(alloc: Global) -> Result<Command<'a>, Error> {
     Ok(
         Command::new(alloc, "rqlog")
             .about("Appends to the log of a recoverable queue manager, marks it and carries it on")
-            .version("1.0")
+            .version(VERSION)
             .subcommand_required(true)
             .subcommand(append(alloc)?)?
             .subcommand(checkpoint(alloc)?)?

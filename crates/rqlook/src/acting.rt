@@ -1,13 +1,15 @@
 //! What the program does for each of its commands.
 
 use crate::failing::Failure;
+use crate::narrowing::Narrow;
 use crate::reading::{is_over_log, log_in};
 use crate::watching::{Watch, Watched};
-use crate::words::{VERSION, numbers_asked, order_asked, records_asked, subject_asked};
+use crate::words::{columns_asked, numbers_asked, order_asked, records_asked, subject_asked};
 use clap::ArgMatches;
+use rq_file::VERSION;
 use rq_look::{Fault, Plan, Trouble, begins_at};
 use rq_page::Asked;
-use std::io::{self, ErrorKind, Printer};
+use std::io::{self, ErrorKind, Printer, Write as _};
 use std::os::fd::AsFd;
 use std::rt::{Clock, Files};
 use std::thread::Threads;
@@ -25,23 +27,33 @@ fn plan_of(words: &ArgMatches<'_>) -> Option<Plan> {
     Plan::new(words.get_one::<u32>("workers")?, GRAIN)
 }
 
+// Standard output, for lines that people read.
+fn lines<'a, R>(rt: &'a R, words: &ArgMatches<'_>, watch: Watch) -> Narrow<Printer<'a, R>>
+where
+    R: Print + AllocGlobal,
+{
+    let columns = columns_asked(words, watch.columns());
+    Narrow::new(rt.alloc(), io::writer(rt), columns)
+}
+
 // Prints what a check finds, unless it is to say nothing. Answers whether it finds nothing, also
-// where nobody reads on: what it finds is known before it is written.
+// if nobody reads on: what it finds is known before it is written.
 fn check<R>(
     rt: &R,
     bytes: &[u8],
     at: Option<u64>,
     plan: &Plan,
-    quiet: bool,
+    words: &ArgMatches<'_>,
+    watch: Watch,
 ) -> Result<bool, Trouble>
 where
     R: Print + AllocGlobal + Threads + Sync,
 {
     let found = rq_look::check(rt, rt.alloc(), bytes, at, plan)?;
-    if quiet {
+    if words.get_flag("quiet") {
         return Ok(found.fine);
     }
-    match rt.write_all(found.text.as_bytes()) {
+    match lines(rt, words, watch).write_all(found.text.as_bytes()) {
         Ok(()) => Ok(found.fine),
         Err(error) if error.kind() == ErrorKind::BrokenPipe => Ok(found.fine),
         Err(error) => Err(Trouble::from(error)),
@@ -54,12 +66,13 @@ fn report<R>(
     at: Option<u64>,
     plan: &Plan,
     words: &ArgMatches<'_>,
+    watch: Watch,
 ) -> Result<bool, Trouble>
 where
     R: Print + AllocGlobal + Threads + Sync,
 {
     let queue = words.get_one::<u32>("queue");
-    let mut output = io::writer(rt);
+    let mut output = lines(rt, words, watch);
     if words.get_flag("json") {
         rq_look::report_json(rt, rt.alloc(), bytes, at, plan, queue, &mut output)?;
     } else {
@@ -85,7 +98,8 @@ where
     R: Print + Eprint + Clock + AllocGlobal + Threads + Sync,
 {
     let wanted = records_asked(words);
-    let mut output = output(rt, watch);
+    let columns = columns_asked(words, watch.columns());
+    let mut output = Narrow::new(rt.alloc(), output(rt, watch), columns);
     rq_look::dump(rt, rt.alloc(), bytes, at, plan, &wanted, &mut output)?;
     Ok(true)
 }
@@ -96,24 +110,18 @@ fn story<R>(
     at: Option<u64>,
     plan: &Plan,
     words: &ArgMatches<'_>,
+    watch: Watch,
 ) -> Result<bool, Trouble>
 where
     R: Print + AllocGlobal + Threads + Sync,
 {
     let subject = subject_asked(words);
-    rq_look::story(
-        rt,
-        rt.alloc(),
-        bytes,
-        at,
-        plan,
-        subject,
-        &mut io::writer(rt),
-    )?;
+    let mut output = lines(rt, words, watch);
+    rq_look::story(rt, rt.alloc(), bytes, at, plan, subject, &mut output)?;
     Ok(true)
 }
 
-// Tells how long a megabyte of the log took, where there is a clock.
+// Tells how long a megabyte of the log took, if there is a clock.
 fn tell_time<R: Eprint + Clock>(rt: &R, bytes: &[u8], begun: Option<Instant>) {
     let Some(elapsed) = begun.and_then(|begun| begun.elapsed(rt).ok()) else {
         return;
@@ -128,6 +136,7 @@ fn stats<R>(
     at: Option<u64>,
     plan: &Plan,
     words: &ArgMatches<'_>,
+    watch: Watch,
 ) -> Result<bool, Trouble>
 where
     R: Print + Eprint + Clock + AllocGlobal + Threads + Sync,
@@ -137,7 +146,7 @@ where
     } else {
         None
     };
-    let mut output = io::writer(rt);
+    let mut output = lines(rt, words, watch);
     rq_stats::stats(
         rt,
         rt.alloc(),
@@ -165,10 +174,10 @@ where
 {
     match name {
         "dump" => dump(rt, bytes, at, plan, words, watch),
-        "check" => check(rt, bytes, at, plan, words.get_flag("quiet")),
-        "report" => report(rt, bytes, at, plan, words),
-        "stats" => stats(rt, bytes, at, plan, words),
-        "story" | "unit" => story(rt, bytes, at, plan, words),
+        "check" => check(rt, bytes, at, plan, words, watch),
+        "report" => report(rt, bytes, at, plan, words, watch),
+        "stats" => stats(rt, bytes, at, plan, words, watch),
+        "story" | "unit" => story(rt, bytes, at, plan, words, watch),
         _ => rq_look::script(rt, rt.alloc(), bytes, plan, &mut output(rt, watch)),
     }
 }

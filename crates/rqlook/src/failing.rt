@@ -5,17 +5,17 @@ use rq_look::{Seen, Trouble};
 use std::alloc::AllocError;
 use std::io;
 
-// The exit status where there is no such thing in the log, a record that no script tells, or a log
+// The exit status if there is no such thing in the log, a record that no script tells, or a log
 // that was carried on.
 const REFUSED: u8 = 1;
 
 // The exit status of words that are no command.
 const USAGE: u8 = 2;
 
-// The exit status where reading or writing failed.
+// The exit status if reading or writing failed.
 const STREAM: u8 = 3;
 
-// The exit status where memory was refused.
+// The exit status if memory was refused.
 const MEMORY: u8 = 4;
 
 /// Why the program ends before it is done.
@@ -64,13 +64,23 @@ impl From<io::Error> for Failure {
     }
 }
 
-// Says that the output fails. One that was closed is no news.
+// Says that memory is refused.
+fn memory_refused(rt: &HostRuntime) -> u8 {
+    let _ = eprintln!(rt; "rqlook: resources");
+    MEMORY
+}
+
+// Says that the output fails. One that was closed is no news. Lines that must fit a width take
+// memory on their way.
 fn output_failed(rt: &HostRuntime, error: &io::Error) -> u8 {
-    if error.kind() == io::ErrorKind::BrokenPipe {
-        return 0;
+    match error.kind() {
+        io::ErrorKind::BrokenPipe => 0,
+        io::ErrorKind::OutOfMemory => memory_refused(rt),
+        _ => {
+            let _ = eprintln!(rt; "rqlook: standard output: {error}");
+            STREAM
+        }
     }
-    let _ = eprintln!(rt; "rqlook: standard output: {error}");
-    STREAM
 }
 
 // The name of a file, as it is told.
@@ -126,10 +136,7 @@ impl Failure {
                 REFUSED
             }
             Failure::Output(error) => output_failed(rt, error),
-            Failure::Memory => {
-                let _ = eprintln!(rt; "rqlook: resources");
-                MEMORY
-            }
+            Failure::Memory => memory_refused(rt),
         }
     }
 }

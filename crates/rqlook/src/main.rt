@@ -3,12 +3,14 @@
 
 mod acting;
 mod failing;
+mod narrowing;
 mod reading;
 mod watching;
 mod words;
 
 use crate::acting::act;
 use crate::failing::Failure;
+use crate::narrowing::columns_told;
 use crate::watching::Watch;
 use crate::words::program;
 use std::io::IsTerminal;
@@ -18,15 +20,25 @@ use std::rt::{Clock, Env, Files};
 use std::thread::Threads;
 use std::{env, io};
 
-// The exit status where a finding was made.
+// The exit status if a finding was made.
 const FOUND: u8 = 1;
 
 fn main(rt: HostRuntime) -> ExitCode {
-    let watch = Watch::new(&rt, rt.stderr().is_terminal(), rt.stdout().is_terminal());
+    let watch = Watch::new(&rt, rt.stderr().is_terminal(), columns_shown(&rt));
     match start(&rt, watch) {
         Ok(true) => ExitCode::SUCCESS,
         Ok(false) => ExitCode::from(FOUND),
         Err(failure) => ExitCode::from(failure.tell(&rt)),
+    }
+}
+
+// How many columns the output has before a person's eyes, 0 if that is not known; none if it goes
+// elsewhere.
+fn columns_shown(rt: &HostRuntime) -> Option<u32> {
+    if rt.stdout().is_terminal() {
+        Some(columns_told(rt))
+    } else {
+        None
     }
 }
 
@@ -47,7 +59,7 @@ where
     }
 }
 
-// Arguments that are no text are no command; where memory ran out nothing is known of them.
+// Arguments that are no text are no command; if memory ran out nothing is known of them.
 fn unread(error: io::Error) -> Failure {
     if error.kind() == io::ErrorKind::OutOfMemory {
         Failure::Memory

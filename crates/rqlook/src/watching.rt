@@ -1,4 +1,4 @@
-//! How far the work is, told on standard error where a person looks on.
+//! How far the work is, told on standard error if a person looks on.
 
 use std::io::{self, Read, Write};
 use std::rt::Clock;
@@ -9,31 +9,42 @@ const MIB: u64 = 1_048_576;
 // From so many MiB on it may take a second.
 const MUCH: u64 = 64;
 
-/// Since when a person looks on, if one does, and whether the output is before their eyes.
+/// Since when a person looks on, if one does, and how many columns the output has before their eyes,
+/// if it is there.
 #[derive(Clone, Copy)]
 pub(crate) struct Watch {
     begun: Option<Instant>,
-    is_shown: bool,
+    shown: Option<u32>,
 }
 
 impl Watch {
     /// Somebody looks on from now on, or nobody does.
-    pub(crate) fn new<R: Clock>(rt: &R, is_watched: bool, is_shown: bool) -> Watch {
+    pub(crate) fn new<R: Clock>(rt: &R, is_watched: bool, shown: Option<u32>) -> Watch {
         let begun = if is_watched {
             Instant::now(rt).ok()
         } else {
             None
         };
-        Watch { begun, is_shown }
+        Watch { begun, shown }
     }
 
-    /// The same for the output, which tells by itself how far it is where it is shown.
+    /// The same for the output, which tells by itself how far it is if it is shown.
     pub(crate) fn of_output(self) -> Watch {
-        let begun = if self.is_shown { None } else { self.begun };
+        let begun = if self.shown.is_some() {
+            None
+        } else {
+            self.begun
+        };
         Watch { begun, ..self }
     }
 
-    /// Says that the work on the log begins, where it is long.
+    /// How many columns the output has before a person's eyes; 0 if that is not known, or it goes
+    /// elsewhere.
+    pub(crate) fn columns(self) -> u32 {
+        self.shown.unwrap_or(0)
+    }
+
+    /// Says that the work on the log begins, if it is long.
     pub(crate) fn begins<R: Eprint>(self, rt: &R, bytes: &[u8]) {
         let mib = bytes.len() as u64 / MIB;
         if self.begun.is_some() && mib >= MUCH {

@@ -1,12 +1,10 @@
 //! The words of the program.
 
 use clap::{Arg, ArgAction, ArgMatches, Command, Error, value_parser};
+use rq_file::VERSION;
 use rq_look::{Subject, Wanted};
 use rq_page::Order;
 use std::alloc::{AllocError, Global};
-
-/// The program's version.
-pub(crate) const VERSION: &str = "1.0";
 
 // The kinds of record.
 static KINDS: [&str; 10] = [
@@ -61,6 +59,16 @@ fn workers<'a>(alloc: Global) -> Arg<'a> {
     .default_value("4")
 }
 
+fn width<'a>(alloc: Global) -> Arg<'a> {
+    option(
+        alloc,
+        "width",
+        "COLUMNS",
+        "Cuts lines to so many columns, 0 for none; those of the terminal if the output is one",
+    )
+    .value_parser(value_parser!(u32))
+}
+
 fn selecting<'a>(alloc: Global, command: Command<'a>) -> Result<Command<'a>, Error> {
     let from = option(
         alloc,
@@ -101,6 +109,7 @@ fn dump<'a>(alloc: Global) -> Result<Command<'a>, Error> {
                 "behind",
                 "Shows the right frames behind the front too, each marked so",
             ))?
+            .arg(width(alloc))?
             .arg(workers(alloc))?,
     )
 }
@@ -110,11 +119,12 @@ fn check<'a>(alloc: Global) -> Result<Command<'a>, Error> {
     Ok(
         Command::new(alloc, "check")
             .about(
-                "Exits with 0 where the log is whole and each checkpoint true, and with 1 where it \
-                 finds something",
+                "Exits with 0 if the log is whole and each checkpoint true, and with 1 if it finds \
+                 something",
             )
             .arg(log(alloc))?
             .arg(quiet)?
+            .arg(width(alloc))?
             .arg(workers(alloc))?,
     )
 }
@@ -126,6 +136,7 @@ fn report<'a>(alloc: Global) -> Result<Command<'a>, Error> {
             .arg(log(alloc))?
             .arg(queue(alloc, "Only this queue"))?
             .arg(flag(alloc, "json", "Shows the report as JSON"))?
+            .arg(width(alloc))?
             .arg(workers(alloc))?,
     )
 }
@@ -171,6 +182,7 @@ fn stats<'a>(alloc: Global) -> Result<Command<'a>, Error> {
                 "time",
                 "Tells on standard error how long a megabyte of the log took",
             ))?
+            .arg(width(alloc))?
             .arg(workers(alloc))?,
     )
 }
@@ -188,6 +200,7 @@ fn story<'a>(alloc: Global) -> Result<Command<'a>, Error> {
             .about("Shows what became of one element")
             .arg(log(alloc))?
             .arg(number(alloc, "ELEMENT", "The number of the record that put it in"))?
+            .arg(width(alloc))?
             .arg(workers(alloc))?,
     )
 }
@@ -198,6 +211,7 @@ fn unit<'a>(alloc: Global) -> Result<Command<'a>, Error> {
             .about("Shows what one unit did, and what became of it")
             .arg(log(alloc))?
             .arg(number(alloc, "UNIT", "The number of the unit"))?
+            .arg(width(alloc))?
             .arg(workers(alloc))?,
     )
 }
@@ -220,13 +234,13 @@ fn page<'a>(alloc: Global) -> Result<Command<'a>, Error> {
         alloc,
         "element",
         "ELEMENT",
-        "Shows what became of this element also where the log is long; may be given several times",
+        "Shows what became of this element also if the log is long; may be given several times",
     );
     let unit = option(
         alloc,
         "unit",
         "UNIT",
-        "Shows what this unit did also where the log is long; may be given several times",
+        "Shows what this unit did also if the log is long; may be given several times",
     );
     Ok(
         Command::new(alloc, "page")
@@ -258,6 +272,16 @@ pub(crate) fn program<'a>(alloc: Global) -> Result<Command<'a>, Error> {
             .subcommand(unit(alloc)?)?
             .subcommand(page(alloc)?)?,
     )
+}
+
+/// To how many columns the words want lines cut, 0 for none, if the output has so many where a person
+/// sees it. Lines of JSON are not cut, nor is what is to be shown in full unless a width is given.
+pub(crate) fn columns_asked(words: &ArgMatches<'_>, shown: u32) -> u32 {
+    if words.get_flag("json") {
+        return 0;
+    }
+    let usual = if words.get_flag("full") { 0 } else { shown };
+    words.get_one::<u32>("width").unwrap_or(usual)
 }
 
 /// Which element or unit the words of a story name.
