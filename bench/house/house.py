@@ -5,14 +5,18 @@ usage: house.py
 - A definition or lemma of `specs/` or `proofs/` is reached if a contract, an answer to a goal or a ghost member names it, or
   a definition that is reached. Names are told apart by the crate and not by the file: so this can take one for reached that is
   not, and never the other way round.
-- A name stands for two things if the definitions of two crates have it and say different things, or if two crates have a
-  type of that name. Types of tests are left out, and those without fields: they only name a function of clauses.
+- A name stands for two things if the definitions of two crates have it and say different things, if two crates have a
+  type of that name, if two files have a free function of that name for others to call, or if types of two crates have
+  such a method. Tests are left out, and so are types without fields: they only name a function of clauses. What
+  `ONE_THING` lists is one thing that is said of two, methods of `PLAIN` mean what their types make of them, and those of
+  `STAYING` are known to callers.
+- Files are nouns: the name of a file or folder of code that ends with *ing* is no thing, unless a type has that name.
 - A function only forwards if it is private, has one caller, and its body is one call with its own parameters.
 Ends with status 1 if there is one of any of these.
 """
 from __future__ import annotations
 import glob, os, re, sys
-from typing import NamedTuple
+from typing import Callable, NamedTuple
 
 sys.path.insert(0, os.path.dirname(os.path.dirname(os.path.abspath(__file__))))
 from common import TOP, text_in
@@ -25,10 +29,58 @@ INNER = re.compile(r"^  (?:abbrev |unfolding |pub |record |data )*([^\s(){}:]+)(
 TOKEN = re.compile(r"[^\s(){}\[\],;.`λ→↔×]+")
 # Files whose names are asked for by the prover: a goal, an invariant, a variant.
 ASKED = ("Answers.antt", "Invariants.antt", "Variants.antt")
+# A head of a function, with what its line is behind and whether others can call it.
+HEADED = re.compile(r"^( *)(pub(?:\([a-z]+\))? )?(?:const )?fn (\w+)", re.M)
+# A block of methods, and the type that it is of; where one ends, and at a trait's, no type.
+BLOCK = re.compile(r"^(?:impl(?:<[^{]*?>)? (?:[^{\n]* for )?&?(\w+)|(?:pub(?:\([a-z]+\))? )?trait \w+|\})", re.M)
 # A type that has fields, variants or members.
 TYPE = re.compile(r"^(?:pub(?:\([a-z]+\))? )?(?:struct|enum|trait) (\w+)(?!\w)(?!;)", re.M)
 # A list of lemmas that the tactics of a function are given.
 RULES = re.compile(r"^pub ruleset .*$", re.M)
+# Methods whose names say nothing without their type: what makes a value (`none` and `blank`: an empty one), what std's traits
+# and containers call so, and what a type of its kind is for: to be opened and closed, or begun and ended, and to take in or
+# put out what its argument or its type names.
+PLAIN = {
+    "new", "of", "none", "blank", "open", "close", "begin", "end", "finish",
+    "len", "is_empty", "next", "fmt", "get", "insert", "remove", "push", "append", "take", "put",
+}
+# Names that say one thing of two: of these crates, and which thing. In a further crate such a name is looked at again.
+ONE_THING = {
+    "Record": ("rq_model rq_record", "a record as data; in rq_record, the same kinds with the same fields as contracts see them in code"),
+    "act": ("rq_tool rqlog rqlook", "does what the words of a program's line ask"),
+    "append_frame": ("rq_journal rq_restart", "appends the frame of a body behind 32 bytes"),
+    "errors_of": ("rq_catalog rq_exchange", "the error queue of each queue"),
+    "open_units_of": ("rq_catalog rq_standing", "the open units of a state"),
+    "program": ("rqlog rqlook", "the words of a program, for clap"),
+    "report": ("rq_look rq_report", "the report of a log"),
+    "front_of": ("rq_restart rqlog", "the front of a log"),
+    "end_of": ("rq_look rq_restart", "where the front of a log ends"),
+    "abort": ("rq_look rq_queue", "aborts a unit in the queues"),
+    "aborted": ("rq_catalog rq_restart rq_state", "how many units were aborted"),
+    "committed": ("rq_catalog rq_restart rq_state", "how many units were committed"),
+    "broken": ("rq_catalog rq_journal", "a rule that the record breaks: an appender asks its judge"),
+    "bytes": ("rq_record rq_writer", "the bytes of a value"),
+    "copied": ("rq_record rq_state", "the same value again"),
+    "register": ("rq_catalog rq_queue", "registers a name with a queue"),
+    "deregister": ("rq_catalog rq_queue", "ends a registration"),
+    "engage": ("rq_catalog rq_standing", "a unit engages a queue"),
+    "file": ("rq_file rqlog", "the file that is held"),
+    "hear": ("rq_queue rq_state", "hears of an operation that is committed"),
+    "is_by": ("rq_queue rq_state", "whether a note is of the unit"),
+    "is_of": ("rq_queue rq_state", "whether a note is of the registrant"),
+    "key": ("rq_queue rq_state", "what a member is in order by"),
+    "note": ("rq_queue rq_state", "the note of an operation"),
+    "open_units": ("rq_catalog rq_look", "the units that are open"),
+    "place": ("rq_queue rq_state", "the record's number in the log"),
+    "queue": ("rq_look rq_queue rq_state", "the queue that a value is of"),
+    "record": ("rq_look rq_queue rq_record", "the record that a value holds or spells"),
+    "tell": ("rqlog rqlook", "says on standard error why a program ends"),
+    "version": ("rq_catalog rq_journal rqlog", "the version by whose rules records are judged"),
+}
+# Public calls that say another thing elsewhere and keep their names, since callers know them: of a closed countdown.
+STAYING = {"home", "last"}
+# Words that end with *ing* and are things.
+THINGS = {"beginning", "listing"}
 
 
 class Definition(NamedTuple):
@@ -82,7 +134,8 @@ def used_in_code(crate: str) -> set[str]:
     """The words of the crate's code behind its imports, where clauses and ghost members name definitions."""
     words: set[str] = set()
     for path in files_of(crate, "src/**/*.rt"):
-        words |= tokens(re.sub(r"ghost use [^;]*;", "", text_in(path)))
+        text = re.sub(r"ghost use [^;]*;", "", text_in(path))
+        words |= tokens(text.replace("::", " "))
     return words
 
 
@@ -136,6 +189,64 @@ def types_of_two(crates: list[str]) -> list[str]:
     return [f"{name}: {', '.join(by)}" for name, by in sorted(having.items()) if len(by) > 1]
 
 
+class Called(NamedTuple):
+    crate: str
+    file: str
+    # The type that it belongs to; empty for a function.
+    owner: str
+    name: str
+
+
+def called_of(crate: str) -> list[Called]:
+    """What others can call of a crate, methods that traits ask for aside."""
+    found = []
+    for path in files_of(crate, "src/**/*.rt"):
+        text = text_in(path)
+        blocks = list(BLOCK.finditer(text))
+        for head in HEADED.finditer(text):
+            block = next((it for it in reversed(blocks) if it.start() < head.start()), None)
+            owner = (block.group(1) or "") if block and head.group(1) else ""
+            if head.group(2) and bool(owner) == bool(head.group(1)):
+                found.append(Called(crate, os.path.relpath(path, os.path.join(CRATES, crate, "src")), owner, head.group(3)))
+    return found
+
+
+def named_twice(calls: list[Called], is_apart: Callable[[Called], str]) -> list[str]:
+    """The names of calls that stand in two of what tells them apart."""
+    having: dict[str, list[Called]] = {}
+    for it in calls:
+        having.setdefault(it.name, []).append(it)
+    return [f"{name}: {', '.join(f'{it.crate}/{it.file}' for it in by)}" for name, by in sorted(having.items())
+            if len({is_apart(it) for it in by}) > 1]
+
+
+def functions_of_two(calls: list[Called]) -> list[str]:
+    return named_twice([it for it in calls if not it.owner], lambda it: f"{it.crate}/{it.file}")
+
+
+def methods_of_two(calls: list[Called]) -> list[str]:
+    return named_twice([it for it in calls if it.owner and it.name not in PLAIN | STAYING], lambda it: it.crate)
+
+
+def no_things(crate: str) -> list[str]:
+    """The files and folders of code that are named for what is done and not for a thing."""
+    things = {name.lower() for name in types_of(crate)} | THINGS
+    paths = [os.path.relpath(it, os.path.join(CRATES, crate, "src"))[:-3] for it in files_of(crate, "src/**/*.rt")]
+    return [f"{crate}/{it}.rt" for it in paths
+            if os.path.basename(it).endswith("ing") and os.path.basename(it).replace("_", "") not in things]
+
+
+def of_two(found: list[str]) -> list[str]:
+    """Without those that are one thing."""
+    return [it for it in found if not is_one_thing(*it.split(": "))]
+
+
+def is_one_thing(name: str, places: str) -> bool:
+    """Whether all that has the name is of crates in which it says one thing."""
+    crates, _ = ONE_THING.get(name, ("", ""))
+    return {it.split("/")[0] for it in places.split(", ")} <= set(crates.split())
+
+
 FUNCTION = re.compile(r"^ *fn (\w+)(?:<[^>]*>)?\(([^)]*)\)[^{;]*?\n(?: +(?:requires|ensures)[^\n]*\n)*\s*\{\n([^{}]*)\}", re.M)
 
 
@@ -155,17 +266,29 @@ def forwarders(crate: str) -> list[str]:
     return found
 
 
-def main() -> int:
-    crates = sorted(os.path.basename(os.path.dirname(it)) for it in glob.glob(os.path.join(CRATES, "*", "src")))
-    lists = {
+def counted(crates: list[str]) -> dict[str, list[str]]:
+    """What the house does not want, by kind."""
+    untried = [it for it in crates if it not in TESTS]
+    calls = [it for crate in untried for it in called_of(crate)]
+    return {
         "definitions that nothing reaches": [it.title() for it in unreached(crates)],
-        "names that stand for two things": doubled(crates) + types_of_two([it for it in crates if it not in TESTS]),
+        "definitions that stand for two things": of_two(doubled(crates)),
+        "types that stand for two things": of_two(types_of_two(untried)),
+        "functions that stand for two things": of_two(functions_of_two(calls)),
+        "methods that stand for two things": of_two(methods_of_two(calls)),
+        "files that are no things": [it for crate in untried for it in no_things(crate)],
         "functions that only forward": [it for crate in crates for it in forwarders(crate)],
     }
+
+
+def main() -> int:
+    crates = sorted(os.path.basename(os.path.dirname(it)) for it in glob.glob(os.path.join(CRATES, "*", "src")))
+    lists = counted(crates)
     for title, found in lists.items():
-        print(f"{title}: {len(found)}")
         for it in found:
-            print(f"  {it}")
+            print(f"{title}: {it}")
+    for title, found in lists.items():
+        print(f"{len(found):5} {title}")
     return 1 if any(lists.values()) else 0
 
 
