@@ -9,8 +9,9 @@ from __future__ import annotations
 import json, os, re, sys, tempfile
 from collections.abc import Callable
 
-import counting, unharmed
+import carrying, counting, unharmed
 from tables.asking import MAKE
+from tables.carried import CARRIED_AT, GAP
 from tables.lawful import TABLES, cases
 from trying import DONE, check, content, put, run
 from writing import MORE, START, START_BODIES, appended, plain, rqlog, says
@@ -18,8 +19,6 @@ from writing import MORE, START, START_BODIES, appended, plain, rqlog, says
 from common import HEADER, chained, header_of, pieces_of
 from records import begin, checkpoint, commit, kill, spelled
 
-GAP = b"\xff\xff\xff\xffrq carried log at 96"
-CARRIED_AT = 96
 MOST = 2**32 - 1
 
 REPORT = re.compile(rb"front (\d+) records, (\d+) of (\d+) bytes, (\w+)\n(.*)", re.DOTALL)
@@ -342,7 +341,7 @@ def near_the_end() -> None:
 
 
 PARTS = [words, appends, refuses, rules, lawful, kills, damaged, cut_anywhere, marks, carries, cut_behind_a_carry, without_a_beginning, by_pipes]
-PARTS += [near_the_end, *unharmed.PARTS]
+PARTS += [near_the_end, *carrying.PARTS, *unharmed.PARTS]
 
 
 def main() -> None:

@@ -327,6 +327,8 @@ def by_chains(one: bytes | None) -> None:
 def into_pipes(one: bytes | None) -> None:
     """What is no file of a disk gets the bytes as they are made, and what is a file that is open behind what it holds."""
     check("make into /dev/stdout", run("make", "one.script", "/dev/stdout"), (0, one, b""))
+    made = run("make", "one.script", "/dev/null"), stat.S_ISCHR(os.stat("/dev/null").st_mode)
+    check("make into /dev/null", made, (DONE, True))
     for flags, how in [(0, "from its beginning"), (os.O_APPEND, "at its end")]:
         held = os.open(put("held", b"held\n"), os.O_WRONLY | flags)
         made = run_into(held, "make", "one.script", "/dev/stdout"), content("held")

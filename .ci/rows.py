@@ -14,7 +14,7 @@ from concurrent.futures import ThreadPoolExecutor
 # A run leaves nothing in the clone.
 sys.dont_write_bytecode = True
 
-from tables import checkpoints, closing, damages, digests, lawful, lines, looking, many, reports, upgrading  # noqa: E402
+from tables import checkpoints, closing, damages, digests, lawful, lengths, lines, looking, many, reports, shown, upgrading  # noqa: E402
 from tables.asking import Program, Question  # noqa: E402
 
 Theme = Callable[[Program], Iterator[Question]]
@@ -22,8 +22,10 @@ Theme = Callable[[Program], Iterator[Question]]
 THEMES: dict[str, Theme] = {
     "reports": reports.questions, "lawful": lawful.questions, "damages": damages.questions, "digests": digests.questions,
     "checkpoints": checkpoints.questions, "closing": closing.questions, "upgrading": upgrading.questions,
-    "lines": lines.questions, "many": many.questions,
+    "lines": lines.questions, "many": many.questions, "lengths": lengths.questions,
 }
+# What `rqlook` shows of logs that `rq` makes.
+OF_LOOK: dict[str, Callable[[Program], Theme]] = {"looking": looking.questions_of, "shown": shown.questions_of}
 # So many questions are asked side by side.
 AT_A_TIME = 2 * (os.cpu_count() or 1)
 
@@ -61,8 +63,9 @@ def asked_in(folder: str, options: argparse.Namespace) -> list[bool]:
     """The answers of all themes, or of the one that is named."""
     rq = Program(options.rq, folder)
     themes = [(theme, rq) for name, theme in THEMES.items() if options.theme in (None, name)]
-    if options.rqlook and options.theme in (None, "looking"):
-        themes.append((looking.questions_of(rq), Program(options.rqlook, folder)))
+    if options.rqlook:
+        rqlook = Program(options.rqlook, folder)
+        themes += [(of(rq), rqlook) for name, of in OF_LOOK.items() if options.theme in (None, name)]
     with ThreadPoolExecutor(AT_A_TIME) as pool:
         return [right for theme, program in themes for right in answers(theme, program, pool)]
 
@@ -71,7 +74,7 @@ def main() -> None:
     words = argparse.ArgumentParser()
     words.add_argument("rq")
     words.add_argument("rqlook", nargs="?")
-    words.add_argument("--theme", choices=[*THEMES, "looking"])
+    words.add_argument("--theme", choices=[*THEMES, *OF_LOOK])
     options = words.parse_args()
     folder = tempfile.mkdtemp()
     try:

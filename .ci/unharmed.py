@@ -1,7 +1,7 @@
 """What rqlog leaves of files: if one can't be opened or written, if a call on it fails or is the last, if another program writes
 too, and where links, folders, pipes and devices stand."""
 from __future__ import annotations
-import fcntl, os, re, resource, shutil, signal, subprocess, time
+import fcntl, os, re, resource, shutil, signal, stat, subprocess, time
 from typing import NamedTuple
 
 from folders import NOBODY, attack, is_made
@@ -71,6 +71,13 @@ def links() -> None:
     check("append by a link", (ended[0], os.path.islink("link.log"), content(log)), (0, True, content(plain("whole", START + MORE))))
     os.symlink("ring.log", "ring.log")
     check("append by a ring", faulty(rqlog("append", "ring.log", script=MORE), "LOG"), True)
+    told = says("OUT: filesystem loop or indirection limit (e.g. symlink loop)", 3)
+    check("close by a ring", (rqlog("close", log, "ring.log"), os.readlink("ring.log")), (told, "ring.log"))
+    check("close by a link", (rqlog("close", log, "link.log"), os.path.islink("link.log")), ((0, b"", b""), True))
+    for path in ("/dev/null", "new.log"):
+        check(f"close into {path}", rqlog("close", log, path), (0, b"", b""))
+    check("what a device is, and what a new file", (stat.S_ISCHR(os.stat("/dev/null").st_mode), content("new.log")), (True, content(log)))
+    check("what stands beside them", [it for it in os.listdir(".") if ".rq" in it], [])
     ended = rqlog("close", log, "link.log"), os.path.islink("link.log"), content(log)
     check("close over itself by a link", ended, ((0, b"", b""), True, content("whole.log")))
 

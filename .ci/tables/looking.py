@@ -173,14 +173,15 @@ JSON_END = """\
 }
 """
 
-# A file whose name looks like HTML, as does the element of its log; and what stands on its page.
-ODD_NAME = "a<b"
+# A file whose name has each character that means something in HTML, and one that is not shown as it is; its log has an element that
+# looks like HTML, too. And what stands on its page.
+ODD_NAME = "a<b\x1b&\"'>"
 ELEMENT_B = "define jobs 0 -\nbegin 1\nenqueue 1 0 5 - 0 3c623e\ncommit 1\n"
-ON_THE_PAGE = ["<title>a&lt;b</title>", "<td>4 records, 239 of 239 bytes</td>", "<bdi class=\"text\">&lt;b&gt;</bdi>"]
+ON_THE_PAGE = ["<title>a&lt;b\u241b&amp;&quot;&#39;&gt;</title>", "<td>4 records, 239 of 239 bytes</td>", "<bdi class=\"text\">&lt;b&gt;</bdi>"]
 
 
-def tables_of(rqlook: Program, rq: Program) -> Iterator[Question]:
-    for row in ROWS:
+def rows_of(rows: list[Row], rqlook: Program, rq: Program) -> Iterator[Question]:
+    for row in rows:
         log = rq.file(row.damage(rq.log_of(row.script)))
         words = [log if word == "LOG" else word for word in row.line.split()]
         said = f"rqlook: {log}: {row.said}\n".encode() if row.said else b""
@@ -253,7 +254,7 @@ def of_one_log(rqlook: Program, rq: Program) -> Iterator[Question]:
 def questions_of(rq: Program) -> Callable[[Program], Iterator[Question]]:
     """The questions to `rqlook`, of logs that `rq` makes."""
     def questions(rqlook: Program) -> Iterator[Question]:
-        yield from tables_of(rqlook, rq)
+        yield from rows_of(ROWS, rqlook, rq)
         yield from of_one_log(rqlook, rq)
         yield from behind_one(rqlook, rq)
         yield from fronts_of_windows(rqlook, rq)

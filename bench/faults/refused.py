@@ -1,13 +1,14 @@
 #!/usr/bin/env python3
 """Refuses the program each of its allocations in turn, and each of its threads, and counts how the runs end.
 
-usage: refused.py RQ [--step N] [--folder DIR] [COMMAND ..]
+usage: refused.py RQ [--look RQLOOK] [--write RQLOG] [--step N] [--folder DIR] [COMMAND ..]
 A run that is refused must write what it writes with ample memory, or end with status 4, say `resources`, and write nothing,
 no file either. With no COMMAND, sweeps each command over the logs of two scripts in `examples/`, and restarts and upgrades logs
 that are large enough for what runs on large logs alone: records decoded by several workers, digests checked beside the analysis and in
-lanes, a report made in pieces. Of these each Nth allocation is refused, for a prime N. A COMMAND that writes a file names it
-`{made}/NAME`. RQ is the built program itself. Ends with status 1 if a run ended otherwise, or if no allocation of a
-command was met.
+lanes, a report made in pieces. Of these each Nth allocation is refused, for a prime N. With --look and --write, sweeps too what
+RQLOOK shows of a log that is whole, of one that is damaged and of one that was carried on, and what RQLOG does; it may name the log
+before it says `resources`. A COMMAND is one of RQ. If it writes a file it names that `{made}/NAME`. Each program is the built one
+itself. Ends with status 1 if a run ended otherwise, or if no allocation of a command was met.
 """
 from __future__ import annotations
 import os, subprocess, sys, time
@@ -93,6 +94,21 @@ class Sweep:
         return wrong
 
 
+class NamingSweep(Sweep):
+    """Runs of a program that may name its log before it says that memory was refused."""
+
+    def __init__(self, program: str, folder: str) -> None:
+        self.begins = b"rqlook: " if "rqlook" in os.path.basename(program) else b"rqlog: "
+        super().__init__(program, folder, (4, b"", self.begins + b"resources\n", {}))
+
+    def outcome(self, words: list[str], **options: object) -> Outcome:
+        status, output, said, files = super().outcome(words, **options)
+        for word in words:
+            if said == self.begins + word.encode() + b": resources\n":
+                said = self.begins + b"resources\n"
+        return status, output, said, files
+
+
 def of_scripts(sweep: Sweep, folder: str) -> int:
     """Sweeps each command over the logs of two scripts."""
     logs = {}
@@ -128,8 +144,53 @@ def of_large_logs(sweep: Sweep, folder: str) -> int:
     return wrong + sweep.row("`upgrade` kib of 2 MiB, 4", ["upgrade", log, "{made}/log", "4"], 11)
 
 
+def damaged(log: str) -> str:
+    """The log with a byte changed in the middle, beside it."""
+    with open(log, "rb") as source:
+        bytes_ = bytearray(source.read())
+    bytes_[len(bytes_) // 2] ^= 1
+    with open(log + ".damaged", "wb") as to:
+        to.write(bytes_)
+    return log + ".damaged"
+
+
+# The lines that show any log.
+SHOWING = [["dump", "LOG"], ["dump", "LOG", "--json", "--behind"], ["check", "LOG"], ["stats", "LOG"], ["stats", "LOG", "--json"],
+           ["report", "LOG"], ["report", "LOG", "--json"], ["page", "LOG", "{made}/page"]]
+
+
+def of_rqlog(write: str, logs: list[str], carried: str, folder: str) -> int:
+    """Sweeps lines of `rqlog` over these logs and over the last of them once it was carried on."""
+    sweep, wrong = NamingSweep(write, folder), 0
+    if os.path.exists(carried):
+        os.remove(carried)
+    subprocess.run([write, "carry", logs[-1], carried], check=True, capture_output=True)
+    for log in [*logs, carried]:
+        name = os.path.basename(log)
+        for word in ("restart", "audit"):
+            wrong += sweep.row(f"`rqlog {word}` {name}", [word, log])
+        for word in ("close", "carry"):
+            wrong += sweep.row(f"`rqlog {word}` {name}", [word, log, "{made}/log"])
+    return wrong
+
+
+def of_rqlook(look: str, logs: list[str], carried: str, folder: str) -> int:
+    """Sweeps the lines of `rqlook` over these logs, one of them damaged too, and over the one that was carried on, if it is there."""
+    sweep = NamingSweep(look, folder)
+    wrong = sweep.row("`rqlook story` checkpoint.log", ["story", logs[-1], "3"])
+    wrong += sweep.row("`rqlook unit` checkpoint.log", ["unit", logs[-1], "2"])
+    for log in [*logs, damaged(logs[0]), *([carried] if os.path.exists(carried) else [])]:
+        name = os.path.basename(log)
+        lines = SHOWING if log == carried else [*SHOWING, ["script", log], ["salvage", log, "{made}/script"]]
+        for line in lines:
+            wrong += sweep.row(f"`rqlook {line[0]}` {name}", [log if word == "LOG" else word for word in line])
+    return wrong
+
+
 def main() -> None:
     words = parser()
+    words.add_argument("--look")
+    words.add_argument("--write")
     words.add_argument("--step", type=int, default=1)
     words.add_argument("command", nargs="*")
     options = parsed(words)
@@ -140,7 +201,14 @@ def main() -> None:
     if options.command:
         wrong = sweep.row(" ".join(options.command[:1]), options.command, options.step)
     else:
-        wrong = of_scripts(sweep, options.folder) + of_large_logs(sweep, options.folder)
+        wrong = of_scripts(sweep, options.folder)
+        logs = [os.path.join(options.folder, name + ".log") for name in ("error-queue", "checkpoint")]
+        carried = os.path.join(options.folder, "checkpoint.carried")
+        if options.write:
+            wrong += of_rqlog(os.path.abspath(options.write), logs, carried, options.folder)
+        if options.look:
+            wrong += of_rqlook(os.path.abspath(options.look), logs, carried, options.folder)
+        wrong += of_large_logs(sweep, options.folder)
     print(f"{time.perf_counter() - begun:.0f} s, {wrong} wrong")
     sys.exit(wrong != 0)
 

@@ -3,8 +3,8 @@
 
 usage: untested.py [--direct]
 A public call is a function that a library's `lib.rt` exports, or a public method of a type that it exports; a law, which takes
-and answers nothing, is none. A test reaches
-what it names, and what the functions name that it reaches; with --direct, what it names itself. Functions are told apart by
+and answers nothing, is none. A test reaches what it names, and what the functions name that it reaches. So do the programs,
+whose lines are asked from outside. With --direct a call is reached if a test in memory names it itself. Functions are told apart by
 their names and, if they belong to one, by their types: so this can take a call for reached that shares its name with
 another one, and never the other way round. Ends with status 1 if there is one.
 """
@@ -16,7 +16,7 @@ sys.path.insert(0, os.path.dirname(os.path.dirname(os.path.abspath(__file__))))
 from common import HERE
 
 CRATES = os.path.join(HERE, "..", "crates")
-TESTS = {"rq_layer_rows", "rq_rows", "rq_look_rows", "rq_journal_rows", "rq_scarce"}
+TESTS = {"rq_layer_rows", "rq_rows", "rq_scarce"}
 PROGRAMS = {"rq", "rqlook", "rqlog"}
 
 HEAD = re.compile(r"^( *)(pub(?:\([a-z]+\))? )?(?:const )?fn (\w+)", re.M)
@@ -112,7 +112,7 @@ def main() -> None:
     if options.direct:
         seen = {function.call for function in named(functions, tests)}
     else:
-        seen = reached(functions, tests)
+        seen = reached(functions, tests + [function.body for crate in sorted(PROGRAMS) for function in functions_of(crate)])
     public = []
     for crate in libraries:
         names = exported(crate)

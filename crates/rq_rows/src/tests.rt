@@ -1,3 +1,4 @@
+mod appending;
 mod barrier;
 mod calls;
 mod files;

@@ -1,8 +1,8 @@
 //! Names, what a checkpoint spells, and bodies.
 
 use rq_record::{
-    By, CheckBytes, Fault, KeptBy, KeptName, KeptPayload, KeptRecord, LentLog, Name, Payload,
-    QueueNo, Record, UnitNo, Version, decode, decode_at, encode,
+    CheckBytes, Fault, KeptRecord, LentLog, Name, Payload, QueueNo, Record, UnitNo, Version,
+    decode, decode_at, encode,
 };
 use std::alloc::Global;
 use std::sync::ArcSlice;
@@ -21,70 +21,9 @@ fn names_checkpoints_and_bodies_are_read(rt: HostRuntime) -> Result<(), Fail> {
     Ok(())
 }
 
-fn is_kept_alone(alloc: Global, name: &Name) -> Result<bool, Fault> {
-    let kept = KeptName::of(alloc, name)?;
-    Ok(kept.name() == *name && kept.bytes() == name.bytes())
-}
-
-fn is_kept_beside_a_tag(alloc: Global, name: Name) -> Result<bool, Fault> {
-    let kept = KeptBy::of(alloc, &Some(By { name, tag: 70 }))?;
-    match (kept.name(), kept.by()) {
-        (Some(of), Some(by)) => Ok(of.text() == name.text() && by.tag == 70),
-        _ => Ok(false),
-    }
-}
-
-#[test]
-fn names_of_each_length_are_kept(rt: HostRuntime) -> Result<(), Fail> {
-    for length in 1..65 {
-        let name = Name::new(&[b'a'; 64][..length]).ok_or("name")?;
-        let kept = is_kept_alone(rt.alloc(), &name)? && is_kept_beside_a_tag(rt.alloc(), name)?;
-        assert!(rt; kept, "{length} bytes");
-    }
-    assert!(rt; KeptBy::of(rt.alloc(), &None)?.by().is_none());
-    Ok(())
-}
-
-// Whether the first of two names is before the other, and is itself.
-fn are_in_order(alloc: Global, first: &[u8], second: &[u8]) -> Result<bool, Fail> {
-    let (first, second) = (
-        Name::new(first).ok_or("name")?,
-        Name::new(second).ok_or("name")?,
-    );
-    let before = KeptName::of(alloc, &first)?;
-    let behind = KeptName::of(alloc, &second)?;
-    let same = before == KeptName::of(alloc, &first)?;
-    Ok(same && before < behind && behind > before && before != behind)
-}
-
-#[test]
-fn kept_names_are_in_the_order_of_their_bytes(rt: HostRuntime) -> Result<(), Fail> {
-    assert!(rt; are_in_order(rt.alloc(), &[b'a'; 20], b"ab")?);
-    Ok(())
-}
-
 fn payload(alloc: Global, length: usize) -> Result<Payload, Fail> {
     let bytes = Vec::from_elem(alloc, b'p', length)?;
     Ok(Payload::new(bytes).ok_or("too long")?)
-}
-
-// Whether a payload of this length is kept, and copied.
-fn keeps_payload(alloc: Global, length: usize) -> Result<bool, Fail> {
-    let kept = KeptPayload::of(alloc, &payload(alloc, length)?)?;
-    let copied = kept.copied()?;
-    let same = kept.bytes() == copied.bytes() && are_p(copied.bytes());
-    Ok(same && copied.bytes().len() == length)
-}
-
-#[test]
-fn payloads_of_each_kind_of_length_are_kept(rt: HostRuntime) -> Result<(), Fail> {
-    for length in [0, 1, 22, 23, 65535] {
-        assert!(rt; keeps_payload(rt.alloc(), length)?, "{length} bytes");
-    }
-    let long = Vec::from_elem(rt.alloc(), b'p', 65536)?;
-    let kept = KeptPayload::from_slice(rt.alloc(), &long)?.is_some();
-    assert!(rt; !kept && Payload::new(long).is_none());
-    Ok(())
 }
 
 // The body of a record, between a byte before and a byte after.

@@ -25,9 +25,20 @@ const INSIDE_A_UNIT: &[u8] = b"define jobs 0 -\n\
     07000000000000000008000000000000000001000000000000000200016200000001000000000000\
     000600000000000000020000000003616e6e02000000000000000a0000000000000003\n";
 
-// Whether the state has this next record number, and spells these bytes.
-fn spells(alloc: Global, state: &State, next: u64, want: &[u8]) -> bool {
-    if state.next() != next || next > 4_294_967_295 {
+// How many queues, open units, registrants, elements and notes the state has.
+fn members(state: &State) -> [usize; 5] {
+    [
+        state.definition_count(),
+        state.unit_count(),
+        state.registrant_count(),
+        state.element_count(),
+        state.note_count(),
+    ]
+}
+
+// Whether the state has so many members, and spells these bytes.
+fn spells(alloc: Global, state: &State, counts: [usize; 5], want: &[u8]) -> bool {
+    if members(state) != counts || state.next() > 4_294_967_295 {
         return false;
     }
     match spell(alloc, state) {
@@ -41,22 +52,27 @@ fn front_spells<R: Threads + Sync + AllocGlobal>(
     rt: &R,
     log: &[u8],
     plan: &Plan,
-    next: u64,
+    counts: [usize; 5],
     want: &[u8],
 ) -> bool {
     match front_state(rt, rt.alloc(), log, plan) {
-        Ok(state) => spells(rt.alloc(), &state, next, want),
+        Ok(state) => spells(rt.alloc(), &state, counts, want),
         Err(_) => false,
     }
 }
 
 // Whether it does, whatever the plan is.
-fn all_spell<R: Threads + Sync + AllocGlobal>(rt: &R, log: &[u8], next: u64, want: &[u8]) -> bool {
+fn all_spell<R: Threads + Sync + AllocGlobal>(
+    rt: &R,
+    log: &[u8],
+    counts: [usize; 5],
+    want: &[u8],
+) -> bool {
     for (workers, grain) in PLANS {
         let Some(plan) = Plan::new(workers, grain) else {
             return false;
         };
-        if !front_spells(rt, log, &plan, next, want) {
+        if !front_spells(rt, log, &plan, counts, want) {
             return false;
         }
     }
@@ -68,7 +84,7 @@ fn the_state_after_a_front_has_its_open_units(rt: HostRuntime) -> Result<(), Fai
     let log = log_of(&rt, INSIDE_A_UNIT)?;
     let begins = log.get(..447).ok_or("front")?;
     let spelled = log.get(452..647).ok_or("spelling")?;
-    assert!(rt; all_spell(&rt, begins, 8, spelled));
+    assert!(rt; all_spell(&rt, begins, [1, 1, 1, 2, 1], spelled));
     Ok(())
 }
 
@@ -83,7 +99,7 @@ fn is_no_log<R: Threads + Sync + AllocGlobal>(rt: &R, bytes: &[u8]) -> bool {
 #[test]
 fn a_front_of_nothing_has_the_empty_state(rt: HostRuntime) -> Result<(), Fail> {
     let log = log_of(&rt, &[])?;
-    assert!(rt; all_spell(&rt, &log, 0, &[0; 52]));
+    assert!(rt; all_spell(&rt, &log, [0; 5], &[0; 52]));
     assert!(rt; is_no_log(&rt, log.get(..39).unwrap_or(&[])));
     Ok(())
 }

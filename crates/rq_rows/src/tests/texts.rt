@@ -6,7 +6,6 @@ use rq_report::{OverWrite, write_report, write_report_by};
 use rq_restart::{Restarted, restart};
 use rq_tool::{Open, Plan};
 use std::alloc::Global;
-use std::fmt::Write;
 use std::test::Fail;
 use std::thread::Threads;
 
@@ -65,34 +64,5 @@ fn a_short_report_is_written(rt: HostRuntime) -> Result<(), Fail> {
     let state = restarted(&rt, &log)?;
     assert!(rt; by_one_thread(rt.alloc(), &state).as_slice() == SHORT);
     assert!(rt; all_workers_write(&rt, &state, SHORT));
-    Ok(())
-}
-
-// Three queues and 21 elements of 60,000 bytes: more than 1 MiB, so that several threads make the
-// report.
-fn long_script(alloc: Global) -> Result<String, Fail> {
-    let payload = "5a".repeat(alloc, 60_000)?;
-    let mut script = String::new(alloc);
-    script.push_str("define q0 0 -\ndefine q1 0 -\ndefine q2 0 -\nbegin 1\n")?;
-    for element in 4..25u32 {
-        let queue = element % 3;
-        write!(script, "enqueue 1 {queue} 5 - 0 {payload}\n")?;
-    }
-    script.push_str("commit 1\n")?;
-    Ok(script)
-}
-
-fn long_state<R: Threads + Sync + AllocGlobal>(rt: &R) -> Result<Restarted, Fail> {
-    let script = long_script(rt.alloc())?;
-    restarted(rt, &log_of(rt, script.as_bytes())?)
-}
-
-#[test]
-fn one_thread_and_several_write_the_same(rt: HostRuntime) -> Result<(), Fail> {
-    let state = long_state(&rt)?;
-    let text = by_one_thread(rt.alloc(), &state);
-    // two letters for each byte of the payloads
-    assert!(rt; text.len() > 21 * 120_000);
-    assert!(rt; all_workers_write(&rt, &state, &text));
     Ok(())
 }
