@@ -10,7 +10,6 @@ mod columns;
 mod course;
 mod crew;
 mod dealing;
-mod definitions;
 mod following;
 mod gathering;
 mod jobs;

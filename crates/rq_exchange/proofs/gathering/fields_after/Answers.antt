@@ -1,8 +1,8 @@
-use Rattle.std.proofs.Common.{◌≡◌, List, length, map, sym, ap, ◌∙◌, arith}
+use Rattle.std.proofs.Common.{◌≡◌, List, length, map, ap, ◌∙◌, arith}
 use Rattle.std.proofs.lemmas.List.{length-map}
 use Rattle.rq_model.specs.Records.{Two, Record}
 use Rattle.rq_model.specs.Machine.{run, lawful_front}
-use Rattle.rq_model.specs.Laws.{greatest_after, AreAfter}
+use Rattle.rq_model.specs.Laws.{AreAfter}
 use Rattle.rq_record.specs.Views.{record_of}
 use Rattle.rq_catalog.proofs.Runs.{front_whole}
 use Rattle.rq_exchange.proofs.gathering.fields_after.Goals as goal
@@ -17,10 +17,11 @@ returns-clause-fields c =
     let many : length rs ≡ length c.args.records.now = length-map c.args.records.now record_of in
     record {
       next = omega (arith, c.next.ensures.next, after.next, many);
-      greatest = c.greatest_of.ensures ∙ ap (λ g. greatest_after g rs) c.greatest.ensures ∙ sym after.greatest;
+      greatest = c.greatest.ensures ∙ c.requires.analysis.catalogue.knows.greatest ∙ ap (λ xs. (run s xs).greatest) front;
       committed = c.committed.ensures ∙ c.requires.analysis.committed ∙ ap (λ xs. (run s xs).committed) front;
       aborted = c.aborted.ensures ∙ c.requires.analysis.aborted ∙ ap (λ xs. (run s xs).aborted) front;
-      definitions = c.requires.definitions ∙ sym after.definitions;
+      definitions = c.in_ok-copies_of.ensures.copies ∙ c.definitions.ensures
+          ∙ c.requires.analysis.catalogue.knows.definitions ∙ ap (λ xs. (run s xs).definitions) front;
       units = c.in_ok-open_units.ensures.units ∙ c.requires.analysis.units ∙ ap (λ xs. (run s xs).units) front;
       registrants = c.new.ensures.items;
       elements = c.new-2.ensures.items;
