@@ -1,6 +1,6 @@
 //! The file of a log, which one program writes at a time.
 
-use crate::failing::{Refusal, Remains, Which, unread, unwritten};
+use crate::refusal::{Refusal, Stream, failed};
 use rq_file::NamedFile;
 use std::fs::{File, Files, OpenFile, OpenOptions, TryLockError};
 use std::io::{self, ErrorKind, Seek, SeekFrom, Write};
@@ -29,20 +29,22 @@ fn lock(file: &File, hold: Hold) -> Result<(), Refusal> {
     match locked {
         Ok(()) => Ok(()),
         Err(TryLockError::WouldBlock) => Err(Refusal::Held),
-        Err(TryLockError::Error(error)) => Err(Refusal::Unwritten(Which::Log, error)),
+        Err(TryLockError::Error(error)) => Err(Refusal::Failed(Stream::Log, error)),
     }
 }
 
 impl HeldLog {
     // Opens the file of a log. Once it has the lock, the file must still have its name: else another
     // program put its own there while this one came.
-    fn open<R>(rt: &R, path: &str, options: &OpenOptions, hold: Hold) -> Result<HeldLog, Refusal>
+    fn open<R>(rt: &R, path: &str, writes: bool, hold: Hold) -> Result<HeldLog, Refusal>
     where
         R: Files<File = File> + AllocGlobal,
     {
-        match NamedFile::open(rt, path, options) {
+        let mut options = OpenOptions::new();
+        options.read(true).write(writes);
+        match NamedFile::open(rt, path, &options) {
             Ok(place) => HeldLog::held(rt, place, hold),
-            Err(error) => Err(unread(Which::Log, error)),
+            Err(error) => Err(failed(Stream::Log, error)),
         }
     }
 
@@ -62,9 +64,7 @@ impl HeldLog {
     where
         R: Files<File = File> + AllocGlobal,
     {
-        let mut options = OpenOptions::new();
-        options.read(true);
-        HeldLog::open(rt, path, &options, Hold::Unwritten)
+        HeldLog::open(rt, path, false, Hold::Unwritten)
     }
 
     /// Opens the file of a log that another is to replace.
@@ -72,9 +72,7 @@ impl HeldLog {
     where
         R: Files<File = File> + AllocGlobal,
     {
-        let mut options = OpenOptions::new();
-        options.read(true);
-        HeldLog::open(rt, path, &options, Hold::Alone)
+        HeldLog::open(rt, path, false, Hold::Alone)
     }
 
     /// Opens the file of a log to read it and to write it.
@@ -82,9 +80,7 @@ impl HeldLog {
     where
         R: Files<File = File> + AllocGlobal,
     {
-        let mut options = OpenOptions::new();
-        options.read(true).write(true);
-        HeldLog::open(rt, path, &options, Hold::Alone)
+        HeldLog::open(rt, path, true, Hold::Alone)
     }
 
     /// The file.
@@ -105,13 +101,13 @@ impl HeldLog {
     }
 
     // Makes the log so long again, and answers what is left of it.
-    fn take_back(&mut self, used: usize) -> Remains {
+    fn take_back(&mut self, used: usize) -> Stream {
         let file = self.place.file_mut();
         let done = OpenFile::set_len(file, used as u64).and_then(|_| OpenFile::sync_all(file));
         if done.is_ok() {
-            Remains::AsItWas
+            Stream::LogAsItWas
         } else {
-            Remains::Unknown
+            Stream::LogUnknown
         }
     }
 
@@ -129,7 +125,7 @@ impl HeldLog {
             Ok(()) => Ok(()),
             Err(error) => {
                 let left = self.take_back(used);
-                Err(Refusal::Cut(left, error))
+                Err(Refusal::Failed(left, error))
             }
         }
     }
@@ -146,12 +142,12 @@ fn write_behind(file: &mut File, read: usize, used: usize, frames: &[u8]) -> io:
 }
 
 /// Makes a file of these bytes, whole or not at all.
-pub(crate) fn put<R>(rt: &R, to: &str, which: Which, bytes: &[u8]) -> Result<(), Refusal>
+pub(crate) fn put<R>(rt: &R, to: &str, stream: Stream, bytes: &[u8]) -> Result<(), Refusal>
 where
     R: Files<File = File> + AllocGlobal,
 {
     match rq_file::put(rt, to, bytes) {
         Ok(()) => Ok(()),
-        Err(error) => Err(unwritten(which, error)),
+        Err(error) => Err(failed(stream, error)),
     }
 }

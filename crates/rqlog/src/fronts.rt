@@ -1,7 +1,7 @@
 //! Where the front of a log ends, plain or carried on.
 
-use crate::failing::Refusal;
-use crate::reading::{begins_carried, judged_log, rest_of_log};
+use crate::inputs::{begins_carried, judged_log, rest_of_log};
+use crate::refusal::Refusal;
 use byteorder::{BigEndian, ByteOrder};
 use rq_journal::{
     Appender, CARRIED_AT, Fault, Opened, Plan, Why, is_carried, open, open_carried, opened_behind,
@@ -17,7 +17,7 @@ const NUMBERS: u64 = 4_294_967_295;
 
 /// Stands where the front of a log ends.
 #[derive(Drop)]
-pub(crate) struct Standing {
+pub(crate) struct OpenLog {
     pub(crate) appender: Appender,
     /// So many bytes the front and what is before it take.
     pub(crate) used: usize,
@@ -27,7 +27,7 @@ pub(crate) struct Standing {
     pub(crate) next: u64,
 }
 
-impl Standing {
+impl OpenLog {
     /// The version by whose rules records follow.
     pub(crate) fn version(&self) -> Version {
         self.appender.version()
@@ -55,14 +55,14 @@ fn numbered_before(bytes: &[u8]) -> u64 {
 }
 
 // Where a log was opened, before whose first frame so many records were numbered.
-fn standing_at(opened: Opened, before: u64) -> Standing {
+fn open_at(opened: Opened, before: u64) -> OpenLog {
     let Opened {
         appender,
         used,
         records,
         why,
     } = opened;
-    Standing {
+    OpenLog {
         appender,
         used,
         why,
@@ -76,18 +76,18 @@ pub(crate) fn front_of<R: Threads + Sync>(
     alloc: Global,
     bytes: &[u8],
     plan: &Plan,
-) -> Result<Standing, Fault> {
+) -> Result<OpenLog, Fault> {
     let opened = if is_carried(bytes) {
         open_carried(rt, alloc, bytes, plan)?
     } else {
         open(rt, alloc, bytes, plan)?
     };
-    Ok(standing_at(opened, numbered_before(bytes)))
+    Ok(open_at(opened, numbered_before(bytes)))
 }
 
 // Refuses a front behind which bytes stand that are no beginning of a frame: they hide records, or
 // a fault of the writer.
-fn undamaged(found: Standing) -> Result<Standing, Refusal> {
+fn undamaged(found: OpenLog) -> Result<OpenLog, Refusal> {
     match found.why {
         Why::Whole | Why::Cut => Ok(found),
         why => Err(Refusal::Damaged(why)),
@@ -100,28 +100,24 @@ pub(crate) fn opened_front<R: Threads + Sync>(
     alloc: Global,
     bytes: &[u8],
     plan: &Plan,
-) -> Result<Standing, Refusal> {
+) -> Result<OpenLog, Refusal> {
     undamaged(front_of(rt, alloc, bytes, plan)?)
 }
 
 /// Where the front of the log in an open file ends, behind which records may follow, and how many
 /// bytes the file has. Of a plain log no more is held than a window.
-pub(crate) fn front_in<R>(
-    rt: &R,
-    file: &mut File,
-    plan: &Plan,
-) -> Result<(Standing, usize), Refusal>
+pub(crate) fn front_in<R>(rt: &R, file: &mut File, plan: &Plan) -> Result<(OpenLog, usize), Refusal>
 where
     R: AllocGlobal + Threads + Sync,
 {
     if begins_carried(file) {
         let bytes = rest_of_log(rt, file)?;
-        let standing = opened_front(rt, rt.alloc(), &bytes, plan)?;
-        return Ok((standing, bytes.len()));
+        let log = opened_front(rt, rt.alloc(), &bytes, plan)?;
+        return Ok((log, bytes.len()));
     }
     let (front, total) = judged_log(rt, file, plan)?;
-    let standing = undamaged(standing_at(opened_behind(front), 0))?;
-    Ok((standing, total))
+    let log = undamaged(open_at(opened_behind(front), 0))?;
+    Ok((log, total))
 }
 
 /// A keeper of the state behind the front of a log. Open units stay open.

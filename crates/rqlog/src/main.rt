@@ -2,19 +2,19 @@
 //! files.
 #![tactic(auto)]
 
-mod acting;
-mod appending;
-mod failing;
+mod checkpoints;
+mod commands;
 mod files;
 mod fronts;
-mod marking;
-mod placing;
-mod reading;
-mod telling;
+mod inputs;
+mod lines;
+mod messages;
+mod new_log;
+mod refusal;
 mod words;
 
-use crate::acting::act;
-use crate::failing::Refusal;
+use crate::commands::act;
+use crate::refusal::Refusal;
 use crate::words::program;
 use std::fs::File;
 use std::process::ExitCode;
@@ -34,12 +34,18 @@ fn start<R>(rt: &R) -> Result<(), Refusal>
 where
     R: Files<File = File> + Env + Input + Print + Eprint + Clock + AllocGlobal + Threads + Sync,
 {
-    let alloc = rt.alloc();
     let all: Vec<String> = env::args(rt)
         .map_err(|error| unread(error))?
-        .collect(alloc)?;
-    let matches = program(alloc)?.try_get_matches_from(all.as_slice());
-    match matches {
+        .collect(rt.alloc())?;
+    obey(rt, all.as_slice())
+}
+
+// Does what these words ask for, of which the first is the program's name.
+fn obey<R>(rt: &R, words: &[String]) -> Result<(), Refusal>
+where
+    R: Files<File = File> + Input + Print + Eprint + Clock + AllocGlobal + Threads + Sync,
+{
+    match program(rt.alloc())?.try_get_matches_from(words) {
         Ok(matches) => act(rt, &matches),
         Err(error) => asked(rt, error),
     }

@@ -1,147 +1,248 @@
 //! The words of the program.
 
-use clap::{Arg, ArgAction, Command, Error, value_parser};
+use clap::{Arg, ArgAction, Command, value_parser};
 use rq_file::VERSION;
-use std::alloc::Global;
+use std::alloc::{AllocError, Global};
 
-fn log<'a>(alloc: Global) -> Arg<'a> {
-    Arg::new(alloc, "LOG")
-        .required(true)
-        .help("The file of the log, plain or carried on")
+// How a word is given.
+#[derive(Clone, Copy)]
+enum Kind {
+    // A text, which must be there.
+    Text,
+    // A text, or else -.
+    TextOrInput,
+    // A number, or else this one.
+    Number(&'static str),
+    // An option with a number, or else this one.
+    Option(&'static str),
+    // An option with nothing.
+    Flag,
 }
 
-fn made<'a>(alloc: Global, name: &'a str, help: &'a str) -> Arg<'a> {
-    Arg::new(alloc, name).required(true).help(help)
+// A word of a command: its name, how it is given, and what the help says of it.
+#[derive(Clone, Copy)]
+struct Word {
+    name: &'static str,
+    kind: Kind,
+    help: &'static str,
 }
 
-fn flag<'a>(alloc: Global, name: &'a str, help: &'a str) -> Arg<'a> {
-    Arg::new(alloc, name)
-        .long(name)
+// The command's words.
+#[derive(Clone, Copy)]
+enum Which {
+    Append,
+    Checkpoint,
+    Carry,
+    Restart,
+    Close,
+    Audit,
+}
+
+struct Line {
+    name: &'static str,
+    about: &'static str,
+    which: Which,
+}
+
+const LOG: Word = Word {
+    name: "LOG",
+    kind: Kind::Text,
+    help: "The file of the log, plain or carried on",
+};
+
+const JSON: Word = Word {
+    name: "json",
+    kind: Kind::Flag,
+    help: "Says what was done as an object of JSON",
+};
+
+const WORKERS: Word = Word {
+    name: "WORKERS",
+    kind: Kind::Number("4"),
+    help: "How many threads work, 1 to 64",
+};
+
+const WORKERS_OPTION: Word = Word {
+    name: "workers",
+    kind: Kind::Option("4"),
+    help: "How many threads work, 1 to 64",
+};
+
+static APPEND: [Word; 5] = [
+    LOG,
+    Word {
+        name: "SCRIPT",
+        kind: Kind::TextOrInput,
+        help: "The file of the script, or - for standard input",
+    },
+    Word {
+        name: "each",
+        kind: Kind::Flag,
+        help: "Appends the records before the first that is not lawful, in place of none",
+    },
+    JSON,
+    WORKERS_OPTION,
+];
+
+static CHECKPOINT: [Word; 4] = [
+    LOG,
+    Word {
+        name: "close",
+        kind: Kind::Flag,
+        help: "Ends each open unit before, by an ABORT",
+    },
+    JSON,
+    WORKERS_OPTION,
+];
+
+static CARRY: [Word; 4] = [
+    LOG,
+    Word {
+        name: "NEW",
+        kind: Kind::Text,
+        help: "The file of the new log, which is not there yet",
+    },
+    JSON,
+    WORKERS_OPTION,
+];
+
+static RESTART: [Word; 3] = [
+    LOG,
+    WORKERS,
+    Word {
+        name: "GRAIN",
+        kind: Kind::Number("1000"),
+        help: "How many frames a worker checks at once, 1 to 1000000",
+    },
+];
+
+static CLOSE: [Word; 3] = [
+    LOG,
+    Word {
+        name: "OUT",
+        kind: Kind::Text,
+        help: "The file of the closed log, which may be LOG",
+    },
+    WORKERS,
+];
+
+static AUDIT: [Word; 2] = [LOG, WORKERS];
+
+static LINES: [Line; 6] = [
+    Line {
+        name: "append",
+        about: "Appends the records of a script to a log, all of them or none",
+        which: Which::Append,
+    },
+    Line {
+        name: "checkpoint",
+        about: "Appends a checkpoint of the state behind a log, and prints its offset",
+        which: Which::Checkpoint,
+    },
+    Line {
+        name: "carry",
+        about: "Makes a new log that goes on where a log ends, with its state alone",
+        which: Which::Carry,
+    },
+    Line {
+        name: "restart",
+        about: "Prints the report of a log's restart, as rq restart does",
+        which: Which::Restart,
+    },
+    Line {
+        name: "close",
+        about: "Writes the closed log, as rq close does",
+        which: Which::Close,
+    },
+    Line {
+        name: "audit",
+        about: "Prints which checkpoints of a log are true, as rq audit does",
+        which: Which::Audit,
+    },
+];
+
+fn words_of(which: Which) -> &'static [Word] {
+    match which {
+        Which::Append => APPEND.as_slice(),
+        Which::Checkpoint => CHECKPOINT.as_slice(),
+        Which::Carry => CARRY.as_slice(),
+        Which::Restart => RESTART.as_slice(),
+        Which::Close => CLOSE.as_slice(),
+        Which::Audit => AUDIT.as_slice(),
+    }
+}
+
+fn plain<'a>(alloc: Global, word: &Word) -> Arg<'a> {
+    Arg::new(alloc, word.name).help(word.help)
+}
+
+fn text<'a>(alloc: Global, word: &Word) -> Arg<'a> {
+    plain(alloc, word).required(true)
+}
+
+fn flag<'a>(alloc: Global, word: &Word) -> Arg<'a> {
+    plain(alloc, word)
+        .long(word.name)
         .action(ArgAction::SetTrue)
-        .help(help)
 }
 
-fn json<'a>(alloc: Global) -> Arg<'a> {
-    flag(alloc, "json", "Says what was done as an object of JSON")
-}
-
-fn workers_option<'a>(alloc: Global) -> Arg<'a> {
-    Arg::new(alloc, "workers")
-        .long("workers")
-        .value_name("WORKERS")
-        .action(ArgAction::Set)
-        .help("How many threads work, 1 to 64")
-        .value_parser(value_parser!(u32))
-        .default_value("4")
-}
-
-fn number<'a>(alloc: Global, name: &'a str, usual: &'a str, help: &'a str) -> Arg<'a> {
-    Arg::new(alloc, name)
+fn number<'a>(alloc: Global, word: &Word, usual: &'static str) -> Arg<'a> {
+    plain(alloc, word)
         .value_parser(value_parser!(u32))
         .default_value(usual)
-        .help(help)
 }
 
-fn workers<'a>(alloc: Global) -> Arg<'a> {
-    number(alloc, "WORKERS", "4", "How many threads work, 1 to 64")
+fn option<'a>(alloc: Global, word: &Word, usual: &'static str) -> Arg<'a> {
+    number(alloc, word, usual)
+        .long(word.name)
+        .value_name("WORKERS")
+        .action(ArgAction::Set)
 }
 
-fn append<'a>(alloc: Global) -> Result<Command<'a>, Error> {
-    let script = Arg::new(alloc, "SCRIPT")
-        .default_value("-")
-        .help("The file of the script, or - for standard input");
-    let each = flag(
-        alloc,
-        "each",
-        "Appends the records before the first that is not lawful, in place of none",
-    );
-    Ok(
-        Command::new(alloc, "append")
-            .about("Appends the records of a script to a log, all of them or none")
-            .arg(log(alloc))?
-            .arg(script)?
-            .arg(each)?
-            .arg(json(alloc))?
-            .arg(workers_option(alloc))?,
-    )
+fn argument<'a>(alloc: Global, word: &Word) -> Arg<'a> {
+    match word.kind {
+        Kind::Text => text(alloc, word),
+        Kind::TextOrInput => plain(alloc, word).default_value("-"),
+        Kind::Number(usual) => number(alloc, word, usual),
+        Kind::Option(usual) => option(alloc, word, usual),
+        Kind::Flag => flag(alloc, word),
+    }
 }
 
-fn checkpoint<'a>(alloc: Global) -> Result<Command<'a>, Error> {
-    let close = flag(alloc, "close", "Ends each open unit before, by an ABORT");
-    Ok(
-        Command::new(alloc, "checkpoint")
-            .about("Appends a checkpoint of the state behind a log, and prints its offset")
-            .arg(log(alloc))?
-            .arg(close)?
-            .arg(json(alloc))?
-            .arg(workers_option(alloc))?,
-    )
+fn with_words<'a>(
+    alloc: Global,
+    command: Command<'a>,
+    words: &'static [Word],
+) -> Result<Command<'a>, AllocError> {
+    let mut command = command;
+    for word in words {
+        command = command.arg(argument(alloc, word))?;
+    }
+    Ok(command)
 }
 
-fn carry<'a>(alloc: Global) -> Result<Command<'a>, Error> {
-    let new = made(
-        alloc,
-        "NEW",
-        "The file of the new log, which is not there yet",
-    );
-    Ok(
-        Command::new(alloc, "carry")
-            .about("Makes a new log that goes on where a log ends, with its state alone")
-            .arg(log(alloc))?
-            .arg(new)?
-            .arg(json(alloc))?
-            .arg(workers_option(alloc))?,
-    )
+fn with_command<'a>(
+    alloc: Global,
+    program: Command<'a>,
+    line: &Line,
+) -> Result<Command<'a>, AllocError> {
+    let command = Command::new(alloc, line.name).about(line.about);
+    program.subcommand(with_words(alloc, command, words_of(line.which))?)
 }
 
-fn restart<'a>(alloc: Global) -> Result<Command<'a>, Error> {
-    let grain = number(
-        alloc,
-        "GRAIN",
-        "1000",
-        "How many frames a worker checks at once, 1 to 1000000",
-    );
-    Ok(
-        Command::new(alloc, "restart")
-            .about("Prints the report of a log's restart, as rq restart does")
-            .arg(log(alloc))?
-            .arg(workers(alloc))?
-            .arg(grain)?,
-    )
-}
-
-fn close<'a>(alloc: Global) -> Result<Command<'a>, Error> {
-    let out = made(alloc, "OUT", "The file of the closed log, which may be LOG");
-    Ok(
-        Command::new(alloc, "close")
-            .about("Writes the closed log, as rq close does")
-            .arg(log(alloc))?
-            .arg(out)?
-            .arg(workers(alloc))?,
-    )
-}
-
-fn audit<'a>(alloc: Global) -> Result<Command<'a>, Error> {
-    Ok(
-        Command::new(alloc, "audit")
-            .about("Prints which checkpoints of a log are true, as rq audit does")
-            .arg(log(alloc))?
-            .arg(workers(alloc))?,
-    )
+fn with_commands<'a>(alloc: Global, program: Command<'a>) -> Result<Command<'a>, AllocError> {
+    let mut program = program;
+    for line in LINES.as_slice() {
+        program = with_command(alloc, program, line)?;
+    }
+    Ok(program)
 }
 
 /// The program's command.
-pub(crate) fn program<'a>(alloc: Global) -> Result<Command<'a>, Error> {
-    Ok(
-        Command::new(alloc, "rqlog")
-            .about("Appends to the log of a recoverable queue manager, marks it and carries it on")
-            .version(VERSION)
-            .subcommand_required(true)
-            .subcommand(append(alloc)?)?
-            .subcommand(checkpoint(alloc)?)?
-            .subcommand(carry(alloc)?)?
-            .subcommand(restart(alloc)?)?
-            .subcommand(close(alloc)?)?
-            .subcommand(audit(alloc)?)?,
-    )
+pub(crate) fn program<'a>(alloc: Global) -> Result<Command<'a>, AllocError> {
+    let program = Command::new(alloc, "rqlog")
+        .about("Appends to the log of a recoverable queue manager, marks it and carries it on")
+        .version(VERSION)
+        .subcommand_required(true);
+    with_commands(alloc, program)
 }

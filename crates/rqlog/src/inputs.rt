@@ -3,7 +3,7 @@
 ghost use Rattle.std.specs.Prelude.{◌≤◌, List, ℕ, length, IfOk, OnOk};
 ghost use Rattle.rq_restart.specs.GrowingFronts.{GoesAlong};
 
-use crate::failing::{Refusal, Which, unread};
+use crate::refusal::{Refusal, Stream, failed};
 use rq_journal::{Fault, Plan, is_carried};
 use rq_restart::{GrowingFront, JudgedFront};
 use std::alloc::{AllocError, Global};
@@ -28,21 +28,21 @@ fn read_to_limit<R: Read + Drop, A: AllocGlobal>(rt: &A, from: R) -> io::Result<
 }
 
 // The bytes that were read, if they are not too many.
-fn within(read: io::Result<Vec<u8>>, which: Which) -> Result<Vec<u8>, Refusal> {
+fn within(read: io::Result<Vec<u8>>, stream: Stream) -> Result<Vec<u8>, Refusal> {
     match read {
         Ok(bytes) if bytes.len() as u64 >= LIMIT => Err(Refusal::Refused(Fault::TooLong)),
         Ok(bytes) => Ok(bytes),
-        Err(error) => Err(unread(which, error)),
+        Err(error) => Err(failed(stream, error)),
     }
 }
 
-/// The bytes of a log.
+/// The bytes of a log that is read from here.
 pub(crate) fn log_from<A, F>(rt: &A, from: F) -> Result<Vec<u8>, Refusal>
 where
     A: AllocGlobal,
     F: Read + Drop,
 {
-    within(read_to_limit(rt, from), Which::Log)
+    within(read_to_limit(rt, from), Stream::Log)
 }
 
 /// The bytes of a log from its open file, read from where that stands.
@@ -58,7 +58,7 @@ pub(crate) fn begun_log<A: AllocGlobal>(
     let mut beginning = Vec::new(rt.alloc());
     match (&file).take(BEGINNING as u64).read_to_end(&mut beginning) {
         Ok(_) => Ok((is_carried(&beginning), Cursor::new(beginning).chain(file))),
-        Err(error) => Err(unread(Which::Log, error)),
+        Err(error) => Err(failed(Stream::Log, error)),
     }
 }
 
@@ -79,7 +79,7 @@ fn read_piece(file: &mut File, piece: &mut [u8]) -> Result<usize, Refusal>
         match file.read(piece) {
             Ok(count) => return Ok(count),
             Err(error) if error.kind() == ErrorKind::Interrupted => {}
-            Err(error) => return Err(Refusal::Unread(Which::Log, error)),
+            Err(error) => return Err(Refusal::Failed(Stream::Log, error)),
         }
     }
     Err(Refusal::Refused(Fault::ReadFailed))
@@ -135,8 +135,16 @@ where
 pub(crate) fn opened<R: Files<File = File>>(rt: &R, path: &str) -> Result<File, Refusal> {
     match fs::open(rt, path) {
         Ok(file) => Ok(file),
-        Err(error) => Err(Refusal::Unread(Which::Log, error)),
+        Err(error) => Err(Refusal::Failed(Stream::Log, error)),
     }
+}
+
+/// The bytes of the log in a file.
+pub(crate) fn log_in<R>(rt: &R, path: &str) -> Result<Vec<u8>, Refusal>
+where
+    R: Files<File = File> + AllocGlobal,
+{
+    log_from(rt, opened(rt, path)?)
 }
 
 /// The bytes of the script in a file, or of standard input for `-`.
@@ -145,10 +153,10 @@ where
     R: Files<File = File> + Input + AllocGlobal,
 {
     if path == "-" {
-        return within(read_to_limit(rt, rt.reader()), Which::Script);
+        return within(read_to_limit(rt, rt.reader()), Stream::Script);
     }
     match fs::open(rt, path) {
-        Ok(file) => within(read_to_limit(rt, file), Which::Script),
-        Err(error) => Err(Refusal::Unread(Which::Script, error)),
+        Ok(file) => within(read_to_limit(rt, file), Stream::Script),
+        Err(error) => Err(Refusal::Failed(Stream::Script, error)),
     }
 }

@@ -1,7 +1,7 @@
 //! The checkpoint of a state, and the ABORTs of open units.
 
-use crate::failing::Refusal;
-use crate::fronts::{Standing, front_of, keeper_behind, opened_front};
+use crate::fronts::{OpenLog, front_of, keeper_behind, opened_front};
+use crate::refusal::Refusal;
 use rq_journal::{NotTaken, Plan, checkpoint_of};
 use rq_record::{Record, kept_records};
 use rq_restart::Keeper;
@@ -39,16 +39,16 @@ fn aborts_of(alloc: Global, state: &State) -> Result<Vec<Record>, AllocError> {
 // Appends these records, all of which are lawful there.
 fn append_all(
     alloc: Global,
-    standing: &mut Standing,
+    log: &mut OpenLog,
     records: &[Record],
     frames: &mut Vec<u8>,
 ) -> Result<(), Refusal> {
-    if !standing.has_numbers(records.len()) {
+    if !log.has_numbers(records.len()) {
         return Err(Refusal::Ended);
     }
-    match standing.appender.append_each(alloc, records, frames) {
+    match log.appender.append_each(alloc, records, frames) {
         (_, None) => {
-            standing.next = standing.next.saturating_add(records.len() as u64);
+            log.next = log.next.saturating_add(records.len() as u64);
             Ok(())
         }
         (_, Some(why)) => Err(refused(why)),
@@ -59,13 +59,13 @@ fn append_all(
 fn end_units<R: Threads + Sync>(
     rt: &R,
     alloc: Global,
-    standing: &mut Standing,
+    log: &mut OpenLog,
     keeper: &mut Keeper,
     plan: &Plan,
     frames: &mut Vec<u8>,
 ) -> Result<(), Refusal> {
     let aborts = aborts_of(alloc, keeper.state())?;
-    append_all(alloc, standing, &aborts, frames)?;
+    append_all(alloc, log, &aborts, frames)?;
     let aborts = kept_records(alloc, &aborts)?;
     keeper.take(rt, alloc, &aborts, plan)?;
     Ok(())
@@ -74,18 +74,41 @@ fn end_units<R: Threads + Sync>(
 // Appends a checkpoint of the state, behind which the log stands.
 fn append_checkpoint(
     alloc: Global,
-    standing: &mut Standing,
+    log: &mut OpenLog,
     state: &State,
     frames: &mut Vec<u8>,
 ) -> Result<(), Refusal> {
-    if standing.is_at_end() {
+    if log.is_at_end() {
         return Err(Refusal::Ended);
     }
     let checkpoint = checkpoint_of(alloc, state)?;
-    match standing.appender.append(alloc, &checkpoint, frames) {
+    match log.appender.append(alloc, &checkpoint, frames) {
         Ok(()) => Ok(()),
         Err(why) => Err(refused(why)),
     }
+}
+
+// A checkpoint of the keeper's state where the log stands, behind ABORTs of the open units if
+// these are to end.
+fn marked_by<R: Threads + Sync>(
+    rt: &R,
+    alloc: Global,
+    log: &mut OpenLog,
+    keeper: &mut Keeper,
+    plan: &Plan,
+    ends_units: bool,
+) -> Result<Marked, Refusal> {
+    let mut made = Marked {
+        used: log.used,
+        offset: 0,
+        frames: Vec::new(alloc),
+    };
+    if ends_units {
+        end_units(rt, alloc, log, keeper, plan, &mut made.frames)?;
+    }
+    made.offset = made.used.saturating_add(made.frames.len());
+    append_checkpoint(alloc, log, keeper.state(), &mut made.frames)?;
+    Ok(made)
 }
 
 /// A checkpoint of the state behind the front of a log, behind ABORTs of the open units if these are
@@ -97,33 +120,31 @@ pub(crate) fn mark<R: Threads + Sync>(
     plan: &Plan,
     ends_units: bool,
 ) -> Result<Marked, Refusal> {
-    let mut standing = opened_front(rt, alloc, bytes, plan)?;
+    let mut log = opened_front(rt, alloc, bytes, plan)?;
     let mut keeper = keeper_behind(rt, alloc, bytes, plan)?;
-    let (used, mut frames) = (standing.used, Vec::new(alloc));
-    if ends_units {
-        end_units(rt, alloc, &mut standing, &mut keeper, plan, &mut frames)?;
-    }
-    let offset = used.saturating_add(frames.len());
-    append_checkpoint(alloc, &mut standing, keeper.state(), &mut frames)?;
-    Ok(Marked {
-        used,
-        offset,
-        frames,
-    })
+    marked_by(rt, alloc, &mut log, &mut keeper, plan, ends_units)
 }
 
-/// The closed log of one that was carried on.
-pub(crate) fn closed_carried<R: Threads + Sync>(
+// The ABORT of each unit that is open behind the front of a log.
+fn aborts_behind<R: Threads + Sync>(
     rt: &R,
     alloc: Global,
-    bytes: Vec<u8>,
+    bytes: &[u8],
     plan: &Plan,
-) -> Result<Vec<u8>, Refusal> {
-    let mut standing = front_of(rt, alloc, &bytes, plan)?;
-    let keeper = keeper_behind(rt, alloc, &bytes, plan)?;
-    let aborts = aborts_of(alloc, keeper.state())?;
-    let mut made = bytes;
-    made.truncate(standing.used);
-    append_all(alloc, &mut standing, &aborts, &mut made)?;
-    Ok(made)
+) -> Result<Vec<Record>, Refusal> {
+    let keeper = keeper_behind(rt, alloc, bytes, plan)?;
+    Ok(aborts_of(alloc, keeper.state())?)
+}
+
+/// Makes of a log that was carried on the closed one.
+pub(crate) fn close_carried<R: Threads + Sync>(
+    rt: &R,
+    alloc: Global,
+    bytes: &mut Vec<u8>,
+    plan: &Plan,
+) -> Result<(), Refusal> {
+    let mut log = front_of(rt, alloc, bytes, plan)?;
+    let aborts = aborts_behind(rt, alloc, bytes, plan)?;
+    bytes.truncate(log.used);
+    append_all(alloc, &mut log, &aborts, bytes)
 }

@@ -1,7 +1,8 @@
 //! The file of a new log, which takes nobody's place.
 
-use crate::failing::{Refusal, Which, unwritten};
+use crate::refusal::{Refusal, Stream, failed};
 use rq_file::Names;
+use std::alloc::{AllocError, Global};
 use std::fs::{self, File, Files, Metadata, OpenFile};
 use std::io::{self, ErrorKind, Write};
 use std::os::unix::fs::MetadataExt;
@@ -23,7 +24,7 @@ where
     match Names::of(rt, new) {
         Ok(None) => Err(Refusal::There),
         Ok(Some(names)) => made_new(made_under(rt, &names, new, bytes)),
-        Err(error) => Err(unwritten(Which::New, error)),
+        Err(error) => Err(failed(Stream::New, error)),
     }
 }
 
@@ -32,35 +33,52 @@ fn made_new(made: io::Result<()>) -> Result<(), Refusal> {
     match made {
         Ok(()) => Ok(()),
         Err(error) if error.kind() == ErrorKind::AlreadyExists => Err(Refusal::There),
-        Err(error) => Err(unwritten(Which::New, error)),
+        Err(error) => Err(failed(Stream::New, error)),
     }
 }
 
 // Writes the file under a name beside the new one. That name goes again.
-fn made_under<R>(rt: &R, names: &Names, new: &str, bytes: &[u8]) -> io::Result<()>
+fn named_new<R>(rt: &R, names: &Names, new: &str, bytes: &[u8]) -> io::Result<()>
 where
     R: Files<File = File> + AllocGlobal,
 {
-    let folder = folder_of(rt, new)?;
     let mut file = names.options(rt).open(rt, names.new_name())?;
     let named = name_new(rt, &mut file, names, new, bytes);
     let is_moved = matches!(named, Ok(false));
     let settled = names.settle(rt, Some(file), is_moved);
     named?;
-    settled?;
-    OpenFile::sync_all(&folder)
+    settled
 }
 
-// The folder that a path lies in, opened by a name that only a folder can have.
-fn folder_of<R>(rt: &R, path: &str) -> io::Result<File>
+// The same, and tells the disk.
+fn made_under<R>(rt: &R, names: &Names, new: &str, bytes: &[u8]) -> io::Result<()>
 where
     R: Files<File = File> + AllocGlobal,
 {
-    let folder = match Path::new(path).parent() {
+    let folder = open_folder(rt, new)?;
+    named_new(rt, names, new, bytes)?;
+    OpenFile::sync_all(&folder)
+}
+
+// The folder that a path lies in.
+fn folder_of(path: &str) -> &str {
+    match Path::new(path).parent() {
         Some(folder) if !folder.as_str().is_empty() => folder.as_str(),
         _ => ".",
-    };
-    let name = format!(in rt.alloc(); "{folder}/.")?;
+    }
+}
+
+// The same by a name that only a folder can have.
+fn folder_within(alloc: Global, path: &str) -> Result<String, AllocError> {
+    let folder = folder_of(path);
+    format!(in alloc; "{folder}/.")
+}
+
+fn open_folder<R>(rt: &R, path: &str) -> io::Result<File>
+where
+    R: Files<File = File> + AllocGlobal,
+{
+    let name = folder_within(rt.alloc(), path)?;
     File::open(rt, name.as_str())
 }
 

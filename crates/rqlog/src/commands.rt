@@ -1,0 +1,333 @@
+//! What the program does for each of its commands.
+
+use crate::checkpoints::{Marked, close_carried, mark};
+use crate::files::{HeldLog, put};
+use crate::fronts::{OpenLog, front_in, opened_front};
+use crate::inputs::{begun_log, log_from, log_in, opened, rest_of_log, script_in};
+use crate::lines::{Written, frames_of};
+use crate::messages::{audit_text, tell_appended, tell_carried, tell_marked, warn_of_end};
+use crate::new_log::{expect_free, name_one_file, put_new};
+use crate::refusal::{Refusal, Stream};
+use clap::ArgMatches;
+use rq_file::Patient;
+use rq_journal::{CARRIED_AT, Fault, Plan, audit_carried, carried, carried_again, is_carried};
+use rq_restart::closed;
+use rq_tool::{Open, OverRead, OverWrite};
+use std::fs::File;
+use std::io::{self, Read};
+use std::rt::{Clock, Files};
+use std::thread::Threads;
+
+// The grain of a line that names none, in frames.
+const GRAIN: u32 = 1000;
+
+fn plan_of(words: &ArgMatches<'_>) -> Result<Plan, Refusal> {
+    let workers = match words.get_one::<u32>("WORKERS") {
+        Some(workers) => workers,
+        None => words.get_one::<u32>("workers").unwrap_or(0),
+    };
+    let grain = words.get_one::<u32>("GRAIN").unwrap_or(GRAIN);
+    Plan::new(workers, grain).ok_or(Refusal::Plan)
+}
+
+// What was done stands, also if the output fails that was to tell it.
+fn told(done: io::Result<()>) -> Result<(), Refusal> {
+    match done {
+        Ok(()) => Ok(()),
+        Err(error) => Err(Refusal::Failed(Stream::Telling, error)),
+    }
+}
+
+// Writes the frames of a script behind a log, and tells so.
+fn write_script<R>(
+    rt: &R,
+    held: &mut HeldLog,
+    read: usize,
+    used: usize,
+    made: &Written,
+    json: bool,
+) -> Result<(), Refusal>
+where
+    R: Files<File = File> + Print,
+{
+    held.append(rt, read, used, &made.frames)?;
+    let len = used.saturating_add(made.frames.len()) as u64;
+    told(tell_appended(rt, json, made.count, used as u64, len))
+}
+
+// Appends the frames of a script behind an open log, if any of its lines are kept, or says why one
+// is refused.
+fn append_script<R>(
+    rt: &R,
+    held: &mut HeldLog,
+    read: usize,
+    log: &mut OpenLog,
+    script: &[u8],
+    words: &ArgMatches<'_>,
+) -> Result<(), Refusal>
+where
+    R: Files<File = File> + Print + AllocGlobal,
+{
+    let used = log.used;
+    let made = frames_of(rt.alloc(), log, script, words.get_flag("each"))?;
+    if made.is_kept() {
+        write_script(rt, held, read, used, &made, words.get_flag("json"))?;
+    }
+    made.lines_refused()
+}
+
+// Finds where the front of a log ends, and appends the frames of a script there.
+fn append_behind<R>(
+    rt: &R,
+    held: &mut HeldLog,
+    plan: &Plan,
+    script: &[u8],
+    words: &ArgMatches<'_>,
+) -> Result<(), Refusal>
+where
+    R: Files<File = File> + Print + AllocGlobal + Threads + Sync,
+{
+    let (mut log, read) = front_in(rt, held.file(), plan)?;
+    append_script(rt, held, read, &mut log, script, words)
+}
+
+fn append<R>(rt: &R, path: &str, plan: &Plan, words: &ArgMatches<'_>) -> Result<(), Refusal>
+where
+    R: Files<File = File> + Input + Print + AllocGlobal + Threads + Sync,
+{
+    let script = script_in(rt, words.get_str("SCRIPT").unwrap_or("-"))?;
+    let mut held = HeldLog::to_write(rt, path)?;
+    append_behind(rt, &mut held, plan, &script, words)
+}
+
+// Writes a checkpoint behind a log of which so many bytes were read, and tells so.
+fn write_mark<R>(
+    rt: &R,
+    held: &mut HeldLog,
+    read: usize,
+    made: &Marked,
+    json: bool,
+) -> Result<(), Refusal>
+where
+    R: Files<File = File> + Print,
+{
+    held.append(rt, read, made.used, &made.frames)?;
+    let len = made.used.saturating_add(made.frames.len()) as u64;
+    told(tell_marked(rt, json, made.offset as u64, len))
+}
+
+// Writes a checkpoint of the state behind a log, and tells so.
+fn mark_log<R>(
+    rt: &R,
+    held: &mut HeldLog,
+    plan: &Plan,
+    words: &ArgMatches<'_>,
+) -> Result<(), Refusal>
+where
+    R: Files<File = File> + Print + AllocGlobal + Threads + Sync,
+{
+    let bytes = rest_of_log(rt, held.file())?;
+    let made = mark(rt, rt.alloc(), &bytes, plan, words.get_flag("close"))?;
+    write_mark(rt, held, bytes.len(), &made, words.get_flag("json"))
+}
+
+fn checkpoint<R>(rt: &R, path: &str, plan: &Plan, words: &ArgMatches<'_>) -> Result<(), Refusal>
+where
+    R: Files<File = File> + Print + AllocGlobal + Threads + Sync,
+{
+    let mut held = HeldLog::to_write(rt, path)?;
+    mark_log(rt, &mut held, plan, words)
+}
+
+// How many records stand before a log that goes on from this one.
+fn next_behind<R>(rt: &R, bytes: &[u8], plan: &Plan) -> Result<u64, Refusal>
+where
+    R: AllocGlobal + Threads + Sync,
+{
+    let log = opened_front(rt, rt.alloc(), bytes, plan)?;
+    if log.is_at_end() {
+        return Err(Refusal::Ended);
+    }
+    Ok(log.next)
+}
+
+// A log that goes on from this one.
+fn carried_on<R>(rt: &R, bytes: &[u8], plan: &Plan) -> Result<Vec<u8>, Fault>
+where
+    R: AllocGlobal + Threads + Sync,
+{
+    if is_carried(bytes) {
+        carried_again(rt, rt.alloc(), bytes, plan)
+    } else {
+        carried(rt, rt.alloc(), bytes, plan)
+    }
+}
+
+// Puts a log that goes on behind so many records into its file, and tells so.
+fn put_carried<R>(rt: &R, new: &str, made: &[u8], next: u64, json: bool) -> Result<(), Refusal>
+where
+    R: Files<File = File> + Print + Eprint + AllocGlobal,
+{
+    put_new(rt, new, made)?;
+    warn_of_end(rt, next);
+    told(tell_carried(rt, json, next, made.len() as u64))
+}
+
+// Makes the file of a log that goes on from this one.
+fn carry_bytes<R>(rt: &R, bytes: &[u8], plan: &Plan, new: &str, json: bool) -> Result<(), Refusal>
+where
+    R: Files<File = File> + Print + Eprint + AllocGlobal + Threads + Sync,
+{
+    let next = next_behind(rt, bytes, plan)?;
+    let made = carried_on(rt, bytes, plan)?;
+    put_carried(rt, new, &made, next, json)
+}
+
+fn carry<R>(rt: &R, path: &str, plan: &Plan, words: &ArgMatches<'_>) -> Result<(), Refusal>
+where
+    R: Files<File = File> + Print + Eprint + AllocGlobal + Threads + Sync,
+{
+    let new = words.get_str("NEW").unwrap_or("-");
+    expect_free(rt, new)?;
+    let mut held = HeldLog::to_read(rt, path)?;
+    let bytes = rest_of_log(rt, held.file())?;
+    carry_bytes(rt, &bytes, plan, new, words.get_flag("json"))
+}
+
+// Prints the report of a log, plain or carried on.
+fn print_report<R, F>(rt: &R, is_carried: bool, from: F, plan: &Plan) -> Result<(), Fault>
+where
+    R: Print + Clock + AllocGlobal + Threads + Sync,
+    F: Read + Drop,
+{
+    let mut input = OverRead::new(from);
+    let mut output = OverWrite::new(Patient {
+        rt,
+        inner: io::writer(rt),
+    });
+    if is_carried {
+        let offset = CARRIED_AT as u64;
+        rq_tool::run_at(rt, rt.alloc(), &mut input, &mut output, offset, plan, &Open)
+    } else {
+        rq_tool::run(rt, rt.alloc(), &mut input, &mut output, plan, &Open)
+    }
+}
+
+fn restart<R>(rt: &R, path: &str, plan: &Plan) -> Result<(), Refusal>
+where
+    R: Files<File = File> + Print + Clock + AllocGlobal + Threads + Sync,
+{
+    let (is_carried, from) = begun_log(rt, opened(rt, path)?)?;
+    Ok(print_report(rt, is_carried, from, plan)?)
+}
+
+// The closed log, plain or carried on.
+fn closed_of<R>(rt: &R, bytes: Vec<u8>, plan: &Plan) -> Result<Vec<u8>, Refusal>
+where
+    R: AllocGlobal + Threads + Sync,
+{
+    if is_carried(&bytes) {
+        let mut bytes = bytes;
+        close_carried(rt, rt.alloc(), &mut bytes, plan)?;
+        return Ok(bytes);
+    }
+    Ok(closed(rt, rt.alloc(), bytes, plan)?)
+}
+
+// Puts the closed log into its own place, if that is still as it was read.
+fn replace<R>(rt: &R, held: &HeldLog, path: &str, read: usize, made: &[u8]) -> Result<(), Refusal>
+where
+    R: Files<File = File> + AllocGlobal,
+{
+    held.expect_as_read(rt, read)?;
+    put(rt, path, Stream::Out, made)
+}
+
+// Closes a log in its own place, while no other program writes it.
+fn close_in_place<R>(rt: &R, path: &str, plan: &Plan) -> Result<(), Refusal>
+where
+    R: Files<File = File> + AllocGlobal + Threads + Sync,
+{
+    let mut held = HeldLog::to_replace(rt, path)?;
+    let bytes = rest_of_log(rt, held.file())?;
+    let read = bytes.len();
+    let made = closed_of(rt, bytes, plan)?;
+    replace(rt, &held, path, read, &made)
+}
+
+fn close<R>(rt: &R, path: &str, plan: &Plan, out: &str) -> Result<(), Refusal>
+where
+    R: Files<File = File> + AllocGlobal + Threads + Sync,
+{
+    if name_one_file(rt, path, out) {
+        return close_in_place(rt, out, plan);
+    }
+    let bytes = log_in(rt, path)?;
+    let made = closed_of(rt, bytes, plan)?;
+    put(rt, out, Stream::Out, &made)
+}
+
+// Which checkpoints of a log are true that was carried on.
+fn audited<R>(rt: &R, bytes: &[u8], plan: &Plan) -> Result<String, Refusal>
+where
+    R: AllocGlobal + Threads + Sync,
+{
+    let found = audit_carried(rt, rt.alloc(), bytes, plan)?;
+    Ok(audit_text(rt.alloc(), &found)?)
+}
+
+// Tells which checkpoints of a log are true that was carried on.
+fn tell_audit<R, F>(rt: &R, from: F, plan: &Plan) -> Result<(), Refusal>
+where
+    R: Print + AllocGlobal + Threads + Sync,
+    F: Read + Drop,
+{
+    let bytes = log_from(rt, from)?;
+    let text = audited(rt, &bytes, plan)?;
+    Ok(rt.write_all(text.as_bytes())?)
+}
+
+// Prints which checkpoints of a plain log are true.
+fn print_audit<R, F>(rt: &R, from: F, plan: &Plan) -> Result<(), Fault>
+where
+    R: Print + Clock + AllocGlobal + Threads + Sync,
+    F: Read + Drop,
+{
+    let mut input = OverRead::new(from);
+    let mut output = OverWrite::new(Patient {
+        rt,
+        inner: io::writer(rt),
+    });
+    rq_tool::audit_log(rt, rt.alloc(), &mut input, &mut output, plan)
+}
+
+fn audit<R>(rt: &R, path: &str, plan: &Plan) -> Result<(), Refusal>
+where
+    R: Files<File = File> + Print + Clock + AllocGlobal + Threads + Sync,
+{
+    let (is_carried, from) = begun_log(rt, opened(rt, path)?)?;
+    if is_carried {
+        return tell_audit(rt, from, plan);
+    }
+    Ok(print_audit(rt, from, plan)?)
+}
+
+/// Does the command of the words.
+pub(crate) fn act<R>(rt: &R, matches: &ArgMatches<'_>) -> Result<(), Refusal>
+where
+    R: Files<File = File> + Input + Print + Eprint + Clock + AllocGlobal + Threads + Sync,
+{
+    let Some((name, words)) = matches.subcommand() else {
+        return Ok(());
+    };
+    let plan = plan_of(words)?;
+    let path = words.get_str("LOG").unwrap_or("-");
+    match name {
+        "append" => append(rt, path, &plan, words),
+        "checkpoint" => checkpoint(rt, path, &plan, words),
+        "carry" => carry(rt, path, &plan, words),
+        "restart" => restart(rt, path, &plan),
+        "close" => close(rt, path, &plan, words.get_str("OUT").unwrap_or("-")),
+        _ => audit(rt, path, &plan),
+    }
+}

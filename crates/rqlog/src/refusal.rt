@@ -1,0 +1,195 @@
+//! Why the program ends before it is done.
+
+use crate::lines::{LineRefused, Reason};
+use clap::error::ErrorKind;
+use rq_journal::Fault;
+use rq_report::why_word;
+use rq_restart::Why;
+use std::alloc::AllocError;
+use std::io;
+
+// The exit status of a log, a line or a state that is refused.
+const REFUSED: u8 = 1;
+
+// The exit status of words that are no command.
+const USAGE: u8 = 2;
+
+// The exit status if reading or writing failed.
+const STREAM: u8 = 3;
+
+// The exit status if memory was refused.
+const MEMORY: u8 = 4;
+
+/// What cannot be opened, read or written.
+#[derive(Clone, Copy)]
+pub(crate) enum Stream {
+    Log,
+    Script,
+    New,
+    Out,
+    /// The log, which is as it was: nothing was appended.
+    LogAsItWas,
+    /// The log, where some of what was to be appended may stand.
+    LogUnknown,
+    Output,
+    /// The output that was to tell what is done all the same.
+    Telling,
+}
+
+/// Why the program ends before it is done.
+#[derive(Drop)]
+pub(crate) enum Refusal {
+    /// The words are no command.
+    Words(clap::Error),
+    /// The words are no text.
+    NoText,
+    /// The numbers of workers or frames are none.
+    Plan,
+    /// A file or the output fails.
+    Failed(Stream, io::Error),
+    /// Another program writes the log.
+    Held,
+    /// The new log is there already.
+    There,
+    /// Another file came into the log's place, or its bytes changed meanwhile.
+    Changed,
+    /// The front of the log ends for a reason that hides records or a fault of its writer.
+    Damaged(Why),
+    /// A line is not appended.
+    Line(LineRefused),
+    /// There is no room behind the log.
+    Full,
+    /// So many records were numbered that no state behind one more can be spelled.
+    Ended,
+    /// The log is refused, or its state.
+    Refused(Fault),
+    /// Memory is refused.
+    Memory,
+}
+
+impl From<AllocError> for Refusal {
+    fn from(_error: AllocError) -> Refusal {
+        Refusal::Memory
+    }
+}
+
+impl From<clap::Error> for Refusal {
+    fn from(error: clap::Error) -> Refusal {
+        if error.kind() == ErrorKind::OutOfMemory {
+            return Refusal::Memory;
+        }
+        Refusal::Words(error)
+    }
+}
+
+impl From<io::Error> for Refusal {
+    fn from(error: io::Error) -> Refusal {
+        Refusal::Failed(Stream::Output, error)
+    }
+}
+
+impl From<Fault> for Refusal {
+    fn from(fault: Fault) -> Refusal {
+        match fault {
+            Fault::Resources => Refusal::Memory,
+            _ => Refusal::Refused(fault),
+        }
+    }
+}
+
+/// Why a file cannot be read, made or written.
+pub(crate) fn failed(stream: Stream, error: io::Error) -> Refusal {
+    if error.kind() == io::ErrorKind::OutOfMemory {
+        return Refusal::Memory;
+    }
+    Refusal::Failed(stream, error)
+}
+
+impl Stream {
+    // What it is called, and what is left after it failed.
+    fn texts(self) -> (&'static str, &'static str) {
+        match self {
+            Stream::Log => ("LOG", ""),
+            Stream::Script => ("SCRIPT", ""),
+            Stream::New => ("NEW", ""),
+            Stream::Out => ("OUT", ""),
+            Stream::LogAsItWas => ("LOG", ": nothing was appended"),
+            Stream::LogUnknown => ("LOG", ": some records may stand there: rqlook check tells"),
+            Stream::Output => ("standard output", ""),
+            Stream::Telling => ("standard output", ": it is done all the same"),
+        }
+    }
+}
+
+// What to do about a fault.
+fn advice(fault: Fault) -> &'static str {
+    match fault {
+        Fault::NotALog => ": rq make makes one",
+        Fault::BadCheckpoint | Fault::NoCheckpoint => ": rqlook check tells what the file is",
+        _ => "",
+    }
+}
+
+fn exit_of(reason: Reason) -> u8 {
+    match reason {
+        Reason::Memory => MEMORY,
+        _ => REFUSED,
+    }
+}
+
+impl Refusal {
+    // What is said if no name, number or error is told.
+    fn text(&self) -> &'static str {
+        match self {
+            Refusal::NoText => "a word is no text",
+            Refusal::Plan => "workers are 1 to 64, and a grain is 1 to 1000000",
+            Refusal::Held => "LOG: another program writes it: try again",
+            Refusal::There => "NEW: it is there already: name a file that is not",
+            Refusal::Changed => "LOG: it changed meanwhile: try again",
+            Refusal::Full => "log is full: carry it on",
+            Refusal::Ended => "numbers end at 4294967295: begin a new log",
+            _ => "resources",
+        }
+    }
+
+    fn exit(&self) -> u8 {
+        match self {
+            Refusal::Words(_) | Refusal::NoText | Refusal::Plan => USAGE,
+            Refusal::Failed(..) | Refusal::Held | Refusal::There | Refusal::Changed => STREAM,
+            Refusal::Damaged(_) | Refusal::Full | Refusal::Ended => REFUSED,
+            Refusal::Line(refused) => exit_of(refused.reason),
+            Refusal::Refused(fault) => fault.exit(),
+            Refusal::Memory => MEMORY,
+        }
+    }
+
+    // Says why the program ends.
+    fn say(&self, rt: &HostRuntime) -> io::Result<()> {
+        match self {
+            Refusal::Words(error) => eprint!(rt; "{error}"),
+            Refusal::Failed(stream, error) => {
+                let (name, left) = stream.texts();
+                eprintln!(rt; "rqlog: {name}: {error}{left}")
+            }
+            Refusal::Damaged(why) => {
+                let why = why_word(*why);
+                eprintln!(rt; "rqlog: LOG: its front ends by {why}: rqlook check tells where")
+            }
+            Refusal::Line(refused) => eprintln!(rt; "rqlog: {refused}"),
+            Refusal::Refused(fault) => {
+                let advice = advice(*fault);
+                eprintln!(rt; "rqlog: {fault}{advice}")
+            }
+            _ => {
+                let text = self.text();
+                eprintln!(rt; "rqlog: {text}")
+            }
+        }
+    }
+
+    /// Says on standard error why the program ends, and answers its exit status.
+    pub(crate) fn tell(&self, rt: &HostRuntime) -> u8 {
+        let _ = self.say(rt);
+        self.exit()
+    }
+}
