@@ -12,8 +12,8 @@ use crate::beginning::{first_state, frames_behind};
 use crate::beyond::put_wanted_behind;
 use crate::ends::{End, end_of, put_beginning, put_end};
 use crate::frames::{Placed, PlacedFrames};
-use crate::json::{closing_of, record_shown, spelled_out};
-use crate::lines::put_record;
+use crate::json::{put_closing_object, put_numbered};
+use crate::lines::put_record_line;
 use crate::numbered::{Numbered, queues_behind, queues_of};
 use crate::sheet::{finish, relieve};
 use crate::trouble::Trouble;
@@ -22,15 +22,6 @@ use rq_restart::Plan;
 use std::alloc::Global;
 use std::io::Write;
 use std::thread::Threads;
-
-// The record as JSON.
-fn json_of(alloc: Global, it: &Numbered) -> Result<String, Trouble>
-    ensures { IfErr result IsBroken }
-{
-    let line = record_shown(alloc, it)?;
-    let json = serde_json::to_string(alloc, &line)?;
-    Ok(spelled_out(alloc, json)?)
-}
 
 // Puts a record in the form that is wanted.
 fn put_shown(
@@ -42,12 +33,9 @@ fn put_shown(
     ensures { IfErr result IsBroken }
 {
     if wanted.json {
-        text.push_str(json_of(alloc, it)?.as_str())?;
-    } else {
-        put_record(alloc, text, it, wanted.full)?;
+        return put_numbered(alloc, text, it);
     }
-    text.push('\n')?;
-    Ok(())
+    Ok(put_record_line(alloc, text, it, wanted.full)?)
 }
 
 // Puts where the front ends in the form that is wanted.
@@ -64,12 +52,9 @@ fn put_closing(
     ensures refused { IfErr result IsBroken }
 {
     if wanted.json {
-        text.push_str(serde_json::to_string(alloc, &closing_of(end))?.as_str())?;
-        text.push('\n')?;
-    } else {
-        put_end(text, end)?;
+        return put_closing_object(alloc, text, end);
     }
-    Ok(())
+    Ok(put_end(text, end)?)
 }
 
 // Puts the line of a record, if it is wanted. Answers whether it is.

@@ -17,6 +17,7 @@ mod json;
 mod lines;
 mod misfits;
 mod numbered;
+mod objects;
 mod pieces;
 mod queues;
 mod reporting;

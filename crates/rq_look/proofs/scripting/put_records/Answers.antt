@@ -9,10 +9,10 @@ loop-placed-init g c =
     let held = g.W.Write.contents in
     let used = c.requires.2 in
     let fits = used_fits c.args.bytes.now c.requires.0 c.requires.1 in
-    let walk = c.of-placed-items.ensures (omega (arith, fits.0, used)) (omega (arith, fits.1, used)) in
+    let walk = c.of-placed-items.ensures in
     let same = c.into_iter-placed-iterator.ensures.into_iter_gives in
     begun c.args.bytes.now _ _ _ (held c.args.output.now) c.requires.0 c.requires.1
-    (ap (λ (w : PlacedFrames). w.rest.now) same ∙ walk.0 ∙ ap (λ (n : ℕ). drop 40 (take n c.args.bytes.now)) used)
+    (ap (λ (w : PlacedFrames). w.rest.now) same ∙ walk.0 (omega (arith, fits.1, used)) ∙ ap (λ (n : ℕ). drop 40 (take n c.args.bytes.now)) used)
     (ap (λ (w : PlacedFrames). w.number) same ∙ walk.1) c.new-text.ensures.bytes
 
 pub loop-placed-preserved : goal.loop-placed-preserved
