@@ -18,7 +18,7 @@ use Rattle.rq_state.specs.Orders.{listed}
 use Rattle.rq_catalog.specs.declared.units.Unit.{Unit}
 use Rattle.rq_catalog.specs.Outcomes.{outcome_of}
 use Rattle.rq_catalog.specs.Catalogues.{Follows}
-use Rattle.rq_catalog.specs.Grounds.{Knows}
+use Rattle.rq_catalog.specs.Grounds.{AreGroundsOf}
 use Rattle.rq_catalog.specs.Members.{is_marked_at, is_noted_at}
 
 while_open : (o m n : Bool) → ((o && n) || ((o && m) || false)) ≡ (o && ((m || n) || false))
@@ -44,7 +44,7 @@ engaged_in_turn first second third es ns us u q two one by_notes by_marks none =
 
 pub starts : (c : Catalogue) (s : model.State) (us : List UnitNo) (es : List model.Element) (ns : List model.Note)
     → map unit_of us ≡ s.units → es ≡ s.elements → ns ≡ s.notes
-    → Knows c.grounds s → c.committed ≡ s.committed → c.aborted ≡ s.aborted
+    → AreGroundsOf c.grounds s → c.committed ≡ s.committed → c.aborted ≡ s.aborted
     → numbers c.units ≡ map unit_of us
     → ((u : ℕ) → outcome_at c.units u
     ≡ (if list_any (λ v. v == u) (map unit_of us) then Some Open else None))

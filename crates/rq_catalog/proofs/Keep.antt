@@ -27,7 +27,7 @@ use Rattle.rq_catalog.specs.Lists.{numbered, place_and_index}
 use Rattle.rq_catalog.specs.Units.{outcome_at, engages_at}
 use Rattle.rq_state.specs.Orders.{listed}
 use Rattle.rq_catalog.specs.Outcomes.{outcome_of}
-use Rattle.rq_catalog.specs.Grounds.{Knows}
+use Rattle.rq_catalog.specs.Grounds.{AreGroundsOf}
 use Rattle.rq_catalog.specs.Catalogues.{outcome_after, begun_after, engaged_after}
 use Rattle.rq_catalog.specs.Catalogues.{touches_in, Takes}
 use Rattle.rq_catalog.specs.Catalogues.{Follows}
@@ -280,7 +280,7 @@ module _ (version : Version) (c : Catalogue) (s : State) (xs : List model.Record
   pub follows_step : (d : Catalogue) (r : Record) → is_lawful version (run s xs) (record_of r) ≡ true
       → Takes c d (s.next + length xs, length xs) r → Follows d s (xs ++ record_of r ∷ [])
   follows_step d r ok t = record {
-    knows = subst (Knows d.grounds) back (t.grounds (run s xs) f.knows);
+    knows = subst (AreGroundsOf d.grounds) back (t.grounds (run s xs) f.knows);
     outcomes = λ u. ap (option_map outcome_of) (t.outcomes u)
         ∙ outcomes_step version s xs r u (outcome_at c.units u) well lawful ok (f.outcomes u);
     units = t.numbers ∙ ap (begun_after r) f.units ∙ numbers_step s xs r;

@@ -22,7 +22,7 @@ use Rattle.rq_record.specs.declared.record.QueueNo.{QueueNo}
 use Rattle.rq_record.specs.declared.record.UnitNo.{UnitNo}
 use Rattle.rq_record.specs.Views.{Record, record_of}
 use Rattle.rq_catalog.specs.declared.grounds.Grounds.{Grounds}
-use Rattle.rq_catalog.specs.Grounds.{Knows}
+use Rattle.rq_catalog.specs.Grounds.{AreGroundsOf}
 use Rattle.rq_catalog.specs.Registered.{key_eq, is_registered_in}
 use Rattle.rq_catalog.proofs.Runs.{any_push}
 
@@ -100,12 +100,12 @@ name_more ds d n old new before after =
     ∙ cond_or (list_any (λ (e : Definition). bytes_eq e.name n) ds) (bytes_eq d.name n)
     ∙ sym (any_push (λ (e : Definition). bytes_eq e.name n) ds d)
 
-module _ (g h : Grounds) (s : State) (knows : Knows g s) where
+module _ (g h : Grounds) (s : State) (knows : AreGroundsOf g s) where
   pub defined : (limit error : ℕ) (name : List ℕ) → h ≡ record g { definitions = h.definitions; names = h.names }
       → h.definitions.items ≡ g.definitions.items ++ record { limit = limit; error = error; name = name } ∷ []
       → ((n : List ℕ) → contains (pointwise nat_eq) h.names n
       ≡ cond (pointwise nat_eq name n) true (contains (pointwise nat_eq) g.names n))
-      → Knows h (step s (model.Define limit error name))
+      → AreGroundsOf h (step s (model.Define limit error name))
   defined limit error name frame definitions names = record {
     definitions = definitions
         ∙ ap (λ l. l ++ record { limit = limit; error = error; name = name } ∷ []) knows.definitions;
@@ -118,7 +118,7 @@ module _ (g h : Grounds) (s : State) (knows : Knows g s) where
   pub registers : (queue : ℕ) (name : List ℕ) → h ≡ record g { registrants = h.registrants }
       → ((k : ℕ × List ℕ) → is_registered_in h.registrants k
       ≡ cond (key_eq (queue, name) k) true (is_registered_in g.registrants k))
-      → Knows h (step s (model.Register queue name))
+      → AreGroundsOf h (step s (model.Register queue name))
   registers queue name frame more = record {
     definitions = ap (λ (f : Grounds). f.definitions.items) frame ∙ knows.definitions;
     names = λ n. ap (λ (f : Grounds). contains (pointwise nat_eq) f.names n) frame ∙ knows.names n;
@@ -130,7 +130,7 @@ module _ (g h : Grounds) (s : State) (knows : Knows g s) where
   pub deregisters : (queue : ℕ) (name : List ℕ) → h ≡ record g { registrants = h.registrants }
       → ((k : ℕ × List ℕ) → is_registered_in h.registrants k
       ≡ cond (key_eq (queue, name) k) false (is_registered_in g.registrants k))
-      → Knows h (step s (model.Deregister queue name))
+      → AreGroundsOf h (step s (model.Deregister queue name))
   deregisters queue name frame less = record {
     definitions = ap (λ (f : Grounds). f.definitions.items) frame ∙ knows.definitions;
     names = λ n. ap (λ (f : Grounds). contains (pointwise nat_eq) f.names n) frame ∙ knows.names n;
@@ -140,7 +140,7 @@ module _ (g h : Grounds) (s : State) (knows : Knows g s) where
   }
 
 -- a COMMIT tells registrants, and leaves who they are
-pub commits : (g : Grounds) (s : State) (unit : ℕ) → Knows g s → Knows g (step s (model.Commit unit))
+pub commits : (g : Grounds) (s : State) (unit : ℕ) → AreGroundsOf g s → AreGroundsOf g (step s (model.Commit unit))
 commits g s unit knows = record {
   definitions = knows.definitions;
   names = knows.names;
@@ -150,7 +150,7 @@ commits g s unit knows = record {
 }
 
 -- an ABORT changes none of this
-pub aborts : (g : Grounds) (s : State) (unit : ℕ) → Knows g s → Knows g (step s (model.Abort unit))
+pub aborts : (g : Grounds) (s : State) (unit : ℕ) → AreGroundsOf g s → AreGroundsOf g (step s (model.Abort unit))
 aborts g s unit k =
     record { definitions = k.definitions; names = k.names; registrants = k.registrants; greatest = k.greatest }
 
@@ -159,7 +159,7 @@ pub quiet : (g : Grounds) (s : State) (r : Record)
     → ((limit : ℕ) (error : QueueNo) (name : List ℕ) → r ≡ Define limit error name → ⊥)
     → ((queue : QueueNo) (name : List ℕ) → r ≡ Register queue name → ⊥)
     → ((queue : QueueNo) (name : List ℕ) → r ≡ Deregister queue name → ⊥)
-    → ((unit : UnitNo) → r ≡ Begin unit → ⊥) → Knows g s → Knows g (step s (record_of r))
+    → ((unit : UnitNo) → r ≡ Begin unit → ⊥) → AreGroundsOf g s → AreGroundsOf g (step s (record_of r))
 quiet g s (Define limit error name) define register deregister begin k = absurd (define limit error name refl)
 quiet g s (Register queue name) define register deregister begin k = absurd (register queue name refl)
 quiet g s (Deregister queue name) define register deregister begin k = absurd (deregister queue name refl)

@@ -14,7 +14,7 @@ use Rattle.rq_record.specs.declared.record.RecordOf.TheVariants.{Enqueue, Dequeu
 use Rattle.rq_record.specs.declared.record.RecordOf.TheVariants.{Kill}
 use Rattle.rq_catalog.specs.Outcomes.{outcome_of}
 use Rattle.rq_catalog.specs.Lists.{numbered}
-use Rattle.rq_catalog.specs.Grounds.{Knows}
+use Rattle.rq_catalog.specs.Grounds.{AreGroundsOf}
 use Rattle.rq_catalog.specs.Units.{numbers, has_unit, outcome_at, engages_at}
 use Rattle.rq_state.specs.Orders.{listed}
 use Rattle.rq_catalog.specs.declared.outcome.Outcome.{Outcome}
@@ -71,7 +71,7 @@ KnowsUnit c r = ⊤
 
 -- d is c after the record
 pub record Takes (c d : Catalogue) (op : ℕ × ℕ) (r : Record) : Type 0 where
-  pub grounds : (s : State) → Knows c.grounds s → Knows d.grounds (step s (record_of r))
+  pub grounds : (s : State) → AreGroundsOf c.grounds s → AreGroundsOf d.grounds (step s (record_of r))
   pub outcomes : (u : ℕ) →
       outcome_at d.units u ≡ outcome_after op.0 r u (outcome_at c.units u)
   pub numbers : numbers d.units ≡ begun_after r (numbers c.units)
@@ -87,7 +87,7 @@ pub record Takes (c d : Catalogue) (op : ℕ × ℕ) (r : Record) : Type 0 where
 
 -- the catalogue agrees with the run of xs from s
 pub record Follows (c : Catalogue) (s : State) (xs : List model.Record) : Type 0 where
-  pub knows : Knows c.grounds (run s xs)
+  pub knows : AreGroundsOf c.grounds (run s xs)
   pub outcomes : (u : ℕ) → option_map outcome_of (outcome_at c.units u) ≡ outcome s xs u
   pub units : numbers c.units ≡ s.units ++ begun xs
   pub committed : c.committed ≡ (run s xs).committed

@@ -10,7 +10,7 @@ use Rattle.rq_catalog.specs.declared.grounds.Grounds.{Grounds}
 use Rattle.rq_catalog.specs.Registered.{is_registered_in}
 
 -- all that lawfulness looks at in the state, but for its open units
-pub record Knows (g : Grounds) (s : State) : Type 0 where
+pub record AreGroundsOf (g : Grounds) (s : State) : Type 0 where
   pub definitions : g.definitions.items ≡ s.definitions
   pub names : (n : List ℕ) → contains (pointwise nat_eq) g.names n
       ≡ list_any (λ (d : Definition). bytes_eq d.name n) s.definitions
@@ -19,4 +19,4 @@ pub record Knows (g : Grounds) (s : State) : Type 0 where
 
 -- of whatever state g knows, h knows it too
 abbrev pub KeepsKnowing : Grounds → Grounds → Type 0
-KeepsKnowing g h = (s : State) → Knows g s → Knows h s
+KeepsKnowing g h = (s : State) → AreGroundsOf g s → AreGroundsOf h s

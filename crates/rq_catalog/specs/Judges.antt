@@ -7,12 +7,12 @@ use Rattle.rq_model.specs.States.{State}
 use Rattle.rq_model.specs.Machine.{is_open}
 use Rattle.rq_record.specs.Views.{version_of}
 use Rattle.rq_catalog.specs.declared.judge.Judge.{Judge}
-use Rattle.rq_catalog.specs.Grounds.{Knows}
+use Rattle.rq_catalog.specs.Grounds.{AreGroundsOf}
 
 -- it judges by the rules of the version what follows the state
 pub record StandsIn (version : Version) (j : Judge) (s : State) : Type 0 where
   pub rules : version_of j.version ≡ version
-  pub knows : Knows j.grounds s
+  pub knows : AreGroundsOf j.grounds s
   pub units : (u : ℕ) → ordered.contains nat_cmp j.units u ≡ is_open s u
 
 -- whatever state j stands at, k stands at it too

@@ -10,7 +10,7 @@ ghost use Rattle.rq_record.specs.Views.{record_of, version_of};
 ghost use Rattle.rq_record.specs.declared.fault.Fault.TheVariants.{Resources};
 ghost use Rattle.rq_state.specs.Orders.{listed};
 ghost use Rattle.rq_catalog.specs.Catalogues.{HasRoom, KnowsUnit, Takes};
-ghost use Rattle.rq_catalog.specs.Grounds.{Knows};
+ghost use Rattle.rq_catalog.specs.Grounds.{AreGroundsOf};
 ghost use Rattle.rq_catalog.specs.Outcomes.{is_open_in};
 ghost use Rattle.rq_catalog.specs.Units.{numbers, has_unit, outcome_at, engages_at};
 
@@ -35,7 +35,7 @@ pub(crate) struct Catalogue {
 impl Catalogue {
     /// Whether the record is lawful here, by the rules of the version.
     pub(crate) fn may_take(&self, version: Version, next: &KeptRecord) -> bool
-        ensures { (s : State) → Knows self.now.grounds s
+        ensures { (s : State) → AreGroundsOf self.now.grounds s
             → ((u : ℕ) → is_open_in (outcome_at self.now.units u) ≡ machine.is_open s u)
             → result ≡ machine.is_lawful (version_of version) s (record_of next.now) }
     {
@@ -54,7 +54,7 @@ impl Catalogue {
         ensures takes { OnOk result (Takes self.old self.new op next.now) }
         ensures refused { IfErr result (λ e. e ≡ Resources) }
     {
-        self.grounds.note(next)?;
+        self.grounds.advance(next)?;
         match next {
             KeptRecord::Define { .. } => {
                 self.touching.push(Vec::new(alloc))?;

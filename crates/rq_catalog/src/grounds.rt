@@ -13,7 +13,7 @@ ghost use Rattle.rq_model.specs.Machine as machine;
 ghost use Rattle.rq_model.specs.States as model;
 ghost use Rattle.rq_record.specs.Views.{record_of, version_of};
 ghost use Rattle.rq_record.specs.declared.fault.Fault.TheVariants.{Resources};
-ghost use Rattle.rq_catalog.specs.Grounds.{Knows, KeepsKnowing};
+ghost use Rattle.rq_catalog.specs.Grounds.{AreGroundsOf, KeepsKnowing};
 ghost use Rattle.rq_catalog.specs.Members.{has_key, has_name};
 ghost use Rattle.rq_catalog.specs.Outcomes.{is_open_in};
 ghost use Rattle.rq_catalog.specs.Registered.{is_registered_in};
@@ -36,7 +36,7 @@ const QUEUES: usize = 4096;
 const LIMIT: u16 = 1000;
 
 /// What knows which units are open.
-pub(crate) trait OpenUnits {
+pub(crate) trait KnowsOpenUnits {
     ghost opens: { Self → ℕ → Bool };
 
     /// Whether the unit is open.
@@ -44,7 +44,7 @@ pub(crate) trait OpenUnits {
         ensures { result ≡ opens self.now unit };
 }
 
-impl OpenUnits for BTreeSet<u64> {
+impl KnowsOpenUnits for BTreeSet<u64> {
     ghost opens = { λ units u. ordered.contains nat_cmp units u };
 
     fn is_open(&self, unit: u64) -> bool {
@@ -52,7 +52,7 @@ impl OpenUnits for BTreeSet<u64> {
     }
 }
 
-impl OpenUnits for Units {
+impl KnowsOpenUnits for Units {
     ghost opens = { λ units u. is_open_in (outcome_at units u) };
 
     fn is_open(&self, unit: u64) -> bool {
@@ -109,7 +109,7 @@ fn registrants_of(alloc: Global, registrants: &[Registrant]) -> Result<Registere
 }
 
 // The rule that a record breaks whose unit must be open.
-fn unit_rule<U: OpenUnits>(units: &U, unit: UnitNo) -> Option<Rule>
+fn unit_rule<U: KnowsOpenUnits>(units: &U, unit: UnitNo) -> Option<Rule>
     ensures { is_some result ≡ not (U.opens units.now unit.0) }
 {
     if units.is_open(unit.0) {
@@ -122,7 +122,7 @@ fn unit_rule<U: OpenUnits>(units: &U, unit: UnitNo) -> Option<Rule>
 impl Grounds {
     /// Before any record. Takes no memory yet.
     pub(crate) fn new(alloc: Global) -> Grounds
-        ensures { Knows result model.empty }
+        ensures { AreGroundsOf result model.empty }
     {
         Grounds {
             definitions: Vec::new(alloc),
@@ -134,7 +134,7 @@ impl Grounds {
 
     /// After the state.
     pub(crate) fn of(alloc: Global, state: &State) -> Result<Grounds, Fault>
-        ensures knows { IfOk result (λ grounds. Knows grounds state.now) }
+        ensures knows { IfOk result (λ grounds. AreGroundsOf grounds state.now) }
         ensures refused { IfErr result (λ e. e ≡ Resources) }
     {
         let definitions = copies_of(alloc, state.definitions())?;
@@ -151,14 +151,14 @@ impl Grounds {
     // Whether the queue exists.
     fn is_defined(&self, queue: QueueNo) -> bool
         ensures here { result ≡ nat_lt queue.0 (length self.now.definitions.items) }
-        ensures state { (s : model.State) → Knows self.now s
+        ensures state { (s : model.State) → AreGroundsOf self.now s
             → result ≡ machine.is_defined s queue.0 }
     {
         (queue.0 as usize) < self.definitions.len()
     }
 
     fn queue_rule(&self, queue: QueueNo) -> Option<Rule>
-        ensures { (s : model.State) → Knows self.now s
+        ensures { (s : model.State) → AreGroundsOf self.now s
             → is_some result ≡ not (machine.is_defined s queue.0) }
     {
         if self.is_defined(queue) {
@@ -171,7 +171,7 @@ impl Grounds {
     // In version 1 an error queue has no error queue itself.
     fn nesting_rule(&self, version: Version, error: QueueNo) -> Option<Rule>
         requires { error.0 < length self.now.definitions.items }
-        ensures { (s : model.State) → Knows self.now s
+        ensures { (s : model.State) → AreGroundsOf self.now s
             → is_some result ≡ not (machine.may_be_error (version_of version) s error.0) }
     {
         match version {
@@ -184,7 +184,7 @@ impl Grounds {
 
     // The rule that a limit above 0 and its error queue break.
     fn error_rule(&self, version: Version, limit: u16, error: QueueNo) -> Option<Rule>
-        ensures { (s : model.State) → Knows self.now s
+        ensures { (s : model.State) → AreGroundsOf self.now s
             → is_some result ≡ not (nat_le limit 1000 && (machine.is_defined s error.0
             && machine.may_be_error (version_of version) s error.0)) }
     {
@@ -203,7 +203,7 @@ impl Grounds {
 
     // The rule that the limit and the error queue of a definition break.
     fn limit_rule(&self, version: Version, limit: u16, error: QueueNo) -> Option<Rule>
-        ensures { (s : model.State) → Knows self.now s
+        ensures { (s : model.State) → AreGroundsOf self.now s
             → is_some result ≡ not (machine.is_limit (version_of version) s limit error.0) }
     {
         if limit != 0 {
@@ -217,7 +217,7 @@ impl Grounds {
     }
 
     fn name_rule(&self, name: Name) -> Option<Rule>
-        ensures { (s : model.State) → Knows self.now s
+        ensures { (s : model.State) → AreGroundsOf self.now s
             → is_some result ≡ not (nat_lt (length s.definitions) 4096
             && not (list_any (λ d. bytes_eq d.name name) s.definitions)) }
     {
@@ -232,7 +232,7 @@ impl Grounds {
     }
 
     fn registrant_rule(&self, queue: QueueNo, name: &KeptName) -> Option<Rule>
-        ensures { (s : model.State) → Knows self.now s
+        ensures { (s : model.State) → AreGroundsOf self.now s
             → is_some result ≡ not (machine.is_registered s queue.0 name.now) }
     {
         if self.registrants.has(queue.0, name) {
@@ -244,7 +244,7 @@ impl Grounds {
 
     // Whoever an operation is by is registered with its queue.
     fn by_rule(&self, queue: QueueNo, by: &KeptBy) -> Option<Rule>
-        ensures { (s : model.State) → Knows self.now s
+        ensures { (s : model.State) → AreGroundsOf self.now s
             → is_some result ≡ not (machine.is_known s queue.0 by.now) }
     {
         match by.name() {
@@ -253,14 +253,14 @@ impl Grounds {
         }
     }
 
-    fn operation_rule<U: OpenUnits>(
+    fn operation_rule<U: KnowsOpenUnits>(
         &self,
         units: &U,
         unit: UnitNo,
         queue: QueueNo,
         by: &KeptBy,
     ) -> Option<Rule>
-        ensures { (s : model.State) → Knows self.now s
+        ensures { (s : model.State) → AreGroundsOf self.now s
             → is_some result ≡ not (machine.is_defined s queue.0
             && (U.opens units.now unit.0 && machine.is_known s queue.0 by.now)) }
     {
@@ -274,7 +274,7 @@ impl Grounds {
     }
 
     fn kill_rule(&self, version: Version, queue: QueueNo) -> Option<Rule>
-        ensures { (s : model.State) (element : ℕ) → Knows self.now s → is_some result
+        ensures { (s : model.State) (element : ℕ) → AreGroundsOf self.now s → is_some result
             ≡ not (machine.is_lawful (version_of version) s (records.Kill queue.0 element)) }
     {
         match version {
@@ -284,7 +284,7 @@ impl Grounds {
     }
 
     fn unit_number_rule(&self, unit: UnitNo) -> Option<Rule>
-        ensures { (s : model.State) → Knows self.now s
+        ensures { (s : model.State) → AreGroundsOf self.now s
             → is_some result ≡ not (nat_lt s.greatest unit.0) }
     {
         if self.greatest < unit.0 {
@@ -296,13 +296,13 @@ impl Grounds {
 
     /// A rule of the version that the record breaks here, with these units; none exactly if it is
     /// lawful. This is the one place that says what is lawful.
-    pub(crate) fn broken<U: OpenUnits>(
+    pub(crate) fn broken<U: KnowsOpenUnits>(
         &self,
         version: Version,
         units: &U,
         next: &KeptRecord,
     ) -> Option<Rule>
-        ensures { (s : model.State) → Knows self.now s
+        ensures { (s : model.State) → AreGroundsOf self.now s
             → ((u : ℕ) → U.opens units.now u ≡ machine.is_open s u) → is_some result
             ≡ not (machine.is_lawful (version_of version) s (record_of next.now)) }
     {
@@ -333,8 +333,8 @@ impl Grounds {
     }
 
     fn define(&mut self, limit: u16, error: QueueNo, name: Name) -> Result<(), Fault>
-        ensures knows { OnOk result ((s : model.State) → Knows self.old s
-            → Knows self.new (machine.step s (records.Define limit error.0 name))) }
+        ensures knows { OnOk result ((s : model.State) → AreGroundsOf self.old s
+            → AreGroundsOf self.new (machine.step s (records.Define limit error.0 name))) }
         ensures refused { IfErr result (λ e. e ≡ Resources) }
         ensures kept { IfErr result (λ e. KeepsKnowing self.old self.new) }
     {
@@ -347,9 +347,9 @@ impl Grounds {
     }
 
     /// Takes what the record changes, if it is lawful.
-    pub(crate) fn note(&mut self, next: &KeptRecord) -> Result<(), Fault>
-        ensures knows { OnOk result ((s : model.State) → Knows self.old s
-            → Knows self.new (machine.step s (record_of next.now))) }
+    pub(crate) fn advance(&mut self, next: &KeptRecord) -> Result<(), Fault>
+        ensures knows { OnOk result ((s : model.State) → AreGroundsOf self.old s
+            → AreGroundsOf self.new (machine.step s (record_of next.now))) }
         ensures refused { IfErr result (λ e. e ≡ Resources) }
         ensures kept { IfErr result (λ e. KeepsKnowing self.old self.new) }
     {

@@ -114,7 +114,7 @@ impl Judge {
                 self.units.remove(&unit.0);
                 Ok(())
             }
-            _ => self.grounds.note(next),
+            _ => self.grounds.advance(next),
         }
     }
 }

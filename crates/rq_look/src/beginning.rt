@@ -62,7 +62,7 @@ fn offset_of(at: Option<u64>) -> u64
 
 /// The frames of a front that begins behind a state, in the first `used` bytes: from the checkpoint
 /// at the offset on, if there is one, else from the header on.
-pub fn frames_behind<'a>(
+pub fn front_frames<'a>(
     bytes: &'a [u8],
     first: &State,
     at: Option<u64>,

@@ -7,14 +7,14 @@ ghost use Rattle.rq_record.specs.declared.fault.Fault.TheVariants.{Resources};
 ghost use Rattle.rq_look.specs.Looks.{IsBroken};
 ghost use Rattle.rq_look.specs.Rests.{EndsFrontOf};
 
+use crate::behind_fronts::{put_behind, standing_behind};
 use crate::ends::{End, form_reason};
 use crate::json::{put_behind_object, put_loose, put_unspelled};
 use crate::lines::put_loose_record;
 use crate::numbered::queue_named;
-use crate::pieces::Piece::{Number, Word};
-use crate::pieces::put;
+use crate::pieces::TextPiece::{Number, Word};
+use crate::pieces::put_text_pieces;
 use crate::sheet::relieve;
-use crate::standing::{put_behind, standing_behind};
 use crate::trouble::Trouble;
 use crate::wanted::Wanted;
 use rq_behind::Found;
@@ -92,7 +92,7 @@ fn put_reason(
         Word(reason),
         Word("\n"),
     ];
-    Ok(put(text, &pieces)?)
+    Ok(put_text_pieces(text, &pieces)?)
 }
 
 // Puts the line of a frame that is no record, if it is wanted. Answers whether it is.

@@ -14,8 +14,8 @@ ghost use Rattle.rq_look.specs.Looks.{IsRestartFrom, RefusedFrom};
 
 use crate::frames::{first_frame, stated_length};
 use crate::misfits::{Misfit, misfit_of};
-use crate::pieces::Piece::{Number, Word};
-use crate::pieces::text_of;
+use crate::pieces::TextPiece::{Number, Word};
+use crate::pieces::joined_text;
 use rq_catalog::Rule;
 use rq_front::{FRAME_LEN, version};
 use rq_journal::{Appender, open, open_carried};
@@ -60,19 +60,19 @@ fn cut_reason(alloc: Global, rest: &[u8]) -> Result<String, AllocError> {
     match stated_length(rest) {
         Some(len) => {
             let whole = Number(len.saturating_add(FRAME_LEN) as u64);
-            text_of(
+            joined_text(
                 alloc,
                 &[count, Word(" bytes follow, and the frame has "), whole],
             )
         }
-        None => text_of(alloc, &[count, Word(" bytes follow, and a length has 4")]),
+        None => joined_text(alloc, &[count, Word(" bytes follow, and a length has 4")]),
     }
 }
 
 fn length_reason(alloc: Global, rest: &[u8]) -> Result<String, AllocError> {
     let len = Number(stated_length(rest).unwrap_or(0) as u64);
     let room = Word(" bytes is stated, and one has 1 to 268435456");
-    text_of(alloc, &[Word("a body of "), len, room])
+    joined_text(alloc, &[Word("a body of "), len, room])
 }
 
 fn chain_reason(alloc: Global, before: &[u8], rest: &[u8]) -> Result<String, AllocError> {
@@ -85,7 +85,7 @@ fn chain_reason(alloc: Global, before: &[u8], rest: &[u8]) -> Result<String, All
     let stated = hex::encode(alloc, frame.digest)?;
     let digest = hex::encode(alloc, hasher.finalize().as_slice())?;
     let (stated, digest) = (Word(stated.as_str()), Word(digest.as_str()));
-    text_of(
+    joined_text(
         alloc,
         &[
             Word("the digest is "),
@@ -99,7 +99,7 @@ fn chain_reason(alloc: Global, before: &[u8], rest: &[u8]) -> Result<String, All
 // Why the body is none that a record has, which shows at this byte of it.
 fn misfit_reason(alloc: Global, at: usize, misfit: &Misfit) -> Result<String, AllocError> {
     let at = Number(at as u64);
-    let mut text = text_of(alloc, &[Word("byte "), at, Word(" of the body: ")])?;
+    let mut text = joined_text(alloc, &[Word("byte "), at, Word(" of the body: ")])?;
     misfit.put(&mut text)?;
     Ok(text)
 }

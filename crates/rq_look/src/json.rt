@@ -321,7 +321,7 @@ impl Serialize for FrontShown<'_> {
 }
 
 /// Where the front ends.
-pub fn front_of(end: &End) -> FrontShown<'_>
+pub fn front_shown(end: &End) -> FrontShown<'_>
     ensures beginning { result.carried_at ≡ end.now.at }
     ensures records { result.records ≡ end.now.records }
     ensures used { result.used ≡ end.now.used }
@@ -349,7 +349,7 @@ pub(crate) fn put_closing_object(alloc: Global, text: &mut String, end: &End) ->
         × (string_bytes text.new ≡ string_bytes text.old ++ (json ++ codes "\n"))) }
     ensures refused { IfErr result IsBroken }
 {
-    let front = front_of(end);
+    let front = front_shown(end);
     put_json(alloc, text, &ClosingShown { front })
 }
 

@@ -2,15 +2,15 @@
 
 use crate::bytes::put_bytes;
 use crate::numbered::{Numbered, by_of, kind_of, queue_named, unit_number};
-use crate::pieces::Piece::{Number, Word};
-use crate::pieces::put;
+use crate::pieces::TextPiece::{Number, Word};
+use crate::pieces::put_text_pieces;
 use rq_record::{KeptRecord, QueueNo};
 use std::alloc::{AllocError, Global};
 
 // Puts a word and a number, if there is one.
 fn put_known(text: &mut String, word: &str, number: Option<u64>) -> Result<(), AllocError> {
     match number {
-        Some(number) => put(text, &[Word(word), Number(number)]),
+        Some(number) => put_text_pieces(text, &[Word(word), Number(number)]),
         None => Ok(()),
     }
 }
@@ -29,7 +29,7 @@ fn put_by(text: &mut String, record: &KeptRecord) -> Result<(), AllocError> {
     match by_of(record) {
         Some(by) => {
             let name = by.name.text();
-            put(
+            put_text_pieces(
                 text,
                 &[Word(" by "), Word(name), Word(" tag "), Number(by.tag)],
             )
@@ -51,7 +51,7 @@ fn put_definition(
         Number(number)
     };
     let limit = Number(u64::from(limit));
-    put(
+    put_text_pieces(
         text,
         &[
             Word(" name "),
@@ -78,7 +78,7 @@ fn put_load(
 
 // Puts the priority of an element, and who puts it in.
 fn put_priority(text: &mut String, record: &KeptRecord, priority: u8) -> Result<(), AllocError> {
-    put(text, &[Word(" priority "), Number(u64::from(priority))])?;
+    put_text_pieces(text, &[Word(" priority "), Number(u64::from(priority))])?;
     put_by(text, record)
 }
 
@@ -97,7 +97,7 @@ fn put_fields(
             *error,
         ),
         KeptRecord::Register { name, .. } | KeptRecord::Deregister { name, .. } => {
-            put(text, &[Word(" name "), Word(name.text())])
+            put_text_pieces(text, &[Word(" name "), Word(name.text())])
         }
         KeptRecord::Enqueue {
             priority,
@@ -108,7 +108,10 @@ fn put_fields(
             put_load(alloc, text, " payload ", payload.bytes(), full)
         }
         KeptRecord::Dequeue { .. } => put_by(text, record),
-        KeptRecord::Kill { element, .. } => put(text, &[Word(" element "), Number(element.0)]),
+        KeptRecord::Kill { element, .. } => put_text_pieces(
+            text,
+            &[Word(" element "), Number(element.0)],
+        ),
         KeptRecord::Checkpoint { bytes } => put_load(alloc, text, " bytes ", bytes.bytes(), full),
         _ => Ok(()),
     }
@@ -124,7 +127,7 @@ pub(crate) fn put_loose_record(
     full: bool,
 ) -> Result<(), AllocError> {
     let kind = kind_of(record);
-    put(text, &[Number(offset), Word(" behind "), Word(kind)])?;
+    put_text_pieces(text, &[Number(offset), Word(" behind "), Word(kind)])?;
     put_places(text, record, queue_named(record))?;
     put_fields(alloc, text, record, full)?;
     text.push_str("\n")
@@ -138,7 +141,7 @@ pub(crate) fn put_record(
     full: bool,
 ) -> Result<(), AllocError> {
     let (offset, number, kind) = (it.offset, it.number, kind_of(&it.record));
-    put(
+    put_text_pieces(
         text,
         &[
             Number(offset),

@@ -1,7 +1,7 @@
 //! Where a body is none that a record has.
 
-use crate::pieces::Piece::{Number, Word};
-use crate::pieces::put;
+use crate::pieces::TextPiece::{Number, Word};
+use crate::pieces::put_text_pieces;
 use rq_record::Version;
 use std::alloc::AllocError;
 
@@ -35,16 +35,19 @@ impl Misfit {
     pub(crate) fn put(&self, text: &mut String) -> Result<(), AllocError> {
         match self {
             Misfit::Kind(kind) => {
-                put(
+                put_text_pieces(
                     text,
                     &[Word("no record has the kind "), Number(u64::from(*kind))],
                 )
             }
-            Misfit::Cut(field) => put(text, &[Word("the body ends in its "), Word(field)]),
+            Misfit::Cut(field) => put_text_pieces(
+                text,
+                &[Word("the body ends in its "), Word(field)],
+            ),
             Misfit::Nameless => text.push_str("the name has no bytes"),
             Misfit::Long(field, count) => {
                 let count = Number(*count as u64);
-                put(
+                put_text_pieces(
                     text,
                     &[
                         Word("the "),
@@ -56,13 +59,16 @@ impl Misfit {
                 )
             }
             Misfit::Letter(byte) => {
-                put(
+                put_text_pieces(
                     text,
                     &[Word("no name has the byte "), Number(u64::from(*byte))],
                 )
             }
             Misfit::Tagged => text.push_str("nobody is named, and the tag is not 0"),
-            Misfit::More(count) => put(text, &[Number(*count as u64), Word(" bytes too many")]),
+            Misfit::More(count) => put_text_pieces(
+                text,
+                &[Number(*count as u64), Word(" bytes too many")],
+            ),
         }
     }
 }

@@ -5,7 +5,7 @@ ghost use Rattle.rq_model.specs.Records.{Two};
 ghost use Rattle.rq_model.specs.Spelling.{Spells};
 ghost use Rattle.rq_record.specs.Views.{record_of};
 ghost use Rattle.rq_record.specs.declared.fault.Fault.TheVariants.{Resources};
-ghost use Rattle.rq_look.specs.Kinds.{kind_text, unit_in};
+ghost use Rattle.rq_look.specs.Kinds.{kind_word, unit_shown};
 ghost use Rattle.rq_look.specs.Scripts.{by_in};
 
 use crate::frames::Placed;
@@ -83,7 +83,7 @@ pub(crate) fn queues_of(definitions: &[Definition]) -> u32 {
 
 /// The unit that a record names.
 pub fn unit_of(r: &KeptRecord) -> Option<UnitNo>
-    ensures { option_map (λ unit. unit.0) result ≡ unit_in (record_of r.now) }
+    ensures { option_map (λ unit. unit.0) result ≡ unit_shown (record_of r.now) }
 {
     match r {
         KeptRecord::Begin { unit }
@@ -97,7 +97,7 @@ pub fn unit_of(r: &KeptRecord) -> Option<UnitNo>
 
 /// The number of the unit that a record names.
 pub(crate) fn unit_number(r: &KeptRecord) -> Option<u64>
-    ensures { result ≡ unit_in (record_of r.now) }
+    ensures { result ≡ unit_shown (record_of r.now) }
 {
     match unit_of(r) {
         Some(unit) => Some(unit.0),
@@ -139,7 +139,7 @@ pub(crate) fn element_of(record: &KeptRecord) -> Option<u64> {
 
 /// The word for a kind of record.
 pub fn kind_of(r: &KeptRecord) -> &'static str
-    ensures { result.now ≡ kind_text (record_of r.now) }
+    ensures { result.now ≡ kind_word (record_of r.now) }
 {
     match r {
         KeptRecord::Define { .. } => "define",

@@ -6,22 +6,25 @@ use std::fmt::Write;
 
 /// A word, or a number in decimal digits.
 #[derive(Clone, Copy)]
-pub(crate) enum Piece<'a> {
+pub(crate) enum TextPiece<'a> {
     /// Text as it is.
     Word(&'a str),
     /// A number.
     Number(u64),
 }
 
-fn put_piece(text: &mut String, piece: &Piece<'_>) -> Result<(), AllocError> {
+fn put_piece(text: &mut String, piece: &TextPiece<'_>) -> Result<(), AllocError> {
     match piece {
-        Piece::Word(word) => text.push_str(word),
-        Piece::Number(number) => write!(text, "{number}"),
+        TextPiece::Word(word) => text.push_str(word),
+        TextPiece::Number(number) => write!(text, "{number}"),
     }
 }
 
 /// Puts the pieces, in order.
-pub(crate) fn put(text: &mut String, pieces: &[Piece<'_>]) -> Result<(), AllocError> {
+pub(crate) fn put_text_pieces(
+    text: &mut String,
+    pieces: &[TextPiece<'_>],
+) -> Result<(), AllocError> {
     for piece in pieces {
         put_piece(text, piece)?;
     }
@@ -29,8 +32,8 @@ pub(crate) fn put(text: &mut String, pieces: &[Piece<'_>]) -> Result<(), AllocEr
 }
 
 /// The text of the pieces.
-pub(crate) fn text_of(alloc: Global, pieces: &[Piece<'_>]) -> Result<String, AllocError> {
+pub(crate) fn joined_text(alloc: Global, pieces: &[TextPiece<'_>]) -> Result<String, AllocError> {
     let mut text = String::new(alloc);
-    put(&mut text, pieces)?;
+    put_text_pieces(&mut text, pieces)?;
     Ok(text)
 }

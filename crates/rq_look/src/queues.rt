@@ -8,7 +8,7 @@ ghost use Rattle.rq_model.specs.Reports.{IsListing, kind_text};
 ghost use Rattle.rq_model.specs.States as model;
 ghost use Rattle.rq_state.specs.Views as views;
 ghost use Rattle.rq_report.specs.Order.{is_ahead};
-ghost use Rattle.rq_look.specs.Registrants.{last_of, last_told, registrant_of, registrant_told};
+ghost use Rattle.rq_look.specs.Registrants.{last_shown, last_told, registrant_entry, registrant_told};
 
 use crate::json::{BytesShown, queue_number};
 use crate::objects::{write_numbers, write_other};
@@ -165,7 +165,7 @@ fn kind_of(kind: OpKind) -> &'static str
 }
 
 fn last_shown(last: &Last) -> LastShown<'static>
-    ensures { last_told result ≡ last_of last.now }
+    ensures { last_told result ≡ last_shown last.now }
 {
     LastShown {
         kind: kind_of(last.kind),
@@ -178,7 +178,7 @@ fn last_shown(last: &Last) -> LastShown<'static>
 }
 
 fn registrant_shown(r: &Registrant) -> RegistrantShown<'_>
-    ensures { registrant_told result ≡ registrant_of r.now }
+    ensures { registrant_told result ≡ registrant_entry r.now }
 {
     RegistrantShown {
         name: r.name.text(),
@@ -196,7 +196,7 @@ pub fn registrants_shown(
     queue: QueueNo,
 ) -> Result<Vec<RegistrantShown<'_>>, AllocError>
     ensures { IfOk result (λ v. map registrant_told v.items
-        ≡ map registrant_of (registrants_at queue.0 state.now.registrants)) }
+        ≡ map registrant_entry (registrants_at queue.0 state.now.registrants)) }
 {
     let mut found = Vec::new(alloc);
     for at in state.registrants_of(queue) {

@@ -6,7 +6,7 @@ use std::alloc::{AllocError, Global};
 
 // How a word is given.
 #[derive(Clone, Copy)]
-enum Kind {
+enum WordForm {
     // A text, which must be there.
     Text,
     // A text, or else -.
@@ -23,11 +23,11 @@ enum Kind {
 #[derive(Clone, Copy)]
 struct Word {
     name: &'static str,
-    kind: Kind,
+    form: WordForm,
     help: &'static str,
 }
 
-// The command's words.
+// Which command.
 #[derive(Clone, Copy)]
 enum Which {
     Append,
@@ -38,7 +38,8 @@ enum Which {
     Audit,
 }
 
-struct Line {
+// A command: its name, what the help says of it, and which it is.
+struct CommandText {
     name: &'static str,
     about: &'static str,
     which: Which,
@@ -46,25 +47,25 @@ struct Line {
 
 const LOG: Word = Word {
     name: "LOG",
-    kind: Kind::Text,
+    form: WordForm::Text,
     help: "The file of the log, plain or carried on",
 };
 
 const JSON: Word = Word {
     name: "json",
-    kind: Kind::Flag,
+    form: WordForm::Flag,
     help: "Says what was done as an object of JSON",
 };
 
 const WORKERS: Word = Word {
     name: "WORKERS",
-    kind: Kind::Number("4"),
+    form: WordForm::Number("4"),
     help: "How many threads work, 1 to 64",
 };
 
 const WORKERS_OPTION: Word = Word {
     name: "workers",
-    kind: Kind::Option("4"),
+    form: WordForm::Option("4"),
     help: "How many threads work, 1 to 64",
 };
 
@@ -72,12 +73,12 @@ static APPEND: [Word; 5] = [
     LOG,
     Word {
         name: "SCRIPT",
-        kind: Kind::TextOrInput,
+        form: WordForm::TextOrInput,
         help: "The file of the script, or - for standard input",
     },
     Word {
         name: "each",
-        kind: Kind::Flag,
+        form: WordForm::Flag,
         help: "Appends the records before the first that is not lawful, in place of none",
     },
     JSON,
@@ -88,7 +89,7 @@ static CHECKPOINT: [Word; 4] = [
     LOG,
     Word {
         name: "close",
-        kind: Kind::Flag,
+        form: WordForm::Flag,
         help: "Ends each open unit before, by an ABORT",
     },
     JSON,
@@ -99,7 +100,7 @@ static CARRY: [Word; 4] = [
     LOG,
     Word {
         name: "NEW",
-        kind: Kind::Text,
+        form: WordForm::Text,
         help: "The file of the new log, which is not there yet",
     },
     JSON,
@@ -111,7 +112,7 @@ static RESTART: [Word; 3] = [
     WORKERS,
     Word {
         name: "GRAIN",
-        kind: Kind::Number("1000"),
+        form: WordForm::Number("1000"),
         help: "How many frames a worker checks at once, 1 to 1000000",
     },
 ];
@@ -120,7 +121,7 @@ static CLOSE: [Word; 3] = [
     LOG,
     Word {
         name: "OUT",
-        kind: Kind::Text,
+        form: WordForm::Text,
         help: "The file of the closed log, which may be LOG",
     },
     WORKERS,
@@ -128,33 +129,33 @@ static CLOSE: [Word; 3] = [
 
 static AUDIT: [Word; 2] = [LOG, WORKERS];
 
-static LINES: [Line; 6] = [
-    Line {
+static COMMANDS: [CommandText; 6] = [
+    CommandText {
         name: "append",
         about: "Appends the records of a script to a log, all of them or none",
         which: Which::Append,
     },
-    Line {
+    CommandText {
         name: "checkpoint",
         about: "Appends a checkpoint of the state behind a log, and prints its offset",
         which: Which::Checkpoint,
     },
-    Line {
+    CommandText {
         name: "carry",
         about: "Makes a new log that goes on where a log ends, with its state alone",
         which: Which::Carry,
     },
-    Line {
+    CommandText {
         name: "restart",
         about: "Prints the report of a log's restart, as rq restart does",
         which: Which::Restart,
     },
-    Line {
+    CommandText {
         name: "close",
         about: "Writes the closed log, as rq close does",
         which: Which::Close,
     },
-    Line {
+    CommandText {
         name: "audit",
         about: "Prints which checkpoints of a log are true, as rq audit does",
         which: Which::Audit,
@@ -200,12 +201,12 @@ fn option<'a>(alloc: Global, word: &Word, usual: &'static str) -> Arg<'a> {
 }
 
 fn argument<'a>(alloc: Global, word: &Word) -> Arg<'a> {
-    match word.kind {
-        Kind::Text => text(alloc, word),
-        Kind::TextOrInput => plain(alloc, word).default_value("-"),
-        Kind::Number(usual) => number(alloc, word, usual),
-        Kind::Option(usual) => option(alloc, word, usual),
-        Kind::Flag => flag(alloc, word),
+    match word.form {
+        WordForm::Text => text(alloc, word),
+        WordForm::TextOrInput => plain(alloc, word).default_value("-"),
+        WordForm::Number(usual) => number(alloc, word, usual),
+        WordForm::Option(usual) => option(alloc, word, usual),
+        WordForm::Flag => flag(alloc, word),
     }
 }
 
@@ -224,16 +225,16 @@ fn with_words<'a>(
 fn with_command<'a>(
     alloc: Global,
     program: Command<'a>,
-    line: &Line,
+    text: &CommandText,
 ) -> Result<Command<'a>, AllocError> {
-    let command = Command::new(alloc, line.name).about(line.about);
-    program.subcommand(with_words(alloc, command, words_of(line.which))?)
+    let command = Command::new(alloc, text.name).about(text.about);
+    program.subcommand(with_words(alloc, command, words_of(text.which))?)
 }
 
 fn with_commands<'a>(alloc: Global, program: Command<'a>) -> Result<Command<'a>, AllocError> {
     let mut program = program;
-    for line in LINES.as_slice() {
-        program = with_command(alloc, program, line)?;
+    for text in COMMANDS.as_slice() {
+        program = with_command(alloc, program, text)?;
     }
     Ok(program)
 }

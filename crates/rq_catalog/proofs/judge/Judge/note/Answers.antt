@@ -8,7 +8,7 @@ use Rattle.rq_model.specs.States.{State}
 use Rattle.rq_model.specs.Machine.{step}
 use Rattle.rq_record.specs.Views.{Record, record_of}
 use Rattle.rq_catalog.specs.declared.judge.Judge.{Judge}
-use Rattle.rq_catalog.specs.Grounds.{Knows, KeepsKnowing}
+use Rattle.rq_catalog.specs.Grounds.{AreGroundsOf, KeepsKnowing}
 use Rattle.rq_catalog.specs.Judges.{StandsIn, KeepsStanding}
 use Rattle.rq_catalog.proofs.Knowing.{commits, aborts, closed_step, same_units, on_ok, on_err}
 use Rattle.rq_catalog.proofs.judge.Judge.note.Goals as goal
@@ -42,8 +42,8 @@ returns-in-Abort-clause-stands c = λ version s stands.
 pub returns-in_default : goal.returns-in_default
 returns-in_default c =
     let j : Judge = c.args.self.now in
-    let new : Judge = record j { grounds = c.note.new.self } in
-    let after : ((s : State) → Knows j.grounds s → Knows c.note.new.self (step s (record_of c.args.next.now)))
+    let new : Judge = record j { grounds = c.advance.new.self } in
+    let after : ((s : State) → AreGroundsOf j.grounds s → AreGroundsOf c.advance.new.self (step s (record_of c.args.next.now)))
     → (version : Version) (s : State) → StandsIn version j s
     → StandsIn version new (step s (record_of c.args.next.now)) = λ knows version s stands. record {
       rules = stands.rules;
@@ -51,9 +51,9 @@ returns-in_default c =
       units = λ u. stands.units u ∙ ap (list_any (λ v. v == u))
           (same_units s c.args.next.now c.in_default.not-Begin c.in_default.not-Commit c.in_default.not-Abort);
     } in
-    let before : KeepsKnowing j.grounds c.note.new.self → KeepsStanding j new = λ keeps version s stands.
+    let before : KeepsKnowing j.grounds c.advance.new.self → KeepsStanding j new = λ keeps version s stands.
     record { rules = stands.rules; knows = keeps s stands.knows; units = stands.units } in record {
-      stands = on_ok c.note.result after c.note.ensures.knows;
-      refused = c.note.ensures.refused;
-      kept = on_err c.note.result before c.note.ensures.kept;
+      stands = on_ok c.advance.result after c.advance.ensures.knows;
+      refused = c.advance.ensures.refused;
+      kept = on_err c.advance.result before c.advance.ensures.kept;
     }
