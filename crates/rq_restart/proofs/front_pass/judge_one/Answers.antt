@@ -1,7 +1,10 @@
-use Rattle.std.proofs.Common.{Bool, sym, subst, ◌∙◌, if◌then◌else◌}
+use Rattle.std.proofs.Common.{Bool, sym, subst, ◌∙◌, if◌then◌else◌, Err}
 use Rattle.rq_model.specs.Records as records
 use Rattle.rq_model.specs.Machine.{step}
-use Rattle.rq_record.specs.Views.{record_of}
+use Rattle.rq_record.specs.Views.{record_of, version_of}
+use Rattle.rq_record.specs.Reading.{Decodes}
+use Rattle.rq_record.specs.declared.fault.Fault.{Fault}
+use Rattle.rq_record.specs.declared.fault.Fault.TheVariants.{Form}
 use Rattle.rq_model.specs.Spelling.{Spells}
 use Rattle.rq_catalog.specs.Judges.{StandsIn}
 use Rattle.rq_restart.specs.Passes.{IsVerdict}
@@ -32,3 +35,13 @@ returns-after-is_lawful-clause-verdict c = λ version s stands.
         sym is ∙ w.if-is_lawful.false,
       )
     ]
+
+pub returns-in-Err-Form-clause-verdict : goal.returns-in-Err-Form-clause-verdict
+returns-in-Err-Form-clause-verdict c = λ version s stands.
+    let none : Decodes (version_of c.version.result) c.args.body.now (Err Form) =
+    subst (λ (e : Fault). Decodes (version_of c.version.result) c.args.body.now (Err e))
+    c.in-Err-Form.field-0-is c.in-Err-Form.ensures.decodes in (
+      stands,
+      subst (λ (v : records.Version). (r : records.Record) → Spells v r c.args.body.now → ⊥)
+          (c.version.ensures version s stands) none,
+    )
