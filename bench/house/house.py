@@ -57,6 +57,8 @@ ONE_THING = {
     "end_of": ("rq_look rq_restart", "where the front of a log ends"),
     "abort": ("rq_look rq_queue", "aborts a unit in the queues"),
     "aborted": ("rq_catalog rq_restart rq_state", "how many units were aborted"),
+    "definitions": ("rq_catalog rq_state", "the definitions of all queues, by number"),
+    "greatest": ("rq_catalog rq_state", "the greatest unit that began"),
     "committed": ("rq_catalog rq_restart rq_state", "how many units were committed"),
     "broken": ("rq_catalog rq_journal", "a rule that the record breaks: an appender asks its judge"),
     "bytes": ("rq_record rq_writer", "the bytes of a value"),

@@ -3,11 +3,11 @@ use Rattle.std.proofs.Common.{◌≡◌, ℕ, ◌+◌, ◌<◌, ◌≤◌, List,
 use Rattle.std.specs.Prelude.{MatchOption}
 use Rattle.rq_model.specs.Records.{Version}
 use Rattle.rq_model.specs.Frames.{HasFrame}
-use Rattle.rq_behind.specs.Runs.{BeginsRun, end_at}
+use Rattle.rq_behind.specs.Runs.{BeginsRun, frame_end}
 use Rattle.rq_behind.specs.Behind.{HasNoRunBefore, IsFirstRun, LeadsFrom, LeadsTo}
 use Rattle.rq_behind.specs.Places.{IsPlaceAt, IsRunPlace}
-use Rattle.rq_behind.specs.declared.places.Place.{Place}
-use Rattle.rq_behind.specs.declared.places.Place.TheVariants.{At, Nowhere, GaveUp}
+use Rattle.rq_behind.specs.declared.places.SearchEnd.{SearchEnd}
+use Rattle.rq_behind.specs.declared.places.SearchEnd.TheVariants.{At, Nowhere, GaveUp}
 
 -- no run begins at one place more
 pub none_more : (version : Version) (b : List ℕ) (from at : ℕ) → HasNoRunBefore version b from at
@@ -16,7 +16,7 @@ none_more version b from at none here = λ q low lt.
     below_more (λ k. from ≤ k → BeginsRun version b k → ⊥) at (λ k less above. none k above less) (λ above. here) q lt low
 
 -- what is found at a place is what is found from the offset on
-pub run_place : (version : Version) (b : List ℕ) (from at : ℕ) (place : Place) → from ≤ at → at < length b
+pub run_place : (version : Version) (b : List ℕ) (from at : ℕ) (place : SearchEnd) → from ≤ at → at < length b
     → HasNoRunBefore version b from at → IsPlaceAt version b at place → IsRunPlace version b from place
 run_place version b from at (At p) low high none found =
     subst (IsFirstRun version b from) (sym found.0) (record { behind = low; run = found.1; first = none })
@@ -24,7 +24,7 @@ run_place version b from at Nowhere low high none found = absurd found
 run_place version b from at (GaveUp p) low high none found = (omega arith, omega arith)
 
 -- a wrong frame leads to where the next one leads
-pub leads_on : (b : List ℕ) (at second : ℕ) (place : Option ℕ) → HasFrame (drop at b) → second ≡ end_at b at
+pub leads_on : (b : List ℕ) (at second : ℕ) (place : Option ℕ) → HasFrame (drop at b) → second ≡ frame_end b at
     → MatchOption place ((p : ℕ) → LeadsFrom b second p → ⊥) (LeadsFrom b second)
     → MatchOption place ((p : ℕ) → LeadsTo b at p → ⊥) (LeadsTo b at)
 leads_on b at second None frame e none = λ p led. none p (subst (λ (s : ℕ). LeadsFrom b s p) (sym e) led.1)

@@ -8,8 +8,8 @@ use Rattle.rq_model.specs.Records.{Version}
 use Rattle.rq_model.specs.Frames.{HasFrame, stated}
 use Rattle.rq_front.specs.Walks.{IsRight}
 use Rattle.rq_front.specs.declared.spans.Span.{Span}
-use Rattle.rq_behind.specs.Runs.{IsRightAt, end_at}
-use Rattle.rq_behind.specs.Behind.{AreApart, AreFound, IsNext, Here, Led, Sought, LeadsFrom}
+use Rattle.rq_behind.specs.Runs.{IsRightAt, frame_end}
+use Rattle.rq_behind.specs.Behind.{StandApart, AreRightFrames, IsNext, Here, Led, Sought, LeadsFrom}
 
 -- what lengths lead to stands behind
 led_right : (b : List ℕ) (second p : ℕ) → LeadsFrom b second p → IsRightAt b p × (second ≤ p)
@@ -20,22 +20,22 @@ led_right b second p (inr h) = (subst (IsRightAt b) (sym h.3) h.2, omega arith)
 pub next_right : (version : Version) (b : List ℕ) (at p : ℕ) → IsNext version b at p → IsRightAt b p × (at ≤ p)
 next_right version b at p (Here right e) = (subst (IsRightAt b) (sym e) right, omega arith)
 next_right version b at p (Led wrong led) =
-    let h = led_right b (end_at b at) p led.1 in (h.0, omega arith)
+    let h = led_right b (frame_end b at) p led.1 in (h.0, omega arith)
 next_right version b at p (Sought lost found) = (found.run.1.0, omega (arith, found.behind))
 
 -- a frame at an offset ends within the bytes
-pub frame_ends : (b : List ℕ) (at : ℕ) → HasFrame (drop at b) → end_at b at ≤ length b
+pub frame_ends : (b : List ℕ) (at : ℕ) → HasFrame (drop at b) → frame_end b at ≤ length b
 frame_ends b at frame = omega (arith, frame.room, length-drop at b)
 
 pub found_right : (version : Version) (b : List ℕ) (at : ℕ) (ss : List Span) (stop : Option ℕ)
-    → AreFound version b at ss stop → All (IsRight b) ss
+    → AreRightFrames version b at ss stop → All (IsRight b) ss
 found_right version b at [] stop found = All-nil (IsRight b)
 found_right version b at (s ∷ ss) stop found =
     All-cons (IsRight b) s ss (next_right version b at (s.start - 4) found.1).0
     (found_right version b (s.start + s.len + 32) ss stop found.3)
 
 pub found_apart : (version : Version) (b : List ℕ) (at : ℕ) (ss : List Span) (stop : Option ℕ) → at ≤ length b
-    → AreFound version b at ss stop → AreApart at (length b) ss
+    → AreRightFrames version b at ss stop → StandApart at (length b) ss
 found_apart version b at [] stop within found = within
 found_apart version b at (s ∷ ss) stop within found =
     let next = next_right version b at (s.start - 4) found.1 in
@@ -46,17 +46,17 @@ found_apart version b at (s ∷ ss) stop within found =
 
 -- one frame more is found
 pub found_more : (version : Version) (b : List ℕ) (from at : ℕ) (ss : List Span) (s : Span)
-    → ((rest : List Span) (stop : Option ℕ) → AreFound version b at rest stop → AreFound version b from (ss ++ rest) stop)
+    → ((rest : List Span) (stop : Option ℕ) → AreRightFrames version b at rest stop → AreRightFrames version b from (ss ++ rest) stop)
     → 4 ≤ s.start → IsNext version b at (s.start - 4) → s.len ≡ stated (drop (s.start - 4) b)
-    → (rest : List Span) (stop : Option ℕ) → AreFound version b (s.start + s.len + 32) rest stop
-    → AreFound version b from ((ss ++ s ∷ []) ++ rest) stop
+    → (rest : List Span) (stop : Option ℕ) → AreRightFrames version b (s.start + s.len + 32) rest stop
+    → AreRightFrames version b from ((ss ++ s ∷ []) ++ rest) stop
 found_more version b from at ss s before low next len = λ rest stop more.
-    subst (λ (xs : List Span). AreFound version b from xs stop) (sym (append_assoc ss (s ∷ []) rest))
+    subst (λ (xs : List Span). AreRightFrames version b from xs stop) (sym (append_assoc ss (s ∷ []) rest))
     (before (s ∷ rest) stop (low, next, len, more))
 
 -- none is found any more
 pub found_all : (version : Version) (b : List ℕ) (from at : ℕ) (ss : List Span) (stop : Option ℕ)
-    → ((rest : List Span) (end : Option ℕ) → AreFound version b at rest end → AreFound version b from (ss ++ rest) end)
-    → AreFound version b at [] stop → AreFound version b from ss stop
+    → ((rest : List Span) (end : Option ℕ) → AreRightFrames version b at rest end → AreRightFrames version b from (ss ++ rest) end)
+    → AreRightFrames version b at [] stop → AreRightFrames version b from ss stop
 found_all version b from at ss stop before last =
-    subst (λ (xs : List Span). AreFound version b from xs stop) (append-nil ss) (before [] stop last)
+    subst (λ (xs : List Span). AreRightFrames version b from xs stop) (append-nil ss) (before [] stop last)

@@ -5,17 +5,17 @@ use Rattle.std.specs.List.{sum_by}
 use Rattle.rq_model.specs.Records.{Version}
 use Rattle.rq_model.specs.Frames.{HasFrame, stated}
 use Rattle.rq_front.specs.declared.spans.Span.{Span}
-use Rattle.rq_behind.specs.Runs.{IsRightAt, BeginsRun, end_at}
+use Rattle.rq_behind.specs.Runs.{IsRightAt, BeginsRun, frame_end}
 
 -- the lengths of a wrong frame, and of a wrong one behind it, lead to a right frame: a damaged body
 -- spoils its own frame, a damaged digest its own and the next
 abbrev pub LeadsFrom : List ℕ → ℕ → ℕ → Type 0
 LeadsFrom b second p = (IsRightAt b second × (p ≡ second))
-    ⊎ ((IsRightAt b second → ⊥) × HasFrame (drop second b) × IsRightAt b (end_at b second)
-    × (p ≡ end_at b second))
+    ⊎ ((IsRightAt b second → ⊥) × HasFrame (drop second b) × IsRightAt b (frame_end b second)
+    × (p ≡ frame_end b second))
 
 abbrev pub LeadsTo : List ℕ → ℕ → ℕ → Type 0
-LeadsTo b at p = HasFrame (drop at b) × LeadsFrom b (end_at b at) p
+LeadsTo b at p = HasFrame (drop at b) × LeadsFrom b (frame_end b at) p
 
 -- from an offset on no run begins before p
 abbrev pub HasNoRunBefore : Version → List ℕ → ℕ → ℕ → Type 0
@@ -46,16 +46,16 @@ pub record HasNone (version : Version) (b : List ℕ) (at : ℕ) : Type 0 where
 
 -- the frames behind an offset, each the next right one behind the one before, to the last; or to
 -- where the search gave up, at a place behind them
-abbrev pub AreFound : Version → List ℕ → ℕ → List Span → Option ℕ → Type 0
-AreFound version b at [] None = HasNone version b at
-AreFound version b at [] (Some place) = (at ≤ place) × (place ≤ length b)
-AreFound version b at (s ∷ ss) stop = (4 ≤ s.start) × IsNext version b at (s.start - 4)
-    × (s.len ≡ stated (drop (s.start - 4) b)) × AreFound version b (s.start + s.len + 32) ss stop
+abbrev pub AreRightFrames : Version → List ℕ → ℕ → List Span → Option ℕ → Type 0
+AreRightFrames version b at [] None = HasNone version b at
+AreRightFrames version b at [] (Some place) = (at ≤ place) × (place ≤ length b)
+AreRightFrames version b at (s ∷ ss) stop = (4 ≤ s.start) × IsNext version b at (s.start - 4)
+    × (s.len ≡ stated (drop (s.start - 4) b)) × AreRightFrames version b (s.start + s.len + 32) ss stop
 
 -- frames one behind the other, in order and apart, from an offset on and within an end
-abbrev pub AreApart : ℕ → ℕ → List Span → Type 0
-AreApart from end [] = from ≤ end
-AreApart from end (s ∷ ss) = (from + 4 ≤ s.start) × AreApart (s.start + s.len + 32) end ss
+abbrev pub StandApart : ℕ → ℕ → List Span → Type 0
+StandApart from end [] = from ≤ end
+StandApart from end (s ∷ ss) = (from + 4 ≤ s.start) × StandApart (s.start + s.len + 32) end ss
 
 -- the bytes of these frames
 abbrev pub frame_bytes : List Span → ℕ

@@ -10,8 +10,8 @@ abbrev pub IsRightAt : List ℕ → ℕ → Type 0
 IsRightAt b at = HasRightFrame (before at b) (drop at b)
 
 -- where the frame at an offset ends, by its length
-abbrev pub end_at : List ℕ → ℕ → ℕ
-end_at b at = at + (36 + stated (drop at b))
+abbrev pub frame_end : List ℕ → ℕ → ℕ
+frame_end b at = at + (36 + stated (drop at b))
 
 -- the body spells some record
 abbrev pub SpellsSome : Version → List ℕ → Type 0
@@ -24,7 +24,7 @@ pub record LooksRight (version : Version) (b : List ℕ) (at : ℕ) : Type 0 whe
 
 -- the frame at an offset ends where the bytes end, or where this begins
 abbrev pub EndsOr : (ℕ → Type 0) → List ℕ → ℕ → Type 0
-EndsOr Begins b at = (end_at b at ≡ length b) ⊎ Begins (end_at b at)
+EndsOr Begins b at = (frame_end b at ≡ length b) ⊎ Begins (frame_end b at)
 
 -- at an offset begin three such frames in a row, or fewer of which the last ends where the bytes end
 abbrev pub LooksLikeRun : Version → List ℕ → ℕ → Type 0

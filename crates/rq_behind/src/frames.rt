@@ -2,7 +2,7 @@
 
 ghost use Rattle.std.specs.Prelude.{◌≡◌, ◌↔◌, ◌≤◌, ◌+◌, length, drop, IsTrue, MatchOption};
 ghost use Rattle.rq_model.specs.Frames.{HasFrame, HasRightFrame, before, stated};
-ghost use Rattle.rq_behind.specs.Runs.{IsRightAt, end_at};
+ghost use Rattle.rq_behind.specs.Runs.{IsRightAt, frame_end};
 
 use byteorder::{BigEndian, ByteOrder};
 use rq_front::FRAME_LEN;
@@ -70,7 +70,7 @@ pub(crate) fn judge(bytes: &[u8], at: usize) -> Judged
     requires after { 32 ≤ at }
     requires within { at ≤ length bytes.now }
     ensures right { IsTrue result.is_right ↔ IsRightAt bytes.now at }
-    ensures end { IsTrue result.is_right → result.end ≡ end_at bytes.now at }
+    ensures end { IsTrue result.is_right → result.end ≡ frame_end bytes.now at }
     ensures low { at ≤ result.end }
     ensures high { result.end ≤ length bytes.now }
 {

@@ -3,10 +3,10 @@
 //! stands before those.
 #![tactic(auto)]
 
-mod finding;
 mod forms;
 mod frames;
 mod places;
 mod runs;
+mod search;
 
-pub use finding::{Found, behind};
+pub use search::{Found, behind};

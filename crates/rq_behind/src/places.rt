@@ -16,7 +16,7 @@ const BLOCK: usize = 64;
 
 /// Where a search ends.
 #[derive(Clone, Copy, Debug)]
-pub(crate) enum Place {
+pub(crate) enum SearchEnd {
     /// A right frame stands here.
     At(usize),
     /// No right frame is found any more.
@@ -33,7 +33,7 @@ fn spend(budget: &mut usize, from: usize, end: usize) {
 
 // What a place shows: that a run begins there, or that nothing may be spent any more. None if no run
 // begins there.
-fn place_at(version: Version, bytes: &[u8], at: usize, budget: &mut usize) -> Option<Place>
+fn place_at(version: Version, bytes: &[u8], at: usize, budget: &mut usize) -> Option<SearchEnd>
     requires after { 32 ≤ at }
     requires within { at ≤ length bytes.now }
     ensures { MatchOption result (BeginsRun (version_of version) bytes.now at → ⊥)
@@ -43,18 +43,18 @@ fn place_at(version: Version, bytes: &[u8], at: usize, budget: &mut usize) -> Op
         return None;
     }
     if *budget == 0 {
-        return Some(Place::GaveUp(at));
+        return Some(SearchEnd::GaveUp(at));
     }
     let judged = judge_run(bytes, at);
     if judged.is_right {
-        return Some(Place::At(at));
+        return Some(SearchEnd::At(at));
     }
     spend(budget, at, judged.end);
     None
 }
 
 // The first place of a run from an offset on.
-fn run_from(version: Version, bytes: &[u8], from: usize, budget: &mut usize) -> Place
+fn run_from(version: Version, bytes: &[u8], from: usize, budget: &mut usize) -> SearchEnd
     requires after { 32 ≤ from }
     ensures { IsRunPlace (version_of version) bytes.now from result }
 {
@@ -64,7 +64,7 @@ fn run_from(version: Version, bytes: &[u8], from: usize, budget: &mut usize) -> 
             None => {}
         }
     }
-    Place::Nowhere
+    SearchEnd::Nowhere
 }
 
 // The right frame to which lengths lead, and where the bytes end that were looked at for it.
@@ -122,21 +122,21 @@ fn led_to(bytes: &[u8], at: usize) -> Led
 /// the lengths of a wrong frame lead, or of a wrong one behind it; else the first of the next run.
 /// Digests that are made in vain are paid from a budget of bytes. If that is spent, the answer is
 /// the place that is not looked at any more.
-pub(crate) fn next_place(version: Version, bytes: &[u8], at: usize, budget: &mut usize) -> Place
+pub(crate) fn next_place(version: Version, bytes: &[u8], at: usize, budget: &mut usize) -> SearchEnd
     requires after { 32 ≤ at }
     requires within { at ≤ length bytes.now }
     ensures { IsNextPlace (version_of version) bytes.now at result }
 {
     if judge(bytes, at).is_right {
-        return Place::At(at);
+        return SearchEnd::At(at);
     }
     let led = led_to(bytes, at);
     if let Some(place) = led.place {
-        return Place::At(place);
+        return SearchEnd::At(place);
     }
     spend(budget, at, led.end);
     if at == bytes.len() {
-        return Place::Nowhere;
+        return SearchEnd::Nowhere;
     }
     run_from(version, bytes, at + 1, budget)
 }

@@ -2,7 +2,7 @@
 
 ghost use Rattle.std.specs.Prelude.{◌≡◌, ◌↔◌, ◌≤◌, ◌⊎◌, length, IsTrue, MatchOption};
 ghost use Rattle.rq_record.specs.Views.{version_of};
-ghost use Rattle.rq_behind.specs.Runs.{EndsOr, IsRightAt, LooksLikeRun, LooksRight, RightRun, end_at};
+ghost use Rattle.rq_behind.specs.Runs.{EndsOr, IsRightAt, LooksLikeRun, LooksRight, RightRun, frame_end};
 
 use crate::forms::spells_some;
 use crate::frames::{Judged, judge, length_at};
@@ -14,7 +14,7 @@ use rq_record::Version;
 fn likely_end(version: Version, bytes: &[u8], at: usize) -> Option<usize>
     requires { at ≤ length bytes.now }
     ensures { MatchOption result (LooksRight (version_of version) bytes.now at → ⊥)
-        (λ end. LooksRight (version_of version) bytes.now at × (end ≡ end_at bytes.now at)
+        (λ end. LooksRight (version_of version) bytes.now at × (end ≡ frame_end bytes.now at)
         × (end ≤ length bytes.now)) }
 {
     let len = length_at(bytes, at)?;

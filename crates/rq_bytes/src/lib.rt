@@ -3,7 +3,7 @@
 #![tactic(auto)]
 
 mod cursor;
-mod writing;
+mod writers;
 
 pub use cursor::Cursor;
-pub use writing::{put, put_u8, put_u16, put_u32, put_u64};
+pub use writers::{put, put_u8, put_u16, put_u32, put_u64};

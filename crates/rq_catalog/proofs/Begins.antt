@@ -1,11 +1,9 @@
 -- The catalogue of a state agrees with the run of no records.
 use Rattle.std.proofs.Common.{◌≡◌, ℕ, Bool, true, false, ◌&&◌, ◌||◌, List, [], length, Some, None}
 use Rattle.std.proofs.Common.{map, refl, sym, ap, ◌∙◌}
-use Rattle.std.specs.Prelude.{◌==◌, nat_eq, if◌then◌else◌, option_map}
+use Rattle.std.specs.Prelude.{◌==◌, if◌then◌else◌, option_map}
 use Rattle.std.specs.List.{list_any}
-use Rattle.std.specs.Cmp.Lexicographic.{pointwise}
-use Rattle.std.proofs.lemmas.List.{length-map, append-nil}
-use Rattle.indexmap.specs.IndexSet.{contains}
+use Rattle.std.proofs.lemmas.List.{append-nil}
 use Rattle.rq_model.specs.States as model
 use Rattle.rq_model.specs.Machine as machine
 use Rattle.rq_model.specs.Machine.{is_open}
@@ -20,8 +18,8 @@ use Rattle.rq_state.specs.Orders.{listed}
 use Rattle.rq_catalog.specs.declared.units.Unit.{Unit}
 use Rattle.rq_catalog.specs.Outcomes.{outcome_of}
 use Rattle.rq_catalog.specs.Catalogues.{Follows}
-use Rattle.rq_catalog.specs.Registered.{is_registered_in}
-use Rattle.rq_catalog.specs.Members.{has_name, has_key, is_marked_at, is_noted_at}
+use Rattle.rq_catalog.specs.Grounds.{AreGroundsOf}
+use Rattle.rq_catalog.specs.Members.{is_marked_at, is_noted_at}
 
 while_open : (o m n : Bool) → ((o && n) || ((o && m) || false)) ≡ (o && ((m || n) || false))
 while_open true true true = refl
@@ -44,40 +42,32 @@ engaged_in_turn first second third es ns us u q two one by_notes by_marks none =
     (by_marks ∙ ap (λ l. (list_any (λ v. v == u) l && list_any (is_marked_at u q) es) || engages_at first u q) one
     ∙ ap (λ b. (list_any (λ v. v == u) us && list_any (is_marked_at u q) es) || b) none)
 
-pub starts : (c : Catalogue) (s : model.State) (ds : List model.Definition) (rs : List model.Registrant)
-    (us : List UnitNo) (es : List model.Element) (ns : List model.Note)
-    → ds ≡ s.definitions → rs ≡ s.registrants → map unit_of us ≡ s.units → es ≡ s.elements → ns ≡ s.notes
-    → ((n : List ℕ) → contains (pointwise nat_eq) c.names n ≡ list_any (has_name n) ds)
-    → c.errors.items ≡ map (λ (d : model.Definition). d.error) ds
-    → ((k : ℕ × List ℕ) → is_registered_in c.registrants k ≡ list_any (has_key k) rs)
-    → c.greatest ≡ s.greatest → c.committed ≡ s.committed → c.aborted ≡ s.aborted
+pub starts : (c : Catalogue) (s : model.State) (us : List UnitNo) (es : List model.Element) (ns : List model.Note)
+    → map unit_of us ≡ s.units → es ≡ s.elements → ns ≡ s.notes
+    → AreGroundsOf c.grounds s → c.committed ≡ s.committed → c.aborted ≡ s.aborted
     → numbers c.units ≡ map unit_of us
     → ((u : ℕ) → outcome_at c.units u
     ≡ (if list_any (λ v. v == u) (map unit_of us) then Some Open else None))
     → ((u q : ℕ) → engages_at c.units u q ≡ ((list_any (λ v. v == u) (map unit_of us) && list_any (is_noted_at u q) ns)
     || ((list_any (λ v. v == u) (map unit_of us) && list_any (is_marked_at u q) es) || false)))
-    → length c.touching.items ≡ length ds
+    → length c.touching.items ≡ length s.definitions
     → ((q : ℕ) → listed c.touching.items q ≡ [])
     → IsWellFormed s
     → Follows c s []
-starts c s ds rs us es ns d r u e n names errors registrants greatest committed aborted seen outcomes engaged queues
-    touching well = record {
-      names = λ x. names x ∙ ap (list_any (has_name x)) d;
-      errors = errors ∙ ap (map (λ (d : model.Definition). d.error)) d;
-      registrants = λ k. registrants k ∙ ap (list_any (has_key k)) r;
-      greatest = greatest;
-      committed = committed;
-      aborted = aborted;
-      outcomes = λ x. ap (option_map outcome_of) (outcomes x)
-          ∙ ap (λ us. option_map outcome_of (if list_any (λ v. v == x) us then Some Open else None)) u
-          ∙ by_cases (is_open s x) (λ b. option_map outcome_of (if b then Some Open else None)
-          ≡ (if b || false then Some machine.Open else None)) (λ _. refl) (λ _. refl);
-      units = seen ∙ u ∙ sym (append-nil s.units);
-      engaged = λ x q. engaged x q ∙ ap (λ us. (list_any (λ v. v == x) us && list_any (is_noted_at x q) ns)
-          || ((list_any (λ v. v == x) us && list_any (is_marked_at x q) es) || false)) u
-          ∙ (λ i. (is_open s x && list_any (is_noted_at x q) (n i))
-          || ((is_open s x && list_any (is_marked_at x q) (e i)) || false))
-          ∙ while_open (is_open s x) (list_any (is_marked_at x q) s.elements) (list_any (is_noted_at x q) s.notes);
-      queues = queues ∙ sym (length-map ds (λ (d : model.Definition). d.error)) ∙ ap length (sym errors);
-      touching = touching;
-    }
+starts c s us es ns u e n knows committed aborted seen outcomes engaged queues touching well = record {
+  knows = knows;
+  committed = committed;
+  aborted = aborted;
+  outcomes = λ x. ap (option_map outcome_of) (outcomes x)
+      ∙ ap (λ us. option_map outcome_of (if list_any (λ v. v == x) us then Some Open else None)) u
+      ∙ by_cases (is_open s x) (λ b. option_map outcome_of (if b then Some Open else None)
+      ≡ (if b || false then Some machine.Open else None)) (λ _. refl) (λ _. refl);
+  units = seen ∙ u ∙ sym (append-nil s.units);
+  engaged = λ x q. engaged x q ∙ ap (λ us. (list_any (λ v. v == x) us && list_any (is_noted_at x q) ns)
+      || ((list_any (λ v. v == x) us && list_any (is_marked_at x q) es) || false)) u
+      ∙ (λ i. (is_open s x && list_any (is_noted_at x q) (n i))
+      || ((is_open s x && list_any (is_marked_at x q) (e i)) || false))
+      ∙ while_open (is_open s x) (list_any (is_marked_at x q) s.elements) (list_any (is_noted_at x q) s.notes);
+  queues = queues;
+  touching = touching;
+}

@@ -17,10 +17,10 @@ use Rattle.rq_catalog.specs.declared.catalogue.Catalogue.{Catalogue}
 use Rattle.rq_catalog.specs.Lists.{numbered}
 use Rattle.rq_state.specs.Orders.{listed}
 use Rattle.rq_catalog.specs.Units.{numbers, has_unit, outcome_at}
-use Rattle.rq_catalog.specs.Catalogues.{Follows, HasRoom, KnowsUnit, Takes, may_take}
+use Rattle.rq_catalog.specs.Catalogues.{Follows, HasRoom, KnowsUnit, Takes}
 use Rattle.rq_catalog.specs.Analyses.{IsAnalysis}
 use Rattle.rq_catalog.proofs.Runs.{lawful_push, front_stops, front_whole, lawful_throughout}
-use Rattle.rq_catalog.proofs.Lawfulness.{lawful_here, open_here}
+use Rattle.rq_catalog.proofs.Opened.{open_here}
 use Rattle.rq_catalog.proofs.Seen.{open_again, open_seen, seen_below}
 use Rattle.rq_model.proofs.Lists.{filter_same, each_of, each_weaker}
 use Rattle.rq_model.proofs.Kept.{runs_are_well_formed}
@@ -66,8 +66,8 @@ module _ (version : Version) (c : Catalogue) (s : State) (rs : List Record) (n :
       }
 
   -- what the catalogue asks of the unit of a record that it may take
-  pub unit_here : (r : Record) → may_take version c r ≡ true → KnowsUnit c r
-  unit_here r may = at r (sym (lawful_here version c s (upto n rs) f well lawful r) ∙ may)
+  pub unit_here : (r : Record) → is_lawful version (run s (upto n rs)) (record_of r) ≡ true → KnowsUnit c r
+  unit_here r ok = at r ok
     where
       there : (u : ℕ) → is_open (run s (upto n rs)) u ≡ true → has_unit c.units u ≡ true
       there u h = ap (list_any (λ v. v == u)) f.units ∙ open_seen version s (upto n rs) well lawful u h
@@ -94,23 +94,26 @@ module _ (version : Version) (c : Catalogue) (s : State) (rs : List Record) (n :
       at (Checkpoint bytes) h = tt
       at (Kill queue element) h = tt
 
-  pub one_further : (d : Catalogue) (x : Record) → n < length rs → may_take version c (get_or rs n x) ≡ true
+  one_further : (d : Catalogue) (x : Record) → n < length rs
+      → is_lawful version (run s (upto n rs)) (record_of (get_or rs n x)) ≡ true
       → Takes c d (s.next + n, n) (get_or rs n x)
       → (all_lawful version s (upto (n + 1) rs) ≡ true) × Follows d s (upto (n + 1) rs)
-  one_further d x h may t =
-      let ok : is_lawful version (run s (upto n rs)) (record_of (get_or rs n x)) ≡ true =
-      sym (lawful_here version c s (upto n rs) f well lawful (get_or rs n x)) ∙ may in
+  one_further d x h ok t =
       subst (λ (l : List model.Record). (all_lawful version s l ≡ true) × Follows d s l) (upto_more n rs x h) (
         lawful_push version s (upto n rs) (record_of (get_or rs n x)) lawful ok,
         follows_step version c s (upto n rs) f well lawful d (get_or rs n x) ok
             (subst (λ k. Takes c d (s.next + k, k) (get_or rs n x)) (sym (length-upto n rs inside)) t),
       )
 
+  -- which units are open, by the catalogue
+  pub opens : (u : ℕ) → is_open_in (outcome_at c.units u) ≡ is_open (run s (upto n rs)) u
+  opens = open_here version c s (upto n rs) f well lawful
+
   open_units : filter (λ u. is_open_in (outcome_at c.units u)) (numbers c.units) ≡ (run s (upto n rs)).units
   open_units =
       filter_same (λ u. is_open_in (outcome_at c.units u)) (λ u. is_open (run s (upto n rs)) u) (numbers c.units)
       (each_of (λ u. is_open_in (outcome_at c.units u) ≡ is_open (run s (upto n rs)) u)
-      (open_here version c s (upto n rs) f well lawful) (numbers c.units))
+      opens (numbers c.units))
       ∙ ap (filter (λ u. is_open (run s (upto n rs)) u)) f.units ∙ open_again version s (upto n rs) well lawful
 
   front_here : lawful_front version s (map record_of rs) ≡ upto n rs
@@ -137,12 +140,13 @@ module _ (version : Version) (c : Catalogue) (s : State) (rs : List Record) (n :
       whole : upto n rs ≡ map record_of rs
       whole = ap (map record_of) (all rs n h)
 
-  pub ends_unlawful : (x : Record) → n < length rs → may_take version c (get_or rs n x) ≡ false
+  ends_unlawful : (x : Record) → n < length rs
+      → is_lawful version (run s (upto n rs)) (record_of (get_or rs n x)) ≡ false
       → IsAnalysis version s (map record_of rs) (record { lawful = n; catalogue = c })
-  ends_unlawful x h may =
+  ends_unlawful x h unlawful =
       front_here (ap (lawful_front version s) (sym whole)
       ∙ front_stops version s (upto n rs) (record_of (get_or rs n x)) (map record_of (drop (suc n) rs)) lawful
-      (sym (lawful_here version c s (upto n rs) f well lawful (get_or rs n x)) ∙ may))
+      unlawful)
     where
       parts : (rs : List Record) (n : ℕ) → n < length rs → take n rs ++ get_or rs n x ∷ drop (suc n) rs ≡ rs
       parts [] n h = let no : ⊥ = omega (arith, h) in absurd no
@@ -153,14 +157,18 @@ module _ (version : Version) (c : Catalogue) (s : State) (rs : List Record) (n :
       whole = sym (map-append record_of (take n rs) (get_or rs n x ∷ drop (suc n) rs))
           ∙ ap (map record_of) (parts rs n h)
 
-  pub one_on : (d : Catalogue) (r : Record) → r ≡ get_or rs n r → n < length rs → may_take version c r ≡ true
-      → Takes c d (s.next + n, n) r → (all_lawful version s (upto (n + 1) rs) ≡ true) × Follows d s (upto (n + 1) rs)
-  one_on d r e h may t = one_further d r h (sym (ap (may_take version c) e) ∙ may)
+  pub one_on : (d : Catalogue) (r : Record) → r ≡ get_or rs n r → n < length rs
+      → is_lawful version (run s (upto n rs)) (record_of r) ≡ true → Takes c d (s.next + n, n) r
+      → (all_lawful version s (upto (n + 1) rs) ≡ true) × Follows d s (upto (n + 1) rs)
+  one_on d r e h ok t =
+      one_further d r h (subst (λ (x : Record). is_lawful version (run s (upto n rs)) (record_of x) ≡ true) e ok)
       (subst (Takes c d (s.next + n, n)) e t)
 
-  pub ends_at_one : (r : Record) → r ≡ get_or rs n r → n < length rs → may_take version c r ≡ false
+  pub ends_at_one : (r : Record) → r ≡ get_or rs n r → n < length rs
+      → is_lawful version (run s (upto n rs)) (record_of r) ≡ false
       → IsAnalysis version s (map record_of rs) (record { lawful = n; catalogue = c })
-  ends_at_one r e h may = ends_unlawful r h (sym (ap (may_take version c) e) ∙ may)
+  ends_at_one r e h unlawful =
+      ends_unlawful r h (subst (λ (x : Record). is_lawful version (run s (upto n rs)) (record_of x) ≡ false) e unlawful)
 
 -- if an analysis goes on, all records so far are lawful, and its catalogue follows them
 pub goes_on : (version : Version) (c : Catalogue) (s : State) (rs : List Record) (n : ℕ) → n ≤ length rs

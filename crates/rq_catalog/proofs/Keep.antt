@@ -1,23 +1,21 @@
 -- A lawful record keeps the agreement of the catalogue with the run.
-use Rattle.std.proofs.Common.{◌≡◌, ℕ, suc, ◌+◌, ◌-◌, ◌<◌, ◌≤◌, Bool, true, false, cond, not, ◌&&◌, ◌||◌, List, [], ◌∷◌}
+use Rattle.std.proofs.Common.{◌≡◌, ℕ, suc, ◌+◌, ◌-◌, ◌<◌, ◌≤◌, Bool, true, false, cond, ◌&&◌, ◌||◌, List, [], ◌∷◌}
 use Rattle.std.proofs.Common.{◌++◌, length, Option, Some, None, map, refl, sym, ap, ◌∙◌, subst, arith}
 use Rattle.std.specs.Prelude.{◌==◌, nat_lt, nat_eq, if◌then◌else◌, option_map}
-use Rattle.std.specs.List.{filter, list_any, AllByRecursion}
+use Rattle.std.specs.List.{list_any, AllByRecursion}
 use Rattle.std.specs.Str.{bytes_eq}
-use Rattle.std.specs.Cmp.Lexicographic.{pointwise}
-use Rattle.std.proofs.lemmas.Bool.{cases_Bool, and_parts, and_from, eqb-true, eq-eqb, ltb-true, lt-ltb, false≢true}
+use Rattle.std.proofs.lemmas.Bool.{and_parts, eqb-true, ltb-true, lt-ltb, false≢true}
 use Rattle.std.proofs.lemmas.List.{map-append, length-append, append-nil}
 use Rattle.rq_model.specs.Records as model
 use Rattle.rq_model.specs.Records.{Version}
-use Rattle.rq_model.specs.States.{State, Definition, Registrant, Element, Note, is_registrant, put, registrant_before}
+use Rattle.rq_model.specs.States.{State, Registrant, Element, Note, is_registrant}
 use Rattle.rq_model.specs.Machine as machine
 use Rattle.rq_model.specs.Machine.{is_lawful, all_lawful, is_open, is_registered, is_known}
 use Rattle.rq_model.specs.Machine.{step, run, outcome_from, outcome, begins}
 use Rattle.rq_model.specs.Queues.{Op, is_engaged, is_marked, engages, touches, touching_from, touching}
 use Rattle.rq_model.specs.WellFormed.{IsWellFormed}
 use Rattle.rq_model.proofs.Lists.{by_cases, each_weaker}
-use Rattle.rq_model.proofs.WellFormedRuns.{any_put}
-use Rattle.rq_model.proofs.Decided.{any_map, element_homes, note_queues, registrant_queues}
+use Rattle.rq_model.proofs.Decided.{element_homes, note_queues, registrant_queues}
 use Rattle.rq_model.proofs.Kept.{runs_are_well_formed}
 use Rattle.rq_record.specs.declared.record.RecordOf.TheVariants.{Define, Register, Deregister, Begin, Enqueue, Dequeue}
 use Rattle.rq_record.specs.declared.record.RecordOf.TheVariants.{Commit, Abort, Checkpoint, Kill}
@@ -29,21 +27,17 @@ use Rattle.rq_catalog.specs.Lists.{numbered, place_and_index}
 use Rattle.rq_catalog.specs.Units.{outcome_at, engages_at}
 use Rattle.rq_state.specs.Orders.{listed}
 use Rattle.rq_catalog.specs.Outcomes.{outcome_of}
-use Rattle.rq_catalog.specs.Registered.{key_eq}
-use Rattle.rq_catalog.specs.Catalogues.{names_after, defines, errors_after, registered_after, greatest_by}
-use Rattle.rq_catalog.specs.Catalogues.{outcome_after, begun_after, committed_after, aborted_after, engaged_after}
+use Rattle.rq_catalog.specs.Grounds.{AreGroundsOf}
+use Rattle.rq_catalog.specs.Catalogues.{outcome_after, begun_after, engaged_after}
 use Rattle.rq_catalog.specs.Catalogues.{touches_in, Takes}
 use Rattle.rq_catalog.specs.Catalogues.{Follows}
 use Rattle.rq_catalog.proofs.Runs.{run_push, any_push, first, from_push, is_open_outcome, open_by_outcome, unseen}
 use Rattle.rq_catalog.proofs.Runs.{touching_push}
-use Rattle.rq_catalog.proofs.Lawfulness.{count}
 use Rattle.rq_catalog.proofs.Seen.{numbers_step}
 use Rattle.rq_catalog.proofs.Engaged.{or_false, any_holds, engaged_step}
-use Rattle.rq_model.proofs.Parts.{any_filter}
 use Rattle.rq_model.proofs.ByQueue.{run_definitions}
 use Rattle.rq_model.specs.Queues.{defined_by}
 use Rattle.rq_model.proofs.Lists.{each_map}
-use Rattle.std.proofs.lemmas.Slice.Eq.{bytes_eq-Decides}
 
 -- Booleans.
 
@@ -52,156 +46,6 @@ or_true true true = refl
 or_true false true = refl
 or_true true false = refl
 or_true false false = refl
-
-cond_or : (a b : Bool) → cond b true a ≡ (a || b)
-cond_or true true = refl
-cond_or false true = refl
-cond_or true false = refl
-cond_or false false = refl
-
-cond_or_first : (a b : Bool) → cond b true a ≡ (b || a)
-cond_or_first a true = refl
-cond_or_first a false = refl
-
--- Names and registrants.
-
-pub names_step : (t : State) (r : Record) (n : List ℕ)
-    → names_after r n (list_any (λ (d : Definition). bytes_eq d.name n) t.definitions)
-    ≡ list_any (λ (d : Definition). bytes_eq d.name n) (step t (record_of r)).definitions
-names_step t (Define limit error name) n =
-    cond_or (list_any (λ (d : Definition). bytes_eq d.name n) t.definitions) (bytes_eq name n)
-    ∙ sym (any_push (λ (d : Definition). bytes_eq d.name n) t.definitions
-    (record { limit = limit; error = error.0; name = name }))
-names_step t (Register queue name) n = refl
-names_step t (Deregister queue name) n = refl
-names_step t (Begin unit) n = refl
-names_step t (Enqueue priority queue unit by payload) n = refl
-names_step t (Dequeue unit queue by) n = refl
-names_step t (Commit unit) n = refl
-names_step t (Abort unit) n = refl
-names_step t (Checkpoint bytes) n = refl
-names_step t (Kill queue element) n = refl
-
-pub errors_step : (t : State) (r : Record) → errors_after r (map (λ (d : Definition). d.error) t.definitions)
-    ≡ map (λ (d : Definition). d.error) (step t (record_of r)).definitions
-errors_step t (Define limit error name) =
-    sym (map-append (λ (d : Definition). d.error) t.definitions
-    (record { limit = limit; error = error.0; name = name } ∷ []))
-errors_step t (Register queue name) = refl
-errors_step t (Deregister queue name) = refl
-errors_step t (Begin unit) = refl
-errors_step t (Enqueue priority queue unit by payload) = refl
-errors_step t (Dequeue unit queue by) = refl
-errors_step t (Commit unit) = refl
-errors_step t (Abort unit) = refl
-errors_step t (Checkpoint bytes) = refl
-errors_step t (Kill queue element) = refl
-
-module _ (q : ℕ) (n : List ℕ) (k : ℕ × List ℕ) where
-  key_parts : key_eq (q, n) k ≡ true → (q ≡ k.0) × (n ≡ k.1)
-  key_parts h = let p = and_parts (nat_eq q k.0) (pointwise nat_eq n k.1) h in
-      (eqb-true q k.0 p.0, (bytes_eq-Decides n k.1).0 p.1)
-
-  -- a registrant of both keys
-  same_key : (r : Registrant) → is_registrant q n r ≡ true → is_registrant k.0 k.1 r ≡ true → key_eq (q, n) k ≡ true
-  same_key r a b =
-      let x = and_parts (r.queue == q) (bytes_eq r.name n) a in
-      let y = and_parts (r.queue == k.0) (bytes_eq r.name k.1) b in
-      and_from (nat_eq q k.0) (pointwise nat_eq n k.1)
-      (eq-eqb q k.0 (sym (eqb-true r.queue q x.0) ∙ eqb-true r.queue k.0 y.0))
-      ((bytes_eq-Decides n k.1).1 (sym ((bytes_eq-Decides r.name n).0 x.1) ∙ (bytes_eq-Decides r.name k.1).0 y.1))
-
-  deregistered_step : (rs : List Registrant) → cond (key_eq (q, n) k) false (list_any (is_registrant k.0 k.1) rs)
-      ≡ list_any (is_registrant k.0 k.1) (filter (λ r. not (is_registrant q n r)) rs)
-  deregistered_step rs = by_cases (key_eq (q, n) k)
-      (λ b. key_eq (q, n) k ≡ b → cond b false (list_any (is_registrant k.0 k.1) rs)
-      ≡ list_any (is_registrant k.0 k.1) (filter (λ r. not (is_registrant q n r)) rs))
-      (λ _ e. sym (gone (key_parts e) rs))
-      (λ _ e. sym (any_filter (is_registrant k.0 k.1) (λ r. not (is_registrant q n r))
-      (λ r p. ap not (other e r p)) rs)) refl
-    where
-      other : key_eq (q, n) k ≡ false → (r : Registrant) → is_registrant k.0 k.1 r ≡ true → is_registrant q n r ≡ false
-      other e r p = by_cases (is_registrant q n r) (λ b. is_registrant q n r ≡ b → b ≡ false)
-          (λ _ h. absurd (false≢true (sym e ∙ same_key r h p))) (λ _ _. refl) refl
-
-      gone : (q ≡ k.0) × (n ≡ k.1) → (rs : List Registrant)
-          → list_any (is_registrant k.0 k.1) (filter (λ r. not (is_registrant q n r)) rs) ≡ false
-      gone e rs = ap (λ l. l)
-          (subst (λ m. list_any (is_registrant k.0 m) (filter (λ r. not (is_registrant q n r)) rs) ≡ false) e.1
-          (subst (λ p. list_any (is_registrant p n) (filter (λ r. not (is_registrant q n r)) rs) ≡ false) e.0
-          (none (is_registrant q n) rs)))
-        where
-          none : (p : Registrant → Bool) (rs : List Registrant) → list_any p (filter (λ r. not (p r)) rs) ≡ false
-          none p [] = refl
-          none p (r ∷ rs) = grind (arith, none p rs, cases_Bool (p r))
-
-  registered_step : (rs : List Registrant) → cond (key_eq (q, n) k) true (list_any (is_registrant k.0 k.1) rs)
-      ≡ list_any (is_registrant k.0 k.1) (machine.registered q n rs)
-  registered_step rs =
-      by_cases (list_any (is_registrant q n) rs)
-      (λ b. list_any (is_registrant q n) rs ≡ b → cond (key_eq (q, n) k) true (list_any (is_registrant k.0 k.1) rs)
-      ≡ list_any (is_registrant k.0 k.1)
-      (if b then rs else put registrant_before (record { queue = q; name = n; last = None }) rs))
-      (λ _ e. by_cases (key_eq (q, n) k)
-      (λ b. key_eq (q, n) k ≡ b → cond b true (list_any (is_registrant k.0 k.1) rs)
-      ≡ list_any (is_registrant k.0 k.1) rs)
-      (λ _ h. let p = key_parts h in
-      sym (subst (λ m. list_any (is_registrant k.0 m) rs ≡ true) p.1
-      (subst (λ l. list_any (is_registrant l n) rs ≡ true) p.0 e))) (λ _ _. refl) refl)
-      (λ _ _. cond_or_first (list_any (is_registrant k.0 k.1) rs) (key_eq (q, n) k)
-      ∙ sym (any_put (is_registrant k.0 k.1) registrant_before (record { queue = q; name = n; last = None }) rs))
-      refl
-
-pub registrants_step : (t : State) (r : Record) (k : ℕ × List ℕ)
-    → registered_after r k (is_registered t k.0 k.1) ≡ is_registered (step t (record_of r)) k.0 k.1
-registrants_step t (Register queue name) k = registered_step queue.0 name k t.registrants
-registrants_step t (Deregister queue name) k = deregistered_step queue.0 name k t.registrants
-registrants_step t (Commit unit) k = sym (any_map (machine.told unit.0 t.notes) (is_registrant k.0 k.1) t.registrants)
-registrants_step t (Define limit error name) k = refl
-registrants_step t (Begin unit) k = refl
-registrants_step t (Enqueue priority queue unit by payload) k = refl
-registrants_step t (Dequeue unit queue by) k = refl
-registrants_step t (Abort unit) k = refl
-registrants_step t (Checkpoint bytes) k = refl
-registrants_step t (Kill queue element) k = refl
-
-pub greatest_step : (t : State) (r : Record) → greatest_by r t.greatest ≡ (step t (record_of r)).greatest
-greatest_step t (Begin unit) = refl
-greatest_step t (Register queue name) = refl
-greatest_step t (Deregister queue name) = refl
-greatest_step t (Commit unit) = refl
-greatest_step t (Define limit error name) = refl
-greatest_step t (Enqueue priority queue unit by payload) = refl
-greatest_step t (Dequeue unit queue by) = refl
-greatest_step t (Abort unit) = refl
-greatest_step t (Checkpoint bytes) = refl
-greatest_step t (Kill queue element) = refl
-
--- Counts.
-
-committed_step : (t : State) (r : Record) → committed_after r t.committed ≡ (step t (record_of r)).committed
-committed_step t (Define limit error name) = refl
-committed_step t (Register queue name) = refl
-committed_step t (Deregister queue name) = refl
-committed_step t (Begin unit) = refl
-committed_step t (Enqueue priority queue unit by payload) = refl
-committed_step t (Dequeue unit queue by) = refl
-committed_step t (Commit unit) = refl
-committed_step t (Abort unit) = refl
-committed_step t (Checkpoint bytes) = refl
-committed_step t (Kill queue element) = refl
-
-aborted_step : (t : State) (r : Record) → aborted_after r t.aborted ≡ (step t (record_of r)).aborted
-aborted_step t (Define limit error name) = refl
-aborted_step t (Register queue name) = refl
-aborted_step t (Deregister queue name) = refl
-aborted_step t (Begin unit) = refl
-aborted_step t (Enqueue priority queue unit by payload) = refl
-aborted_step t (Dequeue unit queue by) = refl
-aborted_step t (Commit unit) = refl
-aborted_step t (Abort unit) = refl
-aborted_step t (Checkpoint bytes) = refl
-aborted_step t (Kill queue element) = refl
 
 -- Outcomes.
 
@@ -390,7 +234,7 @@ module _ (version : Version) (c : Catalogue) (s : State) (xs : List model.Record
 
   touches_step : (r : Record) (q : ℕ) → is_lawful version (run s xs) (record_of r) ≡ true
       → (touches_in c r q && nat_lt q (length c.touching.items)) ≡ touches s xs q (record_of r)
-  touches_step r q ok = ap (λ n. touches_in c r q && nat_lt q n) (f.queues ∙ count c s xs f) ∙ at r ok
+  touches_step r q ok = ap (λ n. touches_in c r q && nat_lt q n) f.queues ∙ at r ok
     where
       closing : (u : ℕ) → is_open (run s xs) u ≡ true
           → (engages_at c.units u q && nat_lt q (length (run s xs).definitions))
@@ -436,25 +280,17 @@ module _ (version : Version) (c : Catalogue) (s : State) (xs : List model.Record
   pub follows_step : (d : Catalogue) (r : Record) → is_lawful version (run s xs) (record_of r) ≡ true
       → Takes c d (s.next + length xs, length xs) r → Follows d s (xs ++ record_of r ∷ [])
   follows_step d r ok t = record {
-    names = λ n. t.names n ∙ ap (names_after r n) (f.names n) ∙ names_step (run s xs) r n
-        ∙ ap (λ (z : State). list_any (λ (d : Definition). bytes_eq d.name n) z.definitions) back;
-    errors = t.errors ∙ ap (errors_after r) f.errors ∙ errors_step (run s xs) r
-        ∙ ap (λ (z : State). map (λ (d : Definition). d.error) z.definitions) back;
-    registrants = λ k. t.registrants k ∙ ap (registered_after r k) (f.registrants k) ∙ registrants_step (run s xs) r k
-        ∙ ap (λ z. is_registered z k.0 k.1) back;
-    greatest = t.greatest ∙ ap (greatest_by r) f.greatest ∙ greatest_step (run s xs) r
-        ∙ ap (λ (z : State). z.greatest) back;
+    knows = subst (AreGroundsOf d.grounds) back (t.grounds (run s xs) f.knows);
     outcomes = λ u. ap (option_map outcome_of) (t.outcomes u)
         ∙ outcomes_step version s xs r u (outcome_at c.units u) well lawful ok (f.outcomes u);
     units = t.numbers ∙ ap (begun_after r) f.units ∙ numbers_step s xs r;
-    committed = t.committed ∙ ap (committed_after r) f.committed ∙ committed_step (run s xs) r
-        ∙ ap (λ (z : State). z.committed) back;
-    aborted = t.aborted ∙ ap (aborted_after r) f.aborted ∙ aborted_step (run s xs) r
-        ∙ ap (λ (z : State). z.aborted) back;
+    committed = t.committed (run s xs) f.committed ∙ ap (λ (z : State). z.committed) back;
+    aborted = t.aborted (run s xs) f.aborted ∙ ap (λ (z : State). z.aborted) back;
     engaged = λ u q. t.engaged u q ∙ ap (engaged_after r u q) (f.engaged u q)
         ∙ engaged_step version s xs r u q well lawful ok
         ∙ ap (λ z. is_open z u && (is_engaged s q u || list_any (engages q u) (xs ++ record_of r ∷ []))) back;
-    queues = t.queues ∙ ap (λ n. n + defines r) f.queues ∙ longer r c.errors.items ∙ ap length (sym t.errors);
+    queues = t.queues ∙ ap (λ n. n + length (defined_by (record_of r ∷ []))) f.queues ∙ longer
+        ∙ ap (λ (z : State). length z.definitions) back;
     touching = λ q. t.touching q
         ∙ ap (λ b. if b then listed c.touching.items q ++ (s.next + length xs, length xs)
         ∷ [] else listed c.touching.items q) (touches_step r q ok)
@@ -465,17 +301,10 @@ module _ (version : Version) (c : Catalogue) (s : State) (xs : List model.Record
       back : step (run s xs) (record_of r) ≡ run s (xs ++ record_of r ∷ [])
       back = sym (run_push s xs (record_of r))
 
-      longer : (r : Record) (es : List ℕ) → length es + defines r ≡ length (errors_after r es)
-      longer (Define limit error name) es = sym (length-append es (error.0 ∷ []))
-      longer (Register queue name) es = omega arith
-      longer (Deregister queue name) es = omega arith
-      longer (Begin unit) es = omega arith
-      longer (Enqueue priority queue unit by payload) es = omega arith
-      longer (Dequeue unit queue by) es = omega arith
-      longer (Commit unit) es = omega arith
-      longer (Abort unit) es = omega arith
-      longer (Checkpoint bytes) es = omega arith
-      longer (Kill queue element) es = omega arith
+      longer : length (run s xs).definitions + length (defined_by (record_of r ∷ []))
+          ≡ length (step (run s xs) (record_of r)).definitions
+      longer = sym (ap length (run_definitions (run s xs) (record_of r ∷ []))
+          ∙ length-append (run s xs).definitions (defined_by (record_of r ∷ [])))
 
 -- Places.
 

@@ -4,11 +4,11 @@ pub mod Rising
 pub mod Once
 pub mod Runs
 pub mod Fronts
-pub mod Lawfulness
+pub mod Opened
+pub mod Knowing
 pub mod Engaged
 pub mod Seen
 pub mod Keep
 pub mod Begins
 pub mod Ends
 pub mod Again
-pub mod Judges

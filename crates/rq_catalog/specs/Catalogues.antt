@@ -1,85 +1,27 @@
--- What a catalogue knows, and when a record is lawful by it.
-use Rattle.std.specs.Prelude.{ℕ, Bool, true, false, not, ◌&&◌, ◌||◌, ◌==◌, ◌≡◌, ◌+◌, ◌<◌, ◌^◌, cond}
-use Rattle.std.specs.Prelude.{nat_lt, nat_le, nat_eq, if◌then◌else◌, List, [], ◌∷◌, ◌++◌, length}
-use Rattle.std.specs.Prelude.{Option, Some, option_map, slice_index_or, map, ⊤}
-use Rattle.std.specs.Cmp.Lexicographic.{pointwise}
-use Rattle.indexmap.specs.IndexSet.{contains}
-use Rattle.rq_model.specs.Records.{By, Version, One, Two, no_queue}
+-- What a catalogue knows, and what a record changes in it.
+use Rattle.std.specs.Prelude.{ℕ, Bool, true, false, ◌&&◌, ◌||◌, ◌==◌, ◌≡◌, ◌+◌, ◌<◌, ◌^◌, cond}
+use Rattle.std.specs.Prelude.{nat_lt, nat_eq, if◌then◌else◌, List, [], ◌∷◌, ◌++◌, length}
+use Rattle.std.specs.Prelude.{Option, Some, option_map, ⊤}
 use Rattle.rq_model.specs.Records as model
-use Rattle.rq_model.specs.States.{State, Definition}
-use Rattle.rq_model.specs.Machine.{is_open, is_registered, run, outcome}
+use Rattle.rq_model.specs.States.{State}
+use Rattle.rq_model.specs.Machine.{is_open, run, step, outcome}
 use Rattle.std.specs.List.{list_any, AllByRecursion}
-use Rattle.std.specs.Str.{bytes_eq}
 use Rattle.rq_model.specs.Laws.{begun}
-use Rattle.rq_model.specs.Queues.{is_engaged, engages}
-use Rattle.rq_record.specs.Views.{Record}
-use Rattle.rq_record.specs.declared.record.RecordOf.TheVariants.{Define, Register, Deregister, Begin}
+use Rattle.rq_model.specs.Queues.{is_engaged, engages, defined_by}
+use Rattle.rq_record.specs.Views.{Record, record_of}
+use Rattle.rq_record.specs.declared.record.RecordOf.TheVariants.{Register, Deregister, Begin}
 use Rattle.rq_record.specs.declared.record.RecordOf.TheVariants.{Enqueue, Dequeue, Commit, Abort}
-use Rattle.rq_record.specs.declared.record.RecordOf.TheVariants.{Checkpoint, Kill}
-use Rattle.rq_catalog.specs.Outcomes.{is_open_in, outcome_of}
+use Rattle.rq_record.specs.declared.record.RecordOf.TheVariants.{Kill}
+use Rattle.rq_catalog.specs.Outcomes.{outcome_of}
 use Rattle.rq_catalog.specs.Lists.{numbered}
-use Rattle.rq_catalog.specs.Registered.{key_eq, is_registered_in, is_known_in}
+use Rattle.rq_catalog.specs.Grounds.{AreGroundsOf}
 use Rattle.rq_catalog.specs.Units.{numbers, has_unit, outcome_at, engages_at}
 use Rattle.rq_state.specs.Orders.{listed}
 use Rattle.rq_catalog.specs.declared.outcome.Outcome.{Outcome}
 use Rattle.rq_catalog.specs.declared.outcome.Outcome.TheVariants.{Committed, Aborted, Open}
 use Rattle.rq_catalog.specs.declared.catalogue.Catalogue.{Catalogue}
 
--- an error queue of version 1 has no error queue itself
-abbrev pub may_be_error_in : Version → List ℕ → ℕ → Bool
-may_be_error_in One errors error = slice_index_or errors error no_queue == no_queue
-may_be_error_in Two errors error = true
-
-abbrev pub is_limit_in : Version → List ℕ → ℕ → ℕ → Bool
-is_limit_in version errors limit error =
-    if limit == 0 then error == no_queue
-    else (nat_le limit 1000
-    && (nat_lt error (length errors) && may_be_error_in version errors error))
-
--- version 1 has no KILL
-abbrev pub may_kill_in : Version → List ℕ → ℕ → Bool
-may_kill_in One errors queue = false
-may_kill_in Two errors queue = nat_lt queue (length errors)
-
--- the record is lawful by the catalogue
-abbrev pub may_take : Version → Catalogue → Record → Bool
-may_take version c (Define limit error name) = is_limit_in version c.errors.items limit error.0
-    && (nat_lt (length c.errors.items) 4096 && not (contains (pointwise nat_eq) c.names name))
-may_take version c (Register queue name) = nat_lt queue.0 (length c.errors.items)
-may_take version c (Deregister queue name) = is_registered_in c.registrants (queue.0, name)
-may_take version c (Begin unit) = nat_lt c.greatest unit.0
-may_take version c (Enqueue priority queue unit by payload) = nat_lt queue.0 (length c.errors.items)
-    && (is_open_in (outcome_at c.units unit.0) && is_known_in c.registrants queue.0 by)
-may_take version c (Dequeue unit queue by) = nat_lt queue.0 (length c.errors.items)
-    && (is_open_in (outcome_at c.units unit.0) && is_known_in c.registrants queue.0 by)
-may_take version c (Commit unit) = is_open_in (outcome_at c.units unit.0)
-may_take version c (Abort unit) = is_open_in (outcome_at c.units unit.0)
-may_take version c (Checkpoint bytes) = true
-may_take version c (Kill queue element) = may_kill_in version c.errors.items queue.0
-
 -- What a record changes, field by field.
-
-abbrev pub names_after : Record → List ℕ → Bool → Bool
-names_after (Define limit error name) n old = cond (pointwise nat_eq name n) true old
-names_after r n old = old
-
--- how many queues it defines
-abbrev pub defines : Record → ℕ
-defines (Define limit error name) = 1
-defines r = 0
-
-abbrev pub errors_after : Record → List ℕ → List ℕ
-errors_after (Define limit error name) old = old ++ error.0 ∷ []
-errors_after r old = old
-
-abbrev pub registered_after : Record → ℕ × List ℕ → Bool → Bool
-registered_after (Register queue name) k old = cond (key_eq (queue.0, name) k) true old
-registered_after (Deregister queue name) k old = cond (key_eq (queue.0, name) k) false old
-registered_after r k old = old
-
-abbrev pub greatest_by : Record → ℕ → ℕ
-greatest_by (Begin unit) old = unit.0
-greatest_by r old = old
 
 abbrev pub outcome_after : ℕ → Record → ℕ → Option Outcome → Option Outcome
 outcome_after place (Begin unit) u old = cond (nat_eq unit.0 u) (Some Open) old
@@ -91,14 +33,6 @@ outcome_after place r u old = old
 abbrev pub begun_after : Record → List ℕ → List ℕ
 begun_after (Begin unit) old = old ++ unit.0 ∷ []
 begun_after r old = old
-
-abbrev pub committed_after : Record → ℕ → ℕ
-committed_after (Commit unit) old = old + 1
-committed_after r old = old
-
-abbrev pub aborted_after : Record → ℕ → ℕ
-aborted_after (Abort unit) old = old + 1
-aborted_after r old = old
 
 -- the queues of a unit are kept while it is open
 abbrev pub engaged_after : Record → ℕ → ℕ → Bool → Bool
@@ -137,36 +71,28 @@ KnowsUnit c r = ⊤
 
 -- d is c after the record
 pub record Takes (c d : Catalogue) (op : ℕ × ℕ) (r : Record) : Type 0 where
-  pub names : (n : List ℕ) → contains (pointwise nat_eq) d.names n
-      ≡ names_after r n (contains (pointwise nat_eq) c.names n)
-  pub errors : d.errors.items ≡ errors_after r c.errors.items
-  pub registrants : (k : ℕ × List ℕ) →
-      is_registered_in d.registrants k ≡ registered_after r k (is_registered_in c.registrants k)
-  pub greatest : d.greatest ≡ greatest_by r c.greatest
+  pub grounds : (s : State) → AreGroundsOf c.grounds s → AreGroundsOf d.grounds (step s (record_of r))
   pub outcomes : (u : ℕ) →
       outcome_at d.units u ≡ outcome_after op.0 r u (outcome_at c.units u)
   pub numbers : numbers d.units ≡ begun_after r (numbers c.units)
-  pub committed : d.committed ≡ committed_after r c.committed
-  pub aborted : d.aborted ≡ aborted_after r c.aborted
+  pub committed : (s : State) → c.committed ≡ s.committed
+      → d.committed ≡ (step s (record_of r)).committed
+  pub aborted : (s : State) → c.aborted ≡ s.aborted → d.aborted ≡ (step s (record_of r)).aborted
   pub engaged : (u q : ℕ) → engages_at d.units u q ≡ engaged_after r u q (engages_at c.units u q)
-  pub queues : length d.touching.items ≡ length c.touching.items + defines r
+  pub queues : length d.touching.items ≡ length c.touching.items
+      + length (defined_by (record_of r ∷ []))
   pub touching : (q : ℕ) →
       listed d.touching.items q ≡ (if touches_in c r q && nat_lt q (length c.touching.items)
       then listed c.touching.items q ++ op ∷ [] else listed c.touching.items q)
 
 -- the catalogue agrees with the run of xs from s
 pub record Follows (c : Catalogue) (s : State) (xs : List model.Record) : Type 0 where
-  pub names : (n : List ℕ) → contains (pointwise nat_eq) c.names n
-      ≡ list_any (λ (d : Definition). bytes_eq d.name n) (run s xs).definitions
-  pub errors : c.errors.items ≡ map (λ (d : Definition). d.error) (run s xs).definitions
-  pub registrants : (k : ℕ × List ℕ) →
-      is_registered_in c.registrants k ≡ is_registered (run s xs) k.0 k.1
-  pub greatest : c.greatest ≡ (run s xs).greatest
+  pub knows : AreGroundsOf c.grounds (run s xs)
   pub outcomes : (u : ℕ) → option_map outcome_of (outcome_at c.units u) ≡ outcome s xs u
   pub units : numbers c.units ≡ s.units ++ begun xs
   pub committed : c.committed ≡ (run s xs).committed
   pub aborted : c.aborted ≡ (run s xs).aborted
   pub engaged : (u q : ℕ) → engages_at c.units u q
       ≡ (is_open (run s xs) u && (is_engaged s q u || list_any (engages q u) xs))
-  pub queues : length c.touching.items ≡ length c.errors.items
+  pub queues : length c.touching.items ≡ length (run s xs).definitions
   pub touching : (q : ℕ) → listed c.touching.items q ≡ numbered s xs q

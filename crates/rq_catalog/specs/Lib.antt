@@ -3,6 +3,7 @@ pub mod Lists
 pub mod Members
 pub mod Catalogues
 pub mod Analyses
+pub mod Grounds
 pub mod Judges
 pub mod Units
 pub mod Registered

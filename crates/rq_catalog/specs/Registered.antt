@@ -1,12 +1,10 @@
 -- Who is registered with which queue.
-use Rattle.std.specs.Prelude.{ℕ, Bool, true, ◌&&◌, nat_eq, List, [], map, slice_index_or}
-use Rattle.std.specs.Prelude.{Option, Some, None}
+use Rattle.std.specs.Prelude.{ℕ, Bool, ◌&&◌, nat_eq, List, [], map, slice_index_or}
 use Rattle.std.specs.List.{list_any}
 use Rattle.std.specs.Ordering.{nat_cmp}
 use Rattle.std.specs.Cmp.Lexicographic.{pointwise, slice_cmp}
 use Rattle.std.specs.BTreeMap.{is_at}
 use Rattle.std.specs.BTreeSet.{BTreeSet}
-use Rattle.rq_model.specs.Records.{By}
 use Rattle.rq_catalog.specs.declared.registrants.RegisteredNames.{RegisteredNames}
 
 -- the same queue and the same name
@@ -24,8 +22,3 @@ is_on_roll sets k = list_any (is_at (slice_cmp nat_cmp k.1)) (names_with sets k.
 -- the name is registered with the queue
 abbrev pub is_registered_in : RegisteredNames → ℕ × List ℕ → Bool
 is_registered_in registrants k = is_on_roll registrants.by_queue.items k
-
--- nobody is named, or somebody who is registered with the queue is
-abbrev pub is_known_in : RegisteredNames → ℕ → Option By → Bool
-is_known_in registrants queue None = true
-is_known_in registrants queue (Some by) = is_registered_in registrants (queue, by.name)

@@ -17,7 +17,7 @@ use crate::catalogue::Catalogue;
 use crate::outcome::Outcome;
 use crate::start::catalogue_of;
 use rq_record::{Fault, KeptRecord, QueueNo, Record, UnitNo, Version, kept_records};
-use rq_state::State;
+use rq_state::{Definition, State};
 use std::alloc::Global;
 
 /// What one pass over a list of records finds: how many of them are lawful, what became of each
@@ -133,6 +133,21 @@ impl Analysis {
             Some(ops) => ops,
             None => &[],
         }
+    }
+
+    /// The queues after the lawful records, by number: those of the state, and those that records
+    /// defined.
+    pub fn definitions(&self) -> &[Definition]
+        ensures { result.now ≡ self.now.catalogue.grounds.definitions.items }
+    {
+        &self.catalogue.grounds.definitions
+    }
+
+    /// The greatest unit that began, up to the last lawful record; 0 if none did.
+    pub fn greatest(&self) -> u64
+        ensures { result ≡ self.now.catalogue.grounds.greatest }
+    {
+        self.catalogue.grounds.greatest
     }
 
     /// How many units are committed after the lawful records, those of the state included.

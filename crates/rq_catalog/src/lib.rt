@@ -3,7 +3,7 @@
 
 mod analysis;
 mod catalogue;
-mod error_queues;
+mod grounds;
 mod judge;
 mod lists;
 mod outcome;

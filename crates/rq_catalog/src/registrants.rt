@@ -2,9 +2,9 @@
 
 ghost use Rattle.std.specs.Prelude.{◌≡◌, ◌<◌, ℕ, List, length, cond, true, false, OnOk, IfErr};
 ghost use Rattle.rq_record.specs.declared.fault.Fault.TheVariants.{Resources};
-ghost use Rattle.rq_catalog.specs.Registered.{key_eq, is_registered_in, is_known_in};
+ghost use Rattle.rq_catalog.specs.Registered.{key_eq, is_registered_in};
 
-use rq_record::{Fault, KeptBy, KeptName, Name};
+use rq_record::{Fault, KeptName, Name};
 use std::alloc::Global;
 use std::collections::BTreeSet;
 
@@ -36,16 +36,6 @@ impl RegisteredNames {
         match self.by_queue.get(queue as usize) {
             Some(names) => names.contains(name),
             None => false,
-        }
-    }
-
-    /// Whether nobody is named, or somebody who is registered with the queue.
-    pub(crate) fn knows(&self, queue: u32, by: &KeptBy) -> bool
-        ensures { result ≡ is_known_in self.now queue by.now }
-    {
-        match by.name() {
-            Some(name) => self.has(queue, name),
-            None => true,
         }
     }
 

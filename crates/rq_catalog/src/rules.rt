@@ -1,21 +1,7 @@
 //! Which rule of the machine a record breaks.
 
-ghost use Rattle.std.specs.Prelude.{◌≡◌, IfSome, false, true, is_some, not};
-ghost use Rattle.rq_model.specs.Records as records;
-ghost use Rattle.rq_model.specs.States.{State};
-ghost use Rattle.rq_model.specs.Machine as machine;
-ghost use Rattle.rq_record.specs.Views.{record_of};
-ghost use Rattle.rq_catalog.specs.Judges.{StandsIn};
-
-use crate::judge::Judge;
-use rq_record::{KeptBy, KeptRecord, Name, QueueNo, UnitNo, Version};
+use rq_record::{Name, QueueNo, UnitNo};
 use std::fmt;
-
-// The greatest number of queues.
-const QUEUES: usize = 4096;
-
-// The greatest limit of a queue.
-const LIMIT: u16 = 1000;
 
 /// A rule that a record breaks.
 #[derive(Clone, Copy, Debug)]
@@ -81,88 +67,5 @@ impl fmt::Display for Rule {
             Rule::Nested(error) => write!(f, "error queue {} has an error queue", error.0),
             Rule::NoKill => write!(f, "version 1 has no kill"),
         }
-    }
-}
-
-impl Judge {
-    // Which rule the limit and the error queue of a definition break.
-    fn limit_rule(&self, limit: u16, error: QueueNo) -> Rule {
-        if limit > LIMIT {
-            return Rule::Above(limit);
-        }
-        if limit == 0 {
-            return Rule::NoLimit(error);
-        }
-        if error.0 == QueueNo::NONE.0 {
-            return Rule::NoErrorQueue(limit);
-        }
-        if self.is_defined(error) {
-            Rule::Nested(error)
-        } else {
-            Rule::NotDefined(error)
-        }
-    }
-
-    fn definition_rule(&self, limit: u16, error: QueueNo, name: Name) -> Rule {
-        if !self.is_limit(limit, error) {
-            return self.limit_rule(limit, error);
-        }
-        if self.errors.len() >= QUEUES {
-            Rule::Full
-        } else {
-            Rule::Taken(name)
-        }
-    }
-
-    fn operation_rule(&self, unit: UnitNo, queue: QueueNo, by: &KeptBy) -> Rule {
-        if !self.is_defined(queue) {
-            return Rule::NotDefined(queue);
-        }
-        match by.by() {
-            Some(by) if self.units.contains(&unit.0) => Rule::NotRegistered(queue, by.name),
-            _ => Rule::NotOpen(unit),
-        }
-    }
-
-    // A rule that an unlawful record breaks. Each checkpoint is lawful.
-    fn rule_of(&self, next: &KeptRecord) -> Option<Rule>
-        ensures { (version : records.Version) (s : State) →
-            machine.is_lawful version s (record_of next.now) ≡ false → is_some result ≡ true }
-    {
-        Some(match next {
-            KeptRecord::Define { limit, error, name } => {
-                self.definition_rule(*limit, *error, name.name())
-            }
-            KeptRecord::Register { queue, .. } => Rule::NotDefined(*queue),
-            KeptRecord::Deregister { queue, name } => Rule::NotRegistered(*queue, name.name()),
-            KeptRecord::Begin { unit } => Rule::NotAbove(*unit, self.greatest),
-            KeptRecord::Enqueue {
-                unit,
-                queue,
-                by,
-                ..
-            } => self.operation_rule(*unit, *queue, by),
-            KeptRecord::Dequeue { unit, queue, by } => self.operation_rule(*unit, *queue, by),
-            KeptRecord::Commit { unit } | KeptRecord::Abort { unit } => Rule::NotOpen(*unit),
-            KeptRecord::Checkpoint { .. } => return None,
-            KeptRecord::Kill { queue, .. } => match self.version {
-                Version::One => Rule::NoKill,
-                Version::Two => Rule::NotDefined(*queue),
-            },
-        })
-    }
-
-    /// A rule that the record breaks after those that were taken; none exactly if it is lawful
-    /// there. Tests check which rule it is.
-    pub fn broken(&self, next: &KeptRecord) -> Option<Rule>
-        ensures unlawful { IfSome result (λ _. (version : records.Version) (s : State) →
-            StandsIn version self.now s → machine.is_lawful version s (record_of next.now) ≡ false) }
-        ensures exact { (version : records.Version) (s : State) → StandsIn version self.now s
-            → is_some result ≡ not (machine.is_lawful version s (record_of next.now)) }
-    {
-        if self.may_take(next) {
-            return None;
-        }
-        self.rule_of(next)
     }
 }

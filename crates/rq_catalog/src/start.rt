@@ -1,72 +1,26 @@
 //! The catalogue of a state.
 
-ghost use Rattle.std.specs.Prelude.{◌≡◌, ℕ, ◌==◌, ◌&&◌, ◌||◌, ◌<◌, List, [], map, IfOk, IfErr};
-ghost use Rattle.std.specs.Prelude.{nat_eq, length, OnOk, Some, None, false, if◌then◌else◌};
+ghost use Rattle.std.specs.Prelude.{◌≡◌, ℕ, ◌==◌, ◌&&◌, ◌||◌, ◌<◌, [], map, IfOk, IfErr};
+ghost use Rattle.std.specs.Prelude.{length, OnOk, Some, None, false, if◌then◌else◌};
 ghost use Rattle.std.specs.List.{list_any};
-ghost use Rattle.std.specs.Cmp.Lexicographic.{pointwise};
 ghost use Rattle.std.specs.Ordering.{nat_cmp};
 ghost use Rattle.std.specs.BTreeSet as ordered;
-ghost use Rattle.indexmap.specs.IndexSet.{contains};
 ghost use Rattle.rq_model.specs.WellFormed.{Ordered, IsWellFormed};
 ghost use Rattle.rq_record.specs.declared.fault.Fault.TheVariants.{Resources};
 ghost use Rattle.rq_state.specs.Views.{unit_of};
 ghost use Rattle.rq_catalog.specs.declared.outcome.Outcome.TheVariants.{Open};
 ghost use Rattle.rq_state.specs.Orders.{listed};
 ghost use Rattle.rq_catalog.specs.Catalogues.{Follows};
-ghost use Rattle.rq_catalog.specs.Registered.{is_registered_in};
-ghost use Rattle.rq_catalog.specs.Members.{has_name, has_key, is_marked_at, is_noted_at};
+ghost use Rattle.rq_catalog.specs.Members.{is_marked_at, is_noted_at};
 ghost use Rattle.rq_catalog.specs.Units.{numbers, has_unit, outcome_at, engages_at};
 
 use crate::catalogue::Catalogue;
-use crate::registrants::RegisteredNames;
+use crate::grounds::Grounds;
 use crate::units::Units;
-use indexmap::IndexSet;
-use rq_record::{Fault, Name, UnitNo};
-use rq_state::{Definition, KeptElement, Mark, Note, Registrant, State};
+use rq_record::{Fault, UnitNo};
+use rq_state::{KeptElement, Mark, Note, State};
 use std::alloc::Global;
 use std::collections::BTreeSet;
-
-/// The names of the definitions.
-pub(crate) fn names_of(alloc: Global, definitions: &[Definition]) -> Result<IndexSet<Name>, Fault>
-    ensures names { IfOk result (λ names. (n : List ℕ) →
-        contains (pointwise nat_eq) names n ≡ list_any (has_name n) definitions.now) }
-    ensures refused { IfErr result (λ e. e ≡ Resources) }
-{
-    let mut names = IndexSet::new(alloc);
-    for definition in definitions {
-        names.insert(definition.name)?;
-    }
-    Ok(names)
-}
-
-/// The error queues of the definitions, in their order.
-pub(crate) fn errors_of(alloc: Global, definitions: &[Definition]) -> Result<Vec<u32>, Fault>
-    ensures errors { IfOk result (λ errors. errors.items ≡ map (λ d. d.error) definitions.now) }
-    ensures refused { IfErr result (λ e. e ≡ Resources) }
-{
-    let mut errors = Vec::new(alloc);
-    for definition in definitions {
-        errors.push(definition.error.0)?;
-    }
-    Ok(errors)
-}
-
-/// Who is registered with which queue.
-pub(crate) fn registrants_of(
-    alloc: Global,
-    registrants: &[Registrant],
-) -> Result<RegisteredNames, Fault>
-    ensures registered { IfOk result
-        (λ roll. (k : ℕ × List ℕ) →
-        is_registered_in roll k ≡ list_any (has_key k) registrants.now) }
-    ensures refused { IfErr result (λ e. e ≡ Resources) }
-{
-    let mut roll = RegisteredNames::new(alloc);
-    for registrant in registrants {
-        roll.register(registrant.queue.0, &registrant.name)?;
-    }
-    Ok(roll)
-}
 
 /// The numbers of open units, as a set.
 pub(crate) fn open_units_of(alloc: Global, units: &[UnitNo]) -> Result<BTreeSet<u64>, Fault>
@@ -156,19 +110,13 @@ pub(crate) fn catalogue_of(alloc: Global, state: &State) -> Result<Catalogue, Fa
     ensures follows { IfOk result (λ c. Follows c state.now []) }
     ensures refused { IfErr result (λ e. e ≡ Resources) }
 {
-    let definitions = state.definitions();
-    let names = names_of(alloc, definitions)?;
-    let errors = errors_of(alloc, definitions)?;
-    let registrants = registrants_of(alloc, state.registrants())?;
+    let grounds = Grounds::of(alloc, state)?;
     let mut units = units_of(alloc, state.units())?;
     engage_by_marks(&mut units, state.elements())?;
     engage_by_notes(&mut units, state.notes())?;
-    let touching = touching_of(alloc, definitions.len())?;
+    let touching = touching_of(alloc, state.definition_count())?;
     Ok(Catalogue {
-        names,
-        errors,
-        registrants,
-        greatest: state.greatest(),
+        grounds,
         committed: state.committed(),
         aborted: state.aborted(),
         units,

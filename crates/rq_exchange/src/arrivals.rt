@@ -39,7 +39,7 @@ pub(crate) fn merged(alloc: Global, lists: Vec<Vec<KeptMove>>) -> Result<Vec<Kep
 }
 
 /// What was handed in, without its boxes.
-pub(crate) fn opened(alloc: Global, boxes: Vec<Outbox>) -> Result<Vec<Vec<KeptMove>>, Fault>
+pub(crate) fn unboxed(alloc: Global, boxes: Vec<Outbox>) -> Result<Vec<Vec<KeptMove>>, Fault>
     ensures lists { IfOk result
         (λ v. map (λ l. l.items) v.items ≡ map (λ b. b.moves.items) boxes.items) }
     ensures refused { IfErr result (λ e. e ≡ Resources) }

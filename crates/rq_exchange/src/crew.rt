@@ -16,10 +16,10 @@ ghost use Rattle.rq_exchange.specs.declared.jobs.Job.{Job as GhostJob};
 ghost use Rattle.rq_exchange.specs.Workers.{Works, HandsBack, IsFreshWorker, Pairs, HaveKept};
 
 use crate::chain::CountdownChain;
-use crate::dealing::deal;
-use crate::following::follow;
+use crate::deals::deal;
 use crate::jobs::Job;
 use crate::outboxes::{Outbox, Redone};
+use crate::thread_work::follow;
 use rq_pool::{Gate, Pass, Room, Seat};
 use rq_record::Fault;
 use std::alloc::{AllocError, Global};

@@ -11,7 +11,7 @@ ghost use Rattle.rq_exchange.specs.Jobs.{IsJob, records_of, errors_in};
 ghost use Rattle.rq_exchange.specs.Links.{at};
 ghost use Rattle.rq_exchange.specs.Chains.{AreBoxes, IsRedone};
 
-use crate::arrivals::{merged, opened};
+use crate::arrivals::{merged, unboxed};
 use crate::outboxes::{Outbox, Redone};
 use rq_catalog::Analysis;
 use rq_queue::{KeptMove, KeptOp, Part, redo_kept};
@@ -107,7 +107,7 @@ impl Job<'_> {
         rq_catalog::indices();
         rq_model::arrivals_are_merged();
         rq_model::moves_rise();
-        let lists = opened(alloc, boxes)?;
+        let lists = unboxed(alloc, boxes)?;
         let arrivals = merged(alloc, lists)?;
         let ops = ops_of(alloc, self.records, self.analysis.touching(QueueNo(queue)))?;
         let before = self.part_before(alloc, queue)?;

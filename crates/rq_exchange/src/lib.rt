@@ -6,19 +6,18 @@
 mod arrivals;
 mod board;
 mod chain;
+mod closings;
 mod columns;
 mod course;
 mod crew;
-mod dealing;
-mod definitions;
-mod following;
-mod gathering;
+mod deals;
+mod gathered;
 mod jobs;
 mod links;
 mod outboxes;
-mod replaying;
-mod settling;
+mod replays;
+mod thread_work;
 
 pub use course::Course;
-pub use gathering::AllRedone;
-pub use replaying::{redo_analysed, replay, replay_analysed, replay_kept, replay_traced};
+pub use gathered::AllRedone;
+pub use replays::{redo_analysed, replay, replay_analysed, replay_kept, replay_traced};

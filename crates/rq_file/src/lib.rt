@@ -6,12 +6,12 @@ mod named;
 mod names;
 mod paths;
 mod patient;
-mod putting;
 mod version;
+mod whole_files;
 
 pub use late::{Late, in_place};
 pub use named::NamedFile;
 pub use names::Names;
 pub use patient::Patient;
-pub use putting::put;
 pub use version::VERSION;
+pub use whole_files::put_file;

@@ -38,7 +38,7 @@ fn behind(bytes: &[u8], at: usize) -> &[u8]
 }
 
 /// The spans of the frames from an offset on, by their lengths only.
-pub(crate) fn walk(alloc: Global, bytes: &[u8], from: usize) -> Result<Chain, AllocError>
+pub(crate) fn walk_lengths(alloc: Global, bytes: &[u8], from: usize) -> Result<Chain, AllocError>
     requires { from ≤ length bytes.now }
     ensures walk { IfOk result (λ c. IsWalk bytes.now from c.spans.items c.end) }
     ensures rest { IfOk result

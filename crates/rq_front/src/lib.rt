@@ -1,17 +1,17 @@
 //! The header and the frames of a log: how they are written, and the longest run of right ones.
 #![tactic(auto)]
 
+mod chains;
 mod digests;
-mod finding;
 mod headers;
 mod lengths;
 mod spans;
-mod writing;
+mod writers;
 
-pub use finding::{chain, log_version, walk};
+pub use chains::{chain, log_version, walk};
 pub use headers::version;
 pub use spans::{Chain, Rest, Span, Walk};
-pub use writing::{frame, header, header_of};
+pub use writers::{frame, header, header_of};
 
 /// The bytes of a header: 8 for the name and the version, and 32 for their digest. The first frame
 /// of a log begins after them.

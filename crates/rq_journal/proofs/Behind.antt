@@ -9,7 +9,7 @@ use Rattle.rq_model.specs.Appending.{CrashWhileAppending, AppendedIsFront}
 use Rattle.rq_model.proofs.Longest.{log_joins}
 use Rattle.rq_journal.specs.declared.appender.Appender.{Appender}
 use Rattle.rq_journal.specs.declared.appender.NotTaken.{NotTaken}
-use Rattle.rq_journal.specs.declared.opening.Opened.{Opened}
+use Rattle.rq_journal.specs.declared.opened_logs.Opened.{Opened}
 use Rattle.rq_journal.specs.Places.{behind_header}
 use Rattle.rq_journal.specs.Appenders.{AppendsEach, AppendsUpTo}
 use Rattle.rq_journal.specs.Openings.{IsOpened}

@@ -19,7 +19,7 @@ use Rattle.rq_model.proofs.Restarts.{header_long}
 use Rattle.rq_record.specs.Views.{version_of}
 use Rattle.rq_record.specs.declared.fault.Fault.{Fault}
 use Rattle.rq_restart.specs.declared.redone.RedoneFront.{RedoneFront}
-use Rattle.rq_restart.specs.RedoneFronts.{IsRedone}
+use Rattle.rq_restart.specs.RedoneFronts.{IsRedoneFront}
 use Rattle.rq_journal.specs.Checkpoints.{IsCheckpointOf}
 use Rattle.rq_journal.specs.Carries.{BeginsFile, IsBegunIn, IsCarriedOn, StaysHere, Carries}
 
@@ -73,7 +73,7 @@ module _ (version : Version) (p : List ℕ) (s : State) (body : List ℕ) (long 
         loud = loud loud_law gap;
       })
 
-module _ (b : List ℕ) (f : RedoneFront) (body : List ℕ) (h : IsRedone b f) (is : IsCheckpointOf f.state body) where
+module _ (b : List ℕ) (f : RedoneFront) (body : List ℕ) (h : IsRedoneFront b f) (is : IsCheckpointOf f.state body) where
   abbrev version : Version
   version = version_of f.version
 

@@ -20,7 +20,7 @@ use Rattle.rq_record.specs.Views.{version_of}
 use Rattle.rq_record.specs.declared.fault.Fault.{Fault}
 use Rattle.rq_record.specs.declared.fault.Fault.TheVariants as faults
 use Rattle.rq_restart.specs.declared.redone.RedoneFront.{RedoneFront}
-use Rattle.rq_restart.specs.RedoneFronts.{IsRedone}
+use Rattle.rq_restart.specs.RedoneFronts.{IsRedoneFront}
 use Rattle.rq_journal.specs.Checkpoints.{IsCheckpointOf}
 use Rattle.rq_journal.specs.Marks.{PutsFrame, IsMarked, IsTooLargeToMark, Marks}
 
@@ -31,13 +31,13 @@ framed_long b link body used within =
     omega (arith, within, length-append (take used b) (frame link body), length-take used b, frame_long link body)
 
 -- the number of the record behind a front has room
-pub next_fits : (b : List ℕ) (f : RedoneFront) → FrontsAreSpelt → IsRedone b f → f.state.next ≤ 4294967295
+pub next_fits : (b : List ℕ) (f : RedoneFront) → FrontsAreSpelt → IsRedoneFront b f → f.state.next ≤ 4294967295
 next_fits b f spelt h =
     let v = version_of f.version in
     let all = subst (λ (z : List Record). IsFront b v z (drop f.used b)) (sym (append-nil h.records)) h.front in
     subst (λ (z : State). z.next ≤ 4294967295) (sym h.state) (spelt b v h.records [] (drop f.used b) all).next
 
-module _ (b : List ℕ) (f : RedoneFront) (body : List ℕ) (h : IsRedone b f) (is : IsCheckpointOf f.state body) where
+module _ (b : List ℕ) (f : RedoneFront) (body : List ℕ) (h : IsRedoneFront b f) (is : IsCheckpointOf f.state body) where
   abbrev version : Version
   version = version_of f.version
 

@@ -11,7 +11,7 @@ use Rattle.rq_front.specs.Chains.{Refused}
 use Rattle.rq_restart.specs.Restarts.{RefusedAt}
 use Rattle.rq_restart.specs.Views.{why_of}
 use Rattle.rq_journal.specs.Places.{IsAppenderAt, behind_header, at_checkpoint}
-use Rattle.rq_journal.specs.declared.opening.Opened.{Opened}
+use Rattle.rq_journal.specs.declared.opened_logs.Opened.{Opened}
 
 -- the appender stands behind the front of b, which ends here for this reason
 pub record IsOpened (b : List ℕ) (o : Opened) : Type 0 where

@@ -11,8 +11,8 @@ use Rattle.rq_front.specs.Chains.{Refused}
 use Rattle.rq_journal.specs.Places.{behind_header}
 use Rattle.rq_journal.specs.Appenders.{IsRefused}
 use Rattle.rq_journal.specs.declared.appender.NotTaken.{NotTaken}
-use Rattle.rq_journal.specs.declared.writing.NotWritten.{NotWritten}
-use Rattle.rq_journal.specs.declared.writing.NotWritten.TheVariants.{Log, At}
+use Rattle.rq_journal.specs.declared.batches.NotWritten.{NotWritten}
+use Rattle.rq_journal.specs.declared.batches.NotWritten.TheVariants.{Log, At}
 
 -- the frames of these records behind the front of b: whatever beginning of them stands there, the
 -- front is the old one and the records whose frames are wholly there

@@ -3,21 +3,21 @@
 #![tactic(auto)]
 
 mod appender;
-mod auditing;
-mod carrying;
+mod audits;
+mod batches;
+mod carried_logs;
 mod checkpoint;
-mod framing;
-mod marking;
-mod opening;
-mod writing;
+mod frames;
+mod marks;
+mod opened_logs;
 
 pub use appender::{Appender, NotTaken};
-pub use auditing::{Truth, audit_carried};
-pub use carrying::{CARRIED_AT, carried, carried_again, is_carried};
+pub use audits::{Truth, audit_carried};
+pub use batches::{NotWritten, frames_behind};
+pub use carried_logs::{CARRIED_AT, carried, carried_again, is_carried};
 pub use checkpoint::checkpoint_of;
-pub use marking::marked;
-pub use opening::{Opened, open, open_carried, opened_behind};
+pub use marks::marked;
+pub use opened_logs::{Opened, open, open_carried, opened_behind};
 pub use rq_catalog::Rule;
 pub use rq_record::Fault;
 pub use rq_restart::{Plan, Why};
-pub use writing::{NotWritten, frames_behind};

@@ -5,8 +5,8 @@
 //! lanes.
 #![tactic(auto)]
 
-mod compressing;
 mod digest;
+mod lane_blocks;
 mod lanes;
 mod tail;
 mod words;

@@ -29,7 +29,7 @@ fn front(zeros: usize) -> &'static [u8]
 
 /// The last block or two of a message of `len` bytes; `rest` are the bytes after its last whole
 /// block.
-pub(crate) fn tail(rest: &[u8], len: u64) -> [u8; 128]
+pub(crate) fn last_blocks(rest: &[u8], len: u64) -> [u8; 128]
     requires { length rest.now ≡ len % 64 }
     ensures { take (len % 64 + (119 - len % 64) % 64 + 9) result ≡ rest.now ++ padding len }
 {

@@ -5,7 +5,7 @@ use Rattle.std.proofs.KnownBytes.{Appends-trans}
 use Rattle.rq_model.specs.Fronts.{Restarted}
 use Rattle.rq_restart.specs.FrontEnds.{IsEndOf}
 use Rattle.rq_restart.specs.Views.{why_of}
-use Rattle.rq_behind.specs.declared.finding.Found.{Found}
+use Rattle.rq_behind.specs.declared.search.Found.{Found}
 use Rattle.rq_look.specs.Rests.{behind_finding, IsChoice}
 use Rattle.rq_look.specs.declared.ends.End.{End}
 use Rattle.rq_record.specs.declared.fault.Fault.{Fault}

@@ -5,7 +5,7 @@ use Rattle.std.specs.List.{flat_map}
 use Rattle.rq_model.specs.Fronts.{Restarted, IsRestart}
 use Rattle.rq_model.specs.Checkpoints.{IsAudit, IsRestartAt}
 use Rattle.rq_restart.specs.Audits.{audited_of}
-use Rattle.rq_behind.specs.declared.finding.Found.{Found}
+use Rattle.rq_behind.specs.declared.search.Found.{Found}
 use Rattle.rq_look.specs.Looks.{all_true, checkpoint_finding, end_finding, end_line, is_whole}
 use Rattle.rq_look.specs.Rests.{IsBehind, behind_finding}
 

@@ -17,7 +17,7 @@ use Rattle.rq_restart.specs.Restarts.{RestartsAt}
 use Rattle.rq_restart.specs.declared.ends.FrontEnd.{FrontEnd}
 use Rattle.rq_look.specs.declared.ends.End.{End}
 use Rattle.rq_look.specs.declared.trouble.Trouble.{Trouble}
-use Rattle.rq_look.specs.declared.telling.Subject.{Subject}
+use Rattle.rq_look.specs.declared.stories.Subject.{Subject}
 use Rattle.rq_look.specs.declared.trouble.Trouble.TheVariants.{Log, Output, Untold, NoQueue}
 use Rattle.rq_look.specs.declared.trouble.Trouble.TheVariants.{Nothing}
 

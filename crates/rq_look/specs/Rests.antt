@@ -7,8 +7,8 @@ use Rattle.rq_model.specs.Records.{Version}
 use Rattle.rq_model.specs.Frames.{HasHeader}
 use Rattle.rq_model.specs.Fronts.{Why, Restarted, IsRestart}
 use Rattle.rq_front.specs.declared.spans.Span.{Span}
-use Rattle.rq_behind.specs.Behind.{AreFound, frame_bytes, looked_to}
-use Rattle.rq_behind.specs.declared.finding.Found.{Found}
+use Rattle.rq_behind.specs.Behind.{AreRightFrames, frame_bytes, looked_to}
+use Rattle.rq_behind.specs.declared.search.Found.{Found}
 use Rattle.rq_restart.specs.FrontEnds.{IsEndOf}
 use Rattle.rq_look.specs.declared.ends.End.{End}
 use Rattle.rq_look.specs.Looks.{IsRestartFrom, front_end_of, is_whole}
@@ -23,7 +23,7 @@ EndsFrontOf b end = (at : Option ℕ) × (r : Restarted) × IsRestartFrom at b r
 -- belong to none, and where the search gave up, if it did
 abbrev pub IsBehind : List ℕ → ℕ → Found → Type 0
 IsBehind b used found = (version : Version) × HasHeader version b
-    × AreFound version b used found.spans.items found.gave_up
+    × AreRightFrames version b used found.spans.items found.gave_up
     × (used + (found.unfit + frame_bytes found.spans.items) ≡ looked_to b found.gave_up)
 
 -- how many they are, and where the first of them begins

@@ -2,6 +2,7 @@
 
 ghost use Rattle.std.specs.Prelude.{◌≡◌, IfErr, IfSome, drop, take};
 ghost use Rattle.rq_model.specs.Continuing.{carried_gap};
+ghost use Rattle.rq_look.specs.Walks.{StandFrom, front_at};
 ghost use Rattle.rq_record.specs.declared.fault.Fault.TheVariants.{Resources};
 
 use crate::frames::{PlacedFrames, first_frame};
@@ -49,12 +50,25 @@ pub fn first_state(alloc: Global, bytes: &[u8], at: Option<u64>) -> Result<State
     }
 }
 
-/// The frames of a front that begins behind a state, in the first `used` bytes.
-pub fn frames_behind<'a>(
+// Where the first frame of a front stands.
+fn offset_of(at: Option<u64>) -> u64
+    ensures { result ≡ front_at at }
+{
+    match at {
+        Some(at) => at,
+        None => HEADER_LEN as u64,
+    }
+}
+
+/// The frames of a front that begins behind a state, in the first `used` bytes: from the checkpoint
+/// at the offset on, if there is one, else from the header on.
+pub fn front_frames<'a>(
     bytes: &'a [u8],
     first: &State,
     at: Option<u64>,
     used: u64,
-) -> PlacedFrames<'a> {
-    PlacedFrames::beginning_at(bytes, at.unwrap_or(HEADER_LEN as u64), first.next(), used)
+) -> PlacedFrames<'a>
+    ensures { StandFrom bytes.now (front_at at) first.now.next used result }
+{
+    PlacedFrames::beginning_at(bytes, offset_of(at), first.next(), used)
 }

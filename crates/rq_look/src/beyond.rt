@@ -7,19 +7,20 @@ ghost use Rattle.rq_record.specs.declared.fault.Fault.TheVariants.{Resources};
 ghost use Rattle.rq_look.specs.Looks.{IsBroken};
 ghost use Rattle.rq_look.specs.Rests.{EndsFrontOf};
 
+use crate::behind_fronts::{put_behind, standing_behind};
 use crate::ends::{End, form_reason};
-use crate::json::{UnspelledShown, behind_of, loose_shown, spelled_out};
+use crate::json::{put_behind_object, put_loose, put_unspelled};
 use crate::lines::put_loose_record;
 use crate::numbered::queue_named;
+use crate::pieces::TextPiece::{Number, Word};
+use crate::pieces::put_text_pieces;
 use crate::sheet::relieve;
-use crate::standing::{put_behind, standing_behind};
 use crate::trouble::Trouble;
 use crate::wanted::Wanted;
 use rq_behind::Found;
 use rq_front::{Span, version};
 use rq_record::{Fault, KeptRecord, Version, decode_kept};
 use std::alloc::Global;
-use std::fmt::Write as _;
 use std::io::Write;
 
 /// The body of a frame behind the front, the offset of the frame and the log's version.
@@ -67,38 +68,65 @@ fn put_shown(
     ensures { IfErr result IsBroken }
 {
     if wanted.json {
-        let line = loose_shown(alloc, offset, record)?;
-        let json = spelled_out(alloc, serde_json::to_string(alloc, &line)?)?;
-        text.push_str(json.as_str())?;
-    } else {
-        put_loose_record(alloc, text, offset, record, wanted.full)?;
+        return put_loose(alloc, text, offset, record);
     }
-    text.push('\n')?;
-    Ok(())
+    Ok(put_loose_record(alloc, text, offset, record, wanted.full)?)
 }
 
-// Puts a frame whose body spells no record in the form that is wanted.
-fn put_unspelled(
+// Puts a frame whose body spells no record, and why, in the form that is wanted.
+fn put_reason(
     alloc: Global,
     text: &mut String,
-    it: &Loose<'_>,
+    offset: u64,
+    reason: &str,
     wanted: &Wanted<'_>,
 ) -> Result<(), Trouble>
     ensures { IfErr result IsBroken }
 {
-    let (offset, reason) = (it.offset, form_reason(alloc, it.version, it.body)?);
     if wanted.json {
-        let line = UnspelledShown {
-            offset,
-            behind: true,
-            reason: reason.as_str(),
-        };
-        text.push_str(serde_json::to_string(alloc, &line)?.as_str())?;
-        text.push('\n')?;
-    } else {
-        write!(text, "{offset} behind no record: {reason}\n")?;
+        return put_unspelled(alloc, text, offset, reason);
     }
-    Ok(())
+    let pieces = [
+        Number(offset),
+        Word(" behind no record: "),
+        Word(reason),
+        Word("\n"),
+    ];
+    Ok(put_text_pieces(text, &pieces)?)
+}
+
+// Puts the line of a frame that is no record, if it is wanted. Answers whether it is.
+fn put_other(
+    alloc: Global,
+    it: &Loose<'_>,
+    wanted: &Wanted<'_>,
+    text: &mut String,
+) -> Result<bool, Trouble>
+    ensures { IfErr result IsBroken }
+{
+    let is_wanted = wanted.wants_no_record();
+    if is_wanted {
+        let reason = form_reason(alloc, it.version, it.body)?;
+        put_reason(alloc, text, it.offset, reason.as_str(), wanted)?;
+    }
+    Ok(is_wanted)
+}
+
+// Puts the line of a record, if it is wanted. Answers whether it is.
+fn put_record(
+    alloc: Global,
+    offset: u64,
+    record: &KeptRecord,
+    wanted: &Wanted<'_>,
+    text: &mut String,
+) -> Result<bool, Trouble>
+    ensures { IfErr result IsBroken }
+{
+    let is_wanted = wanted.wants_record(record, queue_named(record));
+    if is_wanted {
+        put_shown(alloc, text, offset, record, wanted)?;
+    }
+    Ok(is_wanted)
 }
 
 // Puts the line of a frame, if it is wanted. Answers whether it is.
@@ -113,17 +141,10 @@ fn put_line(
     if it.offset < wanted.from {
         return Ok(false);
     }
-    let Some(record) = it.record(alloc)? else {
-        if wanted.wants_no_record() {
-            put_unspelled(alloc, text, it, wanted)?;
-        }
-        return Ok(wanted.wants_no_record());
-    };
-    let is_wanted = wanted.wants_record(&record, queue_named(&record));
-    if is_wanted {
-        put_shown(alloc, text, it.offset, &record, wanted)?;
+    match &it.record(alloc)? {
+        Some(record) => put_record(alloc, it.offset, record, wanted, text),
+        None => put_other(alloc, it, wanted, text),
     }
-    Ok(is_wanted)
 }
 
 // Puts a frame, if it is wanted. Answers whether it is.
@@ -187,12 +208,9 @@ fn put_count(
     ensures { IfErr result IsBroken }
 {
     if wanted.json {
-        text.push_str(serde_json::to_string(alloc, &behind_of(found))?.as_str())?;
-        text.push('\n')?;
-    } else {
-        put_behind(text, found, total)?;
+        return put_behind_object(alloc, text, found);
     }
-    Ok(())
+    Ok(put_behind(text, found, total)?)
 }
 
 /// Puts the right frames behind the front that are wanted, so many at most, and how many there are;

@@ -13,7 +13,9 @@ ghost use Rattle.rq_look.specs.Looks.{beginning_text, end_text, front_end_of};
 ghost use Rattle.rq_look.specs.Looks.{IsRestartFrom, RefusedFrom};
 
 use crate::frames::{first_frame, stated_length};
-use crate::misfits::misfit_of;
+use crate::misfits::{Misfit, misfit_of};
+use crate::pieces::TextPiece::{Number, Word};
+use crate::pieces::joined_text;
 use rq_catalog::Rule;
 use rq_front::{FRAME_LEN, version};
 use rq_journal::{Appender, open, open_carried};
@@ -54,19 +56,23 @@ pub fn is_whole(why: Why) -> bool
 }
 
 fn cut_reason(alloc: Global, rest: &[u8]) -> Result<String, AllocError> {
-    let count = rest.len();
+    let count = Number(rest.len() as u64);
     match stated_length(rest) {
         Some(len) => {
-            let whole = len.saturating_add(FRAME_LEN);
-            format!(in alloc; "{count} bytes follow, and the frame has {whole}")
+            let whole = Number(len.saturating_add(FRAME_LEN) as u64);
+            joined_text(
+                alloc,
+                &[count, Word(" bytes follow, and the frame has "), whole],
+            )
         }
-        None => format!(in alloc; "{count} bytes follow, and a length has 4"),
+        None => joined_text(alloc, &[count, Word(" bytes follow, and a length has 4")]),
     }
 }
 
 fn length_reason(alloc: Global, rest: &[u8]) -> Result<String, AllocError> {
-    let len = stated_length(rest).unwrap_or(0);
-    format!(in alloc; "a body of {len} bytes is stated, and one has 1 to 268435456")
+    let len = Number(stated_length(rest).unwrap_or(0) as u64);
+    let room = Word(" bytes is stated, and one has 1 to 268435456");
+    joined_text(alloc, &[Word("a body of "), len, room])
 }
 
 fn chain_reason(alloc: Global, before: &[u8], rest: &[u8]) -> Result<String, AllocError> {
@@ -78,7 +84,24 @@ fn chain_reason(alloc: Global, before: &[u8], rest: &[u8]) -> Result<String, All
     hasher.update(frame.stated);
     let stated = hex::encode(alloc, frame.digest)?;
     let digest = hex::encode(alloc, hasher.finalize().as_slice())?;
-    format!(in alloc; "the digest is {stated}, and that of the bytes {digest}")
+    let (stated, digest) = (Word(stated.as_str()), Word(digest.as_str()));
+    joined_text(
+        alloc,
+        &[
+            Word("the digest is "),
+            stated,
+            Word(", and that of the bytes "),
+            digest,
+        ],
+    )
+}
+
+// Why the body is none that a record has, which shows at this byte of it.
+fn misfit_reason(alloc: Global, at: usize, misfit: &Misfit) -> Result<String, AllocError> {
+    let at = Number(at as u64);
+    let mut text = joined_text(alloc, &[Word("byte "), at, Word(" of the body: ")])?;
+    misfit.put(&mut text)?;
+    Ok(text)
 }
 
 /// Why no record of the version has the body.
@@ -88,7 +111,7 @@ pub(crate) fn form_reason(
     body: &[u8],
 ) -> Result<String, AllocError> {
     match misfit_of(version, body) {
-        Some((at, misfit)) => format!(in alloc; "byte {at} of the body: {misfit}"),
+        Some((at, misfit)) => misfit_reason(alloc, at, &misfit),
         None => String::from_str(alloc, "no record has the body"),
     }
 }

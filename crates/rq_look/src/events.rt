@@ -1,6 +1,5 @@
 //! What happens to elements.
 
-use crate::pieces::{write_number, write_numbers};
 use std::fmt;
 
 /// What happens to an element.
@@ -31,35 +30,40 @@ pub enum Event {
     To(u64, Effect),
 }
 
+// What is said before the number of an element, and behind it.
+fn words_of(effect: Effect) -> (&'static str, &'static str) {
+    match effect {
+        Effect::Put => ("puts in element ", ""),
+        Effect::Taken => ("takes element ", ""),
+        Effect::Free(_) => ("element ", " is free in queue "),
+        Effect::Gone => ("element ", " is gone"),
+        Effect::Undone => ("element ", " was not put in"),
+        Effect::Back(..) => ("element ", " is back in queue "),
+        Effect::Moved(_) => ("element ", " moves to queue "),
+    }
+}
+
+// The queue in which an element is then, if it is said.
+fn queue_of(effect: Effect) -> Option<u32> {
+    match effect {
+        Effect::Free(queue) | Effect::Back(queue, _) | Effect::Moved(queue) => Some(queue),
+        _ => None,
+    }
+}
+
 impl fmt::Display for Event {
     fn fmt<W: fmt::Write>(&self, f: &mut fmt::Formatter<W>) -> fmt::Result {
-        let (element, effect) = match self {
-            Event::NoElement => return f.write_str("finds no element"),
-            Event::To(element, effect) => (*element, *effect),
+        let Event::To(element, effect) = *self else {
+            return f.write_str("finds no element");
         };
+        let (before, behind) = words_of(effect);
+        write!(f, "{before}{element}{behind}")?;
+        if let Some(queue) = queue_of(effect) {
+            write!(f, "{queue}")?;
+        }
         match effect {
-            Effect::Put => write_number(f, "puts in element ", element, ""),
-            Effect::Taken => write_number(f, "takes element ", element, ""),
-            Effect::Free(queue) => {
-                write_numbers(
-                    f,
-                    "element ",
-                    element,
-                    " is free in queue ",
-                    u64::from(queue),
-                )
-            }
-            Effect::Gone => write_number(f, "element ", element, " is gone"),
-            Effect::Undone => write_number(f, "element ", element, " was not put in"),
-            Effect::Back(queue, attempts) => {
-                write!(
-                    f,
-                    "element {element} is back in queue {queue}, attempts {attempts}"
-                )
-            }
-            Effect::Moved(queue) => {
-                write_numbers(f, "element ", element, " moves to queue ", u64::from(queue))
-            }
+            Effect::Back(_, attempts) => write!(f, ", attempts {attempts}"),
+            _ => Ok(()),
         }
     }
 }

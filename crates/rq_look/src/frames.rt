@@ -1,7 +1,8 @@
 //! The frames of a log by their lengths.
 
-ghost use Rattle.std.specs.Prelude.{◌≡◌, ◌+◌, ◌<◌, ◌≤◌, length, drop, take, MatchOption, IfSome};
+ghost use Rattle.std.specs.Prelude.{◌≡◌, ◌+◌, ◌<◌, ◌≤◌, length, drop, MatchOption, IfSome};
 ghost use Rattle.rq_model.specs.Frames.{stated, body_in};
+ghost use Rattle.rq_look.specs.Walks.{StandFrom};
 
 use byteorder::{BigEndian, ByteOrder};
 use rq_front::{FRAME_LEN, HEADER_LEN};
@@ -69,29 +70,20 @@ pub struct PlacedFrames<'a> {
 impl<'a> PlacedFrames<'a> {
     /// Those behind the header, in the first `used` bytes.
     pub(crate) fn of(bytes: &'a [u8], used: u64) -> PlacedFrames<'a>
-        ensures { 40 ≤ used → used ≤ length bytes.now
-            → (result.rest.now ≡ drop 40 (take used bytes.now)) × (result.number ≡ 0) }
+        ensures { StandFrom bytes.now 40 0 used result }
     {
-        let rest = match bytes.get(HEADER_LEN..used as usize) {
-            Some(rest) => rest,
-            None => &[],
-        };
-        PlacedFrames {
-            rest,
-            offset: HEADER_LEN as u64,
-            number: 0,
-        }
+        PlacedFrames::beginning_at(bytes, HEADER_LEN as u64, 0, used)
     }
-}
 
-impl<'a> PlacedFrames<'a> {
     /// Those from an offset on, in the first `used` bytes; the first record has the number.
     pub(crate) fn beginning_at(
         bytes: &'a [u8],
         offset: u64,
         number: u64,
         used: u64,
-    ) -> PlacedFrames<'a> {
+    ) -> PlacedFrames<'a>
+        ensures { StandFrom bytes.now offset number used result }
+    {
         let rest = match bytes.get(offset as usize..used as usize) {
             Some(rest) => rest,
             None => &[],

@@ -1,9 +1,15 @@
 //! Characters that nobody sees.
 
+ghost use Rattle.std.specs.Prelude.{◌≡◌, ◌||◌};
+ghost use Rattle.rq_look.specs.Hidden as hidden;
+
 use std::fmt;
 
 // Whether Unicode counts it among its format characters.
-fn is_format(c: char) -> bool {
+fn is_format(c: char) -> bool
+    ensures { result ≡ (hidden.is_among c hidden.format_runs
+        || hidden.is_among c hidden.old_script_runs) }
+{
     matches!(
         c,
         '\u{ad}'
@@ -24,7 +30,9 @@ fn is_format(c: char) -> bool {
 }
 
 // Those that stand behind the first 65,536 characters.
-fn is_format_of_old_scripts(c: char) -> bool {
+fn is_format_of_old_scripts(c: char) -> bool
+    ensures { result ≡ hidden.is_among c hidden.old_script_runs }
+{
     matches!(
         c,
         '\u{110bd}'
@@ -40,7 +48,9 @@ fn is_format_of_old_scripts(c: char) -> bool {
 /// Whether a character is a control or a format character of Unicode, or separates lines or
 /// paragraphs: it may move a terminal's cursor, take no room, or turn the direction of the text
 /// around it.
-pub fn is_hidden(c: char) -> bool {
+pub fn is_hidden(c: char) -> bool
+    ensures { result ≡ hidden.is_hidden c }
+{
     c.is_control() || matches!(c, '\u{2028}' | '\u{2029}') || is_format(c)
 }
 

@@ -1,32 +1,38 @@
 //! A record as a line.
 
 use crate::bytes::put_bytes;
-use crate::numbered::{Numbered, by_of, kind_of, queue_named, unit_of};
+use crate::numbered::{Numbered, by_of, kind_of, queue_named, unit_number};
+use crate::pieces::TextPiece::{Number, Word};
+use crate::pieces::put_text_pieces;
 use rq_record::{KeptRecord, QueueNo};
 use std::alloc::{AllocError, Global};
-use std::fmt::Write;
 
-fn put_unit(text: &mut String, record: &KeptRecord) -> Result<(), AllocError> {
-    if let Some(unit) = unit_of(record) {
-        let unit = unit.0;
-        write!(text, " unit {unit}")?;
+// Puts a word and a number, if there is one.
+fn put_known(text: &mut String, word: &str, number: Option<u64>) -> Result<(), AllocError> {
+    match number {
+        Some(number) => put_text_pieces(text, &[Word(word), Number(number)]),
+        None => Ok(()),
     }
-    Ok(())
 }
 
-fn put_queue(text: &mut String, queue: Option<QueueNo>) -> Result<(), AllocError> {
-    if let Some(queue) = queue {
-        let queue = queue.0;
-        write!(text, " queue {queue}")?;
-    }
-    Ok(())
+// Puts the unit and the queue of a record, if it has them.
+fn put_places(
+    text: &mut String,
+    record: &KeptRecord,
+    queue: Option<QueueNo>,
+) -> Result<(), AllocError> {
+    put_known(text, " unit ", unit_number(record))?;
+    put_known(text, " queue ", queue.map(|queue| u64::from(queue.0)))
 }
 
 fn put_by(text: &mut String, record: &KeptRecord) -> Result<(), AllocError> {
     match by_of(record) {
         Some(by) => {
-            let (name, tag) = (by.name.text(), by.tag);
-            write!(text, " by {name} tag {tag}")
+            let name = by.name.text();
+            put_text_pieces(
+                text,
+                &[Word(" by "), Word(name), Word(" tag "), Number(by.tag)],
+            )
         }
         None => text.push_str(" by -"),
     }
@@ -38,13 +44,42 @@ fn put_definition(
     limit: u16,
     error: QueueNo,
 ) -> Result<(), AllocError> {
-    write!(text, " name {name} limit {limit} error ")?;
-    if error == QueueNo::NONE {
-        text.push_str("-")
+    let number = u64::from(error.0);
+    let error = if error == QueueNo::NONE {
+        Word("-")
     } else {
-        let error = error.0;
-        write!(text, "{error}")
-    }
+        Number(number)
+    };
+    let limit = Number(u64::from(limit));
+    put_text_pieces(
+        text,
+        &[
+            Word(" name "),
+            Word(name),
+            Word(" limit "),
+            limit,
+            Word(" error "),
+            error,
+        ],
+    )
+}
+
+// Puts a word and bytes.
+fn put_load(
+    alloc: Global,
+    text: &mut String,
+    word: &str,
+    bytes: &[u8],
+    full: bool,
+) -> Result<(), AllocError> {
+    text.push_str(word)?;
+    put_bytes(alloc, text, bytes, full)
+}
+
+// Puts the priority of an element, and who puts it in.
+fn put_priority(text: &mut String, record: &KeptRecord, priority: u8) -> Result<(), AllocError> {
+    put_text_pieces(text, &[Word(" priority "), Number(u64::from(priority))])?;
+    put_by(text, record)
 }
 
 // Puts what no other kind of record has.
@@ -62,47 +97,28 @@ fn put_fields(
             *error,
         ),
         KeptRecord::Register { name, .. } | KeptRecord::Deregister { name, .. } => {
-            text.push_str(" name ")?;
-            text.push_str(name.text())
+            put_text_pieces(text, &[Word(" name "), Word(name.text())])
         }
         KeptRecord::Enqueue {
             priority,
             payload,
             ..
         } => {
-            write!(text, " priority {priority}")?;
-            put_by(text, record)?;
-            text.push_str(" payload ")?;
-            put_bytes(alloc, text, payload.bytes(), full)
+            put_priority(text, record, *priority)?;
+            put_load(alloc, text, " payload ", payload.bytes(), full)
         }
         KeptRecord::Dequeue { .. } => put_by(text, record),
-        KeptRecord::Kill { element, .. } => {
-            let element = element.0;
-            write!(text, " element {element}")
-        }
-        KeptRecord::Checkpoint { bytes } => {
-            text.push_str(" bytes ")?;
-            put_bytes(alloc, text, bytes.bytes(), full)
-        }
+        KeptRecord::Kill { element, .. } => put_text_pieces(
+            text,
+            &[Word(" element "), Number(element.0)],
+        ),
+        KeptRecord::Checkpoint { bytes } => put_load(alloc, text, " bytes ", bytes.bytes(), full),
         _ => Ok(()),
     }
 }
 
-// Puts what stands behind the kind of a record, which defines or names a queue.
-fn put_behind_kind(
-    alloc: Global,
-    text: &mut String,
-    record: &KeptRecord,
-    queue: Option<QueueNo>,
-    full: bool,
-) -> Result<(), AllocError> {
-    put_unit(text, record)?;
-    put_queue(text, queue)?;
-    put_fields(alloc, text, record, full)
-}
-
-/// Puts the line of a record behind the front without its end: its offset, `behind`, its kind and its
-/// fields. Its number is not known, nor that of a queue that it defines.
+/// Puts the line of a record behind the front: its offset, `behind`, its kind and its fields. Its
+/// number is not known, nor that of a queue that it defines.
 pub(crate) fn put_loose_record(
     alloc: Global,
     text: &mut String,
@@ -111,8 +127,10 @@ pub(crate) fn put_loose_record(
     full: bool,
 ) -> Result<(), AllocError> {
     let kind = kind_of(record);
-    write!(text, "{offset} behind {kind}")?;
-    put_behind_kind(alloc, text, record, queue_named(record), full)
+    put_text_pieces(text, &[Number(offset), Word(" behind "), Word(kind)])?;
+    put_places(text, record, queue_named(record))?;
+    put_fields(alloc, text, record, full)?;
+    text.push_str("\n")
 }
 
 /// Puts the line of a record without its end: its offset, its number, its kind and its fields.
@@ -122,8 +140,28 @@ pub(crate) fn put_record(
     it: &Numbered,
     full: bool,
 ) -> Result<(), AllocError> {
-    let (offset, number) = (it.offset, it.number);
-    let kind = kind_of(&it.record);
-    write!(text, "{offset} {number} {kind}")?;
-    put_behind_kind(alloc, text, &it.record, it.queue(), full)
+    let (offset, number, kind) = (it.offset, it.number, kind_of(&it.record));
+    put_text_pieces(
+        text,
+        &[
+            Number(offset),
+            Word(" "),
+            Number(number),
+            Word(" "),
+            Word(kind),
+        ],
+    )?;
+    put_places(text, &it.record, it.queue())?;
+    put_fields(alloc, text, &it.record, full)
+}
+
+/// Puts the same, and the end of the line.
+pub(crate) fn put_record_line(
+    alloc: Global,
+    text: &mut String,
+    it: &Numbered,
+    full: bool,
+) -> Result<(), AllocError> {
+    put_record(alloc, text, it, full)?;
+    text.push_str("\n")
 }

@@ -1,8 +1,9 @@
 //! Where a body is none that a record has.
 
-use crate::pieces::write_number;
+use crate::pieces::TextPiece::{Number, Word};
+use crate::pieces::put_text_pieces;
 use rq_record::Version;
-use std::fmt;
+use std::alloc::AllocError;
 
 // The most bytes of a name.
 const NAME: usize = 64;
@@ -29,16 +30,45 @@ pub(crate) enum Misfit {
     More(usize),
 }
 
-impl fmt::Display for Misfit {
-    fn fmt<W: fmt::Write>(&self, f: &mut fmt::Formatter<W>) -> fmt::Result {
+impl Misfit {
+    /// Puts it in words.
+    pub(crate) fn put(&self, text: &mut String) -> Result<(), AllocError> {
         match self {
-            Misfit::Kind(kind) => write_number(f, "no record has the kind ", u64::from(*kind), ""),
-            Misfit::Cut(field) => write!(f, "the body ends in its {field}"),
-            Misfit::Nameless => f.write_str("the name has no bytes"),
-            Misfit::Long(field, count) => write!(f, "the {field} has {count} bytes"),
-            Misfit::Letter(byte) => write_number(f, "no name has the byte ", u64::from(*byte), ""),
-            Misfit::Tagged => f.write_str("nobody is named, and the tag is not 0"),
-            Misfit::More(count) => write_number(f, "", *count as u64, " bytes too many"),
+            Misfit::Kind(kind) => {
+                put_text_pieces(
+                    text,
+                    &[Word("no record has the kind "), Number(u64::from(*kind))],
+                )
+            }
+            Misfit::Cut(field) => put_text_pieces(
+                text,
+                &[Word("the body ends in its "), Word(field)],
+            ),
+            Misfit::Nameless => text.push_str("the name has no bytes"),
+            Misfit::Long(field, count) => {
+                let count = Number(*count as u64);
+                put_text_pieces(
+                    text,
+                    &[
+                        Word("the "),
+                        Word(field),
+                        Word(" has "),
+                        count,
+                        Word(" bytes"),
+                    ],
+                )
+            }
+            Misfit::Letter(byte) => {
+                put_text_pieces(
+                    text,
+                    &[Word("no name has the byte "), Number(u64::from(*byte))],
+                )
+            }
+            Misfit::Tagged => text.push_str("nobody is named, and the tag is not 0"),
+            Misfit::More(count) => put_text_pieces(
+                text,
+                &[Number(*count as u64), Word(" bytes too many")],
+            ),
         }
     }
 }
@@ -53,6 +83,19 @@ struct BodyRest<'a> {
 /// A misfit, and at which byte of the body.
 pub(crate) type Found = (usize, Misfit);
 
+// What stands in a body, one behind the other.
+#[derive(Clone, Copy)]
+enum Field {
+    // So many bytes.
+    Bytes(usize, &'static str),
+    // A registrant and a tag, or nobody.
+    Who,
+    // A name up to the end.
+    Name,
+    // A payload up to the end.
+    Payload,
+}
+
 impl<'a> BodyRest<'a> {
     // The bytes of the next field, which the rest then lacks.
     fn field(self, count: usize, name: &'static str) -> Result<(&'a [u8], BodyRest<'a>), Found> {
@@ -64,19 +107,16 @@ impl<'a> BodyRest<'a> {
         Ok((field, BodyRest { bytes, at }))
     }
 
-    fn behind(self, count: usize, name: &'static str) -> Result<BodyRest<'a>, Found> {
-        let (_, rest) = self.field(count, name)?;
-        Ok(rest)
+    // What stands behind all that is left: nothing.
+    fn ended(self) -> BodyRest<'a> {
+        BodyRest {
+            bytes: &[],
+            at: self.at,
+        }
     }
 
-    // All that is left is a name.
-    fn name(self) -> Result<(), Found> {
-        if self.bytes.is_empty() {
-            return Err((self.at, Misfit::Nameless));
-        }
-        if self.bytes.len() > NAME {
-            return Err((self.at, Misfit::Long("name", self.bytes.len())));
-        }
+    // The first byte that no name has, and where it stands.
+    fn letters(self) -> Result<BodyRest<'a>, Found> {
         let mut at = self.at;
         for byte in self.bytes {
             if !matches!(byte, b'a'..=b'z' | b'0'..=b'9' | b'-' | b'.' | b'_') {
@@ -84,79 +124,106 @@ impl<'a> BodyRest<'a> {
             }
             at = at.saturating_add(1);
         }
-        Ok(())
+        Ok(self.ended())
     }
 
-    // Nothing is left.
-    fn nothing(self) -> Result<(), Found> {
+    // All that is left is a name.
+    fn name(self) -> Result<BodyRest<'a>, Found> {
         if self.bytes.is_empty() {
-            Ok(())
-        } else {
-            Err((self.at, Misfit::More(self.bytes.len())))
+            return Err((self.at, Misfit::Nameless));
         }
+        if self.bytes.len() > NAME {
+            return Err((self.at, Misfit::Long("name", self.bytes.len())));
+        }
+        self.letters()
+    }
+
+    // All that is left is a payload.
+    fn payload(self) -> Result<BodyRest<'a>, Found> {
+        if self.bytes.len() > PAYLOAD {
+            return Err((self.at, Misfit::Long("payload", self.bytes.len())));
+        }
+        Ok(self.ended())
+    }
+
+    // A tag, which is 0 if nobody is named.
+    fn tag(self, is_named: bool) -> Result<BodyRest<'a>, Found> {
+        let (tag, left) = self.field(8, "tag")?;
+        if !is_named && tag.iter().any(|b| *b != 0) {
+            return Err((self.at, Misfit::Tagged));
+        }
+        Ok(left)
+    }
+
+    // A name of so many bytes, and a tag.
+    fn named(self, count: usize) -> Result<BodyRest<'a>, Found> {
+        let (name, tagged) = self.field(count, "name")?;
+        let name = BodyRest {
+            bytes: name,
+            at: self.at,
+        };
+        name.name()?;
+        tagged.tag(true)
     }
 
     // A registrant and a tag, or nobody.
     fn who(self) -> Result<BodyRest<'a>, Found> {
         let (len, rest) = self.field(1, "name's length")?;
-        let count = match len {
-            [count] => *count as usize,
-            _ => 0,
-        };
-        let (name, tagged) = rest.field(count, "name")?;
-        if count > 0 {
-            let name = BodyRest {
-                bytes: name,
-                at: rest.at,
-            };
-            name.name()?;
+        match len {
+            [0] => rest.tag(false),
+            [count] => rest.named(*count as usize),
+            _ => rest.tag(false),
         }
-        let (tag, left) = tagged.field(8, "tag")?;
-        if count == 0 && tag.iter().any(|b| *b != 0) {
-            return Err((tagged.at, Misfit::Tagged));
-        }
-        Ok(left)
     }
 
-    // An operation's unit and queue.
-    fn operation(self) -> Result<BodyRest<'a>, Found> {
-        self.behind(8, "unit")?.behind(4, "queue")
-    }
-
-    // A payload.
-    fn payload(self) -> Result<(), Found> {
-        if self.bytes.len() > PAYLOAD {
-            return Err((self.at, Misfit::Long("payload", self.bytes.len())));
+    // What stands behind a field.
+    fn behind(self, field: &Field) -> Result<BodyRest<'a>, Found> {
+        match field {
+            Field::Bytes(count, name) => match self.field(*count, name) {
+                Ok((_, rest)) => Ok(rest),
+                Err(found) => Err(found),
+            },
+            Field::Who => self.who(),
+            Field::Name => self.name(),
+            Field::Payload => self.payload(),
         }
-        Ok(())
+    }
+
+    // These fields are all that is left.
+    fn fits(self, fields: &[Field]) -> Result<(), Found> {
+        let mut rest = self;
+        for field in fields {
+            rest = rest.behind(field)?;
+        }
+        if rest.bytes.is_empty() {
+            Ok(())
+        } else {
+            Err((rest.at, Misfit::More(rest.bytes.len())))
+        }
     }
 }
 
-fn fits_define(rest: BodyRest<'_>) -> Result<(), Found> {
-    rest.behind(2, "limit")?.behind(4, "error queue")?.name()
-}
-
-fn fits_enqueue(rest: BodyRest<'_>) -> Result<(), Found> {
-    rest.operation()?.behind(1, "priority")?.who()?.payload()
-}
-
-fn fits_dequeue(rest: BodyRest<'_>) -> Result<(), Found> {
-    rest.operation()?.who()?.nothing()
-}
-
-fn fits_kill(rest: BodyRest<'_>) -> Result<(), Found> {
-    rest.behind(4, "queue")?.behind(8, "element")?.nothing()
-}
-
+// Whether the fields of a kind of record are all that is left.
 fn fits(version: Version, kind: u8, rest: BodyRest<'_>) -> Result<(), Found> {
+    let (unit, queue) = (Field::Bytes(8, "unit"), Field::Bytes(4, "queue"));
     match kind {
-        1 => fits_define(rest),
-        2 | 3 => rest.behind(4, "queue")?.name(),
-        4 | 7 | 8 => rest.behind(8, "unit")?.nothing(),
-        5 => fits_enqueue(rest),
-        6 => fits_dequeue(rest),
+        1 => rest.fits(&[
+            Field::Bytes(2, "limit"),
+            Field::Bytes(4, "error queue"),
+            Field::Name,
+        ]),
+        2 | 3 => rest.fits(&[queue, Field::Name]),
+        4 | 7 | 8 => rest.fits(&[unit]),
+        5 => rest.fits(&[
+            unit,
+            queue,
+            Field::Bytes(1, "priority"),
+            Field::Who,
+            Field::Payload,
+        ]),
+        6 => rest.fits(&[unit, queue, Field::Who]),
         9 => Ok(()),
-        10 if version == Version::Two => fits_kill(rest),
+        10 if version == Version::Two => rest.fits(&[queue, Field::Bytes(8, "element")]),
         _ => Err((0, Misfit::Kind(kind))),
     }
 }

@@ -1,14 +1,15 @@
 //! Records with their places and the queues that they are about.
 
-ghost use Rattle.std.specs.Prelude.{◌≡◌, IfOk, IfErr};
+ghost use Rattle.std.specs.Prelude.{◌≡◌, IfOk, IfErr, option_map};
 ghost use Rattle.rq_model.specs.Records.{Two};
 ghost use Rattle.rq_model.specs.Spelling.{Spells};
 ghost use Rattle.rq_record.specs.Views.{record_of};
 ghost use Rattle.rq_record.specs.declared.fault.Fault.TheVariants.{Resources};
+ghost use Rattle.rq_look.specs.Kinds.{kind_word, unit_shown};
 ghost use Rattle.rq_look.specs.Scripts.{by_in};
 
 use crate::frames::Placed;
-use rq_record::{By, ElemId, Fault, KeptRecord, QueueNo, UnitNo, Version, decode_kept};
+use rq_record::{By, Fault, KeptRecord, QueueNo, UnitNo, Version, decode_kept};
 use rq_state::Definition;
 use std::alloc::Global;
 
@@ -81,14 +82,26 @@ pub(crate) fn queues_of(definitions: &[Definition]) -> u32 {
 }
 
 /// The unit that a record names.
-pub fn unit_of(record: &KeptRecord) -> Option<UnitNo> {
-    match record {
+pub fn unit_of(r: &KeptRecord) -> Option<UnitNo>
+    ensures { option_map (λ unit. unit.0) result ≡ unit_shown (record_of r.now) }
+{
+    match r {
         KeptRecord::Begin { unit }
         | KeptRecord::Commit { unit }
         | KeptRecord::Abort { unit }
         | KeptRecord::Enqueue { unit, .. }
         | KeptRecord::Dequeue { unit, .. } => Some(*unit),
         _ => None,
+    }
+}
+
+/// The number of the unit that a record names.
+pub(crate) fn unit_number(r: &KeptRecord) -> Option<u64>
+    ensures { result ≡ unit_shown (record_of r.now) }
+{
+    match unit_of(r) {
+        Some(unit) => Some(unit.0),
+        None => None,
     }
 }
 
@@ -116,17 +129,19 @@ pub(crate) fn registrant_of(record: &KeptRecord) -> Option<&str> {
     }
 }
 
-/// The element that a record kills.
-pub(crate) fn element_of(record: &KeptRecord) -> Option<ElemId> {
+/// The number of the element that a record kills.
+pub(crate) fn element_of(record: &KeptRecord) -> Option<u64> {
     match record {
-        KeptRecord::Kill { element, .. } => Some(*element),
+        KeptRecord::Kill { element, .. } => Some(element.0),
         _ => None,
     }
 }
 
 /// The word for a kind of record.
-pub fn kind_of(record: &KeptRecord) -> &'static str {
-    match record {
+pub fn kind_of(r: &KeptRecord) -> &'static str
+    ensures { result.now ≡ kind_word (record_of r.now) }
+{
+    match r {
         KeptRecord::Define { .. } => "define",
         KeptRecord::Register { .. } => "register",
         KeptRecord::Deregister { .. } => "deregister",

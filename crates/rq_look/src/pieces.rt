@@ -1,25 +1,39 @@
-//! Words with a number among them. What writes many of them is cheap to prove this way: each format
-//! text of its own is dear.
+//! Words and numbers, one behind the other. What puts many of them is cheap to prove by a table of
+//! them: each format text of its own is dear, and so is each way out.
 
-use std::fmt;
+use std::alloc::{AllocError, Global};
+use std::fmt::Write;
 
-/// Writes what stands before a number, the number, and what stands behind it.
-pub(crate) fn write_number<W: fmt::Write>(
-    f: &mut fmt::Formatter<W>,
-    before: &str,
-    number: u64,
-    behind: &str,
-) -> fmt::Result {
-    write!(f, "{before}{number}{behind}")
+/// A word, or a number in decimal digits.
+#[derive(Clone, Copy)]
+pub(crate) enum TextPiece<'a> {
+    /// Text as it is.
+    Word(&'a str),
+    /// A number.
+    Number(u64),
 }
 
-/// The same with two numbers.
-pub(crate) fn write_numbers<W: fmt::Write>(
-    f: &mut fmt::Formatter<W>,
-    before: &str,
-    first: u64,
-    between: &str,
-    second: u64,
-) -> fmt::Result {
-    write!(f, "{before}{first}{between}{second}")
+fn put_piece(text: &mut String, piece: &TextPiece<'_>) -> Result<(), AllocError> {
+    match piece {
+        TextPiece::Word(word) => text.push_str(word),
+        TextPiece::Number(number) => write!(text, "{number}"),
+    }
+}
+
+/// Puts the pieces, in order.
+pub(crate) fn put_text_pieces(
+    text: &mut String,
+    pieces: &[TextPiece<'_>],
+) -> Result<(), AllocError> {
+    for piece in pieces {
+        put_piece(text, piece)?;
+    }
+    Ok(())
+}
+
+/// The text of the pieces.
+pub(crate) fn joined_text(alloc: Global, pieces: &[TextPiece<'_>]) -> Result<String, AllocError> {
+    let mut text = String::new(alloc);
+    put_text_pieces(&mut text, pieces)?;
+    Ok(text)
 }

@@ -1,19 +1,45 @@
 //! The queues of a report as JSON, with their free elements and their registrants.
 
-use crate::json::{PayloadShown, queue_number};
+ghost use Rattle.std.specs.Prelude.{◌≡◌, ◌++◌, ◌∷◌, [], IfOk, OnOk, map, filter, IsPermutation};
+ghost use Rattle.std.specs.List.Sorted.{IsSortedBy};
+ghost use Rattle.rq_model.specs.Machine.{is_free_at};
+ghost use Rattle.rq_model.specs.Queues.{registrants_at};
+ghost use Rattle.rq_model.specs.Reports.{IsListing, kind_text};
+ghost use Rattle.rq_model.specs.States as model;
+ghost use Rattle.rq_state.specs.Views as views;
+ghost use Rattle.rq_report.specs.Order.{is_ahead};
+ghost use Rattle.rq_look.specs.Registrants.{last_shown, last_told, registrant_entry, registrant_told};
+
+use crate::json::{BytesShown, queue_number};
+use crate::objects::{write_numbers, write_other};
 use rq_record::QueueNo;
 use rq_state::{Definition, KeptElement as Element, Last, Mark, OpKind, Registrant, State};
-use serde::Serialize;
+use serde::{Described, Serialize, Serializer};
 use std::alloc::{AllocError, Global};
 use std::cmp::Reverse;
 
-#[derive(Drop, Serialize)]
+#[derive(Drop)]
 struct ElementShown<'a> {
-    id: u64,
-    from: u32,
-    priority: u8,
-    attempts: u64,
-    payload: PayloadShown<'a>,
+    element: &'a Element,
+    payload: BytesShown<'a>,
+}
+
+impl Described for ElementShown<'_> {}
+
+impl Serialize for ElementShown<'_> {
+    fn serialize<S: Serializer>(&self, out: &mut S) -> Result<(), S::Error> {
+        let e = self.element;
+        let numbers = [
+            ("id", Some(e.id.0)),
+            ("from", Some(u64::from(e.origin.0))),
+            ("priority", Some(u64::from(e.priority))),
+            ("attempts", Some(e.attempts)),
+        ];
+        out.begin_map(None)?;
+        write_numbers(&numbers, out)?;
+        write_other("payload", Some(&self.payload), out)?;
+        out.end_map()
+    }
 }
 
 /// The last operation of a registrant.
@@ -47,14 +73,58 @@ pub(crate) struct QueueShown<'a> {
     registrants: Vec<RegistrantShown<'a>>,
 }
 
-fn element_shown(alloc: Global, e: &Element) -> Result<ElementShown<'_>, AllocError> {
+fn element_shown(alloc: Global, element: &Element) -> Result<ElementShown<'_>, AllocError> {
     Ok(ElementShown {
-        id: e.id.0,
-        from: e.origin.0,
-        priority: e.priority,
-        attempts: e.attempts,
-        payload: PayloadShown::of(alloc, e.payload.bytes())?,
+        element,
+        payload: BytesShown::of(alloc, element.payload.bytes())?,
     })
+}
+
+fn is_free(e: &Element) -> bool
+    ensures { result ≡ model.is_free e.now.mark }
+{
+    match e.mark {
+        Mark::Free => true,
+        Mark::Fresh(_) | Mark::Held(_) => false,
+    }
+}
+
+// Adds an element if it is free.
+fn list<'a>(found: &mut Vec<&'a Element>, e: &'a Element) -> Result<(), AllocError>
+    ensures { OnOk result (map (λ e. e.now) found.new.items
+        ≡ map (λ e. e.now) found.old.items ++ filter (λ e. model.is_free e.mark) (e.now ∷ [])) }
+{
+    if is_free(e) {
+        found.push(e)?;
+    }
+    Ok(())
+}
+
+// The queue's free elements, in the order of their numbers.
+fn listed(alloc: Global, state: &State, queue: QueueNo) -> Result<Vec<&Element>, AllocError>
+    ensures { IfOk result
+        (λ v. map (λ e. e.now) v.items ≡ filter (is_free_at queue.0) state.now.elements) }
+{
+    let indices = state.elements_of(queue);
+    let mut found = Vec::new(alloc);
+    for at in indices {
+        list(&mut found, state.element(*at))?;
+    }
+    Ok(found)
+}
+
+// By what elements are put in order.
+fn rank(e: &Element) -> (Reverse<u8>, u64)
+    ensures { result ≡ (record { 0 = e.now.priority }, e.now.id) }
+{
+    (Reverse(e.priority), e.id.0)
+}
+
+fn sort(found: &mut [&Element])
+    ensures permutation { IsPermutation found.old found.new }
+    ensures sorted { IsSortedBy (λ x y. is_ahead x.now y.now) found.new }
+{
+    found.sort_unstable_by_key(|e| rank(e));
 }
 
 /// The queue's free elements, in the order in which they would be taken.
@@ -62,16 +132,13 @@ pub fn free_elements(
     alloc: Global,
     state: &State,
     queue: QueueNo,
-) -> Result<Vec<&Element>, AllocError> {
-    let mut found = Vec::new(alloc);
-    for index in state.elements_of(queue) {
-        if let Some(e) = state.elements().get(*index) {
-            if e.mark == Mark::Free {
-                found.push(e)?;
-            }
-        }
-    }
-    found.sort_unstable_by_key(|e| (Reverse(e.priority), e.id.0));
+) -> Result<Vec<&Element>, AllocError>
+    ensures { IfOk result (λ v. IsListing queue.0 state.now.elements (map (λ e. e.now) v.items)) }
+{
+    // Its contract says that the elements have numbers of their own.
+    state.next();
+    let mut found = listed(alloc, state, queue)?;
+    sort(&mut found);
     Ok(found)
 }
 
@@ -88,18 +155,31 @@ fn elements_shown(
     Ok(shown)
 }
 
-fn last_shown(last: &Last) -> LastShown<'static> {
-    LastShown {
-        kind: match last.kind {
-            OpKind::Enqueue => "enqueue",
-            OpKind::Dequeue => "dequeue",
-        },
-        tag: last.tag,
-        element: last.element.map(|id| id.0),
+fn kind_of(kind: OpKind) -> &'static str
+    ensures { result.now ≡ kind_text (views.kind_of kind) }
+{
+    match kind {
+        OpKind::Enqueue => "enqueue",
+        OpKind::Dequeue => "dequeue",
     }
 }
 
-fn registrant_shown(r: &Registrant) -> RegistrantShown<'_> {
+fn last_shown(last: &Last) -> LastShown<'static>
+    ensures { last_told result ≡ last_shown last.now }
+{
+    LastShown {
+        kind: kind_of(last.kind),
+        tag: last.tag,
+        element: match last.element {
+            Some(id) => Some(id.0),
+            None => None,
+        },
+    }
+}
+
+fn registrant_shown(r: &Registrant) -> RegistrantShown<'_>
+    ensures { registrant_told result ≡ registrant_entry r.now }
+{
     RegistrantShown {
         name: r.name.text(),
         last: match &r.last {
@@ -114,12 +194,13 @@ pub fn registrants_shown(
     alloc: Global,
     state: &State,
     queue: QueueNo,
-) -> Result<Vec<RegistrantShown<'_>>, AllocError> {
+) -> Result<Vec<RegistrantShown<'_>>, AllocError>
+    ensures { IfOk result (λ v. map registrant_told v.items
+        ≡ map registrant_entry (registrants_at queue.0 state.now.registrants)) }
+{
     let mut found = Vec::new(alloc);
-    for index in state.registrants_of(queue) {
-        if let Some(r) = state.registrants().get(*index) {
-            found.push(registrant_shown(r))?;
-        }
+    for at in state.registrants_of(queue) {
+        found.push(registrant_shown(state.registrant(*at)))?;
     }
     Ok(found)
 }

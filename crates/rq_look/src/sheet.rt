@@ -9,7 +9,7 @@ use std::io::{self, Write};
 const ROOM: usize = 65_536;
 
 /// Writes the text, which is then empty.
-pub(crate) fn finish<W: Write>(text: &mut String, output: &mut W) -> io::Result<()>
+pub(crate) fn write_out<W: Write>(text: &mut String, output: &mut W) -> io::Result<()>
     ensures { OnOk result
         (Appends (W.contents output.old) (W.contents output.new) (string_bytes text.old)
         × (string_bytes text.new ≡ [])) }
@@ -30,5 +30,5 @@ pub(crate) fn relieve<W: Write>(text: &mut String, output: &mut W) -> io::Result
     if text.len() < ROOM {
         return Ok(());
     }
-    finish(text, output)
+    write_out(text, output)
 }

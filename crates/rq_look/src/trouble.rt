@@ -4,7 +4,7 @@ ghost use Rattle.std.specs.Prelude.{◌≡◌};
 ghost use Rattle.rq_record.specs.declared.fault.Fault.TheVariants.{Resources};
 ghost use Rattle.rq_look.specs.declared.trouble.Trouble.TheVariants.{Log, Output};
 
-use crate::telling::Subject;
+use crate::stories::Subject;
 use rq_record::Fault;
 use std::alloc::AllocError;
 use std::io;

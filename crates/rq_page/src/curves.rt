@@ -2,8 +2,8 @@
 
 ghost use Rattle.std.specs.Prelude.{◌≤◌};
 
-use crate::markup::Piece::{Count, Number, Tag};
-use crate::markup::put;
+use crate::markup::Html::{Count, Number, Tag};
+use crate::markup::put_pieces;
 use std::alloc::{AllocError, Global};
 
 /// Where a part of a whole stands on a line of so many steps.
@@ -30,14 +30,14 @@ struct Bin {
 /// A picture: its width and its height, where the front ends in it, and in how many bins its width is
 /// cut.
 #[derive(Clone, Copy)]
-pub(crate) struct Frame {
+pub(crate) struct Canvas {
     pub(crate) width: u64,
     pub(crate) height: u64,
     pub(crate) end: u64,
     pub(crate) bins: u64,
 }
 
-impl Frame {
+impl Canvas {
     // Where a bin begins, or the front ends before it.
     fn at(&self, bin: u64) -> u64 {
         along(bin, self.bins, self.width).min(self.end)
@@ -106,11 +106,11 @@ impl Curve {
     }
 
     // Puts the line through one bin.
-    fn put_bin(&self, text: &mut String, frame: &Frame, bin: Bin) -> Result<(), AllocError> {
+    fn put_bin(&self, text: &mut String, frame: &Canvas, bin: Bin) -> Result<(), AllocError> {
         let (from, to) = (frame.at(bin.number), frame.at(bin.number.saturating_add(1)));
         let top = frame.below_top(bin.most, self.most);
         let behind = frame.below_top(bin.last, self.most);
-        put(
+        put_pieces(
             text,
             &[
                 Tag("H"),
@@ -124,10 +124,10 @@ impl Curve {
         if behind == top {
             return Ok(());
         }
-        put(text, &[Tag("V"), Number(behind)])
+        put_pieces(text, &[Tag("V"), Number(behind)])
     }
 
-    fn put_line(&self, text: &mut String, frame: &Frame) -> Result<(), AllocError> {
+    fn put_line(&self, text: &mut String, frame: &Canvas) -> Result<(), AllocError> {
         for bin in self.changed.iter().copied() {
             self.put_bin(text, frame, bin)?;
         }
@@ -139,11 +139,11 @@ impl Curve {
     pub(crate) fn put(
         &self,
         text: &mut String,
-        frame: &Frame,
+        frame: &Canvas,
         title: &'static str,
     ) -> Result<(), AllocError> {
         let (width, height) = (Number(frame.width), Number(frame.height));
-        put(
+        put_pieces(
             text,
             &[
                 Tag("<span class=\"scale\"><span>"),
@@ -161,7 +161,7 @@ impl Curve {
             ],
         )?;
         self.put_line(text, frame)?;
-        put(
+        put_pieces(
             text,
             &[
                 Tag("H"),
@@ -176,7 +176,7 @@ impl Curve {
 
 /// Puts the scale below a picture of the whole log.
 pub(crate) fn put_axis(text: &mut String, total: u64) -> Result<(), AllocError> {
-    put(
+    put_pieces(
         text,
         &[
             Tag("<div class=\"axis\"><span>byte 0</span><span>"),

@@ -1,9 +1,9 @@
 //! The lives of elements, units and registrants, a row each.
 
 use crate::lives::Lives;
-use crate::markup::Piece::{Number, Tag, Text};
-use crate::markup::{Piece, put};
-use crate::shown::Shown;
+use crate::markup::Html::{Number, Tag, Text};
+use crate::markup::{Html, put_pieces};
+use crate::shown::Linked;
 use crate::steps::{Step, put_steps};
 use rq_record::Name;
 use std::alloc::AllocError;
@@ -17,7 +17,7 @@ fn put_top(
     about: &'static str,
     columns: &'static str,
 ) -> Result<(), AllocError> {
-    put(
+    put_pieces(
         text,
         &[
             Tag("<section id=\""),
@@ -41,11 +41,11 @@ fn put_bottom(text: &mut String) -> Result<(), AllocError> {
 // Puts a row: what its life is of, and its steps.
 fn put_life(
     text: &mut String,
-    shown: &Shown<'_>,
-    head: &[Piece<'_>],
+    shown: &Linked<'_>,
+    head: &[Html<'_>],
     steps: &[Step],
 ) -> Result<(), AllocError> {
-    put(text, head)?;
+    put_pieces(text, head)?;
     if steps.is_empty() {
         return text.push_str("the front tells nothing of it</td></tr>\n");
     }
@@ -56,7 +56,7 @@ fn put_life(
 // Puts the life of a number.
 fn put_numbered(
     text: &mut String,
-    shown: &Shown<'_>,
+    shown: &Linked<'_>,
     kind: &'static str,
     number: u64,
     steps: &[Step],
@@ -75,7 +75,7 @@ fn put_numbered(
 
 fn put_all_numbered(
     text: &mut String,
-    shown: &Shown<'_>,
+    shown: &Linked<'_>,
     kind: &'static str,
     lives: &BTreeMap<u64, Vec<Step>>,
 ) -> Result<(), AllocError> {
@@ -88,7 +88,7 @@ fn put_all_numbered(
 /// Puts what became of elements.
 pub(crate) fn put_elements(
     text: &mut String,
-    shown: &Shown<'_>,
+    shown: &Linked<'_>,
     lives: &Lives,
 ) -> Result<(), AllocError> {
     if lives.elements.is_empty() {
@@ -106,9 +106,9 @@ pub(crate) fn put_elements(
 }
 
 /// Puts what units did.
-pub(crate) fn put_units(
+pub(crate) fn put_unit_histories(
     text: &mut String,
-    shown: &Shown<'_>,
+    shown: &Linked<'_>,
     lives: &Lives,
 ) -> Result<(), AllocError> {
     if lives.units.is_empty() {
@@ -128,12 +128,12 @@ pub(crate) fn put_units(
 // Puts the life of a registrant.
 fn put_registrant(
     text: &mut String,
-    shown: &Shown<'_>,
+    shown: &Linked<'_>,
     registrant: &(u32, Name),
     steps: &[Step],
 ) -> Result<(), AllocError> {
     let (queue, name) = (registrant.0, registrant.1.text());
-    put(
+    put_pieces(
         text,
         &[
             Tag("<tr id=\"g"),
@@ -151,7 +151,7 @@ fn put_registrant(
 
 fn put_all_registrants(
     text: &mut String,
-    shown: &Shown<'_>,
+    shown: &Linked<'_>,
     lives: &Lives,
 ) -> Result<(), AllocError> {
     for (registrant, steps) in &lives.registrants {
@@ -163,7 +163,7 @@ fn put_all_registrants(
 /// Puts what registrants did.
 pub(crate) fn put_registrants(
     text: &mut String,
-    shown: &Shown<'_>,
+    shown: &Linked<'_>,
     lives: &Lives,
 ) -> Result<(), AllocError> {
     if lives.registrants.is_empty() {

@@ -1,9 +1,9 @@
 //! What a queue holds, to be folded out: its elements and its registrants.
 
-use crate::markup::Piece::{Count, Number, Tag, Text};
-use crate::markup::put;
-use crate::payloads::put_payload;
-use crate::shown::Shown;
+use crate::markup::Html::{Count, Number, Tag, Text};
+use crate::markup::put_pieces;
+use crate::payloads::put_payload_cell;
+use crate::shown::Linked;
 use rq_look::{LastShown, RegistrantShown};
 use rq_state::KeptElement as Element;
 use std::alloc::{AllocError, Global};
@@ -20,14 +20,14 @@ const WHOLE: usize = 500_000;
 fn put_element(
     alloc: Global,
     text: &mut String,
-    shown: &Shown<'_>,
+    shown: &Linked<'_>,
     e: &Element,
 ) -> Result<(), AllocError> {
     text.push_str("<tr><th scope=\"row\">")?;
     shown.put_element(text, e.id.0)?;
     text.push_str("</th><td>")?;
     shown.put_queue(text, e.origin.0)?;
-    put(
+    put_pieces(
         text,
         &[
             Tag("</td><td>"),
@@ -37,7 +37,7 @@ fn put_element(
             Tag("</td><td>"),
         ],
     )?;
-    put_payload(alloc, text, e.payload.bytes(), text.len() < WHOLE)?;
+    put_payload_cell(alloc, text, e.payload.bytes(), text.len() < WHOLE)?;
     text.push_str("</td></tr>\n")
 }
 
@@ -45,7 +45,7 @@ fn put_element(
 fn put_rows(
     alloc: Global,
     text: &mut String,
-    shown: &Shown<'_>,
+    shown: &Linked<'_>,
     elements: &[&Element],
 ) -> Result<usize, AllocError> {
     let mut count: usize = 0;
@@ -65,13 +65,13 @@ pub(crate) fn put_more(text: &mut String, all: usize, count: usize) -> Result<()
         return Ok(());
     }
     let more = Count(all.saturating_sub(count) as u64);
-    put(text, &[Tag("<p>and "), more, Tag(" more</p>\n")])
+    put_pieces(text, &[Tag("<p>and "), more, Tag(" more</p>\n")])
 }
 
 fn put_elements(
     alloc: Global,
     text: &mut String,
-    shown: &Shown<'_>,
+    shown: &Linked<'_>,
     elements: &[&Element],
 ) -> Result<(), AllocError> {
     if elements.is_empty() {
@@ -88,8 +88,8 @@ fn put_elements(
 }
 
 // Puts what a registrant did last.
-fn put_last(text: &mut String, shown: &Shown<'_>, last: &LastShown<'_>) -> Result<(), AllocError> {
-    put(
+fn put_last(text: &mut String, shown: &Linked<'_>, last: &LastShown<'_>) -> Result<(), AllocError> {
+    put_pieces(
         text,
         &[
             Tag("</th><td>"),
@@ -108,7 +108,7 @@ fn put_last(text: &mut String, shown: &Shown<'_>, last: &LastShown<'_>) -> Resul
 
 fn put_registrant(
     text: &mut String,
-    shown: &Shown<'_>,
+    shown: &Linked<'_>,
     queue: u32,
     it: &RegistrantShown<'_>,
 ) -> Result<(), AllocError> {
@@ -122,7 +122,7 @@ fn put_registrant(
 
 fn put_registrant_rows(
     text: &mut String,
-    shown: &Shown<'_>,
+    shown: &Linked<'_>,
     queue: u32,
     registrants: &[RegistrantShown<'_>],
 ) -> Result<usize, AllocError> {
@@ -139,7 +139,7 @@ fn put_registrant_rows(
 
 fn put_registrants(
     text: &mut String,
-    shown: &Shown<'_>,
+    shown: &Linked<'_>,
     queue: u32,
     registrants: &[RegistrantShown<'_>],
 ) -> Result<(), AllocError> {
@@ -160,7 +160,7 @@ fn put_registrants(
 pub(crate) fn put_fold(
     alloc: Global,
     text: &mut String,
-    shown: &Shown<'_>,
+    shown: &Linked<'_>,
     queue: u32,
     elements: &[&Element],
     registrants: &[RegistrantShown<'_>],
@@ -168,7 +168,7 @@ pub(crate) fn put_fold(
     if elements.is_empty() && registrants.is_empty() {
         return Ok(());
     }
-    put(
+    put_pieces(
         text,
         &[
             Tag("<tr class=\"fold\"><td colspan=\"4\"><details><summary>elements: "),

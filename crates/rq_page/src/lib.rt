@@ -1,15 +1,15 @@
 //! A log as one page that a browser shows: what `rq_look` finds in a log, drawn.
 #![tactic(auto)]
 
-mod asking;
 mod curves;
 mod histories;
 mod holdings;
 mod lives;
 mod markup;
-mod paging;
+mod pages;
 mod payloads;
 mod pictures;
+mod questions;
 mod records;
 mod shown;
 mod steps;
@@ -20,6 +20,6 @@ mod tables;
 mod units;
 mod walks;
 
-pub use asking::{Asked, Order};
 pub use markup::put_text;
-pub use paging::page;
+pub use pages::page;
+pub use questions::{Asked, Order};

@@ -1,7 +1,7 @@
 //! What became of elements, units and registrants.
 
 use crate::records::put_row;
-use crate::shown::Shown;
+use crate::shown::Linked;
 use crate::steps::{At, STEPS, Step, step_of};
 use rq_look::{Event, Numbered, unit_of};
 use rq_record::{KeptBy, KeptName, KeptRecord, Name, QueueNo};
@@ -89,7 +89,7 @@ fn step_of_operation(it: &Numbered, events: &[Event]) -> Step {
 
 impl Lives {
     /// Before the first record.
-    pub(crate) fn new(alloc: Global, shown: &Shown<'_>) -> Result<Lives, AllocError> {
+    pub(crate) fn new(alloc: Global, shown: &Linked<'_>) -> Result<Lives, AllocError> {
         Ok(Lives {
             rows: String::new(alloc),
             count: 0,
@@ -113,7 +113,7 @@ impl Lives {
     fn take_elements(
         &mut self,
         alloc: Global,
-        shown: &Shown<'_>,
+        shown: &Linked<'_>,
         events: &[Event],
         at: At,
         unit: Option<u64>,
@@ -140,7 +140,7 @@ impl Lives {
     fn take_unit(
         &mut self,
         alloc: Global,
-        shown: &Shown<'_>,
+        shown: &Linked<'_>,
         it: &Numbered,
         events: &[Event],
     ) -> Result<bool, AllocError> {
@@ -219,7 +219,7 @@ impl Lives {
     fn take_row(
         &mut self,
         alloc: Global,
-        shown: &Shown<'_>,
+        shown: &Linked<'_>,
         it: &Numbered,
         events: &[Event],
         truth: bool,
@@ -237,7 +237,7 @@ impl Lives {
     pub(crate) fn take(
         &mut self,
         alloc: Global,
-        shown: &Shown<'_>,
+        shown: &Linked<'_>,
         it: &Numbered,
         events: &[Event],
         truth: bool,
@@ -258,7 +258,7 @@ impl Lives {
     pub(crate) fn take_restart(
         &mut self,
         alloc: Global,
-        shown: &Shown<'_>,
+        shown: &Linked<'_>,
         unit: u64,
         events: &[Event],
     ) -> Result<(), AllocError> {

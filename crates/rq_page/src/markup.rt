@@ -3,14 +3,14 @@
 ghost use Rattle.std.specs.Prelude.{◌≡◌, ◌++◌, true, OnOk, string_bytes};
 ghost use Rattle.rq_page.specs.Markup.{AppendsText, is_text, page_foot};
 
-use crate::markup::Piece::{Count, Number, Tag, Text};
+use crate::markup::Html::{Count, Number, Tag, Text};
 use rq_look::is_hidden;
 use std::alloc::AllocError;
 use std::fmt::Write;
 
 /// A part of a page. What is of the log is a number or a `Text`: a `Tag` is of this crate alone.
 #[derive(Clone, Copy)]
-pub(crate) enum Piece<'a> {
+pub(crate) enum Html<'a> {
     /// Markup, or words beside it.
     Tag(&'static str),
     /// A number that names something.
@@ -111,17 +111,17 @@ fn put_count(text: &mut String, number: u64) -> Result<(), AllocError> {
     put_last(text, left, is_first)
 }
 
-fn put_piece(text: &mut String, piece: Piece<'_>) -> Result<(), AllocError> {
+fn put_piece(text: &mut String, piece: Html<'_>) -> Result<(), AllocError> {
     match piece {
-        Piece::Tag(tag) => text.push_str(tag),
-        Piece::Number(number) => write!(text, "{number}"),
-        Piece::Count(number) => put_count(text, number),
-        Piece::Text(word) => put_text(text, word),
+        Html::Tag(tag) => text.push_str(tag),
+        Html::Number(number) => write!(text, "{number}"),
+        Html::Count(number) => put_count(text, number),
+        Html::Text(word) => put_text(text, word),
     }
 }
 
 /// Puts one piece behind the other.
-pub(crate) fn put(text: &mut String, pieces: &[Piece<'_>]) -> Result<(), AllocError> {
+pub(crate) fn put_pieces(text: &mut String, pieces: &[Html<'_>]) -> Result<(), AllocError> {
     for piece in pieces {
         put_piece(text, *piece)?;
     }
@@ -136,7 +136,7 @@ pub(crate) fn put_head<'a>(
     style: &'static str,
     sum: &'a str,
 ) -> Result<(), AllocError> {
-    put(
+    put_pieces(
         text,
         &[
             Tag("<!DOCTYPE html>\n<html lang=\"en\">\n<head>\n<meta charset=\"utf-8\">\n"),

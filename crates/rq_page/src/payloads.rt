@@ -1,7 +1,7 @@
 //! Payloads: the first of a payload in a line, and all of it if that is asked for.
 
-use crate::markup::Piece::{Count, Tag};
-use crate::markup::{put, put_char};
+use crate::markup::Html::{Count, Tag};
+use crate::markup::{put_char, put_pieces};
 use std::alloc::{AllocError, Global};
 use std::str::from_utf8;
 
@@ -63,7 +63,7 @@ fn put_form(text: &mut String, bytes: &[u8]) -> Result<(), AllocError> {
 
 // Puts all of a payload, of which the first was put before.
 fn put_rest(alloc: Global, text: &mut String, bytes: &[u8]) -> Result<(), AllocError> {
-    put(
+    put_pieces(
         text,
         &[
             Tag("<details><summary>all "),
@@ -78,7 +78,7 @@ fn put_rest(alloc: Global, text: &mut String, bytes: &[u8]) -> Result<(), AllocE
 
 /// Puts a payload: its first characters, or bytes if it is no text, and how many bytes it has; all
 /// of it to be folded out, if that is wanted.
-pub(crate) fn put_payload(
+pub(crate) fn put_payload_cell(
     alloc: Global,
     text: &mut String,
     bytes: &[u8],
@@ -97,5 +97,5 @@ pub(crate) fn put_payload(
         return put_rest(alloc, text, bytes);
     }
     let count = Count(bytes.len() as u64);
-    put(text, &[Tag("<i>.. "), count, Tag(" bytes</i>")])
+    put_pieces(text, &[Tag("<i>.. "), count, Tag(" bytes</i>")])
 }

@@ -1,8 +1,8 @@
 //! The log along its length: records by kind, checkpoints, and what stands behind the front.
 
 use crate::curves::{along, bin_of, put_axis};
-use crate::markup::Piece::{Count, Number, Tag};
-use crate::markup::put;
+use crate::markup::Html::{Count, Number, Tag};
+use crate::markup::put_pieces;
 use crate::surveys::{BINS, Bin, Survey};
 use rq_look::End;
 use std::alloc::{AllocError, Global};
@@ -43,14 +43,14 @@ fn most_of(bins: &[Bin]) -> u64 {
 fn put_label(text: &mut String, bin: &Bin) -> Result<(), AllocError> {
     text.push_str("<title>")?;
     for (kind, count) in bin {
-        put(text, &[Count(*count), Tag(" "), Tag(*kind), Tag(" ")])?;
+        put_pieces(text, &[Count(*count), Tag(" "), Tag(*kind), Tag(" ")])?;
     }
     text.push_str("</title>")
 }
 
 // A part of a bar.
 #[derive(Clone, Copy)]
-struct Part {
+struct BarPart {
     class: &'static str,
     x: u64,
     y: u64,
@@ -59,8 +59,8 @@ struct Part {
 }
 
 // Puts a rectangle, without its end.
-fn put_part(text: &mut String, part: Part) -> Result<(), AllocError> {
-    put(
+fn put_part(text: &mut String, part: BarPart) -> Result<(), AllocError> {
+    put_pieces(
         text,
         &[
             Tag("<rect class=\""),
@@ -87,7 +87,7 @@ fn put_bar(text: &mut String, bin: &Bin, x: u64, most: u64) -> Result<(), AllocE
         let base = along(below, most, HEIGHT);
         below = below.saturating_add(*count);
         let top = along(below, most, HEIGHT);
-        let part = Part {
+        let part = BarPart {
             class: *kind,
             x,
             y: HEIGHT.saturating_sub(top),
@@ -127,7 +127,7 @@ fn marked(
 
 fn put_mark(text: &mut String, bin: u64, truth: bool) -> Result<(), AllocError> {
     let class = if truth { "true" } else { "false" };
-    let part = Part {
+    let part = BarPart {
         class,
         x: left_of(bin),
         y: HEIGHT + 4,
@@ -155,7 +155,7 @@ fn put_damage(text: &mut String, end: &End) -> Result<(), AllocError> {
         return Ok(());
     }
     let x = along(end.used, end.total, WIDTH).min(WIDTH - 4);
-    let part = Part {
+    let part = BarPart {
         class: "damage",
         x,
         y: 0,
@@ -163,7 +163,7 @@ fn put_damage(text: &mut String, end: &End) -> Result<(), AllocError> {
         height: HEIGHT + LINE,
     };
     put_part(text, part)?;
-    put(
+    put_pieces(
         text,
         &[
             Tag("><title>"),
@@ -191,7 +191,7 @@ fn totals(all: &mut Bin, bins: &[Bin]) -> Result<(), AllocError> {
 
 fn put_kinds(text: &mut String, all: &Bin) -> Result<(), AllocError> {
     for (kind, count) in all {
-        put(
+        put_pieces(
             text,
             &[
                 Tag("<li class=\""),
@@ -228,7 +228,7 @@ fn put_drawing(
     marks: &BTreeMap<u64, bool>,
 ) -> Result<(), AllocError> {
     let most = most_of(&seen.bins);
-    put(
+    put_pieces(
         text,
         &[
             Tag("<div class=\"plot tall\"><span class=\"scale\"><span>"),

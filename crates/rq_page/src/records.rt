@@ -1,9 +1,9 @@
 //! The records, a row each.
 
-use crate::markup::Piece::{Count, Number, Tag};
-use crate::markup::put;
-use crate::payloads::put_payload;
-use crate::shown::Shown;
+use crate::markup::Html::{Count, Number, Tag};
+use crate::markup::put_pieces;
+use crate::payloads::put_payload_cell;
+use crate::shown::Linked;
 use crate::steps::{At, put_step, step_of};
 use rq_look::{Event, Numbered, kind_of, unit_of};
 use rq_record::{KeptBy, KeptRecord, QueueNo};
@@ -15,7 +15,7 @@ const WHOLE: usize = 500_000;
 // As many events of a record are shown: a COMMIT has one for each operation of its unit.
 const EVENTS: usize = 1000;
 
-fn put_unit(text: &mut String, shown: &Shown<'_>, record: &KeptRecord) -> Result<(), AllocError> {
+fn put_unit(text: &mut String, shown: &Linked<'_>, record: &KeptRecord) -> Result<(), AllocError> {
     match unit_of(record) {
         Some(unit) => {
             text.push_str(" unit ")?;
@@ -25,7 +25,7 @@ fn put_unit(text: &mut String, shown: &Shown<'_>, record: &KeptRecord) -> Result
     }
 }
 
-fn put_queue(text: &mut String, shown: &Shown<'_>, it: &Numbered) -> Result<(), AllocError> {
+fn put_queue(text: &mut String, shown: &Linked<'_>, it: &Numbered) -> Result<(), AllocError> {
     match it.queue() {
         Some(queue) => {
             text.push_str(" queue ")?;
@@ -38,7 +38,7 @@ fn put_queue(text: &mut String, shown: &Shown<'_>, it: &Numbered) -> Result<(), 
 // Puts whom an operation is by.
 fn put_by(
     text: &mut String,
-    shown: &Shown<'_>,
+    shown: &Linked<'_>,
     queue: QueueNo,
     by: &KeptBy,
 ) -> Result<(), AllocError> {
@@ -47,16 +47,16 @@ fn put_by(
     };
     text.push_str(" by ")?;
     shown.put_registrant(text, queue.0, by.name.text())?;
-    put(text, &[Tag(" tag "), Number(by.tag)])
+    put_pieces(text, &[Tag(" tag "), Number(by.tag)])
 }
 
 fn put_definition(
     text: &mut String,
-    shown: &Shown<'_>,
+    shown: &Linked<'_>,
     limit: u16,
     error: QueueNo,
 ) -> Result<(), AllocError> {
-    put(
+    put_pieces(
         text,
         &[
             Tag(" limit "),
@@ -74,14 +74,14 @@ fn put_checkpoint(text: &mut String, count: usize, truth: bool) -> Result<(), Al
     } else {
         Tag(" bytes, <span class=\"bad\">does not spell the state before it</span>")
     };
-    put(text, &[Tag(" of "), Count(count as u64), said])
+    put_pieces(text, &[Tag(" of "), Count(count as u64), said])
 }
 
 // Puts an element that is put in: its priority, by whom, and its payload.
 fn put_enqueued(
     alloc: Global,
     text: &mut String,
-    shown: &Shown<'_>,
+    shown: &Linked<'_>,
     it: &Numbered,
 ) -> Result<(), AllocError> {
     let KeptRecord::Enqueue {
@@ -94,17 +94,17 @@ fn put_enqueued(
     else {
         return Ok(());
     };
-    put(text, &[Tag(" priority "), Number(u64::from(*priority))])?;
+    put_pieces(text, &[Tag(" priority "), Number(u64::from(*priority))])?;
     put_by(text, shown, *queue, by)?;
     text.push_str(" payload ")?;
-    put_payload(alloc, text, payload.bytes(), text.len() < WHOLE)
+    put_payload_cell(alloc, text, payload.bytes(), text.len() < WHOLE)
 }
 
 // Puts what no other kind of record has.
 fn put_fields(
     alloc: Global,
     text: &mut String,
-    shown: &Shown<'_>,
+    shown: &Linked<'_>,
     it: &Numbered,
     truth: bool,
 ) -> Result<(), AllocError> {
@@ -118,21 +118,21 @@ fn put_fields(
         KeptRecord::Dequeue { queue, by, .. } => put_by(text, shown, *queue, by),
         KeptRecord::Kill { element, .. } => {
             // It may be none: what happens has the link.
-            put(text, &[Tag(" element "), Number(element.0)])
+            put_pieces(text, &[Tag(" element "), Number(element.0)])
         }
         KeptRecord::Checkpoint { bytes } => put_checkpoint(text, bytes.bytes().len(), truth),
         _ => Ok(()),
     }
 }
 
-fn put_events(text: &mut String, shown: &Shown<'_>, events: &[Event]) -> Result<(), AllocError> {
+fn put_events(text: &mut String, shown: &Linked<'_>, events: &[Event]) -> Result<(), AllocError> {
     text.push_str("<ol>")?;
     for event in events.iter().take(EVENTS) {
         put_step(text, shown, &step_of(event, At::Here))?;
     }
     if events.len() > EVENTS {
         let more = Count(events.len().saturating_sub(EVENTS) as u64);
-        put(
+        put_pieces(
             text,
             &[Tag("<li class=\"none\">and "), more, Tag(" more</li>")],
         )?;
@@ -145,13 +145,13 @@ fn put_events(text: &mut String, shown: &Shown<'_>, events: &[Event]) -> Result<
 pub(crate) fn put_row(
     alloc: Global,
     text: &mut String,
-    shown: &Shown<'_>,
+    shown: &Linked<'_>,
     it: &Numbered,
     events: &[Event],
     truth: bool,
 ) -> Result<(), AllocError> {
     let (number, kind) = (Number(it.number), Tag(kind_of(&it.record)));
-    put(
+    put_pieces(
         text,
         &[
             Tag("<tr id=\"r"),
@@ -178,7 +178,7 @@ pub(crate) fn put_row(
 }
 
 /// Puts the records that were gathered as rows, and how many were left out.
-pub(crate) fn put_records(
+pub(crate) fn put_record_rows(
     text: &mut String,
     rows: &str,
     count: u64,
@@ -192,7 +192,7 @@ pub(crate) fn put_records(
         <caption>Each record with what happens at it",
     )?;
     if more > 0 {
-        put(text, &[Tag("; "), Count(more), Tag(" more are left out")])?;
+        put_pieces(text, &[Tag("; "), Count(more), Tag(" more are left out")])?;
     }
     text.push_str(
         "</caption>\n<tr><th scope=\"col\">record</th><th scope=\"col\">at byte</th>\

@@ -1,8 +1,8 @@
 //! What is said of things by their numbers: names beside them, and links to where more stands.
 
 use crate::lives::Lives;
-use crate::markup::Piece::{Number, Tag, Text};
-use crate::markup::{Piece, put};
+use crate::markup::Html::{Number, Tag, Text};
+use crate::markup::{Html, put_pieces};
 use rq_record::QueueNo;
 use rq_state::Definition;
 use std::alloc::AllocError;
@@ -15,7 +15,7 @@ pub(crate) const QUEUES: usize = 1000;
 
 /// Which things a page shows, by which it is known what a link leads to.
 #[derive(Clone, Copy)]
-pub(crate) struct Shown<'a> {
+pub(crate) struct Linked<'a> {
     /// The queues as they were defined.
     pub(crate) definitions: &'a [Definition],
     /// Whether the lives of all are shown.
@@ -28,15 +28,15 @@ pub(crate) struct Shown<'a> {
     pub(crate) lives: Option<&'a Lives>,
 }
 
-impl<'a> Shown<'a> {
+impl<'a> Linked<'a> {
     /// What is shown of a log of so many records, with the elements and units that were asked for.
     pub(crate) fn of(
         definitions: &'a [Definition],
         elements: &'a [u64],
         units: &'a [u64],
         records: u64,
-    ) -> Shown<'a> {
-        Shown {
+    ) -> Linked<'a> {
+        Linked {
             definitions,
             all: records <= ALL,
             elements,
@@ -95,9 +95,9 @@ impl<'a> Shown<'a> {
     pub(crate) fn put_queue(&self, text: &mut String, queue: u32) -> Result<(), AllocError> {
         let (digits, name) = (Number(u64::from(queue)), self.name_of(queue));
         if self.definitions.len() > QUEUES {
-            return put(text, &[digits, Tag(" "), Text(name)]);
+            return put_pieces(text, &[digits, Tag(" "), Text(name)]);
         }
-        put(
+        put_pieces(
             text,
             &[
                 Tag("<a href=\"#q"),
@@ -134,9 +134,9 @@ impl<'a> Shown<'a> {
         name: &str,
     ) -> Result<(), AllocError> {
         if !self.has_registrant(queue, name) {
-            return put(text, &[Text(name)]);
+            return put_pieces(text, &[Text(name)]);
         }
-        put(
+        put_pieces(
             text,
             &[
                 Tag("<a href=\"#g"),
@@ -168,9 +168,9 @@ fn put_link(
 ) -> Result<(), AllocError> {
     let digits = Number(number);
     if !is_shown {
-        return put(text, &[digits]);
+        return put_pieces(text, &[digits]);
     }
-    let link: [Piece<'_>; 6] = [
+    let link: [Html<'_>; 6] = [
         Tag("<a href=\"#"),
         Tag(kind),
         digits,
@@ -178,5 +178,5 @@ fn put_link(
         digits,
         Tag("</a>"),
     ];
-    put(text, &link)
+    put_pieces(text, &link)
 }

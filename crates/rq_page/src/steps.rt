@@ -1,8 +1,8 @@
 //! The steps of lives.
 
-use crate::markup::Piece::{Count, Number, Tag};
-use crate::markup::put;
-use crate::shown::Shown;
+use crate::markup::Html::{Count, Number, Tag};
+use crate::markup::put_pieces;
+use crate::shown::Linked;
 use rq_look::{Effect, Event};
 use std::alloc::AllocError;
 
@@ -96,7 +96,7 @@ pub(crate) fn step_of(event: &Event, at: At) -> Step {
 
 fn put_element(
     text: &mut String,
-    shown: &Shown<'_>,
+    shown: &Linked<'_>,
     element: Option<u64>,
 ) -> Result<(), AllocError> {
     match element {
@@ -111,7 +111,7 @@ fn put_element(
 
 fn put_place(
     text: &mut String,
-    shown: &Shown<'_>,
+    shown: &Linked<'_>,
     queue: Option<u32>,
     attempts: Option<u64>,
 ) -> Result<(), AllocError> {
@@ -120,19 +120,19 @@ fn put_place(
         shown.put_queue(text, queue)?;
     }
     match attempts {
-        Some(attempts) => put(text, &[Tag(", attempts "), Count(attempts)]),
+        Some(attempts) => put_pieces(text, &[Tag(", attempts "), Count(attempts)]),
         None => Ok(()),
     }
 }
 
 fn put_doer(
     text: &mut String,
-    shown: &Shown<'_>,
+    shown: &Linked<'_>,
     unit: Option<u64>,
     tag: Option<u64>,
 ) -> Result<(), AllocError> {
     if let Some(tag) = tag {
-        put(text, &[Tag(", tag "), Number(tag)])?;
+        put_pieces(text, &[Tag(", tag "), Number(tag)])?;
     }
     match unit {
         Some(unit) => {
@@ -143,7 +143,7 @@ fn put_doer(
     }
 }
 
-fn put_at(text: &mut String, shown: &Shown<'_>, at: At) -> Result<(), AllocError> {
+fn put_at(text: &mut String, shown: &Linked<'_>, at: At) -> Result<(), AllocError> {
     match at {
         At::Here => Ok(()),
         At::Record(record) => {
@@ -157,10 +157,10 @@ fn put_at(text: &mut String, shown: &Shown<'_>, at: At) -> Result<(), AllocError
 /// Puts a step, with a link to its record if it is told elsewhere.
 pub(crate) fn put_step(
     text: &mut String,
-    shown: &Shown<'_>,
+    shown: &Linked<'_>,
     step: &Step,
 ) -> Result<(), AllocError> {
-    put(text, &[Tag("<li class=\""), Tag(step.class), Tag("\">")])?;
+    put_pieces(text, &[Tag("<li class=\""), Tag(step.class), Tag("\">")])?;
     put_at(text, shown, step.at)?;
     put_element(text, shown, step.element)?;
     text.push_str(step.words)?;
@@ -170,7 +170,7 @@ pub(crate) fn put_step(
 }
 
 // Puts as many steps as there is room for, and answers how many these are.
-fn put_first(text: &mut String, shown: &Shown<'_>, steps: &[Step]) -> Result<usize, AllocError> {
+fn put_first(text: &mut String, shown: &Linked<'_>, steps: &[Step]) -> Result<usize, AllocError> {
     let mut count: usize = 0;
     for step in steps {
         if text.len() >= ROOM {
@@ -185,7 +185,7 @@ fn put_first(text: &mut String, shown: &Shown<'_>, steps: &[Step]) -> Result<usi
 /// Puts the steps of a life, one behind the other, and whether some are left out.
 pub(crate) fn put_steps(
     text: &mut String,
-    shown: &Shown<'_>,
+    shown: &Linked<'_>,
     steps: &[Step],
 ) -> Result<(), AllocError> {
     text.push_str("<ol>")?;

@@ -1,8 +1,8 @@
 //! The front's summary.
 
-use crate::asking::Asked;
-use crate::markup::Piece::{Count, Number, Tag, Text};
-use crate::markup::{Piece, put};
+use crate::markup::Html::{Count, Number, Tag, Text};
+use crate::markup::{Html, put_pieces};
+use crate::questions::Asked;
 use rq_look::{End, is_whole};
 use rq_report::why_word;
 use rq_restart::Restarted;
@@ -17,12 +17,12 @@ fn false_ones(checkpoints: &[(u64, bool)]) -> usize {
 }
 
 // Puts a row: what it is about, and what is said of it.
-fn put_row(text: &mut String, head: &'static str, pieces: &[Piece<'_>]) -> Result<(), AllocError> {
-    put(
+fn put_row(text: &mut String, head: &'static str, pieces: &[Html<'_>]) -> Result<(), AllocError> {
+    put_pieces(
         text,
         &[Tag("<tr><th scope=\"row\">"), Tag(head), Tag("</th><td>")],
     )?;
-    put(text, pieces)?;
+    put_pieces(text, pieces)?;
     text.push_str("</td></tr>\n")
 }
 
@@ -162,7 +162,7 @@ pub(crate) fn put_summary(
 
 // Puts one of the numbers that are seen first.
 fn put_tile(text: &mut String, name: &'static str, count: u64) -> Result<(), AllocError> {
-    put(
+    put_pieces(
         text,
         &[
             Tag("<div><dt>"),
@@ -197,7 +197,7 @@ pub(crate) fn put_header(
     } else {
         "\"><span class=\"badge wrong\">not whole</span>"
     };
-    put(
+    put_pieces(
         text,
         &[
             Tag("<header>\n<h1><bdi>"),

@@ -5,7 +5,9 @@ ghost use Rattle.rq_record.specs.declared.fault.Fault.TheVariants.{Resources};
 ghost use Rattle.rq_look.specs.Looks.{IsBroken};
 
 use crate::curves::{Curve, bin_of};
-use rq_look::{Effect, End, Event, Numbered, Placed, Queues, Trouble, frames_behind, kind_of};
+use rq_look::{
+    Effect, End, Event, FollowedQueues, Numbered, Placed, Trouble, front_frames, kind_of,
+};
 use rq_record::{Fault, KeptRecord, QueueNo};
 use rq_state::{Mark, State};
 use std::alloc::{AllocError, Global};
@@ -130,7 +132,7 @@ impl Survey {
         &mut self,
         alloc: Global,
         placed: Placed<'_>,
-        machine: &mut Queues,
+        machine: &mut FollowedQueues,
         total: u64,
     ) -> Result<(), Fault>
         ensures { IfErr result (λ e. e ≡ Resources) }
@@ -201,11 +203,11 @@ pub(crate) fn surveyed(
 ) -> Result<Survey, Trouble>
     ensures { IfErr result IsBroken }
 {
-    let mut machine = Queues::of(alloc, first)?;
+    let mut machine = FollowedQueues::of(alloc, first)?;
     let mut seen = Survey::new(alloc)?;
     seen.begin_units(first, end)?;
     seen.begin_queues(alloc, first, end)?;
-    for placed in frames_behind(bytes, first, end.at, end.used) {
+    for placed in front_frames(bytes, first, end.at, end.used) {
         seen.follow(alloc, placed, &mut machine, end.total)?;
     }
     seen.close(state, end)?;

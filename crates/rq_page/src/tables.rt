@@ -1,11 +1,11 @@
 //! The queues, each with its depth along the log, its elements and its registrants.
 
-use crate::asking::Order;
-use crate::curves::{Frame, along, put_axis};
+use crate::curves::{Canvas, along, put_axis};
 use crate::holdings::{put_fold, put_more};
-use crate::markup::Piece::{Count, Number, Tag, Text};
-use crate::markup::put;
-use crate::shown::{QUEUES, Shown};
+use crate::markup::Html::{Count, Number, Tag, Text};
+use crate::markup::put_pieces;
+use crate::questions::Order;
+use crate::shown::{Linked, QUEUES};
 use crate::surveys::{FEW_BINS, Survey};
 use rq_look::{End, free_elements, registrants_shown};
 use rq_record::{Name, QueueNo};
@@ -23,7 +23,7 @@ const HEIGHT: u64 = 24;
 
 // A queue, by what queues are put in order.
 #[derive(Clone, Copy)]
-struct Line {
+struct QueueRow {
     number: u32,
     depth: usize,
     name: Name,
@@ -32,7 +32,7 @@ struct Line {
 // What a page shows its queues with.
 #[derive(Clone, Copy)]
 struct Hall<'a> {
-    shown: Shown<'a>,
+    shown: Linked<'a>,
     seen: &'a Survey,
     state: &'a State,
     end: &'a End,
@@ -42,11 +42,11 @@ fn lines_of(
     alloc: Global,
     definitions: &[Definition],
     state: &State,
-) -> Result<Vec<Line>, AllocError> {
+) -> Result<Vec<QueueRow>, AllocError> {
     let mut lines = Vec::with_capacity(alloc, definitions.len())?;
     let mut number: u32 = 0;
     for definition in definitions {
-        lines.push(Line {
+        lines.push(QueueRow {
             number,
             depth: state.elements_of(QueueNo(number)).len(),
             name: definition.name,
@@ -57,7 +57,7 @@ fn lines_of(
 }
 
 // Puts the queues in order.
-fn arrange(lines: &mut Vec<Line>, order: Order) {
+fn arrange(lines: &mut Vec<QueueRow>, order: Order) {
     match order {
         Order::Depth => lines.sort_unstable_by_key(|line| (Reverse(line.depth), line.number)),
         Order::Number => {}
@@ -66,7 +66,7 @@ fn arrange(lines: &mut Vec<Line>, order: Order) {
 }
 
 fn put_curve(text: &mut String, hall: &Hall<'_>, number: u32) -> Result<(), AllocError> {
-    let frame = Frame {
+    let frame = Canvas {
         width: WIDTH,
         height: HEIGHT,
         end: along(hall.end.used, hall.end.total, WIDTH),
@@ -74,7 +74,7 @@ fn put_curve(text: &mut String, hall: &Hall<'_>, number: u32) -> Result<(), Allo
     };
     match hall.seen.depths.get(number as usize) {
         Some(curve) => {
-            put(
+            put_pieces(
                 text,
                 &[
                     Tag("<td>"),
@@ -97,7 +97,7 @@ fn put_name(
     definition: &Definition,
 ) -> Result<(), AllocError> {
     let digits = Number(u64::from(number));
-    put(
+    put_pieces(
         text,
         &[
             Tag("<tr class=\"queue\" id=\"q"),
@@ -118,11 +118,11 @@ fn put_name(
 fn put_row(
     text: &mut String,
     hall: &Hall<'_>,
-    line: &Line,
+    line: &QueueRow,
     definition: &Definition,
 ) -> Result<(), AllocError> {
     put_name(text, hall, line.number, definition)?;
-    put(text, &[Tag("<td>"), Count(line.depth as u64), Tag("</td>")])?;
+    put_pieces(text, &[Tag("<td>"), Count(line.depth as u64), Tag("</td>")])?;
     put_curve(text, hall, line.number)?;
     text.push_str("</tr>\n")
 }
@@ -131,7 +131,7 @@ fn put_queue(
     alloc: Global,
     text: &mut String,
     hall: &Hall<'_>,
-    line: &Line,
+    line: &QueueRow,
 ) -> Result<(), AllocError> {
     let Some(definition) = hall.shown.definitions.get(line.number as usize) else {
         return Ok(());
@@ -155,7 +155,7 @@ fn put_table(
     alloc: Global,
     text: &mut String,
     hall: &Hall<'_>,
-    lines: &[Line],
+    lines: &[QueueRow],
 ) -> Result<(), AllocError> {
     text.push_str(
         "<table class=\"queues\">\n<caption>Queues after the restart, with what they held along the \
@@ -175,13 +175,13 @@ fn put_more_queues(
     alloc: Global,
     text: &mut String,
     hall: &Hall<'_>,
-    lines: &[Line],
+    lines: &[QueueRow],
 ) -> Result<(), AllocError> {
     if lines.is_empty() {
         return Ok(());
     }
     let many = Count(lines.len() as u64);
-    put(
+    put_pieces(
         text,
         &[
             Tag("<details class=\"more\"><summary>"),
@@ -202,10 +202,10 @@ fn put_order(text: &mut String, order: Order) -> Result<(), AllocError> {
 }
 
 /// Puts the queues in the order that is asked for: the first 100 open, as many as 1,000 folded.
-pub(crate) fn put_queues(
+pub(crate) fn put_queue_table(
     alloc: Global,
     text: &mut String,
-    shown: &Shown<'_>,
+    shown: &Linked<'_>,
     seen: &Survey,
     state: &State,
     end: &End,

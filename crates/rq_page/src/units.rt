@@ -1,9 +1,9 @@
 //! The units that are open: how many along the log, and those at the front's end as bars.
 
-use crate::curves::{Frame, along, put_axis};
-use crate::markup::Piece::{Count, Number, Tag};
-use crate::markup::put;
-use crate::shown::Shown;
+use crate::curves::{Canvas, along, put_axis};
+use crate::markup::Html::{Count, Number, Tag};
+use crate::markup::put_pieces;
+use crate::shown::Linked;
 use crate::surveys::{BINS, Survey};
 use rq_look::End;
 use std::alloc::AllocError;
@@ -23,13 +23,13 @@ fn put_begun(text: &mut String, begun: u64, end: &End) -> Result<(), AllocError>
     if end.at == Some(begun) {
         return text.push_str("begun before");
     }
-    put(text, &[Tag("begun at "), Number(begun)])
+    put_pieces(text, &[Tag("begun at "), Number(begun)])
 }
 
 fn put_bar(text: &mut String, unit: u64, begun: u64, end: &End, y: u64) -> Result<(), AllocError> {
     let x = along(begun, end.total, WIDTH - 2);
     let until = along(end.used, end.total, WIDTH);
-    put(
+    put_pieces(
         text,
         &[
             Tag("<rect class=\"unit\" x=\""),
@@ -49,7 +49,7 @@ fn put_bar(text: &mut String, unit: u64, begun: u64, end: &End, y: u64) -> Resul
 
 fn put_bars(text: &mut String, seen: &Survey, end: &End) -> Result<(), AllocError> {
     let height = BAR.saturating_mul(seen.begun.len().min(SHOWN) as u64);
-    put(
+    put_pieces(
         text,
         &[
             Tag("<div class=\"plot bars\"><svg viewBox=\"0 0 "),
@@ -70,7 +70,7 @@ fn put_bars(text: &mut String, seen: &Survey, end: &End) -> Result<(), AllocErro
 
 fn put_name(
     text: &mut String,
-    shown: &Shown<'_>,
+    shown: &Linked<'_>,
     unit: u64,
     begun: u64,
     end: &End,
@@ -84,7 +84,7 @@ fn put_name(
 // Puts which units these are.
 fn put_names(
     text: &mut String,
-    shown: &Shown<'_>,
+    shown: &Linked<'_>,
     seen: &Survey,
     end: &End,
 ) -> Result<(), AllocError> {
@@ -97,14 +97,14 @@ fn put_names(
     }
     if seen.begun.len() > SHOWN {
         let more = seen.begun.len().saturating_sub(SHOWN) as u64;
-        put(text, &[Tag(", and "), Count(more), Tag(" more")])?;
+        put_pieces(text, &[Tag(", and "), Count(more), Tag(" more")])?;
     }
     text.push_str("</p>\n")
 }
 
 // Puts how many units are open along the log.
 fn put_curve(text: &mut String, seen: &Survey, end: &End) -> Result<(), AllocError> {
-    let frame = Frame {
+    let frame = Canvas {
         width: WIDTH,
         height: CURVE,
         end: along(end.used, end.total, WIDTH),
@@ -118,12 +118,12 @@ fn put_curve(text: &mut String, seen: &Survey, end: &End) -> Result<(), AllocErr
 /// Puts how many units are open along the log, and those that are open at the front's end.
 pub(crate) fn put_open(
     text: &mut String,
-    shown: &Shown<'_>,
+    shown: &Linked<'_>,
     seen: &Survey,
     end: &End,
 ) -> Result<(), AllocError> {
     let (most, count) = (seen.open.most(), seen.begun.len() as u64);
-    put(
+    put_pieces(
         text,
         &[
             Tag("<section id=\"open\">\n<h2>Open units</h2>\n<p>At most "),

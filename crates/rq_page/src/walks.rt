@@ -5,8 +5,8 @@ ghost use Rattle.rq_record.specs.declared.fault.Fault.TheVariants.{Resources};
 ghost use Rattle.rq_look.specs.Looks.{IsBroken};
 
 use crate::lives::Lives;
-use crate::shown::Shown;
-use rq_look::{End, Placed, Queues, Trouble, frames_behind};
+use crate::shown::Linked;
+use rq_look::{End, FollowedQueues, Placed, Trouble, front_frames};
 use rq_record::Fault;
 use rq_state::State;
 use std::alloc::{AllocError, Global};
@@ -17,8 +17,8 @@ impl Lives {
     fn close(
         &mut self,
         alloc: Global,
-        shown: &Shown<'_>,
-        machine: &mut Queues,
+        shown: &Linked<'_>,
+        machine: &mut FollowedQueues,
     ) -> Result<(), AllocError> {
         for unit in machine.open_units(alloc)?.iter().copied() {
             machine.abort(unit)?;
@@ -31,9 +31,9 @@ impl Lives {
     fn follow(
         &mut self,
         alloc: Global,
-        shown: &Shown<'_>,
+        shown: &Linked<'_>,
         placed: Placed<'_>,
-        machine: &mut Queues,
+        machine: &mut FollowedQueues,
         truths: &BTreeMap<u64, bool>,
     ) -> Result<(), Fault>
         ensures { IfErr result (λ e. e ≡ Resources) }
@@ -64,7 +64,7 @@ pub(crate) fn lives_of(
     bytes: &[u8],
     first: &State,
     end: &End,
-    shown: &Shown<'_>,
+    shown: &Linked<'_>,
     checkpoints: &[(u64, bool)],
 ) -> Result<Lives, Trouble>
     ensures { IfErr result IsBroken }
@@ -74,8 +74,8 @@ pub(crate) fn lives_of(
         return Ok(lives);
     }
     let truths = truths_of(alloc, checkpoints)?;
-    let mut machine = Queues::of(alloc, first)?;
-    for placed in frames_behind(bytes, first, end.at, end.used) {
+    let mut machine = FollowedQueues::of(alloc, first)?;
+    for placed in front_frames(bytes, first, end.at, end.used) {
         lives.follow(alloc, shown, placed, &mut machine, &truths)?;
     }
     lives.close(alloc, shown, &mut machine)?;

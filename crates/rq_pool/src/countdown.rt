@@ -11,7 +11,7 @@ mod deal;
 mod fits;
 mod gather;
 mod home;
-mod joining;
+mod joined;
 mod pass;
 mod plays;
 mod steps;
@@ -22,12 +22,12 @@ pub use arrival::{Arrival, Entry};
 use atomic_table::Table;
 use closing::Arrivals;
 pub use closing::Closing;
-use deal::{deal, rooms};
+use deal::{push_seats, rooms};
 use diary::Diary;
 pub use fits::Fits;
-use gather::gather;
+use gather::collect_outboxes;
 use home::{discard, empty};
-use joining::{find_last, join_all};
+use joined::{find_last, join_all};
 pub use pass::Pass;
 use plays::Counts;
 use rq_record::Fault;
@@ -80,7 +80,7 @@ impl<T: Fits> Countdown<T> {
             passes: u64::from(passes),
         };
         let (table, seat) = Table::vacant(alloc, words.as_slice(), sources as usize, &terms)?;
-        deal(&table.shared, seat, rooms, &mut list);
+        push_seats(&table.shared, seat, rooms, &mut list);
         let countdown = Countdown {
             table,
             home,
@@ -115,7 +115,7 @@ impl<T: Fits> Countdown<T> {
         }
         match pass.room.take() {
             Some(mut room) => {
-                gather(board, &mut pass.seat, self.sources, &mut room);
+                collect_outboxes(board, &mut pass.seat, self.sources, &mut room);
                 noted(&mut pass.diary, source, shown, Arrival::Last(room))
             }
             None => unreachable!(),

@@ -12,7 +12,7 @@ use rq_record::Fault;
 use rq_state::{Definition, KeptElement};
 
 /// Elements of distinct ids, by id.
-pub(crate) fn in_order(elements: Vec<KeptElement>) -> Vec<KeptElement>
+pub(crate) fn elements_by_id(elements: Vec<KeptElement>) -> Vec<KeptElement>
     requires { Ordered (λ (e f : model.Element). e.id < f.id) (sorted elements.items) }
     ensures { result.items ≡ sorted elements.items }
 {

@@ -11,9 +11,9 @@ ghost use Rattle.rq_queue.specs.Kept.{sent_from};
 ghost use Rattle.rq_record.specs.declared.fault.Fault.TheVariants.{Resources};
 ghost use Rattle.rq_state.specs.Views.{id_of};
 
-use crate::departures::{in_order, send};
+use crate::departures::{elements_by_id, send};
 use crate::moves::KeptMove;
-use crate::priorities::{kept_with, known, without};
+use crate::priorities::{elements_without, kept_with, known};
 use crate::shelves::{
     Rank, all_freed, all_returned, free_list, freed, mapped, parted, stow, taken, with_marked,
 };
@@ -218,7 +218,7 @@ impl Elements {
         rq_model::any_order();
         let (marked, list) = taken(alloc, self.marked, unit);
         let (free, leaving) = all_returned(alloc, self.free, list, unit, home)?;
-        send(in_order(leaving), place, home, sent)?;
+        send(elements_by_id(leaving), place, home, sent)?;
         Ok(Elements {
             free,
             marked,
@@ -235,7 +235,7 @@ impl Elements {
         let (free, others) = (self.free, self.marked);
         let by_id = known(alloc, self.priorities, &free, &others)?;
         Ok(Elements {
-            free: without(free, &by_id, id),
+            free: elements_without(free, &by_id, id),
             marked: others,
             priorities: Some(by_id),
         })

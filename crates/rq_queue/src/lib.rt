@@ -3,7 +3,7 @@
 #![tactic(auto)]
 
 mod departures;
-mod drawing;
+mod draws;
 mod elements;
 mod kept_last;
 mod kept_note;
@@ -13,9 +13,9 @@ mod notes;
 mod operations;
 mod part;
 mod places;
-mod pouring;
+mod poured_members;
 mod priorities;
-mod redoing;
+mod queue_redo;
 mod registrants;
 mod shelves;
 mod whose;
@@ -26,4 +26,4 @@ pub use notes::Notes;
 pub use operations::{KeptOp, Op};
 pub use part::Part;
 pub use places::{file, unfiled};
-pub use redoing::{redo, redo_kept};
+pub use queue_redo::{redo, redo_kept};

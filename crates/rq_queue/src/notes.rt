@@ -9,7 +9,7 @@ ghost use Rattle.rq_queue.specs.Noted.{Rises};
 ghost use Rattle.rq_record.specs.declared.fault.Fault.TheVariants.{Resources};
 ghost use Rattle.rq_state.specs.Views.{kind_of, id_of};
 
-use crate::drawing::{drawn, in_order, without};
+use crate::draws::{drawn, notes_by_place, notes_without};
 use crate::kept_note::KeptNote;
 use crate::keys::slim;
 use crate::places::{file, unfiled};
@@ -136,7 +136,7 @@ impl Notes {
     {
         let key = slim(alloc, (queue.0, *name))?;
         let (names, places) = unfiled(alloc, self.names, &key);
-        let all = without(self.all, &places, &Whose::OfRegistrant(queue, *name));
+        let all = notes_without(self.all, &places, &Whose::OfRegistrant(queue, *name));
         Ok(Notes {
             all,
             units: self.units,
@@ -157,7 +157,7 @@ impl Notes {
             units,
             names: self.names,
         };
-        Ok((notes, in_order(own)))
+        Ok((notes, notes_by_place(own)))
     }
 }
 

@@ -15,7 +15,7 @@ use crate::elements::Elements;
 use crate::moves::KeptMove;
 use crate::notes::Notes;
 use crate::operations::KeptOp;
-use crate::pouring::add;
+use crate::poured_members::add_members;
 use crate::registrants::Registrants;
 use rq_record::{ElemId, Fault, KeptBy, KeptPayload, KeptRecord, Name, QueueNo, UnitNo};
 use rq_state::{Definition, Fields, KeptFields, OpKind, State, told_elements};
@@ -118,7 +118,7 @@ impl Part {
         let elements = told_elements(alloc, &kept)?;
         let registrants = self.registrants.list(alloc)?;
         let notes = self.notes.list(alloc)?;
-        add(fields, elements, registrants, notes)
+        add_members(fields, elements, registrants, notes)
     }
 
     /// The same for fields that are kept: the elements themselves go there.
@@ -140,7 +140,7 @@ impl Part {
         let elements = self.elements.list(alloc)?;
         let registrants = self.registrants.list(alloc)?;
         let notes = self.notes.list(alloc)?;
-        add(fields, elements, registrants, notes)
+        add_members(fields, elements, registrants, notes)
     }
 
     /// Puts in what arrives.

@@ -102,7 +102,7 @@ pub(crate) fn known(
 }
 
 /// The Free elements without the one of that id, if there is one: its priority says where it is.
-pub(crate) fn without(
+pub(crate) fn elements_without(
     free: BTreeMap<Rank, KeptElement>,
     by_id: &BTreeMap<u64, u8>,
     id: ElemId,

@@ -47,7 +47,7 @@ fn put_bytes(text: &mut String, bytes: &[u8]) -> Result<(), AllocError>
 }
 
 /// Puts a payload: its bytes in lower case, or `-` for none.
-pub(crate) fn put_payload(text: &mut String, bytes: &[u8]) -> Result<(), AllocError>
+pub(crate) fn put_hexes(text: &mut String, bytes: &[u8]) -> Result<(), AllocError>
     ensures { OnOk result
         (string_bytes text.new ≡ string_bytes text.old ++ payload_text bytes.now) }
 {

@@ -7,8 +7,8 @@ mod listing;
 mod pieces;
 mod report;
 mod stream;
-mod writing;
+mod writers;
 
 pub use lines::why_word;
 pub use stream::{Input, Output, OverRead, OverWrite};
-pub use writing::{write_all, write_report, write_report_by};
+pub use writers::{write_all, write_report, write_report_by};

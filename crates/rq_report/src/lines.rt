@@ -8,7 +8,7 @@ ghost use Rattle.rq_model.specs.Reports.{units_line, why_text};
 ghost use Rattle.rq_restart.specs.Views.{why_of};
 ghost use Rattle.rq_state.specs.Views.{kind_of, id_of};
 
-use crate::hexes::put_payload;
+use crate::hexes::put_hexes;
 use rq_record::{ElemId, QueueNo};
 use rq_restart::{Restarted, Why};
 use rq_state::{Definition, KeptElement, Last, OpKind, Registrant};
@@ -43,7 +43,7 @@ pub(crate) fn put_front(text: &mut String, r: &Restarted) -> Result<(), AllocErr
 }
 
 /// Puts the line of the units: how many the front committed and aborted, and how many it left open.
-pub(crate) fn put_units(text: &mut String, r: &Restarted) -> Result<(), AllocError>
+pub(crate) fn put_units_line(text: &mut String, r: &Restarted) -> Result<(), AllocError>
     ensures { OnOk result (string_bytes text.new ≡ string_bytes text.old ++ units_line r.now) }
 {
     let (committed, aborted, cut_off) = (r.committed(), r.aborted(), r.cut_off());
@@ -83,7 +83,7 @@ pub(crate) fn put_queue_line(
 }
 
 /// Puts the line of an element.
-pub(crate) fn put_element(text: &mut String, e: &KeptElement) -> Result<(), AllocError>
+pub(crate) fn put_element_line(text: &mut String, e: &KeptElement) -> Result<(), AllocError>
     ensures { OnOk result (string_bytes text.new ≡ string_bytes text.old ++ element_line e.now) }
 {
     let (id, origin, priority, attempts) = (e.id.0, e.origin.0, e.priority, e.attempts);
@@ -91,7 +91,7 @@ pub(crate) fn put_element(text: &mut String, e: &KeptElement) -> Result<(), Allo
         text,
         "e {id} from {origin} priority {priority} attempts {attempts} "
     )?;
-    put_payload(text, e.payload.bytes())?;
+    put_hexes(text, e.payload.bytes())?;
     text.push_str("\n")
 }
 
@@ -137,7 +137,7 @@ fn put_last(text: &mut String, r: &Registrant) -> Result<(), AllocError>
 }
 
 /// Puts the line of a registrant: its last operation, or none.
-pub(crate) fn put_registrant(text: &mut String, r: &Registrant) -> Result<(), AllocError>
+pub(crate) fn put_registrant_line(text: &mut String, r: &Registrant) -> Result<(), AllocError>
     ensures { OnOk result (string_bytes text.new ≡ string_bytes text.old ++ registrant_line r.now) }
 {
     text.push_str("r ")?;

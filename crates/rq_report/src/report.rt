@@ -9,7 +9,9 @@ ghost use Rattle.rq_model.specs.Reports.{units_line, IsListing, IsText};
 ghost use Rattle.rq_model.specs.WellFormed.{IsWellFormed};
 ghost use Rattle.rq_report.specs.Pieces.{AreLinesOf};
 
-use crate::lines::{put_element, put_front, put_queue_line, put_registrant, put_units};
+use crate::lines::{
+    put_element_line, put_front, put_queue_line, put_registrant_line, put_units_line,
+};
 use crate::listing::listing;
 use rq_record::QueueNo;
 use rq_restart::Restarted;
@@ -21,7 +23,7 @@ fn put_elements(text: &mut String, elements: &[&KeptElement]) -> Result<(), Allo
         ≡ string_bytes text.old ++ flat_map element_line (map (λ e. e.now) elements.now)) }
 {
     for e in elements {
-        put_element(text, e)?;
+        put_element_line(text, e)?;
     }
     Ok(())
 }
@@ -31,7 +33,7 @@ fn put_registrants(text: &mut String, queue: QueueNo, state: &State) -> Result<(
         ++ flat_map registrant_line (filter (λ r. r.queue == queue.0) state.now.registrants)) }
 {
     for at in state.registrants_of(queue) {
-        put_registrant(text, state.registrant(*at))?;
+        put_registrant_line(text, state.registrant(*at))?;
     }
     Ok(())
 }
@@ -82,7 +84,7 @@ pub(crate) fn counts(alloc: Global, r: &Restarted) -> Result<String, AllocError>
 {
     let mut text = String::new(alloc);
     put_front(&mut text, r)?;
-    put_units(&mut text, r)?;
+    put_units_line(&mut text, r)?;
     Ok(text)
 }
 

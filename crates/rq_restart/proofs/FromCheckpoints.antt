@@ -22,7 +22,7 @@ use Rattle.rq_front.specs.Chains.{bodies_at, rest_of}
 use Rattle.rq_catalog.specs.declared.judge.Judge.{Judge}
 use Rattle.rq_catalog.specs.Judges.{StandsIn}
 use Rattle.rq_restart.specs.declared.checkpoint.Begun.{Begun}
-use Rattle.rq_restart.specs.declared.passing.Reach.{Reach}
+use Rattle.rq_restart.specs.declared.front_pass.Reach.{Reach}
 use Rattle.rq_restart.specs.declared.redone.RedoneFront.{RedoneFront}
 use Rattle.rq_restart.specs.Audits.{AuditsAt}
 use Rattle.rq_restart.specs.Checkpoints.{IsBegun}

@@ -17,7 +17,7 @@ use Rattle.rq_front.specs.Chains.{body_at, bodies_at}
 use Rattle.rq_catalog.specs.declared.judge.Judge.{Judge}
 use Rattle.rq_catalog.specs.Judges.{StandsIn}
 use Rattle.rq_catalog.proofs.Runs.{lawful_push, run_push}
-use Rattle.rq_restart.specs.declared.passing.Verdict.TheVariants.{Lawful, Unlawful, NoRecord}
+use Rattle.rq_restart.specs.declared.front_pass.Verdict.TheVariants.{Lawful, Unlawful, NoRecord}
 use Rattle.rq_restart.specs.Passes.{AreJudged, IsVerdict, StopsAt}
 use Rattle.rq_restart.proofs.Readings.{each_push, read_more, two_parts}
 

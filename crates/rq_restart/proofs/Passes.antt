@@ -27,8 +27,8 @@ use Rattle.rq_front.specs.Chains.{IsHeaded, Refused, bodies_at, rest_of, spans_f
 use Rattle.rq_catalog.specs.declared.judge.Judge.{Judge}
 use Rattle.rq_catalog.specs.Judges.{StandsIn}
 use Rattle.rq_restart.specs.Ends.{IsChain, IsFrontFrom, end_at, end_from}
-use Rattle.rq_restart.specs.declared.passing.PassSoFar.{PassSoFar}
-use Rattle.rq_restart.specs.declared.passing.Reach.{Reach}
+use Rattle.rq_restart.specs.declared.front_pass.PassSoFar.{PassSoFar}
+use Rattle.rq_restart.specs.declared.front_pass.Reach.{Reach}
 use Rattle.rq_restart.specs.Passes.{AreJudged, HasPassed, IsPassed, HasPassedSome, StopsAt, StopsIn, stays}
 use Rattle.rq_restart.proofs.Fronts.{ended}
 use Rattle.rq_restart.proofs.Starts.{started, whole_front}

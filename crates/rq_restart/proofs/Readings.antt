@@ -3,7 +3,7 @@ use Rattle.std.proofs.Common.{◌≡◌, ℕ, ◌+◌, ◌<◌, zero, suc, refl,
 use Rattle.std.proofs.Common.{ap, subst, ◌∙◌, arith}
 use Rattle.std.proofs.lemmas.List.{append_assoc, append-nil, length-append, length-map, map-append, nil_from_length}
 use Rattle.std.proofs.lemmas.List.{take-append-drop}
-use Rattle.std.proofs.Math.Seq.{take-suc, drop-cons, drop-length}
+use Rattle.std.proofs.Math.Seq.{take-suc, drop-cons}
 use Rattle.std.specs.List.{AllByRecursion}
 use Rattle.rq_model.specs.Records.{Record, Version}
 use Rattle.rq_model.specs.Spelling.{IsRecord, Spells, body_of}
@@ -51,14 +51,6 @@ pub read_stop : (version : Version) (b : List ℕ) (spans : List Span) (i : ℕ)
 read_stop version b spans i d rs lt are e none =
     let next : drop i spans ≡ get_or spans i d ∷ drop (suc i) spans = drop-cons spans i d lt in
     read_to version b spans i rs are e (subst (λ (ss : List Span). SpellsNone version (bodies_at b ss)) (sym next) none)
-
--- all are read
-pub read_all : (version : Version) (b : List ℕ) (spans : List Span) (i : ℕ) (rs : List Record) → i ≡ length spans
-    → AllByRecursion (IsRecord version) rs
-    → bodies_at b (take i spans) ≡ bodies_of rs → AreRead version (bodies_at b spans) rs
-read_all version b spans i rs end are e =
-    let none : drop i spans ≡ [] = ap (λ (n : ℕ). drop n spans) end ∙ drop-length spans in
-    read_to version b spans i rs are e (subst (λ (ss : List Span). SpellsNone version (bodies_at b ss)) (sym none) tt)
 
 -- what is left of bodies of which so many are read
 left_of : (version : Version) (bodies : List (List ℕ)) (rs : List Record) (are : AreRead version bodies rs)

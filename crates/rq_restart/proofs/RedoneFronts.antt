@@ -11,13 +11,13 @@ use Rattle.rq_record.specs.declared.fault.Fault.{Fault}
 use Rattle.rq_record.specs.declared.fault.Fault.TheVariants.{Resources}
 use Rattle.rq_restart.specs.Ends.{IsFrontFrom}
 use Rattle.rq_restart.specs.declared.redone.RedoneFront.{RedoneFront}
-use Rattle.rq_restart.specs.RedoneFronts.{IsRedone, IsStateBehind, RedoesFront}
+use Rattle.rq_restart.specs.RedoneFronts.{IsRedoneFront, IsStateBehind, RedoesFront}
 use Rattle.rq_restart.proofs.Endings.{front_of}
 
 -- the front behind the header, and the state behind it
 redone : LogEnds → (b : List ℕ) (version : Version) (rs : List Record) (end : ℕ) (why : Why) (f : RedoneFront)
     → length b ≤ log_limit → HasHeader version b → IsFrontFrom version empty b 40 rs end why
-    → IsStateBehind version empty b rs end f → IsRedone b f
+    → IsStateBehind version empty b rs end f → IsRedoneFront b f
 redone law b version rs end why f short head h behind =
     let is = front_of version law b rs end why short head h in
     let rules = sym behind.rules in

@@ -21,7 +21,7 @@ use Rattle.rq_catalog.specs.Registered.{key_eq}
 use Rattle.rq_record.specs.declared.record.RecordOf.TheVariants as own
 use Rattle.rq_record.specs.Views.{Record as Own, record_of}
 use Rattle.rq_state.specs.Inside.{state_of}
-use Rattle.rq_restart.specs.declared.auditing.AuditSoFar.{AuditSoFar}
+use Rattle.rq_restart.specs.declared.true_checkpoints.AuditSoFar.{AuditSoFar}
 use Rattle.rq_restart.specs.declared.tally.Tally.{Tally}
 use Rattle.rq_restart.specs.Worth.{KeepsAllBut, of_unit, of_registrant, IsTallied, IsWithin, unit_after, named_after}
 use Rattle.rq_restart.specs.Worth.{registrant_after, lost_by, Counts}

@@ -26,7 +26,7 @@ use Rattle.rq_record.specs.declared.fault.Fault.TheVariants.{Resources}
 use Rattle.rq_front.specs.Chains.{Refused}
 use Rattle.rq_restart.specs.Ends.{IsFrontFrom}
 use Rattle.rq_restart.specs.Upgrades.{HaveFrames, IsExtent, Upgrades, bodies_in}
-use Rattle.rq_restart.specs.declared.upgrading.Extent.{Extent}
+use Rattle.rq_restart.specs.declared.upgrades.Extent.{Extent}
 use Rattle.rq_restart.proofs.Endings.{before_is}
 use Rattle.rq_restart.proofs.Starts.{started, whole_front}
 

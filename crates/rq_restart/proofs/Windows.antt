@@ -17,7 +17,7 @@ use Rattle.rq_front.specs.Chains.{body_at, bodies_at, spans_from}
 use Rattle.rq_catalog.specs.declared.judge.Judge.{Judge}
 use Rattle.rq_catalog.specs.Judges.{StandsIn}
 use Rattle.rq_catalog.proofs.Runs.{lawful_push, run_push}
-use Rattle.rq_restart.specs.declared.passing.Verdict.TheVariants.{Lawful, Unlawful, NoRecord}
+use Rattle.rq_restart.specs.declared.front_pass.Verdict.TheVariants.{Lawful, Unlawful, NoRecord}
 use Rattle.rq_restart.specs.declared.window.WindowPass.{WindowPass}
 use Rattle.rq_restart.specs.Passes.{IsVerdict}
 use Rattle.rq_restart.specs.Windows.{AreFramed, Origin, StandsAt, HasEnd, Waits}

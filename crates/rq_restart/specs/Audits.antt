@@ -18,7 +18,7 @@ use Rattle.rq_record.specs.declared.fault.Fault.TheVariants.{Resources}
 use Rattle.rq_front.specs.declared.spans.Span.{Span}
 use Rattle.rq_front.specs.Chains.{IsHeaded, Refused}
 use Rattle.rq_restart.specs.Restarts.{RefusedAt}
-use Rattle.rq_restart.specs.declared.auditing.AuditSoFar.{AuditSoFar}
+use Rattle.rq_restart.specs.declared.true_checkpoints.AuditSoFar.{AuditSoFar}
 use Rattle.rq_record.specs.Views.{Record as Own}
 use Rattle.rq_restart.specs.Worth.{member_bytes, IsTallied, IsWithin, KeepsAllBut, Counts, lost_by}
 

@@ -5,9 +5,9 @@ use Rattle.rq_model.specs.Frames.{log_limit, header}
 use Rattle.rq_record.specs.declared.fault.Fault.{Fault}
 use Rattle.rq_record.specs.declared.fault.Fault.TheVariants.{NotALog, TooLong, Resources}
 use Rattle.rq_front.specs.Chains.{IsHeaded}
-use Rattle.rq_restart.specs.declared.growing.GrowingFront.{GrowingFront}
-use Rattle.rq_restart.specs.declared.growing.Stage.{Stage}
-use Rattle.rq_restart.specs.declared.growing.Stage.TheVariants.{Header, Frames}
+use Rattle.rq_restart.specs.declared.growing_front.GrowingFront.{GrowingFront}
+use Rattle.rq_restart.specs.declared.growing_front.Stage.{Stage}
+use Rattle.rq_restart.specs.declared.growing_front.Stage.TheVariants.{Header, Frames}
 use Rattle.rq_restart.specs.Windows.{IsFed, log_origin}
 
 -- the bytes b, of which there are fewer than a header has; or a header, and what is followed behind

@@ -6,7 +6,7 @@ use Rattle.rq_record.specs.declared.fault.Fault.{Fault}
 use Rattle.rq_record.specs.declared.fault.Fault.TheVariants.{Resources}
 use Rattle.rq_record.specs.Views.{record_of}
 use Rattle.rq_catalog.specs.Analyses.{IsAnalysis}
-use Rattle.rq_restart.specs.declared.reading.PartedRecords.{PartedRecords}
+use Rattle.rq_restart.specs.declared.bodies.PartedRecords.{PartedRecords}
 use Rattle.rq_restart.specs.declared.front.Known.{Known}
 use Rattle.rq_restart.specs.Readings.{AreApart, AreRead}
 

@@ -11,10 +11,10 @@ use Rattle.rq_model.specs.Machine.{is_lawful, all_lawful, step, run}
 use Rattle.rq_model.specs.Fronts.{IsWhy, Why, Ends, Form, Law}
 use Rattle.rq_catalog.specs.declared.judge.Judge.{Judge}
 use Rattle.rq_catalog.specs.Judges.{StandsIn}
-use Rattle.rq_restart.specs.declared.passing.Verdict.{Verdict}
-use Rattle.rq_restart.specs.declared.passing.Verdict.TheVariants.{Lawful, Unlawful, NoRecord}
-use Rattle.rq_restart.specs.declared.passing.Reach.{Reach}
-use Rattle.rq_restart.specs.declared.passing.PassSoFar.{PassSoFar}
+use Rattle.rq_restart.specs.declared.front_pass.Verdict.{Verdict}
+use Rattle.rq_restart.specs.declared.front_pass.Verdict.TheVariants.{Lawful, Unlawful, NoRecord}
+use Rattle.rq_restart.specs.declared.front_pass.Reach.{Reach}
+use Rattle.rq_restart.specs.declared.front_pass.PassSoFar.{PassSoFar}
 
 -- what a judge that stood in the state makes of a body; only behind a lawful record it stands
 -- elsewhere

@@ -10,7 +10,7 @@ use Rattle.rq_record.specs.declared.fault.Fault.{Fault}
 use Rattle.rq_record.specs.declared.fault.Fault.TheVariants.{Resources}
 use Rattle.rq_record.specs.Views as rt
 use Rattle.rq_record.specs.Views.{record_of}
-use Rattle.rq_restart.specs.declared.reading.PartedRecords.{PartedRecords}
+use Rattle.rq_restart.specs.declared.bodies.PartedRecords.{PartedRecords}
 
 -- no body, or a first one that spells no record of the version
 abbrev pub SpellsNone : Version → List (List ℕ) → Type 0

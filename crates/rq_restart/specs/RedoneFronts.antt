@@ -13,7 +13,7 @@ use Rattle.rq_restart.specs.Restarts.{RefusedAt}
 use Rattle.rq_restart.specs.declared.redone.RedoneFront.{RedoneFront}
 
 -- where the front of b ends, and the state behind it
-pub record IsRedone (b : List ℕ) (f : RedoneFront) : Type 0 where
+pub record IsRedoneFront (b : List ℕ) (f : RedoneFront) : Type 0 where
   pub records : List Record
   pub front : IsFront b (version_of f.version) records (drop f.used b)
   pub used : f.used ≡ length (log_of (version_of f.version) records)
@@ -22,7 +22,7 @@ pub record IsRedone (b : List ℕ) (f : RedoneFront) : Type 0 where
 
 -- that, or why b is refused
 abbrev pub RedoesFront : List ℕ → Result RedoneFront Fault → Type 0
-RedoesFront b (Ok f) = IsRedone b f
+RedoesFront b (Ok f) = IsRedoneFront b f
 RedoesFront b (Err e) = Refused b e
 
 -- where the front of b from the checkpoint at an offset ends, and the state behind it

@@ -9,7 +9,7 @@ use Rattle.rq_model.specs.Tails.{IsUpgraded}
 use Rattle.rq_record.specs.Views.{version_of}
 use Rattle.rq_record.specs.declared.fault.Fault.{Fault}
 use Rattle.rq_front.specs.Chains.{Refused, IsLog}
-use Rattle.rq_restart.specs.declared.upgrading.Extent.{Extent}
+use Rattle.rq_restart.specs.declared.upgrades.Extent.{Extent}
 
 -- so many frames stand one after the other, their digests aside
 abbrev pub HaveFrames : ℕ → List ℕ → Type 0

@@ -5,12 +5,14 @@ ghost use Rattle.std.specs.Prelude.{◌≡◌, IfErr};
 ghost use Rattle.rq_record.specs.declared.fault.Fault.TheVariants.{Resources};
 ghost use Rattle.rq_restart.specs.Audits.{AuditsAt};
 
-use crate::auditing::{BYTES_OF_A_RECORD, begins_with, is_spelled, member_bytes_of, records_alone};
 use crate::bounded::BoundedTally;
 use crate::checkpoint::begin_at;
 use crate::front::front_of;
 use crate::grain::plan_for;
 use crate::keeper::Keeper;
+use crate::true_checkpoints::{
+    BYTES_OF_A_RECORD, begins_with, is_spelled, member_bytes_of, records_alone,
+};
 use rq_front::Span;
 use rq_pool::Plan;
 use rq_record::{Fault, KeptRecord, LentLog, Version};

@@ -2,8 +2,8 @@
 
 ghost use Rattle.rq_restart.specs.FrontEnds.{FindsEnd};
 
+use crate::front_pass::PassSoFar;
 use crate::grain::grain_of;
-use crate::passing::PassSoFar;
 use crate::restarted::Why;
 use rq_front::log_version;
 use rq_pool::Plan;

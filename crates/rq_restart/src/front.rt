@@ -17,8 +17,8 @@ ghost use Rattle.rq_restart.specs.Ends.{IsChain, IsFrontFrom, end_at};
 ghost use Rattle.rq_restart.specs.Readings.{AreRead};
 ghost use Rattle.rq_restart.specs.Known.{IsKnownOfBodies, KnowsBodies};
 
+use crate::bodies::{FEW, PartedRecords, put_together, read_bodies};
 use crate::grain::grain_of;
-use crate::reading::{FEW, PartedRecords, put_together, read};
 use crate::restarted::Why;
 use rq_catalog::{Analysis, analyse_kept};
 use rq_front::{Chain, Rest, Walk};
@@ -164,7 +164,7 @@ pub(crate) fn front_of<R: Threads + Sync>(
         (map record_of f.records.items) f.analysis) }
     ensures refused { IfErr result (λ e. e ≡ Resources) }
 {
-    let parts = read(
+    let parts = read_bodies(
         rt,
         alloc,
         version,
@@ -241,7 +241,7 @@ pub(crate) fn front_of_walk<R: Threads + Sync>(
         let found = walk.checked(rt, bytes, grain);
         return front_of(rt, alloc, version, lent, bytes, &found, state, plan);
     }
-    let parts = read(
+    let parts = read_bodies(
         rt,
         alloc,
         version,

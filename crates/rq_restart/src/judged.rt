@@ -4,10 +4,10 @@ ghost use Rattle.std.specs.Prelude.{◌≡◌};
 ghost use Rattle.rq_restart.specs.JudgedFronts.{JudgesFront, JudgesFrontAt};
 
 use crate::checkpoint::begin_at;
-use crate::framing::before;
+use crate::frames::before;
 use crate::front::end_of;
+use crate::front_pass::{PassSoFar, judge_each};
 use crate::grain::grain_of;
-use crate::passing::{PassSoFar, judge_each};
 use crate::restarted::Why;
 use rq_catalog::Judge;
 use rq_front::log_version;

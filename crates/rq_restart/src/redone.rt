@@ -11,9 +11,9 @@ ghost use Rattle.rq_restart.specs.RedoneFronts.{IsStateBehind, RedoesFront, Redo
 ghost use Rattle.rq_restart.specs.Views.{why_of};
 
 use crate::checkpoint::begin_at;
-use crate::framing::before;
+use crate::frames::before;
 use crate::front::{Front, front_of};
-use crate::restarting::whole_front;
+use crate::restarts::whole_front;
 use rq_exchange::replay_analysed;
 use rq_pool::{Open, Plan};
 use rq_record::{Fault, LentLog, Version};

@@ -4,8 +4,8 @@ ghost use Rattle.std.specs.Arc.{arc_slice_items};
 ghost use Rattle.rq_restart.specs.Restarts.{RestartsAt};
 
 use crate::checkpoint::begin_at;
-use crate::finishing::finish;
 use crate::front::front_of;
+use crate::restart_ends::finish;
 use crate::restarted::Restarted;
 use rq_pool::{Gate, Plan};
 use rq_record::{Fault, LentLog};

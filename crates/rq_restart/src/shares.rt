@@ -7,9 +7,9 @@ ghost use Rattle.rq_model.specs.Machine.{run};
 ghost use Rattle.rq_record.specs.Views.{record_of};
 ghost use Rattle.rq_restart.specs.Audits.{AreFramed, FindsShare};
 
-use crate::auditing::{AuditSoFar, begins_with, visit};
 use crate::before::state_before;
 use crate::grain::{plan_for, with_workers};
+use crate::true_checkpoints::{AuditSoFar, begins_with, visit};
 use rq_front::Span;
 use rq_pool::Plan;
 use rq_record::{Fault, KeptRecord};

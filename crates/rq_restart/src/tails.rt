@@ -8,8 +8,8 @@ ghost use Rattle.rq_record.specs.declared.fault.Fault.TheVariants.{Resources};
 ghost use Rattle.rq_state.specs.Views.{unit_of};
 ghost use Rattle.rq_restart.specs.Tails.{Closes, IsEnding, StaysOpen, Tails};
 
-use crate::framing::{append_frame, before};
-use crate::restarting::whole_front;
+use crate::frames::{append_frame, before};
+use crate::restarts::whole_front;
 use rq_front::LOG_LIMIT;
 use rq_pool::Plan;
 use rq_record::{Fault, LentLog, Record, UnitNo, encode};

@@ -12,10 +12,10 @@ ghost use Rattle.rq_restart.specs.Windows.{AreFramed, IsFed, IsFedSome, IsStoppe
 ghost use Rattle.rq_restart.specs.Windows.{IsStoppedFront, KeepsFed, Origin, RefusesPiece, HasEnd};
 ghost use Rattle.rq_restart.specs.Windows.{log_origin};
 
-use crate::framing::before;
+use crate::frames::before;
 use crate::front::why_of;
+use crate::front_pass::{Verdict, judge_one, stays};
 use crate::judged::JudgedFront;
-use crate::passing::{Verdict, judge_one, stays};
 use crate::restarted::Why;
 use rq_catalog::Judge;
 use rq_front::{HEADER_LEN, LOG_LIMIT, Span, chain};

@@ -1,18 +1,13 @@
 -- One part more.
-use Rattle.std.proofs.Common.{◌≡◌, ℕ, ◌<◌, ◌≤◌, ◌+◌, List, [], ◌∷◌, ◌++◌, length, refl, sym, ap, subst, ◌∙◌, arith}
-use Rattle.std.proofs.Common.{length-append}
+use Rattle.std.proofs.Common.{◌≡◌, ℕ, ◌<◌, ◌≤◌, ◌+◌, List, [], ◌∷◌, ◌++◌, length, refl, subst, ◌∙◌, arith}
 use Rattle.std.specs.Prelude.{nat_lt}
 use Rattle.std.proofs.lemmas.Bool.{ltb-true, ltb-false}
 use Rattle.std.proofs.lemmas.List.{get_or_append_left}
 use Rattle.std.proofs.Math.Seq.{get_or-append_seam}
-use Rattle.rq_model.specs.Records.{Define}
 use Rattle.rq_model.specs.States.{State}
-use Rattle.rq_model.specs.WellFormed.{IsWellFormed}
-use Rattle.rq_model.specs.Machine.{step}
 use Rattle.rq_model.specs.Queues.{Part, part_of}
-use Rattle.rq_model.specs.StepLaws.{StepByParts}
 use Rattle.rq_model.proofs.Lists.{by_cases}
-use Rattle.rq_standing.specs.Parts.{ArePartsOf, part_at, no_part}
+use Rattle.rq_standing.specs.Parts.{part_at, no_part}
 
 last_one : (k n : ℕ) → k < n + 1 → n ≤ k → n ≡ k
 last_one k n l h = omega (arith, l, h)
@@ -28,29 +23,3 @@ one_part_more s ps p are is k l = by_cases (nat_lt k (length ps))
     (λ _ f. subst (λ n. part_at (ps ++ p ∷ []) n ≡ part_of s n) (last_one k (length ps) l (ltb-false k (length ps) f))
     (get_or-append_seam ps p [] no_part ∙ is))
     refl
-
--- a queue is defined
-pub defined_parts : StepByParts → (s : State) (limit error : ℕ) (name : List ℕ) (old : List Part) (p : Part)
-    → IsWellFormed s → length old ≡ length s.definitions → ArePartsOf s old
-    → p ≡ record {
-      queue = length old;
-      definition = record { limit = limit; error = error; name = name };
-      elements = [];
-      registrants = [];
-      notes = [];
-    }
-    → ArePartsOf (step s (Define limit error name)) (old ++ p ∷ [])
-defined_parts law s limit error name old p well size parts is k l =
-    let t = step s (Define limit error name) in
-    one_part_more t old p
-    (λ q h. let here : q < length s.definitions = subst (λ n. q < n) size h in
-    parts q here ∙ sym (law.rests s (Define limit error name) q well here refl))
-    (is ∙ ap (λ n. record {
-      queue = n;
-      definition = record { limit = limit; error = error; name = name };
-      elements = [];
-      registrants = [];
-      notes = [];
-    }) size ∙ sym (law.defines s limit error name well) ∙ ap (part_of t) (sym size))
-    k (subst (λ n. k < n)
-    (length-append s.definitions (record { limit = limit; error = error; name = name } ∷ []) ∙ ap (λ n. n + 1) (sym size)) l)

@@ -101,41 +101,6 @@ units_same law s r x same nobody are = record {
   engaged = λ u q now. are.engaged u q (engaged_before law s r (engages_none r nobody) q u now);
 }
 
--- one queue more under a unit that is open
-pub engaged_by : (x y : OpenUnits) (unit queue : ℕ)
-    → ((u : ℕ) → queues_of y u
-    ≡ queues_of x u ++ (if has_open x u && is_eq (nat_cmp unit u) then queue ∷ [] else []))
-    → (u q : ℕ) → engages_in y u q ≡ ((has_open x u && ((queue == q) && (unit == u))) || engages_in x u q)
-engaged_by x y unit queue more u q =
-    ap (list_any (λ v. v == q)) (more u)
-    ∙ any_both (λ v. v == q) (queues_of x u) _
-    ∙ ap (λ b. engages_in x u q || list_any (λ v. v == q) (if has_open x u && b then queue ∷ [] else []))
-    (same_number unit u)
-    ∙ ap (λ b. engages_in x u q || b) (alone (has_open x u && (unit == u)))
-    ∙ either (has_open x u) (queue == q) (unit == u) (engages_in x u q)
-  where
-    alone : (k : Bool) → list_any (λ v. v == q) (if k then queue ∷ [] else []) ≡ (if k then (queue == q) || false else false)
-    alone true = refl
-    alone false = refl
-
-    either : (a b c d : Bool) → (d || (if a && c then b || false else false)) ≡ ((a && (b && c)) || d)
-    either true true true true = refl
-    either true true true false = refl
-    either true true false true = refl
-    either true true false false = refl
-    either true false true true = refl
-    either true false true false = refl
-    either true false false true = refl
-    either true false false false = refl
-    either false true true true = refl
-    either false true true false = refl
-    either false true false true = refl
-    either false true false false = refl
-    either false false true true = refl
-    either false false true false = refl
-    either false false false true = refl
-    either false false false false = refl
-
 engaged_more : (x y : OpenUnits) (unit queue u q : ℕ) → has_open x unit ≡ true
     → engages_in y u q ≡ ((has_open x u && ((queue == q) && (unit == u))) || engages_in x u q)
     → (before : Bool) → (before ≡ true → engages_in x u q ≡ true)

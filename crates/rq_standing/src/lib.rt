@@ -2,15 +2,15 @@
 //! judged and done, at the cost of the members that it touches.
 #![tactic(auto)]
 
-mod arriving;
-mod ending;
-mod gathering;
+mod gathered;
 mod open_units;
-mod operating;
+mod operations;
 mod queues;
+mod received_moves;
 mod standing;
-mod starting;
+mod start;
 mod taken;
+mod unit_ends;
 
 pub use open_units::OpenUnits;
 pub use queues::Queues;

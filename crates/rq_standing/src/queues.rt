@@ -10,11 +10,11 @@ ghost use Rattle.rq_state.specs.Views.{id_of};
 ghost use Rattle.rq_standing.specs.Parts.{Acted};
 ghost use Rattle.rq_standing.specs.Standings.{HoldsState, Moved, May, queue_named, unit_named, taken};
 
-use crate::arriving::receive_all;
-use crate::ending::{abort_all, commit_all};
 use crate::open_units::OpenUnits;
-use crate::operating::{act_on, dequeue_on};
-use crate::starting::{definitions_of, open_units_of, parts_of};
+use crate::operations::{act_on, dequeue_on};
+use crate::received_moves::receive_all;
+use crate::start::{definitions_of, open_units_of, parts_of};
+use crate::unit_ends::{abort_all, commit_all};
 use rq_queue::{KeptOp, Part};
 use rq_record::{ElemId, Fault, KeptBy, KeptRecord, QueueNo, UnitNo};
 use rq_state::Definition;

@@ -2,26 +2,26 @@
 //! queues' parts, and its one spelling in bytes.
 #![tactic(auto)]
 
+mod checks;
 mod copies;
 mod fields;
-mod hearing;
-mod keeping;
+mod heard;
 mod kept_element;
 mod laws;
 mod looks;
 mod marks;
 mod members;
 mod orders;
-mod reading;
+mod readers;
 mod state;
 mod tables;
 mod wholeness;
-mod writing;
+mod writers;
 
 pub use fields::{Fields, FieldsOf, KeptFields};
 pub use kept_element::{KeptElement, kept_elements, told_elements};
 pub use laws::{any_order_makes_the_state, parts_make_the_state};
 pub use members::{Definition, Element, Last, Mark, Note, OpKind, Registrant};
-pub use reading::{read, read_in};
+pub use readers::{read, read_in};
 pub use state::State;
-pub use writing::{fields_len, spell, spell_fields, spelled_len};
+pub use writers::{fields_len, spell, spell_fields, spelled_len};

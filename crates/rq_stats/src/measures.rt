@@ -5,7 +5,7 @@ ghost use Rattle.rq_record.specs.declared.fault.Fault.TheVariants.{Resources};
 
 use crate::greatest::{Amount, put_greatest};
 use rq_front::FRAME_LEN;
-use rq_look::{Effect, End, Event, Numbered, Placed, PlacedFrames, Queues, kind_of};
+use rq_look::{Effect, End, Event, FollowedQueues, Numbered, Placed, PlacedFrames, kind_of};
 use rq_record::{Fault, KeptRecord, UnitNo};
 use rq_state::{Definition, State};
 use serde::Serialize;
@@ -187,7 +187,12 @@ impl Measures {
     }
 
     // Does the next record of the front.
-    fn step(&mut self, alloc: Global, placed: Placed<'_>, machine: &mut Queues) -> Result<(), Fault>
+    fn step(
+        &mut self,
+        alloc: Global,
+        placed: Placed<'_>,
+        machine: &mut FollowedQueues,
+    ) -> Result<(), Fault>
         ensures { IfErr result (λ e. e ≡ Resources) }
     {
         let it = machine.follow(alloc, placed)?;
@@ -201,7 +206,7 @@ impl Measures {
     fn restart(
         &mut self,
         alloc: Global,
-        machine: &mut Queues,
+        machine: &mut FollowedQueues,
         end: &End,
     ) -> Result<(), AllocError> {
         for unit in machine.open_units(alloc)?.iter().copied() {
@@ -221,11 +226,11 @@ pub(crate) fn measured(
     first: &State,
     frames: PlacedFrames<'_>,
     end: &End,
-) -> Result<(Measures, Queues), Fault>
+) -> Result<(Measures, FollowedQueues), Fault>
     ensures { IfErr result (λ e. e ≡ Resources) }
 {
     let mut measures = Measures::of(alloc, first)?;
-    let mut machine = Queues::of(alloc, first)?;
+    let mut machine = FollowedQueues::of(alloc, first)?;
     for placed in frames {
         measures.step(alloc, placed, &mut machine)?;
     }

@@ -2,13 +2,13 @@
 
 use crate::greatest::{Amount, put_greatest};
 use crate::measures::{Kind, Lasting, Load, Measures};
-use rq_look::{End, FrontShown, front_of};
+use rq_look::{End, FrontShown, front_shown};
 use serde::Serialize;
 use std::alloc::{AllocError, Global};
 
 /// How many units ended in which way.
 #[derive(Clone, Copy, Serialize)]
-pub(crate) struct UnitsShown {
+pub(crate) struct UnitCounts {
     pub(crate) committed: u64,
     pub(crate) aborted: u64,
     pub(crate) cut_off: u64,
@@ -16,13 +16,13 @@ pub(crate) struct UnitsShown {
 
 /// A queue with a number of elements.
 #[derive(Clone, Copy, Serialize)]
-pub(crate) struct QueueShown<'a> {
+pub(crate) struct QueueCount<'a> {
     pub(crate) queue: u32,
     pub(crate) name: &'a str,
     pub(crate) elements: u64,
 }
 
-impl Amount for QueueShown<'_> {
+impl Amount for QueueCount<'_> {
     fn amount(&self) -> u64 {
         self.elements
     }
@@ -33,15 +33,15 @@ impl Amount for QueueShown<'_> {
 pub(crate) struct StatisticsShown<'a> {
     pub(crate) front: FrontShown<'a>,
     pub(crate) kinds: Vec<Kind>,
-    pub(crate) units: UnitsShown,
+    pub(crate) units: UnitCounts,
     pub(crate) largest_payloads: &'a [Load],
     pub(crate) longest_units: &'a [Lasting],
-    pub(crate) deepest_queues: Vec<QueueShown<'a>>,
-    pub(crate) error_moves: Vec<QueueShown<'a>>,
+    pub(crate) deepest_queues: Vec<QueueCount<'a>>,
+    pub(crate) error_moves: Vec<QueueCount<'a>>,
 }
 
 // Puts a queue among those with the most elements, unless it has none.
-fn put_queue<'a>(shown: &mut Vec<QueueShown<'a>>, queue: QueueShown<'a>) -> Result<(), AllocError> {
+fn put_queue<'a>(shown: &mut Vec<QueueCount<'a>>, queue: QueueCount<'a>) -> Result<(), AllocError> {
     if queue.elements == 0 {
         return Ok(());
     }
@@ -53,7 +53,7 @@ fn queues_shown<'a>(
     alloc: Global,
     names: &'a [String],
     counts: &[u64],
-) -> Result<Vec<QueueShown<'a>>, AllocError> {
+) -> Result<Vec<QueueCount<'a>>, AllocError> {
     let mut shown = Vec::new(alloc);
     let mut queue: u32 = 0;
     for name in names {
@@ -61,7 +61,7 @@ fn queues_shown<'a>(
         let name = name.as_str();
         put_queue(
             &mut shown,
-            QueueShown {
+            QueueCount {
                 queue,
                 name,
                 elements,
@@ -80,9 +80,9 @@ pub(crate) fn statistics_shown<'a>(
     depths: &[u64],
 ) -> Result<StatisticsShown<'a>, AllocError> {
     Ok(StatisticsShown {
-        front: front_of(end),
+        front: front_shown(end),
         kinds: measures.kinds.values().copied().collect(alloc)?,
-        units: UnitsShown {
+        units: UnitCounts {
             committed: measures.committed,
             aborted: measures.aborted,
             cut_off: measures.cut_off,

@@ -9,9 +9,9 @@ ghost use Rattle.rq_look.specs.Looks.{IsBroken, IsRestartFrom, StaysUnshown, beg
 ghost use Rattle.rq_stats.specs.Statistics.{AreNumbers, PutsNumbers};
 
 use crate::measures::{Kind, Lasting, Load, Measures, measured};
-use crate::shown::{QueueShown, StatisticsShown, UnitsShown, statistics_shown};
+use crate::shown::{QueueCount, StatisticsShown, UnitCounts, statistics_shown};
 use rq_look::{
-    End, Plan, Queues, Trouble, end_of, first_state, frames_behind, put_beginning, put_end,
+    End, FollowedQueues, Plan, Trouble, end_of, first_state, front_frames, put_beginning, put_end,
 };
 use std::alloc::{AllocError, Global};
 use std::fmt::Write as _;
@@ -46,7 +46,7 @@ fn put_units(text: &mut String, units: &[Lasting]) -> Result<(), AllocError> {
 }
 
 // Puts each queue with its number of elements, and a word for them.
-fn put_queues(text: &mut String, queues: &[QueueShown<'_>], word: &str) -> Result<(), AllocError> {
+fn put_queues(text: &mut String, queues: &[QueueCount<'_>], word: &str) -> Result<(), AllocError> {
     for it in queues {
         let (queue, name, elements) = (it.queue, it.name, it.elements);
         write!(text, "queue {queue} {name} {elements} {word}\n")?;
@@ -54,7 +54,7 @@ fn put_queues(text: &mut String, queues: &[QueueShown<'_>], word: &str) -> Resul
     Ok(())
 }
 
-fn put_outcomes(text: &mut String, units: UnitsShown) -> Result<(), AllocError> {
+fn put_outcomes(text: &mut String, units: UnitCounts) -> Result<(), AllocError> {
     let (committed, aborted, cut_off) = (units.committed, units.aborted, units.cut_off);
     write!(
         text,
@@ -124,8 +124,8 @@ fn numbers_of(
     ensures refused { IfErr result IsBroken }
 {
     let first = first_state(alloc, bytes, at)?;
-    let frames = frames_behind(bytes, &first, at, end.used);
-    let (measures, machine): (Measures, Queues) = measured(alloc, &first, frames, end)?;
+    let frames = front_frames(bytes, &first, at, end.used);
+    let (measures, machine): (Measures, FollowedQueues) = measured(alloc, &first, frames, end)?;
     let depths = machine.depths(alloc)?;
     let shown = statistics_shown(alloc, end, &measures, &depths)?;
     if json {

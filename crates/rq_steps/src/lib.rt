@@ -5,6 +5,6 @@
 
 mod elements;
 mod members;
-mod stepping;
+mod steps;
 
-pub use stepping::stepped;
+pub use steps::stepped;

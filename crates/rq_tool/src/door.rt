@@ -5,12 +5,12 @@ ghost use Rattle.rq_tool.specs.Streams.{ReadFaults, TakesInput, WriteFaults};
 ghost use Rattle.rq_tool.specs.Works.{IsTextOf, IsWhyNot};
 ghost use Rattle.rq_tool.specs.Written.{PutsText, Writes};
 
-use crate::auditing::put_audit;
-use crate::closing::put_closed;
+use crate::audits::put_audit;
+use crate::closed_logs::put_closed;
 use crate::engine::put_report;
 use crate::engine_at::put_report_at;
 use crate::input::read_log;
-use crate::upgrading::put_upgraded;
+use crate::upgrades::put_upgraded;
 use rq_report::{Input, Output};
 use rq_restart::{Fault, Gate, Plan};
 use std::alloc::Global;

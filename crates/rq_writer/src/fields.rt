@@ -9,7 +9,7 @@ ghost use Rattle.rq_writer.specs.Reading as spec;
 use rq_record::{By, Fault, Name, QueueNo};
 
 /// What comes before the first such byte, and what after it.
-pub(crate) fn cut(byte: u8, bytes: &[u8]) -> Option<(&[u8], &[u8])>
+pub(crate) fn split_once(byte: u8, bytes: &[u8]) -> Option<(&[u8], &[u8])>
     ensures { option_map (λ x. (x.0.now, x.1.now)) result ≡ spec.cut_at byte bytes.now }
 {
     let mut at = 0;
@@ -25,7 +25,7 @@ pub(crate) fn cut(byte: u8, bytes: &[u8]) -> Option<(&[u8], &[u8])>
 pub(crate) fn field(bytes: &[u8]) -> Result<(&[u8], &[u8]), Fault>
     ensures { Gives (λ x. (x.0.now, x.1.now)) result (spec.field_at bytes.now) }
 {
-    match cut(b' ', bytes) {
+    match split_once(b' ', bytes) {
         Some((field, rest)) => Ok((field, rest)),
         None => Err(Fault::Form),
     }

@@ -8,7 +8,7 @@ ghost use Rattle.rq_writer.specs.Making.{HoldsRecords, RecordOf, Framed, LineMad
 
 use crate::front::MadeFront;
 use crate::line::ScriptLine;
-use crate::reading::read_line;
+use crate::readers::read_line;
 use rq_front::{FRAME_LEN, LOG_LIMIT, frame, header_of};
 use rq_pool::Plan;
 use rq_record::{Fault, Record, Version, encode};

@@ -1,7 +1,7 @@
 //! What the program does for each of its commands.
 
 use crate::checkpoints::{Marked, close_carried, mark};
-use crate::files::{HeldLog, put};
+use crate::files::{HeldLog, put_whole};
 use crate::fronts::{OpenLog, front_in, opened_front};
 use crate::inputs::{begun_log, log_from, log_in, opened, rest_of_log, script_in};
 use crate::lines::{Written, frames_of};
@@ -240,7 +240,7 @@ where
     R: Files<File = File> + AllocGlobal,
 {
     held.expect_as_read(rt, read)?;
-    put(rt, path, Stream::Out, made)
+    put_whole(rt, path, Stream::Out, made)
 }
 
 // Closes a log in its own place, while no other program writes it.
@@ -264,7 +264,7 @@ where
     }
     let bytes = log_in(rt, path)?;
     let made = closed_of(rt, bytes, plan)?;
-    put(rt, out, Stream::Out, &made)
+    put_whole(rt, out, Stream::Out, &made)
 }
 
 // Which checkpoints of a log are true that was carried on.

@@ -142,11 +142,11 @@ fn write_behind(file: &mut File, read: usize, used: usize, frames: &[u8]) -> io:
 }
 
 /// Makes a file of these bytes, whole or not at all.
-pub(crate) fn put<R>(rt: &R, to: &str, stream: Stream, bytes: &[u8]) -> Result<(), Refusal>
+pub(crate) fn put_whole<R>(rt: &R, to: &str, stream: Stream, bytes: &[u8]) -> Result<(), Refusal>
 where
     R: Files<File = File> + AllocGlobal,
 {
-    match rq_file::put(rt, to, bytes) {
+    match rq_file::put_file(rt, to, bytes) {
         Ok(()) => Ok(()),
         Err(error) => Err(failed(stream, error)),
     }

@@ -1,17 +1,17 @@
 //! The program `rqlook`: shows what is in the log of a recoverable queue manager.
 #![tactic(auto)]
 
-mod acting;
-mod failing;
-mod narrowing;
-mod reading;
-mod watching;
+mod acts;
+mod failures;
+mod log_files;
+mod narrow_lines;
+mod progress;
 mod words;
 
-use crate::acting::act;
-use crate::failing::Failure;
-use crate::narrowing::columns_told;
-use crate::watching::Watch;
+use crate::acts::act;
+use crate::failures::Failure;
+use crate::narrow_lines::columns_told;
+use crate::progress::Watch;
 use crate::words::program;
 use std::io::IsTerminal;
 use std::os::fd::AsFd;

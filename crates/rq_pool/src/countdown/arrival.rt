@@ -52,7 +52,7 @@ pub(crate) fn noted<T>(
         outbox,
         answer,
     };
-    diary.note::<Told<T>, Enter>(&told);
+    diary.enter::<Told<T>, Enter>(&told);
     let Told {
         source: _,
         outbox,

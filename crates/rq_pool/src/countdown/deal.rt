@@ -27,7 +27,7 @@ pub(crate) fn rooms<T: Drop>(alloc: Global, sources: u32, passes: u32) -> Result
 }
 
 /// A seat and a room for each pass.
-pub(crate) fn deal<T: Fits>(
+pub(crate) fn push_seats<T: Fits>(
     board: &Board<T>,
     mut seat: Chair<T>,
     mut rooms: Vec<Vec<T>>,

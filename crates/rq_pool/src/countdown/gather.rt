@@ -25,7 +25,7 @@ fn take_one<T: Fits>(board: &Board<T>, seat: &mut Chair<T>, slot: usize) -> T
 }
 
 /// Moves the outboxes out of the slots into `room`, in order.
-pub(crate) fn gather<T: Fits>(
+pub(crate) fn collect_outboxes<T: Fits>(
     board: &Board<T>,
     seat: &mut Chair<T>,
     sources: u32,

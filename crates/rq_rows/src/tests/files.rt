@@ -1,6 +1,6 @@
 //! A file of a few bytes, or of none, which no line of a program makes.
 
-use rq_file::put;
+use rq_file::put_file;
 use std::fs;
 use std::test::Fail;
 
@@ -12,7 +12,7 @@ fn is_free(rt: &HostRuntime, path: &str) -> bool {
 #[test]
 fn a_file_is_made_and_made_again(rt: HostRuntime) -> Result<(), Fail> {
     for bytes in ["the first file", "another", ""] {
-        put(&rt, "made", bytes.as_bytes())?;
+        put_file(&rt, "made", bytes.as_bytes())?;
         assert!(rt; fs::read_to_string(&rt, "made")?.as_str() == bytes);
         assert!(rt; is_free(&rt, "made.rq0"));
     }

@@ -11,15 +11,13 @@ returns-clause-follows c =
     let begun = c.in_ok-units.ensures in
     let marked = c.in_ok-engage_by_marks.ensures in
     let noted = c.in_ok-engage_by_notes.ensures in
-    starts _ _ _ _ _ _ _ c.definitions-definitions.ensures c.registrants.ensures c.units.ensures c.elements.ensures
-    c.notes.ensures
-    c.in_ok-names.ensures.names c.in_ok-errors.ensures.errors c.in_ok-registrants.ensures.registered c.greatest.ensures
+    starts _ _ _ _ _ c.units.ensures c.elements.ensures c.notes.ensures c.in_ok-grounds.ensures.knows
     c.committed.ensures c.aborted.ensures
     (noted.numbers ∙ marked.numbers ∙ begun.numbers)
     (λ u. noted.outcomes u ∙ marked.outcomes u ∙ begun.outcomes u)
     (λ u q. engaged_in_turn _ _ _ _ _ _ u q (marked.numbers ∙ begun.numbers) begun.numbers
     (noted.engaged u q) (marked.engaged u q) (begun.engaged u q))
-    c.in_ok-touching.ensures.len c.in_ok-touching.ensures.listed
+    (c.in_ok-touching.ensures.len ∙ c.definition_count.ensures) c.in_ok-touching.ensures.listed
     c.requires
 
 pub units_of-requires : goal.units_of-requires

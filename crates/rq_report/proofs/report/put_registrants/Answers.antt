@@ -13,7 +13,7 @@ pub loop-at-preserved : goal.loop-at-preserved
 loop-at-preserved c =
     λ x. indexed_more (λ index. registrant_line (slice_index_or c.args.state.now.registrants index x))
     c.registrants_of-at-items.result.now c.loop-at.at-index 0 _ _ _ (omega (arith, c.loop-at-test.true))
-    (c.in_ok-put_registrant.ensures ∙ ap (λ r. string_bytes c.loop-at.text ++ registrant_line r)
+    (c.in_ok-put_registrant_line.ensures ∙ ap (λ r. string_bytes c.loop-at.text ++ registrant_line r)
     (c.registrant.ensures x)) (c.loop-at.invariant x)
 
 pub returns : goal.returns

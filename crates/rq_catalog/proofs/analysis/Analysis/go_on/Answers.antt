@@ -1,6 +1,6 @@
 use Rattle.std.proofs.Common.{arith, ◌∙◌, sym}
 use Rattle.rq_record.specs.Views.{version_of}
-use Rattle.rq_catalog.proofs.Ends.{room_here, unit_here, one_on, ends_whole, ends_at_one, goes_on}
+use Rattle.rq_catalog.proofs.Ends.{room_here, unit_here, opens, one_on, ends_whole, ends_at_one, goes_on}
 use Rattle.rq_catalog.proofs.analysis.Analysis.go_on.Goals as goal
 use Rattle.rq_catalog.proofs.analysis.Analysis.go_on.Goals.{else-loop-lawful-test}
 use Rattle.rq_catalog.proofs.analysis.Analysis.go_on.Goals.{then-loop-lawful-test+then-not-may_take}
@@ -16,14 +16,18 @@ take-requires c = record {
       (room_here (version_of c.args.version) _ _ _ _ c.next-start.ensures.well_formed c.loop-lawful.invariant.0
       c.loop-lawful.invariant.1 c.loop-lawful.invariant.2 c.requires.fits (omega (arith, c.loop-lawful-test.true)));
   known = unit_here (version_of c.args.version) _ _ _ _ c.next-start.ensures.well_formed c.loop-lawful.invariant.0
-      c.loop-lawful.invariant.1 c.loop-lawful.invariant.2 _ (sym c.may_take.ensures ∙ c.if-not-may_take.false);
+      c.loop-lawful.invariant.1 c.loop-lawful.invariant.2 _ (sym (c.may_take.ensures _ c.loop-lawful.invariant.2.knows
+      (opens (version_of c.args.version) _ _ _ _ c.next-start.ensures.well_formed c.loop-lawful.invariant.0
+      c.loop-lawful.invariant.1 c.loop-lawful.invariant.2)) ∙ c.if-not-may_take.false);
 }
 
 pub loop-lawful-preserved : goal.loop-lawful-preserved
 loop-lawful-preserved c =
     let next = one_on (version_of c.args.version) _ _ _ _ c.next-start.ensures.well_formed c.loop-lawful.invariant.0
     c.loop-lawful.invariant.1 c.loop-lawful.invariant.2 _ _ c.index-records-lawful.is
-    (omega (arith, c.loop-lawful-test.true)) (sym c.may_take.ensures ∙ c.if-not-may_take.false)
+    (omega (arith, c.loop-lawful-test.true)) (sym (c.may_take.ensures _ c.loop-lawful.invariant.2.knows
+    (opens (version_of c.args.version) _ _ _ _ c.next-start.ensures.well_formed c.loop-lawful.invariant.0
+    c.loop-lawful.invariant.1 c.loop-lawful.invariant.2)) ∙ c.if-not-may_take.false)
     (rw (← c.next-start.ensures.next) c.in_ok-take.ensures.takes) in
     (omega (arith, c.loop-lawful-test.true), next.0, next.1)
 
@@ -35,5 +39,7 @@ returns-clause-analysis c = elim c.loop-lawful-test.branch [
   | then-loop-lawful-test+then-not-may_take w ↦ ends_at_one
       (version_of c.args.version) _ _ _ _ c.next-start.ensures.well_formed c.loop-lawful.invariant.0
       c.loop-lawful.invariant.1 c.loop-lawful.invariant.2 _ w.index-records-lawful.is
-      (omega (arith, w.loop-lawful-test.true)) (sym w.may_take.ensures ∙ w.if-not-may_take.true)
+      (omega (arith, w.loop-lawful-test.true)) (sym (w.may_take.ensures _ c.loop-lawful.invariant.2.knows
+      (opens (version_of c.args.version) _ _ _ _ c.next-start.ensures.well_formed c.loop-lawful.invariant.0
+      c.loop-lawful.invariant.1 c.loop-lawful.invariant.2)) ∙ w.if-not-may_take.true)
 ]

@@ -87,3 +87,12 @@ returns-in-Ok-false-clause-stays c at rs h =
     (subst (λ (k : code.Record). StandsIn at.version c.take.new.self
     (if taken then step here (record_of k) else here)) c.in-Ok-of.ensures.kept
     (c.in-Ok-false.ensures.stands at.version here h.judge)) _ refl refl refl
+
+pub returns-clause-stays : goal.returns-clause-stays
+returns-clause-stays c at rs h = record {
+  may = h.may;
+  short = h.short;
+  judge = c.in-Err.ensures.kept at.version (run at.state rs) h.judge;
+  last = h.last;
+  len = h.len;
+}

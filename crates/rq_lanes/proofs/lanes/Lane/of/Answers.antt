@@ -14,6 +14,6 @@ returns-clause-fills c count =
     record {
       within = c.requires.within;
       count = count;
-      tail = c.tail.ensures ∙ ap (λ (x : List ℕ). x ++ padding m.len) rest
+      tail = c.last_blocks.ensures ∙ ap (λ (x : List ℕ). x ++ padding m.len) rest
           ∙ ap (λ (n : ℕ). drop (m.len / 64 * 64) (text b m) ++ padding n) (sym long);
     }

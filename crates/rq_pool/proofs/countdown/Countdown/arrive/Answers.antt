@@ -52,8 +52,8 @@ invariant_of-pass-then-not-hand_in g c = let was = c.args.pass.now.seat.me.0 in 
       was_last = λ e. absurd (let q = (c.args.pass.now.was_last e).0 in let z = cl.0 in omega arith);
     }
 
-pub gather-requires-clause-slots : goal.gather-requires-clause-slots
-gather-requires-clause-slots g c = let hl = c.hand_in.ensures.last c.if-not-hand_in.false in let ys = hl.1.0 in let m =
+pub collect_outboxes-requires-clause-slots : goal.collect_outboxes-requires-clause-slots
+collect_outboxes-requires-clause-slots g c = let hl = c.hand_in.ensures.last c.if-not-hand_in.false in let ys = hl.1.0 in let m =
     ap (λ m. m.1) hl.1.3 in let same = ap outboxes_in m ∙ contents_numbered ys 0 in
     (ap length same ∙ hl.1.1 ∙ c.args.self.now.sized.1, m ∙ ap (λ l. indexed 0 (map Some l)) (sym same))
 
@@ -61,11 +61,11 @@ pub invariant_of-pass-in-Some : goal.invariant_of-pass-in-Some
 invariant_of-pass-in-Some g c = let was = c.args.pass.now.seat.me.0 in let s = c.args.source in let x = c.args.outbox in
     let cl = c.claim.ensures.clear c.if-not-claim.false in let hl = c.hand_in.ensures.last c.if-not-hand_in.false in
     let ys = hl.1.0 in
-    let whole = ap (λ m. m.0) c.gather.ensures.own.2 ∙ ap (λ m. m.0) hl.1.3 ∙ (λ j. after (cl.1 j).0 s x (Some ys)) in
+    let whole = ap (λ m. m.0) c.collect_outboxes.ensures.own.2 ∙ ap (λ m. m.0) hl.1.3 ∙ (λ j. after (cl.1 j).0 s x (Some ys)) in
     let more = lasts_after was s x (Some ys) in
-    let room = c.gather.new.room in let same =
-    c.gather.ensures.room ∙ ap (λ m. outboxes_in m.1) hl.1.3 ∙ contents_numbered ys 0 in
-    let ids = ap (λ z. z.slots) (c.gather.ensures.own.0 ∙ c.hand_in.ensures.own.0 ∙ c.claim.ensures.own.0
+    let room = c.collect_outboxes.new.room in let same =
+    c.collect_outboxes.ensures.room ∙ ap (λ m. outboxes_in m.1) hl.1.3 ∙ contents_numbered ys 0 in
+    let ids = ap (λ z. z.slots) (c.collect_outboxes.ensures.own.0 ∙ c.hand_in.ensures.own.0 ∙ c.claim.ensures.own.0
     ∙ c.requires.own.0) in record {
       told = tells _ _ s x (Last room)
           (c.noted-in-Some.ensures.entry
@@ -80,7 +80,7 @@ invariant_of-pass-in-Some g c = let was = c.args.pass.now.seat.me.0 in let s = c
       has_room = λ v e. absurd (let q = ap count_told (sym c.take.ensures.after ∙ e) in omega arith);
       was_last = λ e. (
         ap lasts whole ∙ (let q = cl.0 in omega (arith, more)),
-        ap (λ m. m.1) c.gather.ensures.own.2 ∙ ap (λ n. indexed 0 (replicate n None))
+        ap (λ m. m.1) c.collect_outboxes.ensures.own.2 ∙ ap (λ n. indexed 0 (replicate n None))
             (sym (ids ∙ c.args.self.now.sized.1)),
       );
     }
@@ -89,8 +89,8 @@ pub returns-clause-answer : goal.returns-clause-answer
 returns-clause-answer g c = let s = c.args.source in let x = c.args.outbox in let cl =
     c.claim.ensures.clear c.if-not-claim.false in let hl = c.hand_in.ensures.last c.if-not-hand_in.false in let ys =
     hl.1.0 in
-    let whole = ap (λ m. m.0) c.gather.ensures.own.2 ∙ ap (λ m. m.0) hl.1.3 ∙ (λ j. after (cl.1 j).0 s x (Some ys)) in
-    let same = c.gather.ensures.room ∙ ap (λ m. outboxes_in m.1) hl.1.3 ∙ contents_numbered ys 0 in
+    let whole = ap (λ m. m.0) c.collect_outboxes.ensures.own.2 ∙ ap (λ m. m.0) hl.1.3 ∙ (λ j. after (cl.1 j).0 s x (Some ys)) in
+    let same = c.collect_outboxes.ensures.room ∙ ap (λ m. outboxes_in m.1) hl.1.3 ∙ contents_numbered ys 0 in
     subst (Answered (g.T.Fits.fits c.args.self.now.table.shared.key.key) c.args.self.now.sources x)
     (sym c.noted-in-Some.ensures.answer) (
       ap length same ∙ hl.1.1 ∙ c.args.self.now.sized.1,

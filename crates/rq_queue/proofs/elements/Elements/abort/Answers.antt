@@ -20,8 +20,8 @@ all_returned-requires-clause-room c =
     (each_unsorted _ _ (subst (AllByRecursion (λ (e : Element). e.attempts + 1 < 2 ^ 64))
     (sym c.self.view_is) c.requires))
 
-pub in_order-requires : goal.in_order-requires
-in_order-requires c = subst (λ (xs : List Element). Ordered (λ (e f : Element). e.id < f.id) (sorted xs))
+pub elements_by_id-requires : goal.elements_by_id-requires
+elements_by_id-requires c = subst (λ (xs : List Element). Ordered (λ (e f : Element). e.id < f.id) (sorted xs))
     (sym c.in_ok-free.ensures.leaving)
     (chosen_rise c.any_order.ensures.order c.self.inside.free.entries c.self.inside.marked.entries
     c.taken-marked.result.0.entries c.taken-marked.result.1.items c.taken-marked.ensures.among
@@ -60,6 +60,6 @@ returns-clause-sent c =
     c.self.invariant.apart in
     c.in_ok-send.ensures.sent
     ∙ ap (λ (xs : List Element). c.args.sent.now.items ++ sent_from c.args.place c.args.home.now xs)
-    (c.in_order.ensures
+    (c.elements_by_id.ensures
     ∙ (ap sorted c.in_ok-free.ensures.leaving
     ∙ (sym gone ∙ ap (filter (leaves c.args.home.now c.args.unit.0)) c.self.view_is)))

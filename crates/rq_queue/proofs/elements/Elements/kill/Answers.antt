@@ -13,21 +13,21 @@ pub known-requires-clause-known : goal.known-requires-clause-known
 known-requires-clause-known c = known_unsorted c.self.inside.priorities
     (values_of c.self.inside.free.entries ++ items_of c.self.inside.marked.entries) c.self.invariant.known
 
-pub without-requires-clause-apart : goal.without-requires-clause-apart
-without-requires-clause-apart c =
+pub elements_without-requires-clause-apart : goal.elements_without-requires-clause-apart
+elements_without-requires-clause-apart c =
     apart_front (values_of c.self.inside.free.entries) (items_of c.self.inside.marked.entries) c.self.invariant.apart
 
-pub without-requires-clause-known : goal.without-requires-clause-known
-without-requires-clause-known c = each_front _ _ _ c.in_ok-by_id.ensures.known
+pub elements_without-requires-clause-known : goal.elements_without-requires-clause-known
+elements_without-requires-clause-known c = each_front _ _ _ c.in_ok-by_id.ensures.known
 
 pub invariant_of-result : goal.invariant_of-result
 invariant_of-result c =
-    let done = kill_done c.args.queue.0 c.args.id.0 c.self.inside.free.entries c.without.result.entries
+    let done = kill_done c.args.queue.0 c.args.id.0 c.self.inside.free.entries c.elements_without.result.entries
     c.self.inside.marked.entries c.self.invariant.keyed c.self.invariant.of_units c.self.invariant.apart
     (subst (AllByRecursion (λ (x : Element). x.home ≡ c.args.queue.0)) (sym c.self.view_is) c.requires)
-    c.without.ensures.others in
+    c.elements_without.ensures.others in
     record {
-      keyed = c.without.ensures.keyed;
+      keyed = c.elements_without.ensures.keyed;
       of_units = c.self.invariant.of_units;
       apart = done.1;
       known = subst (AllByRecursion (IsKnown c.in_ok-by_id.by_id.entries)) (sym done.0)
@@ -36,8 +36,8 @@ invariant_of-result c =
 
 pub returns-clause-done : goal.returns-clause-done
 returns-clause-done c =
-    (kill_done c.args.queue.0 c.args.id.0 c.self.inside.free.entries c.without.result.entries
+    (kill_done c.args.queue.0 c.args.id.0 c.self.inside.free.entries c.elements_without.result.entries
     c.self.inside.marked.entries c.self.invariant.keyed c.self.invariant.of_units c.self.invariant.apart
     (subst (AllByRecursion (λ (x : Element). x.home ≡ c.args.queue.0)) (sym c.self.view_is) c.requires)
-    c.without.ensures.others).0
+    c.elements_without.ensures.others).0
     ∙ ap (killed c.args.queue.0 c.args.id.0) c.self.view_is

@@ -20,7 +20,7 @@ invariant_of-result c =
     let own = is_note_of c.args.queue.0 c.args.name.now in
     let is_filed = λ (j : ℕ × List ℕ). (m : ℕ × List ℕ) → filed key_cmp m c.unfiled-names.result.0.entries
     ≡ (if is_eq (key_cmp j m) then [] else filed key_cmp m notes.names.entries) in
-    let others = c.without-all.ensures ∙ (ap (λ (ps : List ℕ). left (OfRegistrant c.args.queue c.args.name.now) ps es)
+    let others = c.notes_without-all.ensures ∙ (ap (λ (ps : List ℕ). left (OfRegistrant c.args.queue c.args.name.now) ps es)
     (c.deref.ensures.value
     ∙ (c.unfiled-names.ensures.places ∙ ap (λ (j : ℕ × List ℕ). filed key_cmp j notes.names.entries)
     c.in_ok-key.ensures.key))
@@ -42,7 +42,7 @@ returns-clause-done c =
     let es = notes.all.entries in
     let k : ℕ × List ℕ = (c.args.queue.0, c.args.name.now) in
     let own = is_note_of c.args.queue.0 c.args.name.now in
-    ap values_of (c.without-all.ensures ∙ ap (λ (ps : List ℕ). left (OfRegistrant c.args.queue c.args.name.now) ps es)
+    ap values_of (c.notes_without-all.ensures ∙ ap (λ (ps : List ℕ). left (OfRegistrant c.args.queue c.args.name.now) ps es)
     (c.deref.ensures.value
     ∙ (c.unfiled-names.ensures.places ∙ ap (λ (j : ℕ × List ℕ). filed key_cmp j notes.names.entries)
     c.in_ok-key.ensures.key)))

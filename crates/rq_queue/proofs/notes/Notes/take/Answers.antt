@@ -33,8 +33,8 @@ invariant_of-notes c =
       by_name = each_filter _ _ es c.self.invariant.by_name;
     })
 
-pub in_order-requires : goal.in_order-requires
-in_order-requires c = rising_sorted c.in_ok-all.own.items
+pub notes_by_place-requires : goal.notes_by_place-requires
+notes_by_place-requires c = rising_sorted c.in_ok-all.own.items
     (apart_front c.in_ok-all.own.items (values_of c.in_ok-all.all.entries) c.in_ok-all.ensures.apart)
 
 pub returns-clause-others : goal.returns-clause-others
@@ -59,7 +59,7 @@ returns-clause-taken c =
     let drawn = c.in_ok-all.own.items in
     let rest = c.in_ok-all.ensures.left ∙ ap (λ (ps : List ℕ). left (OfUnit unit) ps es)
     (c.deref.ensures.value ∙ c.unfiled-units.ensures.places) in
-    c.in_order.ensures
+    c.notes_by_place.ensures
     ∙ (values_drawn (OfUnit unit) (filed nat_cmp unit.0 notes.units.entries) es
     (all_filed nat_cmp nat_cmp_total (λ (m : Note). m.unit) unit.0 own
     (λ n. same_number unit.0 n.unit) notes.units.entries es c.self.invariant.by_unit)

@@ -8,14 +8,14 @@ use Rattle.rq_queue.proofs.part.Part.pour_kept.Goals as goal
 
 pub returns-clause-elements : goal.returns-clause-elements
 returns-clause-elements c =
-    grows _ _ _ _ _ c.add.ensures.elements
+    grows _ _ _ _ _ c.add_members.ensures.elements
     (subst (λ (p : Part). IsPermutation p.elements c.in_ok-elements.elements.items) c.self.view_is
     c.in_ok-elements.ensures.listed)
 
 pub returns-clause-registrants : goal.returns-clause-registrants
 returns-clause-registrants c =
     let list = c.in_ok-registrants.registrants.items in
-    grows _ _ _ _ _ c.add.ensures.registrants
+    grows _ _ _ _ _ c.add_members.ensures.registrants
     (subst (λ (p : Part). IsPermutation p.registrants list) c.self.view_is
     (subst (λ (xs : List Registrant). IsPermutation xs list) c.in_ok-registrants.ensures.listed
     (IsPermutation-refl list)))
@@ -23,6 +23,6 @@ returns-clause-registrants c =
 pub returns-clause-notes : goal.returns-clause-notes
 returns-clause-notes c =
     let list = c.in_ok-notes.notes.items in
-    grows _ _ _ _ _ c.add.ensures.notes
+    grows _ _ _ _ _ c.add_members.ensures.notes
     (subst (λ (p : Part). IsPermutation p.notes list) c.self.view_is
     (subst (λ (xs : List Note). IsPermutation xs list) c.in_ok-notes.ensures.listed (IsPermutation-refl list)))

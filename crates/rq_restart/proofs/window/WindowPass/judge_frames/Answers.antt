@@ -5,7 +5,7 @@ use Rattle.std.proofs.Math.Seq.{drop-cons}
 use Rattle.rq_model.specs.Machine.{run}
 use Rattle.rq_front.specs.declared.spans.Span.{Span}
 use Rattle.rq_front.specs.Chains.{body_at}
-use Rattle.rq_restart.specs.declared.passing.Verdict.TheVariants.{Lawful, Unlawful, NoRecord}
+use Rattle.rq_restart.specs.declared.front_pass.Verdict.TheVariants.{Lawful, Unlawful, NoRecord}
 use Rattle.rq_restart.specs.Passes.{IsVerdict}
 use Rattle.rq_restart.specs.Views.{why_of}
 use Rattle.rq_restart.specs.Windows.{AreFramed}

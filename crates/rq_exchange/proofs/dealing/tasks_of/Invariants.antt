@@ -1,5 +1,0 @@
-use Rattle.rq_exchange.specs.Tasks.{AreBare}
-use Rattle.rq_exchange.proofs.dealing.tasks_of.Given as goal
-
-abbrev pub invariant-loop-queue : goal.invariant-loop-queue
-invariant-loop-queue l = AreBare l.sources l.queue l.tasks.items

@@ -1,0 +1,181 @@
+//! Replay: each queue is redone once, on the workers of the plan.
+
+ghost use Rattle.std.specs.Prelude.{◌≡◌, ◌<◌, ◌≤◌, ◌^◌, ◌+◌, true, length, map, IfOk, IfErr};
+ghost use Rattle.rq_model.specs.Records.{Two};
+ghost use Rattle.rq_model.specs.Machine.{run, all_lawful};
+ghost use Rattle.rq_record.specs.Views.{record_of};
+ghost use Rattle.rq_record.specs.declared.fault.Fault.TheVariants.{Resources};
+ghost use Rattle.rq_catalog.specs.Analyses.{IsAnalysis};
+ghost use Rattle.rq_exchange.specs.Courses.{StartsByLast};
+ghost use Rattle.rq_exchange.specs.Gathering.{AreParts, IsRedoneTo};
+ghost use Rattle.rq_exchange.specs.Jobs.{IsJob, records_of, errors_in};
+
+use crate::board::placed;
+use crate::chain::CountdownChain;
+use crate::closings::close_countdowns;
+use crate::course::Course;
+use crate::crew::all_kept;
+use crate::deals::tasks_of;
+use crate::gathered::{AllRedone, fields_after};
+use crate::jobs::Job;
+use crate::links::{errors_of, sources_of};
+use rq_catalog::{Analysis, analyse_kept};
+use rq_pool::{Gate, Plan};
+use rq_queue::Part;
+use rq_record::{Fault, KeptRecord, Record, Version, kept_records};
+use rq_state::State;
+use std::alloc::Global;
+use std::thread::Threads;
+
+// Redoes all queues: those that wait for nobody are dealt, and each error queue follows the last
+// of its sources.
+fn redo_all<R: Threads + Sync, G: Gate + Sync>(
+    rt: &R,
+    alloc: Global,
+    job: &Job,
+    plan: &Plan,
+    gate: &G,
+) -> Result<(Vec<Option<Part>>, Course), Fault>
+    requires job { IsJob job.now }
+    requires few { length job.now.definitions.now ≤ 4096 }
+    ensures size { IfOk result (λ r. length r.0.items ≡ length job.now.definitions.now) }
+    ensures parts { IfOk result
+        (λ r. AreParts (run job.now.state.now (records_of job.now)) r.0.items) }
+    ensures course { IfOk result (λ r. StartsByLast (errors_in job.now) r.1) }
+    ensures refused { IfErr result (λ e. e ≡ Resources) }
+{
+    if job.definitions.is_empty() {
+        return Ok((Vec::new(alloc), Course::blank(alloc)));
+    }
+    let tasks = tasks_of(alloc, job.sources)?;
+    let (chain, rows) = CountdownChain::open(alloc, job, plan.workers())?;
+    let kept = all_kept(rt, alloc, job, &chain, gate, &tasks, rows)?;
+    let (all, course) = close_countdowns(alloc, chain, kept)?;
+    let parts = placed(alloc, job.definitions.len(), all)?;
+    Ok((parts, course))
+}
+
+/// The state after the records, with the units that are open then still open. Each queue is redone
+/// from its own records and from what its sources send it, on the workers of the plan; each worker
+/// enters the gate before each queue. The records are lawful in version 2, as are those that are
+/// lawful in version 1. A thread that the host refuses is no fault: the calling thread does its
+/// work. Refused only with `Resources`, if the host refuses memory.
+pub fn replay<R: Threads + Sync, G: Gate + Sync>(
+    rt: &R,
+    alloc: Global,
+    state: &State,
+    records: &[Record],
+    plan: &Plan,
+    gate: &G,
+) -> Result<State, Fault>
+    requires lawful { all_lawful Two state.now (map record_of records.now) ≡ true }
+    requires fits { state.now.next + length records.now < 2 ^ 64 }
+    ensures state { IfOk result (λ t. t ≡ run state.now (map record_of records.now)) }
+    ensures refused { IfErr result (λ e. e ≡ Resources) }
+{
+    let kept = kept_records(alloc, records)?;
+    replay_kept(rt, alloc, state, &kept, plan, gate)
+}
+
+/// The same for records that are kept; nothing of them is copied.
+pub fn replay_kept<R: Threads + Sync, G: Gate + Sync>(
+    rt: &R,
+    alloc: Global,
+    state: &State,
+    records: &[KeptRecord],
+    plan: &Plan,
+    gate: &G,
+) -> Result<State, Fault>
+    requires lawful { all_lawful Two state.now (map record_of records.now) ≡ true }
+    requires fits { state.now.next + length records.now < 2 ^ 64 }
+    ensures state { IfOk result (λ t. t ≡ run state.now (map record_of records.now)) }
+    ensures refused { IfErr result (λ e. e ≡ Resources) }
+{
+    let analysis = analyse_kept(alloc, Version::Two, state, records)?;
+    replay_analysed(rt, alloc, state, records, &analysis, plan, gate)
+}
+
+/// What `replay` answers, of records that are analysed already.
+pub fn replay_analysed<R: Threads + Sync, G: Gate + Sync>(
+    rt: &R,
+    alloc: Global,
+    state: &State,
+    records: &[KeptRecord],
+    analysis: &Analysis,
+    plan: &Plan,
+    gate: &G,
+) -> Result<State, Fault>
+    requires lawful { all_lawful Two state.now (map record_of records.now) ≡ true }
+    requires fits { state.now.next + length records.now < 2 ^ 64 }
+    requires analysis { IsAnalysis Two state.now (map record_of records.now) analysis.now }
+    ensures state { IfOk result (λ t. t ≡ run state.now (map record_of records.now)) }
+    ensures refused { IfErr result (λ e. e ≡ Resources) }
+{
+    let (state, course) = replay_traced(rt, alloc, state, records, analysis, plan, gate)?;
+    drop(course);
+    Ok(state)
+}
+
+/// The queues after the records, which are analysed, redone as in `replay_analysed`, and how that
+/// went, only for contracts: each queue was redone by one thread, once, and each error queue by the
+/// one thread whose arrival was the last of its sources. Records and analysis are most of a
+/// restart's memory; they may then be dropped, before the state is gathered. Refused only with
+/// `Resources`.
+pub fn redo_analysed<R: Threads + Sync, G: Gate + Sync>(
+    rt: &R,
+    alloc: Global,
+    state: &State,
+    records: &[KeptRecord],
+    analysis: &Analysis,
+    plan: &Plan,
+    gate: &G,
+) -> Result<(AllRedone, Course), Fault>
+    requires lawful { all_lawful Two state.now (map record_of records.now) ≡ true }
+    requires fits { state.now.next + length records.now < 2 ^ 64 }
+    requires analysis { IsAnalysis Two state.now (map record_of records.now) analysis.now }
+    ensures redone { IfOk result (λ r. IsRedoneTo (run state.now (map record_of records.now)) r.0) }
+    ensures course { IfOk result (λ r. StartsByLast
+        (map (λ d. d.error) (run state.now (map record_of records.now)).definitions) r.1) }
+    ensures refused { IfErr result (λ e. e ≡ Resources) }
+{
+    rq_model::runs_are_well_formed();
+    rq_model::numbers_after();
+    state.is_well_formed();
+    let definitions = analysis.definitions();
+    let errors = errors_of(alloc, definitions)?;
+    let (sources, ranks) = sources_of(alloc, errors.len(), &errors)?;
+    let job = Job {
+        state,
+        records,
+        analysis,
+        definitions,
+        sources: &sources,
+        ranks: &ranks,
+    };
+    let (parts, course) = redo_all(rt, alloc, &job, plan, gate)?;
+    let fields = fields_after(alloc, state, records, analysis)?;
+    Ok((AllRedone { fields, parts }, course))
+}
+
+/// What `replay_analysed` answers, and how the replay went, as in `redo_analysed`.
+pub fn replay_traced<R: Threads + Sync, G: Gate + Sync>(
+    rt: &R,
+    alloc: Global,
+    state: &State,
+    records: &[KeptRecord],
+    analysis: &Analysis,
+    plan: &Plan,
+    gate: &G,
+) -> Result<(State, Course), Fault>
+    requires lawful { all_lawful Two state.now (map record_of records.now) ≡ true }
+    requires fits { state.now.next + length records.now < 2 ^ 64 }
+    requires analysis { IsAnalysis Two state.now (map record_of records.now) analysis.now }
+    ensures state { IfOk result (λ r. r.0 ≡ run state.now (map record_of records.now)) }
+    ensures course { IfOk result (λ r. StartsByLast
+        (map (λ d. d.error) (run state.now (map record_of records.now)).definitions) r.1) }
+    ensures refused { IfErr result (λ e. e ≡ Resources) }
+{
+    let (all, course) = redo_analysed(rt, alloc, state, records, analysis, plan, gate)?;
+    let state = all.gather(alloc)?;
+    Ok((state, course))
+}

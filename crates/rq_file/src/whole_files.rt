@@ -1,0 +1,26 @@
+//! A file of bytes that are all there.
+
+use crate::late::{Late, in_place};
+use crate::names::Names;
+use std::fs::Files;
+use std::io::{self, Write};
+use std::os::fd::AsFd;
+
+/// Makes the file of the path, with these bytes: whole, or as it was, or not there. What is no file
+/// is written as it is.
+///
+/// Refuses with the system's error, as `Names::of` does and as far as writing fails.
+pub fn put_file<R: Files + AllocGlobal>(rt: &R, path: &str, bytes: &[u8]) -> io::Result<()>
+where
+    R::File: AsFd,
+{
+    let Some(names) = Names::of(rt, path)? else {
+        return Late::new(rt, path, in_place()).write_all(bytes);
+    };
+    let mut file = Late::new(rt, names.new_name(), names.options(rt));
+    // The first write opens the file: where there are no bytes, one of none does.
+    let done = file.write(&[]).and_then(|_| file.write_all(bytes));
+    let settled = names.settle(rt, file.into_file(), done.is_ok());
+    done?;
+    settled
+}

@@ -1,0 +1,83 @@
+//! A log is opened to write behind its front.
+
+ghost use Rattle.std.specs.Prelude.{ℕ, List};
+ghost use Rattle.rq_restart.specs.JudgedFronts.{IsJudged, IsJudgedAt};
+ghost use Rattle.rq_journal.specs.Openings.{IsOpened, IsOpenedAt, Opens, OpensCarried};
+
+use crate::appender::Appender;
+use crate::carried_logs::CARRIED_AT;
+use rq_record::Fault;
+use rq_restart::{JudgedFront, Plan, Why, judged_front, judged_front_at};
+use std::alloc::Global;
+use std::marker::Sync;
+use std::thread::Threads;
+
+/// An appender that stands where the front of a log ends, and where that is.
+#[derive(Drop)]
+pub struct Opened {
+    /// Stands there.
+    pub appender: Appender,
+    /// How many of the log's bytes the front takes, and all that stands before it. What stands behind
+    /// them has to go before anything is written there.
+    pub used: usize,
+    /// How many records the front has.
+    pub records: usize,
+    /// Why it ends. Only `Whole` and `Cut` are ends of a log to which records were being appended.
+    pub why: Why,
+}
+
+/// Stands behind a front that was judged.
+pub fn opened_behind(front: JudgedFront) -> Opened
+    ensures whole { (b : List ℕ) → IsJudged b front → IsOpened b result }
+    ensures from { (b : List ℕ) (offset : ℕ) → IsJudgedAt b offset front → IsOpenedAt b offset result }
+{
+    let JudgedFront {
+        judge,
+        last,
+        used,
+        records,
+        why,
+    } = front;
+    let appender = Appender {
+        judge,
+        last,
+        len: used,
+    };
+    Opened {
+        appender,
+        used,
+        records,
+        why,
+    }
+}
+
+/// Opens a log to write behind its front. No record is kept, and no queue is redone.
+///
+/// Refuses with `TooLong` more than 4,294,967,295 bytes, with `NotALog` bytes that begin with no
+/// version's header, and with `Resources` where memory is refused.
+pub fn open<R: Threads + Sync>(
+    rt: &R,
+    alloc: Global,
+    bytes: &[u8],
+    plan: &Plan,
+) -> Result<Opened, Fault>
+    ensures { Opens bytes.now result }
+{
+    Ok(opened_behind(judged_front(rt, alloc, bytes, plan)?))
+}
+
+/// Opens a log that was carried on, to write behind its front: as `open`, but from the checkpoint on
+/// that it begins with, which is taken at its word.
+///
+/// Refuses with `NoCheckpoint` a log without a checkpoint at 96, with `BadCheckpoint` one whose
+/// checkpoint there spells no state, and else as `open` does.
+pub fn open_carried<R: Threads + Sync>(
+    rt: &R,
+    alloc: Global,
+    bytes: &[u8],
+    plan: &Plan,
+) -> Result<Opened, Fault>
+    ensures { OpensCarried bytes.now result }
+{
+    Ok(opened_behind(judged_front_at(rt, alloc, bytes, CARRIED_AT as u64, plan)?))
+}

@@ -1,0 +1,25 @@
+use Rattle.std.proofs.Common.{◌≡◌, ℕ, List, ◌+◌, ◌%◌, slice_index, arith, refl}
+use Rattle.std.proofs.lemmas.List.{map-set}
+use Rattle.rq_lanes.proofs.Columns.{window-lane}
+use Rattle.rq_lanes.proofs.lane_blocks.next_word.Goals as goal
+
+pub returns-clause-value : goal.returns-clause-value
+returns-clause-value g c j h =
+    let at : c.args.index % 16 ≡ c.args.index = omega arith in
+    let w = c.args.w.now in
+    let index = c.args.index in
+    rw (
+      window-lane j w ((index + 14) % 16),
+      window-lane j w ((index + 9) % 16),
+      window-lane j w ((index + 1) % 16),
+      window-lane j w (index % 16),
+      at,
+      c.add-word.ensures j h,
+      c.add-sum1.ensures j h,
+      c.add-sum0.ensures j h,
+      c.small_sigma1-high.ensures j h,
+      c.small_sigma0-low.ensures j h,
+    ) refl
+
+pub returns-clause-window : goal.returns-clause-window
+returns-clause-window g c j h = map-set (λ (v : List ℕ). slice_index v j) c.args.w.now c.args.index c.add-word.result

@@ -1,0 +1,24 @@
+use Rattle.std.proofs.Common.{◌++◌, string_bytes}
+use Rattle.rq_look.proofs.Puts.{both_put, put_last}
+use Rattle.rq_look.proofs.dumps.dump.Goals as goal
+
+pub returns-clause-last : goal.returns-clause-last
+returns-clause-last g c =
+    let held = g.W.Write.contents in
+    let end = c.in_ok-end.ensures.end in
+    let front = c.in_ok-left.ensures.only in
+    let behind = c.in_ok-put_wanted_behind.ensures.only in
+    let records = both_put (held c.args.output.now) (held c.put_records.new.output)
+    (held c.put_wanted_behind.new.output) (front.0, front.1) (behind.0, behind.1) in
+    let closing = c.in_ok-put_closing.ensures.closing c.args.at c.args.bytes.now end.0 end.1 end.2 in
+    let text = string_bytes c.put_origin.new.text in (
+      records.0 ++ text,
+      closing.0,
+      closing.1,
+      put_last (held c.args.output.now) (held c.put_wanted_behind.new.output)
+          (held c.write_out.new.output) records.0 text closing.0 _ records.1 c.in_ok-write_out.ensures.0 closing.2,
+    )
+
+pub put_wanted_behind-requires-clause-end : goal.put_wanted_behind-requires-clause-end
+put_wanted_behind-requires-clause-end g c =
+    let end = c.in_ok-end.ensures.end in (c.args.at, end.0, end.1, end.2)

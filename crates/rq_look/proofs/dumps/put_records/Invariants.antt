@@ -1,0 +1,5 @@
+use Rattle.rq_look.proofs.Puts.{AppendsSome}
+use Rattle.rq_look.proofs.dumps.put_records.Given as goal
+
+abbrev pub invariant-loop-placed : goal.invariant-loop-placed
+invariant-loop-placed g l = AppendsSome (g.W.Write.contents l.fn.output) (g.W.Write.contents l.output)

@@ -1,0 +1,8 @@
+use Rattle.std.proofs.Common.{string_bytes}
+use Rattle.rq_look.proofs.Scripts.{IsUnderWay}
+use Rattle.rq_look.proofs.log_script.put_records.Given as goal
+
+abbrev pub invariant-loop-placed : goal.invariant-loop-placed
+invariant-loop-placed g l =
+    IsUnderWay l.bytes l.placed-iterator.rest.now l.placed-iterator.number (string_bytes l.text)
+    (g.W.Write.contents l.fn.output) (g.W.Write.contents l.output)

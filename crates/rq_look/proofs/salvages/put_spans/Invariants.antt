@@ -1,0 +1,5 @@
+use Rattle.rq_look.proofs.Puts.{AppendsSome}
+use Rattle.rq_look.proofs.salvages.put_spans.Given as goal
+
+abbrev pub invariant-loop-span : goal.invariant-loop-span
+invariant-loop-span g l = AppendsSome (g.W.Write.contents l.fn.output) (g.W.Write.contents l.output)

@@ -1,0 +1,25 @@
+use Rattle.std.proofs.Common.{None, subst}
+use Rattle.std.proofs.KnownBytes.{Appends-trans}
+use Rattle.rq_model.specs.Fronts.{Why}
+use Rattle.rq_look.specs.Looks.{is_whole}
+use Rattle.rq_look.specs.Rests.{IsChoice}
+use Rattle.rq_look.proofs.salvages.salvage.Goals as goal
+
+pub put_rest-requires-clause-end : goal.put_rest-requires-clause-end
+put_rest-requires-clause-end g c = let end = c.in_ok-end.ensures.end in (None, end.0, end.1, end.2)
+
+pub returns-clause-told : goal.returns-clause-told
+returns-clause-told g c =
+    let held = g.W.Write.contents in
+    let end = c.in_ok-end.ensures.end in
+    let script = c.in_ok-put_records.ensures.script in
+    let choice = c.in_ok-put_rest.ensures.choice in (
+      end.0,
+      end.1,
+      script.0,
+      choice.0,
+      script.1,
+      subst (λ (why : Why). IsChoice (is_whole why) choice.0) end.2.why choice.1,
+      Appends-trans (held c.args.output.now) (held c.put_records.new.output) (held c.put_rest.new.output) script.0
+          choice.0 script.2 choice.2,
+    )

@@ -1,5 +1,0 @@
-use Rattle.rq_look.proofs.Puts.{AppendsSome}
-use Rattle.rq_look.proofs.salvaging.put_spans.Given as goal
-
-abbrev pub invariant-loop-span : goal.invariant-loop-span
-invariant-loop-span g l = AppendsSome (g.W.Write.contents l.fn.output) (g.W.Write.contents l.output)

@@ -1,0 +1,9 @@
+use Rattle.rq_look.proofs.Puts.{both_put}
+use Rattle.rq_look.proofs.stories.tell.Goals as goal
+
+pub returns-clause-only : goal.returns-clause-only
+returns-clause-only g c =
+    let held = g.W.Write.contents in
+    let front = c.in_ok-machine.ensures.only in
+    both_put (held c.args.output.now) (held c.tell_front.new.output) (held c.write_out.new.output) (front.0, front.1)
+    (_, c.in_ok-write_out.ensures.0)

@@ -1,9 +1,0 @@
-use Rattle.rq_look.proofs.Puts.{both_put}
-use Rattle.rq_look.proofs.telling.tell.Goals as goal
-
-pub returns-clause-only : goal.returns-clause-only
-returns-clause-only g c =
-    let held = g.W.Write.contents in
-    let front = c.in_ok-machine.ensures.only in
-    both_put (held c.args.output.now) (held c.tell_front.new.output) (held c.finish.new.output) (front.0, front.1)
-    (_, c.in_ok-finish.ensures.0)

@@ -1,0 +1,147 @@
+//! Whether a log is whole, and each of its checkpoints true.
+
+ghost use Rattle.std.specs.Prelude.{◌≡◌, ◌&&◌, ◌++◌, None, Some, IfOk, IfErr, OnOk, string_bytes};
+ghost use Rattle.std.specs.List.{flat_map};
+ghost use Rattle.rq_restart.specs.Views.{why_of};
+ghost use Rattle.rq_look.specs.Looks as looks;
+ghost use Rattle.rq_look.specs.Findings.{IsFindings};
+ghost use Rattle.rq_look.specs.Looks.{IsRefusal, all_true, checkpoint_finding, end_finding};
+ghost use Rattle.rq_look.specs.Rests.{behind_finding};
+
+use crate::behind_fronts::{put_rest, standing_behind};
+use crate::ends::{End, end_at, is_whole, put_end, whole_end};
+use crate::trouble::Trouble;
+use rq_behind::Found;
+use rq_restart::{Plan, audit};
+use std::alloc::{AllocError, Global};
+use std::fmt::Write;
+use std::thread::Threads;
+
+/// What a check of a log finds.
+#[derive(Debug, Drop)]
+pub struct Findings {
+    /// Whether the log is whole, and each checkpoint of its front true.
+    pub fine: bool,
+    /// What is wrong with it, a line each: that its front ends before it does, then what stands
+    /// behind it; and each checkpoint of the front that is not true.
+    pub text: String,
+}
+
+fn are_true(found: &[(u64, bool)]) -> bool
+    ensures { result ≡ all_true found.now }
+{
+    found.iter().all(|checkpoint| checkpoint.1)
+}
+
+fn is_fine(end: &End, checkpoints: &[(u64, bool)]) -> bool
+    ensures { result ≡ (looks.is_whole (why_of end.now.why) && all_true checkpoints.now) }
+{
+    is_whole(end.why) && are_true(checkpoints)
+}
+
+fn put_checkpoint(text: &mut String, offset: u64, truth: bool) -> Result<(), AllocError>
+    ensures { OnOk result
+        (string_bytes text.new ≡ string_bytes text.old ++ checkpoint_finding (offset, truth)) }
+{
+    if truth {
+        return Ok(());
+    }
+    write!(
+        text,
+        "the checkpoint at {offset} does not spell the state before it\n"
+    )
+}
+
+fn front_text(alloc: Global, end: &End) -> Result<String, AllocError>
+    ensures { IfOk result (λ text. string_bytes text ≡ end_finding end.now.records end.now.used
+        end.now.total (why_of end.now.why) (string_bytes end.now.reason)) }
+{
+    let mut text = String::new(alloc);
+    if !is_whole(end.why) {
+        put_end(&mut text, end)?;
+    }
+    Ok(text)
+}
+
+// The lines of the front's end, of what stands behind it, and of the checkpoints.
+fn text_of(
+    alloc: Global,
+    end: &End,
+    behind: &Found,
+    checkpoints: &[(u64, bool)],
+) -> Result<String, AllocError>
+    ensures { IfOk result (λ text. string_bytes text ≡ end_finding end.now.records end.now.used
+        end.now.total (why_of end.now.why) (string_bytes end.now.reason)
+        ++ behind_finding (why_of end.now.why) behind.now end.now.total
+        ++ flat_map checkpoint_finding checkpoints.now) }
+{
+    let mut text = front_text(alloc, end)?;
+    put_rest(&mut text, end, behind)?;
+    for (offset, truth) in checkpoints {
+        put_checkpoint(&mut text, *offset, *truth)?;
+    }
+    Ok(text)
+}
+
+// Whether a log is whole and each checkpoint of its front true.
+fn check_whole<R: Threads + Sync>(
+    rt: &R,
+    alloc: Global,
+    bytes: &[u8],
+    plan: &Plan,
+) -> Result<Findings, Trouble>
+    ensures checked { IfOk result
+        (λ found. IsFindings None bytes.now found.fine (string_bytes found.text)) }
+    ensures refused { IfErr result (IsRefusal None bytes.now) }
+{
+    let end = whole_end(rt, alloc, bytes, plan)?;
+    let checkpoints = audit(rt, alloc, bytes, plan)?;
+    let behind = standing_behind(alloc, bytes, &end)?;
+    Ok(Findings {
+        fine: is_fine(&end, &checkpoints),
+        text: text_of(alloc, &end, &behind, &checkpoints)?,
+    })
+}
+
+// Where a log ends that begins with the checkpoint at an offset. Its file alone does not tell whether
+// that is true.
+fn check_at<R: Threads + Sync>(
+    rt: &R,
+    alloc: Global,
+    bytes: &[u8],
+    at: u64,
+    plan: &Plan,
+) -> Result<Findings, Trouble>
+    ensures checked { IfOk result
+        (λ found. IsFindings (Some at) bytes.now found.fine (string_bytes found.text)) }
+    ensures refused { IfErr result (IsRefusal (Some at) bytes.now) }
+{
+    let end = end_at(rt, alloc, bytes, at, plan)?;
+    let behind = standing_behind(alloc, bytes, &end)?;
+    let mut text = String::from_str(alloc, "carried: use rqlog\n")?;
+    put_end(&mut text, &end)?;
+    put_rest(&mut text, &end, &behind)?;
+    Ok(Findings { fine: false, text })
+}
+
+/// Whether a log is whole and each checkpoint of its front true, and what is wrong with it. Of a log
+/// that begins with the checkpoint at an offset it is not known whether this is true: the text says
+/// so, and where its front ends.
+///
+/// Refuses what a restart refuses, from there if there is an offset.
+pub fn check<R: Threads + Sync>(
+    rt: &R,
+    alloc: Global,
+    bytes: &[u8],
+    at: Option<u64>,
+    plan: &Plan,
+) -> Result<Findings, Trouble>
+    ensures checked { IfOk result
+        (λ found. IsFindings at bytes.now found.fine (string_bytes found.text)) }
+    ensures refused { IfErr result (IsRefusal at bytes.now) }
+{
+    match at {
+        None => check_whole(rt, alloc, bytes, plan),
+        Some(at) => check_at(rt, alloc, bytes, at, plan),
+    }
+}

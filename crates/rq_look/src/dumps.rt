@@ -1,0 +1,175 @@
+//! A line for each record of a log.
+
+ghost use Rattle.std.specs.Prelude.{◌≡◌, ◌++◌, ℕ, List, Option, IfErr, OnOk, string_bytes};
+ghost use Rattle.std.specs.Io.KnownBytes.{Appends};
+ghost use Rattle.rq_model.specs.Fronts.{Restarted};
+ghost use Rattle.rq_restart.specs.FrontEnds.{IsEndOf};
+ghost use Rattle.rq_front.specs.Chains.{IsLog};
+ghost use Rattle.rq_look.specs.Looks.{EndsDump, IsBroken, IsClosing, IsRestartFrom};
+ghost use Rattle.rq_look.specs.Looks.{StaysUnshown, front_end_of};
+
+use crate::beginning::{first_state, front_frames};
+use crate::beyond::put_wanted_behind;
+use crate::ends::{End, end_of, put_beginning, put_end};
+use crate::frames::{Placed, PlacedFrames};
+use crate::json::{put_closing_object, put_numbered};
+use crate::lines::put_record_line;
+use crate::numbered::{Numbered, queues_behind, queues_of};
+use crate::sheet::{relieve, write_out};
+use crate::trouble::Trouble;
+use crate::wanted::Wanted;
+use rq_restart::Plan;
+use std::alloc::Global;
+use std::io::Write;
+use std::thread::Threads;
+
+// Puts a record in the form that is wanted.
+fn put_shown(
+    alloc: Global,
+    text: &mut String,
+    it: &Numbered,
+    wanted: &Wanted<'_>,
+) -> Result<(), Trouble>
+    ensures { IfErr result IsBroken }
+{
+    if wanted.json {
+        return put_numbered(alloc, text, it);
+    }
+    Ok(put_record_line(alloc, text, it, wanted.full)?)
+}
+
+// Puts where the front ends in the form that is wanted.
+fn put_closing(
+    alloc: Global,
+    text: &mut String,
+    end: &End,
+    wanted: &Wanted<'_>,
+) -> Result<(), Trouble>
+    ensures closing { OnOk result ((at : Option ℕ) (b : List ℕ) (r : Restarted)
+        → IsRestartFrom at b r → IsEndOf r (front_end_of end.now)
+        → (line : List ℕ) × IsClosing at b wanted.now.json line
+        × (string_bytes text.new ≡ string_bytes text.old ++ line)) }
+    ensures refused { IfErr result IsBroken }
+{
+    if wanted.json {
+        return put_closing_object(alloc, text, end);
+    }
+    Ok(put_end(text, end)?)
+}
+
+// Puts the line of a record, if it is wanted. Answers whether it is.
+fn put_line(
+    alloc: Global,
+    placed: Placed<'_>,
+    queues: u32,
+    wanted: &Wanted<'_>,
+    text: &mut String,
+) -> Result<bool, Trouble>
+    ensures { IfErr result IsBroken }
+{
+    if placed.offset < wanted.from {
+        return Ok(false);
+    }
+    let it = Numbered::of(alloc, placed, queues)?;
+    let is_wanted = wanted.wants(&it);
+    if is_wanted {
+        put_shown(alloc, text, &it, wanted)?;
+    }
+    Ok(is_wanted)
+}
+
+// Puts a record, if it is wanted. Answers whether it is.
+fn put_wanted<W: Write>(
+    alloc: Global,
+    placed: Placed<'_>,
+    queues: u32,
+    wanted: &Wanted<'_>,
+    text: &mut String,
+    output: &mut W,
+) -> Result<bool, Trouble>
+    ensures only { OnOk result
+        ((put : List ℕ) × Appends (W.contents output.old) (W.contents output.new) put) }
+    ensures refused { IfErr result IsBroken }
+{
+    let is_wanted = put_line(alloc, placed, queues, wanted, text)?;
+    relieve(text, output)?;
+    Ok(is_wanted)
+}
+
+// Puts those records of the front that are wanted. So many queues are defined before the first.
+// Answers how many more may be put.
+fn put_records<W: Write>(
+    alloc: Global,
+    frames: PlacedFrames<'_>,
+    before: u32,
+    wanted: &Wanted<'_>,
+    text: &mut String,
+    output: &mut W,
+) -> Result<u64, Trouble>
+    ensures only { OnOk result
+        ((put : List ℕ) × Appends (W.contents output.old) (W.contents output.new) put) }
+    ensures refused { IfErr result IsBroken }
+{
+    let mut queues = before;
+    let mut left = wanted.limit;
+    for placed in frames {
+        if left == 0 {
+            return Ok(0);
+        }
+        if put_wanted(alloc, placed, queues, wanted, text, output)? {
+            left -= 1;
+        }
+        queues = queues_behind(queues, placed.body);
+    }
+    Ok(left)
+}
+
+// Puts, before the last line, with which checkpoint the log begins. In JSON the last line has it.
+fn put_origin(text: &mut String, end: &End, wanted: &Wanted<'_>) -> Result<(), Trouble>
+    ensures { IfErr result IsBroken }
+{
+    if !wanted.json {
+        put_beginning(text, end.at)?;
+    }
+    Ok(())
+}
+
+/// Writes a line for each record of the front that is wanted, and a last one that says where the
+/// front ends and why: what is shown is what a restart sees, from the checkpoint on at the offset, if
+/// there is one. Then the last line but one, or the last one in JSON, says so. If what stands behind
+/// the front is wanted, the right frames there stand before these lines, each marked, and how many
+/// they are.
+///
+/// Refuses what a restart from there refuses, and before anything is written; else with `Output`
+/// where the output fails, and with `Resources` where memory is refused, and then some of it may be
+/// written.
+pub fn dump<R, W>(
+    rt: &R,
+    alloc: Global,
+    bytes: &[u8],
+    at: Option<u64>,
+    plan: &Plan,
+    wanted: &Wanted<'_>,
+    output: &mut W,
+) -> Result<(), Trouble>
+where
+    R: Threads + Sync,
+    W: Write,
+    ensures log { OnOk result (IsLog bytes.now) }
+    ensures last { OnOk result (EndsDump at bytes.now wanted.now.json
+        (W.contents output.old) (W.contents output.new)) }
+    ensures refused { IfErr result
+        (StaysUnshown at bytes.now (W.contents output.old) (W.contents output.new)) }
+{
+    let end = end_of(rt, alloc, bytes, at, plan)?;
+    let first = first_state(alloc, bytes, at)?;
+    let frames = front_frames(bytes, &first, at, end.used);
+    let queues = queues_of(first.definitions());
+    let mut text = String::new(alloc);
+    let left = put_records(alloc, frames, queues, wanted, &mut text, output)?;
+    put_wanted_behind(alloc, bytes, &end, wanted, left, &mut text, output)?;
+    put_origin(&mut text, &end, wanted)?;
+    put_closing(alloc, &mut text, &end, wanted)?;
+    write_out(&mut text, output)?;
+    Ok(())
+}

@@ -1,0 +1,292 @@
+//! The script of a log.
+
+ghost use Rattle.std.specs.Prelude.{◌≡◌, ◌∷◌, ◌++◌, ℕ, List, true, false, IfOk, IfErr, OnOk};
+ghost use Rattle.std.specs.Prelude.{string_bytes};
+ghost use Rattle.std.specs.List.{flat_map};
+ghost use Rattle.std.specs.Fmt.{decimal};
+ghost use Rattle.std.specs.Io.KnownBytes.{Appends};
+ghost use Rattle.rq_model.specs.Fronts.{Restarted, IsRestart};
+ghost use Rattle.rq_model.specs.Frames.{AreBytes};
+ghost use Rattle.rq_model.specs.Records as model;
+ghost use Rattle.rq_model.specs.Records.{Two};
+ghost use Rattle.rq_model.specs.Spelling.{Spells};
+ghost use Rattle.rq_model.specs.Reports.{hex_of, payload_text, error_text};
+ghost use Rattle.rq_record.specs.Views.{record_of};
+ghost use Rattle.rq_writer.specs.Script.{record_text, who_name, who_tag, IsNamed, IsTellable};
+ghost use Rattle.rq_look.specs.Looks.{BreaksOff, IsKnownWhole, StaysUntold};
+ghost use Rattle.rq_look.specs.Scripts.{IsDash, LeavesBody, LeavesOut, PutsScript, by_in};
+ghost use Rattle.rq_look.specs.Scripts.{script_line};
+
+use crate::ends::{is_whole, whole_end};
+use crate::frames::{Placed, PlacedFrames};
+use crate::numbered::{Numbered, by_of};
+use crate::sheet::{relieve, write_out};
+use crate::trouble::Trouble;
+use rq_record::{KeptBy, KeptName, KeptRecord, QueueNo, UnitNo};
+use rq_restart::Plan;
+use std::alloc::{AllocError, Global};
+use std::thread::Threads;
+use std::{fmt, io};
+
+fn put_digits(alloc: Global, text: &mut String, bytes: &[u8]) -> Result<(), AllocError>
+    ensures { OnOk result
+        (string_bytes text.new ≡ string_bytes text.old ++ flat_map hex_of bytes.now) }
+{
+    let digits = hex::encode(alloc, bytes)?;
+    text.push_str(digits.as_str())?;
+    Ok(())
+}
+
+fn put_hex(alloc: Global, text: &mut String, bytes: &[u8]) -> Result<(), AllocError>
+    ensures text { OnOk result
+        (string_bytes text.new ≡ string_bytes text.old ++ payload_text bytes.now) }
+    ensures bytes { AreBytes bytes.now }
+{
+    if bytes.is_empty() {
+        return text.push_str("-");
+    }
+    put_digits(alloc, text, bytes)
+}
+
+fn put_error(text: &mut String, error: QueueNo) -> Result<(), AllocError>
+    ensures { OnOk result (string_bytes text.new ≡ string_bytes text.old ++ error_text error.0) }
+{
+    let number = error.0;
+    if number == QueueNo::NONE.0 {
+        text.push_str("-")
+    } else {
+        write!(text, "{number}")
+    }
+}
+
+fn put_definition(
+    text: &mut String,
+    name: &KeptName,
+    limit: u16,
+    error: QueueNo,
+) -> Result<(), AllocError>
+    ensures { OnOk result (string_bytes text.new ≡ string_bytes text.old
+        ++ record_text (model.Define limit error.0 name.now)) }
+{
+    text.push_str("define ")?;
+    text.push_str(name.text())?;
+    write!(text, " {limit} ")?;
+    put_error(text, error)
+}
+
+fn put_named(
+    text: &mut String,
+    word: &str,
+    queue: QueueNo,
+    name: &KeptName,
+) -> Result<(), AllocError>
+    ensures { OnOk result (string_bytes text.new ≡ string_bytes text.old
+        ++ (word.now ++ (decimal queue.0 ++ (32 ∷ name.now)))) }
+{
+    let number = queue.0;
+    text.push_str(word)?;
+    write!(text, "{number} ")?;
+    text.push_str(name.text())
+}
+
+fn put_unit(text: &mut String, word: &str, unit: UnitNo) -> Result<(), AllocError>
+    ensures { OnOk result
+        (string_bytes text.new ≡ string_bytes text.old ++ (word.now ++ decimal unit.0)) }
+{
+    let number = unit.0;
+    text.push_str(word)?;
+    write!(text, "{number}")
+}
+
+fn put_unit_and_queue(
+    text: &mut String,
+    word: &str,
+    unit: UnitNo,
+    queue: QueueNo,
+) -> Result<(), AllocError>
+    ensures { OnOk result (string_bytes text.new ≡ string_bytes text.old
+        ++ (word.now ++ (decimal unit.0 ++ (32 ∷ decimal queue.0)))) }
+{
+    let (unit, queue) = (unit.0, queue.0);
+    text.push_str(word)?;
+    write!(text, "{unit} {queue}")
+}
+
+// Puts the registrant and the tag of an operation.
+fn put_who(text: &mut String, by: &KeptBy) -> Result<(), AllocError>
+    ensures { OnOk result (string_bytes text.new ≡ string_bytes text.old
+        ++ (32 ∷ (who_name by.now ++ (32 ∷ decimal (who_tag by.now))))) }
+{
+    match by.by() {
+        Some(by) => {
+            let tag = by.tag;
+            text.push_str(" ")?;
+            text.push_str(by.name.text())?;
+            write!(text, " {tag}")
+        }
+        None => text.push_str(" - 0"),
+    }
+}
+
+// Puts what an enqueue says of its element.
+fn put_element(
+    alloc: Global,
+    text: &mut String,
+    priority: u8,
+    by: &KeptBy,
+    payload: &[u8],
+) -> Result<(), AllocError>
+    ensures text { OnOk result (string_bytes text.new ≡ string_bytes text.old
+        ++ (32 ∷ (decimal priority ++ (32 ∷ (who_name by.now
+        ++ (32 ∷ (decimal (who_tag by.now) ++ (32 ∷ payload_text payload.now)))))))) }
+    ensures bytes { AreBytes payload.now }
+{
+    write!(text, " {priority}")?;
+    put_who(text, by)?;
+    text.push_str(" ")?;
+    put_hex(alloc, text, payload)
+}
+
+// Puts the record of a checkpoint, in hexadecimal.
+fn put_checkpoint(alloc: Global, text: &mut String, bytes: &[u8]) -> Result<(), AllocError>
+    ensures text { OnOk result (string_bytes text.new ≡ string_bytes text.old
+        ++ record_text (model.Checkpoint bytes.now)) }
+    ensures bytes { AreBytes bytes.now }
+{
+    text.push_str("checkpoint-hex ")?;
+    put_hex(alloc, text, bytes)
+}
+
+// Puts a record, but for the end of its line.
+fn put_record(alloc: Global, text: &mut String, r: &KeptRecord) -> Result<(), AllocError>
+    ensures text { OnOk result
+        (string_bytes text.new ≡ string_bytes text.old ++ record_text (record_of r.now)) }
+    ensures tellable { OnOk result
+        (IsNamed (by_in (record_of r.now)) → IsTellable (record_of r.now)) }
+{
+    match r {
+        KeptRecord::Define { limit, error, name } => put_definition(text, name, *limit, *error),
+        KeptRecord::Register { queue, name } => put_named(text, "register ", *queue, name),
+        KeptRecord::Deregister { queue, name } => put_named(text, "deregister ", *queue, name),
+        KeptRecord::Begin { unit } => put_unit(text, "begin ", *unit),
+        KeptRecord::Commit { unit } => put_unit(text, "commit ", *unit),
+        KeptRecord::Abort { unit } => put_unit(text, "abort ", *unit),
+        KeptRecord::Enqueue {
+            unit,
+            queue,
+            priority,
+            by,
+            payload,
+        } => {
+            put_unit_and_queue(text, "enqueue ", *unit, *queue)?;
+            put_element(alloc, text, *priority, by, payload.bytes())
+        }
+        KeptRecord::Dequeue { unit, queue, by } => {
+            put_unit_and_queue(text, "dequeue ", *unit, *queue)?;
+            put_who(text, by)
+        }
+        KeptRecord::Checkpoint { bytes } => put_checkpoint(alloc, text, bytes.bytes()),
+        KeptRecord::Kill { queue, element } => {
+            let (queue, element) = (queue.0, element.0);
+            write!(text, "kill {queue} {element}")
+        }
+    }
+}
+
+/// Whether the operation names the registrant whom a script takes for nobody.
+pub(crate) fn is_untold(r: &KeptRecord) -> bool
+    ensures dash { result ≡ true → IsDash (by_in (record_of r.now)) }
+    ensures named { result ≡ false → IsNamed (by_in (record_of r.now)) }
+{
+    match by_of(r) {
+        Some(by) => by.name.text() == "-",
+        None => false,
+    }
+}
+
+/// Puts the line of a record.
+pub(crate) fn put_line(alloc: Global, text: &mut String, r: &KeptRecord) -> Result<(), AllocError>
+    ensures line { OnOk result
+        (string_bytes text.new ≡ string_bytes text.old ++ script_line (record_of r.now)) }
+    ensures tellable { OnOk result
+        (IsNamed (by_in (record_of r.now)) → IsTellable (record_of r.now)) }
+{
+    put_record(alloc, text, r)?;
+    text.push_str("\n")
+}
+
+// Puts the line of the record of a frame. Where no line tells it, the text goes to the output
+// before this is said.
+fn put_placed<W: io::Write>(
+    alloc: Global,
+    text: &mut String,
+    placed: Placed<'_>,
+    output: &mut W,
+) -> Result<(), Trouble>
+    ensures line { OnOk result ((r : model.Record) × (put : List ℕ)
+        × Spells Two r placed.entry.body.now × IsTellable r
+        × Appends (W.contents output.old) (W.contents output.new) put
+        × (string_bytes text.old ++ script_line r ≡ put ++ string_bytes text.new)) }
+    ensures untold { IfErr result (LeavesBody placed.entry.number placed.entry.body.now
+        (string_bytes text.old) (W.contents output.old) (W.contents output.new)) }
+    ensures refused { IfErr result BreaksOff }
+{
+    let it = Numbered::of(alloc, placed, 0)?;
+    if is_untold(&it.record) {
+        write_out(text, output)?;
+        return Err(Trouble::Untold(it.number));
+    }
+    put_line(alloc, text, &it.record)?;
+    relieve(text, output)?;
+    Ok(())
+}
+
+/// Writes the script of the front, of so many bytes.
+pub(crate) fn put_records<W: io::Write>(
+    alloc: Global,
+    bytes: &[u8],
+    used: u64,
+    output: &mut W,
+) -> Result<(), Trouble>
+    requires { (r : Restarted) × IsRestart bytes.now r × (used ≡ r.used) }
+    ensures script { OnOk result
+        (PutsScript bytes.now (W.contents output.old) (W.contents output.new)) }
+    ensures untold { IfErr result
+        (LeavesOut bytes.now (W.contents output.old) (W.contents output.new)) }
+    ensures refused { IfErr result BreaksOff }
+{
+    let mut text = String::new(alloc);
+    for placed in PlacedFrames::of(bytes, used) {
+        put_placed(alloc, &mut text, placed, output)?;
+    }
+    write_out(&mut text, output)?;
+    Ok(())
+}
+
+/// Writes the script of the front of a log, a line for each record, and answers whether that is the
+/// whole log.
+///
+/// Refuses with `Untold` the first operation of the registrant `-`, which no script tells, once the
+/// lines of the records before it are written; else as `dump` does.
+pub fn script<R, W>(
+    rt: &R,
+    alloc: Global,
+    bytes: &[u8],
+    plan: &Plan,
+    output: &mut W,
+) -> Result<bool, Trouble>
+where
+    R: Threads + Sync,
+    W: io::Write,
+    ensures script { IfOk result (IsKnownWhole bytes.now) }
+    ensures told { OnOk result
+        (PutsScript bytes.now (W.contents output.old) (W.contents output.new)) }
+    ensures untold { IfErr result
+        (LeavesOut bytes.now (W.contents output.old) (W.contents output.new)) }
+    ensures refused { IfErr result
+        (StaysUntold bytes.now (W.contents output.old) (W.contents output.new)) }
+{
+    let end = whole_end(rt, alloc, bytes, plan)?;
+    put_records(alloc, bytes, end.used, output)?;
+    Ok(is_whole(end.why))
+}

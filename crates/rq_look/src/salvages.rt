@@ -1,0 +1,181 @@
+//! The script of a damaged log, with what stands behind its front to choose from.
+
+ghost use Rattle.std.specs.Prelude.{◌≡◌, ◌++◌, ℕ, List, false, IfErr, IfOk, OnOk, string_bytes};
+ghost use Rattle.std.specs.Io.KnownBytes.{Appends};
+ghost use Rattle.rq_front.specs.Chains.{IsLog};
+ghost use Rattle.rq_restart.specs.Views.{why_of};
+ghost use Rattle.rq_look.specs.Looks as looks;
+ghost use Rattle.rq_look.specs.Looks.{IsBroken, StaysUntold};
+ghost use Rattle.rq_look.specs.Rests.{EndsFrontOf, IsChoice, PutsSalvage};
+ghost use Rattle.rq_look.specs.Scripts.{LeavesOut};
+
+use crate::behind_fronts::{put_count, put_given_up, standing_behind};
+use crate::beyond::Loose;
+use crate::ends::{End, form_reason, is_whole, put_end, whole_end};
+use crate::log_script::{is_untold, put_line, put_records};
+use crate::sheet::{relieve, write_out};
+use crate::trouble::Trouble;
+use rq_behind::Found;
+use rq_front::{Span, version};
+use rq_record::Version;
+use rq_restart::Plan;
+use std::alloc::{AllocError, Global};
+use std::fmt::Write as _;
+use std::io::Write;
+use std::thread::Threads;
+
+// What a salvaged script says of itself behind the line of where the front ends.
+const WORDS: &str = "\
+# The proofs end here: what stands above is the front of the log. Of what follows is known only that each
+# record stands as it was written behind the 32 bytes before it. Records between may be missing: then
+# units, queues and elements may not be what they were, and numbers of elements are not.
+# rq make refuses this file at its first line with #, so that nobody makes a log of it unread. To take a
+# record, remove what stands before it, from # to the space. Remove all other lines with #.
+";
+
+// Puts the line of what is no line of a script: a body that spells no record, or an operation of the
+// registrant whom a script takes for nobody.
+fn put_untold(
+    alloc: Global,
+    text: &mut String,
+    it: &Loose<'_>,
+    reason: &str,
+) -> Result<(), AllocError> {
+    let (offset, count) = (it.offset, it.body.len());
+    write!(
+        text,
+        "# {count} bytes of a body at {offset} have no line: {reason}\n"
+    )
+}
+
+// Puts the line of a frame, to choose it or not.
+fn put_choice(alloc: Global, text: &mut String, it: &Loose<'_>) -> Result<(), Trouble>
+    ensures { IfErr result IsBroken }
+{
+    let Some(record) = it.record(alloc)? else {
+        let reason = form_reason(alloc, it.version, it.body)?;
+        put_untold(alloc, text, it, reason.as_str())?;
+        return Ok(());
+    };
+    if is_untold(&record) {
+        put_untold(alloc, text, it, "it names the registrant -")?;
+        return Ok(());
+    }
+    let offset = it.offset;
+    write!(text, "#{offset} ")?;
+    put_line(alloc, text, &record)?;
+    Ok(())
+}
+
+// Puts how many bytes fit nothing between two offsets, if there are any.
+fn put_gap(text: &mut String, from: usize, to: usize) -> Result<(), AllocError> {
+    if from >= to {
+        return Ok(());
+    }
+    let count = to - from;
+    write!(text, "# {count} bytes at {from} fit nothing\n")
+}
+
+// Puts the frame at a span, to choose it or not, and what stands before it from an offset on.
+fn put_span(alloc: Global, text: &mut String, it: &Loose<'_>, from: usize) -> Result<(), Trouble>
+    ensures { IfErr result IsBroken }
+{
+    put_gap(text, from, it.offset as usize)?;
+    put_choice(alloc, text, it)
+}
+
+// Puts each frame that was found behind an offset, to choose it or not.
+fn put_spans<W: Write>(
+    alloc: Global,
+    bytes: &[u8],
+    found: &Found,
+    from: usize,
+    output: &mut W,
+) -> Result<(), Trouble>
+    ensures only { OnOk result
+        ((put : List ℕ) × Appends (W.contents output.old) (W.contents output.new) put) }
+    ensures refused { IfErr result IsBroken }
+{
+    let version = version(bytes).unwrap_or(Version::Two);
+    let mut text = String::new(alloc);
+    let mut at = from;
+    for span in found.spans.iter() {
+        put_span(alloc, &mut text, &Loose::of(bytes, version, *span), at)?;
+        relieve(&mut text, output)?;
+        at = span.start.saturating_add(span.len).saturating_add(32);
+    }
+    put_gap(&mut text, at, found.gave_up.unwrap_or(bytes.len()))?;
+    write_out(&mut text, output)?;
+    Ok(())
+}
+
+// What is said of what follows: what it means, how many frames stand behind the front, and where the
+// search gave up, if it did.
+fn advice_of(alloc: Global, found: &Found, total: u64) -> Result<String, AllocError> {
+    let mut text = String::from_str(alloc, WORDS)?;
+    text.push_str("# ")?;
+    put_count(&mut text, found)?;
+    if found.gave_up.is_some() {
+        text.push_str("# ")?;
+    }
+    put_given_up(&mut text, found.gave_up, total)?;
+    Ok(text)
+}
+
+// Where the front ends, and what that means, behind `# `.
+fn words_of(alloc: Global, end: &End, found: &Found) -> Result<String, AllocError>
+    ensures { IfOk result (λ text. IsChoice false (string_bytes text)) }
+{
+    let advice = advice_of(alloc, found, end.total)?;
+    let mut text = String::from_str(alloc, "# ")?;
+    put_end(&mut text, end)?;
+    text.push_str(advice.as_str())?;
+    Ok(text)
+}
+
+// Writes what stands behind the front: nothing if the front is the whole log.
+fn put_rest<W: Write>(alloc: Global, bytes: &[u8], end: &End, output: &mut W) -> Result<(), Trouble>
+    requires log { IsLog bytes.now }
+    requires end { EndsFrontOf bytes.now end.now }
+    ensures choice { OnOk result ((put : List ℕ) × IsChoice (looks.is_whole (why_of end.now.why)) put
+        × Appends (W.contents output.old) (W.contents output.new) put) }
+    ensures refused { IfErr result IsBroken }
+{
+    if is_whole(end.why) {
+        return Ok(());
+    }
+    let found = standing_behind(alloc, bytes, end)?;
+    let mut words = words_of(alloc, end, &found)?;
+    write_out(&mut words, output)?;
+    put_spans(alloc, bytes, &found, end.used as usize, output)?;
+    Ok(())
+}
+
+/// Writes the script of the front of a log, as `script` does, and behind it what else stands in the
+/// log: the records of the right frames behind the front, each in a line that begins with `#` and
+/// that no script has, to choose from. Of a log that is whole it writes the script alone.
+///
+/// Refuses what `script` refuses, and in the same way.
+#[tactic(auto, using(crate::proofs::Puts::nothing_untold, crate::proofs::Puts::broken_off))]
+pub fn salvage<R, W>(
+    rt: &R,
+    alloc: Global,
+    bytes: &[u8],
+    plan: &Plan,
+    output: &mut W,
+) -> Result<(), Trouble>
+where
+    R: Threads + Sync,
+    W: Write,
+    ensures told { OnOk result
+        (PutsSalvage bytes.now (W.contents output.old) (W.contents output.new)) }
+    ensures untold { IfErr result
+        (LeavesOut bytes.now (W.contents output.old) (W.contents output.new)) }
+    ensures refused { IfErr result
+        (StaysUntold bytes.now (W.contents output.old) (W.contents output.new)) }
+{
+    let end = whole_end(rt, alloc, bytes, plan)?;
+    put_records(alloc, bytes, end.used, output)?;
+    put_rest(alloc, bytes, &end, output)?;
+    Ok(())
+}

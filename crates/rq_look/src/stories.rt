@@ -1,0 +1,244 @@
+//! What became of one element, and what one unit did.
+
+ghost use Rattle.std.specs.Prelude.{◌≡◌, [], ℕ, List, None, IfOk, IfErr, OnOk, string_bytes};
+ghost use Rattle.std.specs.Io.KnownBytes.{Appends};
+ghost use Rattle.rq_record.specs.declared.fault.Fault.TheVariants.{Resources};
+ghost use Rattle.rq_front.specs.Chains.{IsLog};
+ghost use Rattle.rq_look.specs.Looks.{IsBroken, LacksStory, StaysWithoutStory};
+
+use crate::beginning::{first_state, front_frames};
+use crate::ends::{End, end_of, put_beginning, put_end};
+use crate::events::Event;
+use crate::followed_queues::FollowedQueues;
+use crate::frames::{Placed, PlacedFrames};
+use crate::lines::put_record;
+use crate::numbered::{Numbered, unit_of};
+use crate::sheet::{relieve, write_out};
+use crate::trouble::Trouble;
+use rq_record::{Fault, UnitNo};
+use rq_restart::Plan;
+use std::alloc::{AllocError, Global};
+use std::fmt::{self, Write};
+use std::io;
+use std::thread::Threads;
+
+/// What is told of a log.
+#[derive(Clone, Copy, Debug, PartialEq, Eq)]
+pub enum Subject {
+    /// What became of the element of this number.
+    Element(u64),
+    /// What the unit of this number did.
+    Unit(u64),
+}
+
+impl fmt::Display for Subject {
+    fn fmt<W: fmt::Write>(&self, f: &mut fmt::Formatter<W>) -> fmt::Result {
+        match self {
+            Subject::Element(element) => write!(f, "element {element}"),
+            Subject::Unit(unit) => write!(f, "unit {unit}"),
+        }
+    }
+}
+
+// Whether an event is of the subject; each event of a unit's record is.
+fn concerns(subject: Subject, event: &Event) -> bool {
+    match subject {
+        Subject::Element(told) => matches!(event, Event::To(element, _) if *element == told),
+        Subject::Unit(_) => true,
+    }
+}
+
+// Puts the record, and what happened, as a line.
+fn put_event(
+    alloc: Global,
+    text: &mut String,
+    it: &Numbered,
+    event: &Event,
+) -> Result<(), AllocError> {
+    put_record(alloc, text, it, false)?;
+    write!(text, ": {event}\n")
+}
+
+// Puts a line for each event of the record that is of the subject, and one for a record of the unit
+// that has none. Answers how many.
+fn put_events(
+    alloc: Global,
+    text: &mut String,
+    it: &Numbered,
+    events: &[Event],
+    subject: Subject,
+) -> Result<u64, AllocError>
+    ensures { IfOk result (λ count. count ≡ 0 → string_bytes text.new ≡ string_bytes text.old) }
+{
+    if let Subject::Unit(unit) = subject {
+        if unit_of(&it.record) != Some(UnitNo(unit)) {
+            return Ok(0);
+        }
+        if events.is_empty() {
+            put_record(alloc, text, it, false)?;
+            text.push('\n')?;
+            return Ok(1);
+        }
+    }
+    let mut count: u64 = 0;
+    for event in events {
+        if concerns(subject, event) {
+            put_event(alloc, text, it, event)?;
+            count = count.saturating_add(1);
+        }
+    }
+    Ok(count)
+}
+
+// Puts what is to be told of a record of the front. Answers in how many lines.
+fn put_told(
+    alloc: Global,
+    placed: Placed<'_>,
+    subject: Subject,
+    machine: &mut FollowedQueues,
+    text: &mut String,
+) -> Result<u64, Fault>
+    ensures nothing { IfOk result
+        (λ count. count ≡ 0 → string_bytes text.new ≡ string_bytes text.old) }
+    ensures refused { IfErr result (λ e. e ≡ Resources) }
+{
+    let it = machine.follow(alloc, placed)?;
+    let count = put_events(alloc, text, &it, machine.events(), subject)?;
+    Ok(count)
+}
+
+// Tells of a record of the front. Answers in how many lines.
+fn tell_record<W: io::Write>(
+    alloc: Global,
+    placed: Placed<'_>,
+    subject: Subject,
+    machine: &mut FollowedQueues,
+    text: &mut String,
+    output: &mut W,
+) -> Result<u64, Trouble>
+    ensures only { OnOk result
+        ((put : List ℕ) × Appends (W.contents output.old) (W.contents output.new) put) }
+    ensures nothing { IfOk result (λ count. count ≡ 0 → string_bytes text.old ≡ []
+        → (W.contents output.new ≡ W.contents output.old) × (string_bytes text.new ≡ [])) }
+    ensures refused { IfErr result IsBroken }
+{
+    let count = put_told(alloc, placed, subject, machine, text)?;
+    relieve(text, output)?;
+    Ok(count)
+}
+
+// Tells of each record of the front, which begins behind these queues, and answers the queues behind
+// it, if anything was told.
+fn tell_front<W: io::Write>(
+    alloc: Global,
+    frames: PlacedFrames<'_>,
+    machine: FollowedQueues,
+    subject: Subject,
+    text: &mut String,
+    output: &mut W,
+) -> Result<Option<FollowedQueues>, Trouble>
+    ensures only { OnOk result
+        ((put : List ℕ) × Appends (W.contents output.old) (W.contents output.new) put) }
+    ensures nothing { IfOk result
+        (λ found. found ≡ None → string_bytes text.old ≡ []
+        → W.contents output.new ≡ W.contents output.old) }
+    ensures refused { IfErr result IsBroken }
+{
+    let (mut machine, mut told) = (machine, 0u64);
+    for placed in frames {
+        let count = tell_record(alloc, placed, subject, &mut machine, text, output)?;
+        told = told.saturating_add(count);
+    }
+    Ok(if told > 0 { Some(machine) } else { None })
+}
+
+// Puts what the restart does to a unit that is open.
+fn put_restart(
+    text: &mut String,
+    unit: u64,
+    events: &[Event],
+    subject: Subject,
+) -> Result<(), AllocError> {
+    if subject == Subject::Unit(unit) && events.is_empty() {
+        write!(text, "the restart aborts unit {unit}\n")?;
+    }
+    for event in events {
+        let is_told = match subject {
+            Subject::Unit(told) => told == unit,
+            Subject::Element(_) => concerns(subject, event),
+        };
+        if is_told {
+            write!(text, "the restart aborts unit {unit}: {event}\n")?;
+        }
+    }
+    Ok(())
+}
+
+// Tells what the restart does behind the front: it aborts the open units, rising.
+fn tell_restart(
+    alloc: Global,
+    text: &mut String,
+    machine: FollowedQueues,
+    subject: Subject,
+) -> Result<(), AllocError> {
+    let mut machine = machine;
+    for unit in machine.open_units(alloc)?.iter().copied() {
+        machine.abort(unit)?;
+        put_restart(text, unit, machine.events(), subject)?;
+    }
+    Ok(())
+}
+
+fn tell<W: io::Write>(
+    alloc: Global,
+    bytes: &[u8],
+    end: &End,
+    subject: Subject,
+    output: &mut W,
+) -> Result<(), Trouble>
+    ensures only { OnOk result
+        ((put : List ℕ) × Appends (W.contents output.old) (W.contents output.new) put) }
+    ensures refused { IfErr result
+        (LacksStory subject (W.contents output.old) (W.contents output.new)) }
+{
+    let first = first_state(alloc, bytes, end.at)?;
+    let frames = front_frames(bytes, &first, end.at, end.used);
+    let before = FollowedQueues::of(alloc, &first)?;
+    let mut text = String::new(alloc);
+    let Some(machine) = tell_front(alloc, frames, before, subject, &mut text, output)? else {
+        return Err(Trouble::Nothing(subject));
+    };
+    put_beginning(&mut text, end.at)?;
+    put_end(&mut text, end)?;
+    tell_restart(alloc, &mut text, machine, subject)?;
+    write_out(&mut text, output)?;
+    Ok(())
+}
+
+/// Writes what became of an element, or what a unit did: a line for each record of the front that
+/// has to do with it, where the front ends, and what the restart's aborts do to it. The front begins
+/// with the checkpoint at the offset, if there is one, and then a line says so.
+///
+/// Refuses with `Nothing` a subject of which there is nothing to tell, and then nothing is written;
+/// else as `dump` does.
+pub fn story<R, W>(
+    rt: &R,
+    alloc: Global,
+    bytes: &[u8],
+    at: Option<u64>,
+    plan: &Plan,
+    subject: Subject,
+    output: &mut W,
+) -> Result<(), Trouble>
+where
+    R: Threads + Sync,
+    W: io::Write,
+    ensures log { OnOk result (IsLog bytes.now) }
+    ensures only { OnOk result
+        ((put : List ℕ) × Appends (W.contents output.old) (W.contents output.new) put) }
+    ensures refused { IfErr result (StaysWithoutStory at bytes.now subject
+        (W.contents output.old) (W.contents output.new)) }
+{
+    let end = end_of(rt, alloc, bytes, at, plan)?;
+    tell(alloc, bytes, &end, subject, output)
+}

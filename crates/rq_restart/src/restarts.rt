@@ -1,0 +1,126 @@
+//! The restart of a log from its start.
+
+ghost use Rattle.std.specs.Arc.{arc_slice_items};
+ghost use Rattle.std.specs.Prelude.{◌≡◌, ◌≤◌, length, map, IfOk, IfErr, OnOk};
+ghost use Rattle.rq_model.specs.Frames.{log_limit, HasHeader};
+ghost use Rattle.rq_model.specs.States.{empty};
+ghost use Rattle.rq_record.specs.Views.{record_of, version_of};
+ghost use Rattle.rq_catalog.specs.Analyses.{IsAnalysis};
+ghost use Rattle.rq_front.specs.Chains.{Refused};
+ghost use Rattle.rq_restart.specs.Ends.{IsFrontFrom};
+ghost use Rattle.rq_restart.specs.Restarts.{Restarts};
+ghost use Rattle.rq_restart.specs.Views.{why_of};
+
+use crate::front::{Front, front_of_walk};
+use crate::restart_ends::finish;
+use crate::restarted::Restarted;
+use rq_front::{version, walk};
+use rq_pool::{Gate, Plan};
+use rq_record::{Fault, LentLog, Version};
+use rq_state::State;
+use std::alloc::Global;
+use std::marker::Sync;
+use std::sync::ArcSlice;
+use std::thread::Threads;
+
+/// The version of a log, and the front of all of it.
+pub(crate) fn whole_front<R: Threads + Sync>(
+    rt: &R,
+    alloc: Global,
+    lent: &LentLog,
+    bytes: &[u8],
+    plan: &Plan,
+) -> Result<(Version, Front), Fault>
+    ensures front { IfOk result (λ x. IsFrontFrom (version_of x.0) empty bytes.now 40
+        (map record_of x.1.records.items) x.1.end (why_of x.1.why)) }
+    ensures analysis { IfOk result
+        (λ x. IsAnalysis (version_of x.0) empty (map record_of x.1.records.items) x.1.analysis) }
+    ensures header { IfOk result (λ x. HasHeader (version_of x.0) bytes.now) }
+    ensures short { OnOk result (length bytes.now ≤ log_limit) }
+    ensures refused { IfErr result (Refused bytes.now) }
+{
+    rq_model::frames_join();
+    let walk = walk(alloc, bytes, 40)?;
+    let Some(version) = version(bytes) else {
+        return Err(Fault::NotALog);
+    };
+    let front = front_of_walk(
+        rt,
+        alloc,
+        version,
+        lent,
+        bytes,
+        walk,
+        &State::empty(alloc),
+        plan,
+    )?;
+    Ok((version, front))
+}
+
+// The restart of a log that may be lent as well.
+fn restart_of<R, G>(
+    rt: &R,
+    alloc: Global,
+    lent: &LentLog,
+    bytes: &[u8],
+    plan: &Plan,
+    gate: &G,
+) -> Result<Restarted, Fault>
+where
+    R: Threads + Sync,
+    G: Gate + Sync,
+    ensures { Restarts bytes.now result }
+{
+    rq_model::runs_are_well_formed();
+    rq_model::frames_join();
+    let (version, front) = whole_front(rt, alloc, lent, bytes, plan)?;
+    finish(
+        rt,
+        alloc,
+        version,
+        &State::empty(alloc),
+        front,
+        bytes.len(),
+        plan,
+        gate,
+    )
+}
+
+/// The front of a log, and the state behind it and the aborts of its open units.
+///
+/// Every queue is redone by `plan.workers()` workers; each of them enters the gate before it redoes
+/// a queue. Refuses with `TooLong` more than 4,294,967,295 bytes, with `NotALog` bytes that begin
+/// with no version's header, and with `Resources` where memory is refused.
+pub fn restart<R, G>(
+    rt: &R,
+    alloc: Global,
+    bytes: &[u8],
+    plan: &Plan,
+    gate: &G,
+) -> Result<Restarted, Fault>
+where
+    R: Threads + Sync,
+    G: Gate + Sync,
+    ensures { Restarts bytes.now result }
+{
+    restart_of(rt, alloc, &LentLog::none(), bytes, plan, gate)
+}
+
+/// The restart of a log that is lent: `restart` of its bytes. A checkpoint, and a payload of more
+/// than 22 bytes, are parts of the log and no copies, so the log stays in memory as long as one
+/// such payload of the state does.
+pub fn restart_lent<R, G>(
+    rt: &R,
+    alloc: Global,
+    log: &ArcSlice<u8>,
+    plan: &Plan,
+    gate: &G,
+) -> Result<Restarted, Fault>
+where
+    R: Threads + Sync,
+    G: Gate + Sync,
+    ensures { Restarts (arc_slice_items log.now) result }
+{
+    let lent = LentLog::of(log)?;
+    restart_of(rt, alloc, &lent, log.as_slice(), plan, gate)
+}

@@ -1,0 +1,108 @@
+//! A log in version 2.
+
+ghost use Rattle.std.specs.Prelude.{◌≡◌, ◌≤◌, ◌++◌, length, take, drop, IfOk, IfErr};
+ghost use Rattle.rq_model.specs.Records.{Two};
+ghost use Rattle.rq_model.specs.Frames.{HasFrame, body_in, frames, header, start};
+ghost use Rattle.rq_record.specs.declared.fault.Fault.TheVariants.{Resources};
+ghost use Rattle.rq_front.specs.Chains.{Refused};
+ghost use Rattle.rq_restart.specs.Upgrades.{HaveFrames, IsExtent, Upgrades, bodies_in};
+
+use crate::frames::append_next;
+use crate::restarts::whole_front;
+use byteorder::{BigEndian, ByteOrder};
+use rq_front::{FRAME_LEN, HEADER_LEN, header_of};
+use rq_pool::Plan;
+use rq_record::{Fault, LentLog, Version};
+use std::alloc::Global;
+use std::marker::Sync;
+use std::thread::Threads;
+
+// The version of a log, where its front ends, and how many records that has.
+#[derive(Clone, Copy)]
+struct Extent {
+    version: Version,
+    end: usize,
+    count: usize,
+}
+
+// The records themselves are let go here: their bodies stand in the log, spelt alike in both
+// versions.
+fn extent_of<R: Threads + Sync>(
+    rt: &R,
+    alloc: Global,
+    bytes: &[u8],
+    plan: &Plan,
+) -> Result<Extent, Fault>
+    ensures extent { IfOk result (IsExtent bytes.now) }
+    ensures refused { IfErr result (Refused bytes.now) }
+{
+    rq_model::frames_join();
+    let (version, front) = whole_front(rt, alloc, &LentLog::none(), bytes, plan)?;
+    Ok(Extent {
+        version,
+        end: front.end,
+        count: front.records.len(),
+    })
+}
+
+// The body of the frame at an offset.
+fn body_at(bytes: &[u8], at: usize) -> &[u8]
+    requires { HasFrame (drop at bytes.now) }
+    ensures { result.now ≡ body_in (drop at bytes.now) }
+{
+    let from = &bytes[at..];
+    let len = BigEndian::read_u32(from) as usize;
+    &from[4..4 + len]
+}
+
+// The bodies of the first frames of a log, framed anew behind the header of version 2; room for all
+// of them, up to an end, is there before anything is written.
+fn chained_anew(alloc: Global, bytes: &[u8], end: usize, count: usize) -> Result<Vec<u8>, Fault>
+    requires { HaveFrames count (drop 40 bytes.now) }
+    ensures chained { IfOk result
+        (λ v. v.items ≡ header Two ++ frames (start Two) (bodies_in count (drop 40 bytes.now))) }
+    ensures refused { IfErr result (λ e. e ≡ Resources) }
+{
+    let mut out = Vec::with_capacity(alloc, end)?;
+    header_of(Version::Two, &mut out)?;
+    let mut at = HEADER_LEN;
+    for _ in 0..count {
+        let body = body_at(bytes, at);
+        append_next(body, &mut out)?;
+        at += FRAME_LEN + body.len();
+    }
+    Ok(out)
+}
+
+// The bytes up to an end.
+fn copied(alloc: Global, bytes: &[u8], end: usize) -> Result<Vec<u8>, Fault>
+    requires { end ≤ length bytes.now }
+    ensures copied { IfOk result (λ v. v.items ≡ take end bytes.now) }
+    ensures refused { IfErr result (λ e. e ≡ Resources) }
+{
+    let mut out = Vec::with_capacity(alloc, end)?;
+    out.extend_from_slice(&bytes[..end])?;
+    Ok(out)
+}
+
+/// The log in version 2: the records of its front, each at its old place and spelt as before,
+/// chained anew behind the header of version 2. What stood behind the front is dropped. Of a log
+/// that has version 2 it is the front's bytes. No queue is redone for it.
+///
+/// Refuses with `TooLong` more than 4,294,967,295 bytes, with `NotALog` bytes that begin with no
+/// version's header, and with `Resources` where memory is refused.
+pub fn upgrade<R: Threads + Sync>(
+    rt: &R,
+    alloc: Global,
+    bytes: &[u8],
+    plan: &Plan,
+) -> Result<Vec<u8>, Fault>
+    ensures { Upgrades bytes.now result }
+{
+    rq_model::upgrade_is_the_same();
+    let extent = extent_of(rt, alloc, bytes, plan)?;
+    match extent.version {
+        Version::One => chained_anew(alloc, bytes, extent.end, extent.count),
+        Version::Two => copied(alloc, bytes, extent.end),
+    }
+}

@@ -1,0 +1,9 @@
+use Rattle.std.proofs.Common.{◌≡◌, length}
+use Rattle.rq_model.specs.States.{State}
+use Rattle.rq_exchange.specs.Gathering.{HasPoured}
+use Rattle.rq_standing.specs.Parts.{ArePartsOf}
+use Rattle.rq_standing.proofs.gathered.pour_all.Given as goal
+
+abbrev pub invariant-loop-part : goal.invariant-loop-part
+invariant-loop-part l = (t : State) → length l.fn.parts.items ≡ length t.definitions → ArePartsOf t l.fn.parts.items
+    → HasPoured t (length l.yielded) l.fn.fields l.poured

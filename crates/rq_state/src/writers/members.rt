@@ -1,0 +1,192 @@
+//! Appends members of a state to what is spelled already.
+
+ghost use Rattle.std.specs.Prelude.{◌≡◌, ◌++◌, ◌∷◌, [], ℕ, List, length};
+ghost use Rattle.std.specs.Int.{w16, w64, to_be_bytes};
+ghost use Rattle.rq_model.specs.StateSpelling.{name_bytes, element_number, kind_byte};
+ghost use Rattle.rq_model.specs.StateSpelling.{definition_bytes, last_bytes, registrant_bytes};
+ghost use Rattle.rq_model.specs.StateSpelling.{mark_bytes, element_bytes, note_bytes};
+ghost use Rattle.rq_state.specs.Views.{mark_of};
+ghost use Rattle.rq_state.specs.Writing.{PutsSpelling};
+
+use crate::kept_element::KeptElement;
+use crate::members::{Definition, Last, Mark, Note, Registrant};
+use crate::writers::output::{put_id, put_kind, put_name, put_payload};
+use crate::writers::sizes::{definition_size, element_size, note_size, registrant_size};
+use rq_bytes::{put_u8, put_u16, put_u32, put_u64};
+use std::alloc::AllocError;
+
+fn put_mark(out: &mut Vec<u8>, mark: Mark) -> Result<(), AllocError>
+    ensures { PutsSpelling out.old.items out.new.items (mark_bytes (mark_of mark)) result }
+{
+    match mark {
+        Mark::Free => put_u8(out, 0),
+        Mark::Fresh(unit) => {
+            put_u8(out, 1)?;
+            put_u64(out, unit.0)
+        }
+        Mark::Held(unit) => {
+            put_u8(out, 2)?;
+            put_u64(out, unit.0)
+        }
+    }
+}
+
+// The tag and the element of an operation, which end its spelling.
+fn put_operation_end(out: &mut Vec<u8>, last: &Last) -> Result<(), AllocError>
+    ensures { PutsSpelling out.old.items out.new.items
+        (to_be_bytes w64 last.now.tag ++ to_be_bytes w64 (element_number last.now.element)) result }
+{
+    put_u64(out, last.tag)?;
+    put_id(out, last.element)
+}
+
+fn put_kind_of(out: &mut Vec<u8>, last: &Last) -> Result<(), AllocError>
+    ensures { PutsSpelling out.old.items out.new.items (kind_byte last.now.kind ∷ []) result }
+{
+    put_kind(out, last.kind)
+}
+
+fn put_operation(out: &mut Vec<u8>, last: &Last) -> Result<(), AllocError>
+    ensures { PutsSpelling out.old.items out.new.items
+        (kind_byte last.now.kind ∷ (to_be_bytes w64 last.now.place ++ (to_be_bytes w64 last.now.tag
+        ++ to_be_bytes w64 (element_number last.now.element)))) result }
+{
+    put_kind_of(out, last)?;
+    put_u64(out, last.place())?;
+    put_operation_end(out, last)
+}
+
+fn put_last(out: &mut Vec<u8>, last: &Option<Last>) -> Result<(), AllocError>
+    ensures { PutsSpelling out.old.items out.new.items (last_bytes last.now) result }
+{
+    match last {
+        None => put_u8(out, 0),
+        Some(last) => put_operation(out, last),
+    }
+}
+
+pub(crate) fn put_definition(out: &mut Vec<u8>, definition: &Definition) -> Result<(), AllocError>
+    ensures { PutsSpelling out.old.items out.new.items (definition_bytes definition.now) result }
+{
+    put_u16(out, definition.limit)?;
+    put_u32(out, definition.error.0)?;
+    put_name(out, &definition.name)
+}
+
+pub(crate) fn put_registrant(out: &mut Vec<u8>, registrant: &Registrant) -> Result<(), AllocError>
+    ensures { PutsSpelling out.old.items out.new.items (registrant_bytes registrant.now) result }
+{
+    put_u32(out, registrant.queue.0)?;
+    put_name(out, &registrant.name)?;
+    put_last(out, &registrant.last)
+}
+
+fn put_element_end(out: &mut Vec<u8>, element: &KeptElement) -> Result<(), AllocError>
+    ensures { PutsSpelling out.old.items out.new.items (element.now.priority
+        ∷ (to_be_bytes w64 element.now.attempts ++ (mark_bytes element.now.mark
+        ++ (to_be_bytes w16 (length element.now.payload) ++ element.now.payload)))) result }
+{
+    put_u8(out, element.priority)?;
+    put_u64(out, element.attempts)?;
+    put_mark(out, element.mark)?;
+    put_payload(out, element.payload.bytes())
+}
+
+pub(crate) fn put_element(out: &mut Vec<u8>, element: &KeptElement) -> Result<(), AllocError>
+    ensures { PutsSpelling out.old.items out.new.items (element_bytes element.now) result }
+{
+    put_u64(out, element.id.0)?;
+    put_u32(out, element.home.0)?;
+    put_u32(out, element.origin.0)?;
+    put_element_end(out, element)
+}
+
+// The kind, the tag and the element of a note's operation; its place comes before them.
+fn put_done(out: &mut Vec<u8>, last: &Last) -> Result<(), AllocError>
+    ensures { PutsSpelling out.old.items out.new.items
+        (kind_byte last.now.kind ∷ (to_be_bytes w64 last.now.tag
+        ++ to_be_bytes w64 (element_number last.now.element))) result }
+{
+    put_kind_of(out, last)?;
+    put_operation_end(out, last)
+}
+
+fn put_note_end(out: &mut Vec<u8>, note: &Note) -> Result<(), AllocError>
+    ensures { PutsSpelling out.old.items out.new.items
+        (name_bytes note.now.name ++ kind_byte note.now.last.kind
+        ∷ (to_be_bytes w64 note.now.last.tag
+        ++ to_be_bytes w64 (element_number note.now.last.element))) result }
+{
+    put_name(out, &note.name)?;
+    put_done(out, &note.last)
+}
+
+pub(crate) fn put_note(out: &mut Vec<u8>, note: &Note) -> Result<(), AllocError>
+    ensures { PutsSpelling out.old.items out.new.items (note_bytes note.now) result }
+{
+    put_u64(out, note.last.place)?;
+    put_u64(out, note.unit.0)?;
+    put_u32(out, note.queue.0)?;
+    put_note_end(out, note)
+}
+
+/// A member of one of a state's lists, and how it is spelled.
+pub(crate) trait Spell: Drop {
+    ghost spelling: { Self → List ℕ };
+
+    /// Appends its spelling.
+    fn put(&self, out: &mut Vec<u8>) -> Result<(), AllocError>
+        ensures { PutsSpelling out.old.items out.new.items (spelling self.now) result };
+
+    /// How many bytes its spelling has.
+    fn size(&self) -> u32
+        ensures { result ≡ length (spelling self.now) };
+}
+
+impl Spell for Definition {
+    ghost spelling = { definition_bytes };
+
+    fn put(&self, out: &mut Vec<u8>) -> Result<(), AllocError> {
+        put_definition(out, self)
+    }
+
+    fn size(&self) -> u32 {
+        definition_size(self)
+    }
+}
+
+impl Spell for Registrant {
+    ghost spelling = { registrant_bytes };
+
+    fn put(&self, out: &mut Vec<u8>) -> Result<(), AllocError> {
+        put_registrant(out, self)
+    }
+
+    fn size(&self) -> u32 {
+        registrant_size(self)
+    }
+}
+
+impl Spell for KeptElement {
+    ghost spelling = { element_bytes };
+
+    fn put(&self, out: &mut Vec<u8>) -> Result<(), AllocError> {
+        put_element(out, self)
+    }
+
+    fn size(&self) -> u32 {
+        element_size(self)
+    }
+}
+
+impl Spell for Note {
+    ghost spelling = { note_bytes };
+
+    fn put(&self, out: &mut Vec<u8>) -> Result<(), AllocError> {
+        put_note(out, self)
+    }
+
+    fn size(&self) -> u32 {
+        note_size(self)
+    }
+}

@@ -1,0 +1,98 @@
+//! How long a spelling is, known before its first byte is written.
+
+ghost use Rattle.std.specs.Prelude.{◌≡◌, ◌≤◌, ◌*◌, length, map};
+ghost use Rattle.std.specs.List.{flat_map};
+ghost use Rattle.std.specs.Int.{w64, to_be_bytes};
+ghost use Rattle.rq_model.specs.StateSpelling.{definition_bytes, last_bytes, registrant_bytes};
+ghost use Rattle.rq_model.specs.StateSpelling.{mark_bytes, element_bytes, note_bytes, state_bytes};
+ghost use Rattle.rq_state.specs.Inside.{state_of};
+ghost use Rattle.rq_state.specs.Views.{mark_of, unit_of};
+
+use crate::fields::KeptFields;
+use crate::kept_element::KeptElement;
+use crate::members::{Definition, Last, Mark, Note, Registrant};
+use crate::state::State;
+use crate::writers::members::Spell;
+use rq_record::UnitNo;
+
+pub(crate) fn definition_size(definition: &Definition) -> u32
+    ensures { result ≡ length (definition_bytes definition.now) }
+{
+    7 + definition.name.bytes().len() as u32
+}
+
+fn last_size(last: &Option<Last>) -> u32
+    ensures size { result ≡ length (last_bytes last.now) }
+    ensures small { result ≤ 25 }
+{
+    match last {
+        None => 1,
+        Some(_) => 25,
+    }
+}
+
+pub(crate) fn registrant_size(registrant: &Registrant) -> u32
+    ensures { result ≡ length (registrant_bytes registrant.now) }
+{
+    5 + registrant.name.bytes().len() as u32 + last_size(&registrant.last)
+}
+
+fn mark_size(mark: Mark) -> u32
+    ensures size { result ≡ length (mark_bytes (mark_of mark)) }
+    ensures small { result ≤ 9 }
+{
+    match mark {
+        Mark::Free => 1,
+        _ => 9,
+    }
+}
+
+pub(crate) fn element_size(element: &KeptElement) -> u32
+    ensures { result ≡ length (element_bytes element.now) }
+{
+    27 + mark_size(element.mark) + element.payload.bytes().len() as u32
+}
+
+pub(crate) fn note_size(note: &Note) -> u32
+    ensures { result ≡ length (note_bytes note.now) }
+{
+    38 + note.name.bytes().len() as u32
+}
+
+fn size_of_all<M: Spell>(members: &[M]) -> u128
+    ensures size { result ≡ length (flat_map M.spelling members.now) }
+    ensures small { result ≤ 4294967295 * length members.now }
+{
+    let mut total = 0;
+    for member in members {
+        total += member.size() as u128;
+    }
+    total
+}
+
+fn units_size(members: &[UnitNo]) -> u128
+    ensures size { result ≡ length (flat_map (to_be_bytes w64) (map unit_of members.now)) }
+    ensures small { result ≤ 8 * length members.now }
+{
+    8 * members.len() as u128
+}
+
+/// The number of bytes that spell a state, also if they are more than a checkpoint holds. It takes
+/// no memory.
+pub fn spelled_len(state: &State) -> u128
+    ensures { result ≡ length (state_bytes state.now) }
+{
+    fields_len(state.fields())
+}
+
+/// The same for fields whose lists are in order.
+pub fn fields_len(fields: &KeptFields) -> u128
+    ensures { result ≡ length (state_bytes (state_of fields.now)) }
+{
+    // four numbers of 8 bytes and five counts of 4
+    52 + size_of_all(&fields.definitions)
+        + units_size(&fields.units)
+        + size_of_all(&fields.registrants)
+        + size_of_all(&fields.elements)
+        + size_of_all(&fields.notes)
+}

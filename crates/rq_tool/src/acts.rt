@@ -1,0 +1,59 @@
+//! What each command does, over a reader and a writer.
+
+ghost use Rattle.std.specs.Prelude.{◌≡◌, ℕ, ◌<◌, List, Some};
+ghost use Rattle.rq_tool.specs.Acts.{ActsOn, ActsOnly};
+ghost use Rattle.rq_tool.specs.Commands.{command_line};
+ghost use Rattle.rq_tool.specs.Streams.{ReadFaults, TakesInput, WriteFaults};
+
+use crate::audits::audit_log;
+use crate::closed_logs::close_log;
+use crate::commands::Command;
+use crate::engine::run;
+use crate::engine_at::run_at;
+use crate::made_logs::make_log_in;
+use crate::upgrades::upgrade_log;
+use rq_report::{Input, Output};
+use rq_restart::{Fault, Gate, Version};
+use std::alloc::Global;
+use std::marker::Sync;
+use std::thread::Threads;
+
+/// Reads the command's first file from `input` and writes to `output` what the command prints or
+/// puts into its second file: what `make_log_in`, `run`, `run_at`, `audit_log`, `close_log` or
+/// `upgrade_log` writes, with their faults. Nothing is written before all bytes are there.
+pub fn act<R, I, O, G>(
+    rt: &R,
+    alloc: Global,
+    command: &Command<'_>,
+    input: &mut I,
+    output: &mut O,
+    gate: &G,
+) -> Result<(), Fault>
+where
+    R: Threads + Sync,
+    I: Input,
+    O: Output,
+    G: Gate + Sync,
+    requires reads { I.faults input.old < 18446744073709551615 }
+    requires writes { O.faults output.old < 18446744073709551615 }
+    ensures acts { (b : List ℕ) → I.remaining input.old ≡ Some b
+        → ActsOn (command_line command.now) b
+        (O.contents output.old) (O.contents output.new) result }
+    ensures quiet { ActsOnly (command_line command.now)
+        (O.contents output.old) (O.contents output.new) result }
+    ensures takes { TakesInput (I.remaining input.old) (I.remaining input.new) result }
+    ensures read_faults { ReadFaults (I.faults input.old) (I.faults input.new) result }
+    ensures write_faults { WriteFaults (O.faults output.old) (O.faults output.new) result }
+{
+    match command {
+        Command::Make { .. } => make_log_in(rt, alloc, Version::One, input, output),
+        Command::Make2 { .. } => make_log_in(rt, alloc, Version::Two, input, output),
+        Command::Restart { plan, .. } => run(rt, alloc, input, output, plan, gate),
+        Command::RestartAt { offset, plan, .. } => {
+            run_at(rt, alloc, input, output, *offset, plan, gate)
+        }
+        Command::Audit { plan, .. } => audit_log(rt, alloc, input, output, plan),
+        Command::Close { plan, .. } => close_log(rt, alloc, input, output, plan),
+        Command::Upgrade { plan, .. } => upgrade_log(rt, alloc, input, output, plan),
+    }
+}

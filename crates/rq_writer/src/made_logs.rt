@@ -1,0 +1,64 @@
+//! From a script to a log.
+
+ghost use Rattle.rq_model.specs.Records.{One};
+ghost use Rattle.rq_record.specs.Views.{version_of};
+ghost use Rattle.rq_writer.specs.Made.{Made};
+ghost use Rattle.rq_writer.specs.Making.{NextLine};
+
+use crate::fields::split_once;
+use crate::log::Log;
+use rq_pool::Plan;
+use rq_record::{Fault, Version};
+use std::alloc::Global;
+use std::thread::Threads;
+
+/// The text of the next line of a script, and what comes after it. `Script` with the line's number
+/// if it has no end.
+pub fn line_at(number: u64, rest: &[u8]) -> Result<(&[u8], &[u8]), Fault>
+    ensures { NextLine (λ x. (x.0.now, x.1.now)) number rest.now result }
+{
+    match split_once(b'\n', rest) {
+        Some((text, after)) => Ok((text, after)),
+        None => Err(Fault::Script(number)),
+    }
+}
+
+/// The log of a script in a version: the header, then one frame for each line. Records are written
+/// as told, unlawful ones too. A line `checkpoint` becomes a checkpoint of the state after the
+/// front of the log so far. A line `kill` is a line only in version 2.
+///
+/// The fault of the earliest line that has one: `Script` with its number, counted from 1, if it is
+/// no line; `TooLarge` for a `checkpoint` whose spelling has more than 268,435,455 bytes; `TooLong`
+/// if the log would pass 4,294,967,295 bytes. `Resources` if the host refuses memory.
+pub fn make_in<R: Threads + Sync>(
+    rt: &R,
+    alloc: Global,
+    version: Version,
+    script: &[u8],
+    plan: &Plan,
+) -> Result<Vec<u8>, Fault>
+    ensures { Made (version_of version) (λ v. v.items) script.now result }
+{
+    let mut log = Log::start(alloc, version)?;
+    let mut rest = script;
+    let mut n = 0;
+    while !rest.is_empty() {
+        let (text, after) = line_at(n + 1, rest)?;
+        log.add_line(rt, alloc, version, plan, n + 1, text)?;
+        rest = after;
+        n += 1;
+    }
+    Ok(log.bytes())
+}
+
+/// The log of a script in version 1: `make_in` of that version.
+pub fn make<R: Threads + Sync>(
+    rt: &R,
+    alloc: Global,
+    script: &[u8],
+    plan: &Plan,
+) -> Result<Vec<u8>, Fault>
+    ensures { Made One (λ v. v.items) script.now result }
+{
+    make_in(rt, alloc, Version::One, script, plan)
+}
