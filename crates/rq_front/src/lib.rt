@@ -3,12 +3,14 @@
 
 mod chains;
 mod digests;
+mod gaps;
 mod headers;
 mod lengths;
 mod spans;
 mod writers;
 
 pub use chains::{chain, log_version, walk};
+pub use gaps::{CARRIED_AT, carried_gap, is_carried};
 pub use headers::version;
 pub use spans::{Chain, Rest, Span, Walk};
 pub use writers::{frame, header, header_of};

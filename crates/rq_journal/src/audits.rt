@@ -5,7 +5,7 @@ ghost use Rattle.rq_record.specs.declared.fault.Fault.TheVariants.{Resources};
 ghost use Rattle.rq_restart.specs.Audits.{HasFrontAt};
 ghost use Rattle.rq_restart.specs.Restarts.{RefusedAt};
 
-use crate::carried_logs::CARRIED_AT;
+use rq_front::CARRIED_AT;
 use rq_record::Fault;
 use rq_restart::{Plan, audit_at};
 use std::alloc::Global;

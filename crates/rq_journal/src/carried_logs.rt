@@ -1,40 +1,17 @@
 //! A log that goes on from the state behind the front of another.
 
-ghost use Rattle.std.specs.Prelude.{◌≡◌, length, true, take, drop};
+ghost use Rattle.std.specs.Prelude.{length};
 ghost use Rattle.rq_model.specs.Frames.{IsBodyLength};
-ghost use Rattle.rq_model.specs.Continuing.{carried_gap};
 ghost use Rattle.rq_record.specs.Views.{version_of};
 ghost use Rattle.rq_journal.specs.Carries.{BeginsFile, Carries, CarriesAgain};
 
 use crate::checkpoint::{body_of_any, checkpoint_body};
-use rq_front::{FRAME_LEN, HEADER_LEN, frame, header_of, version};
+use rq_front::{CARRIED_AT, FRAME_LEN, carried_gap, frame, header_of};
 use rq_record::{Fault, Version};
 use rq_restart::{Plan, redone_front, redone_front_at};
 use std::alloc::Global;
 use std::marker::Sync;
 use std::thread::Threads;
-
-// What stands behind the header: a length that no body has, so that a restart of the whole says so;
-// and, for whoever looks at the file, where its checkpoint begins.
-fn gap() -> [u8; 24]
-    ensures { result ≡ carried_gap }
-{
-    *b"\xff\xff\xff\xffrq carried log at 96"
-}
-
-/// Where the first frame of a log stands that was carried on: a checkpoint.
-pub const CARRIED_AT: usize = 96;
-
-/// Whether a log begins as one that was carried on: the gap of such logs stands behind its header.
-/// The first 64 bytes tell it.
-pub fn is_carried(bytes: &[u8]) -> bool
-    ensures { result ≡ true → take 24 (drop 40 bytes.now) ≡ carried_gap }
-{
-    match bytes.get(HEADER_LEN..HEADER_LEN + 24) {
-        Some(found) => version(bytes).is_some() && found == gap().as_slice(),
-        None => false,
-    }
-}
 
 // The log of the version whose first frame, that of a body, goes on behind these 32 bytes.
 fn begun(alloc: Global, version: Version, link: &[u8; 32], body: &[u8]) -> Result<Vec<u8>, Fault>
@@ -43,7 +20,7 @@ fn begun(alloc: Global, version: Version, link: &[u8; 32], body: &[u8]) -> Resul
 {
     let mut out = Vec::new(alloc);
     header_of(version, &mut out)?;
-    out.extend_from_slice(&gap())?;
+    out.extend_from_slice(&carried_gap())?;
     out.extend_from_slice(link)?;
     frame(link, body, &mut out)?;
     Ok(out)

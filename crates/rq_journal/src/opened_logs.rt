@@ -5,7 +5,7 @@ ghost use Rattle.rq_restart.specs.JudgedFronts.{IsJudged, IsJudgedAt};
 ghost use Rattle.rq_journal.specs.Openings.{IsOpened, IsOpenedAt, Opens, OpensCarried};
 
 use crate::appender::Appender;
-use crate::carried_logs::CARRIED_AT;
+use rq_front::CARRIED_AT;
 use rq_record::Fault;
 use rq_restart::{JudgedFront, Plan, Why, judged_front, judged_front_at};
 use std::alloc::Global;

@@ -6,8 +6,7 @@ ghost use Rattle.rq_look.specs.Walks.{StandFrom, front_at};
 ghost use Rattle.rq_record.specs.declared.fault.Fault.TheVariants.{Resources};
 
 use crate::frames::{PlacedFrames, first_frame};
-use rq_front::{HEADER_LEN, version};
-use rq_journal::{CARRIED_AT, is_carried};
+use rq_front::{CARRIED_AT, HEADER_LEN, is_carried, version};
 use rq_record::Fault;
 use rq_state::{State, read_in};
 use std::alloc::Global;

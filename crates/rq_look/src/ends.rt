@@ -16,12 +16,13 @@ use crate::frames::{first_frame, stated_length};
 use crate::misfits::{Misfit, misfit_of};
 use crate::pieces::TextPiece::{Number, Word};
 use crate::pieces::joined_text;
-use rq_catalog::Rule;
+use rq_catalog::{Judge, Rule};
 use rq_front::{FRAME_LEN, version};
-use rq_journal::{Appender, open, open_carried};
 use rq_record::{Fault, Version, decode_kept};
 use rq_report::why_word;
-use rq_restart::{FrontEnd, Open, Plan, Restarted, Why, front_end, restart_at};
+use rq_restart::{
+    FrontEnd, Open, Plan, Restarted, Why, front_end, judged_front, judged_front_at, restart_at,
+};
 use sha2::{Digest, Sha256};
 use std::alloc::{AllocError, Global};
 use std::fmt::Write;
@@ -124,21 +125,21 @@ fn judge_behind<R: Threads + Sync>(
     bytes: &[u8],
     at: Option<u64>,
     plan: &Plan,
-) -> Result<Appender, Fault>
+) -> Result<Judge, Fault>
     ensures { IfErr result (λ e. e ≡ Resources) }
 {
-    let opened = match at {
-        None => open(rt, alloc, bytes, plan),
-        Some(_) => open_carried(rt, alloc, bytes, plan),
+    let judged = match at {
+        None => judged_front(rt, alloc, bytes, plan),
+        Some(at) => judged_front_at(rt, alloc, bytes, at, plan),
     };
-    match opened {
-        Ok(opened) => Ok(opened.appender),
+    match judged {
+        Ok(front) => Ok(front.judge),
         Err(_) => Err(Fault::Resources),
     }
 }
 
 // The rule that the record of a body breaks there, if it is a record and breaks one.
-fn rule_of(alloc: Global, judge: &Appender, body: &[u8]) -> Result<Option<Rule>, Fault>
+fn rule_of(alloc: Global, judge: &Judge, body: &[u8]) -> Result<Option<Rule>, Fault>
     ensures { IfErr result (λ e. e ≡ Resources) }
 {
     match decode_kept(alloc, judge.version(), body) {
