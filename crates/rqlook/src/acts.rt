@@ -1,6 +1,6 @@
 //! What the program does for each of its commands.
 
-use crate::failures::Failure;
+use crate::failures::{Failure, Reason, of_file};
 use crate::log_files::{is_over_log, read_log_file};
 use crate::narrow_lines::Narrow;
 use crate::progress::{Watch, Watched};
@@ -9,7 +9,7 @@ use clap::ArgMatches;
 use rq_file::VERSION;
 use rq_look::{Fault, Plan, Trouble, begins_at};
 use rq_page::Asked;
-use std::io::{self, ErrorKind, Printer, Write as _};
+use std::io::{self, ErrorKind, Write};
 use std::os::fd::AsFd;
 use std::rt::{Clock, Files};
 use std::thread::Threads;
@@ -17,6 +17,17 @@ use std::time::Instant;
 
 // The grain of each plan, in frames.
 const GRAIN: u32 = 1000;
+
+// A log, and how many work on it.
+#[derive(Clone, Copy)]
+struct Log<'a> {
+    // The name of its file.
+    file: &'a str,
+    bytes: &'a [u8],
+    // Where its first frame begins, if it was carried on.
+    at: Option<u64>,
+    plan: Plan,
+}
 
 // Whether a command begins with the first record of a log, and so shows none that was carried on.
 fn begins_with_the_first(command: &str) -> bool {
@@ -27,98 +38,44 @@ fn plan_of(words: &ArgMatches<'_>) -> Option<Plan> {
     Plan::new(words.get_one::<u32>("workers")?, GRAIN)
 }
 
-// Standard output, for lines that people read.
-fn lines<'a, R>(rt: &'a R, words: &ArgMatches<'_>, watch: Watch) -> Narrow<Printer<'a, R>>
-where
-    R: Print + AllocGlobal,
-{
-    let columns = columns_asked(words, watch.columns());
-    Narrow::new(rt.alloc(), io::writer(rt), columns)
-}
-
-// Prints what a check finds, unless it is to say nothing. Answers whether it finds nothing, also
-// if nobody reads on: what it finds is known before it is written.
-fn check<R>(
-    rt: &R,
-    bytes: &[u8],
-    at: Option<u64>,
-    plan: &Plan,
-    words: &ArgMatches<'_>,
-    watch: Watch,
-) -> Result<bool, Trouble>
-where
-    R: Print + AllocGlobal + Threads + Sync,
-{
-    let found = rq_look::check(rt, rt.alloc(), bytes, at, plan)?;
-    if words.get_flag("quiet") {
-        return Ok(found.fine);
-    }
-    match lines(rt, words, watch).write_all(found.text.as_bytes()) {
-        Ok(()) => Ok(found.fine),
-        Err(error) if error.kind() == ErrorKind::BrokenPipe => Ok(found.fine),
+// Prints what a check found. It was found before it is written, also if nobody reads on.
+fn print_found<W: Write>(text: &str, output: &mut W) -> Result<(), Trouble> {
+    match output.write_all(text.as_bytes()) {
+        Ok(()) => Ok(()),
+        Err(error) if error.kind() == ErrorKind::BrokenPipe => Ok(()),
         Err(error) => Err(Trouble::from(error)),
     }
 }
 
-fn report<R>(
+// Prints what a check finds, unless it is to say nothing. Answers whether it finds nothing.
+fn check<R, W>(
     rt: &R,
-    bytes: &[u8],
-    at: Option<u64>,
-    plan: &Plan,
+    log: Log<'_>,
     words: &ArgMatches<'_>,
-    watch: Watch,
+    output: &mut W,
 ) -> Result<bool, Trouble>
 where
-    R: Print + AllocGlobal + Threads + Sync,
+    R: AllocGlobal + Threads + Sync,
+    W: Write,
+{
+    let found = rq_look::check(rt, rt.alloc(), log.bytes, log.at, &log.plan)?;
+    if !words.get_flag("quiet") {
+        print_found(found.text.as_str(), output)?;
+    }
+    Ok(found.fine)
+}
+
+fn report<R, W>(rt: &R, log: Log<'_>, words: &ArgMatches<'_>, output: &mut W) -> Result<(), Trouble>
+where
+    R: AllocGlobal + Threads + Sync,
+    W: Write,
 {
     let queue = words.get_one::<u32>("queue");
-    let mut output = lines(rt, words, watch);
     if words.get_flag("json") {
-        rq_look::report_json(rt, rt.alloc(), bytes, at, plan, queue, &mut output)?;
+        rq_look::report_json(rt, rt.alloc(), log.bytes, log.at, &log.plan, queue, output)
     } else {
-        rq_look::report(rt, rt.alloc(), bytes, at, plan, queue, &mut output)?;
+        rq_look::report(rt, rt.alloc(), log.bytes, log.at, &log.plan, queue, output)
     }
-    Ok(true)
-}
-
-// Standard output, of which is told how much was written.
-fn output<R: Print + Eprint + Clock>(rt: &R, watch: Watch) -> Watched<'_, R, Printer<'_, R>> {
-    Watched::new(rt, io::writer(rt), watch.of_output(), "written")
-}
-
-fn dump<R>(
-    rt: &R,
-    bytes: &[u8],
-    at: Option<u64>,
-    plan: &Plan,
-    words: &ArgMatches<'_>,
-    watch: Watch,
-) -> Result<bool, Trouble>
-where
-    R: Print + Eprint + Clock + AllocGlobal + Threads + Sync,
-{
-    let wanted = records_asked(words);
-    let columns = columns_asked(words, watch.columns());
-    let mut output = Narrow::new(rt.alloc(), output(rt, watch), columns);
-    rq_look::dump(rt, rt.alloc(), bytes, at, plan, &wanted, &mut output)?;
-    Ok(true)
-}
-
-fn story<R>(
-    rt: &R,
-    bytes: &[u8],
-    at: Option<u64>,
-    plan: &Plan,
-    words: &ArgMatches<'_>,
-    watch: Watch,
-) -> Result<bool, Trouble>
-where
-    R: Print + AllocGlobal + Threads + Sync,
-{
-    let subject = subject_asked(words);
-    let mut output = lines(rt, words, watch);
-    rq_look::story(rt, rt.alloc(), bytes, at, plan, subject, &mut output)?;
-    Ok(true)
 }
 
 // Tells how long a megabyte of the log took, if there is a clock.
@@ -130,66 +87,122 @@ fn tell_time<R: Eprint + Clock>(rt: &R, bytes: &[u8], begun: Option<Instant>) {
     let _ = eprintln!(rt; "rqlook: {each} microseconds for a megabyte");
 }
 
-fn stats<R>(
-    rt: &R,
-    bytes: &[u8],
-    at: Option<u64>,
-    plan: &Plan,
-    words: &ArgMatches<'_>,
-    watch: Watch,
-) -> Result<bool, Trouble>
+fn stats<R, W>(rt: &R, log: Log<'_>, words: &ArgMatches<'_>, output: &mut W) -> Result<(), Trouble>
 where
-    R: Print + Eprint + Clock + AllocGlobal + Threads + Sync,
+    R: Eprint + Clock + AllocGlobal + Threads + Sync,
+    W: Write,
 {
     let begun = if words.get_flag("time") {
         Instant::now(rt).ok()
     } else {
         None
     };
-    let mut output = lines(rt, words, watch);
-    rq_stats::stats(
-        rt,
-        rt.alloc(),
+    let json = words.get_flag("json");
+    rq_stats::stats(rt, rt.alloc(), log.bytes, log.at, &log.plan, json, output)?;
+    tell_time(rt, log.bytes, begun);
+    Ok(())
+}
+
+// Prints what a command shows that finds nothing.
+fn show<R, W>(
+    rt: &R,
+    name: &str,
+    log: Log<'_>,
+    words: &ArgMatches<'_>,
+    output: &mut W,
+) -> Result<(), Trouble>
+where
+    R: Eprint + Clock + AllocGlobal + Threads + Sync,
+    W: Write,
+{
+    let Log {
         bytes,
         at,
         plan,
-        words.get_flag("json"),
-        &mut output,
-    )?;
-    tell_time(rt, bytes, begun);
-    Ok(true)
+        ..
+    } = log;
+    match name {
+        "dump" => rq_look::dump(
+            rt,
+            rt.alloc(),
+            bytes,
+            at,
+            &plan,
+            &records_asked(words),
+            output,
+        ),
+        "report" => report(rt, log, words, output),
+        "stats" => stats(rt, log, words, output),
+        _ => rq_look::story(
+            rt,
+            rt.alloc(),
+            bytes,
+            at,
+            &plan,
+            subject_asked(words),
+            output,
+        ),
+    }
 }
 
-fn perform<R>(
+fn perform<R, W>(
     rt: &R,
     name: &str,
+    log: Log<'_>,
     words: &ArgMatches<'_>,
-    bytes: &[u8],
-    at: Option<u64>,
-    plan: &Plan,
+    output: &mut W,
+) -> Result<bool, Trouble>
+where
+    R: Eprint + Clock + AllocGlobal + Threads + Sync,
+    W: Write,
+{
+    match name {
+        "check" => check(rt, log, words, output),
+        "script" => rq_look::script(rt, rt.alloc(), log.bytes, &log.plan, output),
+        _ => {
+            show(rt, name, log, words, output)?;
+            Ok(true)
+        }
+    }
+}
+
+// To how many columns a command cuts its lines, 0 for none. Those of a script are not cut.
+fn columns_of(name: &str, words: &ArgMatches<'_>, watch: Watch) -> u32 {
+    match name {
+        "script" => 0,
+        _ => columns_asked(words, watch.columns()),
+    }
+}
+
+// How far a command tells that its output is: only one that may be as long as the log.
+fn output_watch(name: &str, watch: Watch) -> Watch {
+    match name {
+        "dump" | "script" => watch.of_output(),
+        _ => watch.of_nothing(),
+    }
+}
+
+// Prints what a command shows on standard output.
+fn print_shown<R>(
+    rt: &R,
+    name: &str,
+    log: Log<'_>,
+    words: &ArgMatches<'_>,
     watch: Watch,
 ) -> Result<bool, Trouble>
 where
     R: Print + Eprint + Clock + AllocGlobal + Threads + Sync,
 {
-    match name {
-        "dump" => dump(rt, bytes, at, plan, words, watch),
-        "check" => check(rt, bytes, at, plan, words, watch),
-        "report" => report(rt, bytes, at, plan, words, watch),
-        "stats" => stats(rt, bytes, at, plan, words, watch),
-        "story" | "unit" => story(rt, bytes, at, plan, words, watch),
-        _ => rq_look::script(rt, rt.alloc(), bytes, plan, &mut output(rt, watch)),
-    }
+    let watched = Watched::new(rt, io::writer(rt), output_watch(name, watch), "written");
+    let mut output = Narrow::new(rt.alloc(), watched, columns_of(name, words, watch));
+    perform(rt, name, log, words, &mut output)
 }
 
-// The page that the words ask for of a log.
-fn page_of<R>(
+// Puts the page that the words ask for of a log into memory.
+fn put_page<R>(
     rt: &R,
-    bytes: &[u8],
-    at: Option<u64>,
-    plan: &Plan,
+    log: Log<'_>,
     words: &ArgMatches<'_>,
-    file: &str,
     made: &mut Vec<u8>,
 ) -> Result<(), Trouble>
 where
@@ -198,38 +211,55 @@ where
     let elements = numbers_asked(rt.alloc(), words, "element")?;
     let units = numbers_asked(rt.alloc(), words, "unit")?;
     let asked = Asked {
-        name: if file == "-" { "standard input" } else { file },
+        name: if log.file == "-" {
+            "standard input"
+        } else {
+            log.file
+        },
         version: VERSION,
         order: order_asked(words),
         elements: elements.as_slice(),
         units: units.as_slice(),
     };
-    rq_page::page(rt, rt.alloc(), bytes, at, plan, &asked, made)
+    rq_page::page(rt, rt.alloc(), log.bytes, log.at, &log.plan, &asked, made)
 }
 
-// The page of a log, or its script with what stands behind its front, in memory.
-fn made_of<R>(
+// Puts the page of a log, or its script with what stands behind its front, into memory.
+fn put_made<R>(
     rt: &R,
     name: &str,
-    bytes: &[u8],
-    at: Option<u64>,
-    plan: &Plan,
+    log: Log<'_>,
     words: &ArgMatches<'_>,
-    file: &str,
-) -> Result<Vec<u8>, Trouble>
+    made: &mut Vec<u8>,
+) -> Result<(), Trouble>
 where
     R: AllocGlobal + Threads + Sync,
 {
-    let mut made = Vec::new(rt.alloc());
     let done = match name {
-        "page" => page_of(rt, bytes, at, plan, words, file, &mut made),
-        _ => rq_look::salvage(rt, rt.alloc(), bytes, plan, &mut made),
+        "page" => put_page(rt, log, words, made),
+        _ => rq_look::salvage(rt, rt.alloc(), log.bytes, &log.plan, made),
     };
     match done {
-        Ok(()) => Ok(made),
         // A write into memory fails for want of it alone.
         Err(Trouble::Output(_)) => Err(Trouble::Log(Fault::Resources)),
-        Err(trouble) => Err(trouble),
+        done => done,
+    }
+}
+
+// Writes what was made to the file of this name, or to standard output for `-`.
+fn write_made<R>(rt: &R, to: &str, made: &[u8]) -> Result<bool, Failure>
+where
+    R: Files + Print + AllocGlobal,
+    R::File: AsFd,
+{
+    if to == "-" {
+        rt.write_all(made)?;
+        return Ok(true);
+    }
+    match rq_file::put_file(rt, to, made) {
+        Ok(()) => Ok(true),
+        Err(error) if error.kind() == ErrorKind::OutOfMemory => Err(Failure::Memory),
+        Err(error) => Err(of_file(rt, to, Reason::Stream(error))),
     }
 }
 
@@ -237,34 +267,45 @@ where
 fn make<R>(
     rt: &R,
     name: &str,
-    bytes: &[u8],
-    at: Option<u64>,
-    plan: &Plan,
+    log: Log<'_>,
     words: &ArgMatches<'_>,
-    file: &str,
     to: &str,
 ) -> Result<bool, Failure>
 where
     R: Files + Print + AllocGlobal + Threads + Sync,
     R::File: AsFd,
 {
-    if is_over_log(rt, file, to) {
+    if is_over_log(rt, log.file, to) {
         return Err(Failure::Same);
     }
-    let made = match made_of(rt, name, bytes, at, plan, words, file) {
-        Ok(made) => made,
-        Err(trouble) => {
-            return Err(Failure::Refused(String::from_str(rt.alloc(), file)?, trouble));
-        }
-    };
-    if to == "-" {
-        rt.write_all(&made)?;
-        return Ok(true);
+    let mut made = Vec::new(rt.alloc());
+    match put_made(rt, name, log, words, &mut made) {
+        Ok(()) => write_made(rt, to, &made),
+        Err(trouble) => Err(of_file(rt, log.file, Reason::Refused(trouble))),
     }
-    match rq_file::put_file(rt, to, &made) {
-        Ok(()) => Ok(true),
-        Err(error) if error.kind() == ErrorKind::OutOfMemory => Err(Failure::Memory),
-        Err(error) => Err(Failure::Unwritten(String::from_str(rt.alloc(), to)?, error)),
+}
+
+// Does the command of this name on a log.
+fn act_on<R>(
+    rt: &R,
+    name: &str,
+    log: Log<'_>,
+    words: &ArgMatches<'_>,
+    watch: Watch,
+) -> Result<bool, Failure>
+where
+    R: Files + Print + Eprint + Clock + AllocGlobal + Threads + Sync,
+    R::File: AsFd,
+{
+    if log.at.is_some() && begins_with_the_first(name) {
+        return Err(of_file(rt, log.file, Reason::Carried));
+    }
+    if let Some(to) = words.get_str("OUT") {
+        return make(rt, name, log, words, to);
+    }
+    match print_shown(rt, name, log, words, watch) {
+        Ok(fine) => Ok(fine),
+        Err(trouble) => Err(of_file(rt, log.file, Reason::Refused(trouble))),
     }
 }
 
@@ -283,15 +324,11 @@ where
     let file = words.get_str("LOG").unwrap_or("-");
     let bytes = read_log_file(rt, file, watch)?;
     watch.begins(rt, &bytes);
-    let at = begins_at(&bytes);
-    if at.is_some() && begins_with_the_first(name) {
-        return Err(Failure::Carried(String::from_str(rt.alloc(), file)?));
-    }
-    if let Some(to) = words.get_str("OUT") {
-        return make(rt, name, &bytes, at, &plan, words, file, to);
-    }
-    match perform(rt, name, words, &bytes, at, &plan, watch) {
-        Ok(fine) => Ok(fine),
-        Err(trouble) => Err(Failure::Refused(String::from_str(rt.alloc(), file)?, trouble)),
-    }
+    let log = Log {
+        file,
+        bytes: &bytes,
+        at: begins_at(&bytes),
+        plan,
+    };
+    act_on(rt, name, log, words, watch)
 }

@@ -18,8 +18,19 @@ const STREAM: u8 = 3;
 // The exit status if memory was refused.
 const MEMORY: u8 = 4;
 
+/// What is wrong with a file.
+#[derive(Drop)]
+pub(crate) enum Reason {
+    /// It cannot be read or written.
+    Stream(io::Error),
+    /// It was read and is refused.
+    Refused(Trouble),
+    /// The log was carried on: what is asked for begins with the first record.
+    Carried,
+}
+
 /// Why the program ends before it is done.
-#[derive(Debug, Drop)]
+#[derive(Drop)]
 pub(crate) enum Failure {
     /// The words are no command.
     Words(clap::Error),
@@ -27,14 +38,8 @@ pub(crate) enum Failure {
     NoText,
     /// The number of workers is none.
     Workers,
-    /// The file cannot be read.
-    Unread(String, io::Error),
-    /// The file was read and is refused.
-    Refused(String, Trouble),
-    /// The log of the file was carried on: what is asked for begins with the first record.
-    Carried(String),
-    /// The file cannot be written.
-    Unwritten(String, io::Error),
+    /// Something is wrong with the file of this name.
+    File(String, Reason),
     /// What is made was to be written over its log.
     Same,
     /// The output fails.
@@ -64,10 +69,23 @@ impl From<io::Error> for Failure {
     }
 }
 
+/// That something is wrong with the file of this name.
+pub(crate) fn of_file<R: AllocGlobal>(rt: &R, file: &str, reason: Reason) -> Failure {
+    match String::from_str(rt.alloc(), file) {
+        Ok(name) => Failure::File(name, reason),
+        Err(_) => Failure::Memory,
+    }
+}
+
+// Says why in these words, and answers the exit status.
+fn tell_words(rt: &HostRuntime, words: &str, status: u8) -> u8 {
+    let _ = eprintln!(rt; "rqlook: {words}");
+    status
+}
+
 // Says that memory is refused.
 fn memory_refused(rt: &HostRuntime) -> u8 {
-    let _ = eprintln!(rt; "rqlook: resources");
-    MEMORY
+    tell_words(rt, "resources", MEMORY)
 }
 
 // Says that the output fails. One that was closed is no news. Lines that must fit a width take
@@ -103,6 +121,20 @@ fn refused(rt: &HostRuntime, file: &str, trouble: &Trouble) -> u8 {
     }
 }
 
+fn tell_file(rt: &HostRuntime, file: &str, reason: &Reason) -> u8 {
+    match reason {
+        Reason::Stream(error) => {
+            let _ = eprintln!(rt; "rqlook: {}: {error}", told(file));
+            STREAM
+        }
+        Reason::Refused(trouble) => refused(rt, file, trouble),
+        Reason::Carried => {
+            let _ = eprintln!(rt; "rqlook: {}: carried: use rqlog restart", told(file));
+            REFUSED
+        }
+    }
+}
+
 impl Failure {
     /// Says on standard error why the program ends, and answers its exit status.
     pub(crate) fn tell(&self, rt: &HostRuntime) -> u8 {
@@ -111,30 +143,10 @@ impl Failure {
                 let _ = eprint!(rt; "{error}");
                 USAGE
             }
-            Failure::NoText => {
-                let _ = eprintln!(rt; "rqlook: a word is no text");
-                USAGE
-            }
-            Failure::Workers => {
-                let _ = eprintln!(rt; "rqlook: workers are 1 to 64");
-                USAGE
-            }
-            Failure::Same => {
-                let _ = eprintln!(rt; "rqlook: nothing is written over its log");
-                USAGE
-            }
-            Failure::Unread(file, error) | Failure::Unwritten(file, error) => {
-                let _ = eprintln!(rt; "rqlook: {}: {error}", told(file.as_str()));
-                STREAM
-            }
-            Failure::Refused(file, trouble) => refused(rt, file.as_str(), trouble),
-            Failure::Carried(file) => {
-                let _ = eprintln!(rt;
-                    "rqlook: {}: carried: use rqlog restart",
-                    told(file.as_str())
-                );
-                REFUSED
-            }
+            Failure::NoText => tell_words(rt, "a word is no text", USAGE),
+            Failure::Workers => tell_words(rt, "workers are 1 to 64", USAGE),
+            Failure::Same => tell_words(rt, "nothing is written over its log", USAGE),
+            Failure::File(file, reason) => tell_file(rt, file.as_str(), reason),
             Failure::Output(error) => output_failed(rt, error),
             Failure::Memory => memory_refused(rt),
         }

@@ -1,6 +1,6 @@
 //! Reading a log from a file or from standard input.
 
-use crate::failures::Failure;
+use crate::failures::{Failure, Reason, of_file};
 use crate::progress::{Watch, Watched};
 use rq_look::{Fault, Trouble};
 use std::fs;
@@ -28,20 +28,23 @@ where
     }
 }
 
+// Why a file is not read: a log for which there is no memory is refused.
+fn reason_of(error: io::Error) -> Reason {
+    if error.kind() == ErrorKind::OutOfMemory {
+        return Reason::Refused(Trouble::Log(Fault::Resources));
+    }
+    Reason::Stream(error)
+}
+
 /// The bytes of the file, or of standard input for `-`; no more than make it too long for a log.
 pub(crate) fn read_log_file<R>(rt: &R, file: &str, watch: Watch) -> Result<Vec<u8>, Failure>
 where
     R: Files + Input + Eprint + Clock + AllocGlobal,
 {
-    let error = match read(rt, file, watch) {
-        Ok(bytes) => return Ok(bytes),
-        Err(error) => error,
-    };
-    let name = String::from_str(rt.alloc(), file)?;
-    if error.kind() == ErrorKind::OutOfMemory {
-        return Err(Failure::Refused(name, Trouble::Log(Fault::Resources)));
+    match read(rt, file, watch) {
+        Ok(bytes) => Ok(bytes),
+        Err(error) => Err(of_file(rt, file, reason_of(error))),
     }
-    Err(Failure::Unread(name, error))
 }
 
 /// Whether what is written to the second name would be written over the log of the first: both are

@@ -48,12 +48,19 @@ where
     R: Files + Env + Input + Print + Eprint + Clock + AllocGlobal + Threads + Sync,
     R::File: AsFd,
 {
-    let alloc = rt.alloc();
     let all: Vec<String> = env::args(rt)
         .map_err(|error| unread(error))?
-        .collect(alloc)?;
-    let matches = program(alloc)?.try_get_matches_from(all.as_slice());
-    match matches {
+        .collect(rt.alloc())?;
+    obey(rt, all.as_slice(), watch)
+}
+
+// Does what these words ask for, of which the first is the program's name.
+fn obey<R>(rt: &R, words: &[String], watch: Watch) -> Result<bool, Failure>
+where
+    R: Files + Input + Print + Eprint + Clock + AllocGlobal + Threads + Sync,
+    R::File: AsFd,
+{
+    match program(rt.alloc())?.try_get_matches_from(words) {
         Ok(matches) => act(rt, &matches, watch),
         Err(error) => asked(rt, error),
     }

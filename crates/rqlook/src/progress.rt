@@ -38,6 +38,14 @@ impl Watch {
         Watch { begun, ..self }
     }
 
+    /// The same for what tells nothing.
+    pub(crate) fn of_nothing(self) -> Watch {
+        Watch {
+            begun: None,
+            ..self
+        }
+    }
+
     /// How many columns the output has before a person's eyes; 0 if that is not known, or it goes
     /// elsewhere.
     pub(crate) fn columns(self) -> u32 {

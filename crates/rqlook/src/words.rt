@@ -1,13 +1,21 @@
 //! The words of the program.
 
-use clap::{Arg, ArgAction, ArgMatches, Command, Error, value_parser};
+use clap::builder::ValueParser;
+use clap::{Arg, ArgAction, ArgMatches, Command};
 use rq_file::VERSION;
 use rq_look::{Subject, Wanted};
 use rq_page::Order;
 use std::alloc::{AllocError, Global};
 
-// The kinds of record.
-static KINDS: [&str; 10] = [
+// What the value of a word has to be: any text, or a number that 32 or 64 bits hold.
+const TEXT: ValueParser<'static> = ValueParser::String;
+
+const SMALL: ValueParser<'static> = ValueParser::Signed(0, 4_294_967_295);
+
+const NUMBER: ValueParser<'static> = ValueParser::Unsigned(0, u64::MAX);
+
+// Or the name of a kind of record.
+const KIND: ValueParser<'static> = ValueParser::Names(&[
     "define",
     "register",
     "deregister",
@@ -18,260 +26,321 @@ static KINDS: [&str; 10] = [
     "abort",
     "checkpoint",
     "kill",
+]);
+
+// Or that of an order of a page's queues.
+const ORDER: ValueParser<'static> = ValueParser::Names(&["depth", "number", "name"]);
+
+// How a word is given.
+#[derive(Clone, Copy)]
+enum WordForm {
+    // A value, which must be there.
+    Value(ValueParser<'static>),
+    // An option with nothing.
+    Flag,
+    // The same, which a letter gives too.
+    Letter(char),
+    // An option with a value, as the help calls it.
+    Option(&'static str, ValueParser<'static>),
+    // The same, whose value may begin with a hyphen.
+    Name(&'static str),
+    // The same, or else this value.
+    Usual(&'static str, ValueParser<'static>, &'static str),
+    // The same, which may be given several times.
+    Several(&'static str, ValueParser<'static>),
+}
+
+// A word of a command: its name, how it is given, and what the help says of it.
+#[derive(Clone, Copy)]
+struct Word {
+    name: &'static str,
+    form: WordForm,
+    help: &'static str,
+}
+
+// A command: its name, what the help says of it, and its words.
+struct CommandText {
+    name: &'static str,
+    about: &'static str,
+    words: &'static [Word],
+}
+
+const LOG: Word = Word {
+    name: "LOG",
+    form: WordForm::Value(TEXT),
+    help: "The file of the log, or - for standard input",
+};
+
+const WIDTH: Word = Word {
+    name: "width",
+    form: WordForm::Option("COLUMNS", SMALL),
+    help: "Cuts lines to so many columns, 0 for none; those of the terminal if the output is one",
+};
+
+const WORKERS: Word = Word {
+    name: "workers",
+    form: WordForm::Usual("WORKERS", SMALL, "4"),
+    help: "How many threads work, 1 to 64",
+};
+
+static COMMANDS: [CommandText; 9] = [
+    CommandText {
+        name: "dump",
+        about: "Shows a line for each record, and where the front ends and why",
+        words: &[
+            LOG,
+            Word {
+                name: "from",
+                form: WordForm::Option("OFFSET", NUMBER),
+                help: "Only records at this offset and behind it",
+            },
+            Word {
+                name: "unit",
+                form: WordForm::Option("UNIT", NUMBER),
+                help: "Only records of this unit",
+            },
+            Word {
+                name: "queue",
+                form: WordForm::Option("QUEUE", SMALL),
+                help: "Only records that define or name this queue",
+            },
+            Word {
+                name: "registrant",
+                form: WordForm::Name("NAME"),
+                help: "Only records that name this registrant",
+            },
+            Word {
+                name: "kind",
+                form: WordForm::Option("KIND", KIND),
+                help: "Only records of this kind",
+            },
+            Word {
+                name: "limit",
+                form: WordForm::Option("COUNT", NUMBER),
+                help: "At most so many records",
+            },
+            Word {
+                name: "full",
+                form: WordForm::Flag,
+                help: "Shows payloads whole",
+            },
+            Word {
+                name: "json",
+                form: WordForm::Flag,
+                help: "Shows each line as an object of JSON",
+            },
+            Word {
+                name: "behind",
+                form: WordForm::Flag,
+                help: "Shows the right frames behind the front too, each marked so",
+            },
+            WIDTH,
+            WORKERS,
+        ],
+    },
+    CommandText {
+        name: "check",
+        about: "Exits with 0 if the log is whole and each checkpoint true, and with 1 if it finds \
+                something",
+        words: &[
+            LOG,
+            Word {
+                name: "quiet",
+                form: WordForm::Letter('q'),
+                help: "Says nothing",
+            },
+            WIDTH,
+            WORKERS,
+        ],
+    },
+    CommandText {
+        name: "report",
+        about: "Shows the report of the log's restart",
+        words: &[
+            LOG,
+            Word {
+                name: "queue",
+                form: WordForm::Option("QUEUE", SMALL),
+                help: "Only this queue",
+            },
+            Word {
+                name: "json",
+                form: WordForm::Flag,
+                help: "Shows the report as JSON",
+            },
+            WIDTH,
+            WORKERS,
+        ],
+    },
+    CommandText {
+        name: "script",
+        about: "Shows the script from which rq make, or rq make2 for a log of version 2, makes the \
+                log again",
+        words: &[LOG, WORKERS],
+    },
+    CommandText {
+        name: "salvage",
+        about: "Makes a script of the front, with the records of the right frames behind it to choose \
+                from",
+        words: &[
+            LOG,
+            Word {
+                name: "OUT",
+                form: WordForm::Value(TEXT),
+                help: "The file of the script, or - for standard output",
+            },
+            WORKERS,
+        ],
+    },
+    CommandText {
+        name: "stats",
+        about: "Shows numbers of the log: records by kind, units by outcome, and what is greatest",
+        words: &[
+            LOG,
+            Word {
+                name: "json",
+                form: WordForm::Flag,
+                help: "Shows them as JSON",
+            },
+            Word {
+                name: "time",
+                form: WordForm::Flag,
+                help: "Tells on standard error how long a megabyte of the log took",
+            },
+            WIDTH,
+            WORKERS,
+        ],
+    },
+    CommandText {
+        name: "story",
+        about: "Shows what became of one element",
+        words: &[
+            LOG,
+            Word {
+                name: "ELEMENT",
+                form: WordForm::Value(NUMBER),
+                help: "The number of the record that put it in",
+            },
+            WIDTH,
+            WORKERS,
+        ],
+    },
+    CommandText {
+        name: "unit",
+        about: "Shows what one unit did, and what became of it",
+        words: &[
+            LOG,
+            Word {
+                name: "UNIT",
+                form: WordForm::Value(NUMBER),
+                help: "The number of the unit",
+            },
+            WIDTH,
+            WORKERS,
+        ],
+    },
+    CommandText {
+        name: "page",
+        about: "Makes a page of HTML that shows the log, with its queues and their elements",
+        words: &[
+            LOG,
+            Word {
+                name: "OUT",
+                form: WordForm::Value(TEXT),
+                help: "The file of the page, or - for standard output",
+            },
+            Word {
+                name: "order",
+                form: WordForm::Usual("ORDER", ORDER, "depth"),
+                help: "In which order the queues stand",
+            },
+            Word {
+                name: "element",
+                form: WordForm::Several("ELEMENT", NUMBER),
+                help: "Shows what became of this element also if the log is long; may be given several times",
+            },
+            Word {
+                name: "unit",
+                form: WordForm::Several("UNIT", NUMBER),
+                help: "Shows what this unit did also if the log is long; may be given several times",
+            },
+            WORKERS,
+        ],
+    },
 ];
 
-// The orders of a page's queues.
-static ORDERS: [&str; 3] = ["depth", "number", "name"];
-
-fn log<'a>(alloc: Global) -> Arg<'a> {
-    Arg::new(alloc, "LOG")
-        .required(true)
-        .help("The file of the log, or - for standard input")
+fn plain<'a>(alloc: Global, word: &Word) -> Arg<'a> {
+    Arg::new(alloc, word.name).help(word.help)
 }
 
-fn option<'a>(alloc: Global, name: &'a str, value: &'a str, help: &'a str) -> Arg<'a> {
-    Arg::new(alloc, name)
-        .long(name)
-        .value_name(value)
-        .action(ArgAction::Set)
-        .help(help)
-}
-
-fn flag<'a>(alloc: Global, name: &'a str, help: &'a str) -> Arg<'a> {
-    Arg::new(alloc, name)
-        .long(name)
+fn flag<'a>(alloc: Global, word: &Word) -> Arg<'a> {
+    plain(alloc, word)
+        .long(word.name)
         .action(ArgAction::SetTrue)
-        .help(help)
 }
 
-fn queue<'a>(alloc: Global, help: &'a str) -> Arg<'a> {
-    option(alloc, "queue", "QUEUE", help).value_parser(value_parser!(u32))
+fn option<'a>(
+    alloc: Global,
+    word: &Word,
+    value: &'static str,
+    parser: ValueParser<'static>,
+) -> Arg<'a> {
+    plain(alloc, word)
+        .long(word.name)
+        .value_name(value)
+        .value_parser(parser)
 }
 
-fn workers<'a>(alloc: Global) -> Arg<'a> {
-    option(
-        alloc,
-        "workers",
-        "WORKERS",
-        "How many threads work, 1 to 64",
-    )
-    .value_parser(value_parser!(u32))
-    .default_value("4")
+fn argument<'a>(alloc: Global, word: &Word) -> Arg<'a> {
+    match word.form {
+        WordForm::Value(parser) => plain(alloc, word).required(true).value_parser(parser),
+        WordForm::Flag => flag(alloc, word),
+        WordForm::Letter(letter) => flag(alloc, word).short(letter),
+        WordForm::Option(value, parser) => option(alloc, word, value, parser),
+        WordForm::Name(value) => option(alloc, word, value, TEXT).allow_hyphen_values(true),
+        WordForm::Usual(value, parser, usual) => option(alloc, word, value, parser).default_value(
+            usual,
+        ),
+        WordForm::Several(value, parser) => option(alloc, word, value, parser).action(
+            ArgAction::Append,
+        ),
+    }
 }
 
-fn width<'a>(alloc: Global) -> Arg<'a> {
-    option(
-        alloc,
-        "width",
-        "COLUMNS",
-        "Cuts lines to so many columns, 0 for none; those of the terminal if the output is one",
-    )
-    .value_parser(value_parser!(u32))
+fn with_words<'a>(
+    alloc: Global,
+    command: Command<'a>,
+    words: &'static [Word],
+) -> Result<Command<'a>, AllocError> {
+    let mut command = command;
+    for word in words {
+        command = command.arg(argument(alloc, word))?;
+    }
+    Ok(command)
 }
 
-fn selecting<'a>(alloc: Global, command: Command<'a>) -> Result<Command<'a>, Error> {
-    let from = option(
-        alloc,
-        "from",
-        "OFFSET",
-        "Only records at this offset and behind it",
-    );
-    let unit = option(alloc, "unit", "UNIT", "Only records of this unit");
-    let limit = option(alloc, "limit", "COUNT", "At most so many records");
-    let kind = option(alloc, "kind", "KIND", "Only records of this kind");
-    let name = option(
-        alloc,
-        "registrant",
-        "NAME",
-        "Only records that name this registrant",
-    );
-    Ok(
-        command
-            .arg(from.value_parser(value_parser!(u64)))?
-            .arg(unit.value_parser(value_parser!(u64)))?
-            .arg(queue(alloc, "Only records that define or name this queue"))?
-            .arg(name.allow_hyphen_values(true))?
-            .arg(kind.value_parser(KINDS.as_slice()))?
-            .arg(limit.value_parser(value_parser!(u64)))?,
-    )
+fn command_of<'a>(alloc: Global, text: &CommandText) -> Result<Command<'a>, AllocError> {
+    let command = Command::new(alloc, text.name).about(text.about);
+    with_words(alloc, command, text.words)
 }
 
-fn dump<'a>(alloc: Global) -> Result<Command<'a>, Error> {
-    let command = Command::new(alloc, "dump")
-        .about("Shows a line for each record, and where the front ends and why")
-        .arg(log(alloc))?;
-    Ok(
-        selecting(alloc, command)?
-            .arg(flag(alloc, "full", "Shows payloads whole"))?
-            .arg(flag(alloc, "json", "Shows each line as an object of JSON"))?
-            .arg(flag(
-                alloc,
-                "behind",
-                "Shows the right frames behind the front too, each marked so",
-            ))?
-            .arg(width(alloc))?
-            .arg(workers(alloc))?,
-    )
-}
-
-fn check<'a>(alloc: Global) -> Result<Command<'a>, Error> {
-    let quiet = flag(alloc, "quiet", "Says nothing").short('q');
-    Ok(
-        Command::new(alloc, "check")
-            .about(
-                "Exits with 0 if the log is whole and each checkpoint true, and with 1 if it finds \
-                 something",
-            )
-            .arg(log(alloc))?
-            .arg(quiet)?
-            .arg(width(alloc))?
-            .arg(workers(alloc))?,
-    )
-}
-
-fn report<'a>(alloc: Global) -> Result<Command<'a>, Error> {
-    Ok(
-        Command::new(alloc, "report")
-            .about("Shows the report of the log's restart")
-            .arg(log(alloc))?
-            .arg(queue(alloc, "Only this queue"))?
-            .arg(flag(alloc, "json", "Shows the report as JSON"))?
-            .arg(width(alloc))?
-            .arg(workers(alloc))?,
-    )
-}
-
-fn script<'a>(alloc: Global) -> Result<Command<'a>, Error> {
-    Ok(
-        Command::new(alloc, "script")
-            .about(
-                "Shows the script from which rq make, or rq make2 for a log of version 2, makes \
-                 the log again",
-            )
-            .arg(log(alloc))?
-            .arg(workers(alloc))?,
-    )
-}
-
-fn salvage<'a>(alloc: Global) -> Result<Command<'a>, Error> {
-    let out = Arg::new(alloc, "OUT")
-        .required(true)
-        .help("The file of the script, or - for standard output");
-    Ok(
-        Command::new(alloc, "salvage")
-            .about(
-                "Makes a script of the front, with the records of the right frames behind it to \
-                 choose from",
-            )
-            .arg(log(alloc))?
-            .arg(out)?
-            .arg(workers(alloc))?,
-    )
-}
-
-fn stats<'a>(alloc: Global) -> Result<Command<'a>, Error> {
-    Ok(
-        Command::new(alloc, "stats")
-            .about(
-                "Shows numbers of the log: records by kind, units by outcome, and what is greatest",
-            )
-            .arg(log(alloc))?
-            .arg(flag(alloc, "json", "Shows them as JSON"))?
-            .arg(flag(
-                alloc,
-                "time",
-                "Tells on standard error how long a megabyte of the log took",
-            ))?
-            .arg(width(alloc))?
-            .arg(workers(alloc))?,
-    )
-}
-
-fn number<'a>(alloc: Global, name: &'a str, help: &'a str) -> Arg<'a> {
-    Arg::new(alloc, name)
-        .required(true)
-        .value_parser(value_parser!(u64))
-        .help(help)
-}
-
-fn story<'a>(alloc: Global) -> Result<Command<'a>, Error> {
-    Ok(
-        Command::new(alloc, "story")
-            .about("Shows what became of one element")
-            .arg(log(alloc))?
-            .arg(number(alloc, "ELEMENT", "The number of the record that put it in"))?
-            .arg(width(alloc))?
-            .arg(workers(alloc))?,
-    )
-}
-
-fn unit<'a>(alloc: Global) -> Result<Command<'a>, Error> {
-    Ok(
-        Command::new(alloc, "unit")
-            .about("Shows what one unit did, and what became of it")
-            .arg(log(alloc))?
-            .arg(number(alloc, "UNIT", "The number of the unit"))?
-            .arg(width(alloc))?
-            .arg(workers(alloc))?,
-    )
-}
-
-// A number that may be given several times.
-fn several<'a>(number: Arg<'a>) -> Arg<'a> {
-    number
-        .action(ArgAction::Append)
-        .value_parser(value_parser!(u64))
-}
-
-fn page<'a>(alloc: Global) -> Result<Command<'a>, Error> {
-    let out = Arg::new(alloc, "OUT")
-        .required(true)
-        .help("The file of the page, or - for standard output");
-    let order = option(alloc, "order", "ORDER", "In which order the queues stand")
-        .value_parser(ORDERS.as_slice())
-        .default_value("depth");
-    let element = option(
-        alloc,
-        "element",
-        "ELEMENT",
-        "Shows what became of this element also if the log is long; may be given several times",
-    );
-    let unit = option(
-        alloc,
-        "unit",
-        "UNIT",
-        "Shows what this unit did also if the log is long; may be given several times",
-    );
-    Ok(
-        Command::new(alloc, "page")
-            .about("Makes a page of HTML that shows the log, with its queues and their elements")
-            .arg(log(alloc))?
-            .arg(out)?
-            .arg(order)?
-            .arg(several(element))?
-            .arg(several(unit))?
-            .arg(workers(alloc))?,
-    )
+// The program without its commands.
+fn bare<'a>(alloc: Global) -> Command<'a> {
+    Command::new(alloc, "rqlook")
+        .about("Shows what is in the log of a recoverable queue manager")
+        .version(VERSION)
+        .subcommand_required(true)
+        .arg_required_else_help(true)
 }
 
 /// The program's command.
-pub(crate) fn program<'a>(alloc: Global) -> Result<Command<'a>, Error> {
-    Ok(
-        Command::new(alloc, "rqlook")
-            .about("Shows what is in the log of a recoverable queue manager")
-            .version(VERSION)
-            .subcommand_required(true)
-            .arg_required_else_help(true)
-            .subcommand(dump(alloc)?)?
-            .subcommand(check(alloc)?)?
-            .subcommand(report(alloc)?)?
-            .subcommand(script(alloc)?)?
-            .subcommand(salvage(alloc)?)?
-            .subcommand(stats(alloc)?)?
-            .subcommand(story(alloc)?)?
-            .subcommand(unit(alloc)?)?
-            .subcommand(page(alloc)?)?,
-    )
+pub(crate) fn program<'a>(alloc: Global) -> Result<Command<'a>, AllocError> {
+    let mut program = bare(alloc);
+    for text in COMMANDS.as_slice() {
+        let command = command_of(alloc, text)?;
+        program = program.subcommand(command)?;
+    }
+    Ok(program)
 }
 
 /// To how many columns the words want lines cut, 0 for none, if the output has so many where a person
