@@ -1,14 +1,13 @@
 //! What the program does for each of its commands.
 
-use crate::failures::{Failure, Reason, of_file};
-use crate::log_files::{is_over_log, read_log_file};
+use crate::failures::{Failure, FileTrouble, of_file};
+use crate::log_files::{PlannedLog, read_log_file};
+use crate::made_files::make_file;
 use crate::narrow_lines::Narrow;
 use crate::progress::{Watch, Watched};
-use crate::words::{columns_asked, numbers_asked, order_asked, records_asked, subject_asked};
+use crate::words::{columns_asked, records_asked, subject_asked};
 use clap::ArgMatches;
-use rq_file::VERSION;
-use rq_look::{Fault, Plan, Trouble, begins_at};
-use rq_page::Asked;
+use rq_look::{Plan, Trouble, begins_at};
 use std::io::{self, ErrorKind, Write};
 use std::os::fd::AsFd;
 use std::rt::{Clock, Files};
@@ -17,17 +16,6 @@ use std::time::Instant;
 
 // The grain of each plan, in frames.
 const GRAIN: u32 = 1000;
-
-// A log, and how many work on it.
-#[derive(Clone, Copy)]
-struct Log<'a> {
-    // The name of its file.
-    file: &'a str,
-    bytes: &'a [u8],
-    // Where its first frame begins, if it was carried on.
-    at: Option<u64>,
-    plan: Plan,
-}
 
 // Whether a command begins with the first record of a log, and so shows none that was carried on.
 fn begins_with_the_first(command: &str) -> bool {
@@ -50,7 +38,7 @@ fn print_found<W: Write>(text: &str, output: &mut W) -> Result<(), Trouble> {
 // Prints what a check finds, unless it is to say nothing. Answers whether it finds nothing.
 fn check<R, W>(
     rt: &R,
-    log: Log<'_>,
+    log: PlannedLog<'_>,
     words: &ArgMatches<'_>,
     output: &mut W,
 ) -> Result<bool, Trouble>
@@ -65,7 +53,12 @@ where
     Ok(found.fine)
 }
 
-fn report<R, W>(rt: &R, log: Log<'_>, words: &ArgMatches<'_>, output: &mut W) -> Result<(), Trouble>
+fn report<R, W>(
+    rt: &R,
+    log: PlannedLog<'_>,
+    words: &ArgMatches<'_>,
+    output: &mut W,
+) -> Result<(), Trouble>
 where
     R: AllocGlobal + Threads + Sync,
     W: Write,
@@ -87,7 +80,12 @@ fn tell_time<R: Eprint + Clock>(rt: &R, bytes: &[u8], begun: Option<Instant>) {
     let _ = eprintln!(rt; "rqlook: {each} microseconds for a megabyte");
 }
 
-fn stats<R, W>(rt: &R, log: Log<'_>, words: &ArgMatches<'_>, output: &mut W) -> Result<(), Trouble>
+fn stats<R, W>(
+    rt: &R,
+    log: PlannedLog<'_>,
+    words: &ArgMatches<'_>,
+    output: &mut W,
+) -> Result<(), Trouble>
 where
     R: Eprint + Clock + AllocGlobal + Threads + Sync,
     W: Write,
@@ -107,7 +105,7 @@ where
 fn show<R, W>(
     rt: &R,
     name: &str,
-    log: Log<'_>,
+    log: PlannedLog<'_>,
     words: &ArgMatches<'_>,
     output: &mut W,
 ) -> Result<(), Trouble>
@@ -115,7 +113,7 @@ where
     R: Eprint + Clock + AllocGlobal + Threads + Sync,
     W: Write,
 {
-    let Log {
+    let PlannedLog {
         bytes,
         at,
         plan,
@@ -148,7 +146,7 @@ where
 fn perform<R, W>(
     rt: &R,
     name: &str,
-    log: Log<'_>,
+    log: PlannedLog<'_>,
     words: &ArgMatches<'_>,
     output: &mut W,
 ) -> Result<bool, Trouble>
@@ -186,7 +184,7 @@ fn output_watch(name: &str, watch: Watch) -> Watch {
 fn print_shown<R>(
     rt: &R,
     name: &str,
-    log: Log<'_>,
+    log: PlannedLog<'_>,
     words: &ArgMatches<'_>,
     watch: Watch,
 ) -> Result<bool, Trouble>
@@ -198,98 +196,11 @@ where
     perform(rt, name, log, words, &mut output)
 }
 
-// Puts the page that the words ask for of a log into memory.
-fn put_page<R>(
-    rt: &R,
-    log: Log<'_>,
-    words: &ArgMatches<'_>,
-    made: &mut Vec<u8>,
-) -> Result<(), Trouble>
-where
-    R: AllocGlobal + Threads + Sync,
-{
-    let elements = numbers_asked(rt.alloc(), words, "element")?;
-    let units = numbers_asked(rt.alloc(), words, "unit")?;
-    let asked = Asked {
-        name: if log.file == "-" {
-            "standard input"
-        } else {
-            log.file
-        },
-        version: VERSION,
-        order: order_asked(words),
-        elements: elements.as_slice(),
-        units: units.as_slice(),
-    };
-    rq_page::page(rt, rt.alloc(), log.bytes, log.at, &log.plan, &asked, made)
-}
-
-// Puts the page of a log, or its script with what stands behind its front, into memory.
-fn put_made<R>(
-    rt: &R,
-    name: &str,
-    log: Log<'_>,
-    words: &ArgMatches<'_>,
-    made: &mut Vec<u8>,
-) -> Result<(), Trouble>
-where
-    R: AllocGlobal + Threads + Sync,
-{
-    let done = match name {
-        "page" => put_page(rt, log, words, made),
-        _ => rq_look::salvage(rt, rt.alloc(), log.bytes, &log.plan, made),
-    };
-    match done {
-        // A write into memory fails for want of it alone.
-        Err(Trouble::Output(_)) => Err(Trouble::Log(Fault::Resources)),
-        done => done,
-    }
-}
-
-// Writes what was made to the file of this name, or to standard output for `-`.
-fn write_made<R>(rt: &R, to: &str, made: &[u8]) -> Result<bool, Failure>
-where
-    R: Files + Print + AllocGlobal,
-    R::File: AsFd,
-{
-    if to == "-" {
-        rt.write_all(made)?;
-        return Ok(true);
-    }
-    match rq_file::put_file(rt, to, made) {
-        Ok(()) => Ok(true),
-        Err(error) if error.kind() == ErrorKind::OutOfMemory => Err(Failure::Memory),
-        Err(error) => Err(of_file(rt, to, Reason::Stream(error))),
-    }
-}
-
-// Makes the page of a log, or its salvage. The file is whole or as it was, and never the log.
-fn make<R>(
-    rt: &R,
-    name: &str,
-    log: Log<'_>,
-    words: &ArgMatches<'_>,
-    to: &str,
-) -> Result<bool, Failure>
-where
-    R: Files + Print + AllocGlobal + Threads + Sync,
-    R::File: AsFd,
-{
-    if is_over_log(rt, log.file, to) {
-        return Err(Failure::Same);
-    }
-    let mut made = Vec::new(rt.alloc());
-    match put_made(rt, name, log, words, &mut made) {
-        Ok(()) => write_made(rt, to, &made),
-        Err(trouble) => Err(of_file(rt, log.file, Reason::Refused(trouble))),
-    }
-}
-
 // Does the command of this name on a log.
 fn act_on<R>(
     rt: &R,
     name: &str,
-    log: Log<'_>,
+    log: PlannedLog<'_>,
     words: &ArgMatches<'_>,
     watch: Watch,
 ) -> Result<bool, Failure>
@@ -298,14 +209,14 @@ where
     R::File: AsFd,
 {
     if log.at.is_some() && begins_with_the_first(name) {
-        return Err(of_file(rt, log.file, Reason::Carried));
+        return Err(of_file(rt, log.file, FileTrouble::Carried));
     }
     if let Some(to) = words.get_str("OUT") {
-        return make(rt, name, log, words, to);
+        return make_file(rt, name, log, words, to);
     }
     match print_shown(rt, name, log, words, watch) {
         Ok(fine) => Ok(fine),
-        Err(trouble) => Err(of_file(rt, log.file, Reason::Refused(trouble))),
+        Err(trouble) => Err(of_file(rt, log.file, FileTrouble::Refused(trouble))),
     }
 }
 
@@ -324,7 +235,7 @@ where
     let file = words.get_str("LOG").unwrap_or("-");
     let bytes = read_log_file(rt, file, watch)?;
     watch.begins(rt, &bytes);
-    let log = Log {
+    let log = PlannedLog {
         file,
         bytes: &bytes,
         at: begins_at(&bytes),

@@ -20,7 +20,7 @@ const MEMORY: u8 = 4;
 
 /// What is wrong with a file.
 #[derive(Drop)]
-pub(crate) enum Reason {
+pub(crate) enum FileTrouble {
     /// It cannot be read or written.
     Stream(io::Error),
     /// It was read and is refused.
@@ -39,7 +39,7 @@ pub(crate) enum Failure {
     /// The number of workers is none.
     Workers,
     /// Something is wrong with the file of this name.
-    File(String, Reason),
+    File(String, FileTrouble),
     /// What is made was to be written over its log.
     Same,
     /// The output fails.
@@ -70,9 +70,9 @@ impl From<io::Error> for Failure {
 }
 
 /// That something is wrong with the file of this name.
-pub(crate) fn of_file<R: AllocGlobal>(rt: &R, file: &str, reason: Reason) -> Failure {
+pub(crate) fn of_file<R: AllocGlobal>(rt: &R, file: &str, trouble: FileTrouble) -> Failure {
     match String::from_str(rt.alloc(), file) {
-        Ok(name) => Failure::File(name, reason),
+        Ok(name) => Failure::File(name, trouble),
         Err(_) => Failure::Memory,
     }
 }
@@ -121,14 +121,14 @@ fn refused(rt: &HostRuntime, file: &str, trouble: &Trouble) -> u8 {
     }
 }
 
-fn tell_file(rt: &HostRuntime, file: &str, reason: &Reason) -> u8 {
-    match reason {
-        Reason::Stream(error) => {
+fn tell_file(rt: &HostRuntime, file: &str, trouble: &FileTrouble) -> u8 {
+    match trouble {
+        FileTrouble::Stream(error) => {
             let _ = eprintln!(rt; "rqlook: {}: {error}", told(file));
             STREAM
         }
-        Reason::Refused(trouble) => refused(rt, file, trouble),
-        Reason::Carried => {
+        FileTrouble::Refused(trouble) => refused(rt, file, trouble),
+        FileTrouble::Carried => {
             let _ = eprintln!(rt; "rqlook: {}: carried: use rqlog restart", told(file));
             REFUSED
         }
@@ -146,7 +146,7 @@ impl Failure {
             Failure::NoText => tell_words(rt, "a word is no text", USAGE),
             Failure::Workers => tell_words(rt, "workers are 1 to 64", USAGE),
             Failure::Same => tell_words(rt, "nothing is written over its log", USAGE),
-            Failure::File(file, reason) => tell_file(rt, file.as_str(), reason),
+            Failure::File(file, trouble) => tell_file(rt, file.as_str(), trouble),
             Failure::Output(error) => output_failed(rt, error),
             Failure::Memory => memory_refused(rt),
         }

@@ -1,8 +1,8 @@
 //! Reading a log from a file or from standard input.
 
-use crate::failures::{Failure, Reason, of_file};
+use crate::failures::{Failure, FileTrouble, of_file};
 use crate::progress::{Watch, Watched};
-use rq_look::{Fault, Trouble};
+use rq_look::{Fault, Plan, Trouble};
 use std::fs;
 use std::io::{self, ErrorKind, Read};
 use std::os::unix::fs::MetadataExt;
@@ -10,6 +10,17 @@ use std::rt::{Clock, Files};
 
 // One byte more than the longest log has.
 const LIMIT: u64 = 4_294_967_296;
+
+/// A log, and how many work on it.
+#[derive(Clone, Copy)]
+pub(crate) struct PlannedLog<'a> {
+    /// The name of its file.
+    pub(crate) file: &'a str,
+    pub(crate) bytes: &'a [u8],
+    /// Where its first frame begins, if it was carried on.
+    pub(crate) at: Option<u64>,
+    pub(crate) plan: Plan,
+}
 
 fn read_to_limit<R: Read + Drop, A: AllocGlobal>(rt: &A, from: R) -> io::Result<Vec<u8>> {
     let mut bytes = Vec::new(rt.alloc());
@@ -29,11 +40,11 @@ where
 }
 
 // Why a file is not read: a log for which there is no memory is refused.
-fn reason_of(error: io::Error) -> Reason {
+fn reason_of(error: io::Error) -> FileTrouble {
     if error.kind() == ErrorKind::OutOfMemory {
-        return Reason::Refused(Trouble::Log(Fault::Resources));
+        return FileTrouble::Refused(Trouble::Log(Fault::Resources));
     }
-    Reason::Stream(error)
+    FileTrouble::Stream(error)
 }
 
 /// The bytes of the file, or of standard input for `-`; no more than make it too long for a log.

@@ -2,8 +2,10 @@
 #![tactic(auto)]
 
 mod acts;
+mod command_table;
 mod failures;
 mod log_files;
+mod made_files;
 mod narrow_lines;
 mod progress;
 mod words;
