@@ -91,15 +91,15 @@ pub(super) fn analysis_of(alloc: Global, table: &[Plain]) -> Result<Analysis, Fa
     Ok(analysed(alloc, &records)?)
 }
 
+// Whether all of that is told of the eighteen records.
+fn tells_arrival(alloc: Global) -> Result<bool, Fail> {
+    let analysis = analysis_of(alloc, ARRIVAL)?;
+    Ok(analysis.lawful() == 18 && outcomes_are_told(&analysis) && touching_is_told(&analysis))
+}
+
 #[test]
 fn outcomes_and_touched_queues(rt: HostRuntime) -> Result<(), Fail> {
-    let analysis = analysis_of(rt.alloc(), ARRIVAL)?;
-    let told = (
-        analysis.lawful(),
-        outcomes_are_told(&analysis),
-        touching_is_told(&analysis),
-    );
-    assert_eq!(rt; told, (18, true, true));
+    assert!(rt; tells_arrival(rt.alloc())?);
     Ok(())
 }
 
@@ -115,8 +115,9 @@ fn are_open(alloc: Global, analysis: &Analysis) -> Result<bool, Fault> {
 // Whether the analysis has these counts and open units.
 fn tells_open(alloc: Global) -> Result<bool, Fail> {
     let analysis = analysis_of(alloc, TWO_OPEN)?;
-    let ended = (analysis.lawful(), analysis.committed(), analysis.aborted());
-    Ok(are_open(alloc, &analysis)? && ended == (6, 1, 1))
+    let lawful = analysis.lawful() == 6;
+    let ended = analysis.committed() == 1 && analysis.aborted() == 1;
+    Ok(are_open(alloc, &analysis)? && lawful && ended)
 }
 
 #[test]
@@ -143,7 +144,7 @@ fn lawful_of(alloc: Global, table: &[Plain]) -> Result<usize, Fail> {
 #[test]
 fn a_kill_is_not_lawful_in_version_1(rt: HostRuntime) -> Result<(), Fail> {
     for table in KILLED {
-        assert_eq!(rt; lawful_of(rt.alloc(), table)?, 1);
+        assert!(rt; lawful_of(rt.alloc(), table)? == 1);
     }
     Ok(())
 }

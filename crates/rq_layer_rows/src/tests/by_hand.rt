@@ -7,14 +7,13 @@ ghost use Rattle.rq_state.specs.Inside.{state_of};
 ghost use Rattle.rq_layer_rows.specs.ByHand.{by_hand, element_by_hand};
 
 use super::analysis::analysis_of;
-use super::courses::lawful_front;
+use super::courses::state_after;
 use super::plain::{NO_QUEUE, Plain, record_of, records_of};
 use Plain::{
     Abort, Begin, Checkpoint, Commit, Define, Dequeue, Deregister, Enqueue, Kill, Register,
 };
 use rq_catalog::Outcome;
-use rq_exchange::replay;
-use rq_pool::{Open, Plan};
+use rq_pool::Plan;
 use rq_queue::{Move, Op, Part, redo};
 use rq_record::{
     ElemId, Fault, Name, Payload, QueueNo, Record, UnitNo, Version, decode, decode_in, encode,
@@ -29,7 +28,7 @@ fn name(bytes: &[u8]) -> Result<Name, Fail> {
 }
 
 // A record of each kind, in the order of their numbers.
-const KINDS: &[Plain] = &[
+const KINDS: [Plain; 10] = [
     Define(0, NO_QUEUE, "jobs"),
     Register(0, "ann"),
     Deregister(0, "ann"),
@@ -71,11 +70,10 @@ fn comes_back(alloc: Global, kind: u8, plain: &Plain) -> Result<bool, Fail> {
 #[test]
 fn a_record_of_each_kind_comes_back(rt: HostRuntime) -> Result<(), Fail> {
     let mut kind = 0u8;
-    for plain in KINDS {
+    for plain in &KINDS {
         kind = kind.wrapping_add(1);
         assert!(rt; comes_back(rt.alloc(), kind, plain)?, "kind {kind}");
     }
-    assert_eq!(rt; kind, 10);
     Ok(())
 }
 
@@ -102,12 +100,6 @@ fn is_taken_apart(alloc: Global) -> Result<bool, Fail> {
     Ok(is_enqueue(&decode(alloc, &bytes)?))
 }
 
-#[test]
-fn a_record_is_taken_apart(rt: HostRuntime) -> Result<(), Fail> {
-    assert!(rt; is_taken_apart(rt.alloc())?);
-    Ok(())
-}
-
 // A queue, a registrant, and an element that it enqueued.
 const RECORDS: &[Plain] = &[
     Define(0, NO_QUEUE, "jobs"),
@@ -117,23 +109,11 @@ const RECORDS: &[Plain] = &[
     Commit(1),
 ];
 
-#[test]
-fn records_are_analysed(rt: HostRuntime) -> Result<(), Fail> {
-    let analysis = analysis_of(rt.alloc(), RECORDS)?;
-    let outcome = analysis.outcome(UnitNo(1));
-    assert!(rt; analysis.lawful() == 5 && outcome == Some(Outcome::Committed(4)));
-    Ok(())
-}
-
-// The state after the records.
-fn replayed<R: Threads + Sync + AllocGlobal>(
-    rt: &R,
-    records: Vec<Record>,
-    plan: &Plan,
-) -> Result<State, Fault> {
-    let start = State::empty(rt.alloc());
-    let records = lawful_front(rt.alloc(), &start, records)?;
-    replay(rt, rt.alloc(), &start, &records, plan, &Open)
+// Whether the analysis tells that all are lawful, and the unit's commit.
+fn is_analysed(alloc: Global) -> Result<bool, Fail> {
+    let analysis = analysis_of(alloc, RECORDS)?;
+    let is_committed = analysis.outcome(UnitNo(1)) == Some(Outcome::Committed(4));
+    Ok(analysis.lawful() == 5 && is_committed)
 }
 
 // Whether the state has one element, that of the ENQUEUE above.
@@ -158,11 +138,16 @@ fn has_registrant(state: &State) -> bool {
     last && registrant.name.bytes() == b"ann".as_slice()
 }
 
+// Whether that is the state after the records.
+fn is_replayed<R: Threads + Sync + AllocGlobal>(rt: &R) -> Result<bool, Fail> {
+    let plan = Plan::new(2, 1).ok_or("plan")?;
+    let state = state_after(rt, records_of(rt.alloc(), RECORDS)?, &plan)?;
+    Ok(has_element(&state) && has_registrant(&state))
+}
+
 #[test]
 fn records_are_replayed(rt: HostRuntime) -> Result<(), Fail> {
-    let plan = Plan::new(2, 1).ok_or("plan")?;
-    let state = replayed(&rt, records_of(rt.alloc(), RECORDS)?, &plan)?;
-    assert!(rt; has_element(&state) && has_registrant(&state));
+    assert!(rt; is_replayed(&rt)?);
     Ok(())
 }
 
@@ -284,12 +269,6 @@ fn is_killed(alloc: Global) -> Result<bool, Fail> {
     Ok(none && poured(alloc, part)? == [0, 1])
 }
 
-#[test]
-fn a_part_is_redone(rt: HostRuntime) -> Result<(), Fail> {
-    assert!(rt; is_killed(rt.alloc())?);
-    Ok(())
-}
-
 // Whether these bytes spell a state with one element and one registrant.
 fn is_read(alloc: Global, spelled: &[u8]) -> Result<bool, Fault> {
     let state = read(alloc, spelled)?;
@@ -306,8 +285,35 @@ fn is_spelled(alloc: Global) -> Result<bool, Fail> {
     Ok(is_read(alloc, &spelled)?)
 }
 
+// What is made by hand, and then asked.
+#[derive(Drop)]
+enum Made {
+    Record,
+    Records,
+    Part,
+    State,
+}
+
+const ALL_MADE: [(Made, &str); 4] = [
+    (Made::Record, "a record is taken apart"),
+    (Made::Records, "records are analysed"),
+    (Made::Part, "a part is redone"),
+    (Made::State, "a state is built and spelled"),
+];
+
+fn is_right(alloc: Global, made: &Made) -> Result<bool, Fail> {
+    match made {
+        Made::Record => is_taken_apart(alloc),
+        Made::Records => is_analysed(alloc),
+        Made::Part => is_killed(alloc),
+        Made::State => is_spelled(alloc),
+    }
+}
+
 #[test]
-fn a_state_is_built_and_spelled(rt: HostRuntime) -> Result<(), Fail> {
-    assert!(rt; is_spelled(rt.alloc())?);
+fn what_is_made_by_hand_is_right(rt: HostRuntime) -> Result<(), Fail> {
+    for (made, what) in &ALL_MADE {
+        assert!(rt; is_right(rt.alloc(), made)?, "{what}");
+    }
     Ok(())
 }

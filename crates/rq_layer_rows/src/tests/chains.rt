@@ -13,6 +13,8 @@ const LENGTHS: [usize; 4] = [11, 9, 24, 9];
 // A body of each of these lengths. The frame of the first stands behind the header.
 const BODIES: [(usize, usize); 4] = [(44, 11), (91, 9), (136, 24), (196, 9)];
 
+const LAST: [(usize, usize); 3] = [(91, 9), (136, 24), (196, 9)];
+
 // Appends the frame of a body behind the last digest of a log.
 fn append(log: &mut Vec<u8>, body: &[u8]) -> Result<(), Fault> {
     let mut last = [0u8; 32];
@@ -86,19 +88,37 @@ fn is_chain<R: Threads + Sync + AllocGlobal>(
     }
 }
 
-// Whether the chain from the first body's frame on has all bodies, that from the second one's on
-// the last three, and one from a place within a frame none.
+// Chains of the log by a place: that from the first body's frame on has all bodies, that from the
+// second one's on the last three, and one from a place within a frame none.
+type Told = (usize, (&'static [(usize, usize)], usize, Rest));
+
+const ALL_TOLD: [Told; 3] = [
+    (40, (&BODIES, 237, Rest::Whole)),
+    (87, (&LAST, 237, Rest::Whole)),
+    (88, (&[], 88, Rest::Cut)),
+];
+
+// Whether each chain is so.
 fn is_told<R: Threads + Sync + AllocGlobal>(rt: &R, log: &[u8], grain: u32) -> Result<bool, Fault> {
-    let whole = is_chain(rt, log, 40, grain, (&BODIES, 237, Rest::Whole))?;
-    let three = is_chain(rt, log, 87, grain, (&BODIES[1..], 237, Rest::Whole))?;
-    let none = is_chain(rt, log, 88, grain, (&[], 88, Rest::Cut))?;
-    Ok(whole && three && none)
+    for (from, want) in ALL_TOLD {
+        if !is_chain(rt, log, from, grain, want)? {
+            return Ok(false);
+        }
+    }
+    Ok(true)
+}
+
+// Whether they are so in the log of those lengths.
+fn tells_spans<R: Threads + Sync + AllocGlobal>(rt: &R, grain: u32) -> Result<bool, Fault> {
+    let log = log_of_lengths(rt.alloc(), &LENGTHS)?;
+    is_told(rt, &log, grain)
 }
 
 #[test]
 fn the_chain_tells_its_spans(rt: HostRuntime) -> Result<(), Fail> {
-    let log = log_of_lengths(rt.alloc(), &LENGTHS)?;
-    assert!(rt; is_told(&rt, &log, 1)? && is_told(&rt, &log, 1000)?);
+    for grain in [1, 1000] {
+        assert!(rt; tells_spans(&rt, grain)?, "{grain}");
+    }
     Ok(())
 }
 
@@ -113,12 +133,17 @@ fn is_walked<R: Threads + Sync + AllocGlobal>(rt: &R, log: &[u8]) -> Result<bool
     Ok(two && found.spans.len() == 1 && found.rest == Rest::Digest)
 }
 
-#[test]
-fn a_walk_does_not_look_at_digests(rt: HostRuntime) -> Result<(), Fail> {
+// Whether a log of two frames, the second of which has a wrong digest, is walked so.
+fn damaged_is_walked<R: Threads + Sync + AllocGlobal>(rt: &R) -> Result<bool, Fault> {
     let mut log = log_of_lengths(rt.alloc(), &LENGTHS[..2])?;
     for byte in log.iter_mut().skip(131) {
         *byte ^= 1;
     }
-    assert!(rt; is_walked(&rt, &log)?);
+    is_walked(rt, &log)
+}
+
+#[test]
+fn a_walk_does_not_look_at_digests(rt: HostRuntime) -> Result<(), Fail> {
+    assert!(rt; damaged_is_walked(&rt)?);
     Ok(())
 }

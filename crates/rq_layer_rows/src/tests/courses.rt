@@ -14,8 +14,8 @@ ghost use Rattle.rq_exchange.specs.Links.{naming};
 use super::plain::{NO_QUEUE, Plain, records_of};
 use Plain::{Abort, Begin, Commit, Define, Dequeue, Enqueue};
 use rq_catalog::{analyse_in, analyse_kept};
-use rq_exchange::{Course, replay_traced};
-use rq_pool::{Gate, Plan};
+use rq_exchange::{Course, replay, replay_traced};
+use rq_pool::{Gate, Open, Plan};
 use rq_record::{Fault, KeptRecord, Record, Version, kept_records};
 use rq_state::State;
 use std::alloc::Global;
@@ -51,8 +51,8 @@ struct Lawful {
     ghost lawful: { all_lawful Two empty (map record_of records.items) ≡ true },
 }
 
-/// The records as far as they are lawful after the state.
-pub(super) fn lawful_front(
+// The records as far as they are lawful after the state.
+fn lawful_front(
     alloc: Global,
     start: &State,
     mut records: Vec<Record>,
@@ -65,6 +65,17 @@ pub(super) fn lawful_front(
     let count = analysis.lawful();
     records.truncate(count);
     Ok(records)
+}
+
+/// The state after the records, as far as they are lawful.
+pub(super) fn state_after<R: Threads + Sync + AllocGlobal>(
+    rt: &R,
+    records: Vec<Record>,
+    plan: &Plan,
+) -> Result<State, Fault> {
+    let start = State::empty(rt.alloc());
+    let records = lawful_front(rt.alloc(), &start, records)?;
+    replay(rt, rt.alloc(), &start, &records, plan, &Open)
 }
 
 // The records as far as they are lawful from the start.
@@ -170,7 +181,7 @@ fn goes_right<R: Threads + Sync + AllocGlobal>(
     Ok(is_after(&state) && gate.are_in_order())
 }
 
-// Whether each of 50 replays by this many workers does.
+// Whether each of 50 replays of them by this many workers does.
 fn all_go_right<R: Threads + Sync + AllocGlobal>(
     rt: &R,
     lawful: &Lawful,
@@ -185,12 +196,16 @@ fn all_go_right<R: Threads + Sync + AllocGlobal>(
     Ok(true)
 }
 
+// Whether each of 50 replays by this many workers of the fourteen records does.
+fn chained_goes_right<R: Threads + Sync + AllocGlobal>(rt: &R, workers: u32) -> Result<bool, Fail> {
+    let lawful = lawful_of(rt.alloc(), records_of(rt.alloc(), CHAINED)?)?;
+    Ok(lawful.records.len() == 14 && all_go_right(rt, &lawful, workers)?)
+}
+
 #[test]
 fn the_last_arrival_begins_an_error_queue(rt: HostRuntime) -> Result<(), Fail> {
-    let lawful = lawful_of(rt.alloc(), records_of(rt.alloc(), CHAINED)?)?;
-    assert_eq!(rt; lawful.records.len(), 14);
     for workers in [1, 2, 4] {
-        assert!(rt; all_go_right(&rt, &lawful, workers)?, "{workers} workers");
+        assert!(rt; chained_goes_right(&rt, workers)?, "{workers} workers");
     }
     Ok(())
 }

@@ -13,11 +13,32 @@ fn checkpoint(alloc: Global, byte: u8, length: usize) -> Result<CheckBytes, Fail
     Ok(CheckBytes::new(bytes).ok_or("too long")?)
 }
 
+// Whether these bytes are a name with this text.
+fn is_named(bytes: &[u8], text: &str) -> bool {
+    match Name::new(bytes) {
+        Some(name) => name.text() == text,
+        None => false,
+    }
+}
+
+// Whether so many bytes are kept for a checkpoint.
+fn is_kept(alloc: Global, length: usize) -> Result<bool, Fail> {
+    Ok(checkpoint(alloc, 0, length)?.bytes().len() == length)
+}
+
+// Whether these bytes are told to be no record's body.
+fn is_no_body(alloc: Global, bytes: &[u8]) -> bool {
+    decode(alloc, bytes).err() == Some(Fault::Form)
+}
+
 #[test]
-fn names_checkpoints_and_bodies_are_read(rt: HostRuntime) -> Result<(), Fail> {
-    assert_eq!(rt; Name::new(b"ann").ok_or("name")?.text(), "ann");
-    assert_eq!(rt; checkpoint(rt.alloc(), 0, 52)?.bytes().len(), 52);
-    assert!(rt; decode(rt.alloc(), &[]).err() == Some(Fault::Form));
+fn names_and_bodies_are_read(rt: HostRuntime) {
+    assert!(rt; is_named(b"ann", "ann") && is_no_body(rt.alloc(), &[]));
+}
+
+#[test]
+fn a_checkpoint_is_kept(rt: HostRuntime) -> Result<(), Fail> {
+    assert!(rt; is_kept(rt.alloc(), 52)?);
     Ok(())
 }
 
@@ -134,19 +155,41 @@ fn a_checkpoint_is_a_part_of_the_log_that_is_lent(rt: HostRuntime) -> Result<(),
     Ok(())
 }
 
-// Whether what the body has is a copy, if this log is lent.
-fn is_copied(alloc: Global, bytes: &[u8], lent: &[u8]) -> Result<bool, Fail> {
-    Ok(read_of(alloc, bytes, lent)? == (Some(100), 0))
+// Logs that are lent beside one whose bodies have 100 bytes.
+const OTHERS: [&[u8]; 3] = [&[b'q'; 200], &[b'p'; 60], &[]];
+
+// Whether what the body has is a copy, whichever of these logs is lent.
+fn is_copied(alloc: Global, bytes: &[u8]) -> Result<bool, Fail> {
+    for other in OTHERS {
+        if read_of(alloc, bytes, other)? != (Some(100), 0) {
+            return Ok(false);
+        }
+    }
+    Ok(true)
+}
+
+fn payload_is_copied(alloc: Global) -> Result<bool, Fail> {
+    let bytes = payload_among_others(alloc, 100)?;
+    is_copied(alloc, &bytes)
+}
+
+fn checkpoint_is_copied(alloc: Global) -> Result<bool, Fail> {
+    let bytes = checkpoint_among_others(alloc, 100)?;
+    is_copied(alloc, &bytes)
 }
 
 #[test]
-fn what_is_no_part_of_the_log_that_is_lent_is_a_copy(rt: HostRuntime) -> Result<(), Fail> {
-    let payload = payload_among_others(rt.alloc(), 100)?;
-    let checkpoint = checkpoint_among_others(rt.alloc(), 100)?;
-    for other in [&[b'q'; 200][..], &[b'p'; 60][..], &[][..]] {
-        let copied = is_copied(rt.alloc(), &payload, other)?
-            && is_copied(rt.alloc(), &checkpoint, other)?;
-        assert!(rt; copied, "{} bytes", other.len());
-    }
+fn a_payload_that_is_no_part_of_the_log_that_is_lent_is_a_copy(
+    rt: HostRuntime,
+) -> Result<(), Fail> {
+    assert!(rt; payload_is_copied(rt.alloc())?);
+    Ok(())
+}
+
+#[test]
+fn a_checkpoint_that_is_no_part_of_the_log_that_is_lent_is_a_copy(
+    rt: HostRuntime,
+) -> Result<(), Fail> {
+    assert!(rt; checkpoint_is_copied(rt.alloc())?);
     Ok(())
 }

@@ -47,12 +47,6 @@ fn takes_one(alloc: Global) -> Result<bool, Fault> {
     Ok(x == Some(5) && taken && one_took(&left, &[5], &[5]))
 }
 
-#[test]
-fn a_room_of_one_goes_on_in_its_list(rt: HostRuntime) -> Result<(), Fail> {
-    assert!(rt; takes_one(rt.alloc())?);
-    Ok(())
-}
-
 // Whether a seat alone takes both numbers of its list, and then none.
 fn takes_all(alloc: Global) -> Result<bool, Fault> {
     let (room, mut seats) = Room::open(alloc, one(alloc, &[5, 5])?)?;
@@ -64,12 +58,6 @@ fn takes_all(alloc: Global) -> Result<bool, Fault> {
     Ok(both && third.is_none() && one_took(&left, &[5, 5], &[]))
 }
 
-#[test]
-fn a_seat_alone_takes_all_before_none(rt: HostRuntime) -> Result<(), Fail> {
-    assert!(rt; takes_all(rt.alloc())?);
-    Ok(())
-}
-
 // Whether each of two seats takes none if no list has a number.
 fn takes_none(alloc: Global) -> Result<bool, Fault> {
     let (room, mut seats) = Room::open(alloc, two(alloc, &[], &[])?)?;
@@ -77,12 +65,6 @@ fn takes_none(alloc: Global) -> Result<bool, Fault> {
     let y = seats[1].take(&room);
     let left = room.close(seats);
     Ok(x.is_none() && y.is_none() && two_took(&left, &[], &[], 0))
-}
-
-#[test]
-fn an_empty_deal_gives_none(rt: HostRuntime) -> Result<(), Fail> {
-    assert!(rt; takes_none(rt.alloc())?);
-    Ok(())
 }
 
 // Takes up to 1,000 times, until a take gives a number.
@@ -110,12 +92,6 @@ fn steals(alloc: Global) -> Result<bool, Fault> {
     }
 }
 
-#[test]
-fn a_seat_without_a_list_steals(rt: HostRuntime) -> Result<(), Fail> {
-    assert!(rt; steals(rt.alloc())?);
-    Ok(())
-}
-
 // Whether a seat takes of its own list, if the first has one too.
 fn takes_own(alloc: Global) -> Result<bool, Fault> {
     let (room, mut seats) = Room::open(alloc, two(alloc, &[0, 1], &[2])?)?;
@@ -133,15 +109,45 @@ fn told_in_order_of_close(alloc: Global) -> Result<bool, Fault> {
     Ok(x == Some(2) && two_took(&left, &[2], &[], 2))
 }
 
-#[test]
-fn a_seat_takes_of_its_own_list_first(rt: HostRuntime) -> Result<(), Fail> {
-    assert!(rt; takes_own(rt.alloc())?);
-    Ok(())
+// What a room is asked for on one thread.
+#[derive(Drop)]
+enum Asked {
+    One,
+    All,
+    None,
+    Theft,
+    Own,
+    Order,
+}
+
+const ALL_ASKED: [(Asked, &str); 6] = [
+    (Asked::One, "a room of one goes on in its list"),
+    (Asked::All, "a seat alone takes all before none"),
+    (Asked::None, "an empty deal gives none"),
+    (Asked::Theft, "a seat without a list steals"),
+    (Asked::Own, "a seat takes of its own list first"),
+    (
+        Asked::Order,
+        "seats are told apart by the order of the close",
+    ),
+];
+
+fn is_answered(alloc: Global, asked: &Asked) -> Result<bool, Fault> {
+    match asked {
+        Asked::One => takes_one(alloc),
+        Asked::All => takes_all(alloc),
+        Asked::None => takes_none(alloc),
+        Asked::Theft => steals(alloc),
+        Asked::Own => takes_own(alloc),
+        Asked::Order => told_in_order_of_close(alloc),
+    }
 }
 
 #[test]
-fn seats_are_told_apart_by_the_order_of_the_close(rt: HostRuntime) -> Result<(), Fail> {
-    assert!(rt; told_in_order_of_close(rt.alloc())?);
+fn rooms_answer_one_thread(rt: HostRuntime) -> Result<(), Fail> {
+    for (asked, what) in &ALL_ASKED {
+        assert!(rt; is_answered(rt.alloc(), asked)?, "{what}");
+    }
     Ok(())
 }
 
@@ -229,15 +235,15 @@ fn four_take_all<R: Threads + Sync + AllocGlobal>(
     Ok(four_took_all(rt.alloc(), &left)?)
 }
 
-#[test]
-fn four_takers_leave_nothing(rt: HostRuntime) -> Result<(), Fail> {
-    assert!(rt; four_take_all(&rt, four(rt.alloc(), 1_000, 1_000)?)?);
-    Ok(())
+// Whether four threads take all, dealt to four or to one.
+fn all_is_taken_by_four<R: Threads + Sync + AllocGlobal>(rt: &R) -> Result<bool, Fault> {
+    let dealt_to_four = four_take_all(rt, four(rt.alloc(), 1_000, 1_000)?)?;
+    Ok(dealt_to_four && four_take_all(rt, four(rt.alloc(), 4_000, 0)?)?)
 }
 
 #[test]
-fn all_dealt_to_one_is_taken_by_four(rt: HostRuntime) -> Result<(), Fail> {
-    assert!(rt; four_take_all(&rt, four(rt.alloc(), 4_000, 0)?)?);
+fn four_takers_leave_nothing(rt: HostRuntime) -> Result<(), Fail> {
+    assert!(rt; all_is_taken_by_four(&rt)?);
     Ok(())
 }
 
@@ -249,19 +255,21 @@ fn is_told(workers: u32, grain: u32, good: bool) -> bool {
     }
 }
 
+// Workers, a grain, and whether there is a plan of them.
+const PLANS: [(u32, u32, bool); 6] = [
+    (1, 1, true),
+    (64, 1_000_000, true),
+    (0, 1, false),
+    (65, 1, false),
+    (1, 0, false),
+    (1, 1_000_001, false),
+];
+
 #[test]
-fn plans_at_the_ends_of_their_ranges(rt: HostRuntime) -> Result<(), Fail> {
-    for (workers, grain, good) in [
-        (1, 1, true),
-        (64, 1_000_000, true),
-        (0, 1, false),
-        (65, 1, false),
-        (1, 0, false),
-        (1, 1_000_001, false),
-    ] {
+fn plans_at_the_ends_of_their_ranges(rt: HostRuntime) {
+    for (workers, grain, good) in PLANS {
         assert!(rt; is_told(workers, grain, good), "at {workers} and {grain}");
     }
-    Ok(())
 }
 
 fn enter_all<G: Gate + Sync>(gate: &G) {
@@ -271,7 +279,6 @@ fn enter_all<G: Gate + Sync>(gate: &G) {
 }
 
 #[test]
-fn the_open_gate_lets_all_enter(_rt: HostRuntime) -> Result<(), Fail> {
+fn the_open_gate_lets_all_enter(_rt: HostRuntime) {
     enter_all(&Open);
-    Ok(())
 }

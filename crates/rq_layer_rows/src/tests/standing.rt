@@ -5,15 +5,14 @@ ghost use Rattle.rq_model.specs.Records as records;
 ghost use Rattle.rq_model.specs.States as states;
 ghost use Rattle.rq_standing.specs.Stands.{Stands};
 
-use super::courses::lawful_front;
+use super::courses::state_after;
 use super::plain::{NO_QUEUE, Plain, Who, record_of};
 use Plain::{
     Abort, Begin, Checkpoint, Commit, Define, Dequeue, Deregister, Enqueue, Kill, Register,
 };
 use rq_catalog::Rule;
-use rq_exchange::replay;
-use rq_pool::{Open, Plan};
-use rq_record::{ElemId, Fault, KeptRecord, Version};
+use rq_pool::Plan;
+use rq_record::{ElemId, Fault, KeptRecord, Record, Version};
 use rq_standing::{Standing, Taken};
 use rq_state::{State, spell};
 use std::alloc::Global;
@@ -159,22 +158,21 @@ fn stood(alloc: Global, cases: &[Case]) -> Result<Option<State>, Fail> {
     stood_from(alloc, &state, last)
 }
 
-// The state after the lawful ones of them, by a replay.
-fn replayed<R: Threads + Sync + AllocGlobal>(
-    rt: &R,
-    cases: &[Case],
-    plan: &Plan,
-) -> Result<State, Fail> {
-    let alloc = rt.alloc();
+// The records of which something becomes.
+fn taken(alloc: Global, cases: &[Case]) -> Result<Vec<Record>, Fail> {
     let mut records = Vec::new(alloc);
     for case in cases {
         if !matches!(case.0, Want::Nothing) {
             records.push(record_of(alloc, &case.1)?)?;
         }
     }
-    let start = State::empty(alloc);
-    let records = lawful_front(alloc, &start, records)?;
-    Ok(replay(rt, alloc, &start, &records, plan, &Open)?)
+    Ok(records)
+}
+
+// The state after these, by a replay.
+fn replayed<R: Threads + Sync + AllocGlobal>(rt: &R, cases: &[Case]) -> Result<State, Fail> {
+    let plan = Plan::new(2, 1).ok_or("plan")?;
+    Ok(state_after(rt, taken(rt.alloc(), cases)?, &plan)?)
 }
 
 // The spelling of a state after fewer records than a log can have.
@@ -189,42 +187,47 @@ fn is_same(alloc: Global, one: &State, other: &State) -> Result<bool, Fault> {
     Ok(spelled(alloc, one)? == spelled(alloc, other)?)
 }
 
-// Whether the machine stands in the state that a replay of the records comes to.
-fn agree<R: Threads + Sync + AllocGlobal>(
+// Whether a replay of the records comes to the state.
+fn is_replayed<R: Threads + Sync + AllocGlobal>(
     rt: &R,
+    stood: &State,
     cases: &[Case],
-    plan: &Plan,
 ) -> Result<bool, Fail> {
-    let replayed = replayed(rt, cases, plan)?;
+    let replayed = replayed(rt, cases)?;
+    Ok(is_same(rt.alloc(), stood, &replayed)?)
+}
+
+// Whether the machine stands in the state that a replay of the records comes to.
+fn agree<R: Threads + Sync + AllocGlobal>(rt: &R, cases: &[Case]) -> Result<bool, Fail> {
     match stood(rt.alloc(), cases)? {
-        Some(stood) => Ok(is_same(rt.alloc(), &stood, &replayed)?),
+        Some(stood) => is_replayed(rt, &stood, cases),
         None => Ok(false),
     }
 }
 
 #[test]
 fn it_stands_where_a_replay_comes_to(rt: HostRuntime) -> Result<(), Fail> {
-    let plan = Plan::new(2, 1).ok_or("plan")?;
     for count in 0..=CASES.len() {
-        assert!(rt;
-            agree(&rt, &CASES[..count], &plan)?,
-            "after {count} records"
-        );
+        assert!(rt; agree(&rt, &CASES[..count])?, "after {count} records");
     }
     Ok(())
 }
 
 // Whether the machine of the version names the rule that there is no KILL.
 fn has_no_kill(alloc: Global, version: Version) -> Result<bool, Fail> {
-    let mut standing = Standing::new(alloc, version);
     let kill = kept(alloc, &Kill(0, 1))?;
+    let mut standing = Standing::new(alloc, version);
     let taken = standing.take(alloc, &kill)?;
     Ok(matches!(taken, Taken::Unlawful(Rule::NoKill)))
 }
 
+// Whether that of version 1 does, and that of version 2 does not.
+fn goes_by_versions(alloc: Global) -> Result<bool, Fail> {
+    Ok(has_no_kill(alloc, Version::One)? && !has_no_kill(alloc, Version::Two)?)
+}
+
 #[test]
 fn it_goes_by_the_rules_of_its_version(rt: HostRuntime) -> Result<(), Fail> {
-    assert!(rt; has_no_kill(rt.alloc(), Version::One)?);
-    assert!(rt; !has_no_kill(rt.alloc(), Version::Two)?);
+    assert!(rt; goes_by_versions(rt.alloc())?);
     Ok(())
 }
