@@ -73,16 +73,20 @@ fn has_frames<R: Threads + Sync + AllocGlobal>(
     }
 }
 
-#[test]
-fn records_are_appended_behind_a_front(rt: HostRuntime) -> Result<(), Fail> {
+// Whether the lines' frames are made all at once, and one by one.
+fn appends_behind<R: Threads + Sync + AllocGlobal>(rt: &R) -> Result<bool, Fail> {
     let plan = Plan::new(2, 1).ok_or("plan")?;
-    let whole = log_of(&rt, TAKEN)?;
+    let whole = log_of(rt, TAKEN)?;
     let (log, frames) = (
         whole.get(..237).unwrap_or(&[]),
         whole.get(237..).unwrap_or(&[]),
     );
-    assert!(rt; has_frames(&rt, log, &plan, frames), "all at once");
-    assert!(rt; is_opened(&rt, log, &plan, frames), "one by one");
+    Ok(has_frames(rt, log, &plan, frames) && is_opened(rt, log, &plan, frames))
+}
+
+#[test]
+fn records_are_appended_behind_a_front(rt: HostRuntime) -> Result<(), Fail> {
+    assert!(rt; appends_behind(&rt)?);
     Ok(())
 }
 
@@ -134,11 +138,16 @@ fn is_marked<R: Threads + Sync + AllocGlobal>(rt: &R, log: Vec<u8>, plan: &Plan)
     }
 }
 
+// Whether the log of `ONE_ELEMENT` is carried on, and is marked.
+fn goes_on<R: Threads + Sync + AllocGlobal>(rt: &R) -> Result<bool, Fail> {
+    let plan = Plan::new(1, 1).ok_or("plan")?;
+    let log = log_of(rt, ONE_ELEMENT)?;
+    let is_carried_on = is_carried_on(rt, &log, &plan);
+    Ok(is_marked(rt, log, &plan) && is_carried_on)
+}
+
 #[test]
 fn a_log_is_marked_and_carried_on(rt: HostRuntime) -> Result<(), Fail> {
-    let plan = Plan::new(1, 1).ok_or("plan")?;
-    let log = log_of(&rt, ONE_ELEMENT)?;
-    assert!(rt; is_carried_on(&rt, &log, &plan), "carried on");
-    assert!(rt; is_marked(&rt, log, &plan), "marked");
+    assert!(rt; goes_on(&rt)?);
     Ok(())
 }

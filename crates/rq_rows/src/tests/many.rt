@@ -120,25 +120,31 @@ fn all_enter<R: Threads + Sync + AllocGlobal>(
     Ok(done.is_ok() && each_entered_once(&entries))
 }
 
+// The log of the script.
+fn log_of_many<R: Threads + Sync + AllocGlobal>(rt: &R) -> Result<Vec<u8>, Fail> {
+    let script = script(rt.alloc())?;
+    log_of(rt, script.as_bytes())
+}
+
+// Whether the log has its bytes, and all enter by this many workers, from the beginning and from
+// the checkpoint.
+fn all_enter_by<R: Threads + Sync + AllocGlobal>(rt: &R, workers: u32) -> Result<bool, Fail> {
+    let plan = Plan::new(workers, 1000).ok_or("plan")?;
+    let log = log_of_many(rt)?;
+    let whole = Command::Restart { log: "", plan };
+    let rest = Command::RestartAt {
+        log: "",
+        offset: CHECKPOINT_AT,
+        plan,
+    };
+    let has_length = log.len() == 1_241_899;
+    Ok(has_length && all_enter(rt, &log, &whole)? && all_enter(rt, &log, &rest)?)
+}
+
 #[test]
 fn every_queue_enters_the_gate(rt: HostRuntime) -> Result<(), Fail> {
-    let script = script(rt.alloc())?;
-    let log = log_of(&rt, script.as_bytes())?;
-    assert_eq!(rt; log.len(), 1_241_899);
     for workers in [1, 2, 7, 64] {
-        let plan = Plan::new(workers, 1000).ok_or("plan")?;
-        let whole = Command::Restart { log: "", plan };
-        assert!(rt; all_enter(&rt, &log, &whole)?, "{workers} workers");
-        let offset = CHECKPOINT_AT;
-        let rest = Command::RestartAt {
-            log: "",
-            offset,
-            plan,
-        };
-        assert!(rt;
-            all_enter(&rt, &log, &rest)?,
-            "{workers} workers from the checkpoint"
-        );
+        assert!(rt; all_enter_by(&rt, workers)?, "{workers} workers");
     }
     Ok(())
 }

@@ -165,14 +165,24 @@ fn goes_on_behind<R: Threads + Sync + AllocGlobal>(
     Ok(all && stands_behind(rt, &keeper, log, &plan))
 }
 
+// Whether a keeper that starts behind so many records of the log, which end there, goes on.
+fn goes_on_from<R: Threads + Sync + AllocGlobal>(
+    rt: &R,
+    count: usize,
+    end: usize,
+) -> Result<bool, Fail> {
+    let log = log_of(rt, RETURN_AND_ARRIVAL)?;
+    let records = records(rt, Version::One, &log)?;
+    match (log.get(..end), records.get(count..)) {
+        (Some(begins), Some(rest)) => goes_on_behind(rt, &log, begins, rest),
+        _ => Ok(false),
+    }
+}
+
 #[test]
 fn a_keeper_goes_on_from_a_checkpoint(rt: HostRuntime) -> Result<(), Fail> {
-    let log = log_of(&rt, RETURN_AND_ARRIVAL)?;
-    let records = records(&rt, Version::One, &log)?;
     for (count, end) in ENDS.iter().enumerate() {
-        let begins = log.get(..*end).ok_or("beginning")?;
-        let rest = records.get(count..).ok_or("rest")?;
-        assert!(rt; goes_on_behind(&rt, &log, begins, rest)?, "behind {count}");
+        assert!(rt; goes_on_from(&rt, count, *end)?, "behind {count}");
     }
     Ok(())
 }
@@ -201,11 +211,16 @@ fn stops<R: Threads + Sync + AllocGlobal>(rt: &R, log: &[u8], records: &[KeptRec
     four && stood && one && keeper.state().next() == 5
 }
 
+// Whether one does with the records of `ONE_ELEMENT` and two more.
+fn stops_behind_four<R: Threads + Sync + AllocGlobal>(rt: &R) -> Result<bool, Fail> {
+    let log = log_of(rt, ONE_ELEMENT)?;
+    let records = with_two_more(rt, &log)?;
+    Ok(stops(rt, &log, &records))
+}
+
 #[test]
 fn a_keeper_stops_before_an_unlawful_record(rt: HostRuntime) -> Result<(), Fail> {
-    let log = log_of(&rt, ONE_ELEMENT)?;
-    let records = with_two_more(&rt, &log)?;
-    assert!(rt; stops(&rt, &log, &records));
+    assert!(rt; stops_behind_four(&rt)?);
     Ok(())
 }
 
@@ -228,10 +243,15 @@ fn after_kill<R: Threads + Sync + AllocGlobal>(
     Ok((first, killed, keeper.state().element_count()))
 }
 
+// Whether a KILL is taken in version 2, and not in version 1.
+fn kills_by_version<R: Threads + Sync + AllocGlobal>(rt: &R) -> Result<bool, Fail> {
+    let first = after_kill(rt, Version::One)? == (Some(4), Some(0), 1);
+    Ok(first && after_kill(rt, Version::Two)? == (Some(4), Some(1), 0))
+}
+
 #[test]
 fn a_keeper_goes_by_the_rules_of_its_version(rt: HostRuntime) -> Result<(), Fail> {
-    assert_eq!(rt; after_kill(&rt, Version::One)?, (Some(4), Some(0), 1));
-    assert_eq!(rt; after_kill(&rt, Version::Two)?, (Some(4), Some(1), 0));
+    assert!(rt; kills_by_version(&rt)?);
     Ok(())
 }
 
@@ -257,11 +277,15 @@ fn is_full_behind_one<R: Threads + Sync + AllocGlobal>(
         && keeper.state().unit_count() == 1
 }
 
+// Whether one does that stands before the last record but one.
+fn is_full<R: Threads + Sync + AllocGlobal>(rt: &R) -> Result<bool, Fail> {
+    let plan = Plan::new(2, 1).ok_or("plan")?;
+    let mut keeper = Keeper::new(Version::One, state_before(rt.alloc(), 4_294_967_294)?);
+    Ok(is_full_behind_one(rt, &mut keeper, &plan))
+}
+
 #[test]
 fn a_keeper_takes_no_more_records_than_a_log_may_have(rt: HostRuntime) -> Result<(), Fail> {
-    let plan = Plan::new(2, 1).ok_or("plan")?;
-    let base = state_before(rt.alloc(), 4_294_967_294)?;
-    let mut keeper = Keeper::new(Version::One, base);
-    assert!(rt; is_full_behind_one(&rt, &mut keeper, &plan));
+    assert!(rt; is_full(&rt)?);
     Ok(())
 }

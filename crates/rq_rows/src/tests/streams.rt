@@ -12,7 +12,7 @@ use std::thread::Threads;
 const FEW_PLANS: [(u32, u32); 3] = [(1, 1), (2, 1000), (7, 1)];
 
 // The report of `RETURN_AND_ARRIVAL`.
-const REPORT: &[u8] = b"front 14 records, 745 of 745 bytes, whole\n\
+const REPORT: &[u8; 206] = b"front 14 records, 745 of 745 bytes, whole\n\
     units 2 committed, 1 aborted, 0 cut off\n\
     queue 0 dead limit 0 error -\n\
     e 4 from 0 priority 3 attempts 1 61\n\
@@ -123,19 +123,32 @@ fn reads<R: Threads + Sync + AllocGlobal>(
     if 0 < fails_at && fails_at <= 108 {
         done == Err(Fault::ReadFailed) && calls == fails_at && written.is_empty()
     } else {
-        done.is_ok() && calls == 108 && written.as_slice() == REPORT
+        done.is_ok() && calls == 108 && written.as_slice() == REPORT.as_slice()
     }
+}
+
+// The first read of which this is not so.
+fn wrong_read<R: Threads + Sync + AllocGlobal>(
+    rt: &R,
+    workers: u32,
+    grain: u32,
+    interrupts: bool,
+) -> Result<Option<u64>, Fail> {
+    let log = log_of(rt, RETURN_AND_ARRIVAL)?;
+    for fails_at in 0..110 {
+        if !reads(rt, workers, grain, Rough::new(&log, interrupts, fails_at)) {
+            return Ok(Some(fails_at));
+        }
+    }
+    Ok(None)
 }
 
 #[test]
 fn a_read_that_fails_is_told_and_nothing_is_written(rt: HostRuntime) -> Result<(), Fail> {
-    let log = log_of(&rt, RETURN_AND_ARRIVAL)?;
     for (workers, grain) in FEW_PLANS {
         for interrupts in [false, true] {
-            for fails_at in 0..110 {
-                let rough = Rough::new(&log, interrupts, fails_at);
-                assert!(rt; reads(&rt, workers, grain, rough), "call {fails_at}");
-            }
+            let wrong = wrong_read(&rt, workers, grain, interrupts)?;
+            assert!(rt; wrong.is_none(), "call {}", wrong.unwrap_or(0));
         }
     }
     Ok(())
@@ -162,23 +175,35 @@ fn writes<R: Threads + Sync + AllocGlobal>(
     if fails_at <= 69 {
         let took = fails_at.saturating_sub(1).saturating_mul(3);
         let is_told = done == Err(Fault::WriteFailed) && narrow.calls == fails_at;
-        is_told && narrow.taken.len() as u64 == took && REPORT.starts_with(&narrow.taken)
+        is_told && narrow.taken.len() as u64 == took && REPORT.as_slice().starts_with(&narrow.taken)
     } else {
-        done.is_ok() && narrow.calls == 69 && narrow.taken.as_slice() == REPORT
+        done.is_ok() && narrow.calls == 69 && narrow.taken.as_slice() == REPORT.as_slice()
     }
+}
+
+// The first write of which this is not so.
+fn wrong_write<R: Threads + Sync + AllocGlobal>(
+    rt: &R,
+    workers: u32,
+    grain: u32,
+    interrupts: bool,
+) -> Result<Option<u64>, Fail> {
+    let log = log_of(rt, RETURN_AND_ARRIVAL)?;
+    for fails_at in 1..75 {
+        let narrow = Narrow::new(Vec::new(rt.alloc()), interrupts, fails_at);
+        if !writes(rt, workers, grain, &log, narrow) {
+            return Ok(Some(fails_at));
+        }
+    }
+    Ok(None)
 }
 
 #[test]
 fn a_write_that_fails_is_told_and_leaves_a_beginning(rt: HostRuntime) -> Result<(), Fail> {
-    let log = log_of(&rt, RETURN_AND_ARRIVAL)?;
-    assert_eq!(rt; REPORT.len(), 206);
     for (workers, grain) in FEW_PLANS {
         for interrupts in [false, true] {
-            for fails_at in 1..75 {
-                let narrow = Narrow::new(Vec::new(rt.alloc()), interrupts, fails_at);
-                let is = writes(&rt, workers, grain, &log, narrow);
-                assert!(rt; is, "call {fails_at}");
-            }
+            let wrong = wrong_write(&rt, workers, grain, interrupts)?;
+            assert!(rt; wrong.is_none(), "call {}", wrong.unwrap_or(0));
         }
     }
     Ok(())
@@ -201,14 +226,19 @@ impl Write for Full {
     }
 }
 
-#[test]
-fn a_writer_that_takes_nothing_is_asked_once(rt: HostRuntime) -> Result<(), Fail> {
-    let log = log_of(&rt, RETURN_AND_ARRIVAL)?;
+// Whether a run that writes to it asks once, and tells that the write failed.
+fn asks_once<R: Threads + Sync + AllocGlobal>(rt: &R) -> Result<bool, Fail> {
     let plan = Plan::new(2, 1000).ok_or("plan")?;
+    let log = log_of(rt, RETURN_AND_ARRIVAL)?;
     let mut input = OverRead::new(Cursor::new(log.as_slice()));
     let mut output = OverWrite::new(Full { calls: 0 });
-    let done = run(&rt, rt.alloc(), &mut input, &mut output, &plan, &Open);
-    assert!(rt; done == Err(Fault::WriteFailed));
-    assert_eq!(rt; output.into_inner().calls, 1);
+    let done = run(rt, rt.alloc(), &mut input, &mut output, &plan, &Open);
+    let calls = output.into_inner().calls;
+    Ok(done == Err(Fault::WriteFailed) && calls == 1)
+}
+
+#[test]
+fn a_writer_that_takes_nothing_is_asked_once(rt: HostRuntime) -> Result<(), Fail> {
+    assert!(rt; asks_once(&rt)?);
     Ok(())
 }

@@ -58,11 +58,16 @@ fn all_workers_write<R: Threads + Sync + AllocGlobal>(
     same
 }
 
+// Whether one thread and workers write the report of `ONE_ELEMENT`.
+fn all_write<R: Threads + Sync + AllocGlobal>(rt: &R) -> Result<bool, Fail> {
+    let log = log_of(rt, ONE_ELEMENT)?;
+    let state = restarted(rt, &log)?;
+    let one_writes = by_one_thread(rt.alloc(), &state).as_slice() == SHORT;
+    Ok(one_writes && all_workers_write(rt, &state, SHORT))
+}
+
 #[test]
 fn a_short_report_is_written(rt: HostRuntime) -> Result<(), Fail> {
-    let log = log_of(&rt, ONE_ELEMENT)?;
-    let state = restarted(&rt, &log)?;
-    assert!(rt; by_one_thread(rt.alloc(), &state).as_slice() == SHORT);
-    assert!(rt; all_workers_write(&rt, &state, SHORT));
+    assert!(rt; all_write(&rt)?);
     Ok(())
 }
