@@ -99,22 +99,32 @@ fn acts_on_checkpoint<R: Threads + Sync + AllocGlobal>(
     acts(rt, command, &log, want)
 }
 
-#[test]
-fn a_restart_from_a_checkpoint_is_whole_or_refused(rt: HostRuntime) -> Result<(), Fail> {
+// Whether a restart from that checkpoint is.
+fn restarts_at<R: Threads + Sync + AllocGlobal>(rt: &R) -> Result<bool, Fail> {
     let command = Command::RestartAt {
         log: "log",
         offset: 447,
         plan: Plan::new(1, 1).ok_or("plan")?,
     };
-    assert!(rt; acts_on_checkpoint(&rt, command, CHECKPOINT_REPORT)?);
+    acts_on_checkpoint(rt, command, CHECKPOINT_REPORT)
+}
+
+#[test]
+fn a_restart_from_a_checkpoint_is_whole_or_refused(rt: HostRuntime) -> Result<(), Fail> {
+    assert!(rt; restarts_at(&rt)?);
     Ok(())
+}
+
+// Whether an audit is.
+fn audits<R: Threads + Sync + AllocGlobal>(rt: &R) -> Result<bool, Fail> {
+    let plan = Plan::new(1, 1).ok_or("plan")?;
+    let command = Command::Audit { log: "log", plan };
+    acts_on_checkpoint(rt, command, b"checkpoint 447 true\n")
 }
 
 #[test]
 fn an_audit_is_whole_or_refused(rt: HostRuntime) -> Result<(), Fail> {
-    let plan = Plan::new(1, 1).ok_or("plan")?;
-    let command = Command::Audit { log: "log", plan };
-    assert!(rt; acts_on_checkpoint(&rt, command, b"checkpoint 447 true\n")?);
+    assert!(rt; audits(&rt)?);
     Ok(())
 }
 
@@ -129,10 +139,18 @@ fn closes<R: Threads + Sync + AllocGlobal>(rt: &R, log: &[u8]) -> Result<bool, F
     acts(rt, command, log, &want)
 }
 
+// Whether that of the log with the checkpoint is, while its unit is open.
+fn closes_open_unit<R: Threads + Sync + AllocGlobal>(rt: &R) -> Result<bool, Fail> {
+    let log = log_of(rt, CHECKPOINT)?;
+    match log.get(..679) {
+        Some(begins) => closes(rt, begins),
+        None => Ok(false),
+    }
+}
+
 #[test]
 fn a_close_is_whole_or_refused(rt: HostRuntime) -> Result<(), Fail> {
-    let log = log_of(&rt, CHECKPOINT)?;
-    assert!(rt; closes(&rt, log.get(..679).ok_or("log")?)?);
+    assert!(rt; closes_open_unit(&rt)?);
     Ok(())
 }
 

@@ -15,6 +15,9 @@ const SIZES: usize = 64;
 // It keeps this many of each size.
 const KEPT: usize = 7;
 
+// There is room for this many blocks that a host gives.
+const ROOM: usize = 50_000;
+
 // A block of a size that is not kept apart.
 const PIN: usize = 1_088;
 
@@ -34,18 +37,34 @@ impl Scarce {
     pub fn begin(alloc: Global) -> Result<Scarce, AllocError> {
         let mut scarce = Scarce {
             alloc,
-            plugs: Vec::with_capacity(alloc, SIZES * KEPT)?,
-            taken: room(alloc)?,
-            rest: room(alloc)?,
-            last: room(alloc)?,
-            spare: Vec::with_capacity(alloc, 1)?,
+            plugs: Vec::new(alloc),
+            taken: Vec::new(alloc),
+            rest: Vec::new(alloc),
+            last: Vec::new(alloc),
+            spare: Vec::new(alloc),
         };
-        take_small(alloc, &mut scarce.plugs);
-        let mut store = Vec::with_capacity(alloc, BLOCKS)?;
-        take_size(alloc, &mut store, BLOCK);
-        take_all(alloc, &mut scarce.taken);
-        drop(store);
+        scarce.make_room()?;
+        scarce.take_but_store()?;
         Ok(scarce)
+    }
+
+    // Makes room for all that is taken, before anything is. While that is done in a method that owns
+    // nothing, a refusal has nothing to drop, which makes it cheap to prove.
+    fn make_room(&mut self) -> Result<(), AllocError> {
+        self.plugs.reserve_exact(SIZES * KEPT)?;
+        self.taken.reserve_exact(ROOM)?;
+        self.rest.reserve_exact(ROOM)?;
+        self.last.reserve_exact(ROOM)?;
+        self.spare.reserve_exact(1)
+    }
+
+    fn take_but_store(&mut self) -> Result<(), AllocError> {
+        take_small(self.alloc, &mut self.plugs);
+        let mut store = Vec::with_capacity(self.alloc, BLOCKS)?;
+        take_size(self.alloc, &mut store, BLOCK);
+        take_all(self.alloc, &mut self.taken);
+        drop(store);
+        Ok(())
     }
 
     /// Takes all memory.
@@ -81,7 +100,7 @@ impl Scarce {
 
 /// Room for all blocks that a host gives.
 pub fn room(alloc: Global) -> Result<Vec<Vec<u8>>, AllocError> {
-    Vec::with_capacity(alloc, 50_000)
+    Vec::with_capacity(alloc, ROOM)
 }
 
 /// Takes what memory there is, in ever smaller blocks: first of addresses, then of the heap of this

@@ -122,11 +122,16 @@ fn stops_at<R: Threads + Wait + Sync + AllocGlobal>(
     Ok(refused && gate.entries.load(Ordering::SeqCst) == at)
 }
 
+// Whether one does, in a run of the six queues' log.
+fn six_stop_at<R: Threads + Wait + Sync + AllocGlobal>(rt: &R, at: u32) -> Result<bool, Fail> {
+    let log = log_of(rt, SIX)?;
+    stops_at(rt, &log, at)
+}
+
 #[test]
 fn who_is_refused_draws_no_more(rt: HostRuntime) -> Result<(), Fail> {
-    let log = log_of(&rt, SIX)?;
     for at in 1..=QUEUES {
-        assert!(rt; stops_at(&rt, &log, at)?, "at entry {at}");
+        assert!(rt; six_stop_at(&rt, at)?, "at entry {at}");
     }
     Ok(())
 }
@@ -210,17 +215,30 @@ fn relieved<R: Threads + Wait + Sync + AllocGlobal>(
     })
 }
 
-#[test]
-fn the_others_go_on_to_their_none(rt: HostRuntime) -> Result<(), Fail> {
-    let log = log_of(&rt, SIX)?;
+// How many of twenty restarts were refused, if each was refused or whole.
+fn refused_of_twenty<R: Threads + Wait + Sync + AllocGlobal>(
+    rt: &R,
+    log: &[u8],
+) -> Result<u32, Fail> {
     let mut refused = 0u32;
     for _ in 0..20 {
-        match relieved(&rt, &log)? {
+        match relieved(rt, log)? {
             Some(true) => refused = refused.wrapping_add(1),
             Some(false) => (),
             None => return Err("neither refused nor whole".into()),
         }
     }
-    assert!(rt; refused > 0);
+    Ok(refused)
+}
+
+// Whether some were.
+fn some_are_refused<R: Threads + Wait + Sync + AllocGlobal>(rt: &R) -> Result<bool, Fail> {
+    let log = log_of(rt, SIX)?;
+    Ok(refused_of_twenty(rt, &log)? > 0)
+}
+
+#[test]
+fn the_others_go_on_to_their_none(rt: HostRuntime) -> Result<(), Fail> {
+    assert!(rt; some_are_refused(&rt)?);
     Ok(())
 }
