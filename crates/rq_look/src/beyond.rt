@@ -20,7 +20,7 @@ use crate::wanted::Wanted;
 use rq_behind::Found;
 use rq_front::{Span, version};
 use rq_record::{Fault, KeptRecord, Version, decode_kept};
-use std::alloc::Global;
+use std::alloc::{AllocError, Global};
 use std::io::Write;
 
 /// The body of a frame behind the front, the offset of the frame and the log's version.
@@ -64,13 +64,11 @@ fn put_shown(
     offset: u64,
     record: &KeptRecord,
     wanted: &Wanted<'_>,
-) -> Result<(), Trouble>
-    ensures { IfErr result IsBroken }
-{
+) -> Result<(), AllocError> {
     if wanted.json {
         return put_loose(alloc, text, offset, record);
     }
-    Ok(put_loose_record(alloc, text, offset, record, wanted.full)?)
+    put_loose_record(alloc, text, offset, record, wanted.full)
 }
 
 // Puts a frame whose body spells no record, and why, in the form that is wanted.
@@ -80,9 +78,7 @@ fn put_reason(
     offset: u64,
     reason: &str,
     wanted: &Wanted<'_>,
-) -> Result<(), Trouble>
-    ensures { IfErr result IsBroken }
-{
+) -> Result<(), AllocError> {
     if wanted.json {
         return put_unspelled(alloc, text, offset, reason);
     }
@@ -92,7 +88,7 @@ fn put_reason(
         Word(reason),
         Word("\n"),
     ];
-    Ok(put_text_pieces(text, &pieces)?)
+    put_text_pieces(text, &pieces)
 }
 
 // Puts the line of a frame that is no record, if it is wanted. Answers whether it is.
@@ -101,9 +97,7 @@ fn put_other(
     it: &Loose<'_>,
     wanted: &Wanted<'_>,
     text: &mut String,
-) -> Result<bool, Trouble>
-    ensures { IfErr result IsBroken }
-{
+) -> Result<bool, AllocError> {
     let is_wanted = wanted.wants_no_record();
     if is_wanted {
         let reason = form_reason(alloc, it.version, it.body)?;
@@ -119,9 +113,7 @@ fn put_record(
     record: &KeptRecord,
     wanted: &Wanted<'_>,
     text: &mut String,
-) -> Result<bool, Trouble>
-    ensures { IfErr result IsBroken }
-{
+) -> Result<bool, AllocError> {
     let is_wanted = wanted.wants_record(record, queue_named(record));
     if is_wanted {
         put_shown(alloc, text, offset, record, wanted)?;
@@ -135,16 +127,17 @@ fn put_line(
     it: &Loose<'_>,
     wanted: &Wanted<'_>,
     text: &mut String,
-) -> Result<bool, Trouble>
-    ensures { IfErr result IsBroken }
+) -> Result<bool, Fault>
+    ensures { IfErr result (λ e. e ≡ Resources) }
 {
     if it.offset < wanted.from {
         return Ok(false);
     }
-    match &it.record(alloc)? {
+    let is_wanted = match &it.record(alloc)? {
         Some(record) => put_record(alloc, it.offset, record, wanted, text),
         None => put_other(alloc, it, wanted, text),
-    }
+    };
+    Ok(is_wanted?)
 }
 
 // Puts a frame, if it is wanted. Answers whether it is.
@@ -204,13 +197,11 @@ fn put_count(
     found: &Found,
     total: u64,
     wanted: &Wanted<'_>,
-) -> Result<(), Trouble>
-    ensures { IfErr result IsBroken }
-{
+) -> Result<(), AllocError> {
     if wanted.json {
         return put_behind_object(alloc, text, found);
     }
-    Ok(put_behind(text, found, total)?)
+    put_behind(text, found, total)
 }
 
 /// Puts the right frames behind the front that are wanted, so many at most, and how many there are;
@@ -235,5 +226,6 @@ pub(crate) fn put_wanted_behind<W: Write>(
     }
     let found = standing_behind(alloc, bytes, end)?;
     put_frames(alloc, bytes, &found.spans, wanted, most, text, output)?;
-    put_count(alloc, text, &found, end.total, wanted)
+    put_count(alloc, text, &found, end.total, wanted)?;
+    Ok(())
 }

@@ -1,8 +1,9 @@
 //! Bytes as text.
 
 use crate::hidden::is_hidden;
+use crate::pieces::TextPiece::{Number, Word};
+use crate::pieces::put_text_pieces;
 use std::alloc::{AllocError, Global};
-use std::fmt::Write;
 use std::str::from_utf8;
 
 // As many characters or bytes of a payload are shown where it is shortened.
@@ -25,16 +26,23 @@ fn escape_of(c: char) -> Option<&'static str> {
 }
 
 fn is_shown(c: char) -> bool {
-    escape_of(c).is_some() || !is_hidden(c)
+    matches!(c, ' '..='~') || escape_of(c).is_some() || !is_hidden(c)
+}
+
+fn is_printable(text: &str) -> bool {
+    for c in text.chars() {
+        if !is_shown(c) {
+            return false;
+        }
+    }
+    true
 }
 
 /// The text that the bytes spell, where no character of it is hidden but for ends of lines and tabs.
 pub(crate) fn printable(bytes: &[u8]) -> Option<&str> {
-    let text = from_utf8(bytes).ok()?;
-    if bytes.iter().all(|b| is_plain(*b)) || text.chars().all(|c| is_shown(c)) {
-        Some(text)
-    } else {
-        None
+    match from_utf8(bytes) {
+        Ok(text) if is_printable(text) => Some(text),
+        _ => None,
     }
 }
 
@@ -93,8 +101,8 @@ pub(crate) fn put_bytes(
         Some(word) => put_quoted(text, word, most)?,
         None => put_hex(alloc, text, bytes, most)?,
     };
-    if count > shown {
-        write!(text, ".. {count} bytes")?;
+    if count <= shown {
+        return Ok(());
     }
-    Ok(())
+    put_text_pieces(text, &[Word(".. "), Number(count as u64), Word(" bytes")])
 }

@@ -1,11 +1,13 @@
 //! Whether a log is whole, and each of its checkpoints true.
 
-ghost use Rattle.std.specs.Prelude.{◌≡◌, ◌&&◌, ◌++◌, None, Some, IfOk, IfErr, OnOk, string_bytes};
+ghost use Rattle.std.specs.Prelude.{◌≡◌, ◌&&◌, ◌++◌, None, Some, IfOk, IfErr, OnOk, codes};
+ghost use Rattle.std.specs.Prelude.{string_bytes};
 ghost use Rattle.std.specs.List.{flat_map};
 ghost use Rattle.rq_restart.specs.Views.{why_of};
 ghost use Rattle.rq_look.specs.Looks as looks;
 ghost use Rattle.rq_look.specs.Findings.{IsFindings};
 ghost use Rattle.rq_look.specs.Looks.{IsRefusal, all_true, checkpoint_finding, end_finding};
+ghost use Rattle.rq_look.specs.Looks.{end_text};
 ghost use Rattle.rq_look.specs.Rests.{behind_finding};
 
 use crate::behind_fronts::{put_rest, standing_behind};
@@ -103,6 +105,20 @@ fn check_whole<R: Threads + Sync>(
     })
 }
 
+// The lines of a log that begins with a checkpoint: that it is not checked, where its front ends, and
+// what stands behind it.
+fn carried_text(alloc: Global, end: &End, found: &Found) -> Result<String, AllocError>
+    ensures { IfOk result (λ text. string_bytes text ≡ codes "carried: use rqlog\n"
+        ++ end_text end.now.records end.now.used end.now.total (why_of end.now.why)
+        (string_bytes end.now.reason)
+        ++ behind_finding (why_of end.now.why) found.now end.now.total) }
+{
+    let mut text = String::from_str(alloc, "carried: use rqlog\n")?;
+    put_end(&mut text, end)?;
+    put_rest(&mut text, end, found)?;
+    Ok(text)
+}
+
 // Where a log ends that begins with the checkpoint at an offset. Its file alone does not tell whether
 // that is true.
 fn check_at<R: Threads + Sync>(
@@ -118,9 +134,7 @@ fn check_at<R: Threads + Sync>(
 {
     let end = end_at(rt, alloc, bytes, at, plan)?;
     let behind = standing_behind(alloc, bytes, &end)?;
-    let mut text = String::from_str(alloc, "carried: use rqlog\n")?;
-    put_end(&mut text, &end)?;
-    put_rest(&mut text, &end, &behind)?;
+    let text = carried_text(alloc, &end, &behind)?;
     Ok(Findings { fine: false, text })
 }
 

@@ -3,6 +3,7 @@
 ghost use Rattle.std.specs.Prelude.{◌≡◌, ◌++◌, ℕ, List, Option, IfErr, OnOk, string_bytes};
 ghost use Rattle.std.specs.Io.KnownBytes.{Appends};
 ghost use Rattle.rq_model.specs.Fronts.{Restarted};
+ghost use Rattle.rq_record.specs.declared.fault.Fault.TheVariants.{Resources};
 ghost use Rattle.rq_restart.specs.FrontEnds.{IsEndOf};
 ghost use Rattle.rq_front.specs.Chains.{IsLog};
 ghost use Rattle.rq_look.specs.Looks.{EndsDump, IsBroken, IsClosing, IsRestartFrom};
@@ -18,8 +19,10 @@ use crate::numbered::{Numbered, queues_behind, queues_of};
 use crate::sheet::{relieve, write_out};
 use crate::trouble::Trouble;
 use crate::wanted::Wanted;
+use rq_record::Fault;
 use rq_restart::Plan;
-use std::alloc::Global;
+use rq_state::State;
+use std::alloc::{AllocError, Global};
 use std::io::Write;
 use std::thread::Threads;
 
@@ -29,13 +32,11 @@ fn put_shown(
     text: &mut String,
     it: &Numbered,
     wanted: &Wanted<'_>,
-) -> Result<(), Trouble>
-    ensures { IfErr result IsBroken }
-{
+) -> Result<(), AllocError> {
     if wanted.json {
         return put_numbered(alloc, text, it);
     }
-    Ok(put_record_line(alloc, text, it, wanted.full)?)
+    put_record_line(alloc, text, it, wanted.full)
 }
 
 // Puts where the front ends in the form that is wanted.
@@ -44,12 +45,11 @@ fn put_closing(
     text: &mut String,
     end: &End,
     wanted: &Wanted<'_>,
-) -> Result<(), Trouble>
-    ensures closing { OnOk result ((at : Option ℕ) (b : List ℕ) (r : Restarted)
+) -> Result<(), AllocError>
+    ensures { OnOk result ((at : Option ℕ) (b : List ℕ) (r : Restarted)
         → IsRestartFrom at b r → IsEndOf r (front_end_of end.now)
         → (line : List ℕ) × IsClosing at b wanted.now.json line
         × (string_bytes text.new ≡ string_bytes text.old ++ line)) }
-    ensures refused { IfErr result IsBroken }
 {
     if wanted.json {
         return put_closing_object(alloc, text, end);
@@ -64,8 +64,8 @@ fn put_line(
     queues: u32,
     wanted: &Wanted<'_>,
     text: &mut String,
-) -> Result<bool, Trouble>
-    ensures { IfErr result IsBroken }
+) -> Result<bool, Fault>
+    ensures { IfErr result (λ e. e ≡ Resources) }
 {
     if placed.offset < wanted.from {
         return Ok(false);
@@ -125,12 +125,39 @@ fn put_records<W: Write>(
 }
 
 // Puts, before the last line, with which checkpoint the log begins. In JSON the last line has it.
-fn put_origin(text: &mut String, end: &End, wanted: &Wanted<'_>) -> Result<(), Trouble>
-    ensures { IfErr result IsBroken }
-{
-    if !wanted.json {
-        put_beginning(text, end.at)?;
+fn put_origin(text: &mut String, end: &End, wanted: &Wanted<'_>) -> Result<(), AllocError> {
+    if wanted.json {
+        return Ok(());
     }
+    put_beginning(text, end.at)
+}
+
+// Writes the line of each record that is wanted, of the front, which begins behind this state, and of
+// what stands behind it; and the last lines.
+fn put_lines<W: Write>(
+    alloc: Global,
+    bytes: &[u8],
+    at: Option<u64>,
+    end: &End,
+    first: &State,
+    wanted: &Wanted<'_>,
+    text: &mut String,
+    output: &mut W,
+) -> Result<(), Trouble>
+    requires log { IsLog bytes.now }
+    requires end { (r : Restarted) × IsRestartFrom at bytes.now r
+        × IsEndOf r (front_end_of end.now) }
+    ensures last { OnOk result (EndsDump at bytes.now wanted.now.json
+        (W.contents output.old) (W.contents output.new)) }
+    ensures refused { IfErr result IsBroken }
+{
+    let frames = front_frames(bytes, first, at, end.used);
+    let queues = queues_of(first.definitions());
+    let left = put_records(alloc, frames, queues, wanted, text, output)?;
+    put_wanted_behind(alloc, bytes, end, wanted, left, text, output)?;
+    put_origin(text, end, wanted)?;
+    put_closing(alloc, text, end, wanted)?;
+    write_out(text, output)?;
     Ok(())
 }
 
@@ -163,13 +190,6 @@ where
 {
     let end = end_of(rt, alloc, bytes, at, plan)?;
     let first = first_state(alloc, bytes, at)?;
-    let frames = front_frames(bytes, &first, at, end.used);
-    let queues = queues_of(first.definitions());
     let mut text = String::new(alloc);
-    let left = put_records(alloc, frames, queues, wanted, &mut text, output)?;
-    put_wanted_behind(alloc, bytes, &end, wanted, left, &mut text, output)?;
-    put_origin(&mut text, &end, wanted)?;
-    put_closing(alloc, &mut text, &end, wanted)?;
-    write_out(&mut text, output)?;
-    Ok(())
+    put_lines(alloc, bytes, at, &end, &first, wanted, &mut text, output)
 }

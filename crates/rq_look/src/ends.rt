@@ -76,15 +76,20 @@ fn length_reason(alloc: Global, rest: &[u8]) -> Result<String, AllocError> {
     joined_text(alloc, &[Word("a body of "), len, room])
 }
 
+// The digest of what a frame states, behind these bytes.
+fn digest_text(alloc: Global, before: &[u8], stated: &[u8]) -> Result<String, AllocError> {
+    let mut hasher = Sha256::new();
+    hasher.update(&before[before.len().saturating_sub(32)..]);
+    hasher.update(stated);
+    hex::encode(alloc, hasher.finalize().as_slice())
+}
+
 fn chain_reason(alloc: Global, before: &[u8], rest: &[u8]) -> Result<String, AllocError> {
     let Some((frame, _)) = first_frame(rest) else {
         return cut_reason(alloc, rest);
     };
-    let mut hasher = Sha256::new();
-    hasher.update(&before[before.len().saturating_sub(32)..]);
-    hasher.update(frame.stated);
     let stated = hex::encode(alloc, frame.digest)?;
-    let digest = hex::encode(alloc, hasher.finalize().as_slice())?;
+    let digest = digest_text(alloc, before, frame.stated)?;
     let (stated, digest) = (Word(stated.as_str()), Word(digest.as_str()));
     joined_text(
         alloc,
@@ -149,20 +154,26 @@ fn rule_of(alloc: Global, judge: &Judge, body: &[u8]) -> Result<Option<Rule>, Fa
     }
 }
 
-fn law_reason<R: Threads + Sync>(
+// The rule that the record of a body breaks behind the front of a log, if it is a record and breaks
+// one.
+fn rule_behind<R: Threads + Sync>(
     rt: &R,
     alloc: Global,
     bytes: &[u8],
     at: Option<u64>,
     body: &[u8],
     plan: &Plan,
-) -> Result<String, Fault>
+) -> Result<Option<Rule>, Fault>
     ensures { IfErr result (λ e. e ≡ Resources) }
 {
     let judge = judge_behind(rt, alloc, bytes, at, plan)?;
-    match rule_of(alloc, &judge, body)? {
-        Some(rule) => Ok(format!(in alloc; "{rule}")?),
-        None => Ok(String::from_str(alloc, "the record is not lawful")?),
+    rule_of(alloc, &judge, body)
+}
+
+fn law_reason(alloc: Global, rule: Option<Rule>) -> Result<String, AllocError> {
+    match rule {
+        Some(rule) => format!(in alloc; "{rule}"),
+        None => String::from_str(alloc, "the record is not lawful"),
     }
 }
 
@@ -170,6 +181,27 @@ fn body_of(rest: &[u8]) -> &[u8] {
     match first_frame(rest) {
         Some((frame, _)) => frame.body,
         None => &[],
+    }
+}
+
+// Why a front ends there, where the rule that the next record breaks is known, if it breaks one.
+fn reason_by(
+    alloc: Global,
+    bytes: &[u8],
+    end: &FrontEnd,
+    rule: Option<Rule>,
+) -> Result<String, AllocError> {
+    let (before, rest) = bytes.split_at(bytes.len().min(end.used as usize));
+    match end.why {
+        Why::Whole => String::from_str(alloc, "nothing follows"),
+        Why::Cut => cut_reason(alloc, rest),
+        Why::Length => length_reason(alloc, rest),
+        Why::Chain => chain_reason(alloc, before, rest),
+        Why::Form => {
+            let version = version(bytes).unwrap_or(Version::Two);
+            form_reason(alloc, version, body_of(rest))
+        }
+        Why::Law => law_reason(alloc, rule),
     }
 }
 
@@ -183,16 +215,12 @@ fn reason_of<R: Threads + Sync>(
 ) -> Result<String, Fault>
     ensures { IfErr result (λ e. e ≡ Resources) }
 {
-    let version = version(bytes).unwrap_or(Version::Two);
-    let (before, rest) = bytes.split_at(bytes.len().min(end.used as usize));
-    match end.why {
-        Why::Whole => Ok(String::from_str(alloc, "nothing follows")?),
-        Why::Cut => Ok(cut_reason(alloc, rest)?),
-        Why::Length => Ok(length_reason(alloc, rest)?),
-        Why::Chain => Ok(chain_reason(alloc, before, rest)?),
-        Why::Form => Ok(form_reason(alloc, version, body_of(rest))?),
-        Why::Law => law_reason(rt, alloc, bytes, at, body_of(rest), plan),
-    }
+    let (_, rest) = bytes.split_at(bytes.len().min(end.used as usize));
+    let rule = match end.why {
+        Why::Law => rule_behind(rt, alloc, bytes, at, body_of(rest), plan)?,
+        _ => None,
+    };
+    Ok(reason_by(alloc, bytes, end, rule)?)
 }
 
 // Where the front ends, with the reason.

@@ -1,5 +1,7 @@
 //! What happens to elements.
 
+use crate::pieces::TextPiece::{self, Number, Word};
+use crate::pieces::write_piece;
 use std::fmt;
 
 /// What happens to an element.
@@ -43,27 +45,39 @@ fn words_of(effect: Effect) -> (&'static str, &'static str) {
     }
 }
 
-// The queue in which an element is then, if it is said.
-fn queue_of(effect: Effect) -> Option<u32> {
-    match effect {
-        Effect::Free(queue) | Effect::Back(queue, _) | Effect::Moved(queue) => Some(queue),
-        _ => None,
+// The queue in which an element is then, and the attempts, if they are said.
+fn rest_of(effect: Effect) -> [TextPiece<'static>; 3] {
+    let (queue, attempts) = match effect {
+        Effect::Free(queue) | Effect::Moved(queue) => (queue, None),
+        Effect::Back(queue, attempts) => (queue, Some(attempts)),
+        _ => return [Word(""); 3],
+    };
+    let queue = Number(u64::from(queue));
+    match attempts {
+        Some(attempts) => [queue, Word(", attempts "), Number(attempts)],
+        None => [queue, Word(""), Word("")],
+    }
+}
+
+impl Event {
+    /// What it says, one behind the other.
+    pub(crate) fn pieces(&self) -> [TextPiece<'static>; 6] {
+        let Event::To(element, effect) = *self else {
+            let none = Word("");
+            return [Word("finds no element"), none, none, none, none, none];
+        };
+        let (before, behind) = words_of(effect);
+        let [queue, words, attempts] = rest_of(effect);
+        let element = Number(element);
+        [Word(before), element, Word(behind), queue, words, attempts]
     }
 }
 
 impl fmt::Display for Event {
     fn fmt<W: fmt::Write>(&self, f: &mut fmt::Formatter<W>) -> fmt::Result {
-        let Event::To(element, effect) = *self else {
-            return f.write_str("finds no element");
-        };
-        let (before, behind) = words_of(effect);
-        write!(f, "{before}{element}{behind}")?;
-        if let Some(queue) = queue_of(effect) {
-            write!(f, "{queue}")?;
+        for piece in &self.pieces() {
+            write_piece(f, piece)?;
         }
-        match effect {
-            Effect::Back(_, attempts) => write!(f, ", attempts {attempts}"),
-            _ => Ok(()),
-        }
+        Ok(())
     }
 }

@@ -137,9 +137,13 @@ impl FollowedQueues {
     }
 
     fn best_of(&mut self, queue: QueueNo) -> Option<u64> {
-        let shelf = self.shelves.get_mut(queue.0 as usize)?;
-        let (_, element) = shelf.free.pop_first()?;
-        Some(element)
+        match self.shelves.get_mut(queue.0 as usize) {
+            Some(shelf) => match shelf.free.pop_first() {
+                Some((_, element)) => Some(element),
+                None => None,
+            },
+            None => None,
+        }
     }
 
     fn take(&mut self, unit: UnitNo, queue: QueueNo) -> Result<Event, AllocError> {
@@ -172,20 +176,8 @@ impl FollowedQueues {
         }
     }
 
-    fn commit_one(&mut self, owned: Owned) -> Result<Effect, AllocError> {
-        if !owned.fresh {
-            self.kept.remove(&owned.element);
-            return Ok(Effect::Gone);
-        }
-        let Some(kept) = self.kept.get(&owned.element).copied() else {
-            return Ok(Effect::Gone);
-        };
-        self.release(owned.element, kept)?;
-        Ok(Effect::Free(kept.home))
-    }
-
     // Where an element goes whose taker aborts.
-    fn returned(&self, kept: Queued) -> (Queued, Effect) {
+    fn returned(&self, kept: Queued) -> (Option<Queued>, Effect) {
         let attempts = kept.attempts.saturating_add(1);
         match self.shelves.get(kept.home as usize) {
             Some(shelf) if shelf.limit as u64 == attempts => {
@@ -194,43 +186,52 @@ impl FollowedQueues {
                     attempts: 0,
                     ..kept
                 };
-                (moved, Effect::Moved(shelf.error))
+                (Some(moved), Effect::Moved(shelf.error))
             }
             _ => (
-                Queued { attempts, ..kept },
+                Some(Queued { attempts, ..kept }),
                 Effect::Back(kept.home, attempts),
             ),
         }
     }
 
-    fn abort_one(&mut self, owned: Owned) -> Result<Effect, AllocError> {
-        if owned.fresh {
-            self.kept.remove(&owned.element);
-            return Ok(Effect::Undone);
+    // What happens to an element whose unit ends, and how it is kept from then on, unless it goes.
+    fn fate(&self, owned: Owned, commits: bool) -> (Option<Queued>, Effect) {
+        match (self.kept.get(&owned.element), owned.fresh, commits) {
+            (Some(kept), true, true) => (Some(*kept), Effect::Free(kept.home)),
+            (Some(kept), false, false) => self.returned(*kept),
+            (_, true, false) => (None, Effect::Undone),
+            _ => (None, Effect::Gone),
         }
-        let Some(kept) = self.kept.get(&owned.element).copied() else {
-            return Ok(Effect::Gone);
-        };
-        let (kept, effect) = self.returned(kept);
-        self.release(owned.element, kept)?;
-        Ok(effect)
+    }
+
+    // Ends what a unit did to an element, and adds what happens.
+    fn end_one(&mut self, owned: Owned, commits: bool) -> Result<(), AllocError> {
+        let (kept, effect) = self.fate(owned, commits);
+        self.events.push(Event::To(owned.element, effect))?;
+        match kept {
+            Some(kept) => self.release(owned.element, kept),
+            None => {
+                self.kept.remove(&owned.element);
+                Ok(())
+            }
+        }
+    }
+
+    fn end_all(&mut self, all: &[Owned], commits: bool) -> Result<(), AllocError> {
+        for owned in all {
+            self.end_one(*owned, commits)?;
+        }
+        Ok(())
     }
 
     // Ends a unit, and adds what happens to each element that it put in or took, in the order in
     // which it did.
     fn end(&mut self, unit: u64, commits: bool) -> Result<(), AllocError> {
-        let Some(all) = self.open.remove(&unit) else {
-            return Ok(());
-        };
-        for owned in all.iter().copied() {
-            let effect = if commits {
-                self.commit_one(owned)?
-            } else {
-                self.abort_one(owned)?
-            };
-            self.events.push(Event::To(owned.element, effect))?;
+        match self.open.remove(&unit) {
+            Some(all) => self.end_all(&all, commits),
+            None => Ok(()),
         }
-        Ok(())
     }
 
     // Does an operation, and answers what happens.

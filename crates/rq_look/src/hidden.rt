@@ -58,14 +58,18 @@ pub fn is_hidden(c: char) -> bool
 #[derive(Clone, Copy, Debug)]
 pub struct Seen<'a>(pub &'a str);
 
+fn write_seen<W: fmt::Write>(f: &mut fmt::Formatter<W>, c: char) -> fmt::Result {
+    if is_hidden(c) {
+        write!(f, "\\u{{{:x}}}", c as u32)
+    } else {
+        f.write_char(c)
+    }
+}
+
 impl fmt::Display for Seen<'_> {
     fn fmt<W: fmt::Write>(&self, f: &mut fmt::Formatter<W>) -> fmt::Result {
         for c in self.0.chars() {
-            if is_hidden(c) {
-                write!(f, "\\u{{{:x}}}", c as u32)?;
-            } else {
-                write!(f, "{c}")?;
-            }
+            write_seen(f, c)?;
         }
         Ok(())
     }

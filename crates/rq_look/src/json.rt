@@ -1,7 +1,6 @@
 //! What is written as JSON.
 
-ghost use Rattle.std.specs.Prelude.{◌≡◌, ◌++◌, ℕ, List, codes, IfErr, OnOk, string_bytes};
-ghost use Rattle.rq_look.specs.Looks.{IsBroken};
+ghost use Rattle.std.specs.Prelude.{◌≡◌, ◌++◌, ℕ, List, codes, OnOk, string_bytes};
 
 use crate::bytes::is_plain;
 use crate::ends::End;
@@ -9,8 +8,7 @@ use crate::hidden::is_hidden;
 use crate::numbered::{
     Numbered, by_of, element_of, kind_of, queue_named, registrant_of, unit_number,
 };
-use crate::objects::{Numbers, write_numbers, write_other, write_word};
-use crate::trouble::Trouble;
+use crate::objects::{JsonPiece, JsonTables, write_pieces};
 use rq_behind::Found;
 use rq_record::{KeptRecord, QueueNo};
 use rq_report::why_word;
@@ -20,10 +18,9 @@ use std::fmt::Write;
 use std::str::from_utf8;
 
 /// Bytes as digits, and as text where they are one and it is asked for.
-#[derive(Drop, Serialize)]
+#[derive(Drop)]
 pub(crate) struct BytesShown<'a> {
     hex: String,
-    #[serde(skip_serializing_if = "Option::is_none")]
     text: Option<&'a str>,
 }
 
@@ -51,6 +48,16 @@ impl<'a> BytesShown<'a> {
             KeptRecord::Checkpoint { bytes } => BytesShown::digits(alloc, bytes.bytes()),
             _ => BytesShown::digits(alloc, &[]),
         }
+    }
+
+    /// The object.
+    pub(crate) fn pieces(&self) -> [JsonPiece<'_>; 4] {
+        [
+            JsonPiece::Begin,
+            JsonPiece::Text("hex", Some(self.hex.as_str())),
+            JsonPiece::Text("text", self.text),
+            JsonPiece::End,
+        ]
     }
 }
 
@@ -115,45 +122,39 @@ struct Shown<'a> {
 }
 
 impl Shown<'_> {
-    // Writes where it stands, and of which kind it is.
-    fn write_place<S: Serializer>(&self, out: &mut S) -> Result<(), S::Error> {
-        write_numbers(
-            &[("offset", Some(self.offset)), ("record", self.number)],
-            out,
-        )?;
-        if self.number.is_none() {
-            write_other("behind", Some(&true), out)?;
-        }
-        write_word("kind", Some(kind_of(self.record)), out)
-    }
-
-    // Writes what it names, and what a definition says.
-    fn write_names<S: Serializer>(&self, out: &mut S) -> Result<(), S::Error> {
+    // The fields but for its bytes, each if its kind has it.
+    fn fields(&self) -> [JsonPiece<'_>; 14] {
         let defined = Defined::of(self.record);
-        let numbers = [
-            ("unit", unit_number(self.record)),
-            ("queue", self.queue.map(|queue| u64::from(queue.0))),
-            ("element", element_of(self.record)),
-        ];
-        write_numbers(&numbers, out)?;
-        write_word("name", defined.name, out)?;
-        write_numbers(&[("limit", defined.limit), ("error", defined.error)], out)
+        [
+            JsonPiece::Begin,
+            JsonPiece::Number("offset", Some(self.offset)),
+            JsonPiece::Number("record", self.number),
+            match self.number {
+                Some(_) => JsonPiece::Skip,
+                None => JsonPiece::Yes("behind"),
+            },
+            JsonPiece::Text("kind", Some(kind_of(self.record))),
+            JsonPiece::Number("unit", unit_number(self.record)),
+            JsonPiece::Number("queue", self.queue.map(|queue| u64::from(queue.0))),
+            JsonPiece::Number("element", element_of(self.record)),
+            JsonPiece::Text("name", defined.name),
+            JsonPiece::Number("limit", defined.limit),
+            JsonPiece::Number("error", defined.error),
+            JsonPiece::Number("priority", priority_of(self.record)),
+            JsonPiece::Text("registrant", registrant_of(self.record)),
+            JsonPiece::Number("tag", tag_of(self.record)),
+        ]
     }
 
-    // Writes who does it, and with which priority.
-    fn write_doer<S: Serializer>(&self, out: &mut S) -> Result<(), S::Error> {
-        write_numbers(&[("priority", priority_of(self.record))], out)?;
-        write_word("registrant", registrant_of(self.record), out)?;
-        write_numbers(&[("tag", tag_of(self.record))], out)
-    }
-
-    // Writes its payload, or the bytes of its checkpoint.
-    fn write_bytes<S: Serializer>(&self, out: &mut S) -> Result<(), S::Error> {
-        match self.record {
-            KeptRecord::Enqueue { .. } => write_other("payload", Some(self.bytes), out),
-            KeptRecord::Checkpoint { .. } => write_other("bytes", Some(self.bytes), out),
-            _ => Ok(()),
-        }
+    // Its payload, or the bytes of its checkpoint, as a field; nothing if it has neither.
+    fn load(&self) -> [JsonPiece<'_>; 5] {
+        let name = match self.record {
+            KeptRecord::Enqueue { .. } => "payload",
+            KeptRecord::Checkpoint { .. } => "bytes",
+            _ => return [JsonPiece::Skip; 5],
+        };
+        let [begin, hex, text, end] = self.bytes.pieces();
+        [JsonPiece::Name(name), begin, hex, text, end]
     }
 }
 
@@ -162,13 +163,19 @@ impl Described for Shown<'_> {}
 // Those fields that its kind has, in this order.
 impl Serialize for Shown<'_> {
     fn serialize<S: Serializer>(&self, out: &mut S) -> Result<(), S::Error> {
-        out.begin_map(None)?;
-        self.write_place(out)?;
-        self.write_names(out)?;
-        self.write_doer(out)?;
-        self.write_bytes(out)?;
-        out.end_map()
+        let (fields, load) = (self.fields(), self.load());
+        JsonTables(&[&fields, &load, &[JsonPiece::End]]).serialize(out)
     }
+}
+
+// Puts JSON in a line of its own, with each hidden character spelled by its numbers.
+fn put_json_line(alloc: Global, text: &mut String, json: String) -> Result<(), AllocError>
+    ensures { OnOk result ((json : List ℕ)
+        × (string_bytes text.new ≡ string_bytes text.old ++ (json ++ codes "\n"))) }
+{
+    let json = spelled_out(alloc, json)?;
+    text.push_str(json.as_str())?;
+    text.push_str("\n")
 }
 
 /// Puts the value as JSON in a line of its own, with each hidden character spelled by its numbers.
@@ -176,15 +183,15 @@ pub(crate) fn put_json<T: Serialize>(
     alloc: Global,
     text: &mut String,
     value: &T,
-) -> Result<(), Trouble>
-    ensures line { OnOk result ((json : List ℕ)
+) -> Result<(), AllocError>
+    ensures { OnOk result ((json : List ℕ)
         × (string_bytes text.new ≡ string_bytes text.old ++ (json ++ codes "\n"))) }
-    ensures refused { IfErr result IsBroken }
 {
-    let json = spelled_out(alloc, serde_json::to_string(alloc, value)?)?;
-    text.push_str(json.as_str())?;
-    text.push_str("\n")?;
-    Ok(())
+    // What is written here fails for want of memory alone.
+    let Ok(json) = serde_json::to_string(alloc, value) else {
+        return Err(AllocError);
+    };
+    put_json_line(alloc, text, json)
 }
 
 // Puts a record as an object in a line, with those fields that its kind has.
@@ -195,9 +202,7 @@ fn put_shown(
     number: Option<u64>,
     record: &KeptRecord,
     queue: Option<QueueNo>,
-) -> Result<(), Trouble>
-    ensures { IfErr result IsBroken }
-{
+) -> Result<(), AllocError> {
     let bytes = BytesShown::of_record(alloc, record)?;
     let shown = Shown {
         offset,
@@ -210,9 +215,11 @@ fn put_shown(
 }
 
 /// Puts a record of the front as an object in a line, with those fields that its kind has.
-pub(crate) fn put_numbered(alloc: Global, text: &mut String, it: &Numbered) -> Result<(), Trouble>
-    ensures { IfErr result IsBroken }
-{
+pub(crate) fn put_numbered(
+    alloc: Global,
+    text: &mut String,
+    it: &Numbered,
+) -> Result<(), AllocError> {
     put_shown(
         alloc,
         text,
@@ -230,18 +237,8 @@ pub(crate) fn put_loose(
     text: &mut String,
     offset: u64,
     record: &KeptRecord,
-) -> Result<(), Trouble>
-    ensures { IfErr result IsBroken }
-{
+) -> Result<(), AllocError> {
     put_shown(alloc, text, offset, None, record, queue_named(record))
-}
-
-// A frame behind the front whose body spells no record, and why.
-#[derive(Clone, Copy, Serialize)]
-struct UnspelledShown<'a> {
-    offset: u64,
-    behind: bool,
-    reason: &'a str,
 }
 
 /// Puts a frame behind the front whose body spells no record, and why, as an object in a line.
@@ -250,25 +247,15 @@ pub(crate) fn put_unspelled(
     text: &mut String,
     offset: u64,
     reason: &str,
-) -> Result<(), Trouble>
-    ensures { IfErr result IsBroken }
-{
-    let behind = true;
-    put_json(
-        alloc,
-        text,
-        &UnspelledShown {
-            offset,
-            behind,
-            reason,
-        },
-    )
-}
-
-// The line of what stands behind the front.
-#[derive(Clone, Copy, Serialize)]
-struct BehindShown<'a> {
-    behind: Numbers<'a>,
+) -> Result<(), AllocError> {
+    let fields = [
+        JsonPiece::Begin,
+        JsonPiece::Number("offset", Some(offset)),
+        JsonPiece::Yes("behind"),
+        JsonPiece::Text("reason", Some(reason)),
+        JsonPiece::End,
+    ];
+    put_json(alloc, text, &JsonTables(&[&fields]))
 }
 
 /// Puts how many right frames stand behind the front, where the first begins, how many bytes fit
@@ -277,18 +264,20 @@ pub(crate) fn put_behind_object(
     alloc: Global,
     text: &mut String,
     found: &Found,
-) -> Result<(), Trouble>
-    ensures { IfErr result IsBroken }
-{
+) -> Result<(), AllocError> {
     let first = found.spans.first().map(|span| span.offset() as u64);
-    let numbers = [
-        ("frames", Some(found.spans.len() as u64)),
-        ("first", first),
-        ("unfit", Some(found.unfit as u64)),
-        ("gave_up", found.gave_up.map(|place| place as u64)),
+    let fields = [
+        JsonPiece::Begin,
+        JsonPiece::Name("behind"),
+        JsonPiece::Begin,
+        JsonPiece::Number("frames", Some(found.spans.len() as u64)),
+        JsonPiece::Number("first", first),
+        JsonPiece::Number("unfit", Some(found.unfit as u64)),
+        JsonPiece::Number("gave_up", found.gave_up.map(|place| place as u64)),
+        JsonPiece::End,
+        JsonPiece::End,
     ];
-    let behind = Numbers(&numbers);
-    put_json(alloc, text, &BehindShown { behind })
+    put_json(alloc, text, &JsonTables(&[&fields]))
 }
 
 /// Where a front ends, and where the checkpoint stands that a log begins with which was carried on.
@@ -302,21 +291,27 @@ pub struct FrontShown<'a> {
     reason: &'a str,
 }
 
+impl FrontShown<'_> {
+    /// The object.
+    pub(crate) fn pieces(&self) -> [JsonPiece<'_>; 8] {
+        [
+            JsonPiece::Begin,
+            JsonPiece::Number("carried_at", self.carried_at),
+            JsonPiece::Number("records", Some(self.records)),
+            JsonPiece::Number("used", Some(self.used)),
+            JsonPiece::Number("total", Some(self.total)),
+            JsonPiece::Text("why", Some(self.why)),
+            JsonPiece::Text("reason", Some(self.reason)),
+            JsonPiece::End,
+        ]
+    }
+}
+
 impl Described for FrontShown<'_> {}
 
 impl Serialize for FrontShown<'_> {
     fn serialize<S: Serializer>(&self, out: &mut S) -> Result<(), S::Error> {
-        let numbers = [
-            ("carried_at", self.carried_at),
-            ("records", Some(self.records)),
-            ("used", Some(self.used)),
-            ("total", Some(self.total)),
-        ];
-        out.begin_map(None)?;
-        write_numbers(&numbers, out)?;
-        write_word("why", Some(self.why), out)?;
-        write_word("reason", Some(self.reason), out)?;
-        out.end_map()
+        write_pieces(&self.pieces(), out)
     }
 }
 
@@ -338,16 +333,29 @@ pub fn front_shown(end: &End) -> FrontShown<'_>
 }
 
 // The last line of a dump.
-#[derive(Clone, Copy, Serialize)]
+#[derive(Clone, Copy)]
 struct ClosingShown<'a> {
     front: FrontShown<'a>,
 }
 
+impl Described for ClosingShown<'_> {}
+
+impl Serialize for ClosingShown<'_> {
+    fn serialize<S: Serializer>(&self, out: &mut S) -> Result<(), S::Error> {
+        let begin = [JsonPiece::Begin, JsonPiece::Name("front")];
+        let front = self.front.pieces();
+        JsonTables(&[&begin, &front, &[JsonPiece::End]]).serialize(out)
+    }
+}
+
 /// Puts the last line of a dump, of where the front ends, as an object.
-pub(crate) fn put_closing_object(alloc: Global, text: &mut String, end: &End) -> Result<(), Trouble>
-    ensures line { OnOk result ((json : List ℕ)
+pub(crate) fn put_closing_object(
+    alloc: Global,
+    text: &mut String,
+    end: &End,
+) -> Result<(), AllocError>
+    ensures { OnOk result ((json : List ℕ)
         × (string_bytes text.new ≡ string_bytes text.old ++ (json ++ codes "\n"))) }
-    ensures refused { IfErr result IsBroken }
 {
     let front = front_shown(end);
     put_json(alloc, text, &ClosingShown { front })

@@ -96,6 +96,15 @@ enum Field {
     Payload,
 }
 
+fn are_zero(bytes: &[u8]) -> bool {
+    for byte in bytes {
+        if *byte != 0 {
+            return false;
+        }
+    }
+    true
+}
+
 impl<'a> BodyRest<'a> {
     // The bytes of the next field, which the rest then lacks.
     fn field(self, count: usize, name: &'static str) -> Result<(&'a [u8], BodyRest<'a>), Found> {
@@ -149,7 +158,7 @@ impl<'a> BodyRest<'a> {
     // A tag, which is 0 if nobody is named.
     fn tag(self, is_named: bool) -> Result<BodyRest<'a>, Found> {
         let (tag, left) = self.field(8, "tag")?;
-        if !is_named && tag.iter().any(|b| *b != 0) {
+        if !is_named && !are_zero(tag) {
             return Err((self.at, Misfit::Tagged));
         }
         Ok(left)

@@ -1,71 +1,74 @@
-//! Fields of an object of JSON. A derive for many fields is dear to prove: it has a way out for each.
+//! What an object of JSON is made of, one behind the other. What writes many fields is cheap to prove by
+//! a table of them: a derive, and a call for each, has a way out for each.
 
 use serde::{Described, Serialize, Serializer};
 
-/// The name of a field, and the number that it holds; if there is none, the object lacks the field.
-pub(crate) type NumberField = (&'static str, Option<u64>);
+/// A mark of JSON, or a field.
+#[derive(Clone, Copy)]
+pub(crate) enum JsonPiece<'a> {
+    /// An object begins.
+    Begin,
+    /// It ends.
+    End,
+    /// The name of a field, whose value follows.
+    Name(&'static str),
+    /// A field that holds a number; if there is none, the object lacks it.
+    Number(&'static str, Option<u64>),
+    /// A field that holds a text; if there is none, the object lacks it.
+    Text(&'static str, Option<&'a str>),
+    /// A field that says yes.
+    Yes(&'static str),
+    /// A number as a value, or `null` for none.
+    Value(Option<u64>),
+    /// Nothing at all.
+    Skip,
+}
 
-fn write_number<S: Serializer>(field: NumberField, out: &mut S) -> Result<(), S::Error> {
-    match field {
-        (name, Some(number)) => {
+fn write_piece<S: Serializer>(piece: &JsonPiece<'_>, out: &mut S) -> Result<(), S::Error> {
+    match *piece {
+        JsonPiece::Begin => out.begin_map(None),
+        JsonPiece::End => out.end_map(),
+        JsonPiece::Name(name) => out.key(name),
+        JsonPiece::Number(name, Some(number)) => {
             out.key(name)?;
             out.u64(number)
         }
-        _ => Ok(()),
+        JsonPiece::Text(name, Some(text)) => {
+            out.key(name)?;
+            out.str(text)
+        }
+        JsonPiece::Yes(name) => {
+            out.key(name)?;
+            out.bool(true)
+        }
+        JsonPiece::Value(Some(number)) => out.u64(number),
+        JsonPiece::Value(None) => out.unit(),
+        JsonPiece::Number(_, None) | JsonPiece::Text(_, None) | JsonPiece::Skip => Ok(()),
     }
 }
 
-/// Writes those of the fields that hold a number.
-pub(crate) fn write_numbers<S: Serializer>(
-    fields: &[NumberField],
+/// Writes the pieces, in order.
+pub(crate) fn write_pieces<S: Serializer>(
+    pieces: &[JsonPiece<'_>],
     out: &mut S,
 ) -> Result<(), S::Error> {
-    for field in fields {
-        write_number(*field, out)?;
+    for piece in pieces {
+        write_piece(piece, out)?;
     }
     Ok(())
 }
 
-/// Writes a field that holds a text, if there is one.
-pub(crate) fn write_word<S: Serializer>(
-    name: &'static str,
-    word: Option<&str>,
-    out: &mut S,
-) -> Result<(), S::Error> {
-    match word {
-        Some(word) => {
-            out.key(name)?;
-            out.str(word)
-        }
-        None => Ok(()),
-    }
-}
-
-/// Writes a field that holds another value, if there is one.
-pub(crate) fn write_other<T: Serialize, S: Serializer>(
-    name: &'static str,
-    value: Option<&T>,
-    out: &mut S,
-) -> Result<(), S::Error> {
-    match value {
-        Some(value) => {
-            out.key(name)?;
-            value.serialize(out)
-        }
-        None => Ok(()),
-    }
-}
-
-/// An object of numbers.
+/// Tables of pieces, which are one value together.
 #[derive(Clone, Copy)]
-pub(crate) struct Numbers<'a>(pub(crate) &'a [NumberField]);
+pub(crate) struct JsonTables<'a>(pub(crate) &'a [&'a [JsonPiece<'a>]]);
 
-impl Described for Numbers<'_> {}
+impl Described for JsonTables<'_> {}
 
-impl Serialize for Numbers<'_> {
+impl Serialize for JsonTables<'_> {
     fn serialize<S: Serializer>(&self, out: &mut S) -> Result<(), S::Error> {
-        out.begin_map(None)?;
-        write_numbers(self.0, out)?;
-        out.end_map()
+        for table in self.0 {
+            write_pieces(table, out)?;
+        }
+        Ok(())
     }
 }

@@ -2,7 +2,7 @@
 //! them: each format text of its own is dear, and so is each way out.
 
 use std::alloc::{AllocError, Global};
-use std::fmt::Write;
+use std::fmt::{self, Write};
 
 /// A word, or a number in decimal digits.
 #[derive(Clone, Copy)]
@@ -17,6 +17,17 @@ fn put_piece(text: &mut String, piece: &TextPiece<'_>) -> Result<(), AllocError>
     match piece {
         TextPiece::Word(word) => text.push_str(word),
         TextPiece::Number(number) => write!(text, "{number}"),
+    }
+}
+
+/// Writes a piece where something is formatted.
+pub(crate) fn write_piece<W: fmt::Write>(
+    f: &mut fmt::Formatter<W>,
+    piece: &TextPiece<'_>,
+) -> fmt::Result {
+    match piece {
+        TextPiece::Word(word) => f.write_str(word),
+        TextPiece::Number(number) => write!(f, "{number}"),
     }
 }
 

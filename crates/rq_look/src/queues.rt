@@ -11,7 +11,7 @@ ghost use Rattle.rq_report.specs.Order.{is_ahead};
 ghost use Rattle.rq_look.specs.Registrants.{last_shown, last_told, registrant_entry, registrant_told};
 
 use crate::json::{BytesShown, queue_number};
-use crate::objects::{write_numbers, write_other};
+use crate::objects::{JsonPiece, JsonTables, write_pieces};
 use rq_record::QueueNo;
 use rq_state::{Definition, KeptElement as Element, Last, Mark, OpKind, Registrant, State};
 use serde::{Described, Serialize, Serializer};
@@ -29,21 +29,21 @@ impl Described for ElementShown<'_> {}
 impl Serialize for ElementShown<'_> {
     fn serialize<S: Serializer>(&self, out: &mut S) -> Result<(), S::Error> {
         let e = self.element;
-        let numbers = [
-            ("id", Some(e.id.0)),
-            ("from", Some(u64::from(e.origin.0))),
-            ("priority", Some(u64::from(e.priority))),
-            ("attempts", Some(e.attempts)),
+        let fields = [
+            JsonPiece::Begin,
+            JsonPiece::Number("id", Some(e.id.0)),
+            JsonPiece::Number("from", Some(u64::from(e.origin.0))),
+            JsonPiece::Number("priority", Some(u64::from(e.priority))),
+            JsonPiece::Number("attempts", Some(e.attempts)),
+            JsonPiece::Name("payload"),
         ];
-        out.begin_map(None)?;
-        write_numbers(&numbers, out)?;
-        write_other("payload", Some(&self.payload), out)?;
-        out.end_map()
+        let payload = self.payload.pieces();
+        JsonTables(&[&fields, &payload, &[JsonPiece::End]]).serialize(out)
     }
 }
 
 /// The last operation of a registrant.
-#[derive(Clone, Copy, Serialize)]
+#[derive(Clone, Copy)]
 pub struct LastShown<'a> {
     /// `enqueue` or `dequeue`.
     pub kind: &'a str,
@@ -53,8 +53,30 @@ pub struct LastShown<'a> {
     pub element: Option<u64>,
 }
 
+impl LastShown<'_> {
+    // The object.
+    fn pieces(&self) -> [JsonPiece<'_>; 6] {
+        [
+            JsonPiece::Begin,
+            JsonPiece::Text("kind", Some(self.kind)),
+            JsonPiece::Number("tag", Some(self.tag)),
+            JsonPiece::Name("element"),
+            JsonPiece::Value(self.element),
+            JsonPiece::End,
+        ]
+    }
+}
+
+impl Described for LastShown<'_> {}
+
+impl Serialize for LastShown<'_> {
+    fn serialize<S: Serializer>(&self, out: &mut S) -> Result<(), S::Error> {
+        write_pieces(&self.pieces(), out)
+    }
+}
+
 /// A registrant, and what it did last.
-#[derive(Clone, Copy, Serialize)]
+#[derive(Clone, Copy)]
 pub struct RegistrantShown<'a> {
     /// The registrant's name.
     pub name: &'a str,
@@ -62,8 +84,38 @@ pub struct RegistrantShown<'a> {
     pub last: Option<LastShown<'a>>,
 }
 
+impl RegistrantShown<'_> {
+    // Its name, and the name of what follows.
+    fn name_pieces(&self) -> [JsonPiece<'_>; 3] {
+        [
+            JsonPiece::Begin,
+            JsonPiece::Text("name", Some(self.name)),
+            JsonPiece::Name("last"),
+        ]
+    }
+
+    // Its last operation, or `null`.
+    fn last_pieces(&self) -> [JsonPiece<'_>; 6] {
+        if let Some(last) = &self.last {
+            return last.pieces();
+        }
+        let mut none = [JsonPiece::Skip; 6];
+        none[0] = JsonPiece::Value(None);
+        none
+    }
+}
+
+impl Described for RegistrantShown<'_> {}
+
+impl Serialize for RegistrantShown<'_> {
+    fn serialize<S: Serializer>(&self, out: &mut S) -> Result<(), S::Error> {
+        let (name, last) = (self.name_pieces(), self.last_pieces());
+        JsonTables(&[&name, &last, &[JsonPiece::End]]).serialize(out)
+    }
+}
+
 /// A queue with what it holds.
-#[derive(Drop, Serialize)]
+#[derive(Drop)]
 pub(crate) struct QueueShown<'a> {
     number: u32,
     name: &'a str,
@@ -71,6 +123,33 @@ pub(crate) struct QueueShown<'a> {
     error: Option<u32>,
     elements: Vec<ElementShown<'a>>,
     registrants: Vec<RegistrantShown<'a>>,
+}
+
+impl QueueShown<'_> {
+    // What is said of the queue itself, and the name of what it holds.
+    fn pieces(&self) -> [JsonPiece<'_>; 7] {
+        [
+            JsonPiece::Begin,
+            JsonPiece::Number("number", Some(u64::from(self.number))),
+            JsonPiece::Text("name", Some(self.name)),
+            JsonPiece::Number("limit", Some(u64::from(self.limit))),
+            JsonPiece::Name("error"),
+            JsonPiece::Value(self.error.map(u64::from)),
+            JsonPiece::Name("elements"),
+        ]
+    }
+}
+
+impl Described for QueueShown<'_> {}
+
+impl Serialize for QueueShown<'_> {
+    fn serialize<S: Serializer>(&self, out: &mut S) -> Result<(), S::Error> {
+        write_pieces(&self.pieces(), out)?;
+        self.elements.serialize(out)?;
+        out.key("registrants")?;
+        self.registrants.serialize(out)?;
+        out.end_map()
+    }
 }
 
 fn element_shown(alloc: Global, element: &Element) -> Result<ElementShown<'_>, AllocError> {

@@ -11,27 +11,54 @@ ghost use Rattle.rq_look.specs.declared.trouble.Trouble.TheVariants.{Log};
 
 use crate::ends::{End, end_after, put_beginning};
 use crate::json::{FrontShown, front_shown, spelled_out};
+use crate::objects::{JsonPiece, JsonTables};
 use crate::queues::{QueueShown, queues_shown};
 use crate::trouble::Trouble;
 use rq_report::{OverWrite, write_report_by};
 use rq_restart::{Fault, Open, Plan, Restarted, restart, restart_at};
-use serde::Serialize;
+use serde::{Described, Serialize, Serializer};
 use std::alloc::{AllocError, Global};
 use std::io::{self, Write};
 use std::thread::Threads;
 
-#[derive(Clone, Copy, Serialize)]
+#[derive(Clone, Copy)]
 struct UnitsShown {
     committed: u64,
     aborted: u64,
     cut_off: u64,
 }
 
-#[derive(Drop, Serialize)]
+impl UnitsShown {
+    // The field.
+    fn pieces(&self) -> [JsonPiece<'_>; 6] {
+        [
+            JsonPiece::Name("units"),
+            JsonPiece::Begin,
+            JsonPiece::Number("committed", Some(self.committed)),
+            JsonPiece::Number("aborted", Some(self.aborted)),
+            JsonPiece::Number("cut_off", Some(self.cut_off)),
+            JsonPiece::End,
+        ]
+    }
+}
+
+#[derive(Drop)]
 struct ReportShown<'a> {
     front: FrontShown<'a>,
     units: UnitsShown,
     queues: Vec<QueueShown<'a>>,
+}
+
+impl Described for ReportShown<'_> {}
+
+impl Serialize for ReportShown<'_> {
+    fn serialize<S: Serializer>(&self, out: &mut S) -> Result<(), S::Error> {
+        let begin = [JsonPiece::Begin, JsonPiece::Name("front")];
+        let (front, units) = (self.front.pieces(), self.units.pieces());
+        JsonTables(&[&begin, &front, &units, &[JsonPiece::Name("queues")]]).serialize(out)?;
+        self.queues.serialize(out)?;
+        out.end_map()
+    }
 }
 
 fn report_shown<'a>(
@@ -97,13 +124,15 @@ fn json_of(
     restarted: &Restarted,
     end: &End,
     wanted: Option<u32>,
-) -> Result<String, Trouble>
-    ensures line { IfOk result
-        (λ text. (json : List ℕ) × (string_bytes text ≡ json ++ codes "\n")) }
-    ensures refused { IfErr result (λ e. e ≡ Log Resources) }
+) -> Result<String, AllocError>
+    ensures { IfOk result (λ text. (json : List ℕ) × (string_bytes text ≡ json ++ codes "\n")) }
 {
     let report = report_shown(alloc, restarted, end, wanted)?;
-    let mut text = spelled_out(alloc, serde_json::to_string_pretty(alloc, &report)?)?;
+    // What is written here fails for want of memory alone.
+    let Ok(json) = serde_json::to_string_pretty(alloc, &report) else {
+        return Err(AllocError);
+    };
+    let mut text = spelled_out(alloc, json)?;
     text.push('\n')?;
     Ok(text)
 }

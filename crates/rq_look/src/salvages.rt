@@ -3,6 +3,7 @@
 ghost use Rattle.std.specs.Prelude.{◌≡◌, ◌++◌, ℕ, List, false, IfErr, IfOk, OnOk, string_bytes};
 ghost use Rattle.std.specs.Io.KnownBytes.{Appends};
 ghost use Rattle.rq_front.specs.Chains.{IsLog};
+ghost use Rattle.rq_record.specs.declared.fault.Fault.TheVariants.{Resources};
 ghost use Rattle.rq_restart.specs.Views.{why_of};
 ghost use Rattle.rq_look.specs.Looks as looks;
 ghost use Rattle.rq_look.specs.Looks.{IsBroken, StaysUntold};
@@ -13,14 +14,15 @@ use crate::behind_fronts::{put_count, put_given_up, standing_behind};
 use crate::beyond::Loose;
 use crate::ends::{End, form_reason, is_whole, put_end, whole_end};
 use crate::log_script::{is_untold, put_line, put_records};
+use crate::pieces::TextPiece::{Number, Word};
+use crate::pieces::put_text_pieces;
 use crate::sheet::{relieve, write_out};
 use crate::trouble::Trouble;
 use rq_behind::Found;
 use rq_front::{Span, version};
-use rq_record::Version;
+use rq_record::{Fault, KeptRecord, Version};
 use rq_restart::Plan;
 use std::alloc::{AllocError, Global};
-use std::fmt::Write as _;
 use std::io::Write;
 use std::thread::Threads;
 
@@ -35,36 +37,51 @@ const WORDS: &str = "\
 
 // Puts the line of what is no line of a script: a body that spells no record, or an operation of the
 // registrant whom a script takes for nobody.
-fn put_untold(
-    alloc: Global,
-    text: &mut String,
-    it: &Loose<'_>,
-    reason: &str,
-) -> Result<(), AllocError> {
-    let (offset, count) = (it.offset, it.body.len());
-    write!(
+fn put_untold(text: &mut String, it: &Loose<'_>, reason: &str) -> Result<(), AllocError> {
+    let count = it.body.len() as u64;
+    put_text_pieces(
         text,
-        "# {count} bytes of a body at {offset} have no line: {reason}\n"
+        &[
+            Word("# "),
+            Number(count),
+            Word(" bytes of a body at "),
+            Number(it.offset),
+            Word(" have no line: "),
+            Word(reason),
+            Word("\n"),
+        ],
     )
 }
 
-// Puts the line of a frame, to choose it or not.
-fn put_choice(alloc: Global, text: &mut String, it: &Loose<'_>) -> Result<(), Trouble>
-    ensures { IfErr result IsBroken }
-{
-    let Some(record) = it.record(alloc)? else {
-        let reason = form_reason(alloc, it.version, it.body)?;
-        put_untold(alloc, text, it, reason.as_str())?;
-        return Ok(());
-    };
-    if is_untold(&record) {
-        put_untold(alloc, text, it, "it names the registrant -")?;
-        return Ok(());
+// Puts the line of a frame whose body spells no record.
+fn put_formless(alloc: Global, text: &mut String, it: &Loose<'_>) -> Result<(), AllocError> {
+    let reason = form_reason(alloc, it.version, it.body)?;
+    put_untold(text, it, reason.as_str())
+}
+
+// Puts the line of a frame's record, to choose it or not.
+fn put_record(
+    alloc: Global,
+    text: &mut String,
+    it: &Loose<'_>,
+    record: &KeptRecord,
+) -> Result<(), AllocError> {
+    if is_untold(record) {
+        return put_untold(text, it, "it names the registrant -");
     }
-    let offset = it.offset;
-    write!(text, "#{offset} ")?;
-    put_line(alloc, text, &record)?;
-    Ok(())
+    put_text_pieces(text, &[Word("#"), Number(it.offset), Word(" ")])?;
+    put_line(alloc, text, record)
+}
+
+// Puts the line of a frame, to choose it or not.
+fn put_choice(alloc: Global, text: &mut String, it: &Loose<'_>) -> Result<(), Fault>
+    ensures { IfErr result (λ e. e ≡ Resources) }
+{
+    let put = match &it.record(alloc)? {
+        Some(record) => put_record(alloc, text, it, record),
+        None => put_formless(alloc, text, it),
+    };
+    Ok(put?)
 }
 
 // Puts how many bytes fit nothing between two offsets, if there are any.
@@ -72,13 +89,23 @@ fn put_gap(text: &mut String, from: usize, to: usize) -> Result<(), AllocError> 
     if from >= to {
         return Ok(());
     }
-    let count = to - from;
-    write!(text, "# {count} bytes at {from} fit nothing\n")
+    let count = (to - from) as u64;
+    let from = from as u64;
+    put_text_pieces(
+        text,
+        &[
+            Word("# "),
+            Number(count),
+            Word(" bytes at "),
+            Number(from),
+            Word(" fit nothing\n"),
+        ],
+    )
 }
 
 // Puts the frame at a span, to choose it or not, and what stands before it from an offset on.
-fn put_span(alloc: Global, text: &mut String, it: &Loose<'_>, from: usize) -> Result<(), Trouble>
-    ensures { IfErr result IsBroken }
+fn put_span(alloc: Global, text: &mut String, it: &Loose<'_>, from: usize) -> Result<(), Fault>
+    ensures { IfErr result (λ e. e ≡ Resources) }
 {
     put_gap(text, from, it.offset as usize)?;
     put_choice(alloc, text, it)
@@ -90,6 +117,7 @@ fn put_spans<W: Write>(
     bytes: &[u8],
     found: &Found,
     from: usize,
+    text: &mut String,
     output: &mut W,
 ) -> Result<(), Trouble>
     ensures only { OnOk result
@@ -97,15 +125,14 @@ fn put_spans<W: Write>(
     ensures refused { IfErr result IsBroken }
 {
     let version = version(bytes).unwrap_or(Version::Two);
-    let mut text = String::new(alloc);
     let mut at = from;
     for span in found.spans.iter() {
-        put_span(alloc, &mut text, &Loose::of(bytes, version, *span), at)?;
-        relieve(&mut text, output)?;
+        put_span(alloc, text, &Loose::of(bytes, version, *span), at)?;
+        relieve(text, output)?;
         at = span.start.saturating_add(span.len).saturating_add(32);
     }
-    put_gap(&mut text, at, found.gave_up.unwrap_or(bytes.len()))?;
-    write_out(&mut text, output)?;
+    put_gap(text, at, found.gave_up.unwrap_or(bytes.len()))?;
+    write_out(text, output)?;
     Ok(())
 }
 
@@ -147,7 +174,8 @@ fn put_rest<W: Write>(alloc: Global, bytes: &[u8], end: &End, output: &mut W) ->
     let found = standing_behind(alloc, bytes, end)?;
     let mut words = words_of(alloc, end, &found)?;
     write_out(&mut words, output)?;
-    put_spans(alloc, bytes, &found, end.used as usize, output)?;
+    let from = end.used as usize;
+    put_spans(alloc, bytes, &found, from, &mut words, output)?;
     Ok(())
 }
 

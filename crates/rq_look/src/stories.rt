@@ -1,6 +1,6 @@
 //! What became of one element, and what one unit did.
 
-ghost use Rattle.std.specs.Prelude.{◌≡◌, [], ℕ, List, None, IfOk, IfErr, OnOk, string_bytes};
+ghost use Rattle.std.specs.Prelude.{◌≡◌, [], ℕ, List, IfOk, IfErr, OnOk, string_bytes};
 ghost use Rattle.std.specs.Io.KnownBytes.{Appends};
 ghost use Rattle.rq_record.specs.declared.fault.Fault.TheVariants.{Resources};
 ghost use Rattle.rq_front.specs.Chains.{IsLog};
@@ -13,14 +13,15 @@ use crate::followed_queues::FollowedQueues;
 use crate::frames::{Placed, PlacedFrames};
 use crate::lines::put_record;
 use crate::numbered::{Numbered, unit_of};
+use crate::pieces::TextPiece::{Number, Word};
+use crate::pieces::put_text_pieces;
 use crate::sheet::{relieve, write_out};
 use crate::trouble::Trouble;
 use rq_record::{Fault, UnitNo};
 use rq_restart::Plan;
 use std::alloc::{AllocError, Global};
-use std::fmt::{self, Write};
-use std::io;
 use std::thread::Threads;
+use std::{fmt, io};
 
 /// What is told of a log.
 #[derive(Clone, Copy, Debug, PartialEq, Eq)]
@@ -48,6 +49,12 @@ fn concerns(subject: Subject, event: &Event) -> bool {
     }
 }
 
+// Puts what happened, and the end of its line.
+fn put_happened(text: &mut String, event: &Event) -> Result<(), AllocError> {
+    put_text_pieces(text, &event.pieces())?;
+    text.push_str("\n")
+}
+
 // Puts the record, and what happened, as a line.
 fn put_event(
     alloc: Global,
@@ -56,7 +63,8 @@ fn put_event(
     event: &Event,
 ) -> Result<(), AllocError> {
     put_record(alloc, text, it, false)?;
-    write!(text, ": {event}\n")
+    text.push_str(": ")?;
+    put_happened(text, event)
 }
 
 // Puts a line for each event of the record that is of the subject, and one for a record of the unit
@@ -127,29 +135,55 @@ fn tell_record<W: io::Write>(
     Ok(count)
 }
 
-// Tells of each record of the front, which begins behind these queues, and answers the queues behind
-// it, if anything was told.
+// Tells of each record of the front, which begins behind these queues. Answers in how many lines.
 fn tell_front<W: io::Write>(
     alloc: Global,
     frames: PlacedFrames<'_>,
-    machine: FollowedQueues,
+    machine: &mut FollowedQueues,
     subject: Subject,
     text: &mut String,
     output: &mut W,
-) -> Result<Option<FollowedQueues>, Trouble>
+) -> Result<u64, Trouble>
     ensures only { OnOk result
         ((put : List ℕ) × Appends (W.contents output.old) (W.contents output.new) put) }
     ensures nothing { IfOk result
-        (λ found. found ≡ None → string_bytes text.old ≡ []
+        (λ told. told ≡ 0 → string_bytes text.old ≡ []
         → W.contents output.new ≡ W.contents output.old) }
     ensures refused { IfErr result IsBroken }
 {
-    let (mut machine, mut told) = (machine, 0u64);
+    let mut told: u64 = 0;
     for placed in frames {
-        let count = tell_record(alloc, placed, subject, &mut machine, text, output)?;
+        let count = tell_record(alloc, placed, subject, machine, text, output)?;
         told = told.saturating_add(count);
     }
-    Ok(if told > 0 { Some(machine) } else { None })
+    Ok(told)
+}
+
+// Puts that the restart aborts a unit, and what is said behind it.
+fn put_aborted(text: &mut String, unit: u64, behind: &str) -> Result<(), AllocError> {
+    let unit = Number(unit);
+    put_text_pieces(
+        text,
+        &[Word("the restart aborts unit "), unit, Word(behind)],
+    )
+}
+
+// Puts what the abort of a unit by the restart does to an element, if that is to be told.
+fn put_abort(
+    text: &mut String,
+    unit: u64,
+    event: &Event,
+    subject: Subject,
+) -> Result<(), AllocError> {
+    let is_told = match subject {
+        Subject::Unit(told) => told == unit,
+        Subject::Element(_) => concerns(subject, event),
+    };
+    if !is_told {
+        return Ok(());
+    }
+    put_aborted(text, unit, ": ")?;
+    put_happened(text, event)
 }
 
 // Puts what the restart does to a unit that is open.
@@ -160,32 +194,74 @@ fn put_restart(
     subject: Subject,
 ) -> Result<(), AllocError> {
     if subject == Subject::Unit(unit) && events.is_empty() {
-        write!(text, "the restart aborts unit {unit}\n")?;
+        return put_aborted(text, unit, "\n");
     }
     for event in events {
-        let is_told = match subject {
-            Subject::Unit(told) => told == unit,
-            Subject::Element(_) => concerns(subject, event),
-        };
-        if is_told {
-            write!(text, "the restart aborts unit {unit}: {event}\n")?;
-        }
+        put_abort(text, unit, event, subject)?;
     }
     Ok(())
+}
+
+// Tells what the restart's abort of an open unit does.
+fn tell_abort(
+    text: &mut String,
+    machine: &mut FollowedQueues,
+    unit: u64,
+    subject: Subject,
+) -> Result<(), AllocError> {
+    machine.abort(unit)?;
+    put_restart(text, unit, machine.events(), subject)
 }
 
 // Tells what the restart does behind the front: it aborts the open units, rising.
 fn tell_restart(
     alloc: Global,
     text: &mut String,
-    machine: FollowedQueues,
+    machine: &mut FollowedQueues,
     subject: Subject,
 ) -> Result<(), AllocError> {
-    let mut machine = machine;
-    for unit in machine.open_units(alloc)?.iter().copied() {
-        machine.abort(unit)?;
-        put_restart(text, unit, machine.events(), subject)?;
+    let units = machine.open_units(alloc)?;
+    for unit in units.iter() {
+        tell_abort(text, machine, *unit, subject)?;
     }
+    Ok(())
+}
+
+// Tells where the front begins, if that is told, where it ends, and what the restart does behind it.
+fn tell_end(
+    alloc: Global,
+    text: &mut String,
+    end: &End,
+    machine: &mut FollowedQueues,
+    subject: Subject,
+) -> Result<(), AllocError> {
+    put_beginning(text, end.at)?;
+    put_end(text, end)?;
+    tell_restart(alloc, text, machine, subject)
+}
+
+// Tells of the front, which begins behind these queues, and of its end.
+fn tell_all<W: io::Write>(
+    alloc: Global,
+    frames: PlacedFrames<'_>,
+    machine: &mut FollowedQueues,
+    end: &End,
+    subject: Subject,
+    text: &mut String,
+    output: &mut W,
+) -> Result<(), Trouble>
+    requires { string_bytes text.now ≡ [] }
+    ensures only { OnOk result
+        ((put : List ℕ) × Appends (W.contents output.old) (W.contents output.new) put) }
+    ensures refused { IfErr result
+        (LacksStory subject (W.contents output.old) (W.contents output.new)) }
+{
+    let told = tell_front(alloc, frames, machine, subject, text, output)?;
+    if told == 0 {
+        return Err(Trouble::Nothing(subject));
+    }
+    tell_end(alloc, text, end, machine, subject)?;
+    write_out(text, output)?;
     Ok(())
 }
 
@@ -202,17 +278,10 @@ fn tell<W: io::Write>(
         (LacksStory subject (W.contents output.old) (W.contents output.new)) }
 {
     let first = first_state(alloc, bytes, end.at)?;
-    let frames = front_frames(bytes, &first, end.at, end.used);
-    let before = FollowedQueues::of(alloc, &first)?;
+    let mut machine = FollowedQueues::of(alloc, &first)?;
     let mut text = String::new(alloc);
-    let Some(machine) = tell_front(alloc, frames, before, subject, &mut text, output)? else {
-        return Err(Trouble::Nothing(subject));
-    };
-    put_beginning(&mut text, end.at)?;
-    put_end(&mut text, end)?;
-    tell_restart(alloc, &mut text, machine, subject)?;
-    write_out(&mut text, output)?;
-    Ok(())
+    let frames = front_frames(bytes, &first, end.at, end.used);
+    tell_all(alloc, frames, &mut machine, end, subject, &mut text, output)
 }
 
 /// Writes what became of an element, or what a unit did: a line for each record of the front that

@@ -4,7 +4,7 @@ use crate::numbered::{Numbered, kind_of, registrant_of, unit_of};
 use rq_record::{KeptRecord, QueueNo, UnitNo};
 
 /// Which records of a front are to be shown, and how. What is none asks for nothing.
-#[derive(Clone, Copy, Debug)]
+#[derive(Clone, Copy)]
 pub struct Wanted<'a> {
     /// The offset before which no frame begins.
     pub from: u64,

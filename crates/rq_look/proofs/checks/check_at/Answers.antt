@@ -1,6 +1,6 @@
 use Rattle.std.proofs.Common.{Some, ◌∙◌, ◌++◌, List, ℕ, ap, subst, refl, codes, string_bytes}
 use Rattle.rq_restart.specs.Views.{why_of}
-use Rattle.rq_look.specs.Looks.{end_line, end_text}
+use Rattle.rq_look.specs.Looks.{end_line}
 use Rattle.rq_look.specs.Rests.{IsBehind, behind_finding}
 use Rattle.rq_look.proofs.Puts.{same_line, same_rest}
 use Rattle.rq_look.proofs.checks.check_at.Goals as goal
@@ -10,7 +10,6 @@ returns-clause-checked g c =
     let found = c.in_ok-end.ensures.end in
     let end = c.in_ok-end.end in
     let reason = string_bytes end.reason in
-    let line = end_text end.records end.used end.total (why_of end.why) reason in
     let behind = c.in_ok-behind.behind in
     let rest = behind_finding (why_of end.why) behind end.total in (
       found.0,
@@ -19,8 +18,8 @@ returns-clause-checked g c =
       found.1,
       subst (λ (used : ℕ). IsBehind c.args.bytes.now used behind) found.2.used c.in_ok-behind.ensures.found,
       refl,
-      c.in_ok-put_rest.ensures ∙ ap (λ (t : List ℕ). t ++ rest) (c.in_ok-put_end.ensures ∙ ap (λ (t : List ℕ). t ++ line) c.in_ok-text.ensures.ok
-          ∙ ap (λ (t : List ℕ). codes "carried: use rqlog\n" ++ t) (same_line found.0 end reason found.2))
+      c.in_ok-text.ensures
+          ∙ ap (λ (t : List ℕ). codes "carried: use rqlog\n" ++ t ++ rest) (same_line found.0 end reason found.2)
           ∙ ap (λ (t : List ℕ). codes "carried: use rqlog\n" ++ end_line found.0 reason ++ t)
           (same_rest found.0 end behind found.2),
     )

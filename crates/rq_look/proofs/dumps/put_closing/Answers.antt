@@ -3,8 +3,8 @@ use Rattle.rq_look.specs.Looks.{IsClosing, end_line}
 use Rattle.rq_look.proofs.Puts.{same_line}
 use Rattle.rq_look.proofs.dumps.put_closing.Goals as goal
 
-pub returns-clause-closing : goal.returns-clause-closing
-returns-clause-closing c = λ at b r is e.
+pub returns : goal.returns
+returns c = λ at b r is e.
     let reason = string_bytes c.args.end.now.reason in
     let line : List ℕ = end_line r reason in (
       line,
