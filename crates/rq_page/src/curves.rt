@@ -3,7 +3,7 @@
 ghost use Rattle.std.specs.Prelude.{◌≤◌};
 
 use crate::markup::Html::{Count, Number, Tag};
-use crate::markup::put_pieces;
+use crate::markup::{NOTHING, put_pieces};
 use std::alloc::{AllocError, Global};
 
 /// Where a part of a whole stands on a line of so many steps.
@@ -106,10 +106,15 @@ impl Curve {
     }
 
     // Puts the line through one bin.
-    fn put_bin(&self, text: &mut String, frame: &Canvas, bin: Bin) -> Result<(), AllocError> {
+    fn put_bin(&self, text: &mut String, frame: &Canvas, bin: &Bin) -> Result<(), AllocError> {
         let (from, to) = (frame.at(bin.number), frame.at(bin.number.saturating_add(1)));
         let top = frame.below_top(bin.most, self.most);
         let behind = frame.below_top(bin.last, self.most);
+        let (down, last) = if behind == top {
+            (NOTHING, NOTHING)
+        } else {
+            (Tag("V"), Number(behind))
+        };
         put_pieces(
             text,
             &[
@@ -119,16 +124,14 @@ impl Curve {
                 Number(top),
                 Tag("H"),
                 Number(to),
+                down,
+                last,
             ],
-        )?;
-        if behind == top {
-            return Ok(());
-        }
-        put_pieces(text, &[Tag("V"), Number(behind)])
+        )
     }
 
     fn put_line(&self, text: &mut String, frame: &Canvas) -> Result<(), AllocError> {
-        for bin in self.changed.iter().copied() {
+        for bin in &self.changed {
             self.put_bin(text, frame, bin)?;
         }
         Ok(())

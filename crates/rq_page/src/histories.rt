@@ -2,7 +2,7 @@
 
 use crate::lives::Lives;
 use crate::markup::Html::{Number, Tag, Text};
-use crate::markup::{Html, put_pieces};
+use crate::markup::put_pieces;
 use crate::shown::Linked;
 use crate::steps::{Step, put_steps};
 use rq_record::Name;
@@ -38,14 +38,8 @@ fn put_bottom(text: &mut String) -> Result<(), AllocError> {
     text.push_str("</table></div>\n</section>\n")
 }
 
-// Puts a row: what its life is of, and its steps.
-fn put_life(
-    text: &mut String,
-    shown: &Linked<'_>,
-    head: &[Html<'_>],
-    steps: &[Step],
-) -> Result<(), AllocError> {
-    put_pieces(text, head)?;
+// Puts the steps of a life, and the end of its row.
+fn put_life(text: &mut String, shown: &Linked<'_>, steps: &[Step]) -> Result<(), AllocError> {
     if steps.is_empty() {
         return text.push_str("the front tells nothing of it</td></tr>\n");
     }
@@ -62,15 +56,18 @@ fn put_numbered(
     steps: &[Step],
 ) -> Result<(), AllocError> {
     let digits = Number(number);
-    let head = [
-        Tag("<tr id=\""),
-        Tag(kind),
-        digits,
-        Tag("\"><th scope=\"row\">"),
-        digits,
-        Tag("</th><td>"),
-    ];
-    put_life(text, shown, &head, steps)
+    put_pieces(
+        text,
+        &[
+            Tag("<tr id=\""),
+            Tag(kind),
+            digits,
+            Tag("\"><th scope=\"row\">"),
+            digits,
+            Tag("</th><td>"),
+        ],
+    )?;
+    put_life(text, shown, steps)
 }
 
 fn put_all_numbered(
@@ -125,6 +122,10 @@ pub(crate) fn put_unit_histories(
     put_bottom(text)
 }
 
+fn put_queue(text: &mut String, shown: &Linked<'_>, queue: u32) -> Result<(), AllocError> {
+    put_pieces(text, &[shown.queue_link(queue), Tag("</td><td>")])
+}
+
 // Puts the life of a registrant.
 fn put_registrant(
     text: &mut String,
@@ -145,8 +146,8 @@ fn put_registrant(
             Tag("</th><td>"),
         ],
     )?;
-    shown.put_queue(text, queue)?;
-    put_life(text, shown, &[Tag("</td><td>")], steps)
+    put_queue(text, shown, queue)?;
+    put_life(text, shown, steps)
 }
 
 fn put_all_registrants(

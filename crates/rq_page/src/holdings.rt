@@ -1,7 +1,7 @@
 //! What a queue holds, to be folded out: its elements and its registrants.
 
 use crate::markup::Html::{Count, Number, Tag, Text};
-use crate::markup::put_pieces;
+use crate::markup::{Html, put_pieces};
 use crate::payloads::put_payload_cell;
 use crate::shown::Linked;
 use rq_look::{LastShown, RegistrantShown};
@@ -23,13 +23,13 @@ fn put_element(
     shown: &Linked<'_>,
     e: &Element,
 ) -> Result<(), AllocError> {
-    text.push_str("<tr><th scope=\"row\">")?;
-    shown.put_element(text, e.id.0)?;
-    text.push_str("</th><td>")?;
-    shown.put_queue(text, e.origin.0)?;
     put_pieces(
         text,
         &[
+            Tag("<tr><th scope=\"row\">"),
+            shown.element_link(e.id.0),
+            Tag("</th><td>"),
+            shown.queue_link(e.origin.0),
             Tag("</td><td>"),
             Number(u64::from(e.priority)),
             Tag("</td><td>"),
@@ -87,23 +87,43 @@ fn put_elements(
     put_more(text, elements.len(), count)
 }
 
-// Puts what a registrant did last.
-fn put_last(text: &mut String, shown: &Linked<'_>, last: &LastShown<'_>) -> Result<(), AllocError> {
+// Puts a registrant, and what it did last.
+fn put_last<'a>(
+    text: &mut String,
+    shown: &Linked<'_>,
+    registrant: Html<'a>,
+    last: &LastShown<'a>,
+) -> Result<(), AllocError> {
+    let element = match last.element {
+        Some(element) => shown.element_link(element),
+        None => Tag("-"),
+    };
     put_pieces(
         text,
         &[
+            Tag("<tr><th scope=\"row\">"),
+            registrant,
             Tag("</th><td>"),
             Text(last.kind),
             Tag("</td><td>"),
             Number(last.tag),
             Tag("</td><td>"),
+            element,
+            Tag("</td></tr>\n"),
         ],
-    )?;
-    match last.element {
-        Some(element) => shown.put_element(text, element)?,
-        None => text.push('-')?,
-    }
-    text.push_str("</td></tr>\n")
+    )
+}
+
+// Puts a registrant that did nothing.
+fn put_idle(text: &mut String, registrant: Html<'_>) -> Result<(), AllocError> {
+    put_pieces(
+        text,
+        &[
+            Tag("<tr><th scope=\"row\">"),
+            registrant,
+            Tag("</th><td>-</td><td></td><td></td></tr>\n"),
+        ],
+    )
 }
 
 fn put_registrant(
@@ -112,11 +132,10 @@ fn put_registrant(
     queue: u32,
     it: &RegistrantShown<'_>,
 ) -> Result<(), AllocError> {
-    text.push_str("<tr><th scope=\"row\">")?;
-    shown.put_registrant(text, queue, it.name)?;
+    let registrant = shown.registrant_link(queue, it.name);
     match &it.last {
-        Some(last) => put_last(text, shown, last),
-        None => text.push_str("</th><td>-</td><td></td><td></td></tr>\n"),
+        Some(last) => put_last(text, shown, registrant, last),
+        None => put_idle(text, registrant),
     }
 }
 
@@ -156,6 +175,20 @@ fn put_registrants(
     put_more(text, registrants.len(), count)
 }
 
+// Puts how much folds out below a queue.
+fn put_fold_head(text: &mut String, elements: usize, registrants: usize) -> Result<(), AllocError> {
+    put_pieces(
+        text,
+        &[
+            Tag("<tr class=\"fold\"><td colspan=\"4\"><details><summary>elements: "),
+            Count(elements as u64),
+            Tag(", registrants: "),
+            Count(registrants as u64),
+            Tag("</summary>\n"),
+        ],
+    )
+}
+
 /// Puts what folds out below a queue, if there is anything.
 pub(crate) fn put_fold(
     alloc: Global,
@@ -168,16 +201,7 @@ pub(crate) fn put_fold(
     if elements.is_empty() && registrants.is_empty() {
         return Ok(());
     }
-    put_pieces(
-        text,
-        &[
-            Tag("<tr class=\"fold\"><td colspan=\"4\"><details><summary>elements: "),
-            Count(elements.len() as u64),
-            Tag(", registrants: "),
-            Count(registrants.len() as u64),
-            Tag("</summary>\n"),
-        ],
-    )?;
+    put_fold_head(text, elements.len(), registrants.len())?;
     put_elements(alloc, text, shown, elements)?;
     put_registrants(text, shown, queue, registrants)?;
     text.push_str("</details></td></tr>\n")

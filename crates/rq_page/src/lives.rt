@@ -1,10 +1,13 @@
 //! What became of elements, units and registrants.
 
+ghost use Rattle.std.specs.Prelude.{◌≡◌, IfErr};
+ghost use Rattle.rq_record.specs.declared.fault.Fault.TheVariants.{Resources};
+
 use crate::records::put_row;
 use crate::shown::Linked;
 use crate::steps::{At, STEPS, Step, step_of};
 use rq_look::{Event, Numbered, unit_of};
-use rq_record::{KeptBy, KeptName, KeptRecord, Name, QueueNo};
+use rq_record::{Fault, KeptBy, KeptName, KeptRecord, Name, QueueNo};
 use std::alloc::{AllocError, Global};
 use std::collections::BTreeMap;
 
@@ -31,11 +34,18 @@ pub(crate) struct Lives {
 }
 
 // Adds a step to a life, unless it has as many as are kept.
-fn keep(steps: &mut Vec<Step>, step: Step) -> Result<(), AllocError> {
+fn keep(steps: &mut Vec<Step>, step: &Step) -> Result<(), AllocError> {
     if steps.len() < STEPS {
-        steps.push(step)?;
+        steps.push(*step)?;
     }
     Ok(())
+}
+
+// A life with one step.
+fn first_of(alloc: Global, step: &Step) -> Result<Vec<Step>, AllocError> {
+    let mut steps = Vec::new(alloc);
+    steps.push(*step)?;
+    Ok(steps)
 }
 
 // Adds a step to the life of a number.
@@ -43,14 +53,12 @@ fn add(
     alloc: Global,
     lives: &mut BTreeMap<u64, Vec<Step>>,
     number: u64,
-    step: Step,
+    step: &Step,
 ) -> Result<(), AllocError> {
     if let Some(steps) = lives.get_mut(&number) {
         return keep(steps, step);
     }
-    let mut steps = Vec::new(alloc);
-    steps.push(step)?;
-    lives.insert(number, steps)?;
+    lives.insert(number, first_of(alloc, step)?)?;
     Ok(())
 }
 
@@ -109,6 +117,30 @@ impl Lives {
         }
     }
 
+    // What happens to an element. Answers whether that is shown.
+    fn take_element(
+        &mut self,
+        alloc: Global,
+        shown: &Linked<'_>,
+        event: &Event,
+        at: At,
+        unit: Option<u64>,
+    ) -> Result<bool, AllocError> {
+        let Event::To(element, _) = event else {
+            return Ok(false);
+        };
+        if !shown.has_element(*element) {
+            return Ok(false);
+        }
+        let step = Step {
+            element: None,
+            unit,
+            ..step_of(event, at)
+        };
+        add(alloc, &mut self.elements, *element, &step)?;
+        Ok(true)
+    }
+
     // What happens to elements. Answers whether one of them is shown.
     fn take_elements(
         &mut self,
@@ -120,16 +152,7 @@ impl Lives {
     ) -> Result<bool, AllocError> {
         let mut is_shown = false;
         for event in events {
-            let Event::To(element, _) = event else {
-                continue;
-            };
-            if shown.has_element(*element) {
-                let step = Step {
-                    element: None,
-                    unit,
-                    ..step_of(event, at)
-                };
-                add(alloc, &mut self.elements, *element, step)?;
+            if self.take_element(alloc, shown, event, at, unit)? {
                 is_shown = true;
             }
         }
@@ -155,7 +178,7 @@ impl Lives {
             (None, Some(event)) => step_of(event, At::Record(it.number)),
             (None, None) => return Ok(true),
         };
-        add(alloc, &mut self.units, unit.0, step)?;
+        add(alloc, &mut self.units, unit.0, &step)?;
         Ok(true)
     }
 
@@ -164,15 +187,13 @@ impl Lives {
         alloc: Global,
         queue: QueueNo,
         name: &KeptName,
-        step: Step,
+        step: &Step,
     ) -> Result<(), AllocError> {
         let key = (queue.0, name.name());
         if let Some(steps) = self.registrants.get_mut(&key) {
             return keep(steps, step);
         }
-        let mut steps = Vec::new(alloc);
-        steps.push(step)?;
-        self.registrants.insert(key, steps)?;
+        self.registrants.insert(key, first_of(alloc, step)?)?;
         Ok(())
     }
 
@@ -182,13 +203,13 @@ impl Lives {
         alloc: Global,
         queue: QueueNo,
         by: &KeptBy,
-        step: Step,
+        step: &Step,
     ) -> Result<(), AllocError> {
         let Some(name) = by.name() else {
             return Ok(());
         };
         let tag = by.by().map(|by| by.tag);
-        self.take_registrant(alloc, queue, name, Step { tag, ..step })
+        self.take_registrant(alloc, queue, name, &Step { tag, ..*step })
     }
 
     // What a registrant does.
@@ -202,14 +223,14 @@ impl Lives {
         match &it.record {
             KeptRecord::Register { queue, name } => {
                 let step = Step::of("begins", "is registered", at);
-                self.take_registrant(alloc, *queue, name, step)
+                self.take_registrant(alloc, *queue, name, &step)
             }
             KeptRecord::Deregister { queue, name } => {
                 let step = Step::of("gone", "is registered no more", at);
-                self.take_registrant(alloc, *queue, name, step)
+                self.take_registrant(alloc, *queue, name, &step)
             }
             KeptRecord::Enqueue { queue, by, .. } | KeptRecord::Dequeue { queue, by, .. } => {
-                self.take_operation(alloc, *queue, by, step_of_operation(it, events))
+                self.take_operation(alloc, *queue, by, &step_of_operation(it, events))
             }
             _ => Ok(()),
         }
@@ -241,7 +262,9 @@ impl Lives {
         it: &Numbered,
         events: &[Event],
         truth: bool,
-    ) -> Result<(), AllocError> {
+    ) -> Result<(), Fault>
+        ensures { IfErr result (λ e. e ≡ Resources) }
+    {
         let unit = unit_of(&it.record).map(|unit| unit.0);
         let of_element = self.take_elements(alloc, shown, events, At::Record(it.number), unit)?;
         let of_unit = self.take_unit(alloc, shown, it, events)?;
@@ -265,7 +288,7 @@ impl Lives {
         self.take_elements(alloc, shown, events, At::Restart, Some(unit))?;
         if shown.has_unit(unit) {
             let step = Step::of("back", "aborted", At::Restart);
-            add(alloc, &mut self.units, unit, step)?;
+            add(alloc, &mut self.units, unit, &step)?;
         }
         Ok(())
     }

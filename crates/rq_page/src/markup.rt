@@ -8,7 +8,8 @@ use rq_look::is_hidden;
 use std::alloc::AllocError;
 use std::fmt::Write;
 
-/// A part of a page. What is of the log is a number or a `Text`: a `Tag` is of this crate alone.
+/// A part of a page. A `Tag` is of this crate alone; what is of the log is a number, or a text or a
+/// name of which no character is markup.
 #[derive(Clone, Copy)]
 pub(crate) enum Html<'a> {
     /// Markup, or words beside it.
@@ -19,7 +20,18 @@ pub(crate) enum Html<'a> {
     Count(u64),
     /// A text of which no character is markup.
     Text(&'a str),
+    /// A number with a link to what it names: the kind of that, and the number.
+    Link(&'static str, u64),
+    /// A queue's number and name.
+    Named(u32, &'a str),
+    /// The same with a link to the queue.
+    Queue(u32, &'a str),
+    /// The name of a registrant of a queue, with a link to it.
+    Registrant(u32, &'a str),
 }
+
+/// Nothing.
+pub(crate) const NOTHING: Html<'static> = Html::Tag("");
 
 // What groups of three digits count, the greatest first.
 static GROUPS: [u64; 6] = [
@@ -111,19 +123,46 @@ fn put_count(text: &mut String, number: u64) -> Result<(), AllocError> {
     put_last(text, left, is_first)
 }
 
-fn put_piece(text: &mut String, piece: Html<'_>) -> Result<(), AllocError> {
+fn put_link(text: &mut String, kind: &'static str, number: u64) -> Result<(), AllocError> {
+    write!(text, "<a href=\"#{kind}{number}\">{number}</a>")
+}
+
+fn put_named(text: &mut String, queue: u32, name: &str) -> Result<(), AllocError> {
+    write!(text, "{queue} ")?;
+    put_text(text, name)
+}
+
+fn put_queue(text: &mut String, queue: u32, name: &str) -> Result<(), AllocError> {
+    write!(text, "<a href=\"#q{queue}\">")?;
+    put_named(text, queue, name)?;
+    text.push_str("</a>")
+}
+
+fn put_registrant(text: &mut String, queue: u32, name: &str) -> Result<(), AllocError> {
+    write!(text, "<a href=\"#g{queue}-")?;
+    put_text(text, name)?;
+    text.push_str("\">")?;
+    put_text(text, name)?;
+    text.push_str("</a>")
+}
+
+fn put_piece(text: &mut String, piece: &Html<'_>) -> Result<(), AllocError> {
     match piece {
         Html::Tag(tag) => text.push_str(tag),
         Html::Number(number) => write!(text, "{number}"),
-        Html::Count(number) => put_count(text, number),
+        Html::Count(number) => put_count(text, *number),
         Html::Text(word) => put_text(text, word),
+        Html::Link(kind, number) => put_link(text, kind, *number),
+        Html::Named(queue, name) => put_named(text, *queue, name),
+        Html::Queue(queue, name) => put_queue(text, *queue, name),
+        Html::Registrant(queue, name) => put_registrant(text, *queue, name),
     }
 }
 
 /// Puts one piece behind the other.
 pub(crate) fn put_pieces(text: &mut String, pieces: &[Html<'_>]) -> Result<(), AllocError> {
     for piece in pieces {
-        put_piece(text, *piece)?;
+        put_piece(text, piece)?;
     }
     Ok(())
 }

@@ -211,6 +211,11 @@ fn shown_of(told: &PageContents) -> Linked<'_> {
     shown
 }
 
+fn put_page_head(alloc: Global, text: &mut String, asked: &Asked<'_>) -> Result<(), AllocError> {
+    let sum = sum_of_style(alloc)?;
+    put_head(text, asked.name, STYLE, sum.as_str())
+}
+
 // Puts what stands before the queues.
 fn put_top(
     alloc: Global,
@@ -221,10 +226,9 @@ fn put_top(
 ) -> Result<(), AllocError> {
     let found = &told.contents.found;
     let (restarted, end) = (&found.restarted, &found.end);
-    let sum = sum_of_style(alloc)?;
-    put_head(text, asked.name, STYLE, sum.as_str())?;
+    put_page_head(alloc, text, asked)?;
     put_header(text, asked, restarted, end)?;
-    put_parts(text, parts_of(&told.lives))?;
+    put_parts(text, &parts_of(&told.lives))?;
     text.push_str("<main>\n")?;
     let checkpoints = found.checkpoints.as_slice();
     put_summary(alloc, text, bytes, restarted, end, checkpoints)

@@ -61,12 +61,12 @@ fn put_form(text: &mut String, bytes: &[u8]) -> Result<(), AllocError> {
     }
 }
 
-// Puts all of a payload, of which the first was put before.
+// Puts all of a payload, behind the first of it.
 fn put_rest(alloc: Global, text: &mut String, bytes: &[u8]) -> Result<(), AllocError> {
     put_pieces(
         text,
         &[
-            Tag("<details><summary>all "),
+            Tag("</bdi><details><summary>all "),
             Count(bytes.len() as u64),
             Tag(" bytes</summary>"),
         ],
@@ -74,6 +74,24 @@ fn put_rest(alloc: Global, text: &mut String, bytes: &[u8]) -> Result<(), AllocE
     put_form(text, bytes)?;
     put_first(alloc, text, bytes, bytes.len())?;
     text.push_str("</bdi></details>")
+}
+
+// Puts what stands behind the first of a payload, of which so many bytes are shown.
+fn put_behind(
+    alloc: Global,
+    text: &mut String,
+    bytes: &[u8],
+    shown: usize,
+    whole: bool,
+) -> Result<(), AllocError> {
+    if shown >= bytes.len() {
+        return text.push_str("</bdi>");
+    }
+    if whole {
+        return put_rest(alloc, text, bytes);
+    }
+    let count = Count(bytes.len() as u64);
+    put_pieces(text, &[Tag("</bdi><i>.. "), count, Tag(" bytes</i>")])
 }
 
 /// Puts a payload: its first characters, or bytes if it is no text, and how many bytes it has; all
@@ -89,13 +107,5 @@ pub(crate) fn put_payload_cell(
     }
     put_form(text, bytes)?;
     let shown = put_first(alloc, text, bytes, FIRST)?;
-    text.push_str("</bdi>")?;
-    if shown >= bytes.len() {
-        return Ok(());
-    }
-    if whole {
-        return put_rest(alloc, text, bytes);
-    }
-    let count = Count(bytes.len() as u64);
-    put_pieces(text, &[Tag("<i>.. "), count, Tag(" bytes</i>")])
+    put_behind(alloc, text, bytes, shown, whole)
 }

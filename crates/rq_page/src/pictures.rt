@@ -2,7 +2,7 @@
 
 use crate::curves::{along, bin_of, put_axis};
 use crate::markup::Html::{Count, Number, Tag};
-use crate::markup::put_pieces;
+use crate::markup::{NOTHING, put_pieces};
 use crate::surveys::{BINS, Bin, Survey};
 use rq_look::End;
 use std::alloc::{AllocError, Global};
@@ -39,16 +39,18 @@ fn most_of(bins: &[Bin]) -> u64 {
     most
 }
 
-// Puts what the pointer shows of a bin.
-fn put_label(text: &mut String, bin: &Bin) -> Result<(), AllocError> {
-    text.push_str("<title>")?;
-    for (kind, count) in bin {
-        put_pieces(text, &[Count(*count), Tag(" "), Tag(*kind), Tag(" ")])?;
-    }
-    text.push_str("</title>")
+fn put_count(text: &mut String, kind: &'static str, count: u64) -> Result<(), AllocError> {
+    put_pieces(text, &[Count(count), Tag(" "), Tag(kind), Tag(" ")])
 }
 
-// A part of a bar.
+fn put_counts(text: &mut String, bin: &Bin) -> Result<(), AllocError> {
+    for (kind, count) in bin {
+        put_count(text, *kind, *count)?;
+    }
+    Ok(())
+}
+
+// A part of a bar, and what stands behind it.
 #[derive(Clone, Copy)]
 struct BarPart {
     class: &'static str,
@@ -56,10 +58,11 @@ struct BarPart {
     y: u64,
     width: u64,
     height: u64,
+    behind: &'static str,
 }
 
-// Puts a rectangle, without its end.
-fn put_part(text: &mut String, part: BarPart) -> Result<(), AllocError> {
+// Puts a rectangle, and what stands behind it.
+fn put_part(text: &mut String, part: &BarPart) -> Result<(), AllocError> {
     put_pieces(
         text,
         &[
@@ -73,30 +76,47 @@ fn put_part(text: &mut String, part: BarPart) -> Result<(), AllocError> {
             Number(part.width),
             Tag("\" height=\""),
             Number(part.height),
-            Tag("\""),
+            Tag(part.behind),
         ],
     )
 }
 
+// Puts the records of one kind above those below.
+fn put_kind(
+    text: &mut String,
+    kind: &'static str,
+    x: u64,
+    base: u64,
+    top: u64,
+) -> Result<(), AllocError> {
+    let part = BarPart {
+        class: kind,
+        x,
+        y: HEIGHT.saturating_sub(top),
+        width: BIN,
+        height: top.saturating_sub(base),
+        behind: "\"/>",
+    };
+    put_part(text, &part)
+}
+
 // Puts the records of one bin, one kind on the other; the most of any bin fill the height.
-fn put_bar(text: &mut String, bin: &Bin, x: u64, most: u64) -> Result<(), AllocError> {
+fn put_stack(text: &mut String, bin: &Bin, x: u64, most: u64) -> Result<(), AllocError> {
     let mut below: u64 = 0;
-    text.push_str("<g>")?;
-    put_label(text, bin)?;
     for (kind, count) in bin {
         let base = along(below, most, HEIGHT);
         below = below.saturating_add(*count);
-        let top = along(below, most, HEIGHT);
-        let part = BarPart {
-            class: *kind,
-            x,
-            y: HEIGHT.saturating_sub(top),
-            width: BIN,
-            height: top.saturating_sub(base),
-        };
-        put_part(text, part)?;
-        text.push_str("/>")?;
+        put_kind(text, *kind, x, base, along(below, most, HEIGHT))?;
     }
+    Ok(())
+}
+
+// Puts the same, with what the pointer shows of it.
+fn put_bar(text: &mut String, bin: &Bin, x: u64, most: u64) -> Result<(), AllocError> {
+    text.push_str("<g><title>")?;
+    put_counts(text, bin)?;
+    text.push_str("</title>")?;
+    put_stack(text, bin, x, most)?;
     text.push_str("</g>\n")
 }
 
@@ -126,20 +146,23 @@ fn marked(
 }
 
 fn put_mark(text: &mut String, bin: u64, truth: bool) -> Result<(), AllocError> {
-    let class = if truth { "true" } else { "false" };
+    let (class, behind) = if truth {
+        ("true", "\"><title>a checkpoint</title></rect>\n")
+    } else {
+        (
+            "false",
+            "\"><title>a checkpoint that does not spell the state before it</title></rect>\n",
+        )
+    };
     let part = BarPart {
         class,
         x: left_of(bin),
         y: HEIGHT + 4,
         width: BIN,
         height: 10,
+        behind,
     };
-    put_part(text, part)?;
-    text.push_str(if truth {
-        "><title>a checkpoint</title></rect>\n"
-    } else {
-        "><title>a checkpoint that does not spell the state before it</title></rect>\n"
-    })
+    put_part(text, &part)
 }
 
 fn put_marks(text: &mut String, marks: &BTreeMap<u64, bool>) -> Result<(), AllocError> {
@@ -161,12 +184,12 @@ fn put_damage(text: &mut String, end: &End) -> Result<(), AllocError> {
         y: 0,
         width: WIDTH.saturating_sub(x),
         height: HEIGHT + LINE,
+        behind: "\"><title>",
     };
-    put_part(text, part)?;
+    put_part(text, &part)?;
     put_pieces(
         text,
         &[
-            Tag("><title>"),
             Count(end.total.saturating_sub(end.used)),
             Tag(" bytes behind the front</title></rect>\n"),
         ],
@@ -189,35 +212,44 @@ fn totals(all: &mut Bin, bins: &[Bin]) -> Result<(), AllocError> {
     Ok(())
 }
 
+fn put_kind_item(text: &mut String, kind: &'static str, count: u64) -> Result<(), AllocError> {
+    let word = Tag(kind);
+    put_pieces(
+        text,
+        &[
+            Tag("<li class=\""),
+            word,
+            Tag("\">"),
+            Count(count),
+            Tag(" "),
+            word,
+            Tag("</li>\n"),
+        ],
+    )
+}
+
 fn put_kinds(text: &mut String, all: &Bin) -> Result<(), AllocError> {
     for (kind, count) in all {
-        put_pieces(
-            text,
-            &[
-                Tag("<li class=\""),
-                Tag(*kind),
-                Tag("\">"),
-                Count(*count),
-                Tag(" "),
-                Tag(*kind),
-                Tag("</li>\n"),
-            ],
-        )?;
+        put_kind_item(text, *kind, *count)?;
     }
     Ok(())
 }
 
 // Puts what the colours mean, and how many records of each kind there are.
 fn put_legend(text: &mut String, all: &Bin, end: &End, marks: bool) -> Result<(), AllocError> {
+    let mark = if marks {
+        Tag("<li class=\"true\">a checkpoint stands here</li>\n")
+    } else {
+        NOTHING
+    };
+    let damage = if end.used < end.total {
+        Tag("<li class=\"damage\">behind the front</li>\n")
+    } else {
+        NOTHING
+    };
     text.push_str("<ul class=\"legend\">\n")?;
     put_kinds(text, all)?;
-    if marks {
-        text.push_str("<li class=\"true\">a checkpoint stands here</li>\n")?;
-    }
-    if end.used < end.total {
-        text.push_str("<li class=\"damage\">behind the front</li>\n")?;
-    }
-    text.push_str("</ul>\n")
+    put_pieces(text, &[mark, damage, Tag("</ul>\n</section>\n")])
 }
 
 // Puts the records, the checkpoints and what stands behind the front, above an axis.
@@ -231,6 +263,7 @@ fn put_drawing(
     put_pieces(
         text,
         &[
+            Tag("<section id=\"log\">\n<h2>The log along its length</h2>\n"),
             Tag("<div class=\"plot tall\"><span class=\"scale\"><span>"),
             Count(most),
             Tag("</span><span>0</span></span><svg viewBox=\"0 0 "),
@@ -273,8 +306,6 @@ pub(crate) fn put_picture(
 ) -> Result<(), AllocError> {
     let mut marks = BTreeMap::new(alloc);
     marked(&mut marks, checkpoints, end.total)?;
-    text.push_str("<section id=\"log\">\n<h2>The log along its length</h2>\n")?;
     put_drawing(text, seen, end, &marks)?;
-    put_colours(alloc, text, seen, end, !marks.is_empty())?;
-    text.push_str("</section>\n")
+    put_colours(alloc, text, seen, end, !marks.is_empty())
 }

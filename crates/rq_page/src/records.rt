@@ -1,7 +1,7 @@
 //! The records, a row each.
 
 use crate::markup::Html::{Count, Number, Tag};
-use crate::markup::put_pieces;
+use crate::markup::{Html, NOTHING, put_pieces};
 use crate::payloads::put_payload_cell;
 use crate::shown::Linked;
 use crate::steps::{At, put_step, step_of};
@@ -15,23 +15,19 @@ const WHOLE: usize = 500_000;
 // As many events of a record are shown: a COMMIT has one for each operation of its unit.
 const EVENTS: usize = 1000;
 
-fn put_unit(text: &mut String, shown: &Linked<'_>, record: &KeptRecord) -> Result<(), AllocError> {
+// The unit that a record names.
+fn unit_named(shown: &Linked<'_>, record: &KeptRecord) -> (Html<'static>, Html<'static>) {
     match unit_of(record) {
-        Some(unit) => {
-            text.push_str(" unit ")?;
-            shown.put_unit(text, unit.0)
-        }
-        None => Ok(()),
+        Some(unit) => (Tag(" unit "), shown.unit_link(unit.0)),
+        None => (NOTHING, NOTHING),
     }
 }
 
-fn put_queue(text: &mut String, shown: &Linked<'_>, it: &Numbered) -> Result<(), AllocError> {
+// The queue that it defines or names.
+fn queue_named<'a>(shown: &Linked<'a>, it: &Numbered) -> (Html<'a>, Html<'a>) {
     match it.queue() {
-        Some(queue) => {
-            text.push_str(" queue ")?;
-            shown.put_queue(text, queue.0)
-        }
-        None => Ok(()),
+        Some(queue) => (Tag(" queue "), shown.queue_link(queue.0)),
+        None => (NOTHING, NOTHING),
     }
 }
 
@@ -45,9 +41,11 @@ fn put_by(
     let Some(by) = by.by() else {
         return Ok(());
     };
-    text.push_str(" by ")?;
-    shown.put_registrant(text, queue.0, by.name.text())?;
-    put_pieces(text, &[Tag(" tag "), Number(by.tag)])
+    let registrant = shown.registrant_link(queue.0, by.name.text());
+    put_pieces(
+        text,
+        &[Tag(" by "), registrant, Tag(" tag "), Number(by.tag)],
+    )
 }
 
 fn put_definition(
@@ -62,9 +60,9 @@ fn put_definition(
             Tag(" limit "),
             Number(u64::from(limit)),
             Tag(" error queue "),
+            shown.error_link(error),
         ],
-    )?;
-    shown.put_error(text, error)
+    )
 }
 
 // Puts how many bytes a checkpoint has, and whether it is true.
@@ -100,6 +98,10 @@ fn put_enqueued(
     put_payload_cell(alloc, text, payload.bytes(), text.len() < WHOLE)
 }
 
+fn put_field(text: &mut String, name: &'static str, field: Html<'_>) -> Result<(), AllocError> {
+    put_pieces(text, &[Tag(name), field])
+}
+
 // Puts what no other kind of record has.
 fn put_fields(
     alloc: Global,
@@ -111,33 +113,48 @@ fn put_fields(
     match &it.record {
         KeptRecord::Define { limit, error, .. } => put_definition(text, shown, *limit, *error),
         KeptRecord::Register { queue, name } | KeptRecord::Deregister { queue, name } => {
-            text.push_str(" name ")?;
-            shown.put_registrant(text, queue.0, name.text())
+            put_field(text, " name ", shown.registrant_link(queue.0, name.text()))
         }
         KeptRecord::Enqueue { .. } => put_enqueued(alloc, text, shown, it),
         KeptRecord::Dequeue { queue, by, .. } => put_by(text, shown, *queue, by),
         KeptRecord::Kill { element, .. } => {
             // It may be none: what happens has the link.
-            put_pieces(text, &[Tag(" element "), Number(element.0)])
+            put_field(text, " element ", Number(element.0))
         }
         KeptRecord::Checkpoint { bytes } => put_checkpoint(text, bytes.bytes().len(), truth),
         _ => Ok(()),
     }
 }
 
-fn put_events(text: &mut String, shown: &Linked<'_>, events: &[Event]) -> Result<(), AllocError> {
-    text.push_str("<ol>")?;
+fn put_first_events(
+    text: &mut String,
+    shown: &Linked<'_>,
+    events: &[Event],
+) -> Result<(), AllocError> {
     for event in events.iter().take(EVENTS) {
         put_step(text, shown, &step_of(event, At::Here))?;
     }
-    if events.len() > EVENTS {
-        let more = Count(events.len().saturating_sub(EVENTS) as u64);
-        put_pieces(
-            text,
-            &[Tag("<li class=\"none\">and "), more, Tag(" more</li>")],
-        )?;
+    Ok(())
+}
+
+fn put_events(text: &mut String, shown: &Linked<'_>, events: &[Event]) -> Result<(), AllocError> {
+    if events.is_empty() {
+        return Ok(());
     }
-    text.push_str("</ol>")
+    text.push_str("<ol>")?;
+    put_first_events(text, shown, events)?;
+    let more = events.len().saturating_sub(EVENTS) as u64;
+    if more == 0 {
+        return text.push_str("</ol>");
+    }
+    put_pieces(
+        text,
+        &[
+            Tag("<li class=\"none\">and "),
+            Count(more),
+            Tag(" more</li></ol>"),
+        ],
+    )
 }
 
 /// Puts the row of a record: its number, its offset, what it says, and what happens at it. The truth
@@ -151,6 +168,8 @@ pub(crate) fn put_row(
     truth: bool,
 ) -> Result<(), AllocError> {
     let (number, kind) = (Number(it.number), Tag(kind_of(&it.record)));
+    let (of_unit, unit) = unit_named(shown, &it.record);
+    let (of_queue, queue) = queue_named(shown, it);
     put_pieces(
         text,
         &[
@@ -165,16 +184,24 @@ pub(crate) fn put_row(
             Tag("\">"),
             kind,
             Tag("</b>"),
+            of_unit,
+            unit,
+            of_queue,
+            queue,
         ],
     )?;
-    put_unit(text, shown, &it.record)?;
-    put_queue(text, shown, it)?;
     put_fields(alloc, text, shown, it, truth)?;
     text.push_str("</td><td>")?;
-    if !events.is_empty() {
-        put_events(text, shown, events)?;
-    }
+    put_events(text, shown, events)?;
     text.push_str("</td></tr>\n")
+}
+
+// Puts how many records were left out.
+fn put_left_out(text: &mut String, more: u64) -> Result<(), AllocError> {
+    if more == 0 {
+        return Ok(());
+    }
+    put_pieces(text, &[Tag("; "), Count(more), Tag(" more are left out")])
 }
 
 /// Puts the records that were gathered as rows, and how many were left out.
@@ -191,9 +218,7 @@ pub(crate) fn put_record_rows(
         "<section id=\"records\">\n<h2>Records</h2>\n<div class=\"scroll\"><table class=\"lives records\">\n\
         <caption>Each record with what happens at it",
     )?;
-    if more > 0 {
-        put_pieces(text, &[Tag("; "), Count(more), Tag(" more are left out")])?;
-    }
+    put_left_out(text, more)?;
     text.push_str(
         "</caption>\n<tr><th scope=\"col\">record</th><th scope=\"col\">at byte</th>\
         <th scope=\"col\">what it says</th><th scope=\"col\">what happens</th></tr>\n",

@@ -1,11 +1,9 @@
 //! What is said of things by their numbers: names beside them, and links to where more stands.
 
 use crate::lives::Lives;
-use crate::markup::Html::{Number, Tag, Text};
-use crate::markup::{Html, put_pieces};
+use crate::markup::Html;
 use rq_record::QueueNo;
 use rq_state::Definition;
-use std::alloc::AllocError;
 
 // Of a log of more records the lives of all are never shown.
 const ALL: u64 = 10_000;
@@ -91,92 +89,55 @@ impl<'a> Linked<'a> {
         }
     }
 
-    /// Puts a queue by its number and its name.
-    pub(crate) fn put_queue(&self, text: &mut String, queue: u32) -> Result<(), AllocError> {
-        let (digits, name) = (Number(u64::from(queue)), self.name_of(queue));
+    /// A queue by its number and its name.
+    pub(crate) fn queue_link(&self, queue: u32) -> Html<'a> {
+        let name = self.name_of(queue);
         if self.definitions.len() > QUEUES {
-            return put_pieces(text, &[digits, Tag(" "), Text(name)]);
+            Html::Named(queue, name)
+        } else {
+            Html::Queue(queue, name)
         }
-        put_pieces(
-            text,
-            &[
-                Tag("<a href=\"#q"),
-                digits,
-                Tag("\">"),
-                digits,
-                Tag(" "),
-                Text(name),
-                Tag("</a>"),
-            ],
-        )
     }
 
-    /// Puts an element by its number.
-    pub(crate) fn put_element(&self, text: &mut String, element: u64) -> Result<(), AllocError> {
-        put_link(text, "e", element, self.has_element(element))
-    }
-
-    /// Puts a record by its number.
-    pub(crate) fn put_record(&self, text: &mut String, record: u64) -> Result<(), AllocError> {
-        put_link(text, "r", record, self.has_record(record))
-    }
-
-    /// Puts a unit by its number.
-    pub(crate) fn put_unit(&self, text: &mut String, unit: u64) -> Result<(), AllocError> {
-        put_link(text, "u", unit, self.has_unit(unit))
-    }
-
-    /// Puts a registrant of a queue by its name.
-    pub(crate) fn put_registrant(
-        &self,
-        text: &mut String,
-        queue: u32,
-        name: &str,
-    ) -> Result<(), AllocError> {
-        if !self.has_registrant(queue, name) {
-            return put_pieces(text, &[Text(name)]);
-        }
-        put_pieces(
-            text,
-            &[
-                Tag("<a href=\"#g"),
-                Number(u64::from(queue)),
-                Tag("-"),
-                Text(name),
-                Tag("\">"),
-                Text(name),
-                Tag("</a>"),
-            ],
-        )
-    }
-
-    /// Puts an error queue, or a dash for none.
-    pub(crate) fn put_error(&self, text: &mut String, error: QueueNo) -> Result<(), AllocError> {
+    /// An error queue, or a dash for none.
+    pub(crate) fn error_link(&self, error: QueueNo) -> Html<'a> {
         if error == QueueNo::NONE {
-            return text.push_str("-");
+            Html::Tag("-")
+        } else {
+            self.queue_link(error.0)
         }
-        self.put_queue(text, error.0)
+    }
+
+    /// An element by its number.
+    pub(crate) fn element_link(&self, element: u64) -> Html<'static> {
+        link_of("e", element, self.has_element(element))
+    }
+
+    /// A record by its number.
+    pub(crate) fn record_link(&self, record: u64) -> Html<'static> {
+        link_of("r", record, self.has_record(record))
+    }
+
+    /// A unit by its number.
+    pub(crate) fn unit_link(&self, unit: u64) -> Html<'static> {
+        link_of("u", unit, self.has_unit(unit))
+    }
+
+    /// A registrant of a queue by its name.
+    pub(crate) fn registrant_link<'b>(&self, queue: u32, name: &'b str) -> Html<'b> {
+        if self.has_registrant(queue, name) {
+            Html::Registrant(queue, name)
+        } else {
+            Html::Text(name)
+        }
     }
 }
 
-// Puts a number, with a link to what it names if that is shown.
-fn put_link(
-    text: &mut String,
-    kind: &'static str,
-    number: u64,
-    is_shown: bool,
-) -> Result<(), AllocError> {
-    let digits = Number(number);
-    if !is_shown {
-        return put_pieces(text, &[digits]);
+// A number, with a link to what it names if that is shown.
+fn link_of(kind: &'static str, number: u64, is_shown: bool) -> Html<'static> {
+    if is_shown {
+        Html::Link(kind, number)
+    } else {
+        Html::Number(number)
     }
-    let link: [Html<'_>; 6] = [
-        Tag("<a href=\"#"),
-        Tag(kind),
-        digits,
-        Tag("\">"),
-        digits,
-        Tag("</a>"),
-    ];
-    put_pieces(text, &link)
 }

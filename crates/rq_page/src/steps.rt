@@ -1,7 +1,7 @@
 //! The steps of lives.
 
 use crate::markup::Html::{Count, Number, Tag};
-use crate::markup::put_pieces;
+use crate::markup::{Html, NOTHING, put_pieces};
 use crate::shown::Linked;
 use rq_look::{Effect, Event};
 use std::alloc::AllocError;
@@ -94,63 +94,50 @@ pub(crate) fn step_of(event: &Event, at: At) -> Step {
     }
 }
 
-fn put_element(
-    text: &mut String,
+// Where a step happened, unless it is told there.
+fn place_of(shown: &Linked<'_>, at: At) -> (Html<'static>, Html<'static>) {
+    match at {
+        At::Here => (NOTHING, NOTHING),
+        At::Record(record) => (shown.record_link(record), Tag(" ")),
+        At::Restart => (Tag("at the restart "), NOTHING),
+    }
+}
+
+fn element_of(
     shown: &Linked<'_>,
     element: Option<u64>,
-) -> Result<(), AllocError> {
+) -> (Html<'static>, Html<'static>, Html<'static>) {
     match element {
-        Some(element) => {
-            text.push_str("element ")?;
-            shown.put_element(text, element)?;
-            text.push(' ')
-        }
-        None => Ok(()),
+        Some(element) => (Tag("element "), shown.element_link(element), Tag(" ")),
+        None => (NOTHING, NOTHING, NOTHING),
     }
 }
 
-fn put_place(
-    text: &mut String,
-    shown: &Linked<'_>,
-    queue: Option<u32>,
-    attempts: Option<u64>,
-) -> Result<(), AllocError> {
-    if let Some(queue) = queue {
-        text.push_str(" queue ")?;
-        shown.put_queue(text, queue)?;
+fn queue_of<'a>(shown: &Linked<'a>, queue: Option<u32>) -> (Html<'a>, Html<'a>) {
+    match queue {
+        Some(queue) => (Tag(" queue "), shown.queue_link(queue)),
+        None => (NOTHING, NOTHING),
     }
+}
+
+fn attempts_of(attempts: Option<u64>) -> (Html<'static>, Html<'static>) {
     match attempts {
-        Some(attempts) => put_pieces(text, &[Tag(", attempts "), Count(attempts)]),
-        None => Ok(()),
+        Some(attempts) => (Tag(", attempts "), Count(attempts)),
+        None => (NOTHING, NOTHING),
     }
 }
 
-fn put_doer(
-    text: &mut String,
-    shown: &Linked<'_>,
-    unit: Option<u64>,
-    tag: Option<u64>,
-) -> Result<(), AllocError> {
-    if let Some(tag) = tag {
-        put_pieces(text, &[Tag(", tag "), Number(tag)])?;
+fn tag_of(tag: Option<u64>) -> (Html<'static>, Html<'static>) {
+    match tag {
+        Some(tag) => (Tag(", tag "), Number(tag)),
+        None => (NOTHING, NOTHING),
     }
+}
+
+fn unit_of(shown: &Linked<'_>, unit: Option<u64>) -> (Html<'static>, Html<'static>) {
     match unit {
-        Some(unit) => {
-            text.push_str(", unit ")?;
-            shown.put_unit(text, unit)
-        }
-        None => Ok(()),
-    }
-}
-
-fn put_at(text: &mut String, shown: &Linked<'_>, at: At) -> Result<(), AllocError> {
-    match at {
-        At::Here => Ok(()),
-        At::Record(record) => {
-            shown.put_record(text, record)?;
-            text.push(' ')
-        }
-        At::Restart => text.push_str("at the restart "),
+        Some(unit) => (Tag(", unit "), shown.unit_link(unit)),
+        None => (NOTHING, NOTHING),
     }
 }
 
@@ -160,13 +147,35 @@ pub(crate) fn put_step(
     shown: &Linked<'_>,
     step: &Step,
 ) -> Result<(), AllocError> {
-    put_pieces(text, &[Tag("<li class=\""), Tag(step.class), Tag("\">")])?;
-    put_at(text, shown, step.at)?;
-    put_element(text, shown, step.element)?;
-    text.push_str(step.words)?;
-    put_place(text, shown, step.queue, step.attempts)?;
-    put_doer(text, shown, step.unit, step.tag)?;
-    text.push_str("</li>")
+    let (place, behind) = place_of(shown, step.at);
+    let (it, element, after) = element_of(shown, step.element);
+    let (in_queue, queue) = queue_of(shown, step.queue);
+    let (attempted, attempts) = attempts_of(step.attempts);
+    let (tagged, tag) = tag_of(step.tag);
+    let (of_unit, unit) = unit_of(shown, step.unit);
+    put_pieces(
+        text,
+        &[
+            Tag("<li class=\""),
+            Tag(step.class),
+            Tag("\">"),
+            place,
+            behind,
+            it,
+            element,
+            after,
+            Tag(step.words),
+            in_queue,
+            queue,
+            attempted,
+            attempts,
+            tagged,
+            tag,
+            of_unit,
+            unit,
+            Tag("</li>"),
+        ],
+    )
 }
 
 // Puts as many steps as there is room for, and answers how many these are.

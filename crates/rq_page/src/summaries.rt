@@ -1,7 +1,7 @@
 //! The front's summary.
 
 use crate::markup::Html::{Count, Number, Tag, Text};
-use crate::markup::{Html, put_pieces};
+use crate::markup::{Html, NOTHING, put_pieces};
 use crate::questions::Asked;
 use rq_look::{End, is_whole};
 use rq_report::why_word;
@@ -121,20 +121,18 @@ fn put_counts(text: &mut String, r: &Restarted) -> Result<(), AllocError> {
 }
 
 fn put_checkpoints(text: &mut String, checkpoints: &[(u64, bool)]) -> Result<(), AllocError> {
-    let (count, wrong) = (Count(checkpoints.len() as u64), false_ones(checkpoints));
-    if wrong == 0 {
-        return put_row(text, "checkpoints", &[count]);
-    }
-    put_row(
-        text,
-        "checkpoints",
-        &[
-            count,
+    let wrong = false_ones(checkpoints);
+    let (before, count, behind) = if wrong == 0 {
+        (NOTHING, NOTHING, NOTHING)
+    } else {
+        (
             Tag(", <span class=\"bad\">of which "),
             Count(wrong as u64),
             Tag(" do not spell the state before them</span>"),
-        ],
-    )
+        )
+    };
+    let all = Count(checkpoints.len() as u64);
+    put_row(text, "checkpoints", &[all, before, count, behind])
 }
 
 /// Puts the numbers of a report's first two lines, by what the log is known, how much there is after
@@ -160,29 +158,25 @@ pub(crate) fn put_summary(
     text.push_str("</table>\n</section>\n")
 }
 
-// Puts one of the numbers that are seen first.
-fn put_tile(text: &mut String, name: &'static str, count: u64) -> Result<(), AllocError> {
+// Puts the numbers that are seen first.
+fn put_tiles(text: &mut String, r: &Restarted, end: &End) -> Result<(), AllocError> {
+    let state = r.state();
     put_pieces(
         text,
         &[
-            Tag("<div><dt>"),
-            Tag(name),
-            Tag("</dt><dd>"),
-            Count(count),
-            Tag("</dd></div>\n"),
+            Tag("<dl class=\"tiles\">\n<div><dt>bytes</dt><dd>"),
+            Count(end.total),
+            Tag("</dd></div>\n<div><dt>records</dt><dd>"),
+            Count(end.records),
+            Tag("</dd></div>\n<div><dt>queues</dt><dd>"),
+            Count(state.definition_count() as u64),
+            Tag("</dd></div>\n<div><dt>elements</dt><dd>"),
+            Count(state.element_count() as u64),
+            Tag("</dd></div>\n<div><dt>registrants</dt><dd>"),
+            Count(state.registrant_count() as u64),
+            Tag("</dd></div>\n</dl>\n</header>\n"),
         ],
     )
-}
-
-fn put_tiles(text: &mut String, r: &Restarted, end: &End) -> Result<(), AllocError> {
-    let state = r.state();
-    text.push_str("<dl class=\"tiles\">\n")?;
-    put_tile(text, "bytes", end.total)?;
-    put_tile(text, "records", end.records)?;
-    put_tile(text, "queues", state.definition_count() as u64)?;
-    put_tile(text, "elements", state.element_count() as u64)?;
-    put_tile(text, "registrants", state.registrant_count() as u64)?;
-    text.push_str("</dl>\n")
 }
 
 /// Puts the log's name, whether it is whole, who made the page, and the numbers that are seen first.
@@ -209,16 +203,12 @@ pub(crate) fn put_header(
             Tag(".</p>\n"),
         ],
     )?;
-    put_tiles(text, r, end)?;
-    text.push_str("</header>\n")
+    put_tiles(text, r, end)
 }
 
-// Puts a link to a part of the page.
-fn put_part(text: &mut String, is_there: bool, link: &'static str) -> Result<(), AllocError> {
-    if is_there {
-        text.push_str(link)?;
-    }
-    Ok(())
+// A link to a part of the page, if that is there.
+fn part_of(is_there: bool, link: &'static str) -> Html<'static> {
+    if is_there { Tag(link) } else { NOTHING }
 }
 
 /// Which parts a page has beside those that each page has.
@@ -231,19 +221,21 @@ pub(crate) struct Parts {
 }
 
 /// Puts links to the parts of the page.
-pub(crate) fn put_parts(text: &mut String, parts: Parts) -> Result<(), AllocError> {
-    text.push_str(
-        "<nav aria-label=\"Parts of the page\"><a href=\"#front\">Front</a> \
-        <a href=\"#log\">Log</a> <a href=\"#open\">Open units</a> \
-        <a href=\"#queues\">Queues</a>",
-    )?;
-    put_part(text, parts.elements, " <a href=\"#elements\">Elements</a>")?;
-    put_part(text, parts.units, " <a href=\"#units\">Units</a>")?;
-    put_part(
+pub(crate) fn put_parts(text: &mut String, parts: &Parts) -> Result<(), AllocError> {
+    put_pieces(
         text,
-        parts.registrants,
-        " <a href=\"#registrants\">Registrants</a>",
-    )?;
-    put_part(text, parts.records, " <a href=\"#records\">Records</a>")?;
-    text.push_str("</nav>\n")
+        &[
+            Tag("<nav aria-label=\"Parts of the page\"><a href=\"#front\">Front</a> "),
+            Tag("<a href=\"#log\">Log</a> <a href=\"#open\">Open units</a> "),
+            Tag("<a href=\"#queues\">Queues</a>"),
+            part_of(parts.elements, " <a href=\"#elements\">Elements</a>"),
+            part_of(parts.units, " <a href=\"#units\">Units</a>"),
+            part_of(
+                parts.registrants,
+                " <a href=\"#registrants\">Registrants</a>",
+            ),
+            part_of(parts.records, " <a href=\"#records\">Records</a>"),
+            Tag("</nav>\n"),
+        ],
+    )
 }

@@ -47,10 +47,16 @@ fn count(bin: &mut Bin, kind: &'static str) -> Result<(), AllocError> {
 }
 
 // The queue that has one free element more, or one fewer.
-fn change_of(it: &Numbered, effect: Effect) -> Option<(u32, bool)> {
+fn change_of(it: &Numbered, event: &Event) -> Option<(u32, bool)> {
+    let Event::To(_, effect) = event else {
+        return None;
+    };
     match effect {
-        Effect::Free(queue) | Effect::Back(queue, _) | Effect::Moved(queue) => Some((queue, true)),
-        Effect::Taken => it.queue().map(|queue| (queue.0, false)),
+        Effect::Free(queue) | Effect::Back(queue, _) | Effect::Moved(queue) => Some((*queue, true)),
+        Effect::Taken => match it.queue() {
+            Some(queue) => Some((queue.0, false)),
+            None => None,
+        },
         // A commit's elements were taken before; a KILL's was free.
         Effect::Gone => match &it.record {
             KeptRecord::Kill { queue, .. } => Some((queue.0, false)),
@@ -112,17 +118,34 @@ impl Survey {
         Ok(())
     }
 
+    // The kind of a record.
+    fn take_kind(&mut self, kind: &'static str, bin: u64) -> Result<(), AllocError> {
+        match self.bins.get_mut(bin as usize) {
+            Some(kinds) => count(kinds, kind),
+            None => Ok(()),
+        }
+    }
+
+    // A queue that has one free element more, or one fewer.
+    fn take_change(&mut self, queue: u32, grows: bool, bin: u64) -> Result<(), AllocError> {
+        match self.depths.get_mut(queue as usize) {
+            Some(depth) => depth.change(bin, grows),
+            None => Ok(()),
+        }
+    }
+
+    // What happens to an element at a record.
+    fn take_event(&mut self, it: &Numbered, event: &Event, bin: u64) -> Result<(), AllocError> {
+        match change_of(it, event) {
+            Some((queue, grows)) => self.take_change(queue, grows, bin),
+            None => Ok(()),
+        }
+    }
+
     // What happens to elements at a record.
     fn take_events(&mut self, it: &Numbered, events: &[Event], bin: u64) -> Result<(), AllocError> {
         for event in events {
-            let Event::To(_, effect) = event else {
-                continue;
-            };
-            if let Some((queue, grows)) = change_of(it, *effect) {
-                if let Some(depth) = self.depths.get_mut(queue as usize) {
-                    depth.change(bin, grows)?;
-                }
-            }
+            self.take_event(it, event, bin)?;
         }
         Ok(())
     }
@@ -138,7 +161,17 @@ impl Survey {
         ensures { IfErr result (λ e. e ≡ Resources) }
     {
         let it = machine.follow(alloc, placed)?;
-        self.take(alloc, &it, machine.events(), total)?;
+        self.take(alloc, &it, machine.events(), total)
+    }
+
+    // All records of the front.
+    fn walk(&mut self, alloc: Global, bytes: &[u8], first: &State, end: &End) -> Result<(), Fault>
+        ensures { IfErr result (λ e. e ≡ Resources) }
+    {
+        let mut machine = FollowedQueues::of(alloc, first)?;
+        for placed in front_frames(bytes, first, end.at, end.used) {
+            self.follow(alloc, placed, &mut machine, end.total)?;
+        }
         Ok(())
     }
 
@@ -149,13 +182,14 @@ impl Survey {
         it: &Numbered,
         events: &[Event],
         total: u64,
-    ) -> Result<(), AllocError> {
+    ) -> Result<(), Fault>
+        ensures { IfErr result (λ e. e ≡ Resources) }
+    {
         let bin = bin_of(it.offset, total, BINS);
-        if let Some(kinds) = self.bins.get_mut(bin as usize) {
-            count(kinds, kind_of(&it.record))?;
-        }
+        self.take_kind(kind_of(&it.record), bin)?;
         self.take_record(alloc, it, bin)?;
-        self.take_events(it, events, bin_of(it.offset, total, FEW_BINS))
+        self.take_events(it, events, bin_of(it.offset, total, FEW_BINS))?;
+        Ok(())
     }
 
     // The units that are open in the state that the log begins with.
@@ -178,6 +212,21 @@ impl Survey {
             number = number.saturating_add(1);
         }
         Ok(())
+    }
+
+    // All records of the front, behind the state that the log begins with.
+    fn take_front(
+        &mut self,
+        alloc: Global,
+        bytes: &[u8],
+        first: &State,
+        end: &End,
+    ) -> Result<(), Fault>
+        ensures { IfErr result (λ e. e ≡ Resources) }
+    {
+        self.begin_units(first, end)?;
+        self.begin_queues(alloc, first, end)?;
+        self.walk(alloc, bytes, first, end)
     }
 
     // Behind the front the depths are those after the restart's aborts.
@@ -203,13 +252,8 @@ pub(crate) fn surveyed(
 ) -> Result<Survey, Trouble>
     ensures { IfErr result IsBroken }
 {
-    let mut machine = FollowedQueues::of(alloc, first)?;
     let mut seen = Survey::new(alloc)?;
-    seen.begin_units(first, end)?;
-    seen.begin_queues(alloc, first, end)?;
-    for placed in front_frames(bytes, first, end.at, end.used) {
-        seen.follow(alloc, placed, &mut machine, end.total)?;
-    }
+    seen.take_front(alloc, bytes, first, end)?;
     seen.close(state, end)?;
     Ok(seen)
 }

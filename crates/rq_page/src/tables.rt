@@ -1,6 +1,6 @@
 //! The queues, each with its depth along the log, its elements and its registrants.
 
-use crate::curves::{Canvas, along, put_axis};
+use crate::curves::{Canvas, Curve, along, put_axis};
 use crate::holdings::{put_fold, put_more};
 use crate::markup::Html::{Count, Number, Tag, Text};
 use crate::markup::put_pieces;
@@ -65,6 +65,19 @@ fn arrange(lines: &mut Vec<QueueRow>, order: Order) {
     }
 }
 
+fn put_depth(text: &mut String, frame: &Canvas, curve: &Curve) -> Result<(), AllocError> {
+    put_pieces(
+        text,
+        &[
+            Tag("<td>"),
+            Count(curve.most()),
+            Tag("</td><td><div class=\"plot\">"),
+        ],
+    )?;
+    curve.put(text, frame, "Free elements along the log")?;
+    text.push_str("</div></td>")
+}
+
 fn put_curve(text: &mut String, hall: &Hall<'_>, number: u32) -> Result<(), AllocError> {
     let frame = Canvas {
         width: WIDTH,
@@ -73,20 +86,13 @@ fn put_curve(text: &mut String, hall: &Hall<'_>, number: u32) -> Result<(), Allo
         bins: FEW_BINS,
     };
     match hall.seen.depths.get(number as usize) {
-        Some(curve) => {
-            put_pieces(
-                text,
-                &[
-                    Tag("<td>"),
-                    Count(curve.most()),
-                    Tag("</td><td><div class=\"plot\">"),
-                ],
-            )?;
-            curve.put(text, &frame, "Free elements along the log")?;
-            text.push_str("</div></td>")
-        }
+        Some(curve) => put_depth(text, &frame, curve),
         None => text.push_str("<td></td><td></td>"),
     }
+}
+
+fn put_error(text: &mut String, shown: &Linked<'_>, error: QueueNo) -> Result<(), AllocError> {
+    put_pieces(text, &[shown.error_link(error), Tag("</small></th>")])
 }
 
 // Puts a queue by its number and its name, with its limit and its error queue.
@@ -111,8 +117,7 @@ fn put_name(
             Tag(", error queue "),
         ],
     )?;
-    hall.shown.put_error(text, definition.error)?;
-    text.push_str("</small></th>")
+    put_error(text, &hall.shown, definition.error)
 }
 
 fn put_row(
@@ -127,6 +132,19 @@ fn put_row(
     text.push_str("</tr>\n")
 }
 
+// Puts what folds out below a queue.
+fn put_holdings(
+    alloc: Global,
+    text: &mut String,
+    hall: &Hall<'_>,
+    number: u32,
+) -> Result<(), AllocError> {
+    let queue = QueueNo(number);
+    let elements = free_elements(alloc, hall.state, queue)?;
+    let registrants = registrants_shown(alloc, hall.state, queue)?;
+    put_fold(alloc, text, &hall.shown, number, &elements, &registrants)
+}
+
 fn put_queue(
     alloc: Global,
     text: &mut String,
@@ -136,18 +154,8 @@ fn put_queue(
     let Some(definition) = hall.shown.definitions.get(line.number as usize) else {
         return Ok(());
     };
-    let queue = QueueNo(line.number);
-    let elements = free_elements(alloc, hall.state, queue)?;
-    let registrants = registrants_shown(alloc, hall.state, queue)?;
     put_row(text, hall, line, definition)?;
-    put_fold(
-        alloc,
-        text,
-        &hall.shown,
-        line.number,
-        &elements,
-        &registrants,
-    )
+    put_holdings(alloc, text, hall, line.number)
 }
 
 // Puts these queues as a table.
@@ -193,12 +201,30 @@ fn put_more_queues(
     text.push_str("</details>\n")
 }
 
+// Puts as many queues as are shown, of which the first stand open, and the end of their section.
+fn put_tables(
+    alloc: Global,
+    text: &mut String,
+    hall: &Hall<'_>,
+    lines: &[QueueRow],
+) -> Result<(), AllocError> {
+    let count = lines.len().min(QUEUES);
+    let (open, folded) = lines[..count].split_at(count.min(OPEN));
+    put_table(alloc, text, hall, open)?;
+    put_more_queues(alloc, text, hall, folded)?;
+    put_more(text, lines.len(), count)?;
+    text.push_str("</section>\n")
+}
+
+// Puts the head of the section, and in which order its queues stand.
 fn put_order(text: &mut String, order: Order) -> Result<(), AllocError> {
-    text.push_str(match order {
+    let said = match order {
         Order::Depth => "<p>By the number of their elements, the most first.</p>\n",
         Order::Number => "<p>By number.</p>\n",
         Order::Name => "<p>By name.</p>\n",
-    })
+    };
+    let head = Tag("<section id=\"queues\">\n<h2>Queues</h2>\n");
+    put_pieces(text, &[head, Tag(said)])
 }
 
 /// Puts the queues in the order that is asked for: the first 100 open, as many as 1,000 folded.
@@ -219,12 +245,6 @@ pub(crate) fn put_queue_table(
     };
     let mut lines = lines_of(alloc, shown.definitions, state)?;
     arrange(&mut lines, order);
-    let count = lines.len().min(QUEUES);
-    let (open, folded) = lines[..count].split_at(count.min(OPEN));
-    text.push_str("<section id=\"queues\">\n<h2>Queues</h2>\n")?;
     put_order(text, order)?;
-    put_table(alloc, text, &hall, open)?;
-    put_more_queues(alloc, text, &hall, folded)?;
-    put_more(text, lines.len(), count)?;
-    text.push_str("</section>\n")
+    put_tables(alloc, text, &hall, &lines)
 }

@@ -2,7 +2,7 @@
 
 use crate::curves::{Canvas, along, put_axis};
 use crate::markup::Html::{Count, Number, Tag};
-use crate::markup::put_pieces;
+use crate::markup::{Html, NOTHING, put_pieces};
 use crate::shown::Linked;
 use crate::surveys::{BINS, Survey};
 use rq_look::End;
@@ -18,17 +18,20 @@ const BAR: u64 = 12;
 // As many units are shown: those that have been open longest.
 const SHOWN: usize = 100;
 
-// Puts where a unit began: one that was open where the log was carried on began before it.
-fn put_begun(text: &mut String, begun: u64, end: &End) -> Result<(), AllocError> {
+// Where a unit began: one that was open where the log was carried on began before it.
+fn begun_at(begun: u64, end: &End) -> (Html<'static>, Html<'static>) {
     if end.at == Some(begun) {
-        return text.push_str("begun before");
+        (Tag("begun before"), NOTHING)
+    } else {
+        (Tag("begun at "), Number(begun))
     }
-    put_pieces(text, &[Tag("begun at "), Number(begun)])
 }
 
 fn put_bar(text: &mut String, unit: u64, begun: u64, end: &End, y: u64) -> Result<(), AllocError> {
     let x = along(begun, end.total, WIDTH - 2);
     let until = along(end.used, end.total, WIDTH);
+    let width = until.saturating_sub(x).max(2);
+    let (word, at) = begun_at(begun, end);
     put_pieces(
         text,
         &[
@@ -37,14 +40,25 @@ fn put_bar(text: &mut String, unit: u64, begun: u64, end: &End, y: u64) -> Resul
             Tag("\" y=\""),
             Number(y),
             Tag("\" width=\""),
-            Number(until.saturating_sub(x).max(2)),
+            Number(width),
             Tag("\" height=\"8\"><title>unit "),
             Number(unit),
             Tag(", "),
+            word,
+            at,
+            Tag("</title></rect>\n"),
         ],
-    )?;
-    put_begun(text, begun, end)?;
-    text.push_str("</title></rect>\n")
+    )
+}
+
+// Puts the units that have been open longest, one below the other.
+fn put_first(text: &mut String, seen: &Survey, end: &End) -> Result<(), AllocError> {
+    let mut y: u64 = 2;
+    for (unit, begun) in seen.begun.iter().take(SHOWN) {
+        put_bar(text, *unit, *begun, end, y)?;
+        y = y.saturating_add(BAR);
+    }
+    Ok(())
 }
 
 fn put_bars(text: &mut String, seen: &Survey, end: &End) -> Result<(), AllocError> {
@@ -60,25 +74,41 @@ fn put_bars(text: &mut String, seen: &Survey, end: &End) -> Result<(), AllocErro
             Tag("The units that are open where the front ends</title>\n"),
         ],
     )?;
-    let mut y: u64 = 2;
-    for (unit, begun) in seen.begun.iter().take(SHOWN) {
-        put_bar(text, *unit, *begun, end, y)?;
-        y = y.saturating_add(BAR);
-    }
+    put_first(text, seen, end)?;
     text.push_str("</svg></div>\n")
 }
 
+// Puts a unit and where it began, behind what divides it from the one before.
 fn put_name(
     text: &mut String,
     shown: &Linked<'_>,
     unit: u64,
-    begun: u64,
+    begun: (Html<'static>, Html<'static>),
+    before: &'static str,
+) -> Result<(), AllocError> {
+    let pieces = [
+        Tag(before),
+        shown.unit_link(unit),
+        Tag(" ("),
+        begun.0,
+        begun.1,
+        Tag(")"),
+    ];
+    put_pieces(text, &pieces)
+}
+
+fn put_first_names(
+    text: &mut String,
+    shown: &Linked<'_>,
+    seen: &Survey,
     end: &End,
 ) -> Result<(), AllocError> {
-    shown.put_unit(text, unit)?;
-    text.push_str(" (")?;
-    put_begun(text, begun, end)?;
-    text.push(')')
+    let mut before = "";
+    for (unit, begun) in seen.begun.iter().take(SHOWN) {
+        put_name(text, shown, *unit, begun_at(*begun, end), before)?;
+        before = ", ";
+    }
+    Ok(())
 }
 
 // Puts which units these are.
@@ -89,14 +119,9 @@ fn put_names(
     end: &End,
 ) -> Result<(), AllocError> {
     text.push_str("<p>Open where the front ends, and aborted by the restart: ")?;
-    let mut is_first = true;
-    for (unit, begun) in seen.begun.iter().take(SHOWN) {
-        text.push_str(if is_first { "" } else { ", " })?;
-        put_name(text, shown, *unit, *begun, end)?;
-        is_first = false;
-    }
-    if seen.begun.len() > SHOWN {
-        let more = seen.begun.len().saturating_sub(SHOWN) as u64;
+    put_first_names(text, shown, seen, end)?;
+    let more = seen.begun.len().saturating_sub(SHOWN) as u64;
+    if more > 0 {
         put_pieces(text, &[Tag(", and "), Count(more), Tag(" more")])?;
     }
     text.push_str("</p>\n")

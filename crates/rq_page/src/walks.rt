@@ -6,13 +6,37 @@ ghost use Rattle.rq_look.specs.Looks.{IsBroken};
 
 use crate::lives::Lives;
 use crate::shown::Linked;
-use rq_look::{End, FollowedQueues, Placed, Trouble, front_frames};
+use rq_look::{End, FollowedQueues, Placed, PlacedFrames, Trouble, front_frames};
 use rq_record::Fault;
 use rq_state::State;
 use std::alloc::{AllocError, Global};
 use std::collections::BTreeMap;
 
 impl Lives {
+    fn abort(
+        &mut self,
+        alloc: Global,
+        shown: &Linked<'_>,
+        machine: &mut FollowedQueues,
+        unit: u64,
+    ) -> Result<(), AllocError> {
+        machine.abort(unit)?;
+        self.take_restart(alloc, shown, unit, machine.events())
+    }
+
+    fn abort_all(
+        &mut self,
+        alloc: Global,
+        shown: &Linked<'_>,
+        machine: &mut FollowedQueues,
+        units: &[u64],
+    ) -> Result<(), AllocError> {
+        for unit in units {
+            self.abort(alloc, shown, machine, *unit)?;
+        }
+        Ok(())
+    }
+
     // What the restart does behind the front.
     fn close(
         &mut self,
@@ -20,11 +44,8 @@ impl Lives {
         shown: &Linked<'_>,
         machine: &mut FollowedQueues,
     ) -> Result<(), AllocError> {
-        for unit in machine.open_units(alloc)?.iter().copied() {
-            machine.abort(unit)?;
-            self.take_restart(alloc, shown, unit, machine.events())?;
-        }
-        Ok(())
+        let units = machine.open_units(alloc)?;
+        self.abort_all(alloc, shown, machine, &units)
     }
 
     // The next record of the front, and what happens at it.
@@ -40,7 +61,24 @@ impl Lives {
     {
         let it = machine.follow(alloc, placed)?;
         let truth = truths.get(&it.offset).copied().unwrap_or(true);
-        self.take(alloc, shown, &it, machine.events(), truth)?;
+        self.take(alloc, shown, &it, machine.events(), truth)
+    }
+
+    // All records of the front, and the restart behind it.
+    fn walk(
+        &mut self,
+        alloc: Global,
+        shown: &Linked<'_>,
+        frames: PlacedFrames<'_>,
+        machine: &mut FollowedQueues,
+        truths: &BTreeMap<u64, bool>,
+    ) -> Result<(), Fault>
+        ensures { IfErr result (λ e. e ≡ Resources) }
+    {
+        for placed in frames {
+            self.follow(alloc, shown, placed, machine, truths)?;
+        }
+        self.close(alloc, shown, machine)?;
         Ok(())
     }
 }
@@ -75,9 +113,7 @@ pub(crate) fn lives_of(
     }
     let truths = truths_of(alloc, checkpoints)?;
     let mut machine = FollowedQueues::of(alloc, first)?;
-    for placed in front_frames(bytes, first, end.at, end.used) {
-        lives.follow(alloc, shown, placed, &mut machine, &truths)?;
-    }
-    lives.close(alloc, shown, &mut machine)?;
+    let frames = front_frames(bytes, first, end.at, end.used);
+    lives.walk(alloc, shown, frames, &mut machine, &truths)?;
     Ok(lives)
 }
