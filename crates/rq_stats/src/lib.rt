@@ -3,6 +3,7 @@
 
 mod greatest;
 mod measures;
+mod rows;
 mod shown;
 mod statistics;
 

@@ -3,49 +3,25 @@
 ghost use Rattle.std.specs.Prelude.{◌≡◌, IfErr};
 ghost use Rattle.rq_record.specs.declared.fault.Fault.TheVariants.{Resources};
 
-use crate::greatest::{Amount, put_greatest};
+use crate::greatest::put_greatest;
+use crate::rows::Value::{Number, Word};
+use crate::rows::{PAYLOADS, Row, UNITS};
 use rq_front::FRAME_LEN;
-use rq_look::{Effect, End, Event, FollowedQueues, Numbered, Placed, PlacedFrames, kind_of};
-use rq_record::{Fault, KeptRecord, UnitNo};
+use rq_look::{
+    Effect, End, Event, FollowedQueues, Numbered, Placed, PlacedFrames, first_state, front_frames,
+    kind_of,
+};
+use rq_record::{Fault, KeptRecord, Name, UnitNo};
 use rq_state::{Definition, State};
-use serde::Serialize;
 use std::alloc::{AllocError, Global};
 use std::collections::BTreeMap;
 
 /// The records of a kind, and the bytes of their frames.
-#[derive(Clone, Copy, Serialize)]
+#[derive(Clone, Copy)]
 pub(crate) struct Kind {
     pub(crate) kind: &'static str,
     pub(crate) records: u64,
     pub(crate) bytes: u64,
-}
-
-/// A payload: its bytes, and the record that has it.
-#[derive(Clone, Copy, Serialize)]
-pub(crate) struct Load {
-    pub(crate) bytes: u64,
-    pub(crate) offset: u64,
-    pub(crate) record: u64,
-}
-
-impl Amount for Load {
-    fn amount(&self) -> u64 {
-        self.bytes
-    }
-}
-
-/// A unit, over how many records it was open, and how it ended.
-#[derive(Clone, Copy, Serialize)]
-pub(crate) struct Lasting {
-    pub(crate) unit: u64,
-    pub(crate) records: u64,
-    pub(crate) fate: &'static str,
-}
-
-impl Amount for Lasting {
-    fn amount(&self) -> u64 {
-        self.records
-    }
 }
 
 /// What one walk over the front counts.
@@ -56,14 +32,16 @@ pub(crate) struct Measures {
     pub(crate) committed: u64,
     pub(crate) aborted: u64,
     pub(crate) cut_off: u64,
-    /// The largest, the largest first.
-    pub(crate) loads: Vec<Load>,
-    /// The longest, the longest first.
-    pub(crate) units: Vec<Lasting>,
+    /// The largest payloads, the largest first.
+    pub(crate) loads: Vec<Row<'static>>,
+    /// The units that were open longest, the longest first.
+    pub(crate) units: Vec<Row<'static>>,
     /// The names of the queues, by number.
-    pub(crate) names: Vec<String>,
+    pub(crate) names: Vec<Name>,
     /// How many elements moved there since their takers aborted too often, by the queue's number.
     pub(crate) moves: Vec<u64>,
+    /// How many free elements there are after the restart, by the queue's number.
+    pub(crate) depths: Vec<u64>,
     // The record of the BEGIN of each open unit, or the first one of a log that was carried on.
     begun: BTreeMap<u64, u64>,
 }
@@ -79,27 +57,26 @@ impl Measures {
             units: Vec::new(alloc),
             names: Vec::new(alloc),
             moves: Vec::new(alloc),
+            depths: Vec::new(alloc),
             begun: BTreeMap::new(alloc),
         }
     }
 
     // Behind the state with which a front begins.
-    fn of(alloc: Global, first: &State) -> Result<Measures, AllocError> {
-        let mut measures = Measures::new(alloc);
-        measures.take_names(alloc, first.definitions())?;
-        measures.take_units(first.units(), first.next())?;
-        Ok(measures)
+    fn begin(&mut self, first: &State) -> Result<(), AllocError> {
+        self.take_names(first.definitions())?;
+        self.take_units(first.units(), first.next())
     }
 
-    fn take_names(&mut self, alloc: Global, definitions: &[Definition]) -> Result<(), AllocError> {
+    fn take_names(&mut self, definitions: &[Definition]) -> Result<(), AllocError> {
         for definition in definitions {
-            self.take_name(alloc, definition.name.text())?;
+            self.take_name(&definition.name)?;
         }
         Ok(())
     }
 
-    fn take_name(&mut self, alloc: Global, name: &str) -> Result<(), AllocError> {
-        self.names.push(String::from_str(alloc, name)?)?;
+    fn take_name(&mut self, name: &Name) -> Result<(), AllocError> {
+        self.names.push(*name)?;
         self.moves.push(0)?;
         Ok(())
     }
@@ -133,24 +110,33 @@ impl Measures {
         let Some(begun) = self.begun.remove(&unit) else {
             return Ok(());
         };
-        let records = number.saturating_sub(begun);
-        put_greatest(
-            &mut self.units,
-            Lasting {
-                unit,
-                records,
-                fate,
-            },
-        )
+        let rank = number.saturating_sub(begun);
+        let row = Row {
+            sort: &UNITS,
+            fields: [Number(unit), Number(rank), Word(fate)],
+            rank,
+        };
+        put_greatest(&mut self.units, &row)
     }
 
-    fn take_record(&mut self, alloc: Global, it: &Numbered) -> Result<(), AllocError> {
+    fn take_load(&mut self, rank: u64, it: &Numbered) -> Result<(), AllocError> {
+        let row = Row {
+            sort: &PAYLOADS,
+            fields: [Number(rank), Number(it.offset), Number(it.number)],
+            rank,
+        };
+        put_greatest(&mut self.loads, &row)
+    }
+
+    fn take_begin(&mut self, unit: u64, number: u64) -> Result<(), AllocError> {
+        self.begun.insert(unit, number)?;
+        Ok(())
+    }
+
+    fn take_record(&mut self, it: &Numbered) -> Result<(), AllocError> {
         match &it.record {
-            KeptRecord::Define { name, .. } => self.take_name(alloc, name.text()),
-            KeptRecord::Begin { unit } => {
-                self.begun.insert(unit.0, it.number)?;
-                Ok(())
-            }
+            KeptRecord::Define { name, .. } => self.take_name(&name.name()),
+            KeptRecord::Begin { unit } => self.take_begin(unit.0, it.number),
             KeptRecord::Commit { unit } => {
                 self.committed = self.committed.saturating_add(1);
                 self.end_unit(unit.0, it.number, "committed")
@@ -159,14 +145,7 @@ impl Measures {
                 self.aborted = self.aborted.saturating_add(1);
                 self.end_unit(unit.0, it.number, "aborted")
             }
-            KeptRecord::Enqueue { payload, .. } => put_greatest(
-                &mut self.loads,
-                Load {
-                    bytes: payload.bytes().len() as u64,
-                    offset: it.offset,
-                    record: it.number,
-                },
-            ),
+            KeptRecord::Enqueue { payload, .. } => self.take_load(payload.bytes().len() as u64, it),
             _ => Ok(()),
         }
     }
@@ -186,6 +165,16 @@ impl Measures {
         }
     }
 
+    // A record, and what happens at it.
+    fn take(&mut self, body: &[u8], it: &Numbered, events: &[Event]) -> Result<(), Fault>
+        ensures { IfErr result (λ e. e ≡ Resources) }
+    {
+        self.take_events(events);
+        self.take_kind(body, kind_of(&it.record))?;
+        self.take_record(it)?;
+        Ok(())
+    }
+
     // Does the next record of the front.
     fn step(
         &mut self,
@@ -196,9 +185,46 @@ impl Measures {
         ensures { IfErr result (λ e. e ≡ Resources) }
     {
         let it = machine.follow(alloc, placed)?;
-        self.take_kind(placed.body, kind_of(&it.record))?;
-        self.take_record(alloc, &it)?;
+        self.take(placed.body, &it, machine.events())
+    }
+
+    // Does all records of the front.
+    fn walk(
+        &mut self,
+        alloc: Global,
+        frames: PlacedFrames<'_>,
+        machine: &mut FollowedQueues,
+    ) -> Result<(), Fault>
+        ensures { IfErr result (λ e. e ≡ Resources) }
+    {
+        for placed in frames {
+            self.step(alloc, placed, machine)?;
+        }
+        Ok(())
+    }
+
+    // Aborts a unit, as a restart does.
+    fn abort(
+        &mut self,
+        machine: &mut FollowedQueues,
+        unit: u64,
+        number: u64,
+    ) -> Result<(), AllocError> {
+        machine.abort(unit)?;
         self.take_events(machine.events());
+        self.cut_off = self.cut_off.saturating_add(1);
+        self.end_unit(unit, number, "cut off")
+    }
+
+    fn abort_all(
+        &mut self,
+        machine: &mut FollowedQueues,
+        units: &[u64],
+        number: u64,
+    ) -> Result<(), AllocError> {
+        for unit in units {
+            self.abort(machine, *unit, number)?;
+        }
         Ok(())
     }
 
@@ -209,31 +235,70 @@ impl Measures {
         machine: &mut FollowedQueues,
         end: &End,
     ) -> Result<(), AllocError> {
-        for unit in machine.open_units(alloc)?.iter().copied() {
-            machine.abort(unit)?;
-            self.take_events(machine.events());
-            self.cut_off = self.cut_off.saturating_add(1);
-            self.end_unit(unit, end.records, "cut off")?;
-        }
+        let units = machine.open_units(alloc)?;
+        self.abort_all(machine, &units, end.records)
+    }
+
+    // Does all of a front, and its restart.
+    fn take_front(
+        &mut self,
+        alloc: Global,
+        frames: PlacedFrames<'_>,
+        machine: &mut FollowedQueues,
+        end: &End,
+    ) -> Result<(), Fault>
+        ensures { IfErr result (λ e. e ≡ Resources) }
+    {
+        self.walk(alloc, frames, machine)?;
+        self.restart(alloc, machine, end)?;
+        self.depths = machine.depths(alloc)?;
         Ok(())
+    }
+
+    // The same, of a front that begins behind a state.
+    fn take_all(
+        &mut self,
+        alloc: Global,
+        first: &State,
+        frames: PlacedFrames<'_>,
+        end: &End,
+    ) -> Result<(), Fault>
+        ensures { IfErr result (λ e. e ≡ Resources) }
+    {
+        let mut machine = FollowedQueues::of(alloc, first)?;
+        self.begin(first)?;
+        self.take_front(alloc, frames, &mut machine, end)
     }
 }
 
-/// What a walk over the frames of a front counts that begins behind a state, and the queues behind
-/// the restart.
-pub(crate) fn measured(
+// What a front counts that begins behind a state.
+fn counted_behind(
     alloc: Global,
     first: &State,
     frames: PlacedFrames<'_>,
     end: &End,
-) -> Result<(Measures, FollowedQueues), Fault>
+) -> Result<Measures, Fault>
     ensures { IfErr result (λ e. e ≡ Resources) }
 {
-    let mut measures = Measures::of(alloc, first)?;
-    let mut machine = FollowedQueues::of(alloc, first)?;
-    for placed in frames {
-        measures.step(alloc, placed, &mut machine)?;
-    }
-    measures.restart(alloc, &mut machine, end)?;
-    Ok((measures, machine))
+    let mut measures = Measures::new(alloc);
+    measures.take_all(alloc, first, frames, end)?;
+    Ok(measures)
+}
+
+/// What a front counts that begins with the checkpoint at an offset, if there is one.
+pub(crate) fn counted(
+    alloc: Global,
+    bytes: &[u8],
+    at: Option<u64>,
+    end: &End,
+) -> Result<Measures, Fault>
+    ensures { IfErr result (λ e. e ≡ Resources) }
+{
+    let first = first_state(alloc, bytes, at)?;
+    counted_behind(
+        alloc,
+        &first,
+        front_frames(bytes, &first, at, end.used),
+        end,
+    )
 }

@@ -1,95 +1,147 @@
 //! Numbers of a log as they are shown.
 
-use crate::greatest::{Amount, put_greatest};
-use crate::measures::{Kind, Lasting, Load, Measures};
-use rq_look::{End, FrontShown, front_shown};
-use serde::Serialize;
+use crate::greatest::put_greatest;
+use crate::measures::{Kind, Measures};
+use crate::rows::Value::{Number, Word};
+use crate::rows::{
+    DEPTHS, KINDS, MOVES, OUTCOMES, PAYLOADS, Row, Sort, UNITS, put_rows, write_list, write_only,
+};
+use rq_look::FrontShown;
+use rq_record::Name;
+use serde::{Described, Serialize, Serializer};
 use std::alloc::{AllocError, Global};
 
-/// How many units ended in which way.
-#[derive(Clone, Copy, Serialize)]
-pub(crate) struct UnitCounts {
-    pub(crate) committed: u64,
-    pub(crate) aborted: u64,
-    pub(crate) cut_off: u64,
-}
-
-/// A queue with a number of elements.
-#[derive(Clone, Copy, Serialize)]
-pub(crate) struct QueueCount<'a> {
-    pub(crate) queue: u32,
-    pub(crate) name: &'a str,
-    pub(crate) elements: u64,
-}
-
-impl Amount for QueueCount<'_> {
-    fn amount(&self) -> u64 {
-        self.elements
-    }
-}
-
 /// All that is shown.
-#[derive(Drop, Serialize)]
+#[derive(Clone, Copy)]
 pub(crate) struct StatisticsShown<'a> {
     pub(crate) front: FrontShown<'a>,
-    pub(crate) kinds: Vec<Kind>,
-    pub(crate) units: UnitCounts,
-    pub(crate) largest_payloads: &'a [Load],
-    pub(crate) longest_units: &'a [Lasting],
-    pub(crate) deepest_queues: Vec<QueueCount<'a>>,
-    pub(crate) error_moves: Vec<QueueCount<'a>>,
+    pub(crate) rows: &'a [Row<'a>],
 }
 
-// Puts a queue among those with the most elements, unless it has none.
-fn put_queue<'a>(shown: &mut Vec<QueueCount<'a>>, queue: QueueCount<'a>) -> Result<(), AllocError> {
-    if queue.elements == 0 {
-        return Ok(());
+impl StatisticsShown<'_> {
+    fn write_rows<S: Serializer>(&self, out: &mut S) -> Result<(), S::Error> {
+        let rows = self.rows;
+        write_list(&KINDS, rows, out)?;
+        write_only(&OUTCOMES, rows, out)?;
+        write_list(&PAYLOADS, rows, out)?;
+        write_list(&UNITS, rows, out)?;
+        write_list(&DEPTHS, rows, out)?;
+        write_list(&MOVES, rows, out)
     }
-    put_greatest(shown, queue)
+}
+
+impl Described for StatisticsShown<'_> {}
+
+impl Serialize for StatisticsShown<'_> {
+    fn serialize<S: Serializer>(&self, out: &mut S) -> Result<(), S::Error> {
+        out.begin_map(None)?;
+        out.key("front")?;
+        self.front.serialize(out)?;
+        self.write_rows(out)?;
+        out.end_map()
+    }
+}
+
+// Puts the lines of all rows.
+fn put_lines(text: &mut String, rows: &[Row<'_>]) -> Result<(), AllocError> {
+    put_rows(text, &KINDS, rows)?;
+    put_rows(text, &OUTCOMES, rows)?;
+    put_rows(text, &UNITS, rows)?;
+    put_rows(text, &PAYLOADS, rows)?;
+    put_rows(text, &DEPTHS, rows)?;
+    put_rows(text, &MOVES, rows)
+}
+
+/// The lines of all rows.
+pub(crate) fn joined_lines(alloc: Global, rows: &[Row<'_>]) -> Result<String, AllocError> {
+    let mut text = String::new(alloc);
+    put_lines(&mut text, rows)?;
+    Ok(text)
 }
 
 // The queues with the most elements, the most first, of these numbers of elements by queue.
-fn queues_shown<'a>(
-    alloc: Global,
-    names: &'a [String],
+fn rank_queues<'a>(
+    shown: &mut Vec<Row<'a>>,
+    sort: &'static Sort,
+    names: &'a [Name],
     counts: &[u64],
-) -> Result<Vec<QueueCount<'a>>, AllocError> {
-    let mut shown = Vec::new(alloc);
-    let mut queue: u32 = 0;
+) -> Result<(), AllocError> {
+    let mut queue: usize = 0;
     for name in names {
-        let elements = counts.get(queue as usize).copied().unwrap_or(0);
-        let name = name.as_str();
-        put_queue(
-            &mut shown,
-            QueueCount {
-                queue,
-                name,
-                elements,
-            },
-        )?;
+        let count = counts.get(queue).copied().unwrap_or(0);
+        let fields = [Number(queue as u64), Word(name.text()), Number(count)];
+        let rank = count;
+        if count > 0 {
+            put_greatest(shown, &Row { sort, fields, rank })?;
+        }
         queue = queue.saturating_add(1);
     }
-    Ok(shown)
+    Ok(())
 }
 
-/// What is shown of these measures, and of so many free elements by queue.
-pub(crate) fn statistics_shown<'a>(
+fn put_queues<'a>(
     alloc: Global,
-    end: &'a End,
+    rows: &mut Vec<Row<'a>>,
+    sort: &'static Sort,
+    names: &'a [Name],
+    counts: &[u64],
+) -> Result<(), AllocError> {
+    let mut shown: Vec<Row<'a>> = Vec::new(alloc);
+    rank_queues(&mut shown, sort, names, counts)?;
+    rows.extend_from_slice(&shown)?;
+    Ok(())
+}
+
+fn put_kind(rows: &mut Vec<Row<'_>>, kind: &Kind) -> Result<(), AllocError> {
+    rows.push(Row {
+        sort: &KINDS,
+        fields: [Word(kind.kind), Number(kind.records), Number(kind.bytes)],
+        rank: 0,
+    })?;
+    Ok(())
+}
+
+fn put_kinds(rows: &mut Vec<Row<'_>>, measures: &Measures) -> Result<(), AllocError> {
+    for kind in measures.kinds.values() {
+        put_kind(rows, kind)?;
+    }
+    Ok(())
+}
+
+fn put_outcomes(rows: &mut Vec<Row<'_>>, measures: &Measures) -> Result<(), AllocError> {
+    let fields = [
+        Number(measures.committed),
+        Number(measures.aborted),
+        Number(measures.cut_off),
+    ];
+    rows.push(Row {
+        sort: &OUTCOMES,
+        fields,
+        rank: 0,
+    })?;
+    Ok(())
+}
+
+// Puts the rows of these measures.
+fn put_all<'a>(
+    alloc: Global,
+    rows: &mut Vec<Row<'a>>,
     measures: &'a Measures,
-    depths: &[u64],
-) -> Result<StatisticsShown<'a>, AllocError> {
-    Ok(StatisticsShown {
-        front: front_shown(end),
-        kinds: measures.kinds.values().copied().collect(alloc)?,
-        units: UnitCounts {
-            committed: measures.committed,
-            aborted: measures.aborted,
-            cut_off: measures.cut_off,
-        },
-        largest_payloads: &measures.loads,
-        longest_units: &measures.units,
-        deepest_queues: queues_shown(alloc, &measures.names, depths)?,
-        error_moves: queues_shown(alloc, &measures.names, &measures.moves)?,
-    })
+) -> Result<(), AllocError> {
+    put_kinds(rows, measures)?;
+    put_outcomes(rows, measures)?;
+    rows.extend_from_slice(&measures.loads)?;
+    rows.extend_from_slice(&measures.units)?;
+    put_queues(alloc, rows, &DEPTHS, &measures.names, &measures.depths)?;
+    put_queues(alloc, rows, &MOVES, &measures.names, &measures.moves)
+}
+
+/// What is shown of these measures.
+pub(crate) fn rows_of<'a>(
+    alloc: Global,
+    measures: &'a Measures,
+) -> Result<Vec<Row<'a>>, AllocError> {
+    let mut rows: Vec<Row<'a>> = Vec::new(alloc);
+    put_all(alloc, &mut rows, measures)?;
+    Ok(rows)
 }

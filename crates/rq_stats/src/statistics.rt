@@ -8,74 +8,17 @@ ghost use Rattle.rq_restart.specs.Views.{why_of};
 ghost use Rattle.rq_look.specs.Looks.{IsBroken, IsRestartFrom, StaysUnshown, beginning_text, end_text, front_end_of};
 ghost use Rattle.rq_stats.specs.Statistics.{AreNumbers, PutsNumbers};
 
-use crate::measures::{Kind, Lasting, Load, Measures, measured};
-use crate::shown::{QueueCount, StatisticsShown, UnitCounts, statistics_shown};
-use rq_look::{
-    End, FollowedQueues, Plan, Trouble, end_of, first_state, front_frames, put_beginning, put_end,
-};
+use crate::measures::{Measures, counted};
+use crate::shown::{StatisticsShown, joined_lines, rows_of};
+use rq_look::{End, Plan, Trouble, end_of, front_shown, put_beginning, put_end};
 use std::alloc::{AllocError, Global};
-use std::fmt::Write as _;
 use std::io::Write;
 use std::thread::Threads;
 
-fn put_kinds(text: &mut String, kinds: &[Kind]) -> Result<(), AllocError> {
-    for it in kinds {
-        let (kind, records, bytes) = (it.kind, it.records, it.bytes);
-        write!(text, "{kind} {records} records, {bytes} bytes\n")?;
-    }
-    Ok(())
-}
-
-fn put_loads(text: &mut String, loads: &[Load]) -> Result<(), AllocError> {
-    for it in loads {
-        let (bytes, offset, record) = (it.bytes, it.offset, it.record);
-        write!(
-            text,
-            "payload of {bytes} bytes at {offset}, record {record}\n"
-        )?;
-    }
-    Ok(())
-}
-
-fn put_units(text: &mut String, units: &[Lasting]) -> Result<(), AllocError> {
-    for it in units {
-        let (unit, records, fate) = (it.unit, it.records, it.fate);
-        write!(text, "unit {unit} open for {records} records, {fate}\n")?;
-    }
-    Ok(())
-}
-
-// Puts each queue with its number of elements, and a word for them.
-fn put_queues(text: &mut String, queues: &[QueueCount<'_>], word: &str) -> Result<(), AllocError> {
-    for it in queues {
-        let (queue, name, elements) = (it.queue, it.name, it.elements);
-        write!(text, "queue {queue} {name} {elements} {word}\n")?;
-    }
-    Ok(())
-}
-
-fn put_outcomes(text: &mut String, units: UnitCounts) -> Result<(), AllocError> {
-    let (committed, aborted, cut_off) = (units.committed, units.aborted, units.cut_off);
-    write!(
-        text,
-        "units {committed} committed, {aborted} aborted, {cut_off} cut off\n"
-    )
-}
-
 // The lines behind that of where the front ends.
-fn lines_of(alloc: Global, shown: &StatisticsShown<'_>) -> Result<String, AllocError> {
-    let mut text = String::new(alloc);
-    put_kinds(&mut text, &shown.kinds)?;
-    put_outcomes(&mut text, shown.units)?;
-    put_units(&mut text, shown.longest_units)?;
-    put_loads(&mut text, shown.largest_payloads)?;
-    put_queues(&mut text, &shown.deepest_queues, "free elements")?;
-    put_queues(
-        &mut text,
-        &shown.error_moves,
-        "elements moved there by aborts",
-    )?;
-    Ok(text)
+fn lines_of(alloc: Global, measures: &Measures) -> Result<String, AllocError> {
+    let rows = rows_of(alloc, measures)?;
+    joined_lines(alloc, &rows)
 }
 
 // All lines.
@@ -83,13 +26,13 @@ fn text_of(
     alloc: Global,
     at: Option<u64>,
     end: &End,
-    shown: &StatisticsShown<'_>,
+    measures: &Measures,
 ) -> Result<String, AllocError>
     ensures { IfOk result (λ text. (lines : List ℕ) × (string_bytes text
         ≡ beginning_text at ++ (end_text end.now.records end.now.used end.now.total
         (why_of end.now.why) (string_bytes end.now.reason) ++ lines))) }
 {
-    let lines = lines_of(alloc, shown)?;
+    let lines = lines_of(alloc, measures)?;
     let mut text = String::new(alloc);
     put_beginning(&mut text, at)?;
     put_end(&mut text, end)?;
@@ -97,14 +40,22 @@ fn text_of(
     Ok(text)
 }
 
+fn object_of(alloc: Global, end: &End, measures: &Measures) -> Result<String, Trouble>
+    ensures { IfErr result IsBroken }
+{
+    let (front, rows) = (front_shown(end), rows_of(alloc, measures)?);
+    let object = serde_json::to_string_pretty(alloc, &StatisticsShown { front, rows: &rows })?;
+    Ok(object)
+}
+
 // The same as one value of JSON. What it holds of a log are names, which have no character that is
 // hidden.
-fn json_of(alloc: Global, shown: &StatisticsShown<'_>) -> Result<String, Trouble>
+fn json_of(alloc: Global, end: &End, measures: &Measures) -> Result<String, Trouble>
     ensures line { IfOk result
         (λ text. (object : List ℕ) × (string_bytes text ≡ object ++ codes "\n")) }
     ensures refused { IfErr result IsBroken }
 {
-    let mut text = serde_json::to_string_pretty(alloc, shown)?;
+    let mut text = object_of(alloc, end, measures)?;
     text.push('\n')?;
     Ok(text)
 }
@@ -123,16 +74,12 @@ fn numbers_of(
         (λ text. AreNumbers at bytes.now json (string_bytes text)) }
     ensures refused { IfErr result IsBroken }
 {
-    let first = first_state(alloc, bytes, at)?;
-    let frames = front_frames(bytes, &first, at, end.used);
-    let (measures, machine): (Measures, FollowedQueues) = measured(alloc, &first, frames, end)?;
-    let depths = machine.depths(alloc)?;
-    let shown = statistics_shown(alloc, end, &measures, &depths)?;
+    let measures: Measures = counted(alloc, bytes, at, end)?;
     if json {
-        let object = json_of(alloc, &shown)?;
+        let object = json_of(alloc, end, &measures)?;
         return Ok(object);
     }
-    let text = text_of(alloc, at, end, &shown)?;
+    let text = text_of(alloc, at, end, &measures)?;
     Ok(text)
 }
 
