@@ -103,10 +103,11 @@ fn put_first_names(
     seen: &Survey,
     end: &End,
 ) -> Result<(), AllocError> {
-    let mut before = "";
+    let mut is_first = true;
     for (unit, begun) in seen.begun.iter().take(SHOWN) {
+        let before = if is_first { "" } else { ", " };
         put_name(text, shown, *unit, begun_at(*begun, end), before)?;
-        before = ", ";
+        is_first = false;
     }
     Ok(())
 }
