@@ -27,9 +27,9 @@ use Rattle.rq_model.proofs.Lists.{by_cases, each_weaker}
 use Rattle.rq_model.proofs.Merged.{ordered_weaker}
 use Rattle.rq_state.proofs.InOrder.{number_is_order}
 use Rattle.rq_state.proofs.Whole.{whole_permuted}
-use Rattle.rq_queue.specs.Kept.{items_of, IsKeyed, Stowed}
+use Rattle.rq_queue.specs.Kept.{Entry, items_of, IsKeyed, Stowed}
 use Rattle.rq_queue.specs.Sorted.{sorted}
-use Rattle.rq_queue.proofs.Doing.{Entry, free_cmp}
+use Rattle.rq_queue.proofs.Doing.{free_cmp}
 use Rattle.rq_queue.proofs.Known.{equal_rank}
 use Rattle.rq_queue.proofs.Units.{Lists}
 

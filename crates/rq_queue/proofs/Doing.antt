@@ -9,14 +9,13 @@ use Rattle.std.specs.declared.cmp.Ordering.TheVariants.{Less}
 use Rattle.std.proofs.lemmas.Bool.Decides.{nat_tests}
 use Rattle.std.proofs.lemmas.Bool.{eq-eqb, lt-ltb}
 use Rattle.std.proofs.lemmas.List.{append-nil, reverse-append}
-use Rattle.std.proofs.lemmas.List.Elements.{filter-append}
 use Rattle.rq_model.specs.States.{Mark, Element, Free, Fresh, Held, put, id_before, is_free}
 use Rattle.rq_model.specs.Queues.{is_marked}
 use Rattle.rq_model.specs.Machine.{is_free_at, best, best_held, marked, leaves, returned}
 use Rattle.rq_model.specs.Laws.{PutInAnyOrder}
 use Rattle.rq_model.proofs.Lists.{each_weaker, each_append, filter_all, filter_none}
 use Rattle.rq_queue.specs.Sorted.{sorted}
-use Rattle.rq_queue.specs.Kept.{items_of, IsKeyed, IsOfUnit, Stowed}
+use Rattle.rq_queue.specs.Kept.{items_of, Entry, IsKeyed, IsOfUnit, Stowed}
 use Rattle.rq_queue.proofs.Sorting.{each_front, each_unsorted, held_sorted}
 use Rattle.rq_model.proofs.Apart.{Apart}
 use Rattle.rq_queue.proofs.Firsts.{IsBehind, first_held, best_is, no_best}
@@ -28,9 +27,6 @@ use Rattle.rq_model.specs.States.{Definition, is_held, is_fresh}
 use Rattle.rq_queue.proofs.Sorting.{apart_into, apart_from, sorted_from}
 use Rattle.rq_queue.proofs.Moving.{behind, rank_cmp, none_held}
 use Rattle.rq_queue.proofs.Units.{Lists, stowed_sorted, stowed_apart}
-
-abbrev pub Entry : Type 0
-Entry = (Reverse ℕ × ℕ) × Element
 
 -- DEQUEUE
 not_free : (unit : ℕ) (m : Mark) → is_marked unit m ≡ true → is_free m ≡ false
@@ -288,17 +284,12 @@ put_last e xs h = λ i. filter_all (λ y. id_before y e) xs
     (each_weaker (λ y. y.id < e.id) (λ y. not (id_before y e) ≡ false) (λ y l. ap not (lt-ltb y.id e.id l)) xs h) i
 
 -- one more under a filter
-pub pass_more : (p : Element → Bool) (xs : List Element) (e : Element) (kept more : List Element)
-    → more ≡ kept ++ e ∷ [] → kept ≡ filter p xs → p e ≡ true → more ≡ filter p (xs ++ e ∷ [])
-pass_more p xs e kept more m k t =
-    m ∙ (ap (λ (ys : List Element). ys ++ e ∷ []) k
-    ∙ (ap (λ b. filter p xs ++ cond b (e ∷ []) []) (sym t) ∙ sym (filter-append p xs (e ∷ []))))
+pub one_passes : (p : Element → Bool) (e : Element) (xs : List Element) → p e ≡ true
+    → xs ++ e ∷ [] ≡ xs ++ filter p (e ∷ [])
+one_passes p e xs t = ap (λ b. xs ++ cond b (e ∷ []) []) (sym t)
 
-pub pass_less : (p : Element → Bool) (xs : List Element) (e : Element) (kept : List Element) → kept ≡ filter p xs
-    → p e ≡ false → kept ≡ filter p (xs ++ e ∷ [])
-pass_less p xs e kept k t =
-    k ∙ (sym (append-nil (filter p xs))
-    ∙ (ap (λ b. filter p xs ++ cond b (e ∷ []) []) (sym t) ∙ sym (filter-append p xs (e ∷ []))))
+pub none_passes : (p : Element → Bool) (e : Element) (xs : List Element) → p e ≡ false → xs ≡ xs ++ filter p (e ∷ [])
+none_passes p e xs t = sym (append-nil xs) ∙ ap (λ b. xs ++ cond b (e ∷ []) []) (sym t)
 
 -- the last of a list goes, and what is left is read backwards
 pub popped : {X : Type 0} (old new : List X) (x : X) → old ≡ new ++ x ∷ [] → reverse old ≡ x ∷ reverse new

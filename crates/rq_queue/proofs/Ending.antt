@@ -18,11 +18,10 @@ use Rattle.rq_model.specs.WellFormed.{Ordered}
 use Rattle.rq_model.proofs.Merged.{ordered_filter, ordered_map}
 use Rattle.rq_model.proofs.Apart.{Apart}
 use Rattle.rq_queue.specs.Sorted.{sorted}
-use Rattle.rq_queue.specs.Kept.{items_of, IsKeyed, IsOfUnit, Among, Frees, unheld, staying}
+use Rattle.rq_queue.specs.Kept.{Entry, items_of, IsKeyed, IsOfUnit, Among, Frees, unheld, staying}
 use Rattle.rq_queue.proofs.Sorting.{apart_front, each_front, each_back, rising_sorted, sorted_swapped, apart_swapped}
 use Rattle.rq_queue.proofs.Sorting.{filter_sorted, map_sorted}
 use Rattle.rq_queue.proofs.Units.{Lists}
-use Rattle.rq_queue.proofs.Doing.{Entry}
 
 abbrev IsOther : ℕ → Element → Type 0
 IsOther unit e = (is_held unit e.mark ≡ false) × (is_fresh unit e.mark ≡ false)

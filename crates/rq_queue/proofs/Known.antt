@@ -17,10 +17,10 @@ use Rattle.rq_model.proofs.Apart.{Apart}
 use Rattle.rq_model.proofs.Lists.{by_cases, each_weaker, each_map, each_filter, filter_all, filter_same}
 use Rattle.rq_model.proofs.Merged.{ordered_filter}
 use Rattle.rq_model.proofs.Steps.{returned_id}
-use Rattle.rq_queue.specs.Kept.{items_of, IsKeyed, IsOfUnit, staying}
+use Rattle.rq_queue.specs.Kept.{Entry, items_of, IsKeyed, IsOfUnit, staying}
 use Rattle.rq_queue.specs.Priorities.{IsKnown, AreKnown, with_all}
 use Rattle.rq_queue.specs.Sorted.{sorted}
-use Rattle.rq_queue.proofs.Doing.{Entry, free_cmp, none_free}
+use Rattle.rq_queue.proofs.Doing.{free_cmp, none_free}
 use Rattle.rq_queue.proofs.Sorting.{apart_into, each_front, each_put, each_sorted, each_swapped, each_unsorted}
 use Rattle.rq_queue.proofs.Sorting.{filter_sorted}
 use Rattle.rq_queue.proofs.Units.{Lists, same_key}
