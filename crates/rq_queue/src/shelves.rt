@@ -123,10 +123,7 @@ pub(crate) fn mapped(
 }
 
 /// Puts a Free element under its key.
-pub(crate) fn freed(
-    free: &mut BTreeMap<Rank, KeptElement>,
-    e: KeptElement,
-) -> Result<(), Fault>
+pub(crate) fn freed(free: &mut BTreeMap<Rank, KeptElement>, e: KeptElement) -> Result<(), Fault>
     requires mark { model.is_free e.mark ≡ true }
     ensures among { OnOk result (AllByRecursion IsKeyed free.old.entries
         → AllByRecursion (λ x. e.id ≢ x.id) (values_of free.old.entries)

@@ -1,4 +1,4 @@
-use Rattle.std.proofs.Common.{◌≡◌, ◌++◌, ap, ◌∙◌, sym, subst, refl, true, [], ◌∷◌, List}
+use Rattle.std.proofs.Common.{◌≡◌, ap, ◌∙◌, sym, subst, refl, true, [], ◌∷◌, List}
 use Rattle.std.specs.BTreeMap.{insert_entry, is_at}
 use Rattle.std.specs.List.{AllByRecursion}
 use Rattle.std.specs.Ordering.{nat_cmp}

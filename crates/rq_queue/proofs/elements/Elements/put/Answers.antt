@@ -1,8 +1,6 @@
-use Rattle.std.proofs.Common.{◌≢◌, ◌∙◌, ◌++◌, sym, ap, subst}
+use Rattle.std.proofs.Common.{◌≢◌, ◌∙◌, sym, ap, subst}
 use Rattle.std.specs.List.{AllByRecursion}
-use Rattle.std.specs.Map.{values_of}
 use Rattle.rq_model.specs.States.{Element, put, id_before}
-use Rattle.rq_queue.specs.Kept.{items_of}
 use Rattle.rq_queue.specs.Listed.{contents, elements_inside}
 use Rattle.rq_queue.specs.Priorities.{AreKnown}
 use Rattle.rq_queue.proofs.Known.{known_put}
