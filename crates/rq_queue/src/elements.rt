@@ -145,7 +145,6 @@ impl Elements {
             (λ v. id_of v.1 ≡ option_map (λ e. e.id) (machine.best queue.0 self)) }
         ensures refused { IfErr result (λ e. e ≡ Resources) }
     {
-        rq_model::any_order();
         let mut marked = self.marked;
         let mut free = self.free;
         let priorities = self.priorities;
@@ -177,7 +176,6 @@ impl Elements {
         ensures done { IfOk result (λ v. v ≡ machine.committed_elements unit.0 self) }
         ensures refused { IfErr result (λ e. e ≡ Resources) }
     {
-        rq_model::any_order();
         let (mut free, mut marked) = (self.free, self.marked);
         let list = taken(alloc, &mut marked, unit);
         all_freed(&mut free, list, unit)?;
@@ -205,7 +203,6 @@ impl Elements {
             ++ sent_from place home.now (filter (machine.leaves home.now unit.0) self)) }
         ensures refused { IfErr result (λ e. e ≡ Resources) }
     {
-        rq_model::any_order();
         let (mut free, mut marked) = (self.free, self.marked);
         let list = taken(alloc, &mut marked, unit);
         let leaving = all_returned(alloc, &mut free, list, unit, home)?;

@@ -158,7 +158,6 @@ pub(crate) fn shelve(
         (sorted (values_of free.old.entries ++ items_of marked.old.entries))) }
     ensures refused { IfErr result (λ e. e ≡ Resources) }
 {
-    rq_model::any_order();
     match e.unit() {
         None => {
             freed(free, e)?;
@@ -181,7 +180,6 @@ pub(crate) fn all_freed(
         Frees others free.old.entries (unheld unit.0 list.items) free.new.entries []) }
     ensures refused { IfErr result (λ e. e ≡ Resources) }
 {
-    rq_model::any_order();
     for e in list {
         if e.is_held(unit) {
             continue;
@@ -210,7 +208,6 @@ fn give_back(
         ≡ leaving.old.items ++ filter (machine.leaves home.now unit.0) (e ∷ [])) }
     ensures refused { IfErr result (λ e. e ≡ Resources) }
 {
-    rq_model::any_order();
     if e.leaves(home, unit) {
         leaving.push(e)?;
         return Ok(());

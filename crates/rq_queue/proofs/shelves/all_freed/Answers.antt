@@ -18,7 +18,7 @@ pub loop-e-preserved : goal.loop-e-preserved
 loop-e-preserved c = λ rest others s.
     let e = c.in-Some.e in
     let all = unheld c.args.unit.0 c.args.list.items in
-    freed_step c.any_order.ensures.order c.unmarked.result (unheld c.args.unit.0 rest) others c.args.free.now.entries
+    freed_step c.unmarked.result (unheld c.args.unit.0 rest) others c.args.free.now.entries
     c.loop-e.free.entries c.freed.new.free.entries all c.in_ok-freed.ensures.among c.in_ok-freed.ensures.keyed
     (subst (λ (xs : List Element). Frees others c.args.free.now.entries all c.loop-e.free.entries xs)
     (unheld_more c.args.unit.0 e c.unmarked.result rest c.unmarked.ensures (sym c.is_held.ensures ∙ c.if-is_held.false))

@@ -35,7 +35,7 @@ returns-clause-freed c = λ rest others all start h.
     let e = c.args.e in
     let home = c.args.home.now in
     let unit = c.args.unit.0 in
-    freed_step c.any_order.ensures.order c.returned.result (staying home unit rest) others start
+    freed_step c.returned.result (staying home unit rest) others start
     c.args.free.now.entries c.freed.new.free.entries all c.in_ok-freed.ensures.among c.in_ok-freed.ensures.keyed
     (subst (λ (xs : List Element). Frees others start all c.args.free.now.entries xs)
     (staying_more home unit e c.returned.result rest c.returned.ensures

@@ -14,7 +14,7 @@ use Rattle.rq_queue.proofs.elements.Elements.abort.Goals as goal
 
 pub all_returned-requires-clause-room : goal.all_returned-requires-clause-room
 all_returned-requires-clause-room c =
-    each_listed c.any_order.ensures.order c.self.inside.free.entries c.self.inside.marked.entries
+    each_listed c.self.inside.free.entries c.self.inside.marked.entries
     c.taken-list.new.marked.entries c.taken-list.result.items c.taken-list.ensures.among c.self.invariant.apart
     (λ (e : Element). e.attempts + 1 < 2 ^ 64)
     (each_unsorted _ _ (subst (AllByRecursion (λ (e : Element). e.attempts + 1 < 2 ^ 64))
@@ -23,13 +23,13 @@ all_returned-requires-clause-room c =
 pub elements_by_id-requires : goal.elements_by_id-requires
 elements_by_id-requires c = subst (λ (xs : List Element). Ordered (λ (e f : Element). e.id < f.id) (sorted xs))
     (sym c.in_ok-leaving.ensures.leaving)
-    (chosen_rise c.any_order.ensures.order c.self.inside.free.entries c.self.inside.marked.entries
+    (chosen_rise c.self.inside.free.entries c.self.inside.marked.entries
     c.taken-list.new.marked.entries c.taken-list.result.items c.taken-list.ensures.among
     c.self.invariant.apart (leaves c.args.home.now c.args.unit.0))
 
 pub invariant_of-result : goal.invariant_of-result
 invariant_of-result c =
-    let done = aborted c.any_order.ensures.order c.args.home.now c.args.unit.0 c.self.inside.free.entries
+    let done = aborted c.args.home.now c.args.unit.0 c.self.inside.free.entries
     c.all_returned.new.free.entries c.self.inside.marked.entries c.taken-list.new.marked.entries
     c.taken-list.result.items
     c.self.invariant.keyed c.taken-list.ensures.among c.taken-list.ensures.absent c.taken-list.ensures.of_units
@@ -45,7 +45,7 @@ invariant_of-result c =
 
 pub returns-clause-kept : goal.returns-clause-kept
 returns-clause-kept c =
-    (aborted c.any_order.ensures.order c.args.home.now c.args.unit.0 c.self.inside.free.entries
+    (aborted c.args.home.now c.args.unit.0 c.self.inside.free.entries
     c.all_returned.new.free.entries c.self.inside.marked.entries c.taken-list.new.marked.entries
     c.taken-list.result.items
     c.self.invariant.keyed c.taken-list.ensures.among c.taken-list.ensures.absent c.taken-list.ensures.of_units
@@ -54,7 +54,7 @@ returns-clause-kept c =
 
 pub returns-clause-sent : goal.returns-clause-sent
 returns-clause-sent c =
-    let gone = departed c.any_order.ensures.order c.args.home.now c.args.unit.0 c.self.inside.free.entries
+    let gone = departed c.args.home.now c.args.unit.0 c.self.inside.free.entries
     c.self.inside.marked.entries c.taken-list.new.marked.entries c.taken-list.result.items
     c.self.invariant.keyed c.taken-list.ensures.among c.taken-list.ensures.absent c.taken-list.ensures.of_units
     c.self.invariant.apart in

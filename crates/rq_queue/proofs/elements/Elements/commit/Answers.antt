@@ -8,7 +8,7 @@ use Rattle.rq_queue.proofs.elements.Elements.commit.Goals as goal
 
 pub invariant_of-result : goal.invariant_of-result
 invariant_of-result c =
-    let done = committed c.any_order.ensures.order c.args.unit.0 c.self.inside.free.entries c.all_freed.new.free.entries
+    let done = committed c.args.unit.0 c.self.inside.free.entries c.all_freed.new.free.entries
     c.self.inside.marked.entries c.taken-list.new.marked.entries c.taken-list.result.items
     c.self.invariant.keyed c.taken-list.ensures.among c.taken-list.ensures.absent c.taken-list.ensures.of_units
     c.taken-list.ensures.of_unit c.self.invariant.apart c.in_ok-all_freed.ensures.freed in
@@ -23,7 +23,7 @@ invariant_of-result c =
 
 pub returns-clause-done : goal.returns-clause-done
 returns-clause-done c =
-    (committed c.any_order.ensures.order c.args.unit.0 c.self.inside.free.entries c.all_freed.new.free.entries
+    (committed c.args.unit.0 c.self.inside.free.entries c.all_freed.new.free.entries
     c.self.inside.marked.entries c.taken-list.new.marked.entries c.taken-list.result.items
     c.self.invariant.keyed c.taken-list.ensures.among c.taken-list.ensures.absent c.taken-list.ensures.of_units
     c.taken-list.ensures.of_unit c.self.invariant.apart c.in_ok-all_freed.ensures.freed).1

@@ -12,7 +12,7 @@ use Rattle.rq_queue.proofs.elements.Elements.hold_best.Goals as goal
 
 pub invariant_of-all-in-Some : goal.invariant_of-all-in-Some
 invariant_of-all-in-Some c =
-    let done = held c.any_order.ensures.order c.args.unit.0 c.args.queue.0
+    let done = held c.args.unit.0 c.args.queue.0
     (c.in-Some.field-0-0, c.in-Some.e) c.self.inside.free.entries c.pop_first.new.self.entries
     c.self.inside.marked.entries c.stow.new.marked.entries c.in-Some.ensures.removal
     (subst (λ (x : Element). Stowed x c.self.inside.marked.entries c.stow.new.marked.entries)
@@ -36,7 +36,7 @@ returns-in-None-clause-held c =
 
 pub returns-in_ok-stow-in-Some-clause-held : goal.returns-in_ok-stow-in-Some-clause-held
 returns-in_ok-stow-in-Some-clause-held c =
-    (held c.any_order.ensures.order c.args.unit.0 c.args.queue.0
+    (held c.args.unit.0 c.args.queue.0
     (c.in-Some.field-0-0, c.in-Some.e) c.self.inside.free.entries c.pop_first.new.self.entries
     c.self.inside.marked.entries c.stow.new.marked.entries c.in-Some.ensures.removal
     (subst (λ (x : Element). Stowed x c.self.inside.marked.entries c.stow.new.marked.entries)
