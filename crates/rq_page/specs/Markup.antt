@@ -1,7 +1,8 @@
 -- Text in HTML.
 use Rattle.std.specs.Prelude.{◌≡◌, ℕ, Bool, true, ◌&&◌, not, nat_eq, List, [], ◌∷◌, ◌++◌, encode_utf8_all}
-use Rattle.std.specs.Prelude.{codes, if◌then◌else◌}
+use Rattle.std.specs.Prelude.{codes, if◌then◌else◌, false, string_bytes}
 use Rattle.std.specs.List.{flat_map}
+use Rattle.rq_page.specs.declared.sheets.Sheet.{Sheet}
 
 -- a character that HTML does not take for its own: not & < > " '
 abbrev pub is_text : ℕ → Bool
@@ -25,3 +26,12 @@ AppendsText old new = (shown : List ℕ) × (new ≡ old ++ encode_utf8_all (fla
 -- what stands behind the last part of a page
 abbrev pub page_foot : List ℕ
 page_foot = codes "</body>\n</html>\n"
+
+-- the text of a sheet, unless memory was refused
+abbrev pub Holds : Sheet → List ℕ → Type 0
+Holds sheet bytes = sheet.is_refused ≡ false → string_bytes sheet.text ≡ bytes
+
+-- behind the text that a sheet had these bytes were put, unless memory was refused, now or before
+abbrev pub Puts : Sheet → Sheet → List ℕ → Type 0
+Puts old new bytes = new.is_refused ≡ false
+    → (old.is_refused ≡ false) × (string_bytes new.text ≡ string_bytes old.text ++ bytes)

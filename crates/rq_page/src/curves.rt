@@ -3,7 +3,8 @@
 ghost use Rattle.std.specs.Prelude.{◌≤◌};
 
 use crate::markup::Html::{Count, Number, Tag};
-use crate::markup::{NOTHING, put_pieces};
+use crate::markup::NOTHING;
+use crate::sheets::Sheet;
 use std::alloc::{AllocError, Global};
 
 /// Where a part of a whole stands on a line of so many steps.
@@ -106,7 +107,7 @@ impl Curve {
     }
 
     // Puts the line through one bin.
-    fn put_bin(&self, text: &mut String, frame: &Canvas, bin: &Bin) -> Result<(), AllocError> {
+    fn put_bin(&self, sheet: &mut Sheet, frame: &Canvas, bin: &Bin) {
         let (from, to) = (frame.at(bin.number), frame.at(bin.number.saturating_add(1)));
         let top = frame.below_top(bin.most, self.most);
         let behind = frame.below_top(bin.last, self.most);
@@ -115,78 +116,60 @@ impl Curve {
         } else {
             (Tag("V"), Number(behind))
         };
-        put_pieces(
-            text,
-            &[
-                Tag("H"),
-                Number(from),
-                Tag("V"),
-                Number(top),
-                Tag("H"),
-                Number(to),
-                down,
-                last,
-            ],
-        )
+        sheet.put(&[
+            Tag("H"),
+            Number(from),
+            Tag("V"),
+            Number(top),
+            Tag("H"),
+            Number(to),
+            down,
+            last,
+        ]);
     }
 
-    fn put_line(&self, text: &mut String, frame: &Canvas) -> Result<(), AllocError> {
+    fn put_line(&self, sheet: &mut Sheet, frame: &Canvas) {
         for bin in &self.changed {
-            self.put_bin(text, frame, bin)?;
+            self.put_bin(sheet, frame, bin);
         }
-        Ok(())
     }
 
     /// Puts the curve as a picture, up to where the front ends. Its scale stands beside it, and its
     /// title says what it shows.
-    pub(crate) fn put(
-        &self,
-        text: &mut String,
-        frame: &Canvas,
-        title: &'static str,
-    ) -> Result<(), AllocError> {
+    pub(crate) fn put(&self, sheet: &mut Sheet, frame: &Canvas, title: &'static str) {
         let (width, height) = (Number(frame.width), Number(frame.height));
-        put_pieces(
-            text,
-            &[
-                Tag("<span class=\"scale\"><span>"),
-                Count(self.most),
-                Tag("</span><span>0</span></span><svg viewBox=\"0 0 "),
-                width,
-                Tag(" "),
-                height,
-                Tag("\" preserveAspectRatio=\"none\" role=\"img\"><title>"),
-                Tag(title),
-                Tag(", at most "),
-                Count(self.most),
-                Tag("</title><path d=\"M0 "),
-                height,
-            ],
-        )?;
-        self.put_line(text, frame)?;
-        put_pieces(
-            text,
-            &[
-                Tag("H"),
-                Number(frame.end),
-                Tag("V"),
-                height,
-                Tag("Z\"/></svg>"),
-            ],
-        )
+        sheet.put(&[
+            Tag("<span class=\"scale\"><span>"),
+            Count(self.most),
+            Tag("</span><span>0</span></span><svg viewBox=\"0 0 "),
+            width,
+            Tag(" "),
+            height,
+            Tag("\" preserveAspectRatio=\"none\" role=\"img\"><title>"),
+            Tag(title),
+            Tag(", at most "),
+            Count(self.most),
+            Tag("</title><path d=\"M0 "),
+            height,
+        ]);
+        self.put_line(sheet, frame);
+        sheet.put(&[
+            Tag("H"),
+            Number(frame.end),
+            Tag("V"),
+            height,
+            Tag("Z\"/></svg>"),
+        ]);
     }
 }
 
 /// Puts the scale below a picture of the whole log.
-pub(crate) fn put_axis(text: &mut String, total: u64) -> Result<(), AllocError> {
-    put_pieces(
-        text,
-        &[
-            Tag("<div class=\"axis\"><span>byte 0</span><span>"),
-            Count(total / 2),
-            Tag("</span><span>"),
-            Count(total),
-            Tag("</span></div>\n"),
-        ],
-    )
+pub(crate) fn put_axis(sheet: &mut Sheet, total: u64) {
+    sheet.put(&[
+        Tag("<div class=\"axis\"><span>byte 0</span><span>"),
+        Count(total / 2),
+        Tag("</span><span>"),
+        Count(total),
+        Tag("</span></div>\n"),
+    ]);
 }

@@ -11,6 +11,7 @@ mod payloads;
 mod pictures;
 mod questions;
 mod records;
+mod sheets;
 mod shown;
 mod steps;
 mod style;

@@ -4,6 +4,7 @@ ghost use Rattle.std.specs.Prelude.{◌≡◌, IfErr};
 ghost use Rattle.rq_record.specs.declared.fault.Fault.TheVariants.{Resources};
 
 use crate::records::put_row;
+use crate::sheets::Sheet;
 use crate::shown::Linked;
 use crate::steps::{At, STEPS, Step, step_of};
 use rq_look::{Event, Numbered, unit_of};
@@ -18,7 +19,7 @@ const ROWS: usize = 1_800_000;
 #[derive(Drop)]
 pub(crate) struct Lives {
     /// The rows of the records.
-    pub(crate) rows: String,
+    pub(crate) rows: Sheet,
     /// How many these are.
     pub(crate) count: u64,
     /// How many more there would be.
@@ -99,7 +100,7 @@ impl Lives {
     /// Before the first record.
     pub(crate) fn new(alloc: Global, shown: &Linked<'_>) -> Result<Lives, AllocError> {
         Ok(Lives {
-            rows: String::new(alloc),
+            rows: Sheet::new(alloc),
             count: 0,
             more: 0,
             until: u64::MAX,
@@ -239,19 +240,19 @@ impl Lives {
     // The row of a record, if there is room for it.
     fn take_row(
         &mut self,
-        alloc: Global,
         shown: &Linked<'_>,
         it: &Numbered,
         events: &[Event],
         truth: bool,
     ) -> Result<(), AllocError> {
-        if self.rows.len() >= ROWS {
+        if !self.rows.has_room(ROWS) {
             self.more = self.more.saturating_add(1);
             self.until = self.until.min(it.number);
             return Ok(());
         }
         self.count = self.count.saturating_add(1);
-        put_row(alloc, &mut self.rows, shown, it, events, truth)
+        put_row(&mut self.rows, shown, it, events, truth);
+        self.rows.check()
     }
 
     /// A record, and what happens at it. The truth is that of a checkpoint.
@@ -272,7 +273,7 @@ impl Lives {
             self.take_named(alloc, it, events)?;
         }
         if shown.all || of_element || of_unit {
-            self.take_row(alloc, shown, it, events, truth)?;
+            self.take_row(shown, it, events, truth)?;
         }
         Ok(())
     }

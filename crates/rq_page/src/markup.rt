@@ -1,12 +1,12 @@
 //! The text of HTML.
 
 ghost use Rattle.std.specs.Prelude.{◌≡◌, ◌++◌, true, OnOk, string_bytes};
-ghost use Rattle.rq_page.specs.Markup.{AppendsText, is_text, page_foot};
+ghost use Rattle.rq_page.specs.Markup.{AppendsText, Puts, is_text, page_foot};
 
-use crate::markup::Html::{Count, Number, Tag, Text};
+use crate::markup::Html::{Tag, Text};
+use crate::sheets::Sheet;
 use rq_look::is_hidden;
 use std::alloc::AllocError;
-use std::fmt::Write;
 
 /// A part of a page. A `Tag` is of this crate alone; what is of the log is a number, or a text or a
 /// name of which no character is markup.
@@ -20,6 +20,8 @@ pub(crate) enum Html<'a> {
     Count(u64),
     /// A text of which no character is markup.
     Text(&'a str),
+    /// Bytes as digits, two each.
+    Digits(&'a [u8]),
     /// A number with a link to what it names: the kind of that, and the number.
     Link(&'static str, u64),
     /// A queue's number and name.
@@ -32,16 +34,6 @@ pub(crate) enum Html<'a> {
 
 /// Nothing.
 pub(crate) const NOTHING: Html<'static> = Html::Tag("");
-
-// What groups of three digits count, the greatest first.
-static GROUPS: [u64; 6] = [
-    1_000_000_000_000_000_000,
-    1_000_000_000_000_000,
-    1_000_000_000_000,
-    1_000_000_000,
-    1_000_000,
-    1_000,
-];
 
 // What is shown in the place of a hidden character: the picture of a control, if there is one.
 fn picture_of(c: char) -> char
@@ -92,113 +84,28 @@ pub fn put_text(text: &mut String, word: &str) -> Result<(), AllocError>
     Ok(())
 }
 
-// Puts the next three digits of a number, and a comma; nothing, if only zeros were before.
-fn put_group(text: &mut String, digits: u64, is_first: bool) -> Result<(), AllocError> {
-    if is_first {
-        write!(text, "{digits},")
-    } else {
-        write!(text, "{digits:03},")
-    }
-}
-
-fn put_last(text: &mut String, digits: u64, is_first: bool) -> Result<(), AllocError> {
-    if is_first {
-        write!(text, "{digits}")
-    } else {
-        write!(text, "{digits:03}")
-    }
-}
-
-fn put_count(text: &mut String, number: u64) -> Result<(), AllocError> {
-    let mut left = number;
-    let mut is_first = true;
-    for group in GROUPS.iter().copied() {
-        let digits = left.checked_div(group).unwrap_or(0);
-        if digits > 0 || !is_first {
-            put_group(text, digits, is_first)?;
-            is_first = false;
-        }
-        left = left.checked_rem(group).unwrap_or(0);
-    }
-    put_last(text, left, is_first)
-}
-
-fn put_link(text: &mut String, kind: &'static str, number: u64) -> Result<(), AllocError> {
-    write!(text, "<a href=\"#{kind}{number}\">{number}</a>")
-}
-
-fn put_named(text: &mut String, queue: u32, name: &str) -> Result<(), AllocError> {
-    write!(text, "{queue} ")?;
-    put_text(text, name)
-}
-
-fn put_queue(text: &mut String, queue: u32, name: &str) -> Result<(), AllocError> {
-    write!(text, "<a href=\"#q{queue}\">")?;
-    put_named(text, queue, name)?;
-    text.push_str("</a>")
-}
-
-fn put_registrant(text: &mut String, queue: u32, name: &str) -> Result<(), AllocError> {
-    write!(text, "<a href=\"#g{queue}-")?;
-    put_text(text, name)?;
-    text.push_str("\">")?;
-    put_text(text, name)?;
-    text.push_str("</a>")
-}
-
-fn put_piece(text: &mut String, piece: &Html<'_>) -> Result<(), AllocError> {
-    match piece {
-        Html::Tag(tag) => text.push_str(tag),
-        Html::Number(number) => write!(text, "{number}"),
-        Html::Count(number) => put_count(text, *number),
-        Html::Text(word) => put_text(text, word),
-        Html::Link(kind, number) => put_link(text, kind, *number),
-        Html::Named(queue, name) => put_named(text, *queue, name),
-        Html::Queue(queue, name) => put_queue(text, *queue, name),
-        Html::Registrant(queue, name) => put_registrant(text, *queue, name),
-    }
-}
-
-/// Puts one piece behind the other.
-pub(crate) fn put_pieces(text: &mut String, pieces: &[Html<'_>]) -> Result<(), AllocError> {
-    for piece in pieces {
-        put_piece(text, piece)?;
-    }
-    Ok(())
-}
-
 /// Puts what stands before the front's summary. No part of the page may be loaded from anywhere, no
 /// script runs, and no style but that of this sum.
-pub(crate) fn put_head<'a>(
-    text: &mut String,
-    name: &'a str,
-    style: &'static str,
-    sum: &'a str,
-) -> Result<(), AllocError> {
-    put_pieces(
-        text,
-        &[
-            Tag("<!DOCTYPE html>\n<html lang=\"en\">\n<head>\n<meta charset=\"utf-8\">\n"),
-            Tag("<meta http-equiv=\"Content-Security-Policy\" content=\"default-src 'none'; "),
-            Tag("style-src 'sha256-"),
-            Text(sum),
-            Tag("'; base-uri 'none'; form-action 'none'\">\n"),
-            Tag("<meta name=\"referrer\" content=\"no-referrer\">\n"),
-            Tag("<meta name=\"color-scheme\" content=\"light dark\">\n"),
-            Tag(
-                "<meta name=\"viewport\" content=\"width=device-width, initial-scale=1\">\n<title>",
-            ),
-            Text(name),
-            Tag("</title>\n<style>"),
-            Tag(style),
-            Tag("</style>\n</head>\n<body>\n"),
-        ],
-    )
+pub(crate) fn put_head<'a>(sheet: &mut Sheet, name: &'a str, style: &'static str, sum: &'a str) {
+    sheet.put(&[
+        Tag("<!DOCTYPE html>\n<html lang=\"en\">\n<head>\n<meta charset=\"utf-8\">\n"),
+        Tag("<meta http-equiv=\"Content-Security-Policy\" content=\"default-src 'none'; "),
+        Tag("style-src 'sha256-"),
+        Text(sum),
+        Tag("'; base-uri 'none'; form-action 'none'\">\n"),
+        Tag("<meta name=\"referrer\" content=\"no-referrer\">\n"),
+        Tag("<meta name=\"color-scheme\" content=\"light dark\">\n"),
+        Tag("<meta name=\"viewport\" content=\"width=device-width, initial-scale=1\">\n<title>"),
+        Text(name),
+        Tag("</title>\n<style>"),
+        Tag(style),
+        Tag("</style>\n</head>\n<body>\n"),
+    ]);
 }
 
 /// Puts what stands behind the last part.
-pub(crate) fn put_foot(text: &mut String) -> Result<(), AllocError>
-    ensures { OnOk result (string_bytes text.new ≡ string_bytes text.old ++ page_foot) }
+pub(crate) fn put_foot(sheet: &mut Sheet)
+    ensures { Puts sheet.old sheet.new page_foot }
 {
-    text.push_str("</body>\n</html>\n")
+    sheet.put_tag("</body>\n</html>\n");
 }

@@ -1,12 +1,12 @@
 //! A log as one page that a browser shows.
 
-ghost use Rattle.std.specs.Prelude.{ℕ, ◌≡◌, ◌++◌, ◌⊎◌, List, IfOk, IfErr, OnOk, string_bytes};
+ghost use Rattle.std.specs.Prelude.{ℕ, ◌≡◌, ◌++◌, ◌⊎◌, List, IfOk, IfErr, OnOk};
 ghost use Rattle.std.specs.Io.KnownBytes.{Appends};
 ghost use Rattle.rq_model.specs.Fronts as fronts;
 ghost use Rattle.rq_front.specs.Chains.{IsLog};
 ghost use Rattle.rq_look.specs.Looks.{IsBroken, IsRefusal, IsRestartFrom, RefusedFrom};
 ghost use Rattle.rq_look.specs.Looks.{StaysUnshown};
-ghost use Rattle.rq_page.specs.Markup.{page_foot};
+ghost use Rattle.rq_page.specs.Markup.{Holds, page_foot};
 
 use crate::histories::{put_elements, put_registrants, put_unit_histories};
 use crate::lives::Lives;
@@ -14,6 +14,7 @@ use crate::markup::{put_foot, put_head};
 use crate::pictures::put_picture;
 use crate::questions::{Asked, Order};
 use crate::records::put_record_rows;
+use crate::sheets::Sheet;
 use crate::shown::Linked;
 use crate::style::{STYLE, sum_of_style};
 use crate::summaries::{Parts, put_header, put_parts, put_summary};
@@ -211,68 +212,71 @@ fn shown_of(told: &PageContents) -> Linked<'_> {
     shown
 }
 
-fn put_page_head(alloc: Global, text: &mut String, asked: &Asked<'_>) -> Result<(), AllocError> {
+fn put_page_head(alloc: Global, sheet: &mut Sheet, asked: &Asked<'_>) -> Result<(), AllocError> {
     let sum = sum_of_style(alloc)?;
-    put_head(text, asked.name, STYLE, sum.as_str())
+    put_head(sheet, asked.name, STYLE, sum.as_str());
+    Ok(())
 }
 
 // Puts what stands before the queues.
 fn put_top(
     alloc: Global,
-    text: &mut String,
+    sheet: &mut Sheet,
     bytes: &[u8],
     told: &PageContents,
     asked: &Asked<'_>,
 ) -> Result<(), AllocError> {
     let found = &told.contents.found;
     let (restarted, end) = (&found.restarted, &found.end);
-    put_page_head(alloc, text, asked)?;
-    put_header(text, asked, restarted, end)?;
-    put_parts(text, &parts_of(&told.lives))?;
-    text.push_str("<main>\n")?;
+    put_page_head(alloc, sheet, asked)?;
+    put_header(sheet, asked, restarted, end);
+    put_parts(sheet, &parts_of(&told.lives));
+    sheet.put_tag("<main>\n");
     let checkpoints = found.checkpoints.as_slice();
-    put_summary(alloc, text, bytes, restarted, end, checkpoints)
+    put_summary(sheet, bytes, restarted, end, checkpoints);
+    Ok(())
 }
 
 // Puts what the log's length, its units and its queues show.
 fn put_middle(
     alloc: Global,
-    text: &mut String,
+    sheet: &mut Sheet,
     shown: &Linked<'_>,
     contents: &Contents,
     order: Order,
 ) -> Result<(), AllocError> {
     let (seen, found) = (&contents.walked.seen, &contents.found);
     let (state, end) = (found.restarted.state(), &found.end);
-    put_picture(alloc, text, seen, end, found.checkpoints.as_slice())?;
-    put_open(text, shown, seen, end)?;
-    put_queue_table(alloc, text, shown, seen, state, end, order)
+    put_picture(alloc, sheet, seen, end, found.checkpoints.as_slice())?;
+    put_open(sheet, shown, seen, end);
+    put_queue_table(alloc, sheet, shown, seen, state, end, order)
 }
 
 // Puts the lives that are shown.
-fn put_lives(text: &mut String, shown: &Linked<'_>, lives: &Lives) -> Result<(), AllocError> {
-    put_elements(text, shown, lives)?;
-    put_unit_histories(text, shown, lives)?;
-    put_registrants(text, shown, lives)?;
-    put_record_rows(text, lives.rows.as_str(), lives.count, lives.more)?;
-    text.push_str("</main>\n")
+fn put_lives(sheet: &mut Sheet, shown: &Linked<'_>, lives: &Lives) {
+    put_elements(sheet, shown, lives);
+    put_unit_histories(sheet, shown, lives);
+    put_registrants(sheet, shown, lives);
+    put_record_rows(sheet, &lives.rows, lives.count, lives.more);
+    sheet.put_tag("</main>\n");
 }
 
 // Puts all parts, one behind the other.
 fn put_all(
     alloc: Global,
-    text: &mut String,
+    sheet: &mut Sheet,
     bytes: &[u8],
     told: &PageContents,
     asked: &Asked<'_>,
 ) -> Result<(), AllocError>
-    ensures { OnOk result ((put : List ℕ) × (string_bytes text.new ≡ put ++ page_foot)) }
+    ensures { OnOk result ((put : List ℕ) × Holds sheet.new (put ++ page_foot)) }
 {
     let shown = shown_of(told);
-    put_top(alloc, text, bytes, told, asked)?;
-    put_middle(alloc, text, &shown, &told.contents, asked.order)?;
-    put_lives(text, &shown, &told.lives)?;
-    put_foot(text)
+    put_top(alloc, sheet, bytes, told, asked)?;
+    put_middle(alloc, sheet, &shown, &told.contents, asked.order)?;
+    put_lives(sheet, &shown, &told.lives);
+    put_foot(sheet);
+    Ok(())
 }
 
 fn put_page<W: Write>(
@@ -286,8 +290,9 @@ fn put_page<W: Write>(
         × Appends (W.contents output.old) (W.contents output.new) (put ++ page_foot)) }
     ensures refused { IfErr result IsBroken }
 {
-    let mut text = String::new(alloc);
-    put_all(alloc, &mut text, bytes, told, asked)?;
+    let mut sheet = Sheet::new(alloc);
+    put_all(alloc, &mut sheet, bytes, told, asked)?;
+    let text = sheet.written()?;
     output.write_all(text.as_bytes())?;
     Ok(())
 }

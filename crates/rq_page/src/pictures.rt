@@ -2,7 +2,8 @@
 
 use crate::curves::{along, bin_of, put_axis};
 use crate::markup::Html::{Count, Number, Tag};
-use crate::markup::{NOTHING, put_pieces};
+use crate::markup::NOTHING;
+use crate::sheets::Sheet;
 use crate::surveys::{BINS, Bin, Survey};
 use rq_look::End;
 use std::alloc::{AllocError, Global};
@@ -39,15 +40,14 @@ fn most_of(bins: &[Bin]) -> u64 {
     most
 }
 
-fn put_count(text: &mut String, kind: &'static str, count: u64) -> Result<(), AllocError> {
-    put_pieces(text, &[Count(count), Tag(" "), Tag(kind), Tag(" ")])
+fn put_count(sheet: &mut Sheet, kind: &'static str, count: u64) {
+    sheet.put(&[Count(count), Tag(" "), Tag(kind), Tag(" ")]);
 }
 
-fn put_counts(text: &mut String, bin: &Bin) -> Result<(), AllocError> {
+fn put_counts(sheet: &mut Sheet, bin: &Bin) {
     for (kind, count) in bin {
-        put_count(text, *kind, *count)?;
+        put_count(sheet, *kind, *count);
     }
-    Ok(())
 }
 
 // A part of a bar, and what stands behind it.
@@ -62,33 +62,24 @@ struct BarPart {
 }
 
 // Puts a rectangle, and what stands behind it.
-fn put_part(text: &mut String, part: &BarPart) -> Result<(), AllocError> {
-    put_pieces(
-        text,
-        &[
-            Tag("<rect class=\""),
-            Tag(part.class),
-            Tag("\" x=\""),
-            Number(part.x),
-            Tag("\" y=\""),
-            Number(part.y),
-            Tag("\" width=\""),
-            Number(part.width),
-            Tag("\" height=\""),
-            Number(part.height),
-            Tag(part.behind),
-        ],
-    )
+fn put_part(sheet: &mut Sheet, part: &BarPart) {
+    sheet.put(&[
+        Tag("<rect class=\""),
+        Tag(part.class),
+        Tag("\" x=\""),
+        Number(part.x),
+        Tag("\" y=\""),
+        Number(part.y),
+        Tag("\" width=\""),
+        Number(part.width),
+        Tag("\" height=\""),
+        Number(part.height),
+        Tag(part.behind),
+    ]);
 }
 
 // Puts the records of one kind above those below.
-fn put_kind(
-    text: &mut String,
-    kind: &'static str,
-    x: u64,
-    base: u64,
-    top: u64,
-) -> Result<(), AllocError> {
+fn put_kind(sheet: &mut Sheet, kind: &'static str, x: u64, base: u64, top: u64) {
     let part = BarPart {
         class: kind,
         x,
@@ -97,38 +88,36 @@ fn put_kind(
         height: top.saturating_sub(base),
         behind: "\"/>",
     };
-    put_part(text, &part)
+    put_part(sheet, &part);
 }
 
 // Puts the records of one bin, one kind on the other; the most of any bin fill the height.
-fn put_stack(text: &mut String, bin: &Bin, x: u64, most: u64) -> Result<(), AllocError> {
+fn put_stack(sheet: &mut Sheet, bin: &Bin, x: u64, most: u64) {
     let mut below: u64 = 0;
     for (kind, count) in bin {
         let base = along(below, most, HEIGHT);
         below = below.saturating_add(*count);
-        put_kind(text, *kind, x, base, along(below, most, HEIGHT))?;
+        put_kind(sheet, *kind, x, base, along(below, most, HEIGHT));
     }
-    Ok(())
 }
 
 // Puts the same, with what the pointer shows of it.
-fn put_bar(text: &mut String, bin: &Bin, x: u64, most: u64) -> Result<(), AllocError> {
-    text.push_str("<g><title>")?;
-    put_counts(text, bin)?;
-    text.push_str("</title>")?;
-    put_stack(text, bin, x, most)?;
-    text.push_str("</g>\n")
+fn put_bar(sheet: &mut Sheet, bin: &Bin, x: u64, most: u64) {
+    sheet.put_tag("<g><title>");
+    put_counts(sheet, bin);
+    sheet.put_tag("</title>");
+    put_stack(sheet, bin, x, most);
+    sheet.put_tag("</g>\n");
 }
 
-fn put_bars(text: &mut String, bins: &[Bin], most: u64) -> Result<(), AllocError> {
+fn put_bars(sheet: &mut Sheet, bins: &[Bin], most: u64) {
     let mut index = 0;
     for bin in bins {
         if !bin.is_empty() {
-            put_bar(text, bin, left_of(index), most)?;
+            put_bar(sheet, bin, left_of(index), most);
         }
         index = index.saturating_add(1);
     }
-    Ok(())
 }
 
 // The bins that have a checkpoint, and whether all of theirs are true.
@@ -145,7 +134,7 @@ fn marked(
     Ok(())
 }
 
-fn put_mark(text: &mut String, bin: u64, truth: bool) -> Result<(), AllocError> {
+fn put_mark(sheet: &mut Sheet, bin: u64, truth: bool) {
     let (class, behind) = if truth {
         ("true", "\"><title>a checkpoint</title></rect>\n")
     } else {
@@ -162,20 +151,19 @@ fn put_mark(text: &mut String, bin: u64, truth: bool) -> Result<(), AllocError> 
         height: 10,
         behind,
     };
-    put_part(text, &part)
+    put_part(sheet, &part);
 }
 
-fn put_marks(text: &mut String, marks: &BTreeMap<u64, bool>) -> Result<(), AllocError> {
+fn put_marks(sheet: &mut Sheet, marks: &BTreeMap<u64, bool>) {
     for (bin, truth) in marks {
-        put_mark(text, *bin, *truth)?;
+        put_mark(sheet, *bin, *truth);
     }
-    Ok(())
 }
 
 // Puts what stands behind the front; however short it is, it is seen.
-fn put_damage(text: &mut String, end: &End) -> Result<(), AllocError> {
+fn put_damage(sheet: &mut Sheet, end: &End) {
     if end.used >= end.total {
-        return Ok(());
+        return;
     }
     let x = along(end.used, end.total, WIDTH).min(WIDTH - 4);
     let part = BarPart {
@@ -186,14 +174,11 @@ fn put_damage(text: &mut String, end: &End) -> Result<(), AllocError> {
         height: HEIGHT + LINE,
         behind: "\"><title>",
     };
-    put_part(text, &part)?;
-    put_pieces(
-        text,
-        &[
-            Count(end.total.saturating_sub(end.used)),
-            Tag(" bytes behind the front</title></rect>\n"),
-        ],
-    )
+    put_part(sheet, &part);
+    sheet.put(&[
+        Count(end.total.saturating_sub(end.used)),
+        Tag(" bytes behind the front</title></rect>\n"),
+    ]);
 }
 
 fn add(all: &mut Bin, bin: &Bin) -> Result<(), AllocError> {
@@ -212,31 +197,27 @@ fn totals(all: &mut Bin, bins: &[Bin]) -> Result<(), AllocError> {
     Ok(())
 }
 
-fn put_kind_item(text: &mut String, kind: &'static str, count: u64) -> Result<(), AllocError> {
+fn put_kind_item(sheet: &mut Sheet, kind: &'static str, count: u64) {
     let word = Tag(kind);
-    put_pieces(
-        text,
-        &[
-            Tag("<li class=\""),
-            word,
-            Tag("\">"),
-            Count(count),
-            Tag(" "),
-            word,
-            Tag("</li>\n"),
-        ],
-    )
+    sheet.put(&[
+        Tag("<li class=\""),
+        word,
+        Tag("\">"),
+        Count(count),
+        Tag(" "),
+        word,
+        Tag("</li>\n"),
+    ]);
 }
 
-fn put_kinds(text: &mut String, all: &Bin) -> Result<(), AllocError> {
+fn put_kinds(sheet: &mut Sheet, all: &Bin) {
     for (kind, count) in all {
-        put_kind_item(text, *kind, *count)?;
+        put_kind_item(sheet, *kind, *count);
     }
-    Ok(())
 }
 
 // Puts what the colours mean, and how many records of each kind there are.
-fn put_legend(text: &mut String, all: &Bin, end: &End, marks: bool) -> Result<(), AllocError> {
+fn put_legend(sheet: &mut Sheet, all: &Bin, end: &End, marks: bool) {
     let mark = if marks {
         Tag("<li class=\"true\">a checkpoint stands here</li>\n")
     } else {
@@ -247,65 +228,58 @@ fn put_legend(text: &mut String, all: &Bin, end: &End, marks: bool) -> Result<()
     } else {
         NOTHING
     };
-    text.push_str("<ul class=\"legend\">\n")?;
-    put_kinds(text, all)?;
-    put_pieces(text, &[mark, damage, Tag("</ul>\n</section>\n")])
+    sheet.put_tag("<ul class=\"legend\">\n");
+    put_kinds(sheet, all);
+    sheet.put(&[mark, damage, Tag("</ul>\n</section>\n")]);
 }
 
 // Puts the records, the checkpoints and what stands behind the front, above an axis.
-fn put_drawing(
-    text: &mut String,
-    seen: &Survey,
-    end: &End,
-    marks: &BTreeMap<u64, bool>,
-) -> Result<(), AllocError> {
+fn put_drawing(sheet: &mut Sheet, seen: &Survey, end: &End, marks: &BTreeMap<u64, bool>) {
     let most = most_of(&seen.bins);
-    put_pieces(
-        text,
-        &[
-            Tag("<section id=\"log\">\n<h2>The log along its length</h2>\n"),
-            Tag("<div class=\"plot tall\"><span class=\"scale\"><span>"),
-            Count(most),
-            Tag("</span><span>0</span></span><svg viewBox=\"0 0 "),
-            Number(WIDTH),
-            Tag(" "),
-            Number(HEIGHT + LINE),
-            Tag("\" preserveAspectRatio=\"none\" role=\"img\"><title>"),
-            Tag("Records by kind along the log, at most "),
-            Count(most),
-            Tag(" in one of 200 parts</title>\n"),
-        ],
-    )?;
-    put_bars(text, &seen.bins, most)?;
-    put_marks(text, marks)?;
-    put_damage(text, end)?;
-    text.push_str("</svg></div>\n")?;
-    put_axis(text, end.total)
+    sheet.put(&[
+        Tag("<section id=\"log\">\n<h2>The log along its length</h2>\n"),
+        Tag("<div class=\"plot tall\"><span class=\"scale\"><span>"),
+        Count(most),
+        Tag("</span><span>0</span></span><svg viewBox=\"0 0 "),
+        Number(WIDTH),
+        Tag(" "),
+        Number(HEIGHT + LINE),
+        Tag("\" preserveAspectRatio=\"none\" role=\"img\"><title>"),
+        Tag("Records by kind along the log, at most "),
+        Count(most),
+        Tag(" in one of 200 parts</title>\n"),
+    ]);
+    put_bars(sheet, &seen.bins, most);
+    put_marks(sheet, marks);
+    put_damage(sheet, end);
+    sheet.put_tag("</svg></div>\n");
+    put_axis(sheet, end.total);
 }
 
 // The kinds that occur, and what the colours mean.
 fn put_colours(
     alloc: Global,
-    text: &mut String,
+    sheet: &mut Sheet,
     seen: &Survey,
     end: &End,
     marks: bool,
 ) -> Result<(), AllocError> {
     let mut all = BTreeMap::new(alloc);
     totals(&mut all, &seen.bins)?;
-    put_legend(text, &all, end, marks)
+    put_legend(sheet, &all, end, marks);
+    Ok(())
 }
 
 /// Puts the log along its length.
 pub(crate) fn put_picture(
     alloc: Global,
-    text: &mut String,
+    sheet: &mut Sheet,
     seen: &Survey,
     end: &End,
     checkpoints: &[(u64, bool)],
 ) -> Result<(), AllocError> {
     let mut marks = BTreeMap::new(alloc);
     marked(&mut marks, checkpoints, end.total)?;
-    put_drawing(text, seen, end, &marks)?;
-    put_colours(alloc, text, seen, end, !marks.is_empty())
+    put_drawing(sheet, seen, end, &marks);
+    put_colours(alloc, sheet, seen, end, !marks.is_empty())
 }

@@ -1,13 +1,13 @@
 //! The records, a row each.
 
 use crate::markup::Html::{Count, Number, Tag};
-use crate::markup::{Html, NOTHING, put_pieces};
+use crate::markup::{Html, NOTHING};
 use crate::payloads::put_payload_cell;
+use crate::sheets::Sheet;
 use crate::shown::Linked;
 use crate::steps::{At, put_step, step_of};
 use rq_look::{Event, Numbered, kind_of, unit_of};
 use rq_record::{KeptBy, KeptRecord, QueueNo};
-use std::alloc::{AllocError, Global};
 
 // While the rows have fewer bytes, payloads can be folded out.
 const WHOLE: usize = 500_000;
@@ -32,56 +32,35 @@ fn queue_named<'a>(shown: &Linked<'a>, it: &Numbered) -> (Html<'a>, Html<'a>) {
 }
 
 // Puts whom an operation is by.
-fn put_by(
-    text: &mut String,
-    shown: &Linked<'_>,
-    queue: QueueNo,
-    by: &KeptBy,
-) -> Result<(), AllocError> {
+fn put_by(sheet: &mut Sheet, shown: &Linked<'_>, queue: QueueNo, by: &KeptBy) {
     let Some(by) = by.by() else {
-        return Ok(());
+        return;
     };
     let registrant = shown.registrant_link(queue.0, by.name.text());
-    put_pieces(
-        text,
-        &[Tag(" by "), registrant, Tag(" tag "), Number(by.tag)],
-    )
+    sheet.put(&[Tag(" by "), registrant, Tag(" tag "), Number(by.tag)]);
 }
 
-fn put_definition(
-    text: &mut String,
-    shown: &Linked<'_>,
-    limit: u16,
-    error: QueueNo,
-) -> Result<(), AllocError> {
-    put_pieces(
-        text,
-        &[
-            Tag(" limit "),
-            Number(u64::from(limit)),
-            Tag(" error queue "),
-            shown.error_link(error),
-        ],
-    )
+fn put_definition(sheet: &mut Sheet, shown: &Linked<'_>, limit: u16, error: QueueNo) {
+    sheet.put(&[
+        Tag(" limit "),
+        Number(u64::from(limit)),
+        Tag(" error queue "),
+        shown.error_link(error),
+    ]);
 }
 
 // Puts how many bytes a checkpoint has, and whether it is true.
-fn put_checkpoint(text: &mut String, count: usize, truth: bool) -> Result<(), AllocError> {
+fn put_checkpoint(sheet: &mut Sheet, count: usize, truth: bool) {
     let said = if truth {
         Tag(" bytes, true")
     } else {
         Tag(" bytes, <span class=\"bad\">does not spell the state before it</span>")
     };
-    put_pieces(text, &[Tag(" of "), Count(count as u64), said])
+    sheet.put(&[Tag(" of "), Count(count as u64), said]);
 }
 
 // Puts an element that is put in: its priority, by whom, and its payload.
-fn put_enqueued(
-    alloc: Global,
-    text: &mut String,
-    shown: &Linked<'_>,
-    it: &Numbered,
-) -> Result<(), AllocError> {
+fn put_enqueued(sheet: &mut Sheet, shown: &Linked<'_>, it: &Numbered) {
     let KeptRecord::Enqueue {
         priority,
         queue,
@@ -90,139 +69,117 @@ fn put_enqueued(
         ..
     } = &it.record
     else {
-        return Ok(());
+        return;
     };
-    put_pieces(text, &[Tag(" priority "), Number(u64::from(*priority))])?;
-    put_by(text, shown, *queue, by)?;
-    text.push_str(" payload ")?;
-    put_payload_cell(alloc, text, payload.bytes(), text.len() < WHOLE)
+    sheet.put(&[Tag(" priority "), Number(u64::from(*priority))]);
+    put_by(sheet, shown, *queue, by);
+    sheet.put_tag(" payload ");
+    let whole = sheet.has_room(WHOLE);
+    put_payload_cell(sheet, payload.bytes(), whole);
 }
 
-fn put_field(text: &mut String, name: &'static str, field: Html<'_>) -> Result<(), AllocError> {
-    put_pieces(text, &[Tag(name), field])
+fn put_field(sheet: &mut Sheet, name: &'static str, field: Html<'_>) {
+    sheet.put(&[Tag(name), field]);
 }
 
 // Puts what no other kind of record has.
-fn put_fields(
-    alloc: Global,
-    text: &mut String,
-    shown: &Linked<'_>,
-    it: &Numbered,
-    truth: bool,
-) -> Result<(), AllocError> {
+fn put_fields(sheet: &mut Sheet, shown: &Linked<'_>, it: &Numbered, truth: bool) {
     match &it.record {
-        KeptRecord::Define { limit, error, .. } => put_definition(text, shown, *limit, *error),
+        KeptRecord::Define { limit, error, .. } => put_definition(sheet, shown, *limit, *error),
         KeptRecord::Register { queue, name } | KeptRecord::Deregister { queue, name } => {
-            put_field(text, " name ", shown.registrant_link(queue.0, name.text()))
+            put_field(sheet, " name ", shown.registrant_link(queue.0, name.text()))
         }
-        KeptRecord::Enqueue { .. } => put_enqueued(alloc, text, shown, it),
-        KeptRecord::Dequeue { queue, by, .. } => put_by(text, shown, *queue, by),
+        KeptRecord::Enqueue { .. } => put_enqueued(sheet, shown, it),
+        KeptRecord::Dequeue { queue, by, .. } => put_by(sheet, shown, *queue, by),
         KeptRecord::Kill { element, .. } => {
             // It may be none: what happens has the link.
-            put_field(text, " element ", Number(element.0))
+            put_field(sheet, " element ", Number(element.0))
         }
-        KeptRecord::Checkpoint { bytes } => put_checkpoint(text, bytes.bytes().len(), truth),
-        _ => Ok(()),
+        KeptRecord::Checkpoint { bytes } => put_checkpoint(sheet, bytes.bytes().len(), truth),
+        _ => {}
     }
 }
 
-fn put_first_events(
-    text: &mut String,
-    shown: &Linked<'_>,
-    events: &[Event],
-) -> Result<(), AllocError> {
+fn put_first_events(sheet: &mut Sheet, shown: &Linked<'_>, events: &[Event]) {
     for event in events.iter().take(EVENTS) {
-        put_step(text, shown, &step_of(event, At::Here))?;
+        put_step(sheet, shown, &step_of(event, At::Here));
     }
-    Ok(())
 }
 
-fn put_events(text: &mut String, shown: &Linked<'_>, events: &[Event]) -> Result<(), AllocError> {
+fn put_events(sheet: &mut Sheet, shown: &Linked<'_>, events: &[Event]) {
     if events.is_empty() {
-        return Ok(());
+        return;
     }
-    text.push_str("<ol>")?;
-    put_first_events(text, shown, events)?;
+    sheet.put_tag("<ol>");
+    put_first_events(sheet, shown, events);
     let more = events.len().saturating_sub(EVENTS) as u64;
-    if more == 0 {
-        return text.push_str("</ol>");
-    }
-    put_pieces(
-        text,
-        &[
+    if more > 0 {
+        sheet.put(&[
             Tag("<li class=\"none\">and "),
             Count(more),
-            Tag(" more</li></ol>"),
-        ],
-    )
+            Tag(" more</li>"),
+        ]);
+    }
+    sheet.put_tag("</ol>");
 }
 
 /// Puts the row of a record: its number, its offset, what it says, and what happens at it. The truth
 /// is that of a checkpoint.
 pub(crate) fn put_row(
-    alloc: Global,
-    text: &mut String,
+    sheet: &mut Sheet,
     shown: &Linked<'_>,
     it: &Numbered,
     events: &[Event],
     truth: bool,
-) -> Result<(), AllocError> {
+) {
     let (number, kind) = (Number(it.number), Tag(kind_of(&it.record)));
     let (of_unit, unit) = unit_named(shown, &it.record);
     let (of_queue, queue) = queue_named(shown, it);
-    put_pieces(
-        text,
-        &[
-            Tag("<tr id=\"r"),
-            number,
-            Tag("\"><th scope=\"row\">"),
-            number,
-            Tag("</th><td>"),
-            Number(it.offset),
-            Tag("</td><td><b class=\""),
-            kind,
-            Tag("\">"),
-            kind,
-            Tag("</b>"),
-            of_unit,
-            unit,
-            of_queue,
-            queue,
-        ],
-    )?;
-    put_fields(alloc, text, shown, it, truth)?;
-    text.push_str("</td><td>")?;
-    put_events(text, shown, events)?;
-    text.push_str("</td></tr>\n")
+    sheet.put(&[
+        Tag("<tr id=\"r"),
+        number,
+        Tag("\"><th scope=\"row\">"),
+        number,
+        Tag("</th><td>"),
+        Number(it.offset),
+        Tag("</td><td><b class=\""),
+        kind,
+        Tag("\">"),
+        kind,
+        Tag("</b>"),
+        of_unit,
+        unit,
+        of_queue,
+        queue,
+    ]);
+    put_fields(sheet, shown, it, truth);
+    sheet.put_tag("</td><td>");
+    put_events(sheet, shown, events);
+    sheet.put_tag("</td></tr>\n");
 }
 
 // Puts how many records were left out.
-fn put_left_out(text: &mut String, more: u64) -> Result<(), AllocError> {
+fn put_left_out(sheet: &mut Sheet, more: u64) {
     if more == 0 {
-        return Ok(());
+        return;
     }
-    put_pieces(text, &[Tag("; "), Count(more), Tag(" more are left out")])
+    sheet.put(&[Tag("; "), Count(more), Tag(" more are left out")]);
 }
 
 /// Puts the records that were gathered as rows, and how many were left out.
-pub(crate) fn put_record_rows(
-    text: &mut String,
-    rows: &str,
-    count: u64,
-    more: u64,
-) -> Result<(), AllocError> {
+pub(crate) fn put_record_rows(sheet: &mut Sheet, rows: &Sheet, count: u64, more: u64) {
     if count == 0 {
-        return Ok(());
+        return;
     }
-    text.push_str(
+    sheet.put_tag(
         "<section id=\"records\">\n<h2>Records</h2>\n<div class=\"scroll\"><table class=\"lives records\">\n\
         <caption>Each record with what happens at it",
-    )?;
-    put_left_out(text, more)?;
-    text.push_str(
+    );
+    put_left_out(sheet, more);
+    sheet.put_tag(
         "</caption>\n<tr><th scope=\"col\">record</th><th scope=\"col\">at byte</th>\
         <th scope=\"col\">what it says</th><th scope=\"col\">what happens</th></tr>\n",
-    )?;
-    text.push_str(rows)?;
-    text.push_str("</table></div>\n</section>\n")
+    );
+    sheet.put_sheet(rows);
+    sheet.put_tag("</table></div>\n</section>\n");
 }

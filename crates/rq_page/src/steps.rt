@@ -1,10 +1,10 @@
 //! The steps of lives.
 
 use crate::markup::Html::{Count, Number, Tag};
-use crate::markup::{Html, NOTHING, put_pieces};
+use crate::markup::{Html, NOTHING};
+use crate::sheets::Sheet;
 use crate::shown::Linked;
 use rq_look::{Effect, Event};
-use std::alloc::AllocError;
 
 /// As many steps of one life are kept.
 pub(crate) const STEPS: usize = 10_000;
@@ -142,65 +142,54 @@ fn unit_of(shown: &Linked<'_>, unit: Option<u64>) -> (Html<'static>, Html<'stati
 }
 
 /// Puts a step, with a link to its record if it is told elsewhere.
-pub(crate) fn put_step(
-    text: &mut String,
-    shown: &Linked<'_>,
-    step: &Step,
-) -> Result<(), AllocError> {
+pub(crate) fn put_step(sheet: &mut Sheet, shown: &Linked<'_>, step: &Step) {
     let (place, behind) = place_of(shown, step.at);
     let (it, element, after) = element_of(shown, step.element);
     let (in_queue, queue) = queue_of(shown, step.queue);
     let (attempted, attempts) = attempts_of(step.attempts);
     let (tagged, tag) = tag_of(step.tag);
     let (of_unit, unit) = unit_of(shown, step.unit);
-    put_pieces(
-        text,
-        &[
-            Tag("<li class=\""),
-            Tag(step.class),
-            Tag("\">"),
-            place,
-            behind,
-            it,
-            element,
-            after,
-            Tag(step.words),
-            in_queue,
-            queue,
-            attempted,
-            attempts,
-            tagged,
-            tag,
-            of_unit,
-            unit,
-            Tag("</li>"),
-        ],
-    )
+    sheet.put(&[
+        Tag("<li class=\""),
+        Tag(step.class),
+        Tag("\">"),
+        place,
+        behind,
+        it,
+        element,
+        after,
+        Tag(step.words),
+        in_queue,
+        queue,
+        attempted,
+        attempts,
+        tagged,
+        tag,
+        of_unit,
+        unit,
+        Tag("</li>"),
+    ]);
 }
 
 // Puts as many steps as there is room for, and answers how many these are.
-fn put_first(text: &mut String, shown: &Linked<'_>, steps: &[Step]) -> Result<usize, AllocError> {
+fn put_first(sheet: &mut Sheet, shown: &Linked<'_>, steps: &[Step]) -> usize {
     let mut count: usize = 0;
     for step in steps {
-        if text.len() >= ROOM {
+        if !sheet.has_room(ROOM) {
             break;
         }
-        put_step(text, shown, step)?;
+        put_step(sheet, shown, step);
         count = count.saturating_add(1);
     }
-    Ok(count)
+    count
 }
 
 /// Puts the steps of a life, one behind the other, and whether some are left out.
-pub(crate) fn put_steps(
-    text: &mut String,
-    shown: &Linked<'_>,
-    steps: &[Step],
-) -> Result<(), AllocError> {
-    text.push_str("<ol>")?;
-    let count = put_first(text, shown, steps)?;
+pub(crate) fn put_steps(sheet: &mut Sheet, shown: &Linked<'_>, steps: &[Step]) {
+    sheet.put_tag("<ol>");
+    let count = put_first(sheet, shown, steps);
     if count < steps.len() || count >= STEPS {
-        text.push_str("<li class=\"none\">more is left out</li>")?;
+        sheet.put_tag("<li class=\"none\">more is left out</li>");
     }
-    text.push_str("</ol>")
+    sheet.put_tag("</ol>");
 }

@@ -1,12 +1,12 @@
 //! The front's summary.
 
-use crate::markup::Html::{Count, Number, Tag, Text};
-use crate::markup::{Html, NOTHING, put_pieces};
+use crate::markup::Html::{Count, Digits, Number, Tag, Text};
+use crate::markup::{Html, NOTHING};
 use crate::questions::Asked;
+use crate::sheets::Sheet;
 use rq_look::{End, is_whole};
 use rq_report::why_word;
 use rq_restart::Restarted;
-use std::alloc::{AllocError, Global};
 
 // How many of the checkpoints are not true.
 fn false_ones(checkpoints: &[(u64, bool)]) -> usize {
@@ -17,21 +17,18 @@ fn false_ones(checkpoints: &[(u64, bool)]) -> usize {
 }
 
 // Puts a row: what it is about, and what is said of it.
-fn put_row(text: &mut String, head: &'static str, pieces: &[Html<'_>]) -> Result<(), AllocError> {
-    put_pieces(
-        text,
-        &[Tag("<tr><th scope=\"row\">"), Tag(head), Tag("</th><td>")],
-    )?;
-    put_pieces(text, pieces)?;
-    text.push_str("</td></tr>\n")
+fn put_row(sheet: &mut Sheet, head: &'static str, pieces: &[Html<'_>]) {
+    sheet.put(&[Tag("<tr><th scope=\"row\">"), Tag(head), Tag("</th><td>")]);
+    sheet.put(pieces);
+    sheet.put_tag("</td></tr>\n");
 }
 
 // Puts with which checkpoint a log begins that was carried on.
-fn put_carried(text: &mut String, at: Option<u64>) -> Result<(), AllocError> {
+fn put_carried(sheet: &mut Sheet, at: Option<u64>) {
     match at {
-        None => Ok(()),
+        None => {}
         Some(at) => put_row(
-            text,
+            sheet,
             "carried",
             &[
                 Tag("begins with the checkpoint at "),
@@ -42,9 +39,9 @@ fn put_carried(text: &mut String, at: Option<u64>) -> Result<(), AllocError> {
     }
 }
 
-fn put_length(text: &mut String, end: &End) -> Result<(), AllocError> {
+fn put_length(sheet: &mut Sheet, end: &End) {
     put_row(
-        text,
+        sheet,
         "front",
         &[
             Count(end.records),
@@ -54,14 +51,14 @@ fn put_length(text: &mut String, end: &End) -> Result<(), AllocError> {
             Count(end.total),
             Tag(" bytes"),
         ],
-    )
+    );
 }
 
 // Puts what stands behind the front.
-fn put_reason(text: &mut String, end: &End) -> Result<(), AllocError> {
+fn put_reason(sheet: &mut Sheet, end: &End) {
     let class = if is_whole(end.why) { "whole" } else { "bad" };
     put_row(
-        text,
+        sheet,
         "behind it",
         &[
             Tag("<span class=\""),
@@ -72,29 +69,25 @@ fn put_reason(text: &mut String, end: &End) -> Result<(), AllocError> {
             Text(end.reason.as_str()),
             Tag("</span>"),
         ],
-    )
+    );
 }
 
 // Puts the digest of the front's last frame, by which a log is known; of a front without records it
 // is what the header has in its place.
-fn put_digest(alloc: Global, text: &mut String, bytes: &[u8], end: &End) -> Result<(), AllocError> {
+fn put_digest(sheet: &mut Sheet, bytes: &[u8], end: &End) {
     let to = bytes.len().min(end.used as usize);
-    let digest = hex::encode(alloc, &bytes[to.saturating_sub(32)..to])?;
+    let digest = Digits(&bytes[to.saturating_sub(32)..to]);
     let head = if end.records > 0 {
         "digest of its last frame"
     } else {
         "end of its header"
     };
-    put_row(
-        text,
-        head,
-        &[Tag("<code>"), Text(digest.as_str()), Tag("</code>")],
-    )
+    put_row(sheet, head, &[Tag("<code>"), digest, Tag("</code>")]);
 }
 
-fn put_counts(text: &mut String, r: &Restarted) -> Result<(), AllocError> {
+fn put_counts(sheet: &mut Sheet, r: &Restarted) {
     put_row(
-        text,
+        sheet,
         "units",
         &[
             Count(r.committed()),
@@ -104,10 +97,10 @@ fn put_counts(text: &mut String, r: &Restarted) -> Result<(), AllocError> {
             Count(r.cut_off()),
             Tag(" cut off"),
         ],
-    )?;
+    );
     let state = r.state();
     put_row(
-        text,
+        sheet,
         "after the restart",
         &[
             Count(state.definition_count() as u64),
@@ -117,10 +110,10 @@ fn put_counts(text: &mut String, r: &Restarted) -> Result<(), AllocError> {
             Count(state.registrant_count() as u64),
             Tag(" registrants"),
         ],
-    )
+    );
 }
 
-fn put_checkpoints(text: &mut String, checkpoints: &[(u64, bool)]) -> Result<(), AllocError> {
+fn put_checkpoints(sheet: &mut Sheet, checkpoints: &[(u64, bool)]) {
     let wrong = false_ones(checkpoints);
     let (before, count, behind) = if wrong == 0 {
         (NOTHING, NOTHING, NOTHING)
@@ -132,78 +125,66 @@ fn put_checkpoints(text: &mut String, checkpoints: &[(u64, bool)]) -> Result<(),
         )
     };
     let all = Count(checkpoints.len() as u64);
-    put_row(text, "checkpoints", &[all, before, count, behind])
+    put_row(sheet, "checkpoints", &[all, before, count, behind]);
 }
 
 /// Puts the numbers of a report's first two lines, by what the log is known, how much there is after
 /// the restart, and the checkpoints, of each of which it is known whether it is true.
 pub(crate) fn put_summary(
-    alloc: Global,
-    text: &mut String,
+    sheet: &mut Sheet,
     bytes: &[u8],
     r: &Restarted,
     end: &End,
     checkpoints: &[(u64, bool)],
-) -> Result<(), AllocError> {
-    text.push_str(
+) {
+    sheet.put_tag(
         "<section id=\"front\">\n<h2>The front</h2>\n<table class=\"front\">\n<caption>The log, and what a restart \
         makes of it</caption>\n",
-    )?;
-    put_carried(text, end.at)?;
-    put_length(text, end)?;
-    put_reason(text, end)?;
-    put_digest(alloc, text, bytes, end)?;
-    put_counts(text, r)?;
-    put_checkpoints(text, checkpoints)?;
-    text.push_str("</table>\n</section>\n")
+    );
+    put_carried(sheet, end.at);
+    put_length(sheet, end);
+    put_reason(sheet, end);
+    put_digest(sheet, bytes, end);
+    put_counts(sheet, r);
+    put_checkpoints(sheet, checkpoints);
+    sheet.put_tag("</table>\n</section>\n");
 }
 
 // Puts the numbers that are seen first.
-fn put_tiles(text: &mut String, r: &Restarted, end: &End) -> Result<(), AllocError> {
+fn put_tiles(sheet: &mut Sheet, r: &Restarted, end: &End) {
     let state = r.state();
-    put_pieces(
-        text,
-        &[
-            Tag("<dl class=\"tiles\">\n<div><dt>bytes</dt><dd>"),
-            Count(end.total),
-            Tag("</dd></div>\n<div><dt>records</dt><dd>"),
-            Count(end.records),
-            Tag("</dd></div>\n<div><dt>queues</dt><dd>"),
-            Count(state.definition_count() as u64),
-            Tag("</dd></div>\n<div><dt>elements</dt><dd>"),
-            Count(state.element_count() as u64),
-            Tag("</dd></div>\n<div><dt>registrants</dt><dd>"),
-            Count(state.registrant_count() as u64),
-            Tag("</dd></div>\n</dl>\n</header>\n"),
-        ],
-    )
+    sheet.put(&[
+        Tag("<dl class=\"tiles\">\n<div><dt>bytes</dt><dd>"),
+        Count(end.total),
+        Tag("</dd></div>\n<div><dt>records</dt><dd>"),
+        Count(end.records),
+        Tag("</dd></div>\n<div><dt>queues</dt><dd>"),
+        Count(state.definition_count() as u64),
+        Tag("</dd></div>\n<div><dt>elements</dt><dd>"),
+        Count(state.element_count() as u64),
+        Tag("</dd></div>\n<div><dt>registrants</dt><dd>"),
+        Count(state.registrant_count() as u64),
+        Tag("</dd></div>\n</dl>\n</header>\n"),
+    ]);
 }
 
 /// Puts the log's name, whether it is whole, who made the page, and the numbers that are seen first.
-pub(crate) fn put_header(
-    text: &mut String,
-    asked: &Asked<'_>,
-    r: &Restarted,
-    end: &End,
-) -> Result<(), AllocError> {
+pub(crate) fn put_header(sheet: &mut Sheet, asked: &Asked<'_>, r: &Restarted, end: &End) {
     let badge = if is_whole(end.why) {
         "\"><span class=\"badge good\">whole</span>"
     } else {
         "\"><span class=\"badge wrong\">not whole</span>"
     };
-    put_pieces(
-        text,
-        &[
-            Tag("<header>\n<h1><bdi>"),
-            Text(asked.name),
-            Tag("</bdi></h1>\n<p class=\"by"),
-            Tag(badge),
-            Tag(" The log of a recoverable queue manager, shown by rqlook "),
-            Text(asked.version),
-            Tag(".</p>\n"),
-        ],
-    )?;
-    put_tiles(text, r, end)
+    sheet.put(&[
+        Tag("<header>\n<h1><bdi>"),
+        Text(asked.name),
+        Tag("</bdi></h1>\n<p class=\"by"),
+        Tag(badge),
+        Tag(" The log of a recoverable queue manager, shown by rqlook "),
+        Text(asked.version),
+        Tag(".</p>\n"),
+    ]);
+    put_tiles(sheet, r, end);
 }
 
 // A link to a part of the page, if that is there.
@@ -221,21 +202,18 @@ pub(crate) struct Parts {
 }
 
 /// Puts links to the parts of the page.
-pub(crate) fn put_parts(text: &mut String, parts: &Parts) -> Result<(), AllocError> {
-    put_pieces(
-        text,
-        &[
-            Tag("<nav aria-label=\"Parts of the page\"><a href=\"#front\">Front</a> "),
-            Tag("<a href=\"#log\">Log</a> <a href=\"#open\">Open units</a> "),
-            Tag("<a href=\"#queues\">Queues</a>"),
-            part_of(parts.elements, " <a href=\"#elements\">Elements</a>"),
-            part_of(parts.units, " <a href=\"#units\">Units</a>"),
-            part_of(
-                parts.registrants,
-                " <a href=\"#registrants\">Registrants</a>",
-            ),
-            part_of(parts.records, " <a href=\"#records\">Records</a>"),
-            Tag("</nav>\n"),
-        ],
-    )
+pub(crate) fn put_parts(sheet: &mut Sheet, parts: &Parts) {
+    sheet.put(&[
+        Tag("<nav aria-label=\"Parts of the page\"><a href=\"#front\">Front</a> "),
+        Tag("<a href=\"#log\">Log</a> <a href=\"#open\">Open units</a> "),
+        Tag("<a href=\"#queues\">Queues</a>"),
+        part_of(parts.elements, " <a href=\"#elements\">Elements</a>"),
+        part_of(parts.units, " <a href=\"#units\">Units</a>"),
+        part_of(
+            parts.registrants,
+            " <a href=\"#registrants\">Registrants</a>",
+        ),
+        part_of(parts.records, " <a href=\"#records\">Records</a>"),
+        Tag("</nav>\n"),
+    ]);
 }

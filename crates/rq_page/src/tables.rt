@@ -3,8 +3,8 @@
 use crate::curves::{Canvas, Curve, along, put_axis};
 use crate::holdings::{put_fold, put_more};
 use crate::markup::Html::{Count, Number, Tag, Text};
-use crate::markup::put_pieces;
 use crate::questions::Order;
+use crate::sheets::Sheet;
 use crate::shown::{Linked, QUEUES};
 use crate::surveys::{FEW_BINS, Survey};
 use rq_look::{End, free_elements, registrants_shown};
@@ -65,20 +65,17 @@ fn arrange(lines: &mut Vec<QueueRow>, order: Order) {
     }
 }
 
-fn put_depth(text: &mut String, frame: &Canvas, curve: &Curve) -> Result<(), AllocError> {
-    put_pieces(
-        text,
-        &[
-            Tag("<td>"),
-            Count(curve.most()),
-            Tag("</td><td><div class=\"plot\">"),
-        ],
-    )?;
-    curve.put(text, frame, "Free elements along the log")?;
-    text.push_str("</div></td>")
+fn put_depth(sheet: &mut Sheet, frame: &Canvas, curve: &Curve) {
+    sheet.put(&[
+        Tag("<td>"),
+        Count(curve.most()),
+        Tag("</td><td><div class=\"plot\">"),
+    ]);
+    curve.put(sheet, frame, "Free elements along the log");
+    sheet.put_tag("</div></td>");
 }
 
-fn put_curve(text: &mut String, hall: &Hall<'_>, number: u32) -> Result<(), AllocError> {
+fn put_curve(sheet: &mut Sheet, hall: &Hall<'_>, number: u32) {
     let frame = Canvas {
         width: WIDTH,
         height: HEIGHT,
@@ -86,102 +83,91 @@ fn put_curve(text: &mut String, hall: &Hall<'_>, number: u32) -> Result<(), Allo
         bins: FEW_BINS,
     };
     match hall.seen.depths.get(number as usize) {
-        Some(curve) => put_depth(text, &frame, curve),
-        None => text.push_str("<td></td><td></td>"),
+        Some(curve) => put_depth(sheet, &frame, curve),
+        None => sheet.put_tag("<td></td><td></td>"),
     }
 }
 
-fn put_error(text: &mut String, shown: &Linked<'_>, error: QueueNo) -> Result<(), AllocError> {
-    put_pieces(text, &[shown.error_link(error), Tag("</small></th>")])
+fn put_error(sheet: &mut Sheet, shown: &Linked<'_>, error: QueueNo) {
+    sheet.put(&[shown.error_link(error), Tag("</small></th>")]);
 }
 
 // Puts a queue by its number and its name, with its limit and its error queue.
-fn put_name(
-    text: &mut String,
-    hall: &Hall<'_>,
-    number: u32,
-    definition: &Definition,
-) -> Result<(), AllocError> {
+fn put_name(sheet: &mut Sheet, hall: &Hall<'_>, number: u32, definition: &Definition) {
     let digits = Number(u64::from(number));
-    put_pieces(
-        text,
-        &[
-            Tag("<tr class=\"queue\" id=\"q"),
-            digits,
-            Tag("\"><th scope=\"row\">"),
-            digits,
-            Tag(" <strong>"),
-            Text(definition.name.text()),
-            Tag("</strong><small>limit "),
-            Number(u64::from(definition.limit)),
-            Tag(", error queue "),
-        ],
-    )?;
-    put_error(text, &hall.shown, definition.error)
+    sheet.put(&[
+        Tag("<tr class=\"queue\" id=\"q"),
+        digits,
+        Tag("\"><th scope=\"row\">"),
+        digits,
+        Tag(" <strong>"),
+        Text(definition.name.text()),
+        Tag("</strong><small>limit "),
+        Number(u64::from(definition.limit)),
+        Tag(", error queue "),
+    ]);
+    put_error(sheet, &hall.shown, definition.error);
 }
 
-fn put_row(
-    text: &mut String,
-    hall: &Hall<'_>,
-    line: &QueueRow,
-    definition: &Definition,
-) -> Result<(), AllocError> {
-    put_name(text, hall, line.number, definition)?;
-    put_pieces(text, &[Tag("<td>"), Count(line.depth as u64), Tag("</td>")])?;
-    put_curve(text, hall, line.number)?;
-    text.push_str("</tr>\n")
+fn put_row(sheet: &mut Sheet, hall: &Hall<'_>, line: &QueueRow, definition: &Definition) {
+    put_name(sheet, hall, line.number, definition);
+    sheet.put(&[Tag("<td>"), Count(line.depth as u64), Tag("</td>")]);
+    put_curve(sheet, hall, line.number);
+    sheet.put_tag("</tr>\n");
 }
 
 // Puts what folds out below a queue.
 fn put_holdings(
     alloc: Global,
-    text: &mut String,
+    sheet: &mut Sheet,
     hall: &Hall<'_>,
     number: u32,
 ) -> Result<(), AllocError> {
     let queue = QueueNo(number);
     let elements = free_elements(alloc, hall.state, queue)?;
     let registrants = registrants_shown(alloc, hall.state, queue)?;
-    put_fold(alloc, text, &hall.shown, number, &elements, &registrants)
+    put_fold(sheet, &hall.shown, number, &elements, &registrants);
+    sheet.check()
 }
 
 fn put_queue(
     alloc: Global,
-    text: &mut String,
+    sheet: &mut Sheet,
     hall: &Hall<'_>,
     line: &QueueRow,
 ) -> Result<(), AllocError> {
     let Some(definition) = hall.shown.definitions.get(line.number as usize) else {
         return Ok(());
     };
-    put_row(text, hall, line, definition)?;
-    put_holdings(alloc, text, hall, line.number)
+    put_row(sheet, hall, line, definition);
+    put_holdings(alloc, sheet, hall, line.number)
 }
 
 // Puts these queues as a table.
 fn put_table(
     alloc: Global,
-    text: &mut String,
+    sheet: &mut Sheet,
     hall: &Hall<'_>,
     lines: &[QueueRow],
 ) -> Result<(), AllocError> {
-    text.push_str(
+    sheet.put_tag(
         "<table class=\"queues\">\n<caption>Queues after the restart, with what they held along the \
         log</caption>\n<tr><th scope=\"col\">queue</th><th scope=\"col\">elements</th>\
         <th scope=\"col\">at most</th><th scope=\"col\">along the log",
-    )?;
-    put_axis(text, hall.end.total)?;
-    text.push_str("</th></tr>\n")?;
+    );
+    put_axis(sheet, hall.end.total);
+    sheet.put_tag("</th></tr>\n");
     for line in lines {
-        put_queue(alloc, text, hall, line)?;
+        put_queue(alloc, sheet, hall, line)?;
     }
-    text.push_str("</table>\n")
+    sheet.put_tag("</table>\n");
+    Ok(())
 }
 
 // Puts the queues behind the first as a table that is folded, as many as are shown.
 fn put_more_queues(
     alloc: Global,
-    text: &mut String,
+    sheet: &mut Sheet,
     hall: &Hall<'_>,
     lines: &[QueueRow],
 ) -> Result<(), AllocError> {
@@ -189,48 +175,47 @@ fn put_more_queues(
         return Ok(());
     }
     let many = Count(lines.len() as u64);
-    put_pieces(
-        text,
-        &[
-            Tag("<details class=\"more\"><summary>"),
-            many,
-            Tag(" more queues</summary>\n"),
-        ],
-    )?;
-    put_table(alloc, text, hall, lines)?;
-    text.push_str("</details>\n")
+    sheet.put(&[
+        Tag("<details class=\"more\"><summary>"),
+        many,
+        Tag(" more queues</summary>\n"),
+    ]);
+    put_table(alloc, sheet, hall, lines)?;
+    sheet.put_tag("</details>\n");
+    Ok(())
 }
 
 // Puts as many queues as are shown, of which the first stand open, and the end of their section.
 fn put_tables(
     alloc: Global,
-    text: &mut String,
+    sheet: &mut Sheet,
     hall: &Hall<'_>,
     lines: &[QueueRow],
 ) -> Result<(), AllocError> {
     let count = lines.len().min(QUEUES);
     let (open, folded) = lines[..count].split_at(count.min(OPEN));
-    put_table(alloc, text, hall, open)?;
-    put_more_queues(alloc, text, hall, folded)?;
-    put_more(text, lines.len(), count)?;
-    text.push_str("</section>\n")
+    put_table(alloc, sheet, hall, open)?;
+    put_more_queues(alloc, sheet, hall, folded)?;
+    put_more(sheet, lines.len(), count);
+    sheet.put_tag("</section>\n");
+    Ok(())
 }
 
 // Puts the head of the section, and in which order its queues stand.
-fn put_order(text: &mut String, order: Order) -> Result<(), AllocError> {
+fn put_order(sheet: &mut Sheet, order: Order) {
     let said = match order {
         Order::Depth => "<p>By the number of their elements, the most first.</p>\n",
         Order::Number => "<p>By number.</p>\n",
         Order::Name => "<p>By name.</p>\n",
     };
     let head = Tag("<section id=\"queues\">\n<h2>Queues</h2>\n");
-    put_pieces(text, &[head, Tag(said)])
+    sheet.put(&[head, Tag(said)]);
 }
 
 /// Puts the queues in the order that is asked for: the first 100 open, as many as 1,000 folded.
 pub(crate) fn put_queue_table(
     alloc: Global,
-    text: &mut String,
+    sheet: &mut Sheet,
     shown: &Linked<'_>,
     seen: &Survey,
     state: &State,
@@ -245,6 +230,6 @@ pub(crate) fn put_queue_table(
     };
     let mut lines = lines_of(alloc, shown.definitions, state)?;
     arrange(&mut lines, order);
-    put_order(text, order)?;
-    put_tables(alloc, text, &hall, &lines)
+    put_order(sheet, order);
+    put_tables(alloc, sheet, &hall, &lines)
 }

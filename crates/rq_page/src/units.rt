@@ -2,11 +2,11 @@
 
 use crate::curves::{Canvas, along, put_axis};
 use crate::markup::Html::{Count, Number, Tag};
-use crate::markup::{Html, NOTHING, put_pieces};
+use crate::markup::{Html, NOTHING};
+use crate::sheets::Sheet;
 use crate::shown::Linked;
 use crate::surveys::{BINS, Survey};
 use rq_look::End;
-use std::alloc::AllocError;
 
 // The picture's width, the height of the curve, and of one unit.
 const WIDTH: u64 = 1000;
@@ -27,65 +27,58 @@ fn begun_at(begun: u64, end: &End) -> (Html<'static>, Html<'static>) {
     }
 }
 
-fn put_bar(text: &mut String, unit: u64, begun: u64, end: &End, y: u64) -> Result<(), AllocError> {
+fn put_bar(sheet: &mut Sheet, unit: u64, begun: u64, end: &End, y: u64) {
     let x = along(begun, end.total, WIDTH - 2);
     let until = along(end.used, end.total, WIDTH);
     let width = until.saturating_sub(x).max(2);
     let (word, at) = begun_at(begun, end);
-    put_pieces(
-        text,
-        &[
-            Tag("<rect class=\"unit\" x=\""),
-            Number(x),
-            Tag("\" y=\""),
-            Number(y),
-            Tag("\" width=\""),
-            Number(width),
-            Tag("\" height=\"8\"><title>unit "),
-            Number(unit),
-            Tag(", "),
-            word,
-            at,
-            Tag("</title></rect>\n"),
-        ],
-    )
+    sheet.put(&[
+        Tag("<rect class=\"unit\" x=\""),
+        Number(x),
+        Tag("\" y=\""),
+        Number(y),
+        Tag("\" width=\""),
+        Number(width),
+        Tag("\" height=\"8\"><title>unit "),
+        Number(unit),
+        Tag(", "),
+        word,
+        at,
+        Tag("</title></rect>\n"),
+    ]);
 }
 
 // Puts the units that have been open longest, one below the other.
-fn put_first(text: &mut String, seen: &Survey, end: &End) -> Result<(), AllocError> {
+fn put_first(sheet: &mut Sheet, seen: &Survey, end: &End) {
     let mut y: u64 = 2;
     for (unit, begun) in seen.begun.iter().take(SHOWN) {
-        put_bar(text, *unit, *begun, end, y)?;
+        put_bar(sheet, *unit, *begun, end, y);
         y = y.saturating_add(BAR);
     }
-    Ok(())
 }
 
-fn put_bars(text: &mut String, seen: &Survey, end: &End) -> Result<(), AllocError> {
+fn put_bars(sheet: &mut Sheet, seen: &Survey, end: &End) {
     let height = BAR.saturating_mul(seen.begun.len().min(SHOWN) as u64);
-    put_pieces(
-        text,
-        &[
-            Tag("<div class=\"plot bars\"><svg viewBox=\"0 0 "),
-            Number(WIDTH),
-            Tag(" "),
-            Number(height),
-            Tag("\" preserveAspectRatio=\"none\" role=\"img\"><title>"),
-            Tag("The units that are open where the front ends</title>\n"),
-        ],
-    )?;
-    put_first(text, seen, end)?;
-    text.push_str("</svg></div>\n")
+    sheet.put(&[
+        Tag("<div class=\"plot bars\"><svg viewBox=\"0 0 "),
+        Number(WIDTH),
+        Tag(" "),
+        Number(height),
+        Tag("\" preserveAspectRatio=\"none\" role=\"img\"><title>"),
+        Tag("The units that are open where the front ends</title>\n"),
+    ]);
+    put_first(sheet, seen, end);
+    sheet.put_tag("</svg></div>\n");
 }
 
 // Puts a unit and where it began, behind what divides it from the one before.
 fn put_name(
-    text: &mut String,
+    sheet: &mut Sheet,
     shown: &Linked<'_>,
     unit: u64,
     begun: (Html<'static>, Html<'static>),
     before: &'static str,
-) -> Result<(), AllocError> {
+) {
     let pieces = [
         Tag(before),
         shown.unit_link(unit),
@@ -94,77 +87,58 @@ fn put_name(
         begun.1,
         Tag(")"),
     ];
-    put_pieces(text, &pieces)
+    sheet.put(&pieces);
 }
 
-fn put_first_names(
-    text: &mut String,
-    shown: &Linked<'_>,
-    seen: &Survey,
-    end: &End,
-) -> Result<(), AllocError> {
+fn put_first_names(sheet: &mut Sheet, shown: &Linked<'_>, seen: &Survey, end: &End) {
     let mut before = "";
     for (unit, begun) in seen.begun.iter().take(SHOWN) {
-        put_name(text, shown, *unit, begun_at(*begun, end), before)?;
+        put_name(sheet, shown, *unit, begun_at(*begun, end), before);
         before = ", ";
     }
-    Ok(())
 }
 
 // Puts which units these are.
-fn put_names(
-    text: &mut String,
-    shown: &Linked<'_>,
-    seen: &Survey,
-    end: &End,
-) -> Result<(), AllocError> {
-    text.push_str("<p>Open where the front ends, and aborted by the restart: ")?;
-    put_first_names(text, shown, seen, end)?;
+fn put_names(sheet: &mut Sheet, shown: &Linked<'_>, seen: &Survey, end: &End) {
+    sheet.put_tag("<p>Open where the front ends, and aborted by the restart: ");
+    put_first_names(sheet, shown, seen, end);
     let more = seen.begun.len().saturating_sub(SHOWN) as u64;
     if more > 0 {
-        put_pieces(text, &[Tag(", and "), Count(more), Tag(" more")])?;
+        sheet.put(&[Tag(", and "), Count(more), Tag(" more")]);
     }
-    text.push_str("</p>\n")
+    sheet.put_tag("</p>\n");
 }
 
 // Puts how many units are open along the log.
-fn put_curve(text: &mut String, seen: &Survey, end: &End) -> Result<(), AllocError> {
+fn put_curve(sheet: &mut Sheet, seen: &Survey, end: &End) {
     let frame = Canvas {
         width: WIDTH,
         height: CURVE,
         end: along(end.used, end.total, WIDTH),
         bins: BINS,
     };
-    text.push_str("<div class=\"plot\">")?;
-    seen.open.put(text, &frame, "Open units along the log")?;
-    text.push_str("</div>\n")
+    sheet.put_tag("<div class=\"plot\">");
+    seen.open.put(sheet, &frame, "Open units along the log");
+    sheet.put_tag("</div>\n");
 }
 
 /// Puts how many units are open along the log, and those that are open at the front's end.
-pub(crate) fn put_open(
-    text: &mut String,
-    shown: &Linked<'_>,
-    seen: &Survey,
-    end: &End,
-) -> Result<(), AllocError> {
+pub(crate) fn put_open(sheet: &mut Sheet, shown: &Linked<'_>, seen: &Survey, end: &End) {
     let (most, count) = (seen.open.most(), seen.begun.len() as u64);
-    put_pieces(
-        text,
-        &[
-            Tag("<section id=\"open\">\n<h2>Open units</h2>\n<p>At most "),
-            Count(most),
-            Tag(" at once, "),
-            Count(count),
-            Tag(" where the front ends.</p>\n"),
-        ],
-    )?;
-    put_curve(text, seen, end)?;
+    sheet.put(&[
+        Tag("<section id=\"open\">\n<h2>Open units</h2>\n<p>At most "),
+        Count(most),
+        Tag(" at once, "),
+        Count(count),
+        Tag(" where the front ends.</p>\n"),
+    ]);
+    put_curve(sheet, seen, end);
     if count > 0 {
-        put_bars(text, seen, end)?;
+        put_bars(sheet, seen, end);
     }
-    put_axis(text, end.total)?;
+    put_axis(sheet, end.total);
     if count > 0 {
-        put_names(text, shown, seen, end)?;
+        put_names(sheet, shown, seen, end);
     }
-    text.push_str("</section>\n")
+    sheet.put_tag("</section>\n");
 }
