@@ -27,10 +27,6 @@ AppendsText old new = (shown : List ℕ) × (new ≡ old ++ encode_utf8_all (fla
 abbrev pub page_foot : List ℕ
 page_foot = codes "</body>\n</html>\n"
 
--- the text of a sheet, unless memory was refused
-abbrev pub Holds : Sheet → List ℕ → Type 0
-Holds sheet bytes = sheet.is_refused ≡ false → string_bytes sheet.text ≡ bytes
-
 -- behind the text that a sheet had these bytes were put, unless memory was refused, now or before
 abbrev pub Puts : Sheet → Sheet → List ℕ → Type 0
 Puts old new bytes = new.is_refused ≡ false

@@ -6,7 +6,7 @@ ghost use Rattle.rq_model.specs.Fronts as fronts;
 ghost use Rattle.rq_front.specs.Chains.{IsLog};
 ghost use Rattle.rq_look.specs.Looks.{IsBroken, IsRefusal, IsRestartFrom, RefusedFrom};
 ghost use Rattle.rq_look.specs.Looks.{StaysUnshown};
-ghost use Rattle.rq_page.specs.Markup.{Holds, page_foot};
+ghost use Rattle.rq_page.specs.Markup.{page_foot};
 
 use crate::histories::{put_elements, put_registrants, put_unit_histories};
 use crate::lives::Lives;
@@ -268,14 +268,11 @@ fn put_all(
     bytes: &[u8],
     told: &PageContents,
     asked: &Asked<'_>,
-) -> Result<(), AllocError>
-    ensures { OnOk result ((put : List ℕ) × Holds sheet.new (put ++ page_foot)) }
-{
+) -> Result<(), AllocError> {
     let shown = shown_of(told);
     put_top(alloc, sheet, bytes, told, asked)?;
     put_middle(alloc, sheet, &shown, &told.contents, asked.order)?;
     put_lives(sheet, &shown, &told.lives);
-    put_foot(sheet);
     Ok(())
 }
 
@@ -292,6 +289,7 @@ fn put_page<W: Write>(
 {
     let mut sheet = Sheet::new(alloc);
     put_all(alloc, &mut sheet, bytes, told, asked)?;
+    put_foot(&mut sheet);
     let text = sheet.written()?;
     output.write_all(text.as_bytes())?;
     Ok(())
