@@ -28,6 +28,6 @@ abbrev pub page_foot : List ℕ
 page_foot = codes "</body>\n</html>\n"
 
 -- behind the text that a sheet had these bytes were put, unless memory was refused, now or before
-abbrev pub Puts : Sheet → Sheet → List ℕ → Type 0
-Puts old new bytes = new.is_refused ≡ false
+abbrev pub PutsOn : Sheet → Sheet → List ℕ → Type 0
+PutsOn old new bytes = new.is_refused ≡ false
     → (old.is_refused ≡ false) × (string_bytes new.text ≡ string_bytes old.text ++ bytes)

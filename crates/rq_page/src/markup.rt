@@ -1,7 +1,7 @@
 //! The text of HTML.
 
 ghost use Rattle.std.specs.Prelude.{◌≡◌, ◌++◌, true, OnOk, string_bytes};
-ghost use Rattle.rq_page.specs.Markup.{AppendsText, Puts, is_text, page_foot};
+ghost use Rattle.rq_page.specs.Markup.{AppendsText, PutsOn, is_text, page_foot};
 
 use crate::markup::Html::{Tag, Text};
 use crate::sheets::Sheet;
@@ -105,7 +105,7 @@ pub(crate) fn put_head<'a>(sheet: &mut Sheet, name: &'a str, style: &'static str
 
 /// Puts what stands behind the last part.
 pub(crate) fn put_foot(sheet: &mut Sheet)
-    ensures { Puts sheet.old sheet.new page_foot }
+    ensures { PutsOn sheet.old sheet.new page_foot }
 {
     sheet.put_tag("</body>\n</html>\n");
 }

@@ -1,7 +1,7 @@
 //! The text of a page while it is written.
 
 ghost use Rattle.std.specs.Prelude.{◌≡◌, false, IfOk, OnOk, string_bytes};
-ghost use Rattle.rq_page.specs.Markup.{Puts};
+ghost use Rattle.rq_page.specs.Markup.{PutsOn};
 
 use crate::markup::{Html, put_char, put_text};
 use std::alloc::{AllocError, Global};
@@ -63,7 +63,7 @@ impl Sheet {
     }
 
     fn put_str(&mut self, word: &str)
-        ensures { Puts self.old self.new word.now }
+        ensures { PutsOn self.old self.new word.now }
     {
         if !self.is_refused {
             self.is_refused = self.text.push_str(word).is_err();
@@ -72,7 +72,7 @@ impl Sheet {
 
     /// Puts markup, or words beside it.
     pub(crate) fn put_tag(&mut self, tag: &'static str)
-        ensures { Puts self.old self.new tag.now }
+        ensures { PutsOn self.old self.new tag.now }
     {
         self.put_str(tag);
     }
