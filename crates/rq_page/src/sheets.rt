@@ -17,8 +17,8 @@ static GROUPS: [u64; 6] = [
     1_000,
 ];
 
-/// A text that remembers if memory was refused. Nothing is put from then on, so who puts something
-/// answers nothing; who takes the text is told.
+/// The text of a page, or of a part of it, while it is written. Once memory was refused it takes
+/// nothing more, and `written` refuses: so what puts something on a sheet has nothing to answer.
 #[derive(Drop)]
 pub(crate) struct Sheet {
     alloc: Global,
