@@ -2,30 +2,26 @@
 """Puts the libraries that `rt ci` proved on this machine into this clone, so that `rt check` of a crate stands on their statements.
 
 usage: place.py
-`rt check` proves first what its crate stands on, if that is not there: for an upper crate that takes half an hour, and 7 GB. `rt ci
-CRATE ..` proves these crates and those below them in a copy, and keeps what it made beside the toolchain, by the sums of all that
-it read. This takes from there what is of the files as they stand, lowest crate first, and says which libraries it put there, which
-stood there, and which are lacking. Nothing is proved, and nothing is taken that is of other files.
+If a library below a crate is not there, `rt check` proves it first: for an upper crate that takes half an hour, and the check then
+takes 7 GB in place of 2 or 3. `rt ci CRATE ..` proves these crates and those below them in a copy, and keeps what it made beside the
+toolchain, by the sums of all that it read. This takes from there what is of the files as they stand, lowest crate first. It says
+which libraries it put there, which stood there, and which are lacking, and ends with 1 if any is. Nothing is proved, and nothing
+is taken that is of other files.
 """
 from __future__ import annotations
-import hashlib, importlib.machinery, importlib.util, json, os, sys
+import hashlib, json, os, sys
 from typing import Any
 
 sys.dont_write_bytecode = True
-from wrong.places import KIT
+from wrong.places import loaded
 
 TOP = os.path.dirname(os.path.dirname(os.path.abspath(__file__)))
 
 
 def rt() -> Any:
     """The toolchain's command as a module. It reads its words as it is loaded."""
-    loader = importlib.machinery.SourceFileLoader("rt_main", os.path.join(KIT, "bin", "rt"))
-    spec = importlib.util.spec_from_loader("rt_main", loader)
-    assert spec is not None
-    module = importlib.util.module_from_spec(spec)
-    sys.modules["rt_main"] = module
     sys.argv = ["rt", "help"]
-    loader.exec_module(module)
+    module = loaded("rt_main", "rt")
     # As `rt ci` has it: libraries of statements, for a repository with these handles.
     module.Crate.cuts_libraries = True
     module.Crate.allowed = module.handles_of(TOP)
@@ -33,11 +29,11 @@ def rt() -> Any:
 
 
 def kept_sum(kept: Any, crate: Any) -> str:
-    """The sum of the crate's library as it was kept; empty if it was not."""
+    """The sum of the crate's library as it was kept; empty if it was not, or if what was kept is damaged."""
     try:
         with open(os.path.join(kept.place(crate, False, kept.key(crate)), "made.json"), encoding="utf-8") as file:
             made = [(path, sum) for path, sum in json.load(file)["files"]]
-    except OSError:
+    except (OSError, ValueError, KeyError):
         return ""
     return hashlib.sha256(repr(made).encode()).hexdigest()
 

@@ -16,14 +16,20 @@ class Place(NamedTuple):
     kept: str
 
 
-def rtlib() -> Any:
-    """The toolchain's own module, which says with which words rt checks a crate."""
-    loader = importlib.machinery.SourceFileLoader("rtlib", os.path.join(KIT, "bin", "rtlib.py"))
-    spec = importlib.util.spec_from_loader("rtlib", loader)
+def loaded(name: str, file: str) -> Any:
+    """A program of the toolchain, as a module of this name."""
+    loader = importlib.machinery.SourceFileLoader(name, os.path.join(KIT, "bin", file))
+    spec = importlib.util.spec_from_loader(name, loader)
     assert spec is not None
     module = importlib.util.module_from_spec(spec)
-    sys.modules["rtlib"] = module
+    sys.modules[name] = module
     loader.exec_module(module)
+    return module
+
+
+def rtlib() -> Any:
+    """The toolchain's own module, which says with which words rt checks a crate."""
+    module = loaded("rtlib", "rtlib.py")
     # (it reads a crate's files once for each way that leads down to it)
     module.Crate.stamp = functools.lru_cache(maxsize=None)(module.Crate.stamp)
     return module
