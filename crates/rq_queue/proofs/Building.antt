@@ -1,6 +1,6 @@
 -- The elements of a queue, out of a list: parted, and the map of the Free ones made at once.
-use Rattle.std.proofs.Common.{◌≡◌, ◌≢◌, ℕ, ◌<◌, ◌==◌, Bool, true, false, List, [], ◌∷◌, ◌++◌, refl, sym, ap, ◌∙◌}
-use Rattle.std.proofs.Common.{subst, arith, append_assoc, cond, Some, None, map, length, ◌+◌, ◌-◌, ◌≤◌}
+use Rattle.std.proofs.Common.{◌≡◌, ◌≢◌, ℕ, ◌<◌, Bool, true, false, List, [], ◌∷◌, ◌++◌, refl, sym, ap, ◌∙◌}
+use Rattle.std.proofs.Common.{subst, arith, cond, Some, None, map, length, ◌+◌, ◌-◌, ◌≤◌}
 use Rattle.std.specs.Prelude.{slice_index_or}
 use Rattle.std.specs.BTreeMap.{BTreeMap, IsFromIterResult}
 use Rattle.std.specs.Cmp.{IsEquivalence, IsTotalOrder, nat_cmp_total, on_total, back_total}
@@ -9,34 +9,27 @@ use Rattle.std.specs.List.Sorted.{IsPermutation}
 use Rattle.std.specs.Map.{keys_of, lookup, remove_entry, values_of}
 use Rattle.std.specs.Ordering.{eq_by_cmp}
 use Rattle.std.specs.declared.cmp.Reverse.{Reverse}
-use Rattle.std.proofs.lemmas.Bool.{eqb-true, eqb-false, lt-ltb}
 use Rattle.std.proofs.lemmas.Cmp.{eq_by_cmp_equiv, then_total}
 use Rattle.std.proofs.lemmas.List.Elements.{All-from_recursion, recursion_from_All}
-use Rattle.std.proofs.lemmas.List.Sorted.{All-permutation, IsPermutation-append_comm, IsPermutation-append_left}
-use Rattle.std.proofs.lemmas.List.Sorted.{IsPermutation-append_right, IsPermutation-cons, IsPermutation-map}
-use Rattle.std.proofs.lemmas.List.Sorted.{IsPermutation-middle, IsPermutation-sym}
+use Rattle.std.proofs.lemmas.List.Sorted.{All-permutation, IsPermutation-append_left}
+use Rattle.std.proofs.lemmas.List.Sorted.{IsPermutation-cons, IsPermutation-map}
+use Rattle.std.proofs.lemmas.List.Sorted.{IsPermutation-sym}
 use Rattle.std.proofs.lemmas.List.Sorted.{IsPermutation-refl, IsPermutation-swap, IsPermutation-trans}
 use Rattle.std.proofs.lemmas.Map.{lookup-remove_entry}
-use Rattle.std.proofs.lemmas.Map.Keys.{IsDistinct-IsPermutation, IsDistinct-from_sorted, IsDistinct-tail}
+use Rattle.std.proofs.lemmas.Map.Keys.{IsDistinct-from_sorted, IsDistinct-tail}
 use Rattle.std.proofs.lemmas.Map.Entries.{lookup_head}
 use Rattle.std.proofs.lemmas.Map.Made.{update_all_none}
-use Rattle.rq_model.specs.States.{Element, id_before, is_free}
+use Rattle.rq_model.specs.States.{Element, is_free}
 use Rattle.rq_model.specs.WellFormed.{Ordered}
 use Rattle.rq_model.proofs.Apart.{Apart}
-use Rattle.rq_model.proofs.Lists.{by_cases, each_weaker}
-use Rattle.rq_model.proofs.Merged.{ordered_weaker}
-use Rattle.rq_state.proofs.InOrder.{number_is_order}
-use Rattle.rq_state.proofs.Whole.{whole_permuted}
-use Rattle.rq_queue.specs.Kept.{items_of, IsKeyed, Stowed}
+use Rattle.rq_model.proofs.Lists.{by_cases}
+use Rattle.rq_queue.specs.Kept.{Entry, items_of, IsKeyed, Stowed}
 use Rattle.rq_queue.specs.Sorted.{sorted}
-use Rattle.rq_queue.proofs.Doing.{Entry, free_cmp}
+use Rattle.rq_queue.proofs.Doing.{free_cmp}
+use Rattle.rq_queue.proofs.ByNumber.{rising_apart, rising_is}
 use Rattle.rq_queue.proofs.Known.{equal_rank}
-use Rattle.rq_queue.proofs.Units.{Lists}
-
-between : (a b c : List Element) → IsPermutation (a ++ (b ++ c)) (b ++ (a ++ c))
-between a b c = subst (λ xs. IsPermutation xs (b ++ (a ++ c))) (append_assoc a b c)
-    (subst (λ xs. IsPermutation ((a ++ b) ++ c) xs) (append_assoc b a c)
-    (IsPermutation-append_left c (a ++ b) (b ++ a) (IsPermutation-append_comm a b)))
+use Rattle.rq_queue.proofs.Sorting.{apart_moved}
+use Rattle.rq_queue.proofs.Units.{Lists, stowed_moved}
 
 -- an element that goes from a list to that of its unit
 pub marked_more : (items free rest : List Element) (old new : Lists) (e : Element) → Stowed e old new
@@ -44,33 +37,8 @@ pub marked_more : (items free rest : List Element) (old new : Lists) (e : Elemen
     → IsPermutation items (rest ++ items_of new)
 marked_more items free rest old new e s taken h =
     IsPermutation-trans items (free ++ items_of old) (rest ++ items_of new) h
-    (IsPermutation-trans (free ++ items_of old) ((e ∷ rest) ++ items_of old) (rest ++ items_of new)
-    (IsPermutation-append_left (items_of old) free (e ∷ rest) taken)
-    (IsPermutation-trans (e ∷ (rest ++ items_of old)) (rest ++ e ∷ items_of old) (rest ++ items_of new)
-    (IsPermutation-sym (rest ++ e ∷ items_of old) (e ∷ (rest ++ items_of old))
-    (IsPermutation-middle rest e (items_of old)))
-    (IsPermutation-append_right rest (e ∷ items_of old) (items_of new) stowed)))
-  where
-    here : List Element
-    here = s.left ++ (s.list ++ s.right)
-
-    same : IsPermutation (items_of old) here
-    same = subst (λ (xs : List Element). IsPermutation xs here) (sym s.before)
-        (IsPermutation-trans (s.front ++ (s.list ++ s.back)) (s.list ++ (s.front ++ s.back)) here
-        (between s.front s.list s.back)
-        (subst (λ (xs : List Element). IsPermutation (s.list ++ xs) here) (sym s.rest)
-        (between s.list s.left s.right)))
-
-    stowed : IsPermutation (e ∷ items_of old) (items_of new)
-    stowed = subst (IsPermutation (e ∷ items_of old))
-        (append_assoc s.left s.list (e ∷ s.right)
-        ∙ ap (λ (xs : List Element). s.left ++ xs) (sym (append_assoc s.list (e ∷ []) s.right)) ∙ sym s.after)
-        (IsPermutation-trans (e ∷ items_of old) (e ∷ ((s.left ++ s.list) ++ s.right))
-        ((s.left ++ s.list) ++ e ∷ s.right)
-        (IsPermutation-cons e (items_of old) ((s.left ++ s.list) ++ s.right)
-        (subst (IsPermutation (items_of old)) (sym (append_assoc s.left s.list s.right)) same))
-        (IsPermutation-sym ((s.left ++ s.list) ++ e ∷ s.right) (e ∷ ((s.left ++ s.list) ++ s.right))
-        (IsPermutation-middle (s.left ++ s.list) e s.right)))
+    (IsPermutation-trans (free ++ items_of old) (e ∷ (rest ++ items_of old)) (rest ++ items_of new)
+    (IsPermutation-append_left (items_of old) free (e ∷ rest) taken) (stowed_moved e rest old new s))
 
 -- keys differ if ids do
 free_total : IsTotalOrder free_cmp
@@ -164,43 +132,13 @@ made_of es m keyed apart made =
     same_found es m.entries differ (IsDistinct-from_sorted free_cmp (keys_of m.entries) made.1)
     (λ k. sym (made.0 k ∙ update_all_none same_laws is_same (λ _ _. refl) es k differ))
 
--- ids differ in any order
-differing : (xs : List Element) → Apart xs → IsDistinct (λ (a b : Element). a.id == b.id) xs
-unfolding IsDistinct
-differing [] h = tt
-differing (x ∷ xs) h = (
-  each_weaker (λ y. x.id ≢ y.id) (λ y. (x.id == y.id) ≡ false)
-      (λ y n. by_cases (x.id == y.id) (λ b. (x.id == y.id) ≡ b → b ≡ false)
-      (λ _ t. absurd (n (eqb-true x.id y.id t))) (λ _ _. refl) refl) xs h.0,
-  differing xs h.1,
-)
-
-apart_again : (xs : List Element) → IsDistinct (λ (a b : Element). a.id == b.id) xs → Apart xs
-unfolding IsDistinct
-apart_again [] h = tt
-apart_again (x ∷ xs) h = (
-  each_weaker (λ y. (x.id == y.id) ≡ false) (λ y. x.id ≢ y.id) (λ y f. eqb-false x.id y.id f) xs h.0,
-  apart_again xs h.1,
-)
-
-apart_moved : (xs ys : List Element) → IsPermutation xs ys → Apart xs → Apart ys
-apart_moved xs ys same h = apart_again ys
-    (IsDistinct-IsPermutation (λ (a b : Element). a.id == b.id) flips xs ys same (differing xs h))
-  where
-    flips : (x y : Element) → (x.id == y.id) ≡ (y.id == x.id)
-    flips x y = grind arith
-
 -- elements by number, in the order of the containers
 module _ (items : List Element) (rising : Ordered (λ (e f : Element). e.id < f.id) items) where
   pub parted_apart : (all : List Element) → IsPermutation items all → Apart all
-  parted_apart all same = apart_moved items all same
-      (ordered_weaker (λ (e f : Element). e.id < f.id) (λ (e f : Element). e.id ≢ f.id)
-      (λ e f l s. absurd (omega (arith, l, s))) items rising)
+  parted_apart all same = apart_moved items all same (rising_apart (λ (e : Element). e.id) items rising)
 
   pub parted_sorted : (all : List Element) → IsPermutation items all → sorted all ≡ items
-  parted_sorted all same = whole_permuted id_before (number_is_order (λ (e : Element). e.id)) items all
-      (ordered_weaker (λ (e f : Element). e.id < f.id) (λ (e f : Element). id_before e f ≡ true)
-      (λ e f l. lt-ltb e.id f.id l) items rising) same
+  parted_sorted all same = rising_is (λ (e : Element). e.id) items all rising same
 
 pub mapped_too : (items held list all : List Element) → IsPermutation items (list ++ held)
     → IsPermutation list all → IsPermutation items (all ++ held)

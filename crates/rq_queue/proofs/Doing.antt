@@ -9,15 +9,14 @@ use Rattle.std.specs.declared.cmp.Ordering.TheVariants.{Less}
 use Rattle.std.proofs.lemmas.Bool.Decides.{nat_tests}
 use Rattle.std.proofs.lemmas.Bool.{eq-eqb, lt-ltb}
 use Rattle.std.proofs.lemmas.List.{append-nil, reverse-append}
-use Rattle.std.proofs.lemmas.List.Elements.{filter-append}
 use Rattle.rq_model.specs.States.{Mark, Element, Free, Fresh, Held, put, id_before, is_free}
 use Rattle.rq_model.specs.Queues.{is_marked}
 use Rattle.rq_model.specs.Machine.{is_free_at, best, best_held, marked, leaves, returned}
-use Rattle.rq_model.specs.Laws.{PutInAnyOrder}
 use Rattle.rq_model.proofs.Lists.{each_weaker, each_append, filter_all, filter_none}
 use Rattle.rq_queue.specs.Sorted.{sorted}
-use Rattle.rq_queue.specs.Kept.{items_of, IsKeyed, IsOfUnit, Stowed}
-use Rattle.rq_queue.proofs.Sorting.{each_front, each_unsorted, held_sorted}
+use Rattle.rq_queue.specs.Kept.{items_of, Entry, IsKeyed, IsOfUnit, Stowed}
+use Rattle.rq_queue.proofs.ByNumber.{each_front}
+use Rattle.rq_queue.proofs.Sorting.{each_unsorted, held_sorted}
 use Rattle.rq_model.proofs.Apart.{Apart}
 use Rattle.rq_queue.proofs.Firsts.{IsBehind, first_held, best_is, no_best}
 use Rattle.std.specs.BTreeMap.{insert_entry}
@@ -28,9 +27,6 @@ use Rattle.rq_model.specs.States.{Definition, is_held, is_fresh}
 use Rattle.rq_queue.proofs.Sorting.{apart_into, apart_from, sorted_from}
 use Rattle.rq_queue.proofs.Moving.{behind, rank_cmp, none_held}
 use Rattle.rq_queue.proofs.Units.{Lists, stowed_sorted, stowed_apart}
-
-abbrev pub Entry : Type 0
-Entry = (Reverse ℕ × ℕ) × Element
 
 -- DEQUEUE
 not_free : (unit : ℕ) (m : Mark) → is_marked unit m ≡ true → is_free m ≡ false
@@ -79,19 +75,19 @@ first_facts queue x all rest old split keyed units first home = (
         (values_of es ++ items_of old)) split
         (each_unsorted (λ (e : Element). e.home ≡ queue) (values_of all ++ items_of old) home)
 
-pub held : PutInAnyOrder → (unit queue : ℕ) (x : Entry) (all rest : List Entry) (old new : Lists) → all ≡ x ∷ rest
+pub held : (unit queue : ℕ) (x : Entry) (all rest : List Entry) (old new : Lists) → all ≡ x ∷ rest
     → Stowed (marked (Held unit) x.1) old new → AllByRecursion IsKeyed all → AllByRecursion IsOfUnit old
     → AllByRecursion (λ (k : Reverse ℕ × ℕ). rank_cmp (x.0.0.0, x.0.1) (k.0.0, k.1) ≡ Less) (keys_of rest)
     → Apart (values_of all ++ items_of old)
     → AllByRecursion (λ e. e.home ≡ queue) (sorted (values_of all ++ items_of old))
     → (sorted (values_of rest ++ items_of new) ≡ best_held unit queue (sorted (values_of all ++ items_of old)))
     × (Apart (values_of rest ++ items_of new) × AllByRecursion IsKeyed rest)
-held law unit queue x all rest old new split s keyed units first apart home = (
-  stowed_sorted law (marked (Held unit) x.1) (values_of rest) old new s apart_then
+held unit queue x all rest old new split s keyed units first apart home = (
+  stowed_sorted (marked (Held unit) x.1) (values_of rest) old new s apart_then
       ∙ (ap sorted (sym (first_held unit queue x.1 (values_of rest ++ items_of old) facts.0 facts.1))
       ∙ (sym (held_sorted unit queue (x.1 ∷ values_of rest ++ items_of old))
       ∙ ap (λ (es : List Entry). best_held unit queue (sorted (values_of es ++ items_of old))) (sym split))),
-  (stowed_apart law (marked (Held unit) x.1) (values_of rest) old new s apart_then, keyed_then.1),
+  (stowed_apart (marked (Held unit) x.1) (values_of rest) old new s apart_then, keyed_then.1),
 )
   where
     apart_then : Apart (x.1 ∷ values_of rest ++ items_of old)
@@ -185,12 +181,12 @@ still_keyed k e (x ∷ es) p h a = at (still_keyed k e es p h.1 a.1) (free_cmp k
     at later Equal n = absurd (n refl)
     at later Greater n = (a.0, later)
 
-pub put_among : PutInAnyOrder → (e : Element) (whole others more : List Element) → Among (e ∷ []) whole others
+pub put_among : (e : Element) (whole others more : List Element) → Among (e ∷ []) whole others
     → Apart (e ∷ others ++ more)
     → (sorted (whole ++ more) ≡ put id_before e (sorted (others ++ more))) × Apart (whole ++ more)
-put_among law e whole others more a apart = (
+put_among e whole others more a apart = (
   ap sorted whole_more
-      ∙ (sorted_from law a.front e (a.back ++ more) apart_then
+      ∙ (sorted_from a.front e (a.back ++ more) apart_then
       ∙ ap (λ (x : List Element). put id_before e (sorted x)) (sym others_more)),
   subst Apart (sym whole_more) apart_then,
 )
@@ -206,19 +202,19 @@ put_among law e whole others more a apart = (
         (subst (AllByRecursion (λ (z : Element). e.id ≢ z.id)) others_more apart.0) (subst Apart others_more apart.1)
 
 -- one more of the list goes under its key
-pub freed_step : PutInAnyOrder → (new : Element) (rest others : List Element) (start now next : List Entry)
+pub freed_step : (new : Element) (rest others : List Element) (start now next : List Entry)
     (list : List Element)
     → (AllByRecursion IsKeyed now → AllByRecursion (λ x. new.id ≢ x.id) (values_of now)
     → Among (new ∷ []) (values_of next) (values_of now))
     → (AllByRecursion IsKeyed now → AllByRecursion (λ x. new.id ≢ x.id) (values_of now) → AllByRecursion IsKeyed next)
     → Frees others start list now (new ∷ rest) → Frees others start list next rest
-freed_step law new rest others start now next list among keyed inv = λ k a.
+freed_step new rest others start now next list among keyed inv = λ k a.
     let i = inv k a in
     let more = rest ++ others in
     let those = apart_from (values_of now) new more i.1.0 in
     let here = each_front (λ z. new.id ≢ z.id) (values_of now) more those.0 in
-    let put_in = put_among law new (values_of next) (values_of now) more (among i.0 here) those in
-    (keyed i.0 here, (put_in.1, put_in.0 ∙ (sym (sorted_from law (values_of now) new more i.1.0) ∙ i.1.1)))
+    let put_in = put_among new (values_of next) (values_of now) more (among i.0 here) those in
+    (keyed i.0 here, (put_in.1, put_in.0 ∙ (sym (sorted_from (values_of now) new more i.1.0) ∙ i.1.1)))
 
 pub unheld_more : (unit : ℕ) (e new : Element) (rest : List Element) → new ≡ marked Free e → is_held unit e.mark ≡ false
     → unheld unit (e ∷ rest) ≡ new ∷ unheld unit rest
@@ -288,17 +284,12 @@ put_last e xs h = λ i. filter_all (λ y. id_before y e) xs
     (each_weaker (λ y. y.id < e.id) (λ y. not (id_before y e) ≡ false) (λ y l. ap not (lt-ltb y.id e.id l)) xs h) i
 
 -- one more under a filter
-pub pass_more : (p : Element → Bool) (xs : List Element) (e : Element) (kept more : List Element)
-    → more ≡ kept ++ e ∷ [] → kept ≡ filter p xs → p e ≡ true → more ≡ filter p (xs ++ e ∷ [])
-pass_more p xs e kept more m k t =
-    m ∙ (ap (λ (ys : List Element). ys ++ e ∷ []) k
-    ∙ (ap (λ b. filter p xs ++ cond b (e ∷ []) []) (sym t) ∙ sym (filter-append p xs (e ∷ []))))
+pub one_passes : (p : Element → Bool) (e : Element) (xs : List Element) → p e ≡ true
+    → xs ++ e ∷ [] ≡ xs ++ filter p (e ∷ [])
+one_passes p e xs t = ap (λ b. xs ++ cond b (e ∷ []) []) (sym t)
 
-pub pass_less : (p : Element → Bool) (xs : List Element) (e : Element) (kept : List Element) → kept ≡ filter p xs
-    → p e ≡ false → kept ≡ filter p (xs ++ e ∷ [])
-pass_less p xs e kept k t =
-    k ∙ (sym (append-nil (filter p xs))
-    ∙ (ap (λ b. filter p xs ++ cond b (e ∷ []) []) (sym t) ∙ sym (filter-append p xs (e ∷ []))))
+pub none_passes : (p : Element → Bool) (e : Element) (xs : List Element) → p e ≡ false → xs ≡ xs ++ filter p (e ∷ [])
+none_passes p e xs t = sym (append-nil xs) ∙ ap (λ b. xs ++ cond b (e ∷ []) []) (sym t)
 
 -- the last of a list goes, and what is left is read backwards
 pub popped : {X : Type 0} (old new : List X) (x : X) → old ≡ new ++ x ∷ [] → reverse old ≡ x ∷ reverse new

@@ -11,18 +11,17 @@ use Rattle.std.proofs.lemmas.List.Elements.{filter-append}
 use Rattle.rq_model.specs.States.{Mark, Element, Definition, Free, Fresh, Held, is_free, is_fresh, is_held}
 use Rattle.rq_model.specs.Queues.{is_marked}
 use Rattle.rq_model.specs.Machine.{marked, committed_elements, leaves, returned}
-use Rattle.rq_model.specs.Laws.{PutInAnyOrder}
 use Rattle.rq_model.proofs.Lists.{by_cases, each_weaker, each_append, filter_all, filter_none, map_all}
 use Rattle.rq_model.proofs.Steps.{returned_id, returned_same}
 use Rattle.rq_model.specs.WellFormed.{Ordered}
 use Rattle.rq_model.proofs.Merged.{ordered_filter, ordered_map}
 use Rattle.rq_model.proofs.Apart.{Apart}
 use Rattle.rq_queue.specs.Sorted.{sorted}
-use Rattle.rq_queue.specs.Kept.{items_of, IsKeyed, IsOfUnit, Among, Frees, unheld, staying}
-use Rattle.rq_queue.proofs.Sorting.{apart_front, each_front, each_back, rising_sorted, sorted_swapped, apart_swapped}
+use Rattle.rq_queue.specs.Kept.{Entry, items_of, IsKeyed, IsOfUnit, Among, Frees, unheld, staying}
+use Rattle.rq_queue.proofs.ByNumber.{each_front, each_back}
+use Rattle.rq_queue.proofs.Sorting.{apart_front, rising_sorted, sorted_swapped, apart_swapped}
 use Rattle.rq_queue.proofs.Sorting.{filter_sorted, map_sorted}
 use Rattle.rq_queue.proofs.Units.{Lists}
-use Rattle.rq_queue.proofs.Doing.{Entry}
 
 abbrev IsOther : ℕ → Element → Type 0
 IsOther unit e = (is_held unit e.mark ≡ false) × (is_fresh unit e.mark ≡ false)
@@ -79,7 +78,7 @@ leaves_not : (home : Definition) (unit : ℕ) (e : Element) → is_held unit e.m
 leaves_not home unit e h = ap (λ b. b && (not (home.limit == 0) && (e.attempts + 1 == home.limit))) h
 
 -- the list of a unit is taken out, and its elements that pass p come back as f makes them
-module _ (law : PutInAnyOrder) (free : List Entry) (old others : Lists) (list : List Element)
+module _ (free : List Entry) (old others : Lists) (list : List Element)
     (out : Among list (items_of old) (items_of others)) (apart : Apart (values_of free ++ items_of old)) where
   abbrev remaining : List Element
   remaining = values_of free ++ items_of others
@@ -98,7 +97,7 @@ module _ (law : PutInAnyOrder) (free : List Entry) (old others : Lists) (list : 
 
   whole : sorted (values_of free ++ items_of old) ≡ sorted (list ++ remaining)
   whole = ap sorted split
-      ∙ (sorted_swapped law (values_of free ++ out.front) list out.back (subst Apart split apart) ∙ ap sorted joined)
+      ∙ (sorted_swapped (values_of free ++ out.front) list out.back (subst Apart split apart) ∙ ap sorted joined)
 
   pub each_listed : (P : Element → Type 0) → AllByRecursion P (values_of free ++ items_of old) → AllByRecursion P list
   each_listed P h = each_front P list out.back
@@ -123,7 +122,7 @@ module _ (law : PutInAnyOrder) (free : List Entry) (old others : Lists) (list : 
   changed p f same next keyed rest frees = (
     (done.0, done.1.0),
     done.1.1
-        ∙ (sym (sorted_swapped law (map f (filter p list)) (values_of free) (items_of others) apart_changed)
+        ∙ (sym (sorted_swapped (map f (filter p list)) (values_of free) (items_of others) apart_changed)
         ∙ sym all_done),
   )
     where
@@ -165,7 +164,7 @@ others_remain unit free others keyed absent units =
     (other_ones unit others absent units)
 
 -- COMMIT
-pub committed : PutInAnyOrder → (unit : ℕ) (free next : List Entry) (old others : Lists) (list : List Element)
+pub committed : (unit : ℕ) (free next : List Entry) (old others : Lists) (list : List Element)
     → AllByRecursion IsKeyed free → Among list (items_of old) (items_of others)
     → lookup (is_at (nat_cmp unit)) others ≡ None → AllByRecursion IsOfUnit others
     → AllByRecursion (λ e. is_marked unit e.mark ≡ true) list → Apart (values_of free ++ items_of old)
@@ -173,34 +172,34 @@ pub committed : PutInAnyOrder → (unit : ℕ) (free next : List Entry) (old oth
     → (AllByRecursion IsKeyed next × Apart (values_of next ++ items_of others))
     × (sorted (values_of next ++ items_of others)
     ≡ committed_elements unit (sorted (values_of free ++ items_of old)))
-committed law unit free next old others list keyed out absent units mine apart frees =
-    changed law free old others list out apart (λ e. not (is_held unit e.mark)) (freshen unit) (same_id unit) next keyed
+committed unit free next old others list keyed out absent units mine apart frees =
+    changed free old others list out apart (λ e. not (is_held unit e.mark)) (freshen unit) (same_id unit) next keyed
     (each_weaker (IsOther unit) (λ e. (not (is_held unit e.mark) ≡ true) × (freshen unit e ≡ e))
     (λ e o. (ap not o.0, ap (λ b. cond b (marked Free e) e) o.1)) (values_of free ++ items_of others)
     (others_remain unit free others keyed absent units))
     (λ o. subst (λ (xs : List Element). Frees o free xs next []) (sym (unheld_is unit list mine)) (frees o))
 
 -- ABORT
-pub aborted : PutInAnyOrder → (home : Definition) (unit : ℕ) (free next : List Entry) (old others : Lists)
+pub aborted : (home : Definition) (unit : ℕ) (free next : List Entry) (old others : Lists)
     (list : List Element) → AllByRecursion IsKeyed free → Among list (items_of old) (items_of others)
     → lookup (is_at (nat_cmp unit)) others ≡ None → AllByRecursion IsOfUnit others
     → Apart (values_of free ++ items_of old) → ((o : List Element) → Frees o free (staying home unit list) next [])
     → (AllByRecursion IsKeyed next × Apart (values_of next ++ items_of others))
     × (sorted (values_of next ++ items_of others) ≡ staying home unit (sorted (values_of free ++ items_of old)))
-aborted law home unit free next old others list keyed out absent units apart frees =
-    changed law free old others list out apart (λ e. not (is_fresh unit e.mark) && not (leaves home unit e))
+aborted home unit free next old others list keyed out absent units apart frees =
+    changed free old others list out apart (λ e. not (is_fresh unit e.mark) && not (leaves home unit e))
     (returned unit) (returned_id unit) next keyed
     (each_weaker (IsOther unit) _
     (λ e o. ((λ i. not (o.1 i) && not (leaves_not home unit e o.0 i)), returned_same unit e o.0))
     (values_of free ++ items_of others) (others_remain unit free others keyed absent units)) frees
 
 -- those that leave, by id
-pub departed : PutInAnyOrder → (home : Definition) (unit : ℕ) (free : List Entry) (old others : Lists)
+pub departed : (home : Definition) (unit : ℕ) (free : List Entry) (old others : Lists)
     (list : List Element) → AllByRecursion IsKeyed free → Among list (items_of old) (items_of others)
     → lookup (is_at (nat_cmp unit)) others ≡ None → AllByRecursion IsOfUnit others
     → Apart (values_of free ++ items_of old) → filter (leaves home unit) (sorted (values_of free ++ items_of old))
     ≡ sorted (filter (leaves home unit) list)
-departed law home unit free old others list keyed out absent units apart =
-    chosen law free old others list out apart (leaves home unit)
+departed home unit free old others list keyed out absent units apart =
+    chosen free old others list out apart (leaves home unit)
     (each_weaker (IsOther unit) (λ e. leaves home unit e ≡ false) (λ e o. leaves_not home unit e o.0)
     (values_of free ++ items_of others) (others_remain unit free others keyed absent units))

@@ -11,17 +11,19 @@ use Rattle.std.specs.declared.cmp.Reverse.{Reverse}
 use Rattle.std.proofs.lemmas.Bool.{eq-eqb, eqb-true}
 use Rattle.std.proofs.lemmas.List.{append-nil}
 use Rattle.std.proofs.lemmas.List.Elements.{filter-append}
+use Rattle.std.proofs.lemmas.List.Sorted.{IsPermutation-middle}
 use Rattle.rq_model.specs.States.{Element, Definition, Free, Held, put, id_before, is_fresh, is_held}
 use Rattle.rq_model.specs.Machine.{is_free_at, is_best, best_held, marked, committed_elements, leaves, returned, killed}
 use Rattle.rq_model.proofs.Apart.{Apart}
 use Rattle.rq_model.proofs.Lists.{by_cases, each_weaker, each_map, each_filter, filter_all, filter_same}
 use Rattle.rq_model.proofs.Merged.{ordered_filter}
 use Rattle.rq_model.proofs.Steps.{returned_id}
-use Rattle.rq_queue.specs.Kept.{items_of, IsKeyed, IsOfUnit, staying}
+use Rattle.rq_queue.specs.Kept.{Entry, items_of, IsKeyed, IsOfUnit, staying}
 use Rattle.rq_queue.specs.Priorities.{IsKnown, AreKnown, with_all}
 use Rattle.rq_queue.specs.Sorted.{sorted}
-use Rattle.rq_queue.proofs.Doing.{Entry, free_cmp, none_free}
-use Rattle.rq_queue.proofs.Sorting.{apart_into, each_front, each_put, each_sorted, each_swapped, each_unsorted}
+use Rattle.rq_queue.proofs.Doing.{free_cmp, none_free}
+use Rattle.rq_queue.proofs.ByNumber.{each_back, each_front, each_moved}
+use Rattle.rq_queue.proofs.Sorting.{apart_into, each_put, each_sorted, each_unsorted}
 use Rattle.rq_queue.proofs.Sorting.{filter_sorted}
 use Rattle.rq_queue.proofs.Units.{Lists, same_key}
 
@@ -80,14 +82,9 @@ known_all : (es old : List Element) (by_id : List (ℕ × ℕ)) → Apart (es ++
 known_all [] old by_id apart h = h
 known_all (e ∷ es) old by_id apart h =
     let by_more = insert_entry nat_cmp by_id e.id e.priority in
-    each_swapped (IsKnown (with_all es by_more)) es (e ∷ []) old
+    each_moved (IsKnown (with_all es by_more)) (es ++ e ∷ old) (e ∷ (es ++ old)) (IsPermutation-middle es e old)
     (known_all es (e ∷ old) by_more (apart_into es e old apart.0 apart.1)
-    (known_with e old by_id (each_back_of es old apart.0) h))
-  where
-    each_back_of : (xs ys : List Element) → AllByRecursion (λ x. e.id ≢ x.id) (xs ++ ys)
-        → AllByRecursion (λ x. e.id ≢ x.id) ys
-    each_back_of [] ys k = k
-    each_back_of (x ∷ xs) ys k = each_back_of xs ys k.1
+    (known_with e old by_id (each_back (λ x. e.id ≢ x.id) es old apart.0) h))
 
 pub with_all_append : (es fs : List Element) (by_id : List (ℕ × ℕ))
     → with_all (es ++ fs) by_id ≡ with_all fs (with_all es by_id)

@@ -1,3 +1,4 @@
+pub mod ByNumber
 pub mod Sorting
 pub mod Firsts
 pub mod Moving
@@ -6,7 +7,6 @@ pub mod Doing
 pub mod Ending
 pub mod Roll
 pub mod Registered
-pub mod NotesInOrder
 pub mod Noting
 pub mod Steps
 pub mod Cases

@@ -1,6 +1,6 @@
 -- What is done to the notes of a queue.
-use Rattle.std.proofs.Common.{◌≡◌, ◌≢◌, ℕ, ◌<◌, ◌==◌, Bool, true, false, cond, not, ◌&&◌, ◌||◌, if◌then◌else◌, List, []}
-use Rattle.std.proofs.Common.{◌∷◌, ◌++◌, Option, Some, None, map, refl, sym, ap, ◌∙◌, subst, arith, append_assoc}
+use Rattle.std.proofs.Common.{◌≡◌, ℕ, ◌<◌, ◌==◌, Bool, true, false, cond, not, ◌&&◌, ◌||◌, if◌then◌else◌, List, []}
+use Rattle.std.proofs.Common.{◌∷◌, ◌++◌, Option, Some, None, map, refl, sym, ap, ◌∙◌, subst, arith}
 use Rattle.std.specs.Cmp.{IsTotalOrder}
 use Rattle.std.specs.List.{filter, list_any, AllByRecursion}
 use Rattle.std.specs.Global.{Vec}
@@ -9,45 +9,34 @@ use Rattle.std.specs.BTreeMap.{insert_entry, is_at}
 use Rattle.std.specs.Ordering.{nat_cmp, is_eq}
 use Rattle.std.specs.declared.cmp.Ordering.{Ordering}
 use Rattle.std.specs.declared.cmp.Ordering.TheVariants.{Less, Equal, Greater}
-use Rattle.std.proofs.lemmas.Bool.{lt-ltb, le-ltb, eq-eqb, false≢true, not-true}
+use Rattle.std.proofs.lemmas.Bool.{lt-ltb, eq-eqb, false≢true, not-true}
 use Rattle.std.proofs.lemmas.Bool.Decides.{nat_tests}
 use Rattle.std.proofs.lemmas.Cmp.{nat_cmp_total, tied_itself}
 use Rattle.std.proofs.lemmas.List.{append-nil}
 use Rattle.std.proofs.lemmas.List.Elements.{filter-append}
 use Rattle.std.proofs.lemmas.List.Folds.{list_any-append}
-use Rattle.rq_model.specs.States.{Note, Registrant, put, is_note_of}
+use Rattle.std.specs.List.Sorted.{IsPermutation}
+use Rattle.std.proofs.lemmas.List.Sorted.{IsPermutation-middle, IsPermutation-pop_more, IsPermutation-refl}
+use Rattle.rq_model.specs.States.{Note, Registrant, is_note_of}
 use Rattle.rq_model.specs.Machine.{told, latest}
 use Rattle.rq_model.specs.WellFormed.{Ordered}
 use Rattle.rq_model.proofs.Lists.{by_cases, each_weaker, each_of, each_both, each_append, each_filter, each_passes}
 use Rattle.rq_model.proofs.Lists.{filter_all, filter_none, filter_same, filter_map_as}
 use Rattle.rq_model.proofs.Merged.{ordered_append, ordered_filter, ordered_weaker}
 use Rattle.rq_state.proofs.InOrder.{equal_numbers, ordered_map}
-use Rattle.rq_state.specs.Orders.{place_before}
 use Rattle.rq_queue.specs.Noted.{by_place, Apart, Rises, NoteEntry, AreByPlace, has_place, list_of, filed, is_own}
 use Rattle.rq_queue.specs.Noted.{has_own, left, Among, Drawn}
 use Rattle.rq_queue.specs.declared.whose.Whose.{Whose}
-use Rattle.rq_queue.proofs.NotesInOrder.{put_in_any_order, each_back, each_front, each_filtered, filter_sorted}
-use Rattle.rq_queue.proofs.NotesInOrder.{sorted_from, apart_from, apart_into}
+use Rattle.rq_queue.proofs.ByNumber.{each_back, each_filtered, filter_sorted, rising_is, apart_moved, sorted_moved}
 use Rattle.rq_queue.proofs.Roll.{removed, appended}
 
 -- A list that rises is by place.
 
-rises_put : (x : Note) (xs : List Note) → AllByRecursion (λ y. x.last.place < y.last.place) xs
-    → put place_before x xs ≡ x ∷ xs
-rises_put x xs h = λ i. filter_none (λ y. place_before y x) xs
-    (each_weaker (λ y. x.last.place < y.last.place) (λ y. place_before y x ≡ false)
-    (λ y l. le-ltb y.last.place x.last.place (omega (arith, l))) xs h) i
-    ++ x ∷ filter_all (λ y. not (place_before y x)) xs
-    (each_weaker (λ y. x.last.place < y.last.place) (λ y. not (place_before y x) ≡ true)
-    (λ y l. ap not (le-ltb y.last.place x.last.place (omega (arith, l)))) xs h) i
+abbrev pub place_of : Note → ℕ
+place_of n = n.last.place
 
 pub rises_sorted : (xs : List Note) → Rises xs → by_place xs ≡ xs
-rises_sorted [] h = refl
-rises_sorted (x ∷ xs) h = ap (put place_before x) (rises_sorted xs h.1) ∙ rises_put x xs h.0
-
-pub rises_apart : (ns : List Note) → Rises ns → Apart ns
-rises_apart ns h = ordered_weaker (λ (a b : Note). a.last.place < b.last.place)
-    (λ (a b : Note). a.last.place ≢ b.last.place) (λ a b l e. absurd (let no : ⊥ = omega (arith, l, e) in no)) ns h
+rises_sorted xs h = rising_is place_of xs xs h (IsPermutation-refl xs)
 
 -- the notes of lines by place
 pub values_rise : (es : List NoteEntry) → AreByPlace es → Rises (values_of es)
@@ -293,35 +282,19 @@ left_none whose es = filter_all (λ (e : NoteEntry). not (has_place e.0 [] && is
 -- a note goes to the end of those that were drawn
 module _ (n : Note) (drawn whole others : List Note) (among : Among n whole others)
     (apart : Apart (drawn ++ whole)) where
-  in_front : drawn ++ whole ≡ (drawn ++ among.front) ++ n ∷ among.back
-  in_front = ap (λ (ns : List Note). drawn ++ ns) among.whole_is ∙ sym (append_assoc drawn among.front (n ∷ among.back))
-
-  rest_is : (drawn ++ among.front) ++ among.back ≡ drawn ++ others
-  rest_is = append_assoc drawn among.front among.back ∙ ap (λ (ns : List Note). drawn ++ ns) (sym among.others_are)
-
-  before : Apart ((drawn ++ among.front) ++ n ∷ among.back)
-  before = subst Apart in_front apart
-
-  after : Apart (drawn ++ n ∷ others)
-  after = apart_into drawn n others
-      (subst (AllByRecursion (λ z. n.last.place ≢ z.last.place)) rest_is
-      (apart_from (drawn ++ among.front) n among.back before).0)
-      (subst Apart rest_is (apart_from (drawn ++ among.front) n among.back before).1)
+  moved : IsPermutation (drawn ++ whole) ((drawn ++ n ∷ []) ++ others)
+  moved = IsPermutation-pop_more (drawn ++ whole) drawn whole others n (IsPermutation-refl (drawn ++ whole))
+      (subst (λ (ns : List Note). IsPermutation whole (n ∷ ns)) (sym among.others_are)
+      (subst (λ (ns : List Note). IsPermutation ns (n ∷ (among.front ++ among.back))) (sym among.whole_is)
+      (IsPermutation-middle among.front n among.back)))
 
   pub drawn_apart : Apart ((drawn ++ n ∷ []) ++ others)
-  drawn_apart = subst Apart (sym (append_assoc drawn (n ∷ []) others)) after
+  drawn_apart = apart_moved place_of (drawn ++ whole) ((drawn ++ n ∷ []) ++ others) moved apart
 
   pub drawn_together : by_place ((drawn ++ n ∷ []) ++ others) ≡ by_place (drawn ++ whole)
-  drawn_together = ap by_place (append_assoc drawn (n ∷ []) others)
-      ∙ (sorted_from put_in_any_order drawn n others after
-      ∙ (ap (λ (ns : List Note). put place_before n (by_place ns)) (sym rest_is)
-      ∙ (sym (sorted_from put_in_any_order (drawn ++ among.front) n among.back before) ∙ ap by_place (sym in_front))))
+  drawn_together = sym (sorted_moved place_of (drawn ++ whole) ((drawn ++ n ∷ []) ++ others) moved apart)
 
 -- All places of their notes.
-
-pub apart_front : (xs ys : List Note) → Apart (xs ++ ys) → Apart xs
-apart_front [] ys h = tt
-apart_front (x ∷ xs) ys h = (each_front (λ z. x.last.place ≢ z.last.place) xs ys h.0, apart_front xs ys h.1)
 
 and_false : (a : Bool) → (a && false) ≡ false
 and_false true = refl
@@ -352,7 +325,7 @@ module _ (whose : Whose) (ps : List ℕ) (es : List NoteEntry)
       = subst (AllByRecursion (λ (n : Note). is_own whose n ≡ false)) (sym values_left)
       (each_passes (λ (n : Note). is_own whose n ≡ false) (λ (n : Note). not (is_own whose n))
       (λ n t. not-true (is_own whose n) t) (values_of es)) in
-      sym (ap (filter (is_own whose)) (sym together) ∙ (filter_sorted (is_own whose) (drawn ++ others) apart
+      sym (ap (filter (is_own whose)) (sym together) ∙ (filter_sorted place_of (is_own whose) (drawn ++ others) apart
       ∙ ap by_place (filter-append (is_own whose) drawn others
       ∙ ((λ i. filter_all (is_own whose) drawn own i ++ filter_none (is_own whose) others foreign i)
       ∙ append-nil drawn))))

@@ -1,7 +1,10 @@
 -- Lists of elements by unit.
-use Rattle.std.proofs.Common.{◌≡◌, ◌≢◌, ℕ, Bool, true, cond, List, [], ◌∷◌, ◌++◌, Some, None, refl, sym, ap, ◌∙◌, subst}
+use Rattle.std.proofs.Common.{◌≡◌, ℕ, Bool, true, cond, List, [], ◌∷◌, ◌++◌, Some, None, refl, sym, ap, ◌∙◌, subst}
 use Rattle.std.proofs.Common.{arith, append_assoc}
 use Rattle.std.specs.List.{AllByRecursion}
+use Rattle.std.specs.List.Sorted.{IsPermutation}
+use Rattle.std.proofs.lemmas.List.Sorted.{IsPermutation-append_right, IsPermutation-cons, IsPermutation-middle}
+use Rattle.std.proofs.lemmas.List.Sorted.{IsPermutation-sym, IsPermutation-trans}
 use Rattle.std.specs.Global.{Vec}
 use Rattle.std.specs.Map.{lookup, remove_entry, set_value}
 use Rattle.std.specs.BTreeMap.{insert_entry, is_at}
@@ -10,12 +13,12 @@ use Rattle.std.specs.declared.cmp.Ordering.{Ordering}
 use Rattle.std.specs.declared.cmp.Ordering.TheVariants.{Less, Equal, Greater}
 use Rattle.rq_model.specs.States.{Element, put, id_before}
 use Rattle.rq_model.specs.Queues.{is_marked}
-use Rattle.rq_model.specs.Laws.{PutInAnyOrder}
 use Rattle.rq_model.proofs.Lists.{by_cases}
 use Rattle.rq_model.proofs.Apart.{Apart}
 use Rattle.rq_queue.specs.Sorted.{sorted}
 use Rattle.rq_queue.specs.Kept.{items_of, IsOfUnit, Stowed, Among}
-use Rattle.rq_queue.proofs.Sorting.{sorted_from, sorted_swapped, apart_swapped, apart_into, each_swapped}
+use Rattle.rq_queue.proofs.ByNumber.{between}
+use Rattle.rq_queue.proofs.Sorting.{apart_moved, sorted_moved}
 
 abbrev pub Lists : Type 0
 Lists = List (ℕ × Vec Element)
@@ -46,12 +49,6 @@ taken_out t (x ∷ es) v h = by_cases (t x.0)
       others_are = refl;
     })
     (λ _ k. behind_more v.items (items_of es) (items_of (remove_entry t es)) x.1.items (taken_out t es v k)) h
-
-pub not_there : (t : ℕ → Bool) (es : Lists) → lookup t es ≡ None → remove_entry t es ≡ es
-not_there t [] h = refl
-not_there t (x ∷ es) h = by_cases (t x.0)
-    (λ b. cond b (Some x.1) (lookup t es) ≡ None → cond b es (x ∷ remove_entry t es) ≡ x ∷ es)
-    (λ _ k. absurd (cc)) (λ _ k. ap (λ (r : Lists). x ∷ r) (not_there t es k)) h
 
 pub put_in : (k : ℕ) (es : Lists) (w : Vec Element) → lookup (is_at (nat_cmp k)) es ≡ None
     → Among w.items (items_of (insert_entry nat_cmp es k w)) (items_of es)
@@ -160,49 +157,35 @@ each_at k (x ∷ es) w p a = by_cases (is_eq (nat_cmp k x.0))
     )) (λ _ t. (a.0, each_at k es w p a.1)) refl
 
 -- what stowing does to the elements by number: `free` are the others
-module _ (law : PutInAnyOrder) (e : Element) (free : List Element) (old new : Lists) (s : Stowed e old new)
-    (apart : Apart (e ∷ free ++ items_of old)) where
-  -- the old ones with the unit's list in front
-  old_front : Apart (s.list ++ (free ++ (s.front ++ s.back)))
-  old_front = subst Apart (ap (λ (x : List Element). s.list ++ x) (append_assoc free s.front s.back))
-      (apart_swapped (free ++ s.front) s.list s.back
-      (subst Apart (ap (λ (x : List Element). free ++ x) s.before
-      ∙ sym (append_assoc free s.front (s.list ++ s.back))) apart.1))
+module _ (e : Element) (free : List Element) (old new : Lists) (s : Stowed e old new) where
+  abbrev here : List Element
+  here = s.left ++ (s.list ++ s.right)
 
-  old_sorted : sorted (free ++ items_of old) ≡ sorted (s.list ++ (free ++ (s.front ++ s.back)))
-  old_sorted = ap (λ (x : List Element). sorted (free ++ x)) s.before
-      ∙ (ap sorted (sym (append_assoc free s.front (s.list ++ s.back)))
-      ∙ (sorted_swapped law (free ++ s.front) s.list s.back
-      (subst Apart (ap (λ (x : List Element). free ++ x) s.before
-      ∙ sym (append_assoc free s.front (s.list ++ s.back))) apart.1)
-      ∙ ap (λ (x : List Element). sorted (s.list ++ x)) (append_assoc free s.front s.back)))
+  same : IsPermutation (items_of old) here
+  same = subst (λ (xs : List Element). IsPermutation xs here) (sym s.before)
+      (IsPermutation-trans (s.front ++ (s.list ++ s.back)) (s.list ++ (s.front ++ s.back)) here
+      (between s.front s.list s.back)
+      (subst (λ (xs : List Element). IsPermutation (s.list ++ xs) here) (sym s.rest) (between s.list s.left s.right)))
 
-  -- e differs from all of them
-  other : AllByRecursion (λ z. e.id ≢ z.id) (s.list ++ (free ++ (s.front ++ s.back)))
-  other = subst (AllByRecursion (λ (z : Element). e.id ≢ z.id))
-      (ap (λ (x : List Element). s.list ++ x) (append_assoc free s.front s.back))
-      (each_swapped (λ (z : Element). e.id ≢ z.id) (free ++ s.front) s.list s.back
-      (subst (AllByRecursion (λ (z : Element). e.id ≢ z.id))
-      (ap (λ (x : List Element). free ++ x) s.before ∙ sym (append_assoc free s.front (s.list ++ s.back))) apart.0))
+  stowed_there : IsPermutation (e ∷ items_of old) (items_of new)
+  stowed_there = subst (IsPermutation (e ∷ items_of old))
+      (append_assoc s.left s.list (e ∷ s.right)
+      ∙ ap (λ (xs : List Element). s.left ++ xs) (sym (append_assoc s.list (e ∷ []) s.right)) ∙ sym s.after)
+      (IsPermutation-trans (e ∷ items_of old) (e ∷ ((s.left ++ s.list) ++ s.right)) ((s.left ++ s.list) ++ e ∷ s.right)
+      (IsPermutation-cons e (items_of old) ((s.left ++ s.list) ++ s.right)
+      (subst (IsPermutation (items_of old)) (sym (append_assoc s.left s.list s.right)) same))
+      (IsPermutation-sym ((s.left ++ s.list) ++ e ∷ s.right) (e ∷ ((s.left ++ s.list) ++ s.right))
+      (IsPermutation-middle (s.left ++ s.list) e s.right)))
 
-  -- with e at the end of the list
-  new_front : Apart (s.list ++ e ∷ (free ++ (s.front ++ s.back)))
-  new_front = apart_into s.list e (free ++ (s.front ++ s.back)) other old_front
+  pub stowed_moved : IsPermutation (e ∷ (free ++ items_of old)) (free ++ items_of new)
+  stowed_moved = IsPermutation-trans (e ∷ (free ++ items_of old)) (free ++ e ∷ items_of old) (free ++ items_of new)
+      (IsPermutation-sym (free ++ e ∷ items_of old) (e ∷ (free ++ items_of old))
+      (IsPermutation-middle free e (items_of old)))
+      (IsPermutation-append_right free (e ∷ items_of old) (items_of new) stowed_there)
 
-  as_new : s.list ++ e ∷ (free ++ (s.front ++ s.back)) ≡ (s.list ++ e ∷ []) ++ ((free ++ s.left) ++ s.right)
-  as_new = ap (λ (x : List Element). s.list ++ e ∷ (free ++ x)) s.rest
-      ∙ (ap (λ (x : List Element). s.list ++ e ∷ x) (sym (append_assoc free s.left s.right))
-      ∙ sym (append_assoc s.list (e ∷ []) ((free ++ s.left) ++ s.right)))
+  pub stowed_apart : Apart (e ∷ (free ++ items_of old)) → Apart (free ++ items_of new)
+  stowed_apart apart = apart_moved (e ∷ (free ++ items_of old)) (free ++ items_of new) stowed_moved apart
 
-  new_is : (free ++ s.left) ++ ((s.list ++ e ∷ []) ++ s.right) ≡ free ++ items_of new
-  new_is = append_assoc free s.left ((s.list ++ e ∷ []) ++ s.right) ∙ ap (λ (x : List Element). free ++ x) (sym s.after)
-
-  pub stowed_apart : Apart (free ++ items_of new)
-  stowed_apart = subst Apart new_is
-      (apart_swapped (s.list ++ e ∷ []) (free ++ s.left) s.right (subst Apart as_new new_front))
-
-  pub stowed_sorted : sorted (free ++ items_of new) ≡ put id_before e (sorted (free ++ items_of old))
-  stowed_sorted = ap sorted (sym new_is)
-      ∙ (sym (sorted_swapped law (s.list ++ e ∷ []) (free ++ s.left) s.right (subst Apart as_new new_front))
-      ∙ (ap sorted (sym as_new)
-      ∙ (sorted_from law s.list e (free ++ (s.front ++ s.back)) new_front ∙ ap (put id_before e) (sym old_sorted))))
+  pub stowed_sorted : Apart (e ∷ (free ++ items_of old))
+      → sorted (free ++ items_of new) ≡ put id_before e (sorted (free ++ items_of old))
+  stowed_sorted apart = sym (sorted_moved (e ∷ (free ++ items_of old)) (free ++ items_of new) stowed_moved apart)

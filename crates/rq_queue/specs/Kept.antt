@@ -15,8 +15,12 @@ abbrev pub items_of : List (ℕ × Vec Element) → List Element
 items_of [] = []
 items_of (e ∷ es) = e.1.items ++ items_of es
 
+-- a key, with the element that is under it
+abbrev pub Entry : Type 0
+Entry = (Reverse ℕ × ℕ) × Element
+
 -- a Free element under its key
-abbrev pub IsKeyed : (Reverse ℕ × ℕ) × Element → Type 0
+abbrev pub IsKeyed : Entry → Type 0
 IsKeyed e = (e.0 ≡ (record { 0 = e.1.priority }, e.1.id)) × (is_free e.1.mark ≡ true)
 
 -- elements that are marked for the unit
@@ -55,8 +59,7 @@ abbrev pub sent_from : ℕ → Definition → List Element → List Move
 sent_from place home es = map (λ e. record { place = place; element = moved home e }) es
 
 -- the same elements by number, some of them under their keys now
-abbrev pub Frees : List Element → List ((Reverse ℕ × ℕ) × Element)
-    → List Element → List ((Reverse ℕ × ℕ) × Element) → List Element → Type 0
+abbrev pub Frees : List Element → List Entry → List Element → List Entry → List Element → Type 0
 Frees others old list new rest = AllByRecursion IsKeyed old
     → Ordered (λ e f. e.id ≢ f.id) (values_of old ++ (list ++ others))
     → AllByRecursion IsKeyed new

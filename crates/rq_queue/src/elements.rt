@@ -15,7 +15,7 @@ use crate::departures::{elements_by_id, send};
 use crate::moves::KeptMove;
 use crate::priorities::{elements_without, kept_with, known};
 use crate::shelves::{
-    Rank, all_freed, all_returned, free_list, freed, mapped, parted, stow, taken, with_marked,
+    Rank, all_freed, all_returned, free_list, mapped, parted, shelve, stow, taken, with_marked,
 };
 use rq_record::{ElemId, Fault, KeptPayload, QueueNo, UnitNo};
 use rq_state::{Definition, KeptElement, Mark};
@@ -82,8 +82,9 @@ impl Elements {
         ensures listed { IfOk result (λ v. IsPermutation self v.items) }
         ensures refused { IfErr result (λ e. e ≡ Resources) }
     {
-        let free = free_list(alloc, self.free)?;
-        with_marked(free, self.marked)
+        let mut all = free_list(alloc, self.free)?;
+        with_marked(&mut all, self.marked)?;
+        Ok(all)
     }
 
     /// Puts in an element of a new id.
@@ -92,26 +93,14 @@ impl Elements {
         ensures done { IfOk result (λ v. v ≡ model.put model.id_before e self) }
         ensures refused { IfErr result (λ e. e ≡ Resources) }
     {
-        rq_model::any_order();
-        let priorities = kept_with(self.priorities, &e)?;
-        match e.unit() {
-            None => {
-                let free = freed(self.free, e)?;
-                Ok(Elements {
-                    free,
-                    marked: self.marked,
-                    priorities,
-                })
-            }
-            Some(unit) => {
-                let marked = stow(alloc, self.marked, unit, e)?;
-                Ok(Elements {
-                    free: self.free,
-                    marked,
-                    priorities,
-                })
-            }
-        }
+        let (mut free, mut marked, mut priorities) = (self.free, self.marked, self.priorities);
+        kept_with(&mut priorities, &e)?;
+        shelve(alloc, &mut free, &mut marked, e)?;
+        Ok(Elements {
+            free,
+            marked,
+            priorities,
+        })
     }
 
     // Adds an element whose id is greater than those of the others.
@@ -156,8 +145,7 @@ impl Elements {
             (λ v. id_of v.1 ≡ option_map (λ e. e.id) (machine.best queue.0 self)) }
         ensures refused { IfErr result (λ e. e ≡ Resources) }
     {
-        rq_model::any_order();
-        let marked = self.marked;
+        let mut marked = self.marked;
         let mut free = self.free;
         let priorities = self.priorities;
         match free.pop_first() {
@@ -172,7 +160,7 @@ impl Elements {
             Some((_, mut e)) => {
                 let id = e.id();
                 e.set_mark(Mark::Held(unit));
-                let marked = stow(alloc, marked, unit, e)?;
+                stow(alloc, &mut marked, unit, e)?;
                 let all = Elements {
                     free,
                     marked,
@@ -188,9 +176,9 @@ impl Elements {
         ensures done { IfOk result (λ v. v ≡ machine.committed_elements unit.0 self) }
         ensures refused { IfErr result (λ e. e ≡ Resources) }
     {
-        rq_model::any_order();
-        let (marked, list) = taken(alloc, self.marked, unit);
-        let free = all_freed(self.free, list, unit)?;
+        let (mut free, mut marked) = (self.free, self.marked);
+        let list = taken(alloc, &mut marked, unit);
+        all_freed(&mut free, list, unit)?;
         Ok(Elements {
             free,
             marked,
@@ -215,9 +203,9 @@ impl Elements {
             ++ sent_from place home.now (filter (machine.leaves home.now unit.0) self)) }
         ensures refused { IfErr result (λ e. e ≡ Resources) }
     {
-        rq_model::any_order();
-        let (marked, list) = taken(alloc, self.marked, unit);
-        let (free, leaving) = all_returned(alloc, self.free, list, unit, home)?;
+        let (mut free, mut marked) = (self.free, self.marked);
+        let list = taken(alloc, &mut marked, unit);
+        let leaving = all_returned(alloc, &mut free, list, unit, home)?;
         send(elements_by_id(leaving), place, home, sent)?;
         Ok(Elements {
             free,

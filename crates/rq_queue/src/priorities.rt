@@ -1,7 +1,7 @@
 //! The priority of each element by its id. A KILL names only an id, and Free elements are ordered
 //! by priority first.
 
-ghost use Rattle.std.specs.Prelude.{◌≡◌, ◌≢◌, ◌==◌, ◌∷◌, ◌++◌, [], List, not, filter, IfOk, IfErr};
+ghost use Rattle.std.specs.Prelude.{◌≡◌, ◌≢◌, ◌==◌, ◌∷◌, ◌++◌, [], List, not, filter, IfOk, IfErr, OnOk};
 ghost use Rattle.std.specs.List.{AllByRecursion};
 ghost use Rattle.std.specs.Map.{values_of};
 ghost use Rattle.rq_model.specs.States as model;
@@ -19,33 +19,32 @@ use std::collections::BTreeMap;
 
 /// Keeps the priority of an element of a new id too, if priorities are kept.
 pub(crate) fn kept_with(
-    priorities: Option<BTreeMap<u64, u8>>,
+    priorities: &mut Option<BTreeMap<u64, u8>>,
     e: &KeptElement,
-) -> Result<Option<BTreeMap<u64, u8>>, Fault>
-    ensures known { IfOk result
-        (λ o. (es : List model.Element) → AllByRecursion (λ x. e.now.id ≢ x.id) es
-        → AreKnown priorities es → AreKnown o (e.now ∷ es)) }
+) -> Result<(), Fault>
+    ensures known { OnOk result
+        ((es : List model.Element) → AllByRecursion (λ x. e.now.id ≢ x.id) es
+        → AreKnown priorities.old es → AreKnown priorities.new (e.now ∷ es)) }
     ensures refused { IfErr result (λ e. e ≡ Resources) }
 {
-    let Some(mut by_id) = priorities else {
-        return Ok(None);
+    let Some(by_id) = priorities else {
+        return Ok(());
     };
     let (priority, id) = e.key();
     by_id.insert(id, priority)?;
-    Ok(Some(by_id))
+    Ok(())
 }
 
 // Adds the priorities of the elements of a list.
-fn listed(by_id: BTreeMap<u64, u8>, list: &[KeptElement]) -> Result<BTreeMap<u64, u8>, Fault>
-    ensures added { IfOk result (λ m. m.entries ≡ with_all list.now by_id.entries) }
+fn listed(by_id: &mut BTreeMap<u64, u8>, list: &[KeptElement]) -> Result<(), Fault>
+    ensures added { OnOk result (by_id.new.entries ≡ with_all list.now by_id.old.entries) }
     ensures refused { IfErr result (λ e. e ≡ Resources) }
 {
-    let mut by_id = by_id;
     for e in list {
         let (priority, id) = e.key();
         by_id.insert(id, priority)?;
     }
-    Ok(by_id)
+    Ok(())
 }
 
 // The priorities of the Free elements.
@@ -63,18 +62,17 @@ fn of_free(alloc: Global, free: &BTreeMap<Rank, KeptElement>) -> Result<BTreeMap
 
 // Adds the priorities of the elements that units mark.
 fn with_marked(
-    by_id: BTreeMap<u64, u8>,
+    by_id: &mut BTreeMap<u64, u8>,
     marked: &BTreeMap<u64, Vec<KeptElement>>,
-) -> Result<BTreeMap<u64, u8>, Fault>
-    ensures added { IfOk result
-        (λ m. m.entries ≡ with_all (items_of marked.now.entries) by_id.entries) }
+) -> Result<(), Fault>
+    ensures added { OnOk result
+        (by_id.new.entries ≡ with_all (items_of marked.now.entries) by_id.old.entries) }
     ensures refused { IfErr result (λ e. e ≡ Resources) }
 {
-    let mut by_id = by_id;
     for (_, list) in marked {
-        by_id = listed(by_id, list)?;
+        listed(by_id, list)?;
     }
-    Ok(by_id)
+    Ok(())
 }
 
 /// The priorities of all elements: those that are kept, or else collected now.
@@ -95,8 +93,9 @@ pub(crate) fn known(
     match priorities {
         Some(by_id) => Ok(by_id),
         None => {
-            let of_free = of_free(alloc, free)?;
-            with_marked(of_free, marked)
+            let mut by_id = of_free(alloc, free)?;
+            with_marked(&mut by_id, marked)?;
+            Ok(by_id)
         }
     }
 }

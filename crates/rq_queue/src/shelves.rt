@@ -1,7 +1,7 @@
 //! Where the elements of a queue are: Free ones under their keys, the others with their units.
 
 ghost use Rattle.std.specs.Prelude.{◌≡◌, ◌≢◌, ◌+◌, ◌<◌, ◌^◌, ◌∷◌, ◌++◌, [], true, List, filter};
-ghost use Rattle.std.specs.Prelude.{None, IfOk, IfErr};
+ghost use Rattle.std.specs.Prelude.{None, IfOk, IfErr, OnOk};
 ghost use Rattle.std.specs.BTreeMap.{is_at};
 ghost use Rattle.std.specs.List.{AllByRecursion};
 ghost use Rattle.std.specs.List.Sorted.{IsPermutation};
@@ -11,8 +11,9 @@ ghost use Rattle.rq_model.specs.Machine as machine;
 ghost use Rattle.rq_model.specs.Queues as queues;
 ghost use Rattle.rq_model.specs.States as model;
 ghost use Rattle.rq_model.specs.WellFormed.{Ordered};
-ghost use Rattle.rq_queue.specs.Kept.{items_of, IsKeyed, IsOfUnit, Stowed, Among, Frees, unheld};
+ghost use Rattle.rq_queue.specs.Kept.{items_of, Entry, IsKeyed, IsOfUnit, Stowed, Among, Frees, unheld};
 ghost use Rattle.rq_queue.specs.Kept.{staying};
+ghost use Rattle.rq_queue.specs.Sorted.{sorted};
 ghost use Rattle.rq_record.specs.declared.fault.Fault.TheVariants.{Resources};
 
 use rq_record::{Fault, UnitNo};
@@ -27,47 +28,52 @@ pub(crate) type Rank = (Reverse<u8>, u64);
 /// Takes the list of a unit out.
 pub(crate) fn taken(
     alloc: Global,
-    marked: BTreeMap<u64, Vec<KeptElement>>,
+    marked: &mut BTreeMap<u64, Vec<KeptElement>>,
     unit: UnitNo,
-) -> (BTreeMap<u64, Vec<KeptElement>>, Vec<KeptElement>)
-    requires of_units { AllByRecursion IsOfUnit marked.entries }
-    ensures absent { lookup (is_at (nat_cmp unit.0)) result.0.entries ≡ None }
-    ensures among { Among result.1.items (items_of marked.entries) (items_of result.0.entries) }
-    ensures of_units { AllByRecursion IsOfUnit result.0.entries }
-    ensures of_unit { AllByRecursion (λ x. queues.is_marked unit.0 x.mark ≡ true) result.1.items }
+) -> Vec<KeptElement>
+    requires of_units { AllByRecursion IsOfUnit marked.old.entries }
+    ensures absent { lookup (is_at (nat_cmp unit.0)) marked.new.entries ≡ None }
+    ensures among { Among result.items (items_of marked.old.entries) (items_of marked.new.entries) }
+    ensures of_units { AllByRecursion IsOfUnit marked.new.entries }
+    ensures of_unit { AllByRecursion (λ x. queues.is_marked unit.0 x.mark ≡ true) result.items }
 {
-    let mut marked = marked;
     match marked.remove(&unit.0) {
-        Some(list) => (marked, list),
-        None => (marked, Vec::new(alloc)),
+        Some(list) => list,
+        None => Vec::new(alloc),
     }
+}
+
+// A list of one element, with room for no more: most units mark one element of a queue, and a list
+// that grows by itself begins with room for four.
+fn alone(alloc: Global, e: KeptElement) -> Result<Vec<KeptElement>, Fault>
+    ensures alone { IfOk result (λ v. v.items ≡ e ∷ []) }
+    ensures refused { IfErr result (λ e. e ≡ Resources) }
+{
+    let mut list = Vec::with_capacity(alloc, 1)?;
+    list.push(e)?;
+    Ok(list)
 }
 
 /// Puts an element at the end of the list of its unit.
 pub(crate) fn stow(
     alloc: Global,
-    marked: BTreeMap<u64, Vec<KeptElement>>,
+    marked: &mut BTreeMap<u64, Vec<KeptElement>>,
     unit: UnitNo,
     e: KeptElement,
-) -> Result<BTreeMap<u64, Vec<KeptElement>>, Fault>
+) -> Result<(), Fault>
     requires mark { queues.is_marked unit.0 e.mark ≡ true }
-    requires of_units { AllByRecursion IsOfUnit marked.entries }
-    ensures stowed { IfOk result (λ m. Stowed e marked.entries m.entries) }
-    ensures of_units { IfOk result (λ m. AllByRecursion IsOfUnit m.entries) }
+    requires of_units { AllByRecursion IsOfUnit marked.old.entries }
+    ensures stowed { OnOk result (Stowed e marked.old.entries marked.new.entries) }
+    ensures of_units { OnOk result (AllByRecursion IsOfUnit marked.new.entries) }
     ensures refused { IfErr result (λ e. e ≡ Resources) }
 {
-    let mut marked = marked;
     if let Some(list) = marked.get_mut(&unit.0) {
         list.push(e)?;
-        return Ok(marked);
+        return Ok(());
     }
-    // Most units mark one element of a queue, and a list that grows by itself begins with room for
-    // four.
-    let mut list = Vec::new(alloc);
-    list.reserve_exact(1)?;
-    list.push(e)?;
+    let list = alone(alloc, e)?;
     marked.insert(unit.0, list)?;
-    Ok(marked)
+    Ok(())
 }
 
 /// Takes the elements that units mark out of the list, and puts them with their units. Free ones
@@ -90,7 +96,7 @@ pub(crate) fn parted(
         at -= 1;
         if let Some(unit) = free[at].unit() {
             let e = free.swap_remove(at);
-            marked = stow(alloc, marked, unit, e)?;
+            stow(alloc, &mut marked, unit, e)?;
         }
     }
     Ok((free, marked))
@@ -117,74 +123,125 @@ pub(crate) fn mapped(
 }
 
 /// Puts a Free element under its key.
-pub(crate) fn freed(
-    free: BTreeMap<Rank, KeptElement>,
-    e: KeptElement,
-) -> Result<BTreeMap<Rank, KeptElement>, Fault>
+pub(crate) fn freed(free: &mut BTreeMap<Rank, KeptElement>, e: KeptElement) -> Result<(), Fault>
     requires mark { model.is_free e.mark ≡ true }
-    ensures among { IfOk result (λ m. AllByRecursion IsKeyed free.entries
-        → AllByRecursion (λ x. e.id ≢ x.id) (values_of free.entries)
-        → Among (e ∷ []) (values_of m.entries) (values_of free.entries)) }
-    ensures keyed { IfOk result (λ m. AllByRecursion IsKeyed free.entries
-        → AllByRecursion (λ x. e.id ≢ x.id) (values_of free.entries)
-        → AllByRecursion IsKeyed m.entries) }
+    ensures among { OnOk result (AllByRecursion IsKeyed free.old.entries
+        → AllByRecursion (λ x. e.id ≢ x.id) (values_of free.old.entries)
+        → Among (e ∷ []) (values_of free.new.entries) (values_of free.old.entries)) }
+    ensures keyed { OnOk result (AllByRecursion IsKeyed free.old.entries
+        → AllByRecursion (λ x. e.id ≢ x.id) (values_of free.old.entries)
+        → AllByRecursion IsKeyed free.new.entries) }
     ensures refused { IfErr result (λ e. e ≡ Resources) }
 {
-    let mut free = free;
     let key = e.key();
     free.insert((Reverse(key.0), key.1), e)?;
-    Ok(free)
+    Ok(())
+}
+
+/// Puts an element of a new id under its key, if it is Free, and else with its unit.
+pub(crate) fn shelve(
+    alloc: Global,
+    free: &mut BTreeMap<Rank, KeptElement>,
+    marked: &mut BTreeMap<u64, Vec<KeptElement>>,
+    e: KeptElement,
+) -> Result<(), Fault>
+    requires keyed { AllByRecursion IsKeyed free.old.entries }
+    requires of_units { AllByRecursion IsOfUnit marked.old.entries }
+    requires apart { Ordered (λ (x y : model.Element). x.id ≢ y.id)
+        (e ∷ values_of free.old.entries ++ items_of marked.old.entries) }
+    ensures keyed { OnOk result (AllByRecursion IsKeyed free.new.entries) }
+    ensures of_units { OnOk result (AllByRecursion IsOfUnit marked.new.entries) }
+    ensures apart { OnOk result (Ordered (λ (x y : model.Element). x.id ≢ y.id)
+        (values_of free.new.entries ++ items_of marked.new.entries)) }
+    ensures put { OnOk result (sorted (values_of free.new.entries ++ items_of marked.new.entries)
+        ≡ model.put model.id_before e
+        (sorted (values_of free.old.entries ++ items_of marked.old.entries))) }
+    ensures refused { IfErr result (λ e. e ≡ Resources) }
+{
+    match e.unit() {
+        None => {
+            freed(free, e)?;
+            Ok(())
+        }
+        Some(unit) => {
+            stow(alloc, marked, unit, e)?;
+            Ok(())
+        }
+    }
 }
 
 /// Puts what a COMMIT of the unit leaves of its elements under their keys.
 pub(crate) fn all_freed(
-    free: BTreeMap<Rank, KeptElement>,
+    free: &mut BTreeMap<Rank, KeptElement>,
     list: Vec<KeptElement>,
     unit: UnitNo,
-) -> Result<BTreeMap<Rank, KeptElement>, Fault>
-    ensures freed { IfOk result (λ m. (others : List model.Element) →
-        Frees others free.entries (unheld unit.0 list.items) m.entries []) }
+) -> Result<(), Fault>
+    ensures freed { OnOk result ((others : List model.Element) →
+        Frees others free.old.entries (unheld unit.0 list.items) free.new.entries []) }
     ensures refused { IfErr result (λ e. e ≡ Resources) }
 {
-    rq_model::any_order();
-    let mut free = free;
     for e in list {
-        if !e.is_held(unit) {
-            free = freed(free, e.unmarked())?;
+        if e.is_held(unit) {
+            continue;
         }
+        freed(free, e.unmarked())?;
     }
-    Ok(free)
+    Ok(())
+}
+
+// Does with an element of the unit what its ABORT does: it leaves the queue, or is no more, or goes
+// under its key.
+fn give_back(
+    free: &mut BTreeMap<Rank, KeptElement>,
+    leaving: &mut Vec<KeptElement>,
+    e: KeptElement,
+    unit: UnitNo,
+    home: &Definition,
+) -> Result<(), Fault>
+    requires room { e.attempts + 1 < 2 ^ 64 }
+    requires of_unit { queues.is_marked unit.0 e.mark ≡ true }
+    ensures freed { OnOk result ((rest others all : List model.Element)
+        → (start : List Entry)
+        → Frees others start all free.old.entries (staying home.now unit.0 (e ∷ rest))
+        → Frees others start all free.new.entries (staying home.now unit.0 rest)) }
+    ensures leaving { OnOk result (leaving.new.items
+        ≡ leaving.old.items ++ filter (machine.leaves home.now unit.0) (e ∷ [])) }
+    ensures refused { IfErr result (λ e. e ≡ Resources) }
+{
+    if e.leaves(home, unit) {
+        leaving.push(e)?;
+        return Ok(());
+    }
+    if e.is_fresh(unit) {
+        return Ok(());
+    }
+    freed(free, e.returned(unit))?;
+    Ok(())
 }
 
 /// Puts what an ABORT of the unit leaves of its elements under their keys. Answers those that leave
 /// the queue.
 pub(crate) fn all_returned(
     alloc: Global,
-    free: BTreeMap<Rank, KeptElement>,
+    free: &mut BTreeMap<Rank, KeptElement>,
     list: Vec<KeptElement>,
     unit: UnitNo,
     home: &Definition,
-) -> Result<(BTreeMap<Rank, KeptElement>, Vec<KeptElement>), Fault>
+) -> Result<Vec<KeptElement>, Fault>
     requires room { AllByRecursion (λ (e : model.Element). e.attempts + 1 < 2 ^ 64) list.items }
     requires of_unit { AllByRecursion
         (λ (e : model.Element). queues.is_marked unit.0 e.mark ≡ true) list.items }
-    ensures freed { IfOk result (λ r. (others : List model.Element) →
-        Frees others free.entries (staying home.now unit.0 list.items) r.0.entries []) }
+    ensures freed { OnOk result ((others : List model.Element) →
+        Frees others free.old.entries (staying home.now unit.0 list.items) free.new.entries []) }
     ensures leaving { IfOk result
-        (λ r. r.1.items ≡ filter (machine.leaves home.now unit.0) list.items) }
+        (λ v. v.items ≡ filter (machine.leaves home.now unit.0) list.items) }
     ensures refused { IfErr result (λ e. e ≡ Resources) }
 {
-    rq_model::any_order();
-    let mut free = free;
     let mut leaving = Vec::new(alloc);
     for e in list {
-        if e.leaves(home, unit) {
-            leaving.push(e)?;
-        } else if !e.is_fresh(unit) {
-            free = freed(free, e.returned(unit))?;
-        }
+        give_back(free, &mut leaving, e, unit, home)?;
     }
-    Ok((free, leaving))
+    Ok(leaving)
 }
 
 /// The Free elements, best first.
@@ -195,25 +252,21 @@ pub(crate) fn free_list(
     ensures listed { IfOk result (λ v. v.items ≡ values_of free.entries) }
     ensures refused { IfErr result (λ e. e ≡ Resources) }
 {
-    let mut all = Vec::new(alloc);
-    all.reserve_exact(free.len())?;
-    for e in free.into_values() {
-        all.push(e)?;
-    }
+    let mut all = Vec::with_capacity(alloc, free.len())?;
+    all.extend(free.into_values())?;
     Ok(all)
 }
 
 /// Adds the elements of all units.
 pub(crate) fn with_marked(
-    elements: Vec<KeptElement>,
+    all: &mut Vec<KeptElement>,
     marked: BTreeMap<u64, Vec<KeptElement>>,
-) -> Result<Vec<KeptElement>, Fault>
-    ensures listed { IfOk result (λ v. v.items ≡ elements.items ++ items_of marked.entries) }
+) -> Result<(), Fault>
+    ensures listed { OnOk result (all.new.items ≡ all.old.items ++ items_of marked.entries) }
     ensures refused { IfErr result (λ e. e ≡ Resources) }
 {
-    let mut all = elements;
     for (_, mut list) in marked {
         all.append(&mut list)?;
     }
-    Ok(all)
+    Ok(())
 }

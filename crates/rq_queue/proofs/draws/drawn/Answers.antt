@@ -6,8 +6,9 @@ use Rattle.std.specs.Map.{values_of}
 use Rattle.rq_model.proofs.Lists.{each_append}
 use Rattle.rq_model.specs.States.{Note}
 use Rattle.rq_queue.specs.Noted.{Apart, NoteEntry, by_place, is_own, left}
-use Rattle.rq_queue.proofs.Noting.{left_by_place, left_more, left_none, values_rise, rises_apart, rises_sorted}
+use Rattle.rq_queue.proofs.Noting.{left_by_place, left_more, left_none, values_rise, place_of, rises_sorted}
 use Rattle.rq_queue.proofs.Noting.{drawn_apart, drawn_together}
+use Rattle.rq_queue.proofs.ByNumber.{rising_apart}
 use Rattle.rq_queue.proofs.draws.drawn.Goals as goal
 
 pub loop-place-init : goal.loop-place-init
@@ -19,7 +20,7 @@ loop-place-init c =
       own = subst (AllByRecursion (λ (n : Note). is_own c.args.whose.now n ≡ true))
           (sym c.in_ok-drawn.ensures.items) tt;
       apart = subst (λ (ns : List Note). Apart (ns ++ values_of c.args.all.entries)) (sym c.in_ok-drawn.ensures.items)
-          (rises_apart (values_of c.args.all.entries) rises);
+          (rising_apart place_of (values_of c.args.all.entries) rises);
       together = ap (λ (ns : List Note). by_place (ns ++ values_of c.args.all.entries)) c.in_ok-drawn.ensures.items
           ∙ rises_sorted (values_of c.args.all.entries) rises;
     }

@@ -14,7 +14,7 @@ loop-list-preserved c =
     let list = c.in-Some.list.now.items in
     let by_id = c.loop-list.by_id.entries in
     ap (with_all (items_of left))
-    (c.in_ok-by_id.ensures.added ∙ ap (λ (xs : List Element). with_all xs by_id) c.deref.ensures.value)
+    (c.in_ok-listed.ensures.added ∙ ap (λ (xs : List Element). with_all xs by_id) c.deref.ensures.value)
     ∙ (sym (with_all_append list (items_of left) by_id)
     ∙ (ap (λ (es : Lists). with_all (items_of es) by_id)
     (sym (rest_more deref_pair c.loop-list.list-iterator left c.next.result

@@ -7,31 +7,22 @@ use Rattle.rq_queue.specs.Kept.{Frees, unheld}
 use Rattle.rq_queue.proofs.Doing.{as_they_are, freed_step, unheld_more, held_dropped}
 use Rattle.rq_queue.proofs.shelves.all_freed.Goals as goal
 
-pub loop-e-preserved-then-not-is_held : goal.loop-e-preserved-then-not-is_held
-loop-e-preserved-then-not-is_held c = λ rest others s.
-    let e = c.in-Some.e in
-    freed_step c.any_order.ensures.order c.unmarked.result
-    (unheld c.args.unit.0 rest) others c.args.free.entries c.loop-e.free.entries c.in_ok-free.free.entries
-    (unheld c.args.unit.0 c.args.list.items) c.in_ok-free.ensures.among c.in_ok-free.ensures.keyed
-    (subst (λ (xs : List Element). Frees others c.args.free.entries
-    (unheld c.args.unit.0 c.args.list.items) c.loop-e.free.entries xs)
-    (unheld_more c.args.unit.0 e c.unmarked.result rest c.unmarked.ensures
-    (sym c.is_held.ensures ∙ c.if-not-is_held.true))
-    (c.loop-e.invariant (e ∷ rest) others (s ∙ append_assoc c.loop-e.yielded (e ∷ []) rest)))
-
-pub loop-e-preserved-else-not-is_held : goal.loop-e-preserved-else-not-is_held
-loop-e-preserved-else-not-is_held c = λ rest others s.
+pub loop-e-preserved-then-is_held : goal.loop-e-preserved-then-is_held
+loop-e-preserved-then-is_held c = λ rest others s.
     held_dropped c.args.unit.0 c.in-Some.e rest others
-    (unheld c.args.unit.0 c.args.list.items) c.args.free.entries c.loop-e.free.entries
-    (sym c.is_held.ensures ∙ c.if-not-is_held.false)
+    (unheld c.args.unit.0 c.args.list.items) c.args.free.now.entries c.loop-e.free.entries
+    (sym c.is_held.ensures ∙ c.if-is_held.true)
     (c.loop-e.invariant (c.in-Some.e ∷ rest) others (s ∙ append_assoc c.loop-e.yielded (c.in-Some.e ∷ []) rest))
 
 pub loop-e-preserved : goal.loop-e-preserved
 loop-e-preserved c = λ rest others s.
-    held_dropped c.args.unit.0 c.in-Some.e rest others
-    (unheld c.args.unit.0 c.args.list.items) c.args.free.entries c.loop-e.free.entries
-    (sym c.is_held.ensures ∙ c.if-not-is_held.false)
-    (c.loop-e.invariant (c.in-Some.e ∷ rest) others (s ∙ append_assoc c.loop-e.yielded (c.in-Some.e ∷ []) rest))
+    let e = c.in-Some.e in
+    let all = unheld c.args.unit.0 c.args.list.items in
+    freed_step c.unmarked.result (unheld c.args.unit.0 rest) others c.args.free.now.entries
+    c.loop-e.free.entries c.freed.new.free.entries all c.in_ok-freed.ensures.among c.in_ok-freed.ensures.keyed
+    (subst (λ (xs : List Element). Frees others c.args.free.now.entries all c.loop-e.free.entries xs)
+    (unheld_more c.args.unit.0 e c.unmarked.result rest c.unmarked.ensures (sym c.is_held.ensures ∙ c.if-is_held.false))
+    (c.loop-e.invariant (e ∷ rest) others (s ∙ append_assoc c.loop-e.yielded (e ∷ []) rest)))
 
 pub returns-clause-freed : goal.returns-clause-freed
 returns-clause-freed c =

@@ -4,8 +4,8 @@ use Rattle.std.proofs.lemmas.List.Sorted.{IsPermutation-swap_remove}
 use Rattle.rq_queue.proofs.Building.{AreFreeFrom, all_free, marked_more, one_out}
 use Rattle.rq_queue.proofs.shelves.parted.Goals as goal
 
-pub loop-at-preserved-in-Some : goal.loop-at-preserved-in-Some
-loop-at-preserved-in-Some c =
+pub loop-at-preserved-in-Continue-1 : goal.loop-at-preserved-in-Continue-1
+loop-at-preserved-in-Continue-1 c =
     let before = c.loop-at.invariant in
     let at = c.loop-at.at - 1 in
     let es = c.loop-at.free.items in
@@ -19,9 +19,9 @@ loop-at-preserved-in-Some c =
       (
         one_out at es rest fewer (search rules) (subst (λ n. AreFreeFrom n es) next before.1.0),
         (
-          c.in_ok-marked.ensures.of_units,
-          marked_more c.args.items.items es rest c.loop-at.marked.entries c.in_ok-marked.marked.entries e
-              c.in_ok-marked.ensures.stowed out before.1.1.1,
+          c.in_ok-stow.ensures.of_units,
+          marked_more c.args.items.items es rest c.loop-at.marked.entries c.stow.new.marked.entries e
+              c.in_ok-stow.ensures.stowed out before.1.1.1,
         ),
       ),
     )

@@ -3,4 +3,4 @@ use Rattle.rq_queue.specs.Kept.{items_of}
 use Rattle.rq_queue.proofs.shelves.with_marked.Given as goal
 
 abbrev pub invariant-loop-list : goal.invariant-loop-list
-invariant-loop-list l = l.all.items ++ items_of l.list-iterator ≡ l.fn.elements.items ++ items_of l.fn.marked.entries
+invariant-loop-list l = l.all.items ++ items_of l.list-iterator ≡ l.fn.all.items ++ items_of l.fn.marked.entries

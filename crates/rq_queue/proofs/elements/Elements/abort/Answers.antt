@@ -14,29 +14,29 @@ use Rattle.rq_queue.proofs.elements.Elements.abort.Goals as goal
 
 pub all_returned-requires-clause-room : goal.all_returned-requires-clause-room
 all_returned-requires-clause-room c =
-    each_listed c.any_order.ensures.order c.self.inside.free.entries c.self.inside.marked.entries
-    c.taken-marked.result.0.entries c.taken-marked.result.1.items c.taken-marked.ensures.among c.self.invariant.apart
+    each_listed c.self.inside.free.entries c.self.inside.marked.entries
+    c.taken-list.new.marked.entries c.taken-list.result.items c.taken-list.ensures.among c.self.invariant.apart
     (λ (e : Element). e.attempts + 1 < 2 ^ 64)
     (each_unsorted _ _ (subst (AllByRecursion (λ (e : Element). e.attempts + 1 < 2 ^ 64))
     (sym c.self.view_is) c.requires))
 
 pub elements_by_id-requires : goal.elements_by_id-requires
 elements_by_id-requires c = subst (λ (xs : List Element). Ordered (λ (e f : Element). e.id < f.id) (sorted xs))
-    (sym c.in_ok-free.ensures.leaving)
-    (chosen_rise c.any_order.ensures.order c.self.inside.free.entries c.self.inside.marked.entries
-    c.taken-marked.result.0.entries c.taken-marked.result.1.items c.taken-marked.ensures.among
+    (sym c.in_ok-leaving.ensures.leaving)
+    (chosen_rise c.self.inside.free.entries c.self.inside.marked.entries
+    c.taken-list.new.marked.entries c.taken-list.result.items c.taken-list.ensures.among
     c.self.invariant.apart (leaves c.args.home.now c.args.unit.0))
 
 pub invariant_of-result : goal.invariant_of-result
 invariant_of-result c =
-    let done = aborted c.any_order.ensures.order c.args.home.now c.args.unit.0 c.self.inside.free.entries
-    c.in_ok-free.free.entries c.self.inside.marked.entries c.taken-marked.result.0.entries
-    c.taken-marked.result.1.items
-    c.self.invariant.keyed c.taken-marked.ensures.among c.taken-marked.ensures.absent c.taken-marked.ensures.of_units
-    c.self.invariant.apart c.in_ok-free.ensures.freed in
+    let done = aborted c.args.home.now c.args.unit.0 c.self.inside.free.entries
+    c.all_returned.new.free.entries c.self.inside.marked.entries c.taken-list.new.marked.entries
+    c.taken-list.result.items
+    c.self.invariant.keyed c.taken-list.ensures.among c.taken-list.ensures.absent c.taken-list.ensures.of_units
+    c.self.invariant.apart c.in_ok-leaving.ensures.freed in
     record {
       keyed = done.0.0;
-      of_units = c.taken-marked.ensures.of_units;
+      of_units = c.taken-list.ensures.of_units;
       apart = done.0.1;
       known = subst (AreKnown c.self.inside.priorities) (sym done.1)
           (known_staying c.self.inside.priorities c.args.home.now c.args.unit.0
@@ -45,21 +45,21 @@ invariant_of-result c =
 
 pub returns-clause-kept : goal.returns-clause-kept
 returns-clause-kept c =
-    (aborted c.any_order.ensures.order c.args.home.now c.args.unit.0 c.self.inside.free.entries
-    c.in_ok-free.free.entries c.self.inside.marked.entries c.taken-marked.result.0.entries
-    c.taken-marked.result.1.items
-    c.self.invariant.keyed c.taken-marked.ensures.among c.taken-marked.ensures.absent c.taken-marked.ensures.of_units
-    c.self.invariant.apart c.in_ok-free.ensures.freed).1
+    (aborted c.args.home.now c.args.unit.0 c.self.inside.free.entries
+    c.all_returned.new.free.entries c.self.inside.marked.entries c.taken-list.new.marked.entries
+    c.taken-list.result.items
+    c.self.invariant.keyed c.taken-list.ensures.among c.taken-list.ensures.absent c.taken-list.ensures.of_units
+    c.self.invariant.apart c.in_ok-leaving.ensures.freed).1
     ∙ ap (staying c.args.home.now c.args.unit.0) c.self.view_is
 
 pub returns-clause-sent : goal.returns-clause-sent
 returns-clause-sent c =
-    let gone = departed c.any_order.ensures.order c.args.home.now c.args.unit.0 c.self.inside.free.entries
-    c.self.inside.marked.entries c.taken-marked.result.0.entries c.taken-marked.result.1.items
-    c.self.invariant.keyed c.taken-marked.ensures.among c.taken-marked.ensures.absent c.taken-marked.ensures.of_units
+    let gone = departed c.args.home.now c.args.unit.0 c.self.inside.free.entries
+    c.self.inside.marked.entries c.taken-list.new.marked.entries c.taken-list.result.items
+    c.self.invariant.keyed c.taken-list.ensures.among c.taken-list.ensures.absent c.taken-list.ensures.of_units
     c.self.invariant.apart in
     c.in_ok-send.ensures.sent
     ∙ ap (λ (xs : List Element). c.args.sent.now.items ++ sent_from c.args.place c.args.home.now xs)
     (c.elements_by_id.ensures
-    ∙ (ap sorted c.in_ok-free.ensures.leaving
+    ∙ (ap sorted c.in_ok-leaving.ensures.leaving
     ∙ (sym gone ∙ ap (filter (leaves c.args.home.now c.args.unit.0)) c.self.view_is)))

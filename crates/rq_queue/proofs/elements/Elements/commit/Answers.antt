@@ -8,13 +8,13 @@ use Rattle.rq_queue.proofs.elements.Elements.commit.Goals as goal
 
 pub invariant_of-result : goal.invariant_of-result
 invariant_of-result c =
-    let done = committed c.any_order.ensures.order c.args.unit.0 c.self.inside.free.entries c.in_ok-free.free.entries
-    c.self.inside.marked.entries c.taken-marked.result.0.entries c.taken-marked.result.1.items
-    c.self.invariant.keyed c.taken-marked.ensures.among c.taken-marked.ensures.absent c.taken-marked.ensures.of_units
-    c.taken-marked.ensures.of_unit c.self.invariant.apart c.in_ok-free.ensures.freed in
+    let done = committed c.args.unit.0 c.self.inside.free.entries c.all_freed.new.free.entries
+    c.self.inside.marked.entries c.taken-list.new.marked.entries c.taken-list.result.items
+    c.self.invariant.keyed c.taken-list.ensures.among c.taken-list.ensures.absent c.taken-list.ensures.of_units
+    c.taken-list.ensures.of_unit c.self.invariant.apart c.in_ok-all_freed.ensures.freed in
     record {
       keyed = done.0.0;
-      of_units = c.taken-marked.ensures.of_units;
+      of_units = c.taken-list.ensures.of_units;
       apart = done.0.1;
       known = subst (AreKnown c.self.inside.priorities) (sym done.1)
           (known_committed c.self.inside.priorities c.args.unit.0
@@ -23,8 +23,8 @@ invariant_of-result c =
 
 pub returns-clause-done : goal.returns-clause-done
 returns-clause-done c =
-    (committed c.any_order.ensures.order c.args.unit.0 c.self.inside.free.entries c.in_ok-free.free.entries
-    c.self.inside.marked.entries c.taken-marked.result.0.entries c.taken-marked.result.1.items
-    c.self.invariant.keyed c.taken-marked.ensures.among c.taken-marked.ensures.absent c.taken-marked.ensures.of_units
-    c.taken-marked.ensures.of_unit c.self.invariant.apart c.in_ok-free.ensures.freed).1
+    (committed c.args.unit.0 c.self.inside.free.entries c.all_freed.new.free.entries
+    c.self.inside.marked.entries c.taken-list.new.marked.entries c.taken-list.result.items
+    c.self.invariant.keyed c.taken-list.ensures.among c.taken-list.ensures.absent c.taken-list.ensures.of_units
+    c.taken-list.ensures.of_unit c.self.invariant.apart c.in_ok-all_freed.ensures.freed).1
     ∙ ap (committed_elements c.args.unit.0) c.self.view_is

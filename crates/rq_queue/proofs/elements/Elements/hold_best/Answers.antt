@@ -12,16 +12,16 @@ use Rattle.rq_queue.proofs.elements.Elements.hold_best.Goals as goal
 
 pub invariant_of-all-in-Some : goal.invariant_of-all-in-Some
 invariant_of-all-in-Some c =
-    let done = held c.any_order.ensures.order c.args.unit.0 c.args.queue.0
+    let done = held c.args.unit.0 c.args.queue.0
     (c.in-Some.field-0-0, c.in-Some.e) c.self.inside.free.entries c.pop_first.new.self.entries
-    c.self.inside.marked.entries c.in_ok-marked-in-Some.marked.entries c.in-Some.ensures.removal
-    (subst (λ (x : Element). Stowed x c.self.inside.marked.entries c.in_ok-marked-in-Some.marked.entries)
-    c.set_mark.ensures c.in_ok-marked-in-Some.ensures.stowed) c.self.invariant.keyed c.self.invariant.of_units
+    c.self.inside.marked.entries c.stow.new.marked.entries c.in-Some.ensures.removal
+    (subst (λ (x : Element). Stowed x c.self.inside.marked.entries c.stow.new.marked.entries)
+    c.set_mark.ensures c.in_ok-stow-in-Some.ensures.stowed) c.self.invariant.keyed c.self.invariant.of_units
     (recursion_from_All _ _ c.in-Some.ensures.all_above) c.self.invariant.apart
     (subst (AllByRecursion (λ (x : Element). x.home ≡ c.args.queue.0)) (sym c.self.view_is) c.requires) in
     record {
       keyed = done.1.1;
-      of_units = c.in_ok-marked-in-Some.ensures.of_units;
+      of_units = c.in_ok-stow-in-Some.ensures.of_units;
       apart = done.1.0;
       known = subst (AreKnown c.self.inside.priorities) (sym done.0)
           (known_held c.self.inside.priorities c.args.unit.0 c.args.queue.0
@@ -34,13 +34,13 @@ returns-in-None-clause-held c =
     c.self.inside.marked.entries c.in-None.ensures.variant.1 c.in-None.ensures.unchanged c.self.invariant.of_units
     ∙ ap (best_held c.args.unit.0 c.args.queue.0) c.self.view_is
 
-pub returns-in_ok-marked-in-Some-clause-held : goal.returns-in_ok-marked-in-Some-clause-held
-returns-in_ok-marked-in-Some-clause-held c =
-    (held c.any_order.ensures.order c.args.unit.0 c.args.queue.0
+pub returns-in_ok-stow-in-Some-clause-held : goal.returns-in_ok-stow-in-Some-clause-held
+returns-in_ok-stow-in-Some-clause-held c =
+    (held c.args.unit.0 c.args.queue.0
     (c.in-Some.field-0-0, c.in-Some.e) c.self.inside.free.entries c.pop_first.new.self.entries
-    c.self.inside.marked.entries c.in_ok-marked-in-Some.marked.entries c.in-Some.ensures.removal
-    (subst (λ (x : Element). Stowed x c.self.inside.marked.entries c.in_ok-marked-in-Some.marked.entries)
-    c.set_mark.ensures c.in_ok-marked-in-Some.ensures.stowed) c.self.invariant.keyed c.self.invariant.of_units
+    c.self.inside.marked.entries c.stow.new.marked.entries c.in-Some.ensures.removal
+    (subst (λ (x : Element). Stowed x c.self.inside.marked.entries c.stow.new.marked.entries)
+    c.set_mark.ensures c.in_ok-stow-in-Some.ensures.stowed) c.self.invariant.keyed c.self.invariant.of_units
     (recursion_from_All _ _ c.in-Some.ensures.all_above) c.self.invariant.apart
     (subst (AllByRecursion (λ (x : Element). x.home ≡ c.args.queue.0)) (sym c.self.view_is) c.requires)).0
     ∙ ap (best_held c.args.unit.0 c.args.queue.0) c.self.view_is
@@ -51,8 +51,8 @@ returns-in-None-clause-best c =
     c.self.invariant.of_units) ∙ ap (λ (es : List Element). option_map (λ (e : Element). e.id) (best c.args.queue.0 es))
     c.self.view_is
 
-pub returns-in_ok-marked-in-Some-clause-best : goal.returns-in_ok-marked-in-Some-clause-best
-returns-in_ok-marked-in-Some-clause-best c =
+pub returns-in_ok-stow-in-Some-clause-best : goal.returns-in_ok-stow-in-Some-clause-best
+returns-in_ok-stow-in-Some-clause-best c =
     ap (λ n. Some n) c.id-id.ensures
     ∙ (sym (best_first c.args.queue.0 (c.in-Some.field-0-0, c.in-Some.e) c.self.inside.free.entries
     c.pop_first.new.self.entries c.self.inside.marked.entries c.in-Some.ensures.removal c.self.invariant.keyed

@@ -6,7 +6,8 @@ use Rattle.rq_model.specs.Machine.{killed}
 use Rattle.rq_queue.specs.Kept.{items_of}
 use Rattle.rq_queue.specs.Priorities.{IsKnown}
 use Rattle.rq_queue.proofs.Known.{kill_done, known_killed, known_unsorted}
-use Rattle.rq_queue.proofs.Sorting.{apart_front, each_front}
+use Rattle.rq_queue.proofs.ByNumber.{each_front}
+use Rattle.rq_queue.proofs.Sorting.{apart_front}
 use Rattle.rq_queue.proofs.elements.Elements.kill.Goals as goal
 
 pub known-requires-clause-known : goal.known-requires-clause-known

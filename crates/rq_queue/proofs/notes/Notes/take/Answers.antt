@@ -7,9 +7,9 @@ use Rattle.rq_model.specs.States.{Note}
 use Rattle.rq_model.proofs.Lists.{each_filter}
 use Rattle.rq_queue.specs.Noted.{Apart, NoteEntry, AreKept, by_place, filed, left}
 use Rattle.rq_queue.specs.declared.whose.Whose.TheVariants.{OfUnit}
-use Rattle.rq_queue.proofs.NotesInOrder.{rising_sorted}
+use Rattle.rq_queue.proofs.ByNumber.{apart_front, rising_sorted}
 use Rattle.rq_queue.proofs.Noting.{all_filed, others_filed, left_all, values_left, values_drawn, filtered_by_place}
-use Rattle.rq_queue.proofs.Noting.{apart_front}
+use Rattle.rq_queue.proofs.Noting.{place_of}
 use Rattle.rq_queue.proofs.Registered.{same_number}
 use Rattle.rq_queue.proofs.notes.Notes.take.Goals as goal
 
@@ -34,8 +34,8 @@ invariant_of-notes c =
     })
 
 pub notes_by_place-requires : goal.notes_by_place-requires
-notes_by_place-requires c = rising_sorted c.in_ok-all.own.items
-    (apart_front c.in_ok-all.own.items (values_of c.in_ok-all.all.entries) c.in_ok-all.ensures.apart)
+notes_by_place-requires c = rising_sorted place_of c.in_ok-all.own.items
+    (apart_front place_of c.in_ok-all.own.items (values_of c.in_ok-all.all.entries) c.in_ok-all.ensures.apart)
 
 pub returns-clause-others : goal.returns-clause-others
 returns-clause-others c =
