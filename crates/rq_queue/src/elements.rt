@@ -1,7 +1,7 @@
 //! The elements of a queue.
 
 ghost use Rattle.std.specs.Prelude.{◌≡◌, ◌≢◌, ◌+◌, ◌<◌, ◌&&◌, ◌^◌, ◌∷◌, ◌++◌, [], not, map, filter};
-ghost use Rattle.std.specs.Prelude.{option_map, IfOk, IfErr, OnOk};
+ghost use Rattle.std.specs.Prelude.{◌*◌, ◌-◌, ◌≤◌, length, option_map, IfOk, IfErr, OnOk, SomeIff};
 ghost use Rattle.std.specs.List.{AllByRecursion};
 ghost use Rattle.std.specs.List.Sorted.{IsPermutation};
 ghost use Rattle.rq_model.specs.Machine as machine;
@@ -11,9 +11,11 @@ ghost use Rattle.rq_queue.specs.Kept.{sent_from};
 ghost use Rattle.rq_record.specs.declared.fault.Fault.TheVariants.{Resources};
 ghost use Rattle.rq_state.specs.Views.{id_of};
 
+use crate::copies::{free_copies, with_marked_copies};
 use crate::departures::{elements_by_id, send};
 use crate::moves::KeptMove;
 use crate::priorities::{elements_without, kept_with, known};
+use crate::rooms::{ELEMENT, room_after, room_after_marked};
 use crate::shelves::{
     Rank, all_freed, all_returned, free_list, mapped, parted, shelve, stow, taken, with_marked,
 };
@@ -85,6 +87,24 @@ impl Elements {
         let mut all = free_list(alloc, self.free)?;
         with_marked(&mut all, self.marked)?;
         Ok(all)
+    }
+
+    /// Copies of all of them, in some order.
+    pub(crate) fn copies(&self, alloc: Global) -> Result<Vec<KeptElement>, Fault>
+        ensures listed { IfOk result (λ v. IsPermutation self.now v.items) }
+        ensures refused { IfErr result (λ e. e ≡ Resources) }
+    {
+        let mut all = free_copies(alloc, &self.free)?;
+        with_marked_copies(&mut all, &self.marked)?;
+        Ok(all)
+    }
+
+    /// The room that they leave of so many bytes. None if they do not fit.
+    pub(crate) fn room_left(&self, room: u64) -> Option<u64>
+        ensures { SomeIff result (28 * length self.now ≤ room) (room - 28 * length self.now) }
+    {
+        let left = room_after(room, ELEMENT, self.free.len())?;
+        room_after_marked(left, &self.marked)
     }
 
     /// Puts in an element of a new id.

@@ -1,6 +1,7 @@
 //! The notes of a queue: operations of open units by somebody named.
 
 ghost use Rattle.std.specs.Prelude.{◌≡◌, ◌<◌, ◌==◌, ◌++◌, ◌∷◌, [], filter, IfOk, IfErr};
+ghost use Rattle.std.specs.Prelude.{◌*◌, ◌-◌, ◌≤◌, length, SomeIff};
 ghost use Rattle.std.specs.List.{AllByRecursion};
 ghost use Rattle.std.specs.Map.{values_of};
 ghost use Rattle.rq_model.specs.Machine as machine;
@@ -13,6 +14,7 @@ use crate::draws::{drawn, notes_by_place, notes_without};
 use crate::kept_note::KeptNote;
 use crate::keys::slim;
 use crate::places::{file, unfiled};
+use crate::rooms::{NOTE, room_after};
 use crate::whose::Whose;
 use rq_record::{ElemId, Fault, KeptBy, KeptName, Name, QueueNo, UnitNo};
 use rq_state::{Last, Note, OpKind};
@@ -91,7 +93,22 @@ impl Notes {
         ensures listed { IfOk result (λ v. v.items ≡ self) }
         ensures refused { IfErr result (λ e. e ≡ Resources) }
     {
-        listed(alloc, self.all)
+        listed(alloc, &self.all)
+    }
+
+    /// Copies of all of them, by place.
+    pub(crate) fn copies(&self, alloc: Global) -> Result<Vec<Note>, Fault>
+        ensures listed { IfOk result (λ v. v.items ≡ self.now) }
+        ensures refused { IfErr result (λ e. e ≡ Resources) }
+    {
+        listed(alloc, &self.all)
+    }
+
+    /// The room that they leave of so many bytes. None if they do not fit.
+    pub(crate) fn room_left(&self, room: u64) -> Option<u64>
+        ensures { SomeIff result (38 * length self.now ≤ room) (room - 38 * length self.now) }
+    {
+        room_after(room, NOTE, self.all.len())
     }
 
     /// Adds the note of an operation, if somebody is named.
@@ -162,12 +179,12 @@ impl Notes {
 }
 
 // The notes, by place.
-fn listed(alloc: Global, notes: BTreeMap<u64, KeptNote>) -> Result<Vec<Note>, Fault>
-    ensures listed { IfOk result (λ v. v.items ≡ values_of notes.entries) }
+fn listed(alloc: Global, notes: &BTreeMap<u64, KeptNote>) -> Result<Vec<Note>, Fault>
+    ensures listed { IfOk result (λ v. v.items ≡ values_of notes.now.entries) }
     ensures refused { IfErr result (λ e. e ≡ Resources) }
 {
-    let mut all = Vec::new(alloc);
-    for n in notes.into_values() {
+    let mut all = Vec::with_capacity(alloc, notes.len())?;
+    for n in notes.values() {
         all.push(n.note())?;
     }
     Ok(all)

@@ -1,7 +1,7 @@
 //! What belongs to one queue.
 
 ghost use Rattle.std.specs.Prelude.{◌≡◌, ◌≢◌, ◌+◌, ◌<◌, ◌^◌, ◌++◌, ◌∷◌, [], length, IfOk, IfErr};
-ghost use Rattle.std.specs.Prelude.{OnOk};
+ghost use Rattle.std.specs.Prelude.{◌-◌, ◌≤◌, OnOk, SomeIff};
 ghost use Rattle.std.specs.List.{AllByRecursion};
 ghost use Rattle.rq_model.specs.Queues as queues;
 ghost use Rattle.rq_model.specs.Records as records;
@@ -9,6 +9,7 @@ ghost use Rattle.rq_model.specs.Ready.{IsReady};
 ghost use Rattle.rq_model.specs.Redo as redo_words;
 ghost use Rattle.rq_model.specs.States as states;
 ghost use Rattle.rq_queue.specs.Pouring.{Grows};
+ghost use Rattle.rq_queue.specs.Rooms.{member_bytes};
 ghost use Rattle.rq_record.specs.declared.fault.Fault.TheVariants.{Resources};
 
 use crate::elements::Elements;
@@ -141,6 +142,40 @@ impl Part {
         let registrants = self.registrants.list(alloc)?;
         let notes = self.notes.list(alloc)?;
         add_members(fields, elements, registrants, notes)
+    }
+
+    /// Adds copies of its elements, registrants and notes to the lists. Refused with Resources: the
+    /// fields are then as before.
+    pub fn pour_copies(&self, fields: &mut KeptFields) -> Result<(), Fault>
+        ensures elements { Grows fields.old.elements.items
+            self.now.elements fields.new.elements.items result }
+        ensures registrants { Grows fields.old.registrants.items
+            self.now.registrants fields.new.registrants.items result }
+        ensures notes { Grows fields.old.notes.items self.now.notes fields.new.notes.items result }
+        ensures next { fields.new.next ≡ fields.old.next }
+        ensures greatest { fields.new.greatest ≡ fields.old.greatest }
+        ensures committed { fields.new.committed ≡ fields.old.committed }
+        ensures aborted { fields.new.aborted ≡ fields.old.aborted }
+        ensures definitions { fields.new.definitions ≡ fields.old.definitions }
+        ensures units { fields.new.units ≡ fields.old.units }
+        ensures refused { IfErr result (λ e. e ≡ Resources) }
+    {
+        let alloc = *fields.elements.allocator();
+        let elements = self.elements.copies(alloc)?;
+        let registrants = self.registrants.copies(alloc)?;
+        let notes = self.notes.copies(alloc)?;
+        add_members(fields, elements, registrants, notes)
+    }
+
+    /// The room that its members leave of so many bytes, each member spelled in its shortest form:
+    /// 6 bytes for a registrant, 28 for an element, 38 for a note. None if they do not fit. It looks
+    /// at no more lists than fit.
+    pub fn room_left(&self, room: u64) -> Option<u64>
+        ensures { SomeIff result (member_bytes self.now ≤ room) (room - member_bytes self.now) }
+    {
+        let left = self.registrants.room_left(room)?;
+        let left = self.notes.room_left(left)?;
+        self.elements.room_left(left)
     }
 
     /// Puts in what arrives.

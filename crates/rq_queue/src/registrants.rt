@@ -1,6 +1,7 @@
 //! The registrants of a queue.
 
 ghost use Rattle.std.specs.Prelude.{◌≡◌, ◌++◌, ◌∷◌, [], true, map, IfOk, IfErr};
+ghost use Rattle.std.specs.Prelude.{◌*◌, ◌-◌, ◌≤◌, length, SomeIff};
 ghost use Rattle.std.specs.List.{AllByRecursion};
 ghost use Rattle.rq_model.specs.Machine as machine;
 ghost use Rattle.rq_model.specs.States as model;
@@ -11,6 +12,7 @@ ghost use Rattle.rq_record.specs.declared.fault.Fault.TheVariants.{Resources};
 use crate::kept_last::KeptLast;
 use crate::kept_note::KeptNote;
 use crate::keys::slim;
+use crate::rooms::{REGISTRANT, room_after};
 use rq_record::{Fault, KeptName, Name, QueueNo, UnitNo};
 use rq_state::Registrant;
 use std::alloc::Global;
@@ -78,7 +80,22 @@ impl Registrants {
         ensures listed { IfOk result (λ v. v.items ≡ self) }
         ensures refused { IfErr result (λ e. e ≡ Resources) }
     {
-        listed(alloc, self.lasts)
+        listed(alloc, &self.lasts)
+    }
+
+    /// Copies of all of them, in order.
+    pub(crate) fn copies(&self, alloc: Global) -> Result<Vec<Registrant>, Fault>
+        ensures listed { IfOk result (λ v. v.items ≡ self.now) }
+        ensures refused { IfErr result (λ e. e ≡ Resources) }
+    {
+        listed(alloc, &self.lasts)
+    }
+
+    /// The room that they leave of so many bytes. None if they do not fit.
+    pub(crate) fn room_left(&self, room: u64) -> Option<u64>
+        ensures { SomeIff result (6 * length self.now ≤ room) (room - 6 * length self.now) }
+    {
+        room_after(room, REGISTRANT, self.lasts.len())
     }
 
     /// Registers a name, unless it is registered.
@@ -166,12 +183,12 @@ fn hear_all(
 // The registrants, in order.
 fn listed(
     alloc: Global,
-    lasts: BTreeMap<(u32, KeptName), KeptLast>,
+    lasts: &BTreeMap<(u32, KeptName), KeptLast>,
 ) -> Result<Vec<Registrant>, Fault>
-    ensures listed { IfOk result (λ v. v.items ≡ map registrant_of lasts.entries) }
+    ensures listed { IfOk result (λ v. v.items ≡ map registrant_of lasts.now.entries) }
     ensures refused { IfErr result (λ e. e ≡ Resources) }
 {
-    let mut all = Vec::new(alloc);
+    let mut all = Vec::with_capacity(alloc, lasts.len())?;
     for (key, last) in lasts {
         all.push(Registrant {
             queue: QueueNo(key.0),
