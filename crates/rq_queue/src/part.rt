@@ -248,8 +248,7 @@ impl Part {
         let notes = replace(&mut self.notes, Notes::none(alloc));
         let (notes, heard) = notes.take(alloc, unit)?;
         self.notes = notes;
-        let registrants = replace(&mut self.registrants, Registrants::none(alloc));
-        self.registrants = registrants.hear(alloc, unit, &heard)?;
+        self.registrants.hear(alloc, unit, &heard)?;
         let elements = replace(&mut self.elements, Elements::none(alloc));
         self.elements = elements.commit(alloc, unit)?;
         Ok(())
@@ -285,9 +284,7 @@ impl Part {
             (self.new ≡ redo_words.act 0 (records.Register queue.0 name.now) self.old) }
         ensures refused { IfErr result (λ e. e ≡ Resources) }
     {
-        let registrants = replace(&mut self.registrants, Registrants::none(alloc));
-        self.registrants = registrants.register(alloc, queue, name)?;
-        Ok(())
+        self.registrants.register(alloc, queue, name)
     }
 
     fn deregister(&mut self, alloc: Global, queue: QueueNo, name: &Name) -> Result<(), Fault>
@@ -295,8 +292,7 @@ impl Part {
             (self.new ≡ redo_words.act 0 (records.Deregister queue.0 name.now) self.old) }
         ensures refused { IfErr result (λ e. e ≡ Resources) }
     {
-        let registrants = replace(&mut self.registrants, Registrants::none(alloc));
-        self.registrants = registrants.deregister(alloc, queue, name)?;
+        self.registrants.deregister(alloc, queue, name)?;
         let notes = replace(&mut self.notes, Notes::none(alloc));
         self.notes = notes.forget(alloc, queue, name)?;
         Ok(())
