@@ -210,9 +210,8 @@ impl Part {
         let id = Some(ElemId(place));
         let elements = replace(&mut self.elements, Elements::none(alloc));
         self.elements = elements.add(alloc, place, unit, queue, priority, payload)?;
-        let notes = replace(&mut self.notes, Notes::none(alloc));
-        self.notes = notes.note(alloc, place, unit, queue, by, OpKind::Enqueue, id)?;
-        Ok(())
+        self.notes
+            .note(alloc, place, unit, queue, by, OpKind::Enqueue, id)
     }
 
     fn dequeue(
@@ -234,9 +233,8 @@ impl Part {
         let elements = replace(&mut self.elements, Elements::none(alloc));
         let (elements, id) = elements.hold_best(alloc, unit, queue)?;
         self.elements = elements;
-        let notes = replace(&mut self.notes, Notes::none(alloc));
-        self.notes = notes.note(alloc, place, unit, queue, by, OpKind::Dequeue, id)?;
-        Ok(())
+        self.notes
+            .note(alloc, place, unit, queue, by, OpKind::Dequeue, id)
     }
 
     /// Commits a unit in the queue. A part that refuses is no longer of use.
@@ -245,9 +243,7 @@ impl Part {
             (self.new ≡ redo_words.act 0 (records.Commit unit.0) self.old) }
         ensures refused { IfErr result (λ e. e ≡ Resources) }
     {
-        let notes = replace(&mut self.notes, Notes::none(alloc));
-        let (notes, heard) = notes.take(alloc, unit)?;
-        self.notes = notes;
+        let heard = self.notes.take(alloc, unit)?;
         self.registrants.hear(alloc, unit, &heard)?;
         let elements = replace(&mut self.elements, Elements::none(alloc));
         self.elements = elements.commit(alloc, unit)?;
@@ -273,9 +269,7 @@ impl Part {
     {
         let elements = replace(&mut self.elements, Elements::none(alloc));
         self.elements = elements.abort(alloc, place, unit, &self.definition, sent)?;
-        let notes = replace(&mut self.notes, Notes::none(alloc));
-        let (notes, _) = notes.take(alloc, unit)?;
-        self.notes = notes;
+        self.notes.take(alloc, unit)?;
         Ok(())
     }
 
@@ -293,9 +287,7 @@ impl Part {
         ensures refused { IfErr result (λ e. e ≡ Resources) }
     {
         self.registrants.deregister(alloc, queue, name)?;
-        let notes = replace(&mut self.notes, Notes::none(alloc));
-        self.notes = notes.forget(alloc, queue, name)?;
-        Ok(())
+        self.notes.forget(alloc, queue, name)
     }
 
     fn kill(&mut self, alloc: Global, queue: QueueNo, element: ElemId) -> Result<(), Fault>
