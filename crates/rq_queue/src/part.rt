@@ -22,7 +22,6 @@ use rq_record::{ElemId, Fault, KeptBy, KeptPayload, KeptRecord, Name, QueueNo, U
 use rq_state::{Definition, Fields, KeptFields, OpKind, State, told_elements};
 use std::alloc::Global;
 use std::marker::Model;
-use std::mem::replace;
 
 /// What belongs to one queue: its definition, elements, registrants, and notes of open units.
 #[derive(Drop)]
@@ -185,9 +184,7 @@ impl Part {
         ensures part { OnOk result (self.new ≡ redo_words.receive (arrival ∷ []) self.old) }
         ensures refused { IfErr result (λ e. e ≡ Resources) }
     {
-        let elements = replace(&mut self.elements, Elements::none(alloc));
-        self.elements = elements.put(alloc, arrival.element)?;
-        Ok(())
+        self.elements.put(alloc, arrival.element)
     }
 
     fn enqueue(
@@ -208,8 +205,8 @@ impl Part {
         ensures refused { IfErr result (λ e. e ≡ Resources) }
     {
         let id = Some(ElemId(place));
-        let elements = replace(&mut self.elements, Elements::none(alloc));
-        self.elements = elements.add(alloc, place, unit, queue, priority, payload)?;
+        self.elements
+            .add(alloc, place, unit, queue, priority, payload)?;
         self.notes
             .note(alloc, place, unit, queue, by, OpKind::Enqueue, id)
     }
@@ -230,9 +227,7 @@ impl Part {
             (self.new ≡ redo_words.act place (records.Dequeue unit.0 queue.0 by.now) self.old) }
         ensures refused { IfErr result (λ e. e ≡ Resources) }
     {
-        let elements = replace(&mut self.elements, Elements::none(alloc));
-        let (elements, id) = elements.hold_best(alloc, unit, queue)?;
-        self.elements = elements;
+        let id = self.elements.hold_best(alloc, unit, queue)?;
         self.notes
             .note(alloc, place, unit, queue, by, OpKind::Dequeue, id)
     }
@@ -245,9 +240,7 @@ impl Part {
     {
         let heard = self.notes.take(alloc, unit)?;
         self.registrants.hear(alloc, unit, &heard)?;
-        let elements = replace(&mut self.elements, Elements::none(alloc));
-        self.elements = elements.commit(alloc, unit)?;
-        Ok(())
+        self.elements.commit(alloc, unit)
     }
 
     /// Aborts a unit in the queue, and adds what leaves it for its error queue. A part that refuses
@@ -267,8 +260,8 @@ impl Part {
             ≡ sent.old.items ++ redo_words.sent place (records.Abort unit.0) self.old) }
         ensures refused { IfErr result (λ e. e ≡ Resources) }
     {
-        let elements = replace(&mut self.elements, Elements::none(alloc));
-        self.elements = elements.abort(alloc, place, unit, &self.definition, sent)?;
+        self.elements
+            .abort(alloc, place, unit, &self.definition, sent)?;
         self.notes.take(alloc, unit)?;
         Ok(())
     }
@@ -297,9 +290,7 @@ impl Part {
             (self.new ≡ redo_words.act 0 (records.Kill queue.0 element.0) self.old) }
         ensures refused { IfErr result (λ e. e ≡ Resources) }
     {
-        let elements = replace(&mut self.elements, Elements::none(alloc));
-        self.elements = elements.kill(alloc, queue, element)?;
-        Ok(())
+        self.elements.kill(alloc, queue, element)
     }
 
     /// Does one operation of the queue. A part that refuses is no longer of use.
