@@ -15,7 +15,6 @@ pub mod Merging
 pub mod Openings
 pub mod Pairs
 pub mod Placing
-pub mod Pouring
 pub mod Ranks
 pub mod Settles
 pub mod Sources

@@ -13,3 +13,4 @@ pub mod Cases
 pub mod Known
 pub mod Building
 pub mod Poured
+pub mod Gathered

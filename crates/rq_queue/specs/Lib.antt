@@ -6,3 +6,4 @@ pub mod Listed
 pub mod Roll
 pub mod Noted
 pub mod Priorities
+pub mod Rooms

@@ -1,7 +1,11 @@
 -- What pouring a part out does to a list.
-use Rattle.std.specs.Prelude.{◌≡◌, List, ◌++◌, Result, Ok, Err}
+use Rattle.std.specs.Prelude.{ℕ, ◌≡◌, List, ◌++◌, Result, Ok, Err}
 use Rattle.std.specs.List.Sorted.{IsPermutation}
+use Rattle.rq_model.specs.Laws.{gathered}
+use Rattle.rq_model.specs.Queues.{part_of}
+use Rattle.rq_model.specs.States.{State}
 use Rattle.rq_record.specs.declared.fault.Fault.{Fault}
+use Rattle.rq_state.specs.Inside.{Fields}
 
 -- these members are added after what the list had, in some order; refused, it is as it was
 abbrev pub Grows : {X U : Type 0} → List X → List X → List X → Result U Fault → Type 0
@@ -13,3 +17,18 @@ Grows old members new (Err _) = new ≡ old
 abbrev pub Joins : {X U : Type 0} → List X → List X → List X → Result U Fault → Type 0
 Joins old members new (Ok _) = new ≡ old ++ members
 Joins old members new (Err _) = new ≡ old
+
+-- the parts of the first n queues are poured out, and nothing else is changed
+pub record HasPoured (t : State) (n : ℕ) (old new : Fields) : Type 0 where
+  pub elements : IsPermutation
+      (old.elements.items ++ gathered (λ p. p.elements) (part_of t) n) new.elements.items
+  pub registrants : IsPermutation
+      (old.registrants.items ++ gathered (λ p. p.registrants) (part_of t) n) new.registrants.items
+  pub notes : IsPermutation
+      (old.notes.items ++ gathered (λ p. p.notes) (part_of t) n) new.notes.items
+  pub next : new.next ≡ old.next
+  pub greatest : new.greatest ≡ old.greatest
+  pub committed : new.committed ≡ old.committed
+  pub aborted : new.aborted ≡ old.aborted
+  pub definitions : new.definitions ≡ old.definitions
+  pub units : new.units ≡ old.units

@@ -2,6 +2,7 @@
 //! other queues give two things: its part after the run, and what left it for its error queue.
 #![tactic(auto)]
 
+mod copies;
 mod departures;
 mod draws;
 mod elements;
@@ -17,6 +18,7 @@ mod poured_members;
 mod priorities;
 mod queue_redo;
 mod registrants;
+mod rooms;
 mod shelves;
 mod whose;
 

@@ -1,7 +1,7 @@
 //! What belongs to one queue.
 
 ghost use Rattle.std.specs.Prelude.{◌≡◌, ◌≢◌, ◌+◌, ◌<◌, ◌^◌, ◌++◌, ◌∷◌, [], length, IfOk, IfErr};
-ghost use Rattle.std.specs.Prelude.{OnOk};
+ghost use Rattle.std.specs.Prelude.{◌-◌, ◌≤◌, OnOk, SomeIff};
 ghost use Rattle.std.specs.List.{AllByRecursion};
 ghost use Rattle.rq_model.specs.Queues as queues;
 ghost use Rattle.rq_model.specs.Records as records;
@@ -9,6 +9,7 @@ ghost use Rattle.rq_model.specs.Ready.{IsReady};
 ghost use Rattle.rq_model.specs.Redo as redo_words;
 ghost use Rattle.rq_model.specs.States as states;
 ghost use Rattle.rq_queue.specs.Pouring.{Grows};
+ghost use Rattle.rq_queue.specs.Rooms.{member_bytes};
 ghost use Rattle.rq_record.specs.declared.fault.Fault.TheVariants.{Resources};
 
 use crate::elements::Elements;
@@ -21,7 +22,6 @@ use rq_record::{ElemId, Fault, KeptBy, KeptPayload, KeptRecord, Name, QueueNo, U
 use rq_state::{Definition, Fields, KeptFields, OpKind, State, told_elements};
 use std::alloc::Global;
 use std::marker::Model;
-use std::mem::replace;
 
 /// What belongs to one queue: its definition, elements, registrants, and notes of open units.
 #[derive(Drop)]
@@ -143,6 +143,40 @@ impl Part {
         add_members(fields, elements, registrants, notes)
     }
 
+    /// Adds copies of its elements, registrants and notes to the lists. Refused with Resources: the
+    /// fields are then as before.
+    pub fn pour_copies(&self, fields: &mut KeptFields) -> Result<(), Fault>
+        ensures elements { Grows fields.old.elements.items
+            self.now.elements fields.new.elements.items result }
+        ensures registrants { Grows fields.old.registrants.items
+            self.now.registrants fields.new.registrants.items result }
+        ensures notes { Grows fields.old.notes.items self.now.notes fields.new.notes.items result }
+        ensures next { fields.new.next ≡ fields.old.next }
+        ensures greatest { fields.new.greatest ≡ fields.old.greatest }
+        ensures committed { fields.new.committed ≡ fields.old.committed }
+        ensures aborted { fields.new.aborted ≡ fields.old.aborted }
+        ensures definitions { fields.new.definitions ≡ fields.old.definitions }
+        ensures units { fields.new.units ≡ fields.old.units }
+        ensures refused { IfErr result (λ e. e ≡ Resources) }
+    {
+        let alloc = *fields.elements.allocator();
+        let elements = self.elements.copies(alloc)?;
+        let registrants = self.registrants.copies(alloc)?;
+        let notes = self.notes.copies(alloc)?;
+        add_members(fields, elements, registrants, notes)
+    }
+
+    /// The room that its members leave of so many bytes, each member spelled in its shortest form:
+    /// 6 bytes for a registrant, 28 for an element, 38 for a note. None if they do not fit. It looks
+    /// at no more lists than fit.
+    pub fn room_left(&self, room: u64) -> Option<u64>
+        ensures { SomeIff result (member_bytes self.now ≤ room) (room - member_bytes self.now) }
+    {
+        let left = self.registrants.room_left(room)?;
+        let left = self.notes.room_left(left)?;
+        self.elements.room_left(left)
+    }
+
     /// Puts in what arrives.
     pub fn receive(&mut self, alloc: Global, arrival: KeptMove) -> Result<(), Fault>
         requires new { AllByRecursion
@@ -150,9 +184,7 @@ impl Part {
         ensures part { OnOk result (self.new ≡ redo_words.receive (arrival ∷ []) self.old) }
         ensures refused { IfErr result (λ e. e ≡ Resources) }
     {
-        let elements = replace(&mut self.elements, Elements::none(alloc));
-        self.elements = elements.put(alloc, arrival.element)?;
-        Ok(())
+        self.elements.put(alloc, arrival.element)
     }
 
     fn enqueue(
@@ -173,11 +205,10 @@ impl Part {
         ensures refused { IfErr result (λ e. e ≡ Resources) }
     {
         let id = Some(ElemId(place));
-        let elements = replace(&mut self.elements, Elements::none(alloc));
-        self.elements = elements.add(alloc, place, unit, queue, priority, payload)?;
-        let notes = replace(&mut self.notes, Notes::none(alloc));
-        self.notes = notes.note(alloc, place, unit, queue, by, OpKind::Enqueue, id)?;
-        Ok(())
+        self.elements
+            .add(alloc, place, unit, queue, priority, payload)?;
+        self.notes
+            .note(alloc, place, unit, queue, by, OpKind::Enqueue, id)
     }
 
     fn dequeue(
@@ -196,12 +227,9 @@ impl Part {
             (self.new ≡ redo_words.act place (records.Dequeue unit.0 queue.0 by.now) self.old) }
         ensures refused { IfErr result (λ e. e ≡ Resources) }
     {
-        let elements = replace(&mut self.elements, Elements::none(alloc));
-        let (elements, id) = elements.hold_best(alloc, unit, queue)?;
-        self.elements = elements;
-        let notes = replace(&mut self.notes, Notes::none(alloc));
-        self.notes = notes.note(alloc, place, unit, queue, by, OpKind::Dequeue, id)?;
-        Ok(())
+        let id = self.elements.hold_best(alloc, unit, queue)?;
+        self.notes
+            .note(alloc, place, unit, queue, by, OpKind::Dequeue, id)
     }
 
     /// Commits a unit in the queue. A part that refuses is no longer of use.
@@ -210,14 +238,9 @@ impl Part {
             (self.new ≡ redo_words.act 0 (records.Commit unit.0) self.old) }
         ensures refused { IfErr result (λ e. e ≡ Resources) }
     {
-        let notes = replace(&mut self.notes, Notes::none(alloc));
-        let (notes, heard) = notes.take(alloc, unit)?;
-        self.notes = notes;
-        let registrants = replace(&mut self.registrants, Registrants::none(alloc));
-        self.registrants = registrants.hear(alloc, unit, &heard)?;
-        let elements = replace(&mut self.elements, Elements::none(alloc));
-        self.elements = elements.commit(alloc, unit)?;
-        Ok(())
+        let heard = self.notes.take(alloc, unit)?;
+        self.registrants.hear(alloc, unit, &heard)?;
+        self.elements.commit(alloc, unit)
     }
 
     /// Aborts a unit in the queue, and adds what leaves it for its error queue. A part that refuses
@@ -237,11 +260,9 @@ impl Part {
             ≡ sent.old.items ++ redo_words.sent place (records.Abort unit.0) self.old) }
         ensures refused { IfErr result (λ e. e ≡ Resources) }
     {
-        let elements = replace(&mut self.elements, Elements::none(alloc));
-        self.elements = elements.abort(alloc, place, unit, &self.definition, sent)?;
-        let notes = replace(&mut self.notes, Notes::none(alloc));
-        let (notes, _) = notes.take(alloc, unit)?;
-        self.notes = notes;
+        self.elements
+            .abort(alloc, place, unit, &self.definition, sent)?;
+        self.notes.take(alloc, unit)?;
         Ok(())
     }
 
@@ -250,9 +271,7 @@ impl Part {
             (self.new ≡ redo_words.act 0 (records.Register queue.0 name.now) self.old) }
         ensures refused { IfErr result (λ e. e ≡ Resources) }
     {
-        let registrants = replace(&mut self.registrants, Registrants::none(alloc));
-        self.registrants = registrants.register(alloc, queue, name)?;
-        Ok(())
+        self.registrants.register(alloc, queue, name)
     }
 
     fn deregister(&mut self, alloc: Global, queue: QueueNo, name: &Name) -> Result<(), Fault>
@@ -260,11 +279,8 @@ impl Part {
             (self.new ≡ redo_words.act 0 (records.Deregister queue.0 name.now) self.old) }
         ensures refused { IfErr result (λ e. e ≡ Resources) }
     {
-        let registrants = replace(&mut self.registrants, Registrants::none(alloc));
-        self.registrants = registrants.deregister(alloc, queue, name)?;
-        let notes = replace(&mut self.notes, Notes::none(alloc));
-        self.notes = notes.forget(alloc, queue, name)?;
-        Ok(())
+        self.registrants.deregister(alloc, queue, name)?;
+        self.notes.forget(alloc, queue, name)
     }
 
     fn kill(&mut self, alloc: Global, queue: QueueNo, element: ElemId) -> Result<(), Fault>
@@ -274,9 +290,7 @@ impl Part {
             (self.new ≡ redo_words.act 0 (records.Kill queue.0 element.0) self.old) }
         ensures refused { IfErr result (λ e. e ≡ Resources) }
     {
-        let elements = replace(&mut self.elements, Elements::none(alloc));
-        self.elements = elements.kill(alloc, queue, element)?;
-        Ok(())
+        self.elements.kill(alloc, queue, element)
     }
 
     /// Does one operation of the queue. A part that refuses is no longer of use.

@@ -3,7 +3,7 @@
 ghost use Rattle.std.specs.Prelude.{◌≡◌, length, IfOk, IfErr};
 ghost use Rattle.rq_model.specs.States as states;
 ghost use Rattle.rq_record.specs.declared.fault.Fault.TheVariants.{Resources};
-ghost use Rattle.rq_exchange.specs.Gathering.{HasPoured};
+ghost use Rattle.rq_queue.specs.Pouring.{HasPoured};
 ghost use Rattle.rq_standing.specs.Parts.{ArePartsOf};
 ghost use Rattle.rq_standing.specs.Standings.{HoldsState};
 

@@ -1,12 +1,19 @@
 use Rattle.std.proofs.Common.{◌≡◌, suc, length, sym, subst, ◌∙◌, map-id, ◌++◌, ◌∷◌, [], arith, length-append, List}
-use Rattle.std.proofs.Common.{Option, None}
+use Rattle.std.proofs.Common.{Option, Some, None, ap}
 use Rattle.std.proofs.lemmas.List.{get_or_default}
 use Rattle.std.proofs.lemmas.Iterator.Consumers.{YieldsList-turn, YieldsList-end}
 use Rattle.std.proofs.lemmas.Iterator.Adapters.{YieldsList-from_vec}
 use Rattle.rq_model.specs.Queues.{Part, part_of}
-use Rattle.rq_exchange.specs.Gathering.{HasPoured}
-use Rattle.rq_exchange.proofs.Pouring.{poured_more, the_part, with_more}
+use Rattle.rq_queue.specs.Pouring.{HasPoured}
+use Rattle.rq_queue.proofs.Gathered.{poured_more, with_more}
 use Rattle.rq_exchange.proofs.gathered.pour_all.Goals as goal
+
+abbrev part_or : Part → Option Part → Part
+part_or d None = d
+part_or d (Some p) = p
+
+the_part : (p q : Part) → Some p ≡ Some q → p ≡ q
+the_part p q e = ap (part_or p) e
 
 pub loop-slot-preserved : goal.loop-slot-preserved
 loop-slot-preserved c = λ t are.

@@ -1,6 +1,7 @@
 use Rattle.std.proofs.Common.{length}
 use Rattle.rq_model.specs.States.{State}
-use Rattle.rq_exchange.specs.Gathering.{HasPoured, AreParts}
+use Rattle.rq_queue.specs.Pouring.{HasPoured}
+use Rattle.rq_exchange.specs.Gathering.{AreParts}
 use Rattle.rq_exchange.proofs.gathered.pour_all.Given as goal
 
 abbrev pub invariant-loop-slot : goal.invariant-loop-slot

@@ -3,8 +3,8 @@ use Rattle.std.proofs.lemmas.List.{get_or_default}
 use Rattle.std.proofs.lemmas.Iterator.Consumers.{YieldsList-turn, YieldsList-end}
 use Rattle.std.proofs.lemmas.Iterator.Adapters.{YieldsList-from_vec}
 use Rattle.rq_model.specs.Queues.{Part, part_of}
-use Rattle.rq_exchange.specs.Gathering.{HasPoured}
-use Rattle.rq_exchange.proofs.Pouring.{poured_more, with_more}
+use Rattle.rq_queue.specs.Pouring.{HasPoured}
+use Rattle.rq_queue.proofs.Gathered.{poured_more, with_more}
 use Rattle.rq_standing.specs.Parts.{no_part}
 use Rattle.rq_standing.proofs.gathered.pour_all.Goals as goal
 

@@ -1,6 +1,6 @@
 use Rattle.std.proofs.Common.{◌≡◌, length}
 use Rattle.rq_model.specs.States.{State}
-use Rattle.rq_exchange.specs.Gathering.{HasPoured}
+use Rattle.rq_queue.specs.Pouring.{HasPoured}
 use Rattle.rq_standing.specs.Parts.{ArePartsOf}
 use Rattle.rq_standing.proofs.gathered.pour_all.Given as goal
 

@@ -9,7 +9,7 @@ use Rattle.rq_state.specs.Inside.{state_of}
 use Rattle.rq_state.specs.Laws.{HasSame}
 use Rattle.rq_state.specs.Orders.{state_in_order, place_before}
 use Rattle.rq_exchange.specs.Gathering.{IsRedoneTo}
-use Rattle.rq_exchange.proofs.Pouring.{members, is_same}
+use Rattle.rq_queue.proofs.Gathered.{members, is_same}
 use Rattle.rq_exchange.proofs.gathered.AllRedone.gather.Goals as goal
 use Rattle.rq_exchange.proofs.gathered.AllRedone.gather.Goals.{In_ok-fields}
 

@@ -8,7 +8,7 @@ use Rattle.rq_state.specs.Views.{unit_of}
 use Rattle.rq_state.specs.Inside.{state_of}
 use Rattle.rq_state.specs.Laws.{HasSame}
 use Rattle.rq_state.specs.Orders.{state_in_order, place_before}
-use Rattle.rq_exchange.proofs.Pouring.{members, is_same}
+use Rattle.rq_queue.proofs.Gathered.{members, is_same}
 use Rattle.rq_standing.specs.Standings.{HoldsState}
 use Rattle.rq_standing.proofs.queues.Queues.into_state.Goals as goal
 use Rattle.rq_standing.proofs.queues.Queues.into_state.Goals.{In_ok-fields}
