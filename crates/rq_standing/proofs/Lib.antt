@@ -5,3 +5,5 @@ mod Defining
 mod UnitEnds
 mod Arrivals
 mod Closing
+mod Lengths
+mod Spellings

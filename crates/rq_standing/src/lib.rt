@@ -7,6 +7,7 @@ mod open_units;
 mod operations;
 mod queues;
 mod received_moves;
+mod spelled;
 mod standing;
 mod start;
 mod taken;

@@ -1,7 +1,7 @@
 //! The open units, and the queues that each of them named.
 
 ghost use Rattle.std.specs.Prelude.{◌≡◌, ◌==◌, ℕ, [], ◌&&◌, ◌||◌, true, false, IfOk, OnOk, IfErr, map};
-ghost use Rattle.std.specs.Prelude.{if◌then◌else◌};
+ghost use Rattle.std.specs.Prelude.{if◌then◌else◌, length};
 ghost use Rattle.std.specs.BTreeMap.{keys, IsOrdered};
 ghost use Rattle.std.specs.Ordering.{nat_cmp, is_eq};
 ghost use Rattle.rq_model.specs.States.{State};
@@ -69,6 +69,14 @@ impl OpenUnits {
             Some(queues) => queues,
             None => Vec::new(alloc),
         }
+    }
+
+    /// How many they are.
+    pub(crate) fn count(&self) -> usize
+        ensures { (s : State) → IsWellFormed s → AreUnits self.now s
+            → result ≡ length s.units }
+    {
+        self.named.len()
     }
 
     /// Their numbers, rising.

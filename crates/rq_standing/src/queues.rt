@@ -13,7 +13,7 @@ ghost use Rattle.rq_standing.specs.Standings.{HoldsState, Moved, May, queue_name
 use crate::open_units::OpenUnits;
 use crate::operations::{act_on, dequeue_on};
 use crate::received_moves::receive_all;
-use crate::start::{definitions_of, open_units_of, parts_of};
+use crate::start::{copied_definitions, open_units_of, parts_of};
 use crate::unit_ends::{abort_all, commit_all};
 use rq_queue::{KeptOp, Part};
 use rq_record::{ElemId, Fault, KeptBy, KeptRecord, QueueNo, UnitNo};
@@ -56,7 +56,7 @@ impl Queues {
         ensures refused { IfErr result (λ e. e ≡ Resources) }
     {
         state.is_well_formed();
-        let definitions = definitions_of(alloc, state)?;
+        let definitions = copied_definitions(alloc, state.definitions())?;
         let parts = parts_of(alloc, state)?;
         let units = open_units_of(alloc, state)?;
         Ok(Queues {

@@ -1,9 +1,11 @@
 //! The queues as they stand, and the judge of what comes.
 
-ghost use Rattle.std.specs.Prelude.{◌≡◌, IfOk, OnOk, IfErr};
+ghost use Rattle.std.specs.Prelude.{◌≡◌, ◌≤◌, ◌&&◌, nat_le, length, IfOk, OnOk, IfErr};
+ghost use Rattle.std.specs.Str.{bytes_eq};
 ghost use Rattle.rq_model.specs.Machine as machine;
 ghost use Rattle.rq_model.specs.Records as records;
 ghost use Rattle.rq_model.specs.States.{State, empty};
+ghost use Rattle.rq_model.specs.StateSpelling.{state_bytes};
 ghost use Rattle.rq_record.specs.Views.{record_of, version_of};
 ghost use Rattle.rq_record.specs.declared.fault.Fault.TheVariants.{Resources};
 ghost use Rattle.rq_standing.specs.Stands.{Stands, IsTakenAs, state_with};
@@ -67,12 +69,27 @@ impl Standing {
     }
 
     /// The state in which it stands. Refused with `Resources` alone.
-    pub fn into_state(self, alloc: Global) -> Result<rq_state::State, Fault>
-        requires { (version : records.Version) × (s : State) × Stands version self s }
+    pub fn state(&self, alloc: Global) -> Result<rq_state::State, Fault>
+        requires { (version : records.Version) × (s : State) × Stands version self.now s }
         ensures state { IfOk result (λ t. (version : records.Version) (s : State) →
-            Stands version self s → t ≡ s) }
+            Stands version self.now s → t ≡ s) }
         ensures refused { IfErr result (λ e. e ≡ Resources) }
     {
-        self.queues.into_state(alloc)
+        self.queues.state(alloc)
+    }
+
+    /// Whether these bytes, which are at most as many as a record holds, spell the state in which
+    /// it stands. To say no costs at most the bytes, times a logarithm, and the state is copied only
+    /// for bytes that begin as its spelling does and are enough for its members. Refused with
+    /// `Resources` alone.
+    pub fn is_spelled_by(&self, alloc: Global, kept: &[u8]) -> Result<bool, Fault>
+        requires stands { (version : records.Version) × (s : State) × Stands version self.now s }
+        requires short { length kept.now ≤ 268435455 }
+        ensures truth { IfOk result (λ t. (version : records.Version) (s : State) →
+            Stands version self.now s
+            → t ≡ (nat_le s.next 4294967295 && bytes_eq kept.now (state_bytes s))) }
+        ensures refused { IfErr result (λ e. e ≡ Resources) }
+    {
+        self.queues.is_spelled_by(alloc, kept)
     }
 }

@@ -14,16 +14,19 @@ use rq_record::{Fault, QueueNo, UnitNo};
 use rq_state::{Definition, KeptElement, Mark, Note, State};
 use std::alloc::Global;
 
-/// The queues of the state, by number.
-pub(crate) fn definitions_of(alloc: Global, state: &State) -> Result<Vec<Definition>, Fault>
-    ensures definitions { IfOk result (λ v. v.items ≡ state.now.definitions) }
+/// The same definitions again.
+pub(crate) fn copied_definitions(
+    alloc: Global,
+    definitions: &[Definition],
+) -> Result<Vec<Definition>, Fault>
+    ensures copied { IfOk result (λ v. v.items ≡ definitions.now) }
     ensures refused { IfErr result (λ e. e ≡ Resources) }
 {
-    let mut definitions = Vec::new(alloc);
-    for definition in state.definitions() {
-        definitions.push(definition.copied())?;
+    let mut copied = Vec::new(alloc);
+    for definition in definitions {
+        copied.push(definition.copied())?;
     }
-    Ok(definitions)
+    Ok(copied)
 }
 
 /// The parts of its queues, copied.

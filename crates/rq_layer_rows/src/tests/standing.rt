@@ -1,6 +1,6 @@
 //! A machine that takes one record after the other, beside a replay of the same records.
 
-ghost use Rattle.std.specs.Prelude.{IfOk};
+ghost use Rattle.std.specs.Prelude.{◌≤◌, ◌<◌, IfOk, length};
 ghost use Rattle.rq_model.specs.Records as records;
 ghost use Rattle.rq_model.specs.States as states;
 ghost use Rattle.rq_standing.specs.Stands.{Stands};
@@ -144,7 +144,7 @@ fn stood_from(alloc: Global, start: &State, cases: &[Case]) -> Result<Option<Sta
     if !goes_on(alloc, &mut standing, cases)? {
         return Ok(None);
     }
-    Ok(Some(standing.into_state(alloc)?))
+    Ok(Some(standing.state(alloc)?))
 }
 
 // The same from the beginning on. Half-way the machine is made anew of its state.
@@ -154,7 +154,7 @@ fn stood(alloc: Global, cases: &[Case]) -> Result<Option<State>, Fail> {
     if !goes_on(alloc, &mut standing, first)? {
         return Ok(None);
     }
-    let state = standing.into_state(alloc)?;
+    let state = standing.state(alloc)?;
     stood_from(alloc, &state, last)
 }
 
@@ -176,7 +176,9 @@ fn replayed<R: Threads + Sync + AllocGlobal>(rt: &R, cases: &[Case]) -> Result<S
 }
 
 // The spelling of a state after fewer records than a log can have.
-fn spelled(alloc: Global, state: &State) -> Result<Vec<u8>, Fault> {
+fn spelled(alloc: Global, state: &State) -> Result<Vec<u8>, Fault>
+    ensures { IfOk result (λ v. length v.items ≤ 268435455) }
+{
     if state.next() > 4_294_967_295 {
         return Err(Fault::Resources);
     }
@@ -209,6 +211,62 @@ fn agree<R: Threads + Sync + AllocGlobal>(rt: &R, cases: &[Case]) -> Result<bool
 fn it_stands_where_a_replay_comes_to(rt: HostRuntime) -> Result<(), Fail> {
     for count in 0..=CASES.len() {
         assert!(rt; agree(&rt, &CASES[..count])?, "after {count} records");
+    }
+    Ok(())
+}
+
+// Whether the bytes still spell the state in which the machine stands if one of them is another.
+fn is_spelled_with(
+    alloc: Global,
+    standing: &Standing,
+    bytes: &[u8],
+    at: usize,
+) -> Result<bool, Fail>
+    requires stands { (version : records.Version) × (s : states.State)
+        × Stands version standing.now s }
+    requires within { at < length bytes.now }
+    requires short { length bytes.now ≤ 268435455 }
+{
+    let mut others = Vec::from_slice(alloc, bytes)?;
+    others[at] ^= 1;
+    Ok(standing.is_spelled_by(alloc, &others)?)
+}
+
+// Whether the machine says of these bytes that they spell its state, and denies it of all that are
+// one byte fewer, or have another byte.
+fn is_spelled_by_these_alone(alloc: Global, standing: &Standing, bytes: &[u8]) -> Result<bool, Fail>
+    requires stands { (version : records.Version) × (s : states.State)
+        × Stands version standing.now s }
+    requires short { length bytes.now ≤ 268435455 }
+{
+    if bytes.is_empty() || standing.is_spelled_by(alloc, &bytes[1..])? {
+        return Ok(false);
+    }
+    for at in 0..bytes.len() {
+        if is_spelled_with(alloc, standing, bytes, at)? {
+            return Ok(false);
+        }
+    }
+    Ok(standing.is_spelled_by(alloc, bytes)?)
+}
+
+// Whether the machine knows the spelling of its state after the records.
+fn knows_its_spelling(alloc: Global, cases: &[Case]) -> Result<bool, Fail> {
+    let mut standing = Standing::new(alloc, Version::Two);
+    if !goes_on(alloc, &mut standing, cases)? {
+        return Ok(false);
+    }
+    let bytes = spelled(alloc, &standing.state(alloc)?)?;
+    is_spelled_by_these_alone(alloc, &standing, &bytes)
+}
+
+#[test]
+fn it_knows_the_spelling_of_its_state(rt: HostRuntime) -> Result<(), Fail> {
+    for count in 0..=CASES.len() {
+        assert!(rt;
+            knows_its_spelling(rt.alloc(), &CASES[..count])?,
+            "after {count} records"
+        );
     }
     Ok(())
 }

@@ -5,5 +5,5 @@ use Rattle.rq_standing.specs.Parts.{ArePartsOf}
 use Rattle.rq_standing.proofs.gathered.pour_all.Given as goal
 
 abbrev pub invariant-loop-part : goal.invariant-loop-part
-invariant-loop-part l = (t : State) → length l.fn.parts.items ≡ length t.definitions → ArePartsOf t l.fn.parts.items
-    → HasPoured t (length l.yielded) l.fn.fields l.poured
+invariant-loop-part l = (t : State) → length l.parts ≡ length t.definitions → ArePartsOf t l.parts
+    → HasPoured t l.part-index l.fn.fields l.poured

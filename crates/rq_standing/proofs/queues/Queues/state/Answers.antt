@@ -1,4 +1,4 @@
-use Rattle.std.proofs.Common.{◌≡◌, length, map, sym, ap, ◌∙◌, ◌++◌, subst, Vec, Global, IsPermutation}
+use Rattle.std.proofs.Common.{◌≡◌, List, length, map, sym, ap, ◌∙◌, ◌++◌, subst, Vec, Global, IsPermutation}
 use Rattle.rq_model.specs.States.{State, Definition, id_before, registrant_before}
 use Rattle.rq_model.specs.WellFormed.{IsWellFormed}
 use Rattle.rq_model.specs.Queues.{Part, part_of}
@@ -9,20 +9,25 @@ use Rattle.rq_state.specs.Inside.{state_of}
 use Rattle.rq_state.specs.Laws.{HasSame}
 use Rattle.rq_state.specs.Orders.{state_in_order, place_before}
 use Rattle.rq_queue.proofs.Gathered.{members, is_same}
+use Rattle.rq_standing.specs.Parts.{ArePartsOf}
 use Rattle.rq_standing.specs.Standings.{HoldsState}
-use Rattle.rq_standing.proofs.queues.Queues.into_state.Goals as goal
-use Rattle.rq_standing.proofs.queues.Queues.into_state.Goals.{In_ok-fields}
+use Rattle.rq_standing.proofs.queues.Queues.state.Goals as goal
+use Rattle.rq_standing.proofs.queues.Queues.state.Goals.{In_ok-fields}
 
-same : (c : In_ok-fields) (t : State) → HoldsState c.args.self t → HasSame t (state_of c.in_ok-fields.fields)
+same : (c : In_ok-fields) (t : State) → HoldsState c.args.self.now t → HasSame t (state_of c.in_ok-fields.fields)
 same c t holds =
-    let poured = c.in_ok-fields.ensures.poured t holds.size holds.parts in
+    let size : length c.deref-2.result.now ≡ length t.definitions =
+    ap (λ (ps : List Part). length ps) c.deref-2.ensures.value ∙ holds.size in
+    let poured = c.in_ok-fields.ensures.poured t size
+    (subst (ArePartsOf t) (sym c.deref-2.ensures.value) holds.parts) in
     let whole = c.parts_make_the_state.ensures t holds.well in
     record {
       next = poured.next ∙ holds.next;
       greatest = poured.greatest ∙ holds.greatest;
       committed = poured.committed ∙ holds.committed;
       aborted = poured.aborted ∙ holds.aborted;
-      definitions = ap (λ (v : Vec Definition Global). v.items) poured.definitions ∙ holds.definitions;
+      definitions = ap (λ (v : Vec Definition Global). v.items) poured.definitions
+          ∙ c.in_ok-definitions.ensures.copied ∙ c.deref.ensures.value ∙ holds.definitions;
       units = is_same t.units (map unit_of c.in_ok-fields.fields.units.items)
           (ap (λ (v : Vec UnitNo Global). map unit_of v.items) poured.units
           ∙ c.in_ok-units.ensures.numbers t holds.well holds.units);
@@ -30,20 +35,20 @@ same c t holds =
           (gathered (λ (p : Part). p.registrants) (part_of t) (length t.definitions)) c.new.result.items
           c.in_ok-fields.fields.registrants.items (ap (λ (s : State). s.registrants) whole) c.new.ensures.items
           (subst (λ m. IsPermutation (c.new.result.items ++ gathered (λ (p : Part). p.registrants) (part_of t) m)
-          c.in_ok-fields.fields.registrants.items) holds.size poured.registrants);
+          c.in_ok-fields.fields.registrants.items) size poured.registrants);
       elements = members id_before t.elements (gathered (λ (p : Part). p.elements) (part_of t) (length t.definitions))
           c.new-2.result.items c.in_ok-fields.fields.elements.items
           (ap (λ (s : State). s.elements) whole) c.new-2.ensures.items
           (subst (λ m. IsPermutation (c.new-2.result.items ++ gathered (λ (p : Part). p.elements) (part_of t) m)
-          c.in_ok-fields.fields.elements.items) holds.size poured.elements);
+          c.in_ok-fields.fields.elements.items) size poured.elements);
       notes = members place_before t.notes (gathered (λ (p : Part). p.notes) (part_of t) (length t.definitions))
           c.new-3.result.items c.in_ok-fields.fields.notes.items (ap (λ (s : State). s.notes) whole) c.new-3.ensures.items
           (subst (λ m. IsPermutation (c.new-3.result.items ++ gathered (λ (p : Part). p.notes) (part_of t) m)
-          c.in_ok-fields.fields.notes.items) holds.size poured.notes);
+          c.in_ok-fields.fields.notes.items) size poured.notes);
     }
 
 -- the fields, put in order, are the state
-ordered : (c : In_ok-fields) (t : State) → HoldsState c.args.self t → state_in_order (state_of c.in_ok-fields.fields) ≡ t
+ordered : (c : In_ok-fields) (t : State) → HoldsState c.args.self.now t → state_in_order (state_of c.in_ok-fields.fields) ≡ t
 ordered c t holds =
     c.any_order_makes_the_state.ensures t (state_of c.in_ok-fields.fields) holds.well (same c t holds)
 
