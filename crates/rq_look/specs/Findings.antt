@@ -6,7 +6,8 @@ use Rattle.rq_model.specs.Fronts.{Restarted, IsRestart}
 use Rattle.rq_model.specs.Checkpoints.{IsAudit, IsRestartAt}
 use Rattle.rq_restart.specs.Audits.{audited_of}
 use Rattle.rq_behind.specs.declared.search.Found.{Found}
-use Rattle.rq_look.specs.Looks.{all_true, checkpoint_finding, end_finding, end_line, is_whole}
+use Rattle.rq_found.specs.Ends.{end_line, is_whole}
+use Rattle.rq_look.specs.Looks.{all_true, checkpoint_finding, end_finding}
 use Rattle.rq_look.specs.Rests.{IsBehind, behind_finding}
 
 -- whether b is whole, and each checkpoint of its front true; and the text has these lines of b,

@@ -7,8 +7,8 @@ ghost use Rattle.rq_restart.specs.Views.{why_of};
 ghost use Rattle.rq_look.specs.Rests.{EndsFrontOf, IsBehind, behind_finding, behind_text, count_text};
 ghost use Rattle.rq_look.specs.Rests.{frames_text, given_up_text};
 
-use crate::ends::{End, is_whole};
 use rq_behind::{Found, behind};
+use rq_found::{End, is_whole};
 use rq_front::{Span, version};
 use rq_record::Fault;
 use std::alloc::{AllocError, Global};
