@@ -1,6 +1,6 @@
 //! The script of a damaged log, with what stands behind its front to choose from.
 
-ghost use Rattle.std.specs.Prelude.{◌≡◌, ◌++◌, ℕ, List, false, IfErr, IfOk, OnOk, string_bytes};
+ghost use Rattle.std.specs.Prelude.{◌≡◌, ℕ, List, false, IfErr, IfOk, OnOk, string_bytes};
 ghost use Rattle.std.specs.Io.KnownBytes.{Appends};
 ghost use Rattle.rq_front.specs.Chains.{IsLog};
 ghost use Rattle.rq_record.specs.declared.fault.Fault.TheVariants.{Resources};
@@ -18,7 +18,7 @@ use crate::sheet::{relieve, write_out};
 use rq_behind::Found;
 use rq_found::TextPiece::{Number, Word};
 use rq_found::{End, Trouble, end_of, form_reason, is_whole, put_end, put_text_pieces};
-use rq_front::{Span, version};
+use rq_front::version;
 use rq_record::{Fault, KeptRecord, Version};
 use rq_restart::Plan;
 use std::alloc::{AllocError, Global};
