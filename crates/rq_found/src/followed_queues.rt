@@ -5,7 +5,7 @@ ghost use Rattle.rq_record.specs.declared.fault.Fault.TheVariants.{Resources};
 
 use crate::events::{Effect, Event};
 use crate::frames::Placed;
-use crate::numbered::{Numbered, queues_behind};
+use crate::numbered::{Numbered, queues_behind, queues_of};
 use rq_record::{ElemId, Fault, KeptRecord, QueueNo, UnitNo};
 use rq_state::{KeptElement, Mark, State};
 use std::alloc::{AllocError, Global};
@@ -61,7 +61,7 @@ impl FollowedQueues {
     /// Behind a state. What an open unit put in or took is told by number when it ends.
     pub fn of(alloc: Global, state: &State) -> Result<FollowedQueues, AllocError> {
         let mut queues = FollowedQueues::new(alloc);
-        queues.defined = state.definitions().len() as u32;
+        queues.defined = queues_of(state.definitions());
         for definition in state.definitions() {
             queues.define(alloc, definition.limit, definition.error)?;
         }

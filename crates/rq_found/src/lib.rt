@@ -26,7 +26,7 @@ pub use followed_queues::FollowedQueues;
 pub use frames::{Placed, PlacedFrames};
 pub use hidden::{Seen, is_hidden};
 pub use json::{FrontShown, front_shown};
-pub use numbered::{Numbered, kind_of, queue_named, queues_behind, unit_of};
+pub use numbered::{Numbered, kind_of, queue_named, queues_behind, queues_of, unit_of};
 pub use objects::{JsonPiece, JsonTables};
 pub use pieces::{TextPiece, put_text_pieces};
 pub use queues::{LastShown, RegistrantShown, free_elements, registrants_shown};

@@ -1,6 +1,6 @@
 //! Records with their places and the queues that they are about.
 
-ghost use Rattle.std.specs.Prelude.{◌≡◌, IfOk, IfErr, option_map};
+ghost use Rattle.std.specs.Prelude.{◌≡◌, length, min, IfOk, IfErr, option_map};
 ghost use Rattle.rq_model.specs.Records.{Two};
 ghost use Rattle.rq_model.specs.Spelling.{Spells};
 ghost use Rattle.rq_record.specs.Views.{record_of};
@@ -10,6 +10,7 @@ ghost use Rattle.rq_found.specs.Kinds.{kind_word, queue_shown, unit_shown};
 
 use crate::frames::Placed;
 use rq_record::{Fault, KeptRecord, QueueNo, UnitNo, Version, decode_kept};
+use rq_state::Definition;
 use std::alloc::Global;
 
 /// A record of the front, with the offset of its frame, its number, and how many queues are defined
@@ -77,6 +78,13 @@ pub fn queues_behind(queues: u32, body: &[u8]) -> u32
         [1, ..] => queues.saturating_add(1),
         _ => queues,
     }
+}
+
+/// How many queues these define.
+pub fn queues_of(definitions: &[Definition]) -> u32
+    ensures { result ≡ min (length definitions.now) 4294967295 }
+{
+    definitions.len().min(u32::MAX as usize) as u32
 }
 
 /// The unit that a record names.

@@ -17,7 +17,7 @@ use crate::sheet::{relieve, write_out};
 use crate::wanted::Wanted;
 use rq_found::{
     End, Numbered, Placed, PlacedFrames, Trouble, end_of, first_state, front_frames, put_beginning,
-    put_end, queues_behind,
+    put_end, queues_behind, queues_of,
 };
 use rq_record::Fault;
 use rq_restart::Plan;
@@ -152,7 +152,7 @@ fn put_lines<W: Write>(
     ensures refused { IfErr result IsBroken }
 {
     let frames = front_frames(bytes, first, at, end.used);
-    let queues = first.definitions().len() as u32;
+    let queues = queues_of(first.definitions());
     let left = put_records(alloc, frames, queues, wanted, text, output)?;
     put_wanted_behind(alloc, bytes, end, wanted, left, text, output)?;
     put_origin(text, end, wanted)?;
