@@ -7,15 +7,16 @@ use Rattle.rq_restart.specs.FrontEnds.{IsEndOf}
 use Rattle.rq_restart.specs.Views.{why_of}
 use Rattle.rq_behind.specs.declared.search.Found.{Found}
 use Rattle.rq_look.specs.Rests.{behind_finding, IsChoice}
-use Rattle.rq_look.specs.declared.ends.End.{End}
+use Rattle.rq_found.specs.Ends.{front_end_of, IsRestartFrom}
+use Rattle.rq_found.specs.Refusals.{RefusedFrom, IsBroken}
+use Rattle.rq_found.specs.declared.ends.End.{End}
+use Rattle.rq_found.specs.declared.trouble.Trouble.{Trouble}
+use Rattle.rq_found.specs.declared.trouble.Trouble.TheVariants.{Log, Output, Untold, NoQueue, Nothing}
 use Rattle.rq_record.specs.declared.fault.Fault.{Fault}
 use Rattle.rq_record.specs.declared.fault.Fault.TheVariants.{Resources}
 use Rattle.rq_model.specs.Reports.{IsText}
-use Rattle.rq_look.specs.Looks.{end_text, end_line, end_finding, front_end_of, RefusedFrom, IsRestartFrom}
-use Rattle.rq_look.specs.Looks.{IsReportFrom, IsBroken, BreaksOff}
+use Rattle.rq_look.specs.Looks.{end_finding, IsReportFrom, BreaksOff}
 use Rattle.rq_look.specs.Scripts.{LeavesOut}
-use Rattle.rq_look.specs.declared.trouble.Trouble.{Trouble}
-use Rattle.rq_look.specs.declared.trouble.Trouble.TheVariants.{Log, Output, Untold, NoQueue, Nothing}
 
 -- some text was appended
 abbrev pub AppendsSome : Option (List ℕ) → Option (List ℕ) → Type 0
@@ -33,18 +34,13 @@ put_last old mid new put text last whole p q e =
     subst (λ (t : List ℕ). Appends old new t) (ap (λ (t : List ℕ). put ++ t) e ∙ sym (append_assoc put text last))
     (Appends-trans old mid new put whole p q)
 
--- the line of an end is that of the restart whose end it is
-pub same_line : (r : Restarted) (end : End) (reason : List ℕ) → IsEndOf r (front_end_of end)
-    → end_text end.records end.used end.total (why_of end.why) reason ≡ end_line r reason
-same_line r end reason e = λ i. end_text (e.records i) (e.used i) (e.total i) (e.why i) reason
-
--- so is the line of a check
+-- the line of a check is that of the restart whose end it is
 pub same_finding : (r : Restarted) (end : End) (reason : List ℕ) → IsEndOf r (front_end_of end)
     → end_finding end.records end.used end.total (why_of end.why) reason
     ≡ end_finding r.records r.used r.total r.why reason
 same_finding r end reason e = λ i. end_finding (e.records i) (e.used i) (e.total i) (e.why i) reason
 
--- and so are the lines of what stands behind it
+-- so are the lines of what stands behind it
 pub same_rest : (r : Restarted) (end : End) (behind : Found) → IsEndOf r (front_end_of end)
     → behind_finding (why_of end.why) behind end.total ≡ behind_finding r.why behind r.total
 same_rest r end behind e = λ i. behind_finding (e.why i) behind (e.total i)

@@ -18,8 +18,8 @@ use Rattle.rq_model.proofs.Longest.{front_whole, used_is_front, used_long}
 use Rattle.rq_model.proofs.Restarts.{each_cut, frames_many, header_long}
 use Rattle.rq_model.proofs.Upgraded.{record_is_wider}
 use Rattle.rq_writer.specs.Script.{IsTellable}
-use Rattle.rq_look.specs.declared.trouble.Trouble.{Trouble}
-use Rattle.rq_look.specs.declared.trouble.Trouble.TheVariants.{Log, Output, Untold, NoQueue, Nothing}
+use Rattle.rq_found.specs.declared.trouble.Trouble.{Trouble}
+use Rattle.rq_found.specs.declared.trouble.Trouble.TheVariants.{Log, Output, Untold, NoQueue, Nothing}
 use Rattle.rq_look.specs.Scripts.{script_line, script_text, PutsScript, IsDash, by_in, LeavesBody, LeavesOut}
 
 -- some records of the front are told, in what is appended and in the text; the frames of the others are left

@@ -3,7 +3,7 @@ use Rattle.std.proofs.Common.{◌≡◌, ℕ, ◌-◌, ◌≤◌, List, length, 
 use Rattle.std.proofs.lemmas.List.{length-append, length-drop}
 use Rattle.rq_model.specs.Frames.{before, frames_of}
 use Rattle.rq_model.specs.Fronts.{Restarted}
-use Rattle.rq_look.specs.Looks.{IsRestartFrom}
+use Rattle.rq_found.specs.Ends.{IsRestartFrom}
 use Rattle.rq_look.proofs.Scripts.{used_fits}
 
 -- behind the header, and not behind the bytes

@@ -1,12 +1,13 @@
 -- What a check of a log finds.
-use Rattle.std.specs.Prelude.{◌≡◌, ℕ, Bool, false, ◌&&◌, List, ◌++◌, length, map, codes, Option}
+use Rattle.std.specs.Prelude.{◌≡◌, ℕ, Bool, false, ◌&&◌, List, ◌++◌, map, codes, Option}
 use Rattle.std.specs.Prelude.{Some, None}
 use Rattle.std.specs.List.{flat_map}
 use Rattle.rq_model.specs.Fronts.{Restarted, IsRestart}
 use Rattle.rq_model.specs.Checkpoints.{IsAudit, IsRestartAt}
 use Rattle.rq_restart.specs.Audits.{audited_of}
 use Rattle.rq_behind.specs.declared.search.Found.{Found}
-use Rattle.rq_look.specs.Looks.{all_true, checkpoint_finding, end_finding, end_line, is_whole}
+use Rattle.rq_found.specs.Ends.{end_line, is_whole}
+use Rattle.rq_look.specs.Looks.{all_true, checkpoint_finding, end_finding}
 use Rattle.rq_look.specs.Rests.{IsBehind, behind_finding}
 
 -- whether b is whole, and each checkpoint of its front true; and the text has these lines of b,

@@ -1,75 +1,28 @@
 -- What a look at a log promises.
-use Rattle.std.specs.Prelude.{◌≡◌, ℕ, ◌<◌, ◌≤◌, ◌⊎◌, Bool, true, false, ◌&&◌, ⊤}
-use Rattle.std.specs.Prelude.{if◌then◌else◌}
-use Rattle.std.specs.Prelude.{List, [], ◌++◌, length, map, codes, Option, Some, None, Err}
-use Rattle.std.specs.List.{flat_map, list_all}
+use Rattle.std.specs.Prelude.{◌≡◌, ℕ, ◌<◌, ◌≤◌, ◌⊎◌, Bool, true, false, ⊤, if◌then◌else◌}
+use Rattle.std.specs.Prelude.{List, [], ◌++◌, length, codes, Option, Some, None}
+use Rattle.std.specs.List.{list_all}
 use Rattle.std.specs.Fmt.{decimal}
 use Rattle.std.specs.Io.KnownBytes.{Appends}
-use Rattle.rq_model.specs.Frames.{Whole, Cut, Length, Digest}
-use Rattle.rq_model.specs.Fronts.{Why, Ends, Form, Law, Restarted, IsRestart}
-use Rattle.rq_model.specs.Reports.{IsReport, why_text}
-use Rattle.rq_model.specs.Checkpoints.{IsAudit, IsRestartAt, IsReportAt}
-use Rattle.rq_record.specs.declared.fault.Fault.{Fault}
-use Rattle.rq_record.specs.declared.fault.Fault.TheVariants.{Resources}
-use Rattle.rq_front.specs.Chains.{IsLog, Refused}
-use Rattle.rq_restart.specs.Audits.{audited_of}
-use Rattle.rq_restart.specs.Restarts.{RestartsAt}
-use Rattle.rq_restart.specs.declared.ends.FrontEnd.{FrontEnd}
-use Rattle.rq_look.specs.declared.ends.End.{End}
-use Rattle.rq_look.specs.declared.trouble.Trouble.{Trouble}
-use Rattle.rq_look.specs.declared.stories.Subject.{Subject}
-use Rattle.rq_look.specs.declared.trouble.Trouble.TheVariants.{Log, Output, Untold, NoQueue}
-use Rattle.rq_look.specs.declared.trouble.Trouble.TheVariants.{Nothing}
-
--- nothing follows the front
-abbrev pub is_whole : Why → Bool
-is_whole (Ends Whole) = true
-is_whole (Ends Cut) = false
-is_whole (Ends Length) = false
-is_whole (Ends Digest) = false
-is_whole Form = false
-is_whole Law = false
+use Rattle.rq_model.specs.Fronts.{Why, Restarted, IsRestart}
+use Rattle.rq_model.specs.Reports.{IsReport}
+use Rattle.rq_model.specs.Checkpoints.{IsReportAt}
+use Rattle.rq_front.specs.Chains.{IsLog}
+use Rattle.rq_found.specs.Ends.{IsRestartFrom, beginning_text, end_line, end_text, is_whole}
+use Rattle.rq_found.specs.Refusals.{IsBroken, IsRefusal, StaysUnshown}
+use Rattle.rq_found.specs.declared.subjects.Subject.{Subject}
+use Rattle.rq_found.specs.declared.trouble.Trouble.{Trouble}
+use Rattle.rq_found.specs.declared.trouble.Trouble.TheVariants.{Output, Untold, NoQueue, Nothing}
 
 -- of checkpoints, each with its offset and whether it is true
 abbrev pub all_true : List (ℕ × Bool) → Bool
 all_true found = list_all (λ x. x.1) found
 
--- the restart of b, or that from the checkpoint at an offset
-abbrev pub IsRestartFrom : Option ℕ → List ℕ → Restarted → Type 0
-IsRestartFrom None b r = IsRestart b r
-IsRestartFrom (Some at) b r = IsRestartAt b at r
-
--- b is refused as this restart of it is
-abbrev pub RefusedFrom : Option ℕ → List ℕ → Fault → Type 0
-RefusedFrom None b e = Refused b e
-RefusedFrom (Some at) b e = RestartsAt b at (Err e)
-
--- the line that says at which offset the checkpoint stands that a log begins with
-abbrev pub beginning_text : Option ℕ → List ℕ
-beginning_text None = []
-beginning_text (Some at) =
-    codes "carried: begins with the checkpoint at " ++ (decimal at ++ codes "\n")
-
 -- whether b is whole
 abbrev pub IsKnownWhole : List ℕ → Bool → Type 0
 IsKnownWhole b whole = (r : Restarted) × IsRestart b r × (whole ≡ is_whole r.why)
 
--- where the front ends, but for the reason
-abbrev pub front_end_of : End → FrontEnd
-front_end_of end =
-    record { records = end.records; used = end.used; total = end.total; why = end.why }
-
--- the line of where a front ends: its records, its bytes, all bytes, why, and the reason
-abbrev pub end_text : ℕ → ℕ → ℕ → Why → List ℕ → List ℕ
-end_text records used total why reason = codes "front ends behind " ++ (decimal records
-    ++ (codes " records, at " ++ (decimal used ++ (codes " of " ++ (decimal total
-    ++ (codes " bytes, " ++ (why_text why ++ (codes ": " ++ (reason ++ codes "\n")))))))))
-
--- this line for what a restart answers
-abbrev pub end_line : Restarted → List ℕ → List ℕ
-end_line r reason = end_text r.records r.used r.total r.why reason
-
--- the text is this line of b, with some reason
+-- the text is the line of where the front of b ends, with some reason
 abbrev pub IsEndText : Option ℕ → List ℕ → List ℕ → Type 0
 IsEndText at b text =
     (r : Restarted) × (reason : List ℕ) × IsRestartFrom at b r × (text ≡ end_line r reason)
@@ -93,21 +46,6 @@ end_finding records used total why reason =
 abbrev pub checkpoint_finding : ℕ × Bool → List ℕ
 checkpoint_finding x = if x.1 then [] else codes "the checkpoint at "
     ++ (decimal x.0 ++ codes " does not spell the state before it\n")
-
--- b is refused as a restart of it is
-abbrev pub IsRefusal : Option ℕ → List ℕ → Trouble → Type 0
-IsRefusal at b (Log fault) = RefusedFrom at b fault
-IsRefusal at b _ = ⊥
-
--- so is told where memory or the output is refused
-abbrev pub IsBroken : Trouble → Type 0
-IsBroken (Log fault) = fault ≡ Resources
-IsBroken (Output error) = ⊤
-IsBroken _ = ⊥
-
--- b is not shown: it is refused, and the output holds what it held; or it is a log, and broke off
-abbrev pub StaysUnshown : Option ℕ → List ℕ → Option (List ℕ) → Option (List ℕ) → Trouble → Type 0
-StaysUnshown at b old new e = (IsLog b × IsBroken e) ⊎ (IsRefusal at b e × (new ≡ old))
 
 -- a script broke off: so is told of a record that no script tells, and of what `IsBroken` says
 abbrev pub BreaksOff : Trouble → Type 0

@@ -6,8 +6,8 @@ use Rattle.rq_model.specs.Records.{By, Record, Enqueue, Dequeue, Version, Two}
 use Rattle.rq_model.specs.Spelling.{Spells}
 use Rattle.rq_model.specs.Fronts.{IsFront}
 use Rattle.rq_writer.specs.Script.{record_text, IsTellable}
-use Rattle.rq_look.specs.declared.trouble.Trouble.{Trouble}
-use Rattle.rq_look.specs.declared.trouble.Trouble.TheVariants.{Untold}
+use Rattle.rq_found.specs.declared.trouble.Trouble.{Trouble}
+use Rattle.rq_found.specs.declared.trouble.Trouble.TheVariants.{Untold}
 
 -- the line of a record
 abbrev pub script_line : Record → List ℕ

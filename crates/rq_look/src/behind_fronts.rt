@@ -1,14 +1,14 @@
 //! What stands behind the front of a log.
 
-ghost use Rattle.std.specs.Prelude.{◌≡◌, ◌++◌, List, ℕ, length, IfOk, IfErr, OnOk, string_bytes};
+ghost use Rattle.std.specs.Prelude.{◌≡◌, ◌++◌, IfOk, IfErr, OnOk, string_bytes};
 ghost use Rattle.rq_front.specs.Chains.{IsLog};
 ghost use Rattle.rq_record.specs.declared.fault.Fault.TheVariants.{Resources};
 ghost use Rattle.rq_restart.specs.Views.{why_of};
 ghost use Rattle.rq_look.specs.Rests.{EndsFrontOf, IsBehind, behind_finding, behind_text, count_text};
 ghost use Rattle.rq_look.specs.Rests.{frames_text, given_up_text};
 
-use crate::ends::{End, is_whole};
 use rq_behind::{Found, behind};
+use rq_found::{End, is_whole};
 use rq_front::{Span, version};
 use rq_record::Fault;
 use std::alloc::{AllocError, Global};

@@ -1,8 +1,7 @@
 //! Bytes as text.
 
-use crate::hidden::is_hidden;
-use crate::pieces::TextPiece::{Number, Word};
-use crate::pieces::put_text_pieces;
+use rq_found::TextPiece::{Number, Word};
+use rq_found::{is_hidden, put_text_pieces};
 use std::alloc::{AllocError, Global};
 use std::str::from_utf8;
 

@@ -4,16 +4,16 @@ ghost use Rattle.std.specs.Prelude.{◌≡◌, ◌&&◌, ◌++◌, None, Some, I
 ghost use Rattle.std.specs.Prelude.{string_bytes};
 ghost use Rattle.std.specs.List.{flat_map};
 ghost use Rattle.rq_restart.specs.Views.{why_of};
-ghost use Rattle.rq_look.specs.Looks as looks;
+ghost use Rattle.rq_found.specs.Ends as ends;
+ghost use Rattle.rq_found.specs.Ends.{end_text};
+ghost use Rattle.rq_found.specs.Refusals.{IsRefusal};
 ghost use Rattle.rq_look.specs.Findings.{IsFindings};
-ghost use Rattle.rq_look.specs.Looks.{IsRefusal, all_true, checkpoint_finding, end_finding};
-ghost use Rattle.rq_look.specs.Looks.{end_text};
+ghost use Rattle.rq_look.specs.Looks.{all_true, checkpoint_finding, end_finding};
 ghost use Rattle.rq_look.specs.Rests.{behind_finding};
 
 use crate::behind_fronts::{put_rest, standing_behind};
-use crate::ends::{End, end_at, is_whole, put_end, whole_end};
-use crate::trouble::Trouble;
 use rq_behind::Found;
+use rq_found::{End, Trouble, end_of, is_whole, put_end};
 use rq_restart::{Plan, audit};
 use std::alloc::{AllocError, Global};
 use std::fmt::Write;
@@ -36,7 +36,7 @@ fn are_true(found: &[(u64, bool)]) -> bool
 }
 
 fn is_fine(end: &End, checkpoints: &[(u64, bool)]) -> bool
-    ensures { result ≡ (looks.is_whole (why_of end.now.why) && all_true checkpoints.now) }
+    ensures { result ≡ (ends.is_whole (why_of end.now.why) && all_true checkpoints.now) }
 {
     is_whole(end.why) && are_true(checkpoints)
 }
@@ -96,7 +96,7 @@ fn check_whole<R: Threads + Sync>(
         (λ found. IsFindings None bytes.now found.fine (string_bytes found.text)) }
     ensures refused { IfErr result (IsRefusal None bytes.now) }
 {
-    let end = whole_end(rt, alloc, bytes, plan)?;
+    let end = end_of(rt, alloc, bytes, None, plan)?;
     let checkpoints = audit(rt, alloc, bytes, plan)?;
     let behind = standing_behind(alloc, bytes, &end)?;
     Ok(Findings {
@@ -132,7 +132,7 @@ fn check_at<R: Threads + Sync>(
         (λ found. IsFindings (Some at) bytes.now found.fine (string_bytes found.text)) }
     ensures refused { IfErr result (IsRefusal (Some at) bytes.now) }
 {
-    let end = end_at(rt, alloc, bytes, at, plan)?;
+    let end = end_of(rt, alloc, bytes, Some(at), plan)?;
     let behind = standing_behind(alloc, bytes, &end)?;
     let text = carried_text(alloc, &end, &behind)?;
     Ok(Findings { fine: false, text })

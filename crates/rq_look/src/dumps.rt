@@ -6,19 +6,19 @@ ghost use Rattle.rq_model.specs.Fronts.{Restarted};
 ghost use Rattle.rq_record.specs.declared.fault.Fault.TheVariants.{Resources};
 ghost use Rattle.rq_restart.specs.FrontEnds.{IsEndOf};
 ghost use Rattle.rq_front.specs.Chains.{IsLog};
-ghost use Rattle.rq_look.specs.Looks.{EndsDump, IsBroken, IsClosing, IsRestartFrom};
-ghost use Rattle.rq_look.specs.Looks.{StaysUnshown, front_end_of};
+ghost use Rattle.rq_found.specs.Ends.{IsRestartFrom, front_end_of};
+ghost use Rattle.rq_found.specs.Refusals.{IsBroken, StaysUnshown};
+ghost use Rattle.rq_look.specs.Looks.{EndsDump, IsClosing};
 
-use crate::beginning::{first_state, front_frames};
 use crate::beyond::put_wanted_behind;
-use crate::ends::{End, end_of, put_beginning, put_end};
-use crate::frames::{Placed, PlacedFrames};
 use crate::json::{put_closing_object, put_numbered};
 use crate::lines::put_record_line;
-use crate::numbered::{Numbered, queues_behind, queues_of};
 use crate::sheet::{relieve, write_out};
-use crate::trouble::Trouble;
 use crate::wanted::Wanted;
+use rq_found::{
+    End, Numbered, Placed, PlacedFrames, Trouble, end_of, first_state, front_frames, put_beginning,
+    put_end, queues_behind, queues_of,
+};
 use rq_record::Fault;
 use rq_restart::Plan;
 use rq_state::State;

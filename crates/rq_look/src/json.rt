@@ -3,15 +3,12 @@
 ghost use Rattle.std.specs.Prelude.{◌≡◌, ◌++◌, ℕ, List, codes, OnOk, string_bytes};
 
 use crate::bytes::is_plain;
-use crate::ends::End;
-use crate::hidden::is_hidden;
-use crate::numbered::{
-    Numbered, by_of, element_of, kind_of, queue_named, registrant_of, unit_number,
-};
-use crate::objects::{JsonPiece, JsonTables, write_pieces};
+use crate::fields::{by_of, element_of, registrant_of, unit_number};
 use rq_behind::Found;
+use rq_found::{
+    End, FrontShown, JsonPiece, JsonTables, Numbered, front_shown, is_hidden, kind_of, queue_named,
+};
 use rq_record::{KeptRecord, QueueNo};
-use rq_report::why_word;
 use serde::{Described, Serialize, Serializer};
 use std::alloc::{AllocError, Global};
 use std::fmt::Write;
@@ -178,6 +175,14 @@ fn put_json_line(alloc: Global, text: &mut String, json: String) -> Result<(), A
     text.push_str("\n")
 }
 
+/// What serde answers, where it writes into memory: that fails for want of memory alone.
+pub(crate) fn written(json: Result<String, serde_json::Error>) -> Result<String, AllocError> {
+    match json {
+        Ok(json) => Ok(json),
+        Err(_) => Err(AllocError),
+    }
+}
+
 /// Puts the value as JSON in a line of its own, with each hidden character spelled by its numbers.
 pub(crate) fn put_json<T: Serialize>(
     alloc: Global,
@@ -187,10 +192,7 @@ pub(crate) fn put_json<T: Serialize>(
     ensures { OnOk result ((json : List ℕ)
         × (string_bytes text.new ≡ string_bytes text.old ++ (json ++ codes "\n"))) }
 {
-    // What is written here fails for want of memory alone.
-    let Ok(json) = serde_json::to_string(alloc, value) else {
-        return Err(AllocError);
-    };
+    let json = written(serde_json::to_string(alloc, value))?;
     put_json_line(alloc, text, json)
 }
 
@@ -280,58 +282,6 @@ pub(crate) fn put_behind_object(
     put_json(alloc, text, &JsonTables(&[&fields]))
 }
 
-/// Where a front ends, and where the checkpoint stands that a log begins with which was carried on.
-#[derive(Clone, Copy)]
-pub struct FrontShown<'a> {
-    carried_at: Option<u64>,
-    records: u64,
-    used: u64,
-    total: u64,
-    why: &'a str,
-    reason: &'a str,
-}
-
-impl FrontShown<'_> {
-    /// The object.
-    pub(crate) fn pieces(&self) -> [JsonPiece<'_>; 8] {
-        [
-            JsonPiece::Begin,
-            JsonPiece::Number("carried_at", self.carried_at),
-            JsonPiece::Number("records", Some(self.records)),
-            JsonPiece::Number("used", Some(self.used)),
-            JsonPiece::Number("total", Some(self.total)),
-            JsonPiece::Text("why", Some(self.why)),
-            JsonPiece::Text("reason", Some(self.reason)),
-            JsonPiece::End,
-        ]
-    }
-}
-
-impl Described for FrontShown<'_> {}
-
-impl Serialize for FrontShown<'_> {
-    fn serialize<S: Serializer>(&self, out: &mut S) -> Result<(), S::Error> {
-        write_pieces(&self.pieces(), out)
-    }
-}
-
-/// Where the front ends.
-pub fn front_shown(end: &End) -> FrontShown<'_>
-    ensures beginning { result.carried_at ≡ end.now.at }
-    ensures records { result.records ≡ end.now.records }
-    ensures used { result.used ≡ end.now.used }
-    ensures total { result.total ≡ end.now.total }
-{
-    FrontShown {
-        carried_at: end.at,
-        records: end.records,
-        used: end.used,
-        total: end.total,
-        why: why_word(end.why),
-        reason: end.reason.as_str(),
-    }
-}
-
 // The last line of a dump.
 #[derive(Clone, Copy)]
 struct ClosingShown<'a> {
@@ -342,9 +292,10 @@ impl Described for ClosingShown<'_> {}
 
 impl Serialize for ClosingShown<'_> {
     fn serialize<S: Serializer>(&self, out: &mut S) -> Result<(), S::Error> {
-        let begin = [JsonPiece::Begin, JsonPiece::Name("front")];
-        let front = self.front.pieces();
-        JsonTables(&[&begin, &front, &[JsonPiece::End]]).serialize(out)
+        out.begin_map(None)?;
+        out.key("front")?;
+        self.front.serialize(out)?;
+        out.end_map()
     }
 }
 

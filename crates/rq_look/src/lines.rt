@@ -1,9 +1,9 @@
 //! A record as a line.
 
 use crate::bytes::put_bytes;
-use crate::numbered::{Numbered, by_of, kind_of, queue_named, unit_number};
-use crate::pieces::TextPiece::{Number, Word};
-use crate::pieces::put_text_pieces;
+use crate::fields::{by_of, unit_number};
+use rq_found::TextPiece::{Number, Word};
+use rq_found::{Numbered, kind_of, put_text_pieces, queue_named};
 use rq_record::{KeptRecord, QueueNo};
 use std::alloc::{AllocError, Global};
 

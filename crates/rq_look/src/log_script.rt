@@ -17,11 +17,9 @@ ghost use Rattle.rq_look.specs.Looks.{BreaksOff, IsKnownWhole, StaysUntold};
 ghost use Rattle.rq_look.specs.Scripts.{IsDash, LeavesBody, LeavesOut, PutsScript, by_in};
 ghost use Rattle.rq_look.specs.Scripts.{script_line};
 
-use crate::ends::{is_whole, whole_end};
-use crate::frames::{Placed, PlacedFrames};
-use crate::numbered::{Numbered, by_of};
+use crate::fields::by_of;
 use crate::sheet::{relieve, write_out};
-use crate::trouble::Trouble;
+use rq_found::{Numbered, Placed, PlacedFrames, Trouble, end_of, is_whole};
 use rq_record::{KeptBy, KeptName, KeptRecord, QueueNo, UnitNo};
 use rq_restart::Plan;
 use std::alloc::{AllocError, Global};
@@ -286,7 +284,7 @@ where
     ensures refused { IfErr result
         (StaysUntold bytes.now (W.contents output.old) (W.contents output.new)) }
 {
-    let end = whole_end(rt, alloc, bytes, plan)?;
+    let end = end_of(rt, alloc, bytes, None, plan)?;
     put_records(alloc, bytes, end.used, output)?;
     Ok(is_whole(end.why))
 }

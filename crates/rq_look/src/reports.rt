@@ -5,17 +5,17 @@ ghost use Rattle.std.specs.Io.KnownBytes.{Appends};
 ghost use Rattle.rq_model.specs.Reports.{IsText};
 ghost use Rattle.rq_record.specs.declared.fault.Fault.TheVariants.{Resources};
 ghost use Rattle.rq_front.specs.Chains.{IsLog};
-ghost use Rattle.rq_look.specs.Looks.{HasQueue, HasWanted, IsRestartFrom, LacksReport};
-ghost use Rattle.rq_look.specs.Looks.{PutsReport, RefusedFrom, StaysUnreported, beginning_text};
-ghost use Rattle.rq_look.specs.declared.trouble.Trouble.TheVariants.{Log};
+ghost use Rattle.rq_found.specs.Ends.{IsRestartFrom, beginning_text};
+ghost use Rattle.rq_look.specs.Looks.{HasQueue, HasWanted, LacksReport, PutsReport, StaysUnreported};
 
-use crate::ends::{End, end_after, put_beginning};
-use crate::json::{FrontShown, front_shown, spelled_out};
-use crate::objects::{JsonPiece, JsonTables};
-use crate::queues::{QueueShown, queues_shown};
-use crate::trouble::Trouble;
+use crate::json::{spelled_out, written};
+use crate::shown_queues::{QueueShown, queues_shown};
+use rq_found::{
+    End, FrontShown, JsonPiece, JsonTables, Trouble, end_after, front_shown, put_beginning,
+    restarted_from,
+};
 use rq_report::{OverWrite, write_report_by};
-use rq_restart::{Fault, Open, Plan, Restarted, restart, restart_at};
+use rq_restart::{Fault, Plan, Restarted};
 use serde::{Described, Serialize, Serializer};
 use std::alloc::{AllocError, Global};
 use std::io::{self, Write};
@@ -53,9 +53,10 @@ impl Described for ReportShown<'_> {}
 
 impl Serialize for ReportShown<'_> {
     fn serialize<S: Serializer>(&self, out: &mut S) -> Result<(), S::Error> {
-        let begin = [JsonPiece::Begin, JsonPiece::Name("front")];
-        let (front, units) = (self.front.pieces(), self.units.pieces());
-        JsonTables(&[&begin, &front, &units, &[JsonPiece::Name("queues")]]).serialize(out)?;
+        out.begin_map(None)?;
+        out.key("front")?;
+        self.front.serialize(out)?;
+        JsonTables(&[&self.units.pieces(), &[JsonPiece::Name("queues")]]).serialize(out)?;
         self.queues.serialize(out)?;
         out.end_map()
     }
@@ -78,25 +79,8 @@ fn report_shown<'a>(
     })
 }
 
-/// The restart of a log, from the checkpoint on at an offset, if there is one.
-pub fn restarted_from<R: Threads + Sync>(
-    rt: &R,
-    alloc: Global,
-    bytes: &[u8],
-    at: Option<u64>,
-    plan: &Plan,
-) -> Result<Restarted, Fault>
-    ensures log { OnOk result (IsLog bytes.now) }
-    ensures restart { IfOk result (λ r. IsRestartFrom at bytes.now r) }
-    ensures refused { IfErr result (RefusedFrom at bytes.now) }
-{
-    match at {
-        None => restart(rt, alloc, bytes, plan, &Open),
-        Some(at) => restart_at(rt, alloc, bytes, at, plan, &Open),
-    }
-}
-
-// The same of a log that has the queue, if one is wanted.
+// The restart of a log, from the checkpoint on at an offset, if there is one. The log has the queue, if
+// one is wanted.
 fn restarted_with<R: Threads + Sync>(
     rt: &R,
     alloc: Global,
@@ -128,10 +112,7 @@ fn json_of(
     ensures { IfOk result (λ text. (json : List ℕ) × (string_bytes text ≡ json ++ codes "\n")) }
 {
     let report = report_shown(alloc, restarted, end, wanted)?;
-    // What is written here fails for want of memory alone.
-    let Ok(json) = serde_json::to_string_pretty(alloc, &report) else {
-        return Err(AllocError);
-    };
+    let json = written(serde_json::to_string_pretty(alloc, &report))?;
     let mut text = spelled_out(alloc, json)?;
     text.push('\n')?;
     Ok(text)

@@ -1,25 +1,24 @@
 //! The script of a damaged log, with what stands behind its front to choose from.
 
-ghost use Rattle.std.specs.Prelude.{◌≡◌, ◌++◌, ℕ, List, false, IfErr, IfOk, OnOk, string_bytes};
+ghost use Rattle.std.specs.Prelude.{◌≡◌, ℕ, List, false, IfErr, IfOk, OnOk, string_bytes};
 ghost use Rattle.std.specs.Io.KnownBytes.{Appends};
 ghost use Rattle.rq_front.specs.Chains.{IsLog};
 ghost use Rattle.rq_record.specs.declared.fault.Fault.TheVariants.{Resources};
 ghost use Rattle.rq_restart.specs.Views.{why_of};
-ghost use Rattle.rq_look.specs.Looks as looks;
-ghost use Rattle.rq_look.specs.Looks.{IsBroken, StaysUntold};
+ghost use Rattle.rq_found.specs.Ends as ends;
+ghost use Rattle.rq_found.specs.Refusals.{IsBroken};
+ghost use Rattle.rq_look.specs.Looks.{StaysUntold};
 ghost use Rattle.rq_look.specs.Rests.{EndsFrontOf, IsChoice, PutsSalvage};
 ghost use Rattle.rq_look.specs.Scripts.{LeavesOut};
 
 use crate::behind_fronts::{put_count, put_given_up, standing_behind};
 use crate::beyond::Loose;
-use crate::ends::{End, form_reason, is_whole, put_end, whole_end};
 use crate::log_script::{is_untold, put_line, put_records};
-use crate::pieces::TextPiece::{Number, Word};
-use crate::pieces::put_text_pieces;
 use crate::sheet::{relieve, write_out};
-use crate::trouble::Trouble;
 use rq_behind::Found;
-use rq_front::{Span, version};
+use rq_found::TextPiece::{Number, Word};
+use rq_found::{End, Trouble, end_of, form_reason, is_whole, put_end, put_text_pieces};
+use rq_front::version;
 use rq_record::{Fault, KeptRecord, Version};
 use rq_restart::Plan;
 use std::alloc::{AllocError, Global};
@@ -164,7 +163,7 @@ fn words_of(alloc: Global, end: &End, found: &Found) -> Result<String, AllocErro
 fn put_rest<W: Write>(alloc: Global, bytes: &[u8], end: &End, output: &mut W) -> Result<(), Trouble>
     requires log { IsLog bytes.now }
     requires end { EndsFrontOf bytes.now end.now }
-    ensures choice { OnOk result ((put : List ℕ) × IsChoice (looks.is_whole (why_of end.now.why)) put
+    ensures choice { OnOk result ((put : List ℕ) × IsChoice (ends.is_whole (why_of end.now.why)) put
         × Appends (W.contents output.old) (W.contents output.new) put) }
     ensures refused { IfErr result IsBroken }
 {
@@ -202,7 +201,7 @@ where
     ensures refused { IfErr result
         (StaysUntold bytes.now (W.contents output.old) (W.contents output.new)) }
 {
-    let end = whole_end(rt, alloc, bytes, plan)?;
+    let end = end_of(rt, alloc, bytes, None, plan)?;
     put_records(alloc, bytes, end.used, output)?;
     put_rest(alloc, bytes, &end, output)?;
     Ok(())

@@ -4,42 +4,22 @@ ghost use Rattle.std.specs.Prelude.{◌≡◌, [], ℕ, List, IfOk, IfErr, OnOk,
 ghost use Rattle.std.specs.Io.KnownBytes.{Appends};
 ghost use Rattle.rq_record.specs.declared.fault.Fault.TheVariants.{Resources};
 ghost use Rattle.rq_front.specs.Chains.{IsLog};
-ghost use Rattle.rq_look.specs.Looks.{IsBroken, LacksStory, StaysWithoutStory};
+ghost use Rattle.rq_found.specs.Refusals.{IsBroken};
+ghost use Rattle.rq_look.specs.Looks.{LacksStory, StaysWithoutStory};
 
-use crate::beginning::{first_state, front_frames};
-use crate::ends::{End, end_of, put_beginning, put_end};
-use crate::events::Event;
-use crate::followed_queues::FollowedQueues;
-use crate::frames::{Placed, PlacedFrames};
 use crate::lines::put_record;
-use crate::numbered::{Numbered, unit_of};
-use crate::pieces::TextPiece::{Number, Word};
-use crate::pieces::put_text_pieces;
 use crate::sheet::{relieve, write_out};
-use crate::trouble::Trouble;
+use rq_found::TextPiece::{Number, Word};
+use rq_found::{
+    End, Event, FollowedQueues, Numbered, Placed, PlacedFrames, Subject, Trouble, end_of,
+    first_state, front_frames, put_beginning, put_end, put_text_pieces, unit_of,
+};
 use rq_record::{Fault, UnitNo};
 use rq_restart::Plan;
 use std::alloc::{AllocError, Global};
+use std::fmt::Write;
+use std::io;
 use std::thread::Threads;
-use std::{fmt, io};
-
-/// What is told of a log.
-#[derive(Clone, Copy, Debug, PartialEq, Eq)]
-pub enum Subject {
-    /// What became of the element of this number.
-    Element(u64),
-    /// What the unit of this number did.
-    Unit(u64),
-}
-
-impl fmt::Display for Subject {
-    fn fmt<W: fmt::Write>(&self, f: &mut fmt::Formatter<W>) -> fmt::Result {
-        match self {
-            Subject::Element(element) => write!(f, "element {element}"),
-            Subject::Unit(unit) => write!(f, "unit {unit}"),
-        }
-    }
-}
 
 // Whether an event is of the subject; each event of a unit's record is.
 fn concerns(subject: Subject, event: &Event) -> bool {
@@ -51,8 +31,7 @@ fn concerns(subject: Subject, event: &Event) -> bool {
 
 // Puts what happened, and the end of its line.
 fn put_happened(text: &mut String, event: &Event) -> Result<(), AllocError> {
-    put_text_pieces(text, &event.pieces())?;
-    text.push_str("\n")
+    write!(text, "{event}\n")
 }
 
 // Puts the record, and what happened, as a line.

@@ -1,6 +1,7 @@
 //! Which records are wanted, and how.
 
-use crate::numbered::{Numbered, kind_of, registrant_of, unit_of};
+use crate::fields::registrant_of;
+use rq_found::{Numbered, kind_of, unit_of};
 use rq_record::{KeptRecord, QueueNo, UnitNo};
 
 /// Which records of a front are to be shown, and how. What is none asks for nothing.

@@ -4,7 +4,7 @@ use crate::markup::Html::{Count, Number, Tag, Text};
 use crate::markup::{Html, put_pieces};
 use crate::payloads::put_payload_cell;
 use crate::shown::Linked;
-use rq_look::{LastShown, RegistrantShown};
+use rq_found::{LastShown, RegistrantShown};
 use rq_state::KeptElement as Element;
 use std::alloc::{AllocError, Global};
 

@@ -1,4 +1,4 @@
-//! A log as one page that a browser shows: what `rq_look` finds in a log, drawn.
+//! A log as one page that a browser shows: what `rq_found` finds in a log, drawn.
 #![tactic(auto)]
 
 mod curves;

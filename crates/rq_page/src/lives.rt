@@ -6,7 +6,7 @@ ghost use Rattle.rq_record.specs.declared.fault.Fault.TheVariants.{Resources};
 use crate::records::put_row;
 use crate::shown::Linked;
 use crate::steps::{At, STEPS, Step, step_of};
-use rq_look::{Event, Numbered, unit_of};
+use rq_found::{Event, Numbered, unit_of};
 use rq_record::{Fault, KeptBy, KeptName, KeptRecord, Name, QueueNo};
 use std::alloc::{AllocError, Global};
 use std::collections::BTreeMap;

@@ -4,7 +4,7 @@ ghost use Rattle.std.specs.Prelude.{◌≡◌, ◌++◌, true, OnOk, string_byte
 ghost use Rattle.rq_page.specs.Markup.{AppendsText, is_text, page_foot};
 
 use crate::markup::Html::{Count, Number, Tag, Text};
-use rq_look::is_hidden;
+use rq_found::is_hidden;
 use std::alloc::AllocError;
 use std::fmt::Write;
 

@@ -4,8 +4,8 @@ ghost use Rattle.std.specs.Prelude.{ℕ, ◌≡◌, ◌++◌, ◌⊎◌, List, I
 ghost use Rattle.std.specs.Io.KnownBytes.{Appends};
 ghost use Rattle.rq_model.specs.Fronts as fronts;
 ghost use Rattle.rq_front.specs.Chains.{IsLog};
-ghost use Rattle.rq_look.specs.Looks.{IsBroken, IsRefusal, IsRestartFrom, RefusedFrom};
-ghost use Rattle.rq_look.specs.Looks.{StaysUnshown};
+ghost use Rattle.rq_found.specs.Ends.{IsRestartFrom};
+ghost use Rattle.rq_found.specs.Refusals.{IsBroken, IsRefusal, RefusedFrom, StaysUnshown};
 ghost use Rattle.rq_page.specs.Markup.{page_foot};
 
 use crate::histories::{put_elements, put_registrants, put_unit_histories};
@@ -21,7 +21,7 @@ use crate::surveys::{Survey, surveyed};
 use crate::tables::put_queue_table;
 use crate::units::put_open;
 use crate::walks::lives_of;
-use rq_look::{End, Trouble, end_after, first_state, restarted_from};
+use rq_found::{End, Trouble, end_after, first_state, restarted_from};
 use rq_restart::{Fault, Plan, Restarted, audit, audit_at};
 use rq_state::State;
 use std::alloc::{AllocError, Global};

@@ -4,7 +4,7 @@ use crate::curves::{along, bin_of, put_axis};
 use crate::markup::Html::{Count, Number, Tag};
 use crate::markup::{NOTHING, put_pieces};
 use crate::surveys::{BINS, Bin, Survey};
-use rq_look::End;
+use rq_found::End;
 use std::alloc::{AllocError, Global};
 use std::collections::BTreeMap;
 

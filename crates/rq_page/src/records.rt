@@ -5,7 +5,7 @@ use crate::markup::{Html, NOTHING, put_pieces};
 use crate::payloads::put_payload_cell;
 use crate::shown::Linked;
 use crate::steps::{At, put_step, step_of};
-use rq_look::{Event, Numbered, kind_of, unit_of};
+use rq_found::{Event, Numbered, kind_of, unit_of};
 use rq_record::{KeptBy, KeptRecord, QueueNo};
 use std::alloc::{AllocError, Global};
 

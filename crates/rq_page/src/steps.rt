@@ -3,7 +3,7 @@
 use crate::markup::Html::{Count, Number, Tag};
 use crate::markup::{Html, NOTHING, put_pieces};
 use crate::shown::Linked;
-use rq_look::{Effect, Event};
+use rq_found::{Effect, Event};
 use std::alloc::AllocError;
 
 /// As many steps of one life are kept.

@@ -3,7 +3,7 @@
 use crate::markup::Html::{Count, Number, Tag, Text};
 use crate::markup::{Html, NOTHING, put_pieces};
 use crate::questions::Asked;
-use rq_look::{End, is_whole};
+use rq_found::{End, is_whole};
 use rq_report::why_word;
 use rq_restart::Restarted;
 use std::alloc::{AllocError, Global};

@@ -2,10 +2,10 @@
 
 ghost use Rattle.std.specs.Prelude.{◌≡◌, IfErr};
 ghost use Rattle.rq_record.specs.declared.fault.Fault.TheVariants.{Resources};
-ghost use Rattle.rq_look.specs.Looks.{IsBroken};
+ghost use Rattle.rq_found.specs.Refusals.{IsBroken};
 
 use crate::curves::{Curve, bin_of};
-use rq_look::{
+use rq_found::{
     Effect, End, Event, FollowedQueues, Numbered, Placed, Trouble, front_frames, kind_of,
 };
 use rq_record::{Fault, KeptRecord, QueueNo};

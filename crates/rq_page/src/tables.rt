@@ -7,7 +7,7 @@ use crate::markup::put_pieces;
 use crate::questions::Order;
 use crate::shown::{Linked, QUEUES};
 use crate::surveys::{FEW_BINS, Survey};
-use rq_look::{End, free_elements, registrants_shown};
+use rq_found::{End, free_elements, registrants_shown};
 use rq_record::{Name, QueueNo};
 use rq_state::{Definition, State};
 use std::alloc::{AllocError, Global};

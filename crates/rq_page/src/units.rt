@@ -5,7 +5,7 @@ use crate::markup::Html::{Count, Number, Tag};
 use crate::markup::{Html, NOTHING, put_pieces};
 use crate::shown::Linked;
 use crate::surveys::{BINS, Survey};
-use rq_look::End;
+use rq_found::End;
 use std::alloc::AllocError;
 
 // The picture's width, the height of the curve, and of one unit.

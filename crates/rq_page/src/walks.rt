@@ -2,11 +2,11 @@
 
 ghost use Rattle.std.specs.Prelude.{◌≡◌, IfErr};
 ghost use Rattle.rq_record.specs.declared.fault.Fault.TheVariants.{Resources};
-ghost use Rattle.rq_look.specs.Looks.{IsBroken};
+ghost use Rattle.rq_found.specs.Refusals.{IsBroken};
 
 use crate::lives::Lives;
 use crate::shown::Linked;
-use rq_look::{End, FollowedQueues, Placed, PlacedFrames, Trouble, front_frames};
+use rq_found::{End, FollowedQueues, Placed, PlacedFrames, Trouble, front_frames};
 use rq_record::Fault;
 use rq_state::State;
 use std::alloc::{AllocError, Global};

@@ -2,7 +2,7 @@
 use Rattle.std.specs.Prelude.{◌≡◌, ℕ, Bool, true, false, List, ◌++◌, codes, Option}
 use Rattle.std.specs.Io.KnownBytes.{Appends}
 use Rattle.rq_model.specs.Fronts.{Restarted}
-use Rattle.rq_look.specs.Looks.{IsRestartFrom, beginning_text, end_line}
+use Rattle.rq_found.specs.Ends.{IsRestartFrom, beginning_text, end_line}
 
 -- the text is an object of JSON; or the line that says with which checkpoint b begins, if it was
 -- carried on, that of where its front ends, with some reason, and some lines

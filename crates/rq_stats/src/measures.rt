@@ -6,11 +6,11 @@ ghost use Rattle.rq_record.specs.declared.fault.Fault.TheVariants.{Resources};
 use crate::greatest::put_greatest;
 use crate::rows::Value::{Number, Word};
 use crate::rows::{PAYLOADS, Row, UNITS};
-use rq_front::FRAME_LEN;
-use rq_look::{
+use rq_found::{
     Effect, End, Event, FollowedQueues, Numbered, Placed, PlacedFrames, first_state, front_frames,
     kind_of,
 };
+use rq_front::FRAME_LEN;
 use rq_record::{Fault, KeptRecord, Name, UnitNo};
 use rq_state::{Definition, State};
 use std::alloc::{AllocError, Global};

@@ -6,7 +6,7 @@ use crate::rows::Value::{Number, Word};
 use crate::rows::{
     DEPTHS, KINDS, MOVES, OUTCOMES, PAYLOADS, Row, Sort, UNITS, put_rows, write_list, write_only,
 };
-use rq_look::FrontShown;
+use rq_found::FrontShown;
 use rq_record::Name;
 use serde::{Described, Serialize, Serializer};
 use std::alloc::{AllocError, Global};

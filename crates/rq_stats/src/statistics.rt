@@ -5,12 +5,13 @@ ghost use Rattle.rq_model.specs.Fronts.{Restarted};
 ghost use Rattle.rq_front.specs.Chains.{IsLog};
 ghost use Rattle.rq_restart.specs.FrontEnds.{IsEndOf};
 ghost use Rattle.rq_restart.specs.Views.{why_of};
-ghost use Rattle.rq_look.specs.Looks.{IsBroken, IsRestartFrom, StaysUnshown, beginning_text, end_text, front_end_of};
+ghost use Rattle.rq_found.specs.Ends.{IsRestartFrom, beginning_text, end_text, front_end_of};
+ghost use Rattle.rq_found.specs.Refusals.{IsBroken, StaysUnshown};
 ghost use Rattle.rq_stats.specs.Statistics.{AreNumbers, PutsNumbers};
 
 use crate::measures::{Measures, counted};
 use crate::shown::{StatisticsShown, joined_lines, rows_of};
-use rq_look::{End, Plan, Trouble, end_of, front_shown, put_beginning, put_end};
+use rq_found::{End, Plan, Trouble, end_of, front_shown, put_beginning, put_end};
 use std::alloc::{AllocError, Global};
 use std::io::Write;
 use std::thread::Threads;

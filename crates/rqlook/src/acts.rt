@@ -7,7 +7,7 @@ use crate::narrow_lines::Narrow;
 use crate::progress::{Watch, Watched};
 use crate::words::{columns_asked, records_asked, subject_asked};
 use clap::ArgMatches;
-use rq_look::{Plan, Trouble, begins_at};
+use rq_found::{Plan, Trouble, begins_at};
 use std::io::{self, ErrorKind, Write};
 use std::os::fd::AsFd;
 use std::rt::{Clock, Files};

@@ -1,7 +1,7 @@
 //! Why the program ends before it is done.
 
 use clap::error::ErrorKind;
-use rq_look::{Seen, Trouble};
+use rq_found::{Seen, Trouble};
 use std::alloc::AllocError;
 use std::io;
 

@@ -2,7 +2,7 @@
 
 use crate::failures::{Failure, FileTrouble, of_file};
 use crate::progress::{Watch, Watched};
-use rq_look::{Fault, Plan, Trouble};
+use rq_found::{Fault, Plan, Trouble};
 use std::fs;
 use std::io::{self, ErrorKind, Read};
 use std::os::unix::fs::MetadataExt;

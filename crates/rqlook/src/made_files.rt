@@ -5,7 +5,7 @@ use crate::log_files::{PlannedLog, is_over_log};
 use crate::words::{numbers_asked, order_asked};
 use clap::ArgMatches;
 use rq_file::VERSION;
-use rq_look::{Fault, Trouble};
+use rq_found::{Fault, Trouble};
 use rq_page::Asked;
 use std::io::ErrorKind;
 use std::os::fd::AsFd;

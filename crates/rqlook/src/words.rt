@@ -4,7 +4,8 @@ use crate::command_table::{Argument, ArgumentForm, COMMANDS, Subcommand, TEXT};
 use clap::builder::ValueParser;
 use clap::{Arg, ArgAction, ArgMatches, Command};
 use rq_file::VERSION;
-use rq_look::{Subject, Wanted};
+use rq_found::Subject;
+use rq_look::Wanted;
 use rq_page::Order;
 use std::alloc::{AllocError, Global};
 

@@ -1,8 +1,9 @@
 use Rattle.std.proofs.Common.{Some, ◌∙◌, ◌++◌, List, ℕ, ap, subst, refl, codes, string_bytes}
 use Rattle.rq_restart.specs.Views.{why_of}
-use Rattle.rq_look.specs.Looks.{end_line}
+use Rattle.rq_found.specs.Ends.{end_line}
 use Rattle.rq_look.specs.Rests.{IsBehind, behind_finding}
-use Rattle.rq_look.proofs.Puts.{same_line, same_rest}
+use Rattle.rq_found.proofs.Lines.{same_line}
+use Rattle.rq_look.proofs.Puts.{same_rest}
 use Rattle.rq_look.proofs.checks.check_at.Goals as goal
 
 pub returns-clause-checked : goal.returns-clause-checked

@@ -1,7 +1,8 @@
 use Rattle.std.proofs.Common.{None, ◌∙◌, ◌&&◌, ◌++◌, List, ℕ, Bool, ap, subst, string_bytes}
 use Rattle.std.specs.List.{flat_map}
 use Rattle.rq_model.specs.Fronts.{Why}
-use Rattle.rq_look.specs.Looks.{all_true, checkpoint_finding, end_finding, is_whole}
+use Rattle.rq_found.specs.Ends.{is_whole}
+use Rattle.rq_look.specs.Looks.{all_true, checkpoint_finding, end_finding}
 use Rattle.rq_restart.specs.Views.{why_of}
 use Rattle.rq_look.specs.Rests.{IsBehind, behind_finding}
 use Rattle.rq_look.proofs.Puts.{same_finding, same_rest}

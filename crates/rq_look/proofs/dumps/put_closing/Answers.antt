@@ -1,6 +1,7 @@
 use Rattle.std.proofs.Common.{◌++◌, ◌∙◌, List, ℕ, Bool, refl, sym, ap, subst, string_bytes}
-use Rattle.rq_look.specs.Looks.{IsClosing, end_line}
-use Rattle.rq_look.proofs.Puts.{same_line}
+use Rattle.rq_found.specs.Ends.{end_line}
+use Rattle.rq_found.proofs.Lines.{same_line}
+use Rattle.rq_look.specs.Looks.{IsClosing}
 use Rattle.rq_look.proofs.dumps.put_closing.Goals as goal
 
 pub returns : goal.returns

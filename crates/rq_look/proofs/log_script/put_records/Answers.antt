@@ -1,6 +1,6 @@
 use Rattle.std.proofs.Common.{ℕ, ◌∙◌, string_bytes, drop, take, ap, arith, ◌≡◌}
 use Rattle.std.proofs.lemmas.Result.{err_from_is_err_and}
-use Rattle.rq_look.specs.declared.frames.PlacedFrames.{PlacedFrames}
+use Rattle.rq_found.specs.declared.frames.PlacedFrames.{PlacedFrames}
 use Rattle.rq_look.proofs.Scripts.{used_fits, begun, goes_on, ended, left_out}
 use Rattle.rq_look.proofs.log_script.put_records.Goals as goal
 

@@ -1,6 +1,6 @@
 use Rattle.std.proofs.Common.{◌++◌, ◌∙◌, Bool, List, ℕ, IfOk, ap, sym, subst, string_bytes}
-use Rattle.rq_look.specs.Looks.{beginning_text}
-use Rattle.rq_look.proofs.Puts.{same_line}
+use Rattle.rq_found.specs.Ends.{beginning_text}
+use Rattle.rq_found.proofs.Lines.{same_line}
 use Rattle.rq_stats.specs.Statistics.{AreNumbers}
 use Rattle.rq_stats.proofs.statistics.numbers_of.Goals as goal
 

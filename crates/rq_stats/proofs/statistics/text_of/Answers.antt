@@ -1,6 +1,6 @@
 use Rattle.std.proofs.Common.{◌++◌, ◌∙◌, List, ℕ, ap, append_assoc, string_bytes}
 use Rattle.rq_restart.specs.Views.{why_of}
-use Rattle.rq_look.specs.Looks.{beginning_text, end_text}
+use Rattle.rq_found.specs.Ends.{beginning_text, end_text}
 use Rattle.rq_stats.proofs.statistics.text_of.Goals as goal
 
 pub returns : goal.returns

@@ -1,0 +1,44 @@
+-- Where the front of a log ends, as it is found and told.
+use Rattle.std.specs.Prelude.{ℕ, Bool, true, false, List, [], ◌++◌, codes, Option, Some, None}
+use Rattle.std.specs.Fmt.{decimal}
+use Rattle.rq_model.specs.Frames.{Whole, Cut, Length, Digest}
+use Rattle.rq_model.specs.Fronts.{Why, Ends, Form, Law, Restarted, IsRestart}
+use Rattle.rq_model.specs.Reports.{why_text}
+use Rattle.rq_model.specs.Checkpoints.{IsRestartAt}
+use Rattle.rq_restart.specs.declared.ends.FrontEnd.{FrontEnd}
+use Rattle.rq_found.specs.declared.ends.End.{End}
+
+-- nothing follows the front
+abbrev pub is_whole : Why → Bool
+is_whole (Ends Whole) = true
+is_whole (Ends Cut) = false
+is_whole (Ends Length) = false
+is_whole (Ends Digest) = false
+is_whole Form = false
+is_whole Law = false
+
+-- the restart of b, or that from the checkpoint at an offset
+abbrev pub IsRestartFrom : Option ℕ → List ℕ → Restarted → Type 0
+IsRestartFrom None b r = IsRestart b r
+IsRestartFrom (Some at) b r = IsRestartAt b at r
+
+-- the line that says at which offset the checkpoint stands that a log begins with
+abbrev pub beginning_text : Option ℕ → List ℕ
+beginning_text None = []
+beginning_text (Some at) =
+    codes "carried: begins with the checkpoint at " ++ (decimal at ++ codes "\n")
+
+-- where the front ends, but for the reason
+abbrev pub front_end_of : End → FrontEnd
+front_end_of end =
+    record { records = end.records; used = end.used; total = end.total; why = end.why }
+
+-- the line of where a front ends: its records, its bytes, all bytes, why, and the reason
+abbrev pub end_text : ℕ → ℕ → ℕ → Why → List ℕ → List ℕ
+end_text records used total why reason = codes "front ends behind " ++ (decimal records
+    ++ (codes " records, at " ++ (decimal used ++ (codes " of " ++ (decimal total
+    ++ (codes " bytes, " ++ (why_text why ++ (codes ": " ++ (reason ++ codes "\n")))))))))
+
+-- this line for what a restart answers
+abbrev pub end_line : Restarted → List ℕ → List ℕ
+end_line r reason = end_text r.records r.used r.total r.why reason

@@ -1,0 +1,60 @@
+//! The end of a front as JSON.
+
+ghost use Rattle.std.specs.Prelude.{◌≡◌};
+
+use crate::ends::End;
+use crate::objects::{JsonPiece, write_pieces};
+use rq_report::why_word;
+use serde::{Described, Serialize, Serializer};
+
+/// Where a front ends, and where the checkpoint stands that a log begins with which was carried on.
+#[derive(Clone, Copy)]
+pub struct FrontShown<'a> {
+    carried_at: Option<u64>,
+    records: u64,
+    used: u64,
+    total: u64,
+    why: &'a str,
+    reason: &'a str,
+}
+
+impl FrontShown<'_> {
+    // The object.
+    fn pieces(&self) -> [JsonPiece<'_>; 8] {
+        [
+            JsonPiece::Begin,
+            JsonPiece::Number("carried_at", self.carried_at),
+            JsonPiece::Number("records", Some(self.records)),
+            JsonPiece::Number("used", Some(self.used)),
+            JsonPiece::Number("total", Some(self.total)),
+            JsonPiece::Text("why", Some(self.why)),
+            JsonPiece::Text("reason", Some(self.reason)),
+            JsonPiece::End,
+        ]
+    }
+}
+
+impl Described for FrontShown<'_> {}
+
+impl Serialize for FrontShown<'_> {
+    fn serialize<S: Serializer>(&self, out: &mut S) -> Result<(), S::Error> {
+        write_pieces(&self.pieces(), out)
+    }
+}
+
+/// Where the front ends.
+pub fn front_shown(end: &End) -> FrontShown<'_>
+    ensures beginning { result.carried_at ≡ end.now.at }
+    ensures records { result.records ≡ end.now.records }
+    ensures used { result.used ≡ end.now.used }
+    ensures total { result.total ≡ end.now.total }
+{
+    FrontShown {
+        carried_at: end.at,
+        records: end.records,
+        used: end.used,
+        total: end.total,
+        why: why_word(end.why),
+        reason: end.reason.as_str(),
+    }
+}

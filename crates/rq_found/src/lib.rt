@@ -1,0 +1,36 @@
+//! What is found in a log, to be shown: where its front begins and ends, and why; its frames and
+//! records, the queues as who reads them follows them, and what each record does. `rq_look`, `rq_stats`
+//! and `rq_page` show it.
+#![tactic(auto)]
+
+mod beginning;
+mod ends;
+mod events;
+mod followed_queues;
+mod frames;
+mod hidden;
+mod json;
+mod misfits;
+mod numbered;
+mod objects;
+mod pieces;
+mod queues;
+mod restarts;
+mod subjects;
+mod trouble;
+
+pub use beginning::{begins_at, first_state, front_frames};
+pub use ends::{End, end_after, end_of, form_reason, is_whole, put_beginning, put_end};
+pub use events::{Effect, Event};
+pub use followed_queues::FollowedQueues;
+pub use frames::{Placed, PlacedFrames};
+pub use hidden::{Seen, is_hidden};
+pub use json::{FrontShown, front_shown};
+pub use numbered::{Numbered, kind_of, queue_named, queues_behind, queues_of, unit_of};
+pub use objects::{JsonPiece, JsonTables};
+pub use pieces::{TextPiece, put_text_pieces};
+pub use queues::{LastShown, RegistrantShown, free_elements, registrants_shown};
+pub use restarts::restarted_from;
+pub use rq_restart::{Fault, Plan};
+pub use subjects::Subject;
+pub use trouble::Trouble;

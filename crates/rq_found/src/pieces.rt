@@ -1,0 +1,57 @@
+//! Words and numbers, one behind the other. What puts many of them is cheap to prove by a table of
+//! them: each format text of its own is dear, and so is each way out.
+
+ghost use Rattle.std.specs.Prelude.{◌≡◌, ◌++◌, OnOk, string_bytes};
+ghost use Rattle.std.specs.List.{flat_map};
+ghost use Rattle.rq_found.specs.Pieces.{piece_text};
+
+use std::alloc::{AllocError, Global};
+use std::fmt::{self, Write};
+
+/// A word, or a number in decimal digits.
+#[derive(Clone, Copy)]
+pub enum TextPiece<'a> {
+    /// Text as it is.
+    Word(&'a str),
+    /// A number.
+    Number(u64),
+}
+
+fn put_piece(text: &mut String, piece: &TextPiece<'_>) -> Result<(), AllocError>
+    ensures { OnOk result
+        (string_bytes text.new ≡ string_bytes text.old ++ piece_text piece.now) }
+{
+    match piece {
+        TextPiece::Word(word) => text.push_str(word),
+        TextPiece::Number(number) => write!(text, "{number}"),
+    }
+}
+
+/// Writes a piece where something is formatted.
+pub(crate) fn write_piece<W: fmt::Write>(
+    f: &mut fmt::Formatter<W>,
+    piece: &TextPiece<'_>,
+) -> fmt::Result {
+    match piece {
+        TextPiece::Word(word) => f.write_str(word),
+        TextPiece::Number(number) => write!(f, "{number}"),
+    }
+}
+
+/// Puts the pieces, in order.
+pub fn put_text_pieces(text: &mut String, pieces: &[TextPiece<'_>]) -> Result<(), AllocError>
+    ensures { OnOk result (string_bytes text.new
+        ≡ string_bytes text.old ++ flat_map piece_text pieces.now) }
+{
+    for piece in pieces {
+        put_piece(text, piece)?;
+    }
+    Ok(())
+}
+
+/// The text of the pieces.
+pub(crate) fn joined_text(alloc: Global, pieces: &[TextPiece<'_>]) -> Result<String, AllocError> {
+    let mut text = String::new(alloc);
+    put_text_pieces(&mut text, pieces)?;
+    Ok(text)
+}

@@ -1,0 +1,202 @@
+//! What stands in a queue: its free elements, and its registrants as they are shown.
+
+ghost use Rattle.std.specs.Prelude.{◌≡◌, ◌++◌, ◌∷◌, [], IfOk, OnOk, map, filter, IsPermutation};
+ghost use Rattle.std.specs.List.Sorted.{IsSortedBy};
+ghost use Rattle.rq_model.specs.Machine.{is_free_at};
+ghost use Rattle.rq_model.specs.Queues.{registrants_at};
+ghost use Rattle.rq_model.specs.Reports.{IsListing, kind_text};
+ghost use Rattle.rq_model.specs.States as model;
+ghost use Rattle.rq_state.specs.Views as views;
+ghost use Rattle.rq_report.specs.Order.{is_ahead};
+ghost use Rattle.rq_found.specs.Registrants.{last_shown, last_told, registrant_entry, registrant_told};
+
+use crate::objects::{JsonPiece, JsonTables, write_pieces};
+use rq_record::QueueNo;
+use rq_state::{KeptElement as Element, Last, Mark, OpKind, Registrant, State};
+use serde::{Described, Serialize, Serializer};
+use std::alloc::{AllocError, Global};
+use std::cmp::Reverse;
+
+/// The last operation of a registrant.
+#[derive(Clone, Copy)]
+pub struct LastShown<'a> {
+    /// `enqueue` or `dequeue`.
+    pub kind: &'a str,
+    /// Its tag.
+    pub tag: u64,
+    /// The element that it put in or took, if there was one.
+    pub element: Option<u64>,
+}
+
+impl LastShown<'_> {
+    // The object.
+    fn pieces(&self) -> [JsonPiece<'_>; 6] {
+        [
+            JsonPiece::Begin,
+            JsonPiece::Text("kind", Some(self.kind)),
+            JsonPiece::Number("tag", Some(self.tag)),
+            JsonPiece::Name("element"),
+            JsonPiece::Value(self.element),
+            JsonPiece::End,
+        ]
+    }
+}
+
+impl Described for LastShown<'_> {}
+
+impl Serialize for LastShown<'_> {
+    fn serialize<S: Serializer>(&self, out: &mut S) -> Result<(), S::Error> {
+        write_pieces(&self.pieces(), out)
+    }
+}
+
+/// A registrant, and what it did last.
+#[derive(Clone, Copy)]
+pub struct RegistrantShown<'a> {
+    /// The registrant's name.
+    pub name: &'a str,
+    /// Its last operation, if it did any.
+    pub last: Option<LastShown<'a>>,
+}
+
+impl RegistrantShown<'_> {
+    // Its name, and the name of what follows.
+    fn name_pieces(&self) -> [JsonPiece<'_>; 3] {
+        [
+            JsonPiece::Begin,
+            JsonPiece::Text("name", Some(self.name)),
+            JsonPiece::Name("last"),
+        ]
+    }
+
+    // Its last operation, or `null`.
+    fn last_pieces(&self) -> [JsonPiece<'_>; 6] {
+        if let Some(last) = &self.last {
+            return last.pieces();
+        }
+        let mut none = [JsonPiece::Skip; 6];
+        none[0] = JsonPiece::Value(None);
+        none
+    }
+}
+
+impl Described for RegistrantShown<'_> {}
+
+impl Serialize for RegistrantShown<'_> {
+    fn serialize<S: Serializer>(&self, out: &mut S) -> Result<(), S::Error> {
+        let (name, last) = (self.name_pieces(), self.last_pieces());
+        JsonTables(&[&name, &last, &[JsonPiece::End]]).serialize(out)
+    }
+}
+
+fn is_free(e: &Element) -> bool
+    ensures { result ≡ model.is_free e.now.mark }
+{
+    match e.mark {
+        Mark::Free => true,
+        Mark::Fresh(_) | Mark::Held(_) => false,
+    }
+}
+
+// Adds an element if it is free.
+fn list<'a>(found: &mut Vec<&'a Element>, e: &'a Element) -> Result<(), AllocError>
+    ensures { OnOk result (map (λ e. e.now) found.new.items
+        ≡ map (λ e. e.now) found.old.items ++ filter (λ e. model.is_free e.mark) (e.now ∷ [])) }
+{
+    if is_free(e) {
+        found.push(e)?;
+    }
+    Ok(())
+}
+
+// The queue's free elements, in the order of their numbers.
+fn listed(alloc: Global, state: &State, queue: QueueNo) -> Result<Vec<&Element>, AllocError>
+    ensures { IfOk result
+        (λ v. map (λ e. e.now) v.items ≡ filter (is_free_at queue.0) state.now.elements) }
+{
+    let indices = state.elements_of(queue);
+    let mut found = Vec::new(alloc);
+    for at in indices {
+        list(&mut found, state.element(*at))?;
+    }
+    Ok(found)
+}
+
+// By what elements are put in order.
+fn rank(e: &Element) -> (Reverse<u8>, u64)
+    ensures { result ≡ (record { 0 = e.now.priority }, e.now.id) }
+{
+    (Reverse(e.priority), e.id.0)
+}
+
+fn sort(found: &mut [&Element])
+    ensures permutation { IsPermutation found.old found.new }
+    ensures sorted { IsSortedBy (λ x y. is_ahead x.now y.now) found.new }
+{
+    found.sort_unstable_by_key(|e| rank(e));
+}
+
+/// The queue's free elements, in the order in which they would be taken.
+pub fn free_elements(
+    alloc: Global,
+    state: &State,
+    queue: QueueNo,
+) -> Result<Vec<&Element>, AllocError>
+    ensures { IfOk result (λ v. IsListing queue.0 state.now.elements (map (λ e. e.now) v.items)) }
+{
+    // Its contract says that the elements have numbers of their own.
+    state.next();
+    let mut found = listed(alloc, state, queue)?;
+    sort(&mut found);
+    Ok(found)
+}
+
+fn kind_of(kind: OpKind) -> &'static str
+    ensures { result.now ≡ kind_text (views.kind_of kind) }
+{
+    match kind {
+        OpKind::Enqueue => "enqueue",
+        OpKind::Dequeue => "dequeue",
+    }
+}
+
+fn last_shown(last: &Last) -> LastShown<'static>
+    ensures { last_told result ≡ last_shown last.now }
+{
+    LastShown {
+        kind: kind_of(last.kind),
+        tag: last.tag,
+        element: match last.element {
+            Some(id) => Some(id.0),
+            None => None,
+        },
+    }
+}
+
+fn registrant_shown(r: &Registrant) -> RegistrantShown<'_>
+    ensures { registrant_told result ≡ registrant_entry r.now }
+{
+    RegistrantShown {
+        name: r.name.text(),
+        last: match &r.last {
+            Some(last) => Some(last_shown(last)),
+            None => None,
+        },
+    }
+}
+
+/// The queue's registrants, by name.
+pub fn registrants_shown(
+    alloc: Global,
+    state: &State,
+    queue: QueueNo,
+) -> Result<Vec<RegistrantShown<'_>>, AllocError>
+    ensures { IfOk result (λ v. map registrant_told v.items
+        ≡ map registrant_entry (registrants_at queue.0 state.now.registrants)) }
+{
+    let mut found = Vec::new(alloc);
+    for at in state.registrants_of(queue) {
+        found.push(registrant_shown(state.registrant(*at)))?;
+    }
+    Ok(found)
+}
