@@ -26,7 +26,7 @@ pub fn unfiled<K: Ord + Drop>(alloc: Global, index: &mut BTreeMap<K, Vec<u64>>, 
         ≡ (if is_eq (K.cmp key.now k) then [] else filed K.cmp k index.old.entries) }
 {
     match index.remove(key) {
-        Some(places) => places,
+        Some(list) => list,
         None => Vec::new(alloc),
     }
 }
