@@ -18,14 +18,16 @@ use Rattle.rq_model.proofs.Apart.{Apart}
 use Rattle.rq_model.proofs.Lists.{by_cases, each_weaker, each_map, each_filter, filter_all, filter_same}
 use Rattle.rq_model.proofs.Merged.{ordered_filter}
 use Rattle.rq_model.proofs.Steps.{returned_id}
-use Rattle.rq_queue.specs.Kept.{Entry, items_of, IsKeyed, IsOfUnit, staying}
+use Rattle.rq_queue.specs.Kept.{Among, Entry, items_of, IsKeyed, IsOfUnit, staying}
+use Rattle.rq_queue.specs.Listed.{IsShelved}
 use Rattle.rq_queue.specs.Priorities.{IsKnown, AreKnown, with_all}
 use Rattle.rq_queue.specs.Sorted.{sorted}
+use Rattle.rq_queue.specs.declared.elements.Elements.TheInside.{Inside}
 use Rattle.rq_queue.proofs.Doing.{free_cmp, none_free}
 use Rattle.rq_queue.proofs.ByNumber.{each_back, each_front, each_moved}
 use Rattle.rq_queue.proofs.Sorting.{apart_into, each_put, each_sorted, each_unsorted}
 use Rattle.rq_queue.proofs.Sorting.{filter_sorted}
-use Rattle.rq_queue.proofs.Units.{Lists, same_key}
+use Rattle.rq_queue.proofs.Units.{Lists, apart_other, each_other, same_key}
 
 -- what is under an id after it is put there, and under all others
 equal_keys : (k : ℕ) → is_eq (nat_cmp k k) ≡ true
@@ -156,6 +158,22 @@ pub known_unsorted : (o : Option (BTreeMap ℕ ℕ)) (es : List Element) → Are
 known_unsorted None es h = tt
 known_unsorted (Some by_id) es h = each_unsorted (IsKnown by_id.entries) es h
 
+pub known_sorted : (o : Option (BTreeMap ℕ ℕ)) (es : List Element) → AreKnown o es → AreKnown o (sorted es)
+known_sorted None es h = tt
+known_sorted (Some by_id) es h = each_sorted (IsKnown by_id.entries) es h
+
+pub known_rest : (o : Option (BTreeMap ℕ ℕ)) (e : Element) (es : List Element) → AreKnown o (e ∷ es) → AreKnown o es
+known_rest None e es h = tt
+known_rest (Some by_id) e es h = h.1
+
+pub known_other : (o : Option (BTreeMap ℕ ℕ)) (free list whole others : List Element) → Among list whole others
+    → AreKnown o (sorted (free ++ whole)) → AreKnown o (sorted others)
+known_other None free list whole others a h = tt
+known_other (Some by_id) free list whole others a h =
+    each_sorted (IsKnown by_id.entries) others
+    (each_other (IsKnown by_id.entries) free list whole others a
+    (each_unsorted (IsKnown by_id.entries) (free ++ whole) h))
+
 -- The element of an id, if its priority is known.
 
 no_such : (id : ℕ) (by_id : List (ℕ × ℕ)) → lookup (is_at (nat_cmp id)) by_id ≡ None → (e : Element) → IsKnown by_id e
@@ -237,8 +255,24 @@ kill_done queue id free next old keyed units apart home n = (
         (each_weaker (λ f. is_free_at queue f ≡ false) (λ e. not (is_free_at queue e && (e.id == id)) ≡ true)
         (λ e b. ap (λ c. not (c && (e.id == id))) b) (items_of old) (none_free queue old units)) i)
 
-pub known_killed : (by_id : List (ℕ × ℕ)) (queue id : ℕ) (es : List Element) → AllByRecursion (IsKnown by_id) es
-    → AllByRecursion (IsKnown by_id) (killed queue id (sorted es))
-known_killed by_id queue id es h =
-    each_filter (IsKnown by_id) (λ e. not (is_free_at queue e && (e.id == id))) (sorted es)
-    (each_sorted (IsKnown by_id) es h)
+pub known_killed : (o : Option (BTreeMap ℕ ℕ)) (queue id : ℕ) (es : List Element) → AreKnown o es
+    → AreKnown o (killed queue id (sorted es))
+known_killed o queue id es h =
+    known_filter o (λ e. not (is_free_at queue e && (e.id == id))) (sorted es) (known_sorted o es h)
+
+-- without the Free elements and the list of a unit
+pub emptied : (a b : Inside) (list : List Element) → b.free.entries ≡ [] → b.priorities ≡ a.priorities
+    → Among list (items_of a.marked.entries) (items_of b.marked.entries) → AllByRecursion IsOfUnit b.marked.entries
+    → IsShelved a → IsShelved b
+emptied a b list empty same among units h =
+    let free = values_of a.free.entries in
+    let items = items_of b.marked.entries in
+    record {
+      keyed = subst (AllByRecursion IsKeyed) (sym empty) tt;
+      of_units = units;
+      apart = subst (λ (es : List Entry). Apart (values_of es ++ items)) (sym empty)
+          (apart_other free list (items_of a.marked.entries) items among h.apart);
+      known = subst (λ (es : List Entry). AreKnown b.priorities (sorted (values_of es ++ items))) (sym empty)
+          (subst (λ (o : Option (BTreeMap ℕ ℕ)). AreKnown o (sorted items)) (sym same)
+          (known_other a.priorities free list (items_of a.marked.entries) items among h.known));
+    }

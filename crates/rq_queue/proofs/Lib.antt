@@ -12,5 +12,4 @@ pub mod Steps
 pub mod Cases
 pub mod Known
 pub mod Building
-pub mod Poured
 pub mod Gathered

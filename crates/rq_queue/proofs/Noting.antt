@@ -127,13 +127,18 @@ module _ {K : Type 0} (R : K → K → Ordering) (total : IsTotalOrder R) (key :
       (tied a b index t i)
 
   -- a list of the key k that is one place longer
-  still_filed : (k : K) (p : ℕ) (old new : List (K × Vec ℕ))
+  pub still_filed : (k : K) (p : ℕ) (old new : List (K × Vec ℕ))
       → ((q : K) → filed R q new ≡ filed R q old ++ (if is_eq (R k q) then p ∷ [] else [])) → (es : List NoteEntry)
       → AllByRecursion (IsFiled old) es → AllByRecursion (IsFiled new) es
   still_filed k p old new more es h =
       each_weaker (IsFiled old) (IsFiled new)
       (λ e f. ap (has_place e.0) (more (key e.1))
       ∙ has_more e.0 (filed R (key e.1) old) (if is_eq (R k (key e.1)) then p ∷ [] else []) f) es h
+
+  pub same_filed : (old new : List (K × Vec ℕ)) → ((q : K) → filed R q new ≡ filed R q old) → (es : List NoteEntry)
+      → AllByRecursion (IsFiled old) es → AllByRecursion (IsFiled new) es
+  same_filed old new same es h =
+      each_weaker (IsFiled old) (IsFiled new) (λ e f. ap (has_place e.0) (same (key e.1)) ∙ f) es h
 
   newly_filed : (k : K) (p : ℕ) (old new : List (K × Vec ℕ))
       → ((q : K) → filed R q new ≡ filed R q old ++ (if is_eq (R k q) then p ∷ [] else []))
@@ -274,6 +279,12 @@ pub left_by_place : (whose : Whose) (k : ℕ) (es new : List NoteEntry) → new 
 left_by_place whose k es new h o =
     subst AreByPlace (sym h)
     (filtered_by_place (λ (e : NoteEntry). not (has_place e.0 (k ∷ []) && is_own whose e.1)) es o)
+
+pub left_some : (whose : Whose) (k : ℕ) (p : NoteEntry → Bool) (es new : List NoteEntry)
+    → new ≡ left whose (k ∷ []) es → AllByRecursion (λ (e : NoteEntry). p e ≡ true) es
+    → AllByRecursion (λ (e : NoteEntry). p e ≡ true) new
+left_some whose k p es new h all = subst (AllByRecursion (λ (e : NoteEntry). p e ≡ true)) (sym h)
+    (each_filter (λ (e : NoteEntry). p e ≡ true) _ es all)
 
 pub left_none : (whose : Whose) (es : List NoteEntry) → left whose [] es ≡ es
 left_none whose es = filter_all (λ (e : NoteEntry). not (has_place e.0 [] && is_own whose e.1)) es

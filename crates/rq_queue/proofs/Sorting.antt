@@ -49,6 +49,10 @@ sorted_moved xs ys same h = ByNumber.sorted_moved number xs ys same h
 pub apart_front : (xs ys : List Element) → Apart (xs ++ ys) → Apart xs
 apart_front xs ys h = ByNumber.apart_front number xs ys h
 
+pub apart_back : (xs ys : List Element) → Apart (xs ++ ys) → Apart ys
+apart_back [] ys h = h
+apart_back (x ∷ xs) ys h = apart_back xs ys h.1
+
 -- where an element is in the list makes no difference
 pub sorted_from : (xs : List Element) (y : Element) (ys : List Element) → Apart (xs ++ y ∷ ys)
     → sorted (xs ++ y ∷ ys) ≡ put id_before y (sorted (xs ++ ys))

@@ -1,6 +1,7 @@
 -- Lists of elements by unit.
 use Rattle.std.proofs.Common.{◌≡◌, ℕ, Bool, true, cond, List, [], ◌∷◌, ◌++◌, Some, None, refl, sym, ap, ◌∙◌, subst}
 use Rattle.std.proofs.Common.{arith, append_assoc}
+use Rattle.std.specs.Prelude.{Result, Ok, Err, OnErr}
 use Rattle.std.specs.List.{AllByRecursion}
 use Rattle.std.specs.List.Sorted.{IsPermutation}
 use Rattle.std.proofs.lemmas.List.Sorted.{IsPermutation-append_right, IsPermutation-cons, IsPermutation-middle}
@@ -17,8 +18,12 @@ use Rattle.rq_model.proofs.Lists.{by_cases}
 use Rattle.rq_model.proofs.Apart.{Apart}
 use Rattle.rq_queue.specs.Sorted.{sorted}
 use Rattle.rq_queue.specs.Kept.{items_of, IsOfUnit, Stowed, Among}
-use Rattle.rq_queue.proofs.ByNumber.{between}
-use Rattle.rq_queue.proofs.Sorting.{apart_moved, sorted_moved}
+use Rattle.rq_queue.proofs.ByNumber.{between, each_back, each_moved}
+use Rattle.rq_queue.proofs.Sorting.{apart_back, apart_moved, apart_swapped, sorted_moved}
+
+pub on_err : {T E P : Type 0} (r : Result T E) → P → OnErr r P
+on_err (Ok x) h = tt
+on_err (Err e) h = h
 
 abbrev pub Lists : Type 0
 Lists = List (ℕ × Vec Element)
@@ -143,6 +148,31 @@ stowed_at t (x ∷ es) v w e h i = by_cases (t x.0)
       rest = append_assoc x.1.items s.front s.back ∙ (ap (λ (xs : List Element). x.1.items ++ xs) s.rest
           ∙ sym (append_assoc x.1.items s.left s.right));
     }
+
+-- a list with the same elements
+pub same_at : (t : ℕ → Bool) (es : Lists) (v w : Vec Element) → lookup t es ≡ Some v → w.items ≡ v.items
+    → items_of (set_value t es w) ≡ items_of es
+same_at t [] v w h i = refl
+same_at t (x ∷ es) v w h i = by_cases (t x.0)
+    (λ b. cond b (Some x.1) (lookup t es) ≡ Some v
+    → items_of (cond b ((x.0, w) ∷ es) (x ∷ set_value t es w)) ≡ x.1.items ++ items_of es)
+    (λ _ k. ap (λ (xs : List Element). xs ++ items_of es)
+    (i ∙ ap (λ (u : Vec Element). u.items) (sym (value_is x.1 v k))))
+    (λ _ k. ap (λ (xs : List Element). x.1.items ++ xs) (same_at t es v w k i)) h
+
+-- the others, if the Free ones and the list are gone
+pub each_other : (P : Element → Type 0) (free list whole others : List Element) → Among list whole others
+    → AllByRecursion P (free ++ whole) → AllByRecursion P others
+each_other P free list whole others a h = subst (AllByRecursion P) (sym a.others_are)
+    (each_back P list (a.front ++ a.back)
+    (each_moved P (a.front ++ (list ++ a.back)) (list ++ (a.front ++ a.back)) (between a.front list a.back)
+    (subst (AllByRecursion P) a.whole_is (each_back P free whole h))))
+
+pub apart_other : (free list whole others : List Element) → Among list whole others → Apart (free ++ whole)
+    → Apart others
+apart_other free list whole others a h = subst Apart (sym a.others_are)
+    (apart_back list (a.front ++ a.back)
+    (apart_swapped a.front list a.back (subst Apart a.whole_is (apart_back free whole h))))
 
 pub each_at : (k : ℕ) (es : Lists) (w : Vec Element)
     → AllByRecursion (λ (x : Element). is_marked k x.mark ≡ true) w.items

@@ -1,12 +1,12 @@
 //! Notes that are taken out of their map, place by place.
 
-ghost use Rattle.std.specs.Prelude.{◌≡◌, ◌∷◌, ◌++◌, [], true, IfOk, IfErr};
+ghost use Rattle.std.specs.Prelude.{◌≡◌, ◌∷◌, ◌++◌, [], true, Bool, IfOk, IfErr, OnOk};
 ghost use Rattle.std.specs.BTreeMap.{is_at};
 ghost use Rattle.std.specs.List.{AllByRecursion};
 ghost use Rattle.std.specs.Map.{lookup, values_of};
 ghost use Rattle.std.specs.Ordering.{nat_cmp};
 ghost use Rattle.rq_queue.specs.Noted.{by_place, is_own, has_own, left, AreByPlace, Apart, Drawn};
-ghost use Rattle.rq_queue.specs.Noted.{Rises};
+ghost use Rattle.rq_queue.specs.Noted.{NoteEntry, Rises};
 ghost use Rattle.rq_record.specs.declared.fault.Fault.TheVariants.{Resources};
 
 use crate::kept_note::KeptNote;
@@ -37,46 +37,43 @@ fn draw(all: &mut BTreeMap<u64, KeptNote>, place: u64, whose: &Whose) -> Option<
     all.remove(&place)
 }
 
-/// The notes without theirs at these places.
-pub(crate) fn notes_without(
-    all: BTreeMap<u64, KeptNote>,
-    places: &[u64],
-    whose: &Whose,
-) -> BTreeMap<u64, KeptNote>
-    requires { AreByPlace all.entries }
-    ensures { result.entries ≡ left whose.now places.now all.entries }
+/// Takes theirs at these places out.
+pub(crate) fn notes_without(all: &mut BTreeMap<u64, KeptNote>, places: &[u64], whose: &Whose)
+    requires { AreByPlace all.old.entries }
+    ensures { all.new.entries ≡ left whose.now places.now all.old.entries }
 {
-    let mut all = all;
     for place in places {
-        draw(&mut all, *place, whose);
+        draw(all, *place, whose);
     }
-    all
 }
 
-/// The notes without theirs at these places, and those.
+/// Takes theirs at these places out, and answers them. Refused with Resources: the others are left
+/// then, and maybe some of theirs.
 pub(crate) fn drawn(
     alloc: Global,
-    all: BTreeMap<u64, KeptNote>,
+    all: &mut BTreeMap<u64, KeptNote>,
     places: &[u64],
     whose: &Whose,
-) -> Result<(BTreeMap<u64, KeptNote>, Vec<KeptNote>), Fault>
-    requires { AreByPlace all.entries }
-    ensures left { IfOk result (λ r. r.0.entries ≡ left whose.now places.now all.entries) }
-    ensures own { IfOk result (λ r. AllByRecursion (λ n. is_own whose.now n ≡ true) r.1.items) }
-    ensures apart { IfOk result (λ r. Apart (r.1.items ++ values_of r.0.entries)) }
+) -> Result<Vec<KeptNote>, Fault>
+    requires { AreByPlace all.old.entries }
+    ensures in_order { AreByPlace all.new.entries }
+    ensures some { (p : NoteEntry → Bool) → AllByRecursion (λ e. p e ≡ true) all.old.entries
+        → AllByRecursion (λ e. p e ≡ true) all.new.entries }
+    ensures left { OnOk result (all.new.entries ≡ left whose.now places.now all.old.entries) }
+    ensures own { IfOk result (λ v. AllByRecursion (λ n. is_own whose.now n ≡ true) v.items) }
+    ensures apart { IfOk result (λ v. Apart (v.items ++ values_of all.new.entries)) }
     ensures together { IfOk result
-        (λ r. by_place (r.1.items ++ values_of r.0.entries) ≡ values_of all.entries) }
+        (λ v. by_place (v.items ++ values_of all.new.entries) ≡ values_of all.old.entries) }
     ensures refused { IfErr result (λ e. e ≡ Resources) }
 {
-    let mut all = all;
     let mut drawn = Vec::with_capacity(alloc, places.len())?;
     for place in places {
-        let Some(n) = draw(&mut all, *place, whose) else {
+        let Some(n) = draw(all, *place, whose) else {
             continue;
         };
         drawn.push(n)?;
     }
-    Ok((all, drawn))
+    Ok(drawn)
 }
 
 /// Notes of distinct places, by place.

@@ -14,7 +14,7 @@ ghost use Rattle.rq_state.specs.Views.{id_of};
 use crate::copies::{free_copies, with_marked_copies};
 use crate::departures::{elements_by_id, send};
 use crate::moves::KeptMove;
-use crate::priorities::{elements_without, kept_with, known};
+use crate::priorities::{kept_with, learn, take_out};
 use crate::rooms::{ELEMENT, room_after, room_after_marked};
 use crate::shelves::{
     Rank, all_freed, all_returned, free_list, mapped, parted, shelve, stow, taken, with_marked,
@@ -24,6 +24,7 @@ use rq_state::{Definition, KeptElement, Mark};
 use std::alloc::Global;
 use std::collections::BTreeMap;
 use std::marker::Model;
+use std::mem::replace;
 
 /// The elements of a queue, by id. Free ones are ordered by priority and id, so that the best one
 /// is the first; the others are kept with the unit that marks them. So an operation costs the
@@ -108,43 +109,39 @@ impl Elements {
     }
 
     /// Puts in an element of a new id.
-    pub(crate) fn put(self, alloc: Global, e: KeptElement) -> Result<Elements, Fault>
-        requires { AllByRecursion (λ (x : model.Element). x.id ≢ e.id) self }
-        ensures done { IfOk result (λ v. v ≡ model.put model.id_before e self) }
+    pub(crate) fn put(&mut self, alloc: Global, e: KeptElement) -> Result<(), Fault>
+        requires { AllByRecursion (λ (x : model.Element). x.id ≢ e.id) self.old }
+        ensures done { OnOk result (self.new ≡ model.put model.id_before e self.old) }
         ensures refused { IfErr result (λ e. e ≡ Resources) }
     {
-        let (mut free, mut marked, mut priorities) = (self.free, self.marked, self.priorities);
-        kept_with(&mut priorities, &e)?;
-        shelve(alloc, &mut free, &mut marked, e)?;
-        Ok(Elements {
-            free,
-            marked,
-            priorities,
-        })
+        kept_with(&mut self.priorities, &e)?;
+        shelve(alloc, &mut self.free, &mut self.marked, e)?;
+        Ok(())
     }
 
     // Adds an element whose id is greater than those of the others.
-    fn push(self, alloc: Global, e: KeptElement) -> Result<Elements, Fault>
-        requires { AllByRecursion (λ (x : model.Element). x.id < e.id) self }
-        ensures done { IfOk result (λ v. v ≡ self ++ e ∷ []) }
+    fn push(&mut self, alloc: Global, e: KeptElement) -> Result<(), Fault>
+        requires { AllByRecursion (λ (x : model.Element). x.id < e.id) self.old }
+        ensures done { OnOk result (self.new ≡ self.old ++ e ∷ []) }
         ensures refused { IfErr result (λ e. e ≡ Resources) }
     {
-        self.put(alloc, e)
+        self.put(alloc, e)?;
+        Ok(())
     }
 
     /// Adds a new element of a unit, with a payload of the same bytes.
     pub(crate) fn add(
-        self,
+        &mut self,
         alloc: Global,
         place: u64,
         unit: UnitNo,
         queue: QueueNo,
         priority: u8,
         payload: &KeptPayload,
-    ) -> Result<Elements, Fault>
-        requires { AllByRecursion (λ (x : model.Element). x.id < place) self }
-        ensures done { IfOk result
-            (λ v. v ≡ self ++ machine.new_element place unit.0 queue.0 priority payload.now ∷ []) }
+    ) -> Result<(), Fault>
+        requires { AllByRecursion (λ (x : model.Element). x.id < place) self.old }
+        ensures done { OnOk result (self.new ≡ self.old
+            ++ machine.new_element place unit.0 queue.0 priority payload.now ∷ []) }
         ensures refused { IfErr result (λ e. e ≡ Resources) }
     {
         let e = KeptElement::fresh(place, unit, queue, priority, payload.copied()?);
@@ -152,100 +149,76 @@ impl Elements {
     }
 
     /// The best element becomes Held. Answers its id, if there is one. All elements are in the
-    /// queue.
+    /// queue. Elements that refuse are no longer of use.
     pub fn hold_best(
-        self,
+        &mut self,
         alloc: Global,
         unit: UnitNo,
         queue: QueueNo,
-    ) -> Result<(Elements, Option<ElemId>), Fault>
-        requires { AllByRecursion (λ (x : model.Element). x.home ≡ queue.0) self }
-        ensures held { IfOk result (λ v. v.0 ≡ machine.best_held unit.0 queue.0 self) }
+    ) -> Result<Option<ElemId>, Fault>
+        requires { AllByRecursion (λ (x : model.Element). x.home ≡ queue.0) self.old }
+        ensures held { OnOk result (self.new ≡ machine.best_held unit.0 queue.0 self.old) }
         ensures best { IfOk result
-            (λ v. id_of v.1 ≡ option_map (λ e. e.id) (machine.best queue.0 self)) }
+            (λ v. id_of v ≡ option_map (λ e. e.id) (machine.best queue.0 self.old)) }
         ensures refused { IfErr result (λ e. e ≡ Resources) }
     {
-        let mut marked = self.marked;
-        let mut free = self.free;
-        let priorities = self.priorities;
-        match free.pop_first() {
-            None => {
-                let all = Elements {
-                    free,
-                    marked,
-                    priorities,
-                };
-                Ok((all, None))
-            }
-            Some((_, mut e)) => {
-                let id = e.id();
-                e.set_mark(Mark::Held(unit));
-                stow(alloc, &mut marked, unit, e)?;
-                let all = Elements {
-                    free,
-                    marked,
-                    priorities,
-                };
-                Ok((all, Some(id)))
-            }
-        }
+        let Some((_, mut e)) = self.free.pop_first() else {
+            return Ok(None);
+        };
+        let id = e.id();
+        e.set_mark(Mark::Held(unit));
+        stow(alloc, &mut self.marked, unit, e)?;
+        Ok(Some(id))
     }
 
     /// Fresh ones of the unit become Free, Held ones go.
-    pub(crate) fn commit(self, alloc: Global, unit: UnitNo) -> Result<Elements, Fault>
-        ensures done { IfOk result (λ v. v ≡ machine.committed_elements unit.0 self) }
+    pub(crate) fn commit(&mut self, alloc: Global, unit: UnitNo) -> Result<(), Fault>
+        ensures done { OnOk result (self.new ≡ machine.committed_elements unit.0 self.old) }
         ensures refused { IfErr result (λ e. e ≡ Resources) }
     {
-        let (mut free, mut marked) = (self.free, self.marked);
-        let list = taken(alloc, &mut marked, unit);
+        let list = taken(alloc, &mut self.marked, unit);
+        let mut free = replace(&mut self.free, BTreeMap::new(alloc));
         all_freed(&mut free, list, unit)?;
-        Ok(Elements {
-            free,
-            marked,
-            priorities: self.priorities,
-        })
+        self.free = free;
+        Ok(())
     }
 
     /// Fresh ones of the unit go. Held ones become Free with one attempt more, or leave.
     pub(crate) fn abort(
-        self,
+        &mut self,
         alloc: Global,
         place: u64,
         unit: UnitNo,
         home: &Definition,
         sent: &mut Vec<KeptMove>,
-    ) -> Result<Elements, Fault>
-        requires { AllByRecursion (λ (e : model.Element). e.attempts + 1 < 2 ^ 64) self }
-        ensures kept { IfOk result
-            (λ v. v ≡ map (machine.returned unit.0) (filter (λ e. not (model.is_fresh unit.0 e.mark)
-            && not (machine.leaves home.now unit.0 e)) self)) }
+    ) -> Result<(), Fault>
+        requires { AllByRecursion (λ (e : model.Element). e.attempts + 1 < 2 ^ 64) self.old }
+        ensures kept { OnOk result (self.new
+            ≡ map (machine.returned unit.0) (filter (λ e. not (model.is_fresh unit.0 e.mark)
+            && not (machine.leaves home.now unit.0 e)) self.old)) }
         ensures sent { OnOk result (sent.new.items ≡ sent.old.items
-            ++ sent_from place home.now (filter (machine.leaves home.now unit.0) self)) }
+            ++ sent_from place home.now (filter (machine.leaves home.now unit.0) self.old)) }
         ensures refused { IfErr result (λ e. e ≡ Resources) }
     {
-        let (mut free, mut marked) = (self.free, self.marked);
-        let list = taken(alloc, &mut marked, unit);
+        let list = taken(alloc, &mut self.marked, unit);
+        let mut free = replace(&mut self.free, BTreeMap::new(alloc));
         let leaving = all_returned(alloc, &mut free, list, unit, home)?;
         send(elements_by_id(leaving), place, home, sent)?;
-        Ok(Elements {
-            free,
-            marked,
-            priorities: self.priorities,
-        })
+        self.free = free;
+        Ok(())
     }
 
     /// The Free element of that id goes, if there is one. All elements are in the queue.
-    pub(crate) fn kill(self, alloc: Global, queue: QueueNo, id: ElemId) -> Result<Elements, Fault>
-        requires { AllByRecursion (λ (x : model.Element). x.home ≡ queue.0) self }
-        ensures done { IfOk result (λ v. v ≡ machine.killed queue.0 id.0 self) }
+    pub(crate) fn kill(&mut self, alloc: Global, queue: QueueNo, id: ElemId) -> Result<(), Fault>
+        requires { AllByRecursion (λ (x : model.Element). x.home ≡ queue.0) self.old }
+        ensures done { OnOk result (self.new ≡ machine.killed queue.0 id.0 self.old) }
         ensures refused { IfErr result (λ e. e ≡ Resources) }
     {
-        let (free, others) = (self.free, self.marked);
-        let by_id = known(alloc, self.priorities, &free, &others)?;
-        Ok(Elements {
-            free: elements_without(free, &by_id, id),
-            marked: others,
-            priorities: Some(by_id),
-        })
+        learn(alloc, &mut self.priorities, &self.free, &self.marked)?;
+        let Some(by_id) = &self.priorities else {
+            unreachable!()
+        };
+        take_out(&mut self.free, by_id, id);
+        Ok(())
     }
 }

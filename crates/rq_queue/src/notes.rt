@@ -1,7 +1,7 @@
 //! The notes of a queue: operations of open units by somebody named.
 
 ghost use Rattle.std.specs.Prelude.{◌≡◌, ◌<◌, ◌==◌, ◌++◌, ◌∷◌, [], filter, IfOk, IfErr};
-ghost use Rattle.std.specs.Prelude.{◌*◌, ◌-◌, ◌≤◌, length, SomeIff};
+ghost use Rattle.std.specs.Prelude.{◌*◌, ◌-◌, ◌≤◌, length, OnOk, SomeIff};
 ghost use Rattle.std.specs.List.{AllByRecursion};
 ghost use Rattle.std.specs.Map.{values_of};
 ghost use Rattle.rq_model.specs.Machine as machine;
@@ -13,7 +13,7 @@ ghost use Rattle.rq_state.specs.Views.{kind_of, id_of};
 use crate::draws::{drawn, notes_by_place, notes_without};
 use crate::kept_note::KeptNote;
 use crate::keys::slim;
-use crate::places::{file, unfiled};
+use crate::places::{file, places_of, unfiled};
 use crate::rooms::{NOTE, room_after};
 use crate::whose::Whose;
 use rq_record::{ElemId, Fault, KeptBy, KeptName, Name, QueueNo, UnitNo};
@@ -67,25 +67,25 @@ impl Notes {
         coming.reverse();
         let mut all = Notes::none(alloc);
         while let Some(n) = coming.pop() {
-            all = all.push(alloc, n)?;
+            all.push(alloc, n)?;
         }
         Ok(all)
     }
 
     // Adds a note whose place is greater than those of the others.
-    fn push(self, alloc: Global, n: Note) -> Result<Notes, Fault>
-        requires { AllByRecursion (λ (m : model.Note). m.last.place < n.last.place) self }
-        ensures done { IfOk result (λ v. v ≡ self ++ n ∷ []) }
+    fn push(&mut self, alloc: Global, n: Note) -> Result<(), Fault>
+        requires { AllByRecursion (λ (m : model.Note). m.last.place < n.last.place) self.old }
+        ensures done { OnOk result (self.new ≡ self.old ++ n ∷ []) }
         ensures refused { IfErr result (λ e. e ≡ Resources) }
     {
         let place = n.place();
-        let units = file(alloc, self.units, n.unit().0, place)?;
+        let unit = n.unit();
         let key = slim(alloc, n.key())?;
-        let names = file(alloc, self.names, key, place)?;
         let kept = KeptNote::of(alloc, n)?;
-        let mut all = self.all;
-        all.insert(place, kept)?;
-        Ok(Notes { all, units, names })
+        file(alloc, &mut self.units, unit.0, place)?;
+        file(alloc, &mut self.names, key, place)?;
+        self.all.insert(place, kept)?;
+        Ok(())
     }
 
     /// All of them, by place.
@@ -111,9 +111,9 @@ impl Notes {
         room_after(room, NOTE, self.all.len())
     }
 
-    /// Adds the note of an operation, if somebody is named.
+    /// Adds the note of an operation, if somebody is named. Notes that refuse are no longer of use.
     pub fn note(
-        self,
+        &mut self,
         alloc: Global,
         place: u64,
         unit: UnitNo,
@@ -121,14 +121,14 @@ impl Notes {
         by: &KeptBy,
         kind: OpKind,
         element: Option<ElemId>,
-    ) -> Result<Notes, Fault>
-        requires { AllByRecursion (λ (m : model.Note). m.last.place < place) self }
-        ensures done { IfOk result (λ v. v
-            ≡ self ++ machine.noted place unit.0 queue.0 by.now (kind_of kind) (id_of element)) }
+    ) -> Result<(), Fault>
+        requires { AllByRecursion (λ (m : model.Note). m.last.place < place) self.old }
+        ensures done { OnOk result (self.new ≡ self.old
+            ++ machine.noted place unit.0 queue.0 by.now (kind_of kind) (id_of element)) }
         ensures refused { IfErr result (λ e. e ≡ Resources) }
     {
         match by.by() {
-            None => Ok(self),
+            None => Ok(()),
             Some(by) => self.push(
                 alloc,
                 Note {
@@ -147,34 +147,26 @@ impl Notes {
     }
 
     /// The notes of the registrant go.
-    pub(crate) fn forget(self, alloc: Global, queue: QueueNo, name: &Name) -> Result<Notes, Fault>
-        ensures done { IfOk result (λ v. v ≡ machine.unnoted queue.0 name.now self) }
+    pub(crate) fn forget(&mut self, alloc: Global, queue: QueueNo, name: &Name) -> Result<(), Fault>
+        ensures done { OnOk result (self.new ≡ machine.unnoted queue.0 name.now self.old) }
         ensures refused { IfErr result (λ e. e ≡ Resources) }
     {
         let key = slim(alloc, (queue.0, *name))?;
-        let (names, places) = unfiled(alloc, self.names, &key);
-        let all = notes_without(self.all, &places, &Whose::OfRegistrant(queue, *name));
-        Ok(Notes {
-            all,
-            units: self.units,
-            names,
-        })
+        let places = unfiled(alloc, &mut self.names, &key);
+        notes_without(&mut self.all, &places, &Whose::OfRegistrant(queue, *name));
+        Ok(())
     }
 
     /// Takes the notes of the unit out. They come by place.
-    pub(crate) fn take(self, alloc: Global, unit: UnitNo) -> Result<(Notes, Vec<KeptNote>), Fault>
-        ensures others { IfOk result (λ r. r.0 ≡ machine.closed_notes unit.0 self) }
-        ensures taken { IfOk result (λ r. r.1.items ≡ filter (λ n. n.unit == unit.0) self) }
+    pub(crate) fn take(&mut self, alloc: Global, unit: UnitNo) -> Result<Vec<KeptNote>, Fault>
+        ensures others { OnOk result (self.new ≡ machine.closed_notes unit.0 self.old) }
+        ensures taken { IfOk result (λ v. v.items ≡ filter (λ n. n.unit == unit.0) self.old) }
         ensures refused { IfErr result (λ e. e ≡ Resources) }
     {
-        let (units, places) = unfiled(alloc, self.units, &unit.0);
-        let (all, own) = drawn(alloc, self.all, &places, &Whose::OfUnit(unit))?;
-        let notes = Notes {
-            all,
-            units,
-            names: self.names,
-        };
-        Ok((notes, notes_by_place(own)))
+        let places = places_of(&self.units, &unit.0);
+        let own = drawn(alloc, &mut self.all, places, &Whose::OfUnit(unit))?;
+        unfiled(alloc, &mut self.units, &unit.0);
+        Ok(notes_by_place(own))
     }
 }
 

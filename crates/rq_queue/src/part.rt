@@ -22,7 +22,6 @@ use rq_record::{ElemId, Fault, KeptBy, KeptPayload, KeptRecord, Name, QueueNo, U
 use rq_state::{Definition, Fields, KeptFields, OpKind, State, told_elements};
 use std::alloc::Global;
 use std::marker::Model;
-use std::mem::replace;
 
 /// What belongs to one queue: its definition, elements, registrants, and notes of open units.
 #[derive(Drop)]
@@ -185,9 +184,7 @@ impl Part {
         ensures part { OnOk result (self.new ≡ redo_words.receive (arrival ∷ []) self.old) }
         ensures refused { IfErr result (λ e. e ≡ Resources) }
     {
-        let elements = replace(&mut self.elements, Elements::none(alloc));
-        self.elements = elements.put(alloc, arrival.element)?;
-        Ok(())
+        self.elements.put(alloc, arrival.element)
     }
 
     fn enqueue(
@@ -208,11 +205,10 @@ impl Part {
         ensures refused { IfErr result (λ e. e ≡ Resources) }
     {
         let id = Some(ElemId(place));
-        let elements = replace(&mut self.elements, Elements::none(alloc));
-        self.elements = elements.add(alloc, place, unit, queue, priority, payload)?;
-        let notes = replace(&mut self.notes, Notes::none(alloc));
-        self.notes = notes.note(alloc, place, unit, queue, by, OpKind::Enqueue, id)?;
-        Ok(())
+        self.elements
+            .add(alloc, place, unit, queue, priority, payload)?;
+        self.notes
+            .note(alloc, place, unit, queue, by, OpKind::Enqueue, id)
     }
 
     fn dequeue(
@@ -231,12 +227,9 @@ impl Part {
             (self.new ≡ redo_words.act place (records.Dequeue unit.0 queue.0 by.now) self.old) }
         ensures refused { IfErr result (λ e. e ≡ Resources) }
     {
-        let elements = replace(&mut self.elements, Elements::none(alloc));
-        let (elements, id) = elements.hold_best(alloc, unit, queue)?;
-        self.elements = elements;
-        let notes = replace(&mut self.notes, Notes::none(alloc));
-        self.notes = notes.note(alloc, place, unit, queue, by, OpKind::Dequeue, id)?;
-        Ok(())
+        let id = self.elements.hold_best(alloc, unit, queue)?;
+        self.notes
+            .note(alloc, place, unit, queue, by, OpKind::Dequeue, id)
     }
 
     /// Commits a unit in the queue. A part that refuses is no longer of use.
@@ -245,14 +238,9 @@ impl Part {
             (self.new ≡ redo_words.act 0 (records.Commit unit.0) self.old) }
         ensures refused { IfErr result (λ e. e ≡ Resources) }
     {
-        let notes = replace(&mut self.notes, Notes::none(alloc));
-        let (notes, heard) = notes.take(alloc, unit)?;
-        self.notes = notes;
-        let registrants = replace(&mut self.registrants, Registrants::none(alloc));
-        self.registrants = registrants.hear(alloc, unit, &heard)?;
-        let elements = replace(&mut self.elements, Elements::none(alloc));
-        self.elements = elements.commit(alloc, unit)?;
-        Ok(())
+        let heard = self.notes.take(alloc, unit)?;
+        self.registrants.hear(alloc, unit, &heard)?;
+        self.elements.commit(alloc, unit)
     }
 
     /// Aborts a unit in the queue, and adds what leaves it for its error queue. A part that refuses
@@ -272,11 +260,9 @@ impl Part {
             ≡ sent.old.items ++ redo_words.sent place (records.Abort unit.0) self.old) }
         ensures refused { IfErr result (λ e. e ≡ Resources) }
     {
-        let elements = replace(&mut self.elements, Elements::none(alloc));
-        self.elements = elements.abort(alloc, place, unit, &self.definition, sent)?;
-        let notes = replace(&mut self.notes, Notes::none(alloc));
-        let (notes, _) = notes.take(alloc, unit)?;
-        self.notes = notes;
+        self.elements
+            .abort(alloc, place, unit, &self.definition, sent)?;
+        self.notes.take(alloc, unit)?;
         Ok(())
     }
 
@@ -285,9 +271,7 @@ impl Part {
             (self.new ≡ redo_words.act 0 (records.Register queue.0 name.now) self.old) }
         ensures refused { IfErr result (λ e. e ≡ Resources) }
     {
-        let registrants = replace(&mut self.registrants, Registrants::none(alloc));
-        self.registrants = registrants.register(alloc, queue, name)?;
-        Ok(())
+        self.registrants.register(alloc, queue, name)
     }
 
     fn deregister(&mut self, alloc: Global, queue: QueueNo, name: &Name) -> Result<(), Fault>
@@ -295,11 +279,8 @@ impl Part {
             (self.new ≡ redo_words.act 0 (records.Deregister queue.0 name.now) self.old) }
         ensures refused { IfErr result (λ e. e ≡ Resources) }
     {
-        let registrants = replace(&mut self.registrants, Registrants::none(alloc));
-        self.registrants = registrants.deregister(alloc, queue, name)?;
-        let notes = replace(&mut self.notes, Notes::none(alloc));
-        self.notes = notes.forget(alloc, queue, name)?;
-        Ok(())
+        self.registrants.deregister(alloc, queue, name)?;
+        self.notes.forget(alloc, queue, name)
     }
 
     fn kill(&mut self, alloc: Global, queue: QueueNo, element: ElemId) -> Result<(), Fault>
@@ -309,9 +290,7 @@ impl Part {
             (self.new ≡ redo_words.act 0 (records.Kill queue.0 element.0) self.old) }
         ensures refused { IfErr result (λ e. e ≡ Resources) }
     {
-        let elements = replace(&mut self.elements, Elements::none(alloc));
-        self.elements = elements.kill(alloc, queue, element)?;
-        Ok(())
+        self.elements.kill(alloc, queue, element)
     }
 
     /// Does one operation of the queue. A part that refuses is no longer of use.

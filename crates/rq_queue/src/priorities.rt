@@ -1,7 +1,8 @@
 //! The priority of each element by its id. A KILL names only an id, and Free elements are ordered
 //! by priority first.
 
-ghost use Rattle.std.specs.Prelude.{◌≡◌, ◌≢◌, ◌==◌, ◌∷◌, ◌++◌, [], List, not, filter, IfOk, IfErr, OnOk};
+ghost use Rattle.std.specs.Prelude.{◌≡◌, ◌≢◌, ◌==◌, ◌∷◌, ◌++◌, [], List, not, filter};
+ghost use Rattle.std.specs.Prelude.{IfOk, IfErr, IsSome, OnOk, OnErr};
 ghost use Rattle.std.specs.List.{AllByRecursion};
 ghost use Rattle.std.specs.Map.{values_of};
 ghost use Rattle.rq_model.specs.States as model;
@@ -25,6 +26,8 @@ pub(crate) fn kept_with(
     ensures known { OnOk result
         ((es : List model.Element) → AllByRecursion (λ x. e.now.id ≢ x.id) es
         → AreKnown priorities.old es → AreKnown priorities.new (e.now ∷ es)) }
+    ensures same { OnErr result
+        ((es : List model.Element) → AreKnown priorities.old es → AreKnown priorities.new es) }
     ensures refused { IfErr result (λ e. e ≡ Resources) }
 {
     let Some(by_id) = priorities else {
@@ -75,47 +78,46 @@ fn with_marked(
     Ok(())
 }
 
-/// The priorities of all elements: those that are kept, or else collected now.
-pub(crate) fn known(
+/// Collects the priorities of all elements, unless they are kept.
+pub(crate) fn learn(
     alloc: Global,
-    priorities: Option<BTreeMap<u64, u8>>,
+    priorities: &mut Option<BTreeMap<u64, u8>>,
     free: &BTreeMap<Rank, KeptElement>,
     marked: &BTreeMap<u64, Vec<KeptElement>>,
-) -> Result<BTreeMap<u64, u8>, Fault>
+) -> Result<(), Fault>
     requires apart { Ordered (λ (e f : model.Element). e.id ≢ f.id)
         (values_of free.now.entries ++ items_of marked.now.entries) }
-    requires known { AreKnown priorities
+    requires known { AreKnown priorities.old
         (values_of free.now.entries ++ items_of marked.now.entries) }
-    ensures known { IfOk result (λ m. AllByRecursion (IsKnown m.entries)
-        (values_of free.now.entries ++ items_of marked.now.entries)) }
+    ensures kept { OnOk result (IsSome priorities.new) }
+    ensures known { AreKnown priorities.new
+        (values_of free.now.entries ++ items_of marked.now.entries) }
     ensures refused { IfErr result (λ e. e ≡ Resources) }
 {
-    match priorities {
-        Some(by_id) => Ok(by_id),
-        None => {
-            let mut by_id = of_free(alloc, free)?;
-            with_marked(&mut by_id, marked)?;
-            Ok(by_id)
-        }
+    if priorities.is_some() {
+        return Ok(());
     }
+    let mut by_id = of_free(alloc, free)?;
+    with_marked(&mut by_id, marked)?;
+    *priorities = Some(by_id);
+    Ok(())
 }
 
-/// The Free elements without the one of that id, if there is one: its priority says where it is.
-pub(crate) fn elements_without(
-    free: BTreeMap<Rank, KeptElement>,
+/// Takes the Free element of that id out, if there is one: its priority says where it is.
+pub(crate) fn take_out(
+    free: &mut BTreeMap<Rank, KeptElement>,
     by_id: &BTreeMap<u64, u8>,
     id: ElemId,
-) -> BTreeMap<Rank, KeptElement>
-    requires keyed { AllByRecursion IsKeyed free.entries }
-    requires apart { Ordered (λ (e f : model.Element). e.id ≢ f.id) (values_of free.entries) }
-    requires known { AllByRecursion (IsKnown by_id.now.entries) (values_of free.entries) }
-    ensures keyed { AllByRecursion IsKeyed result.entries }
-    ensures others { values_of result.entries
-        ≡ filter (λ (e : model.Element). not (e.id == id.0)) (values_of free.entries) }
+)
+    requires keyed { AllByRecursion IsKeyed free.old.entries }
+    requires apart { Ordered (λ (e f : model.Element). e.id ≢ f.id) (values_of free.old.entries) }
+    requires known { AllByRecursion (IsKnown by_id.now.entries) (values_of free.old.entries) }
+    ensures keyed { AllByRecursion IsKeyed free.new.entries }
+    ensures others { values_of free.new.entries
+        ≡ filter (λ (e : model.Element). not (e.id == id.0)) (values_of free.old.entries) }
 {
-    let mut free = free;
-    if let Some(priority) = by_id.get(&id.0) {
-        free.remove(&(Reverse(*priority), id.0));
-    }
-    free
+    let Some(priority) = by_id.get(&id.0) else {
+        return;
+    };
+    free.remove(&(Reverse(*priority), id.0));
 }

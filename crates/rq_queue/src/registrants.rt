@@ -1,7 +1,7 @@
 //! The registrants of a queue.
 
 ghost use Rattle.std.specs.Prelude.{◌≡◌, ◌++◌, ◌∷◌, [], true, map, IfOk, IfErr};
-ghost use Rattle.std.specs.Prelude.{◌*◌, ◌-◌, ◌≤◌, length, SomeIff};
+ghost use Rattle.std.specs.Prelude.{◌*◌, ◌-◌, ◌≤◌, length, OnOk, SomeIff};
 ghost use Rattle.std.specs.List.{AllByRecursion};
 ghost use Rattle.rq_model.specs.Machine as machine;
 ghost use Rattle.rq_model.specs.States as model;
@@ -57,22 +57,21 @@ impl Registrants {
         coming.reverse();
         let mut all = Registrants::none(alloc);
         while let Some(r) = coming.pop() {
-            all = all.push(alloc, r)?;
+            all.push(alloc, r)?;
         }
         Ok(all)
     }
 
     // Adds a registrant that comes after all others.
-    fn push(self, alloc: Global, r: Registrant) -> Result<Registrants, Fault>
-        requires { AllByRecursion (λ x. model.registrant_before x r ≡ true) self }
-        ensures done { IfOk result (λ v. v ≡ self ++ r ∷ []) }
+    fn push(&mut self, alloc: Global, r: Registrant) -> Result<(), Fault>
+        requires { AllByRecursion (λ x. model.registrant_before x r ≡ true) self.old }
+        ensures done { OnOk result (self.new ≡ self.old ++ r ∷ []) }
         ensures refused { IfErr result (λ e. e ≡ Resources) }
     {
         let key = slim(alloc, r.key())?;
         let last = KeptLast::of(alloc, r.into_last())?;
-        let mut lasts = self.lasts;
-        lasts.insert(key, last)?;
-        Ok(Registrants { lasts })
+        self.lasts.insert(key, last)?;
+        Ok(())
     }
 
     /// All of them, in order.
@@ -100,84 +99,67 @@ impl Registrants {
 
     /// Registers a name, unless it is registered.
     pub(crate) fn register(
-        self,
+        &mut self,
         alloc: Global,
         queue: QueueNo,
         name: &Name,
-    ) -> Result<Registrants, Fault>
-        ensures done { IfOk result (λ v. v ≡ machine.registered queue.0 name.now self) }
+    ) -> Result<(), Fault>
+        ensures done { OnOk result (self.new ≡ machine.registered queue.0 name.now self.old) }
         ensures refused { IfErr result (λ e. e ≡ Resources) }
     {
         let key = slim(alloc, (queue.0, *name))?;
         if self.lasts.contains_key(&key) {
-            return Ok(self);
+            return Ok(());
         }
-        let mut lasts = self.lasts;
-        lasts.insert(key, KeptLast::none())?;
-        Ok(Registrants { lasts })
+        self.lasts.insert(key, KeptLast::none())?;
+        Ok(())
     }
 
     /// Ends the registration of a name.
     pub(crate) fn deregister(
-        self,
+        &mut self,
         alloc: Global,
         queue: QueueNo,
         name: &Name,
-    ) -> Result<Registrants, Fault>
-        ensures done { IfOk result (λ v. v ≡ machine.deregistered queue.0 name.now self) }
+    ) -> Result<(), Fault>
+        ensures done { OnOk result (self.new ≡ machine.deregistered queue.0 name.now self.old) }
         ensures refused { IfErr result (λ e. e ≡ Resources) }
     {
         let key = slim(alloc, (queue.0, *name))?;
-        let mut lasts = self.lasts;
-        lasts.remove(&key);
-        Ok(Registrants { lasts })
+        self.lasts.remove(&key);
+        Ok(())
     }
 
     // A note reaches its registrant, if it is one of the unit.
-    fn hear_one(self, alloc: Global, unit: UnitNo, note: &KeptNote) -> Result<Registrants, Fault>
-        ensures done { IfOk result (λ v. v ≡ map (heard unit.0 note.now) self) }
+    fn hear_one(&mut self, alloc: Global, unit: UnitNo, note: &KeptNote) -> Result<(), Fault>
+        ensures done { OnOk result (self.new ≡ map (heard unit.0 note.now) self.old) }
         ensures refused { IfErr result (λ e. e ≡ Resources) }
     {
         if !note.is_by(unit) {
-            return Ok(self);
+            return Ok(());
         }
         let key = slim(alloc, note.key())?;
-        let mut lasts = self.lasts;
-        if let Some(last) = lasts.get_mut(&key) {
+        if let Some(last) = self.lasts.get_mut(&key) {
             last.hear(alloc, note.last())?;
         }
-        Ok(Registrants { lasts })
+        Ok(())
     }
 
-    /// The notes of the unit among these reach the registrants.
+    /// The notes of the unit among these reach the registrants, one after another.
     pub(crate) fn hear(
-        self,
+        &mut self,
         alloc: Global,
         unit: UnitNo,
         notes: &[KeptNote],
-    ) -> Result<Registrants, Fault>
-        ensures done { IfOk result (λ v. v ≡ map (machine.told unit.0 notes.now) self) }
+    ) -> Result<(), Fault>
+        ensures done { OnOk result (self.new ≡ map (machine.told unit.0 notes.now) self.old) }
         ensures refused { IfErr result (λ e. e ≡ Resources) }
     {
-        hear_all(alloc, self, unit, notes)
+        for n in notes {
+            self.hear_one(alloc, unit, n)?;
+        }
+        Ok(())
     }
-}
-
-// The notes of the unit, one after another, reach the registrants.
-fn hear_all(
-    alloc: Global,
-    all: Registrants,
-    unit: UnitNo,
-    notes: &[KeptNote],
-) -> Result<Registrants, Fault>
-    ensures done { IfOk result (λ v. v ≡ map (machine.told unit.0 notes.now) all) }
-    ensures refused { IfErr result (λ e. e ≡ Resources) }
-{
-    let mut now = all;
-    for n in notes {
-        now = now.hear_one(alloc, unit, n)?;
-    }
-    Ok(now)
 }
 
 // The registrants, in order.

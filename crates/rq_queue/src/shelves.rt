@@ -1,7 +1,7 @@
 //! Where the elements of a queue are: Free ones under their keys, the others with their units.
 
 ghost use Rattle.std.specs.Prelude.{◌≡◌, ◌≢◌, ◌+◌, ◌<◌, ◌^◌, ◌∷◌, ◌++◌, [], true, List, filter};
-ghost use Rattle.std.specs.Prelude.{None, IfOk, IfErr, OnOk};
+ghost use Rattle.std.specs.Prelude.{None, IfOk, IfErr, OnOk, OnErr};
 ghost use Rattle.std.specs.BTreeMap.{is_at};
 ghost use Rattle.std.specs.List.{AllByRecursion};
 ghost use Rattle.std.specs.List.Sorted.{IsPermutation};
@@ -54,7 +54,7 @@ fn alone(alloc: Global, e: KeptElement) -> Result<Vec<KeptElement>, Fault>
     Ok(list)
 }
 
-/// Puts an element at the end of the list of its unit.
+/// Puts an element at the end of the list of its unit. Refused with Resources: the others are left.
 pub(crate) fn stow(
     alloc: Global,
     marked: &mut BTreeMap<u64, Vec<KeptElement>>,
@@ -64,7 +64,8 @@ pub(crate) fn stow(
     requires mark { queues.is_marked unit.0 e.mark ≡ true }
     requires of_units { AllByRecursion IsOfUnit marked.old.entries }
     ensures stowed { OnOk result (Stowed e marked.old.entries marked.new.entries) }
-    ensures of_units { OnOk result (AllByRecursion IsOfUnit marked.new.entries) }
+    ensures same { OnErr result (items_of marked.new.entries ≡ items_of marked.old.entries) }
+    ensures of_units { AllByRecursion IsOfUnit marked.new.entries }
     ensures refused { IfErr result (λ e. e ≡ Resources) }
 {
     if let Some(list) = marked.get_mut(&unit.0) {
@@ -122,7 +123,7 @@ pub(crate) fn mapped(
     Ok(free)
 }
 
-/// Puts a Free element under its key.
+/// Puts a Free element under its key. Refused with Resources: the others are left.
 pub(crate) fn freed(free: &mut BTreeMap<Rank, KeptElement>, e: KeptElement) -> Result<(), Fault>
     requires mark { model.is_free e.mark ≡ true }
     ensures among { OnOk result (AllByRecursion IsKeyed free.old.entries
@@ -131,6 +132,7 @@ pub(crate) fn freed(free: &mut BTreeMap<Rank, KeptElement>, e: KeptElement) -> R
     ensures keyed { OnOk result (AllByRecursion IsKeyed free.old.entries
         → AllByRecursion (λ x. e.id ≢ x.id) (values_of free.old.entries)
         → AllByRecursion IsKeyed free.new.entries) }
+    ensures same { OnErr result (free.new.entries ≡ free.old.entries) }
     ensures refused { IfErr result (λ e. e ≡ Resources) }
 {
     let key = e.key();
@@ -138,7 +140,8 @@ pub(crate) fn freed(free: &mut BTreeMap<Rank, KeptElement>, e: KeptElement) -> R
     Ok(())
 }
 
-/// Puts an element of a new id under its key, if it is Free, and else with its unit.
+/// Puts an element of a new id under its key, if it is Free, and else with its unit. Refused with
+/// Resources: the others are left.
 pub(crate) fn shelve(
     alloc: Global,
     free: &mut BTreeMap<Rank, KeptElement>,
@@ -149,10 +152,12 @@ pub(crate) fn shelve(
     requires of_units { AllByRecursion IsOfUnit marked.old.entries }
     requires apart { Ordered (λ (x y : model.Element). x.id ≢ y.id)
         (e ∷ values_of free.old.entries ++ items_of marked.old.entries) }
-    ensures keyed { OnOk result (AllByRecursion IsKeyed free.new.entries) }
-    ensures of_units { OnOk result (AllByRecursion IsOfUnit marked.new.entries) }
+    ensures keyed { AllByRecursion IsKeyed free.new.entries }
+    ensures of_units { AllByRecursion IsOfUnit marked.new.entries }
     ensures apart { OnOk result (Ordered (λ (x y : model.Element). x.id ≢ y.id)
         (values_of free.new.entries ++ items_of marked.new.entries)) }
+    ensures same { OnErr result (values_of free.new.entries ++ items_of marked.new.entries
+        ≡ values_of free.old.entries ++ items_of marked.old.entries) }
     ensures put { OnOk result (sorted (values_of free.new.entries ++ items_of marked.new.entries)
         ≡ model.put model.id_before e
         (sorted (values_of free.old.entries ++ items_of marked.old.entries))) }

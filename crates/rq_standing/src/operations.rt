@@ -11,11 +11,10 @@ ghost use Rattle.rq_record.specs.declared.fault.Fault.TheVariants.{Resources};
 ghost use Rattle.rq_state.specs.Views.{id_of};
 ghost use Rattle.rq_standing.specs.Parts.{part_at, Acted};
 
-use rq_queue::{Elements, KeptMove, KeptOp, Notes, Part};
+use rq_queue::{KeptMove, KeptOp, Part};
 use rq_record::{ElemId, Fault, KeptBy, QueueNo, UnitNo};
 use rq_state::OpKind;
 use std::alloc::Global;
-use std::mem::replace;
 
 /// Does an operation of one queue.
 pub(crate) fn act_on(
@@ -53,11 +52,9 @@ fn dequeue(
         ≡ option_map (λ e. e.id) (machine.best queue.0 part.old.elements)) }
     ensures refused { IfErr result (λ e. e ≡ Resources) }
 {
-    let elements = replace(&mut part.elements, Elements::none(alloc));
-    let (elements, id) = elements.hold_best(alloc, unit, queue)?;
-    part.elements = elements;
-    let notes = replace(&mut part.notes, Notes::none(alloc));
-    part.notes = notes.note(alloc, place, unit, queue, by, OpKind::Dequeue, id)?;
+    let id = part.elements.hold_best(alloc, unit, queue)?;
+    part.notes
+        .note(alloc, place, unit, queue, by, OpKind::Dequeue, id)?;
     Ok(id)
 }
 

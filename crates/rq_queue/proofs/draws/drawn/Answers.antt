@@ -6,23 +6,24 @@ use Rattle.std.specs.Map.{values_of}
 use Rattle.rq_model.proofs.Lists.{each_append}
 use Rattle.rq_model.specs.States.{Note}
 use Rattle.rq_queue.specs.Noted.{Apart, NoteEntry, by_place, is_own, left}
-use Rattle.rq_queue.proofs.Noting.{left_by_place, left_more, left_none, values_rise, place_of, rises_sorted}
+use Rattle.rq_queue.proofs.Noting.{left_by_place, left_more, left_none, left_some, values_rise, place_of, rises_sorted}
 use Rattle.rq_queue.proofs.Noting.{drawn_apart, drawn_together}
 use Rattle.rq_queue.proofs.ByNumber.{rising_apart}
 use Rattle.rq_queue.proofs.draws.drawn.Goals as goal
 
 pub loop-place-init : goal.loop-place-init
 loop-place-init c =
-    let rises = values_rise c.args.all.entries c.requires in
+    let rises = values_rise c.args.all.now.entries c.requires in
     record {
       in_order = c.requires;
+      some = λ p h. h;
       rest = refl;
       own = subst (AllByRecursion (λ (n : Note). is_own c.args.whose.now n ≡ true))
           (sym c.in_ok-drawn.ensures.items) tt;
-      apart = subst (λ (ns : List Note). Apart (ns ++ values_of c.args.all.entries)) (sym c.in_ok-drawn.ensures.items)
-          (rising_apart place_of (values_of c.args.all.entries) rises);
-      together = ap (λ (ns : List Note). by_place (ns ++ values_of c.args.all.entries)) c.in_ok-drawn.ensures.items
-          ∙ rises_sorted (values_of c.args.all.entries) rises;
+      apart = subst (λ (ns : List Note). Apart (ns ++ values_of c.args.all.now.entries)) (sym c.in_ok-drawn.ensures.items)
+          (rising_apart place_of (values_of c.args.all.now.entries) rises);
+      together = ap (λ (ns : List Note). by_place (ns ++ values_of c.args.all.now.entries)) c.in_ok-drawn.ensures.items
+          ∙ rises_sorted (values_of c.args.all.now.entries) rises;
     }
 
 pub loop-place-preserved-in_default : goal.loop-place-preserved-in_default
@@ -37,6 +38,7 @@ loop-place-preserved-in_default c =
     let same : new ≡ es = c.in_default.ensures.drawn in
     record {
       in_order = left_by_place whose (get_or places i 0) es new c.draw.ensures.left c.loop-place.invariant.in_order;
+      some = λ p h. left_some whose (get_or places i 0) p es new c.draw.ensures.left (c.loop-place.invariant.some p h);
       rest = ap (left whose (drop (i + 1) places)) c.draw.ensures.left
           ∙ (left_more whose (get_or places i 0) (drop (i + 1) places) es
           ∙ (ap (λ (ps : List ℕ). left whose ps es) (sym (drop_more places i 0 here)) ∙ c.loop-place.invariant.rest));
@@ -57,6 +59,7 @@ loop-place-preserved c =
     let here : i < length places = omega (arith, c.loop-place-test.true) in
     record {
       in_order = left_by_place whose (get_or places i 0) es new c.draw.ensures.left c.loop-place.invariant.in_order;
+      some = λ p h. left_some whose (get_or places i 0) p es new c.draw.ensures.left (c.loop-place.invariant.some p h);
       rest = ap (left whose (drop (i + 1) places)) c.draw.ensures.left
           ∙ (left_more whose (get_or places i 0) (drop (i + 1) places) es
           ∙ (ap (λ (ps : List ℕ). left whose ps es) (sym (drop_more places i 0 here)) ∙ c.loop-place.invariant.rest));
@@ -78,3 +81,13 @@ returns-clause-left c =
     sym (left_none whose c.loop-place.all.entries)
     ∙ (ap (λ (ps : List ℕ). left whose ps c.loop-place.all.entries)
     (sym (drop_all i places (omega (arith, c.loop-place-test.false)))) ∙ c.loop-place.invariant.rest)
+
+pub returns-in_err-push-clause-in_order : goal.returns-in_err-push-clause-in_order
+returns-in_err-push-clause-in_order c =
+    left_by_place c.args.whose.now (get_or c.args.places.now c.loop-place.place-index 0) c.loop-place.all.entries
+    c.draw.new.all.entries c.draw.ensures.left c.loop-place.invariant.in_order
+
+pub returns-in_err-push-clause-some : goal.returns-in_err-push-clause-some
+returns-in_err-push-clause-some c = λ p h.
+    left_some c.args.whose.now (get_or c.args.places.now c.loop-place.place-index 0) p c.loop-place.all.entries
+    c.draw.new.all.entries c.draw.ensures.left (c.loop-place.invariant.some p h)

@@ -6,7 +6,7 @@ use Rattle.rq_model.specs.States.{Element}
 use Rattle.rq_model.specs.Queues.{is_marked}
 use Rattle.rq_model.proofs.Lists.{each_append}
 use Rattle.rq_queue.specs.Kept.{Stowed, IsOfUnit, items_of}
-use Rattle.rq_queue.proofs.Units.{Lists, stowed_at, stowed_of, each_at, each_in, found_of}
+use Rattle.rq_queue.proofs.Units.{Lists, stowed_at, stowed_of, each_at, each_in, found_of, on_err, same_at}
 use Rattle.rq_queue.proofs.shelves.stow.Goals as goal
 
 pub returns-in-Some-clause-stowed : goal.returns-in-Some-clause-stowed
@@ -45,3 +45,18 @@ returns-clause-of_units c =
     (each_in IsOfUnit c.args.unit.0 c.args.marked.now.entries list (sym c.in_default.ensures.value)
     (subst (λ (xs : List Element). AllByRecursion (λ (x : Element). is_marked c.args.unit.0 x.mark ≡ true) xs)
     (sym c.in_ok-list.ensures.alone) (c.requires.mark, tt)) c.requires.of_units)
+
+pub returns-in_err-push-clause-same : goal.returns-in_err-push-clause-same
+returns-in_err-push-clause-same c = on_err c.from_residual.result
+    (ap items_of (c.get_mut.follows.holds c.push.new.self).0
+    ∙ same_at (is_at (nat_cmp c.args.unit.0)) c.args.marked.now.entries c.in-Some.list.now c.push.new.self
+    (sym c.in-Some.ensures.value) c.in_err-push.ensures.items)
+
+pub returns-in_err-push-clause-of_units : goal.returns-in_err-push-clause-of_units
+returns-in_err-push-clause-of_units c = subst (AllByRecursion IsOfUnit)
+    (sym (c.get_mut.follows.holds c.push.new.self).0)
+    (each_at c.args.unit.0 c.args.marked.now.entries c.push.new.self
+    (subst (λ (xs : List Element). AllByRecursion (λ (x : Element). is_marked c.args.unit.0 x.mark ≡ true) xs)
+    (sym c.in_err-push.ensures.items)
+    (found_of c.args.unit.0 c.args.marked.now.entries c.in-Some.list.now (sym c.in-Some.ensures.value)
+    c.requires.of_units)) c.requires.of_units)

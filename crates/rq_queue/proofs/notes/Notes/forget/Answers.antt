@@ -12,28 +12,28 @@ use Rattle.rq_queue.proofs.Noting.{all_filed, others_filed, left_all, values_lef
 use Rattle.rq_queue.proofs.Registered.{note_at}
 use Rattle.rq_queue.proofs.notes.Notes.forget.Goals as goal
 
-pub invariant_of-result : goal.invariant_of-result
-invariant_of-result c =
+pub invariant_of-self : goal.invariant_of-self
+invariant_of-self c =
     let notes = c.self.inside in
     let es = notes.all.entries in
     let k : ℕ × List ℕ = (c.args.queue.0, c.args.name.now) in
     let own = is_note_of c.args.queue.0 c.args.name.now in
-    let is_filed = λ (j : ℕ × List ℕ). (m : ℕ × List ℕ) → filed key_cmp m c.unfiled-names.result.0.entries
+    let is_filed = λ (j : ℕ × List ℕ). (m : ℕ × List ℕ) → filed key_cmp m c.unfiled-places.new.index.entries
     ≡ (if is_eq (key_cmp j m) then [] else filed key_cmp m notes.names.entries) in
-    let others = c.notes_without-all.ensures ∙ (ap (λ (ps : List ℕ). left (OfRegistrant c.args.queue c.args.name.now) ps es)
+    let others = c.notes_without.ensures ∙ (ap (λ (ps : List ℕ). left (OfRegistrant c.args.queue c.args.name.now) ps es)
     (c.deref.ensures.value
-    ∙ (c.unfiled-names.ensures.places ∙ ap (λ (j : ℕ × List ℕ). filed key_cmp j notes.names.entries)
+    ∙ (c.unfiled-places.ensures.places ∙ ap (λ (j : ℕ × List ℕ). filed key_cmp j notes.names.entries)
     c.in_ok-key.ensures.key))
     ∙ left_all (OfRegistrant c.args.queue c.args.name.now) (filed key_cmp k notes.names.entries) es
     (all_filed key_cmp key_total (λ (m : Note). (m.queue, m.name)) k own
     (note_at k) notes.names.entries es c.self.invariant.by_name)) in
-    subst (λ (xs : List NoteEntry). AreKept xs notes.units.entries c.unfiled-names.result.0.entries) (sym others)
+    subst (λ (xs : List NoteEntry). AreKept xs notes.units.entries c.unfiled-places.new.index.entries) (sym others)
     (record {
       by_place = filtered_by_place (λ (e : NoteEntry). not (own e.1)) es c.self.invariant.by_place;
       by_unit = each_filter _ _ es c.self.invariant.by_unit;
       by_name = others_filed key_cmp key_total (λ (m : Note). (m.queue, m.name)) k own
-          (note_at k) notes.names.entries c.unfiled-names.result.0.entries
-          (subst is_filed c.in_ok-key.ensures.key c.unfiled-names.ensures.others) es c.self.invariant.by_name;
+          (note_at k) notes.names.entries c.unfiled-places.new.index.entries
+          (subst is_filed c.in_ok-key.ensures.key c.unfiled-places.ensures.others) es c.self.invariant.by_name;
     })
 
 pub returns-clause-done : goal.returns-clause-done
@@ -42,9 +42,9 @@ returns-clause-done c =
     let es = notes.all.entries in
     let k : ℕ × List ℕ = (c.args.queue.0, c.args.name.now) in
     let own = is_note_of c.args.queue.0 c.args.name.now in
-    ap values_of (c.notes_without-all.ensures ∙ ap (λ (ps : List ℕ). left (OfRegistrant c.args.queue c.args.name.now) ps es)
+    ap values_of (c.notes_without.ensures ∙ ap (λ (ps : List ℕ). left (OfRegistrant c.args.queue c.args.name.now) ps es)
     (c.deref.ensures.value
-    ∙ (c.unfiled-names.ensures.places ∙ ap (λ (j : ℕ × List ℕ). filed key_cmp j notes.names.entries)
+    ∙ (c.unfiled-places.ensures.places ∙ ap (λ (j : ℕ × List ℕ). filed key_cmp j notes.names.entries)
     c.in_ok-key.ensures.key)))
     ∙ (values_left (OfRegistrant c.args.queue c.args.name.now) (filed key_cmp k notes.names.entries) es
     (all_filed key_cmp key_total (λ (m : Note). (m.queue, m.name)) k own

@@ -8,8 +8,8 @@ use Rattle.rq_queue.proofs.Roll.{removed}
 use Rattle.rq_queue.proofs.Registered.{deregistered_then}
 use Rattle.rq_queue.proofs.registrants.Registrants.deregister.Goals as goal
 
-pub invariant_of-result : goal.invariant_of-result
-invariant_of-result c =
+pub invariant_of-self : goal.invariant_of-self
+invariant_of-self c =
     let k = c.in_ok-key.key in
     subst IsRoll (sym (c.remove.ensures.entries
     ∙ removed key_cmp key_total k c.self.inside.lasts.entries c.self.invariant))

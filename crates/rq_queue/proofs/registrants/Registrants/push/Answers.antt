@@ -9,8 +9,8 @@ use Rattle.rq_queue.proofs.Roll.{up_inserted}
 use Rattle.rq_queue.proofs.Registered.{added_last}
 use Rattle.rq_queue.proofs.registrants.Registrants.push.Goals as goal
 
-pub invariant_of-result : goal.invariant_of-result
-invariant_of-result c = subst IsRoll (sym c.in_ok-insert.ensures.entries)
+pub invariant_of-self-2 : goal.invariant_of-self-2
+invariant_of-self-2 c = subst IsRoll (sym c.in_ok-insert.ensures.entries)
     (up_inserted key_cmp key_total _ _ c.self.inside.lasts.entries c.self.invariant)
 
 pub returns-clause-done : goal.returns-clause-done

@@ -17,8 +17,8 @@ returns-then-contains_key-clause-done c =
     ∙ (ap (λ (k : ℕ × List ℕ). registered k.0 k.1 (map registrant_of es)) c.in_ok-key.ensures.key
     ∙ ap (registered c.args.queue.0 c.args.name.now) c.self.view_is))
 
-pub invariant_of-result : goal.invariant_of-result
-invariant_of-result c = subst IsRoll (sym c.in_ok-insert.ensures.entries)
+pub invariant_of-self-2 : goal.invariant_of-self-2
+invariant_of-self-2 c = subst IsRoll (sym c.in_ok-insert.ensures.entries)
     (up_inserted key_cmp key_total c.in_ok-key.key c.none.result c.self.inside.lasts.entries c.self.invariant)
 
 pub returns-clause-done : goal.returns-clause-done
