@@ -268,8 +268,8 @@ def short_names(count: int) -> list[bytes]:
 
 
 def many_registered(n: int, names: list[bytes], told: Callable[[int, int], bytes]) -> Records:
-    """Registrants, and n / 2,048 checkpoints. The first one registers again before each: so often that an audit of 8,000 takes no
-    steps, but redoes the queue."""
+    """Registrants, and n / 2,048 checkpoints. The first one registers again before each,
+    82 times."""
     yield define(b"jobs")
     yield from (register(0, name) for name in names)
     yield from told_between(1 + len(names), range(n // 2048), lambda _: [register(0, names[0])] * 82, told)
@@ -288,8 +288,7 @@ def registrants_told(n: int) -> Records:
 
 
 def each_registered(n: int, between: list[bytes]) -> Records:
-    """4,000 queues with a registrant each, and n / 2,048 true checkpoints with these records before each, which change nothing.
-    With 162 of them an audit takes no steps, but redoes the queues."""
+    """4,000 queues with a registrant each, and n / 2,048 true checkpoints with these records before each, which change nothing."""
     names = short_names(4000)
     definitions, members = list(map(definition, names)), [newcomer(queue, b"ann") for queue in range(4000)]
     yield from map(define, names)

@@ -24,11 +24,11 @@ use Rattle.rq_catalog.specs.Judges.{StandsIn}
 use Rattle.rq_restart.specs.declared.checkpoint.Begun.{Begun}
 use Rattle.rq_restart.specs.declared.front_pass.Reach.{Reach}
 use Rattle.rq_restart.specs.declared.redone.RedoneFront.{RedoneFront}
-use Rattle.rq_restart.specs.Audits.{AuditsAt}
+use Rattle.rq_restart.specs.Audits.{AuditsAt, IsAuditedFrom, audits}
 use Rattle.rq_restart.specs.Checkpoints.{IsBegun}
 use Rattle.rq_restart.specs.Ends.{IsFrontFrom, end_at}
 use Rattle.rq_restart.specs.Passes.{AreJudged}
-use Rattle.rq_restart.specs.RedoneFronts.{IsRedoneAt, IsStateBehind, RedoesFrontAt}
+use Rattle.rq_restart.specs.RedoneFronts.{IsStateBehind, RedoesFrontAt}
 use Rattle.rq_restart.proofs.Endings.{before_is}
 use Rattle.rq_restart.proofs.Passes.{front_in}
 
@@ -212,18 +212,20 @@ redoes_at b offset x is rs end why h (Err e) behind refused =
 
 -- Audited.
 
-pub audits_at : (b : List ℕ) (offset : ℕ) (x : Begun) (is : IsBegun b offset x) (rs : List Record) (end : ℕ) (why : Why)
-    → IsFrontFrom (version_of x.version) x.state b offset rs end why → (result : Result (Vec (ℕ × Bool)) Fault)
+pub audits_at : (b : List ℕ) (offset : ℕ) (x : Begun) → IsBegun b offset x → (result : Result (Vec (ℕ × Bool)) Fault)
+    → IfOk result (λ v. IsAuditedFrom (version_of x.version) x.state b offset v.items)
     → IfErr result (λ e. e ≡ Resources) → AuditsAt b offset result
-audits_at b offset x is rs end why h (Ok v) refused =
-    let has = from_checkpoint b offset x is rs end why h in
-    record {
-      version = version_of x.version;
-      base = x.state;
-      kept = is.kept;
-      after = has.after;
-      rest = drop end b;
-      front = has.from.front;
-    }
-audits_at b offset x is rs end why h (Err e) refused =
+audits_at b offset x is (Ok v) audited refused =
+    let has = from_checkpoint b offset x is audited.records audited.end audited.why audited.front in (
+      record {
+        version = version_of x.version;
+        base = x.state;
+        kept = is.kept;
+        after = has.after;
+        rest = drop audited.end b;
+        front = has.from.front;
+      },
+      audited.told ∙ ap (audits x.state offset) has.are,
+    )
+audits_at b offset x is (Err e) audited refused =
     subst (λ (z : Fault). AuditsAt b offset (Err z)) (sym refused) tt

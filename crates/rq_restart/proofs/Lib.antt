@@ -8,11 +8,8 @@ pub mod Endings
 pub mod RedoneFronts
 pub mod Upgradings
 pub mod Checkpoints
-pub mod Audits
+pub mod Audited
 pub mod Walks
-pub mod Worth
-pub mod Counted
-pub mod Tallies
 pub mod Judgings
 pub mod Passes
 pub mod Windows

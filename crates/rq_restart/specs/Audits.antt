@@ -1,30 +1,30 @@
 -- Which checkpoints are true, found on the way through the records.
-use Rattle.std.specs.Prelude.{◌≡◌, ℕ, ◌+◌, ◌-◌, ◌*◌, ◌≤◌, ◌<◌, Bool, true, List, [], ◌∷◌, ◌++◌}
-use Rattle.std.specs.Prelude.{length}
-use Rattle.std.specs.Prelude.{map, take, slice_index_or, Result, Ok, Err}
+use Rattle.std.specs.Prelude.{◌≡◌, ℕ, ◌+◌, ◌≤◌, ◌<◌, ◌&&◌, Bool, true, List, [], ◌∷◌, ◌++◌, length}
+use Rattle.std.specs.Prelude.{map, take, nat_le, slice_index_or, Result, Ok, Err}
 use Rattle.std.specs.Str.{bytes_eq}
 use Rattle.std.specs.Global.{Vec}
-use Rattle.rq_model.specs.Records.{Record, Checkpoint, Version, Two}
+use Rattle.rq_model.specs.Records.{Record, Checkpoint, Version}
 use Rattle.rq_model.specs.Spelling.{body_of}
 use Rattle.rq_model.specs.Frames.{log_limit}
-use Rattle.rq_model.specs.States.{State, empty}
-use Rattle.rq_model.specs.Machine.{step, run, all_lawful}
+use Rattle.rq_model.specs.States.{State}
+use Rattle.rq_model.specs.Machine.{step, all_lawful}
 use Rattle.rq_model.specs.StateSpelling.{state_bytes}
+use Rattle.rq_model.specs.Fronts.{Why}
 use Rattle.rq_model.specs.Checkpoints.{Audited, IsAudit}
 use Rattle.rq_model.specs.Carrying.{IsFrontAt}
-use Rattle.rq_state.specs.Inside.{state_of}
 use Rattle.rq_record.specs.declared.fault.Fault.{Fault}
-use Rattle.rq_record.specs.declared.fault.Fault.TheVariants.{Resources}
 use Rattle.rq_front.specs.declared.spans.Span.{Span}
 use Rattle.rq_front.specs.Chains.{IsHeaded, Refused}
+use Rattle.rq_restart.specs.Ends.{IsFrontFrom}
 use Rattle.rq_restart.specs.Restarts.{RefusedAt}
-use Rattle.rq_restart.specs.declared.true_checkpoints.AuditSoFar.{AuditSoFar}
-use Rattle.rq_record.specs.Views.{Record as Own}
-use Rattle.rq_restart.specs.Worth.{member_bytes, IsTallied, IsWithin, KeepsAllBut, Counts, lost_by}
+
+-- a checkpoint of these bytes spells the state
+abbrev pub is_spelled : State → List ℕ → Bool
+is_spelled s kept = nat_le s.next 4294967295 && bytes_eq kept (state_bytes s)
 
 -- a record whose frame stands at an offset, in the state before it
 abbrev pub audit_of : State → ℕ → Record → List Audited
-audit_of s at (Checkpoint kept) = record { offset = at; truth = bytes_eq kept (state_bytes s) } ∷ []
+audit_of s at (Checkpoint kept) = record { offset = at; truth = is_spelled s kept } ∷ []
 audit_of s at r = []
 
 -- records whose frames stand from an offset on
@@ -40,45 +40,25 @@ past at (r ∷ rs) = past (at + 36 + length (body_of r)) rs
 abbrev pub audited_of : ℕ × Bool → Audited
 audited_of x = record { offset = x.0; truth = x.1 }
 
--- the spans of a chain behind the header, of which the first are those of the records
-abbrev pub StandAt : List Record → List Span → Type 0
-StandAt rs spans = (i : ℕ) → i < length rs
-    → (i < length spans) × ((d : Span) → (slice_index_or spans i d).start ≡ past 40 (take i rs) + 4)
+-- the spans of a chain from an offset on, of which the first are those of the records
+abbrev pub StandAt : ℕ → List Record → List Span → Type 0
+StandAt at rs spans = (i : ℕ) → i < length rs
+    → (i < length spans) × ((d : Span) → (slice_index_or spans i d).start ≡ past at (take i rs) + 4)
 
--- the bytes that the state before the next record spells at least
-abbrev pub least : AuditSoFar → ℕ
-least w = member_bytes (state_of w.fields) - 74 * w.lost
+-- records that are lawful from a state on, and the spans of their frames
+pub record AreFramed (version : Version) (s : State) (at : ℕ) (rs : List Record) (spans : List Span)
+    : Type 0 where
+  pub lawful : all_lawful version s rs ≡ true
+  pub stand : StandAt at rs spans
 
--- the records of a log, which are lawful, and the spans of their frames
-pub record AreFramed (rs : List Record) (spans : List Span) : Type 0 where
-  pub few : length rs ≤ 4294967295
-  pub lawful : all_lawful Two empty rs ≡ true
-  pub stand : StandAt rs spans
-
--- the checkpoints among the records from one place up to another
-abbrev pub AreFound : List Record → ℕ → ℕ → List (ℕ × Bool) → Type 0
-AreFound rs start end found =
-    audits empty 40 (take start rs) ++ map audited_of found ≡ audits empty 40 (take end rs)
-
--- these, or no memory
-abbrev pub FindsShare : List Record → ℕ → ℕ → Result (Vec (ℕ × Bool)) Fault → Type 0
-FindsShare rs start end (Ok v) = AreFound rs start end v.items
-FindsShare rs start end (Err e) = e ≡ Resources
-
--- how far an audit has come
-pub record IsAuditWalk (rs : List Record) (i : ℕ) (w : AuditSoFar) : Type 0 where
-  pub within : w.from ≤ i
-  pub state : state_of w.fields ≡ run empty (take w.from rs)
-  pub tally : IsTallied (run empty (take i rs)) w.tally
-  pub counts : IsWithin i w.tally
-  pub few : w.lost ≤ i * 4294967296
-  pub lost : KeepsAllBut w.lost (state_of w.fields) (run empty (take i rs))
-
--- v is w behind a record that is no checkpoint
-pub record PassesRecord (w : AuditSoFar) (r : Own) (v : AuditSoFar) : Type 0 where
-  pub others : v ≡ record w { tally = v.tally; lost = v.lost }
-  pub tally : Counts w.tally v.tally r
-  pub lost : v.lost ≡ w.lost + lost_by r w.tally
+-- what is found in the front of b from an offset and a state on
+pub record IsAuditedFrom (version : Version) (s : State) (b : List ℕ) (from : ℕ)
+    (found : List (ℕ × Bool)) : Type 0 where
+  pub records : List Record
+  pub end : ℕ
+  pub why : Why
+  pub front : IsFrontFrom version s b from records end why
+  pub told : map audited_of found ≡ audits s from records
 
 -- the audit of b, or why b is refused: it is too long, or no log
 abbrev pub Audits : List ℕ → Result (Vec (ℕ × Bool)) Fault → Type 0
@@ -94,7 +74,12 @@ pub record HasFrontAt (b : List ℕ) (offset : ℕ) : Type 0 where
   pub rest : List ℕ
   pub front : IsFrontAt b offset version base kept after rest
 
--- that front is gone through, or why there is none. Nothing is said of what is found there
+-- the checkpoints of that front, the first of which is taken at its word
+abbrev pub IsAuditAt : List ℕ → ℕ → List Audited → Type 0
+IsAuditAt b offset found = (x : HasFrontAt b offset)
+    × (found ≡ audits x.base offset (Checkpoint x.kept ∷ x.after))
+
+-- these, or why there are none
 abbrev pub AuditsAt : List ℕ → ℕ → Result (Vec (ℕ × Bool)) Fault → Type 0
-AuditsAt b offset (Ok v) = HasFrontAt b offset
+AuditsAt b offset (Ok v) = IsAuditAt b offset (map audited_of v.items)
 AuditsAt b offset (Err e) = RefusedAt b offset e

@@ -11,7 +11,6 @@ pub mod Upgrades
 pub mod Checkpoints
 pub mod Audits
 pub mod AuditLaws
-pub mod Worth
 pub mod Passes
 pub mod Windows
 pub mod GrowingFronts

@@ -4,10 +4,8 @@
 #![tactic(auto)]
 
 mod audit_laws;
-mod auditing_at;
-mod before;
+mod audits;
 mod bodies;
-mod bounded;
 mod checkpoint;
 mod ends;
 mod frames;
@@ -22,15 +20,12 @@ mod restart_ends;
 mod restarted;
 mod restarting_at;
 mod restarts;
-mod shares;
 mod tails;
-mod tally;
-mod true_checkpoints;
 mod upgrades;
 mod window;
 
 pub use audit_laws::every_log_has_audit;
-pub use auditing_at::audit_at;
+pub use audits::{audit, audit_at, audit_lent};
 pub use ends::{FrontEnd, front_end};
 pub use growing_front::GrowingFront;
 pub use judged::{JudgedFront, judged_front, judged_front_at};
@@ -42,5 +37,4 @@ pub use restarts::{restart, restart_lent};
 pub use rq_pool::{Gate, Open, Plan};
 pub use rq_record::{Fault, Version};
 pub use tails::{closed, tail};
-pub use true_checkpoints::{audit, audit_lent};
 pub use upgrades::upgrade;

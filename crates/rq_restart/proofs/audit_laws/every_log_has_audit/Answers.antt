@@ -1,6 +1,6 @@
 use Rattle.rq_model.specs.States.{empty}
 use Rattle.rq_restart.specs.Audits.{audits}
-use Rattle.rq_restart.proofs.Audits.{AuditLaws, is_audit}
+use Rattle.rq_restart.proofs.Audited.{AuditLaws, is_audit}
 use Rattle.rq_restart.proofs.audit_laws.every_log_has_audit.Goals as goal
 
 pub returns : goal.returns

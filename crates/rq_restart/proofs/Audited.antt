@@ -1,0 +1,308 @@
+-- What is found on the way through the front is its audit.
+use Rattle.std.proofs.Common.{◌≡◌, ℕ, ◌+◌, ◌<◌, ◌≤◌, Bool, true, List, [], ◌∷◌, ◌++◌, length, drop, refl, sym, ap, subst, ◌∙◌}
+use Rattle.std.proofs.Common.{arith, inl, inr}
+use Rattle.std.specs.Prelude.{◌↔◌, Result, Ok, Err, IfOk, IfErr}
+use Rattle.std.specs.Global.{Vec}
+use Rattle.std.specs.List.{AllByRecursion}
+use Rattle.std.proofs.lemmas.Bool.{and_parts, and_from, le-leb}
+use Rattle.std.proofs.lemmas.List.{length-append}
+use Rattle.std.proofs.lemmas.Slice.Eq.{bytes_eq-Decides}
+use Rattle.rq_model.specs.Records.{Record, Define, Register, Deregister, Begin, Enqueue, Dequeue, Commit, Abort}
+use Rattle.rq_model.specs.Records.{Checkpoint, Kill, Version}
+use Rattle.rq_model.specs.Spelling.{body_of, IsRecord}
+use Rattle.rq_model.specs.Frames.{IsBodyLength, frame, digest, frames_of, log_of, magic, start, header, log_limit, HasHeader}
+use Rattle.rq_model.specs.States.{State, empty}
+use Rattle.rq_model.specs.Machine.{step, run}
+use Rattle.rq_model.specs.WellFormed.{IsIn, Ordered}
+use Rattle.rq_model.specs.StateSpelling.{state_bytes}
+use Rattle.rq_model.specs.Fronts.{IsFront}
+use Rattle.rq_model.specs.Checkpoints.{Audited, HasCheckpoint, TrueAt, IsAudit}
+use Rattle.rq_model.specs.LogLaws.{OneFront, LogEnds, FrameIsRight, RecordHasOneBody}
+use Rattle.rq_model.proofs.Restarts.{each_cut, frames_many, next_run}
+use Rattle.rq_record.specs.declared.fault.Fault.{Fault}
+use Rattle.rq_record.specs.declared.fault.Fault.TheVariants.{Resources}
+use Rattle.rq_front.specs.Chains.{Refused}
+use Rattle.rq_restart.specs.Audits.{Audits, IsAuditedFrom, audit_of, audits, is_spelled, past}
+use Rattle.rq_restart.proofs.Chains.{frame_long}
+use Rattle.rq_restart.proofs.Starts.{started, whole_front}
+
+abbrev audit_at : State → ℕ → List Record → List ℕ → Audited
+audit_at s at rs kept = record { offset = past at rs; truth = is_spelled (run s rs) kept }
+
+past_grows : (at : ℕ) (rs : List Record) → at ≤ past at rs
+past_grows at [] = omega arith
+past_grows at (r ∷ rs) = let more = past_grows (at + 36 + length (body_of r)) rs in omega (arith, more)
+
+-- one of those found is a checkpoint among the records
+record IsFound (s : State) (at : ℕ) (rs : List Record) (x : Audited) : Type 0 where
+  pub before : List Record
+  pub kept : List ℕ
+  pub after : List Record
+  pub whole : rs ≡ before ++ Checkpoint kept ∷ after
+  pub is : x ≡ audit_at s at before kept
+
+later : (s : State) (at : ℕ) (r : Record) (rs : List Record) (x : Audited)
+    → IsFound (step s r) (at + 36 + length (body_of r)) rs x → IsFound s at (r ∷ rs) x
+later s at r rs x f =
+    record {
+      before = r ∷ f.before;
+      kept = f.kept;
+      after = f.after;
+      whole = ap (λ (qs : List Record). r ∷ qs) f.whole;
+      is = f.is;
+    }
+
+found : (s : State) (at : ℕ) (rs : List Record) (x : Audited) → IsIn x (audits s at rs) → IsFound s at rs x
+found s at [] x h = absurd h
+found s at (Checkpoint kept ∷ rs) x h = elim h [
+  | inl is ↦ record { before = []; kept = kept; after = rs; whole = refl; is = is }
+  | inr more ↦ later s at (Checkpoint kept) rs x
+      (found (step s (Checkpoint kept)) (at + 36 + length (body_of (Checkpoint kept))) rs x more)
+]
+found s at (Define limit error name ∷ rs) x h = later s at (Define limit error name) rs x (found _ _ rs x h)
+found s at (Register queue name ∷ rs) x h = later s at (Register queue name) rs x (found _ _ rs x h)
+found s at (Deregister queue name ∷ rs) x h = later s at (Deregister queue name) rs x (found _ _ rs x h)
+found s at (Begin unit ∷ rs) x h = later s at (Begin unit) rs x (found _ _ rs x h)
+found s at (Enqueue unit queue priority by payload ∷ rs) x h =
+    later s at (Enqueue unit queue priority by payload) rs x (found _ _ rs x h)
+found s at (Dequeue unit queue by ∷ rs) x h = later s at (Dequeue unit queue by) rs x (found _ _ rs x h)
+found s at (Commit unit ∷ rs) x h = later s at (Commit unit) rs x (found _ _ rs x h)
+found s at (Abort unit ∷ rs) x h = later s at (Abort unit) rs x (found _ _ rs x h)
+found s at (Kill queue element ∷ rs) x h = later s at (Kill queue element) rs x (found _ _ rs x h)
+
+in_behind : (x : Audited) (xs ys : List Audited) → IsIn x ys → IsIn x (xs ++ ys)
+in_behind x [] ys h = h
+in_behind x (y ∷ xs) ys h = inr (in_behind x xs ys h)
+
+-- each checkpoint among the records is found
+pub audits_have : (s : State) (at : ℕ) (before : List Record) (kept : List ℕ) (after : List Record)
+    → IsIn (audit_at s at before kept) (audits s at (before ++ Checkpoint kept ∷ after))
+audits_have s at [] kept after = inl refl
+audits_have s at (r ∷ before) kept after =
+    in_behind _ (audit_of s at r) _ (audits_have (step s r) (at + 36 + length (body_of r)) before kept after)
+
+-- they rise
+from_place : (s : State) (at low : ℕ) (rs : List Record) → low < at
+    → AllByRecursion (λ x. low < x.offset) (audits s at rs)
+from_place s at low [] h = tt
+from_place s at low (Checkpoint kept ∷ rs) h =
+    (h, from_place (step s (Checkpoint kept)) (at + 36 + length (body_of (Checkpoint kept))) low rs (omega (arith, h)))
+from_place s at low (Define limit error name ∷ rs) h = from_place _ _ low rs (omega (arith, h))
+from_place s at low (Register queue name ∷ rs) h = from_place _ _ low rs (omega (arith, h))
+from_place s at low (Deregister queue name ∷ rs) h = from_place _ _ low rs (omega (arith, h))
+from_place s at low (Begin unit ∷ rs) h = from_place _ _ low rs (omega (arith, h))
+from_place s at low (Enqueue unit queue priority by payload ∷ rs) h = from_place _ _ low rs (omega (arith, h))
+from_place s at low (Dequeue unit queue by ∷ rs) h = from_place _ _ low rs (omega (arith, h))
+from_place s at low (Commit unit ∷ rs) h = from_place _ _ low rs (omega (arith, h))
+from_place s at low (Abort unit ∷ rs) h = from_place _ _ low rs (omega (arith, h))
+from_place s at low (Kill queue element ∷ rs) h = from_place _ _ low rs (omega (arith, h))
+
+rises : (s : State) (at : ℕ) (rs : List Record) → Ordered (λ x y. x.offset < y.offset) (audits s at rs)
+rises s at [] = tt
+rises s at (Checkpoint kept ∷ rs) = (
+  from_place (step s (Checkpoint kept)) (at + 36 + length (body_of (Checkpoint kept))) at rs (omega arith),
+  rises (step s (Checkpoint kept)) (at + 36 + length (body_of (Checkpoint kept))) rs,
+)
+rises s at (Define limit error name ∷ rs) = rises _ _ rs
+rises s at (Register queue name ∷ rs) = rises _ _ rs
+rises s at (Deregister queue name ∷ rs) = rises _ _ rs
+rises s at (Begin unit ∷ rs) = rises _ _ rs
+rises s at (Enqueue unit queue priority by payload ∷ rs) = rises _ _ rs
+rises s at (Dequeue unit queue by ∷ rs) = rises _ _ rs
+rises s at (Commit unit ∷ rs) = rises _ _ rs
+rises s at (Abort unit ∷ rs) = rises _ _ rs
+rises s at (Kill queue element ∷ rs) = rises _ _ rs
+
+-- a record at a place of the records is the only one
+same_split : (at : ℕ) (xs ys as' bs : List Record) (r q : Record) → xs ++ r ∷ as' ≡ ys ++ q ∷ bs
+    → past at xs ≡ past at ys → (xs ≡ ys) × (r ≡ q)
+same_split at [] [] as' bs r q e p = (refl, ap (head_or r) e)
+  where
+    head_or : Record → List Record → Record
+    head_or d [] = d
+    head_or d (x ∷ xs) = x
+same_split at [] (y ∷ ys) as' bs r q e p =
+    absurd (let more = past_grows (at + 36 + length (body_of y)) ys in omega (arith, p, more))
+same_split at (x ∷ xs) [] as' bs r q e p =
+    absurd (let more = past_grows (at + 36 + length (body_of x)) xs in omega (arith, p, more))
+same_split at (x ∷ xs) (y ∷ ys) as' bs r q e p =
+    let first : x ≡ y = ap (head_or x) e in
+    let rest : xs ++ r ∷ as' ≡ ys ++ q ∷ bs = ap tail_of e in
+    let place : past (at + 36 + length (body_of x)) xs ≡ past (at + 36 + length (body_of x)) ys =
+    p ∙ ap (λ (z : Record). past (at + 36 + length (body_of z)) ys) (sym first) in
+    let more = same_split (at + 36 + length (body_of x)) xs ys as' bs r q rest place in
+    (λ i. first i ∷ more.0 i, more.1)
+  where
+    head_or : Record → List Record → Record
+    head_or d [] = d
+    head_or d (x ∷ xs) = x
+
+    tail_of : List Record → List Record
+    tail_of [] = []
+    tail_of (x ∷ xs) = xs
+
+-- The place of a record is the length of the log before it.
+
+frames_size : (version : Version) → FrameIsRight → RecordHasOneBody → (p : List ℕ) (at : ℕ) (rs : List Record)
+    → AllByRecursion (IsRecord version) rs → length (frames_of p rs) + at ≡ past at rs
+frames_size version right one p at [] h = omega arith
+frames_size version right one p at (r ∷ rs) h =
+    let body = body_of r in
+    let fits : IsBodyLength (length body) = (one version r body body (h.0, refl) (h.0, refl)).1 in
+    let more = frames_size version right one (digest p body) (at + 36 + length body) rs h.1 in
+    omega (arith, more, frame_long right p body fits, length-append (frame p body) (frames_of (digest p body) rs))
+
+log_size : (version : Version) → FrameIsRight → RecordHasOneBody → LogEnds → (rs : List Record)
+    → AllByRecursion (IsRecord version) rs → length (log_of version rs) ≡ past 40 rs
+log_size version right one ends rs h =
+    let size : length (start version) ≡ 32 = (ends version []).2 in
+    omega (
+      arith,
+      size,
+      length-append (magic version) (start version),
+      length-append (header version) (frames_of (start version) rs),
+      frames_size version right one (start version) 40 rs h,
+    )
+
+-- what the audit rests on
+pub record AuditLaws : Type 0 where
+  pub right : FrameIsRight
+  pub body : RecordHasOneBody
+  pub ends : LogEnds
+  pub front : OneFront
+
+-- a checkpoint of the front stands where it is found
+stands : (version : Version) → AuditLaws
+    → (b : List ℕ) (rs : List Record) (rest : List ℕ) (before : List Record) (kept : List ℕ) (after : List Record)
+    → IsFront b version rs rest → rs ≡ before ++ Checkpoint kept ∷ after → HasCheckpoint b (past 40 before) before kept
+stands version laws b rs rest before kept after front is =
+    let here : IsFront b version (before ++ Checkpoint kept ∷ after) rest =
+    subst (λ (qs : List Record). IsFront b version qs rest) is front in
+    record {
+      version = version;
+      after = after;
+      rest = rest;
+      front = here;
+      there = sym (log_size version laws.right laws.body laws.ends before
+          (each_cut (IsRecord version) before (Checkpoint kept ∷ after) here.longest.begins.records).0);
+    }
+
+-- and is the only one that stands there
+only : (version : Version) → AuditLaws
+    → (b : List ℕ) (rs : List Record) (rest : List ℕ) (before : List Record) (kept : List ℕ) (after : List Record)
+    (offset : ℕ) (records : List Record) (other : List ℕ) → IsFront b version rs rest
+    → rs ≡ before ++ Checkpoint kept ∷ after → offset ≡ past 40 before → HasCheckpoint b offset records other
+    → (records ≡ before) × (other ≡ kept)
+only version laws b rs rest before kept after offset records other front is place h =
+    let one = laws.front b h.version version (records ++ Checkpoint other ∷ h.after) rs h.rest rest h.front front in
+    let again : IsFront b version (records ++ Checkpoint other ∷ h.after) h.rest =
+    subst (λ (v : Version). IsFront b v (records ++ Checkpoint other ∷ h.after) h.rest) one.0 h.front in
+    let size : length (log_of version records) ≡ past 40 records =
+    log_size version laws.right laws.body laws.ends records
+    (each_cut (IsRecord version) records (Checkpoint other ∷ h.after) again.longest.begins.records).0 in
+    let same : past 40 records ≡ past 40 before =
+    sym size ∙ ap (λ (v : Version). length (log_of v records)) (sym one.0) ∙ sym h.there ∙ place in
+    let both = same_split 40 records before h.after after (Checkpoint other) (Checkpoint kept) (one.1 ∙ is) same in
+    (both.0, ap kept_or both.1)
+  where
+    kept_or : Record → List ℕ
+    kept_or (Checkpoint bytes) = bytes
+    kept_or r = []
+
+-- a front has no more records than a checkpoint can number
+few : (version : Version) (b : List ℕ) (rs : List Record) (rest : List ℕ) (before : List Record) (kept : List ℕ)
+    (after : List Record) → IsFront b version rs rest → rs ≡ before ++ Checkpoint kept ∷ after
+    → (run empty before).next ≤ 4294967295
+few version b rs rest before kept after front is =
+    omega (
+      arith,
+      next_run empty before,
+      ap length is,
+      length-append before (Checkpoint kept ∷ after),
+      frames_many (start version) rs,
+      ap length front.longest.begins.whole,
+      length-append (frames_of (start version) rs) rest,
+      ap length front.whole,
+      length-append (header version) front.bytes,
+      front.short,
+    )
+
+-- the test of a checkpoint tells whether it is true
+tells : (version : Version) → AuditLaws
+    → (b : List ℕ) (rs : List Record) (rest : List ℕ) (before : List Record) (kept : List ℕ) (after : List Record)
+    (offset : ℕ) → IsFront b version rs rest → rs ≡ before ++ Checkpoint kept ∷ after → offset ≡ past 40 before
+    → (is_spelled (run empty before) kept ≡ true) ↔ TrueAt b offset
+tells version laws b rs rest before kept after offset front is place = (
+  λ t. (
+    before,
+    kept,
+    subst (λ (n : ℕ). HasCheckpoint b n before kept) (sym place)
+        (stands version laws b rs rest before kept after front is),
+    (bytes_eq-Decides kept (state_bytes (run empty before))).0 (and_parts _ _ t).1,
+  ),
+  λ t. (let same = only version laws b rs rest before kept after offset t.0 t.1 front is place t.2 in
+      let spelled : kept ≡ state_bytes (run empty before) =
+      sym same.1 ∙ t.3 ∙ ap (λ (qs : List Record). state_bytes (run empty qs)) same.0 in
+      and_from _ _
+      (le-leb (run empty before).next 4294967295 (few version b rs rest before kept after front is))
+      ((bytes_eq-Decides kept (state_bytes (run empty before))).1 spelled)),
+)
+
+pub is_audit : (version : Version) → AuditLaws → (b : List ℕ) (rs : List Record) (rest : List ℕ)
+    → IsFront b version rs rest → IsAudit b (audits empty 40 rs)
+is_audit version laws b rs rest front = record {
+  version = version;
+  records = rs;
+  rest = rest;
+  front = front;
+  rising = rises empty 40 rs;
+  offsets = λ n. (to n, from n);
+  truths = truths;
+}
+  where
+    to : (n : ℕ) → (x : Audited) × IsIn x (audits empty 40 rs) × (x.offset ≡ n)
+        → (earlier : List Record) × (kept : List ℕ) × HasCheckpoint b n earlier kept
+    to n (x, h, e) =
+        let f = found empty 40 rs x h in
+        let place : past 40 f.before ≡ n = sym (ap (λ (a : Audited). a.offset) f.is) ∙ e in (
+          f.before,
+          f.kept,
+          subst (λ (m : ℕ). HasCheckpoint b m f.before f.kept) place
+              (stands version laws b rs rest f.before f.kept f.after front f.whole),
+        )
+
+    from : (n : ℕ) → (earlier : List Record) × (kept : List ℕ) × HasCheckpoint b n earlier kept
+        → (x : Audited) × IsIn x (audits empty 40 rs) × (x.offset ≡ n)
+    from n (earlier, kept, c) =
+        let one = laws.front b c.version version (earlier ++ Checkpoint kept ∷ c.after) rs c.rest rest c.front front in
+        let again : IsFront b version (earlier ++ Checkpoint kept ∷ c.after) c.rest =
+        subst (λ (v : Version). IsFront b v (earlier ++ Checkpoint kept ∷ c.after) c.rest) one.0 c.front in
+        let size : length (log_of version earlier) ≡ past 40 earlier =
+        log_size version laws.right laws.body laws.ends earlier
+        (each_cut (IsRecord version) earlier (Checkpoint kept ∷ c.after) again.longest.begins.records).0 in
+        let place : n ≡ past 40 earlier = c.there ∙ ap (λ (v : Version). length (log_of v earlier)) one.0 ∙ size in (
+          audit_at empty 40 earlier kept,
+          subst (λ (qs : List Record). IsIn (audit_at empty 40 earlier kept) (audits empty 40 qs)) one.1
+              (audits_have empty 40 earlier kept c.after),
+          sym place,
+        )
+
+    truths : (x : Audited) → IsIn x (audits empty 40 rs) → (x.truth ≡ true) ↔ TrueAt b x.offset
+    truths x h =
+        let f = found empty 40 rs x h in
+        let place : x.offset ≡ past 40 f.before = ap (λ (a : Audited). a.offset) f.is in
+        let truth : x.truth ≡ is_spelled (run empty f.before) f.kept = ap (λ (a : Audited). a.truth) f.is in
+        subst (λ (t : Bool). (t ≡ true) ↔ TrueAt b x.offset) (sym truth)
+        (tells version laws b rs rest f.before f.kept f.after x.offset front f.whole place)
+
+-- what is found in the front of a log, or no memory
+pub audits_are : (version : Version) → AuditLaws → (b : List ℕ) → length b ≤ log_limit → HasHeader version b
+    → (result : Result (Vec (ℕ × Bool)) Fault) → IfOk result (λ v. IsAuditedFrom version empty b 40 v.items)
+    → IfErr result (λ e. e ≡ Resources) → Audits b result
+audits_are version laws b short head (Ok v) is refused =
+    let front = whole_front version b is.records is.end is.why (started version laws.ends b head) short is.front in (
+      short,
+      (version, head),
+      subst (IsAudit b) (sym is.told) (is_audit version laws b is.records (drop is.end b) front),
+    )
+audits_are version laws b short head (Err e) is refused = subst (λ (f : Fault). Refused b f) (sym refused) tt

@@ -1,0 +1,209 @@
+//! Which checkpoints of a log are true, of all of it or from a checkpoint on.
+
+ghost use Rattle.std.specs.Prelude.{◌≡◌, ◌≤◌, true, ◌++◌, ℕ, map, IfOk, OnOk, IfErr};
+ghost use Rattle.std.specs.Arc.{arc_slice_items};
+ghost use Rattle.rq_model.specs.Machine.{is_lawful, step};
+ghost use Rattle.rq_model.specs.Records as records;
+ghost use Rattle.rq_model.specs.States as states;
+ghost use Rattle.rq_record.specs.Views.{record_of, version_of};
+ghost use Rattle.rq_record.specs.declared.fault.Fault.TheVariants.{Resources};
+ghost use Rattle.rq_standing.specs.Stands.{Stands};
+ghost use Rattle.rq_restart.specs.Audits.{AreFramed, Audits, AuditsAt, IsAuditedFrom};
+ghost use Rattle.rq_restart.specs.Audits.{audit_of, audited_of, audits};
+ghost use Rattle.rq_restart.specs.Ends.{IsChain};
+
+use crate::checkpoint::begin_at;
+use crate::front::{Front, front_of};
+use crate::grain::grain_of;
+use rq_front::{Chain, Span, chain, version};
+use rq_pool::Plan;
+use rq_record::{Fault, KeptRecord, LentLog, Version};
+use rq_standing::{Standing, Taken};
+use rq_state::State;
+use std::alloc::Global;
+use std::marker::Sync;
+use std::sync::ArcSlice;
+use std::thread::Threads;
+
+// Tells of a checkpoint whose frame stands at an offset whether it spells the state before it.
+fn look(
+    alloc: Global,
+    standing: &Standing,
+    rec: &KeptRecord,
+    offset: u64,
+    found: &mut Vec<(u64, bool)>,
+) -> Result<(), Fault>
+    requires { (version : records.Version) × (s : states.State) × Stands version standing.now s }
+    ensures found { OnOk result ((version : records.Version) (s : states.State) →
+        Stands version standing.now s → map audited_of found.new.items
+        ≡ map audited_of found.old.items ++ audit_of s offset (record_of rec.now)) }
+    ensures refused { IfErr result (λ e. e ≡ Resources) }
+{
+    let KeptRecord::Checkpoint { bytes } = rec else {
+        return Ok(());
+    };
+    let is_true = standing.is_spelled_by(alloc, bytes.bytes())?;
+    found.push((offset, is_true))?;
+    Ok(())
+}
+
+// One record further, which is lawful: so it is done.
+fn pass(
+    alloc: Global,
+    standing: &mut Standing,
+    rec: &KeptRecord,
+    offset: u64,
+    found: &mut Vec<(u64, bool)>,
+) -> Result<(), Fault>
+    requires { (version : records.Version) × (s : states.State) × Stands version standing.old s
+        × (is_lawful version s (record_of rec.now) ≡ true) }
+    ensures stands { OnOk result ((version : records.Version) (s : states.State) →
+        Stands version standing.old s → is_lawful version s (record_of rec.now) ≡ true
+        → Stands version standing.new (step s (record_of rec.now))) }
+    ensures found { OnOk result ((version : records.Version) (s : states.State) →
+        Stands version standing.old s → map audited_of found.new.items
+        ≡ map audited_of found.old.items ++ audit_of s offset (record_of rec.now)) }
+    ensures refused { IfErr result (λ e. e ≡ Resources) }
+{
+    look(alloc, standing, rec, offset, found)?;
+    match standing.take(alloc, rec) {
+        Ok(Taken::Done(_)) => Ok(()),
+        Ok(Taken::Unlawful(_)) => unreachable!(),
+        Err(fault) => Err(fault),
+    }
+}
+
+// The checkpoints among lawful records, which begin in a state.
+fn checkpoints_among(
+    alloc: Global,
+    version: Version,
+    state: &State,
+    records: &[KeptRecord],
+    spans: &[Span],
+) -> Result<Vec<(u64, bool)>, Fault>
+    requires framed { (at : ℕ)
+        × AreFramed (version_of version) state.now at (map record_of records.now) spans.now }
+    ensures found { IfOk result (λ v. (at : ℕ) →
+        AreFramed (version_of version) state.now at (map record_of records.now) spans.now
+        → map audited_of v.items ≡ audits state.now at (map record_of records.now)) }
+    ensures refused { IfErr result (λ e. e ≡ Resources) }
+{
+    let mut standing = Standing::of(alloc, version, state)?;
+    let mut found = Vec::new(alloc);
+    for place in 0..records.len() {
+        let offset = spans[place].offset() as u64;
+        pass(alloc, &mut standing, &records[place], offset, &mut found)?;
+    }
+    Ok(found)
+}
+
+// The records of a front. What its analysis lists is as much again as a log of short frames, and an
+// audit needs none of it: so that goes here.
+fn records_alone(front: Front) -> Vec<KeptRecord>
+    ensures { result.items ≡ front.records.items }
+{
+    front.records
+}
+
+// The checkpoints of the front in the frames of a chain, from a state on.
+fn checkpoints_of<R: Threads + Sync>(
+    rt: &R,
+    alloc: Global,
+    version: Version,
+    lent: &LentLog,
+    bytes: &[u8],
+    found: &Chain,
+    state: &State,
+    plan: &Plan,
+) -> Result<Vec<(u64, bool)>, Fault>
+    requires chain { (offset : ℕ) × IsChain bytes.now offset found.now }
+    requires next { state.now.next ≤ 4294967295 }
+    ensures found { IfOk result (λ v. (offset : ℕ) → IsChain bytes.now offset found.now
+        → IsAuditedFrom (version_of version) state.now bytes.now offset v.items) }
+    ensures refused { IfErr result (λ e. e ≡ Resources) }
+{
+    let front = front_of(rt, alloc, version, lent, bytes, found, state, plan)?;
+    let records = records_alone(front);
+    checkpoints_among(alloc, version, state, &records, &found.spans)
+}
+
+// The audit of a log that may be lent as well.
+fn whole_audit<R: Threads + Sync>(
+    rt: &R,
+    alloc: Global,
+    lent: &LentLog,
+    bytes: &[u8],
+    plan: &Plan,
+) -> Result<Vec<(u64, bool)>, Fault>
+    ensures { Audits bytes.now result }
+{
+    rq_model::frames_are_right();
+    rq_model::one_spelling();
+    rq_model::frames_join();
+    rq_model::one_front();
+    let found = chain(rt, alloc, bytes, 40, grain_of(plan))?;
+    let Some(version) = version(bytes) else {
+        return Err(Fault::NotALog);
+    };
+    let state = State::empty(alloc);
+    checkpoints_of(rt, alloc, version, lent, bytes, &found, &state, plan)
+}
+
+/// The checkpoints of the front of a log, rising: the offset of each, and whether it is true, which
+/// is to say that it spells the state before it.
+///
+/// The front is found on all workers of the plan. Then the calling thread goes along the records
+/// once. That costs what the records touch, and of each checkpoint at most about its bytes.
+///
+/// Refuses with `TooLong` more than 4,294,967,295 bytes, with `NotALog` bytes that begin with no
+/// version's header, and with `Resources` where memory is refused.
+pub fn audit<R: Threads + Sync>(
+    rt: &R,
+    alloc: Global,
+    bytes: &[u8],
+    plan: &Plan,
+) -> Result<Vec<(u64, bool)>, Fault>
+    ensures { Audits bytes.now result }
+{
+    whole_audit(rt, alloc, &LentLog::none(), bytes, plan)
+}
+
+/// The audit of a log that is lent: `audit` of its bytes, of which no checkpoint is copied.
+pub fn audit_lent<R: Threads + Sync>(
+    rt: &R,
+    alloc: Global,
+    log: &ArcSlice<u8>,
+    plan: &Plan,
+) -> Result<Vec<(u64, bool)>, Fault>
+    ensures { Audits (arc_slice_items log.now) result }
+{
+    let lent = LentLog::of(log)?;
+    whole_audit(rt, alloc, &lent, log.as_slice(), plan)
+}
+
+/// The checkpoints of the front of a log from the checkpoint at an offset on, rising: the offset of
+/// each, and whether it spells the state before it. The first is taken at its word, so that it does.
+///
+/// Costs what `audit` does, and the members of the state that the first one spells. Refused as
+/// `restart_at` is.
+pub fn audit_at<R: Threads + Sync>(
+    rt: &R,
+    alloc: Global,
+    bytes: &[u8],
+    offset: u64,
+    plan: &Plan,
+) -> Result<Vec<(u64, bool)>, Fault>
+    ensures { AuditsAt bytes.now offset result }
+{
+    let begun = begin_at(rt, alloc, bytes, offset, plan)?;
+    checkpoints_of(
+        rt,
+        alloc,
+        begun.version,
+        &LentLog::none(),
+        bytes,
+        &begun.found,
+        &begun.state,
+        plan,
+    )
+}

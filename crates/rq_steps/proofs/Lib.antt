@@ -1,3 +1,0 @@
-pub mod Hearing
-pub mod InPlace
-pub mod Best
