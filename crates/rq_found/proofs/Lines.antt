@@ -1,8 +1,8 @@
 -- The line of where a front ends.
 use Rattle.std.proofs.Common.{◌≡◌, ℕ, List}
 use Rattle.rq_model.specs.Fronts.{Restarted}
-use Rattle.rq_restart.specs.FrontEnds.{IsEndOf}
-use Rattle.rq_restart.specs.Views.{why_of}
+use Rattle.rq_judged.specs.FrontEnds.{IsEndOf}
+use Rattle.rq_judged.specs.Views.{why_of}
 use Rattle.rq_found.specs.Ends.{end_text, end_line, front_end_of}
 use Rattle.rq_found.specs.declared.ends.End.{End}
 

@@ -5,7 +5,7 @@ use Rattle.rq_model.specs.Frames.{Whole, Cut, Length, Digest}
 use Rattle.rq_model.specs.Fronts.{Why, Ends, Form, Law, Restarted, IsRestart}
 use Rattle.rq_model.specs.Reports.{why_text}
 use Rattle.rq_model.specs.Checkpoints.{IsRestartAt}
-use Rattle.rq_restart.specs.declared.ends.FrontEnd.{FrontEnd}
+use Rattle.rq_judged.specs.declared.ends.FrontEnd.{FrontEnd}
 use Rattle.rq_found.specs.declared.ends.End.{End}
 
 -- nothing follows the front

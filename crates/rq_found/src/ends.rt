@@ -6,8 +6,8 @@ ghost use Rattle.rq_model.specs.Fronts.{IsRestart};
 ghost use Rattle.rq_model.specs.Checkpoints.{IsRestartAt};
 ghost use Rattle.rq_front.specs.Chains.{Refused, IsLog};
 ghost use Rattle.rq_record.specs.declared.fault.Fault.TheVariants.{Resources};
-ghost use Rattle.rq_restart.specs.FrontEnds.{IsEndOf};
-ghost use Rattle.rq_restart.specs.Views.{why_of};
+ghost use Rattle.rq_judged.specs.FrontEnds.{IsEndOf};
+ghost use Rattle.rq_judged.specs.Views.{why_of};
 ghost use Rattle.rq_found.specs.Ends as ends;
 ghost use Rattle.rq_found.specs.Ends.{IsRestartFrom, beginning_text, end_text, front_end_of};
 ghost use Rattle.rq_found.specs.Refusals.{RefusedFrom};
@@ -18,11 +18,10 @@ use crate::pieces::TextPiece::{Number, Word};
 use crate::pieces::joined_text;
 use rq_catalog::{Judge, Rule};
 use rq_front::{FRAME_LEN, version};
+use rq_judged::{FrontEnd, front_end, judged_front, judged_front_at};
 use rq_record::{Fault, Version, decode_kept};
 use rq_report::why_word;
-use rq_restart::{
-    FrontEnd, Open, Plan, Restarted, Why, front_end, judged_front, judged_front_at, restart_at,
-};
+use rq_restart::{Open, Plan, Restarted, Why, restart_at};
 use sha2::{Digest, Sha256};
 use std::alloc::{AllocError, Global};
 use std::fmt::Write;

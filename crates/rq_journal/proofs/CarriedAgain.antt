@@ -19,8 +19,8 @@ use Rattle.rq_record.specs.declared.fault.Fault.{Fault}
 use Rattle.rq_record.specs.declared.fault.Fault.TheVariants as faults
 use Rattle.rq_restart.specs.declared.redone.RedoneFront.{RedoneFront}
 use Rattle.rq_restart.specs.RedoneFronts.{IsRedoneAt}
-use Rattle.rq_restart.specs.Restarts.{RefusedAt}
-use Rattle.rq_restart.proofs.Passes.{frame_more, part_more}
+use Rattle.rq_judged.specs.Refusals.{RefusedAt}
+use Rattle.rq_judged.proofs.Passes.{frame_more, part_more}
 use Rattle.rq_journal.specs.Checkpoints.{HasNoCheckpointOf, IsCheckpointOf}
 use Rattle.rq_journal.specs.Carries.{BeginsFile, CarriesAgain, IsBegunIn, IsCarriedAgain, IsCarriedState, JoinsBehind, StaysThere}
 use Rattle.rq_journal.proofs.CarriedOn.{begun_in}

@@ -6,8 +6,8 @@ use Rattle.rq_model.specs.Frames.{log_limit, header, start, log_of, frames_of, b
 use Rattle.rq_model.specs.Fronts.{IsFront}
 use Rattle.rq_model.proofs.Longest.{front_whole}
 use Rattle.rq_model.proofs.Restarts.{header_long}
-use Rattle.rq_restart.specs.declared.judged.JudgedFront.{JudgedFront}
-use Rattle.rq_restart.specs.JudgedFronts.{IsJudged, IsJudgedAt}
+use Rattle.rq_judged.specs.declared.judged.JudgedFront.{JudgedFront}
+use Rattle.rq_judged.specs.JudgedFronts.{IsJudged, IsJudgedAt}
 use Rattle.rq_journal.specs.Places.{length_with, behind_header}
 use Rattle.rq_journal.specs.Openings.{IsOpened, IsOpenedAt}
 

@@ -15,7 +15,7 @@ use Rattle.rq_model.specs.Continuing.{begun_anew, carried_gap}
 use Rattle.rq_record.specs.declared.fault.Fault.{Fault}
 use Rattle.rq_record.specs.declared.fault.Fault.TheVariants.{Resources, TooLarge, TooLong}
 use Rattle.rq_front.specs.Chains.{Refused}
-use Rattle.rq_restart.specs.Restarts.{RefusedAt}
+use Rattle.rq_judged.specs.Refusals.{RefusedAt}
 
 -- the first frame behind a header, the gap of carried files and these 32 bytes, or memory was
 -- refused

@@ -8,8 +8,8 @@ use Rattle.rq_model.specs.Fronts.{IsFront, IsWhy}
 use Rattle.rq_model.specs.Carrying.{IsFrontAt}
 use Rattle.rq_record.specs.declared.fault.Fault.{Fault}
 use Rattle.rq_front.specs.Chains.{Refused}
-use Rattle.rq_restart.specs.Restarts.{RefusedAt}
-use Rattle.rq_restart.specs.Views.{why_of}
+use Rattle.rq_judged.specs.Refusals.{RefusedAt}
+use Rattle.rq_judged.specs.Views.{why_of}
 use Rattle.rq_journal.specs.Places.{IsAppenderAt, behind_header, at_checkpoint}
 use Rattle.rq_journal.specs.declared.opened_logs.Opened.{Opened}
 

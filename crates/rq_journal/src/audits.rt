@@ -3,7 +3,7 @@
 ghost use Rattle.std.specs.Prelude.{◌≡◌, IfErr, IfOk};
 ghost use Rattle.rq_record.specs.declared.fault.Fault.TheVariants.{Resources};
 ghost use Rattle.rq_restart.specs.Audits.{HasFrontAt};
-ghost use Rattle.rq_restart.specs.Restarts.{RefusedAt};
+ghost use Rattle.rq_judged.specs.Refusals.{RefusedAt};
 
 use rq_front::CARRIED_AT;
 use rq_record::Fault;

@@ -1,13 +1,14 @@
 //! A log is opened to write behind its front.
 
 ghost use Rattle.std.specs.Prelude.{ℕ, List};
-ghost use Rattle.rq_restart.specs.JudgedFronts.{IsJudged, IsJudgedAt};
+ghost use Rattle.rq_judged.specs.JudgedFronts.{IsJudged, IsJudgedAt};
 ghost use Rattle.rq_journal.specs.Openings.{IsOpened, IsOpenedAt, Opens, OpensCarried};
 
 use crate::appender::Appender;
 use rq_front::CARRIED_AT;
+use rq_judged::{JudgedFront, judged_front, judged_front_at};
 use rq_record::Fault;
-use rq_restart::{JudgedFront, Plan, Why, judged_front, judged_front_at};
+use rq_restart::{Plan, Why};
 use std::alloc::Global;
 use std::marker::Sync;
 use std::thread::Threads;

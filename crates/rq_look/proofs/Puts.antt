@@ -3,8 +3,8 @@ use Rattle.std.proofs.Common.{◌≡◌, ◌++◌, ◌∙◌, ℕ, List, Option,
 use Rattle.std.specs.Io.KnownBytes.{Appends}
 use Rattle.std.proofs.KnownBytes.{Appends-trans}
 use Rattle.rq_model.specs.Fronts.{Restarted}
-use Rattle.rq_restart.specs.FrontEnds.{IsEndOf}
-use Rattle.rq_restart.specs.Views.{why_of}
+use Rattle.rq_judged.specs.FrontEnds.{IsEndOf}
+use Rattle.rq_judged.specs.Views.{why_of}
 use Rattle.rq_behind.specs.declared.search.Found.{Found}
 use Rattle.rq_look.specs.Rests.{behind_finding, IsChoice}
 use Rattle.rq_found.specs.Ends.{front_end_of, IsRestartFrom}

@@ -9,7 +9,7 @@ use Rattle.rq_model.specs.Fronts.{Why, Restarted, IsRestart}
 use Rattle.rq_front.specs.declared.spans.Span.{Span}
 use Rattle.rq_behind.specs.Behind.{AreRightFrames, frame_bytes, looked_to}
 use Rattle.rq_behind.specs.declared.search.Found.{Found}
-use Rattle.rq_restart.specs.FrontEnds.{IsEndOf}
+use Rattle.rq_judged.specs.FrontEnds.{IsEndOf}
 use Rattle.rq_found.specs.Ends.{IsRestartFrom, front_end_of, is_whole}
 use Rattle.rq_found.specs.declared.ends.End.{End}
 use Rattle.rq_look.specs.Scripts.{IsScriptOf}

@@ -3,7 +3,7 @@
 ghost use Rattle.std.specs.Prelude.{◌≡◌, ◌++◌, IfOk, IfErr, OnOk, string_bytes};
 ghost use Rattle.rq_front.specs.Chains.{IsLog};
 ghost use Rattle.rq_record.specs.declared.fault.Fault.TheVariants.{Resources};
-ghost use Rattle.rq_restart.specs.Views.{why_of};
+ghost use Rattle.rq_judged.specs.Views.{why_of};
 ghost use Rattle.rq_look.specs.Rests.{EndsFrontOf, IsBehind, behind_finding, behind_text, count_text};
 ghost use Rattle.rq_look.specs.Rests.{frames_text, given_up_text};
 

@@ -3,7 +3,7 @@
 ghost use Rattle.std.specs.Prelude.{◌≡◌, ◌&&◌, ◌++◌, None, Some, IfOk, IfErr, OnOk, codes};
 ghost use Rattle.std.specs.Prelude.{string_bytes};
 ghost use Rattle.std.specs.List.{flat_map};
-ghost use Rattle.rq_restart.specs.Views.{why_of};
+ghost use Rattle.rq_judged.specs.Views.{why_of};
 ghost use Rattle.rq_found.specs.Ends as ends;
 ghost use Rattle.rq_found.specs.Ends.{end_text};
 ghost use Rattle.rq_found.specs.Refusals.{IsRefusal};

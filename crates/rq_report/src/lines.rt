@@ -5,7 +5,7 @@ ghost use Rattle.std.specs.Fmt.{decimal};
 ghost use Rattle.rq_model.specs.Reports.{element_line, element_text, error_text, front_line};
 ghost use Rattle.rq_model.specs.Reports.{kind_text, last_text, queue_line, registrant_line};
 ghost use Rattle.rq_model.specs.Reports.{units_line, why_text};
-ghost use Rattle.rq_restart.specs.Views.{why_of};
+ghost use Rattle.rq_judged.specs.Views.{why_of};
 ghost use Rattle.rq_state.specs.Views.{kind_of, id_of};
 
 use crate::hexes::put_hexes;

@@ -23,8 +23,8 @@ use Rattle.rq_record.specs.declared.fault.Fault.{Fault}
 use Rattle.rq_record.specs.declared.fault.Fault.TheVariants.{Resources}
 use Rattle.rq_front.specs.Chains.{Refused}
 use Rattle.rq_restart.specs.Audits.{Audits, IsAuditedFrom, audit_of, audits, is_spelled, past}
-use Rattle.rq_restart.proofs.Chains.{frame_long}
-use Rattle.rq_restart.proofs.Starts.{started, whole_front}
+use Rattle.rq_judged.proofs.Chains.{frame_long}
+use Rattle.rq_judged.proofs.Starts.{started, whole_front}
 
 abbrev audit_at : State → ℕ → List Record → List ℕ → Audited
 audit_at s at rs kept = record { offset = past at rs; truth = is_spelled (run s rs) kept }

@@ -17,16 +17,10 @@ use Rattle.rq_record.specs.declared.fault.Fault.{Fault}
 use Rattle.rq_record.specs.declared.fault.Fault.TheVariants as faults
 use Rattle.rq_record.specs.declared.record.UnitNo.{UnitNo}
 use Rattle.rq_state.specs.Views.{unit_of}
-use Rattle.rq_restart.specs.Ends.{IsFrontFrom}
+use Rattle.rq_judged.specs.Ends.{IsFrontFrom}
 use Rattle.rq_restart.specs.Tails.{IsEnding, StaysOpen}
 use Rattle.rq_restart.specs.declared.tails.Ending.{Ending}
-use Rattle.rq_restart.proofs.Starts.{started, whole_front}
-
--- the 32 bytes that end here
-pub before_is : (kept last rest : List ℕ) (place : ℕ) → length last ≡ 32 → place ≡ length kept + 32
-    → before place (kept ++ (last ++ rest)) ≡ last
-before_is kept last rest place long is = ap (take 32) (drop_at kept (last ++ rest) (place - 32) (omega (arith, is)))
-    ∙ take_at last rest 32 long
+use Rattle.rq_judged.proofs.Starts.{started, whole_front}
 
 -- the last 32 bytes of one frame more
 pub record IsFramed (old new p body : List ℕ) : Type 0 where

@@ -9,10 +9,16 @@ use Rattle.rq_model.specs.States.{empty}
 use Rattle.rq_model.specs.Fronts.{IsFront, Why}
 use Rattle.rq_record.specs.declared.fault.Fault.{Fault}
 use Rattle.rq_record.specs.declared.fault.Fault.TheVariants.{Resources}
-use Rattle.rq_restart.specs.Ends.{IsFrontFrom}
+use Rattle.rq_judged.specs.Ends.{IsFrontFrom}
 use Rattle.rq_restart.specs.declared.redone.RedoneFront.{RedoneFront}
-use Rattle.rq_restart.specs.RedoneFronts.{IsRedoneFront, IsStateBehind, RedoesFront}
+use Rattle.rq_restart.specs.RedoneFronts.{IsRedoneFront, IsRedoneAt, IsStateBehind, RedoesFront, RedoesFrontAt}
 use Rattle.rq_restart.proofs.Endings.{front_of}
+use Rattle.rq_model.specs.Machine.{run}
+use Rattle.rq_model.specs.Carrying.{IsFrontAt}
+use Rattle.rq_record.specs.Views.{version_of}
+use Rattle.rq_judged.specs.declared.checkpoint.Begun.{Begun}
+use Rattle.rq_judged.specs.Checkpoints.{IsBegun}
+use Rattle.rq_judged.proofs.FromCheckpoints.{from_checkpoint}
 
 -- the front behind the header, and the state behind it
 redone : LogEnds → (b : List ℕ) (version : Version) (rs : List Record) (end : ℕ) (why : Why) (f : RedoneFront)
@@ -45,3 +51,27 @@ redoes law b version rs end why short head h (Ok f) behind refused =
     redone law b version rs end why f short head h behind
 redoes law b version rs end why short head h (Err e) behind refused =
     subst (λ (z : Fault). RedoesFront b (Err z)) (sym refused) tt
+
+-- Redone.
+
+pub redoes_at : (b : List ℕ) (offset : ℕ) (x : Begun) (is : IsBegun b offset x) (rs : List Record) (end : ℕ) (why : Why)
+    → IsFrontFrom (version_of x.version) x.state b offset rs end why → (result : Result RedoneFront Fault)
+    → IfOk result (IsStateBehind (version_of x.version) x.state b rs end) → IfErr result (λ e. e ≡ Resources)
+    → RedoesFrontAt b offset result
+redoes_at b offset x is rs end why h (Ok f) behind refused =
+    let kept = is.kept in
+    let has = from_checkpoint b offset x is rs end why h in
+    let at = has.from in
+    record {
+      base = x.state;
+      kept = kept;
+      after = has.after;
+      front = subst (λ (v : Version). IsFrontAt b offset v x.state kept has.after (drop f.used b)) (sym behind.rules)
+          (subst (λ (n : ℕ). IsFrontAt b offset (version_of x.version) x.state kept has.after (drop n b))
+          (sym behind.used) at.front);
+      used = behind.used ∙ at.used;
+      last = behind.last ∙ at.last;
+      state = behind.state ∙ ap (run x.state) has.are;
+    }
+redoes_at b offset x is rs end why h (Err e) behind refused =
+    subst (λ (z : Fault). RedoesFrontAt b offset (Err z)) (sym refused) tt

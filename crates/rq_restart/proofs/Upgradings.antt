@@ -24,11 +24,11 @@ use Rattle.rq_record.specs.Views.{version_of}
 use Rattle.rq_record.specs.declared.fault.Fault.{Fault}
 use Rattle.rq_record.specs.declared.fault.Fault.TheVariants.{Resources}
 use Rattle.rq_front.specs.Chains.{Refused}
-use Rattle.rq_restart.specs.Ends.{IsFrontFrom}
+use Rattle.rq_judged.specs.Ends.{IsFrontFrom}
 use Rattle.rq_restart.specs.Upgrades.{HaveFrames, IsExtent, Upgrades, bodies_in}
 use Rattle.rq_restart.specs.declared.upgrades.Extent.{Extent}
-use Rattle.rq_restart.proofs.Endings.{before_is}
-use Rattle.rq_restart.proofs.Starts.{started, whole_front}
+use Rattle.rq_judged.proofs.Starts.{before_is}
+use Rattle.rq_judged.proofs.Starts.{started, whole_front}
 
 -- the last 32 bytes of a header are what the first frame is chained to
 pub header_ends : (out : List ℕ) → out ≡ header Two → before (length out) out ≡ start Two

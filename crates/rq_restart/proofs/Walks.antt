@@ -18,7 +18,7 @@ use Rattle.rq_front.specs.declared.spans.Chain.{Chain}
 use Rattle.rq_front.specs.declared.spans.Span.{Span}
 use Rattle.rq_front.specs.Chains.{bodies_at, spans_from}
 use Rattle.rq_catalog.proofs.Runs.{run_push}
-use Rattle.rq_restart.specs.Ends.{IsChain, IsFrontFrom}
+use Rattle.rq_judged.specs.Ends.{IsChain, IsFrontFrom}
 use Rattle.rq_restart.specs.Audits.{AreFramed, StandAt, audit_of, audits, past}
 
 -- where the frames of the records stand

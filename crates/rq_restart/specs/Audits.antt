@@ -15,8 +15,8 @@ use Rattle.rq_model.specs.Carrying.{IsFrontAt}
 use Rattle.rq_record.specs.declared.fault.Fault.{Fault}
 use Rattle.rq_front.specs.declared.spans.Span.{Span}
 use Rattle.rq_front.specs.Chains.{IsHeaded, Refused}
-use Rattle.rq_restart.specs.Ends.{IsFrontFrom}
-use Rattle.rq_restart.specs.Restarts.{RefusedAt}
+use Rattle.rq_judged.specs.Ends.{IsFrontFrom}
+use Rattle.rq_judged.specs.Refusals.{RefusedAt}
 
 -- a checkpoint of these bytes spells the state
 abbrev pub is_spelled : State → List ℕ → Bool

@@ -1,17 +1,7 @@
-pub mod Views
-pub mod Readings
-pub mod Known
-pub mod Ends
 pub mod Restarts
-pub mod FrontEnds
-pub mod JudgedFronts
 pub mod RedoneFronts
 pub mod Tails
 pub mod Upgrades
-pub mod Checkpoints
 pub mod Audits
 pub mod AuditLaws
-pub mod Passes
-pub mod Windows
-pub mod GrowingFronts
 pub mod Keepers

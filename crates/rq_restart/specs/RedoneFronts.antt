@@ -9,7 +9,7 @@ use Rattle.rq_model.specs.Carrying.{IsFrontAt}
 use Rattle.rq_record.specs.Views.{version_of}
 use Rattle.rq_record.specs.declared.fault.Fault.{Fault}
 use Rattle.rq_front.specs.Chains.{Refused}
-use Rattle.rq_restart.specs.Restarts.{RefusedAt}
+use Rattle.rq_judged.specs.Refusals.{RefusedAt}
 use Rattle.rq_restart.specs.declared.redone.RedoneFront.{RedoneFront}
 
 -- where the front of b ends, and the state behind it

@@ -10,12 +10,10 @@ ghost use Rattle.rq_record.specs.declared.fault.Fault.TheVariants.{Resources};
 ghost use Rattle.rq_standing.specs.Stands.{Stands};
 ghost use Rattle.rq_restart.specs.Audits.{AreFramed, Audits, AuditsAt, IsAuditedFrom};
 ghost use Rattle.rq_restart.specs.Audits.{audit_of, audited_of, audits};
-ghost use Rattle.rq_restart.specs.Ends.{IsChain};
+ghost use Rattle.rq_judged.specs.Ends.{IsChain};
 
-use crate::checkpoint::begin_at;
-use crate::front::{Front, front_of};
-use crate::grain::grain_of;
 use rq_front::{Chain, Span, chain, version};
+use rq_judged::{Front, begin_at, front_of, grain_of};
 use rq_pool::Plan;
 use rq_record::{Fault, KeptRecord, LentLog, Version};
 use rq_standing::{Standing, Taken};

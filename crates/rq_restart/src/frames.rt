@@ -5,19 +5,9 @@ ghost use Rattle.rq_model.specs.Frames.{IsBodyLength, before, digest, frame};
 ghost use Rattle.rq_record.specs.declared.fault.Fault.TheVariants.{Resources};
 
 use rq_front::frame;
+use rq_judged::before;
 use rq_record::Fault;
 use sha2::{Digest, Sha256};
-
-/// The 32 bytes before an offset.
-pub(crate) fn before(bytes: &[u8], offset: usize) -> [u8; 32]
-    requires after { 32 ≤ offset }
-    requires within { offset ≤ length bytes.now }
-    ensures { result ≡ before offset bytes.now }
-{
-    let mut kept = [0; 32];
-    kept.copy_from_slice(&bytes[offset - 32..offset]);
-    kept
-}
 
 /// Appends the frame of a body behind these 32 bytes, and answers its own last 32 bytes.
 pub(crate) fn append_frame(

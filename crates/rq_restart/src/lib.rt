@@ -5,15 +5,7 @@
 
 mod audit_laws;
 mod audits;
-mod bodies;
-mod checkpoint;
-mod ends;
 mod frames;
-mod front;
-mod front_pass;
-mod grain;
-mod growing_front;
-mod judged;
 mod keeper;
 mod redone;
 mod restart_ends;
@@ -22,18 +14,15 @@ mod restarting_at;
 mod restarts;
 mod tails;
 mod upgrades;
-mod window;
 
 pub use audit_laws::every_log_has_audit;
 pub use audits::{audit, audit_at, audit_lent};
-pub use ends::{FrontEnd, front_end};
-pub use growing_front::GrowingFront;
-pub use judged::{JudgedFront, judged_front, judged_front_at};
 pub use keeper::Keeper;
 pub use redone::{RedoneFront, front_state, redone_front, redone_front_at};
-pub use restarted::{Restarted, Why};
+pub use restarted::Restarted;
 pub use restarting_at::{restart_at, restart_lent_at};
 pub use restarts::{restart, restart_lent};
+pub use rq_judged::Why;
 pub use rq_pool::{Gate, Open, Plan};
 pub use rq_record::{Fault, Version};
 pub use tails::{closed, tail};

@@ -10,12 +10,12 @@ ghost use Rattle.rq_record.specs.Views.{record_of, version_of};
 ghost use Rattle.rq_record.specs.declared.fault.Fault.TheVariants.{Resources};
 ghost use Rattle.rq_state.specs.Views.{unit_of};
 ghost use Rattle.rq_catalog.specs.Analyses.{IsAnalysis, open_in};
-ghost use Rattle.rq_restart.specs.Views.{why_of};
+ghost use Rattle.rq_judged.specs.Views.{why_of};
 
-use crate::front::Front;
 use crate::restarted::Restarted;
 use rq_catalog::Analysis;
 use rq_exchange::redo_analysed;
+use rq_judged::Front;
 use rq_pool::{Gate, Plan};
 use rq_record::{Fault, KeptRecord, UnitNo, Version};
 use rq_state::State;

@@ -1,27 +1,11 @@
 //! What a restart answers.
 
 ghost use Rattle.std.specs.Prelude.{◌≡◌};
-ghost use Rattle.rq_restart.specs.Views.{why_of};
+ghost use Rattle.rq_judged.specs.Views.{why_of};
 
+use rq_judged::Why;
 use rq_state::State;
 use std::marker::Model;
-
-/// Why the front of a log ends: what stands behind it.
-#[derive(Clone, Copy, PartialEq, Eq, Debug)]
-pub enum Why {
-    /// Nothing.
-    Whole,
-    /// Fewer bytes than a length has, or than its frame has.
-    Cut,
-    /// A length that no body has.
-    Length,
-    /// A frame whose digest is wrong.
-    Chain,
-    /// A frame whose body no record spells.
-    Form,
-    /// A record that is not lawful there.
-    Law,
-}
 
 /// What a restart answers: the state after the units that were open were aborted, and numbers of
 /// the front.
@@ -39,7 +23,7 @@ pub struct Restarted {
 
 impl Model for Restarted {
     ghost use Rattle.rq_model.specs.Fronts as model;
-    ghost use Rattle.rq_restart.specs.Views.{why_of};
+    ghost use Rattle.rq_judged.specs.Views.{why_of};
 
     ghost Value = { model.Restarted };
 

@@ -3,10 +3,9 @@
 ghost use Rattle.std.specs.Arc.{arc_slice_items};
 ghost use Rattle.rq_restart.specs.Restarts.{RestartsAt};
 
-use crate::checkpoint::begin_at;
-use crate::front::front_of;
 use crate::restart_ends::finish;
 use crate::restarted::Restarted;
+use rq_judged::{begin_at, front_of};
 use rq_pool::{Gate, Plan};
 use rq_record::{Fault, LentLog};
 use std::alloc::Global;

@@ -7,14 +7,14 @@ ghost use Rattle.rq_model.specs.States.{empty};
 ghost use Rattle.rq_record.specs.Views.{record_of, version_of};
 ghost use Rattle.rq_catalog.specs.Analyses.{IsAnalysis};
 ghost use Rattle.rq_front.specs.Chains.{Refused};
-ghost use Rattle.rq_restart.specs.Ends.{IsFrontFrom};
+ghost use Rattle.rq_judged.specs.Ends.{IsFrontFrom};
 ghost use Rattle.rq_restart.specs.Restarts.{Restarts};
-ghost use Rattle.rq_restart.specs.Views.{why_of};
+ghost use Rattle.rq_judged.specs.Views.{why_of};
 
-use crate::front::{Front, front_of_walk};
 use crate::restart_ends::finish;
 use crate::restarted::Restarted;
 use rq_front::{version, walk};
+use rq_judged::{Front, front_of_walk};
 use rq_pool::{Gate, Plan};
 use rq_record::{Fault, LentLog, Version};
 use rq_state::State;

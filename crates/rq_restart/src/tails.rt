@@ -8,9 +8,10 @@ ghost use Rattle.rq_record.specs.declared.fault.Fault.TheVariants.{Resources};
 ghost use Rattle.rq_state.specs.Views.{unit_of};
 ghost use Rattle.rq_restart.specs.Tails.{Closes, IsEnding, StaysOpen, Tails};
 
-use crate::frames::{append_frame, before};
+use crate::frames::append_frame;
 use crate::restarts::whole_front;
 use rq_front::LOG_LIMIT;
+use rq_judged::before;
 use rq_pool::Plan;
 use rq_record::{Fault, LentLog, Record, UnitNo, encode};
 use std::alloc::Global;

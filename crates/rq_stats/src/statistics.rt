@@ -3,8 +3,8 @@
 ghost use Rattle.std.specs.Prelude.{◌≡◌, ◌++◌, ℕ, List, IfOk, IfErr, OnOk, codes, string_bytes};
 ghost use Rattle.rq_model.specs.Fronts.{Restarted};
 ghost use Rattle.rq_front.specs.Chains.{IsLog};
-ghost use Rattle.rq_restart.specs.FrontEnds.{IsEndOf};
-ghost use Rattle.rq_restart.specs.Views.{why_of};
+ghost use Rattle.rq_judged.specs.FrontEnds.{IsEndOf};
+ghost use Rattle.rq_judged.specs.Views.{why_of};
 ghost use Rattle.rq_found.specs.Ends.{IsRestartFrom, beginning_text, end_text, front_end_of};
 ghost use Rattle.rq_found.specs.Refusals.{IsBroken, StaysUnshown};
 ghost use Rattle.rq_stats.specs.Statistics.{AreNumbers, PutsNumbers};

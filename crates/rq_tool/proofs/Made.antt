@@ -13,7 +13,7 @@ use Rattle.rq_model.proofs.Restarts.{header_long}
 use Rattle.rq_front.specs.Chains.{IsHeaded, Refused}
 use Rattle.rq_record.specs.declared.fault.Fault.{Fault}
 use Rattle.rq_record.specs.declared.fault.Fault.TheVariants as faults
-use Rattle.rq_restart.specs.Restarts.{RefusedAt}
+use Rattle.rq_judged.specs.Refusals.{RefusedAt}
 use Rattle.rq_restart.specs.Tails.{StaysOpen}
 use Rattle.rq_writer.specs.Made.{Made}
 use Rattle.rq_tool.specs.Streams.{IsOverlong}

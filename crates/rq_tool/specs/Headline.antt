@@ -5,7 +5,7 @@ use Rattle.rq_model.specs.Frames.{log_limit}
 use Rattle.rq_model.specs.Reports.{IsReport}
 use Rattle.rq_model.specs.Checkpoints.{IsReportAt}
 use Rattle.rq_front.specs.Chains.{IsHeaded, IsLog}
-use Rattle.rq_restart.specs.Restarts.{RefusedAt}
+use Rattle.rq_judged.specs.Refusals.{RefusedAt}
 use Rattle.rq_record.specs.declared.fault.Fault.{Fault}
 use Rattle.rq_record.specs.declared.fault.Fault.TheVariants.{TooLong, NotALog, Resources}
 use Rattle.rq_record.specs.declared.fault.Fault.TheVariants.{ReadFailed, WriteFailed}

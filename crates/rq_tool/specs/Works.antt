@@ -5,7 +5,7 @@ use Rattle.rq_model.specs.Checkpoints.{IsReportAt, TrueAt}
 use Rattle.rq_record.specs.declared.fault.Fault.{Fault}
 use Rattle.rq_record.specs.declared.fault.Fault.TheVariants.{Resources}
 use Rattle.rq_front.specs.Chains.{IsLog, Refused}
-use Rattle.rq_restart.specs.Restarts.{RefusedAt}
+use Rattle.rq_judged.specs.Refusals.{RefusedAt}
 use Rattle.rq_restart.specs.Tails.{StaysOpen}
 use Rattle.rq_tool.specs.AuditTexts.{IsAuditText}
 use Rattle.rq_tool.specs.Closings.{IsClosedLog}

@@ -1,11 +1,11 @@
 //! Reading logs and scripts.
 
 ghost use Rattle.std.specs.Prelude.{◌≤◌, List, ℕ, length, IfOk, OnOk};
-ghost use Rattle.rq_restart.specs.GrowingFronts.{GoesAlong};
+ghost use Rattle.rq_judged.specs.GrowingFronts.{GoesAlong};
 
 use crate::refusal::{Refusal, Stream, failed};
 use rq_journal::{Fault, Plan, is_carried};
-use rq_restart::{GrowingFront, JudgedFront};
+use rq_judged::{GrowingFront, JudgedFront};
 use std::alloc::{AllocError, Global};
 use std::fs::{self, File, Files};
 use std::io::{self, Chain, Cursor, ErrorKind, Read};

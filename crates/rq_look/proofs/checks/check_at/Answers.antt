@@ -1,5 +1,5 @@
 use Rattle.std.proofs.Common.{Some, ◌∙◌, ◌++◌, List, ℕ, ap, subst, refl, codes, string_bytes}
-use Rattle.rq_restart.specs.Views.{why_of}
+use Rattle.rq_judged.specs.Views.{why_of}
 use Rattle.rq_found.specs.Ends.{end_line}
 use Rattle.rq_look.specs.Rests.{IsBehind, behind_finding}
 use Rattle.rq_found.proofs.Lines.{same_line}

@@ -3,7 +3,7 @@ use Rattle.std.specs.List.{flat_map}
 use Rattle.rq_model.specs.Fronts.{Why}
 use Rattle.rq_found.specs.Ends.{is_whole}
 use Rattle.rq_look.specs.Looks.{all_true, checkpoint_finding, end_finding}
-use Rattle.rq_restart.specs.Views.{why_of}
+use Rattle.rq_judged.specs.Views.{why_of}
 use Rattle.rq_look.specs.Rests.{IsBehind, behind_finding}
 use Rattle.rq_look.proofs.Puts.{same_finding, same_rest}
 use Rattle.rq_look.proofs.checks.check_whole.Goals as goal

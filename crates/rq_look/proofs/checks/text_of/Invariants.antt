@@ -1,6 +1,6 @@
 use Rattle.std.proofs.Common.{◌≡◌, ◌++◌, take, string_bytes}
 use Rattle.std.specs.List.{flat_map}
-use Rattle.rq_restart.specs.Views.{why_of}
+use Rattle.rq_judged.specs.Views.{why_of}
 use Rattle.rq_look.specs.Looks.{checkpoint_finding, end_finding}
 use Rattle.rq_look.specs.Rests.{behind_finding}
 use Rattle.rq_look.proofs.checks.text_of.Given as goal

@@ -4,9 +4,9 @@ use Rattle.std.proofs.lemmas.Result.{IfOk-weaker}
 use Rattle.rq_model.specs.States.{State}
 use Rattle.rq_record.specs.Views.{version_of}
 use Rattle.rq_restart.specs.Audits.{IsAuditedFrom}
-use Rattle.rq_restart.specs.Ends.{IsChain}
+use Rattle.rq_judged.specs.Ends.{IsChain}
 use Rattle.rq_restart.proofs.Audited.{AuditLaws, audits_are}
-use Rattle.rq_restart.proofs.Starts.{log_chain}
+use Rattle.rq_judged.proofs.Starts.{log_chain}
 use Rattle.rq_restart.proofs.audits.whole_audit.Goals as goal
 use Rattle.rq_restart.proofs.audits.whole_audit.Goals.{In_ok-found}
 

@@ -3,7 +3,7 @@ use Rattle.std.specs.Prelude.{IfOk}
 use Rattle.rq_model.specs.States.{State}
 use Rattle.rq_record.specs.Views.{record_of, version_of}
 use Rattle.rq_restart.specs.RedoneFronts.{IsStateBehind}
-use Rattle.rq_restart.specs.Views.{why_of}
+use Rattle.rq_judged.specs.Views.{why_of}
 use Rattle.rq_restart.proofs.RedoneFronts.{redoes}
 use Rattle.rq_restart.proofs.redone.redone_front.Goals as goal
 

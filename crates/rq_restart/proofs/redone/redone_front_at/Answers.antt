@@ -1,7 +1,7 @@
 use Rattle.std.proofs.Common.{map}
 use Rattle.rq_record.specs.Views.{record_of}
-use Rattle.rq_restart.specs.Views.{why_of}
-use Rattle.rq_restart.proofs.FromCheckpoints.{redoes_at}
+use Rattle.rq_judged.specs.Views.{why_of}
+use Rattle.rq_restart.proofs.RedoneFronts.{redoes_at}
 use Rattle.rq_restart.proofs.redone.redone_front_at.Goals as goal
 
 pub returns : goal.returns

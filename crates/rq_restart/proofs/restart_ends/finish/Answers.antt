@@ -6,7 +6,7 @@ use Rattle.rq_record.specs.Views.{record_of, version_of}
 use Rattle.rq_catalog.specs.Analyses.{IsAnalysis, open_in}
 use Rattle.rq_catalog.proofs.Runs.{front_whole}
 use Rattle.rq_catalog.proofs.Fronts.{analysis_of_beginning}
-use Rattle.rq_restart.specs.Views.{why_of}
+use Rattle.rq_judged.specs.Views.{why_of}
 use Rattle.rq_restart.proofs.Closings.{AreClosed, closed, answered}
 use Rattle.rq_restart.proofs.restart_ends.finish.Goals as goal
 use Rattle.rq_restart.proofs.restart_ends.finish.Goals.{In_ok-records}

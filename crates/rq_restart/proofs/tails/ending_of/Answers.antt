@@ -8,7 +8,7 @@ use Rattle.rq_model.specs.Machine.{run}
 use Rattle.rq_record.specs.Views.{record_of, version_of}
 use Rattle.rq_state.specs.Views.{unit_of}
 use Rattle.rq_catalog.proofs.Runs.{front_whole}
-use Rattle.rq_restart.specs.Views.{why_of}
+use Rattle.rq_judged.specs.Views.{why_of}
 use Rattle.rq_restart.proofs.Endings.{is_ending, no_memory, too_large}
 use Rattle.rq_restart.proofs.tails.ending_of.Goals as goal
 use Rattle.rq_restart.proofs.tails.ending_of.Goals.{In_ok-units}

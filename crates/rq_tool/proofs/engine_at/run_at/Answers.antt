@@ -2,7 +2,7 @@ use Rattle.std.proofs.Common.{◌≡◌, List, ℕ}
 use Rattle.rq_model.specs.Checkpoints.{IsReportAt}
 use Rattle.rq_model.specs.Reports.{IsReport}
 use Rattle.rq_front.specs.Chains.{IsLog}
-use Rattle.rq_restart.specs.Restarts.{RefusedAt}
+use Rattle.rq_judged.specs.Refusals.{RefusedAt}
 use Rattle.rq_record.specs.declared.fault.Fault.TheVariants.{Resources}
 use Rattle.rq_tool.specs.Works.{HasNoReportAt}
 use Rattle.rq_tool.proofs.Writing.{writes_else}

@@ -1,5 +1,5 @@
 use Rattle.std.proofs.Common.{ℕ, List}
-use Rattle.rq_restart.specs.GrowingFronts.{GoesAlong}
+use Rattle.rq_judged.specs.GrowingFronts.{GoesAlong}
 use Rattle.rqlog.proofs.inputs.judged_log.Given as goal
 
 abbrev pub invariant-loop : goal.invariant-loop

@@ -1,0 +1,167 @@
+-- The checkpoint that stands at an offset, by the first body of the chain from there.
+use Rattle.std.proofs.Common.{◌≡◌, ℕ, ◌+◌, ◌-◌, ◌≤◌, Bool, true, false, cond, List, [], ◌∷◌, ◌++◌, length, drop, Some}
+use Rattle.std.proofs.Common.{None, refl, sym, ap, subst, ◌∙◌, append_assoc, arith, inl, inr}
+use Rattle.std.specs.Prelude.{◌&&◌, nat_le, max, Result, Ok, Err, All, IfOk, IfErr}
+use Rattle.std.proofs.lemmas.List.{length-drop}
+use Rattle.std.proofs.lemmas.Bool.{and_parts, and_from, le-leb, leb-true, cases_lt}
+use Rattle.rq_model.specs.Records.{Version}
+use Rattle.rq_model.specs.Frames.{frame, frames, digest, last, before, body_in, HasHeader, HasRightFrame, Rest}
+use Rattle.rq_model.specs.Frames.{IsRest, IsRun, IsFrameRun}
+use Rattle.rq_model.specs.LogLaws.{FrameIsRight, LogEnds}
+use Rattle.rq_model.specs.Checkpoints.{IsCheckpointAt}
+use Rattle.rq_record.specs.Views.{version_of}
+use Rattle.rq_front.specs.declared.spans.Chain.{Chain}
+use Rattle.rq_front.specs.Chains.{bodies_at, rest_of, spans_from}
+use Rattle.rq_record.specs.declared.fault.Fault.{Fault}
+use Rattle.rq_record.specs.declared.fault.Fault.TheVariants as faults
+use Rattle.rq_state.specs.Spelling.{ReadsState}
+use Rattle.rq_model.specs.Records.{Record}
+use Rattle.rq_model.specs.Machine.{run}
+use Rattle.rq_model.specs.Fronts.{Restarted, Why, restarted}
+use Rattle.rq_model.specs.Frames.{log_limit}
+use Rattle.rq_model.proofs.Runs.{no_right}
+use Rattle.rq_judged.proofs.Starts.{started}
+use Rattle.rq_judged.specs.Ends.{IsChain, IsFrontFrom}
+use Rattle.rq_judged.specs.declared.checkpoint.Begun.{Begun}
+use Rattle.rq_judged.specs.Checkpoints.{BeginsAt, IsBegun, kept_of, kept_in, chain_start}
+
+kept_body : (body kept : List ℕ) → kept_of body ≡ Some kept → body ≡ 9 ∷ kept
+kept_body [] kept h = absurd cc
+kept_body (kind ∷ more) kept h = grind (arith, h)
+
+-- what the first frame of a run has at its front
+first : FrameIsRight → (p bytes body : List ℕ) (more : List (List ℕ)) (after : List ℕ)
+    → IsRun p bytes (body ∷ more) after → HasRightFrame p bytes × (body_in bytes ≡ body)
+first right p bytes body more after run =
+    let others : List ℕ = frames (digest p body) more ++ after in
+    let parts : bytes ≡ frame p body ++ others =
+    run.whole ∙ append_assoc (frame p body) (frames (digest p body) more) after in
+    let it = right p body others run.fit.0 in
+    (subst (λ (z : List ℕ). HasRightFrame p z) (sym parts) it.0, ap body_in parts ∙ it.1)
+
+kept_first : FrameIsRight → (p bytes : List ℕ) (bodies : List (List ℕ)) (after kept : List ℕ)
+    → IsRun p bytes bodies after → kept_in bodies ≡ Some kept → HasRightFrame p bytes × (body_in bytes ≡ 9 ∷ kept)
+kept_first right p bytes [] after kept run h = absurd cc
+kept_first right p bytes (body ∷ more) after kept run h =
+    let it = first right p bytes body more after run in
+    (it.0, it.1 ∙ kept_body body kept h)
+
+none_first : FrameIsRight → (p bytes : List ℕ) (bodies : List (List ℕ)) (after kept : List ℕ) (rest : Rest)
+    → IsRun p bytes bodies after → IsRest (last p bodies) after rest → kept_in bodies ≡ None
+    → HasRightFrame p bytes → body_in bytes ≡ 9 ∷ kept → ⊥
+none_first right p bytes [] after kept rest run stop h frame_is body =
+    no_right p after rest stop (subst (λ (z : List ℕ). HasRightFrame p z) run.whole frame_is)
+none_first right p bytes (body ∷ more) after kept rest run stop h frame_is is =
+    let it = first right p bytes body more after run in
+    let nine : body ≡ 9 ∷ kept = sym it.1 ∙ is in
+    let some : None ≡ Some kept = sym h ∙ ap kept_of nine in
+    absurd cc
+
+-- the place is the offset, or no frame of b stands at the offset
+record IsPlace (b : List ℕ) (offset place : ℕ) : Type 0 where
+  pub some : 40 ≤ offset → offset ≤ length b → place ≡ offset
+  pub none : (40 ≤ offset → offset ≤ length b → ⊥) → place ≡ max (length b) 40
+
+is_place : (b : List ℕ) (offset : ℕ) → IsPlace b offset (chain_start offset (length b))
+is_place b offset = at (nat_le 40 offset && nat_le offset (length b)) refl
+  where
+    at : (t : Bool) → (nat_le 40 offset && nat_le offset (length b)) ≡ t
+        → IsPlace b offset (cond t offset (max (length b) 40))
+    at true e = record {
+      some = λ low high. refl;
+      none =
+          λ h. absurd (h (leb-true 40 offset (and_parts (nat_le 40 offset) (nat_le offset (length b)) e).0)
+          (leb-true offset (length b) (and_parts (nat_le 40 offset) (nat_le offset (length b)) e).1));
+    }
+    at false e = record {
+      some = λ low high.
+          absurd (no (sym (and_from (nat_le 40 offset) (nat_le offset (length b)) (le-leb 40 offset low)
+          (le-leb offset (length b) high)) ∙ e));
+      none = λ h. refl;
+    }
+      where
+        no : true ≡ false → ⊥
+        no h = cc
+
+within : (b : List ℕ) (offset : ℕ) → 40 ≤ length b
+    → (40 ≤ chain_start offset (length b)) × (chain_start offset (length b) ≤ length b)
+within b offset long =
+    let where_is = is_place b offset in
+    let past : (40 ≤ offset → offset ≤ length b → ⊥)
+    → (40 ≤ chain_start offset (length b)) × (chain_start offset (length b) ≤ length b) =
+    λ h. (let e = where_is.none h in (omega (arith, e, long), omega (arith, e, long))) in
+    elim (cases_lt offset 40) [
+      | inl low ↦ past (λ h _. omega (arith, h, low))
+      | inr low ↦ elim (cases_lt (length b) offset) [
+        | inl high ↦ past (λ _ h. omega (arith, h, high))
+        | inr high ↦ (let e = where_is.some low high in (omega (arith, e, low), omega (arith, e, high)))
+      ]
+    ]
+
+-- where the first body is a checkpoint's, the place is the offset
+pub begun_at : FrameIsRight → (b : List ℕ) (offset : ℕ) (c : Chain) (kept : List ℕ)
+    → IsChain b (chain_start offset (length b)) c → kept_in (bodies_at b c.spans.items) ≡ Some kept
+    → IsChain b offset c × IsCheckpointAt b offset kept
+begun_at right b offset c kept chain h =
+    let place = chain_start offset (length b) in
+    let where_is = is_place b offset in
+    let found = kept_first right (before place b) (drop place b) (bodies_at b c.spans.items)
+    (drop c.end b) kept chain.run.run h in
+    let room : place + 36 ≤ length b = omega (arith, found.0.whole.room, length-drop place b) in
+    let there : place ≡ offset → IsChain b offset c × IsCheckpointAt b offset kept = λ here. (
+      subst (λ (n : ℕ). IsChain b n c) here chain,
+      subst (λ (n : ℕ). IsCheckpointAt b n kept) here
+          (record { past_header = chain.after; frame = found.0; body = found.1 }),
+    ) in
+    elim (cases_lt offset 40) [
+      | inl low ↦ (let past : place ≡ max (length b) 40 = where_is.none (λ h _. omega (arith, h, low)) in
+          absurd (omega (arith, past, room)))
+      | inr low ↦ elim (cases_lt (length b) offset) [
+        | inl high ↦ (let past : place ≡ max (length b) 40 = where_is.none (λ _ h. omega (arith, h, high)) in
+            absurd (omega (arith, past, room)))
+        | inr high ↦ there (where_is.some low high)
+      ]
+    ]
+
+pub none_at : FrameIsRight → (b : List ℕ) (offset : ℕ) (c : Chain) (kept : List ℕ)
+    → IsChain b (chain_start offset (length b)) c → kept_in (bodies_at b c.spans.items) ≡ None
+    → IsCheckpointAt b offset kept → ⊥
+none_at right b offset c kept chain h is =
+    let size = length-drop offset b in
+    let here : chain_start offset (length b) ≡ offset =
+    (is_place b offset).some is.past_header (omega (arith, is.frame.whole.room, size)) in
+    let chain_here : IsChain b offset c = subst (λ (n : ℕ). IsChain b n c) here chain in
+    none_first right (before offset b) (drop offset b) (bodies_at b c.spans.items) (drop c.end b) kept
+    (rest_of c.rest) chain_here.run.run chain_here.run.follows h is.frame is.body
+
+-- what reading the checkpoint answers
+pub read_begins : (version : Version) (b : List ℕ) (offset : ℕ) (kept : List ℕ) (e : Fault) → length b ≤ log_limit
+    → HasHeader version b → IsCheckpointAt b offset kept → ReadsState version kept (Err e) → BeginsAt b offset (Err e)
+read_begins version b offset kept faults.BadCheckpoint short head is h = (short, version, head, kept, is, h)
+read_begins version b offset kept faults.Resources short head is h = tt
+read_begins version b offset kept faults.TooLong short head is h = absurd h
+read_begins version b offset kept faults.NotALog short head is h = absurd h
+read_begins version b offset kept faults.Form short head is h = absurd h
+read_begins version b offset kept faults.TooLarge short head is h = absurd h
+read_begins version b offset kept faults.NoCheckpoint short head is h = absurd h
+read_begins version b offset kept (faults.Script n) short head is h = absurd h
+read_begins version b offset kept faults.ReadFailed short head is h = absurd h
+read_begins version b offset kept faults.WriteFailed short head is h = absurd h
+
+-- the chain from that place
+pub chain_at : (version : Version) → LogEnds → (b : List ℕ) (offset place : ℕ) (c : Chain)
+    → place ≡ chain_start offset (length b) → length b ≤ log_limit → HasHeader version b
+    → IsFrameRun b place (bodies_at b c.spans.items) c.end (rest_of c.rest)
+    → c.spans.items ≡ spans_from place (bodies_at b c.spans.items) → All (λ s. s.start + s.len ≤ length b) c.spans.items
+    → IsChain b (chain_start offset (length b)) c
+chain_at version ends b offset place c is short head run spans inside =
+    let bounds = within b offset (started version ends b head).long in
+    subst (λ (n : ℕ). IsChain b n c) is
+    (record {
+      short = short;
+      after = omega (arith, bounds.0, is);
+      within = omega (arith, bounds.1, is);
+      run = run;
+      spans = spans;
+      inside = inside;
+    })

@@ -1,0 +1,127 @@
+-- How far bodies are read.
+use Rattle.std.proofs.Common.{◌≡◌, ℕ, ◌+◌, ◌<◌, zero, suc, refl, List, [], ◌∷◌, ◌++◌, length, take, drop, get_or, sym}
+use Rattle.std.proofs.Common.{ap, subst, ◌∙◌, arith}
+use Rattle.std.proofs.lemmas.List.{append_assoc, append-nil, length-append, length-map, map-append, nil_from_length}
+use Rattle.std.proofs.lemmas.List.{take-append-drop}
+use Rattle.std.proofs.Math.Seq.{take-suc, drop-cons}
+use Rattle.std.specs.List.{AllByRecursion}
+use Rattle.rq_model.specs.Records.{Record, Version}
+use Rattle.rq_model.specs.Spelling.{IsRecord, Spells, body_of}
+use Rattle.rq_model.specs.Frames.{bodies_of}
+use Rattle.rq_front.specs.declared.spans.Span.{Span}
+use Rattle.rq_front.specs.Chains.{body_at, bodies_at}
+use Rattle.rq_judged.specs.Readings.{AreRead, SpellsNone}
+
+pub each_push : (version : Version) (rs : List Record) (r : Record) → AllByRecursion (IsRecord version) rs
+    → IsRecord version r → AllByRecursion (IsRecord version) (rs ++ r ∷ [])
+each_push version [] r h is = (is, tt)
+each_push version (q ∷ qs) r h is = (h.0, each_push version qs r h.1 is)
+
+-- one more body, and the record that it spells
+pub read_more : (version : Version) (b : List ℕ) (spans : List Span) (i : ℕ) (d : Span) (rs : List Record) (r : Record)
+    → i < length spans
+    → bodies_at b (take i spans) ≡ bodies_of rs → Spells version r (body_at b (get_or spans i d))
+    → bodies_at b (take (suc i) spans) ≡ bodies_of (rs ++ r ∷ [])
+read_more version b spans i d rs r lt e h =
+    ap (bodies_at b) (take-suc spans i d lt) ∙ map-append (body_at b) (take i spans) (get_or spans i d ∷ [])
+    ∙ ap (λ (xs : List (List ℕ)). xs ++ body_at b (get_or spans i d) ∷ []) e
+    ∙ ap (λ (x : List ℕ). bodies_of rs ++ x ∷ []) h.1 ∙ sym (map-append _ rs (r ∷ []))
+
+-- bodies in two parts
+pub two_parts : (b : List ℕ) (spans : List Span) (n : ℕ)
+    → bodies_at b spans ≡ bodies_at b (take n spans) ++ bodies_at b (drop n spans)
+two_parts b spans n = ap (bodies_at b) (sym (take-append-drop n spans))
+    ∙ map-append (body_at b) (take n spans) (drop n spans)
+
+read_to : (version : Version) (b : List ℕ) (spans : List Span) (i : ℕ) (rs : List Record)
+    → AllByRecursion (IsRecord version) rs → bodies_at b (take i spans) ≡ bodies_of rs
+    → SpellsNone version (bodies_at b (drop i spans)) → AreRead version (bodies_at b spans) rs
+read_to version b spans i rs are e none = record {
+  left = bodies_at b (drop i spans);
+  records = are;
+  spelled = two_parts b spans i ∙ ap (λ (xs : List (List ℕ)). xs ++ bodies_at b (drop i spans)) e;
+  stops = none;
+}
+
+-- the next body spells no record
+pub read_stop : (version : Version) (b : List ℕ) (spans : List Span) (i : ℕ) (d : Span) (rs : List Record)
+    → i < length spans → AllByRecursion (IsRecord version) rs
+    → bodies_at b (take i spans) ≡ bodies_of rs → ((r : Record) → Spells version r (body_at b (get_or spans i d)) → ⊥)
+    → AreRead version (bodies_at b spans) rs
+read_stop version b spans i d rs lt are e none =
+    let next : drop i spans ≡ get_or spans i d ∷ drop (suc i) spans = drop-cons spans i d lt in
+    read_to version b spans i rs are e (subst (λ (ss : List Span). SpellsNone version (bodies_at b ss)) (sym next) none)
+
+-- what is left of bodies of which so many are read
+left_of : (version : Version) (bodies : List (List ℕ)) (rs : List Record) (are : AreRead version bodies rs)
+    → length bodies ≡ length rs + length are.left
+left_of version bodies rs are = ap length are.spelled ∙ length-append (bodies_of rs) are.left
+    ∙ ap (λ (n : ℕ). n + length are.left) (length-map rs _)
+
+each_both : (version : Version) (rs qs : List Record) → AllByRecursion (IsRecord version) rs
+    → AllByRecursion (IsRecord version) qs → AllByRecursion (IsRecord version) (rs ++ qs)
+each_both version [] qs are more = more
+each_both version (r ∷ rs) qs are more = (are.0, each_both version rs qs are.1 more)
+
+stops_there : (version : Version) (left more : List (List ℕ)) → 0 < length left → SpellsNone version left
+    → SpellsNone version (left ++ more)
+stops_there version [] more lt none = let no : ⊥ = omega (arith, lt) in absurd no
+stops_there version (body ∷ left) more lt none = none
+
+-- all of the first bodies are read, and so are those behind them
+pub read_both : (version : Version) (xs ys : List (List ℕ)) (rs qs : List Record) → AreRead version xs rs
+    → length rs ≡ length xs → AreRead version ys qs → AreRead version (xs ++ ys) (rs ++ qs)
+read_both version xs ys rs qs are all more =
+    let none : are.left ≡ [] = nil_from_length are.left (omega (arith, left_of version xs rs are, all)) in
+    let spelled : xs ≡ bodies_of rs = are.spelled ∙ ap (λ (left : List (List ℕ)). bodies_of rs ++ left) none
+    ∙ append-nil (bodies_of rs) in
+    record {
+      left = more.left;
+      records = each_both version rs qs are.records more.records;
+      spelled = ap (λ (bodies : List (List ℕ)). bodies ++ ys) spelled
+          ∙ ap (λ (bodies : List (List ℕ)). bodies_of rs ++ bodies) more.spelled
+          ∙ sym (append_assoc (bodies_of rs) (bodies_of qs) more.left)
+          ∙ ap (λ (bodies : List (List ℕ)). bodies ++ more.left) (sym (map-append _ rs qs));
+      stops = more.stops;
+    }
+
+-- the first bodies are not all read, so nothing behind them is
+pub read_first : (version : Version) (xs ys : List (List ℕ)) (rs : List Record) → AreRead version xs rs
+    → (length rs ≡ length xs → ⊥) → AreRead version (xs ++ ys) rs
+read_first version xs ys rs are fewer =
+    let some : 0 < length are.left = omega (arith, left_of version xs rs are, fewer) in
+    record {
+      left = are.left ++ ys;
+      records = are.records;
+      spelled = ap (λ (bodies : List (List ℕ)). bodies ++ ys) are.spelled ∙ append_assoc (bodies_of rs) are.left ys;
+      stops = stops_there version are.left ys some are.stops;
+    }
+
+some_stop : (version : Version) (n : ℕ) (left : List (List ℕ)) → SpellsNone version left
+    → SpellsNone version (take n left)
+some_stop version zero left none = tt
+some_stop version (suc n) [] none = tt
+some_stop version (suc n) (body ∷ left) none = none
+
+-- the first bodies are read as far as their records go
+front_read : (version : Version) (n : ℕ) (rs : List Record) (left : List (List ℕ))
+    → AllByRecursion (IsRecord version) rs → SpellsNone version left
+    → AreRead version (take n (bodies_of rs ++ left)) (take n rs)
+front_read version zero rs left are none = record { left = []; records = tt; spelled = refl; stops = tt }
+front_read version (suc n) [] left are none =
+    record { left = take (suc n) left; records = tt; spelled = refl; stops = some_stop version (suc n) left none }
+front_read version (suc n) (r ∷ rs) left are none =
+    let more = front_read version n rs left are.1 none in
+    record {
+      left = more.left;
+      records = (are.0, more.records);
+      spelled =
+          ap (λ (xs : List (List ℕ)). body_of r ∷ xs) more.spelled;
+      stops = more.stops;
+    }
+
+pub read_fewer : (version : Version) (n : ℕ) (bodies : List (List ℕ)) (rs : List Record) → AreRead version bodies rs
+    → AreRead version (take n bodies) (take n rs)
+read_fewer version n bodies rs are =
+    subst (λ (xs : List (List ℕ)). AreRead version (take n xs) (take n rs)) (sym are.spelled)
+    (front_read version n rs are.left are.records are.stops)

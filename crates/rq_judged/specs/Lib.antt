@@ -1,0 +1,11 @@
+pub mod Views
+pub mod Readings
+pub mod Known
+pub mod Ends
+pub mod FrontEnds
+pub mod JudgedFronts
+pub mod Checkpoints
+pub mod Passes
+pub mod Windows
+pub mod GrowingFronts
+pub mod Refusals

@@ -1,0 +1,36 @@
+-- How far the bodies of a chain are read.
+use Rattle.std.specs.Prelude.{◌≡◌, ◌≤◌, ℕ, ⊤, List, [], ◌∷◌, ◌++◌, length, map, take, drop, Result}
+use Rattle.std.specs.Prelude.{Ok, Err}
+use Rattle.std.specs.Global.{Vec}
+use Rattle.std.specs.List.{AllByRecursion}
+use Rattle.rq_model.specs.Records.{Record, Version}
+use Rattle.rq_model.specs.Spelling.{IsRecord, Spells}
+use Rattle.rq_model.specs.Frames.{bodies_of}
+use Rattle.rq_record.specs.declared.fault.Fault.{Fault}
+use Rattle.rq_record.specs.declared.fault.Fault.TheVariants.{Resources}
+use Rattle.rq_record.specs.Views as rt
+use Rattle.rq_record.specs.Views.{record_of}
+use Rattle.rq_judged.specs.declared.bodies.PartedRecords.{PartedRecords}
+
+-- no body, or a first one that spells no record of the version
+abbrev pub SpellsNone : Version → List (List ℕ) → Type 0
+SpellsNone version [] = ⊤
+SpellsNone version (body ∷ left) = (r : Record) → Spells version r body → ⊥
+
+-- the records that the bodies spell, one after the other, up to the first body that spells none
+pub record AreRead (version : Version) (bodies : List (List ℕ)) (rs : List Record) : Type 0 where
+  pub left : List (List ℕ)
+  pub records : AllByRecursion (IsRecord version) rs
+  pub spelled : bodies ≡ bodies_of rs ++ left
+  pub stops : SpellsNone version left
+
+-- these, or no memory
+abbrev pub ReadsBodies : Version → List (List ℕ) → Result (Vec rt.Record) Fault → Type 0
+ReadsBodies version bodies (Ok v) = AreRead version bodies (map record_of v.items)
+ReadsBodies version bodies (Err e) = e ≡ Resources
+
+-- the records of the first bodies and those of the others, apart from one another
+pub record AreApart (version : Version) (bodies : List (List ℕ)) (p : PartedRecords) : Type 0 where
+  pub within : p.count ≤ length bodies
+  pub front : AreRead version (take p.count bodies) (map record_of p.front.items)
+  pub back : AreRead version (drop p.count bodies) (map record_of p.back.items)

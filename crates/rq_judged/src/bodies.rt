@@ -1,0 +1,162 @@
+//! The records of a chain.
+
+ghost use Rattle.std.specs.Prelude.{◌≡◌, ◌≤◌, ◌+◌, ℕ, List, length, map, All, IfOk, IfErr};
+ghost use Rattle.std.specs.Thread.{IsSync};
+ghost use Rattle.rq_model.specs.Records as model;
+ghost use Rattle.rq_record.specs.Views.{record_of, version_of};
+ghost use Rattle.rq_record.specs.declared.fault.Fault.TheVariants.{Resources};
+ghost use Rattle.rq_front.specs.Chains.{bodies_at};
+ghost use Rattle.rq_judged.specs.Readings.{AreApart, AreRead, ReadsBodies};
+
+use rq_front::Span;
+use rq_record::{Fault, KeptRecord, LentLog, Version, decode_at};
+use std::alloc::Global;
+use std::marker::Sync;
+use std::thread::{Threads, join};
+
+/// As many bodies are read by one thread, so that the restart of a small log starts none.
+pub(crate) const FEW: usize = 1024;
+
+/// The records that the bodies of a chain spell, in two parts: the front one has those of the first
+/// `count` bodies.
+#[derive(Drop)]
+pub(crate) struct PartedRecords {
+    front: Vec<KeptRecord>,
+    back: Vec<KeptRecord>,
+    count: usize,
+}
+
+// The records of the version that the bodies spell, read by one thread, with room for as many as
+// are to stand with them.
+fn read_in_order(
+    alloc: Global,
+    version: Version,
+    lent: &LentLog,
+    bytes: &[u8],
+    spans: &[Span],
+    room: usize,
+) -> Result<Vec<KeptRecord>, Fault>
+    requires { All (λ s. s.start + s.len ≤ length bytes.now) spans.now }
+    ensures records { IfOk result (λ rs. AreRead (version_of version)
+        (bodies_at bytes.now spans.now) (map record_of rs.items)) }
+    ensures refused { IfErr result (λ e. e ≡ Resources) }
+{
+    let mut records = Vec::with_capacity(alloc, room)?;
+    for span in spans.iter() {
+        match decode_at(alloc, version, lent, bytes, span.start, span.len) {
+            Ok(record) => records.push(record)?,
+            Err(Fault::Form) => return Ok(records),
+            Err(fault) => return Err(fault),
+        }
+    }
+    Ok(records)
+}
+
+// The records that the bodies spell, up to the first body that spells none, read by as many
+// workers.
+#[cycle(shares)]
+fn read_whole<R: Threads + Sync>(
+    rt: &R,
+    alloc: Global,
+    version: Version,
+    lent: &LentLog,
+    bytes: &[u8],
+    spans: &[Span],
+    workers: u32,
+    room: usize,
+) -> Result<Vec<KeptRecord>, Fault>
+    requires { All (λ s. s.start + s.len ≤ length bytes.now) spans.now }
+    ensures records { IfOk result (λ rs. AreRead (version_of version)
+        (bodies_at bytes.now spans.now) (map record_of rs.items)) }
+    ensures refused { IfErr result (λ e. e ≡ Resources) }
+{
+    let parts = read_apart(rt, alloc, version, lent, bytes, spans, workers, room)?;
+    put_together(parts)
+}
+
+// The same in two parts: one worker reads the back one, and what that spells finds its room behind
+// what the others read, so no more than one worker's share ever stands twice. One worker, or few
+// bodies, leave the back part empty.
+#[cycle(shares)]
+fn read_apart<R: Threads + Sync>(
+    rt: &R,
+    alloc: Global,
+    version: Version,
+    lent: &LentLog,
+    bytes: &[u8],
+    spans: &[Span],
+    workers: u32,
+    room: usize,
+) -> Result<PartedRecords, Fault>
+    requires { All (λ s. s.start + s.len ≤ length bytes.now) spans.now }
+    ensures parts { IfOk result (AreApart (version_of version) (bodies_at bytes.now spans.now)) }
+    ensures refused { IfErr result (λ e. e ≡ Resources) }
+{
+    if workers < 2 || spans.len() <= FEW {
+        return Ok(PartedRecords {
+            front: read_in_order(alloc, version, lent, bytes, spans, room)?,
+            back: Vec::new(alloc),
+            count: spans.len(),
+        });
+    }
+    let count = spans.len() - spans.len() / workers as usize;
+    let (front, back) = spans.split_at(count);
+    let fewer = workers - 1;
+    let (left, right) = join(
+        rt,
+        || -> Result<Vec<KeptRecord>, Fault>
+            requires { IsSync R.row × All (λ s. s.start + s.len ≤ length bytes.now) front.now }
+            ensures { ReadsBodies (version_of version)
+                (bodies_at bytes.entry.now front.entry.now) result }
+        { read_whole(rt, alloc, version, lent, bytes, front, fewer, room) },
+        || -> Result<Vec<KeptRecord>, Fault>
+            requires { All (λ s. s.start + s.len ≤ length bytes.now) back.now }
+            ensures { ReadsBodies (version_of version)
+                (bodies_at bytes.entry.now back.entry.now) result }
+        { read_in_order(alloc, version, lent, bytes, back, back.len()) },
+    );
+    Ok(PartedRecords {
+        front: left?,
+        back: right?,
+        count,
+    })
+}
+
+/// All records of the two parts. Where the front one ends before its last body, nothing behind it
+/// counts.
+pub(crate) fn put_together(parts: PartedRecords) -> Result<Vec<KeptRecord>, Fault>
+    ensures records { IfOk result (λ rs. (version : model.Version) (bodies : List (List ℕ)) →
+        AreApart version bodies parts → AreRead version bodies (map record_of rs.items)) }
+    ensures refused { IfErr result (λ e. e ≡ Resources) }
+{
+    let PartedRecords {
+        mut front,
+        mut back,
+        count,
+    } = parts;
+    if front.len() == count {
+        front.append(&mut back)?;
+    }
+    Ok(front)
+}
+
+/// The records that the bodies spell, up to the first body that spells none, read by as many
+/// workers, in two parts.
+pub(crate) fn read_bodies<R: Threads + Sync>(
+    rt: &R,
+    alloc: Global,
+    version: Version,
+    lent: &LentLog,
+    bytes: &[u8],
+    spans: &[Span],
+    workers: u32,
+) -> Result<PartedRecords, Fault>
+    requires { All (λ s. s.start + s.len ≤ length bytes.now) spans.now }
+    ensures parts { IfOk result (AreApart (version_of version) (bodies_at bytes.now spans.now)) }
+    ensures refused { IfErr result (λ e. e ≡ Resources) }
+{
+    // An eighth more, for the aborts of the units that are still open.
+    let room = spans.len().saturating_add(spans.len() / 8);
+    let readers = (workers as usize).min(spans.len() / FEW + 1) as u32;
+    read_apart(rt, alloc, version, lent, bytes, spans, readers, room)
+}

@@ -1,0 +1,103 @@
+//! The front of a log, and who judges what may stand behind it.
+
+ghost use Rattle.std.specs.Prelude.{◌≡◌, ℕ};
+ghost use Rattle.rq_judged.specs.Checkpoints.{IsBegun};
+ghost use Rattle.rq_judged.specs.JudgedFronts.{JudgesFront, JudgesFrontAt};
+
+use crate::checkpoint::{Begun, begin_at};
+use crate::front::end_of;
+use crate::front_pass::{PassSoFar, judge_each};
+use crate::grain::grain_of;
+use crate::links::before;
+use crate::why::Why;
+use rq_catalog::Judge;
+use rq_front::log_version;
+use rq_pool::Plan;
+use rq_record::Fault;
+use std::alloc::Global;
+use std::marker::Sync;
+use std::thread::Threads;
+
+/// Where the front of a log ends, and a judge that stands there.
+#[derive(Drop)]
+pub struct JudgedFront {
+    /// Says which records are lawful behind the front.
+    pub judge: Judge,
+    /// The front's last 32 bytes.
+    pub last: [u8; 32],
+    /// How many of the log's bytes the front takes, and all that stands before it.
+    pub used: usize,
+    /// How many records it has.
+    pub records: usize,
+    /// Why it ends.
+    pub why: Why,
+}
+
+/// The front of a log, with a judge of what may stand behind it. No record is kept, and no queue is
+/// redone.
+///
+/// Refused as `front_end` is.
+pub fn judged_front<R: Threads + Sync>(
+    rt: &R,
+    alloc: Global,
+    bytes: &[u8],
+    plan: &Plan,
+) -> Result<JudgedFront, Fault>
+    ensures { JudgesFront bytes.now result }
+{
+    rq_model::frames_join();
+    rq_model::one_front();
+    let version = log_version(bytes)?;
+    let mut pass = PassSoFar::new(alloc, version);
+    let why = pass.finish(rt, alloc, bytes, grain_of(plan))?;
+    let PassSoFar {
+        judge,
+        records,
+        offset,
+    } = pass;
+    Ok(JudgedFront {
+        judge,
+        last: before(bytes, offset),
+        used: offset,
+        records,
+        why,
+    })
+}
+
+// The front behind the checkpoint that a front begins with, and a judge that stands there.
+fn judged_behind(alloc: Global, begun: &Begun, bytes: &[u8]) -> Result<JudgedFront, Fault>
+    requires { (offset : ℕ) × IsBegun bytes.now offset begun.now }
+    ensures { (offset : ℕ) → IsBegun bytes.now offset begun.now
+        → JudgesFrontAt bytes.now offset result }
+{
+    rq_model::frames_are_right();
+    rq_model::frames_join();
+    rq_model::one_front();
+    let mut judge = Judge::of(alloc, begun.version, &begun.state)?;
+    let reach = judge_each(alloc, &mut judge, bytes, &begun.found.spans)?;
+    let (end, why) = end_of(&begun.found, reach.read, reach.lawful);
+    Ok(JudgedFront {
+        judge,
+        last: before(bytes, end),
+        used: end,
+        records: reach.lawful,
+        why,
+    })
+}
+
+/// The front of a log from the checkpoint at an offset on, with a judge of what may stand behind it:
+/// it begins in the state that the checkpoint spells. No record is kept, and no queue is redone.
+///
+/// Refused as `restart_at` is.
+pub fn judged_front_at<R: Threads + Sync>(
+    rt: &R,
+    alloc: Global,
+    bytes: &[u8],
+    offset: u64,
+    plan: &Plan,
+) -> Result<JudgedFront, Fault>
+    ensures { JudgesFrontAt bytes.now offset result }
+{
+    let begun = begin_at(rt, alloc, bytes, offset, plan)?;
+    judged_behind(alloc, &begun, bytes)
+}

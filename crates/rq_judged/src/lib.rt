@@ -1,0 +1,25 @@
+//! The front of a log: its records, read on all workers and judged, up to where it ends, and why it
+//! ends there. From the log's start or from a checkpoint on, at once, record by record, or as the bytes
+//! come.
+#![tactic(auto)]
+
+mod bodies;
+mod checkpoint;
+mod ends;
+mod front;
+mod front_pass;
+mod grain;
+mod growing_front;
+mod judged;
+mod links;
+mod why;
+mod window;
+
+pub use checkpoint::{Begun, begin_at};
+pub use ends::{FrontEnd, front_end};
+pub use front::{Front, front_of, front_of_walk};
+pub use grain::grain_of;
+pub use growing_front::GrowingFront;
+pub use judged::{JudgedFront, judged_front, judged_front_at};
+pub use links::before;
+pub use why::Why;
