@@ -10,7 +10,7 @@ import collections, os, subprocess, sys, tempfile
 
 LAYERS = [
     ("sha2::", "digests"), ("rq_lanes::", "digests"), ("rq_front::", "walk along the lengths"), ("rq_record::", "decoding"),
-    ("rq_restart::reading", "decoding"), ("rq_catalog::", "analysis"),
+    ("rq_judged::bodies", "decoding"), ("rq_catalog::", "analysis"),
     ("rq_queue::", "redo"), ("rq_standing::", "standing queues"), ("rq_state::reading", "state read"),
     ("rq_state::writing", "state spelled"), ("rq_state::", "state built"), ("rq_exchange::", "replay"),
     ("hex::", "report"), ("rq_report::", "report"), ("rq_writer::", "script"), ("rq_tool::input", "input"),
