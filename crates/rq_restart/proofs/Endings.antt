@@ -20,7 +20,7 @@ use Rattle.rq_state.specs.Views.{unit_of}
 use Rattle.rq_judged.specs.Ends.{IsFrontFrom}
 use Rattle.rq_restart.specs.Tails.{IsEnding, StaysOpen}
 use Rattle.rq_restart.specs.declared.tails.Ending.{Ending}
-use Rattle.rq_judged.proofs.Starts.{started, whole_front}
+use Rattle.rq_judged.proofs.Starts.{before_is, started, whole_front}
 
 -- the last 32 bytes of one frame more
 pub record IsFramed (old new p body : List ℕ) : Type 0 where

@@ -5,5 +5,5 @@ pub mod Upgradings
 pub mod Audited
 pub mod Walks
 pub mod Keepers
-pub mod Restarts
+pub mod ByFronts
 pub mod AuditedFronts

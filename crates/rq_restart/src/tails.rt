@@ -3,17 +3,22 @@
 ghost use Rattle.std.specs.Prelude.{◌≡◌, ◌≤◌, ◌++◌, length, map, IfOk, IfErr, OnOk};
 ghost use Rattle.rq_model.specs.Records as model;
 ghost use Rattle.rq_model.specs.Spelling.{body_of};
-ghost use Rattle.rq_model.specs.Frames.{digest, frame, frames_of};
+ghost use Rattle.rq_model.specs.Frames.{HasHeader, digest, frame, frames_of, log_limit};
+ghost use Rattle.rq_model.specs.States.{empty};
+ghost use Rattle.rq_record.specs.Views.{record_of, version_of};
 ghost use Rattle.rq_record.specs.declared.fault.Fault.TheVariants.{Resources};
 ghost use Rattle.rq_state.specs.Views.{unit_of};
+ghost use Rattle.rq_catalog.specs.Analyses.{IsAnalysis};
+ghost use Rattle.rq_judged.specs.Ends.{IsFrontFrom};
+ghost use Rattle.rq_judged.specs.Views.{why_of};
 ghost use Rattle.rq_restart.specs.Tails.{Closes, IsEnding, StaysOpen, Tails};
 
 use crate::frames::append_frame;
 use crate::restarts::whole_front;
 use rq_front::LOG_LIMIT;
-use rq_judged::before;
+use rq_judged::{Front, before};
 use rq_pool::Plan;
-use rq_record::{Fault, LentLog, Record, UnitNo, encode};
+use rq_record::{Fault, LentLog, Record, UnitNo, Version, encode};
 use std::alloc::Global;
 use std::marker::Sync;
 use std::thread::Threads;
@@ -66,17 +71,23 @@ struct Ending {
     tail: Vec<u8>,
 }
 
-fn ending_of<R: Threads + Sync>(
-    rt: &R,
+// Where this front of the log ends, and its tail.
+fn ending_behind(
     alloc: Global,
+    version: Version,
+    front: &Front,
     bytes: &[u8],
-    plan: &Plan,
 ) -> Result<Ending, Fault>
+    requires short { length bytes.now ≤ log_limit }
+    requires header { HasHeader (version_of version) bytes.now }
+    requires front { IsFrontFrom (version_of version) empty bytes.now 40
+        (map record_of front.now.records.items) front.now.end (why_of front.now.why) }
+    requires analysis { IsAnalysis (version_of version) empty
+        (map record_of front.now.records.items) front.now.analysis }
     ensures ending { IfOk result (IsEnding bytes.now) }
     ensures refused { IfErr result (StaysOpen bytes.now) }
 {
     rq_model::frames_join();
-    let (_version, front) = whole_front(rt, alloc, &LentLog::none(), bytes, plan)?;
     let units = front.analysis.open_units(alloc)?;
     if units.len() > (LOG_LIMIT - front.end) / ABORT_LEN {
         return Err(Fault::TooLarge);
@@ -87,6 +98,19 @@ fn ending_of<R: Threads + Sync>(
         end: front.end,
         tail,
     })
+}
+
+fn ending_of<R: Threads + Sync>(
+    rt: &R,
+    alloc: Global,
+    bytes: &[u8],
+    plan: &Plan,
+) -> Result<Ending, Fault>
+    ensures ending { IfOk result (IsEnding bytes.now) }
+    ensures refused { IfErr result (StaysOpen bytes.now) }
+{
+    let (version, front) = whole_front(rt, alloc, &LentLog::none(), bytes, plan)?;
+    ending_behind(alloc, version, &front, bytes)
 }
 
 /// The tail of a log: the frames of the ABORT of each unit that is open after its front, rising,

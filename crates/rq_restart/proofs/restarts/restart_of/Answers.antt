@@ -5,7 +5,7 @@ use Rattle.rq_model.specs.Machine.{run}
 use Rattle.rq_model.specs.Fronts.{restarted}
 use Rattle.rq_record.specs.Views.{record_of, version_of}
 use Rattle.rq_judged.specs.Views.{why_of}
-use Rattle.rq_restart.proofs.Restarts.{restarts}
+use Rattle.rq_restart.proofs.ByFronts.{restarts}
 use Rattle.rq_restart.proofs.restarts.restart_of.Goals as goal
 
 pub returns : goal.returns

@@ -10,55 +10,55 @@ use Rattle.rq_state.specs.Views.{unit_of}
 use Rattle.rq_catalog.proofs.Runs.{front_whole}
 use Rattle.rq_judged.specs.Views.{why_of}
 use Rattle.rq_restart.proofs.Endings.{is_ending, no_memory, too_large}
-use Rattle.rq_restart.proofs.tails.ending_of.Goals as goal
-use Rattle.rq_restart.proofs.tails.ending_of.Goals.{In_ok-units}
+use Rattle.rq_restart.proofs.tails.ending_behind.Goals as goal
+use Rattle.rq_restart.proofs.tails.ending_behind.Goals.{In_ok-units}
 
-abbrev records : (g : _) → In_ok-units g → List model.Record
-records g c = map record_of c.in_ok-_version.front.records.items
+abbrev records : In_ok-units → List model.Record
+records c = map record_of c.args.front.now.records.items
 
-abbrev units : (g : _) → In_ok-units g → List ℕ
-units g c = map unit_of c.in_ok-units.units.items
+abbrev units : In_ok-units → List ℕ
+units c = map unit_of c.in_ok-units.units.items
 
 -- the units that were found are those that are open after the front
-are_open : (g : _) (c : In_ok-units g) → units g c ≡ (run empty (records g c)).units
-are_open g c =
-    let lawful = c.in_ok-_version.ensures.front.longest.begins.lawful in
-    c.in_ok-units.ensures.units ∙ c.in_ok-_version.ensures.analysis.units
+are_open : (c : In_ok-units) → units c ≡ (run empty (records c)).units
+are_open c =
+    let lawful = c.requires.front.longest.begins.lawful in
+    c.in_ok-units.ensures.units ∙ c.requires.analysis.units
     ∙ ap (λ (xs : List model.Record). (run empty xs).units)
-    (front_whole (version_of c.in_ok-_version._version) empty (records g c) lawful)
+    (front_whole (version_of c.args.version) empty (records c) lawful)
 
 pub returns-in_err-units-clause-refused : goal.returns-in_err-units-clause-refused
-returns-in_err-units-clause-refused g c =
-    let p = err_from_is_err_and c.from_residual-in_err-units.result c.from_residual-in_err-units.ensures.1 in
+returns-in_err-units-clause-refused c =
+    let p = err_from_is_err_and c.from_residual.result c.from_residual.ensures.1 in
     rw (p.1, p.2) (no_memory c.args.bytes.now c.in_err-units.field-0.0 c.in_err-units.ensures.refused)
 
 pub returns-then-len-front-clause-refused : goal.returns-then-len-front-clause-refused
-returns-then-len-front-clause-refused g c =
-    let d = (goal.at.returns-then-len-front-clause-refused g c).In_ok-units in
-    let front = c.in_ok-_version.front in
-    let is = c.in_ok-_version.ensures in
-    let count : c.len.result ≡ length (units g d) =
+returns-then-len-front-clause-refused c =
+    let d = (goal.at.returns-then-len-front-clause-refused c).In_ok-units in
+    let front = c.args.front.now in
+    let is = c.requires in
+    let count : c.len.result ≡ length (units d) =
     omega (arith, c.len.ensures, length-map c.in_ok-units.units.items unit_of) in
-    too_large (version_of c.in_ok-_version._version) c.frames_join.ensures.end c.args.bytes.now (records g d) front.end
-    (why_of front.why) (units g d) c.len.result is.short is.header is.front (are_open g d) count
+    too_large (version_of c.args.version) c.frames_join.ensures.end c.args.bytes.now (records d) front.end
+    (why_of front.why) (units d) c.len.result is.short is.header is.front (are_open d) count
     (omega (arith, c.if-len-front.true))
 
 pub returns-in_err-append_aborts-clause-refused : goal.returns-in_err-append_aborts-clause-refused
-returns-in_err-append_aborts-clause-refused g c =
+returns-in_err-append_aborts-clause-refused c =
     let p = err_from_is_err_and c.from_residual-in_err-append_aborts.result
     c.from_residual-in_err-append_aborts.ensures.1 in
     rw (p.1, p.2) (no_memory c.args.bytes.now c.in_err-append_aborts.field-0.0 c.in_err-append_aborts.ensures.refused)
 
 pub returns-clause-ending : goal.returns-clause-ending
-returns-clause-ending g c =
-    let d = (goal.at.returns-clause-ending g c).In_ok-units in
-    let front = c.in_ok-_version.front in
-    let is = c.in_ok-_version.ensures in
-    let count : c.len.result ≡ length (units g d) =
+returns-clause-ending c =
+    let d = (goal.at.returns-clause-ending c).In_ok-units in
+    let front = c.args.front.now in
+    let is = c.requires in
+    let count : c.len.result ≡ length (units d) =
     omega (arith, c.len.ensures, length-map c.in_ok-units.units.items unit_of) in
     let wrote = c.in_ok-append_aborts.ensures.bytes
     ∙ (λ i. c.new-tail.ensures.items i ++ frames_of (c.before-2.ensures i)
     (map model.Abort (map unit_of (c.deref.ensures.value i)))) in
-    is_ending (version_of c.in_ok-_version._version) c.frames_join.ensures.end c.args.bytes.now (records g d) _
-    (why_of front.why) (units g d) c.len.result is.short is.header is.front (are_open g d) count
+    is_ending (version_of c.args.version) c.frames_join.ensures.end c.args.bytes.now (records d) _
+    (why_of front.why) (units d) c.len.result is.short is.header is.front (are_open d) count
     (omega (arith, c.if-len-front.false)) wrote
