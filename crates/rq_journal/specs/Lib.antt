@@ -5,3 +5,4 @@ pub mod Writings
 pub mod Checkpoints
 pub mod Marks
 pub mod Carries
+pub mod Audits

@@ -1,9 +1,9 @@
-//! The audit of a log that was carried on. Which checkpoints are true is tested, and not proved.
+//! The audit of a log that was carried on.
 
-ghost use Rattle.std.specs.Prelude.{◌≡◌, IfErr, IfOk};
+ghost use Rattle.std.specs.Prelude.{◌≡◌, map, IfErr, IfOk};
 ghost use Rattle.rq_record.specs.declared.fault.Fault.TheVariants.{Resources};
-ghost use Rattle.rq_restart.specs.Audits.{HasFrontAt};
 ghost use Rattle.rq_judged.specs.Refusals.{RefusedAt};
+ghost use Rattle.rq_journal.specs.Audits.{TellsAudit, told_of, truth_of};
 
 use rq_front::CARRIED_AT;
 use rq_record::Fault;
@@ -24,7 +24,9 @@ pub enum Truth {
 }
 
 // What is said of the checkpoint at an offset, by whether it spells the state before it.
-fn truth_of(offset: u64, is_true: bool) -> Truth {
+fn truth_of(offset: u64, is_true: bool) -> Truth
+    ensures { result ≡ truth_of offset is_true }
+{
     if offset == CARRIED_AT as u64 {
         Truth::Carried
     } else if is_true {
@@ -36,7 +38,8 @@ fn truth_of(offset: u64, is_true: bool) -> Truth {
 
 // What is said of each checkpoint.
 fn told_of(alloc: Global, found: &[(u64, bool)]) -> Result<Vec<(usize, Truth)>, Fault>
-    ensures { IfErr result (λ e. e ≡ Resources) }
+    ensures told { IfOk result (λ v. v.items ≡ map told_of found.now) }
+    ensures refused { IfErr result (λ e. e ≡ Resources) }
 {
     let mut told = Vec::new(alloc);
     for (offset, is_true) in found {
@@ -46,15 +49,15 @@ fn told_of(alloc: Global, found: &[(u64, bool)]) -> Result<Vec<(usize, Truth)>, 
 }
 
 /// Where the checkpoints stand in the front of a log that was carried on, and which of them are true,
-/// with the state that it begins with taken at its word. A false one costs no more than in an audit
-/// of a log that begins with no state. Refused as `open_carried` is.
+/// with the state that it begins with taken at its word. Costs what `audit_at` does. Refused as
+/// `open_carried` is.
 pub fn audit_carried<R: Threads + Sync>(
     rt: &R,
     alloc: Global,
     bytes: &[u8],
     plan: &Plan,
 ) -> Result<Vec<(usize, Truth)>, Fault>
-    ensures front { IfOk result (λ told. HasFrontAt bytes.now 96) }
+    ensures told { IfOk result (λ told. TellsAudit bytes.now told.items) }
     ensures refused { IfErr result (RefusedAt bytes.now 96) }
 {
     let found = audit_at(rt, alloc, bytes, CARRIED_AT as u64, plan)?;
