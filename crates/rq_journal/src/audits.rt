@@ -48,9 +48,9 @@ fn told_of(alloc: Global, found: &[(u64, bool)]) -> Result<Vec<(usize, Truth)>, 
     Ok(told)
 }
 
-/// Where the checkpoints stand in the front of a log that was carried on, and which of them are true,
-/// with the state that it begins with taken at its word. Costs what `audit_at` does. Refused as
-/// `open_carried` is.
+/// Where the checkpoints stand in the front of a log that was carried on, and which of them are
+/// true, with the state that it begins with taken at its word. Costs what `audit_at` does. Refused
+/// as `open_carried` is.
 pub fn audit_carried<R: Threads + Sync>(
     rt: &R,
     alloc: Global,

@@ -180,7 +180,7 @@ pub fn audit_lent<R: Threads + Sync>(
 }
 
 /// The checkpoints of the front of a log from the checkpoint at an offset on, rising: the offset of
-/// each, and whether it spells the state before it. The first is taken at its word, so that it does.
+/// each, and whether it spells the state before it. The first is taken at its word, so it does.
 ///
 /// Costs what `audit` does, and the members of the state that the first one spells. Refused as
 /// `restart_at` is.
