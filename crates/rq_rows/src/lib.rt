@@ -1,4 +1,4 @@
-//! What no line of the program shows of a log, in tests that cross the crates: nothing but tests.
+//! Each layer on its own, and what no line of the program shows of a log: nothing but tests.
 #![tactic(auto)]
 
 #[cfg(test)]

@@ -3,6 +3,7 @@ mod barrier;
 mod calls;
 mod files;
 mod fronts;
+mod layers;
 mod many;
 mod program;
 mod scripts;

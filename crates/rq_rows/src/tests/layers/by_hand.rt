@@ -4,7 +4,7 @@
 ghost use Rattle.std.specs.Prelude.{◌≡◌, ℕ, List, IfOk};
 ghost use Rattle.rq_model.specs.States as states;
 ghost use Rattle.rq_state.specs.Inside.{state_of};
-ghost use Rattle.rq_layer_rows.specs.ByHand.{by_hand, element_by_hand};
+ghost use Rattle.rq_rows.specs.ByHand.{by_hand, element_by_hand};
 
 use super::analysis::analysis_of;
 use super::courses::state_after;

@@ -1,4 +1,4 @@
-use Rattle.rq_layer_rows.proofs.tests.standing.takes.Goals as goal
+use Rattle.rq_rows.proofs.tests.layers.standing.takes.Goals as goal
 
 pub returns-in-Unlawful : goal.returns-in-Unlawful
 returns-in-Unlawful c =

@@ -4,7 +4,7 @@ use Rattle.rq_model.specs.Machine.{all_lawful, lawful_front}
 use Rattle.rq_record.specs.Views.{Record, record_of}
 use Rattle.rq_catalog.specs.Analyses.{IsAnalysis}
 use Rattle.rq_catalog.proofs.Fronts.{kept_is, parted}
-use Rattle.rq_layer_rows.proofs.tests.courses.lawful_front.Goals as goal
+use Rattle.rq_rows.proofs.tests.layers.courses.lawful_front.Goals as goal
 
 pub returns-clause-lawful : goal.returns-clause-lawful
 returns-clause-lawful c =

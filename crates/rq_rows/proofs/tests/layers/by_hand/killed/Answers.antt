@@ -3,9 +3,9 @@ use Rattle.rq_model.specs.Records.{Two, Kill}
 use Rattle.rq_model.specs.States.{State}
 use Rattle.rq_model.specs.Queues.{Move, part_of}
 use Rattle.rq_queue.specs.Case.{IsCase}
-use Rattle.rq_layer_rows.specs.ByHand.{by_hand}
-use Rattle.rq_layer_rows.proofs.ByHand.{kill_case}
-use Rattle.rq_layer_rows.proofs.tests.by_hand.killed.Goals as goal
+use Rattle.rq_rows.specs.ByHand.{by_hand}
+use Rattle.rq_rows.proofs.ByHand.{kill_case}
+use Rattle.rq_rows.proofs.tests.layers.by_hand.killed.Goals as goal
 
 pub redo-requires : goal.redo-requires
 redo-requires c =

@@ -6,7 +6,7 @@ use Rattle.rq_pool.specs.Ledger.{times}
 use Rattle.rq_exchange.specs.declared.course.Course.{Course}
 use Rattle.rq_exchange.specs.Courses.{StartsByLast, all_told, redone_by, redone_of, told_to}
 use Rattle.rq_exchange.specs.Links.{naming}
-use Rattle.rq_layer_rows.proofs.tests.courses.traced.Goals as goal
+use Rattle.rq_rows.proofs.tests.layers.courses.traced.Goals as goal
 
 abbrev errors_of : State → List ℕ
 errors_of s = map (λ (d : Definition). d.error) s.definitions

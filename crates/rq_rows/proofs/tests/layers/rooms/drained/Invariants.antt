@@ -1,7 +1,7 @@
 use Rattle.std.proofs.Common.{◌-◌, length}
 use Rattle.rq_pool.specs.Ledger.{size}
 use Rattle.rq_pool.specs.Rooms.{IsSeatOf, taken_of, deal_of}
-use Rattle.rq_layer_rows.proofs.tests.rooms.drained.Given as goal
+use Rattle.rq_rows.proofs.tests.layers.rooms.drained.Given as goal
 
 abbrev pub invariant-loop-x : goal.invariant-loop-x
 invariant-loop-x l = IsSeatOf l.room l.seat

@@ -1,3 +1,5 @@
+//! Each layer on its own, by known values.
+
 mod analysis;
 mod by_hand;
 mod bytes;

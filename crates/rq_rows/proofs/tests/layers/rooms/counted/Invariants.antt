@@ -1,5 +1,5 @@
 use Rattle.std.proofs.Common.{◌≡◌, ◌≤◌, vec_len, vec_capacity}
-use Rattle.rq_layer_rows.proofs.tests.rooms.counted.Given as goal
+use Rattle.rq_rows.proofs.tests.layers.rooms.counted.Given as goal
 
 abbrev pub invariant-loop-i : goal.invariant-loop-i
 invariant-loop-i l = record {

@@ -4,7 +4,7 @@ use Rattle.rq_model.specs.Records.{Two, Kill}
 use Rattle.rq_model.specs.Queues.{Part, part_of}
 use Rattle.rq_model.specs.WellFormed.{IsWellFormed}
 use Rattle.rq_queue.specs.Case.{IsCase}
-use Rattle.rq_layer_rows.specs.ByHand.{by_hand}
+use Rattle.rq_rows.specs.ByHand.{by_hand}
 
 pub well : (queue ann payload : List ℕ) → IsWellFormed (by_hand queue ann payload)
 well queue ann payload = record {
