@@ -53,6 +53,7 @@ ONE_THING = {
     "open_units_of": ("rq_catalog rq_standing", "the open units of a state"),
     "program": ("rqlog rqlook", "the words of a program, for clap"),
     "report": ("rq_look rq_report", "the report of a log"),
+    "state": ("rq_restart rq_standing", "the state in which a value stands, or that an answer has"),
     "front_of": ("rq_judged rqlog", "the front of a log"),
     "end_of": ("rq_found rq_judged", "where the front of a log ends"),
     "abort": ("rq_found rq_queue", "aborts a unit in the queues"),

@@ -3,7 +3,7 @@
 ghost use Rattle.std.specs.Prelude.{◌≡◌, map, IfErr, IfOk};
 ghost use Rattle.rq_record.specs.declared.fault.Fault.TheVariants.{Resources};
 ghost use Rattle.rq_judged.specs.Refusals.{RefusedAt};
-ghost use Rattle.rq_journal.specs.Audits.{TellsAudit, told_of, truth_of};
+ghost use Rattle.rq_journal.specs.Audits.{TellsAudit, as_told, truth_of};
 
 use rq_front::CARRIED_AT;
 use rq_record::Fault;
@@ -38,7 +38,7 @@ fn truth_of(offset: u64, is_true: bool) -> Truth
 
 // What is said of each checkpoint.
 fn told_of(alloc: Global, found: &[(u64, bool)]) -> Result<Vec<(usize, Truth)>, Fault>
-    ensures told { IfOk result (λ v. v.items ≡ map told_of found.now) }
+    ensures told { IfOk result (λ v. v.items ≡ map as_told found.now) }
     ensures refused { IfErr result (λ e. e ≡ Resources) }
 {
     let mut told = Vec::new(alloc);

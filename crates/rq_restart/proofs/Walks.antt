@@ -19,7 +19,7 @@ use Rattle.rq_front.specs.declared.spans.Span.{Span}
 use Rattle.rq_front.specs.Chains.{bodies_at, spans_from}
 use Rattle.rq_catalog.proofs.Runs.{run_push}
 use Rattle.rq_judged.specs.Ends.{IsChain, IsFrontFrom}
-use Rattle.rq_restart.specs.Audits.{AreFramed, StandAt, audit_of, audits, past}
+use Rattle.rq_restart.specs.Audits.{StandInFrames, StandAt, audit_of, audits, past}
 
 -- where the frames of the records stand
 stand_from : (at : ℕ) (rs : List Record) (left : List (List ℕ)) (i : ℕ) → i < length rs
@@ -38,10 +38,10 @@ stand_at b at c rs left chain is = subst (λ (ss : List Span). StandAt at rs ss)
 pub framed : (version : Version) (s : State) (b : List ℕ) (at : ℕ) (c : Chain) (rs : List Record) (end : ℕ) (why : Why)
     (all : List Own) (spans : List Span) → IsChain b at c → IsFrontFrom version s b at rs end why
     → ((left : List (List ℕ)) × (bodies_at b c.spans.items ≡ bodies_of rs ++ left)) → map record_of all ≡ rs
-    → spans ≡ c.spans.items → AreFramed version s at (map record_of all) spans
+    → spans ≡ c.spans.items → StandInFrames version s at (map record_of all) spans
 framed version s b at c rs end why all spans chain front bodies own same =
-    subst (λ (qs : List Record). AreFramed version s at qs spans) (sym own)
-    (subst (λ (ss : List Span). AreFramed version s at rs ss) (sym same)
+    subst (λ (qs : List Record). StandInFrames version s at qs spans) (sym own)
+    (subst (λ (ss : List Span). StandInFrames version s at rs ss) (sym same)
     (record { lawful = front.longest.begins.lawful; stand = stand_at b at c rs bodies.0 chain bodies.1 }))
 
 -- the records up to one, and that one

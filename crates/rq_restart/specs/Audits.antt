@@ -46,7 +46,7 @@ StandAt at rs spans = (i : ℕ) → i < length rs
     → (i < length spans) × ((d : Span) → (slice_index_or spans i d).start ≡ past at (take i rs) + 4)
 
 -- records that are lawful from a state on, and the spans of their frames
-pub record AreFramed (version : Version) (s : State) (at : ℕ) (rs : List Record) (spans : List Span)
+pub record StandInFrames (version : Version) (s : State) (at : ℕ) (rs : List Record) (spans : List Span)
     : Type 0 where
   pub lawful : all_lawful version s rs ≡ true
   pub stand : StandAt at rs spans

@@ -8,7 +8,7 @@ ghost use Rattle.rq_model.specs.States as states;
 ghost use Rattle.rq_record.specs.Views.{record_of, version_of};
 ghost use Rattle.rq_record.specs.declared.fault.Fault.TheVariants.{Resources};
 ghost use Rattle.rq_standing.specs.Stands.{Stands};
-ghost use Rattle.rq_restart.specs.Audits.{AreFramed, Audits, AuditsAt, IsAuditedFrom};
+ghost use Rattle.rq_restart.specs.Audits.{StandInFrames, Audits, AuditsAt, IsAuditedFrom};
 ghost use Rattle.rq_restart.specs.Audits.{audit_of, audited_of, audits};
 ghost use Rattle.rq_judged.specs.Ends.{IsChain};
 
@@ -80,9 +80,9 @@ fn checkpoints_among(
     spans: &[Span],
 ) -> Result<Vec<(u64, bool)>, Fault>
     requires framed { (at : ℕ)
-        × AreFramed (version_of version) state.now at (map record_of records.now) spans.now }
+        × StandInFrames (version_of version) state.now at (map record_of records.now) spans.now }
     ensures found { IfOk result (λ v. (at : ℕ) →
-        AreFramed (version_of version) state.now at (map record_of records.now) spans.now
+        StandInFrames (version_of version) state.now at (map record_of records.now) spans.now
         → map audited_of v.items ≡ audits state.now at (map record_of records.now)) }
     ensures refused { IfErr result (λ e. e ≡ Resources) }
 {

@@ -1,7 +1,7 @@
 use Rattle.std.proofs.Common.{◌≡◌, ◌∙◌, ℕ, map, ap}
 use Rattle.std.proofs.lemmas.Result.{IfOk-weaker}
 use Rattle.rq_record.specs.Views.{record_of, version_of}
-use Rattle.rq_restart.specs.Audits.{AreFramed, IsAuditedFrom, audited_of, audits}
+use Rattle.rq_restart.specs.Audits.{StandInFrames, IsAuditedFrom, audited_of, audits}
 use Rattle.rq_judged.specs.Ends.{IsChain}
 use Rattle.rq_judged.specs.Views.{why_of}
 use Rattle.rq_restart.proofs.Walks.{framed}
@@ -32,7 +32,7 @@ returns-clause-found g c =
     let all = c.deref.result.now in
     let own : map record_of all ≡ rs = ap (map record_of) (c.deref.ensures.value ∙ c.records_alone-records.ensures) in
     IfOk-weaker c.checkpoints_among.result
-    (λ v. (at : ℕ) → AreFramed version s at (map record_of all) c.deref-2.result.now
+    (λ v. (at : ℕ) → StandInFrames version s at (map record_of all) c.deref-2.result.now
     → map audited_of v.items ≡ audits s at (map record_of all))
     (λ v. (offset : ℕ) → IsChain b offset chain_of → IsAuditedFrom version s b offset v.items)
     (λ v told offset chain.
