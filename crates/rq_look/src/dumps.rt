@@ -57,7 +57,21 @@ fn put_closing(
     Ok(put_end(text, end)?)
 }
 
-// Puts the line of a record, if it is wanted. Answers whether it is.
+// Puts a record if it is wanted. Answers whether it is.
+fn put_if_wanted(
+    alloc: Global,
+    text: &mut String,
+    it: &Numbered,
+    wanted: &Wanted<'_>,
+) -> Result<bool, AllocError> {
+    let is_wanted = wanted.wants(it);
+    if is_wanted {
+        put_shown(alloc, text, it, wanted)?;
+    }
+    Ok(is_wanted)
+}
+
+// Puts the line of the record of a frame, if it is wanted. Answers whether it is.
 fn put_line(
     alloc: Global,
     placed: Placed<'_>,
@@ -71,11 +85,7 @@ fn put_line(
         return Ok(false);
     }
     let it = Numbered::of(alloc, placed, queues)?;
-    let is_wanted = wanted.wants(&it);
-    if is_wanted {
-        put_shown(alloc, text, &it, wanted)?;
-    }
-    Ok(is_wanted)
+    Ok(put_if_wanted(alloc, text, &it, wanted)?)
 }
 
 // Puts a record, if it is wanted. Answers whether it is.

@@ -213,8 +213,33 @@ pub(crate) fn put_line(alloc: Global, text: &mut String, r: &KeptRecord) -> Resu
     text.push_str("\n")
 }
 
-// Puts the line of the record of a frame. Where no line tells it, the text goes to the output
-// before this is said.
+// Puts the line of a record. Where no line tells it, the text goes to the output before this is
+// said.
+fn put_numbered_line<W: io::Write>(
+    alloc: Global,
+    text: &mut String,
+    it: &Numbered,
+    output: &mut W,
+) -> Result<(), Trouble>
+    ensures line { OnOk result ((put : List ℕ) × IsTellable (record_of it.now.record)
+        × Appends (W.contents output.old) (W.contents output.new) put
+        × (string_bytes text.old ++ script_line (record_of it.now.record)
+        ≡ put ++ string_bytes text.new)) }
+    ensures untold { IfErr result (λ e. (body : List ℕ) → Spells Two (record_of it.now.record) body
+        → LeavesBody it.now.number body (string_bytes text.old)
+        (W.contents output.old) (W.contents output.new) e) }
+    ensures refused { IfErr result BreaksOff }
+{
+    if is_untold(&it.record) {
+        write_out(text, output)?;
+        return Err(Trouble::Untold(it.number));
+    }
+    put_line(alloc, text, &it.record)?;
+    relieve(text, output)?;
+    Ok(())
+}
+
+// Puts the line of the record of a frame, in the same way.
 fn put_placed<W: io::Write>(
     alloc: Global,
     text: &mut String,
@@ -230,13 +255,7 @@ fn put_placed<W: io::Write>(
     ensures refused { IfErr result BreaksOff }
 {
     let it = Numbered::of(alloc, placed, 0)?;
-    if is_untold(&it.record) {
-        write_out(text, output)?;
-        return Err(Trouble::Untold(it.number));
-    }
-    put_line(alloc, text, &it.record)?;
-    relieve(text, output)?;
-    Ok(())
+    put_numbered_line(alloc, text, &it, output)
 }
 
 /// Writes the script of the front, of so many bytes.

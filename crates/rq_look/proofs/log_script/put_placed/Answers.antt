@@ -1,13 +1,20 @@
-use Rattle.std.proofs.Common.{◌∙◌, sym}
+use Rattle.std.proofs.Common.{Result, Ok, Err}
+use Rattle.std.specs.Result.{OnOk}
+use Rattle.rq_record.specs.Views.{record_of}
 use Rattle.rq_look.proofs.log_script.put_placed.Goals as goal
+
+then_ok : {A E : Type 0} (P Q : Type 0) → (P → Q) → (r : Result A E) → OnOk r P → OnOk r Q
+then_ok P Q f (Ok x) p = f p
+then_ok P Q f (Err e) p = tt
 
 pub returns-clause-line : goal.returns-clause-line
 returns-clause-line g c =
-    let put = c.in_ok-relieve.ensures.written in (
-      _,
+    then_ok _ _ (λ put. (
+      record_of c.in_ok-it.it.record,
       put.0,
       c.in_ok-it.ensures.spelled,
-      c.in_ok-put_line.ensures.tellable (c.is_untold.ensures.named c.if-is_untold.false),
       put.1,
-      sym c.in_ok-put_line.ensures.line ∙ put.2,
-    )
+      put.2,
+      put.3,
+    ))
+    c.put_numbered_line.result c.put_numbered_line.ensures.line
