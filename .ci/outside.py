@@ -491,26 +491,26 @@ def threads() -> None:
     long = long_log()
     for line in lines_of(ALONE, OFFSET=halfway_log()):
         check(f"threads of {line[0]} with one worker", threads_of(shim, *line), (0, 0))
-    threads_of_audits(shim)
+    threads_of_audits(shim, long)
     for workers in [2, 3, 4, 5, 8, 16, 64]:
         threads_of_restarts(shim, long, workers)
         threads_of_copies(shim, long, workers)
 
 
-def threads_of_audits(shim: str) -> None:
-    """Of audits of logs with many checkpoints, which all say the same. In the second one each share has states that are worth
-    more than one worker: all of these share the workers."""
-    for log, count, all_workers in [(told_log(), 150, [2, 3, 4, 7]), (redone_log(), 7, [2, 3, 4])]:
+def threads_of_audits(shim: str, long: str) -> None:
+    """An audit finds the front on the workers, and then one thread goes along the records. So it starts threads if the log is
+    long, and no more than `close`, which redoes no queue. With every plan it says the same."""
+    for log, count, is_long in [(told_log(), 150, False), (redone_log(), 7, False), (long, 0, True)]:
         alone = run("audit", log, 1)
         counted = alone[0], alone[1].count(b" true\n"), alone[1].count(b"\n")
         check(f"audit of {count} true checkpoints", counted, (0, count, count))
-        for workers in [1, *all_workers]:
-            # each worker but the calling one goes through a share of its own
+        for workers in [1, 2, 3, 4, 7]:
             started, _ = threads_of(shim, "audit", log, workers)
-            check(f"threads of an audit of {count} checkpoints with {workers} workers", started, workers - 1)
+            closing, _ = threads_of(shim, "close", log, "audited.closed", workers)
+            name = f"threads of an audit of {count} checkpoints with {workers} workers"
+            check(name, (started > 0, started <= closing), (is_long and workers > 1, True))
             same = run("audit", log, workers) == alone
             check(f"audit of {count} true checkpoints with {workers} workers", same, True)
-
 
 def threads_of_restarts(shim: str, long: str, workers: int) -> None:
     """Of restarts of a log of 96 queues and of a long one, in one piece and in more."""
