@@ -280,6 +280,12 @@ def registrants_numbered(n: int) -> Records:
     return many_registered(n, short_names(8000), lambda place, _: numbered(place, 48000))
 
 
+def registrants_begun(n: int) -> Records:
+    """8,000 registrants, and checkpoints that have all counts right, and zeros for everything else: as many bytes as the shortest
+    names would take."""
+    return many_registered(n, short_names(8000), lambda place, _: struct.pack(">QQQQI", place, 0, 0, 0, 1) + bytes(48060))
+
+
 def registrants_told(n: int) -> Records:
     """8,000 registrants, and checkpoints that are true."""
     names = short_names(8000)
@@ -390,7 +396,7 @@ def long_names(n: int) -> Records:
 FALSE = [false_checkpoints, junk_checkpoints, empty_checkpoints, counting_checkpoints, one_told, wide_checkpoints, units_told]
 FALSE += [many_told, own_number, held_by_one, units_between, empty_units_between, others_deregister, registrants]
 FALSE += [no_unit_told, heavy_below_light, in_vain, come_and_go, without_payloads, element_missing, other_elements]
-FALSE += [chain_numbered, registrants_numbered, another_comes]
+FALSE += [chain_numbered, registrants_numbered, registrants_begun, another_comes]
 TRUE = [true_checkpoints, queues_told, true_and_small]
 # Of which an audit is held to a rate.
 RATED = [registrants_told, queues_and_registrants_told, told_and_nothing_killed]
