@@ -473,8 +473,7 @@ def told_log() -> str:
 
 
 def redone_log() -> str:
-    """A log of true checkpoints, whose states are as long as what several workers are worth, and too far from one another to be
-    made record by record."""
+    """A log of few true checkpoints, whose states are long."""
     elements = b"enqueue 1 0 5 - 0 " + b"5a" * 6000 + b"\n"
     units = [b"begin %d\ncommit %d\n" % (u, u) for u in range(2, 422)]
     told = b"".join(b"".join(units[at:at + 60]) + b"checkpoint\n" for at in range(0, 420, 60))

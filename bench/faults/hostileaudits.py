@@ -401,7 +401,7 @@ TRUE = [true_checkpoints, queues_told, true_and_small]
 # Of which an audit is held to a rate.
 RATED = [registrants_told, queues_and_registrants_told, told_and_nothing_killed]
 LONG_AND_TRUE = [chain_told, *RATED]
-# Without a checkpoint: an audit counts units and registrants in maps of its own.
+# Without a checkpoint: an audit has the maps of its judge and of the queues beside the records.
 WITHOUT = [colliding_units, colliding_registrants, long_names]
 # Chains of error queues, and KILLs.
 AUDITED_IN_VERSION_TWO = [chain_numbered, chain_told, told_and_nothing_killed]
