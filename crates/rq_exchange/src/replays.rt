@@ -20,7 +20,7 @@ use crate::gathered::{AllRedone, fields_after};
 use crate::jobs::Job;
 use crate::links::{errors_of, sources_of};
 use rq_catalog::{Analysis, analyse_kept};
-use rq_pool::{Gate, Plan};
+use rq_plan::{Gate, Plan};
 use rq_queue::Part;
 use rq_record::{Fault, KeptRecord, Record, Version, kept_records};
 use rq_state::State;

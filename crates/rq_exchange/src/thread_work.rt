@@ -13,7 +13,8 @@ ghost use Rattle.rq_exchange.specs.Jobs.{IsJob};
 use crate::chain::CountdownChain;
 use crate::jobs::Job;
 use crate::outboxes::{Outbox, Redone};
-use rq_pool::{Gate, Pass};
+use rq_plan::Gate;
+use rq_pool::Pass;
 use rq_record::Fault;
 use std::alloc::Global;
 
