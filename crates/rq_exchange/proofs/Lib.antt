@@ -1,16 +1,14 @@
 pub mod Alone
 pub mod Arriving
-pub mod Backwards
 pub mod Boards
 pub mod Cases
-pub mod Closing
 pub mod Counting
 pub mod Courses
 pub mod Covering
-pub mod Crews
 pub mod Errors
 pub mod Handing
 pub mod Indices
+pub mod Loops
 pub mod Merging
 pub mod Openings
 pub mod Pairs

@@ -37,7 +37,6 @@ fn redo_all<R: Threads + Sync, G: Gate + Sync>(
     gate: &G,
 ) -> Result<(Vec<Option<Part>>, Course), Fault>
     requires job { IsJob job.now }
-    requires few { length job.now.definitions.now ≤ 4096 }
     ensures size { IfOk result (λ r. length r.0.items ≡ length job.now.definitions.now) }
     ensures parts { IfOk result
         (λ r. AreParts (run job.now.state.now (records_of job.now)) r.0.items) }

@@ -4,7 +4,6 @@ pub mod Claims
 pub mod Takes
 pub mod Counts
 pub mod Gathers
-pub mod Arrives
 pub mod Histories
 pub mod Settled
 pub mod Settling

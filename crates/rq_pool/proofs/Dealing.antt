@@ -5,7 +5,7 @@ use Rattle.std.proofs.Common.{◌∙◌, arith}
 use Rattle.std.specs.Global.{Global}
 use Rattle.std.specs.Vec.{with_items}
 use Rattle.std.proofs.lemmas.List.{length-map, length-replicate, with_items_is, take_more, replicate-append-replicate}
-use Rattle.std.proofs.lemmas.List.{map-append, reverse-append, nil_from_length}
+use Rattle.std.proofs.lemmas.List.{map-append, reverse-append, nil_from_length, get_or-map}
 use Rattle.std.proofs.lemmas.List.Sums.{sum_by-cons}
 use Rattle.std.proofs.lemmas.List.Folds.{sum_by-replicate}
 use Rattle.std.proofs.lemmas.Option.{slice_get_within, get_or_from_slice_get}
@@ -22,8 +22,8 @@ use Rattle.rq_pool.specs.declared.seat.Place.TheVariants.{Alone, Beside}
 use Rattle.rq_pool.specs.Holdings.{Holds}
 use Rattle.rq_pool.specs.Vaults.{reach_at}
 use Rattle.rq_pool.specs.Rooms.{IsPlaceBeside}
-use Rattle.rq_pool.proofs.Taking.{get_map, map_map}
 use Rattle.rq_pool.proofs.Lists.{nothing_at, first_of_drop}
+use mathlib.Core.List.{map-map}
 
 pub begun : (ids : List DeckId) (number : ℕ) (deque : (ℕ × ℕ) × Global) (v : Share) (stolens : List (List ℕ))
     (taken : List ℕ) → slice_get ids number ≡ Some (deque, v.dealt) → stolens ≡ replicate (length ids) []
@@ -31,7 +31,7 @@ pub begun : (ids : List DeckId) (number : ℕ) (deque : (ℕ × ℕ) × Global) 
 begun ids number deque v stolens taken own fresh parts none bare = let inside : number < length ids =
     slice_get_within ids number (deque, v.dealt) own in let count = length-map ids list_in in record {
       numbered = omega arith;
-      dealt = get_map list_in ids number (deque, v.dealt) [] inside
+      dealt = get_or-map list_in ids number (deque, v.dealt) [] inside
           ∙ ap list_in (get_or_from_slice_get ids number (deque, v.dealt) (deque, v.dealt) own);
       parts = omega arith;
       same = ap length fresh ∙ length-replicate (length ids) [] ∙ sym count;
@@ -87,7 +87,7 @@ none_filled n (d ∷ ds) all = let none = ap owner_count (all 0 d (omega arith))
 
 -- the lists of the deques are those that were dealt
 pub same_lists : (decks : List Deck) → map list_in (map deck_id decks) ≡ map deck_list decks
-same_lists decks = map_map deck_id list_in decks
+same_lists decks = map-map list_in deck_id decks
 
 -- there are as many of them as lists
 pub as_many : (decks : List Deck) (lists : Vec (Vec ℕ Global) Global) → map deck_list decks ≡ map vec_items lists.items

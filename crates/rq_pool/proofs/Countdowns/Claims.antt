@@ -11,8 +11,9 @@ use Rattle.rq_pool.specs.declared.countdown.view.Terms.{Terms}
 use Rattle.rq_pool.specs.Countdowns.Phases.{Phase, clear, away, home, gone, back, flag, waits, is_shut, place, count}
 use Rattle.rq_pool.specs.Countdowns.Rule.{one_if, here, parts, stands_at, made_for, lasts, view, HasLast, AtSource}
 use Rattle.rq_pool.specs.Countdowns.Rule.{IsSet, IsOpen, IsShut, Held, claimed}
-use Rattle.rq_pool.proofs.Countdowns.Totals.{total_set, at_most, inside, there, map_long, get_map, set_get}
+use Rattle.rq_pool.proofs.Countdowns.Totals.{total_set, at_most, inside, there, get_map, set_get}
 use Rattle.rq_pool.proofs.Countdowns.Views.{some_set, same_total, source_else, set_still, passes_set}
+use Rattle.std.proofs.lemmas.List.{length-map}
 
 module _ {T : Type 0} where
   pub shut_gone : (ys : List T) (i : ℕ) (p : Phase T) → get_elem? (map gone ys) i ≡ some p → is_shut p ≡ 1
@@ -113,7 +114,7 @@ module _ {T K : Type 0} (fits : K → ℕ → T → Type 0) (terms : Terms K) wh
       let v : View T K = me.0 in let ps : List (Phase T) = h.phases in let w : View T K =
       view v.parts v.key None v.made (v.refused ++ i ∷ []) in
       let near : i < length ps = inside ps i p p_at in let long : length s.words ≡ suc (length ps) =
-      ap length h.words_are ∙ ap suc (map_long flag ps) in let b : i ≡ suc i - 1 = omega arith in
+      ap length h.words_are ∙ ap suc (length-map ps flag) in let b : i ≡ suc i - 1 = omega arith in
       let old = h.each_pass id v at in (
         w,
         keeps,
@@ -162,7 +163,7 @@ module _ {T K : Type 0} (fits : K → ℕ → T → Type 0) (terms : Terms K) wh
   at_flag : (slots id : ℕ) (me : M) (i : ℕ) → i < slots → me.0.at ≡ None → 0 < me.0.parts
       → Allows H slots id me (suc i) (λ _. 1) (claimed (step slots (suc i) 1 0 none) me)
   at_flag slots id me i near idle part s h wide at small = let ps = h.phases in
-      let long : length s.homes ≡ length ps = ap length h.homes_are ∙ map_long place ps in let some_phase =
+      let long : length s.homes ≡ length ps = ap length h.homes_are ∙ length-map ps place in let some_phase =
       there ps i (omega arith) in
       by_phase s h slots id me i at idle part some_phase.0 some_phase.1
       (ap (λ ws. get_or ws (suc i) 0) h.words_are ∙ get_map flag ps i some_phase.0 some_phase.1)

@@ -1,6 +1,6 @@
 -- The table at the start.
-use Rattle.std.proofs.Common.{◌≡◌, ℕ, zero, suc, ◌<◌, List, [], ◌∷◌, map, get_or, set, replicate, sym, refl, ap, ◌∙◌}
-use Rattle.std.proofs.Common.{subst, inl, arith, Option, Some, None}
+use Rattle.std.proofs.Common.{◌≡◌, ℕ, zero, suc, ◌<◌, List, [], ◌∷◌, map, set, replicate, sym, refl, ap, ◌∙◌, subst}
+use Rattle.std.proofs.Common.{inl, arith, Option, Some, None}
 use mathlib.Core.Option.{some, some-injective, some-ne-none}
 use lib.ListN.{get_elem?}
 use Rattle.atomic_table.specs.Table.{opening}
@@ -73,14 +73,3 @@ module _ {T K : Type 0} (fits : K → ℕ → T → Type 0) (terms : Terms K) wh
   pub starts_set : (n m : ℕ) (ws : List ℕ) → suc n ≡ m → 0 < n → 0 < terms.passes → ws ≡ set (replicate m 0) 0 n
       → Held fits terms (opening ws (replicate n None) first)
   starts_set n m ws e some_source some_pass is = starts n ws some_source some_pass (is ∙ with_count n m e)
-
-pub some_same : {A : Type 0} (P : A → Type 0) (a b : A) → Some a ≡ Some b → P a → P b
-some_same P a b e p = subst P (ap (or_first a) e) p
-  where
-    or_first : {A : Type 0} → A → Option A → A
-    or_first d None = d
-    or_first d (Some x) = x
-
-pub all_one : {A : Type 0} (P : A → Type 0) (x : A) → P x → (k : ℕ) (d : A) → k < 1 → P (get_or (x ∷ []) k d)
-all_one P x p zero d near = p
-all_one P x p (suc k) d near = absurd (omega arith)

@@ -12,7 +12,8 @@ use Rattle.rq_pool.specs.declared.countdown.view.Terms.{Terms}
 use Rattle.rq_pool.specs.Countdowns.Phases.{total, Phase, gone, back, flag, place, count, indexed}
 use Rattle.rq_pool.specs.Countdowns.Rule.{lasts, parts, HasLast, SomeView, AtSource, IsSet, IsOpen, IsShut, Held}
 use Rattle.rq_pool.specs.Countdowns.Rule.{hands_back}
-use Rattle.rq_pool.proofs.Countdowns.Totals.{at_most, map_long, set_get}
+use Rattle.rq_pool.proofs.Countdowns.Totals.{at_most, set_get}
+use Rattle.std.proofs.lemmas.List.{length-map}
 
 module _ {S : Type 0} where
   abbrev give_all : ℕ → Act S
@@ -72,7 +73,7 @@ module _ {T : Type 0} where
       further f (suc j) old = f j old
 
   from_back : (ys : List T) → Turns ys (map back ys)
-  from_back ys = (refl, refl, map_long (λ (y : T). back y) ys, λ j old. old)
+  from_back ys = (refl, refl, length-map ys (λ (y : T). back y), λ j old. old)
 
   back_at_gone : (ys : List T) (i : ℕ) (p : Phase T) → get_elem? (map back ys) i ≡ some p
       → (y : T) × (p ≡ back y) × (get_elem? (map gone ys) i ≡ some (gone y))
@@ -114,7 +115,7 @@ module _ {T K : Type 0} (fits : K → ℕ → T → Type 0) (terms : Terms K) wh
       let ys : List T = o.outboxes in
       let t : Turns ys h.phases = ⊎_elim (λ (g : h.phases ≡ map gone ys). subst (Turns ys) (sym g) (from_gone ys))
       (λ (g : h.phases ≡ map back ys). subst (Turns ys) (sym g) (from_back ys)) o.all_shut in
-      let long : length s.homes ≡ length h.phases = ap length h.homes_are ∙ map_long place h.phases in
+      let long : length s.homes ≡ length h.phases = ap length h.homes_are ∙ length-map h.phases place in
       let c : List (ℕ × Option T) = indexed 0 (replicate slots None) in
       let nothing : Option T = None in let g = giving slots nothing s.homes 0 (omega arith) in (
         me.0,

@@ -31,10 +31,6 @@ module _ {A : Type 0} where
   inside (y ∷ xs) zero x e = omega arith
   inside (y ∷ xs) (suc i) x e = let q = inside xs i x e in omega arith
 
-  pub map_long : {B : Type 0} (f : A → B) (xs : List A) → length (map f xs) ≡ length xs
-  map_long f [] = refl
-  map_long f (x ∷ xs) = ap suc (map_long f xs)
-
   pub get_map : (f : A → ℕ) (xs : List A) (i : ℕ) (x : A) → get_elem? xs i ≡ some x → get_or (map f xs) i 0 ≡ f x
   get_map f [] i x e = absurd (some-ne-none x (sym e))
   get_map f (y ∷ xs) zero x e = ap f (some-injective y x e)

@@ -1,5 +1,6 @@
 -- What a step of one pass does to the facts about all passes.
-use Rattle.std.proofs.Common.{◌≡◌, ◌≢◌, ℕ, ◌<◌, List, length, set, sym, ap, ◌∙◌, subst, ⊎_elim, arith}
+use Rattle.std.proofs.Common.{◌≡◌, ◌≢◌, ℕ, ◌<◌, List, length, set, sym, ap, ◌∙◌, subst, ⊎_elim, arith, Option, ◌+◌, []}
+use Rattle.std.proofs.Common.{◌∷◌}
 use mathlib.Core.Option.{some, some-injective}
 use mathlib.Core.Logic.{dite}
 use native.Mathlib.Decide.{ℕ_discrete}
@@ -8,8 +9,9 @@ use Rattle.atomic_table.proofs.Lists.{at_set, set_here, set_else}
 use Rattle.rq_pool.specs.declared.countdown.view.Made.{Made}
 use Rattle.rq_pool.specs.declared.countdown.view.View.{View}
 use Rattle.rq_pool.specs.Countdowns.Phases.{total, Phase, flag}
-use Rattle.rq_pool.specs.Countdowns.Rule.{stands_at, made_for, HasMade, SomeView, AtSource, IsSet, Knows}
-use Rattle.rq_pool.proofs.Countdowns.Totals.{total_set, inside}
+use Rattle.rq_pool.specs.Countdowns.Rule.{stands_at, made_for, HasMade, SomeView, AtSource, IsSet, Knows, times_told}
+use Rattle.rq_pool.specs.Countdowns.Rule.{count_told, lasts, after, made_of}
+use Rattle.rq_pool.proofs.Countdowns.Totals.{total_set, inside, total_append}
 
 module _ {T : Type 0} where
   pub set_still : (ps : List (Phase T)) (i : ℕ) (q : Phase T) → i < length ps → flag q ≡ 1 → (j : ℕ) → IsSet ps j
@@ -50,3 +52,8 @@ module _ {T K : Type 0} where
       (λ (t : (j ≢ id) × (get_elem? views j ≡ some u)). let old = each j u t.1 in
       record { same_key = old.same_key; idle = old.idle; set_before = λ k i at. still i (old.set_before k i at) })
       (at_set views id j w u e)
+
+-- an arrival that was told Last is one more
+pub lasts_after : {T K : Type 0} (v : View T K) (i : ℕ) (x : T) (ys : Option (List T))
+    → lasts (after v i x ys) ≡ lasts v + count_told ys
+lasts_after v i x ys = let q = total_append times_told v.made (made_of i x ys ∷ []) in omega arith

@@ -22,7 +22,7 @@ pub close_countdowns-requires-clause-kept : goal.close_countdowns-requires-claus
 close_countdowns-requires-clause-kept g c = λ i d lt.
     let kept : HaveKept c.args.job.now c.in_ok-chain.chain c.deref.result.now c.in_ok-kept.kept.items =
     c.in_ok-kept.ensures.kept in
-    (each_keeps c.args.job.now c.in_ok-chain.chain kept.starts c.in_ok-kept.kept.items kept.keep i d lt).1.passes
+    (each_keeps c.args.job.now c.in_ok-chain.chain kept.starts c.in_ok-kept.kept.items kept.keep i d lt).passes
 
 pub placed-requires : goal.placed-requires
 placed-requires g c =

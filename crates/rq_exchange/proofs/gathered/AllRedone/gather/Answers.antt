@@ -1,4 +1,4 @@
-use Rattle.std.proofs.Common.{◌≡◌, length, map, sym, ap, ◌∙◌, ◌++◌, subst, Vec, Global, IsPermutation}
+use Rattle.std.proofs.Common.{◌≡◌, length, map, sym, ap, ◌∙◌, subst, Vec, Global}
 use Rattle.rq_model.specs.States.{State, Definition, id_before, registrant_before}
 use Rattle.rq_model.specs.WellFormed.{IsWellFormed}
 use Rattle.rq_model.specs.Queues.{Part, part_of}
@@ -26,20 +26,15 @@ same c t all =
       definitions = ap (λ (v : Vec Definition Global). v.items) poured.definitions ∙ all.fields.definitions;
       units = is_same t.units (map unit_of c.in_ok-fields.fields.units.items)
           (ap (λ (v : Vec UnitNo Global). map unit_of v.items) poured.units ∙ all.fields.units);
-      registrants = members registrant_before t.registrants
-          (gathered (λ (p : Part). p.registrants) (part_of t) (length t.definitions)) before.registrants.items
-          c.in_ok-fields.fields.registrants.items (ap (λ (s : State). s.registrants) whole) all.fields.registrants
-          (subst (λ m. IsPermutation (before.registrants.items ++ gathered (λ (p : Part). p.registrants) (part_of t) m)
-          c.in_ok-fields.fields.registrants.items) all.every poured.registrants);
+      registrants = members registrant_before t.registrants (gathered (λ (p : Part). p.registrants) (part_of t) (length t.definitions))
+          before.registrants.items c.in_ok-fields.fields.registrants.items (ap (λ (s : State). s.registrants) whole)
+          all.fields.registrants (rw all.every at poured.registrants);
       elements = members id_before t.elements (gathered (λ (p : Part). p.elements) (part_of t) (length t.definitions))
-          before.elements.items c.in_ok-fields.fields.elements.items
-          (ap (λ (s : State). s.elements) whole) all.fields.elements
-          (subst (λ m. IsPermutation (before.elements.items ++ gathered (λ (p : Part). p.elements) (part_of t) m)
-          c.in_ok-fields.fields.elements.items) all.every poured.elements);
+          before.elements.items c.in_ok-fields.fields.elements.items (ap (λ (s : State). s.elements) whole)
+          all.fields.elements (rw all.every at poured.elements);
       notes = members place_before t.notes (gathered (λ (p : Part). p.notes) (part_of t) (length t.definitions))
-          before.notes.items c.in_ok-fields.fields.notes.items (ap (λ (s : State). s.notes) whole) all.fields.notes
-          (subst (λ m. IsPermutation (before.notes.items ++ gathered (λ (p : Part). p.notes) (part_of t) m)
-          c.in_ok-fields.fields.notes.items) all.every poured.notes);
+          before.notes.items c.in_ok-fields.fields.notes.items (ap (λ (s : State). s.notes) whole)
+          all.fields.notes (rw all.every at poured.notes);
     }
 
 -- the fields, put in order, are the state that all is redone to

@@ -1,14 +1,12 @@
 use Rattle.std.proofs.Common.{arith, ap, sym, ◌∙◌, subst, [], ◌∷◌, ◌++◌, refl, length, map, replicate, Some, None}
+use Rattle.std.proofs.Common.{append-nil}
 use Rattle.rq_pool.specs.Countdowns.Phases.{indexed, outboxes_in}
 use Rattle.rq_pool.specs.Countdowns.Rule.{lasts, after, count_told, made_of}
-use Rattle.rq_pool.specs.Countdowns.History.{Fit}
-use Rattle.rq_pool.proofs.Countdowns.Arrives.{lasts_after}
+use Rattle.rq_pool.specs.Countdowns.History.{Fit, entry, Answered}
 use Rattle.rq_pool.proofs.Countdowns.Histories.{tells, gives}
-use Rattle.rq_pool.proofs.Countdowns.Takes.{append_none}
-use Rattle.rq_pool.specs.Countdowns.History.{entry}
-use Rattle.rq_pool.specs.Countdowns.History.{Answered}
 use Rattle.rq_pool.specs.declared.countdown.arrival.Arrival.TheVariants.{Twice, NotLast, Last}
 use Rattle.rq_pool.proofs.Countdowns.Gathers.{contents_numbered}
+use Rattle.rq_pool.proofs.Countdowns.Views.{lasts_after}
 use Rattle.rq_pool.proofs.countdown.Countdown.arrive.Goals as goal
 
 pub invariant_of-pass : goal.invariant_of-pass
@@ -17,7 +15,7 @@ invariant_of-pass g c = let was = c.args.pass.now.seat.me.0 in let s = c.args.so
     let more = c.noted.ensures.entry ∙ (λ j. c.args.pass.now.diary ++ entry s (c.of-shown.ensures j) (Twice x) ∷ []) in
     record {
       told = tells _ _ s x (Twice x) more _ _ _ _ c.args.pass.now.told
-          (ap (λ m. m.0.made) set ∙ sym (append_none was.made)) (ap (λ m. m.0.refused) set);
+          (ap (λ m. m.0.made) set ∙ sym (append-nil was.made)) (ap (λ m. m.0.refused) set);
       gave_back = gives _ _ s x (Twice x) more c.args.pass.now.gave_back refl;
       rests = (ap (λ m. m.0.at) set, ap (λ m. m.0.parts) set ∙ c.args.pass.now.rests.1);
       has_room = λ v e. let r = c.args.pass.now.has_room v e in
@@ -38,7 +36,7 @@ invariant_of-pass-then-not-hand_in g c = let was = c.args.pass.now.seat.me.0 in 
       told = tells _ _ s x NotLast
           (c.noted-then-not-hand_in.ensures.entry
           ∙ (λ j. c.args.pass.now.diary ++ entry s (c.of-shown.ensures j) NotLast ∷ [])) _ _ _ _ c.args.pass.now.told
-          (ap (λ m. m.0.made) whole) (ap (λ m. m.0.refused) whole ∙ sym (append_none was.refused));
+          (ap (λ m. m.0.made) whole) (ap (λ m. m.0.refused) whole ∙ sym (append-nil was.refused));
       gave_back = gives _ _ s x NotLast
           (c.noted-then-not-hand_in.ensures.entry
           ∙ (λ j. c.args.pass.now.diary ++ entry s (c.of-shown.ensures j) NotLast ∷ [])) c.args.pass.now.gave_back refl;
@@ -71,7 +69,7 @@ invariant_of-pass-in-Some g c = let was = c.args.pass.now.seat.me.0 in let s = c
           (c.noted-in-Some.ensures.entry
           ∙ (λ j. c.args.pass.now.diary ++ entry s (c.of-shown.ensures j) (Last room) ∷ [])) _ _ _ _
           c.args.pass.now.told (ap (λ v. v.made) whole ∙ (λ j. was.made ++ made_of s x (Some (sym same j)) ∷ []))
-          (ap (λ v. v.refused) whole ∙ sym (append_none was.refused));
+          (ap (λ v. v.refused) whole ∙ sym (append-nil was.refused));
       gave_back = gives _ _ s x (Last room)
           (c.noted-in-Some.ensures.entry
           ∙ (λ j. c.args.pass.now.diary ++ entry s (c.of-shown.ensures j) (Last room) ∷ [])) c.args.pass.now.gave_back
