@@ -1,30 +1,16 @@
 -- From what the threads keep and the closed countdowns tell to how the replay went.
-use Rattle.std.proofs.Common.{◌≡◌, ℕ, ◌<◌, ◌≤◌, List, [], length, sym, ap, ◌∙◌, subst, arith, flat_map}
-use Rattle.std.specs.Prelude.{slice_index_or}
-use Rattle.std.proofs.lemmas.List.{get_or-map, length-map}
-use Rattle.std.proofs.lemmas.List.Sums.{get_or-le-sum_by}
-use Rattle.rq_pool.specs.declared.countdown.arrival.Entry.{Entry}
-use Rattle.rq_pool.specs.Countdowns.Arrivals.{Settled, arrivals_for, last_lists}
-use Rattle.rq_pool.specs.Ledger.{times, times_in}
-use Rattle.rq_state.specs.Orders.{listed}
-use Rattle.rq_exchange.specs.declared.chain.CountdownChain.{CountdownChain}
+use Rattle.std.proofs.Common.{◌≡◌, ℕ, ◌<◌, ◌≤◌, List, [], length, sym, ap, ◌∙◌, subst, arith, flat_map, slice_index_or}
+use Rattle.rq_exchange.proofs.Words.{get_or-map, length-map, get_or-le-sum_by, Entry, Settled, arrivals_for, last_lists}
+use Rattle.rq_exchange.proofs.Words.{times, times_in, listed, CountdownChain, WorkDone, Job, Outbox, IsChainOf}
+use Rattle.rq_exchange.proofs.Words.{redone_in, diaries_of, redone_of, redone_by, told_to, all_told, StartsByLast}
+use Rattle.rq_exchange.proofs.Words.{Recounts, told_at, IsJob, errors_in, at, naming, AreBare, HasKept, HaveKept}
+use Rattle.rq_exchange.proofs.Words.{AreSettled, flat_map-map}
 use Rattle.rq_exchange.specs.declared.course.Course.{Course}
-use Rattle.rq_exchange.specs.declared.crew.WorkDone.{WorkDone}
-use Rattle.rq_exchange.specs.declared.jobs.Job.{Job}
-use Rattle.rq_exchange.specs.declared.outboxes.Outbox.{Outbox}
-use Rattle.rq_exchange.specs.Chains.{IsChainOf, redone_in, diaries_of}
-use Rattle.rq_exchange.specs.Courses.{redone_of, redone_by, told_to, all_told, StartsByLast, Recounts}
-use Rattle.rq_exchange.specs.Coverage.{told_at}
-use Rattle.rq_exchange.specs.Jobs.{IsJob, errors_in}
-use Rattle.rq_exchange.specs.Links.{at, naming}
-use Rattle.rq_exchange.specs.Tasks.{AreBare}
-use Rattle.rq_exchange.specs.Workers.{HasKept, HaveKept, AreSettled}
 use Rattle.rq_exchange.proofs.Alone.{alone}
 use Rattle.rq_exchange.proofs.Openings.{some_of}
 use Rattle.rq_exchange.proofs.Tasks.{zero_or}
 use Rattle.rq_exchange.proofs.Webs.{many, sources_name}
 use Rattle.rq_exchange.proofs.Wholes.{whole, all_arrive}
-use Rattle.std.proofs.lemmas.List.Folds.{flat_map-map}
 use Rattle.rq_exchange.proofs.Working.{each_keeps}
 use Rattle.rq_exchange.proofs.Pairs.{pairs_long}
 

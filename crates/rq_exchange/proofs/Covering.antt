@@ -1,14 +1,9 @@
 -- Each queue is redone once, by one thread.
 use Rattle.std.proofs.Common.{◌≡◌, ◌⊎◌, ℕ, zero, suc, ◌+◌, ◌<◌, ◌≤◌, List, [], ◌∷◌, map, length, length-append, refl}
 use Rattle.std.proofs.Common.{ap, sym, ◌∙◌, arith, inl, inr, sum_by, flat_map}
-use Rattle.std.proofs.lemmas.List.{get_or_past}
-use Rattle.std.proofs.lemmas.List.Sums.{sum_by-cons}
-use Rattle.rq_pool.specs.declared.countdown.arrival.Entry.{Entry}
-use Rattle.rq_pool.specs.Countdowns.Arrivals.{arrivals_for, kept_for, kept_from, last_lists, Settled}
-use Rattle.rq_pool.specs.Ledger.{times, times_in}
-use Rattle.rq_exchange.specs.Coverage.{Web, IsWebClosed, told_at, lasts_at, arrived_at, source_at, DiariesTell}
-use Rattle.rq_exchange.specs.Pairs.{EachWith}
-use Rattle.std.proofs.lemmas.Grind.{flat_map-append}
+use Rattle.rq_exchange.proofs.Words.{get_or_past, sum_by-cons, Entry, arrivals_for, kept_for, kept_from, last_lists}
+use Rattle.rq_exchange.proofs.Words.{Settled, times, times_in, Web, IsWebClosed, told_at, lasts_at, arrived_at}
+use Rattle.rq_exchange.proofs.Words.{source_at, DiariesTell, EachWith, flat_map-append}
 
 -- a list of lists, each of some length, is as long as these together
 pub flat_long : {A B C : Type 0} (f : B → List C) (d : A → List B) (xs : List A)

@@ -1,28 +1,13 @@
 -- What an arrival at a countdown tells.
 use Rattle.std.proofs.Common.{◌≡◌, ℕ, suc, ◌<◌, List, [], ◌∷◌, ◌++◌, length, map, refl, ap, sym, ◌∙◌, subst, arith}
-use Rattle.std.proofs.Common.{slice_set, IfSome}
-use Rattle.std.specs.Prelude.{slice_index_or}
-use Rattle.std.proofs.lemmas.List.{map-set, length-map, get_or-map}
+use Rattle.std.proofs.Common.{slice_set, IfSome, slice_index_or}
+use Rattle.rq_exchange.proofs.Words.{map-set, length-map, get_or-map, moves, listed, Pass, Countdown, Ghosts, Arrival}
+use Rattle.rq_exchange.proofs.Words.{entry, Answered, key_of, sources_of, history_of, CountdownChain, Outbox, Target}
+use Rattle.rq_exchange.proofs.Words.{Job, records_of, errors_in, at, web_of, due, AreBoxes, IsCountdownOf, IsChainOf}
+use Rattle.rq_exchange.proofs.Words.{diaries_of, boxes_of, HandsOn, told_at, Twice, NotLast, Last}
 use mathlib.Core.Option.{some}
 use lib.ListN.{get_elem?}
-use Rattle.rq_model.specs.Queues.{moves}
-use Rattle.rq_state.specs.Orders.{listed}
-use Rattle.rq_pool.specs.declared.countdown.pass.Pass.{Pass}
-use Rattle.rq_pool.specs.declared.countdown.Countdown.{Countdown}
-use Rattle.rq_pool.specs.declared.countdown.fits.Fits.{Ghosts}
-use Rattle.rq_pool.specs.declared.countdown.arrival.Arrival.{Arrival}
-use Rattle.rq_pool.specs.Countdowns.History.{entry, Answered}
-use Rattle.rq_pool.specs.Countdowns.Words.{key_of, sources_of, history_of}
-use Rattle.rq_exchange.specs.declared.chain.CountdownChain.{CountdownChain}
-use Rattle.rq_exchange.specs.declared.outboxes.Outbox.{Outbox}
-use Rattle.rq_exchange.specs.declared.outboxes.Target.{Target}
-use Rattle.rq_exchange.specs.declared.jobs.Job.{Job}
-use Rattle.rq_exchange.specs.Jobs.{records_of, errors_in}
-use Rattle.rq_exchange.specs.Links.{at}
-use Rattle.rq_exchange.specs.Chains.{web_of, due, AreBoxes, IsCountdownOf, IsChainOf, diaries_of, boxes_of}
-use Rattle.rq_exchange.specs.Coverage.{HandsOn, told_at}
 use Rattle.rq_exchange.proofs.Steps.{arrives}
-use Rattle.rq_pool.specs.declared.countdown.arrival.Arrival.TheVariants.{Twice, NotLast, Last}
 
 -- a list of the values that another has at its indices
 pub same_lists : {X Y : Type 0} (f : X → Y) (d : Y) (xs : List X) (ys : List Y) → length xs ≡ length ys

@@ -1,12 +1,7 @@
 -- The indices of those that pass a test.
 use Rattle.std.proofs.Common.{◌≡◌, ◌≢◌, ℕ, zero, suc, ◌+◌, ◌<◌, ◌≤◌, Bool, true, cond, List, [], ◌∷◌, length, refl, sym}
-use Rattle.std.proofs.Common.{ap, ◌∙◌, arith}
-use Rattle.std.specs.Prelude.{slice_index_or}
-use Rattle.std.specs.List.{AllByRecursion}
-use Rattle.rq_model.specs.WellFormed.{Ordered}
-use Rattle.rq_model.proofs.Lists.{by_cases, each_weaker}
-use Rattle.rq_state.specs.Orders.{indices_of}
-use Rattle.std.proofs.lemmas.List.Elements.{All-from_recursion}
+use Rattle.std.proofs.Common.{ap, ◌∙◌, arith, slice_index_or}
+use Rattle.rq_exchange.proofs.Words.{AllByRecursion, Ordered, by_cases, each_weaker, indices_of, All-from_recursion}
 
 hold_from : {X : Type 0} (p : X → Bool) (f : ℕ → X) (d : X) (n : ℕ) (xs : List X)
     → ((k : ℕ) → k < length xs → f (n + k) ≡ slice_index_or xs k d)

@@ -1,3 +1,4 @@
+pub mod Words
 pub mod Alone
 pub mod Arriving
 pub mod Boards

@@ -1,10 +1,8 @@
 -- A loop over what a Vec holds.
 use Rattle.std.proofs.Common.{◌≡◌, ◌<◌, List, All, Option, Some, None, length, get_or, sym, ◌∙◌, subst, map-id}
-use Rattle.std.specs.Iterator.{Yields}
-use Rattle.std.specs.Vec.Iter.{into_iter_items, into_iter_len, into_iter_steps}
-use Rattle.std.specs.declared.vec.IntoIter.{IntoIter}
+use Rattle.rq_exchange.proofs.Words.{Yields, into_iter_items, into_iter_len, into_iter_steps, IntoIter}
+use Rattle.rq_exchange.proofs.Words.{YieldsList-from_vec}
 use Rattle.std.proofs.lemmas.Iterator.Consumers.{YieldsList-turn, YieldsList-end}
-use Rattle.std.proofs.lemmas.Iterator.Adapters.{YieldsList-from_vec}
 
 module _ {A Z : Type 0} {s t u : IntoIter A Z} {r : Option A} (all : List A) (from : into_iter_items s ≡ all)
     (long : into_iter_len s ≡ length all) (xs : List A) (y : Yields (into_iter_steps {X = A} {Z = Z}) s xs t) where

@@ -1,21 +1,9 @@
 -- The countdowns, one queue more.
 use Rattle.std.proofs.Common.{◌≡◌, ◌⊎◌, ℕ, ◌+◌, ◌<◌, List, [], ◌∷◌, ◌++◌, All, length, length-append, map, refl, sym}
-use Rattle.std.proofs.Common.{ap, ◌∙◌, arith, inl, inr, Vec, Global}
-use Rattle.std.specs.Prelude.{slice_index_or}
-use Rattle.std.proofs.lemmas.List.{get_or_append_left, get_or-map}
-use Rattle.std.proofs.Math.Seq.{get_or-append_seam}
-use Rattle.rq_state.specs.Orders.{listed}
-use Rattle.rq_pool.specs.declared.countdown.Countdown.{Countdown}
-use Rattle.rq_pool.specs.declared.countdown.pass.Pass.{Pass}
-use Rattle.rq_pool.specs.declared.countdown.fits.Fits.{Ghosts}
-use Rattle.rq_pool.specs.Countdowns.Words.{history_of}
-use Rattle.rq_exchange.specs.declared.chain.CountdownChain.{CountdownChain}
-use Rattle.rq_exchange.specs.declared.outboxes.Outbox.{Outbox}
-use Rattle.rq_exchange.specs.declared.outboxes.Target.{Target}
-use Rattle.rq_exchange.specs.declared.jobs.Job.{Job}
-use Rattle.rq_exchange.specs.Chains.{IsCountdownOf, ArePasses, HasPasses}
-use Rattle.rq_exchange.specs.Links.{at}
-use Rattle.rq_exchange.specs.Openings.{IsFreshColumn, Opened, AreOpened}
+use Rattle.std.proofs.Common.{ap, ◌∙◌, arith, inl, inr, Vec, Global, slice_index_or}
+use Rattle.rq_exchange.proofs.Words.{get_or_append_left, get_or-map, get_or-append_seam, listed, Countdown, Pass}
+use Rattle.rq_exchange.proofs.Words.{Ghosts, history_of, CountdownChain, Outbox, Target, Job, IsCountdownOf, ArePasses}
+use Rattle.rq_exchange.proofs.Words.{HasPasses, at, IsFreshColumn, Opened, AreOpened}
 use Rattle.rq_exchange.proofs.Steps.{same_or}
 use Rattle.rq_exchange.proofs.Pairs.{pairs_at, pairs_long, pairs_push}
 

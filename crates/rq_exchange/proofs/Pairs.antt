@@ -1,9 +1,7 @@
 -- Two lists, taken together.
 use Rattle.std.proofs.Common.{◌≡◌, ℕ, zero, suc, ◌<◌, List, [], ◌∷◌, ◌++◌, length, get_or, refl, sym, ap, ◌∙◌, subst}
 use Rattle.std.proofs.Common.{arith, append_assoc, append-nil, length-append}
-use Rattle.std.proofs.lemmas.List.{nil_from_length}
-use Rattle.std.proofs.Math.Seq.{get_or-append_seam}
-use Rattle.rq_exchange.specs.Pairs.{EachWith, Halfway}
+use Rattle.rq_exchange.proofs.Words.{nil_from_length, get_or-append_seam, EachWith, Halfway}
 
 module _ {A B : Type 0} (R : A → B → Type 0) where
   pub pairs_long : (xs : List A) (ys : List B) → EachWith R xs ys → length xs ≡ length ys

@@ -1,20 +1,9 @@
 -- What the threads redid, as it is put where it belongs.
 use Rattle.std.proofs.Common.{◌≡◌, ℕ, ◌<◌, List, All, length, map, ap, ◌∙◌, arith, Vec, Global}
-use Rattle.rq_model.specs.Machine.{run}
-use Rattle.rq_pool.specs.Ledger.{times_in}
-use Rattle.rq_exchange.specs.declared.chain.CountdownChain.{CountdownChain}
-use Rattle.rq_exchange.specs.declared.crew.WorkDone.{WorkDone}
-use Rattle.rq_exchange.specs.declared.jobs.Job.{Job}
-use Rattle.rq_exchange.specs.declared.outboxes.Redone.{Redone}
-use Rattle.rq_exchange.specs.Boards.{IsPart, queue_of}
-use Rattle.rq_exchange.specs.Chains.{IsChainOf, IsRedone}
-use Rattle.rq_exchange.specs.Jobs.{records_of}
-use Rattle.rq_exchange.specs.Tasks.{AreBare}
-use Rattle.rq_exchange.specs.Workers.{HaveKept, AreSettled}
+use Rattle.rq_exchange.proofs.Words.{run, times_in, CountdownChain, WorkDone, Job, Redone, IsPart, queue_of, IsChainOf}
+use Rattle.rq_exchange.proofs.Words.{IsRedone, records_of, AreBare, HaveKept, AreSettled, All-map, map-map}
 use Rattle.rq_exchange.proofs.Wholes.{whole}
 use Rattle.rq_exchange.proofs.Working.{each_keeps}
-use Rattle.std.proofs.lemmas.List.Elements.{All-map}
-use mathlib.Core.List.{map-map}
 
 module _ (job : Job) (chain : CountdownChain) (tasks : List ℕ) (kept : List WorkDone)
     (keep : HaveKept job chain tasks kept)

@@ -1,12 +1,9 @@
 -- The rank of each queue among the sources of its error queue.
 use Rattle.std.proofs.Common.{◌≡◌, ◌⊎◌, ℕ, suc, ◌+◌, ◌<◌, ◌≤◌, Bool, true, cond, List, [], ◌∷◌, ◌++◌, length}
 use Rattle.std.proofs.Common.{length-append, drop, refl, sym, ap, ◌∙◌, subst, arith, inl, inr, eq-eqb, append_assoc}
-use Rattle.std.proofs.Common.{false}
-use Rattle.std.specs.Prelude.{◌==◌, if◌then◌else◌}
-use Rattle.std.proofs.lemmas.List.{get_or_append_left}
-use Rattle.std.proofs.Math.Seq.{get_or-append_seam, drop-cons}
-use Rattle.rq_state.specs.Orders.{indices_of}
-use Rattle.rq_exchange.specs.Links.{at, naming, AreRanks}
+use Rattle.std.proofs.Common.{false, ◌==◌, if◌then◌else◌}
+use Rattle.rq_exchange.proofs.Words.{get_or_append_left, get_or-append_seam, drop-cons, indices_of, at, naming}
+use Rattle.rq_exchange.proofs.Words.{AreRanks}
 use Rattle.rq_exchange.proofs.Indices.{few_from}
 use Rattle.rq_exchange.proofs.Steps.{same_or}
 

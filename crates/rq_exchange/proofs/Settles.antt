@@ -1,26 +1,11 @@
 -- The passes of the threads, by countdown.
 use Rattle.std.proofs.Common.{◌≡◌, ℕ, ◌<◌, List, [], All, length, map, sym, ap, ◌∙◌, subst, arith, Vec, Global}
-use Rattle.std.proofs.Common.{flat_map}
-use Rattle.std.specs.Prelude.{slice_index_or}
-use Rattle.std.proofs.lemmas.List.{get_or-map, length-map}
-use Rattle.rq_pool.specs.declared.countdown.Countdown.{Countdown}
-use Rattle.rq_pool.specs.declared.countdown.pass.Pass.{Pass}
-use Rattle.rq_pool.specs.declared.countdown.fits.Fits.{Ghosts}
-use Rattle.rq_pool.specs.declared.countdown.arrival.Entry.{Entry}
-use Rattle.rq_pool.specs.Countdowns.Arrivals.{Settled}
-use Rattle.rq_pool.specs.Countdowns.Words.{IsPassOf, sources_of, history_of}
-use Rattle.rq_exchange.specs.declared.chain.CountdownChain.{CountdownChain}
-use Rattle.rq_exchange.specs.declared.outboxes.Outbox.{Outbox}
-use Rattle.rq_exchange.specs.declared.outboxes.Target.{Target}
-use Rattle.rq_exchange.specs.Chains.{ArePasses, HasPasses, IsColumn, IsSettled, diaries_of}
-use Rattle.rq_exchange.specs.Coverage.{told_at}
+use Rattle.std.proofs.Common.{flat_map, slice_index_or}
+use Rattle.rq_exchange.proofs.Words.{get_or-map, length-map, Countdown, Pass, Ghosts, Entry, Settled, IsPassOf}
+use Rattle.rq_exchange.proofs.Words.{sources_of, history_of, CountdownChain, Outbox, Target, ArePasses, HasPasses}
+use Rattle.rq_exchange.proofs.Words.{IsColumn, IsSettled, diaries_of, told_at, All-map, recursion_from_All, map-map}
+use Rattle.rq_exchange.proofs.Words.{flat_map-map, map_same, AreColumns, EachWith}
 use Rattle.rq_exchange.proofs.Openings.{some_of}
-use Rattle.std.proofs.lemmas.List.Elements.{All-map, recursion_from_All}
-use mathlib.Core.List.{map-map}
-use Rattle.std.proofs.lemmas.List.Folds.{flat_map-map}
-use Rattle.rq_model.proofs.Lists.{map_same}
-use Rattle.rq_exchange.specs.Columns.{AreColumns}
-use Rattle.rq_exchange.specs.Pairs.{EachWith}
 use Rattle.rq_exchange.proofs.Pairs.{pairs_of, pairs_at}
 
 module _ {g : Ghosts Outbox Target} {K : Type 0} (row : K → Vec (Pass Outbox Target g) Global) (chain : CountdownChain)

@@ -2,19 +2,10 @@
 use Rattle.std.proofs.Common.{◌≡◌, ◌≢◌, ◌⊎◌, ℕ, zero, suc, ◌+◌, ◌<◌, ◌≤◌, Bool, true, false, cond, eqb, eq-eqb, List}
 use Rattle.std.proofs.Common.{[], ◌∷◌, ◌++◌, length, length-append, set, refl, ap, sym, ◌∙◌, arith, inl, inr, add-zero}
 use Rattle.std.proofs.Common.{flat_map, append-nil}
-use Rattle.std.proofs.lemmas.Bool.{ne_eqb}
-use Rattle.std.proofs.lemmas.List.{get_or-set_other, length-set}
-use Rattle.std.proofs.lemmas.List.Sums.{sum_by_push, sum_by-append}
-use Rattle.std.proofs.lemmas.Bool.Decides.{eqb_tells}
-use Rattle.rq_pool.specs.declared.countdown.arrival.Entry.{Entry}
-use Rattle.rq_pool.specs.declared.countdown.arrival.Arrival.{Arrival}
-use Rattle.rq_pool.specs.declared.countdown.arrival.Arrival.TheVariants.{Twice, NotLast, Last}
-use Rattle.rq_pool.specs.Countdowns.History.{entry}
-use Rattle.rq_pool.specs.Countdowns.Arrivals.{arrivals_for, last_lists, only, if_last}
-use Rattle.rq_pool.specs.Ledger.{times}
-use Rattle.rq_exchange.specs.Coverage.{Web, IsWeb, DiariesTell, told_at, source_at, asked}
-use Rattle.std.proofs.lemmas.Grind.{flat_map-append, get_or-set_at}
-use Rattle.rq_exchange.specs.Chains.{boxes_of}
+use Rattle.rq_exchange.proofs.Words.{ne_eqb, get_or-set_other, length-set, sum_by_push, sum_by-append, eqb_tells, Entry}
+use Rattle.rq_exchange.proofs.Words.{Arrival, Twice, NotLast, Last, entry, arrivals_for, last_lists, only, if_last}
+use Rattle.rq_exchange.proofs.Words.{times, Web, IsWeb, DiariesTell, told_at, source_at, asked, flat_map-append}
+use Rattle.rq_exchange.proofs.Words.{get_or-set_at, boxes_of}
 
 pub times_more : (x y : ℕ) (xs : List ℕ) → times x (xs ++ y ∷ []) ≡ times x xs + cond (eqb y x) 1 0
 times_more x y xs = sum_by_push (λ z. cond (eqb z x) 1 0) xs y

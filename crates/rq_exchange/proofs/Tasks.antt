@@ -1,11 +1,8 @@
 -- The queues that wait for nobody, one queue more.
 use Rattle.std.proofs.Common.{◌≡◌, ℕ, zero, suc, ◌+◌, ◌<◌, cond, List, [], ◌∷◌, ◌++◌, length, length-append, refl, sym}
 use Rattle.std.proofs.Common.{ap, ◌∙◌, arith, inl, inr, Vec, Global, ◌≢◌}
-use Rattle.rq_state.specs.Orders.{listed}
-use Rattle.rq_pool.specs.Ledger.{times}
-use Rattle.rq_exchange.specs.Tasks.{AreBare}
+use Rattle.rq_exchange.proofs.Words.{listed, times, AreBare, eqb_tells}
 use Rattle.rq_exchange.proofs.Steps.{times_more}
-use Rattle.std.proofs.lemmas.Bool.Decides.{eqb_tells}
 
 pub zero_or : (n : ℕ) → (0 < n → ⊥) → n ≡ 0
 zero_or zero none = refl

@@ -1,26 +1,14 @@
 -- How the queues are linked, once the countdowns are opened.
 use Rattle.std.proofs.Common.{◌≡◌, ℕ, ◌<◌, List, length, sym, ◌∙◌, subst, arith, inl, inr, true, Vec, Global}
-use Rattle.std.specs.Prelude.{slice_index_or, ◌==◌}
-use Rattle.std.proofs.lemmas.Bool.{eqb-true}
-use Rattle.std.proofs.lemmas.List.{get_or-map, length-map}
-use Rattle.rq_model.specs.States.{Definition, no_definition}
-use Rattle.rq_state.specs.Orders.{listed, indices_of}
-use Rattle.rq_pool.specs.declared.countdown.pass.Pass.{Pass}
-use Rattle.rq_pool.specs.declared.countdown.fits.Fits.{Ghosts}
-use Rattle.rq_exchange.specs.declared.chain.CountdownChain.{CountdownChain}
-use Rattle.rq_exchange.specs.declared.outboxes.Outbox.{Outbox}
-use Rattle.rq_exchange.specs.declared.outboxes.Target.{Target}
-use Rattle.rq_exchange.specs.declared.jobs.Job.{Job}
-use Rattle.rq_exchange.specs.Chains.{IsChainOf, IsCountdownOf}
-use Rattle.rq_exchange.specs.Jobs.{IsJob, errors_in}
-use Rattle.rq_exchange.specs.Links.{at, naming}
-use Rattle.rq_exchange.specs.Openings.{AreOpened}
+use Rattle.std.proofs.Common.{slice_index_or, ◌==◌}
+use Rattle.rq_exchange.proofs.Words.{eqb-true, get_or-map, length-map, Definition, no_definition, listed, indices_of}
+use Rattle.rq_exchange.proofs.Words.{Pass, Ghosts, CountdownChain, Outbox, Target, Job, IsChainOf, IsCountdownOf, IsJob}
+use Rattle.rq_exchange.proofs.Words.{errors_in, at, naming, AreOpened, All-from_recursion}
 use Rattle.rq_exchange.proofs.Errors.{places_map}
 use Rattle.rq_exchange.proofs.Indices.{indices_hold, same_index}
 use Rattle.rq_exchange.proofs.Sources.{once}
 use Rattle.rq_exchange.proofs.Pairs.{pairs_at, pairs_long}
 use Rattle.rq_exchange.proofs.Steps.{same_or}
-use Rattle.std.proofs.lemmas.List.Elements.{All-from_recursion}
 
 module _ (job : Job) (is : IsJob job) where
   pub many : length (errors_in job) ≡ length job.definitions.now

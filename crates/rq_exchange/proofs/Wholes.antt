@@ -1,22 +1,12 @@
 -- From what the threads hand back and what the closed countdowns tell: each queue is redone once.
 use Rattle.std.proofs.Common.{◌≡◌, ◌⊎◌, inl, inr, ℕ, ◌<◌, List, [], ◌∷◌, map, length, ap, ◌∙◌, arith, flat_map}
-use Rattle.rq_pool.specs.declared.countdown.arrival.Entry.{Entry}
-use Rattle.rq_pool.specs.Countdowns.Arrivals.{Settled, last_lists, kept_from, if_last}
-use Rattle.rq_pool.specs.Ledger.{times, times_in}
-use Rattle.rq_state.specs.Orders.{listed}
-use Rattle.rq_exchange.specs.declared.chain.CountdownChain.{CountdownChain}
-use Rattle.rq_exchange.specs.declared.crew.WorkDone.{WorkDone}
-use Rattle.rq_exchange.specs.declared.outboxes.Outbox.{Outbox}
-use Rattle.rq_exchange.specs.declared.jobs.Job.{Job}
-use Rattle.rq_exchange.specs.Chains.{web_of, IsChainOf, diaries_of, redone_in}
-use Rattle.rq_exchange.specs.Coverage.{IsWebClosed, told_at, DiariesTell}
-use Rattle.rq_exchange.specs.Links.{at}
-use Rattle.rq_exchange.specs.Workers.{AllKeep, HaveKept, AreSettled}
-use Rattle.rq_exchange.specs.Tasks.{AreBare}
+use Rattle.rq_exchange.proofs.Words.{Entry, Settled, last_lists, kept_from, if_last, times, times_in, listed}
+use Rattle.rq_exchange.proofs.Words.{CountdownChain, WorkDone, Outbox, Job, web_of, IsChainOf, diaries_of, redone_in}
+use Rattle.rq_exchange.proofs.Words.{IsWebClosed, told_at, DiariesTell, at, AllKeep, HaveKept, AreSettled, AreBare}
+use Rattle.rq_exchange.proofs.Words.{EachWith}
 use Rattle.rq_exchange.proofs.Covering.{each_once, all_redid, flat_long}
 use Rattle.rq_exchange.proofs.Openings.{some_of}
 use Rattle.rq_exchange.proofs.Tasks.{zero_or}
-use Rattle.rq_exchange.specs.Pairs.{EachWith}
 
 abbrev redone : WorkDone → List ℕ
 redone k = redone_in k.done.items

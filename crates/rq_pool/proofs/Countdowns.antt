@@ -1,3 +1,4 @@
+pub mod Words
 pub mod Totals
 pub mod Views
 pub mod Claims

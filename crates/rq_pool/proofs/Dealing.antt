@@ -2,28 +2,17 @@
 use Rattle.std.proofs.Common.{All, drop, reverse, zero, ◌≡◌, ℕ, suc, ◌+◌, ◌<◌, ◌≤◌, List, [], ◌∷◌, ◌++◌, Vec, length}
 use Rattle.std.proofs.Common.{get_or, take, map, replicate, sum_by, Some, slice_get, vec_items, vec_len, sym, refl, ap}
 use Rattle.std.proofs.Common.{◌∙◌, arith}
-use Rattle.std.specs.Global.{Global}
+use Rattle.rq_pool.proofs.Words.{Global, length-map, length-replicate, with_items_is, take_more}
+use Rattle.rq_pool.proofs.Words.{replicate-append-replicate, map-append, reverse-append, nil_from_length, get_or-map}
+use Rattle.rq_pool.proofs.Words.{sum_by-cons, Share, Worker, DealRule, Deck, size, parts_of, DeckId, list_in, deck_id}
+use Rattle.rq_pool.proofs.Words.{deck_list, owner_id, IsStocked, IsOpen, filled, owner_count, dealt_length, Holds}
+use Rattle.rq_pool.proofs.Words.{reach_at, IsPlaceBeside, map-map}
 use Rattle.std.specs.Vec.{with_items}
-use Rattle.std.proofs.lemmas.List.{length-map, length-replicate, with_items_is, take_more, replicate-append-replicate}
-use Rattle.std.proofs.lemmas.List.{map-append, reverse-append, nil_from_length, get_or-map}
-use Rattle.std.proofs.lemmas.List.Sums.{sum_by-cons}
 use Rattle.std.proofs.lemmas.List.Folds.{sum_by-replicate}
 use Rattle.std.proofs.lemmas.Option.{slice_get_within, get_or_from_slice_get}
-use Rattle.rq_pool.specs.declared.deque.Share.{Share}
-use Rattle.crossbeam_deque.specs.declared.handles.Worker.{Worker}
-use Rattle.rq_pool.specs.declared.deque.DealRule.{DealRule}
-use Rattle.rq_pool.specs.declared.deck.Deck.{Deck}
-use Rattle.rq_pool.specs.Ledger.{size}
-use Rattle.rq_pool.specs.Passes.{parts_of}
-use Rattle.rq_pool.specs.Decks.{DeckId, list_in, deck_id, deck_list, owner_id, IsStocked, IsOpen, filled, owner_count}
-use Rattle.rq_pool.specs.Decks.{dealt_length}
 use Rattle.rq_pool.specs.declared.seat.Place.{Place}
 use Rattle.rq_pool.specs.declared.seat.Place.TheVariants.{Alone, Beside}
-use Rattle.rq_pool.specs.Holdings.{Holds}
-use Rattle.rq_pool.specs.Vaults.{reach_at}
-use Rattle.rq_pool.specs.Rooms.{IsPlaceBeside}
 use Rattle.rq_pool.proofs.Lists.{nothing_at, first_of_drop}
-use mathlib.Core.List.{map-map}
 
 pub begun : (ids : List DeckId) (number : ℕ) (deque : (ℕ × ℕ) × Global) (v : Share) (stolens : List (List ℕ))
     (taken : List ℕ) → slice_get ids number ≡ Some (deque, v.dealt) → stolens ≡ replicate (length ids) []

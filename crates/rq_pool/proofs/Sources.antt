@@ -1,11 +1,7 @@
 -- The lists of a seat's sources are those of the room's deques.
 use Rattle.std.proofs.Common.{◌≡◌, ℕ, ◌<◌, ◌≤◌, List, [], length, get_or, map, sum_by, sym, ap, ◌∙◌, arith}
-use Rattle.crossbeam_deque.specs.Handles.{view}
+use Rattle.rq_pool.proofs.Words.{view, DeckId, list_in, source_id, get_or-map, map-map}
 use Rattle.rq_pool.specs.declared.source.Source.{Source}
-use Rattle.rq_pool.specs.Decks.{DeckId, list_in}
-use Rattle.rq_pool.specs.Sources.{source_id}
-use Rattle.std.proofs.lemmas.List.{get_or-map}
-use mathlib.Core.List.{map-map}
 
 abbrev pub dealt_of : Source → List ℕ
 dealt_of s = (view s.pass).dealt

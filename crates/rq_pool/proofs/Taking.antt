@@ -2,14 +2,9 @@
 use Rattle.std.proofs.Common.{◌≡◌, ◌≢◌, ℕ, zero, suc, ◌+◌, ◌<◌, ◌≤◌, List, [], ◌∷◌, ◌++◌, length, get_or, set, sum_by}
 use Rattle.std.proofs.Common.{Bool, true, false, T, cond, ◌==◌, sym, refl, ap, ◌∙◌, subst, arith, length-set}
 use Rattle.std.proofs.Common.{get_or-set_same, get_or-set_other}
-use mathlib.Core.Logic.{dite}
-use native.Mathlib.Decide.{ℕ_discrete}
+use Rattle.rq_pool.proofs.Words.{dite, ℕ_discrete, sum_by-cons, sum_by-append, sum_by_push, sum_by-set, Share, times_in}
+use Rattle.rq_pool.proofs.Words.{size, Taken, Holds}
 use Rattle.std.proofs.Math.Dec.{eqb_refl}
-use Rattle.std.proofs.lemmas.List.Sums.{sum_by-cons, sum_by-append, sum_by_push, sum_by-set}
-use Rattle.rq_pool.specs.declared.deque.Share.{Share}
-use Rattle.rq_pool.specs.Ledger.{times_in, size}
-use Rattle.rq_pool.specs.Rules.{Taken}
-use Rattle.rq_pool.specs.Holdings.{Holds}
 use Rattle.rq_pool.proofs.Rules.{length_sum}
 
 module _ (lists : List (List ℕ)) (number : ℕ) where

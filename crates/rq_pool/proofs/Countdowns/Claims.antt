@@ -1,19 +1,14 @@
 -- The swap on a source's flag keeps the rule.
 use Rattle.std.proofs.Common.{◌≡◌, ◌≢◌, ◌⊎◌, ℕ, zero, suc, ◌-◌, ◌<◌, eq-eqb, ne_eqb, List, [], ◌∷◌, ◌++◌, map, length}
 use Rattle.std.proofs.Common.{get_or, set, sym, refl, ap, ◌∙◌, subst, ⊎_elim, inl, inr, arith, Option, Some, None}
-use mathlib.Core.Option.{some, none, some-injective, some-ne-none}
-use lib.ListN.{get_elem?}
-use lib.Seq.{map-set}
-use Rattle.atomic_table.specs.Table.{State, Me, step, Act, keeps, takes, stepped, Valid, Allows, carried_after}
-use Rattle.atomic_table.proofs.Lists.{at_set, at_snoc, at_map}
-use Rattle.rq_pool.specs.declared.countdown.view.View.{View}
-use Rattle.rq_pool.specs.declared.countdown.view.Terms.{Terms}
-use Rattle.rq_pool.specs.Countdowns.Phases.{Phase, clear, away, home, gone, back, flag, waits, is_shut, place, count}
-use Rattle.rq_pool.specs.Countdowns.Rule.{one_if, here, parts, stands_at, made_for, lasts, view, HasLast, AtSource}
-use Rattle.rq_pool.specs.Countdowns.Rule.{IsSet, IsOpen, IsShut, Held, claimed}
+use Rattle.rq_pool.proofs.Countdowns.Words.{some, none, some-injective, some-ne-none, get_elem?, map-set, State, Me}
+use Rattle.rq_pool.proofs.Countdowns.Words.{step, Act, keeps, takes, stepped, Valid, Allows, carried_after, at_set}
+use Rattle.rq_pool.proofs.Countdowns.Words.{at_snoc, at_map, View, Terms, Phase, clear, away, home, gone, back, flag}
+use Rattle.rq_pool.proofs.Countdowns.Words.{waits, is_shut, place, count, one_if, here, parts, stands_at, made_for}
+use Rattle.rq_pool.proofs.Countdowns.Words.{lasts, view, HasLast, AtSource, IsSet, IsOpen, IsShut, Held, claimed}
+use Rattle.rq_pool.proofs.Countdowns.Words.{length-map}
 use Rattle.rq_pool.proofs.Countdowns.Totals.{total_set, at_most, inside, there, get_map, set_get}
 use Rattle.rq_pool.proofs.Countdowns.Views.{some_set, same_total, source_else, set_still, passes_set}
-use Rattle.std.proofs.lemmas.List.{length-map}
 
 module _ {T : Type 0} where
   pub shut_gone : (ys : List T) (i : ℕ) (p : Phase T) → get_elem? (map gone ys) i ≡ some p → is_shut p ≡ 1

@@ -1,12 +1,8 @@
 -- The histories of several passes, taken from the end.
 use Rattle.std.proofs.Common.{◌≡◌, ◌+◌, List, [], ◌∷◌, ◌++◌, map, length, sym, refl, ap, ◌∙◌, subst, arith}
 use Rattle.std.proofs.Common.{append_assoc, append-nil, flat_map}
-use Rattle.rq_pool.specs.declared.countdown.view.View.{View}
-use Rattle.rq_pool.specs.Countdowns.Phases.{total}
-use Rattle.rq_pool.specs.Countdowns.Rule.{parts, spent_view}
-use Rattle.rq_pool.specs.Countdowns.Views.{all_made, all_refused}
-use Rattle.std.proofs.lemmas.List.{map_push}
-use Rattle.std.proofs.lemmas.Grind.{flat_map-append}
+use Rattle.rq_pool.proofs.Countdowns.Words.{View, total, parts, spent_view, all_made, all_refused, map_push}
+use Rattle.rq_pool.proofs.Countdowns.Words.{flat_map-append}
 use Rattle.rq_pool.proofs.Countdowns.Totals.{total_append}
 
 module _ {A T K : Type 0} (g : A → View T K) where

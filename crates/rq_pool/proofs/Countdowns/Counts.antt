@@ -2,27 +2,18 @@
 use Rattle.std.proofs.Common.{◌≡◌, ◌≢◌, ℕ, zero, suc, ◌+◌, ◌-◌, ◌%◌, ◌^◌, ◌<◌, eqb, eq-eqb, ne_eqb, List, [], ◌∷◌, map}
 use Rattle.std.proofs.Common.{length, get_or, set, sym, refl, ap, ◌∙◌, subst, ⊎_elim, inl, inr, arith, Option, Some}
 use Rattle.std.proofs.Common.{None, length-set, append-nil}
-use mathlib.Core.Option.{some, none, some-injective, some-ne-none}
+use Rattle.rq_pool.proofs.Countdowns.Words.{some, none, some-injective, some-ne-none, dite, ℕ_discrete, get_elem?}
+use Rattle.rq_pool.proofs.Countdowns.Words.{map-set, State, Me, step, Act, gives, chain, stepped, Valid, Allows}
+use Rattle.rq_pool.proofs.Countdowns.Words.{carried_after, homes_after, rest, at_set, set_here, at_map, at_longer}
+use Rattle.rq_pool.proofs.Countdowns.Words.{at_last, View, Terms, total, Phase, clear, away, home, gone, back, flag}
+use Rattle.rq_pool.proofs.Countdowns.Words.{waits, is_away, is_shut, place, count, indexed, one_if, here, count_told}
+use Rattle.rq_pool.proofs.Countdowns.Words.{parts, stands_at, names, made_for, lasts, made_of, after, HasMade, SomeView}
+use Rattle.rq_pool.proofs.Countdowns.Words.{AtSource, IsSet, Knows, IsOpen, Held, tallied, Fit, length-map}
 use mathlib.Core.Option as maybe
-use mathlib.Core.Logic.{dite}
-use native.Mathlib.Decide.{ℕ_discrete}
-use lib.ListN.{get_elem?}
-use lib.Seq.{map-set}
-use Rattle.atomic_table.specs.Table.{State, Me, step, Act, gives, chain, stepped, Valid, Allows, carried_after}
-use Rattle.atomic_table.specs.Table.{homes_after, rest}
-use Rattle.atomic_table.proofs.Lists.{at_set, set_here, at_map, at_longer, at_last}
-use Rattle.rq_pool.specs.declared.countdown.view.View.{View}
-use Rattle.rq_pool.specs.declared.countdown.view.Terms.{Terms}
-use Rattle.rq_pool.specs.Countdowns.Phases.{total, Phase, clear, away, home, gone, back, flag, waits, is_away, is_shut}
-use Rattle.rq_pool.specs.Countdowns.Phases.{place, count, indexed}
-use Rattle.rq_pool.specs.Countdowns.Rule.{one_if, here, count_told, parts, stands_at, names, made_for, lasts, made_of}
-use Rattle.rq_pool.specs.Countdowns.Rule.{after, HasMade, SomeView, AtSource, IsSet, Knows, IsOpen, Held, tallied}
-use Rattle.rq_pool.specs.Countdowns.History.{Fit}
 use Rattle.rq_pool.proofs.Countdowns.Totals.{total_set, total_append, at_most, inside, there, get_map, set_get}
 use Rattle.rq_pool.proofs.Countdowns.Views.{same_total, source_else, set_still, passes_set, lasts_after}
 use Rattle.rq_pool.proofs.Countdowns.Claims.{still_open}
 use Rattle.rq_pool.proofs.Countdowns.Takes.{take_all, taking, all_out}
-use Rattle.std.proofs.lemmas.List.{length-map}
 
 abbrev key_or : {K : Type 0} → K → Option K → K
 key_or d None = d

@@ -1,19 +1,12 @@
 -- What a closed table and the joined history say.
 use Rattle.std.proofs.Common.{◌≡◌, ℕ, zero, suc, ◌+◌, ◌-◌, ◌<◌, ◌≤◌, List, [], ◌∷◌, ◌++◌, map, length, get_or, take}
 use Rattle.std.proofs.Common.{sym, refl, ap, ◌∙◌, subst, arith, Option, Some, None, option_to_list, All, length-append}
-use mathlib.Core.Option.{some, some-injective, some-ne-none}
-use lib.ListN.{get_elem?}
-use Rattle.atomic_table.specs.Table.{State, Final, Seen}
-use Rattle.rq_pool.specs.declared.countdown.view.Made.{Made}
-use Rattle.rq_pool.specs.declared.countdown.view.View.{View}
-use Rattle.rq_pool.specs.declared.countdown.view.Terms.{Terms}
-use Rattle.rq_pool.specs.Countdowns.Phases.{total, Phase, clear, away, home, gone, back, place, count, add_some, somes}
-use Rattle.rq_pool.specs.Countdowns.Rule.{times_told, lasts, Held}
-use Rattle.rq_pool.specs.Countdowns.Views.{all_made}
+use Rattle.rq_pool.proofs.Countdowns.Words.{some, some-injective, some-ne-none, get_elem?, State, Final, Seen, Made}
+use Rattle.rq_pool.proofs.Countdowns.Words.{View, Terms, total, Phase, clear, away, home, gone, back, place, count}
+use Rattle.rq_pool.proofs.Countdowns.Words.{add_some, somes, times_told, lasts, Held, all_made, length-map}
 use Rattle.rq_pool.proofs.Countdowns.Settled.{SettledViews}
 use Rattle.rq_pool.proofs.Countdowns.Totals.{total_append}
 use Rattle.rq_pool.proofs.Countdowns.Settles.{settles_open, settles_shut}
-use Rattle.std.proofs.lemmas.List.{length-map}
 
 pub word_at : (ws : List ℕ) (n : ℕ) → get_elem? ws 0 ≡ some n → get_or ws 0 0 ≡ n
 word_at [] n e = absurd (some-ne-none n (sym e))

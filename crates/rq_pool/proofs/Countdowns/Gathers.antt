@@ -1,9 +1,7 @@
 -- The slots of the last, while it empties one after the other.
 use Rattle.std.proofs.Common.{◌≡◌, ℕ, zero, suc, ◌+◌, ◌<◌, List, [], ◌∷◌, ◌++◌, map, length, drop, take, replicate, sym}
 use Rattle.std.proofs.Common.{refl, ap, ◌∙◌, subst, arith, Option, Some, None, append_assoc, add-one}
-use Rattle.atomic_table.specs.Table.{rest}
-use Rattle.rq_pool.specs.Countdowns.Phases.{indexed, outboxes_in}
-use Rattle.std.proofs.lemmas.List.{length-replicate, replicate_more, drop_all}
+use Rattle.rq_pool.proofs.Countdowns.Words.{rest, indexed, outboxes_in, length-replicate, replicate_more, drop_all}
 
 numbered_snoc : {S : Type 0} (xs : List S) (k n : ℕ) (x : S) → k + length xs ≡ n
     → indexed k (xs ++ x ∷ []) ≡ indexed k xs ++ (n, x) ∷ []

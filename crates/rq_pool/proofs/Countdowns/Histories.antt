@@ -1,12 +1,8 @@
 -- What one more arrival adds to a history, and the histories of several passes.
 use Rattle.std.proofs.Common.{◌≡◌, ℕ, List, [], ◌∷◌, ◌++◌, map, sym, refl, ap, ◌∙◌, append-nil, flat_map}
-use Rattle.rq_pool.specs.declared.countdown.view.Made.{Made}
-use Rattle.rq_pool.specs.declared.countdown.view.View.{View}
-use Rattle.rq_pool.specs.declared.countdown.arrival.Entry.{Entry}
-use Rattle.rq_pool.specs.declared.countdown.arrival.Arrival.{Arrival}
-use Rattle.rq_pool.specs.Countdowns.History.{if_twice, entry, back_by, refused_outboxes, back_in}
-use Rattle.rq_pool.specs.Countdowns.Views.{made_by, made_in, refused_in, all_made, all_refused}
-use Rattle.std.proofs.lemmas.Grind.{flat_map-append}
+use Rattle.rq_pool.proofs.Countdowns.Words.{Made, View, Entry, Arrival, if_twice, entry, back_by, refused_outboxes}
+use Rattle.rq_pool.proofs.Countdowns.Words.{back_in, made_by, made_in, refused_in, all_made, all_refused}
+use Rattle.rq_pool.proofs.Countdowns.Words.{flat_map-append}
 
 flat_snoc : {A B : Type 0} (f : A → List B) (ys xs : List A) (x : A) → ys ≡ xs ++ x ∷ []
     → flat_map f ys ≡ flat_map f xs ++ f x

@@ -1,18 +1,11 @@
 -- A view is cut in two, and two views are made one.
 use Rattle.std.proofs.Common.{◌≡◌, ◌≢◌, ◌⊎◌, ℕ, zero, suc, ◌+◌, ◌<◌, List, [], ◌∷◌, ◌++◌, set, sym, refl, ap, ◌∙◌}
 use Rattle.std.proofs.Common.{subst, ⊎_elim, inl, inr, arith, Option, None}
-use mathlib.Core.Option.{some, some-injective, some-ne-none}
-use mathlib.Core.Logic.{dite}
-use native.Mathlib.Decide.{ℕ_discrete}
-use lib.ListN.{get_elem?}
-use Rattle.atomic_table.specs.Table.{State, Splits, Joins}
-use Rattle.atomic_table.proofs.Lists.{at_set, at_snoc, set_here, set_else, at_longer}
-use Rattle.rq_pool.specs.declared.countdown.view.Made.{Made}
-use Rattle.rq_pool.specs.declared.countdown.view.View.{View}
-use Rattle.rq_pool.specs.declared.countdown.view.Terms.{Terms}
-use Rattle.rq_pool.specs.Countdowns.Phases.{total, Phase}
-use Rattle.rq_pool.specs.Countdowns.Rule.{here, parts, stands_at, names, made_for, times_told, lasts, HasMade, HasLast}
-use Rattle.rq_pool.specs.Countdowns.Rule.{SomeView, Knows, IsOpen, IsShut, Held, left_of, right_of, both_of, spent_view}
+use Rattle.rq_pool.proofs.Countdowns.Words.{some, some-injective, some-ne-none, dite, ℕ_discrete, get_elem?, State}
+use Rattle.rq_pool.proofs.Countdowns.Words.{Splits, Joins, at_set, at_snoc, set_here, set_else, at_longer, Made, View}
+use Rattle.rq_pool.proofs.Countdowns.Words.{Terms, total, Phase, here, parts, stands_at, names, made_for, times_told}
+use Rattle.rq_pool.proofs.Countdowns.Words.{lasts, HasMade, HasLast, SomeView, Knows, IsOpen, IsShut, Held, left_of}
+use Rattle.rq_pool.proofs.Countdowns.Words.{right_of, both_of, spent_view}
 use Rattle.rq_pool.proofs.Countdowns.Totals.{total_set, total_append, inside}
 use Rattle.rq_pool.proofs.Countdowns.Views.{some_set}
 

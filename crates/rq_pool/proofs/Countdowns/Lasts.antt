@@ -1,19 +1,13 @@
 -- From what the views have of the arrivals answered Last to what the histories have.
 use Rattle.std.proofs.Common.{◌≡◌, ℕ, ◌<◌, List, [], ◌∷◌, All, length, length-append, Option, Some, None}
 use Rattle.std.proofs.Common.{slice_index_or, sym, refl, ap, ◌∙◌, arith}
+use Rattle.rq_pool.proofs.Countdowns.Words.{Entry, Arrival, Twice, NotLast, Last, total, times_told, lasts, made_by}
+use Rattle.rq_pool.proofs.Countdowns.Words.{made_in, if_last, last_lists, nil_from_length}
 use Rattle.std.specs.Option.{ForSome, ForNone}
 use Rattle.rq_pool.specs.declared.countdown.fits.Fits.{Ghosts}
-use Rattle.rq_pool.specs.declared.countdown.arrival.Entry.{Entry}
-use Rattle.rq_pool.specs.declared.countdown.arrival.Arrival.{Arrival}
-use Rattle.rq_pool.specs.declared.countdown.arrival.Arrival.TheVariants.{Twice, NotLast, Last}
 use Rattle.rq_pool.specs.declared.countdown.pass.Pass.{Pass}
-use Rattle.rq_pool.specs.Countdowns.Phases.{total}
-use Rattle.rq_pool.specs.Countdowns.Rule.{times_told, lasts}
-use Rattle.rq_pool.specs.Countdowns.Views.{made_by, made_in}
-use Rattle.rq_pool.specs.Countdowns.Arrivals.{if_last, last_lists}
 use Rattle.rq_pool.specs.Countdowns.Words.{TellsLast}
 use Rattle.rq_pool.proofs.Countdowns.Totals.{total_append}
-use Rattle.std.proofs.lemmas.List.{nil_from_length}
 
 module _ {T : Type 0} where
   by_answer : (i : ℕ) (x : T) (a : Arrival T) → total times_told (made_by i x a) ≡ length (if_last a)

@@ -1,13 +1,9 @@
 -- The table at the start.
 use Rattle.std.proofs.Common.{◌≡◌, ℕ, zero, suc, ◌<◌, List, [], ◌∷◌, map, set, replicate, sym, refl, ap, ◌∙◌, subst}
 use Rattle.std.proofs.Common.{inl, arith, Option, Some, None}
-use mathlib.Core.Option.{some, some-injective, some-ne-none}
-use lib.ListN.{get_elem?}
-use Rattle.atomic_table.specs.Table.{opening}
-use Rattle.rq_pool.specs.declared.countdown.view.View.{View}
-use Rattle.rq_pool.specs.declared.countdown.view.Terms.{Terms}
-use Rattle.rq_pool.specs.Countdowns.Phases.{total, Phase, clear, flag, is_shut, place, count}
-use Rattle.rq_pool.specs.Countdowns.Rule.{view, parts, AtSource, Knows, Held}
+use Rattle.rq_pool.proofs.Countdowns.Words.{some, some-injective, some-ne-none, get_elem?, opening, View, Terms, total}
+use Rattle.rq_pool.proofs.Countdowns.Words.{Phase, clear, flag, is_shut, place, count, view, parts, AtSource, Knows}
+use Rattle.rq_pool.proofs.Countdowns.Words.{Held}
 
 module _ {T : Type 0} where
   clear_only : (n i : ℕ) (p : Phase T) → get_elem? (replicate n clear) i ≡ some p → p ≡ clear

@@ -1,19 +1,13 @@
 -- The last gives all slots back, empty.
 use Rattle.std.proofs.Common.{◌≡◌, ◌⊎◌, ℕ, zero, suc, ◌+◌, ◌<◌, List, [], ◌∷◌, map, length, get_or, set, replicate, sym}
 use Rattle.std.proofs.Common.{refl, ap, ◌∙◌, subst, ⊎_elim, inl, inr, arith, Option, None}
-use mathlib.Core.Option.{some, none, some-injective, some-ne-none}
+use Rattle.rq_pool.proofs.Countdowns.Words.{some, none, some-injective, some-ne-none, get_elem?, State, Me, step, Act}
+use Rattle.rq_pool.proofs.Countdowns.Words.{keeps, gives, chain, Valid, Allows, carried_after, homes_after, set_again}
+use Rattle.rq_pool.proofs.Countdowns.Words.{View, Terms, total, Phase, gone, back, flag, place, count, indexed, lasts}
+use Rattle.rq_pool.proofs.Countdowns.Words.{parts, HasLast, SomeView, AtSource, IsSet, IsOpen, IsShut, Held, hands_back}
+use Rattle.rq_pool.proofs.Countdowns.Words.{length-map}
 use mathlib.Core.Option as maybe
-use lib.ListN.{get_elem?}
-use Rattle.atomic_table.specs.Table.{State, Me, step, Act, keeps, gives, chain, Valid, Allows, carried_after}
-use Rattle.atomic_table.specs.Table.{homes_after}
-use Rattle.atomic_table.proofs.Lists.{set_again}
-use Rattle.rq_pool.specs.declared.countdown.view.View.{View}
-use Rattle.rq_pool.specs.declared.countdown.view.Terms.{Terms}
-use Rattle.rq_pool.specs.Countdowns.Phases.{total, Phase, gone, back, flag, place, count, indexed}
-use Rattle.rq_pool.specs.Countdowns.Rule.{lasts, parts, HasLast, SomeView, AtSource, IsSet, IsOpen, IsShut, Held}
-use Rattle.rq_pool.specs.Countdowns.Rule.{hands_back}
 use Rattle.rq_pool.proofs.Countdowns.Totals.{at_most, set_get}
-use Rattle.std.proofs.lemmas.List.{length-map}
 
 module _ {S : Type 0} where
   abbrev give_all : ℕ → Act S

@@ -2,23 +2,15 @@
 use Rattle.std.proofs.Common.{◌≡◌, ◌≢◌, ◌⊎◌, ℕ, zero, suc, ◌+◌, ◌-◌, ◌<◌, ◌≤◌, eqb, eq-eqb, Bool, true, false, List, []}
 use Rattle.std.proofs.Common.{◌∷◌, ◌++◌, map, length, get_or, sym, refl, ap, ◌∙◌, subst, ⊎_elim, inl, inr, arith}
 use Rattle.std.proofs.Common.{Option, Some, None}
-use mathlib.Core.Option.{some, none, some-injective, some-ne-none}
+use Rattle.rq_pool.proofs.Countdowns.Words.{some, none, some-injective, some-ne-none, dite, ℕ_discrete, get_elem?}
+use Rattle.rq_pool.proofs.Countdowns.Words.{State, at_map, Made, View, Terms, total, Phase, clear, away, home, gone}
+use Rattle.rq_pool.proofs.Countdowns.Words.{back, flag, is_away, is_done, is_shut, outbox_of, place, count, add_some}
+use Rattle.rq_pool.proofs.Countdowns.Words.{somes, one_if, here, count_told, parts, stands_at, names, made_for}
+use Rattle.rq_pool.proofs.Countdowns.Words.{times_told, lasts, HasMade, HasLast, SomeView, IsOpen, IsShut, Held}
+use Rattle.rq_pool.proofs.Countdowns.Words.{length-map, nil_from_length}
 use mathlib.Core.Option as maybe
-use mathlib.Core.Logic.{dite}
-use native.Mathlib.Decide.{ℕ_discrete}
-use lib.ListN.{get_elem?}
-use Rattle.atomic_table.specs.Table.{State}
-use Rattle.atomic_table.proofs.Lists.{at_map}
-use Rattle.rq_pool.specs.declared.countdown.view.Made.{Made}
-use Rattle.rq_pool.specs.declared.countdown.view.View.{View}
-use Rattle.rq_pool.specs.declared.countdown.view.Terms.{Terms}
-use Rattle.rq_pool.specs.Countdowns.Phases.{total, Phase, clear, away, home, gone, back, flag, is_away, is_done}
-use Rattle.rq_pool.specs.Countdowns.Phases.{is_shut, outbox_of, place, count, add_some, somes}
-use Rattle.rq_pool.specs.Countdowns.Rule.{one_if, here, count_told, parts, stands_at, names, made_for, times_told}
-use Rattle.rq_pool.specs.Countdowns.Rule.{lasts, HasMade, HasLast, SomeView, IsOpen, IsShut, Held}
 use Rattle.rq_pool.proofs.Countdowns.Settled.{add_if, kept_for, kept_from, told_lists, SettledViews}
 use Rattle.rq_pool.proofs.Countdowns.Totals.{at_most, there}
-use Rattle.std.proofs.lemmas.List.{length-map, nil_from_length}
 
 module _ {A : Type 0} where
   two : (f : A → ℕ) (xs : List A) (i j : ℕ) (a b : A) → ¬ (i ≡ j) → get_elem? xs i ≡ some a → get_elem? xs j ≡ some b

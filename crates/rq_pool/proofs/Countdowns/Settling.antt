@@ -1,17 +1,11 @@
 -- From the passes' views to their histories.
 use Rattle.std.proofs.Common.{◌≡◌, ◌≢◌, ◌⊎◌, ℕ, zero, suc, ◌+◌, ◌<◌, ◌≤◌, eqb, eqb-true, Bool, true, false, List, []}
 use Rattle.std.proofs.Common.{◌∷◌, ◌++◌, length, length-append, sym, refl, ap, ◌∙◌, subst, ⊎_elim, inl, inr, arith}
-use mathlib.Core.Option.{some}
-use lib.ListN.{get_elem?}
-use Rattle.rq_pool.specs.declared.countdown.view.Made.{Made}
-use Rattle.rq_pool.specs.declared.countdown.arrival.Entry.{Entry}
-use Rattle.rq_pool.specs.declared.countdown.arrival.Arrival.{Arrival}
-use Rattle.rq_pool.specs.declared.countdown.arrival.Arrival.TheVariants.{Twice, NotLast, Last}
-use Rattle.rq_pool.specs.Countdowns.History.{if_twice, refused_outboxes, back_in}
-use Rattle.rq_pool.specs.Countdowns.Views.{made_by, made_in, refused_in}
+use Rattle.rq_pool.proofs.Countdowns.Words.{some, get_elem?, Made, Entry, Arrival, Twice, NotLast, Last, if_twice}
+use Rattle.rq_pool.proofs.Countdowns.Words.{refused_outboxes, back_in, made_by, made_in, refused_in, only, if_kept}
+use Rattle.rq_pool.proofs.Countdowns.Words.{if_last, arrivals_for, kept_for, kept_from, last_lists, SomeMissing}
+use Rattle.rq_pool.proofs.Countdowns.Words.{Settled}
 use Rattle.rq_pool.proofs.Countdowns.Settled as old
-use Rattle.rq_pool.specs.Countdowns.Arrivals.{only, if_kept, if_last, arrivals_for, kept_for, kept_from, last_lists}
-use Rattle.rq_pool.specs.Countdowns.Arrivals.{SomeMissing, Settled}
 
 module _ {T : Type 0} where
   add_only : (b : Bool) (x : T) (xs : List T) → old.add_if b x xs ≡ only b (x ∷ []) ++ xs

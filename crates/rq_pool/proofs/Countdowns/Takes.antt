@@ -1,10 +1,8 @@
 -- An act that takes all slots in order.
 use Rattle.std.proofs.Common.{◌≡◌, ℕ, zero, suc, List, [], ◌∷◌, ◌++◌, map, drop, set, sym, refl, ap, ◌∙◌, subst}
-use mathlib.Core.Option.{some, none}
+use Rattle.rq_pool.proofs.Countdowns.Words.{some, none, get_elem?, Act, keeps, takes, chain, Valid, carried_after}
+use Rattle.rq_pool.proofs.Countdowns.Words.{homes_after, indexed}
 use mathlib.Core.Option as maybe
-use lib.ListN.{get_elem?}
-use Rattle.atomic_table.specs.Table.{Act, keeps, takes, chain, Valid, carried_after, homes_after}
-use Rattle.rq_pool.specs.Countdowns.Phases.{indexed}
 
 -- all slots from the k-th on are out
 abbrev pub out_from : {S : Type 0} → ℕ → List (maybe.Option S) → List (maybe.Option S)

@@ -1,16 +1,10 @@
 -- What a step of one pass does to the facts about all passes.
 use Rattle.std.proofs.Common.{◌≡◌, ◌≢◌, ℕ, ◌<◌, List, length, set, sym, ap, ◌∙◌, subst, ⊎_elim, arith, Option, ◌+◌, []}
 use Rattle.std.proofs.Common.{◌∷◌}
-use mathlib.Core.Option.{some, some-injective}
-use mathlib.Core.Logic.{dite}
-use native.Mathlib.Decide.{ℕ_discrete}
-use lib.ListN.{get_elem?}
-use Rattle.atomic_table.proofs.Lists.{at_set, set_here, set_else}
-use Rattle.rq_pool.specs.declared.countdown.view.Made.{Made}
-use Rattle.rq_pool.specs.declared.countdown.view.View.{View}
-use Rattle.rq_pool.specs.Countdowns.Phases.{total, Phase, flag}
-use Rattle.rq_pool.specs.Countdowns.Rule.{stands_at, made_for, HasMade, SomeView, AtSource, IsSet, Knows, times_told}
-use Rattle.rq_pool.specs.Countdowns.Rule.{count_told, lasts, after, made_of}
+use Rattle.rq_pool.proofs.Countdowns.Words.{some, some-injective, dite, ℕ_discrete, get_elem?, at_set, set_here}
+use Rattle.rq_pool.proofs.Countdowns.Words.{set_else, Made, View, total, Phase, flag, stands_at, made_for, HasMade}
+use Rattle.rq_pool.proofs.Countdowns.Words.{SomeView, AtSource, IsSet, Knows, times_told, count_told, lasts, after}
+use Rattle.rq_pool.proofs.Countdowns.Words.{made_of}
 use Rattle.rq_pool.proofs.Countdowns.Totals.{total_set, inside, total_append}
 
 module _ {T : Type 0} where

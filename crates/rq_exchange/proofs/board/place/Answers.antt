@@ -1,7 +1,5 @@
 use Rattle.std.proofs.Common.{◌≡◌, ◌<◌, List, subst, ◌∙◌, map, ◌++◌, ◌∷◌, []}
-use Rattle.rq_pool.specs.Ledger.{times}
-use Rattle.rq_exchange.specs.Boards.{IsPart, Places, queue_of}
-use Rattle.rq_exchange.specs.declared.outboxes.Redone.{Redone}
+use Rattle.rq_exchange.proofs.Words.{times, IsPart, Places, queue_of, Redone}
 use Rattle.rq_exchange.proofs.Boards.{places_more}
 use Rattle.rq_exchange.proofs.Counting.{pushed_or}
 use Rattle.rq_exchange.proofs.Loops.{next_has, all_came}

@@ -1,7 +1,5 @@
 use Rattle.std.proofs.Common.{ℕ, ◌<◌, List, subst, ◌∙◌, All, map, Vec, Global, inl, inr}
-use Rattle.rq_pool.specs.Ledger.{times_in}
-use Rattle.rq_exchange.specs.Boards.{IsPart, HasPart, queue_of}
-use Rattle.rq_exchange.specs.declared.outboxes.Redone.{Redone}
+use Rattle.rq_exchange.proofs.Words.{times_in, IsPart, HasPart, queue_of, Redone}
 use Rattle.rq_exchange.proofs.Counting.{lists_or}
 use Rattle.rq_exchange.proofs.Loops.{next_has, all_came}
 use Rattle.rq_exchange.proofs.board.placed.Goals as goal

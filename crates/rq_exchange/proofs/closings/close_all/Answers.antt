@@ -1,8 +1,5 @@
-use Rattle.rq_exchange.specs.Chains.{IsSettled, IsColumn}
 use Rattle.std.proofs.Common.{◌∙◌, ◌∷◌, [], sym, ap, map, reverse, arith}
-use Rattle.std.proofs.lemmas.List.{reverse-append}
-use Rattle.rq_pool.specs.Countdowns.Closings.{histories_of}
-use Rattle.rq_pool.specs.Countdowns.Words.{history_of}
+use Rattle.rq_exchange.proofs.Words.{IsSettled, IsColumn, reverse-append, histories_of, history_of}
 use Rattle.rq_exchange.proofs.Pairs.{all_before, taken, one_back, all_gone, pairs_long}
 use Rattle.rq_exchange.proofs.closings.close_all.Goals as goal
 

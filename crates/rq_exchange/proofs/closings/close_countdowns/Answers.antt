@@ -1,12 +1,6 @@
-use Rattle.std.proofs.Common.{[], map, ap, ◌∙◌, Vec, Global}
-use Rattle.std.specs.Prelude.{slice_index_or}
-use Rattle.rq_pool.specs.Countdowns.Closings.{histories_of}
-use Rattle.rq_exchange.specs.declared.outboxes.Redone.{Redone}
-use Rattle.rq_exchange.specs.Boards.{queue_of}
-use Rattle.rq_exchange.specs.Links.{at}
-use Rattle.rq_exchange.specs.declared.crew.WorkDone.{WorkDone}
+use Rattle.std.proofs.Common.{[], map, ap, ◌∙◌, Vec, Global, slice_index_or}
+use Rattle.rq_exchange.proofs.Words.{histories_of, Redone, queue_of, at, WorkDone, map-map}
 use Rattle.rq_exchange.proofs.Settles.{rows_long, columns_own, columns_tell, columns_show}
-use mathlib.Core.List.{map-map}
 use Rattle.rq_exchange.proofs.closings.close_countdowns.Goals as goal
 
 pub columns-requires : goal.columns-requires

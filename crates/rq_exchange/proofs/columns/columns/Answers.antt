@@ -1,10 +1,8 @@
 use Rattle.std.proofs.Common.{◌≡◌, ◌<◌, ◌+◌, ◌++◌, ◌∷◌, [], List, length, slice_index_or, Vec, Global, ap, sym, ◌∙◌}
 use Rattle.std.proofs.Common.{subst, ℕ}
-use Rattle.std.proofs.lemmas.List.{length_push, map_push}
-use Rattle.rq_state.proofs.Listings.{listed_at}
+use Rattle.rq_exchange.proofs.Words.{length_push, map_push, listed_at, AreColumns}
 use Rattle.rq_exchange.proofs.Openings.{some_of}
 use Rattle.rq_exchange.proofs.Loops.{next_has, all_came}
-use Rattle.rq_exchange.specs.Columns.{AreColumns}
 use Rattle.rq_exchange.proofs.columns.columns.Goals as goal
 
 pub loop-row-init : goal.loop-row-init

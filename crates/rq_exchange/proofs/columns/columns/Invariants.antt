@@ -1,4 +1,4 @@
-use Rattle.rq_exchange.specs.Columns.{AreColumns}
+use Rattle.rq_exchange.proofs.Words.{AreColumns}
 use Rattle.rq_exchange.proofs.columns.columns.Given as goal
 
 abbrev pub invariant-loop-row : goal.invariant-loop-row

@@ -1,11 +1,6 @@
-use Rattle.std.proofs.Common.{◌≡◌, ℕ, List, map, length, arith, ap, sym, ◌∙◌, subst, rules, []}
-use Rattle.std.specs.Prelude.{slice_index_or}
-use Rattle.std.proofs.lemmas.List.{length-set}
+use Rattle.std.proofs.Common.{◌≡◌, ℕ, List, map, length, arith, ap, sym, ◌∙◌, subst, rules, [], slice_index_or}
+use Rattle.rq_exchange.proofs.Words.{length-set, times, Ledger, deal_of, taken_of, WorkDone, AreHandedBack, HasKept}
 use Rattle.rq_record.specs.declared.fault.Fault.TheVariants.{Resources}
-use Rattle.rq_pool.specs.Ledger.{times, Ledger}
-use Rattle.rq_pool.specs.Rooms.{deal_of, taken_of}
-use Rattle.rq_exchange.specs.declared.crew.WorkDone.{WorkDone}
-use Rattle.rq_exchange.specs.Workers.{AreHandedBack, HasKept}
 use Rattle.rq_exchange.proofs.Working.{waits_for_nobody, taken_over, each_keeps}
 use Rattle.rq_exchange.proofs.crew.all_kept.Goals as goal
 use Rattle.rq_exchange.proofs.crew.all_kept.Goals.{In_ok-seats}

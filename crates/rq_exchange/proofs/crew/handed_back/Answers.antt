@@ -1,8 +1,5 @@
-use Rattle.std.proofs.Common.{List, length, subst, length-append}
-use Rattle.std.specs.Prelude.{Result}
-use Rattle.rq_record.specs.declared.fault.Fault.{Fault}
-use Rattle.rq_exchange.specs.declared.crew.Ended.{Ended}
-use Rattle.rq_exchange.specs.Workers.{Works, HasEnded, AreHandedBack}
+use Rattle.std.proofs.Common.{List, length, subst, length-append, Result}
+use Rattle.rq_exchange.proofs.Words.{Fault, Ended, Works, HasEnded, AreHandedBack}
 use Rattle.rq_exchange.proofs.Working.{handed_more, none_handed}
 use Rattle.rq_exchange.proofs.Loops.{next_has, all_came}
 use Rattle.rq_exchange.proofs.crew.handed_back.Goals as goal

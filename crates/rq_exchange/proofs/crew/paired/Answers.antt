@@ -1,8 +1,6 @@
 use Rattle.std.proofs.Common.{length, ap, ◌∙◌, arith, Some}
-use Rattle.std.proofs.lemmas.List.Elements.{All-push, All-pop}
+use Rattle.rq_exchange.proofs.Words.{All-push, All-pop, length_push, IsFreshSeat, AreFreshPasses, IsFreshWorker}
 use Rattle.rq_exchange.specs.declared.crew.Worker.{Worker}
-use Rattle.std.proofs.lemmas.List.{length_push}
-use Rattle.rq_exchange.specs.Workers.{IsFreshSeat, AreFreshPasses, IsFreshWorker}
 use Rattle.rq_exchange.proofs.crew.paired.Goals as goal
 
 pub loop-seat-preserved : goal.loop-seat-preserved

@@ -1,7 +1,5 @@
 use Rattle.std.proofs.Common.{◌≡◌, ◌+◌, All, length}
-use Rattle.rq_pool.specs.declared.room.Room.{Room}
-use Rattle.rq_exchange.specs.declared.chain.CountdownChain.{CountdownChain}
-use Rattle.rq_exchange.specs.Workers.{IsFreshSeat, AreFreshPasses, IsFreshWorker}
+use Rattle.rq_exchange.proofs.Words.{Room, CountdownChain, IsFreshSeat, AreFreshPasses, IsFreshWorker}
 use Rattle.rq_exchange.proofs.crew.paired.Given as goal
 
 abbrev pub invariant-loop-seat : goal.invariant-loop-seat

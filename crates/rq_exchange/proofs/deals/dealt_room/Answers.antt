@@ -1,5 +1,5 @@
 use Rattle.std.proofs.Common.{ap, sym, ◌∙◌, arith}
-use Rattle.rq_pool.specs.Ledger.{times_in}
+use Rattle.rq_exchange.proofs.Words.{times_in}
 use Rattle.rq_exchange.proofs.deals.dealt_room.Goals as goal
 
 pub open-requires-clause-short : goal.open-requires-clause-short

@@ -1,8 +1,6 @@
 use Rattle.std.proofs.Common.{◌≡◌, ◌<◌, ℕ, length, ap, sym, ◌∙◌, arith, rules, Vec, Global}
-use Rattle.rq_state.specs.Orders.{listed}
-use Rattle.rq_state.proofs.Listings.{listed_at}
+use Rattle.rq_exchange.proofs.Words.{listed, listed_at, nil_from_length}
 use Rattle.rq_exchange.proofs.Tasks.{none_bare, bare_stays, bare_more}
-use Rattle.std.proofs.lemmas.List.{nil_from_length}
 use Rattle.rq_exchange.proofs.deals.tasks_of.Goals as goal
 
 pub loop-queue-init : goal.loop-queue-init

@@ -1,10 +1,5 @@
 use Rattle.std.proofs.Common.{◌≡◌, List, length, map, ap, ◌∙◌, arith}
-use Rattle.std.proofs.lemmas.List.{length-map}
-use Rattle.rq_model.specs.Records.{Two, Record}
-use Rattle.rq_model.specs.Machine.{run, lawful_front}
-use Rattle.rq_model.specs.Laws.{AreAfter}
-use Rattle.rq_record.specs.Views.{record_of}
-use Rattle.rq_catalog.proofs.Runs.{front_whole}
+use Rattle.rq_exchange.proofs.Words.{length-map, Two, Record, run, lawful_front, AreAfter, record_of, front_whole}
 use Rattle.rq_exchange.proofs.gathered.fields_after.Goals as goal
 
 pub returns-clause-fields : goal.returns-clause-fields

@@ -1,9 +1,6 @@
 use Rattle.std.proofs.Common.{◌≡◌, suc, length, sym, subst, ◌∙◌, ◌++◌, ◌∷◌, [], arith, length-append, List, Option}
 use Rattle.std.proofs.Common.{Some, None}
-use Rattle.std.proofs.lemmas.List.{get_or_default}
-use Rattle.rq_model.specs.Queues.{Part, part_of}
-use Rattle.rq_queue.specs.Pouring.{HasPoured}
-use Rattle.rq_queue.proofs.Gathered.{poured_more, with_more}
+use Rattle.rq_exchange.proofs.Words.{get_or_default, Part, part_of, HasPoured, poured_more, with_more}
 use Rattle.rq_exchange.proofs.Loops.{comes_next, all_came}
 use Rattle.rq_exchange.proofs.gathered.pour_all.Goals as goal
 

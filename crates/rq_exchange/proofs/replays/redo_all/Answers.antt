@@ -1,9 +1,5 @@
 use Rattle.std.proofs.Common.{ℕ, List, length, sym, ◌∙◌, subst, arith}
-use Rattle.rq_model.specs.Machine.{run}
-use Rattle.rq_exchange.specs.Chains.{HasPasses}
-use Rattle.rq_exchange.specs.Jobs.{records_of}
-use Rattle.rq_exchange.specs.Tasks.{AreBare}
-use Rattle.rq_exchange.specs.Workers.{HaveKept}
+use Rattle.rq_exchange.proofs.Words.{run, HasPasses, records_of, AreBare, HaveKept}
 use Rattle.rq_exchange.proofs.Courses.{starts_by_last}
 use Rattle.rq_exchange.proofs.Placing.{all_within, all_parts, all_there}
 use Rattle.rq_exchange.proofs.Working.{each_keeps}

@@ -1,17 +1,6 @@
-use Rattle.std.proofs.Common.{◌≡◌, ◌≤◌, ℕ, List, length, map, ◌∙◌, ap, refl, sym, subst, arith}
-use Rattle.std.specs.Prelude.{◌==◌}
-use Rattle.std.proofs.lemmas.List.{length-map}
-use Rattle.rq_model.specs.Records.{Two, Record}
-use Rattle.rq_model.specs.States.{Definition}
-use Rattle.rq_model.specs.WellFormed.{IsWellFormed, AreDefinitions}
-use Rattle.rq_model.specs.Machine.{run}
-use Rattle.rq_record.specs.Views.{record_of}
-use Rattle.std.specs.Global.{Vec}
-use Rattle.rq_state.specs.Orders.{indices_of, listed}
-use Rattle.rq_catalog.specs.Lists.{numbered}
-use Rattle.rq_catalog.proofs.Runs.{front_whole}
-use Rattle.rq_exchange.specs.Courses.{StartsByLast}
-use Rattle.rq_exchange.specs.Links.{AreRanks}
+use Rattle.std.proofs.Common.{◌≡◌, ◌≤◌, ℕ, List, length, map, ◌∙◌, ap, refl, sym, subst, arith, ◌==◌}
+use Rattle.rq_exchange.proofs.Words.{length-map, Two, Record, Definition, IsWellFormed, AreDefinitions, run, record_of}
+use Rattle.rq_exchange.proofs.Words.{Vec, indices_of, listed, numbered, front_whole, StartsByLast, AreRanks}
 use Rattle.rq_exchange.proofs.Errors.{places_map, errors_fall}
 use Rattle.rq_exchange.proofs.replays.redo_analysed.Goals as goal
 use Rattle.rq_exchange.proofs.replays.redo_analysed.Goals.{In_ok-errors}

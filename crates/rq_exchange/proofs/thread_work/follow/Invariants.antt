@@ -1,6 +1,6 @@
 use Rattle.std.proofs.Common.{◌<◌, ℕ, List, [], ◌∷◌, ◌++◌, All, length}
-use Rattle.rq_exchange.specs.Chains.{web_of, AreBoxes, ArePasses, IsRedone, redone_in, diaries_of, HasFollowed}
-use Rattle.rq_exchange.specs.Coverage.{DiariesTell}
+use Rattle.rq_exchange.proofs.Words.{web_of, AreBoxes, ArePasses, IsRedone, redone_in, diaries_of, HasFollowed}
+use Rattle.rq_exchange.proofs.Words.{DiariesTell}
 use Rattle.rq_exchange.proofs.thread_work.follow.Given as goal
 
 abbrev pub invariant-loop-error : goal.invariant-loop-error

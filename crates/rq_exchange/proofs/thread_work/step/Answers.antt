@@ -1,9 +1,5 @@
 use Rattle.std.proofs.Common.{rules, ◌≡◌, ◌≤◌, ◌++◌, ◌∷◌, [], length, ap, ◌∙◌, append-nil, arith}
-use Rattle.std.proofs.lemmas.List.{map-append}
-use Rattle.rq_exchange.specs.declared.outboxes.Redone.{Redone}
-use Rattle.rq_exchange.specs.Chains.{web_of, redone_in}
-use Rattle.rq_exchange.specs.Jobs.{errors_in}
-use Rattle.rq_exchange.specs.Links.{at}
+use Rattle.rq_exchange.proofs.Words.{map-append, Redone, web_of, redone_in, errors_in, at}
 use Rattle.rq_exchange.proofs.Steps.{ends}
 use Rattle.rq_exchange.proofs.thread_work.step.Goals as goal
 use Rattle.rq_exchange.proofs.thread_work.step.Goals.{In_ok-push}

@@ -1,6 +1,6 @@
 use Rattle.std.proofs.Common.{sym}
+use Rattle.rq_exchange.proofs.Words.{get_or_read_under}
 use Rattle.rq_exchange.proofs.Handing.{handed, given}
-use Rattle.std.proofs.lemmas.List.{get_or_read_under}
 use Rattle.rq_exchange.proofs.chain.CountdownChain.hand_on.Goals as goal
 
 pub returns-clause-boxes : goal.returns-clause-boxes

@@ -1,6 +1,5 @@
 use Rattle.std.proofs.Common.{◌≡◌, ◌<◌, length, subst, arith, rules}
-use Rattle.rq_exchange.specs.declared.chain.CountdownChain.{CountdownChain}
-use Rattle.rq_exchange.specs.Openings.{AreOpened, IsFreshColumn}
+use Rattle.rq_exchange.proofs.Words.{CountdownChain, AreOpened, IsFreshColumn}
 use Rattle.rq_exchange.proofs.Openings.{some_of, none_opened, opened_more, has_passes, rows_are}
 use Rattle.rq_exchange.proofs.Webs.{is_chain}
 use Rattle.rq_exchange.proofs.Pairs.{pairs_at, pairs_long}

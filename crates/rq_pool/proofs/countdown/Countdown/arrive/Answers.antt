@@ -1,10 +1,8 @@
 use Rattle.std.proofs.Common.{arith, ap, sym, ◌∙◌, subst, [], ◌∷◌, ◌++◌, refl, length, map, replicate, Some, None}
 use Rattle.std.proofs.Common.{append-nil}
-use Rattle.rq_pool.specs.Countdowns.Phases.{indexed, outboxes_in}
-use Rattle.rq_pool.specs.Countdowns.Rule.{lasts, after, count_told, made_of}
-use Rattle.rq_pool.specs.Countdowns.History.{Fit, entry, Answered}
+use Rattle.rq_pool.proofs.Countdowns.Words.{indexed, outboxes_in, lasts, after, count_told, made_of, Fit, entry}
+use Rattle.rq_pool.proofs.Countdowns.Words.{Answered, Twice, NotLast, Last}
 use Rattle.rq_pool.proofs.Countdowns.Histories.{tells, gives}
-use Rattle.rq_pool.specs.declared.countdown.arrival.Arrival.TheVariants.{Twice, NotLast, Last}
 use Rattle.rq_pool.proofs.Countdowns.Gathers.{contents_numbered}
 use Rattle.rq_pool.proofs.Countdowns.Views.{lasts_after}
 use Rattle.rq_pool.proofs.countdown.Countdown.arrive.Goals as goal

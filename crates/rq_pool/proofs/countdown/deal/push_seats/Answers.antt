@@ -1,11 +1,8 @@
 use Rattle.std.proofs.Common.{rules, arith, ap, sym, ◌∙◌, subst, ◌≡◌, ◌+◌, ◌-◌, ◌≤◌, [], Some, None, length}
 use Rattle.std.proofs.Common.{vec_capacity, Vec, ℕ}
-use Rattle.rq_pool.specs.Countdowns.Rule.{view, lasts, count_told, left_of}
-use Rattle.rq_pool.specs.Countdowns.Views.{made_in, refused_in}
-use Rattle.rq_pool.specs.Countdowns.History.{back_in, refused_outboxes}
+use Rattle.rq_pool.proofs.Countdowns.Words.{view, lasts, count_told, left_of, made_in, refused_in, back_in}
+use Rattle.rq_pool.proofs.Countdowns.Words.{refused_outboxes, All-pop, All-push, length_push}
 use Rattle.rq_pool.proofs.Countdowns.Joins.{splits}
-use Rattle.std.proofs.lemmas.List.Elements.{All-pop, All-push}
-use Rattle.std.proofs.lemmas.List.{length_push}
 use Rattle.std.specs.Global.{Global}
 use Rattle.rq_pool.proofs.countdown.deal.push_seats.Goals as goal
 

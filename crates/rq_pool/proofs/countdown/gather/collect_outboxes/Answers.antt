@@ -1,5 +1,5 @@
 use Rattle.std.proofs.Common.{rules, arith, ap₂, sym, ◌+◌, ◌∙◌, ◌∷◌, ◌++◌, []}
-use Rattle.rq_pool.specs.Countdowns.Phases.{outboxes_in}
+use Rattle.rq_pool.proofs.Countdowns.Words.{outboxes_in}
 use Rattle.rq_pool.proofs.Countdowns.Gathers.{after_one, one_value}
 use Rattle.rq_pool.proofs.countdown.gather.collect_outboxes.Goals as goal
 

@@ -1,7 +1,7 @@
 use Rattle.std.proofs.Common.{arith, ap, ◌∙◌, ◌≡◌, ◌+◌, ◌++◌, Some}
+use Rattle.rq_pool.proofs.Countdowns.Words.{All-pop}
 use Rattle.rq_pool.proofs.Countdowns.Closes.{begins, goes_on, ends}
 use Rattle.rq_pool.proofs.Countdowns.Joins.{joins}
-use Rattle.std.proofs.lemmas.List.Elements.{All-pop}
 use Rattle.rq_pool.proofs.countdown.joined.join_all.Goals as goal
 
 pub loop-pass-init : goal.loop-pass-init

@@ -1,7 +1,5 @@
 use Rattle.std.proofs.Common.{◌≡◌, ◌+◌, ℕ, sum_by, ap, ◌∙◌, arith, Some}
-use Rattle.std.proofs.lemmas.List.Sums.{sum_by_push}
-use Rattle.rq_pool.specs.Decks.{IsComplete, taken_weight, dealt_weight, dealt_length}
-use Rattle.std.proofs.lemmas.List.Elements.{All-pop}
+use Rattle.rq_pool.proofs.Words.{sum_by_push, IsComplete, taken_weight, dealt_weight, dealt_length, All-pop}
 use Rattle.rq_pool.proofs.deck.Deck.emptied.Goals as goal
 
 one_deck : (a l m e0 er ew s k t0 tr tw : ℕ) → a + l + e0 ≡ s + k + t0 → e0 ≡ er + ew → t0 ≡ tr + tw → tw + m ≡ ew + l

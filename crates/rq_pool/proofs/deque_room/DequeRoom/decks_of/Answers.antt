@@ -1,9 +1,8 @@
 use Rattle.std.proofs.Common.{◌≡◌, ◌<◌, ◌^◌, All, ◌∷◌, [], ◌++◌, length, map, reverse, vec_len, vec_items, ap, sym}
 use Rattle.std.proofs.Common.{subst, ◌∙◌, arith, append-nil, Some}
-use Rattle.std.proofs.lemmas.List.{map-append, reverse-reverse, nil_from_length}
-use Rattle.rq_pool.specs.Decks.{IsStocked, IsWhole, deck_id, deck_list, owner_id}
+use Rattle.rq_pool.proofs.Words.{map-append, reverse-reverse, nil_from_length, IsStocked, IsWhole, deck_id, deck_list}
+use Rattle.rq_pool.proofs.Words.{owner_id, All-push, All-pop}
 use Rattle.rq_pool.proofs.Lists.{all_reverse, map-reverse, one_more_behind}
-use Rattle.std.proofs.lemmas.List.Elements.{All-push, All-pop}
 use Rattle.rq_pool.proofs.deque_room.DequeRoom.decks_of.Goals as goal
 
 pub loop-list-preserved : goal.loop-list-preserved

@@ -1,10 +1,7 @@
 use Rattle.std.proofs.Common.{◌≡◌, suc, ◌+◌, [], All, length, drop, map, replicate, vec_len, ap, sym, subst, ◌∙◌, arith}
 use Rattle.std.proofs.Common.{Some}
-use Rattle.std.proofs.lemmas.List.{length-map}
-use Rattle.rq_pool.specs.Decks.{IsStocked, IsWhole, deck_id}
-use Rattle.rq_pool.specs.Rooms.{IsSeatBeside, taken_of}
+use Rattle.rq_pool.proofs.Words.{length-map, IsStocked, IsWhole, deck_id, IsSeatBeside, taken_of, All-push, All-pop}
 use Rattle.rq_pool.proofs.Dealing.{next_owner}
-use Rattle.std.proofs.lemmas.List.Elements.{All-push, All-pop}
 use Rattle.rq_pool.proofs.deque_room.DequeRoom.seats_of.Goals as goal
 
 pub loop-owner-preserved : goal.loop-owner-preserved

@@ -1,11 +1,7 @@
 use Rattle.std.proofs.Common.{◌<◌, ◌∷◌, [], ◌++◌, length, map, get_or, ap, sym, ◌∙◌, arith}
-use Rattle.std.proofs.lemmas.List.{length-map, get_or-map}
-use Rattle.rq_pool.specs.Decks.{list_in}
-use Rattle.rq_pool.specs.Sources.{source_id, stolen}
-use Rattle.rq_pool.specs.Rooms.{ids_of}
+use Rattle.rq_pool.proofs.Words.{length-map, get_or-map, list_in, source_id, stolen, ids_of, map-set_same, map-set}
 use Rattle.rq_pool.proofs.Taking.{stole}
 use Rattle.rq_pool.proofs.Sources.{less_than_dealt}
-use Rattle.std.proofs.Math.Seq.{map-set_same, map-set}
 use Rattle.rq_pool.proofs.deque_seat.DequeSeat.steal.Goals as goal
 
 pub returns-in-Some-clause-sources : goal.returns-in-Some-clause-sources
