@@ -8,7 +8,7 @@ use Rattle.rq_pool.proofs.Countdowns.Words.{waits, is_shut, place, count, one_if
 use Rattle.rq_pool.proofs.Countdowns.Words.{lasts, view, HasLast, AtSource, IsSet, IsOpen, IsShut, Held, claimed}
 use Rattle.rq_pool.proofs.Countdowns.Words.{length-map}
 use Rattle.rq_pool.proofs.Countdowns.Totals.{total_set, at_most, inside, there, get_map, set_get}
-use Rattle.rq_pool.proofs.Countdowns.Views.{some_set, same_total, source_else, set_still, passes_set}
+use Rattle.rq_pool.proofs.Countdowns.Views.{some_set, same_total, source_else, set_still, passes_set, told_still}
 
 module _ {T : Type 0} where
   pub shut_gone : (ys : List T) (i : ℕ) (p : Phase T) → get_elem? (map gone ys) i ≡ some p → is_shut p ≡ 1
@@ -127,21 +127,8 @@ module _ {T K : Type 0} (fits : K → ℕ → T → Type 0) (terms : Terms K) wh
             set_before = λ k j e. ⊎_elim (λ (was : get_elem? v.refused k ≡ some j). old.set_before k j was)
                 (λ (same : i ≡ j). subst (IsSet ps) same (p, p_at, set_flag)) (at_snoc v.refused i j k e);
           } h.each_pass;
-          told_once = ⊎_elim (λ (o : IsOpen s.views ps).
-              inl record {
-                waiting = o.waiting;
-                nobody = same_total lasts s.views id v w at refl ∙ o.nobody;
-                none_shut =
-                    o.none_shut;
-              })
-              (λ (o : IsShut s.views ps). inr record {
-                outboxes = o.outboxes;
-                all_shut = o.all_shut;
-                one =
-                    same_total lasts s.views id v w at refl ∙ o.one;
-                has_it =
-                    some_set (HasLast o.outboxes) s.views id v w at (λ had. had) o.has_it;
-              }) h.told_once;
+          told_once = told_still s.views (set s.views id w) ps (same_total lasts s.views id v w at refl)
+              (λ ys. some_set (HasLast ys) s.views id v w at (λ had. had)) h.told_once;
         },
         ((λ z. absurd (omega arith)), λ _ j. (view v.parts v.key None v.made (v.refused ++ b j ∷ []), me.1)),
       )

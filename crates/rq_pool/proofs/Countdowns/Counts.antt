@@ -11,7 +11,7 @@ use Rattle.rq_pool.proofs.Countdowns.Words.{parts, stands_at, names, made_for, l
 use Rattle.rq_pool.proofs.Countdowns.Words.{AtSource, IsSet, Knows, IsOpen, Held, tallied, Fit, length-map}
 use mathlib.Core.Option as maybe
 use Rattle.rq_pool.proofs.Countdowns.Totals.{total_set, total_append, at_most, inside, there, get_map, set_get}
-use Rattle.rq_pool.proofs.Countdowns.Views.{same_total, source_else, set_still, passes_set, lasts_after}
+use Rattle.rq_pool.proofs.Countdowns.Views.{same_total, source_else, set_still, passes_set, lasts_after, same_source}
 use Rattle.rq_pool.proofs.Countdowns.Claims.{still_open}
 use Rattle.rq_pool.proofs.Countdowns.Takes.{take_all, taking, all_out}
 
@@ -68,11 +68,6 @@ module _ {T : Type 0} where
   set_gone [] j old = absurd (some-ne-none old.0 (sym old.1))
   set_gone (y ∷ ys) zero old = (gone y, refl, refl)
   set_gone (y ∷ ys) (suc j) old = set_gone ys j old
-
-module _ {T K : Type 0} where
-  gone_source : (fit : ℕ → T → Type 0) (views : List (View T K)) (i : ℕ) (y : T) → AtSource fit views i (home y)
-      → AtSource fit views i (gone y)
-  gone_source fit views i y h = record { standing = h.standing; done = h.done; holding = h.holding }
 
 module _ {T K : Type 0} (fits : K → ℕ → T → Type 0) (terms : Terms K) where
   abbrev St : Type 0
@@ -252,7 +247,8 @@ module _ {T K : Type 0} (fits : K → ℕ → T → Type 0) (terms : Terms K) wh
               all_parts = parts' (Some ys);
               each_source = λ j p g. let q = gone_at ys j p g in
                   subst (AtSource (fits terms.key) (views' (Some ys)) j) (sym q.1)
-                  (gone_source (fits terms.key) (views' (Some ys)) j q.0 (sources j (home q.0) q.2));
+                  (same_source (fits terms.key) (views' (Some ys)) j (home q.0) (gone q.0) refl refl refl
+                  (sources j (home q.0) q.2));
               each_pass = passes' (Some ys) (map gone ys)
                   (λ j old. set_gone ys j (subst (λ m. IsSet m j) all.1 (set_still ps i (home x) near refl j old)));
               told_once = inr record {

@@ -8,6 +8,7 @@ use Rattle.rq_pool.proofs.Countdowns.Words.{parts, HasLast, SomeView, AtSource, 
 use Rattle.rq_pool.proofs.Countdowns.Words.{length-map}
 use mathlib.Core.Option as maybe
 use Rattle.rq_pool.proofs.Countdowns.Totals.{at_most, set_get}
+use Rattle.rq_pool.proofs.Countdowns.Views.{same_source}
 
 module _ {S : Type 0} where
   abbrev give_all : ℕ → Act S
@@ -75,11 +76,6 @@ module _ {T : Type 0} where
   back_at_gone (y ∷ ys) zero p e = (y, sym (some-injective (back y) p e), refl)
   back_at_gone (y ∷ ys) (suc i) p e = back_at_gone ys i p e
 
-module _ {T K : Type 0} where
-  back_source : (fit : ℕ → T → Type 0) (views : List (View T K)) (i : ℕ) (y : T) → AtSource fit views i (gone y)
-      → AtSource fit views i (back y)
-  back_source fit views i y h = record { standing = h.standing; done = h.done; holding = h.holding }
-
 module _ {T K : Type 0} (fits : K → ℕ → T → Type 0) (terms : Terms K) where
   abbrev St : Type 0
   St = State (Option T) (View T K)
@@ -94,7 +90,7 @@ module _ {T K : Type 0} (fits : K → ℕ → T → Type 0) (terms : Terms K) wh
       → (i : ℕ) (p : Phase T) → get_elem? (map back ys) i ≡ some p → AtSource (fits terms.key) s.views i p
   sources s h ys (inl g) i p e = let q = back_at_gone ys i p e in
       subst (AtSource (fits terms.key) s.views i) (sym q.1)
-      (back_source (fits terms.key) s.views i q.0
+      (same_source (fits terms.key) s.views i (gone q.0) (back q.0) refl refl refl
       (h.each_source i (gone q.0) (subst (λ (l : List (Phase T)). get_elem? l i ≡ some (gone q.0)) (sym g) q.2)))
   sources s h ys (inr g) i p e = h.each_source i p (subst (λ (l : List (Phase T)). get_elem? l i ≡ some p) (sym g) e)
 
