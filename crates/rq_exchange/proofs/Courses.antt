@@ -72,7 +72,8 @@ module _ (job : Job) (chain : CountdownChain) (is : IsJob job) (web : IsChainOf 
       let there : at chain.slots.items x < length chain.countdowns.items = web.web.fed x near some in
       let same : flat_map (λ (k : WorkDone). told_at (diaries_of k.passes.items) (at chain.slots.items x)) kept
       ≡ all_told c x =
-      sym (ap (flat_map (λ (es : List (Entry Outbox)). es)) (tells.told x there) ∙ flat_map-map (λ (es : List (Entry Outbox)). es)
+      sym (ap (flat_map (λ (es : List (Entry Outbox)). es)) (tells.told x there)
+      ∙ flat_map-map (λ (es : List (Entry Outbox)). es)
       (λ (k : WorkDone). told_at (diaries_of k.passes.items) (at chain.slots.items x)) kept) in
       subst (λ (z : List ℕ × List (Entry Outbox)). Settled (length z.0) z.1 (length z.0) [])
       (λ i. (sources_name job is x near i, same i))

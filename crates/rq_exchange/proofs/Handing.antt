@@ -34,7 +34,7 @@ module _ (job : Job) (chain : CountdownChain) (is : IsChainOf job chain) (q e : 
   -- the last is given what left the sources
   pub given : (cd : Countdown Outbox Target) (k : ℕ) (a : Arrival Outbox) (x : Outbox) → k ≡ at chain.slots.items e
       → cd ≡ slice_index_or chain.countdowns.items k cd
-      → Answered (λ i (y : Outbox). slice_index_or (key_of cd).due i [] ≡ y.moves.items) (sources_of cd) x a
+      → Answered (λ (i : ℕ) (y : Outbox). slice_index_or (key_of cd).due i [] ≡ y.moves.items) (sources_of cd) x a
       → IfSome (boxes_of a) (λ b. AreBoxes job e b.items)
   given cd k (Twice y) x slot at_index answer = tt
   given cd k NotLast x slot at_index answer = tt
@@ -54,7 +54,8 @@ module _ (job : Job) (chain : CountdownChain) (is : IsChainOf job chain) (q e : 
       → length ps ≡ length chain.countdowns.items → HandsOn (web_of job chain) q e (boxes_of a) (diaries_of ps)
       (diaries_of (slice_set ps k p'))
   handed {g} k ps p p' x a slot at_index told each starts begun redone t =
-      let told' : history_of p' ≡ told_at (diaries_of ps) (at chain.slots.items e) ++ entry (at job.ranks.now q) x a ∷ [] =
+      let told' : history_of p' ≡ told_at (diaries_of ps) (at chain.slots.items e) ++ entry (at job.ranks.now q) x a
+      ∷ [] =
       told ∙ ap (λ es. es ++ entry (at job.ranks.now q) x a ∷ [])
       (sym (get_or-map (λ (y : Pass Outbox Target g). history_of y) ps k p [] (omega (arith, slot, each, there)))
       ∙ ap (λ j. told_at (diaries_of ps) j) slot) in

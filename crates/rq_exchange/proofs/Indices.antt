@@ -39,5 +39,6 @@ pub same_index : (ks : List ℕ) → Ordered (λ a b. a ≢ b) ks → (i j : ℕ
 same_index [] h i j l m e = absurd (omega (arith, l))
 same_index (k ∷ ks) h zero zero l m e = refl
 same_index (k ∷ ks) h zero (suc j) l m e = absurd (All-from_recursion (λ b. k ≢ b) ks h.0 j 0 (omega (arith, m)) e)
-same_index (k ∷ ks) h (suc i) zero l m e = absurd (All-from_recursion (λ b. k ≢ b) ks h.0 i 0 (omega (arith, l)) (sym e))
+same_index (k ∷ ks) h (suc i) zero l m e =
+    absurd (All-from_recursion (λ b. k ≢ b) ks h.0 i 0 (omega (arith, l)) (sym e))
 same_index (k ∷ ks) h (suc i) (suc j) l m e = ap suc (same_index ks h.1 i j (omega (arith, l)) (omega (arith, m)) e)

@@ -7,7 +7,8 @@ use Rattle.std.proofs.lemmas.Iterator.Consumers.{YieldsList-turn, YieldsList-end
 module _ {A Z : Type 0} {s t u : IntoIter A Z} {r : Option A} (all : List A) (from : into_iter_items s ≡ all)
     (long : into_iter_len s ≡ length all) (xs : List A) (y : Yields (into_iter_steps {X = A} {Z = Z}) s xs t) where
   -- what comes next is at the index that was reached
-  pub comes_next : {x : A} → r ≡ Some x → into_iter_steps t r u → (length xs < length all) × (x ≡ get_or all (length xs) x)
+  pub comes_next : {x : A} → r ≡ Some x → into_iter_steps t r u
+      → (length xs < length all) × (x ≡ get_or all (length xs) x)
   comes_next {x} is p = YieldsList-turn (YieldsList-from_vec all from long) xs t y r u x is p
 
   -- so it has what all have

@@ -9,7 +9,8 @@ module _ (job : Job) (chain : CountdownChain) (tasks : List ℕ) (kept : List Wo
     (keep : HaveKept job chain tasks kept)
     (all : List (Vec Redone Global)) (is : all ≡ map (λ k. k.done) kept) where
   all_done : All (λ done. All (IsRedone job) done.items) all
-  all_done = rw is (All-map (λ (done : Vec Redone Global). All (IsRedone job) done.items) (λ (k : WorkDone). k.done) kept
+  all_done = rw is (All-map (λ (done : Vec Redone Global). All (IsRedone job) done.items)
+      (λ (k : WorkDone). k.done) kept
       (λ i k lt. (each_keeps job chain keep.starts kept keep.keep i k lt).done))
 
   pub all_within : (n : ℕ) → n ≡ length job.definitions.now → All (λ done. All (λ d. d.queue < n) done.items) all

@@ -22,7 +22,8 @@ module _ {g : Ghosts Outbox Target} {K : Type 0} (row : K → Vec (Pass Outbox T
   -- each thread has a pass of each countdown
   pub rows_long : (rows : List Row) → rows ≡ map row kept → (n : ℕ) → n ≡ length chain.countdowns.items
       → All (λ r. length r.items ≡ n) rows
-  rows_long rows is n e = rw is (All-map (λ (r : Row). length r.items ≡ n) row kept (λ i d lt. (are i d lt).each ∙ sym e))
+  rows_long rows is n e =
+      rw is (All-map (λ (r : Row). length r.items ≡ n) row kept (λ i d lt. (are i d lt).each ∙ sym e))
 
   module _ (has : HasPasses chain (length kept)) (some : 0 < length kept) (rows columns : List Row) (n : ℕ)
       (is : rows ≡ map row kept) (count : n ≡ length chain.countdowns.items) (turned : AreColumns rows n columns) where
@@ -30,7 +31,8 @@ module _ {g : Ghosts Outbox Target} {K : Type 0} (row : K → Vec (Pass Outbox T
     column_is : (c : ℕ) (e : Row) (x : Pass Outbox Target g) → c < length chain.countdowns.items
         → (slice_index_or columns c e).items ≡ map (λ (k : K). slice_index_or (row k).items c x) kept
     column_is c e x lt = turned.each c e x (omega (arith, lt, count))
-        ∙ ap (map (λ (r : Row). slice_index_or r.items c x)) is ∙ map-map (λ (r : Row). slice_index_or r.items c x) row kept
+        ∙ ap (map (λ (r : Row). slice_index_or r.items c x)) is
+        ∙ map-map (λ (r : Row). slice_index_or r.items c x) row kept
 
     pub columns_own : EachWith IsColumn chain.countdowns.items columns
     columns_own = pairs_of IsColumn chain.countdowns.items columns (sym (turned.len ∙ count)) (λ c d e lt. (

@@ -194,7 +194,8 @@ module _ {T K : Type 0} (fits : K → ℕ → T → Type 0) (terms : Terms K) wh
       -- what the slot held names the source and the outbox
       tells : (u : View T K) (d : List (ℕ × Option T)) → Told (i, x) c u d
           → tallied fits (step slots 0 1 0 none) (v, c) found (u, d)
-      tells u d t j y e = let at_j : i ≡ j = cc in let is_y : x ≡ y = cc in
+      tells u d t j y e = let both : (i, Some x) ∷ [] ≡ (j, Some y) ∷ [] = sym has ∙ e in
+          let at_j : i ≡ j = cc in let is_y : x ≡ y = cc in
           subst (λ (z : ℕ × T). Told z c u d) (λ k. (at_j k, is_y k)) t
 
       not_last : found ≢ 1 → found < 18446744073709551616 → Goes

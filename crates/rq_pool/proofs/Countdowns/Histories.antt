@@ -6,7 +6,8 @@ use Rattle.rq_pool.proofs.Countdowns.Words.{flat_map-append}
 
 flat_snoc : {A B : Type 0} (f : A → List B) (ys xs : List A) (x : A) → ys ≡ xs ++ x ∷ []
     → flat_map f ys ≡ flat_map f xs ++ f x
-flat_snoc f ys xs x e = ap (flat_map f) e ∙ flat_map-append f xs (x ∷ []) ∙ ap (λ l. flat_map f xs ++ l) (append-nil (f x))
+flat_snoc f ys xs x e = ap (flat_map f) e ∙ flat_map-append f xs (x ∷ [])
+    ∙ ap (λ l. flat_map f xs ++ l) (append-nil (f x))
 
 module _ {T : Type 0} (es ds : List (Entry T)) (i : ℕ) (x : T) (a : Arrival T)
     (more : ds ≡ es ++ entry i x a ∷ []) where

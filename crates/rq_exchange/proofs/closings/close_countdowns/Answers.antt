@@ -26,7 +26,8 @@ returns-clause-course c =
     record {
       redone = course.redone
           ∙ ap (map (λ (done : Vec Redone Global). map queue_of done.items)) c.in_ok-rows.ensures.done
-          ∙ map-map (λ (done : Vec Redone Global). map queue_of done.items) (λ (k : WorkDone). k.done) c.args.kept.items;
+          ∙ map-map (λ (done : Vec Redone Global). map queue_of done.items)
+          (λ (k : WorkDone). k.done) c.args.kept.items;
       told = λ x there.
           (λ i. slice_index_or (map (λ one. histories_of one) (course.closings i).items)
           (at (course.slots i).items x) [])

@@ -9,7 +9,8 @@ loop-one-init c = λ job chain room all. none_handed job chain room _ _ c.new-se
 
 pub loop-one-preserved : goal.loop-one-preserved
 loop-one-preserved c = λ job chain room all.
-    let works = next_has c.args.ended.items (cc) (cc) c.loop-one.yielded c.loop-one.yielded_by (Works job chain room) all
+    let works = next_has c.args.ended.items (cc) (cc) c.loop-one.yielded c.loop-one.yielded_by
+    (Works job chain room) all
     c.in-Some.is c.next.ensures.steps in
     let has : HasEnded job chain room c.in_ok-seat.field-0 = subst (Works job chain room) c.in_ok-seat.was works in
     rw length-append (handed_more job chain room (length c.loop-one.yielded) c.loop-one.seats.items

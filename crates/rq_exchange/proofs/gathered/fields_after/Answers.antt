@@ -12,7 +12,8 @@ returns-clause-fields c =
     let many : length rs ≡ length c.args.records.now = length-map c.args.records.now record_of in
     record {
       next = omega (arith, c.next.ensures.next, after.next, many);
-      greatest = c.greatest.ensures ∙ c.requires.analysis.catalogue.knows.greatest ∙ ap (λ xs. (run s xs).greatest) front;
+      greatest = c.greatest.ensures ∙ c.requires.analysis.catalogue.knows.greatest
+          ∙ ap (λ xs. (run s xs).greatest) front;
       committed = c.committed.ensures ∙ c.requires.analysis.committed ∙ ap (λ xs. (run s xs).committed) front;
       aborted = c.aborted.ensures ∙ c.requires.analysis.aborted ∙ ap (λ xs. (run s xs).aborted) front;
       definitions = c.in_ok-copies_of.ensures.copies ∙ c.definitions.ensures

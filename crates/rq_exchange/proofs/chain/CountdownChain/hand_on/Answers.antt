@@ -17,4 +17,5 @@ returns-clause-tells c = rw c.boxes_in.ensures
     c.requires.queue.1 c.requires.queue.2 c.index.result.now c.args.passes.now c.index-passes-slot.result
     c.arrive.new.pass (record { moves = c.args.moves }) c.arrive.result
     (get_or_read_under c.args.self.now.slots.items c.args.error _ c.index.result.now 0 c.index.ensures
-    c.requires.queue.2 (sym c.requires.chain.slots)) c.index-passes-slot.is c.arrive.ensures.told c.requires.passes.each)
+    c.requires.queue.2 (sym c.requires.chain.slots)) c.index-passes-slot.is c.arrive.ensures.told
+    c.requires.passes.each)

@@ -19,7 +19,12 @@ pub columns-requires : goal.columns-requires
 columns-requires c = λ k d lt.
     let o = c.loop-queue.invariant in
     let near : k < length c.loop-queue.countdowns.items =
-    omega (arith, lt, pairs_long (IsFreshColumn c.args.workers) c.loop-queue.countdowns.items c.loop-queue.all.items o.fresh) in
+    omega (
+      arith,
+      lt,
+      pairs_long (IsFreshColumn c.args.workers) c.loop-queue.countdowns.items c.loop-queue.all.items
+          o.fresh,
+    ) in
     (pairs_at (IsFreshColumn c.args.workers) c.loop-queue.countdowns.items c.loop-queue.all.items o.fresh k
     (some_of c.loop-queue.countdowns.items k near) d near).count
 

@@ -21,7 +21,8 @@ same c t all =
       definitions = ap (λ (v : Vec Definition Global). v.items) poured.definitions ∙ all.fields.definitions;
       units = is_same t.units (map unit_of c.in_ok-fields.fields.units.items)
           (ap (λ (v : Vec UnitNo Global). map unit_of v.items) poured.units ∙ all.fields.units);
-      registrants = members registrant_before t.registrants (gathered (λ (p : Part). p.registrants) (part_of t) (length t.definitions))
+      registrants = members registrant_before t.registrants
+          (gathered (λ (p : Part). p.registrants) (part_of t) (length t.definitions))
           before.registrants.items c.in_ok-fields.fields.registrants.items (ap (λ (s : State). s.registrants) whole)
           all.fields.registrants (rw all.every at poured.registrants);
       elements = members id_before t.elements (gathered (λ (p : Part). p.elements) (part_of t) (length t.definitions))

@@ -49,7 +49,8 @@ invariant_of-pass-then-not-hand_in g c = let was = c.args.pass.now.seat.me.0 in 
     }
 
 pub collect_outboxes-requires-clause-slots : goal.collect_outboxes-requires-clause-slots
-collect_outboxes-requires-clause-slots g c = let hl = c.hand_in.ensures.last c.if-not-hand_in.false in let ys = hl.1.0 in let m =
+collect_outboxes-requires-clause-slots g c = let hl = c.hand_in.ensures.last c.if-not-hand_in.false in let ys =
+    hl.1.0 in let m =
     ap (λ m. m.1) hl.1.3 in let same = ap outboxes_in m ∙ contents_numbered ys 0 in
     (ap length same ∙ hl.1.1 ∙ c.args.self.now.sized.1, m ∙ ap (λ l. indexed 0 (map Some l)) (sym same))
 
@@ -57,7 +58,8 @@ pub invariant_of-pass-in-Some : goal.invariant_of-pass-in-Some
 invariant_of-pass-in-Some g c = let was = c.args.pass.now.seat.me.0 in let s = c.args.source in let x = c.args.outbox in
     let cl = c.claim.ensures.clear c.if-not-claim.false in let hl = c.hand_in.ensures.last c.if-not-hand_in.false in
     let ys = hl.1.0 in
-    let whole = ap (λ m. m.0) c.collect_outboxes.ensures.own.2 ∙ ap (λ m. m.0) hl.1.3 ∙ (λ j. after (cl.1 j).0 s x (Some ys)) in
+    let whole = ap (λ m. m.0) c.collect_outboxes.ensures.own.2 ∙ ap (λ m. m.0) hl.1.3
+    ∙ (λ j. after (cl.1 j).0 s x (Some ys)) in
     let more = lasts_after was s x (Some ys) in
     let room = c.collect_outboxes.new.room in let same =
     c.collect_outboxes.ensures.room ∙ ap (λ m. outboxes_in m.1) hl.1.3 ∙ contents_numbered ys 0 in
@@ -85,7 +87,8 @@ pub returns-clause-answer : goal.returns-clause-answer
 returns-clause-answer g c = let s = c.args.source in let x = c.args.outbox in let cl =
     c.claim.ensures.clear c.if-not-claim.false in let hl = c.hand_in.ensures.last c.if-not-hand_in.false in let ys =
     hl.1.0 in
-    let whole = ap (λ m. m.0) c.collect_outboxes.ensures.own.2 ∙ ap (λ m. m.0) hl.1.3 ∙ (λ j. after (cl.1 j).0 s x (Some ys)) in
+    let whole = ap (λ m. m.0) c.collect_outboxes.ensures.own.2 ∙ ap (λ m. m.0) hl.1.3
+    ∙ (λ j. after (cl.1 j).0 s x (Some ys)) in
     let same = c.collect_outboxes.ensures.room ∙ ap (λ m. outboxes_in m.1) hl.1.3 ∙ contents_numbered ys 0 in
     subst (Answered (g.T.Fits.fits c.args.self.now.table.shared.key.key) c.args.self.now.sources x)
     (sym c.noted-in-Some.ensures.answer) (

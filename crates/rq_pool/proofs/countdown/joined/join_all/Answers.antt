@@ -5,7 +5,8 @@ use Rattle.rq_pool.proofs.Countdowns.Joins.{joins}
 use Rattle.rq_pool.proofs.countdown.joined.join_all.Goals as goal
 
 pub loop-pass-init : goal.loop-pass-init
-loop-pass-init g c = let e = c.in-Some.ensures.items in let own = c.retire-seat.ensures in let m = ap (λ m. m.0) own.1 in
+loop-pass-init g c = let e = c.in-Some.ensures.items in let own = c.retire-seat.ensures in let m =
+    ap (λ m. m.0) own.1 in
     let b = begins (λ p. p.seat.me.0) c.args.passes.items c.pop.new.self.items c.in-Some.first c.retire-seat.result.me.0
     e m in (
       (All-pop (λ p. p.seat.table_id ≡ c.args.board.now.table_id) _ _ (Some c.in-Some.first) e c.requires.own.0).0,
