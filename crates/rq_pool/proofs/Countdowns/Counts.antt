@@ -11,6 +11,7 @@ use Rattle.rq_pool.proofs.Countdowns.Words.{parts, stands_at, names, made_for, l
 use Rattle.rq_pool.proofs.Countdowns.Words.{AtSource, IsSet, Knows, IsOpen, Held, tallied, Fit, length-map}
 use mathlib.Core.Option as maybe
 use Rattle.rq_pool.proofs.Countdowns.Totals.{total_set, total_append, at_most, inside, there, get_map, set_get}
+use Rattle.rq_pool.proofs.Countdowns.Totals.{one_slot}
 use Rattle.rq_pool.proofs.Countdowns.Views.{same_total, source_else, set_still, passes_set, lasts_after, same_source}
 use Rattle.rq_pool.proofs.Countdowns.Claims.{still_open}
 use Rattle.rq_pool.proofs.Countdowns.Takes.{take_all, taking, all_out}
@@ -194,9 +195,8 @@ module _ {T K : Type 0} (fits : K → ℕ → T → Type 0) (terms : Terms K) wh
       -- what the slot held names the source and the outbox
       tells : (u : View T K) (d : List (ℕ × Option T)) → Told (i, x) c u d
           → tallied fits (step slots 0 1 0 none) (v, c) found (u, d)
-      tells u d t j y e = let both : (i, Some x) ∷ [] ≡ (j, Some y) ∷ [] = sym has ∙ e in
-          let at_j : i ≡ j = cc in let is_y : x ≡ y = cc in
-          subst (λ (z : ℕ × T). Told z c u d) (λ k. (at_j k, is_y k)) t
+      tells u d t j y e = let same = one_slot i j x y [] [] (sym has ∙ e) in
+          subst (λ (z : ℕ × T). Told z c u d) (λ k. (same.0 k, same.1 k)) t
 
       not_last : found ≢ 1 → found < 18446744073709551616 → Goes
       not_last ne small = let l = one_less in let f = found_is in let e : next ≡ count ps' = omega arith in (

@@ -41,10 +41,6 @@ module _ {T : Type 0} where
         at.2,
       ))
 
-  -- the slot that was taken last had one value
-  pub one_value : (c r s : List (ℕ × Option T)) (i : ℕ) (x y : T) → c ≡ (i, Some x) ∷ r → c ≡ (i, Some y) ∷ s → x ≡ y
-  one_value c r s i x y a b = cc
-
   pub take_whole : (ys : List T) → take (length ys) ys ≡ ys
   take_whole [] = refl
   take_whole (y ∷ ys) = ap (λ l. y ∷ l) (take_whole ys)

@@ -1,6 +1,6 @@
 -- Totals over a list, and lists read by `get_elem?`.
 use Rattle.std.proofs.Common.{◌≡◌, ℕ, zero, suc, ◌+◌, ◌<◌, ◌≤◌, List, [], ◌∷◌, ◌++◌, map, length, get_or, set, sym}
-use Rattle.std.proofs.Common.{refl, ap, arith}
+use Rattle.std.proofs.Common.{refl, ap, arith, Option, Some}
 use Rattle.rq_pool.proofs.Countdowns.Words.{some, some-injective, some-ne-none, get_elem?, total}
 
 module _ {A : Type 0} where
@@ -38,3 +38,9 @@ pub set_get : (xs : List ℕ) (i n : ℕ) → get_or xs i 0 ≡ n → i < length
 set_get [] i n e h = refl
 set_get (x ∷ xs) zero n e h = λ j. sym e j ∷ xs
 set_get (x ∷ xs) (suc i) n e h = λ j. x ∷ set_get xs i n e (omega arith) j
+
+-- what one slot is known to hold in two ways
+pub one_slot : {T : Type 0} (i j : ℕ) (x y : T) (r s : List (ℕ × Option T)) → (i, Some x) ∷ r ≡ (j, Some y) ∷ s
+    → (i ≡ j) × (x ≡ y)
+one_slot {T} i j x y r s e = let both : (i, Some x) ≡ (j, Some y) = cc in
+    let some : Some x ≡ Some y = ap (λ (z : ℕ × Option T). z.1) both in (ap (λ (z : ℕ × Option T). z.0) both, cc)
