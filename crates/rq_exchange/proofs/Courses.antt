@@ -1,116 +1,91 @@
 -- From what the threads keep and the closed countdowns tell to how the replay went.
-use Rattle.std.proofs.Common.{◌≡◌, ℕ, zero, suc, ◌<◌, ◌≤◌, List, [], ◌∷◌, ◌++◌, length, map, refl, sym, ap, ◌∙◌, subst}
-use Rattle.std.proofs.Common.{arith}
-use Rattle.std.specs.Prelude.{slice_index_or}
-use Rattle.std.proofs.lemmas.List.{get_or-map, length-map}
-use Rattle.std.proofs.lemmas.List.Sums.{sum_by-cons}
-use Rattle.rq_pool.specs.declared.countdown.arrival.Entry.{Entry}
-use Rattle.rq_pool.specs.Countdowns.Arrivals.{Settled, arrivals_for, last_lists}
-use Rattle.rq_pool.specs.Countdowns.History.{flat_map}
-use Rattle.rq_pool.specs.Ledger.{times, times_in}
-use Rattle.rq_state.specs.Orders.{listed}
-use Rattle.rq_exchange.specs.declared.chain.CountdownChain.{CountdownChain}
+use Rattle.std.proofs.Common.{◌≡◌, ℕ, ◌<◌, ◌≤◌, List, [], length, sym, ap, ◌∙◌, subst, arith, flat_map, slice_index_or}
+use Rattle.rq_exchange.proofs.Words.{get_or-map, length-map, get_or-le-sum_by, Entry, Settled, arrivals_for, last_lists}
+use Rattle.rq_exchange.proofs.Words.{times, times_in, listed, CountdownChain, WorkDone, Job, Outbox, IsChainOf}
+use Rattle.rq_exchange.proofs.Words.{redone_in, diaries_of, redone_of, redone_by, told_to, all_told, StartsByLast}
+use Rattle.rq_exchange.proofs.Words.{Recounts, told_at, IsJob, errors_in, at, naming, AreBare, HasKept, HaveKept}
+use Rattle.rq_exchange.proofs.Words.{AreSettled, flat_map-map}
 use Rattle.rq_exchange.specs.declared.course.Course.{Course}
-use Rattle.rq_exchange.specs.declared.crew.WorkDone.{WorkDone}
-use Rattle.rq_exchange.specs.declared.jobs.Job.{Job}
-use Rattle.rq_exchange.specs.declared.outboxes.Outbox.{Outbox}
-use Rattle.rq_exchange.specs.Chains.{IsChainOf, redone_in, diaries_of}
-use Rattle.rq_exchange.specs.Courses.{redone_of, redone_by, told_to, all_told, StartsByLast, Recounts}
-use Rattle.rq_exchange.specs.Coverage.{told_at}
-use Rattle.rq_exchange.specs.Jobs.{IsJob, errors_in}
-use Rattle.rq_exchange.specs.Links.{at, naming}
-use Rattle.rq_exchange.specs.Tasks.{AreBare}
-use Rattle.rq_exchange.specs.Workers.{HasKept, AllKeep, HaveKept, AreSettled}
 use Rattle.rq_exchange.proofs.Alone.{alone}
 use Rattle.rq_exchange.proofs.Openings.{some_of}
 use Rattle.rq_exchange.proofs.Tasks.{zero_or}
 use Rattle.rq_exchange.proofs.Webs.{many, sources_name}
 use Rattle.rq_exchange.proofs.Wholes.{whole, all_arrive}
+use Rattle.rq_exchange.proofs.Working.{each_keeps}
+use Rattle.rq_exchange.proofs.Pairs.{pairs_long}
 
--- the lists of each, one after the other
-joined : {A B : Type 0} (f : A → List B) (xs : List A) → flat_map (λ (ys : List B). ys) (map f xs) ≡ flat_map f xs
-joined f [] = refl
-joined f (x ∷ xs) = ap (λ l. f x ++ l) (joined f xs)
+module _ (job : Job) (chain : CountdownChain) (is : IsJob job) (web : IsChainOf job chain) (tasks : List ℕ)
+    (are : AreBare job.sources.now (length job.definitions.now) tasks) (kept : List WorkDone)
+    (keep : HaveKept job chain tasks kept) (settled : AreSettled chain kept) (c : Course)
+    (tells : Recounts chain kept c) where
+  inside : (x : ℕ) → x < length (errors_in job) → x < length job.definitions.now
+  inside x near = omega (arith, near, many job is)
 
-module _ (job : Job) (chain : CountdownChain) where
-  -- each thread keeps what it began with, which is among what all began with
-  each_begins : (x : ℕ) (ss : List (List ℕ)) (ks : List WorkDone) → AllKeep job chain ss ks → (i : ℕ) (d : WorkDone)
-      → i < length ks → (s : List ℕ) × (HasKept job chain s (slice_index_or ks i d) × (times x s ≤ times_in x ss))
-  each_begins x ss [] h i d lt = absurd (omega (arith, lt))
-  each_begins x [] (k ∷ ks) h i d lt = absurd h
-  each_begins x (s ∷ ss) (k ∷ ks) h zero d lt = (s, (h.0, omega (arith, sum_by-cons (times x) s ss)))
-  each_begins x (s ∷ ss) (k ∷ ks) h (suc i) d lt =
-      let rest = each_begins x ss ks h.1 i d (omega (arith, lt)) in
-      (rest.0, (rest.1.0, omega (arith, rest.1.1, sum_by-cons (times x) s ss)))
+  thread : (k : ℕ) → k < length (redone_of c) → k < length kept
+  thread k here =
+      omega (arith, here, ap length tells.redone, length-map kept (λ (one : WorkDone). redone_in one.done.items))
 
-  module _ (is : IsJob job) (web : IsChainOf job chain) (tasks : List ℕ)
-      (are : AreBare job.sources.now (length job.definitions.now) tasks) (kept : List WorkDone)
-      (keep : HaveKept job chain tasks kept) (settled : AreSettled chain kept) (c : Course)
-      (tells : Recounts chain kept c) where
-    inside : (x : ℕ) → x < length (errors_in job) → x < length job.definitions.now
-    inside x near = omega (arith, near, many job is)
+  -- the kth of the threads
+  abbrev one : (k : ℕ) → k < length kept → WorkDone
+  one k here = slice_index_or kept k (some_of kept k here)
 
-    thread : (k : ℕ) → k < length (redone_of c) → k < length kept
-    thread k here =
-        omega (arith, here, ap length tells.redone, length-map kept (λ (one : WorkDone). redone_in one.done.items))
+  keeps : (k : ℕ) (here : k < length kept) → HasKept job chain (slice_index_or keep.starts k []) (one k here)
+  keeps k here = each_keeps job chain keep.starts kept keep.keep k (some_of kept k here) here
 
-    -- the kth of the threads
-    abbrev one : (k : ℕ) → k < length kept → WorkDone
-    one k here = slice_index_or kept k (some_of kept k here)
+  redone_is : (k : ℕ) (here : k < length kept) → redone_by c k ≡ redone_in (one k here).done.items
+  redone_is k here = ap (λ (ls : List (List ℕ)). slice_index_or ls k []) tells.redone
+      ∙ get_or-map (λ (o : WorkDone). redone_in o.done.items) kept k (some_of kept k here) [] here
 
-    redone_is : (k : ℕ) (here : k < length kept) → redone_by c k ≡ redone_in (one k here).done.items
-    redone_is k here = ap (λ (ls : List (List ℕ)). slice_index_or ls k []) tells.redone
-        ∙ get_or-map (λ (o : WorkDone). redone_in o.done.items) kept k (some_of kept k here) [] here
+  told_is : (x k : ℕ) → at chain.slots.items x < length chain.countdowns.items → (here : k < length kept)
+      → told_to c k x ≡ told_at (diaries_of (one k here).passes.items) (at chain.slots.items x)
+  told_is x k there here = ap (λ (ls : List (List (Entry Outbox))). slice_index_or ls k []) (tells.told x there)
+      ∙ get_or-map (λ (o : WorkDone). told_at (diaries_of o.passes.items) (at chain.slots.items x)) kept k
+      (some_of kept k here) [] here
 
-    told_is : (x k : ℕ) → at chain.slots.items x < length chain.countdowns.items → (here : k < length kept)
-        → told_to c k x ≡ told_at (diaries_of (one k here).passes.items) (at chain.slots.items x)
-    told_is x k there here = ap (λ (ls : List (List (Entry Outbox))). slice_index_or ls k []) (tells.told x there)
-        ∙ get_or-map (λ (o : WorkDone). told_at (diaries_of o.passes.items) (at chain.slots.items x)) kept k
-        (some_of kept k here) [] here
+  handed : (x i k : ℕ) → x < length job.definitions.now → i < length (listed job.sources.now x) → k < length kept
+      → length (arrivals_for i (told_to c k x)) ≡ times (at (naming (errors_in job) x) i) (redone_by c k)
+  handed x i k near lt here =
+      let there : at chain.slots.items x < length chain.countdowns.items = web.web.fed x near (omega (arith, lt)) in
+      ap (λ (es : List (Entry Outbox)). length (arrivals_for i es)) (told_is x k there here)
+      ∙ (keeps k here).follows.arrived x i near lt
+      ∙ ap (λ (ks : List ℕ). times (at ks i) (redone_in (one k here).done.items)) (sources_name job is x near)
+      ∙ sym (ap (times (at (naming (errors_in job) x) i)) (redone_is k here))
 
-    handed : (x i k : ℕ) → x < length job.definitions.now → i < length (listed job.sources.now x) → k < length kept
-        → length (arrivals_for i (told_to c k x)) ≡ times (at (naming (errors_in job) x) i) (redone_by c k)
-    handed x i k near lt here =
-        let there : at chain.slots.items x < length chain.countdowns.items = web.web.fed x near (omega (arith, lt)) in
-        let keeps = (each_begins x keep.starts kept keep.keep k (some_of kept k here) here).1.0 in
-        ap (λ (es : List (Entry Outbox)). length (arrivals_for i es)) (told_is x k there here)
-        ∙ keeps.follows.arrived x i near lt
-        ∙ ap (λ (ks : List ℕ). times (at ks i) (redone_in (one k here).done.items)) (sources_name job is x near)
-        ∙ sym (ap (times (at (naming (errors_in job) x) i)) (redone_is k here))
+  last : (x k : ℕ) → x < length job.definitions.now → 0 < length (listed job.sources.now x) → k < length kept
+      → times x (redone_by c k) ≡ length (last_lists (told_to c k x))
+  last x k near some here =
+      let there : at chain.slots.items x < length chain.countdowns.items = web.web.fed x near some in
+      let none : times x tasks ≡ 0 = zero_or (times x tasks)
+      (λ stands. omega (arith, some, ap length (are.no_other x stands).1)) in
+      let few : times x (slice_index_or keep.starts k []) ≤ times_in x keep.starts =
+      get_or-le-sum_by (times x) keep.starts k []
+      (omega (arith, here, pairs_long (HasKept job chain) keep.starts kept keep.keep)) in
+      let redid : times x (redone_in (one k here).done.items)
+      ≡ length (last_lists (told_at (diaries_of (one k here).passes.items) (at chain.slots.items x))) =
+      (keeps k here).follows.redid x near ∙ omega (arith, few, keep.dealt x, none) in
+      ap (times x) (redone_is k here) ∙ redid
+      ∙ sym (ap (λ (es : List (Entry Outbox)). length (last_lists es)) (told_is x k there here))
 
-    last : (x k : ℕ) → x < length job.definitions.now → 0 < length (listed job.sources.now x) → k < length kept
-        → times x (redone_by c k) ≡ length (last_lists (told_to c k x))
-    last x k near some here =
-        let there : at chain.slots.items x < length chain.countdowns.items = web.web.fed x near some in
-        let begun = each_begins x keep.starts kept keep.keep k (some_of kept k here) here in
-        let none : times x tasks ≡ 0 = zero_or (times x tasks)
-        (λ stands. let bare = ap length (are.no_other x stands).1 in omega (arith, some, bare)) in
-        let redid : times x (redone_in (one k here).done.items)
-        ≡ length (last_lists (told_at (diaries_of (one k here).passes.items) (at chain.slots.items x))) =
-        begun.1.0.follows.redid x near ∙ omega (arith, begun.1.1, keep.dealt x, none) in
-        ap (times x) (redone_is k here) ∙ redid
-        ∙ sym (ap (λ (es : List (Entry Outbox)). length (last_lists es)) (told_is x k there here))
+  ended : (x : ℕ) → x < length job.definitions.now → 0 < length (listed job.sources.now x)
+      → Settled (length (naming (errors_in job) x)) (all_told c x) (length (naming (errors_in job) x)) []
+  ended x near some =
+      let there : at chain.slots.items x < length chain.countdowns.items = web.web.fed x near some in
+      let same : flat_map (λ (k : WorkDone). told_at (diaries_of k.passes.items) (at chain.slots.items x)) kept
+      ≡ all_told c x =
+      sym (ap (flat_map (λ (es : List (Entry Outbox)). es)) (tells.told x there)
+      ∙ flat_map-map (λ (es : List (Entry Outbox)). es)
+      (λ (k : WorkDone). told_at (diaries_of k.passes.items) (at chain.slots.items x)) kept) in
+      subst (λ (z : List ℕ × List (Entry Outbox)). Settled (length z.0) z.1 (length z.0) [])
+      (λ i. (sources_name job is x near i, same i))
+      (all_arrive job chain web tasks are kept keep settled x near some)
 
-    ended : (x : ℕ) → x < length job.definitions.now → 0 < length (listed job.sources.now x)
-        → Settled (length (naming (errors_in job) x)) (all_told c x) (length (naming (errors_in job) x)) []
-    ended x near some =
-        let there : at chain.slots.items x < length chain.countdowns.items = web.web.fed x near some in
-        let same : flat_map (λ (k : WorkDone). told_at (diaries_of k.passes.items) (at chain.slots.items x)) kept
-        ≡ all_told c x =
-        sym (ap (flat_map (λ (es : List (Entry Outbox)). es)) (tells.told x there)
-        ∙ joined (λ (k : WorkDone). told_at (diaries_of k.passes.items) (at chain.slots.items x)) kept) in
-        subst (λ (z : List ℕ × List (Entry Outbox)). Settled (length z.0) z.1 (length z.0) [])
-        (λ i. (sources_name job is x near i, same i))
-        (all_arrive job chain web tasks are kept keep settled x near some)
-
-    pub starts_by_last : StartsByLast (errors_in job) c
-    starts_by_last = record {
-      once = λ x near. alone x (redone_of c)
-          (ap (times_in x) tells.redone ∙ whole job chain web tasks are kept keep settled x (inside x near));
-      handed_in = λ x i k near lt here. handed x i k (inside x near)
-          (subst (λ (ks : List ℕ). i < length ks) (sym (sources_name job is x (inside x near))) lt) (thread k here);
-      by_last = λ x k near some here. last x k (inside x near)
-          (subst (λ (ks : List ℕ). 0 < length ks) (sym (sources_name job is x (inside x near))) some) (thread k here);
-      settled = λ x near some. ended x (inside x near)
-          (subst (λ (ks : List ℕ). 0 < length ks) (sym (sources_name job is x (inside x near))) some);
-    }
+  pub starts_by_last : StartsByLast (errors_in job) c
+  starts_by_last = record {
+    once = λ x near. alone x (redone_of c)
+        (ap (times_in x) tells.redone ∙ whole job chain web tasks are kept keep settled x (inside x near));
+    handed_in = λ x i k near lt here. handed x i k (inside x near)
+        (rw (sources_name job is x (inside x near)) lt) (thread k here);
+    by_last = λ x k near some here. last x k (inside x near)
+        (rw (sources_name job is x (inside x near)) some) (thread k here);
+    settled = λ x near some. ended x (inside x near) (rw (sources_name job is x (inside x near)) some);
+  }

@@ -1,43 +1,17 @@
 -- What the threads redid, as it is put where it belongs.
-use Rattle.std.proofs.Common.{◌≡◌, ℕ, ◌<◌, List, [], ◌∷◌, All, length, map, refl, sym, ap, ◌∙◌, subst, arith, Vec}
-use Rattle.std.proofs.Common.{Global}
-use Rattle.std.specs.Prelude.{slice_index_or}
-use Rattle.std.proofs.lemmas.List.{get_or-map, length-map}
-use Rattle.rq_model.specs.Machine.{run}
-use Rattle.rq_pool.specs.Ledger.{times_in}
-use Rattle.rq_exchange.specs.declared.chain.CountdownChain.{CountdownChain}
-use Rattle.rq_exchange.specs.declared.crew.WorkDone.{WorkDone}
-use Rattle.rq_exchange.specs.declared.jobs.Job.{Job}
-use Rattle.rq_exchange.specs.declared.outboxes.Redone.{Redone}
-use Rattle.rq_exchange.specs.Boards.{IsPart, queue_of}
-use Rattle.rq_exchange.specs.Chains.{IsChainOf, IsRedone, redone_in}
-use Rattle.rq_exchange.specs.Jobs.{records_of}
-use Rattle.rq_exchange.specs.Tasks.{AreBare}
-use Rattle.rq_exchange.specs.Workers.{HaveKept, AreSettled}
-use Rattle.rq_exchange.proofs.Openings.{some_of}
+use Rattle.std.proofs.Common.{◌≡◌, ℕ, ◌<◌, List, All, length, map, ap, ◌∙◌, arith, Vec, Global}
+use Rattle.rq_exchange.proofs.Words.{run, times_in, CountdownChain, WorkDone, Job, Redone, IsPart, queue_of, IsChainOf}
+use Rattle.rq_exchange.proofs.Words.{IsRedone, records_of, AreBare, HaveKept, AreSettled, All-map, map-map}
 use Rattle.rq_exchange.proofs.Wholes.{whole}
 use Rattle.rq_exchange.proofs.Working.{each_keeps}
-
--- the queues of all threads
-pub queues_are : (ks : List WorkDone) → map (λ (done : Vec Redone Global). map queue_of done.items)
-    (map (λ (k : WorkDone). k.done) ks) ≡ map (λ (k : WorkDone). redone_in k.done.items) ks
-queues_are [] = refl
-queues_are (k ∷ ks) = ap (λ l. redone_in k.done.items ∷ l) (queues_are ks)
 
 module _ (job : Job) (chain : CountdownChain) (tasks : List ℕ) (kept : List WorkDone)
     (keep : HaveKept job chain tasks kept)
     (all : List (Vec Redone Global)) (is : all ≡ map (λ k. k.done) kept) where
-  many : length all ≡ length kept
-  many = ap length is ∙ length-map kept (λ (k : WorkDone). k.done)
-
   all_done : All (λ done. All (IsRedone job) done.items) all
-  all_done i v lt =
-      let inside : i < length kept = omega (arith, lt, many) in
-      let one = some_of kept i inside in
-      let from : slice_index_or all i v ≡ (slice_index_or kept i one).done =
-      ap (λ l. slice_index_or l i v) is ∙ get_or-map (λ (k : WorkDone). k.done) kept i one v inside in
-      subst (λ (done : Vec Redone Global). All (IsRedone job) done.items) (sym from)
-      (each_keeps job chain keep.starts kept keep.keep i one inside).1.done
+  all_done = rw is (All-map (λ (done : Vec Redone Global). All (IsRedone job) done.items)
+      (λ (k : WorkDone). k.done) kept
+      (λ i k lt. (each_keeps job chain keep.starts kept keep.keep i k lt).done))
 
   pub all_within : (n : ℕ) → n ≡ length job.definitions.now → All (λ done. All (λ d. d.queue < n) done.items) all
   all_within n e i v lt j d l = omega (arith, (all_done i v lt j d l).0, e)
@@ -50,6 +24,7 @@ module _ (job : Job) (chain : CountdownChain) (tasks : List ℕ) (kept : List Wo
       → 0 < times_in x (map (λ (done : Vec Redone Global). map queue_of done.items) all)
   all_there web are settled x near =
       let one : times_in x (map (λ (done : Vec Redone Global). map queue_of done.items) all) ≡ 1 =
-      ap (times_in x) (ap (map (λ (done : Vec Redone Global). map queue_of done.items)) is ∙ queues_are kept)
+      ap (times_in x) (ap (map (λ (done : Vec Redone Global). map queue_of done.items)) is
+      ∙ map-map (λ (done : Vec Redone Global). map queue_of done.items) (λ (k : WorkDone). k.done) kept)
       ∙ whole job chain web tasks are kept keep settled x near in
       omega (arith, one)

@@ -1,12 +1,9 @@
 -- The rank of each queue among the sources of its error queue.
 use Rattle.std.proofs.Common.{◌≡◌, ◌⊎◌, ℕ, suc, ◌+◌, ◌<◌, ◌≤◌, Bool, true, cond, List, [], ◌∷◌, ◌++◌, length}
 use Rattle.std.proofs.Common.{length-append, drop, refl, sym, ap, ◌∙◌, subst, arith, inl, inr, eq-eqb, append_assoc}
-use Rattle.std.proofs.Common.{false}
-use Rattle.std.specs.Prelude.{◌==◌, if◌then◌else◌}
-use Rattle.std.proofs.lemmas.List.{get_or_append_left}
-use Rattle.std.proofs.Math.Seq.{get_or-append_seam, drop-cons}
-use Rattle.rq_state.specs.Orders.{indices_of}
-use Rattle.rq_exchange.specs.Links.{at, naming, AreRanks}
+use Rattle.std.proofs.Common.{false, ◌==◌, if◌then◌else◌}
+use Rattle.rq_exchange.proofs.Words.{get_or_append_left, get_or-append_seam, drop-cons, indices_of, at, naming}
+use Rattle.rq_exchange.proofs.Words.{AreRanks}
 use Rattle.rq_exchange.proofs.Indices.{few_from}
 use Rattle.rq_exchange.proofs.Steps.{same_or}
 
@@ -14,11 +11,7 @@ use Rattle.rq_exchange.proofs.Steps.{same_or}
 index_next : (errors : List ℕ) (index e : ℕ) → index < length errors → e ≡ at errors index
     → indices_of (λ n. n == e) index (drop index errors)
     ≡ index ∷ indices_of (λ n. n == e) (index + 1) (drop (suc index) errors)
-index_next errors index e lt is =
-    ap (indices_of (λ n. n == e) index) (drop-cons errors index 0 lt)
-    ∙ (λ i. cond (eq-eqb (at errors index) e (sym is) i)
-    (index ∷ indices_of (λ n. n == e) (index + 1) (drop (suc index) errors))
-    (indices_of (λ n. n == e) (index + 1) (drop (suc index) errors)))
+index_next errors index e lt is = rw (drop-cons errors index 0 lt, eq-eqb (at errors index) e (sym is)) refl
 
 -- so far no list is longer than all errors
 pub list_few : (errors : List ℕ) (index x : ℕ) (list : List ℕ)
@@ -47,10 +40,7 @@ ranks_more errors count index r ranks after list h lt whole is e =
         × (at (naming errors (at errors q)) (at (ranks ++ r ∷ []) q) ≡ q)
     go q near inside (inr other) =
         let below : q < index = omega (arith, near, other) in
-        let same : at (ranks ++ r ∷ []) q ≡ at ranks q =
-        get_or_append_left ranks (r ∷ []) 0 q (omega (arith, below, h.long)) in
-        subst (λ k. (k < length (naming errors (at errors q))) × (at (naming errors (at errors q)) k ≡ q)) (sym same)
-        (h.ranked q below inside)
+        rw (get_or_append_left ranks (r ∷ []) 0 q (omega (arith, below, h.long))) (h.ranked q below inside)
     go q near inside (inl here) =
         let within : at errors index < count = subst (λ p. at errors p < count) here inside in
         let rank : at (ranks ++ r ∷ []) q ≡ length list =

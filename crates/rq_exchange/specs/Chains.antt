@@ -1,6 +1,5 @@
 -- The countdowns of the error queues, and the passes of a thread.
-use Rattle.std.specs.Prelude.{◌≡◌, ◌<◌, ℕ, List, [], ◌∷◌, length, map, All, slice_index_or, Option}
-use Rattle.std.specs.Prelude.{Some, None}
+use Rattle.std.specs.Prelude.{◌≡◌, ◌<◌, ℕ, List, [], ◌∷◌, length, map, All, slice_index_or, Option, Some, None}
 use Rattle.std.specs.Global.{Vec}
 use Rattle.rq_model.specs.Machine.{run}
 use Rattle.rq_model.specs.Queues as queues
@@ -9,8 +8,7 @@ use Rattle.rq_pool.specs.declared.countdown.Countdown.{Countdown}
 use Rattle.rq_pool.specs.declared.countdown.pass.Pass.{Pass}
 use Rattle.rq_pool.specs.declared.countdown.fits.Fits.{Ghosts}
 use Rattle.rq_pool.specs.Countdowns.Arrivals.{Settled}
-use Rattle.rq_pool.specs.Countdowns.Words.{IsPassOf, key_of, sources_of, passes_of, history_of}
-use Rattle.rq_pool.specs.Countdowns.Words.{history_in}
+use Rattle.rq_pool.specs.Countdowns.Words.{IsPassOf, key_of, sources_of, passes_of, history_of, history_in}
 use Rattle.rq_pool.specs.declared.countdown.arrival.Entry.{Entry}
 use Rattle.rq_exchange.specs.declared.chain.CountdownChain.{CountdownChain}
 use Rattle.rq_exchange.specs.declared.outboxes.Outbox.{Outbox}
@@ -18,8 +16,10 @@ use Rattle.rq_exchange.specs.declared.outboxes.Target.{Target}
 use Rattle.rq_exchange.specs.declared.outboxes.Redone.{Redone}
 use Rattle.rq_exchange.specs.declared.jobs.Job.{Job}
 use Rattle.rq_exchange.specs.Jobs.{records_of, errors_in}
-use Rattle.rq_exchange.specs.Coverage.{Web, IsWeb, Hand}
+use Rattle.rq_exchange.specs.Coverage.{Web, IsWeb, DiariesTell}
 use Rattle.rq_exchange.specs.Links.{at}
+use Rattle.rq_pool.specs.declared.countdown.arrival.Arrival.{Arrival}
+use Rattle.rq_pool.specs.declared.countdown.arrival.Arrival.TheVariants.{Twice, NotLast, Last}
 
 abbrev pub web_of : Job → CountdownChain → Web
 web_of job chain = record {
@@ -38,6 +38,12 @@ due job queue = map (queues.moves job.state.now (records_of job)) (listed job.so
 -- the outboxes are those of the sources of the queue, in their order
 abbrev pub AreBoxes : Job → ℕ → List Outbox → Type 0
 AreBoxes job queue boxes = map (λ b. b.moves.items) boxes ≡ due job queue
+
+-- the outboxes that an arrival was given, if it was the last
+abbrev pub boxes_of : {T : Type 0} → Arrival T → Option (Vec T)
+boxes_of (Twice y) = None
+boxes_of NotLast = None
+boxes_of (Last ys) = Some ys
 
 -- the countdown is that of the queue
 abbrev pub IsCountdownOf : Job → ℕ → Countdown Outbox Target → Type 0
@@ -79,10 +85,11 @@ module _ {g : Ghosts Outbox Target} where
   abbrev pub diaries_of : List (Pass Outbox Target g) → List (List (Entry Outbox))
   diaries_of = map (λ p. history_of p)
 
-  -- what a thread has to show
-  abbrev pub hand_of : List ℕ → List Redone → List (Pass Outbox Target g) → Hand Outbox
-  hand_of starts done passes =
-      record { starts = starts; redone = redone_in done; diaries = diaries_of passes }
+  -- a thread that was given these queues has redone all that it began
+  abbrev pub HasFollowed : Job → CountdownChain → List ℕ
+      → List Redone → List (Pass Outbox Target g) → Type 0
+  HasFollowed job chain starts done passes = DiariesTell (web_of job chain) starts
+      (redone_in done) (redone_in done) (diaries_of passes)
 
   -- all passes of the countdown
   abbrev pub IsColumn : Countdown Outbox Target → Vec (Pass Outbox Target g) → Type 0

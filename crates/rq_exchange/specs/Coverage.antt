@@ -1,18 +1,10 @@
 -- What a thread has to show once it has ended, and what it is to follow its arrivals.
-use Rattle.std.specs.Prelude.{◌≡◌, ℕ, ◌+◌, ◌<◌, ◌≤◌, ◌++◌, List, [], length, slice_index_or, map}
-use Rattle.std.specs.Prelude.{◌∷◌, Option, Some, None}
-use Rattle.std.specs.List.{AllByRecursion}
+use Rattle.std.specs.Prelude.{◌≡◌, ℕ, ◌+◌, ◌<◌, ◌≤◌, ◌++◌, List, [], length, slice_index_or, ◌∷◌, Option, Some, None}
+use Rattle.std.specs.Prelude.{flat_map}
 use Rattle.rq_pool.specs.declared.countdown.arrival.Entry.{Entry}
 use Rattle.rq_pool.specs.Countdowns.Arrivals.{arrivals_for, last_lists, Settled}
-use Rattle.rq_pool.specs.Countdowns.History.{flat_map}
 use Rattle.rq_pool.specs.Ledger.{times, times_in}
-
--- The queues that a thread was given to begin with, those that it redid, and what its passes tell,
--- a pass for each countdown
-pub record Hand (T : Type 0) : Type 0 where
-  pub starts : List ℕ
-  pub redone : List ℕ
-  pub diaries : List (List (Entry T))
+use Rattle.rq_exchange.specs.Pairs.{EachWith}
 
 module _ {T : Type 0} where
   -- the arrivals at the countdown at this index; none if it does not exist
@@ -83,24 +75,17 @@ module _ {T : Type 0} where
       DiariesTell w starts (done ++ queue ∷ []) done old
       → DiariesTell w starts (after ++ next) after new
 
-  -- the same of a thread that has redone all that it began
-  abbrev pub HasFollowed : Web → Hand T → Type 0
-  HasFollowed w h = DiariesTell w h.starts h.redone h.redone h.diaries
-
-  -- how often all threads redid the queue
-  abbrev pub Once : List (Hand T) → ℕ → Type 0
-  Once hs x = times_in x (map (λ h. h.redone) hs) ≡ 1
-
-  -- what is known once the room and all countdowns are closed
-  pub record IsWebClosed (w : Web) (hs : List (Hand T)) : Type 0 where
+  -- What is known once the room and all countdowns are closed, of threads of which each redid
+  -- queues and has its diaries
+  pub record IsWebClosed {K : Type 0} (w : Web) (redone : K → List ℕ)
+      (diaries : K → List (List (Entry T))) (starts : List (List ℕ)) (ks : List K) : Type 0 where
     pub web : IsWeb w
     -- of the room: a queue without sources was given out once, no other was
-    pub bare : (x : ℕ) → x < w.n → length (w.sources x) ≡ 0
-        → times_in x (map (λ h. h.starts) hs) ≡ 1
-    pub fed : (x : ℕ) → x < w.n → 0 < length (w.sources x) → times_in x (map (λ h. h.starts) hs) ≡ 0
-    -- of each thread
-    pub follow : AllByRecursion (HasFollowed w) hs
+    pub bare : (x : ℕ) → x < w.n → length (w.sources x) ≡ 0 → times_in x starts ≡ 1
+    pub fed : (x : ℕ) → x < w.n → 0 < length (w.sources x) → times_in x starts ≡ 0
+    -- of each thread: it has redone all that it began
+    pub follow : EachWith (λ s k. DiariesTell w s (redone k) (redone k) (diaries k)) starts ks
     -- of each countdown
     pub settled : (e : ℕ) → e < w.n → 0 < length (w.sources e)
         → (arrived : ℕ) × (home : List T) × Settled (length (w.sources e))
-        (flat_map (λ h. told_at h.diaries (w.slot e)) hs) arrived home
+        (flat_map (λ k. told_at (diaries k) (w.slot e)) ks) arrived home

@@ -1,11 +1,12 @@
 pub mod Boards
 pub mod Chains
+pub mod Columns
 pub mod Courses
 pub mod Coverage
 pub mod Gathering
-pub mod Halves
 pub mod Jobs
 pub mod Links
 pub mod Openings
+pub mod Pairs
 pub mod Tasks
 pub mod Workers

@@ -1,6 +1,5 @@
 -- How the countdowns are opened, queue by queue.
 use Rattle.std.specs.Prelude.{◌≡◌, ◌⊎◌, ◌<◌, ◌≤◌, ◌++◌, ℕ, List, [], ◌∷◌, length, All}
-use Rattle.std.specs.Prelude.{slice_index_or}
 use Rattle.std.specs.Global.{Vec}
 use Rattle.rq_state.specs.Orders.{listed}
 use Rattle.rq_pool.specs.declared.countdown.Countdown.{Countdown}
@@ -12,6 +11,7 @@ use Rattle.rq_exchange.specs.declared.outboxes.Target.{Target}
 use Rattle.rq_exchange.specs.declared.jobs.Job.{Job}
 use Rattle.rq_exchange.specs.Chains.{IsCountdownOf}
 use Rattle.rq_exchange.specs.Links.{at}
+use Rattle.rq_exchange.specs.Pairs.{EachWith}
 
 module _ {g : Ghosts Outbox Target} where
   -- all passes of the countdown, this many; nobody has arrived with one
@@ -54,22 +54,17 @@ module _ {g : Ghosts Outbox Target} where
       Stays job queue countdowns columns slot after more
       ⊎ AddsCountdown job workers queue countdowns columns slot after more
 
-  -- the countdowns of the first m queues are opened, each where its slot says
+  -- The countdowns of the first m queues are opened. They are those of these queues, which are all
+  -- that have sources, each where its slot says
   pub record AreOpened (job : Job) (workers m : ℕ) (slots : List ℕ)
       (countdowns : List (Countdown Outbox Target)) (columns : List (Vec (Pass Outbox Target g)))
       : Type 0 where
+    pub queues : List ℕ
     pub long : length slots ≡ m
-    pub each : length columns ≡ length countdowns
-    pub few : length countdowns ≤ m
+    pub few : length queues ≤ m
     pub bare : (x : ℕ) → x < m → length (listed job.sources.now x) ≡ 0
         → at slots x ≡ length job.definitions.now
     pub fed : (x : ℕ) → x < m → 0 < length (listed job.sources.now x)
-        → at slots x < length countdowns
-    pub apart : (x y : ℕ) → x < m → y < m → 0 < length (listed job.sources.now x)
-        → 0 < length (listed job.sources.now y) → at slots y ≡ at slots x → y ≡ x
-    pub keyed : (x : ℕ) (d : Countdown Outbox Target) →
-        x < m → 0 < length (listed job.sources.now x)
-        → IsCountdownOf job x (slice_index_or countdowns (at slots x) d)
-    pub fresh : (k : ℕ) (d : Countdown Outbox Target) (e : Vec (Pass Outbox Target g)) →
-        k < length countdowns
-        → IsFreshColumn workers (slice_index_or countdowns k d) (slice_index_or columns k e)
+        → (at slots x < length queues) × (at queues (at slots x) ≡ x)
+    pub keyed : EachWith (IsCountdownOf job) queues countdowns
+    pub fresh : EachWith (IsFreshColumn workers) countdowns columns

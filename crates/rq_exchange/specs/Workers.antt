@@ -1,6 +1,5 @@
 -- What the workers hand back.
-use Rattle.std.specs.Prelude.{◌≡◌, ◌<◌, ℕ, List, [], ◌∷◌, length, map, All, ⊤, slice_index_or}
-use Rattle.std.specs.Prelude.{Result, Ok, Err}
+use Rattle.std.specs.Prelude.{◌≡◌, ◌<◌, ℕ, List, [], length, map, flat_map, All, slice_index_or, Result, Ok, Err}
 use Rattle.rq_record.specs.declared.fault.Fault.{Fault}
 use Rattle.rq_record.specs.declared.fault.Fault.TheVariants.{Resources}
 use Rattle.rq_pool.specs.declared.room.Room.{Room}
@@ -9,7 +8,6 @@ use Rattle.rq_pool.specs.Ledger.{times, times_in}
 use Rattle.rq_pool.specs.declared.countdown.Countdown.{Countdown}
 use Rattle.rq_pool.specs.Countdowns.Words.{sources_of, history_of}
 use Rattle.rq_pool.specs.Countdowns.Arrivals.{Settled}
-use Rattle.rq_pool.specs.Countdowns.History.{flat_map}
 use Rattle.rq_exchange.specs.declared.outboxes.Outbox.{Outbox}
 use Rattle.rq_exchange.specs.declared.outboxes.Target.{Target}
 use Rattle.rq_pool.specs.Rooms.{IsSeatOf, taken_of}
@@ -21,8 +19,9 @@ use Rattle.rq_exchange.specs.declared.crew.Worker.{Worker}
 use Rattle.std.specs.Global.{Vec}
 use Rattle.rq_pool.specs.declared.countdown.fits.Fits.{Ghosts}
 use Rattle.rq_pool.specs.declared.countdown.pass.Pass.{Pass}
-use Rattle.rq_exchange.specs.Chains.{web_of, ArePasses, IsRedone, hand_of, diaries_of}
-use Rattle.rq_exchange.specs.Coverage.{HasFollowed, told_at}
+use Rattle.rq_exchange.specs.Chains.{ArePasses, IsRedone, diaries_of, HasFollowed}
+use Rattle.rq_exchange.specs.Coverage.{told_at}
+use Rattle.rq_exchange.specs.Pairs.{EachWith}
 
 -- the thread has a pass of each countdown, its parts are right, and its passes tell of these queues
 -- that it began with
@@ -30,7 +29,7 @@ pub record HasKept (job : Job) (chain : CountdownChain) (starts : List ℕ) (k :
     : Type 0 where
   pub passes : ArePasses chain k.passes.items
   pub done : All (IsRedone job) k.done.items
-  pub follows : HasFollowed (web_of job chain) (hand_of starts k.done.items k.passes.items)
+  pub follows : HasFollowed job chain starts k.done.items k.passes.items
 
 pub record HasEnded (job : Job) (chain : CountdownChain) (room : Room) (w : Ended) : Type 0 where
   pub seat : IsSeatOf room w.seat
@@ -43,10 +42,7 @@ Works job chain room (Err e) = e ≡ Resources
 
 -- each thread keeps its own
 abbrev pub AllKeep : Job → CountdownChain → List (List ℕ) → List WorkDone → Type 0
-AllKeep job chain [] [] = ⊤
-AllKeep job chain [] (k ∷ ks) = ⊥
-AllKeep job chain (s ∷ ss) [] = ⊥
-AllKeep job chain (s ∷ ss) (k ∷ ks) = HasKept job chain s k × AllKeep job chain ss ks
+AllKeep job chain = EachWith (HasKept job chain)
 
 -- all seats, and beside each what its thread keeps of what the seat took
 pub record AreHandedBack (job : Job) (chain : CountdownChain) (room : Room)

@@ -5,7 +5,7 @@ ghost use Rattle.rq_record.specs.declared.fault.Fault.TheVariants.{Resources};
 ghost use Rattle.rq_model.specs.Queues as queues;
 ghost use Rattle.rq_pool.specs.Countdowns.Words.{history_of};
 ghost use Rattle.rq_exchange.specs.Chains.{web_of, due, AreBoxes, IsChainOf, ArePasses, HasPasses};
-ghost use Rattle.rq_exchange.specs.Chains.{diaries_of};
+ghost use Rattle.rq_exchange.specs.Chains.{diaries_of, boxes_of};
 ghost use Rattle.rq_exchange.specs.Openings.{Opened};
 ghost use Rattle.rq_exchange.specs.Coverage.{HandsOn};
 ghost use Rattle.rq_exchange.specs.Jobs.{IsJob, records_of, errors_in};
@@ -54,13 +54,20 @@ impl CountdownChain {
     {
         let slot = self.slots[error as usize] as usize;
         let rank = job.ranks[queue as usize];
-        match self.countdowns[slot].arrive(&mut passes[slot], rank, Outbox { moves }) {
-            Arrival::Last(boxes) => Some(boxes),
-            Arrival::NotLast => None,
-            Arrival::Twice(back) => {
-                drop(back);
-                None
-            }
+        boxes_in(self.countdowns[slot].arrive(&mut passes[slot], rank, Outbox { moves }))
+    }
+}
+
+// The outboxes that an arrival was given, if it was the last.
+fn boxes_in(answer: Arrival<Outbox>) -> Option<Vec<Outbox>>
+    ensures { result ≡ boxes_of answer }
+{
+    match answer {
+        Arrival::Last(boxes) => Some(boxes),
+        Arrival::NotLast => None,
+        Arrival::Twice(back) => {
+            drop(back);
+            None
         }
     }
 }

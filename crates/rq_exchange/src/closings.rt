@@ -1,11 +1,12 @@
 //! The countdowns closed, each with all its passes.
 
-ghost use Rattle.std.specs.Prelude.{◌≡◌, ◌<◌, ℕ, length, map, All, IfOk, IfErr, slice_index_or};
+ghost use Rattle.std.specs.Prelude.{◌≡◌, ◌<◌, length, map, All, IfOk, IfErr};
 ghost use Rattle.rq_record.specs.declared.fault.Fault.TheVariants.{Resources};
 ghost use Rattle.rq_pool.specs.Countdowns.Closings.{histories_of};
 ghost use Rattle.rq_pool.specs.Countdowns.Words.{history_of};
 ghost use Rattle.rq_exchange.specs.Chains.{ArePasses, HasPasses, IsColumn, IsSettled};
 ghost use Rattle.rq_exchange.specs.Courses.{Recounts};
+ghost use Rattle.rq_exchange.specs.Pairs.{EachWith};
 ghost use Rattle.rq_exchange.specs.Workers.{AreSettled};
 
 use crate::chain::CountdownChain;
@@ -23,11 +24,8 @@ fn close_all(
     countdowns: Vec<Countdown<Outbox>>,
     columns: Vec<Vec<Pass<Outbox>>>,
 ) -> Result<Vec<Closing<Outbox>>, Fault>
-    requires many { length columns.items ≡ length countdowns.items }
-    requires own { (k : ℕ) (d : _) (e : _) → k < length countdowns.items
-        → IsColumn (slice_index_or countdowns.items k d) (slice_index_or columns.items k e) }
-    ensures settled { IfOk result (λ _. (k : ℕ) (d : _) (e : _) → k < length countdowns.items
-        → IsSettled (slice_index_or countdowns.items k d) (slice_index_or columns.items k e)) }
+    requires own { EachWith IsColumn countdowns.items columns.items }
+    ensures settled { IfOk result (λ _. EachWith IsSettled countdowns.items columns.items) }
     ensures histories { IfOk result (λ v. map histories_of v.items
         ≡ map (λ column. map history_of column.items) columns.items) }
     ensures refused { IfErr result (λ e. e ≡ Resources) }

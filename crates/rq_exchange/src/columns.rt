@@ -1,9 +1,10 @@
 //! Rows turned into columns.
 
-ghost use Rattle.std.specs.Prelude.{◌≡◌, ◌<◌, ◌++◌, ◌∷◌, [], ℕ, length, map, All, IfOk, IfErr};
+ghost use Rattle.std.specs.Prelude.{◌≡◌, ◌<◌, ◌++◌, ◌∷◌, [], ℕ, length, All, IfOk, IfErr};
 ghost use Rattle.std.specs.Prelude.{OnOk, slice_index_or};
 ghost use Rattle.rq_state.specs.Orders.{listed};
 ghost use Rattle.rq_record.specs.declared.fault.Fault.TheVariants.{Resources};
+ghost use Rattle.rq_exchange.specs.Columns.{AreColumns};
 
 use rq_record::Fault;
 use std::alloc::Global;
@@ -45,11 +46,7 @@ pub(crate) fn columns<T: Drop>(
     count: usize,
 ) -> Result<Vec<Vec<T>>, Fault>
     requires { All (λ r. length r.items ≡ count) rows.items }
-    ensures len { IfOk result (λ cs. length cs.items ≡ count) }
-    ensures long { IfOk result (λ cs. (k : ℕ) (d : _) → k < count
-        → length (slice_index_or cs.items k d).items ≡ length rows.items) }
-    ensures columns { IfOk result (λ cs. (k : ℕ) (d : _) (x : T) → k < count
-        → (slice_index_or cs.items k d).items ≡ map (λ r. slice_index_or r.items k x) rows.items) }
+    ensures columns { IfOk result (λ cs. AreColumns rows.items count cs.items) }
     ensures refused { IfErr result (λ e. e ≡ Resources) }
 {
     let mut columns = bare(alloc, count)?;

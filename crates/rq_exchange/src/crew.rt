@@ -7,8 +7,7 @@ ghost use Rattle.rq_pool.specs.Ledger.{times, times_in};
 ghost use Rattle.rq_pool.specs.Countdowns.Words.{history_of};
 ghost use Rattle.rq_pool.specs.Rooms.{IsSeatOf, taken_of, deal_of};
 ghost use Rattle.rq_record.specs.declared.fault.Fault.TheVariants.{Resources};
-ghost use Rattle.rq_exchange.specs.Chains.{web_of, IsChainOf, ArePasses, IsRedone, IsBare, hand_of};
-ghost use Rattle.rq_exchange.specs.Coverage.{HasFollowed};
+ghost use Rattle.rq_exchange.specs.Chains.{IsChainOf, ArePasses, IsRedone, IsBare, HasFollowed};
 ghost use Rattle.rq_exchange.specs.Jobs.{IsJob};
 ghost use Rattle.rq_exchange.specs.Tasks.{AreBare};
 ghost use Rattle.rq_exchange.specs.declared.chain.CountdownChain.{CountdownChain as GhostChain};
@@ -16,11 +15,12 @@ ghost use Rattle.rq_exchange.specs.declared.jobs.Job.{Job as GhostJob};
 ghost use Rattle.rq_exchange.specs.Workers.{Works, HandsBack, IsFreshWorker, Pairs, HaveKept};
 
 use crate::chain::CountdownChain;
-use crate::deals::deal;
+use crate::deals::dealt_room;
 use crate::jobs::Job;
 use crate::outboxes::{Outbox, Redone};
 use crate::thread_work::follow;
-use rq_pool::{Gate, Pass, Room, Seat};
+use rq_plan::Gate;
+use rq_pool::{Pass, Room, Seat};
 use rq_record::Fault;
 use std::alloc::{AllocError, Global};
 use std::thread;
@@ -100,10 +100,10 @@ fn finish<G: Gate>(
     requires bare { (x : ℕ) → 0 < times x left.now → IsBare job.now x }
     ensures passes { IfOk result (λ _. ArePasses chain.now kept.new.passes.items) }
     ensures done { IfOk result (λ _. All (IsRedone job.now) kept.new.done.items) }
-    ensures follows { IfOk result (λ _. (starts : List ℕ) → HasFollowed (web_of job.now chain.now)
-        (hand_of starts kept.old.done.items kept.old.passes.items)
-        → HasFollowed (web_of job.now chain.now)
-        (hand_of (starts ++ left.now) kept.new.done.items kept.new.passes.items)) }
+    ensures follows { IfOk result (λ _. (starts : List ℕ) →
+        HasFollowed job.now chain.now starts kept.old.done.items kept.old.passes.items
+        → HasFollowed job.now chain.now (starts ++ left.now) kept.new.done.items
+        kept.new.passes.items) }
     ensures refused { IfErr result (λ e. e ≡ Resources) }
 {
     let WorkDone { passes, done } = kept;
@@ -202,8 +202,7 @@ pub(crate) fn all_kept<R: Threads + Sync, G: Gate + Sync>(
     ensures count { IfOk result (λ v. length v.items ≡ length rows.items) }
     ensures refused { IfErr result (λ e. e ≡ Resources) }
 {
-    let lists = deal(alloc, rows.len(), tasks)?;
-    let (room, seats) = Room::open(alloc, lists)?;
+    let (room, seats) = dealt_room(alloc, rows.len(), tasks)?;
     let workers = paired(alloc, seats, rows)?;
     let ended = run_seats(rt, alloc, job, chain, &room, gate, workers)?;
     let (seats, mut kept) = handed_back(alloc, ended)?;

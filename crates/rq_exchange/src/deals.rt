@@ -1,10 +1,14 @@
 //! What the room deals: the queues that wait for nobody.
 
-ghost use Rattle.std.specs.Prelude.{◌≡◌, ◌≤◌, ◌<◌, ℕ, length, map, IfOk, IfErr, vec_len, vec_items};
+ghost use Rattle.std.specs.Prelude.{◌≡◌, ◌≤◌, ◌<◌, ℕ, length, map, All, IfOk, IfErr, vec_len};
+ghost use Rattle.std.specs.Prelude.{vec_items};
 ghost use Rattle.rq_pool.specs.Ledger.{times, times_in, size};
+ghost use Rattle.rq_pool.specs.Rooms.{deal_of, seats_of};
 ghost use Rattle.rq_record.specs.declared.fault.Fault.TheVariants.{Resources};
 ghost use Rattle.rq_exchange.specs.Tasks.{AreBare};
+ghost use Rattle.rq_exchange.specs.Workers.{IsFreshSeat};
 
+use rq_pool::{Room, Seat};
 use rq_record::Fault;
 use std::alloc::Global;
 
@@ -38,8 +42,8 @@ fn lists_for(alloc: Global, workers: usize) -> Result<Vec<Vec<u32>>, Fault>
     Ok(lists)
 }
 
-/// Task i goes to list i modulo the workers.
-pub(crate) fn deal(alloc: Global, workers: usize, tasks: &[u32]) -> Result<Vec<Vec<u32>>, Fault>
+// Task i goes to list i modulo the workers.
+fn deal(alloc: Global, workers: usize, tasks: &[u32]) -> Result<Vec<Vec<u32>>, Fault>
     requires { 0 < workers }
     ensures count { IfOk result (λ v. vec_len v ≡ workers) }
     ensures deal { IfOk result
@@ -52,4 +56,22 @@ pub(crate) fn deal(alloc: Global, workers: usize, tasks: &[u32]) -> Result<Vec<V
         lists[i % workers].push(*queue)?;
     }
     Ok(lists)
+}
+
+/// A room that deals the tasks to this many seats.
+pub(crate) fn dealt_room(
+    alloc: Global,
+    workers: usize,
+    tasks: &[u32],
+) -> Result<(Room, Vec<Seat>), Fault>
+    requires workers { (0 < workers) × (workers ≤ 64) }
+    requires few { length tasks.now ≤ 65536 }
+    ensures deal { IfOk result (λ r. (x : ℕ) → times_in x (deal_of r.0) ≡ times x tasks.now) }
+    ensures count { IfOk result (λ r. (seats_of r.0 ≡ workers) × (length r.1.items ≡ workers)) }
+    ensures seats { IfOk result (λ r. All (IsFreshSeat r.0) r.1.items) }
+    ensures refused { IfErr result (λ e. e ≡ Resources) }
+{
+    let lists = deal(alloc, workers, tasks)?;
+    let (room, seats) = Room::open(alloc, lists)?;
+    Ok((room, seats))
 }

@@ -20,7 +20,7 @@ use crate::gathered::{AllRedone, fields_after};
 use crate::jobs::Job;
 use crate::links::{errors_of, sources_of};
 use rq_catalog::{Analysis, analyse_kept};
-use rq_pool::{Gate, Plan};
+use rq_plan::{Gate, Plan};
 use rq_queue::Part;
 use rq_record::{Fault, KeptRecord, Record, Version, kept_records};
 use rq_state::State;
@@ -37,7 +37,6 @@ fn redo_all<R: Threads + Sync, G: Gate + Sync>(
     gate: &G,
 ) -> Result<(Vec<Option<Part>>, Course), Fault>
     requires job { IsJob job.now }
-    requires few { length job.now.definitions.now ≤ 4096 }
     ensures size { IfOk result (λ r. length r.0.items ≡ length job.now.definitions.now) }
     ensures parts { IfOk result
         (λ r. AreParts (run job.now.state.now (records_of job.now)) r.0.items) }

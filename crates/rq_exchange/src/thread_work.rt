@@ -6,14 +6,15 @@ ghost use Rattle.std.specs.Prelude.{IfSome};
 ghost use Rattle.rq_record.specs.declared.fault.Fault.TheVariants.{Resources};
 ghost use Rattle.rq_state.specs.Orders.{listed};
 ghost use Rattle.rq_exchange.specs.Chains.{web_of, AreBoxes, IsChainOf, ArePasses, IsRedone};
-ghost use Rattle.rq_exchange.specs.Chains.{redone_in, diaries_of, hand_of, next_of};
-ghost use Rattle.rq_exchange.specs.Coverage.{StepsOn, HasFollowed};
+ghost use Rattle.rq_exchange.specs.Chains.{redone_in, diaries_of, HasFollowed, next_of};
+ghost use Rattle.rq_exchange.specs.Coverage.{StepsOn};
 ghost use Rattle.rq_exchange.specs.Jobs.{IsJob};
 
 use crate::chain::CountdownChain;
 use crate::jobs::Job;
 use crate::outboxes::{Outbox, Redone};
-use rq_pool::{Gate, Pass};
+use rq_plan::Gate;
+use rq_pool::Pass;
 use rq_record::Fault;
 use std::alloc::Global;
 
@@ -76,9 +77,8 @@ pub(crate) fn follow<G: Gate>(
     ensures done { IfOk result
         (λ _. All (IsRedone job.now) done.old.items → All (IsRedone job.now) done.new.items) }
     ensures follows { IfOk result (λ _. (starts : List ℕ) →
-        HasFollowed (web_of job.now chain.now) (hand_of starts done.old.items passes.old)
-        → HasFollowed (web_of job.now chain.now)
-        (hand_of (starts ++ start ∷ []) done.new.items passes.new)) }
+        HasFollowed job.now chain.now starts done.old.items passes.old
+        → HasFollowed job.now chain.now (starts ++ start ∷ []) done.new.items passes.new) }
     ensures refused { IfErr result (λ e. e ≡ Resources) }
 {
     let mut queue = start;

@@ -6,7 +6,7 @@ ghost use Rattle.rq_judged.specs.Checkpoints.{BeginsAt, kept_in, chain_start};
 
 use crate::grain::grain_of;
 use rq_front::{Chain, HEADER_LEN, Span, chain, version};
-use rq_pool::Plan;
+use rq_plan::Plan;
 use rq_record::{Fault, Version};
 use rq_state::{State, read_in};
 use std::alloc::Global;

@@ -6,7 +6,7 @@ use crate::front_pass::PassSoFar;
 use crate::grain::grain_of;
 use crate::why::Why;
 use rq_front::log_version;
-use rq_pool::Plan;
+use rq_plan::Plan;
 use rq_record::Fault;
 use std::alloc::Global;
 use std::marker::Sync;

@@ -22,7 +22,7 @@ use crate::grain::grain_of;
 use crate::why::Why;
 use rq_catalog::{Analysis, analyse_kept};
 use rq_front::{Chain, Rest, Walk};
-use rq_pool::Plan;
+use rq_plan::Plan;
 use rq_record::{Fault, KeptRecord, LentLog, Version};
 use rq_state::State;
 use std::alloc::Global;

@@ -2,7 +2,7 @@
 
 ghost use Rattle.std.specs.Prelude.{◌≤◌};
 
-use rq_pool::Plan;
+use rq_plan::Plan;
 
 /// How many frames a worker checks in one piece: those of the plan's grain, and all of them where
 /// it is alone, so that no thread is started.

@@ -11,7 +11,7 @@ use crate::grain::grain_of;
 use crate::judged::JudgedFront;
 use crate::window::{WindowPass, stopped};
 use rq_front::{HEADER_LEN, version};
-use rq_pool::Plan;
+use rq_plan::Plan;
 use rq_record::Fault;
 use std::alloc::Global;
 use std::marker::Sync;

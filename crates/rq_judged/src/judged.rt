@@ -12,7 +12,7 @@ use crate::links::before;
 use crate::why::Why;
 use rq_catalog::Judge;
 use rq_front::log_version;
-use rq_pool::Plan;
+use rq_plan::Plan;
 use rq_record::Fault;
 use std::alloc::Global;
 use std::marker::Sync;

@@ -1,10 +1,10 @@
+pub mod Words
 pub mod Totals
 pub mod Views
 pub mod Claims
 pub mod Takes
 pub mod Counts
 pub mod Gathers
-pub mod Arrives
 pub mod Histories
 pub mod Settled
 pub mod Settling

@@ -2,27 +2,16 @@
 use Rattle.std.proofs.Common.{All, drop, reverse, zero, ◌≡◌, ℕ, suc, ◌+◌, ◌<◌, ◌≤◌, List, [], ◌∷◌, ◌++◌, Vec, length}
 use Rattle.std.proofs.Common.{get_or, take, map, replicate, sum_by, Some, slice_get, vec_items, vec_len, sym, refl, ap}
 use Rattle.std.proofs.Common.{◌∙◌, arith}
-use Rattle.std.specs.Global.{Global}
+use Rattle.rq_pool.proofs.Words.{Global, length-map, length-replicate, with_items_is, take_more}
+use Rattle.rq_pool.proofs.Words.{replicate-append-replicate, map-append, reverse-append, nil_from_length, get_or-map}
+use Rattle.rq_pool.proofs.Words.{sum_by-cons, Share, Worker, DealRule, Deck, size, parts_of, DeckId, list_in, deck_id}
+use Rattle.rq_pool.proofs.Words.{deck_list, owner_id, IsStocked, IsOpen, filled, owner_count, dealt_length, Holds}
+use Rattle.rq_pool.proofs.Words.{reach_at, IsPlaceBeside, map-map}
 use Rattle.std.specs.Vec.{with_items}
-use Rattle.std.proofs.lemmas.List.{length-map, length-replicate, with_items_is, take_more, replicate-append-replicate}
-use Rattle.std.proofs.lemmas.List.{map-append, reverse-append, nil_from_length}
-use Rattle.std.proofs.lemmas.List.Sums.{sum_by-cons}
 use Rattle.std.proofs.lemmas.List.Folds.{sum_by-replicate}
 use Rattle.std.proofs.lemmas.Option.{slice_get_within, get_or_from_slice_get}
-use Rattle.rq_pool.specs.declared.deque.Share.{Share}
-use Rattle.crossbeam_deque.specs.declared.handles.Worker.{Worker}
-use Rattle.rq_pool.specs.declared.deque.DealRule.{DealRule}
-use Rattle.rq_pool.specs.declared.deck.Deck.{Deck}
-use Rattle.rq_pool.specs.Ledger.{size}
-use Rattle.rq_pool.specs.Passes.{parts_of}
-use Rattle.rq_pool.specs.Decks.{DeckId, list_in, deck_id, deck_list, owner_id, IsStocked, IsOpen, filled, owner_count}
-use Rattle.rq_pool.specs.Decks.{dealt_length}
 use Rattle.rq_pool.specs.declared.seat.Place.{Place}
 use Rattle.rq_pool.specs.declared.seat.Place.TheVariants.{Alone, Beside}
-use Rattle.rq_pool.specs.Holdings.{Holds}
-use Rattle.rq_pool.specs.Vaults.{reach_at}
-use Rattle.rq_pool.specs.Rooms.{IsPlaceBeside}
-use Rattle.rq_pool.proofs.Taking.{get_map, map_map}
 use Rattle.rq_pool.proofs.Lists.{nothing_at, first_of_drop}
 
 pub begun : (ids : List DeckId) (number : ℕ) (deque : (ℕ × ℕ) × Global) (v : Share) (stolens : List (List ℕ))
@@ -31,7 +20,7 @@ pub begun : (ids : List DeckId) (number : ℕ) (deque : (ℕ × ℕ) × Global) 
 begun ids number deque v stolens taken own fresh parts none bare = let inside : number < length ids =
     slice_get_within ids number (deque, v.dealt) own in let count = length-map ids list_in in record {
       numbered = omega arith;
-      dealt = get_map list_in ids number (deque, v.dealt) [] inside
+      dealt = get_or-map list_in ids number (deque, v.dealt) [] inside
           ∙ ap list_in (get_or_from_slice_get ids number (deque, v.dealt) (deque, v.dealt) own);
       parts = omega arith;
       same = ap length fresh ∙ length-replicate (length ids) [] ∙ sym count;
@@ -87,7 +76,7 @@ none_filled n (d ∷ ds) all = let none = ap owner_count (all 0 d (omega arith))
 
 -- the lists of the deques are those that were dealt
 pub same_lists : (decks : List Deck) → map list_in (map deck_id decks) ≡ map deck_list decks
-same_lists decks = map_map deck_id list_in decks
+same_lists decks = map-map list_in deck_id decks
 
 -- there are as many of them as lists
 pub as_many : (decks : List Deck) (lists : Vec (Vec ℕ Global) Global) → map deck_list decks ≡ map vec_items lists.items

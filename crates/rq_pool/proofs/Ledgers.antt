@@ -1,17 +1,9 @@
 -- What the seats have taken, and what is left.
 use Rattle.std.proofs.Common.{◌≡◌, ℕ, zero, suc, ◌+◌, ◌≤◌, ◌<◌, List, [], ◌∷◌, ◌++◌, All, length, get_or, take, drop}
 use Rattle.std.proofs.Common.{cond, ◌==◌, sum_by, Option, Some, None, sym, refl, ap, ◌∙◌, subst, arith}
-use Rattle.std.specs.Global.{Global}
-use Rattle.std.proofs.lemmas.List.{nil_from_length}
-use Rattle.std.proofs.lemmas.List.Sums.{sum_by-cons, sum_by_push, sum_by-take-drop}
-use Rattle.crossbeam_deque.specs.declared.handles.Worker.{Worker}
-use Rattle.crossbeam_deque.specs.Handles.{IsPassOf}
-use Rattle.rq_pool.specs.Ledger.{times, Ledger}
-use Rattle.rq_pool.specs.declared.deque.Share.{Share}
-use Rattle.rq_pool.specs.declared.deque.DealRule.{DealRule}
-use Rattle.rq_pool.specs.declared.deck.Deck.{Deck}
-use Rattle.rq_pool.specs.Passes.{weight_of}
-use Rattle.rq_pool.specs.Decks.{IsOpen, IsComplete, filled, owner_count, owner_weight, taken_weight}
+use Rattle.rq_pool.proofs.Words.{Global, nil_from_length, sum_by-cons, sum_by_push, sum_by-take-drop, Worker, IsPassOf}
+use Rattle.rq_pool.proofs.Words.{times, Ledger, Share, DealRule, Deck, weight_of, IsOpen, IsComplete, filled}
+use Rattle.rq_pool.proofs.Words.{owner_count, owner_weight, taken_weight}
 
 -- one seat took the beginning of the list
 pub ledger_alone : (list taken : List ℕ) (takens : List (List ℕ)) → taken ≡ take (length taken) list

@@ -1,31 +1,13 @@
 -- Facts of lists that std does not have.
-use Rattle.std.proofs.Common.{◌≡◌, ℕ, zero, suc, ◌-◌, ◌<◌, List, [], ◌∷◌, ◌++◌, All, length, get_or, drop, map, reverse}
+use Rattle.std.proofs.Common.{◌≡◌, ℕ, zero, suc, ◌-◌, List, [], ◌∷◌, ◌++◌, All, length, get_or, drop, map, reverse}
 use Rattle.std.proofs.Common.{replicate, sum, sum_by, Some, slice_get, sym, refl, ap, ◌∙◌, subst, arith, append_assoc}
-use mathlib.Core.Logic.{dite}
-use native.Mathlib.Decide.{ℕ_discrete}
-use Rattle.std.proofs.lemmas.List.{map-append, reverse-append, length-append, length-reverse, get_or-reverse}
-use Rattle.std.proofs.lemmas.List.{get_or_push, get_or_append_left}
-use Rattle.std.proofs.lemmas.List.Sums.{sum_by-cons, sum-map}
+use Rattle.rq_pool.proofs.Words.{map-append, reverse-append, length-reverse, get_or-reverse, sum-map, map-map}
 use Rattle.std.proofs.lemmas.List.Sorted.{sum_by-IsPermutation, IsPermutation-reverse}
 
 module _ {X : Type 0} (P : X → Type 0) (xs : List X) where
   pub all_reverse : All P xs → All P (reverse xs)
   all_reverse all k d lt = let l = length-reverse xs in
       subst P (sym (get_or-reverse xs k d (omega arith))) (all (length xs - 1 - k) d (omega arith))
-
-  pub all_last : (x : X) → All P (xs ++ x ∷ []) → P x
-  all_last x all = subst P (get_or_push xs x x (length xs) refl)
-      (all (length xs) x (omega (arith, length-append xs (x ∷ []))))
-
-  pub all_front : (x : X) → All P (xs ++ x ∷ []) → All P xs
-  all_front x all k d lt = subst P (get_or_append_left xs (x ∷ []) d k lt)
-      (all k d (omega (arith, length-append xs (x ∷ []))))
-
-  pub all_push : (x : X) → All P xs → P x → All P (xs ++ x ∷ [])
-  all_push x all mine k d lt = dite (ℕ_discrete k (length xs))
-      (λ e. subst P (sym (get_or_push xs x d k (sym e))) mine)
-      (λ ne. let l = length-append xs (x ∷ []) in let less : k < length xs = omega arith in
-      subst P (sym (get_or_append_left xs (x ∷ []) d k less)) (all k d less))
 
 pub map-reverse : {A B : Type 0} (f : A → B) (xs : List A) → map f (reverse xs) ≡ reverse (map f xs)
 map-reverse f [] = refl
@@ -36,9 +18,7 @@ pub sum_by-reverse : {A : Type 0} (h : A → ℕ) (xs : List A) → sum_by h (re
 sum_by-reverse h xs = sum_by-IsPermutation h xs (reverse xs) (IsPermutation-reverse xs)
 
 pub sum_by-map : {A B : Type 0} (f : B → ℕ) (g : A → B) (xs : List A) → sum_by f (map g xs) ≡ sum_by (λ x. f (g x)) xs
-sum_by-map f g [] = refl
-sum_by-map f g (x ∷ xs) =
-    omega (arith, sum_by-cons f (g x) (map g xs), sum_by-cons (λ y. f (g y)) x xs, sum_by-map f g xs)
+sum_by-map f g xs = sym (sum-map f (map g xs)) ∙ ap sum (map-map f g xs) ∙ sum-map (λ x. f (g x)) xs
 
 -- the sums of lists whose values under f are the same
 pub sum_by_same : {A : Type 0} (f : A → ℕ) (xs ys : List A) → map f xs ≡ map f ys → sum_by f xs ≡ sum_by f ys

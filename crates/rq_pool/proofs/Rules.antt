@@ -1,15 +1,10 @@
 -- Each step on a deque keeps its rule.
 use Rattle.std.proofs.Common.{◌≡◌, ◌≢◌, ℕ, ◌+◌, ◌-◌, ◌<◌, ◌≤◌, List, [], ◌∷◌, ◌++◌, length, set, sum_by, sym, refl, ap}
 use Rattle.std.proofs.Common.{◌∙◌, subst, ⊎_elim, arith}
-use mathlib.Core.Option.{some, some-ne-none}
-use lib.ListN.{get_elem?}
-use Rattle.std.proofs.lemmas.List.{nil_from_length}
-use Rattle.std.proofs.lemmas.List.Sums.{sum_by-cons, sum_by-append, sum_by_push}
+use Rattle.rq_pool.proofs.Words.{some, some-ne-none, get_elem?, nil_from_length, sum_by-cons, sum_by-append}
+use Rattle.rq_pool.proofs.Words.{sum_by_push, at_set, set_else, Share, share, FitsDeal, Balanced, Pushed, Taken}
+use Rattle.rq_pool.proofs.Words.{Emptied}
 use Rattle.crossbeam_deque.specs.Tasks.{Pushes, Takes, Finds, Forks, Merges, Learns}
-use Rattle.crossbeam_deque.proofs.Lists.{at_set, set_else}
-use Rattle.rq_pool.specs.declared.deque.Share.{Share}
-use Rattle.rq_pool.specs.Shares.{share}
-use Rattle.rq_pool.specs.Rules.{FitsDeal, Balanced, Pushed, Taken, Emptied}
 use Rattle.rq_pool.proofs.Totals.{total_set, total_at, total_one, each_set, each_snoc}
 
 pub length_sum : (xs : List ℕ) → length xs ≡ sum_by (λ _. 1) xs

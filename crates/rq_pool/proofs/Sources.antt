@@ -1,17 +1,14 @@
 -- The lists of a seat's sources are those of the room's deques.
 use Rattle.std.proofs.Common.{◌≡◌, ℕ, ◌<◌, ◌≤◌, List, [], length, get_or, map, sum_by, sym, ap, ◌∙◌, arith}
-use Rattle.crossbeam_deque.specs.Handles.{view}
+use Rattle.rq_pool.proofs.Words.{view, DeckId, list_in, source_id, get_or-map, map-map}
 use Rattle.rq_pool.specs.declared.source.Source.{Source}
-use Rattle.rq_pool.specs.Decks.{DeckId, list_in}
-use Rattle.rq_pool.specs.Sources.{source_id}
-use Rattle.rq_pool.proofs.Taking.{get_map, map_map}
 
 abbrev pub dealt_of : Source → List ℕ
 dealt_of s = (view s.pass).dealt
 
 pub dealt_lists : (sources : List Source) (ids : List DeckId) → map source_id sources ≡ ids
     → map dealt_of sources ≡ map list_in ids
-dealt_lists sources ids e = sym (map_map source_id list_in sources) ∙ ap (map list_in) e
+dealt_lists sources ids e = sym (map-map list_in source_id sources) ∙ ap (map list_in) e
 
 pub less_than_dealt : (sources : List Source) (ids : List DeckId) (j : ℕ) (old : Source) (ys : List ℕ)
     → map source_id sources ≡ ids → j < length sources → old ≡ get_or sources j old
@@ -19,5 +16,5 @@ pub less_than_dealt : (sources : List Source) (ids : List DeckId) (j : ℕ) (old
     → sum_by h ys ≤ sum_by h (get_or (map list_in ids) j [])
 less_than_dealt sources ids j old ys e inside is less h =
     let same = ap (λ ls. sum_by h (get_or ls j [])) (sym (dealt_lists sources ids e))
-    ∙ ap (sum_by h) (get_map dealt_of sources j old [] inside) ∙ ap (λ s. sum_by h (dealt_of s)) (sym is) in
+    ∙ ap (sum_by h) (get_or-map dealt_of sources j old [] inside) ∙ ap (λ s. sum_by h (dealt_of s)) (sym is) in
     omega (arith, less h)

@@ -1,15 +1,10 @@
 -- What a take changes of what a seat has.
-use Rattle.std.proofs.Common.{◌≡◌, ◌≢◌, ℕ, zero, suc, ◌+◌, ◌<◌, ◌≤◌, List, [], ◌∷◌, ◌++◌, length, get_or, set, map}
-use Rattle.std.proofs.Common.{sum_by, Bool, true, false, T, cond, ◌==◌, sym, refl, ap, ◌∙◌, subst, arith, length-set}
+use Rattle.std.proofs.Common.{◌≡◌, ◌≢◌, ℕ, zero, suc, ◌+◌, ◌<◌, ◌≤◌, List, [], ◌∷◌, ◌++◌, length, get_or, set, sum_by}
+use Rattle.std.proofs.Common.{Bool, true, false, T, cond, ◌==◌, sym, refl, ap, ◌∙◌, subst, arith, length-set}
 use Rattle.std.proofs.Common.{get_or-set_same, get_or-set_other}
-use mathlib.Core.Logic.{dite}
-use native.Mathlib.Decide.{ℕ_discrete}
+use Rattle.rq_pool.proofs.Words.{dite, ℕ_discrete, sum_by-cons, sum_by-append, sum_by_push, sum_by-set, Share, times_in}
+use Rattle.rq_pool.proofs.Words.{size, Taken, Holds}
 use Rattle.std.proofs.Math.Dec.{eqb_refl}
-use Rattle.std.proofs.lemmas.List.Sums.{sum_by-cons, sum_by-append, sum_by_push, sum_by-set}
-use Rattle.rq_pool.specs.declared.deque.Share.{Share}
-use Rattle.rq_pool.specs.Ledger.{times_in, size}
-use Rattle.rq_pool.specs.Rules.{Taken}
-use Rattle.rq_pool.specs.Holdings.{Holds}
 use Rattle.rq_pool.proofs.Rules.{length_sum}
 
 module _ (lists : List (List ℕ)) (number : ℕ) where
@@ -126,23 +121,3 @@ of_the_deal lists number v stolens taken x s =
       itself_once x,
       sum_by_push (λ y. cond (y == x) 1 0) taken x,
     )
-
-module _ {A B : Type 0} (f : A → B) where
-  pub map_same : (xs : List A) (j : ℕ) (y d : A) → f y ≡ f (get_or xs j d) → map f (set xs j y) ≡ map f xs
-  map_same [] j y d e = refl
-  map_same (x ∷ xs) zero y d e = ap (λ z. z ∷ map f xs) e
-  map_same (x ∷ xs) (suc j) y d e = ap (λ l. f x ∷ l) (map_same xs j y d e)
-
-  pub map_set : (xs : List A) (j : ℕ) (y : A) → map f (set xs j y) ≡ set (map f xs) j (f y)
-  map_set [] j y = refl
-  map_set (x ∷ xs) zero y = refl
-  map_set (x ∷ xs) (suc j) y = ap (λ l. f x ∷ l) (map_set xs j y)
-
-  pub get_map : (xs : List A) (j : ℕ) (d : A) (z : B) → j < length xs → get_or (map f xs) j z ≡ f (get_or xs j d)
-  get_map [] j d z in_list = absurd (omega arith)
-  get_map (x ∷ xs) zero d z in_list = refl
-  get_map (x ∷ xs) (suc j) d z in_list = get_map xs j d z (omega arith)
-
-pub map_map : {A B C : Type 0} (f : A → B) (g : B → C) (xs : List A) → map g (map f xs) ≡ map (λ x. g (f x)) xs
-map_map f g [] = refl
-map_map f g (x ∷ xs) = ap (λ l. g (f x) ∷ l) (map_map f g xs)

@@ -1,4 +1,3 @@
-pub mod Plans
 pub mod Ledger
 pub mod Shares
 pub mod Rules

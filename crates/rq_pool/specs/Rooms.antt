@@ -1,6 +1,6 @@
 -- What a clause says of a room, of its seats and of what it leaves.
-use Rattle.std.specs.Prelude.{◌≡◌, ℕ, ◌≤◌, List, [], ◌∷◌, length, take, drop, map, slice_get, Some}
-use Rattle.std.specs.Prelude.{vec_items, vec_capacity}
+use Rattle.std.specs.Prelude.{◌≡◌, ℕ, ◌≤◌, List, [], ◌∷◌, length, take, drop, map, slice_get, Some, vec_items}
+use Rattle.std.specs.Prelude.{vec_capacity}
 use Rattle.crossbeam_deque.specs.Handles.{worker_deque, worker_view}
 use Rattle.rq_pool.specs.declared.list_room.ListSeat.{ListSeat}
 use Rattle.rq_pool.specs.declared.deque_room.DequeRoom.{DequeRoom}
@@ -58,14 +58,18 @@ pub record IsListSeat (list : List ℕ) (seat : ListSeat) : Type 0 where
   pub front : seat.taken.items ≡ take (length seat.taken.items) list
   pub reserved : length list ≤ vec_capacity seat.taken
 
+-- beside others, a seat took these numbers: from the deque of its number, and by its passes
+abbrev pub HasTaken : List DeckId → DequeSeat → List ℕ → Type 0
+HasTaken ids seat taken = Holds (map list_in ids) seat.number (worker_view seat.owner)
+    (map stolen seat.sources.items) taken
+
 -- beside others, a seat has the deque of its number and a pass for each deque, and its list is what
 -- these took
 pub record IsDequeSeat (ids : List DeckId) (seat : DequeSeat) : Type 0 where
   pub own : slice_get ids seat.number
       ≡ Some (worker_deque seat.owner, (worker_view seat.owner).dealt)
   pub sources : map source_id seat.sources.items ≡ ids
-  pub holds : Holds (map list_in ids) seat.number (worker_view seat.owner)
-      (map stolen seat.sources.items) seat.taken.items
+  pub holds : HasTaken ids seat seat.taken.items
   pub reserved : size (map list_in ids) ≤ vec_capacity seat.taken
 
 -- the seat is alone, in the room of this list

@@ -21,9 +21,8 @@ pub(crate) struct DequeSeat {
 
 impl DequeSeat {
     ghost use Rattle.rq_pool.specs.Ledger.{times_in, size};
-    ghost use Rattle.rq_pool.specs.Rooms.{IsDequeSeat, ids_of, lists_of};
-    ghost use Rattle.rq_pool.specs.Sources.{source_id, stolen};
-    ghost use Rattle.rq_pool.specs.Holdings.{Holds};
+    ghost use Rattle.rq_pool.specs.Rooms.{IsDequeSeat, HasTaken, ids_of, lists_of};
+    ghost use Rattle.rq_pool.specs.Sources.{source_id};
 
     /// A number of its own deque, or else one that it steals.
     pub(crate) fn take(&mut self, room: &DequeRoom) -> Option<u32>
@@ -51,10 +50,8 @@ impl DequeSeat {
         ensures sources { map source_id self.new.sources.items
             ≡ map source_id self.old.sources.items }
         ensures some { IfSome result
-            (λ x. Holds (lists_of room.now) self.new.number (worker_view self.new.owner)
-            (map stolen self.new.sources.items) (self.old.taken.items ++ x ∷ [])) }
-        ensures none { IfNone result (Holds (lists_of room.now) self.new.number
-            (worker_view self.new.owner) (map stolen self.new.sources.items) self.old.taken.items) }
+            (λ x. HasTaken (ids_of room.now) self.new (self.old.taken.items ++ x ∷ [])) }
+        ensures none { IfNone result (HasTaken (ids_of room.now) self.new self.old.taken.items) }
     {
         if let Some(x) = pop(&mut self.owner) {
             return Some(x);
@@ -65,17 +62,14 @@ impl DequeSeat {
     // One steal at each other seat in turn.
     fn steal(&mut self, room: &DequeRoom) -> Option<u32>
         requires sources { map source_id self.old.sources.items ≡ ids_of room.now }
-        requires holds { Holds (lists_of room.now) self.old.number (worker_view self.old.owner)
-            (map stolen self.old.sources.items) self.old.taken.items }
+        requires holds { HasTaken (ids_of room.now) self.old self.old.taken.items }
         ensures same { (self.new.taken ≡ self.old.taken)
             × (self.new.number ≡ self.old.number) × (self.new.owner ≡ self.old.owner) }
         ensures sources { map source_id self.new.sources.items
             ≡ map source_id self.old.sources.items }
         ensures some { IfSome result
-            (λ x. Holds (lists_of room.now) self.new.number (worker_view self.new.owner)
-            (map stolen self.new.sources.items) (self.old.taken.items ++ x ∷ [])) }
-        ensures none { IfNone result (Holds (lists_of room.now) self.new.number
-            (worker_view self.new.owner) (map stolen self.new.sources.items) self.old.taken.items) }
+            (λ x. HasTaken (ids_of room.now) self.new (self.old.taken.items ++ x ∷ [])) }
+        ensures none { IfNone result (HasTaken (ids_of room.now) self.new self.old.taken.items) }
     {
         for j in 0..self.sources.len() {
             if j == self.number {

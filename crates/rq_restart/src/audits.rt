@@ -14,7 +14,7 @@ ghost use Rattle.rq_judged.specs.Ends.{IsChain};
 
 use rq_front::{Chain, Span, chain, version};
 use rq_judged::{Front, begin_at, front_of, grain_of};
-use rq_pool::Plan;
+use rq_plan::Plan;
 use rq_record::{Fault, KeptRecord, LentLog, Version};
 use rq_standing::{Standing, Taken};
 use rq_state::State;

@@ -9,7 +9,7 @@ ghost use Rattle.rq_restart.specs.Keepers.{StandsBehind, TakesMore};
 
 use rq_catalog::analyse_kept;
 use rq_exchange::replay_analysed;
-use rq_pool::{Open, Plan};
+use rq_plan::{Open, Plan};
 use rq_record::{Fault, KeptRecord, Version};
 use rq_state::State;
 use std::alloc::Global;

@@ -23,7 +23,7 @@ pub use restarted::Restarted;
 pub use restarting_at::{restart_at, restart_lent_at};
 pub use restarts::{restart, restart_lent};
 pub use rq_judged::Why;
-pub use rq_pool::{Gate, Open, Plan};
+pub use rq_plan::{Gate, Open, Plan};
 pub use rq_record::{Fault, Version};
 pub use tails::{closed, tail};
 pub use upgrades::upgrade;

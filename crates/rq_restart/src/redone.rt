@@ -13,7 +13,7 @@ ghost use Rattle.rq_judged.specs.Views.{why_of};
 use crate::restarts::whole_front;
 use rq_exchange::replay_analysed;
 use rq_judged::{Front, before, begin_at, front_of};
-use rq_pool::{Open, Plan};
+use rq_plan::{Open, Plan};
 use rq_record::{Fault, LentLog, Version};
 use rq_state::State;
 use std::alloc::Global;

@@ -16,7 +16,7 @@ use crate::restarted::Restarted;
 use rq_catalog::Analysis;
 use rq_exchange::redo_analysed;
 use rq_judged::Front;
-use rq_pool::{Gate, Plan};
+use rq_plan::{Gate, Plan};
 use rq_record::{Fault, KeptRecord, UnitNo, Version};
 use rq_state::State;
 use std::alloc::Global;

@@ -6,7 +6,7 @@ ghost use Rattle.rq_restart.specs.Restarts.{RestartsAt};
 use crate::restart_ends::finish;
 use crate::restarted::Restarted;
 use rq_judged::{begin_at, front_of};
-use rq_pool::{Gate, Plan};
+use rq_plan::{Gate, Plan};
 use rq_record::{Fault, LentLog};
 use std::alloc::Global;
 use std::marker::Sync;

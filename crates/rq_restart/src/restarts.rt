@@ -15,7 +15,7 @@ use crate::restart_ends::finish;
 use crate::restarted::Restarted;
 use rq_front::{version, walk};
 use rq_judged::{Front, front_of_walk};
-use rq_pool::{Gate, Plan};
+use rq_plan::{Gate, Plan};
 use rq_record::{Fault, LentLog, Version};
 use rq_state::State;
 use std::alloc::Global;

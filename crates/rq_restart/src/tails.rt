@@ -17,7 +17,7 @@ use crate::frames::append_frame;
 use crate::restarts::whole_front;
 use rq_front::LOG_LIMIT;
 use rq_judged::{Front, before};
-use rq_pool::Plan;
+use rq_plan::Plan;
 use rq_record::{Fault, LentLog, Record, UnitNo, Version, encode};
 use std::alloc::Global;
 use std::marker::Sync;

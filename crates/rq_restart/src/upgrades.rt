@@ -11,7 +11,7 @@ use crate::frames::append_next;
 use crate::restarts::whole_front;
 use byteorder::{BigEndian, ByteOrder};
 use rq_front::{FRAME_LEN, HEADER_LEN, header_of};
-use rq_pool::Plan;
+use rq_plan::Plan;
 use rq_record::{Fault, LentLog, Version};
 use std::alloc::Global;
 use std::marker::Sync;

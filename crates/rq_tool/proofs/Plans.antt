@@ -2,8 +2,8 @@
 use Rattle.std.proofs.Common.{◌≡◌, ℕ, ◌≤◌, ◌↔◌, List, Option, Some, None, IsSome, IfSome, refl, sym, ap, ◌∙◌, arith}
 use Rattle.std.specs.Fmt.{decimal}
 use Rattle.std.proofs.lemmas.Fmt.{decimal_injective}
-use Rattle.rq_pool.specs.Plans.{workers_of, grain_of}
-use Rattle.rq_pool.specs.declared.plan.Plan.{Plan}
+use Rattle.rq_plan.specs.Plans.{workers_of, grain_of}
+use Rattle.rq_plan.specs.declared.plan.Plan.{Plan}
 use Rattle.rq_tool.specs.Commands.{IsPlan}
 use Rattle.rq_tool.specs.Words.{IsWorkersPlanOf, IsPlanOf}
 

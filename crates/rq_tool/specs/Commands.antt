@@ -2,7 +2,7 @@
 use Rattle.std.specs.Prelude.{◌≡◌, ℕ, ◌<◌, ◌≤◌, ◌^◌, ⊤, List, [], ◌∷◌, Option, Some, None, codes}
 use Rattle.std.specs.Fmt.{decimal}
 use Rattle.rq_model.specs.Records.{Version, One, Two}
-use Rattle.rq_pool.specs.Plans.{workers_of, grain_of}
+use Rattle.rq_plan.specs.Plans.{workers_of, grain_of}
 use Rattle.rq_tool.specs.declared.commands.Command.{Command}
 use Rattle.rq_tool.specs.declared.commands.Command.TheVariants as code
 

@@ -1,8 +1,8 @@
 -- Which plan the words of a line give.
 use Rattle.std.specs.Prelude.{◌≡◌, ℕ, List, Option, Some, None}
 use Rattle.std.specs.Fmt.{decimal}
-use Rattle.rq_pool.specs.Plans.{workers_of, grain_of}
-use Rattle.rq_pool.specs.declared.plan.Plan.{Plan}
+use Rattle.rq_plan.specs.Plans.{workers_of, grain_of}
+use Rattle.rq_plan.specs.declared.plan.Plan.{Plan}
 use Rattle.rq_tool.specs.Commands.{IsPlan}
 
 -- the words are the plan's numbers, or those of no plan

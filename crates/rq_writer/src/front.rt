@@ -11,7 +11,7 @@ ghost use Rattle.rq_writer.specs.Made.{IsStateOf};
 
 use rq_catalog::analyse_kept;
 use rq_exchange::replay_analysed;
-use rq_pool::{Open, Plan};
+use rq_plan::{Open, Plan};
 use rq_record::{CheckBytes, Fault, KeptRecord, Record, Version};
 use rq_state::{State, spell};
 use std::alloc::Global;

@@ -10,7 +10,7 @@ use crate::front::MadeFront;
 use crate::line::ScriptLine;
 use crate::readers::read_line;
 use rq_front::{FRAME_LEN, LOG_LIMIT, frame, header_of};
-use rq_pool::Plan;
+use rq_plan::Plan;
 use rq_record::{Fault, Record, Version, encode};
 use std::alloc::Global;
 use std::thread::Threads;

@@ -7,7 +7,7 @@ ghost use Rattle.rq_writer.specs.Making.{NextLine};
 
 use crate::fields::split_once;
 use crate::log::Log;
-use rq_pool::Plan;
+use rq_plan::Plan;
 use rq_record::{Fault, Version};
 use std::alloc::Global;
 use std::thread::Threads;

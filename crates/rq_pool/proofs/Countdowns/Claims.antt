@@ -1,18 +1,14 @@
 -- The swap on a source's flag keeps the rule.
 use Rattle.std.proofs.Common.{◌≡◌, ◌≢◌, ◌⊎◌, ℕ, zero, suc, ◌-◌, ◌<◌, eq-eqb, ne_eqb, List, [], ◌∷◌, ◌++◌, map, length}
 use Rattle.std.proofs.Common.{get_or, set, sym, refl, ap, ◌∙◌, subst, ⊎_elim, inl, inr, arith, Option, Some, None}
-use mathlib.Core.Option.{some, none, some-injective, some-ne-none}
-use lib.ListN.{get_elem?}
-use lib.Seq.{map-set}
-use Rattle.atomic_table.specs.Table.{State, Me, step, Act, keeps, takes, stepped, Valid, Allows, carried_after}
-use Rattle.atomic_table.proofs.Lists.{at_set, at_snoc, at_map}
-use Rattle.rq_pool.specs.declared.countdown.view.View.{View}
-use Rattle.rq_pool.specs.declared.countdown.view.Terms.{Terms}
-use Rattle.rq_pool.specs.Countdowns.Phases.{Phase, clear, away, home, gone, back, flag, waits, is_shut, place, count}
-use Rattle.rq_pool.specs.Countdowns.Rule.{one_if, here, parts, stands_at, made_for, lasts, view, HasLast, AtSource}
-use Rattle.rq_pool.specs.Countdowns.Rule.{IsSet, IsOpen, IsShut, Held, claimed}
-use Rattle.rq_pool.proofs.Countdowns.Totals.{total_set, at_most, inside, there, map_long, get_map, set_get}
-use Rattle.rq_pool.proofs.Countdowns.Views.{some_set, same_total, source_else, set_still, passes_set}
+use Rattle.rq_pool.proofs.Countdowns.Words.{some, none, some-injective, some-ne-none, get_elem?, map-set, State, Me}
+use Rattle.rq_pool.proofs.Countdowns.Words.{step, Act, keeps, takes, stepped, Valid, Allows, carried_after, at_set}
+use Rattle.rq_pool.proofs.Countdowns.Words.{at_snoc, at_map, View, Terms, Phase, clear, away, home, gone, back, flag}
+use Rattle.rq_pool.proofs.Countdowns.Words.{waits, is_shut, place, count, one_if, here, parts, stands_at, made_for}
+use Rattle.rq_pool.proofs.Countdowns.Words.{lasts, view, HasLast, AtSource, IsSet, IsOpen, IsShut, Held, claimed}
+use Rattle.rq_pool.proofs.Countdowns.Words.{length-map}
+use Rattle.rq_pool.proofs.Countdowns.Totals.{total_set, at_most, inside, there, get_map, set_get}
+use Rattle.rq_pool.proofs.Countdowns.Views.{some_set, same_total, source_else, set_still, passes_set, told_still}
 
 module _ {T : Type 0} where
   pub shut_gone : (ys : List T) (i : ℕ) (p : Phase T) → get_elem? (map gone ys) i ≡ some p → is_shut p ≡ 1
@@ -113,7 +109,7 @@ module _ {T K : Type 0} (fits : K → ℕ → T → Type 0) (terms : Terms K) wh
       let v : View T K = me.0 in let ps : List (Phase T) = h.phases in let w : View T K =
       view v.parts v.key None v.made (v.refused ++ i ∷ []) in
       let near : i < length ps = inside ps i p p_at in let long : length s.words ≡ suc (length ps) =
-      ap length h.words_are ∙ ap suc (map_long flag ps) in let b : i ≡ suc i - 1 = omega arith in
+      ap length h.words_are ∙ ap suc (length-map ps flag) in let b : i ≡ suc i - 1 = omega arith in
       let old = h.each_pass id v at in (
         w,
         keeps,
@@ -131,21 +127,8 @@ module _ {T K : Type 0} (fits : K → ℕ → T → Type 0) (terms : Terms K) wh
             set_before = λ k j e. ⊎_elim (λ (was : get_elem? v.refused k ≡ some j). old.set_before k j was)
                 (λ (same : i ≡ j). subst (IsSet ps) same (p, p_at, set_flag)) (at_snoc v.refused i j k e);
           } h.each_pass;
-          told_once = ⊎_elim (λ (o : IsOpen s.views ps).
-              inl record {
-                waiting = o.waiting;
-                nobody = same_total lasts s.views id v w at refl ∙ o.nobody;
-                none_shut =
-                    o.none_shut;
-              })
-              (λ (o : IsShut s.views ps). inr record {
-                outboxes = o.outboxes;
-                all_shut = o.all_shut;
-                one =
-                    same_total lasts s.views id v w at refl ∙ o.one;
-                has_it =
-                    some_set (HasLast o.outboxes) s.views id v w at (λ had. had) o.has_it;
-              }) h.told_once;
+          told_once = told_still s.views (set s.views id w) ps (same_total lasts s.views id v w at refl)
+              (λ ys. some_set (HasLast ys) s.views id v w at (λ had. had)) h.told_once;
         },
         ((λ z. absurd (omega arith)), λ _ j. (view v.parts v.key None v.made (v.refused ++ b j ∷ []), me.1)),
       )
@@ -162,7 +145,7 @@ module _ {T K : Type 0} (fits : K → ℕ → T → Type 0) (terms : Terms K) wh
   at_flag : (slots id : ℕ) (me : M) (i : ℕ) → i < slots → me.0.at ≡ None → 0 < me.0.parts
       → Allows H slots id me (suc i) (λ _. 1) (claimed (step slots (suc i) 1 0 none) me)
   at_flag slots id me i near idle part s h wide at small = let ps = h.phases in
-      let long : length s.homes ≡ length ps = ap length h.homes_are ∙ map_long place ps in let some_phase =
+      let long : length s.homes ≡ length ps = ap length h.homes_are ∙ length-map ps place in let some_phase =
       there ps i (omega arith) in
       by_phase s h slots id me i at idle part some_phase.0 some_phase.1
       (ap (λ ws. get_or ws (suc i) 0) h.words_are ∙ get_map flag ps i some_phase.0 some_phase.1)

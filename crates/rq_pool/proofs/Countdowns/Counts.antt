@@ -1,30 +1,20 @@
 -- The fetch_sub on the count keeps the rule.
 use Rattle.std.proofs.Common.{◌≡◌, ◌≢◌, ℕ, zero, suc, ◌+◌, ◌-◌, ◌%◌, ◌^◌, ◌<◌, eqb, eq-eqb, ne_eqb, List, [], ◌∷◌, map}
 use Rattle.std.proofs.Common.{length, get_or, set, sym, refl, ap, ◌∙◌, subst, ⊎_elim, inl, inr, arith, Option, Some}
-use Rattle.std.proofs.Common.{None, length-set}
-use mathlib.Core.Option.{some, none, some-injective, some-ne-none}
+use Rattle.std.proofs.Common.{None, length-set, append-nil}
+use Rattle.rq_pool.proofs.Countdowns.Words.{some, none, some-injective, some-ne-none, dite, ℕ_discrete, get_elem?}
+use Rattle.rq_pool.proofs.Countdowns.Words.{map-set, State, Me, step, Act, gives, chain, stepped, Valid, Allows}
+use Rattle.rq_pool.proofs.Countdowns.Words.{carried_after, homes_after, rest, at_set, set_here, at_map, at_longer}
+use Rattle.rq_pool.proofs.Countdowns.Words.{at_last, View, Terms, total, Phase, clear, away, home, gone, back, flag}
+use Rattle.rq_pool.proofs.Countdowns.Words.{waits, is_away, is_shut, place, count, indexed, one_if, here, count_told}
+use Rattle.rq_pool.proofs.Countdowns.Words.{parts, stands_at, names, made_for, lasts, made_of, after, HasMade, SomeView}
+use Rattle.rq_pool.proofs.Countdowns.Words.{AtSource, IsSet, Knows, IsOpen, Held, tallied, Fit, length-map}
 use mathlib.Core.Option as maybe
-use mathlib.Core.Logic.{dite}
-use native.Mathlib.Decide.{ℕ_discrete}
-use lib.ListN.{get_elem?}
-use lib.Seq.{map-set}
-use Rattle.atomic_table.specs.Table.{State, Me, step, Act, gives, chain, stepped, Valid, Allows, carried_after}
-use Rattle.atomic_table.specs.Table.{homes_after, rest}
-use Rattle.atomic_table.proofs.Lists.{at_set, set_here, at_map, at_longer, at_last}
-use Rattle.rq_pool.specs.declared.countdown.view.View.{View}
-use Rattle.rq_pool.specs.declared.countdown.view.Terms.{Terms}
-use Rattle.rq_pool.specs.Countdowns.Phases.{total, Phase, clear, away, home, gone, back, flag, waits, is_away, is_shut}
-use Rattle.rq_pool.specs.Countdowns.Phases.{place, count, indexed}
-use Rattle.rq_pool.specs.Countdowns.Rule.{one_if, here, count_told, parts, stands_at, names, made_for, times_told}
-use Rattle.rq_pool.specs.Countdowns.Rule.{lasts}
-use Rattle.rq_pool.specs.Countdowns.Rule.{made_of, after, HasMade, SomeView, AtSource, IsSet, Knows, IsOpen, Held}
-use Rattle.rq_pool.specs.Countdowns.Rule.{tallied}
-use Rattle.rq_pool.specs.Countdowns.History.{Fit}
-use Rattle.rq_pool.proofs.Countdowns.Totals.{total_set, total_append, at_most, inside, there, map_long, get_map}
-use Rattle.rq_pool.proofs.Countdowns.Totals.{set_get}
-use Rattle.rq_pool.proofs.Countdowns.Views.{same_total, source_else, set_still, passes_set}
+use Rattle.rq_pool.proofs.Countdowns.Totals.{total_set, total_append, at_most, inside, there, get_map, set_get}
+use Rattle.rq_pool.proofs.Countdowns.Totals.{one_slot}
+use Rattle.rq_pool.proofs.Countdowns.Views.{same_total, source_else, set_still, passes_set, lasts_after, same_source}
 use Rattle.rq_pool.proofs.Countdowns.Claims.{still_open}
-use Rattle.rq_pool.proofs.Countdowns.Takes.{take_all, taking, all_out, append_none}
+use Rattle.rq_pool.proofs.Countdowns.Takes.{take_all, taking, all_out}
 
 abbrev key_or : {K : Type 0} → K → Option K → K
 key_or d None = d
@@ -80,19 +70,6 @@ module _ {T : Type 0} where
   set_gone (y ∷ ys) zero old = (gone y, refl, refl)
   set_gone (y ∷ ys) (suc j) old = set_gone ys j old
 
-  abbrev or_else : T → Option T → T
-  or_else d None = d
-  or_else d (Some y) = y
-
-  abbrev slot_of : ℕ × T → List (ℕ × Option T) → ℕ × T
-  slot_of d [] = d
-  slot_of d (z ∷ zs) = (z.0, or_else d.1 z.1)
-
-module _ {T K : Type 0} where
-  gone_source : (fit : ℕ → T → Type 0) (views : List (View T K)) (i : ℕ) (y : T) → AtSource fit views i (home y)
-      → AtSource fit views i (gone y)
-  gone_source fit views i y h = record { standing = h.standing; done = h.done; holding = h.holding }
-
 module _ {T K : Type 0} (fits : K → ℕ → T → Type 0) (terms : Terms K) where
   abbrev St : Type 0
   St = State (Option T) (View T K)
@@ -125,7 +102,7 @@ module _ {T K : Type 0} (fits : K → ℕ → T → Type 0) (terms : Terms K) wh
 
     flags' : map flag ps' ≡ map flag ps
     flags' = map-set flag ps i (home x) ∙ set_get (map flag ps) i 1 (get_map flag ps i away at_away)
-        (let q = map_long flag ps in omega arith)
+        (let q = length-map ps flag in omega arith)
 
     homes' : (c : List (ℕ × Option T)) → c ≡ (i, Some x) ∷ [] → homes_after s.homes c gives ≡ map place ps'
     homes' c e = ap (λ l. homes_after s.homes l gives) e ∙ ap (λ hs. set hs i (some (Some x))) h.homes_are
@@ -146,7 +123,7 @@ module _ {T K : Type 0} (fits : K → ℕ → T → Type 0) (terms : Terms K) wh
       made_more j = let q = total_append (names j) v.made (made_of i x ys ∷ []) in omega arith
 
       lasts_more : lasts w ≡ lasts v + count_told ys
-      lasts_more = let q = total_append times_told v.made (made_of i x ys ∷ []) in omega arith
+      lasts_more = lasts_after v i x ys
 
       mine : AtSource (fits terms.key) views' i (home x)
       mine = let old = h.each_source i away at_away in record {
@@ -218,7 +195,8 @@ module _ {T K : Type 0} (fits : K → ℕ → T → Type 0) (terms : Terms K) wh
       -- what the slot held names the source and the outbox
       tells : (u : View T K) (d : List (ℕ × Option T)) → Told (i, x) c u d
           → tallied fits (step slots 0 1 0 none) (v, c) found (u, d)
-      tells u d t j y e = subst (λ (z : ℕ × T). Told z c u d) (ap (slot_of (i, x)) (sym has ∙ e)) t
+      tells u d t j y e = let same = one_slot i j x y [] [] (sym has ∙ e) in
+          subst (λ (z : ℕ × T). Told z c u d) (λ k. (same.0 k, same.1 k)) t
 
       not_last : found ≢ 1 → found < 18446744073709551616 → Goes
       not_last ne small = let l = one_less in let f = found_is in let e : next ≡ count ps' = omega arith in (
@@ -270,7 +248,8 @@ module _ {T K : Type 0} (fits : K → ℕ → T → Type 0) (terms : Terms K) wh
               all_parts = parts' (Some ys);
               each_source = λ j p g. let q = gone_at ys j p g in
                   subst (AtSource (fits terms.key) (views' (Some ys)) j) (sym q.1)
-                  (gone_source (fits terms.key) (views' (Some ys)) j q.0 (sources j (home q.0) q.2));
+                  (same_source (fits terms.key) (views' (Some ys)) j (home q.0) (gone q.0) refl refl refl
+                  (sources j (home q.0) q.2));
               each_pass = passes' (Some ys) (map gone ys)
                   (λ j old. set_gone ys j (subst (λ m. IsSet m j) all.1 (set_still ps i (home x) near refl j old)));
               told_once = inr record {
@@ -297,12 +276,12 @@ module _ {T K : Type 0} (fits : K → ℕ → T → Type 0) (terms : Terms K) wh
                 zero_lasts,
                 (
                   ys,
-                  (let a = ap length all.1 in let b = map_long (λ (y : T). home y) ys in let d =
+                  (let a = ap length all.1 in let b = length-map ys (λ (y : T). home y) in let d =
                       length-set ps i (home x) in omega arith),
                   (λ k has_key j y g. subst (λ (k : K). fits k j y)
                       (same_some terms.key k (sym ((h.each_pass id v at).same_key part) ∙ has_key))
                       ((sources j (home y) (at_map home ys j y g)).holding y refl).0),
-                  (λ j. (u, ((λ k. carried_after (at_c k) t) ∙ took.2 ∙ append_none (indexed 0 (map Some ys))) j)),
+                  (λ j. (u, ((λ k. carried_after (at_c k) t) ∙ took.2 ∙ append-nil (indexed 0 (map Some ys))) j)),
                 ),
               ),
             ),
@@ -312,7 +291,7 @@ module _ {T K : Type 0} (fits : K → ℕ → T → Type 0) (terms : Terms K) wh
       → me.1 ≡ (i, Some x) ∷ [] → fits terms.key i x
       → Allows H slots id me 0 (λ n. (n + (2 ^ 64 - 1)) % 2 ^ 64) (tallied fits (step slots 0 1 0 none) me)
   counts slots id me i x near stands part has fit s h wide at small = let long : length s.homes ≡ length h.phases =
-      ap length h.homes_are ∙ map_long place h.phases in let near' : i < length h.phases = omega arith in
+      ap length h.homes_are ∙ length-map h.phases place in let near' : i < length h.phases = omega arith in
       dite (ℕ_discrete (get_or s.words 0 0) 1)
       (λ is. last s h id me.0 i x at stands part fit near' slots me.1 has (omega arith) is)
       (λ ne. not_last s h id me.0 i x at stands part fit near' slots me.1 has (omega arith) ne small)

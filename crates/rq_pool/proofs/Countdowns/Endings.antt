@@ -1,18 +1,11 @@
 -- What a closed table and the joined history say.
 use Rattle.std.proofs.Common.{◌≡◌, ℕ, zero, suc, ◌+◌, ◌-◌, ◌<◌, ◌≤◌, List, [], ◌∷◌, ◌++◌, map, length, get_or, take}
 use Rattle.std.proofs.Common.{sym, refl, ap, ◌∙◌, subst, arith, Option, Some, None, option_to_list, All, length-append}
-use mathlib.Core.Option.{some, some-injective, some-ne-none}
-use lib.ListN.{get_elem?}
-use Rattle.atomic_table.specs.Table.{State, Final, Seen}
-use Rattle.rq_pool.specs.declared.countdown.view.Made.{Made}
-use Rattle.rq_pool.specs.declared.countdown.view.View.{View}
-use Rattle.rq_pool.specs.declared.countdown.view.Terms.{Terms}
-use Rattle.rq_pool.specs.Countdowns.Phases.{total, Phase, clear, away, home, gone, back, place, count}
-use Rattle.rq_pool.specs.Countdowns.Rule.{times_told, lasts, Held}
-use Rattle.rq_pool.specs.Countdowns.Views.{all_made}
-use Rattle.rq_pool.specs.Countdowns.Phases.{add_some, somes}
+use Rattle.rq_pool.proofs.Countdowns.Words.{some, some-injective, some-ne-none, get_elem?, State, Final, Seen, Made}
+use Rattle.rq_pool.proofs.Countdowns.Words.{View, Terms, total, Phase, clear, away, home, gone, back, place, count}
+use Rattle.rq_pool.proofs.Countdowns.Words.{add_some, somes, times_told, lasts, Held, all_made, length-map}
 use Rattle.rq_pool.proofs.Countdowns.Settled.{SettledViews}
-use Rattle.rq_pool.proofs.Countdowns.Totals.{map_long, total_append}
+use Rattle.rq_pool.proofs.Countdowns.Totals.{total_append}
 use Rattle.rq_pool.proofs.Countdowns.Settles.{settles_open, settles_shut}
 
 pub word_at : (ws : List ℕ) (n : ℕ) → get_elem? ws 0 ≡ some n → get_or ws 0 0 ≡ n
@@ -70,7 +63,7 @@ module _ {T K : Type 0} (fits : K → ℕ → T → Type 0) (terms : Terms K) (i
 
   pub word_small : w ≤ n
   word_small = let h = end.1.0 in let a = count_small h.phases in let b = ap (λ l. get_or l 0 0) h.words_are in let d =
-      ap length h.homes_are in let e = map_long place h.phases in let f = first_word in let l = end.3 in omega arith
+      ap length h.homes_are in let e = length-map h.phases place in let f = first_word in let l = end.3 in omega arith
 
   module _ (made : List (Made T)) (refused : List ℕ) (m : v.made ≡ made) (r : v.refused ≡ refused)
       (whole : v.parts ≡ terms.passes) (rests : v.at ≡ None) where

@@ -1,21 +1,12 @@
 -- The slots of the last, while it empties one after the other.
 use Rattle.std.proofs.Common.{◌≡◌, ℕ, zero, suc, ◌+◌, ◌<◌, List, [], ◌∷◌, ◌++◌, map, length, drop, take, replicate, sym}
-use Rattle.std.proofs.Common.{refl, ap, ◌∙◌, subst, arith, Option, Some, None, append_assoc}
-use Rattle.atomic_table.specs.Table.{rest}
-use Rattle.rq_pool.specs.Countdowns.Phases.{indexed, outboxes_in}
+use Rattle.std.proofs.Common.{refl, ap, ◌∙◌, subst, arith, Option, Some, None, append_assoc, add-one}
+use Rattle.rq_pool.proofs.Countdowns.Words.{rest, indexed, outboxes_in, length-replicate, replicate_more, drop_all}
 
 numbered_snoc : {S : Type 0} (xs : List S) (k n : ℕ) (x : S) → k + length xs ≡ n
     → indexed k (xs ++ x ∷ []) ≡ indexed k xs ++ (n, x) ∷ []
 numbered_snoc [] k n x e = let q : k ≡ n = omega arith in λ j. (q j, x) ∷ []
 numbered_snoc (y ∷ xs) k n x e = ap (λ l. (k, y) ∷ l) (numbered_snoc xs (suc k) n x (omega arith))
-
-replicate_snoc : {S : Type 0} (n : ℕ) (x : S) → replicate (suc n) x ≡ replicate n x ++ x ∷ []
-replicate_snoc zero x = refl
-replicate_snoc (suc n) x = ap (λ l. x ∷ l) (replicate_snoc n x)
-
-replicate_long : {S : Type 0} (n : ℕ) (x : S) → length (replicate n x) ≡ n
-replicate_long zero x = refl
-replicate_long (suc n) x = ap suc (replicate_long n x)
 
 module _ {T : Type 0} where
   abbrev pub left : List T → ℕ → List (ℕ × Option T)
@@ -45,26 +36,10 @@ module _ {T : Type 0} where
         ap (λ l. l ++ (i, None) ∷ []) tail ∙ append_assoc more nones ((i, None) ∷ [])
             ∙ ap (λ l. more ++ l)
             (sym (numbered_snoc (replicate i None) 0 i None
-            (let q = replicate_long {S = Option T} i None in omega arith))
-            ∙ ap (indexed 0) (sym (replicate_snoc i None))),
+            (let q = length-replicate {A = Option T} i None in omega arith))
+            ∙ ap (indexed 0) (replicate_more i None ∙ ap (λ n. replicate n None) (add-one i))),
         at.2,
       ))
-
-  abbrev or_else : T → Option T → T
-  or_else d None = d
-  or_else d (Some y) = y
-
-  abbrev first_in : T → List (ℕ × Option T) → T
-  first_in d [] = d
-  first_in d (z ∷ zs) = or_else d z.1
-
-  -- the slot that was taken last had one value
-  pub one_value : (c r s : List (ℕ × Option T)) (i : ℕ) (x y : T) → c ≡ (i, Some x) ∷ r → c ≡ (i, Some y) ∷ s → x ≡ y
-  one_value c r s i x y a b = ap (first_in x) (sym a ∙ b)
-
-  drop_all : (ys : List T) → drop (length ys) ys ≡ []
-  drop_all [] = refl
-  drop_all (y ∷ ys) = drop_all ys
 
   pub take_whole : (ys : List T) → take (length ys) ys ≡ ys
   take_whole [] = refl
@@ -73,7 +48,7 @@ module _ {T : Type 0} where
   pub none_left : (ys : List T) (n : ℕ) → length ys ≡ n → left ys n ≡ indexed 0 (replicate n None)
   none_left ys n e = subst (λ n. left ys n ≡ indexed 0 (replicate n None)) e
       (ap (λ (l : List T). indexed (length ys) (map Some l) ++ indexed 0 (replicate (length ys) None))
-      (drop_all ys))
+      (drop_all (length ys) ys (omega arith)))
 
   pub contents_numbered : (ys : List T) (k : ℕ) → outboxes_in (indexed k (map Some ys)) ≡ ys
   contents_numbered [] k = refl

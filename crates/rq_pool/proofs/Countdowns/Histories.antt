@@ -1,22 +1,13 @@
 -- What one more arrival adds to a history, and the histories of several passes.
-use Rattle.std.proofs.Common.{◌≡◌, ℕ, List, [], ◌∷◌, ◌++◌, map, sym, refl, ap, ◌∙◌, append_assoc}
-use Rattle.rq_pool.specs.declared.countdown.view.Made.{Made}
-use Rattle.rq_pool.specs.declared.countdown.view.View.{View}
-use Rattle.rq_pool.specs.declared.countdown.arrival.Entry.{Entry}
-use Rattle.rq_pool.specs.declared.countdown.arrival.Arrival.{Arrival}
-use Rattle.rq_pool.specs.Countdowns.History.{flat_map, if_twice, entry, back_by, refused_outboxes, back_in}
-use Rattle.rq_pool.specs.Countdowns.Views.{made_by, made_in, refused_in}
-use Rattle.rq_pool.specs.Countdowns.Views.{all_made, all_refused}
-use Rattle.rq_pool.proofs.Countdowns.Takes.{append_none}
+use Rattle.std.proofs.Common.{◌≡◌, ℕ, List, [], ◌∷◌, ◌++◌, map, sym, refl, ap, ◌∙◌, append-nil, flat_map}
+use Rattle.rq_pool.proofs.Countdowns.Words.{Made, View, Entry, Arrival, if_twice, entry, back_by, refused_outboxes}
+use Rattle.rq_pool.proofs.Countdowns.Words.{back_in, made_by, made_in, refused_in, all_made, all_refused}
+use Rattle.rq_pool.proofs.Countdowns.Words.{flat_map-append}
 
-module _ {A B : Type 0} (f : A → List B) where
-  flat_append : (xs ys : List A) → flat_map f (xs ++ ys) ≡ flat_map f xs ++ flat_map f ys
-  flat_append [] ys = refl
-  flat_append (x ∷ xs) ys = ap (λ l. f x ++ l) (flat_append xs ys)
-      ∙ sym (append_assoc (f x) (flat_map f xs) (flat_map f ys))
-
-  flat_snoc : (ys xs : List A) (x : A) → ys ≡ xs ++ x ∷ [] → flat_map f ys ≡ flat_map f xs ++ f x
-  flat_snoc ys xs x e = ap (flat_map f) e ∙ flat_append xs (x ∷ []) ∙ ap (λ l. flat_map f xs ++ l) (append_none (f x))
+flat_snoc : {A B : Type 0} (f : A → List B) (ys xs : List A) (x : A) → ys ≡ xs ++ x ∷ []
+    → flat_map f ys ≡ flat_map f xs ++ f x
+flat_snoc f ys xs x e = ap (flat_map f) e ∙ flat_map-append f xs (x ∷ [])
+    ∙ ap (λ l. flat_map f xs ++ l) (append-nil (f x))
 
 module _ {T : Type 0} (es ds : List (Entry T)) (i : ℕ) (x : T) (a : Arrival T)
     (more : ds ≡ es ++ entry i x a ∷ []) where
@@ -35,16 +26,16 @@ module _ {A T K : Type 0} (g : A → View T K) (d : A → List (Entry T)) where
   pub all_made_in : ((p : A) → made_in (d p) ≡ (g p).made) → (ps : List A)
       → made_in (flat_map d ps) ≡ all_made (map g ps)
   all_made_in each [] = refl
-  all_made_in each (p ∷ ps) = flat_append _ (d p) (flat_map d ps) ∙ (λ j. each p j ++ all_made_in each ps j)
+  all_made_in each (p ∷ ps) = flat_map-append _ (d p) (flat_map d ps) ∙ (λ j. each p j ++ all_made_in each ps j)
 
   pub all_refused_in : ((p : A) → refused_in (d p) ≡ (g p).refused) → (ps : List A)
       → refused_in (flat_map d ps) ≡ all_refused (map g ps)
   all_refused_in each [] = refl
-  all_refused_in each (p ∷ ps) = flat_append _ (d p) (flat_map d ps) ∙ (λ j. each p j ++ all_refused_in each ps j)
+  all_refused_in each (p ∷ ps) = flat_map-append _ (d p) (flat_map d ps) ∙ (λ j. each p j ++ all_refused_in each ps j)
 
 module _ {A T : Type 0} (d : A → List (Entry T)) where
   pub all_back : ((p : A) → back_in (d p) ≡ refused_outboxes (d p)) → (ps : List A)
       → back_in (flat_map d ps) ≡ refused_outboxes (flat_map d ps)
   all_back each [] = refl
-  all_back each (p ∷ ps) = flat_append _ (d p) (flat_map d ps) ∙ (λ j. each p j ++ all_back each ps j)
-      ∙ sym (flat_append _ (d p) (flat_map d ps))
+  all_back each (p ∷ ps) = flat_map-append _ (d p) (flat_map d ps) ∙ (λ j. each p j ++ all_back each ps j)
+      ∙ sym (flat_map-append _ (d p) (flat_map d ps))

@@ -1,20 +1,13 @@
 -- A view is cut in two, and two views are made one.
 use Rattle.std.proofs.Common.{◌≡◌, ◌≢◌, ◌⊎◌, ℕ, zero, suc, ◌+◌, ◌<◌, List, [], ◌∷◌, ◌++◌, set, sym, refl, ap, ◌∙◌}
 use Rattle.std.proofs.Common.{subst, ⊎_elim, inl, inr, arith, Option, None}
-use mathlib.Core.Option.{some, some-injective, some-ne-none}
-use mathlib.Core.Logic.{dite}
-use native.Mathlib.Decide.{ℕ_discrete}
-use lib.ListN.{get_elem?}
-use Rattle.atomic_table.specs.Table.{State, Splits, Joins}
-use Rattle.atomic_table.proofs.Lists.{at_set, at_snoc, set_here, set_else, at_longer}
-use Rattle.rq_pool.specs.declared.countdown.view.Made.{Made}
-use Rattle.rq_pool.specs.declared.countdown.view.View.{View}
-use Rattle.rq_pool.specs.declared.countdown.view.Terms.{Terms}
-use Rattle.rq_pool.specs.Countdowns.Phases.{total, Phase}
-use Rattle.rq_pool.specs.Countdowns.Rule.{here, parts, stands_at, names, made_for, times_told, lasts, HasMade, HasLast}
-use Rattle.rq_pool.specs.Countdowns.Rule.{SomeView, Knows, IsOpen, IsShut, Held, left_of, right_of, both_of, spent_view}
+use Rattle.rq_pool.proofs.Countdowns.Words.{some, some-injective, some-ne-none, dite, ℕ_discrete, get_elem?, State}
+use Rattle.rq_pool.proofs.Countdowns.Words.{Splits, Joins, at_set, at_snoc, set_here, set_else, at_longer, Made, View}
+use Rattle.rq_pool.proofs.Countdowns.Words.{Terms, total, Phase, here, parts, stands_at, names, made_for, times_told}
+use Rattle.rq_pool.proofs.Countdowns.Words.{lasts, HasMade, HasLast, SomeView, Knows, Held, left_of, right_of, both_of}
+use Rattle.rq_pool.proofs.Countdowns.Words.{spent_view}
 use Rattle.rq_pool.proofs.Countdowns.Totals.{total_set, total_append, inside}
-use Rattle.rq_pool.proofs.Countdowns.Views.{some_set}
+use Rattle.rq_pool.proofs.Countdowns.Views.{some_set, told_still}
 
 module _ {A : Type 0} where
   at_later : (more xs : List A) (k : ℕ) (x : A) → get_elem? xs k ≡ some x
@@ -103,14 +96,7 @@ module _ {T K : Type 0} (fits : K → ℕ → T → Type 0) (terms : Terms K) wh
               λ x is. ((old.holding x is).0, e i x (old.holding x is).1);
         };
     each_pass = g h.phases h.each_pass;
-    told_once = ⊎_elim (λ (o : IsOpen s.views h.phases).
-        inl record { waiting = o.waiting; nobody = d ∙ o.nobody; none_shut = o.none_shut })
-        (λ (o : IsShut s.views h.phases). inr record {
-          outboxes = o.outboxes;
-          all_shut = o.all_shut;
-          one = d ∙ o.one;
-          has_it = f o.outboxes o.has_it;
-        }) h.told_once;
+    told_once = told_still s.views views' h.phases d f h.told_once;
   }
 
   pub splits : (id : ℕ) (v : View T K) → 1 < v.parts → Splits H id v (left_of v) (right_of v)

@@ -1,16 +1,11 @@
 -- From what the views have of the arrivals answered Last to what the histories have.
 use Rattle.std.proofs.Common.{◌≡◌, ℕ, ◌<◌, List, [], ◌∷◌, All, length, length-append, Option, Some, None}
 use Rattle.std.proofs.Common.{slice_index_or, sym, refl, ap, ◌∙◌, arith}
+use Rattle.rq_pool.proofs.Countdowns.Words.{Entry, Arrival, Twice, NotLast, Last, total, times_told, lasts, made_by}
+use Rattle.rq_pool.proofs.Countdowns.Words.{made_in, if_last, last_lists, nil_from_length}
 use Rattle.std.specs.Option.{ForSome, ForNone}
 use Rattle.rq_pool.specs.declared.countdown.fits.Fits.{Ghosts}
-use Rattle.rq_pool.specs.declared.countdown.arrival.Entry.{Entry}
-use Rattle.rq_pool.specs.declared.countdown.arrival.Arrival.{Arrival}
-use Rattle.rq_pool.specs.declared.countdown.arrival.Arrival.TheVariants.{Twice, NotLast, Last}
 use Rattle.rq_pool.specs.declared.countdown.pass.Pass.{Pass}
-use Rattle.rq_pool.specs.Countdowns.Phases.{total}
-use Rattle.rq_pool.specs.Countdowns.Rule.{times_told, lasts}
-use Rattle.rq_pool.specs.Countdowns.Views.{made_by, made_in}
-use Rattle.rq_pool.specs.Countdowns.Arrivals.{if_last, last_lists}
 use Rattle.rq_pool.specs.Countdowns.Words.{TellsLast}
 use Rattle.rq_pool.proofs.Countdowns.Totals.{total_append}
 
@@ -26,10 +21,6 @@ module _ {T : Type 0} where
       by_answer e.source e.outbox e.answer in
       let l = length-append (if_last e.answer) (last_lists es) in let r = lasts_in es in omega arith
 
-none_in : {A : Type 0} (xs : List A) → length xs ≡ 0 → xs ≡ []
-none_in [] e = refl
-none_in (x ∷ xs) e = absurd (omega arith)
-
 module _ {T K : Type 0} {g : Ghosts T K} where
   of_pass : (p : Pass T K g) → length (last_lists p.diary) ≡ lasts p.seat.me.0
   of_pass p = sym (lasts_in p.diary) ∙ ap (total times_told) p.told.0
@@ -38,4 +29,4 @@ module _ {T K : Type 0} {g : Ghosts T K} where
       → ForSome o (λ k. (k < length ps) × ((d : Pass T K g) → lasts (slice_index_or ps k d).seat.me.0 ≡ 1))
       → ForNone o (All (λ p. lasts p.seat.me.0 ≡ 0) ps) → TellsLast ps o
   tells_last ps (Some k) some none = ((some k refl).0, λ d. of_pass (slice_index_or ps k d) ∙ (some k refl).1 d)
-  tells_last ps None some none = λ k d near. none_in _ (of_pass (slice_index_or ps k d) ∙ none refl k d near)
+  tells_last ps None some none = λ k d near. nil_from_length _ (of_pass (slice_index_or ps k d) ∙ none refl k d near)

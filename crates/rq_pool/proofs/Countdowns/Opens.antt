@@ -1,13 +1,9 @@
 -- The table at the start.
-use Rattle.std.proofs.Common.{◌≡◌, ℕ, zero, suc, ◌<◌, List, [], ◌∷◌, map, get_or, set, replicate, sym, refl, ap, ◌∙◌}
-use Rattle.std.proofs.Common.{subst, inl, arith, Option, Some, None}
-use mathlib.Core.Option.{some, some-injective, some-ne-none}
-use lib.ListN.{get_elem?}
-use Rattle.atomic_table.specs.Table.{opening}
-use Rattle.rq_pool.specs.declared.countdown.view.View.{View}
-use Rattle.rq_pool.specs.declared.countdown.view.Terms.{Terms}
-use Rattle.rq_pool.specs.Countdowns.Phases.{total, Phase, clear, flag, is_shut, place, count}
-use Rattle.rq_pool.specs.Countdowns.Rule.{view, parts, AtSource, Knows, Held}
+use Rattle.std.proofs.Common.{◌≡◌, ℕ, zero, suc, ◌<◌, List, [], ◌∷◌, map, set, replicate, sym, refl, ap, ◌∙◌, subst}
+use Rattle.std.proofs.Common.{inl, arith, Option, Some, None}
+use Rattle.rq_pool.proofs.Countdowns.Words.{some, some-injective, some-ne-none, get_elem?, opening, View, Terms, total}
+use Rattle.rq_pool.proofs.Countdowns.Words.{Phase, clear, flag, is_shut, place, count, view, parts, AtSource, Knows}
+use Rattle.rq_pool.proofs.Countdowns.Words.{Held}
 
 module _ {T : Type 0} where
   clear_only : (n i : ℕ) (p : Phase T) → get_elem? (replicate n clear) i ≡ some p → p ≡ clear
@@ -73,14 +69,3 @@ module _ {T K : Type 0} (fits : K → ℕ → T → Type 0) (terms : Terms K) wh
   pub starts_set : (n m : ℕ) (ws : List ℕ) → suc n ≡ m → 0 < n → 0 < terms.passes → ws ≡ set (replicate m 0) 0 n
       → Held fits terms (opening ws (replicate n None) first)
   starts_set n m ws e some_source some_pass is = starts n ws some_source some_pass (is ∙ with_count n m e)
-
-pub some_same : {A : Type 0} (P : A → Type 0) (a b : A) → Some a ≡ Some b → P a → P b
-some_same P a b e p = subst P (ap (or_first a) e) p
-  where
-    or_first : {A : Type 0} → A → Option A → A
-    or_first d None = d
-    or_first d (Some x) = x
-
-pub all_one : {A : Type 0} (P : A → Type 0) (x : A) → P x → (k : ℕ) (d : A) → k < 1 → P (get_or (x ∷ []) k d)
-all_one P x p zero d near = p
-all_one P x p (suc k) d near = absurd (omega arith)

@@ -1,18 +1,14 @@
 -- The last gives all slots back, empty.
 use Rattle.std.proofs.Common.{◌≡◌, ◌⊎◌, ℕ, zero, suc, ◌+◌, ◌<◌, List, [], ◌∷◌, map, length, get_or, set, replicate, sym}
 use Rattle.std.proofs.Common.{refl, ap, ◌∙◌, subst, ⊎_elim, inl, inr, arith, Option, None}
-use mathlib.Core.Option.{some, none, some-injective, some-ne-none}
+use Rattle.rq_pool.proofs.Countdowns.Words.{some, none, some-injective, some-ne-none, get_elem?, State, Me, step, Act}
+use Rattle.rq_pool.proofs.Countdowns.Words.{keeps, gives, chain, Valid, Allows, carried_after, homes_after, set_again}
+use Rattle.rq_pool.proofs.Countdowns.Words.{View, Terms, total, Phase, gone, back, flag, place, count, indexed, lasts}
+use Rattle.rq_pool.proofs.Countdowns.Words.{parts, HasLast, SomeView, AtSource, IsSet, IsOpen, IsShut, Held, hands_back}
+use Rattle.rq_pool.proofs.Countdowns.Words.{length-map}
 use mathlib.Core.Option as maybe
-use lib.ListN.{get_elem?}
-use Rattle.atomic_table.specs.Table.{State, Me, step, Act, keeps, gives, chain, Valid, Allows, carried_after}
-use Rattle.atomic_table.specs.Table.{homes_after}
-use Rattle.atomic_table.proofs.Lists.{set_again}
-use Rattle.rq_pool.specs.declared.countdown.view.View.{View}
-use Rattle.rq_pool.specs.declared.countdown.view.Terms.{Terms}
-use Rattle.rq_pool.specs.Countdowns.Phases.{total, Phase, gone, back, flag, place, count, indexed}
-use Rattle.rq_pool.specs.Countdowns.Rule.{lasts, parts, HasLast, SomeView, AtSource, IsSet, IsOpen, IsShut, Held}
-use Rattle.rq_pool.specs.Countdowns.Rule.{hands_back}
-use Rattle.rq_pool.proofs.Countdowns.Totals.{at_most, map_long, set_get}
+use Rattle.rq_pool.proofs.Countdowns.Totals.{at_most, set_get}
+use Rattle.rq_pool.proofs.Countdowns.Views.{same_source}
 
 module _ {S : Type 0} where
   abbrev give_all : ℕ → Act S
@@ -72,18 +68,13 @@ module _ {T : Type 0} where
       further f (suc j) old = f j old
 
   from_back : (ys : List T) → Turns ys (map back ys)
-  from_back ys = (refl, refl, map_long (λ (y : T). back y) ys, λ j old. old)
+  from_back ys = (refl, refl, length-map ys (λ (y : T). back y), λ j old. old)
 
   back_at_gone : (ys : List T) (i : ℕ) (p : Phase T) → get_elem? (map back ys) i ≡ some p
       → (y : T) × (p ≡ back y) × (get_elem? (map gone ys) i ≡ some (gone y))
   back_at_gone [] i p e = absurd (some-ne-none p (sym e))
   back_at_gone (y ∷ ys) zero p e = (y, sym (some-injective (back y) p e), refl)
   back_at_gone (y ∷ ys) (suc i) p e = back_at_gone ys i p e
-
-module _ {T K : Type 0} where
-  back_source : (fit : ℕ → T → Type 0) (views : List (View T K)) (i : ℕ) (y : T) → AtSource fit views i (gone y)
-      → AtSource fit views i (back y)
-  back_source fit views i y h = record { standing = h.standing; done = h.done; holding = h.holding }
 
 module _ {T K : Type 0} (fits : K → ℕ → T → Type 0) (terms : Terms K) where
   abbrev St : Type 0
@@ -99,7 +90,7 @@ module _ {T K : Type 0} (fits : K → ℕ → T → Type 0) (terms : Terms K) wh
       → (i : ℕ) (p : Phase T) → get_elem? (map back ys) i ≡ some p → AtSource (fits terms.key) s.views i p
   sources s h ys (inl g) i p e = let q = back_at_gone ys i p e in
       subst (AtSource (fits terms.key) s.views i) (sym q.1)
-      (back_source (fits terms.key) s.views i q.0
+      (same_source (fits terms.key) s.views i (gone q.0) (back q.0) refl refl refl
       (h.each_source i (gone q.0) (subst (λ (l : List (Phase T)). get_elem? l i ≡ some (gone q.0)) (sym g) q.2)))
   sources s h ys (inr g) i p e = h.each_source i p (subst (λ (l : List (Phase T)). get_elem? l i ≡ some p) (sym g) e)
 
@@ -114,7 +105,7 @@ module _ {T K : Type 0} (fits : K → ℕ → T → Type 0) (terms : Terms K) wh
       let ys : List T = o.outboxes in
       let t : Turns ys h.phases = ⊎_elim (λ (g : h.phases ≡ map gone ys). subst (Turns ys) (sym g) (from_gone ys))
       (λ (g : h.phases ≡ map back ys). subst (Turns ys) (sym g) (from_back ys)) o.all_shut in
-      let long : length s.homes ≡ length h.phases = ap length h.homes_are ∙ map_long place h.phases in
+      let long : length s.homes ≡ length h.phases = ap length h.homes_are ∙ length-map h.phases place in
       let c : List (ℕ × Option T) = indexed 0 (replicate slots None) in
       let nothing : Option T = None in let g = giving slots nothing s.homes 0 (omega arith) in (
         me.0,

@@ -1,9 +1,6 @@
 -- The arrivals of all passes as their views have them, once the countdown is closed.
 use Rattle.std.proofs.Common.{◌≡◌, ◌≢◌, ℕ, suc, zero, ◌<◌, ◌⊎◌, eqb, Bool, true, false, List, [], ◌∷◌, ◌++◌, length}
-use mathlib.Core.Option.{some}
-use lib.ListN.{get_elem?}
-use Rattle.rq_pool.specs.declared.countdown.view.Made.{Made}
-use Rattle.rq_pool.specs.Countdowns.Phases.{add_some}
+use Rattle.rq_pool.proofs.Countdowns.Words.{some, get_elem?, Made, add_some}
 
 abbrev pub add_if : {A : Type 0} → Bool → A → List A → List A
 add_if true x xs = x ∷ xs

@@ -2,24 +2,15 @@
 use Rattle.std.proofs.Common.{◌≡◌, ◌≢◌, ◌⊎◌, ℕ, zero, suc, ◌+◌, ◌-◌, ◌<◌, ◌≤◌, eqb, eq-eqb, Bool, true, false, List, []}
 use Rattle.std.proofs.Common.{◌∷◌, ◌++◌, map, length, get_or, sym, refl, ap, ◌∙◌, subst, ⊎_elim, inl, inr, arith}
 use Rattle.std.proofs.Common.{Option, Some, None}
-use mathlib.Core.Option.{some, none, some-injective, some-ne-none}
+use Rattle.rq_pool.proofs.Countdowns.Words.{some, none, some-injective, some-ne-none, dite, ℕ_discrete, get_elem?}
+use Rattle.rq_pool.proofs.Countdowns.Words.{State, at_map, Made, View, Terms, total, Phase, clear, away, home, gone}
+use Rattle.rq_pool.proofs.Countdowns.Words.{back, flag, is_away, is_done, is_shut, outbox_of, place, count, add_some}
+use Rattle.rq_pool.proofs.Countdowns.Words.{somes, one_if, here, count_told, parts, stands_at, names, made_for}
+use Rattle.rq_pool.proofs.Countdowns.Words.{times_told, lasts, HasMade, HasLast, SomeView, IsOpen, IsShut, Held}
+use Rattle.rq_pool.proofs.Countdowns.Words.{length-map, nil_from_length}
 use mathlib.Core.Option as maybe
-use mathlib.Core.Logic.{dite}
-use native.Mathlib.Decide.{ℕ_discrete}
-use lib.ListN.{get_elem?}
-use Rattle.atomic_table.specs.Table.{State}
-use Rattle.atomic_table.proofs.Lists.{at_map}
-use Rattle.rq_pool.specs.declared.countdown.view.Made.{Made}
-use Rattle.rq_pool.specs.declared.countdown.view.View.{View}
-use Rattle.rq_pool.specs.declared.countdown.view.Terms.{Terms}
-use Rattle.rq_pool.specs.Countdowns.Phases.{total, Phase, clear, away, home, gone, back, flag, is_away, is_done}
-use Rattle.rq_pool.specs.Countdowns.Phases.{is_shut, outbox_of, place, count}
-use Rattle.rq_pool.specs.Countdowns.Rule.{one_if, here, count_told, parts, stands_at, names, made_for, times_told}
-use Rattle.rq_pool.specs.Countdowns.Rule.{lasts}
-use Rattle.rq_pool.specs.Countdowns.Rule.{HasMade, HasLast, SomeView, IsOpen, IsShut, Held}
 use Rattle.rq_pool.proofs.Countdowns.Settled.{add_if, kept_for, kept_from, told_lists, SettledViews}
-use Rattle.rq_pool.specs.Countdowns.Phases.{add_some, somes}
-use Rattle.rq_pool.proofs.Countdowns.Totals.{at_most, there, map_long}
+use Rattle.rq_pool.proofs.Countdowns.Totals.{at_most, there}
 
 module _ {A : Type 0} where
   two : (f : A → ℕ) (xs : List A) (i j : ℕ) (a b : A) → ¬ (i ≡ j) → get_elem? xs i ≡ some a → get_elem? xs j ≡ some b
@@ -48,10 +39,6 @@ module _ {A : Type 0} where
   alone f g (x ∷ xs) (suc id) v at all idle = let m = at_most g xs id v at in let z = idle 0 x refl (omega arith) in
       let r = alone f g xs id v at (omega arith) (λ j u e. idle (suc j) u e) in omega arith
 
-  no_length : (xs : List A) → length xs ≡ 0 → xs ≡ []
-  no_length [] e = refl
-  no_length (x ∷ xs) e = absurd (omega arith)
-
 module _ {T : Type 0} where
   if_long : (b : Bool) (x : T) (xs : List T) → length (add_if b x xs) ≡ one_if b + length xs
   if_long true x xs = omega arith
@@ -68,7 +55,7 @@ module _ {T : Type 0} where
   kept_one i x (n ∷ ms) zero m e s o one = let is : n ≡ m = some-injective n m e in let yes : eqb n.source i ≡ true =
       eq-eqb n.source i (ap (λ (y : Made T). y.source) is ∙ s) in
       let list : kept_for i (n ∷ ms) ≡ n.outbox ∷ kept_for i ms = ap (λ b. add_if b n.outbox (kept_for i ms)) yes in
-      let l = ap length list in let nil = no_length (kept_for i ms) (omega arith) in
+      let l = ap length list in let nil = nil_from_length (kept_for i ms) (omega arith) in
       list ∙ (λ j. (ap (λ (y : Made T). y.outbox) is ∙ o) j ∷ nil j)
   kept_one i x (n ∷ ms) (suc k) m e s o one = go (eqb n.source i) refl (kept_one i x ms k m e s o)
     where
@@ -97,7 +84,7 @@ module _ {T : Type 0} where
   told_one ys (n ∷ ms) zero m e s one = let is : n.told ≡ Some ys =
       ap (λ (y : Made T). y.told) (some-injective n m e) ∙ s in
       let list : told_lists (n ∷ ms) ≡ ys ∷ told_lists ms = ap (λ o. add_some o (told_lists ms)) is in let l =
-      ap length list in let nil = no_length (told_lists ms) (omega arith) in list ∙ (λ j. ys ∷ nil j)
+      ap length list in let nil = nil_from_length (told_lists ms) (omega arith) in list ∙ (λ j. ys ∷ nil j)
   told_one ys (n ∷ ms) (suc k) m e s one = go n.told refl (told_one ys ms k m e s)
     where
       some_there : 0 < length (told_lists ms)
@@ -216,7 +203,7 @@ module _ {T K : Type 0} (fits : K → ℕ → T → Type 0) (terms : Terms K) (s
   kept_is i p e = let src = h.each_source i p e in let long : length (kept_for i v.made) ≡ is_done p =
       kept_long i v.made ∙ sym (all_made i) ∙ src.done in
       by_outbox (kept_for i v.made ≡ listed (outbox_of p)) p (none_away i p e)
-      (λ z o _. no_length (kept_for i v.made) (long ∙ z) ∙ ap listed (sym o))
+      (λ z o _. nil_from_length (kept_for i v.made) (long ∙ z) ∙ ap listed (sym o))
       (λ x one o. let m = has_it (HasMade i x) (λ none_made. some-ne-none none_made.1 (sym none_made.2))
       (src.holding x o).1 in kept_one i x v.made m.0 m.1 m.2 m.3 m.4 (long ∙ one) ∙ ap listed (sym o))
 
@@ -246,7 +233,7 @@ module _ {T K : Type 0} (fits : K → ℕ → T → Type 0) (terms : Terms K) (s
       → ((k : ℕ) (y : Option T) → get_elem? s.homes k ≡ some (some y) → get_elem? xs k ≡ some y)
       → SettledViews (length xs) v.made v.refused (length xs - get_or s.words 0 0) (somes xs)
   settles_open none_told xs long same = let long' : length ps ≡ length xs =
-      sym (ap length h.homes_are ∙ map_long place ps) ∙ long in
+      sym (ap length h.homes_are ∙ length-map ps place) ∙ long in
       let o : IsOpen s.views ps = ⊎_elim (λ (o : IsOpen s.views ps). o)
       (λ (c : IsShut s.views ps). absurd (let q = c.one in let r = all_lasts in omega arith)) h.told_once in
       let l = outs_long ps none_away in let w = word_is in let some_wait = o.waiting in
@@ -259,7 +246,7 @@ module _ {T K : Type 0} (fits : K → ℕ → T → Type 0) (terms : Terms K) (s
         arrivals = (let q = ap length whole_kept in omega arith);
         outcome = inl (
           omega arith,
-          no_length (told_lists v.made) (told_long v.made ∙ none_told),
+          nil_from_length (told_lists v.made) (told_long v.made ∙ none_told),
           home ∙ sym whole_kept,
         );
       }
@@ -267,7 +254,7 @@ module _ {T K : Type 0} (fits : K → ℕ → T → Type 0) (terms : Terms K) (s
   -- else that pass was given all
   pub settles_shut : lasts v ≢ 0 → SettledViews (length s.homes) v.made v.refused
       (length s.homes - get_or s.words 0 0) []
-  settles_shut some_told = let long' : length ps ≡ length s.homes = sym (ap length h.homes_are ∙ map_long place ps) in
+  settles_shut some_told = let long' : length ps ≡ length s.homes = sym (ap length h.homes_are ∙ length-map ps place) in
       let c : IsShut s.views ps = ⊎_elim (λ (o : IsOpen s.views ps). absurd (some_told (sym all_lasts ∙ o.nobody)))
       (λ (c : IsShut s.views ps). c) h.told_once in let ys : List T = c.outboxes in
       let l = outs_long ps none_away in let w = word_is in

@@ -1,17 +1,11 @@
 -- From the passes' views to their histories.
 use Rattle.std.proofs.Common.{◌≡◌, ◌≢◌, ◌⊎◌, ℕ, zero, suc, ◌+◌, ◌<◌, ◌≤◌, eqb, eqb-true, Bool, true, false, List, []}
 use Rattle.std.proofs.Common.{◌∷◌, ◌++◌, length, length-append, sym, refl, ap, ◌∙◌, subst, ⊎_elim, inl, inr, arith}
-use mathlib.Core.Option.{some}
-use lib.ListN.{get_elem?}
-use Rattle.rq_pool.specs.declared.countdown.view.Made.{Made}
-use Rattle.rq_pool.specs.declared.countdown.arrival.Entry.{Entry}
-use Rattle.rq_pool.specs.declared.countdown.arrival.Arrival.{Arrival}
-use Rattle.rq_pool.specs.declared.countdown.arrival.Arrival.TheVariants.{Twice, NotLast, Last}
-use Rattle.rq_pool.specs.Countdowns.History.{if_twice, refused_outboxes, back_in}
-use Rattle.rq_pool.specs.Countdowns.Views.{made_by, made_in, refused_in}
+use Rattle.rq_pool.proofs.Countdowns.Words.{some, get_elem?, Made, Entry, Arrival, Twice, NotLast, Last, if_twice}
+use Rattle.rq_pool.proofs.Countdowns.Words.{refused_outboxes, back_in, made_by, made_in, refused_in, only, if_kept}
+use Rattle.rq_pool.proofs.Countdowns.Words.{if_last, arrivals_for, kept_for, kept_from, last_lists, SomeMissing}
+use Rattle.rq_pool.proofs.Countdowns.Words.{Settled}
 use Rattle.rq_pool.proofs.Countdowns.Settled as old
-use Rattle.rq_pool.specs.Countdowns.Arrivals.{only, if_kept, if_last, arrivals_for, kept_for, kept_from, last_lists}
-use Rattle.rq_pool.specs.Countdowns.Arrivals.{SomeMissing, Settled}
 
 module _ {T : Type 0} where
   add_only : (b : Bool) (x : T) (xs : List T) → old.add_if b x xs ≡ only b (x ∷ []) ++ xs
@@ -22,38 +16,31 @@ module _ {T : Type 0} where
   only_none true xs = refl
   only_none false xs = refl
 
-  pub same_kept : (i : ℕ) (es : List (Entry T)) → old.kept_for i (made_in es) ≡ kept_for i es
+  kept_by : (i k : ℕ) (x : T) (a : Arrival T) (ms : List (Made T))
+      → old.kept_for i (made_by k x a ++ ms) ≡ only (eqb k i) (if_kept x a) ++ old.kept_for i ms
+  kept_by i k x (Twice y) ms = only_none (eqb k i) (old.kept_for i ms)
+  kept_by i k x NotLast ms = add_only (eqb k i) x (old.kept_for i ms)
+  kept_by i k x (Last ys) ms = add_only (eqb k i) x (old.kept_for i ms)
+
+  same_kept : (i : ℕ) (es : List (Entry T)) → old.kept_for i (made_in es) ≡ kept_for i es
   same_kept i [] = refl
-  same_kept i (e ∷ es) = go e.answer refl (same_kept i es)
-    where
-      by_answer : Arrival T → Type 0
-      by_answer a = old.kept_for i (made_by e.source e.outbox a ++ made_in es)
-          ≡ only (eqb e.source i) (if_kept e.outbox a) ++ kept_for i es
+  same_kept i (e ∷ es) = kept_by i e.source e.outbox e.answer (made_in es)
+      ∙ ap (λ l. only (eqb e.source i) (if_kept e.outbox e.answer) ++ l) (same_kept i es)
 
-      go : (a : Arrival T) → e.answer ≡ a → old.kept_for i (made_in es) ≡ kept_for i es → by_answer e.answer
-      go (Twice y) is rec = subst by_answer (sym is) (rec ∙ only_none (eqb e.source i) (kept_for i es))
-      go NotLast is rec = subst by_answer (sym is)
-          (add_only (eqb e.source i) e.outbox (old.kept_for i (made_in es))
-          ∙ ap (λ l. only (eqb e.source i) (e.outbox ∷ []) ++ l) rec)
-      go (Last ys) is rec = subst by_answer (sym is)
-          (add_only (eqb e.source i) e.outbox (old.kept_for i (made_in es))
-          ∙ ap (λ l. only (eqb e.source i) (e.outbox ∷ []) ++ l) rec)
-
-  pub same_from : (i n : ℕ) (es : List (Entry T)) → old.kept_from i n (made_in es) ≡ kept_from i n es
+  same_from : (i n : ℕ) (es : List (Entry T)) → old.kept_from i n (made_in es) ≡ kept_from i n es
   same_from i zero es = refl
   same_from i (suc n) es = λ j. same_kept i es j ++ same_from (suc i) n es j
 
-  pub same_lasts : (es : List (Entry T)) → old.told_lists (made_in es) ≡ last_lists es
-  same_lasts [] = refl
-  same_lasts (e ∷ es) = go e.answer refl (same_lasts es)
-    where
-      by_answer : Arrival T → Type 0
-      by_answer a = old.told_lists (made_by e.source e.outbox a ++ made_in es) ≡ if_last a ++ last_lists es
+  told_by : (k : ℕ) (x : T) (a : Arrival T) (ms : List (Made T))
+      → old.told_lists (made_by k x a ++ ms) ≡ if_last a ++ old.told_lists ms
+  told_by k x (Twice y) ms = refl
+  told_by k x NotLast ms = refl
+  told_by k x (Last ys) ms = refl
 
-      go : (a : Arrival T) → e.answer ≡ a → old.told_lists (made_in es) ≡ last_lists es → by_answer e.answer
-      go (Twice y) is rec = subst by_answer (sym is) rec
-      go NotLast is rec = subst by_answer (sym is) rec
-      go (Last ys) is rec = subst by_answer (sym is) (ap (λ l. ys.items ∷ l) rec)
+  same_lasts : (es : List (Entry T)) → old.told_lists (made_in es) ≡ last_lists es
+  same_lasts [] = refl
+  same_lasts (e ∷ es) = told_by e.source e.outbox e.answer (made_in es)
+      ∙ ap (λ l. if_last e.answer ++ l) (same_lasts es)
 
   -- a source that has no arrival of either kind has none
   pub no_arrival : (i : ℕ) (es : List (Entry T)) → kept_for i es ≡ [] → ((k : ℕ) → get_elem? (refused_in es) k ≢ some i)

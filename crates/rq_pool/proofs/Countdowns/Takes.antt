@@ -1,25 +1,14 @@
 -- An act that takes all slots in order.
-use Rattle.std.proofs.Common.{◌≡◌, ℕ, zero, suc, List, [], ◌∷◌, ◌++◌, map, length, drop, set, sym, refl, ap, ◌∙◌, subst}
-use Rattle.std.proofs.Common.{arith}
-use mathlib.Core.Option.{some, none}
+use Rattle.std.proofs.Common.{◌≡◌, ℕ, zero, suc, List, [], ◌∷◌, ◌++◌, map, drop, set, sym, refl, ap, ◌∙◌, subst}
+use Rattle.rq_pool.proofs.Countdowns.Words.{some, none, get_elem?, Act, keeps, takes, chain, Valid, carried_after}
+use Rattle.rq_pool.proofs.Countdowns.Words.{homes_after, indexed}
 use mathlib.Core.Option as maybe
-use lib.ListN.{get_elem?}
-use Rattle.atomic_table.specs.Table.{Act, keeps, takes, chain, Valid, carried_after, homes_after}
-use Rattle.rq_pool.specs.Countdowns.Phases.{indexed}
 
 -- all slots from the k-th on are out
 abbrev pub out_from : {S : Type 0} → ℕ → List (maybe.Option S) → List (maybe.Option S)
 out_from k [] = []
 out_from zero (h ∷ hs) = none ∷ out_from zero hs
 out_from (suc k) (h ∷ hs) = h ∷ out_from k hs
-
-abbrev first_of : {A : Type 0} → A → List A → A
-first_of d [] = d
-first_of d (h ∷ hs) = h
-
-abbrev rest_of : {A : Type 0} → List A → List A
-rest_of [] = []
-rest_of (h ∷ hs) = hs
 
 module _ {S : Type 0} where
   -- the last slot first, so that the first is the one taken last
@@ -29,15 +18,15 @@ module _ {S : Type 0} where
 
   out_past : (hs : List (maybe.Option S)) (k : ℕ) → drop k hs ≡ [] → out_from k hs ≡ hs
   out_past [] k e = refl
-  out_past (h ∷ hs) zero e = absurd (let q : suc (length hs) ≡ 0 = ap length e in omega arith)
+  out_past (h ∷ hs) zero e = absurd (cc)
   out_past (h ∷ hs) (suc k) e = ap (λ l. h ∷ l) (out_past hs k e)
 
   at_drop : (hs : List (maybe.Option S)) (k : ℕ) (h : maybe.Option S) (r : List (maybe.Option S)) → drop k hs ≡ h ∷ r
       → (get_elem? (out_from (suc k) hs) k ≡ some h) × (drop (suc k) hs ≡ r)
       × (set (out_from (suc k) hs) k none ≡ out_from k hs)
-  at_drop [] zero h r e = absurd (let q : 0 ≡ suc (length r) = ap length e in omega arith)
-  at_drop [] (suc k) h r e = absurd (let q : 0 ≡ suc (length r) = ap length e in omega arith)
-  at_drop (g ∷ hs) zero h r e = (ap some (ap (first_of h) e), ap rest_of e, refl)
+  at_drop [] zero h r e = absurd (cc)
+  at_drop [] (suc k) h r e = absurd (cc)
+  at_drop (g ∷ hs) zero h r e = (cc, cc, refl)
   at_drop (g ∷ hs) (suc k) h r e = let q = at_drop hs k h r e in (q.0, q.1, ap (λ l. g ∷ l) q.2)
 
   pub taking : (xs : List S) (hs : List (maybe.Option S)) (c : List (ℕ × S)) (k : ℕ) → drop k hs ≡ map some xs
@@ -54,7 +43,3 @@ module _ {S : Type 0} where
   pub all_out : (hs : List (maybe.Option S)) → out_from 0 hs ≡ map (λ _. none) hs
   all_out [] = refl
   all_out (h ∷ hs) = ap (λ l. none ∷ l) (all_out hs)
-
-pub append_none : {A : Type 0} (l : List A) → l ++ [] ≡ l
-append_none [] = refl
-append_none (x ∷ xs) = ap (λ l. x ∷ l) (append_none xs)

@@ -1,9 +1,7 @@
 -- Totals over a list, and lists read by `get_elem?`.
 use Rattle.std.proofs.Common.{◌≡◌, ℕ, zero, suc, ◌+◌, ◌<◌, ◌≤◌, List, [], ◌∷◌, ◌++◌, map, length, get_or, set, sym}
-use Rattle.std.proofs.Common.{refl, ap, arith}
-use mathlib.Core.Option.{some, some-injective, some-ne-none}
-use lib.ListN.{get_elem?}
-use Rattle.rq_pool.specs.Countdowns.Phases.{total}
+use Rattle.std.proofs.Common.{refl, ap, arith, Option, Some}
+use Rattle.rq_pool.proofs.Countdowns.Words.{some, some-injective, some-ne-none, get_elem?, total}
 
 module _ {A : Type 0} where
   pub total_set : (f : A → ℕ) (xs : List A) (i : ℕ) (v w : A) → get_elem? xs i ≡ some v
@@ -31,10 +29,6 @@ module _ {A : Type 0} where
   inside (y ∷ xs) zero x e = omega arith
   inside (y ∷ xs) (suc i) x e = let q = inside xs i x e in omega arith
 
-  pub map_long : {B : Type 0} (f : A → B) (xs : List A) → length (map f xs) ≡ length xs
-  map_long f [] = refl
-  map_long f (x ∷ xs) = ap suc (map_long f xs)
-
   pub get_map : (f : A → ℕ) (xs : List A) (i : ℕ) (x : A) → get_elem? xs i ≡ some x → get_or (map f xs) i 0 ≡ f x
   get_map f [] i x e = absurd (some-ne-none x (sym e))
   get_map f (y ∷ xs) zero x e = ap f (some-injective y x e)
@@ -44,3 +38,9 @@ pub set_get : (xs : List ℕ) (i n : ℕ) → get_or xs i 0 ≡ n → i < length
 set_get [] i n e h = refl
 set_get (x ∷ xs) zero n e h = λ j. sym e j ∷ xs
 set_get (x ∷ xs) (suc i) n e h = λ j. x ∷ set_get xs i n e (omega arith) j
+
+-- what one slot is known to hold in two ways
+pub one_slot : {T : Type 0} (i j : ℕ) (x y : T) (r s : List (ℕ × Option T)) → (i, Some x) ∷ r ≡ (j, Some y) ∷ s
+    → (i ≡ j) × (x ≡ y)
+one_slot {T} i j x y r s e = let both : (i, Some x) ≡ (j, Some y) = cc in
+    let some : Some x ≡ Some y = ap (λ (z : ℕ × Option T). z.1) both in (ap (λ (z : ℕ × Option T). z.0) both, cc)

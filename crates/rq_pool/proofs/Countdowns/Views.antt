@@ -1,15 +1,11 @@
 -- What a step of one pass does to the facts about all passes.
-use Rattle.std.proofs.Common.{◌≡◌, ◌≢◌, ℕ, ◌<◌, List, length, set, sym, ap, ◌∙◌, subst, ⊎_elim, arith}
-use mathlib.Core.Option.{some, some-injective}
-use mathlib.Core.Logic.{dite}
-use native.Mathlib.Decide.{ℕ_discrete}
-use lib.ListN.{get_elem?}
-use Rattle.atomic_table.proofs.Lists.{at_set, set_here, set_else}
-use Rattle.rq_pool.specs.declared.countdown.view.Made.{Made}
-use Rattle.rq_pool.specs.declared.countdown.view.View.{View}
-use Rattle.rq_pool.specs.Countdowns.Phases.{total, Phase, flag}
-use Rattle.rq_pool.specs.Countdowns.Rule.{stands_at, made_for, HasMade, SomeView, AtSource, IsSet, Knows}
-use Rattle.rq_pool.proofs.Countdowns.Totals.{total_set, inside}
+use Rattle.std.proofs.Common.{◌≡◌, ◌≢◌, ℕ, ◌<◌, List, length, set, sym, ap, ◌∙◌, subst, ⊎_elim, arith, Option, ◌+◌, []}
+use Rattle.std.proofs.Common.{◌∷◌, inl, inr, ◌⊎◌}
+use Rattle.rq_pool.proofs.Countdowns.Words.{some, some-injective, dite, ℕ_discrete, get_elem?, at_set, set_here}
+use Rattle.rq_pool.proofs.Countdowns.Words.{set_else, Made, View, total, Phase, flag, stands_at, made_for, HasMade}
+use Rattle.rq_pool.proofs.Countdowns.Words.{SomeView, AtSource, IsSet, Knows, times_told, count_told, lasts, after}
+use Rattle.rq_pool.proofs.Countdowns.Words.{made_of, HasLast, IsOpen, IsShut, is_away, is_done, outbox_of}
+use Rattle.rq_pool.proofs.Countdowns.Totals.{total_set, inside, total_append}
 
 module _ {T : Type 0} where
   pub set_still : (ps : List (Phase T)) (i : ℕ) (q : Phase T) → i < length ps → flag q ≡ 1 → (j : ℕ) → IsSet ps j
@@ -41,6 +37,15 @@ module _ {T K : Type 0} where
     holding = λ x e. let had = h.holding x e in (had.0, some_set (HasMade i x) views id v w at (grows x) had.1);
   }
 
+  -- a source in a phase that shows the same
+  pub same_source : (fit : ℕ → T → Type 0) (views : List (View T K)) (i : ℕ) (p q : Phase T) → is_away p ≡ is_away q
+      → is_done p ≡ is_done q → outbox_of p ≡ outbox_of q → AtSource fit views i p → AtSource fit views i q
+  same_source fit views i p q a b c h = record {
+    standing = h.standing ∙ a;
+    done = h.done ∙ b;
+    holding = λ x e. h.holding x (c ∙ e);
+  }
+
   pub passes_set : (key : K) (ps ps' : List (Phase T)) (views : List (View T K)) (id : ℕ) (w : View T K)
       → ((j : ℕ) → IsSet ps j → IsSet ps' j) → Knows key ps' w
       → ((j : ℕ) (u : View T K) → get_elem? views j ≡ some u → Knows key ps u) → (j : ℕ) (u : View T K)
@@ -50,3 +55,22 @@ module _ {T K : Type 0} where
       (λ (t : (j ≢ id) × (get_elem? views j ≡ some u)). let old = each j u t.1 in
       record { same_key = old.same_key; idle = old.idle; set_before = λ k i at. still i (old.set_before k i at) })
       (at_set views id j w u e)
+
+-- a step that nobody is told Last at
+pub told_still : {T K : Type 0} (views views' : List (View T K)) (ps : List (Phase T))
+    → total lasts views' ≡ total lasts views
+    → ((ys : List T) → SomeView (HasLast ys) views → SomeView (HasLast ys) views')
+    → (IsOpen views ps ⊎ IsShut views ps) → (IsOpen views' ps ⊎ IsShut views' ps)
+told_still views views' ps same grows (inl o) =
+    inl record { waiting = o.waiting; nobody = same ∙ o.nobody; none_shut = o.none_shut }
+told_still views views' ps same grows (inr o) = inr record {
+  outboxes = o.outboxes;
+  all_shut = o.all_shut;
+  one = same ∙ o.one;
+  has_it = grows o.outboxes o.has_it;
+}
+
+-- an arrival that was told Last is one more
+pub lasts_after : {T K : Type 0} (v : View T K) (i : ℕ) (x : T) (ys : Option (List T))
+    → lasts (after v i x ys) ≡ lasts v + count_told ys
+lasts_after v i x ys = let q = total_append times_told v.made (made_of i x ys ∷ []) in omega arith

@@ -1,15 +1,10 @@
 -- What one arrival is answered, and what a pass remembers of its arrivals.
-use Rattle.std.specs.Prelude.{◌≡◌, ℕ, List, [], ◌∷◌, ◌++◌, length}
+use Rattle.std.specs.Prelude.{◌≡◌, ℕ, List, [], ◌∷◌, length, flat_map}
 use mathlib.Core.Option.{some}
 use lib.ListN.{get_elem?}
 use Rattle.rq_pool.specs.declared.countdown.arrival.Entry.{Entry}
 use Rattle.rq_pool.specs.declared.countdown.arrival.Arrival.{Arrival}
 use Rattle.rq_pool.specs.declared.countdown.arrival.Arrival.TheVariants.{Twice, NotLast, Last}
-
--- the lists f of each, one after the other
-abbrev pub flat_map : {A B : Type 0} → (A → List B) → List A → List B
-flat_map f [] = []
-flat_map f (x ∷ xs) = f x ++ flat_map f xs
 
 module _ {T : Type 0} where
   -- each outbox fits the source at its index

@@ -1,11 +1,11 @@
 -- What the view of a pass has of the arrivals that the pass remembers.
-use Rattle.std.specs.Prelude.{ℕ, List, [], ◌∷◌, ◌++◌, Some, None}
+use Rattle.std.specs.Prelude.{ℕ, List, [], ◌∷◌, Some, None, flat_map}
 use Rattle.rq_pool.specs.declared.countdown.view.Made.{Made}
 use Rattle.rq_pool.specs.declared.countdown.view.View.{View}
 use Rattle.rq_pool.specs.declared.countdown.arrival.Entry.{Entry}
 use Rattle.rq_pool.specs.declared.countdown.arrival.Arrival.{Arrival}
 use Rattle.rq_pool.specs.declared.countdown.arrival.Arrival.TheVariants.{Twice, NotLast, Last}
-use Rattle.rq_pool.specs.Countdowns.History.{flat_map, if_twice}
+use Rattle.rq_pool.specs.Countdowns.History.{if_twice}
 use Rattle.rq_pool.specs.Countdowns.Rule.{made_of}
 
 module _ {T : Type 0} where
@@ -26,10 +26,8 @@ module _ {T : Type 0} where
 module _ {T K : Type 0} where
   -- what the passes made, in their order
   abbrev pub all_made : List (View T K) → List (Made T)
-  all_made [] = []
-  all_made (v ∷ vs) = v.made ++ all_made vs
+  all_made = flat_map (λ v. v.made)
 
   -- the sources for which they were answered Twice
   abbrev pub all_refused : List (View T K) → List ℕ
-  all_refused [] = []
-  all_refused (v ∷ vs) = v.refused ++ all_refused vs
+  all_refused = flat_map (λ v. v.refused)

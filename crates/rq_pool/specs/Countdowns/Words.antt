@@ -1,11 +1,9 @@
 -- What a clause says of a countdown, of its passes and of its close.
-use Rattle.std.specs.Prelude.{◌≡◌, ℕ, ◌<◌, List, [], length, All, Option, Some, None}
-use Rattle.std.specs.Prelude.{slice_index_or}
+use Rattle.std.specs.Prelude.{◌≡◌, ℕ, ◌<◌, List, [], length, All, Option, Some, None, slice_index_or, flat_map}
 use Rattle.rq_pool.specs.declared.countdown.fits.Fits.{Ghosts}
 use Rattle.rq_pool.specs.declared.countdown.arrival.Entry.{Entry}
 use Rattle.rq_pool.specs.declared.countdown.pass.Pass.{Pass}
 use Rattle.rq_pool.specs.declared.countdown.Countdown.{Countdown}
-use Rattle.rq_pool.specs.Countdowns.History.{flat_map}
 use Rattle.rq_pool.specs.Countdowns.Arrivals.{last_lists}
 
 module _ {T K : Type 0} where

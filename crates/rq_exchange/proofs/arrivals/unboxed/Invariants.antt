@@ -1,6 +1,5 @@
 use Rattle.std.proofs.Common.{◌≡◌, map, Vec, Global}
-use Rattle.rq_model.specs.Queues.{Move}
-use Rattle.rq_exchange.specs.declared.outboxes.Outbox.{Outbox}
+use Rattle.rq_exchange.proofs.Words.{Move, Outbox}
 use Rattle.rq_exchange.proofs.arrivals.unboxed.Given as goal
 
 abbrev pub invariant-loop-one : goal.invariant-loop-one

@@ -1,7 +1,5 @@
 use Rattle.std.proofs.Common.{◌≡◌, ◌<◌, All, map, length}
-use Rattle.rq_model.specs.States.{State}
-use Rattle.rq_pool.specs.Ledger.{times}
-use Rattle.rq_exchange.specs.Boards.{IsPart, Places, queue_of}
+use Rattle.rq_exchange.proofs.Words.{State, times, IsPart, Places, queue_of}
 use Rattle.rq_exchange.proofs.board.place.Given as goal
 
 abbrev pub invariant-loop-one : goal.invariant-loop-one

@@ -1,7 +1,5 @@
 use Rattle.std.proofs.Common.{◌≡◌, ◌<◌, ℕ, All, map, length}
-use Rattle.rq_model.specs.States.{State}
-use Rattle.rq_pool.specs.Ledger.{times_in}
-use Rattle.rq_exchange.specs.Boards.{IsPart, HasPart, queue_of}
+use Rattle.rq_exchange.proofs.Words.{State, times_in, IsPart, HasPart, queue_of}
 use Rattle.rq_exchange.proofs.board.placed.Given as goal
 
 abbrev pub invariant-loop-done : goal.invariant-loop-done

@@ -1,5 +1,5 @@
 use Rattle.std.proofs.Common.{inl, inr}
-use Rattle.rq_model.specs.Queues.{part_of}
+use Rattle.rq_exchange.proofs.Words.{part_of}
 use Rattle.rq_exchange.proofs.Boards.{set_part}
 use Rattle.rq_exchange.proofs.board.put.Goals as goal
 

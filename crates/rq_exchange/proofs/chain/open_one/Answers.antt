@@ -1,5 +1,5 @@
 use Rattle.std.proofs.Common.{◌<◌, length, ap, ◌∙◌, arith, rules, inr}
-use Rattle.rq_exchange.specs.declared.outboxes.Target.{Target}
+use Rattle.rq_exchange.proofs.Words.{Target}
 use Rattle.rq_exchange.proofs.Sources.{sources_few}
 use Rattle.rq_exchange.proofs.chain.open_one.Goals as goal
 

@@ -1,11 +1,5 @@
-use Rattle.std.proofs.Common.{◌≡◌, ◌<◌, [], length, map, ap, sym, ◌∙◌, subst, Vec, Global}
-use Rattle.std.specs.Prelude.{slice_index_or}
-use Rattle.rq_pool.specs.Countdowns.Closings.{histories_of}
-use Rattle.rq_exchange.specs.declared.outboxes.Redone.{Redone}
-use Rattle.rq_exchange.specs.Boards.{queue_of}
-use Rattle.rq_exchange.specs.Links.{at}
-use Rattle.rq_exchange.proofs.Placing.{queues_are}
-use Rattle.rq_exchange.specs.declared.crew.WorkDone.{WorkDone}
+use Rattle.std.proofs.Common.{[], map, ap, ◌∙◌, Vec, Global, slice_index_or}
+use Rattle.rq_exchange.proofs.Words.{histories_of, Redone, queue_of, at, WorkDone, map-map}
 use Rattle.rq_exchange.proofs.Settles.{rows_long, columns_own, columns_tell, columns_show}
 use Rattle.rq_exchange.proofs.closings.close_countdowns.Goals as goal
 
@@ -13,37 +7,33 @@ pub columns-requires : goal.columns-requires
 columns-requires c = rows_long (λ (k : WorkDone). k.passes) c.args.chain c.args.kept.items c.requires.kept
     c.in_ok-rows.rows.items c.in_ok-rows.ensures.passes c.len.result (c.len.ensures ∙ c.args.chain.countdowns.ok.0)
 
-pub close_all-requires-clause-own : goal.close_all-requires-clause-own
-close_all-requires-clause-own c =
-    let count : c.len.result ≡ length c.args.chain.countdowns.items = c.len.ensures ∙ c.args.chain.countdowns.ok.0 in
-    columns_own (λ (k : WorkDone). k.passes) c.args.chain c.args.kept.items c.requires.kept c.requires.passes
-    c.requires.some c.in_ok-rows.rows.items c.in_ok-columns.columns.items c.in_ok-rows.ensures.passes
-    (λ k d lt. c.in_ok-columns.ensures.long k d (subst (λ n. k < n) (sym count) lt))
-    (λ k d x lt. c.in_ok-columns.ensures.columns k d x (subst (λ n. k < n) (sym count) lt))
+pub close_all-requires : goal.close_all-requires
+close_all-requires c = record {
+  own = columns_own (λ (k : WorkDone). k.passes) c.args.chain c.args.kept.items c.requires.kept c.requires.passes
+      c.requires.some c.in_ok-rows.rows.items c.in_ok-columns.columns.items c.len.result c.in_ok-rows.ensures.passes
+      (c.len.ensures ∙ c.args.chain.countdowns.ok.0) c.in_ok-columns.ensures.columns;
+}
 
 pub returns-clause-settled : goal.returns-clause-settled
-returns-clause-settled c =
-    let count : c.len.result ≡ length c.args.chain.countdowns.items = c.len.ensures ∙ c.args.chain.countdowns.ok.0 in
-    columns_tell (λ (k : WorkDone). k.passes) c.args.chain c.args.kept.items c.requires.kept c.requires.passes
-    c.requires.some c.in_ok-rows.rows.items c.in_ok-columns.columns.items c.in_ok-rows.ensures.passes
-    (λ k d lt. c.in_ok-columns.ensures.long k d (subst (λ n. k < n) (sym count) lt))
-    (λ k d x lt. c.in_ok-columns.ensures.columns k d x (subst (λ n. k < n) (sym count) lt))
-    c.in_ok-closings.ensures.settled (c.in_ok-columns.ensures.len ∙ count)
+returns-clause-settled c = columns_tell (λ (k : WorkDone). k.passes) c.args.chain c.args.kept.items c.requires.kept
+    c.requires.passes c.requires.some c.in_ok-rows.rows.items c.in_ok-columns.columns.items c.len.result
+    c.in_ok-rows.ensures.passes (c.len.ensures ∙ c.args.chain.countdowns.ok.0) c.in_ok-columns.ensures.columns
+    c.in_ok-closings.ensures.settled
 
 pub returns-clause-course : goal.returns-clause-course
 returns-clause-course c =
-    let count : c.len.result ≡ length c.args.chain.countdowns.items = c.len.ensures ∙ c.args.chain.countdowns.ok.0 in
     let course = c.of-course.ensures in
     record {
-      redone = course.redone ∙ ap (map (λ (done : Vec Redone Global). map queue_of done.items))
-          c.in_ok-rows.ensures.done ∙ queues_are c.args.kept.items;
+      redone = course.redone
+          ∙ ap (map (λ (done : Vec Redone Global). map queue_of done.items)) c.in_ok-rows.ensures.done
+          ∙ map-map (λ (done : Vec Redone Global). map queue_of done.items)
+          (λ (k : WorkDone). k.done) c.args.kept.items;
       told = λ x there.
           (λ i. slice_index_or (map (λ one. histories_of one) (course.closings i).items)
           (at (course.slots i).items x) [])
           ∙ ap (λ ls. slice_index_or ls (at c.args.chain.slots.items x) []) c.in_ok-closings.ensures.histories
           ∙ columns_show (λ (k : WorkDone). k.passes) c.args.chain c.args.kept.items c.requires.kept c.requires.passes
-          c.requires.some c.in_ok-rows.rows.items c.in_ok-columns.columns.items c.in_ok-rows.ensures.passes
-          (λ k d lt. c.in_ok-columns.ensures.long k d (subst (λ n. k < n) (sym count) lt))
-          (λ k d x lt. c.in_ok-columns.ensures.columns k d x (subst (λ n. k < n) (sym count) lt))
-          (c.in_ok-columns.ensures.len ∙ count) (at c.args.chain.slots.items x) there;
+          c.requires.some c.in_ok-rows.rows.items c.in_ok-columns.columns.items c.len.result c.in_ok-rows.ensures.passes
+          (c.len.ensures ∙ c.args.chain.countdowns.ok.0) c.in_ok-columns.ensures.columns
+          (at c.args.chain.slots.items x) there;
     }

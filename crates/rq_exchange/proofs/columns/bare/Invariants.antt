@@ -1,5 +1,5 @@
 use Rattle.std.proofs.Common.{◌≡◌, ◌≤◌, ◌-◌, ℕ, [], length}
-use Rattle.rq_state.specs.Orders.{listed}
+use Rattle.rq_exchange.proofs.Words.{listed}
 use Rattle.rq_exchange.proofs.columns.bare.Given as goal
 
 abbrev pub invariant-loop-alloc : goal.invariant-loop-alloc

@@ -1,8 +1,5 @@
 use Rattle.std.proofs.Common.{All, length}
-use Rattle.rq_pool.specs.declared.room.Room.{Room}
-use Rattle.rq_exchange.specs.declared.chain.CountdownChain.{CountdownChain}
-use Rattle.rq_exchange.specs.declared.jobs.Job.{Job}
-use Rattle.rq_exchange.specs.Workers.{Works, AreHandedBack}
+use Rattle.rq_exchange.proofs.Words.{Room, CountdownChain, Job, Works, AreHandedBack}
 use Rattle.rq_exchange.proofs.crew.handed_back.Given as goal
 
 abbrev pub invariant-loop-one : goal.invariant-loop-one

@@ -1,5 +1,4 @@
-use Rattle.std.proofs.Common.{◌<◌, ◌%◌, length, rules, get_or, refl}
-use Rattle.std.specs.Prelude.{vec_items}
+use Rattle.std.proofs.Common.{◌<◌, ◌%◌, length, rules, get_or, refl, vec_items}
 use Rattle.rq_exchange.proofs.Counting.{deal_more, size_more}
 use Rattle.rq_exchange.proofs.deals.deal.Goals as goal
 

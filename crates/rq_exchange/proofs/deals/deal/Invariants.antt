@@ -1,6 +1,5 @@
-use Rattle.std.proofs.Common.{◌≡◌, ℕ, map, take, vec_len}
-use Rattle.std.specs.Prelude.{vec_items}
-use Rattle.rq_pool.specs.Ledger.{times, times_in, size}
+use Rattle.std.proofs.Common.{◌≡◌, ℕ, map, take, vec_len, vec_items}
+use Rattle.rq_exchange.proofs.Words.{times, times_in, size}
 use Rattle.rq_exchange.proofs.deals.deal.Given as goal
 
 abbrev pub invariant-loop-i : goal.invariant-loop-i

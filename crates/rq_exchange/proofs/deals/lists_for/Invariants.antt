@@ -1,6 +1,5 @@
-use Rattle.std.proofs.Common.{◌≡◌, ℕ, map, vec_len}
-use Rattle.std.specs.Prelude.{vec_items}
-use Rattle.rq_pool.specs.Ledger.{times_in, size}
+use Rattle.std.proofs.Common.{◌≡◌, ℕ, map, vec_len, vec_items}
+use Rattle.rq_exchange.proofs.Words.{times_in, size}
 use Rattle.rq_exchange.proofs.deals.lists_for.Given as goal
 
 abbrev pub invariant-loop : goal.invariant-loop

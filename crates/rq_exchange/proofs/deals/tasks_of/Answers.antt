@@ -1,7 +1,6 @@
 use Rattle.std.proofs.Common.{◌≡◌, ◌<◌, ℕ, length, ap, sym, ◌∙◌, arith, rules, Vec, Global}
-use Rattle.rq_state.specs.Orders.{listed}
-use Rattle.rq_state.proofs.Listings.{listed_at}
-use Rattle.rq_exchange.proofs.Tasks.{none_bare, bare_stays, bare_more, nothing_in}
+use Rattle.rq_exchange.proofs.Words.{listed, listed_at, nil_from_length}
+use Rattle.rq_exchange.proofs.Tasks.{none_bare, bare_stays, bare_more}
 use Rattle.rq_exchange.proofs.deals.tasks_of.Goals as goal
 
 pub loop-queue-init : goal.loop-queue-init
@@ -27,4 +26,4 @@ loop-queue-preserved c =
     ∙ listed_at c.args.sources.now c.loop-queue.queue v lt in
     let none : length v.items ≡ 0 = search rules in
     bare_more c.args.sources.now c.loop-queue.queue c.loop-queue.tasks.items c.loop-queue.invariant
-    c.push.new.self.items (sym here ∙ nothing_in v.items none) c.in_ok-push.ensures.items
+    c.push.new.self.items (sym here ∙ nil_from_length v.items none) c.in_ok-push.ensures.items

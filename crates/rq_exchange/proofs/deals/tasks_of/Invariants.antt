@@ -1,4 +1,4 @@
-use Rattle.rq_exchange.specs.Tasks.{AreBare}
+use Rattle.rq_exchange.proofs.Words.{AreBare}
 use Rattle.rq_exchange.proofs.deals.tasks_of.Given as goal
 
 abbrev pub invariant-loop-queue : goal.invariant-loop-queue

@@ -1,10 +1,5 @@
 use Rattle.std.proofs.Common.{◌≡◌, List, length, map, ap, ◌∙◌, arith}
-use Rattle.std.proofs.lemmas.List.{length-map}
-use Rattle.rq_model.specs.Records.{Two, Record}
-use Rattle.rq_model.specs.Machine.{run, lawful_front}
-use Rattle.rq_model.specs.Laws.{AreAfter}
-use Rattle.rq_record.specs.Views.{record_of}
-use Rattle.rq_catalog.proofs.Runs.{front_whole}
+use Rattle.rq_exchange.proofs.Words.{length-map, Two, Record, run, lawful_front, AreAfter, record_of, front_whole}
 use Rattle.rq_exchange.proofs.gathered.fields_after.Goals as goal
 
 pub returns-clause-fields : goal.returns-clause-fields
@@ -17,7 +12,8 @@ returns-clause-fields c =
     let many : length rs ≡ length c.args.records.now = length-map c.args.records.now record_of in
     record {
       next = omega (arith, c.next.ensures.next, after.next, many);
-      greatest = c.greatest.ensures ∙ c.requires.analysis.catalogue.knows.greatest ∙ ap (λ xs. (run s xs).greatest) front;
+      greatest = c.greatest.ensures ∙ c.requires.analysis.catalogue.knows.greatest
+          ∙ ap (λ xs. (run s xs).greatest) front;
       committed = c.committed.ensures ∙ c.requires.analysis.committed ∙ ap (λ xs. (run s xs).committed) front;
       aborted = c.aborted.ensures ∙ c.requires.analysis.aborted ∙ ap (λ xs. (run s xs).aborted) front;
       definitions = c.in_ok-copies_of.ensures.copies ∙ c.definitions.ensures

@@ -1,5 +1,5 @@
 use Rattle.std.proofs.Common.{◌<◌, length, get_or, arith, sym, ◌∙◌, subst, rules}
-use Rattle.rq_state.specs.Orders.{listed}
+use Rattle.rq_exchange.proofs.Words.{listed}
 use Rattle.rq_exchange.proofs.Ranks.{list_few, listed_more, ranks_more}
 use Rattle.rq_exchange.proofs.links.sources_of.Goals as goal
 

@@ -1,7 +1,5 @@
-use Rattle.std.proofs.Common.{◌≡◌, ◌<◌, ℕ, length, ◌++◌, drop}
-use Rattle.std.specs.Prelude.{◌==◌}
-use Rattle.rq_state.specs.Orders.{listed, indices_of}
-use Rattle.rq_exchange.specs.Links.{naming, AreRanks}
+use Rattle.std.proofs.Common.{◌≡◌, ◌<◌, ℕ, length, ◌++◌, drop, ◌==◌}
+use Rattle.rq_exchange.proofs.Words.{listed, indices_of, naming, AreRanks}
 use Rattle.rq_exchange.proofs.links.sources_of.Given as goal
 
 abbrev pub invariant-loop-queue : goal.invariant-loop-queue

@@ -1,9 +1,5 @@
 use Rattle.std.proofs.Common.{ℕ, List, length, sym, ◌∙◌, subst, arith}
-use Rattle.rq_model.specs.Machine.{run}
-use Rattle.rq_exchange.specs.Chains.{HasPasses}
-use Rattle.rq_exchange.specs.Jobs.{records_of}
-use Rattle.rq_exchange.specs.Tasks.{AreBare}
-use Rattle.rq_exchange.specs.Workers.{HaveKept}
+use Rattle.rq_exchange.proofs.Words.{run, HasPasses, records_of, AreBare, HaveKept}
 use Rattle.rq_exchange.proofs.Courses.{starts_by_last}
 use Rattle.rq_exchange.proofs.Placing.{all_within, all_parts, all_there}
 use Rattle.rq_exchange.proofs.Working.{each_keeps}
@@ -22,7 +18,7 @@ pub close_countdowns-requires-clause-kept : goal.close_countdowns-requires-claus
 close_countdowns-requires-clause-kept g c = λ i d lt.
     let kept : HaveKept c.args.job.now c.in_ok-chain.chain c.deref.result.now c.in_ok-kept.kept.items =
     c.in_ok-kept.ensures.kept in
-    (each_keeps c.args.job.now c.in_ok-chain.chain kept.starts c.in_ok-kept.kept.items kept.keep i d lt).1.passes
+    (each_keeps c.args.job.now c.in_ok-chain.chain kept.starts c.in_ok-kept.kept.items kept.keep i d lt).passes
 
 pub placed-requires : goal.placed-requires
 placed-requires g c =

@@ -1,10 +1,6 @@
-use Rattle.std.proofs.Common.{rules, ◌≡◌, ◌≤◌, ◌++◌, ◌∷◌, [], length, ap, sym, ◌∙◌, append-nil, arith, refl}
-use Rattle.std.proofs.lemmas.List.{map-append}
-use Rattle.rq_exchange.specs.declared.outboxes.Redone.{Redone}
-use Rattle.rq_exchange.specs.Chains.{web_of, redone_in, diaries_of}
-use Rattle.rq_exchange.specs.Jobs.{errors_in}
-use Rattle.rq_exchange.specs.Links.{at}
-use Rattle.rq_exchange.proofs.Steps.{ends, moved}
+use Rattle.std.proofs.Common.{rules, ◌≡◌, ◌≤◌, ◌++◌, ◌∷◌, [], length, ap, ◌∙◌, append-nil, arith}
+use Rattle.rq_exchange.proofs.Words.{map-append, Redone, web_of, redone_in, errors_in, at}
+use Rattle.rq_exchange.proofs.Steps.{ends}
 use Rattle.rq_exchange.proofs.thread_work.step.Goals as goal
 use Rattle.rq_exchange.proofs.thread_work.step.Goals.{In_ok-push}
 
@@ -16,34 +12,16 @@ one_more g c = ap redone_in c.in_ok-push.ensures.items
 
 pub returns-then-error-job-clause-tells : goal.returns-then-error-job-clause-tells
 returns-then-error-job-clause-tells g c = λ starts t.
-    let more = one_more g (goal.at.returns-then-error-job-clause-tells g c).In_ok-push in
     let none : length c.args.job.now.definitions.now ≤ c.error_of-error.result = search rules in
     let past : length c.args.job.now.definitions.now ≤ at (errors_in c.args.job.now) c.args.queue =
     omega (arith, none, c.error_of-error.ensures) in
-    let after = redone_in c.push.new.self.items in
-    let w = web_of c.args.job.now c.args.chain.now in
-    let begun = redone_in c.args.done.now.items ++ c.args.queue ∷ [] in
-    moved w starts begun (after ++ []) after after (diaries_of c.args.passes.now)
-    (sym more ∙ sym (append-nil after)) refl
-    (ends w c.requires.chain.web c.args.queue past starts begun (redone_in c.args.done.now.items) after
-    (diaries_of c.args.passes.now) t more)
+    rw (one_more g (goal.at.returns-then-error-job-clause-tells g c).In_ok-push, append-nil)
+    (ends (web_of c.args.job.now c.args.chain.now) c.requires.chain.web c.args.queue past starts _ _ _ t)
 
 pub returns-in-Some-clause-tells : goal.returns-in-Some-clause-tells
 returns-in-Some-clause-tells g c = λ starts t.
-    let more = one_more g (goal.at.returns-in-Some-clause-tells g c).In_ok-push in
-    let after = redone_in c.push.new.self.items in
-    let w = web_of c.args.job.now c.args.chain.now in
-    let begun = redone_in c.args.done.now.items ++ c.args.queue ∷ [] in
-    moved w starts (begun ++ c.error_of-error.result ∷ []) (after ++ c.error_of-error.result ∷ []) begun after
-    (diaries_of c.hand_on.new.passes) (ap (λ xs. xs ++ c.error_of-error.result ∷ []) (sym more)) (sym more)
-    (c.in-Some.ensures.tells starts begun (redone_in c.args.done.now.items) t)
+    rw (one_more g (goal.at.returns-in-Some-clause-tells g c).In_ok-push) (c.in-Some.ensures.tells starts _ _ t)
 
 pub returns-in-None-clause-tells : goal.returns-in-None-clause-tells
 returns-in-None-clause-tells g c = λ starts t.
-    let more = one_more g (goal.at.returns-in-None-clause-tells g c).In_ok-push in
-    let after = redone_in c.push.new.self.items in
-    let w = web_of c.args.job.now c.args.chain.now in
-    let begun = redone_in c.args.done.now.items ++ c.args.queue ∷ [] in
-    moved w starts (begun ++ []) (after ++ []) begun after (diaries_of c.hand_on.new.passes)
-    (ap (λ xs. xs ++ []) (sym more)) (sym more)
-    (c.in-None.ensures.tells starts begun (redone_in c.args.done.now.items) t)
+    rw (one_more g (goal.at.returns-in-None-clause-tells g c).In_ok-push) (c.in-None.ensures.tells starts _ _ t)

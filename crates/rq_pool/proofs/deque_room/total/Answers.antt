@@ -1,6 +1,5 @@
 use Rattle.std.proofs.Common.{◌<◌, length, sum_by, vec_items, ap, sym, ◌∙◌, arith}
-use Rattle.std.proofs.lemmas.List.{take_all}
-use Rattle.std.proofs.lemmas.List.Sums.{sum_by_more_le}
+use Rattle.rq_pool.proofs.Words.{take_all, sum_by_more_le}
 use Rattle.rq_pool.proofs.Lists.{sum_by-map}
 use Rattle.rq_pool.proofs.deque_room.total.Goals as goal
 

@@ -1,6 +1,5 @@
 use Rattle.std.proofs.Common.{◌∷◌, [], ◌++◌, length, ap, arith}
-use Rattle.crossbeam_deque.specs.Handles.{worker_view}
-use Rattle.std.proofs.lemmas.List.{length-append}
+use Rattle.rq_pool.proofs.Words.{worker_view, length-append}
 use Rattle.rq_pool.proofs.Rules.{length_sum}
 use Rattle.rq_pool.proofs.settle.drained.Goals as goal
 

@@ -13,7 +13,7 @@ use Plain::{
     Abort, Begin, Checkpoint, Commit, Define, Dequeue, Deregister, Enqueue, Kill, Register,
 };
 use rq_catalog::Outcome;
-use rq_pool::Plan;
+use rq_plan::Plan;
 use rq_queue::{Move, Op, Part, redo};
 use rq_record::{
     ElemId, Fault, Name, Payload, QueueNo, Record, UnitNo, Version, decode, decode_in, encode,

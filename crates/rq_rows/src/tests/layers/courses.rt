@@ -15,7 +15,7 @@ use super::plain::{NO_QUEUE, Plain, records_of};
 use Plain::{Abort, Begin, Commit, Define, Dequeue, Enqueue};
 use rq_catalog::{analyse_in, analyse_kept};
 use rq_exchange::{Course, replay, replay_traced};
-use rq_pool::{Gate, Open, Plan};
+use rq_plan::{Gate, Open, Plan};
 use rq_record::{Fault, KeptRecord, Record, Version, kept_records};
 use rq_state::State;
 use std::alloc::Global;

@@ -11,7 +11,7 @@ use Plain::{
     Abort, Begin, Checkpoint, Commit, Define, Dequeue, Deregister, Enqueue, Kill, Register,
 };
 use rq_catalog::Rule;
-use rq_pool::Plan;
+use rq_plan::Plan;
 use rq_record::{ElemId, Fault, KeptRecord, Record, Version};
 use rq_standing::{Standing, Taken};
 use rq_state::{State, spell};

@@ -1,8 +1,8 @@
 use Rattle.std.proofs.Common.{◌≡◌, ◌<◌, length, subst, arith, rules}
-use Rattle.rq_exchange.specs.declared.chain.CountdownChain.{CountdownChain}
-use Rattle.rq_exchange.specs.Openings.{AreOpened}
+use Rattle.rq_exchange.proofs.Words.{CountdownChain, AreOpened, IsFreshColumn}
 use Rattle.rq_exchange.proofs.Openings.{some_of, none_opened, opened_more, has_passes, rows_are}
 use Rattle.rq_exchange.proofs.Webs.{is_chain}
+use Rattle.rq_exchange.proofs.Pairs.{pairs_at, pairs_long}
 use Rattle.rq_exchange.proofs.chain.CountdownChain.open.Goals as goal
 
 pub loop-queue-init : goal.loop-queue-init
@@ -18,8 +18,15 @@ loop-queue-preserved c = opened_more c.args.job.now c.args.workers c.loop-queue.
 pub columns-requires : goal.columns-requires
 columns-requires c = λ k d lt.
     let o = c.loop-queue.invariant in
-    let near : k < length c.loop-queue.countdowns.items = omega (arith, lt, o.each) in
-    (o.fresh k (some_of c.loop-queue.countdowns.items k near) d near).count
+    let near : k < length c.loop-queue.countdowns.items =
+    omega (
+      arith,
+      lt,
+      pairs_long (IsFreshColumn c.args.workers) c.loop-queue.countdowns.items c.loop-queue.all.items
+          o.fresh,
+    ) in
+    (pairs_at (IsFreshColumn c.args.workers) c.loop-queue.countdowns.items c.loop-queue.all.items o.fresh k
+    (some_of c.loop-queue.countdowns.items k near) d near).count
 
 pub returns-clause-chain : goal.returns-clause-chain
 returns-clause-chain c =

@@ -1,4 +1,4 @@
-use Rattle.rq_exchange.specs.Openings.{AreOpened}
+use Rattle.rq_exchange.proofs.Words.{AreOpened}
 use Rattle.rq_exchange.proofs.chain.CountdownChain.open.Given as goal
 
 abbrev pub invariant-loop-queue : goal.invariant-loop-queue

@@ -1,15 +1,10 @@
-use Rattle.std.proofs.Common.{◌≡◌, length, map, sym, ap, ◌∙◌, ◌++◌, subst, Vec, Global, IsPermutation}
-use Rattle.rq_model.specs.States.{State, Definition, id_before, registrant_before}
-use Rattle.rq_model.specs.WellFormed.{IsWellFormed}
-use Rattle.rq_model.specs.Queues.{Part, part_of}
-use Rattle.rq_model.specs.Laws.{gathered}
+use Rattle.std.proofs.Common.{◌≡◌, length, map, sym, ap, ◌∙◌, subst, Vec, Global}
+use Rattle.rq_exchange.proofs.Words.{State, Definition, id_before, registrant_before, IsWellFormed, Part, part_of}
+use Rattle.rq_exchange.proofs.Words.{gathered, state_in_order, place_before, IsRedoneTo, members, is_same}
 use Rattle.rq_record.specs.declared.record.UnitNo.{UnitNo}
 use Rattle.rq_state.specs.Views.{unit_of}
 use Rattle.rq_state.specs.Inside.{state_of}
 use Rattle.rq_state.specs.Laws.{HasSame}
-use Rattle.rq_state.specs.Orders.{state_in_order, place_before}
-use Rattle.rq_exchange.specs.Gathering.{IsRedoneTo}
-use Rattle.rq_queue.proofs.Gathered.{members, is_same}
 use Rattle.rq_exchange.proofs.gathered.AllRedone.gather.Goals as goal
 use Rattle.rq_exchange.proofs.gathered.AllRedone.gather.Goals.{In_ok-fields}
 
@@ -27,19 +22,15 @@ same c t all =
       units = is_same t.units (map unit_of c.in_ok-fields.fields.units.items)
           (ap (λ (v : Vec UnitNo Global). map unit_of v.items) poured.units ∙ all.fields.units);
       registrants = members registrant_before t.registrants
-          (gathered (λ (p : Part). p.registrants) (part_of t) (length t.definitions)) before.registrants.items
-          c.in_ok-fields.fields.registrants.items (ap (λ (s : State). s.registrants) whole) all.fields.registrants
-          (subst (λ m. IsPermutation (before.registrants.items ++ gathered (λ (p : Part). p.registrants) (part_of t) m)
-          c.in_ok-fields.fields.registrants.items) all.every poured.registrants);
+          (gathered (λ (p : Part). p.registrants) (part_of t) (length t.definitions))
+          before.registrants.items c.in_ok-fields.fields.registrants.items (ap (λ (s : State). s.registrants) whole)
+          all.fields.registrants (rw all.every at poured.registrants);
       elements = members id_before t.elements (gathered (λ (p : Part). p.elements) (part_of t) (length t.definitions))
-          before.elements.items c.in_ok-fields.fields.elements.items
-          (ap (λ (s : State). s.elements) whole) all.fields.elements
-          (subst (λ m. IsPermutation (before.elements.items ++ gathered (λ (p : Part). p.elements) (part_of t) m)
-          c.in_ok-fields.fields.elements.items) all.every poured.elements);
+          before.elements.items c.in_ok-fields.fields.elements.items (ap (λ (s : State). s.elements) whole)
+          all.fields.elements (rw all.every at poured.elements);
       notes = members place_before t.notes (gathered (λ (p : Part). p.notes) (part_of t) (length t.definitions))
-          before.notes.items c.in_ok-fields.fields.notes.items (ap (λ (s : State). s.notes) whole) all.fields.notes
-          (subst (λ m. IsPermutation (before.notes.items ++ gathered (λ (p : Part). p.notes) (part_of t) m)
-          c.in_ok-fields.fields.notes.items) all.every poured.notes);
+          before.notes.items c.in_ok-fields.fields.notes.items (ap (λ (s : State). s.notes) whole)
+          all.fields.notes (rw all.every at poured.notes);
     }
 
 -- the fields, put in order, are the state that all is redone to

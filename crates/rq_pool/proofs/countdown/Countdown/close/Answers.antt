@@ -1,8 +1,6 @@
-use Rattle.std.proofs.Common.{arith, ap, sym, ◌∙◌, map}
-use Rattle.rq_pool.specs.Countdowns.Views.{all_made, all_refused}
+use Rattle.std.proofs.Common.{arith, ap, sym, ◌∙◌, map, flat_map}
+use Rattle.rq_pool.proofs.Countdowns.Words.{all_made, all_refused, slots_items}
 use Rattle.rq_pool.proofs.countdown.Countdown.close.Goals.{in-None, in-Some}
-use Rattle.std.specs.Slots.{slots_items}
-use Rattle.rq_pool.specs.Countdowns.History.{flat_map}
 use Rattle.rq_pool.proofs.Countdowns.Histories.{all_made_in, all_refused_in, all_back}
 use Rattle.rq_pool.proofs.Countdowns.Closes.{parts_long}
 use Rattle.rq_pool.proofs.Countdowns.Settling.{settles_by}

@@ -1,5 +1,5 @@
 use Rattle.std.proofs.Common.{◌≡◌, ◌+◌, ◌≤◌, [], All, length, vec_capacity, Some, None}
-use Rattle.rq_pool.specs.Countdowns.Rule.{view}
+use Rattle.rq_pool.proofs.Countdowns.Words.{view}
 use Rattle.rq_pool.proofs.countdown.deal.push_seats.Given as goal
 
 abbrev pub invariant-loop-room : goal.invariant-loop-room

@@ -1,5 +1,5 @@
 use Rattle.std.proofs.Common.{◌≡◌, take, vec_capacity}
-use Rattle.rq_pool.specs.Countdowns.Phases.{outboxes_in}
+use Rattle.rq_pool.proofs.Countdowns.Words.{outboxes_in}
 use Rattle.rq_pool.proofs.Countdowns.Gathers.{left}
 use Rattle.rq_pool.proofs.countdown.gather.collect_outboxes.Given as goal
 

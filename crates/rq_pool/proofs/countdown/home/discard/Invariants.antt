@@ -1,6 +1,5 @@
 use Rattle.std.proofs.Common.{◌≡◌, ℕ, ◌<◌, false, get_or}
-use Rattle.std.specs.Slots.{slots_filled, slots_len}
-use Rattle.std.specs.Slots.Ownership.{Filled}
+use Rattle.rq_pool.proofs.Countdowns.Words.{slots_filled, slots_len, Filled}
 use Rattle.rq_pool.proofs.countdown.home.discard.Given as goal
 
 abbrev pub invariant-loop-i : goal.invariant-loop-i

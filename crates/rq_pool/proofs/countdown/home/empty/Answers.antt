@@ -1,7 +1,5 @@
 use Rattle.std.proofs.Common.{arith, ap, sym, ◌∙◌, ◌+◌}
-use Rattle.std.proofs.lemmas.Grind.{common_steps}
-use lib.ListN.{get_elem?}
-use Rattle.std.specs.Slots.{slots_items}
+use Rattle.rq_pool.proofs.Countdowns.Words.{common_steps, get_elem?, slots_items}
 use Rattle.rq_pool.proofs.Countdowns.Endings.{next_home, one_more}
 use Rattle.rq_pool.proofs.countdown.home.empty.Goals as goal
 

@@ -1,7 +1,5 @@
 use Rattle.std.proofs.Common.{◌≡◌, ℕ, ◌<◌, ◌≤◌, false, get_or, take, length, vec_capacity}
-use Rattle.std.specs.Slots.{slots_items, slots_filled, slots_len}
-use Rattle.std.specs.Slots.Ownership.{Filled}
-use Rattle.rq_pool.specs.Countdowns.Phases.{somes}
+use Rattle.rq_pool.proofs.Countdowns.Words.{slots_items, slots_filled, slots_len, Filled, somes}
 use Rattle.rq_pool.proofs.countdown.home.empty.Given as goal
 
 abbrev pub invariant-loop-i : goal.invariant-loop-i

@@ -1,5 +1,5 @@
 use Rattle.std.proofs.Common.{◌≡◌, ℕ, ◌<◌, get_or}
-use Rattle.rq_pool.specs.Countdowns.Rule.{lasts}
+use Rattle.rq_pool.proofs.Countdowns.Words.{lasts}
 use Rattle.rq_pool.proofs.countdown.joined.find_last.Given as goal
 
 abbrev pub invariant-loop-i : goal.invariant-loop-i

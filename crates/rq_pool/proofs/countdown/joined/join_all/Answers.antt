@@ -1,15 +1,15 @@
-use Rattle.std.proofs.Common.{arith, ap, ◌∙◌, ◌≡◌, ◌+◌, ◌++◌, option_to_list}
-use Rattle.rq_pool.proofs.Countdowns.Closes.{all_front, all_end, begins, goes_on, ends}
+use Rattle.std.proofs.Common.{arith, ap, ◌∙◌, ◌≡◌, ◌+◌, ◌++◌, Some}
+use Rattle.rq_pool.proofs.Countdowns.Words.{All-pop}
+use Rattle.rq_pool.proofs.Countdowns.Closes.{begins, goes_on, ends}
 use Rattle.rq_pool.proofs.Countdowns.Joins.{joins}
 use Rattle.rq_pool.proofs.countdown.joined.join_all.Goals as goal
 
 pub loop-pass-init : goal.loop-pass-init
-loop-pass-init g c = let e = c.pop.ensures.items ∙ ap (λ o. c.pop.new.self.items ++ option_to_list o) c.in-Some.is in
-    let own = c.retire-seat.ensures in let m = ap (λ m. m.0) own.1 in
+loop-pass-init g c = let e = c.in-Some.ensures.items in let own = c.retire-seat.ensures in let m =
+    ap (λ m. m.0) own.1 in
     let b = begins (λ p. p.seat.me.0) c.args.passes.items c.pop.new.self.items c.in-Some.first c.retire-seat.result.me.0
     e m in (
-      all_front (λ p. p.seat.table_id ≡ c.args.board.now.table_id) c.args.passes.items c.pop.new.self.items
-          c.in-Some.first e c.requires.own.0,
+      (All-pop (λ p. p.seat.table_id ≡ c.args.board.now.table_id) _ _ (Some c.in-Some.first) e c.requires.own.0).0,
       own.0,
       ap (λ m. m.1) own.1,
       ap (λ v. v.at) m ∙ c.in-Some.first.rests.0,
@@ -18,12 +18,11 @@ loop-pass-init g c = let e = c.pop.ensures.items ∙ ap (λ o. c.pop.new.self.it
     )
 
 pub retire-other-requires : goal.retire-other-requires
-retire-other-requires g c = let e = c.pop-in-loop-pass.ensures.items
-    ∙ ap (λ o. c.pop-in-loop-pass.new.self.items ++ option_to_list o) c.in-Some-pop.is in (
-      all_end (λ p. p.seat.table_id ≡ c.args.board.now.table_id) c.loop-pass.passes.items
-          c.pop-in-loop-pass.new.self.items c.in-Some-pop.pass e c.loop-pass.invariant.0,
-      c.requires.own.1,
-    )
+retire-other-requires g c = (
+  (All-pop (λ p. p.seat.table_id ≡ c.args.board.now.table_id) _ _ (Some c.in-Some-pop.pass)
+      c.in-Some-pop.ensures.items c.loop-pass.invariant.0).1,
+  c.requires.own.1,
+)
 
 pub join_seat-requires : goal.join_seat-requires
 join_seat-requires g c = let i = c.loop-pass.invariant in let other = c.retire-other.ensures in (
@@ -38,15 +37,12 @@ join_seat-requires g c = let i = c.loop-pass.invariant in let other = c.retire-o
 pub loop-pass-preserved : goal.loop-pass-preserved
 loop-pass-preserved g c = let i = c.loop-pass.invariant in let other = c.retire-other.ensures in let now =
     c.join_seat.ensures in let w = ap (λ m. m.0) other.1 in let v = ap (λ m. m.0) now.2 in
-    let e = c.pop-in-loop-pass.ensures.items
-    ∙ ap (λ o. c.pop-in-loop-pass.new.self.items ++ option_to_list o) c.in-Some-pop.is in
-    let more = ap (λ u. c.loop-pass.seat.me.0.parts + u.parts) w in
+    let e = c.in-Some-pop.ensures.items in let more = ap (λ u. c.loop-pass.seat.me.0.parts + u.parts) w in
     let b = goes_on (λ p. p.seat.me.0) c.args.passes.items c.loop-pass.passes.items c.pop-in-loop-pass.new.self.items
     c.in-Some-pop.pass c.loop-pass.seat.me.0 c.join_seat.new.seat.me.0 e
     (ap (λ u. u.parts) v ∙ more) (ap (λ u. u.made) v ∙ ap (λ u. u.made ++ c.loop-pass.seat.me.0.made) w)
     (ap (λ u. u.refused) v ∙ ap (λ u. u.refused ++ c.loop-pass.seat.me.0.refused) w) i.5 in (
-      all_front (λ p. p.seat.table_id ≡ c.args.board.now.table_id) c.loop-pass.passes.items
-          c.pop-in-loop-pass.new.self.items c.in-Some-pop.pass e i.0,
+      (All-pop (λ p. p.seat.table_id ≡ c.args.board.now.table_id) _ _ (Some c.in-Some-pop.pass) e i.0).0,
       now.0 ∙ i.1,
       ap (λ m. m.1) now.2 ∙ i.2,
       ap (λ u. u.at) v,

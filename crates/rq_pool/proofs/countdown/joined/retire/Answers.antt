@@ -1,5 +1,5 @@
 use Rattle.std.proofs.Common.{rules, ap, ◌∙◌, replicate, None}
-use Rattle.rq_pool.specs.Countdowns.Phases.{indexed}
+use Rattle.rq_pool.proofs.Countdowns.Words.{indexed}
 use Rattle.rq_pool.proofs.Countdowns.Returns.{gives_back}
 use Rattle.rq_pool.proofs.countdown.joined.retire.Goals as goal
 

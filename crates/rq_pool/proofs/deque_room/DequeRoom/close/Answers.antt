@@ -1,8 +1,7 @@
 use Rattle.std.proofs.Common.{◌≡◌, ◌≤◌, ◌+◌, All, length, map, sum_by, vec_len, vec_items, vec_capacity, ap, sym, subst}
 use Rattle.std.proofs.Common.{◌∙◌, arith}
-use Rattle.rq_pool.specs.Ledger.{size}
-use Rattle.rq_pool.specs.Decks.{IsComplete, deck_id, deck_list, list_in, taken_weight, dealt_weight, dealt_length}
-use Rattle.rq_pool.specs.Rooms.{lists_of}
+use Rattle.rq_pool.proofs.Words.{size, IsComplete, deck_id, deck_list, list_in, taken_weight, dealt_weight}
+use Rattle.rq_pool.proofs.Words.{dealt_length, lists_of}
 use Rattle.rq_pool.proofs.Lists.{sum_by-map}
 use Rattle.rq_pool.proofs.Dealing.{dealt_total, same_lists, as_lent}
 use Rattle.rq_pool.proofs.Ledgers.{ledger_of, settled_all}

@@ -1,6 +1,5 @@
 use Rattle.std.proofs.Common.{◌≡◌, All, length, map, vec_len, ap, sym, subst, ◌∙◌, arith}
-use Rattle.rq_pool.specs.Decks.{IsStocked, deck_id, list_in}
-use Rattle.rq_pool.specs.Rooms.{IsSeatBeside}
+use Rattle.rq_pool.proofs.Words.{IsStocked, deck_id, list_in, IsSeatBeside}
 use Rattle.rq_pool.proofs.Dealing.{each_short, same_lists, as_many, as_lent}
 use Rattle.rq_pool.proofs.deque_room.DequeRoom.dealt.Goals as goal
 

@@ -1,8 +1,8 @@
 use Rattle.std.proofs.Common.{◌≡◌, ◌<◌, ◌^◌, All, ◌∷◌, [], ◌++◌, length, map, reverse, vec_len, vec_items, ap, sym}
-use Rattle.std.proofs.Common.{subst, ◌∙◌, arith, append-nil}
-use Rattle.std.proofs.lemmas.List.{map-append, reverse-reverse, nil_from_length}
-use Rattle.rq_pool.specs.Decks.{IsStocked, IsWhole, deck_id, deck_list, owner_id}
-use Rattle.rq_pool.proofs.Lists.{all_front, all_push, all_reverse, map-reverse, one_more_behind}
+use Rattle.std.proofs.Common.{subst, ◌∙◌, arith, append-nil, Some}
+use Rattle.rq_pool.proofs.Words.{map-append, reverse-reverse, nil_from_length, IsStocked, IsWhole, deck_id, deck_list}
+use Rattle.rq_pool.proofs.Words.{owner_id, All-push, All-pop}
+use Rattle.rq_pool.proofs.Lists.{all_reverse, map-reverse, one_more_behind}
 use Rattle.rq_pool.proofs.deque_room.DequeRoom.decks_of.Goals as goal
 
 pub loop-list-preserved : goal.loop-list-preserved
@@ -21,18 +21,18 @@ loop-list-preserved c =
         (let l = c.push_reserved.ensures.capacity in let old = before.reserved.0 in omega arith),
         (let l = c.push_reserved-in-Some.ensures.capacity in let old = before.reserved.1 in omega arith),
       );
-      short = all_front (λ v. length v.items < 2 ^ 32) rest list (rw popped at before.short);
+      short = (All-pop (λ v. length v.items < 2 ^ 32) _ rest (Some list) popped before.short).0;
       lists = ap (λ l. map deck_list l ++ reverse (map vec_items rest)) laid
           ∙ ap (λ l. l ++ reverse (map vec_items rest)) (map-append deck_list decks (deck ∷ []))
           ∙ ap (λ x. (map deck_list decks ++ x ∷ []) ++ reverse (map vec_items rest)) made.deck.1
           ∙ one_more_behind (map deck_list decks) list.items (map vec_items rest)
           ∙ ap (λ l. map deck_list decks ++ reverse l)
           (sym (ap (map vec_items) popped ∙ map-append vec_items rest (list ∷ []))) ∙ before.lists;
-      stocked = rw laid (all_push (IsStocked n n) decks deck before.stocked made.deck.0);
+      stocked = rw laid (All-push (IsStocked n n) decks deck before.stocked made.deck.0);
       owners = ap (map owner_id) kept ∙ map-append owner_id owners (owner ∷ [])
           ∙ ap (λ l. l ++ owner_id owner ∷ []) before.owners ∙ ap (λ x. map deck_id decks ++ x ∷ []) made.owner.1
           ∙ sym (ap (map deck_id) laid ∙ map-append deck_id decks (deck ∷ []));
-      whole = rw kept (all_push (IsWhole n) owners owner before.whole made.owner.0);
+      whole = rw kept (All-push (IsWhole n) owners owner before.whole made.owner.0);
     }
 
 pub returns-clause-lists : goal.returns-clause-lists

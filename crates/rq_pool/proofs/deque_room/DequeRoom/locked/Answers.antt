@@ -1,5 +1,5 @@
 use Rattle.std.proofs.Common.{map, vec_len, get_or, sym}
-use Rattle.rq_pool.specs.Decks.{deck_id}
+use Rattle.rq_pool.proofs.Words.{deck_id}
 use Rattle.rq_pool.proofs.Dealing.{opened, none_filled, reached_at}
 use Rattle.rq_pool.proofs.deque_room.DequeRoom.locked.Goals as goal
 

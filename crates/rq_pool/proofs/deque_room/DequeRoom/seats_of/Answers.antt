@@ -1,8 +1,6 @@
 use Rattle.std.proofs.Common.{◌≡◌, suc, ◌+◌, [], All, length, drop, map, replicate, vec_len, ap, sym, subst, ◌∙◌, arith}
-use Rattle.std.proofs.lemmas.List.{length-map}
-use Rattle.rq_pool.specs.Decks.{IsStocked, IsWhole, deck_id}
-use Rattle.rq_pool.specs.Rooms.{IsSeatBeside, taken_of}
-use Rattle.rq_pool.proofs.Lists.{all_last, all_front, all_push}
+use Rattle.std.proofs.Common.{Some}
+use Rattle.rq_pool.proofs.Words.{length-map, IsStocked, IsWhole, deck_id, IsSeatBeside, taken_of, All-push, All-pop}
 use Rattle.rq_pool.proofs.Dealing.{next_owner}
 use Rattle.rq_pool.proofs.deque_room.DequeRoom.seats_of.Goals as goal
 
@@ -21,18 +19,18 @@ loop-owner-preserved c =
     let more : vec_len c.push_reserved.new.self ≡ vec_len c.loop-owner.seats + 1 =
     (let l = c.push_reserved.ensures.len in omega arith) in
     let bare : c.in_ok-taken.taken.items ≡ [] = c.in_ok-taken.ensures.items in
-    let whole = all_last (IsWhole n) rest owner (rw popped at before.whole) in
+    let whole = All-pop (IsWhole n) _ rest (Some owner) popped before.whole in
     let seat = c.beside.ensures.seat ids (rw number at next.0) (drawn.sources ∙ before.same)
-    (drawn.fresh ∙ ap (λ k. replicate k []) long) (subst (λ k. IsWhole k owner) (sym count) whole) bare
+    (drawn.fresh ∙ ap (λ k. replicate k []) long) (subst (λ k. IsWhole k owner) (sym count) whole.1) bare
     (let s = c.requires.total in let k = c.in_ok-taken.ensures.capacity in omega arith) in record {
       same = drawn.same ∙ before.same;
       count = (let l = c.in-Some.ensures.cases in let old = before.count in omega arith);
       decks = subst (λ k. All (IsStocked n k) c.draw_all.new.decks) fewer drawn.decks;
       owners = (let step : vec_len c.push_reserved.new.self ≡ suc (vec_len c.loop-owner.seats) = omega arith in
           ap (λ k. drop k ids) step ∙ next.1);
-      whole = all_front (IsWhole n) rest owner (rw popped at before.whole);
-      seats = rw pushed (all_push (IsSeatBeside ids) seats c.beside.result before.seats seat);
-      fresh = rw pushed (all_push (λ s. taken_of s ≡ []) seats c.beside.result before.fresh
+      whole = whole.0;
+      seats = rw pushed (All-push (IsSeatBeside ids) seats c.beside.result before.seats seat);
+      fresh = rw pushed (All-push (λ s. taken_of s ≡ []) seats c.beside.result before.fresh
           (c.beside.ensures.taken ∙ bare));
       reserved = (let l = c.push_reserved.ensures.capacity in let old = before.reserved in omega arith);
     }

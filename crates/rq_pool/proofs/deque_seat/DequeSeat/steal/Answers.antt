@@ -1,15 +1,12 @@
 use Rattle.std.proofs.Common.{◌<◌, ◌∷◌, [], ◌++◌, length, map, get_or, ap, sym, ◌∙◌, arith}
-use Rattle.std.proofs.lemmas.List.{length-map}
-use Rattle.rq_pool.specs.Decks.{list_in}
-use Rattle.rq_pool.specs.Sources.{source_id, stolen}
-use Rattle.rq_pool.specs.Rooms.{ids_of}
-use Rattle.rq_pool.proofs.Taking.{map_same, map_set, get_map, stole}
+use Rattle.rq_pool.proofs.Words.{length-map, get_or-map, list_in, source_id, stolen, ids_of, map-set_same, map-set}
+use Rattle.rq_pool.proofs.Taking.{stole}
 use Rattle.rq_pool.proofs.Sources.{less_than_dealt}
 use Rattle.rq_pool.proofs.deque_seat.DequeSeat.steal.Goals as goal
 
 pub returns-in-Some-clause-sources : goal.returns-in-Some-clause-sources
 returns-in-Some-clause-sources c =
-    map_same source_id c.loop-j.self.sources.items c.loop-j.j c.steal.new.self c.index_mut.result.now
+    map-set_same source_id c.loop-j.self.sources.items c.loop-j.j c.steal.new.self c.index_mut.result.now
     (c.steal.ensures.same ∙ ap source_id c.index_mut.ensures.value) ∙ c.loop-j.invariant.sources
 
 pub returns-in-Some-clause-some : goal.returns-in-Some-clause-some
@@ -17,11 +14,11 @@ returns-in-Some-clause-some c =
     let inside : c.loop-j.j < length c.loop-j.self.sources.items = omega arith in
     let inv = c.loop-j.invariant in let got = c.in-Some.ensures.some in
     let is = got.0 ∙ ap (λ xs. xs ++ c.in-Some.x ∷ []) (ap stolen c.index_mut.ensures.value
-    ∙ sym (get_map stolen c.loop-j.self.sources.items c.loop-j.j c.index_mut.result.now [] inside)
+    ∙ sym (get_or-map stolen c.loop-j.self.sources.items c.loop-j.j c.index_mut.result.now [] inside)
     ∙ ap (λ xss. get_or xss c.loop-j.j []) inv.stolens) in
     let less = less_than_dealt c.loop-j.self.sources.items (ids_of c.args.room.now) c.loop-j.j c.index_mut.result.now
     (stolen c.steal.new.self) (inv.sources ∙ c.requires.sources) inside c.index_mut.ensures.value got.1 in
-    rw (map_set stolen c.loop-j.self.sources.items c.loop-j.j c.steal.new.self, inv.stolens, inv.number, inv.owner)
+    rw (map-set stolen c.loop-j.self.sources.items c.loop-j.j c.steal.new.self, inv.stolens, inv.number, inv.owner)
     (stole (map list_in (ids_of c.args.room.now)) c.args.self.now.number _
     (map stolen c.args.self.now.sources.items) c.args.self.now.taken.items
     (c.in-Some.x ∷ []) (stolen c.steal.new.self) c.loop-j.j c.requires.holds
@@ -34,8 +31,8 @@ loop-j-preserved c = record {
   number = c.loop-j.invariant.number;
   owner = c.loop-j.invariant.owner;
   count = c.loop-j.invariant.count;
-  sources = map_same source_id c.loop-j.self.sources.items c.loop-j.j c.steal.new.self c.index_mut.result.now
+  sources = map-set_same source_id c.loop-j.self.sources.items c.loop-j.j c.steal.new.self c.index_mut.result.now
       (c.steal.ensures.same ∙ ap source_id c.index_mut.ensures.value) ∙ c.loop-j.invariant.sources;
-  stolens = map_same stolen c.loop-j.self.sources.items c.loop-j.j c.steal.new.self c.index_mut.result.now
+  stolens = map-set_same stolen c.loop-j.self.sources.items c.loop-j.j c.steal.new.self c.index_mut.result.now
       (c.in_default.ensures.none ∙ ap stolen c.index_mut.ensures.value) ∙ c.loop-j.invariant.stolens;
 }

@@ -1,6 +1,5 @@
 use Rattle.std.proofs.Common.{◌∷◌, [], vec_len, vec_capacity, ap, arith}
-use Rattle.std.proofs.lemmas.List.{length-append}
-use Rattle.rq_pool.specs.Rooms.{lists_of}
+use Rattle.rq_pool.proofs.Words.{length-append, lists_of}
 use Rattle.rq_pool.proofs.Taking.{no_more, of_the_deal}
 use Rattle.rq_pool.proofs.deque_seat.DequeSeat.take.Goals as goal
 

@@ -1,5 +1,5 @@
 use Rattle.std.proofs.Common.{◌≡◌, ◌∷◌, [], ◌++◌, ap, subst, ◌∙◌, map, vec_items, length, take, drop, arith}
-use Rattle.rq_pool.specs.Ledger.{Ledger}
+use Rattle.rq_pool.proofs.Words.{Ledger}
 use Rattle.rq_pool.proofs.Ledgers.{ledger_alone}
 use Rattle.rq_pool.proofs.list_room.ListRoom.close.Goals as goal
 

@@ -13,7 +13,7 @@ pub struct Plan {
 }
 
 impl Plan {
-    ghost use Rattle.rq_pool.specs.Plans.{workers_of, grain_of};
+    ghost use Rattle.rq_plan.specs.Plans.{workers_of, grain_of};
 
     /// The plan of this many workers and this many frames a grain, if both are in their range.
     pub fn new(workers: u32, grain: u32) -> Option<Plan>

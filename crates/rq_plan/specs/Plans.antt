@@ -1,6 +1,6 @@
 -- What a plan holds.
 use Rattle.std.specs.Prelude.{ℕ}
-use Rattle.rq_pool.specs.declared.plan.Plan.{Plan}
+use Rattle.rq_plan.specs.declared.plan.Plan.{Plan}
 
 -- how many workers there are
 abbrev pub workers_of : Plan → ℕ
