@@ -94,7 +94,7 @@ impl State {
 
     /// The state of fields whose lists are in order already. If there is no memory for the tables
     /// of each queue's members, `Resources` is returned and the fields are dropped.
-    pub fn of_ordered(alloc: Global, fields: KeptFields) -> Result<State, Fault>
+    pub(crate) fn of_ordered(alloc: Global, fields: KeptFields) -> Result<State, Fault>
         requires { IsWellFormed (state_of fields) }
         ensures built { IfOk result (λ s. s ≡ state_of fields) }
         ensures refused { IfErr result (λ e. e ≡ Resources) }
@@ -117,14 +117,6 @@ impl State {
         ensures well_formed { IsWellFormed self.now }
     {
         &self.fields
-    }
-
-    /// Only its fields, with their lists in order.
-    pub fn into_fields(self) -> KeptFields
-        ensures fields { state_of result ≡ self }
-        ensures well_formed { IsWellFormed self }
-    {
-        self.fields
     }
 
     /// The number that the next record gets. Its contract also says that the state is well formed.
