@@ -11,7 +11,7 @@ ghost use Rattle.rq_queue.specs.Kept.{sent_from};
 ghost use Rattle.rq_record.specs.declared.fault.Fault.TheVariants.{Resources};
 ghost use Rattle.rq_state.specs.Views.{id_of};
 
-use crate::departures::{elements_by_id, send};
+use crate::departures::send;
 use crate::lent::{LentElement, copied, lend_free, lend_marked};
 use crate::moves::KeptMove;
 use crate::priorities::{kept_with, learn, take_out};
@@ -20,7 +20,7 @@ use crate::shelves::{
     Rank, all_freed, all_returned, free_list, mapped, parted, shelve, stow, taken, with_marked,
 };
 use rq_record::{ElemId, Fault, KeptPayload, QueueNo, UnitNo};
-use rq_state::{Definition, KeptElement, Mark, SHORTEST_ELEMENT};
+use rq_state::{Definition, KeptElement, Mark, SHORTEST_ELEMENT, order};
 use std::alloc::Global;
 use std::collections::BTreeMap;
 use std::marker::Model;
@@ -213,8 +213,9 @@ impl Elements {
     {
         let list = taken(alloc, &mut self.marked, unit);
         let mut free = replace(&mut self.free, BTreeMap::new(alloc));
-        let leaving = all_returned(alloc, &mut free, list, unit, home)?;
-        send(elements_by_id(leaving), place, home, sent)?;
+        let mut leaving = all_returned(alloc, &mut free, list, unit, home)?;
+        order(&mut leaving);
+        send(leaving, place, home, sent)?;
         self.free = free;
         Ok(())
     }

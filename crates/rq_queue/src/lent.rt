@@ -1,17 +1,14 @@
 //! Elements of a queue, lent: many are put in order and looked at, and none is copied.
 
-ghost use Rattle.std.specs.Prelude.{◌≡◌, ◌<◌, ◌++◌, IfOk, IfErr, OnOk};
+ghost use Rattle.std.specs.Prelude.{◌≡◌, ◌++◌, IfOk, IfErr, OnOk};
 ghost use Rattle.std.specs.Map.{values_of};
 ghost use Rattle.rq_model.specs.StateSpelling.{element_bytes};
-ghost use Rattle.rq_model.specs.States as model;
-ghost use Rattle.rq_model.specs.WellFormed.{Ordered};
 ghost use Rattle.rq_queue.specs.Kept.{items_of};
-ghost use Rattle.rq_queue.specs.Sorted.{sorted};
 ghost use Rattle.rq_record.specs.declared.fault.Fault.TheVariants.{Resources};
 
 use crate::shelves::Rank;
 use rq_record::Fault;
-use rq_state::{Compare, Compared, KeptElement};
+use rq_state::{Compare, Compared, KeptElement, Ordinal};
 use std::alloc::Global;
 use std::collections::BTreeMap;
 use std::marker::Model;
@@ -44,18 +41,19 @@ impl<'a> LentElement<'a> {
         }
     }
 
-    // Its id, as a number.
-    fn number(&self) -> u64
-        ensures { result ≡ self.now.id }
-    {
-        self.id
-    }
-
     fn copied(&self) -> Result<KeptElement, Fault>
         ensures copied { IfOk result (λ e. e ≡ self.now) }
         ensures refused { IfErr result (λ e. e ≡ Resources) }
     {
         self.element.copied()
+    }
+}
+
+impl<'a> Ordinal for LentElement<'a> {
+    ghost ordinal_of = { λ e. e.id };
+
+    fn ordinal(&self) -> u64 {
+        self.id
     }
 }
 
@@ -116,14 +114,4 @@ pub(crate) fn copied(alloc: Global, lent: &[LentElement<'_>]) -> Result<Vec<Kept
         copies.push(e.copied()?)?;
     }
     Ok(copies)
-}
-
-/// Elements of distinct ids, by id.
-pub fn lent_by_id<'a>(elements: Vec<LentElement<'a>>) -> Vec<LentElement<'a>>
-    requires { Ordered (λ (e f : model.Element). e.id < f.id) (sorted elements.items) }
-    ensures { result.items ≡ sorted elements.items }
-{
-    let mut elements = elements;
-    elements.sort_unstable_by_key(|e| e.number());
-    elements
 }

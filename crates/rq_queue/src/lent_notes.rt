@@ -3,12 +3,11 @@
 ghost use Rattle.std.specs.Prelude.{◌≡◌, ◌++◌, IfErr, OnOk};
 ghost use Rattle.std.specs.Map.{values_of};
 ghost use Rattle.rq_model.specs.StateSpelling.{note_bytes};
-ghost use Rattle.rq_queue.specs.Noted.{by_place, Rises};
 ghost use Rattle.rq_record.specs.declared.fault.Fault.TheVariants.{Resources};
 
 use crate::kept_note::KeptNote;
 use rq_record::Fault;
-use rq_state::{Compare, Compared};
+use rq_state::{Compare, Compared, Ordinal};
 use std::collections::BTreeMap;
 use std::marker::Model;
 
@@ -39,11 +38,12 @@ impl<'a> LentNote<'a> {
             note,
         }
     }
+}
 
-    // The record number of its operation.
-    fn place(&self) -> u64
-        ensures { result ≡ self.now.last.place }
-    {
+impl<'a> Ordinal for LentNote<'a> {
+    ghost ordinal_of = { λ n. n.last.place };
+
+    fn ordinal(&self) -> u64 {
         self.place
     }
 }
@@ -68,14 +68,4 @@ pub(crate) fn lend_all<'a>(
         lent.push(LentNote::of(n))?;
     }
     Ok(())
-}
-
-/// Notes of distinct places, by place.
-pub fn lent_by_place<'a>(notes: Vec<LentNote<'a>>) -> Vec<LentNote<'a>>
-    requires { Rises (by_place notes.items) }
-    ensures { result.items ≡ by_place notes.items }
-{
-    let mut notes = notes;
-    notes.sort_unstable_by_key(|n| n.place());
-    notes
 }

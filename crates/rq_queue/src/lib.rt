@@ -24,8 +24,8 @@ mod shelves;
 mod whose;
 
 pub use elements::Elements;
-pub use lent::{LentElement, lent_by_id};
-pub use lent_notes::{LentNote, lent_by_place};
+pub use lent::LentElement;
+pub use lent_notes::LentNote;
 pub use moves::{KeptMove, Move};
 pub use notes::Notes;
 pub use operations::{KeptOp, Op};

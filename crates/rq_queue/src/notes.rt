@@ -10,7 +10,7 @@ ghost use Rattle.rq_queue.specs.Noted.{Rises};
 ghost use Rattle.rq_record.specs.declared.fault.Fault.TheVariants.{Resources};
 ghost use Rattle.rq_state.specs.Views.{kind_of, id_of};
 
-use crate::draws::{drawn, notes_by_place, notes_without};
+use crate::draws::{drawn, notes_without};
 use crate::kept_note::KeptNote;
 use crate::keys::slim;
 use crate::lent_notes::{LentNote, lend_all};
@@ -18,7 +18,7 @@ use crate::places::{file, places_of, unfiled};
 use crate::rooms::room_after;
 use crate::whose::Whose;
 use rq_record::{ElemId, Fault, KeptBy, KeptName, Name, QueueNo, UnitNo};
-use rq_state::{Last, Note, OpKind, SHORTEST_NOTE};
+use rq_state::{Last, Note, OpKind, SHORTEST_NOTE, order};
 use std::alloc::Global;
 use std::collections::BTreeMap;
 use std::marker::Model;
@@ -173,9 +173,10 @@ impl Notes {
         ensures refused { IfErr result (λ e. e ≡ Resources) }
     {
         let places = places_of(&self.units, &unit.0);
-        let own = drawn(alloc, &mut self.all, places, &Whose::OfUnit(unit))?;
+        let mut own = drawn(alloc, &mut self.all, places, &Whose::OfUnit(unit))?;
         unfiled(alloc, &mut self.units, &unit.0);
-        Ok(notes_by_place(own))
+        order(&mut own);
+        Ok(own)
     }
 }
 

@@ -14,10 +14,10 @@ ghost use Rattle.rq_standing.specs.Standings.{HoldsState};
 
 use crate::compared_parts::{compare_registrants_of, lent_elements, lent_notes, registrants_in};
 use crate::queues::Queues;
-use rq_queue::{Part, lent_by_id, lent_by_place};
+use rq_queue::Part;
 use rq_record::Fault;
 use rq_state::{
-    Compared, SHORTEST_DEFINITION, SHORTEST_STATE, SHORTEST_UNIT, compare_all,
+    Compared, SHORTEST_DEFINITION, SHORTEST_STATE, SHORTEST_UNIT, compare_all, order,
 };
 use std::alloc::Global;
 
@@ -97,7 +97,8 @@ impl Queues {
         if !bytes.agree() {
             return Ok(());
         }
-        let elements = lent_by_id(lent_elements(alloc, &self.parts)?);
+        let mut elements = lent_elements(alloc, &self.parts)?;
+        order(&mut elements);
         bytes.u32(elements.len() as u32);
         compare_all(&elements, bytes);
         Ok(())
@@ -115,7 +116,8 @@ impl Queues {
         if !bytes.agree() {
             return Ok(());
         }
-        let notes = lent_by_place(lent_notes(alloc, &self.parts)?);
+        let mut notes = lent_notes(alloc, &self.parts)?;
+        order(&mut notes);
         bytes.u32(notes.len() as u32);
         compare_all(&notes, bytes);
         Ok(())

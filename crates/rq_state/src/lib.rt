@@ -25,6 +25,7 @@ pub use fields::{Fields, FieldsOf, KeptFields};
 pub use kept_element::{KeptElement, kept_elements, told_elements};
 pub use laws::{any_order_makes_the_state, parts_make_the_state};
 pub use members::{Definition, Element, Last, Mark, Note, OpKind, Registrant};
+pub use orders::{Ordinal, order};
 pub use readers::{read, read_in};
 pub use state::State;
 pub use writers::{

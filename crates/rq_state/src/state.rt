@@ -13,7 +13,7 @@ ghost use Rattle.rq_state.specs.Views.{unit_of};
 use crate::fields::{Fields, KeptFields};
 use crate::kept_element::KeptElement;
 use crate::members::{Definition, Note, Registrant};
-use crate::orders::{order_elements, order_notes, order_registrants, order_units};
+use crate::orders::{order, order_registrants, order_units};
 use crate::tables::{homes_of, listed_at, noted_of, registered_of};
 use rq_record::{Fault, QueueNo, UnitNo};
 use std::alloc::Global;
@@ -86,8 +86,8 @@ impl State {
     {
         order_units(&mut fields.units);
         order_registrants(&mut fields.registrants);
-        order_elements(&mut fields.elements);
-        order_notes(&mut fields.notes);
+        order(&mut fields.elements);
+        order(&mut fields.notes);
         let state = State::of_ordered(alloc, fields)?;
         Ok(state)
     }
