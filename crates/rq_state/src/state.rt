@@ -14,7 +14,7 @@ use crate::fields::{Fields, KeptFields};
 use crate::kept_element::KeptElement;
 use crate::members::{Definition, Note, Registrant};
 use crate::orders::{order, order_registrants, order_units};
-use crate::tables::{homes_of, listed_at, noted_of, registered_of};
+use crate::tables::{listed_at, table_of};
 use rq_record::{Fault, QueueNo, UnitNo};
 use std::alloc::Global;
 use std::marker::Model;
@@ -100,9 +100,9 @@ impl State {
         ensures refused { IfErr result (λ e. e ≡ Resources) }
     {
         let queues = fields.definitions.len();
-        let homes = homes_of(alloc, queues, &fields.elements)?;
-        let registered = registered_of(alloc, queues, &fields.registrants)?;
-        let noted = noted_of(alloc, queues, &fields.notes)?;
+        let homes = table_of(alloc, queues, &fields.elements)?;
+        let registered = table_of(alloc, queues, &fields.registrants)?;
+        let noted = table_of(alloc, queues, &fields.notes)?;
         Ok(State {
             fields,
             homes,
