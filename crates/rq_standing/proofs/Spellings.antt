@@ -1,15 +1,20 @@
 -- What bytes that spell a state begin with, and what comes behind.
 use Rattle.std.proofs.Common.{◌≡◌, ℕ, Bool, true, false, ◌&&◌, List, ◌++◌, length, Option, Some, None, is_some}
 use Rattle.std.proofs.Common.{refl, sym, ap, ◌∙◌, arith, nat_eq, nat_le}
+use Rattle.std.specs.Int.{w32, w64, to_be_bytes}
+use Rattle.std.specs.List.{flat_map}
 use Rattle.std.specs.Str.{bytes_eq}
 use Rattle.std.proofs.lemmas.Bool.{le-leb, false≢true}
 use Rattle.std.proofs.lemmas.Slice.Eq.{bytes_eq-Decides}
 use Rattle.rq_model.specs.States.{State}
+use Rattle.rq_model.specs.StateSpelling.{counted, definition_bytes, registrant_bytes, element_bytes, note_bytes}
 use Rattle.rq_model.specs.StateSpelling.{state_bytes}
 use Rattle.rq_model.proofs.Lists.{by_cases}
 use Rattle.rq_state.specs.Comparing.{behind, is_whole}
-use Rattle.rq_state.proofs.Behind.{behind_both, behind_none, whole_is}
+use Rattle.rq_state.proofs.Behind.{behind_both, behind_none, whole_is, follow}
 use Rattle.rq_standing.specs.Spelled.{head_of, lists_of, least_bytes}
+use Rattle.rq_standing.specs.Standings.{HoldsState}
+use Rattle.rq_standing.specs.declared.queues.Queues.{Queues}
 use Rattle.rq_standing.proofs.Lengths.{state_long}
 
 -- the head and the lists of a state behind it are its spelling
@@ -68,3 +73,33 @@ is_spelled s kept next head whole may same begins is so follows = spelled_so s k
     ∙ ap (λ n. nat_le n 4294967295 && (is_some head && nat_le (least_bytes s) (length kept))) same
     ∙ ap (λ b. b && (is_some head && nat_le (least_bytes s) (length kept))) no))))
     refl
+
+-- Piece by piece, as calls compare them.
+
+pub head_compared : (x : Queues) (s : State) (k : ℕ) (m m1 m2 m3 m4 m5 : Option (List ℕ)) → HoldsState x s
+    → k ≡ length x.definitions.items → m1 ≡ behind (to_be_bytes w64 x.next) m
+    → m2 ≡ behind (to_be_bytes w64 x.greatest) m1 → m3 ≡ behind (to_be_bytes w64 x.committed) m2
+    → m4 ≡ behind (to_be_bytes w64 x.aborted) m3 → m5 ≡ behind (to_be_bytes w32 k) m4 → m5 ≡ behind (head_of s) m
+head_compared x s k m m1 m2 m3 m4 m5 h count one two three four five =
+    let n = to_be_bytes w64 x.next in
+    let g = to_be_bytes w64 x.greatest in
+    let c = to_be_bytes w64 x.committed in
+    let a = to_be_bytes w64 x.aborted in
+    let d = to_be_bytes w32 k in
+    follow n (g ++ (c ++ (a ++ d))) m m1 m5 one (follow g (c ++ (a ++ d)) m1 m2 m5 two
+    (follow c (a ++ d) m2 m3 m5 three (follow a d m3 m4 m5 four five)))
+    ∙ (λ i. behind (to_be_bytes w64 (h.next i) ++ (to_be_bytes w64 (h.greatest i)
+    ++ (to_be_bytes w64 (h.committed i) ++ (to_be_bytes w64 (h.aborted i)
+    ++ to_be_bytes w32 ((count ∙ ap length h.definitions) i))))) m)
+
+pub lists_compared : (s : State) (m m1 m2 m3 m4 m5 : Option (List ℕ))
+    → m1 ≡ behind (flat_map definition_bytes s.definitions) m → m2 ≡ behind (counted (to_be_bytes w64) s.units) m1
+    → m3 ≡ behind (counted registrant_bytes s.registrants) m2 → m4 ≡ behind (counted element_bytes s.elements) m3
+    → m5 ≡ behind (counted note_bytes s.notes) m4 → m5 ≡ behind (lists_of s) m
+lists_compared s m m1 m2 m3 m4 m5 one two three four five =
+    let us = counted (to_be_bytes w64) s.units in
+    let rs = counted registrant_bytes s.registrants in
+    let es = counted element_bytes s.elements in
+    let ns = counted note_bytes s.notes in
+    follow (flat_map definition_bytes s.definitions) (us ++ (rs ++ (es ++ ns))) m m1 m5 one
+    (follow us (rs ++ (es ++ ns)) m1 m2 m5 two (follow rs (es ++ ns) m2 m3 m5 three (follow es ns m3 m4 m5 four five)))

@@ -10,6 +10,7 @@ use Rattle.std.proofs.lemmas.List.Sorted.{IsPermutation-refl}
 use Rattle.std.proofs.lemmas.List.Sums.{sum_by-cons}
 use Rattle.rq_model.specs.Laws.{gathered}
 use Rattle.rq_model.specs.Queues.{Part, part_of, registrants_at}
+use Rattle.rq_model.specs.StateSpelling.{registrant_bytes}
 use Rattle.rq_model.specs.States.{State, Element, Note, Registrant, registrant_before, name_before, id_before}
 use Rattle.rq_model.specs.WellFormed.{IsWellFormed, Ordered}
 use Rattle.rq_model.proofs.Lists.{each_weaker, each_append, each_passes}
@@ -130,3 +131,17 @@ pub notes_in_order : PartsMakeTheState → (s : State) (parts : List Part) → I
 notes_in_order law s parts well are size =
     ap (put_in_order place_before) (gathered_all (λ (p : Part). p.notes) s parts are size)
     ∙ ap (λ (t : State). t.notes) (law s well)
+
+-- Registrants, counted and spelled.
+
+pub registrants_counted : PartsMakeTheState → (s : State) (parts : List Part) → IsWellFormed s → ArePartsOf s parts
+    → length parts ≡ length s.definitions
+    → sum_by (λ (p : Part). length p.registrants) parts ≡ length s.registrants
+registrants_counted law s parts well are size = counted_together (λ (p : Part). p.registrants) parts
+    ∙ ap length (registrants_together law s parts well are size)
+
+pub registrants_spelled : PartsMakeTheState → (s : State) (parts : List Part) → IsWellFormed s → ArePartsOf s parts
+    → length parts ≡ length s.definitions
+    → flat_map (λ (p : Part). flat_map registrant_bytes p.registrants) parts ≡ flat_map registrant_bytes s.registrants
+registrants_spelled law s parts well are size = flat_flat registrant_bytes (λ (p : Part). p.registrants) parts
+    ∙ ap (flat_map registrant_bytes) (registrants_together law s parts well are size)

@@ -1,9 +1,11 @@
 -- Bytes that are compared with one text after the other.
 use Rattle.std.proofs.Common.{◌≡◌, ℕ, ◌+◌, ◌<◌, ◌≤◌, Bool, true, false, cond, ◌&&◌, List, [], ◌∷◌, ◌++◌, length, drop}
 use Rattle.std.proofs.Common.{Option, Some, None, is_some, refl, sym, ap, ◌∙◌, arith, nat_eq, slice_index_or}
+use Rattle.std.specs.Int.{w32, to_be_bytes}
 use Rattle.std.specs.List.{starts_with, flat_map}
 use Rattle.std.specs.Str.{bytes_eq}
 use Rattle.std.proofs.lemmas.List.{drop_more, drop_all}
+use Rattle.rq_model.specs.StateSpelling.{counted}
 use Rattle.rq_model.proofs.Lists.{by_cases}
 use Rattle.rq_state.specs.Comparing.{behind, is_whole}
 
@@ -71,3 +73,18 @@ module _ {X : Type 0} (spelling : X → List ℕ) (xs : List X) (total : Option 
       → behind (flat_map spelling (drop i xs)) m ≡ total → m ≡ total
   all_compared i m end left = sym (behind_nothing m)
       ∙ (ap (λ (ys : List X). behind (flat_map spelling ys) m) (sym (drop_all i xs end)) ∙ left)
+
+-- One text after the other, as calls compare them.
+
+pub follow : (a b : List ℕ) (m n o : Option (List ℕ)) → n ≡ behind a m → o ≡ behind b n → o ≡ behind (a ++ b) m
+follow a b m n o h k = k ∙ ap (behind b) h ∙ sym (behind_both a b m)
+
+-- members behind their number
+pub counted_follow : {X : Type 0} (spelling : X → List ℕ) (xs : List X) (k : ℕ) (m n o : Option (List ℕ)) → k ≡ length xs
+    → n ≡ behind (to_be_bytes w32 k) m → o ≡ behind (flat_map spelling xs) n → o ≡ behind (counted spelling xs) m
+counted_follow spelling xs k m n o same count all = follow (to_be_bytes w32 (length xs)) (flat_map spelling xs) m n o
+    (count ∙ ap (λ j. behind (to_be_bytes w32 j) m) same) all
+
+-- where bytes differ already, nothing changes
+pub still_differ : (text : List ℕ) (m : Option (List ℕ)) → is_some m ≡ false → m ≡ behind text m
+still_differ text m differ = all_differ text m (behind text m) differ refl
