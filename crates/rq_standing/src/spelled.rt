@@ -16,9 +16,7 @@ use crate::compared_parts::{compare_registrants_of, lent_elements, lent_notes, r
 use crate::queues::Queues;
 use rq_queue::Part;
 use rq_record::Fault;
-use rq_state::{
-    Compared, SHORTEST_DEFINITION, SHORTEST_STATE, SHORTEST_UNIT, compare_all, order,
-};
+use rq_state::{Compared, SHORTEST_DEFINITION, SHORTEST_STATE, SHORTEST_UNIT, compare_all, order};
 use std::alloc::Global;
 
 // Whether the members of the parts, each in its shortest form, are within so many bytes.

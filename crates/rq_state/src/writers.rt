@@ -18,11 +18,11 @@ mod sizes;
 use crate::fields::KeptFields;
 use crate::state::State;
 use crate::writers::lists::{put_all, put_units};
+use crate::writers::sizes::fields_len;
 pub use crate::writers::sizes::{
     SHORTEST_DEFINITION, SHORTEST_ELEMENT, SHORTEST_NOTE, SHORTEST_REGISTRANT, SHORTEST_STATE,
     SHORTEST_UNIT, spelled_len,
 };
-use crate::writers::sizes::fields_len;
 use rq_bytes::put_u64;
 use rq_record::Fault;
 use std::alloc::{AllocError, Global};

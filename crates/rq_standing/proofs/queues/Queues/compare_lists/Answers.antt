@@ -12,8 +12,12 @@ compare-requires c =
     let t = c.requires.holds.0 in
     let holds = c.requires.holds.1 in
     record {
-      few = (t, holds.well, holds.units,
-      (are_few t holds.well (subst (λ n. n ≤ 4294967295) holds.next c.requires.next)).units);
+      few = (
+        t,
+        holds.well,
+        holds.units,
+        (are_few t holds.well (subst (λ n. n ≤ 4294967295) holds.next c.requires.next)).units,
+      );
     }
 
 pub returns-clause-compared : goal.returns-clause-compared
