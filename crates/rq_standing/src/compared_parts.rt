@@ -14,13 +14,13 @@ use rq_state::Compared;
 use std::alloc::Global;
 
 /// How many registrants the parts have.
-pub(crate) fn registrants_in(parts: &[Part]) -> u32
+pub(crate) fn registrants_in(parts: &[Part]) -> usize
     requires { sum_by (λ (p : queues.Part). length p.registrants) parts.now < 4294967296 }
     ensures { result ≡ sum_by (λ (p : queues.Part). length p.registrants) parts.now }
 {
     let mut count = 0;
     for part in parts {
-        count += part.registrant_count() as u32;
+        count += part.registrant_count();
     }
     count
 }

@@ -91,7 +91,7 @@ impl OpenUnits {
         ensures { (s : State) → IsWellFormed s → AreUnits self.now s
             → bytes.new ≡ behind (counted (to_be_bytes w64) s.units) bytes.old }
     {
-        bytes.u32(self.count() as u32);
+        bytes.count(self.count());
         compare_each(&self.named, bytes);
     }
 

@@ -44,7 +44,7 @@ impl Queues {
         bytes.u64(self.greatest);
         bytes.u64(self.committed);
         bytes.u64(self.aborted);
-        bytes.u32(self.definitions.len() as u32);
+        bytes.count(self.definitions.len());
     }
 
     // Whether so many bytes are enough for all members, each in its shortest form.
@@ -77,7 +77,7 @@ impl Queues {
             → bytes.new ≡ behind (counted registrant_bytes t.registrants) bytes.old }
     {
         rq_state::parts_make_the_state();
-        bytes.u32(registrants_in(&self.parts));
+        bytes.count(registrants_in(&self.parts));
         compare_registrants_of(&self.parts, bytes);
     }
 
@@ -97,7 +97,7 @@ impl Queues {
         }
         let mut elements = lent_elements(alloc, &self.parts)?;
         order(&mut elements);
-        bytes.u32(elements.len() as u32);
+        bytes.count(elements.len());
         compare_all(&elements, bytes);
         Ok(())
     }
@@ -116,7 +116,7 @@ impl Queues {
         }
         let mut notes = lent_notes(alloc, &self.parts)?;
         order(&mut notes);
-        bytes.u32(notes.len() as u32);
+        bytes.count(notes.len());
         compare_all(&notes, bytes);
         Ok(())
     }

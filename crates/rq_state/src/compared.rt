@@ -1,6 +1,6 @@
 //! Bytes that are compared with a spelling, from the front on.
 
-ghost use Rattle.std.specs.Prelude.{◌≡◌, ℕ, ◌∷◌, [], List, Some, is_some, option_map};
+ghost use Rattle.std.specs.Prelude.{◌≡◌, ◌<◌, ℕ, ◌∷◌, [], List, Some, is_some, option_map};
 ghost use Rattle.std.specs.Int.{w16, w32, w64, to_be_bytes};
 ghost use Rattle.std.specs.List.{flat_map};
 ghost use Rattle.rq_state.specs.Comparing.{behind, is_whole};
@@ -63,7 +63,7 @@ impl<'a> Compared<'a> {
 
     /// These bytes are to come next.
     #[tactic(auto, unfolding(crate::specs::Comparing::behind))]
-    pub fn bytes(&mut self, text: &[u8])
+    pub(crate) fn bytes(&mut self, text: &[u8])
         ensures { self.new ≡ behind text.now self.old }
     {
         if let Some(rest) = self.rest {
@@ -72,31 +72,39 @@ impl<'a> Compared<'a> {
     }
 
     /// This byte is to come next.
-    pub fn u8(&mut self, n: u8)
+    pub(crate) fn u8(&mut self, n: u8)
         ensures { self.new ≡ behind (n ∷ []) self.old }
     {
         self.bytes(&[n]);
     }
 
     /// This number is to come next, in two bytes.
-    pub fn u16(&mut self, n: u16)
+    pub(crate) fn u16(&mut self, n: u16)
         ensures { self.new ≡ behind (to_be_bytes w16 n) self.old }
     {
         self.bytes(&n.to_be_bytes());
     }
 
     /// This number is to come next, in four bytes.
-    pub fn u32(&mut self, n: u32)
+    pub(crate) fn u32(&mut self, n: u32)
         ensures { self.new ≡ behind (to_be_bytes w32 n) self.old }
     {
         self.bytes(&n.to_be_bytes());
     }
 
     /// This number is to come next, in eight bytes.
-    pub fn u64(&mut self, n: u64)
-        ensures { self.new ≡ behind (to_be_bytes w64 n) self.old }
+    pub fn u64(&mut self, number: u64)
+        ensures { self.new ≡ behind (to_be_bytes w64 number) self.old }
     {
-        self.bytes(&n.to_be_bytes());
+        self.bytes(&number.to_be_bytes());
+    }
+
+    /// The number of members is to come next.
+    pub fn count(&mut self, count: usize)
+        requires { count < 4294967296 }
+        ensures { self.new ≡ behind (to_be_bytes w32 count) self.old }
+    {
+        self.u32(count as u32);
     }
 }
 

@@ -33,8 +33,8 @@ pub returns-clause-compared : goal.returns-clause-compared
 returns-clause-compared c = λ t holds.
     let d = (goal.at.returns-clause-compared c).In_ok-notes in
     let all = c.order.ensures ∙ all_are d t holds in
-    counted_follow note_bytes t.notes c.len.result c.args.bytes.now c.u32.new.self c.compare_all.new.bytes
+    counted_follow note_bytes t.notes c.len.result c.args.bytes.now c.count.new.self c.compare_all.new.bytes
     (c.len.ensures ∙ ap (λ (ns : List Note). length ns) all)
-    c.u32.ensures
-    (c.compare_all.ensures ∙ ap (λ (ns : List Note). behind (flat_map note_bytes ns) c.u32.new.self)
+    c.count.ensures
+    (c.compare_all.ensures ∙ ap (λ (ns : List Note). behind (flat_map note_bytes ns) c.count.new.self)
     (c.deref-2.ensures.value ∙ all))

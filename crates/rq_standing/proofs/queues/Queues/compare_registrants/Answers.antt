@@ -22,12 +22,12 @@ pub returns : goal.returns
 returns c = λ t holds.
     let law = c.parts_make_the_state.ensures in
     let parts = c.args.self.now.parts.items in
-    counted_follow registrant_bytes t.registrants c.registrants_in.result c.args.bytes.now c.u32.new.self
+    counted_follow registrant_bytes t.registrants c.registrants_in.result c.args.bytes.now c.count.new.self
     c.compare_registrants_of.new.bytes
     (c.registrants_in.ensures ∙ (ap (sum_by (λ (p : Part). length p.registrants)) c.deref.ensures.value
     ∙ registrants_counted law t parts holds.well holds.parts holds.size))
-    c.u32.ensures
+    c.count.ensures
     (c.compare_registrants_of.ensures
-    ∙ ap (λ text. behind text c.u32.new.self)
+    ∙ ap (λ text. behind text c.count.new.self)
     (ap (flat_map (λ (p : Part). flat_map registrant_bytes p.registrants)) c.deref-2.ensures.value
     ∙ registrants_spelled law t parts holds.well holds.parts holds.size))
