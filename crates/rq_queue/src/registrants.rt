@@ -219,6 +219,12 @@ fn copied(
     Ok(all)
 }
 
+fn compare_one(key: &(u32, KeptName), last: &KeptLast, bytes: &mut Compared<'_>)
+    ensures { bytes.new ≡ behind (registrant_bytes (registrant_of (key.now, last.now))) bytes.old }
+{
+    bytes.registrant(key.0, key.1.bytes(), last.lent());
+}
+
 // The spellings of the registrants are to come next in the bytes, in order. It looks at none behind
 // the first that differs.
 fn compare_each(lasts: &BTreeMap<(u32, KeptName), KeptLast>, bytes: &mut Compared<'_>)
@@ -229,6 +235,6 @@ fn compare_each(lasts: &BTreeMap<(u32, KeptName), KeptLast>, bytes: &mut Compare
         if !bytes.agree() {
             return;
         }
-        bytes.registrant(key.0, key.1.bytes(), last.lent());
+        compare_one(key, last, bytes);
     }
 }
