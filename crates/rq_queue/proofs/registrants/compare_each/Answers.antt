@@ -1,7 +1,7 @@
 use Rattle.std.proofs.Common.{List, sym, ap, ◌∙◌, map}
 use Rattle.std.specs.List.{flat_map}
 use Rattle.std.specs.Map.Iter.{deref_pair}
-use Rattle.std.proofs.lemmas.Map.Iter.{rest_more}
+use Rattle.std.proofs.lemmas.Map.Iter.{rest_more, rest_all}
 use Rattle.rq_model.specs.StateSpelling.{registrant_bytes}
 use Rattle.rq_state.specs.Comparing.{behind}
 use Rattle.rq_state.proofs.Behind.{one_more, all_differ, behind_nothing}
@@ -22,3 +22,9 @@ pub returns-then-not-agree : goal.returns-then-not-agree
 returns-then-not-agree c =
     all_differ (flat_map registrant_bytes (map registrant_of c.loop-key.key-iterator)) c.loop-key.bytes _
     (sym c.agree.ensures ∙ c.if-not-agree.true) c.loop-key.invariant
+
+pub returns : goal.returns
+returns c = sym (behind_nothing c.loop-key.bytes)
+    ∙ (ap (λ (es : List RollEntry). behind (flat_map registrant_bytes (map registrant_of es)) c.loop-key.bytes)
+    (sym (rest_all deref_pair c.loop-key.key-iterator c.next.new.self c.next.result c.in-None.is c.next.ensures.steps))
+    ∙ c.loop-key.invariant)
