@@ -6,7 +6,7 @@ ghost use Rattle.rq_model.specs.Queues.{elements_at, registrants_at, notes_at};
 ghost use Rattle.rq_record.specs.declared.fault.Fault.TheVariants.{Resources};
 
 use crate::kept_element::KeptElement;
-use crate::members::{Note, Registrant};
+use crate::members::{Definition, Note, Registrant};
 use crate::state::State;
 use rq_record::{Fault, QueueNo};
 use std::alloc::Global;
@@ -48,6 +48,21 @@ impl State {
         let copies = copied_at(alloc, self.notes(), self.notes_of(queue))?;
         Ok(copies)
     }
+}
+
+/// The same definitions again. `Resources` if memory runs out.
+pub fn copied_definitions(
+    alloc: Global,
+    definitions: &[Definition],
+) -> Result<Vec<Definition>, Fault>
+    ensures copied { IfOk result (λ v. v.items ≡ definitions.now) }
+    ensures refused { IfErr result (λ e. e ≡ Resources) }
+{
+    let mut copies = Vec::with_capacity(alloc, definitions.len())?;
+    for definition in definitions {
+        copies.push(definition.copied())?;
+    }
+    Ok(copies)
 }
 
 /// What can be had again.

@@ -21,6 +21,7 @@ mod wholeness;
 mod writers;
 
 pub use compared::{Compare, Compared, compare_all};
+pub use copies::copied_definitions;
 pub use fields::{Fields, FieldsOf, KeptFields};
 pub use kept_element::{KeptElement, kept_elements, told_elements};
 pub use laws::{any_order_makes_the_state, parts_make_the_state};
