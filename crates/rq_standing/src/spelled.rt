@@ -9,7 +9,7 @@ ghost use Rattle.rq_model.specs.StateSpelling.{note_bytes, state_bytes};
 ghost use Rattle.rq_queue.specs.Rooms.{member_bytes};
 ghost use Rattle.rq_record.specs.declared.fault.Fault.TheVariants.{Resources};
 ghost use Rattle.rq_state.specs.Comparing.{behind};
-ghost use Rattle.rq_standing.specs.Spelled.{head_of, elements_and_notes_of, lists_of, least_bytes};
+ghost use Rattle.rq_standing.specs.Spelled.{head_of, lists_of, least_bytes};
 ghost use Rattle.rq_standing.specs.Standings.{HoldsState};
 
 use crate::compared_parts::{compare_registrants_of, lent_elements, lent_notes, registrants_in};

@@ -20,7 +20,7 @@ impl<'a> Model for Compared<'a> {
 
     ghost Value = { Option (List ℕ) };
 
-    ghost view = { λ c. option_map (λ rest. rest.now) c.rest };
+    ghost view = { λ c. option_map (λ bytes. bytes.now) c.rest };
 }
 
 // What is left of the bytes behind the text, if they begin with it.
