@@ -1,6 +1,7 @@
 -- Bytes that are compared with one text after the other.
-use Rattle.std.proofs.Common.{◌≡◌, ℕ, ◌+◌, ◌<◌, ◌≤◌, Bool, true, false, cond, ◌&&◌, List, [], ◌∷◌, ◌++◌, length, drop}
+use Rattle.std.proofs.Common.{◌≡◌, ℕ, suc, ◌+◌, ◌<◌, ◌≤◌, Bool, true, false, cond, ◌&&◌, List, [], ◌∷◌, ◌++◌, length, drop}
 use Rattle.std.proofs.Common.{Option, Some, None, is_some, refl, sym, ap, ◌∙◌, arith, nat_eq, slice_index_or}
+use Rattle.std.specs.Prelude.{◌==◌}
 use Rattle.std.specs.Int.{w32, to_be_bytes}
 use Rattle.std.specs.List.{starts_with, flat_map}
 use Rattle.std.specs.Str.{bytes_eq}
@@ -31,11 +32,14 @@ behind_both (x ∷ a) b (Some (y ∷ bytes)) = by_cases (nat_eq x y)
     ≡ behind b (cond (t && starts_with nat_eq bytes a) (Some (drop (length a) bytes)) None))
     (λ _. behind_both a b (Some bytes)) (λ _. refl)
 
+one_left : (n : ℕ) → (suc n == 0) ≡ false
+one_left n = grind arith
+
 -- the bytes are the text if they begin with it and none is left
 pub whole_is : (text bytes : List ℕ) → is_whole (behind text (Some bytes)) ≡ bytes_eq bytes text
 unfolding behind
 whole_is [] [] = refl
-whole_is [] (y ∷ bytes) = refl
+whole_is [] (y ∷ bytes) = one_left (length bytes)
 whole_is (x ∷ text) [] = refl
 whole_is (x ∷ text) (y ∷ bytes) = by_cases (nat_eq x y)
     (λ t. nat_eq y x ≡ t → is_whole (cond (t && starts_with nat_eq bytes text) (Some (drop (length text) bytes)) None)

@@ -15,7 +15,6 @@ use rq_record::ElemId;
 
 impl Compared<'_> {
     // A name of a queue or registrant is to come next.
-    #[tactic(auto, using(crate::proofs::Behind::behind_both))]
     fn name(&mut self, name: &[u8])
         requires { length name.now ≤ 255 }
         ensures { self.new ≡ behind (name_bytes name.now) self.old }
@@ -43,7 +42,6 @@ impl Compared<'_> {
     }
 
     // The tag and the element of an operation, which end its spelling.
-    #[tactic(auto, using(crate::proofs::Behind::behind_both))]
     fn operation_end(&mut self, last: &Last)
         ensures { self.new ≡ behind (to_be_bytes w64 last.now.tag
             ++ to_be_bytes w64 (element_number last.now.element)) self.old }
@@ -52,7 +50,6 @@ impl Compared<'_> {
         self.id(last.element);
     }
 
-    #[tactic(auto, using(crate::proofs::Behind::behind_both))]
     fn operation(&mut self, last: &Last)
         ensures { self.new ≡ behind (kind_byte last.now.kind ∷ (to_be_bytes w64 last.now.place
             ++ (to_be_bytes w64 last.now.tag ++ to_be_bytes w64 (element_number last.now.element))))
@@ -64,7 +61,7 @@ impl Compared<'_> {
     }
 
     fn last(&mut self, last: Option<&Last>)
-        ensures { self.new ≡ behind (last_bytes (option_map (λ l. l.now) last)) self.old }
+        ensures { self.new ≡ behind (last_bytes (option_map (λ l. l.now) last.entry)) self.old }
     {
         match last {
             None => self.u8(0),
@@ -72,7 +69,6 @@ impl Compared<'_> {
         }
     }
 
-    #[tactic(auto, using(crate::proofs::Behind::behind_both))]
     fn mark(&mut self, mark: Mark)
         ensures { self.new ≡ behind (mark_bytes (mark_of mark)) self.old }
     {
@@ -91,13 +87,12 @@ impl Compared<'_> {
 
     /// A registrant of this queue is to come next, with its name and the last operation, if there
     /// is one.
-    #[tactic(auto, using(crate::proofs::Behind::behind_both))]
     pub fn registrant(&mut self, queue: u32, name: &[u8], last: Option<&Last>)
         requires { length name.now ≤ 255 }
         ensures { self.new ≡ behind (registrant_bytes (record {
           queue = queue;
           name = name.now;
-          last = option_map (λ l. l.now) last;
+          last = option_map (λ l. l.now) last.entry;
         })) self.old }
     {
         self.u32(queue);
@@ -109,7 +104,6 @@ impl Compared<'_> {
 impl Compare for Definition {
     ghost spelling = { definition_bytes };
 
-    #[tactic(auto, using(crate::proofs::Behind::behind_both))]
     fn compare(&self, bytes: &mut Compared<'_>) {
         bytes.u16(self.limit);
         bytes.u32(self.error.0);
@@ -118,7 +112,6 @@ impl Compare for Definition {
 }
 
 // Its payload is to come next, behind its length.
-#[tactic(auto, using(crate::proofs::Behind::behind_both))]
 fn compare_payload(payload: &[u8], bytes: &mut Compared<'_>)
     requires { length payload.now ≤ 65535 }
     ensures { bytes.new
@@ -128,7 +121,6 @@ fn compare_payload(payload: &[u8], bytes: &mut Compared<'_>)
     bytes.bytes(payload);
 }
 
-#[tactic(auto, using(crate::proofs::Behind::behind_both))]
 fn compare_element_end(element: &KeptElement, bytes: &mut Compared<'_>)
     ensures { bytes.new ≡ behind (element.now.priority
         ∷ (to_be_bytes w64 element.now.attempts ++ (mark_bytes element.now.mark
@@ -143,7 +135,6 @@ fn compare_element_end(element: &KeptElement, bytes: &mut Compared<'_>)
 impl Compare for KeptElement {
     ghost spelling = { element_bytes };
 
-    #[tactic(auto, using(crate::proofs::Behind::behind_both))]
     fn compare(&self, bytes: &mut Compared<'_>) {
         bytes.u64(self.id.0);
         bytes.u32(self.home.0);
@@ -152,7 +143,6 @@ impl Compare for KeptElement {
     }
 }
 
-#[tactic(auto, using(crate::proofs::Behind::behind_both))]
 fn compare_note_end(note: &Note, bytes: &mut Compared<'_>)
     ensures { bytes.new ≡ behind (name_bytes note.now.name ++ kind_byte note.now.last.kind
         ∷ (to_be_bytes w64 note.now.last.tag
@@ -166,7 +156,6 @@ fn compare_note_end(note: &Note, bytes: &mut Compared<'_>)
 impl Compare for Note {
     ghost spelling = { note_bytes };
 
-    #[tactic(auto, using(crate::proofs::Behind::behind_both))]
     fn compare(&self, bytes: &mut Compared<'_>) {
         bytes.u64(self.last.place);
         bytes.u64(self.unit.0);

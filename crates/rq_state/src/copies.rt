@@ -91,6 +91,13 @@ impl Again for Note {
     }
 }
 
+fn member_at<M>(members: &[M], index: usize) -> &M
+    requires { index < length members.now }
+    ensures { (x : M) → result.now ≡ slice_index_or members.now index x }
+{
+    &members[index]
+}
+
 // Copies of the members at these indices.
 fn copied_at<M: Again>(alloc: Global, members: &[M], indices: &[usize]) -> Result<Vec<M>, Fault>
     requires { AllByRecursion (λ index. index < length members.now) indices.now }
@@ -100,8 +107,8 @@ fn copied_at<M: Again>(alloc: Global, members: &[M], indices: &[usize]) -> Resul
 {
     let mut copies = Vec::with_capacity(alloc, indices.len())?;
     for index in indices {
-        let copy = members[*index].again()?;
-        copies.push(copy)?;
+        let member = member_at(members, *index);
+        copies.push(member.again()?)?;
     }
     Ok(copies)
 }
