@@ -25,7 +25,7 @@ use crate::rules::Rule;
 use crate::units::Units;
 use indexmap::IndexSet;
 use rq_record::{Fault, KeptBy, KeptName, KeptRecord, Name, QueueNo, UnitNo, Version};
-use rq_state::{Definition, Registrant, State};
+use rq_state::{Definition, Registrant, State, copied_definitions};
 use std::alloc::Global;
 use std::collections::BTreeSet;
 
@@ -82,18 +82,6 @@ fn names_of(alloc: Global, definitions: &[Definition]) -> Result<IndexSet<Name>,
     Ok(names)
 }
 
-// The same definitions again.
-fn copies_of(alloc: Global, definitions: &[Definition]) -> Result<Vec<Definition>, Fault>
-    ensures copies { IfOk result (λ v. v.items ≡ definitions.now) }
-    ensures refused { IfErr result (λ e. e ≡ Resources) }
-{
-    let mut copies = Vec::new(alloc);
-    for definition in definitions {
-        copies.push(definition.copied())?;
-    }
-    Ok(copies)
-}
-
 // Who is registered with which queue.
 fn registrants_of(alloc: Global, registrants: &[Registrant]) -> Result<RegisteredNames, Fault>
     ensures registered { IfOk result
@@ -137,7 +125,7 @@ impl Grounds {
         ensures knows { IfOk result (λ grounds. AreGroundsOf grounds state.now) }
         ensures refused { IfErr result (λ e. e ≡ Resources) }
     {
-        let definitions = copies_of(alloc, state.definitions())?;
+        let definitions = copied_definitions(alloc, state.definitions())?;
         let names = names_of(alloc, &definitions)?;
         let registrants = registrants_of(alloc, state.registrants())?;
         Ok(Grounds {

@@ -76,8 +76,8 @@ pub fn replay<R: Threads + Sync, G: Gate + Sync>(
     replay_kept(rt, alloc, state, &kept, plan, gate)
 }
 
-/// The same for records that are kept; nothing of them is copied.
-pub fn replay_kept<R: Threads + Sync, G: Gate + Sync>(
+// The same for records that are kept; nothing of them is copied.
+fn replay_kept<R: Threads + Sync, G: Gate + Sync>(
     rt: &R,
     alloc: Global,
     state: &State,

@@ -1,25 +1,12 @@
 //! Elements that leave a queue.
 
-ghost use Rattle.std.specs.Prelude.{◌≡◌, ◌<◌, ◌++◌, IfErr, OnOk};
-ghost use Rattle.rq_model.specs.States as model;
-ghost use Rattle.rq_model.specs.WellFormed.{Ordered};
+ghost use Rattle.std.specs.Prelude.{◌≡◌, ◌++◌, IfErr, OnOk};
 ghost use Rattle.rq_queue.specs.Kept.{sent_from};
-ghost use Rattle.rq_queue.specs.Sorted.{sorted};
 ghost use Rattle.rq_record.specs.declared.fault.Fault.TheVariants.{Resources};
 
 use crate::moves::KeptMove;
 use rq_record::Fault;
 use rq_state::{Definition, KeptElement};
-
-/// Elements of distinct ids, by id.
-pub(crate) fn elements_by_id(elements: Vec<KeptElement>) -> Vec<KeptElement>
-    requires { Ordered (λ (e f : model.Element). e.id < f.id) (sorted elements.items) }
-    ensures { result.items ≡ sorted elements.items }
-{
-    let mut elements = elements;
-    elements.sort_unstable_by_key(|e| e.number());
-    elements
-}
 
 /// Adds the elements to the moves, as they arrive in the error queue.
 pub(crate) fn send(

@@ -6,7 +6,7 @@ ghost use Rattle.std.specs.List.{AllByRecursion};
 ghost use Rattle.std.specs.Map.{lookup, values_of};
 ghost use Rattle.std.specs.Ordering.{nat_cmp};
 ghost use Rattle.rq_queue.specs.Noted.{by_place, is_own, has_own, left, AreByPlace, Apart, Drawn};
-ghost use Rattle.rq_queue.specs.Noted.{NoteEntry, Rises};
+ghost use Rattle.rq_queue.specs.Noted.{NoteEntry};
 ghost use Rattle.rq_record.specs.declared.fault.Fault.TheVariants.{Resources};
 
 use crate::kept_note::KeptNote;
@@ -74,14 +74,4 @@ pub(crate) fn drawn(
         drawn.push(n)?;
     }
     Ok(drawn)
-}
-
-/// Notes of distinct places, by place.
-pub(crate) fn notes_by_place(notes: Vec<KeptNote>) -> Vec<KeptNote>
-    requires { Rises (by_place notes.items) }
-    ensures { result.items ≡ by_place notes.items }
-{
-    let mut notes = notes;
-    notes.sort_unstable_by_key(|n| n.place());
-    notes
 }

@@ -11,16 +11,16 @@ ghost use Rattle.rq_queue.specs.Kept.{sent_from};
 ghost use Rattle.rq_record.specs.declared.fault.Fault.TheVariants.{Resources};
 ghost use Rattle.rq_state.specs.Views.{id_of};
 
-use crate::copies::{free_copies, with_marked_copies};
-use crate::departures::{elements_by_id, send};
+use crate::departures::send;
+use crate::lent::{LentElement, copied, lend_free, lend_marked};
 use crate::moves::KeptMove;
 use crate::priorities::{kept_with, learn, take_out};
-use crate::rooms::{ELEMENT, room_after, room_after_marked};
+use crate::rooms::{room_after, room_after_marked};
 use crate::shelves::{
     Rank, all_freed, all_returned, free_list, mapped, parted, shelve, stow, taken, with_marked,
 };
 use rq_record::{ElemId, Fault, KeptPayload, QueueNo, UnitNo};
-use rq_state::{Definition, KeptElement, Mark};
+use rq_state::{Definition, KeptElement, Mark, SHORTEST_ELEMENT, order};
 use std::alloc::Global;
 use std::collections::BTreeMap;
 use std::marker::Model;
@@ -90,21 +90,32 @@ impl Elements {
         Ok(all)
     }
 
+    /// Lends all of them, in some order.
+    pub(crate) fn lend<'a>(&'a self, lent: &mut Vec<LentElement<'a>>) -> Result<(), Fault>
+        ensures lent { OnOk result (IsPermutation (lent.old.items ++ self.now) lent.new.items) }
+        ensures refused { IfErr result (λ e. e ≡ Resources) }
+    {
+        lend_free(lent, &self.free)?;
+        lend_marked(lent, &self.marked)?;
+        Ok(())
+    }
+
     /// Copies of all of them, in some order.
     pub(crate) fn copies(&self, alloc: Global) -> Result<Vec<KeptElement>, Fault>
         ensures listed { IfOk result (λ v. IsPermutation self.now v.items) }
         ensures refused { IfErr result (λ e. e ≡ Resources) }
     {
-        let mut all = free_copies(alloc, &self.free)?;
-        with_marked_copies(&mut all, &self.marked)?;
-        Ok(all)
+        let mut lent = Vec::new(alloc);
+        self.lend(&mut lent)?;
+        let copies = copied(alloc, &lent)?;
+        Ok(copies)
     }
 
     /// The room that they leave of so many bytes. None if they do not fit.
     pub(crate) fn room_left(&self, room: u64) -> Option<u64>
         ensures { SomeIff result (28 * length self.now ≤ room) (room - 28 * length self.now) }
     {
-        let left = room_after(room, ELEMENT, self.free.len())?;
+        let left = room_after(room, SHORTEST_ELEMENT, self.free.len())?;
         room_after_marked(left, &self.marked)
     }
 
@@ -202,8 +213,9 @@ impl Elements {
     {
         let list = taken(alloc, &mut self.marked, unit);
         let mut free = replace(&mut self.free, BTreeMap::new(alloc));
-        let leaving = all_returned(alloc, &mut free, list, unit, home)?;
-        send(elements_by_id(leaving), place, home, sent)?;
+        let mut leaving = all_returned(alloc, &mut free, list, unit, home)?;
+        order(&mut leaving);
+        send(leaving, place, home, sent)?;
         self.free = free;
         Ok(())
     }

@@ -1,6 +1,6 @@
 //! The last operation of a registrant, as a queue keeps it.
 
-ghost use Rattle.std.specs.Prelude.{◌≡◌, None, IfOk, IfErr, OnOk};
+ghost use Rattle.std.specs.Prelude.{◌≡◌, None, IfOk, IfErr, OnOk, option_map};
 ghost use Rattle.rq_model.specs.Machine as machine;
 ghost use Rattle.rq_record.specs.declared.fault.Fault.TheVariants.{Resources};
 
@@ -44,6 +44,16 @@ impl KeptLast {
             Some(last) => Ok(KeptLast {
                 last: Some(Box::new(alloc, last)?),
             }),
+        }
+    }
+
+    /// The operation, lent.
+    pub(crate) fn lent(&self) -> Option<&Last>
+        ensures { option_map (λ l. l.now) result ≡ self.now }
+    {
+        match &self.last {
+            None => None,
+            Some(last) => Some(last),
         }
     }
 

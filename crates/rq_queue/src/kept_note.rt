@@ -5,7 +5,7 @@ ghost use Rattle.rq_model.specs.States as model;
 ghost use Rattle.rq_record.specs.declared.fault.Fault.TheVariants.{Resources};
 
 use rq_record::{Fault, KeptName, Name, QueueNo, UnitNo};
-use rq_state::{Last, Note};
+use rq_state::{Last, Note, Ordinal};
 use std::alloc::Global;
 use std::marker::Model;
 
@@ -35,6 +35,14 @@ impl Model for KeptNote {
       name = n.held.value.name;
       last = n.held.value.last;
     } };
+}
+
+impl Ordinal for KeptNote {
+    ghost ordinal_of = { λ n. n.last.place };
+
+    fn ordinal(&self) -> u64 {
+        self.place()
+    }
 }
 
 impl KeptNote {

@@ -2,13 +2,14 @@
 //! other queues give two things: its part after the run, and what left it for its error queue.
 #![tactic(auto)]
 
-mod copies;
 mod departures;
 mod draws;
 mod elements;
 mod kept_last;
 mod kept_note;
 mod keys;
+mod lent;
+mod lent_notes;
 mod moves;
 mod notes;
 mod operations;
@@ -23,6 +24,8 @@ mod shelves;
 mod whose;
 
 pub use elements::Elements;
+pub use lent::LentElement;
+pub use lent_notes::LentNote;
 pub use moves::{KeptMove, Move};
 pub use notes::Notes;
 pub use operations::{KeptOp, Op};

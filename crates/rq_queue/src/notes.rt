@@ -10,14 +10,15 @@ ghost use Rattle.rq_queue.specs.Noted.{Rises};
 ghost use Rattle.rq_record.specs.declared.fault.Fault.TheVariants.{Resources};
 ghost use Rattle.rq_state.specs.Views.{kind_of, id_of};
 
-use crate::draws::{drawn, notes_by_place, notes_without};
+use crate::draws::{drawn, notes_without};
 use crate::kept_note::KeptNote;
 use crate::keys::slim;
+use crate::lent_notes::{LentNote, lend_all};
 use crate::places::{file, places_of, unfiled};
-use crate::rooms::{NOTE, room_after};
+use crate::rooms::room_after;
 use crate::whose::Whose;
 use rq_record::{ElemId, Fault, KeptBy, KeptName, Name, QueueNo, UnitNo};
-use rq_state::{Last, Note, OpKind};
+use rq_state::{Last, Note, OpKind, SHORTEST_NOTE, order};
 use std::alloc::Global;
 use std::collections::BTreeMap;
 use std::marker::Model;
@@ -93,7 +94,15 @@ impl Notes {
         ensures listed { IfOk result (λ v. v.items ≡ self) }
         ensures refused { IfErr result (λ e. e ≡ Resources) }
     {
-        listed(alloc, &self.all)
+        listed(alloc, self.all)
+    }
+
+    /// Lends all of them, by place.
+    pub(crate) fn lend<'a>(&'a self, lent: &mut Vec<LentNote<'a>>) -> Result<(), Fault>
+        ensures lent { OnOk result (lent.new.items ≡ lent.old.items ++ self.now) }
+        ensures refused { IfErr result (λ e. e ≡ Resources) }
+    {
+        lend_all(lent, &self.all)
     }
 
     /// Copies of all of them, by place.
@@ -101,14 +110,14 @@ impl Notes {
         ensures listed { IfOk result (λ v. v.items ≡ self.now) }
         ensures refused { IfErr result (λ e. e ≡ Resources) }
     {
-        listed(alloc, &self.all)
+        copied(alloc, &self.all)
     }
 
     /// The room that they leave of so many bytes. None if they do not fit.
     pub(crate) fn room_left(&self, room: u64) -> Option<u64>
         ensures { SomeIff result (38 * length self.now ≤ room) (room - 38 * length self.now) }
     {
-        room_after(room, NOTE, self.all.len())
+        room_after(room, SHORTEST_NOTE, self.all.len())
     }
 
     /// Adds the note of an operation, if somebody is named. Notes that refuse are no longer of use.
@@ -164,15 +173,29 @@ impl Notes {
         ensures refused { IfErr result (λ e. e ≡ Resources) }
     {
         let places = places_of(&self.units, &unit.0);
-        let own = drawn(alloc, &mut self.all, places, &Whose::OfUnit(unit))?;
+        let mut own = drawn(alloc, &mut self.all, places, &Whose::OfUnit(unit))?;
         unfiled(alloc, &mut self.units, &unit.0);
-        Ok(notes_by_place(own))
+        order(&mut own);
+        Ok(own)
     }
 }
 
-// The notes, by place.
-fn listed(alloc: Global, notes: &BTreeMap<u64, KeptNote>) -> Result<Vec<Note>, Fault>
-    ensures listed { IfOk result (λ v. v.items ≡ values_of notes.now.entries) }
+// The notes, by place. Each is let go as the list gets it, so that map and list are never in memory
+// at once.
+fn listed(alloc: Global, notes: BTreeMap<u64, KeptNote>) -> Result<Vec<Note>, Fault>
+    ensures listed { IfOk result (λ v. v.items ≡ values_of notes.entries) }
+    ensures refused { IfErr result (λ e. e ≡ Resources) }
+{
+    let mut all = Vec::with_capacity(alloc, notes.len())?;
+    for n in notes.into_values() {
+        all.push(n.note())?;
+    }
+    Ok(all)
+}
+
+// Copies of the notes, by place.
+fn copied(alloc: Global, notes: &BTreeMap<u64, KeptNote>) -> Result<Vec<Note>, Fault>
+    ensures copied { IfOk result (λ v. v.items ≡ values_of notes.now.entries) }
     ensures refused { IfErr result (λ e. e ≡ Resources) }
 {
     let mut all = Vec::with_capacity(alloc, notes.len())?;

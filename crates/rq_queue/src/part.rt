@@ -2,24 +2,29 @@
 
 ghost use Rattle.std.specs.Prelude.{◌≡◌, ◌≢◌, ◌+◌, ◌<◌, ◌^◌, ◌++◌, ◌∷◌, [], length, IfOk, IfErr};
 ghost use Rattle.std.specs.Prelude.{◌-◌, ◌≤◌, OnOk, SomeIff};
-ghost use Rattle.std.specs.List.{AllByRecursion};
+ghost use Rattle.std.specs.List.{AllByRecursion, flat_map};
+ghost use Rattle.std.specs.List.Sorted.{IsPermutation};
 ghost use Rattle.rq_model.specs.Queues as queues;
 ghost use Rattle.rq_model.specs.Records as records;
 ghost use Rattle.rq_model.specs.Ready.{IsReady};
 ghost use Rattle.rq_model.specs.Redo as redo_words;
+ghost use Rattle.rq_model.specs.StateSpelling.{registrant_bytes};
 ghost use Rattle.rq_model.specs.States as states;
 ghost use Rattle.rq_queue.specs.Pouring.{Grows};
 ghost use Rattle.rq_queue.specs.Rooms.{member_bytes};
 ghost use Rattle.rq_record.specs.declared.fault.Fault.TheVariants.{Resources};
+ghost use Rattle.rq_state.specs.Comparing.{behind};
 
 use crate::elements::Elements;
+use crate::lent::LentElement;
+use crate::lent_notes::LentNote;
 use crate::moves::KeptMove;
 use crate::notes::Notes;
 use crate::operations::KeptOp;
 use crate::poured_members::add_members;
 use crate::registrants::Registrants;
 use rq_record::{ElemId, Fault, KeptBy, KeptPayload, KeptRecord, Name, QueueNo, UnitNo};
-use rq_state::{Definition, Fields, KeptFields, OpKind, State, told_elements};
+use rq_state::{Compared, Definition, Fields, KeptFields, OpKind, State, told_elements};
 use std::alloc::Global;
 use std::marker::Model;
 
@@ -166,9 +171,40 @@ impl Part {
         add_members(fields, elements, registrants, notes)
     }
 
-    /// The room that its members leave of so many bytes, each member spelled in its shortest form:
-    /// 6 bytes for a registrant, 28 for an element, 38 for a note. None if they do not fit. It looks
-    /// at no more lists than fit.
+    /// Lends its elements: adds them to the list, in some order. Refused with Resources.
+    pub fn lend_elements<'a>(&'a self, lent: &mut Vec<LentElement<'a>>) -> Result<(), Fault>
+        ensures lent { OnOk result
+            (IsPermutation (lent.old.items ++ self.now.elements) lent.new.items) }
+        ensures refused { IfErr result (λ e. e ≡ Resources) }
+    {
+        self.elements.lend(lent)
+    }
+
+    /// Lends its notes: adds them to the list, by place. Refused with Resources.
+    pub fn lend_notes<'a>(&'a self, lent: &mut Vec<LentNote<'a>>) -> Result<(), Fault>
+        ensures lent { OnOk result (lent.new.items ≡ lent.old.items ++ self.now.notes) }
+        ensures refused { IfErr result (λ e. e ≡ Resources) }
+    {
+        self.notes.lend(lent)
+    }
+
+    /// How many registrants it has.
+    pub fn registrant_count(&self) -> usize
+        ensures { result ≡ length self.now.registrants }
+    {
+        self.registrants.count()
+    }
+
+    /// The spellings of its registrants are to come next in the bytes. It looks at none behind the
+    /// first that differs.
+    pub fn compare_registrants(&self, bytes: &mut Compared<'_>)
+        ensures { bytes.new ≡ behind (flat_map registrant_bytes self.now.registrants) bytes.old }
+    {
+        self.registrants.compare(bytes);
+    }
+
+    /// The room that its members leave of so many bytes, each member spelled in its shortest form.
+    /// None if they do not fit. It looks at no more lists than fit.
     pub fn room_left(&self, room: u64) -> Option<u64>
         ensures { SomeIff result (member_bytes self.now ≤ room) (room - member_bytes self.now) }
     {

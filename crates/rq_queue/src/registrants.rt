@@ -2,19 +2,21 @@
 
 ghost use Rattle.std.specs.Prelude.{◌≡◌, ◌++◌, ◌∷◌, [], true, map, IfOk, IfErr};
 ghost use Rattle.std.specs.Prelude.{◌*◌, ◌-◌, ◌≤◌, length, OnOk, SomeIff};
-ghost use Rattle.std.specs.List.{AllByRecursion};
+ghost use Rattle.std.specs.List.{AllByRecursion, flat_map};
 ghost use Rattle.rq_model.specs.Machine as machine;
+ghost use Rattle.rq_model.specs.StateSpelling.{registrant_bytes};
 ghost use Rattle.rq_model.specs.States as model;
 ghost use Rattle.rq_model.specs.WellFormed.{Ordered};
 ghost use Rattle.rq_queue.specs.Roll.{registrant_of, heard};
 ghost use Rattle.rq_record.specs.declared.fault.Fault.TheVariants.{Resources};
+ghost use Rattle.rq_state.specs.Comparing.{behind};
 
 use crate::kept_last::KeptLast;
 use crate::kept_note::KeptNote;
 use crate::keys::slim;
-use crate::rooms::{REGISTRANT, room_after};
+use crate::rooms::room_after;
 use rq_record::{Fault, KeptName, Name, QueueNo, UnitNo};
-use rq_state::Registrant;
+use rq_state::{Compared, Registrant, SHORTEST_REGISTRANT};
 use std::alloc::Global;
 use std::collections::BTreeMap;
 use std::marker::Model;
@@ -79,7 +81,7 @@ impl Registrants {
         ensures listed { IfOk result (λ v. v.items ≡ self) }
         ensures refused { IfErr result (λ e. e ≡ Resources) }
     {
-        listed(alloc, &self.lasts)
+        listed(alloc, self.lasts)
     }
 
     /// Copies of all of them, in order.
@@ -87,14 +89,28 @@ impl Registrants {
         ensures listed { IfOk result (λ v. v.items ≡ self.now) }
         ensures refused { IfErr result (λ e. e ≡ Resources) }
     {
-        listed(alloc, &self.lasts)
+        copied(alloc, &self.lasts)
+    }
+
+    /// How many they are.
+    pub(crate) fn count(&self) -> usize
+        ensures { result ≡ length self.now }
+    {
+        self.lasts.len()
+    }
+
+    /// Their spellings are to come next in the bytes.
+    pub(crate) fn compare(&self, bytes: &mut Compared<'_>)
+        ensures { bytes.new ≡ behind (flat_map registrant_bytes self.now) bytes.old }
+    {
+        compare_each(&self.lasts, bytes);
     }
 
     /// The room that they leave of so many bytes. None if they do not fit.
     pub(crate) fn room_left(&self, room: u64) -> Option<u64>
         ensures { SomeIff result (6 * length self.now ≤ room) (room - 6 * length self.now) }
     {
-        room_after(room, REGISTRANT, self.lasts.len())
+        room_after(room, SHORTEST_REGISTRANT, self.count())
     }
 
     /// Registers a name, unless it is registered.
@@ -162,21 +178,63 @@ impl Registrants {
     }
 }
 
-// The registrants, in order.
+fn registrant(key: &(u32, KeptName), last: &KeptLast) -> Registrant
+    ensures { result ≡ registrant_of (key.now, last.now) }
+{
+    Registrant {
+        queue: QueueNo(key.0),
+        name: key.1.name(),
+        last: last.last(),
+    }
+}
+
+// The registrants, in order. Each is let go as the list gets it, so that map and list are never in
+// memory at once.
 fn listed(
     alloc: Global,
-    lasts: &BTreeMap<(u32, KeptName), KeptLast>,
+    lasts: BTreeMap<(u32, KeptName), KeptLast>,
 ) -> Result<Vec<Registrant>, Fault>
-    ensures listed { IfOk result (λ v. v.items ≡ map registrant_of lasts.now.entries) }
+    ensures listed { IfOk result (λ v. v.items ≡ map registrant_of lasts.entries) }
     ensures refused { IfErr result (λ e. e ≡ Resources) }
 {
     let mut all = Vec::with_capacity(alloc, lasts.len())?;
     for (key, last) in lasts {
-        all.push(Registrant {
-            queue: QueueNo(key.0),
-            name: key.1.name(),
-            last: last.last(),
-        })?;
+        all.push(registrant(&key, &last))?;
     }
     Ok(all)
+}
+
+// Copies of the registrants, in order.
+fn copied(
+    alloc: Global,
+    lasts: &BTreeMap<(u32, KeptName), KeptLast>,
+) -> Result<Vec<Registrant>, Fault>
+    ensures copied { IfOk result (λ v. v.items ≡ map registrant_of lasts.now.entries) }
+    ensures refused { IfErr result (λ e. e ≡ Resources) }
+{
+    let mut all = Vec::with_capacity(alloc, lasts.len())?;
+    for (key, last) in lasts {
+        all.push(registrant(key, last))?;
+    }
+    Ok(all)
+}
+
+fn compare_one(key: &(u32, KeptName), last: &KeptLast, bytes: &mut Compared<'_>)
+    ensures { bytes.new ≡ behind (registrant_bytes (registrant_of (key.now, last.now))) bytes.old }
+{
+    bytes.registrant(key.0, key.1.bytes(), last.lent());
+}
+
+// The spellings of the registrants are to come next in the bytes, in order. It looks at none behind
+// the first that differs.
+fn compare_each(lasts: &BTreeMap<(u32, KeptName), KeptLast>, bytes: &mut Compared<'_>)
+    ensures { bytes.new
+        ≡ behind (flat_map registrant_bytes (map registrant_of lasts.now.entries)) bytes.old }
+{
+    for (key, last) in lasts {
+        if !bytes.agree() {
+            return;
+        }
+        compare_one(key, last, bytes);
+    }
 }

@@ -3,21 +3,15 @@
 ghost use Rattle.std.specs.Prelude.{◌*◌, ◌-◌, ◌≤◌, length, SomeIff};
 ghost use Rattle.rq_queue.specs.Kept.{items_of};
 
-use rq_state::KeptElement;
+use rq_state::{KeptElement, SHORTEST_ELEMENT};
 use std::collections::BTreeMap;
 
-/// The bytes of a registrant.
-pub(crate) const REGISTRANT: u64 = 6;
-/// The bytes of an element.
-pub(crate) const ELEMENT: u64 = 28;
-/// The bytes of a note.
-pub(crate) const NOTE: u64 = 38;
-
-/// The room that members leave of so many bytes, each spelled in this many. None if they do not fit.
-pub(crate) fn room_after(room: u64, each: u64, count: usize) -> Option<u64>
+/// The room that members leave of so many bytes, each spelled in this many. None if they do not
+/// fit.
+pub(crate) fn room_after(room: u64, each: u32, count: usize) -> Option<u64>
     ensures { SomeIff result (each * count ≤ room) (room - each * count) }
 {
-    let bytes = each.checked_mul(count as u64)?;
+    let bytes = (each as u64).checked_mul(count as u64)?;
     room.checked_sub(bytes)
 }
 
@@ -29,7 +23,7 @@ pub(crate) fn room_after_marked(room: u64, marked: &BTreeMap<u64, Vec<KeptElemen
 {
     let mut left = room;
     for (_, list) in marked {
-        left = room_after(left, ELEMENT, list.len())?;
+        left = room_after(left, SHORTEST_ELEMENT, list.len())?;
     }
     Some(left)
 }

@@ -1,14 +1,12 @@
 -- The spelling of a state is as long as its members, and these are those of its parts.
-use Rattle.std.proofs.Common.{◌≡◌, ℕ, zero, suc, ◌+◌, ◌*◌, ◌<◌, ◌≤◌, Bool, List, [], ◌∷◌, ◌++◌, length, take}
-use Rattle.std.proofs.Common.{Option, Some, None, refl, ap, ◌∙◌, arith, length-append, sum_by}
-use Rattle.std.proofs.Common.{take_all}
+use Rattle.std.proofs.Common.{◌≡◌, ℕ, ◌+◌, ◌*◌, ◌≤◌, Bool, List, [], ◌∷◌, ◌++◌, length}
+use Rattle.std.proofs.Common.{Option, Some, None, refl, ap, arith, length-append, sum_by}
 use Rattle.std.specs.List.{flat_map}
 use Rattle.std.specs.Int.{w16, w64, to_be_bytes}
-use Rattle.std.specs.Prelude.{slice_index_or}
 use Rattle.std.proofs.Math.Nat.{mul-suc}
-use Rattle.std.proofs.lemmas.List.Sums.{sum_by_more}
+use Rattle.std.proofs.lemmas.List.Sums.{sum_by-cons}
 use Rattle.rq_model.specs.States.{Mark, Free, Fresh, Held, Element, Last, Definition, Note}
-use Rattle.rq_model.specs.States.{Registrant, State, id_before, registrant_before}
+use Rattle.rq_model.specs.States.{Registrant, State, id_before}
 use Rattle.rq_model.specs.Queues.{Part, part_of}
 use Rattle.rq_model.specs.Laws.{gathered}
 use Rattle.rq_model.specs.StateSpelling.{counted, element_number, kind_byte, definition_bytes, last_bytes}
@@ -18,7 +16,9 @@ use Rattle.rq_model.proofs.WellFormedRuns.{length-put}
 use Rattle.rq_state.specs.Orders.{put_in_order, place_before}
 use Rattle.rq_state.specs.Laws.{PartsMakeTheState}
 use Rattle.rq_queue.specs.Rooms.{member_bytes}
+use Rattle.rq_standing.specs.Parts.{ArePartsOf}
 use Rattle.rq_standing.specs.Spelled.{least_bytes}
+use Rattle.rq_standing.proofs.Together.{gathered_all, registrants_together}
 
 -- Members.
 
@@ -89,49 +89,34 @@ length_in_order before [] = refl
 length_in_order before (x ∷ xs) =
     omega (arith, length-put before x (put_in_order before xs), length_in_order before xs)
 
--- the members of the parts of the first queues
-of_first : (s : State) (parts : List Part) (d : Part)
-    → ((queue : ℕ) → queue < length s.definitions → slice_index_or parts queue d ≡ part_of s queue)
-    → length parts ≡ length s.definitions → (n : ℕ) → n ≤ length parts
-    → sum_by member_bytes (take n parts)
-    ≡ 6 * length (gathered (λ (p : Part). p.registrants) (part_of s) n)
-    + 28 * length (gathered (λ (p : Part). p.elements) (part_of s) n)
-    + 38 * length (gathered (λ (p : Part). p.notes) (part_of s) n)
-of_first s parts d are size zero l = refl
-of_first s parts d are size (suc n) l =
-    let up : suc n ≡ n + 1 = omega arith in
-    let one : sum_by member_bytes (take (suc n) parts)
-    ≡ sum_by member_bytes (take n parts) + member_bytes (part_of s n) =
-    ap (λ m. sum_by member_bytes (take m parts)) up ∙ sum_by_more member_bytes parts n d (omega (arith, l))
-    ∙ ap (λ (p : Part). sum_by member_bytes (take n parts) + member_bytes p) (are n (omega (arith, l, size))) in
+members_of : (parts : List Part) → sum_by member_bytes parts
+    ≡ 6 * length (flat_map (λ (p : Part). p.registrants) parts)
+    + 28 * length (flat_map (λ (p : Part). p.elements) parts) + 38 * length (flat_map (λ (p : Part). p.notes) parts)
+members_of [] = refl
+members_of (p ∷ parts) =
     omega (
       arith,
-      one,
-      of_first s parts d are size n (omega (arith, l)),
-      length-append (gathered (λ (p : Part). p.registrants) (part_of s) n) (part_of s n).registrants,
-      length-append (gathered (λ (p : Part). p.elements) (part_of s) n) (part_of s n).elements,
-      length-append (gathered (λ (p : Part). p.notes) (part_of s) n) (part_of s n).notes,
+      sum_by-cons member_bytes p parts,
+      members_of parts,
+      length-append p.registrants (flat_map (λ (q : Part). q.registrants) parts),
+      length-append p.elements (flat_map (λ (q : Part). q.elements) parts),
+      length-append p.notes (flat_map (λ (q : Part). q.notes) parts),
     )
 
-pub of_all : PartsMakeTheState → (s : State) (parts : List Part) (d : Part) → IsWellFormed s
-    → ((queue : ℕ) → queue < length s.definitions → slice_index_or parts queue d ≡ part_of s queue)
+pub of_all : PartsMakeTheState → (s : State) (parts : List Part) → IsWellFormed s → ArePartsOf s parts
     → length parts ≡ length s.definitions
     → sum_by member_bytes parts ≡ 6 * length s.registrants + 28 * length s.elements + 38 * length s.notes
-of_all law s parts d well are size =
+of_all law s parts well are size =
     let whole = law s well in
     let n = length s.definitions in
-    let of_queues = of_first s parts d are size (length parts) (omega arith) in
     omega (
       arith,
-      ap (sum_by member_bytes) (take_all (length parts) parts (omega arith)),
-      of_queues,
-      ap (λ m. length (gathered (λ (p : Part). p.registrants) (part_of s) m)) size,
-      ap (λ m. length (gathered (λ (p : Part). p.elements) (part_of s) m)) size,
-      ap (λ m. length (gathered (λ (p : Part). p.notes) (part_of s) m)) size,
-      ap (λ (t : State). length t.registrants) whole,
+      members_of parts,
+      ap (λ (rs : List Registrant). length rs) (registrants_together law s parts well are size),
+      ap (λ (es : List Element). length es) (gathered_all (λ (p : Part). p.elements) s parts are size),
+      ap (λ (ns : List Note). length ns) (gathered_all (λ (p : Part). p.notes) s parts are size),
       ap (λ (t : State). length t.elements) whole,
       ap (λ (t : State). length t.notes) whole,
-      length_in_order registrant_before (gathered (λ (p : Part). p.registrants) (part_of s) n),
       length_in_order id_before (gathered (λ (p : Part). p.elements) (part_of s) n),
       length_in_order place_before (gathered (λ (p : Part). p.notes) (part_of s) n),
     )

@@ -1,3 +1,4 @@
+mod Together
 mod Units
 mod StateUnits
 mod Acting

@@ -1,98 +1,105 @@
--- What bytes that spell a state begin with.
-use Rattle.std.proofs.Common.{◌≡◌, ℕ, ◌+◌, Bool, true, false, ◌&&◌, List, [], ◌∷◌, ◌++◌, length}
-use Rattle.std.proofs.Common.{drop, drop-drop, refl, sym, ap, ◌∙◌, arith, nat_eq, nat_le, vec_len}
-use Rattle.std.specs.List.{flat_map, starts_with}
+-- What bytes that spell a state begin with, and what comes behind.
+use Rattle.std.proofs.Common.{◌≡◌, ℕ, Bool, true, false, ◌&&◌, List, ◌++◌, length, Option, Some, None, is_some}
+use Rattle.std.proofs.Common.{refl, sym, ap, ◌∙◌, arith, nat_eq, nat_le}
 use Rattle.std.specs.Int.{w32, w64, to_be_bytes}
+use Rattle.std.specs.List.{flat_map}
 use Rattle.std.specs.Str.{bytes_eq}
 use Rattle.std.proofs.lemmas.Bool.{le-leb, false≢true}
-use Rattle.std.proofs.lemmas.Bool.Decides.{Decides-eqb}
-use Rattle.std.proofs.lemmas.Slice.Eq.{bytes_eq-Decides, starts_is}
+use Rattle.std.proofs.lemmas.Slice.Eq.{bytes_eq-Decides}
 use Rattle.rq_model.specs.States.{State}
 use Rattle.rq_model.specs.StateSpelling.{counted, definition_bytes, registrant_bytes, element_bytes, note_bytes}
 use Rattle.rq_model.specs.StateSpelling.{state_bytes}
 use Rattle.rq_model.proofs.Lists.{by_cases}
-use Rattle.rq_standing.specs.Spelled.{begins_as, least_bytes, head_of}
+use Rattle.rq_state.specs.Comparing.{behind, is_whole}
+use Rattle.rq_state.proofs.Behind.{behind_both, behind_none, whole_is, follow}
+use Rattle.rq_standing.specs.Spelled.{head_of, lists_of, least_bytes}
 use Rattle.rq_standing.specs.Standings.{HoldsState}
 use Rattle.rq_standing.specs.declared.queues.Queues.{Queues}
 use Rattle.rq_standing.proofs.Lengths.{state_long}
 
--- what begins with one list and then another, begins with both
-both_begin : (xs a b : List ℕ) → starts_with nat_eq xs (a ++ b)
-    ≡ (starts_with nat_eq xs a && starts_with nat_eq (drop (length a) xs) b)
-both_begin xs [] b = refl
-both_begin [] (x ∷ a) b = refl
-both_begin (y ∷ xs) (x ∷ a) b = ap (λ t. nat_eq x y && t) (both_begin xs a b)
-    ∙ joined (nat_eq x y) (starts_with nat_eq xs a) (starts_with nat_eq (drop (length a) xs) b)
-  where
-    joined : (p q r : Bool) → (p && (q && r)) ≡ ((p && q) && r)
-    joined true q r = refl
-    joined false q r = refl
+-- the head and the lists of a state behind it are its spelling
+pub spelled_so : (s : State) (kept : List ℕ) (head whole : Option (List ℕ)) → head ≡ behind (head_of s) (Some kept)
+    → whole ≡ behind (lists_of s) head → is_whole whole ≡ bytes_eq kept (state_bytes s)
+spelled_so s kept head whole begins follows =
+    ap is_whole (follows ∙ ap (behind (lists_of s)) begins
+    ∙ sym (behind_both (head_of s) (lists_of s) (Some kept)))
+    ∙ whole_is (state_bytes s) kept
 
--- the same from an offset on
-begin_at : (xs a b : List ℕ) (at : ℕ) → starts_with nat_eq (drop at xs) (a ++ b)
-    ≡ (starts_with nat_eq (drop at xs) a && starts_with nat_eq (drop (at + length a) xs) b)
-begin_at xs a b at = both_begin (drop at xs) a b
-    ∙ ap (λ ys. starts_with nat_eq (drop at xs) a && starts_with nat_eq ys b) (drop-drop (length a) at xs)
+-- bytes that begin otherwise are not the spelling
+otherwise_begun : (s : State) (kept : List ℕ) (head : Option (List ℕ)) → head ≡ behind (head_of s) (Some kept)
+    → is_some head ≡ false → bytes_eq kept (state_bytes s) ≡ false
+otherwise_begun s kept None begins differs =
+    sym (spelled_so s kept None None begins (sym (behind_none (lists_of s))))
+otherwise_begun s kept (Some rest) begins differs = absurd (let no : ⊥ = grind (arith, differs) in no)
 
-abbrev head : (n g c a k : ℕ) → List ℕ
-head n g c a k = to_be_bytes w64 n
-    ++ (to_be_bytes w64 g ++ (to_be_bytes w64 c ++ (to_be_bytes w64 a ++ to_be_bytes w32 k)))
-
-by_numbers : (n g c a k : ℕ) (kept : List ℕ) → starts_with nat_eq kept (head n g c a k)
-    ≡ (starts_with nat_eq (drop 0 kept) (to_be_bytes w64 n)
-    && (starts_with nat_eq (drop 8 kept) (to_be_bytes w64 g)
-    && (starts_with nat_eq (drop 16 kept) (to_be_bytes w64 c)
-    && (starts_with nat_eq (drop 24 kept) (to_be_bytes w64 a)
-    && starts_with nat_eq (drop 32 kept) (to_be_bytes w32 k)))))
-by_numbers n g c a k kept =
-    let w = to_be_bytes w64 n in
-    let x = to_be_bytes w64 g in
-    let y = to_be_bytes w64 c in
-    let z = to_be_bytes w64 a in
-    let e = to_be_bytes w32 k in
-    begin_at kept w (x ++ (y ++ (z ++ e))) 0
-    ∙ ap (λ t. starts_with nat_eq (drop 0 kept) w && t) (begin_at kept x (y ++ (z ++ e)) 8
-    ∙ ap (λ t. starts_with nat_eq (drop 8 kept) x && t) (begin_at kept y (z ++ e) 16
-    ∙ ap (λ t. starts_with nat_eq (drop 16 kept) y && t) (begin_at kept z e 24)))
-
--- the numbers of the queues are those of the state
-begins_so : (x : Queues) (s : State) (kept : List ℕ) → HoldsState x s
-    → begins_as x kept ≡ starts_with nat_eq kept (head_of s)
-begins_so x s kept h = sym (by_numbers x.next x.greatest x.committed x.aborted (vec_len x.definitions) kept)
-    ∙ ap (λ k. starts_with nat_eq kept (head x.next x.greatest x.committed x.aborted k)) x.definitions.ok.0
-    ∙ (λ i. starts_with nat_eq kept
-    (head (h.next i) (h.greatest i) (h.committed i) (h.aborted i) (length (h.definitions i))))
-
--- what begins otherwise, or is too short, is not the spelling
-otherwise_spelled : (s : State) (kept : List ℕ)
-    → (starts_with nat_eq kept (head_of s) && nat_le (least_bytes s) (length kept)) ≡ false
+-- nor are bytes that are too short
+too_short : (s : State) (kept : List ℕ) → nat_le (least_bytes s) (length kept) ≡ false
     → bytes_eq kept (state_bytes s) ≡ false
-otherwise_spelled s kept otherwise = by_cases (bytes_eq kept (state_bytes s)) (λ b. b ≡ false)
+too_short s kept short = by_cases (bytes_eq kept (state_bytes s)) (λ b. b ≡ false)
     (λ same. let is : kept ≡ state_bytes s = (bytes_eq-Decides kept (state_bytes s)).0 same in
-    let rest = flat_map definition_bytes s.definitions ++ (counted (to_be_bytes w64) s.units
-    ++ (counted registrant_bytes s.registrants
-    ++ (counted element_bytes s.elements ++ counted note_bytes s.notes))) in
-    let begins : starts_with nat_eq kept (head_of s) ≡ true =
-    (starts_is Decides-eqb kept (head_of s) (starts_with nat_eq kept (head_of s)) refl).1 rest is in
-    let long : nat_le (least_bytes s) (length kept) ≡ true =
-    le-leb (least_bytes s) (length kept) (omega (arith, state_long s, ap length is)) in
-    absurd (false≢true (sym otherwise
-    ∙ ap (λ b. b && nat_le (least_bytes s) (length kept)) begins ∙ long)))
+    absurd (false≢true (sym short
+    ∙ le-leb (least_bytes s) (length kept) (omega (arith, state_long s, ap length is)))))
     (λ _. refl)
 
 -- nor is anything, if no record can have the next number
-pub not_spelled : (x : Queues) (s : State) (kept : List ℕ) (may : Bool) → HoldsState x s
-    → may ≡ (nat_le x.next 4294967295 && (begins_as x kept && nat_le (least_bytes s) (length kept)))
+pub not_spelled : (s : State) (kept : List ℕ) (next : ℕ) (head : Option (List ℕ)) (may : Bool) → next ≡ s.next
+    → head ≡ behind (head_of s) (Some kept)
+    → may ≡ (nat_le next 4294967295 && (is_some head && nat_le (least_bytes s) (length kept)))
     → may ≡ false → false ≡ (nat_le s.next 4294967295 && bytes_eq kept (state_bytes s))
-not_spelled x s kept may holds is not_so =
-    let same : (nat_le x.next 4294967295 && (begins_as x kept && nat_le (least_bytes s) (length kept)))
-    ≡ (nat_le s.next 4294967295
-    && (starts_with nat_eq kept (head_of s) && nat_le (least_bytes s) (length kept))) =
-    λ i. nat_le (holds.next i) 4294967295
-    && (begins_so x s kept holds i && nat_le (least_bytes s) (length kept)) in
+not_spelled s kept next head may same begins is not_so =
     by_cases (nat_le s.next 4294967295)
-    (λ b. (b && (starts_with nat_eq kept (head_of s) && nat_le (least_bytes s) (length kept))) ≡ false
+    (λ b. (b && (is_some head && nat_le (least_bytes s) (length kept))) ≡ false
     → false ≡ (b && bytes_eq kept (state_bytes s)))
-    (λ _ other. sym (otherwise_spelled s kept other))
+    (λ _ other. by_cases (is_some head)
+    (λ b. is_some head ≡ b → (b && nat_le (least_bytes s) (length kept)) ≡ false
+    → false ≡ bytes_eq kept (state_bytes s))
+    (λ _ _ short. sym (too_short s kept short))
+    (λ _ differs _. sym (otherwise_begun s kept head begins differs)) refl other)
     (λ _ _. refl)
-    (sym same ∙ sym is ∙ not_so)
+    (ap (λ n. nat_le n 4294967295 && (is_some head && nat_le (least_bytes s) (length kept))) (sym same)
+    ∙ sym is ∙ not_so)
+
+-- what may be the spelling is it if its lists follow
+pub is_spelled : (s : State) (kept : List ℕ) (next : ℕ) (head whole : Option (List ℕ)) (may : Bool) → next ≡ s.next
+    → head ≡ behind (head_of s) (Some kept)
+    → may ≡ (nat_le next 4294967295 && (is_some head && nat_le (least_bytes s) (length kept)))
+    → may ≡ true → whole ≡ behind (lists_of s) head
+    → is_whole whole ≡ (nat_le s.next 4294967295 && bytes_eq kept (state_bytes s))
+is_spelled s kept next head whole may same begins is so follows = spelled_so s kept head whole begins follows
+    ∙ by_cases (nat_le s.next 4294967295) (λ b. nat_le s.next 4294967295 ≡ b
+    → bytes_eq kept (state_bytes s) ≡ (b && bytes_eq kept (state_bytes s)))
+    (λ _ _. refl)
+    (λ _ no. absurd (false≢true (sym (sym so ∙ is
+    ∙ ap (λ n. nat_le n 4294967295 && (is_some head && nat_le (least_bytes s) (length kept))) same
+    ∙ ap (λ b. b && (is_some head && nat_le (least_bytes s) (length kept))) no))))
+    refl
+
+-- Piece by piece, as calls compare them.
+
+pub head_compared : (x : Queues) (s : State) (k : ℕ) (m m1 m2 m3 m4 m5 : Option (List ℕ)) → HoldsState x s
+    → k ≡ length x.definitions.items → m1 ≡ behind (to_be_bytes w64 x.next) m
+    → m2 ≡ behind (to_be_bytes w64 x.greatest) m1 → m3 ≡ behind (to_be_bytes w64 x.committed) m2
+    → m4 ≡ behind (to_be_bytes w64 x.aborted) m3 → m5 ≡ behind (to_be_bytes w32 k) m4 → m5 ≡ behind (head_of s) m
+head_compared x s k m m1 m2 m3 m4 m5 h count one two three four five =
+    let n = to_be_bytes w64 x.next in
+    let g = to_be_bytes w64 x.greatest in
+    let c = to_be_bytes w64 x.committed in
+    let a = to_be_bytes w64 x.aborted in
+    let d = to_be_bytes w32 k in
+    follow n (g ++ (c ++ (a ++ d))) m m1 m5 one (follow g (c ++ (a ++ d)) m1 m2 m5 two
+    (follow c (a ++ d) m2 m3 m5 three (follow a d m3 m4 m5 four five)))
+    ∙ (λ i. behind (to_be_bytes w64 (h.next i) ++ (to_be_bytes w64 (h.greatest i)
+    ++ (to_be_bytes w64 (h.committed i) ++ (to_be_bytes w64 (h.aborted i)
+    ++ to_be_bytes w32 ((count ∙ ap length h.definitions) i))))) m)
+
+pub lists_compared : (s : State) (m m1 m2 m3 m4 m5 : Option (List ℕ))
+    → m1 ≡ behind (flat_map definition_bytes s.definitions) m → m2 ≡ behind (counted (to_be_bytes w64) s.units) m1
+    → m3 ≡ behind (counted registrant_bytes s.registrants) m2 → m4 ≡ behind (counted element_bytes s.elements) m3
+    → m5 ≡ behind (counted note_bytes s.notes) m4 → m5 ≡ behind (lists_of s) m
+lists_compared s m m1 m2 m3 m4 m5 one two three four five =
+    let us = counted (to_be_bytes w64) s.units in
+    let rs = counted registrant_bytes s.registrants in
+    let es = counted element_bytes s.elements in
+    let ns = counted note_bytes s.notes in
+    follow (flat_map definition_bytes s.definitions) (us ++ (rs ++ (es ++ ns))) m m1 m5 one
+    (follow us (rs ++ (es ++ ns)) m1 m2 m5 two (follow rs (es ++ ns) m2 m3 m5 three (follow es ns m3 m4 m5 four five)))

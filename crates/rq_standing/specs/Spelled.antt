@@ -1,9 +1,10 @@
--- How the spelling of a state begins, and how long it is at least.
-use Rattle.std.specs.Prelude.{ℕ, ◌+◌, ◌*◌, Bool, ◌&&◌, ◌++◌, List, length, drop, nat_eq, vec_len}
+-- How the spelling of a state begins, what comes behind, and how long it is at least.
+use Rattle.std.specs.Prelude.{ℕ, ◌+◌, ◌*◌, ◌++◌, List, length}
 use Rattle.std.specs.Int.{w32, w64, to_be_bytes}
-use Rattle.std.specs.List.{starts_with}
+use Rattle.std.specs.List.{flat_map}
 use Rattle.rq_model.specs.States.{State}
-use Rattle.rq_standing.specs.declared.queues.Queues.{Queues}
+use Rattle.rq_model.specs.StateSpelling.{counted, definition_bytes, registrant_bytes, element_bytes}
+use Rattle.rq_model.specs.StateSpelling.{note_bytes}
 
 -- its four counts, and the number of its definitions
 abbrev pub head_of : State → List ℕ
@@ -11,13 +12,14 @@ head_of s = to_be_bytes w64 s.next
     ++ (to_be_bytes w64 s.greatest ++ (to_be_bytes w64 s.committed
     ++ (to_be_bytes w64 s.aborted ++ to_be_bytes w32 (length s.definitions))))
 
--- the four counts stand at the beginning of the bytes, and behind them the number of definitions
-abbrev pub begins_as : Queues → List ℕ → Bool
-begins_as x kept = starts_with nat_eq (drop 0 kept) (to_be_bytes w64 x.next)
-    && (starts_with nat_eq (drop 8 kept) (to_be_bytes w64 x.greatest)
-    && (starts_with nat_eq (drop 16 kept) (to_be_bytes w64 x.committed)
-    && (starts_with nat_eq (drop 24 kept) (to_be_bytes w64 x.aborted)
-    && starts_with nat_eq (drop 32 kept) (to_be_bytes w32 (vec_len x.definitions)))))
+-- its elements and notes, each list behind the number of its members
+abbrev pub elements_and_notes_of : State → List ℕ
+elements_and_notes_of s = counted element_bytes s.elements ++ counted note_bytes s.notes
+
+-- all behind the head
+abbrev pub lists_of : State → List ℕ
+lists_of s = flat_map definition_bytes s.definitions ++ (counted (to_be_bytes w64) s.units
+    ++ (counted registrant_bytes s.registrants ++ elements_and_notes_of s))
 
 -- the bytes of its numbers, and of its members, each in its shortest form
 abbrev pub least_bytes : State → ℕ

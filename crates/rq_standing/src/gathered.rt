@@ -8,10 +8,9 @@ ghost use Rattle.rq_standing.specs.Parts.{ArePartsOf};
 ghost use Rattle.rq_standing.specs.Standings.{HoldsState};
 
 use crate::queues::Queues;
-use crate::start::copied_definitions;
 use rq_queue::Part;
 use rq_record::Fault;
-use rq_state::{KeptFields, State};
+use rq_state::{KeptFields, State, copied_definitions};
 use std::alloc::Global;
 
 // Pours out copies of the part of every queue, in their order.

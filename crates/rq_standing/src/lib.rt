@@ -2,6 +2,7 @@
 //! judged and done, at the cost of the members that it touches.
 #![tactic(auto)]
 
+mod compared_parts;
 mod gathered;
 mod open_units;
 mod operations;

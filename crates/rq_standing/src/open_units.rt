@@ -1,16 +1,21 @@
 //! The open units, and the queues that each of them named.
 
 ghost use Rattle.std.specs.Prelude.{◌≡◌, ◌==◌, ℕ, [], ◌&&◌, ◌||◌, true, false, IfOk, OnOk, IfErr, map};
-ghost use Rattle.std.specs.Prelude.{if◌then◌else◌, length};
+ghost use Rattle.std.specs.Prelude.{◌<◌, if◌then◌else◌, length};
 ghost use Rattle.std.specs.BTreeMap.{keys, IsOrdered};
+ghost use Rattle.std.specs.Int.{w64, to_be_bytes};
+ghost use Rattle.std.specs.List.{flat_map};
 ghost use Rattle.std.specs.Ordering.{nat_cmp, is_eq};
 ghost use Rattle.rq_model.specs.States.{State};
+ghost use Rattle.rq_model.specs.StateSpelling.{counted};
 ghost use Rattle.rq_model.specs.WellFormed.{IsWellFormed};
 ghost use Rattle.rq_record.specs.declared.fault.Fault.TheVariants.{Resources};
+ghost use Rattle.rq_state.specs.Comparing.{behind};
 ghost use Rattle.rq_state.specs.Views.{unit_of};
 ghost use Rattle.rq_standing.specs.Units.{AreUnits, has_open, queues_of, engages_in};
 
 use rq_record::{Fault, QueueNo, UnitNo};
+use rq_state::Compared;
 use std::alloc::Global;
 use std::collections::BTreeMap;
 
@@ -79,6 +84,17 @@ impl OpenUnits {
         self.named.len()
     }
 
+    /// How many they are and their numbers, rising, are to come next in the bytes.
+    pub(crate) fn compare(&self, bytes: &mut Compared<'_>)
+        requires few { (s : State) × IsWellFormed s × AreUnits self.now s
+            × (length s.units < 4294967296) }
+        ensures { (s : State) → IsWellFormed s → AreUnits self.now s
+            → bytes.new ≡ behind (counted (to_be_bytes w64) s.units) bytes.old }
+    {
+        bytes.count(self.count());
+        compare_each(&self.named, bytes);
+    }
+
     /// Their numbers, rising.
     pub(crate) fn numbers(&self, alloc: Global) -> Result<Vec<UnitNo>, Fault>
         ensures numbers { IfOk result (λ units. (s : State) → IsWellFormed s → AreUnits self.now s
@@ -100,4 +116,17 @@ fn listed(alloc: Global, named: &BTreeMap<u64, Vec<u64>>) -> Result<Vec<UnitNo>,
         units.push(UnitNo(*unit))?;
     }
     Ok(units)
+}
+
+// The numbers are to come next in the bytes. It looks at none behind the first that differs.
+fn compare_each(named: &BTreeMap<u64, Vec<u64>>, bytes: &mut Compared<'_>)
+    ensures compared { bytes.new ≡ behind (flat_map (to_be_bytes w64) (keys named.now)) bytes.old }
+    ensures ordered { IsOrdered nat_cmp named.now }
+{
+    for unit in named.keys() {
+        if !bytes.agree() {
+            return;
+        }
+        bytes.u64(*unit);
+    }
 }

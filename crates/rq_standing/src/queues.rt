@@ -13,11 +13,11 @@ ghost use Rattle.rq_standing.specs.Standings.{HoldsState, Moved, May, queue_name
 use crate::open_units::OpenUnits;
 use crate::operations::{act_on, dequeue_on};
 use crate::received_moves::receive_all;
-use crate::start::{copied_definitions, open_units_of, parts_of};
+use crate::start::{open_units_of, parts_of};
 use crate::unit_ends::{abort_all, commit_all};
 use rq_queue::{KeptOp, Part};
 use rq_record::{ElemId, Fault, KeptBy, KeptRecord, QueueNo, UnitNo};
-use rq_state::Definition;
+use rq_state::{Definition, copied_definitions};
 use std::alloc::Global;
 
 /// The parts of all queues, each at the index that is its number; the open units; and the numbers

@@ -1,37 +1,23 @@
-//! Whether bytes spell the state that is held.
+//! Whether bytes spell the state that is held: what stands is compared with them as they come.
 
-ghost use Rattle.std.specs.Prelude.{◌≡◌, ◌≤◌, ◌&&◌, nat_eq, nat_le, length, drop, sum_by};
-ghost use Rattle.std.specs.Prelude.{IfOk, IfErr};
-ghost use Rattle.std.specs.Int.{w32, w64, to_be_bytes};
-ghost use Rattle.std.specs.List.{starts_with};
+ghost use Rattle.std.specs.Prelude.{◌≡◌, ◌≤◌, ◌&&◌, nat_le, is_some, sum_by};
+ghost use Rattle.std.specs.Prelude.{length, IfOk, OnOk, IfErr};
 ghost use Rattle.std.specs.Str.{bytes_eq};
 ghost use Rattle.rq_model.specs.States as states;
-ghost use Rattle.rq_model.specs.StateSpelling.{state_bytes};
+ghost use Rattle.rq_model.specs.StateSpelling.{counted, registrant_bytes, element_bytes};
+ghost use Rattle.rq_model.specs.StateSpelling.{note_bytes, state_bytes};
 ghost use Rattle.rq_queue.specs.Rooms.{member_bytes};
 ghost use Rattle.rq_record.specs.declared.fault.Fault.TheVariants.{Resources};
-ghost use Rattle.rq_standing.specs.Spelled.{begins_as, least_bytes};
+ghost use Rattle.rq_state.specs.Comparing.{behind};
+ghost use Rattle.rq_standing.specs.Spelled.{head_of, lists_of, least_bytes};
 ghost use Rattle.rq_standing.specs.Standings.{HoldsState};
 
+use crate::compared_parts::{compare_registrants_of, lent_elements, lent_notes, registrants_in};
 use crate::queues::Queues;
 use rq_queue::Part;
 use rq_record::Fault;
-use rq_state::{State, spell, spelled_len};
+use rq_state::{Compared, SHORTEST_DEFINITION, SHORTEST_STATE, SHORTEST_UNIT, compare_all, order};
 use std::alloc::Global;
-
-// Whether the number stands there, in 8 bytes.
-fn has_number(kept: &[u8], at: usize, number: u64) -> bool
-    ensures { result ≡ starts_with nat_eq (drop at kept.now) (to_be_bytes w64 number) }
-{
-    at <= kept.len() && kept[at..].starts_with(&number.to_be_bytes())
-}
-
-// Whether the count stands there, in 4 bytes.
-fn has_count(kept: &[u8], at: usize, count: usize) -> bool
-    requires { count ≤ 4096 }
-    ensures { result ≡ starts_with nat_eq (drop at kept.now) (to_be_bytes w32 count) }
-{
-    at <= kept.len() && kept[at..].starts_with(&(count as u32).to_be_bytes())
-}
 
 // Whether the members of the parts, each in its shortest form, are within so many bytes.
 fn parts_fit(parts: &[Part], room: u64) -> bool
@@ -47,31 +33,18 @@ fn parts_fit(parts: &[Part], room: u64) -> bool
     true
 }
 
-// Whether these bytes spell the state. It is spelled only if its spelling has as many.
-fn is_spelled(alloc: Global, state: &State, kept: &[u8]) -> Result<bool, Fault>
-    requires next { state.now.next ≤ 4294967295 }
-    requires short { length kept.now ≤ 268435455 }
-    ensures truth { IfOk result (λ t. t ≡ bytes_eq kept.now (state_bytes state.now)) }
-    ensures refused { IfErr result (λ e. e ≡ Resources) }
-{
-    if spelled_len(state) != kept.len() as u128 {
-        return Ok(false);
-    }
-    let spelled = spell(alloc, state)?;
-    Ok(kept == spelled.as_slice())
-}
-
 impl Queues {
-    // Whether the bytes begin with the four counts and the number of definitions.
-    fn begins(&self, kept: &[u8]) -> bool
+    // The four counts and the number of definitions are to come next.
+    fn compare_head(&self, bytes: &mut Compared<'_>)
         requires { length self.now.definitions.items ≤ 4096 }
-        ensures { result ≡ begins_as self.now kept.now }
+        ensures { (t : states.State) → HoldsState self.now t
+            → bytes.new ≡ behind (head_of t) bytes.old }
     {
-        has_number(kept, 0, self.next)
-            && has_number(kept, 8, self.greatest)
-            && has_number(kept, 16, self.committed)
-            && has_number(kept, 24, self.aborted)
-            && has_count(kept, 32, self.definitions.len())
+        bytes.u64(self.next);
+        bytes.u64(self.greatest);
+        bytes.u64(self.committed);
+        bytes.u64(self.aborted);
+        bytes.count(self.definitions.len());
     }
 
     // Whether so many bytes are enough for all members, each in its shortest form.
@@ -80,20 +53,88 @@ impl Queues {
             → result ≡ nat_le (least_bytes t) len }
     {
         rq_state::parts_make_the_state();
-        // four numbers of 8 bytes and five counts of 4
-        let lists = 52 + 7 * self.definitions.len() as u128 + 8 * self.units.count() as u128;
+        let lists = SHORTEST_STATE as u128
+            + SHORTEST_DEFINITION as u128 * self.definitions.len() as u128
+            + SHORTEST_UNIT as u128 * self.units.count() as u128;
         lists <= len as u128 && parts_fit(&self.parts, (len as u128 - lists) as u64)
     }
 
-    // Whether the bytes may spell the state. It makes nothing, and looks at no more parts than as
-    // many bytes can spell.
-    fn may_be_spelled_by(&self, kept: &[u8]) -> bool
-        requires { (t : states.State) × HoldsState self.now t }
+    // Whether the bytes, so many in all, may spell the state, if they begin with its head. It looks
+    // at no more parts than as many bytes can spell.
+    fn may_follow(&self, bytes: &Compared<'_>, len: usize) -> bool
         ensures { (t : states.State) → HoldsState self.now t
             → result ≡ (nat_le self.now.next 4294967295
-            && (begins_as self.now kept.now && nat_le (least_bytes t) (length kept.now))) }
+            && (is_some bytes.now && nat_le (least_bytes t) len)) }
     {
-        self.next <= 4_294_967_295 && self.begins(kept) && self.fits(kept.len())
+        self.next <= 4_294_967_295 && bytes.agree() && self.fits(len)
+    }
+
+    // The number of registrants and their spellings are to come next.
+    fn compare_registrants(&self, bytes: &mut Compared<'_>)
+        requires holds { (t : states.State) × HoldsState self.now t }
+        requires next { self.now.next ≤ 4294967295 }
+        ensures { (t : states.State) → HoldsState self.now t
+            → bytes.new ≡ behind (counted registrant_bytes t.registrants) bytes.old }
+    {
+        rq_state::parts_make_the_state();
+        bytes.count(registrants_in(&self.parts));
+        compare_registrants_of(&self.parts, bytes);
+    }
+
+    // The number of elements and their spellings are to come next. Those of all queues come by id,
+    // so they are lent and put in order, if the bytes agree so far.
+    fn compare_elements(&self, alloc: Global, bytes: &mut Compared<'_>) -> Result<(), Fault>
+        requires holds { (t : states.State) × HoldsState self.now t }
+        requires next { self.now.next ≤ 4294967295 }
+        ensures compared { OnOk result ((t : states.State) → HoldsState self.now t
+            → bytes.new ≡ behind (counted element_bytes t.elements) bytes.old) }
+        ensures refused { IfErr result (λ e. e ≡ Resources) }
+    {
+        rq_state::parts_make_the_state();
+        rq_state::any_order_makes_the_state();
+        if !bytes.agree() {
+            return Ok(());
+        }
+        let mut elements = lent_elements(alloc, &self.parts)?;
+        order(&mut elements);
+        bytes.count(elements.len());
+        compare_all(&elements, bytes);
+        Ok(())
+    }
+
+    // The same of the notes, which come by place.
+    fn compare_notes(&self, alloc: Global, bytes: &mut Compared<'_>) -> Result<(), Fault>
+        requires holds { (t : states.State) × HoldsState self.now t }
+        requires next { self.now.next ≤ 4294967295 }
+        ensures compared { OnOk result ((t : states.State) → HoldsState self.now t
+            → bytes.new ≡ behind (counted note_bytes t.notes) bytes.old) }
+        ensures refused { IfErr result (λ e. e ≡ Resources) }
+    {
+        rq_state::parts_make_the_state();
+        if !bytes.agree() {
+            return Ok(());
+        }
+        let mut notes = lent_notes(alloc, &self.parts)?;
+        order(&mut notes);
+        bytes.count(notes.len());
+        compare_all(&notes, bytes);
+        Ok(())
+    }
+
+    // All members are to come next, each list but that of the definitions behind its number.
+    fn compare_lists(&self, alloc: Global, bytes: &mut Compared<'_>) -> Result<(), Fault>
+        requires holds { (t : states.State) × HoldsState self.now t }
+        requires next { self.now.next ≤ 4294967295 }
+        ensures compared { OnOk result ((t : states.State) → HoldsState self.now t
+            → bytes.new ≡ behind (lists_of t) bytes.old) }
+        ensures refused { IfErr result (λ e. e ≡ Resources) }
+    {
+        compare_all(&self.definitions, bytes);
+        self.units.compare(bytes);
+        self.compare_registrants(bytes);
+        self.compare_elements(alloc, bytes)?;
+        self.compare_notes(alloc, bytes)?;
+        Ok(())
     }
 
     /// Whether these bytes spell the state that they hold. Refused only with `Resources`.
@@ -104,10 +145,12 @@ impl Queues {
             → b ≡ (nat_le t.next 4294967295 && bytes_eq kept.now (state_bytes t))) }
         ensures refused { IfErr result (λ e. e ≡ Resources) }
     {
-        if !self.may_be_spelled_by(kept) {
+        let mut bytes = Compared::new(kept);
+        self.compare_head(&mut bytes);
+        if !self.may_follow(&bytes, kept.len()) {
             return Ok(false);
         }
-        let state = self.state(alloc)?;
-        is_spelled(alloc, &state, kept)
+        self.compare_lists(alloc, &mut bytes)?;
+        Ok(bytes.is_whole())
     }
 }

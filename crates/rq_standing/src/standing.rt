@@ -79,9 +79,10 @@ impl Standing {
     }
 
     /// Whether these bytes, which are at most as many as a record holds, spell the state in which
-    /// it stands. To say no costs at most the bytes, times a logarithm, and the state is copied only
-    /// for bytes that begin as its spelling does and are enough for its members. Refused with
-    /// `Resources` alone.
+    /// it stands. Members are compared with them as they come, and none is copied. So it costs the
+    /// bytes up to the first that differs. If that is behind the registrants, it costs the elements
+    /// and notes too, times a logarithm, since those of all queues are put in order: the bytes are
+    /// enough for them. Refused with `Resources` alone.
     pub fn is_spelled_by(&self, alloc: Global, kept: &[u8]) -> Result<bool, Fault>
         requires stands { (version : records.Version) × (s : State) × Stands version self.now s }
         requires short { length kept.now ≤ 268435455 }

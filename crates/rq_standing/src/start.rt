@@ -11,23 +11,8 @@ ghost use Rattle.rq_standing.specs.Units.{AreUnits, has_open, engages_in};
 use crate::open_units::OpenUnits;
 use rq_queue::Part;
 use rq_record::{Fault, QueueNo, UnitNo};
-use rq_state::{Definition, KeptElement, Mark, Note, State};
+use rq_state::{KeptElement, Mark, Note, State};
 use std::alloc::Global;
-
-/// The same definitions again.
-pub(crate) fn copied_definitions(
-    alloc: Global,
-    definitions: &[Definition],
-) -> Result<Vec<Definition>, Fault>
-    ensures copied { IfOk result (λ v. v.items ≡ definitions.now) }
-    ensures refused { IfErr result (λ e. e ≡ Resources) }
-{
-    let mut copied = Vec::new(alloc);
-    for definition in definitions {
-        copied.push(definition.copied())?;
-    }
-    Ok(copied)
-}
 
 /// The parts of its queues, copied.
 pub(crate) fn parts_of(alloc: Global, state: &State) -> Result<Vec<Part>, Fault>

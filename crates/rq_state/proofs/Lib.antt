@@ -1,3 +1,4 @@
+pub mod Behind
 pub mod ByIndex
 pub mod Distinct
 pub mod Grown

@@ -1,3 +1,4 @@
+pub mod Comparing
 pub mod Inside
 pub mod Keeping
 pub mod Laws

@@ -2,12 +2,11 @@
 
 ghost use Rattle.std.specs.Prelude.{◌≡◌, ◌<◌, length, map, IfOk, IfErr, slice_index_or};
 ghost use Rattle.std.specs.List.{AllByRecursion};
-ghost use Rattle.rq_model.specs.States as model;
 ghost use Rattle.rq_model.specs.Queues.{elements_at, registrants_at, notes_at};
 ghost use Rattle.rq_record.specs.declared.fault.Fault.TheVariants.{Resources};
 
 use crate::kept_element::KeptElement;
-use crate::members::{Note, Registrant};
+use crate::members::{Definition, Note, Registrant};
 use crate::state::State;
 use rq_record::{Fault, QueueNo};
 use std::alloc::Global;
@@ -23,7 +22,7 @@ impl State {
         ensures elements { IfOk result (λ v. v.items ≡ elements_at queue.0 self.now.elements) }
         ensures refused { IfErr result (λ e. e ≡ Resources) }
     {
-        let copies = elements_copied(alloc, self, self.elements_of(queue))?;
+        let copies = copied_at(alloc, self.elements(), self.elements_of(queue))?;
         Ok(copies)
     }
 
@@ -37,7 +36,7 @@ impl State {
             (λ v. v.items ≡ registrants_at queue.0 self.now.registrants) }
         ensures refused { IfErr result (λ e. e ≡ Resources) }
     {
-        let copies = registrants_copied(alloc, self, self.registrants_of(queue))?;
+        let copies = copied_at(alloc, self.registrants(), self.registrants_of(queue))?;
         Ok(copies)
     }
 
@@ -46,60 +45,70 @@ impl State {
         ensures notes { IfOk result (λ v. v.items ≡ notes_at queue.0 self.now.notes) }
         ensures refused { IfErr result (λ e. e ≡ Resources) }
     {
-        let copies = notes_copied(alloc, self, self.notes_of(queue))?;
+        let copies = copied_at(alloc, self.notes(), self.notes_of(queue))?;
         Ok(copies)
     }
 }
 
-// Copies of the elements at these indices.
-fn elements_copied(
+/// The same definitions again. `Resources` if memory runs out.
+pub fn copied_definitions(
     alloc: Global,
-    state: &State,
-    indices: &[usize],
-) -> Result<Vec<KeptElement>, Fault>
-    requires { AllByRecursion (λ index. index < length state.now.elements) indices.now }
-    ensures copied { IfOk result (λ v. (x : model.Element) →
-        v.items ≡ map (λ index. slice_index_or state.now.elements index x) indices.now) }
+    definitions: &[Definition],
+) -> Result<Vec<Definition>, Fault>
+    ensures copied { IfOk result (λ v. v.items ≡ definitions.now) }
     ensures refused { IfErr result (λ e. e ≡ Resources) }
 {
-    let mut copies = Vec::with_capacity(alloc, indices.len())?;
-    for index in indices {
-        let element = state.element(*index);
-        copies.push(element.copied()?)?;
+    let mut copies = Vec::with_capacity(alloc, definitions.len())?;
+    for definition in definitions {
+        copies.push(definition.copied())?;
     }
     Ok(copies)
 }
 
-// Copies of the registrants at these indices.
-fn registrants_copied(
-    alloc: Global,
-    state: &State,
-    indices: &[usize],
-) -> Result<Vec<Registrant>, Fault>
-    requires { AllByRecursion (λ index. index < length state.now.registrants) indices.now }
-    ensures copied { IfOk result (λ v. (x : model.Registrant) →
-        v.items ≡ map (λ index. slice_index_or state.now.registrants index x) indices.now) }
-    ensures refused { IfErr result (λ e. e ≡ Resources) }
-{
-    let mut copies = Vec::with_capacity(alloc, indices.len())?;
-    for index in indices {
-        let registrant = state.registrant(*index);
-        copies.push(registrant.copied())?;
-    }
-    Ok(copies)
+/// What can be had again.
+trait Again: Drop {
+    /// The same again.
+    fn again(&self) -> Result<Self, Fault>
+        ensures same { IfOk result (λ x. x ≡ self.now) }
+        ensures refused { IfErr result (λ e. e ≡ Resources) };
 }
 
-// Copies of the notes at these indices.
-fn notes_copied(alloc: Global, state: &State, indices: &[usize]) -> Result<Vec<Note>, Fault>
-    requires { AllByRecursion (λ index. index < length state.now.notes) indices.now }
-    ensures copied { IfOk result (λ v. (x : model.Note) →
-        v.items ≡ map (λ index. slice_index_or state.now.notes index x) indices.now) }
+impl Again for KeptElement {
+    fn again(&self) -> Result<KeptElement, Fault> {
+        self.copied()
+    }
+}
+
+impl Again for Registrant {
+    fn again(&self) -> Result<Registrant, Fault> {
+        Ok(self.copied())
+    }
+}
+
+impl Again for Note {
+    fn again(&self) -> Result<Note, Fault> {
+        Ok(self.copied())
+    }
+}
+
+fn member_at<M>(members: &[M], index: usize) -> &M
+    requires { index < length members.now }
+    ensures { (x : M) → result.now ≡ slice_index_or members.now index x }
+{
+    &members[index]
+}
+
+// Copies of the members at these indices.
+fn copied_at<M: Again>(alloc: Global, members: &[M], indices: &[usize]) -> Result<Vec<M>, Fault>
+    requires { AllByRecursion (λ index. index < length members.now) indices.now }
+    ensures copied { IfOk result (λ v. (x : M) →
+        v.items ≡ map (λ index. slice_index_or members.now index x) indices.now) }
     ensures refused { IfErr result (λ e. e ≡ Resources) }
 {
     let mut copies = Vec::with_capacity(alloc, indices.len())?;
     for index in indices {
-        let note = state.note(*index);
-        copies.push(note.copied())?;
+        let member = member_at(members, *index);
+        copies.push(member.again()?)?;
     }
     Ok(copies)
 }

@@ -3,6 +3,8 @@
 #![tactic(auto)]
 
 mod checks;
+mod compared;
+mod comparisons;
 mod copies;
 mod fields;
 mod heard;
@@ -18,10 +20,16 @@ mod tables;
 mod wholeness;
 mod writers;
 
+pub use compared::{Compare, Compared, compare_all};
+pub use copies::copied_definitions;
 pub use fields::{Fields, FieldsOf, KeptFields};
 pub use kept_element::{KeptElement, kept_elements, told_elements};
 pub use laws::{any_order_makes_the_state, parts_make_the_state};
 pub use members::{Definition, Element, Last, Mark, Note, OpKind, Registrant};
+pub use orders::{Ordinal, order};
 pub use readers::{read, read_in};
 pub use state::State;
-pub use writers::{fields_len, spell, spell_fields, spelled_len};
+pub use writers::{
+    SHORTEST_DEFINITION, SHORTEST_ELEMENT, SHORTEST_NOTE, SHORTEST_REGISTRANT, SHORTEST_STATE,
+    SHORTEST_UNIT, spell, spelled_len,
+};

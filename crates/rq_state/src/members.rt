@@ -151,13 +151,6 @@ impl Note {
         self.unit
     }
 
-    /// The queue of its operation.
-    pub(crate) fn queue(&self) -> QueueNo
-        ensures { result.0 ≡ self.now.queue }
-    {
-        self.queue
-    }
-
     /// The same note again.
     pub fn copied(&self) -> Note
         ensures { result ≡ self.now }
@@ -232,13 +225,6 @@ impl Registrant {
         ensures { result ≡ model.registrant_before self.now other.now }
     {
         self.queue.0 < other.queue.0 || (self.queue.0 == other.queue.0 && self.name < other.name)
-    }
-
-    /// The queue that it is registered with.
-    pub(crate) fn queue(&self) -> QueueNo
-        ensures { result.0 ≡ self.now.queue }
-    {
-        self.queue
     }
 
     /// The same registrant again.

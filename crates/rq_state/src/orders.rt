@@ -1,9 +1,9 @@
 //! Lists put in order.
 
-ghost use Rattle.std.specs.Prelude.{◌≡◌, ◌<◌, true, nat_lt, map};
+ghost use Rattle.std.specs.Prelude.{◌≡◌, ◌<◌, ℕ, true, nat_lt, map};
 ghost use Rattle.rq_model.specs.States as model;
 ghost use Rattle.rq_model.specs.WellFormed.{Ordered};
-ghost use Rattle.rq_state.specs.Orders.{put_in_order, place_before};
+ghost use Rattle.rq_state.specs.Orders.{put_in_order};
 ghost use Rattle.rq_state.specs.Views.{unit_of};
 
 use crate::kept_element::KeptElement;
@@ -27,19 +27,37 @@ pub(crate) fn order_registrants(registrants: &mut Vec<Registrant>)
     registrants.sort_unstable_by_key(|registrant| registrant.key());
 }
 
-/// Puts elements in order.
-pub(crate) fn order_elements(elements: &mut Vec<KeptElement>)
-    requires { Ordered (λ e f. e.id < f.id) (put_in_order model.id_before elements.old.items) }
-    ensures { elements.new.items ≡ put_in_order model.id_before elements.old.items }
-{
-    elements.sort_unstable_by_key(|element| element.number());
+/// What is in order by a number: an element by its id, a note by its place.
+pub trait Ordinal: Drop {
+    ghost ordinal_of: { Self → ℕ };
+
+    /// The number.
+    fn ordinal(&self) -> u64
+        ensures { result ≡ ordinal_of self.now };
 }
 
-/// Puts notes in order.
-pub(crate) fn order_notes(notes: &mut Vec<Note>)
-    requires { Ordered (λ n m. n.last.place < m.last.place)
-        (put_in_order place_before notes.old.items) }
-    ensures { notes.new.items ≡ put_in_order place_before notes.old.items }
+impl Ordinal for KeptElement {
+    ghost ordinal_of = { λ e. e.id };
+
+    fn ordinal(&self) -> u64 {
+        self.number()
+    }
+}
+
+impl Ordinal for Note {
+    ghost ordinal_of = { λ n. n.last.place };
+
+    fn ordinal(&self) -> u64 {
+        self.place()
+    }
+}
+
+/// Puts members of distinct numbers in order.
+pub fn order<M: Ordinal>(members: &mut Vec<M>)
+    requires { Ordered (λ a b. M.ordinal_of a < M.ordinal_of b)
+        (put_in_order (λ a b. nat_lt (M.ordinal_of a) (M.ordinal_of b)) members.old.items) }
+    ensures { members.new.items
+        ≡ put_in_order (λ a b. nat_lt (M.ordinal_of a) (M.ordinal_of b)) members.old.items }
 {
-    notes.sort_unstable_by_key(|note| note.place());
+    members.sort_unstable_by_key(|member| member.ordinal());
 }

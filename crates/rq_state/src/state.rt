@@ -13,8 +13,8 @@ ghost use Rattle.rq_state.specs.Views.{unit_of};
 use crate::fields::{Fields, KeptFields};
 use crate::kept_element::KeptElement;
 use crate::members::{Definition, Note, Registrant};
-use crate::orders::{order_elements, order_notes, order_registrants, order_units};
-use crate::tables::{homes_of, listed_at, noted_of, registered_of};
+use crate::orders::{order, order_registrants, order_units};
+use crate::tables::{listed_at, table_of};
 use rq_record::{Fault, QueueNo, UnitNo};
 use std::alloc::Global;
 use std::marker::Model;
@@ -86,23 +86,23 @@ impl State {
     {
         order_units(&mut fields.units);
         order_registrants(&mut fields.registrants);
-        order_elements(&mut fields.elements);
-        order_notes(&mut fields.notes);
+        order(&mut fields.elements);
+        order(&mut fields.notes);
         let state = State::of_ordered(alloc, fields)?;
         Ok(state)
     }
 
     /// The state of fields whose lists are in order already. If there is no memory for the tables
     /// of each queue's members, `Resources` is returned and the fields are dropped.
-    pub fn of_ordered(alloc: Global, fields: KeptFields) -> Result<State, Fault>
+    pub(crate) fn of_ordered(alloc: Global, fields: KeptFields) -> Result<State, Fault>
         requires { IsWellFormed (state_of fields) }
         ensures built { IfOk result (λ s. s ≡ state_of fields) }
         ensures refused { IfErr result (λ e. e ≡ Resources) }
     {
         let queues = fields.definitions.len();
-        let homes = homes_of(alloc, queues, &fields.elements)?;
-        let registered = registered_of(alloc, queues, &fields.registrants)?;
-        let noted = noted_of(alloc, queues, &fields.notes)?;
+        let homes = table_of(alloc, queues, &fields.elements)?;
+        let registered = table_of(alloc, queues, &fields.registrants)?;
+        let noted = table_of(alloc, queues, &fields.notes)?;
         Ok(State {
             fields,
             homes,
@@ -117,14 +117,6 @@ impl State {
         ensures well_formed { IsWellFormed self.now }
     {
         &self.fields
-    }
-
-    /// Only its fields, with their lists in order.
-    pub fn into_fields(self) -> KeptFields
-        ensures fields { state_of result ≡ self }
-        ensures well_formed { IsWellFormed self }
-    {
-        self.fields
     }
 
     /// The number that the next record gets. Its contract also says that the state is well formed.

@@ -3,7 +3,6 @@
 ghost use Rattle.std.specs.Prelude.{◌≡◌, ◌<◌, ◌==◌, ◌∷◌, ◌++◌, [], ℕ, length, if◌then◌else◌, IfOk};
 ghost use Rattle.std.specs.Prelude.{IfErr, OnOk};
 ghost use Rattle.std.specs.List.{AllByRecursion};
-ghost use Rattle.rq_model.specs.States as model;
 ghost use Rattle.rq_state.specs.Orders.{indices_of, listed};
 ghost use Rattle.rq_record.specs.declared.fault.Fault.TheVariants.{Resources};
 
@@ -37,56 +36,53 @@ fn list(table: &mut Vec<Vec<usize>>, queue: QueueNo, index: usize) -> Result<(),
     Ok(())
 }
 
-/// The indices of the elements of each queue.
-pub(crate) fn homes_of(
-    alloc: Global,
-    queues: usize,
-    elements: &[KeptElement],
-) -> Result<Vec<Vec<usize>>, Fault>
-    requires { AllByRecursion (λ (e : model.Element). e.home < queues) elements.now }
-    ensures listed { IfOk result (λ table. (queue : ℕ) →
-        listed table.items queue ≡ indices_of (λ e. e.home == queue) 0 elements.now) }
-    ensures refused { IfErr result (λ e. e ≡ Resources) }
-{
-    let mut table = bare(alloc, queues)?;
-    for index in 0..elements.len() {
-        list(&mut table, elements[index].home(), index)?;
-    }
-    Ok(table)
+/// What belongs to one queue.
+pub(crate) trait OfQueue: Drop {
+    ghost queue_of: { Self → ℕ };
+
+    /// The queue.
+    fn queue(&self) -> QueueNo
+        ensures { result.0 ≡ queue_of self.now };
 }
 
-/// The indices of the registrants of each queue.
-pub(crate) fn registered_of(
-    alloc: Global,
-    queues: usize,
-    registrants: &[Registrant],
-) -> Result<Vec<Vec<usize>>, Fault>
-    requires { AllByRecursion (λ (r : model.Registrant). r.queue < queues) registrants.now }
-    ensures listed { IfOk result (λ table. (queue : ℕ) →
-        listed table.items queue ≡ indices_of (λ r. r.queue == queue) 0 registrants.now) }
-    ensures refused { IfErr result (λ e. e ≡ Resources) }
-{
-    let mut table = bare(alloc, queues)?;
-    for index in 0..registrants.len() {
-        list(&mut table, registrants[index].queue(), index)?;
+impl OfQueue for KeptElement {
+    ghost queue_of = { λ e. e.home };
+
+    fn queue(&self) -> QueueNo {
+        self.home
     }
-    Ok(table)
 }
 
-/// The indices of the notes of each queue.
-pub(crate) fn noted_of(
+impl OfQueue for Registrant {
+    ghost queue_of = { λ r. r.queue };
+
+    fn queue(&self) -> QueueNo {
+        self.queue
+    }
+}
+
+impl OfQueue for Note {
+    ghost queue_of = { λ n. n.queue };
+
+    fn queue(&self) -> QueueNo {
+        self.queue
+    }
+}
+
+/// The indices of the members of each queue.
+pub(crate) fn table_of<M: OfQueue>(
     alloc: Global,
     queues: usize,
-    notes: &[Note],
+    members: &[M],
 ) -> Result<Vec<Vec<usize>>, Fault>
-    requires { AllByRecursion (λ (n : model.Note). n.queue < queues) notes.now }
+    requires { AllByRecursion (λ m. M.queue_of m < queues) members.now }
     ensures listed { IfOk result (λ table. (queue : ℕ) →
-        listed table.items queue ≡ indices_of (λ n. n.queue == queue) 0 notes.now) }
+        listed table.items queue ≡ indices_of (λ m. M.queue_of m == queue) 0 members.now) }
     ensures refused { IfErr result (λ e. e ≡ Resources) }
 {
     let mut table = bare(alloc, queues)?;
-    for index in 0..notes.len() {
-        list(&mut table, notes[index].queue(), index)?;
+    for index in 0..members.len() {
+        list(&mut table, members[index].queue(), index)?;
     }
     Ok(table)
 }

@@ -18,7 +18,11 @@ mod sizes;
 use crate::fields::KeptFields;
 use crate::state::State;
 use crate::writers::lists::{put_all, put_units};
-pub use crate::writers::sizes::{fields_len, spelled_len};
+use crate::writers::sizes::fields_len;
+pub use crate::writers::sizes::{
+    SHORTEST_DEFINITION, SHORTEST_ELEMENT, SHORTEST_NOTE, SHORTEST_REGISTRANT, SHORTEST_STATE,
+    SHORTEST_UNIT, spelled_len,
+};
 use rq_bytes::put_u64;
 use rq_record::Fault;
 use std::alloc::{AllocError, Global};
@@ -37,8 +41,8 @@ pub fn spell(alloc: Global, state: &State) -> Result<Vec<u8>, Fault>
     spell_fields(alloc, state.fields())
 }
 
-/// The same for fields whose lists are in order.
-pub fn spell_fields(alloc: Global, fields: &KeptFields) -> Result<Vec<u8>, Fault>
+// The same for fields whose lists are in order.
+fn spell_fields(alloc: Global, fields: &KeptFields) -> Result<Vec<u8>, Fault>
     requires next { fields.now.next ≤ 4294967295 }
     requires well_formed { IsWellFormed (state_of fields.now) }
     ensures { Spelled (state_of fields.now) result }

@@ -15,10 +15,23 @@ use crate::state::State;
 use crate::writers::members::Spell;
 use rq_record::UnitNo;
 
+/// The bytes of a definition without a name, the fewest that one takes.
+pub const SHORTEST_DEFINITION: u32 = 7;
+/// The bytes of an open unit.
+pub const SHORTEST_UNIT: u32 = 8;
+/// The bytes of a registrant who has no name and did nothing, the fewest that one takes.
+pub const SHORTEST_REGISTRANT: u32 = 6;
+/// The bytes of a Free element without a payload, the fewest that one takes.
+pub const SHORTEST_ELEMENT: u32 = 28;
+/// The bytes of a note without a name, the fewest that one takes.
+pub const SHORTEST_NOTE: u32 = 38;
+/// The bytes of a state without members: four numbers of 8 bytes and five counts of 4.
+pub const SHORTEST_STATE: u32 = 52;
+
 pub(crate) fn definition_size(definition: &Definition) -> u32
     ensures { result ≡ length (definition_bytes definition.now) }
 {
-    7 + definition.name.bytes().len() as u32
+    SHORTEST_DEFINITION + definition.name.bytes().len() as u32
 }
 
 fn last_size(last: &Option<Last>) -> u32
@@ -34,7 +47,7 @@ fn last_size(last: &Option<Last>) -> u32
 pub(crate) fn registrant_size(registrant: &Registrant) -> u32
     ensures { result ≡ length (registrant_bytes registrant.now) }
 {
-    5 + registrant.name.bytes().len() as u32 + last_size(&registrant.last)
+    SHORTEST_REGISTRANT - 1 + registrant.name.bytes().len() as u32 + last_size(&registrant.last)
 }
 
 fn mark_size(mark: Mark) -> u32
@@ -50,13 +63,13 @@ fn mark_size(mark: Mark) -> u32
 pub(crate) fn element_size(element: &KeptElement) -> u32
     ensures { result ≡ length (element_bytes element.now) }
 {
-    27 + mark_size(element.mark) + element.payload.bytes().len() as u32
+    SHORTEST_ELEMENT - 1 + mark_size(element.mark) + element.payload.bytes().len() as u32
 }
 
 pub(crate) fn note_size(note: &Note) -> u32
     ensures { result ≡ length (note_bytes note.now) }
 {
-    38 + note.name.bytes().len() as u32
+    SHORTEST_NOTE + note.name.bytes().len() as u32
 }
 
 fn size_of_all<M: Spell>(members: &[M]) -> u128
@@ -74,7 +87,7 @@ fn units_size(members: &[UnitNo]) -> u128
     ensures size { result ≡ length (flat_map (to_be_bytes w64) (map unit_of members.now)) }
     ensures small { result ≤ 8 * length members.now }
 {
-    8 * members.len() as u128
+    SHORTEST_UNIT as u128 * members.len() as u128
 }
 
 /// The number of bytes that spell a state, also if they are more than a checkpoint holds. It takes
@@ -86,11 +99,11 @@ pub fn spelled_len(state: &State) -> u128
 }
 
 /// The same for fields whose lists are in order.
-pub fn fields_len(fields: &KeptFields) -> u128
+pub(crate) fn fields_len(fields: &KeptFields) -> u128
     ensures { result ≡ length (state_bytes (state_of fields.now)) }
 {
-    // four numbers of 8 bytes and five counts of 4
-    52 + size_of_all(&fields.definitions)
+    SHORTEST_STATE as u128
+        + size_of_all(&fields.definitions)
         + units_size(&fields.units)
         + size_of_all(&fields.registrants)
         + size_of_all(&fields.elements)

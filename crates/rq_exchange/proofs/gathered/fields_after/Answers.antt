@@ -16,7 +16,7 @@ returns-clause-fields c =
           ∙ ap (λ xs. (run s xs).greatest) front;
       committed = c.committed.ensures ∙ c.requires.analysis.committed ∙ ap (λ xs. (run s xs).committed) front;
       aborted = c.aborted.ensures ∙ c.requires.analysis.aborted ∙ ap (λ xs. (run s xs).aborted) front;
-      definitions = c.in_ok-copies_of.ensures.copies ∙ c.definitions.ensures
+      definitions = c.in_ok-copied_definitions.ensures.copied ∙ c.definitions.ensures
           ∙ c.requires.analysis.catalogue.knows.definitions ∙ ap (λ xs. (run s xs).definitions) front;
       units = c.in_ok-open_units.ensures.units ∙ c.requires.analysis.units ∙ ap (λ xs. (run s xs).units) front;
       registrants = c.new.ensures.items;

@@ -3,4 +3,4 @@ use Rattle.std.specs.Map.{values_of}
 use Rattle.rq_queue.proofs.notes.listed.Given as goal
 
 abbrev pub invariant-loop-n : goal.invariant-loop-n
-invariant-loop-n l = l.all.items ++ l.n-iterator ≡ values_of l.notes.entries
+invariant-loop-n l = l.all.items ++ l.n-iterator ≡ values_of l.fn.notes.entries

@@ -20,8 +20,8 @@ all_returned-requires-clause-room c =
     (each_unsorted _ _ (subst (AllByRecursion (λ (e : Element). e.attempts + 1 < 2 ^ 64))
     (sym c.self.view_is) c.requires))
 
-pub elements_by_id-requires : goal.elements_by_id-requires
-elements_by_id-requires c = subst (λ (xs : List Element). Ordered (λ (e f : Element). e.id < f.id) (sorted xs))
+pub order-requires : goal.order-requires
+order-requires c = subst (λ (xs : List Element). Ordered (λ (e f : Element). e.id < f.id) (sorted xs))
     (sym c.in_ok-leaving.ensures.leaving)
     (chosen_rise c.self.inside.free.entries c.self.inside.marked.entries
     c.taken-list.new.marked.entries c.taken-list.result.items c.taken-list.ensures.among
@@ -76,6 +76,6 @@ returns-clause-sent c =
     c.self.invariant.apart in
     c.in_ok-send.ensures.sent
     ∙ ap (λ (xs : List Element). c.args.sent.now.items ++ sent_from c.args.place c.args.home.now xs)
-    (c.elements_by_id.ensures
+    (c.order.ensures
     ∙ (ap sorted c.in_ok-leaving.ensures.leaving
     ∙ (sym gone ∙ ap (filter (leaves c.args.home.now c.args.unit.0)) c.self.view_is)))

@@ -45,8 +45,8 @@ invariant_of-self-2 c =
       by_name = each_filter _ _ es c.self.invariant.by_name;
     })
 
-pub notes_by_place-requires : goal.notes_by_place-requires
-notes_by_place-requires c = rising_sorted place_of c.in_ok-own.own.items
+pub order-requires : goal.order-requires
+order-requires c = rising_sorted place_of c.in_ok-own.own.items
     (apart_front place_of c.in_ok-own.own.items (values_of c.drawn.new.all.entries) c.in_ok-own.ensures.apart)
 
 pub returns-clause-others : goal.returns-clause-others
@@ -71,7 +71,7 @@ returns-clause-taken c =
     let drawn = c.in_ok-own.own.items in
     let rest = c.in_ok-own.ensures.left ∙ ap (λ (ps : List ℕ). left (OfUnit unit) ps es)
     (c.places_of-places.ensures) in
-    c.notes_by_place.ensures
+    c.order.ensures
     ∙ (values_drawn (OfUnit unit) (filed nat_cmp unit.0 notes.units.entries) es
     (all_filed nat_cmp nat_cmp_total (λ (m : Note). m.unit) unit.0 own
     (λ n. same_number unit.0 n.unit) notes.units.entries es c.self.invariant.by_unit)

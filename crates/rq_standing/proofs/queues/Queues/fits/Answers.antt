@@ -1,7 +1,6 @@
 use Rattle.std.proofs.Common.{◌≡◌, ◌+◌, ◌*◌, ◌-◌, ◌≤◌, ℕ, List, length, sum_by, nat_le, ap, ◌∙◌, arith}
 use Rattle.rq_model.specs.States.{Definition}
 use Rattle.rq_queue.specs.Rooms.{member_bytes}
-use Rattle.rq_standing.specs.Parts.{no_part}
 use Rattle.rq_standing.specs.Spelled.{least_bytes}
 use Rattle.rq_standing.proofs.Lengths.{of_all}
 use Rattle.rq_standing.proofs.queues.Queues.fits.Goals as goal
@@ -15,7 +14,7 @@ returns-then-lists-len c = λ t holds.
     let members = sum_by member_bytes c.deref.result.now in
     let of_parts : members ≡ 6 * length t.registrants + 28 * length t.elements + 38 * length t.notes =
     ap (sum_by member_bytes) c.deref.ensures.value
-    ∙ of_all c.parts_make_the_state.ensures t c.args.self.now.parts.items no_part holds.well holds.parts holds.size in
+    ∙ of_all c.parts_make_the_state.ensures t c.args.self.now.parts.items holds.well holds.parts holds.size in
     let definitions : c.len.result ≡ length t.definitions =
     omega (
       arith,

@@ -1,7 +1,33 @@
-use Rattle.rq_standing.proofs.Spellings.{not_spelled}
+use Rattle.std.proofs.Common.{◌≡◌, ◌≤◌, ◌&&◌, nat_le, ap, sym, ◌∙◌, subst, length, is_some, Some}
+use Rattle.std.proofs.lemmas.Bool.{and_parts, leb-true}
+use Rattle.rq_model.specs.States.{State}
+use Rattle.rq_state.specs.Comparing.{behind}
+use Rattle.rq_standing.specs.Spelled.{head_of, least_bytes}
+use Rattle.rq_standing.specs.Standings.{HoldsState}
+use Rattle.rq_standing.proofs.Spellings.{not_spelled, is_spelled}
 use Rattle.rq_standing.proofs.queues.Queues.is_spelled_by.Goals as goal
 
-pub returns-then-not-may_be_spelled_by-clause-truth : goal.returns-then-not-may_be_spelled_by-clause-truth
-returns-then-not-may_be_spelled_by-clause-truth c = λ t holds.
-    not_spelled c.args.self.now t c.args.kept.now c.may_be_spelled_by.result holds (c.may_be_spelled_by.ensures t holds)
-    c.if-not-may_be_spelled_by.true
+pub compare_lists-requires-clause-next : goal.compare_lists-requires-clause-next
+compare_lists-requires-clause-next c =
+    leb-true _ _ (and_parts _ _ (sym (c.may_follow.ensures c.requires.holds.0 c.requires.holds.1)
+    ∙ c.if-not-may_follow.false)).0
+
+pub returns-then-not-may_follow-clause-truth : goal.returns-then-not-may_follow-clause-truth
+returns-then-not-may_follow-clause-truth c = λ t holds.
+    let x = c.args.self.now in
+    not_spelled t c.args.kept.now x.next c.compare_head.new.bytes c.may_follow.result holds.next
+    (c.compare_head.ensures t holds ∙ ap (behind (head_of t)) c.new-bytes.ensures)
+    (c.may_follow.ensures t holds ∙ ap (λ n. nat_le x.next 4294967295
+    && (is_some c.compare_head.new.bytes && nat_le (least_bytes t) n)) c.len.ensures)
+    c.if-not-may_follow.true
+
+pub returns-clause-truth : goal.returns-clause-truth
+returns-clause-truth c = λ t holds.
+    let x = c.args.self.now in
+    c.is_whole.ensures
+    ∙ is_spelled t c.args.kept.now x.next c.compare_head.new.bytes c.compare_lists.new.bytes c.may_follow.result
+    holds.next
+    (c.compare_head.ensures t holds ∙ ap (behind (head_of t)) c.new-bytes.ensures)
+    (c.may_follow.ensures t holds ∙ ap (λ n. nat_le x.next 4294967295
+    && (is_some c.compare_head.new.bytes && nat_le (least_bytes t) n)) c.len.ensures)
+    c.if-not-may_follow.false (c.in_ok-compare_lists.ensures.compared t holds)

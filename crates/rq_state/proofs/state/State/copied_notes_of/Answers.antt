@@ -1,4 +1,5 @@
-use Rattle.std.proofs.Common.{◌∙◌, []}
+use Rattle.std.proofs.Common.{◌∙◌, [], List, ap, map}
+use Rattle.std.specs.Prelude.{slice_index_or}
 use Rattle.std.specs.Prelude.{None}
 use Rattle.rq_model.specs.States as model
 use Rattle.rq_state.proofs.state.State.copied_notes_of.Goals as goal
@@ -13,4 +14,6 @@ any = record {
 }
 
 pub returns-clause-notes : goal.returns-clause-notes
-returns-clause-notes c = c.in_ok-copies.ensures.copied any ∙ c.notes_of.ensures.notes any
+returns-clause-notes c = c.in_ok-copies.ensures.copied any
+    ∙ (ap (λ (xs : List model.Note). map (λ index. slice_index_or xs index any) c.notes_of.result.now) c.notes.ensures
+    ∙ c.notes_of.ensures.notes any)
