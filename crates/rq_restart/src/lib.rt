@@ -6,7 +6,9 @@
 mod audit_laws;
 mod audits;
 mod frames;
+mod held;
 mod keeper;
+mod pieces;
 mod redone;
 mod restart_ends;
 mod restarted;
@@ -18,6 +20,7 @@ mod upgrades;
 pub use audit_laws::every_log_has_audit;
 pub use audits::{audit, audit_at, audit_lent};
 pub use keeper::Keeper;
+pub use pieces::go_on;
 pub use redone::{RedoneFront, front_state, redone_front, redone_front_at};
 pub use restarted::Restarted;
 pub use restarting_at::{restart_at, restart_lent_at};
