@@ -6,4 +6,4 @@ pub mod Audits
 pub mod AuditLaws
 pub mod Keepers
 pub mod Pieces
-pub mod HeldStates
+pub mod Positions

@@ -5,10 +5,10 @@ ghost use Rattle.rq_model.specs.States as states;
 ghost use Rattle.rq_record.specs.Views.{record_of, version_of};
 ghost use Rattle.rq_record.specs.declared.fault.Fault.TheVariants.{Resources};
 ghost use Rattle.rq_standing.specs.Stands.{Stands};
-ghost use Rattle.rq_restart.specs.HeldStates.{IsHeld};
+ghost use Rattle.rq_restart.specs.Positions.{IsPosition};
 ghost use Rattle.rq_restart.specs.Keepers.{StandsBehind, TakesMore};
 
-use crate::held::Held;
+use crate::position::Position;
 use crate::pieces::{room_beside, take_each};
 use diary::{Diary, Noting};
 use rq_pool::Plan;
@@ -33,9 +33,9 @@ const RECORDS: u64 = 4_294_967_295;
 #[derive(Drop)]
 pub struct Keeper {
     version: Version,
-    held: Held,
-    // Queues that stand where the state that is held is. They go ahead: if memory is refused in the
-    // midst of a record, nothing is known of them, and the others have taken none.
+    position: Position,
+    // Queues that stand there too. They go ahead: if memory is refused in the midst of a record,
+    // nothing is known of them, and the first position has taken none.
     second: Option<Standing>,
     // Only for clauses: a state, and what was taken since.
     base: Snapshot<State>,
@@ -51,14 +51,14 @@ impl Model for Keeper {
     ghost use Rattle.rq_model.specs.Machine.{run};
     ghost use Rattle.rq_record.specs.Views.{record_of, version_of};
     ghost use Rattle.rq_standing.specs.Stands.{Stands};
-    ghost use Rattle.rq_restart.specs.HeldStates.{IsHeld};
+    ghost use Rattle.rq_restart.specs.Positions.{IsPosition};
 
     ghost view = { λ k. record {
       version = version_of k.version;
       state = run k.base.value (map record_of k.taken);
     } };
 
-    ghost invariant = { λ k. IsHeld (version_of k.version) k.held
+    ghost invariant = { λ k. IsPosition (version_of k.version) k.position
         (run k.base.value (map record_of k.taken))
         × IfSome k.second
         (λ x. Stands (version_of k.version) x (run k.base.value (map record_of k.taken))) };
@@ -84,17 +84,17 @@ fn note_all(taken: &mut Diary<KeptRecord>, records: &[KeptRecord])
 fn second_of(
     alloc: Global,
     version: Version,
-    held: &Held,
+    position: &Position,
     second: Option<Standing>,
 ) -> Result<Standing, Fault>
-    requires { (s : states.State) × IsHeld (version_of version) held.now s }
-    ensures stands { IfOk result (λ x. (s : states.State) → IsHeld (version_of version) held.now s
+    requires { (s : states.State) × IsPosition (version_of version) position.now s }
+    ensures stands { IfOk result (λ x. (s : states.State) → IsPosition (version_of version) position.now s
         → IfSome second (λ y. Stands (version_of version) y s) → Stands (version_of version) x s) }
     ensures refused { IfErr result (λ e. e ≡ Resources) }
 {
     match second {
         Some(standing) => Ok(standing),
-        None => held.standing(alloc, version),
+        None => position.standing(alloc, version),
     }
 }
 
@@ -107,7 +107,7 @@ impl Keeper {
         let base = Snapshot::of(&state);
         Keeper {
             version,
-            held: Held::Told(state),
+            position: Position::Told(state),
             second: None,
             base,
             taken: Diary::blank(),
@@ -120,7 +120,7 @@ impl Keeper {
         ensures state { IfOk result (λ s. s ≡ self.now.state) }
         ensures refused { IfErr result (λ e. e ≡ Resources) }
     {
-        self.held.state(alloc, self.version)
+        self.position.state(alloc, self.version)
     }
 
     /// Takes the records that are lawful behind those that were taken, up to the first that is not,
@@ -139,10 +139,10 @@ impl Keeper {
         ensures takes { TakesMore self.old (map record_of records.now) self.new result }
         ensures numbered { self.old.state.next ≤ 4294967295 → self.new.state.next ≤ 4294967295 }
     {
-        if self.held.next().saturating_add(records.len() as u64) > RECORDS {
+        if self.position.next().saturating_add(records.len() as u64) > RECORDS {
             return Err(Fault::TooLong);
         }
-        if self.held.is_within(room_beside(records.len(), plan)) {
+        if self.position.is_within(room_beside(records.len(), plan)) {
             self.redo(rt, alloc, records, plan)
         } else {
             self.go_along(alloc, records)
@@ -161,11 +161,11 @@ impl Keeper {
         ensures { TakesMore self.old (map record_of records.now) self.new result }
     {
         let (state, count) = self
-            .held
+            .position
             .redone(rt, alloc, self.version, records, plan)?;
         self.base = Snapshot::of(&state);
         self.taken = Diary::blank();
-        self.held = Held::Told(state);
+        self.position = Position::Told(state);
         self.second = None;
         Ok(count)
     }
@@ -177,10 +177,10 @@ impl Keeper {
         ensures { TakesMore self.old (map record_of records.now) self.new result }
     {
         let second = self.second.take();
-        let mut ahead = second_of(alloc, self.version, &self.held, second)?;
+        let mut ahead = second_of(alloc, self.version, &self.position, second)?;
         let lawful = take_each(alloc, &mut ahead, records)?;
         let taken = &records[..lawful];
-        let behind = mem::replace(&mut self.held, Held::Queues(ahead));
+        let behind = mem::replace(&mut self.position, Position::Queues(ahead));
         self.second = behind.followed(alloc, self.version, taken).ok();
         note_all(&mut self.taken, taken);
         Ok(lawful)

@@ -6,9 +6,9 @@
 mod audit_laws;
 mod audits;
 mod frames;
-mod held;
 mod keeper;
 mod pieces;
+mod position;
 mod redone;
 mod restart_ends;
 mod restarted;
