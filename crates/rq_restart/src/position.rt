@@ -56,7 +56,10 @@ impl Position {
         ensures refused { IfErr result (λ e. e ≡ Resources) }
     {
         match self {
-            Position::Told(state) => Standing::of(alloc, version, state)?.state(alloc),
+            Position::Told(state) => {
+                let standing = Standing::of(alloc, version, state)?;
+                standing.state(alloc)
+            }
             Position::Queues(standing) => standing.state(alloc),
         }
     }
