@@ -78,7 +78,7 @@ ONE_THING = {
     "queue": ("rq_found rq_queue rq_state", "the queue that a value is of"),
     "record": ("rq_look rq_queue rq_record", "the record that a value holds or spells"),
     "tell": ("rqlog rqlook", "says on standard error why a program ends"),
-    "version": ("rq_catalog rq_journal rqlog", "the version by whose rules records are judged"),
+    "version": ("rq_catalog rq_journal rq_standing rqlog", "the version by whose rules records are judged"),
 }
 # Public calls that say another thing elsewhere and keep their names, since callers know them: of a closed countdown.
 STAYING = {"home", "last"}

@@ -1,78 +1,66 @@
 -- A keeper stands behind all that it has taken.
 use Rattle.std.proofs.Common.{◌≡◌, ◌+◌, ◌≤◌, ℕ, true, List, length, map, take, refl, sym, ap, subst, ◌∙◌, arith}
-use Rattle.std.proofs.lemmas.List.{length-append, length-map, take-map}
-use Rattle.rq_model.specs.Records.{Record, Version, Two}
+use Rattle.std.specs.Prelude.{Result, Ok, Err}
+use Rattle.std.proofs.lemmas.List.{length-append, take-map}
+use Rattle.rq_model.specs.Records.{Record, Version}
 use Rattle.rq_model.specs.States.{State}
 use Rattle.rq_model.specs.Machine.{run, all_lawful, lawful_front}
-use Rattle.rq_model.specs.Laws.{VersionTwoIsWider}
-use Rattle.rq_model.proofs.Restarts.{run_join, lawful_join}
-use Rattle.rq_record.specs.Views.{Record as Own, record_of, version_of}
-use Rattle.rq_catalog.specs.declared.analysis.Analysis.{Analysis}
-use Rattle.rq_catalog.specs.Analyses.{IsAnalysis}
-use Rattle.rq_catalog.proofs.Fronts.{analysis_is_wider, analysis_of_front, kept_is, lawful_in_two, parted}
-use Rattle.rq_restart.specs.declared.keeper.Keeper.{Keeper}
-use Rattle.rq_restart.specs.Keepers.{StandsFurther}
+use Rattle.rq_model.proofs.Restarts.{lawful_join, next_run, run_join}
+use Rattle.rq_record.specs.Views.{Record as Own, record_of}
+use Rattle.rq_record.specs.declared.fault.Fault.{Fault}
+use Rattle.rq_record.specs.declared.fault.Fault.TheVariants as fault
+use Rattle.rq_catalog.proofs.Fronts.{kept_is, parted}
+use Rattle.rq_restart.specs.Keepers.{KeptState, StandsBehind, StandsFurther, TakesMore}
+use Rattle.rq_restart.specs.Pieces.{ComesTo}
 
--- so many of the records are the lawful ones
-abbrev pub IsCount : Keeper → List Own → ℕ → Type 0
-IsCount k all n = n ≡ length (lawful_front (version_of k.version) k.state (map record_of all))
-
--- no more are lawful than there are
-pub within : (k : Keeper) (all : List Own) (n : ℕ) → IsCount k all n → n ≤ length all
-within k all n count =
-    let rs = map record_of all in
-    let p = parted (version_of k.version) k.state rs in
-    omega (
-      arith,
-      count,
-      ap length p.whole,
-      length-append (lawful_front (version_of k.version) k.state rs) p.more,
-      length-map all record_of,
-    )
-
-pub lawful_again : VersionTwoIsWider → (k : Keeper) (all : List Own) (n : ℕ) → IsCount k all n
-    → all_lawful Two k.state (map record_of (take n all)) ≡ true
-lawful_again wider k all n count =
-    let own = version_of k.version in
-    let rs = map record_of all in
-    ap (all_lawful Two k.state) (kept_is own k.state all (take n all) n refl count)
-    ∙ lawful_in_two wider own k.state (lawful_front own k.state rs) (parted own k.state rs).lawful
-
-pub analysed_again : VersionTwoIsWider → (k : Keeper) (all : List Own) (n : ℕ) (a : Analysis) → IsCount k all n
-    → IsAnalysis (version_of k.version) k.state (map record_of all) a
-    → IsAnalysis Two k.state (map record_of (take n all)) a
-analysed_again wider k all n a count is =
-    let own = version_of k.version in
-    let rs = map record_of all in
-    subst (λ (xs : List Record). IsAnalysis Two k.state xs a) (sym (kept_is own k.state all (take n all) n refl count))
-    (analysis_is_wider wider own k.state (lawful_front own k.state rs) a (parted own k.state rs).lawful
-    (analysis_of_front own k.state rs a is))
-
-pub further : (k : Keeper) (all : List Own) (n : ℕ) (next : State) → IsCount k all n
-    → k.state.next + length (map record_of all) ≤ 4294967295 → next ≡ run k.state (map record_of (take n all))
-    → StandsFurther k (map record_of all) (record k { state = next }) n
-further k all n next count few is = record {
+pub further : (k v : KeptState) (all : List Own) (n : ℕ) → v.version ≡ k.version
+    → ComesTo k.version k.state (map record_of all) v.state n → k.state.next + length (map record_of all) ≤ 4294967295
+    → StandsFurther k (map record_of all) v n
+further k v all n rules to few = record {
   taken = λ version base taken h. record {
-    rules = h.rules;
+    rules = rules ∙ h.rules;
     lawful = lawful_join version base taken (take n rs) h.lawful
         (subst (λ (s : State). all_lawful version s (take n rs) ≡ true) h.state
-        (subst (λ (v : Version). all_lawful v k.state (take n rs) ≡ true) h.rules lawful));
-    state = is ∙ ap (run k.state) (sym (take-map record_of n all)) ∙ ap (λ (s : State). run s (take n rs)) h.state
+        (subst (λ (u : Version). all_lawful u k.state (take n rs) ≡ true) h.rules lawful));
+    state = to.state ∙ ap (run k.state) (sym first) ∙ ap (λ (s : State). run s (take n rs)) h.state
         ∙ sym (run_join base taken (take n rs));
   };
   count = λ version base taken h. subst (λ (s : State). n ≡ length (lawful_front version s rs)) h.state
-      (subst (λ (v : Version). n ≡ length (lawful_front v k.state rs)) h.rules count);
+      (subst (λ (u : Version). n ≡ length (lawful_front u k.state rs)) h.rules to.count);
   few = few;
+  numbered = omega (
+    arith,
+    few,
+    ap (λ (s : State). s.next) to.state,
+    next_run k.state (lawful_front k.version k.state rs),
+    ap length p.whole,
+    length-append (lawful_front k.version k.state rs) p.more,
+  );
 }
   where
     rs : List Record
     rs = map record_of all
 
-    own : Version
-    own = version_of k.version
+    p : _
+    p = parted k.version k.state rs
 
-    first : take n rs ≡ lawful_front own k.state rs
-    first = take-map record_of n all ∙ kept_is own k.state all (take n all) n refl count
+    first : take n rs ≡ lawful_front k.version k.state rs
+    first = take-map record_of n all ∙ kept_is k.version k.state all (take n all) n refl to.count
 
-    lawful : all_lawful own k.state (take n rs) ≡ true
-    lawful = ap (all_lawful own k.state) first ∙ (parted own k.state rs).lawful
+    lawful : all_lawful k.version k.state (take n rs) ≡ true
+    lawful = ap (all_lawful k.version k.state) first ∙ p.lawful
+
+-- its state can be numbered, whatever comes of it
+pub stays_numbered : (k v : KeptState) (more : List Record) (r : Result ℕ Fault) → TakesMore k more v r
+    → k.state.next ≤ 4294967295 → v.state.next ≤ 4294967295
+stays_numbered k v more (Ok n) h few = h.numbered
+stays_numbered k v more (Err fault.TooLong) h few = subst (λ (x : KeptState). x.state.next ≤ 4294967295) (sym h.0) few
+stays_numbered k v more (Err fault.Resources) h few = subst (λ (x : KeptState). x.state.next ≤ 4294967295) (sym h) few
+stays_numbered k v more (Err fault.Form) h few = absurd h
+stays_numbered k v more (Err fault.NotALog) h few = absurd h
+stays_numbered k v more (Err fault.TooLarge) h few = absurd h
+stays_numbered k v more (Err fault.BadCheckpoint) h few = absurd h
+stays_numbered k v more (Err fault.NoCheckpoint) h few = absurd h
+stays_numbered k v more (Err (fault.Script line)) h few = absurd h
+stays_numbered k v more (Err fault.ReadFailed) h few = absurd h
+stays_numbered k v more (Err fault.WriteFailed) h few = absurd h

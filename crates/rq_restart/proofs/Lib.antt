@@ -4,6 +4,7 @@ pub mod RedoneFronts
 pub mod Upgradings
 pub mod Audited
 pub mod Walks
+pub mod TakenPieces
 pub mod Keepers
 pub mod ByFronts
 pub mod AuditedFronts

@@ -45,7 +45,7 @@ framed version s b at c rs end why all spans chain front bodies own same =
     (record { lawful = front.longest.begins.lawful; stand = stand_at b at c rs bodies.0 chain bodies.1 }))
 
 -- the records up to one, and that one
-one_more : (all : List Own) (i : ℕ) (r : Own) → i < length all → r ≡ slice_index_or all i r
+pub one_more : (all : List Own) (i : ℕ) (r : Own) → i < length all → r ≡ slice_index_or all i r
     → take (i + 1) (map record_of all) ≡ take i (map record_of all) ++ record_of r ∷ []
 one_more all i r lt is =
     let rs = map record_of all in

@@ -4,28 +4,32 @@ use Rattle.std.specs.Prelude.{Err}
 use Rattle.rq_model.specs.Records.{Record, Version}
 use Rattle.rq_model.specs.States.{State}
 use Rattle.rq_model.specs.Machine.{run, all_lawful, lawful_front}
-use Rattle.rq_record.specs.Views.{version_of}
 use Rattle.rq_record.specs.declared.fault.Fault.{Fault}
 use Rattle.rq_record.specs.declared.fault.Fault.TheVariants.{Resources, TooLong}
-use Rattle.rq_restart.specs.declared.keeper.Keeper.{Keeper}
+
+-- a keeper, as clauses see it: the rules of its log, and the state behind all that it took
+pub record KeptState : Type 0 where
+  pub version : Version
+  pub state : State
 
 -- the keeper stands behind the records, which are lawful from the base state on
-pub record StandsBehind (version : Version) (base : State) (taken : List Record) (k : Keeper)
+pub record StandsBehind (version : Version) (base : State) (taken : List Record) (k : KeptState)
     : Type 0 where
-  pub rules : version_of k.version ≡ version
+  pub rules : k.version ≡ version
   pub lawful : all_lawful version base taken ≡ true
   pub state : k.state ≡ run base taken
 
 -- v stands behind n records more than k: the longest lawful beginning of those that come
-pub record StandsFurther (k : Keeper) (more : List Record) (v : Keeper) (n : ℕ) : Type 0 where
+pub record StandsFurther (k : KeptState) (more : List Record) (v : KeptState) (n : ℕ) : Type 0 where
   pub taken : (version : Version) (base : State) (taken : List Record) →
       StandsBehind version base taken k → StandsBehind version base (taken ++ take n more) v
   pub count : (version : Version) (base : State) (taken : List Record) →
       StandsBehind version base taken k → n ≡ length (lawful_front version (run base taken) more)
   pub few : k.state.next + length more ≤ 4294967295
+  pub numbered : v.state.next ≤ 4294967295
 
 -- what comes of taking more: where it is refused, k stays as it is
-abbrev pub TakesMore : Keeper → List Record → Keeper → Result ℕ Fault → Type 0
+abbrev pub TakesMore : KeptState → List Record → KeptState → Result ℕ Fault → Type 0
 TakesMore k more v (Ok n) = StandsFurther k more v n
 TakesMore k more v (Err TooLong) = (v ≡ k) × (4294967295 < k.state.next + length more)
 TakesMore k more v (Err Resources) = v ≡ k

@@ -5,3 +5,5 @@ pub mod Upgrades
 pub mod Audits
 pub mod AuditLaws
 pub mod Keepers
+pub mod Pieces
+pub mod Positions

@@ -1,33 +1,101 @@
 //! A state that goes along with a log, for a warm standby.
 
-ghost use Rattle.std.specs.Prelude.{◌≡◌, [], List, map};
-ghost use Rattle.rq_model.specs.Records as model;
+ghost use Rattle.std.specs.Prelude.{◌≡◌, ◌≤◌, ◌+◌, ◌++◌, [], map, length, IfSome, IfOk, IfErr};
 ghost use Rattle.rq_model.specs.States as states;
-ghost use Rattle.rq_model.specs.Machine.{run};
 ghost use Rattle.rq_record.specs.Views.{record_of, version_of};
+ghost use Rattle.rq_record.specs.declared.fault.Fault.TheVariants.{Resources};
+ghost use Rattle.rq_standing.specs.Stands.{Stands};
+ghost use Rattle.rq_restart.specs.Positions.{IsPosition};
 ghost use Rattle.rq_restart.specs.Keepers.{StandsBehind, TakesMore};
 
-use rq_catalog::analyse_kept;
-use rq_exchange::replay_analysed;
-use rq_plan::{Open, Plan};
+use crate::position::Position;
+use crate::pieces::{room_beside, take_each};
+use diary::{Diary, Noting};
+use rq_plan::Plan;
 use rq_record::{Fault, KeptRecord, Version};
+use rq_standing::Standing;
 use rq_state::State;
 use std::alloc::Global;
-use std::marker::Sync;
+use std::marker::{Model, Sync};
+use std::mem;
+use std::snapshot::Snapshot;
 use std::thread::Threads;
 
 // A log has at most so many bytes, and so fewer records.
 const RECORDS: u64 = 4_294_967_295;
 
 /// The state behind all records that were taken, one piece of a log after the other. Open units
-/// stay open.
+/// stay open. Clauses see the rules of the log, and that state.
 ///
-/// A piece costs the members of the state and the records of the piece, whatever was taken before:
-/// so large pieces are cheaper than small ones. No record is kept.
+/// A piece costs its records and the members that they touch, whatever else the state has. Only the
+/// first costs the members of the state too, and the first after a piece that is large beside them:
+/// such a piece is redone on the workers. No record is kept.
 #[derive(Drop)]
 pub struct Keeper {
     version: Version,
-    state: State,
+    position: Position,
+    // Queues that stand there too. They go ahead: if memory is refused in the midst of a record,
+    // nothing is known of them, and the first position has taken none.
+    second: Option<Standing>,
+    // Only for clauses: a state, and what was taken since.
+    base: Snapshot<State>,
+    taken: Diary<KeptRecord>,
+}
+
+impl Model for Keeper {
+    ghost use Rattle.std.specs.Prelude.{map, IfSome};
+    ghost use Rattle.rq_restart.specs.Keepers.{KeptState};
+
+    ghost Value = { KeptState };
+
+    ghost use Rattle.rq_model.specs.Machine.{run};
+    ghost use Rattle.rq_record.specs.Views.{record_of, version_of};
+    ghost use Rattle.rq_standing.specs.Stands.{Stands};
+    ghost use Rattle.rq_restart.specs.Positions.{IsPosition};
+
+    ghost view = { λ k. record {
+      version = version_of k.version;
+      state = run k.base.value (map record_of k.taken);
+    } };
+
+    ghost invariant = { λ k. IsPosition (version_of k.version) k.position
+        (run k.base.value (map record_of k.taken))
+        × IfSome k.second
+        (λ x. Stands (version_of k.version) x (run k.base.value (map record_of k.taken))) };
+}
+
+// In a diary a record stands for itself.
+struct Itself;
+
+impl Noting<KeptRecord, KeptRecord> for Itself {
+    ghost entry = { λ r. r };
+}
+
+// Notes that these were taken.
+fn note_all(taken: &mut Diary<KeptRecord>, records: &[KeptRecord])
+    ensures { taken.new ≡ taken.old ++ records.now }
+{
+    for rec in records {
+        taken.enter::<KeptRecord, Itself>(rec);
+    }
+}
+
+// The second machine, or if there is none, one that is made of the state.
+fn second_of(
+    alloc: Global,
+    version: Version,
+    position: &Position,
+    second: Option<Standing>,
+) -> Result<Standing, Fault>
+    requires { (s : states.State) × IsPosition (version_of version) position.now s }
+    ensures stands { IfOk result (λ x. (s : states.State) → IsPosition (version_of version) position.now s
+        → IfSome second (λ y. Stands (version_of version) y s) → Stands (version_of version) x s) }
+    ensures refused { IfErr result (λ e. e ≡ Resources) }
+{
+    match second {
+        Some(standing) => Ok(standing),
+        None => position.standing(alloc, version),
+    }
 }
 
 impl Keeper {
@@ -36,19 +104,28 @@ impl Keeper {
     pub fn new(version: Version, state: State) -> Keeper
         ensures { StandsBehind (version_of version) state [] result }
     {
-        Keeper { version, state }
+        let base = Snapshot::of(&state);
+        Keeper {
+            version,
+            position: Position::Told(state),
+            second: None,
+            base,
+            taken: Diary::blank(),
+        }
     }
 
-    /// The state behind all records that were taken.
-    pub fn state(&self) -> &State
-        ensures { (version : model.Version) (base : states.State) (taken : List model.Record) →
-            StandsBehind version base taken self.now → result.now ≡ run base taken }
+    /// The state behind all records that were taken. To make it costs its members. Refused with
+    /// `Resources` alone.
+    pub fn state(&self, alloc: Global) -> Result<State, Fault>
+        ensures state { IfOk result (λ s. s ≡ self.now.state) }
+        ensures refused { IfErr result (λ e. e ≡ Resources) }
     {
-        &self.state
+        self.position.state(alloc, self.version)
     }
 
     /// Takes the records that are lawful behind those that were taken, up to the first that is not,
-    /// and answers how many these are. The queues are redone on the workers of the plan.
+    /// and answers how many these are. If they are many beside the state, and at least a grain of
+    /// the plan, the queues are redone on its workers.
     ///
     /// `TooLong` where with all of them there would be more records than 4,294,967,295; `Resources`
     /// where the host refuses memory. Then none was taken.
@@ -59,16 +136,53 @@ impl Keeper {
         records: &[KeptRecord],
         plan: &Plan,
     ) -> Result<usize, Fault>
-        ensures { TakesMore self.old (map record_of records.now) self.new result }
+        ensures takes { TakesMore self.old (map record_of records.now) self.new result }
+        ensures numbered { self.old.state.next ≤ 4294967295 → self.new.state.next ≤ 4294967295 }
     {
-        rq_model::versions();
-        if self.state.next().saturating_add(records.len() as u64) > RECORDS {
+        if self.position.next().saturating_add(records.len() as u64) > RECORDS {
             return Err(Fault::TooLong);
         }
-        let analysis = analyse_kept(alloc, self.version, &self.state, records)?;
-        let count = analysis.lawful();
-        let taken = &records[..count];
-        self.state = replay_analysed(rt, alloc, &self.state, taken, &analysis, plan, &Open)?;
+        if self.position.is_within(room_beside(records.len(), plan)) {
+            self.redo(rt, alloc, records, plan)
+        } else {
+            self.go_along(alloc, records)
+        }
+    }
+
+    // Takes them on the workers.
+    fn redo<R: Threads + Sync>(
+        &mut self,
+        rt: &R,
+        alloc: Global,
+        records: &[KeptRecord],
+        plan: &Plan,
+    ) -> Result<usize, Fault>
+        requires { self.old.state.next + length records.now ≤ 4294967295 }
+        ensures { TakesMore self.old (map record_of records.now) self.new result }
+    {
+        let (state, count) = self
+            .position
+            .redone(rt, alloc, self.version, records, plan)?;
+        self.base = Snapshot::of(&state);
+        self.taken = Diary::blank();
+        self.position = Position::Told(state);
+        self.second = None;
         Ok(count)
+    }
+
+    // Takes them one after the other: the second machine goes ahead, and then the first follows. If
+    // there is no memory for that, the next piece makes a second one.
+    fn go_along(&mut self, alloc: Global, records: &[KeptRecord]) -> Result<usize, Fault>
+        requires { self.old.state.next + length records.now ≤ 4294967295 }
+        ensures { TakesMore self.old (map record_of records.now) self.new result }
+    {
+        let second = self.second.take();
+        let mut ahead = second_of(alloc, self.version, &self.position, second)?;
+        let lawful = take_each(alloc, &mut ahead, records)?;
+        let taken = &records[..lawful];
+        let behind = mem::replace(&mut self.position, Position::Queues(ahead));
+        self.second = behind.followed(alloc, self.version, taken).ok();
+        note_all(&mut self.taken, taken);
+        Ok(lawful)
     }
 }

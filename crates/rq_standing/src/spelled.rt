@@ -47,8 +47,8 @@ impl Queues {
         bytes.count(self.definitions.len());
     }
 
-    // Whether so many bytes are enough for all members, each in its shortest form.
-    fn fits(&self, len: usize) -> bool
+    /// Whether so many bytes are enough for all members, each in its shortest form.
+    pub(crate) fn fits(&self, len: usize) -> bool
         ensures { (t : states.State) → HoldsState self.now t
             → result ≡ nat_le (least_bytes t) len }
     {

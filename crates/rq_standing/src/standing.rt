@@ -8,6 +8,7 @@ ghost use Rattle.rq_model.specs.States.{State, empty};
 ghost use Rattle.rq_model.specs.StateSpelling.{state_bytes};
 ghost use Rattle.rq_record.specs.Views.{record_of, version_of};
 ghost use Rattle.rq_record.specs.declared.fault.Fault.TheVariants.{Resources};
+ghost use Rattle.rq_standing.specs.Spelled.{least_bytes};
 ghost use Rattle.rq_standing.specs.Stands.{Stands, IsTakenAs, state_with};
 
 use crate::queues::Queues;
@@ -44,6 +45,31 @@ impl Standing {
         let judge = Judge::of(alloc, version, state)?;
         let queues = Queues::of(alloc, state)?;
         Ok(Standing { judge, queues })
+    }
+
+    /// The version by whose rules it goes.
+    pub fn version(&self) -> Version
+        ensures { (version : records.Version) (s : State) → Stands version self.now s
+            → version_of result ≡ version }
+    {
+        self.judge.version()
+    }
+
+    /// The number that the next record gets.
+    pub fn next(&self) -> u64
+        ensures { (version : records.Version) (s : State) → Stands version self.now s
+            → result ≡ s.next }
+    {
+        self.queues.next
+    }
+
+    /// Whether so many bytes are enough to spell the state, if each member took its shortest form. It
+    /// makes nothing, and looks at no more queues than as many bytes can spell.
+    pub fn fits(&self, len: usize) -> bool
+        ensures { (version : records.Version) (s : State) → Stands version self.now s
+            → result ≡ nat_le (least_bytes s) len }
+    {
+        self.queues.fits(len)
     }
 
     /// Does a record if it is lawful. If not, nothing changes, and the answer names a rule that it

@@ -1,10 +1,11 @@
 //! The checkpoint of a state, and the ABORTs of open units.
 
-use crate::fronts::{OpenLog, front_of, keeper_behind, opened_front};
+use crate::fronts::{OpenLog, front_of, opened_front, redone_behind};
 use crate::refusal::Refusal;
 use rq_journal::{NotTaken, Plan, checkpoint_of};
 use rq_record::{Record, kept_records};
-use rq_restart::Keeper;
+use rq_restart::{RedoneFront, go_on};
+use rq_standing::Standing;
 use rq_state::State;
 use std::alloc::{AllocError, Global};
 use std::thread::Threads;
@@ -55,20 +56,21 @@ fn append_all(
     }
 }
 
-// Appends an ABORT for each unit that is open in the keeper's state, which takes them too.
+// Appends an ABORT for each unit that is open in the state. The state behind them.
 fn end_units<R: Threads + Sync>(
     rt: &R,
     alloc: Global,
     log: &mut OpenLog,
-    keeper: &mut Keeper,
+    front: &RedoneFront,
     plan: &Plan,
     frames: &mut Vec<u8>,
-) -> Result<(), Refusal> {
-    let aborts = aborts_of(alloc, keeper.state())?;
+) -> Result<State, Refusal> {
+    let aborts = aborts_of(alloc, &front.state)?;
     append_all(alloc, log, &aborts, frames)?;
     let aborts = kept_records(alloc, &aborts)?;
-    keeper.take(rt, alloc, &aborts, plan)?;
-    Ok(())
+    let mut standing = Standing::of(alloc, front.version, &front.state)?;
+    go_on(rt, alloc, &mut standing, &aborts, plan)?;
+    Ok(standing.state(alloc)?)
 }
 
 // Appends a checkpoint of the state, behind which the log stands.
@@ -88,13 +90,13 @@ fn append_checkpoint(
     }
 }
 
-// A checkpoint of the keeper's state where the log stands, behind ABORTs of the open units if
-// these are to end.
-fn marked_by<R: Threads + Sync>(
+// A checkpoint of the state where the log stands, behind ABORTs of the open units if these are to
+// end.
+fn marked_behind<R: Threads + Sync>(
     rt: &R,
     alloc: Global,
     log: &mut OpenLog,
-    keeper: &mut Keeper,
+    mut front: RedoneFront,
     plan: &Plan,
     ends_units: bool,
 ) -> Result<Marked, Refusal> {
@@ -104,10 +106,10 @@ fn marked_by<R: Threads + Sync>(
         frames: Vec::new(alloc),
     };
     if ends_units {
-        end_units(rt, alloc, log, keeper, plan, &mut made.frames)?;
+        front.state = end_units(rt, alloc, log, &front, plan, &mut made.frames)?;
     }
     made.offset = made.used.saturating_add(made.frames.len());
-    append_checkpoint(alloc, log, keeper.state(), &mut made.frames)?;
+    append_checkpoint(alloc, log, &front.state, &mut made.frames)?;
     Ok(made)
 }
 
@@ -121,8 +123,8 @@ pub(crate) fn mark<R: Threads + Sync>(
     ends_units: bool,
 ) -> Result<Marked, Refusal> {
     let mut log = opened_front(rt, alloc, bytes, plan)?;
-    let mut keeper = keeper_behind(rt, alloc, bytes, plan)?;
-    marked_by(rt, alloc, &mut log, &mut keeper, plan, ends_units)
+    let front = redone_behind(rt, alloc, bytes, plan)?;
+    marked_behind(rt, alloc, &mut log, front, plan, ends_units)
 }
 
 // The ABORT of each unit that is open behind the front of a log.
@@ -132,8 +134,8 @@ fn aborts_behind<R: Threads + Sync>(
     bytes: &[u8],
     plan: &Plan,
 ) -> Result<Vec<Record>, Refusal> {
-    let keeper = keeper_behind(rt, alloc, bytes, plan)?;
-    Ok(aborts_of(alloc, keeper.state())?)
+    let front = redone_behind(rt, alloc, bytes, plan)?;
+    Ok(aborts_of(alloc, &front.state)?)
 }
 
 /// Makes of a log that was carried on the closed one.

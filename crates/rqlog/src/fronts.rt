@@ -7,7 +7,7 @@ use rq_journal::{
     Appender, CARRIED_AT, Fault, Opened, Plan, Why, is_carried, open, open_carried, opened_behind,
 };
 use rq_record::Version;
-use rq_restart::{Keeper, redone_front, redone_front_at};
+use rq_restart::{RedoneFront, redone_front, redone_front_at};
 use std::alloc::Global;
 use std::fs::File;
 use std::thread::Threads;
@@ -120,17 +120,16 @@ where
     Ok((log, total))
 }
 
-/// A keeper of the state behind the front of a log. Open units stay open.
-pub(crate) fn keeper_behind<R: Threads + Sync>(
+/// The state behind the front of a log. Open units stay open.
+pub(crate) fn redone_behind<R: Threads + Sync>(
     rt: &R,
     alloc: Global,
     bytes: &[u8],
     plan: &Plan,
-) -> Result<Keeper, Fault> {
-    let front = if is_carried(bytes) {
-        redone_front_at(rt, alloc, bytes, CARRIED_AT as u64, plan)?
+) -> Result<RedoneFront, Fault> {
+    if is_carried(bytes) {
+        redone_front_at(rt, alloc, bytes, CARRIED_AT as u64, plan)
     } else {
-        redone_front(rt, alloc, bytes, plan)?
-    };
-    Ok(Keeper::new(front.version, front.state))
+        redone_front(rt, alloc, bytes, plan)
+    }
 }

@@ -1,10 +1,13 @@
 //! A keeper that goes along with a log, piece by piece.
 
+ghost use Rattle.std.specs.Prelude.{◌≤◌, IfOk};
+
 use super::log_of;
 use super::scripts::{CHECKPOINT, ONE_ELEMENT, RETURN_AND_ARRIVAL};
 use rq_front::{Span, chain};
 use rq_record::{ElemId, KeptRecord, QueueNo, UnitNo, Version, decode_kept};
-use rq_restart::{Fault, Keeper, Plan, front_state};
+use rq_restart::{Fault, Keeper, Plan, front_state, go_on};
+use rq_standing::Standing;
 use rq_state::{State, read_in, spell};
 use rq_writer::make_in;
 use std::alloc::Global;
@@ -47,7 +50,10 @@ fn taken<R: Threads + Sync + AllocGlobal>(
     keeper: &mut Keeper,
     records: &[KeptRecord],
     plan: &Plan,
-) -> Option<usize> {
+) -> Option<usize>
+    requires { keeper.old.state.next ≤ 4294967295 }
+    ensures { keeper.new.state.next ≤ 4294967295 }
+{
     keeper.take(rt, rt.alloc(), records, plan).ok()
 }
 
@@ -58,7 +64,10 @@ fn takes_all<R: Threads + Sync + AllocGlobal>(
     records: &[KeptRecord],
     ends: &[usize],
     plan: &Plan,
-) -> bool {
+) -> bool
+    requires { keeper.old.state.next ≤ 4294967295 }
+    ensures { keeper.new.state.next ≤ 4294967295 }
+{
     let mut start = 0;
     for end in ends {
         let end = (*end).min(records.len());
@@ -81,10 +90,20 @@ fn spelling(alloc: Global, state: &State) -> Option<Vec<u8>> {
     spell(alloc, state).ok()
 }
 
-// Whether two states spell the same.
-fn spell_the_same(alloc: Global, one: &State, other: &State) -> bool {
-    match (spelling(alloc, one), spelling(alloc, other)) {
-        (Some(one), Some(other)) => one == other,
+// What the state of a keeper spells.
+fn kept_spelling(alloc: Global, keeper: &Keeper) -> Result<Vec<u8>, Fault>
+    requires { keeper.now.state.next ≤ 4294967295 }
+{
+    let state = keeper.state(alloc)?;
+    spell(alloc, &state)
+}
+
+// Whether a keeper's state spells the same as another one.
+fn spells_the_same(alloc: Global, keeper: &Keeper, other: &State) -> bool
+    requires { keeper.now.state.next ≤ 4294967295 }
+{
+    match (kept_spelling(alloc, keeper), spelling(alloc, other)) {
+        (Ok(one), Some(other)) => one == other,
         _ => false,
     }
 }
@@ -95,9 +114,11 @@ fn stands_behind<R: Threads + Sync + AllocGlobal>(
     keeper: &Keeper,
     log: &[u8],
     plan: &Plan,
-) -> bool {
+) -> bool
+    requires { keeper.now.state.next ≤ 4294967295 }
+{
     match front_state(rt, rt.alloc(), log, plan) {
-        Ok(state) => spell_the_same(rt.alloc(), keeper.state(), &state),
+        Ok(state) => spells_the_same(rt.alloc(), keeper, &state),
         Err(_) => false,
     }
 }
@@ -146,7 +167,9 @@ fn read_again<R: Threads + Sync + AllocGlobal>(
     rt: &R,
     log: &[u8],
     plan: &Plan,
-) -> Result<State, Fail> {
+) -> Result<State, Fail>
+    ensures { IfOk result (λ s. s.next ≤ 4294967295) }
+{
     let state = front_state(rt, rt.alloc(), log, plan)?;
     let spelled = spelling(rt.alloc(), &state).ok_or("spelling")?;
     Ok(read_in(rt.alloc(), Version::One, &spelled)?)
@@ -198,6 +221,14 @@ fn with_two_more<R: Threads + Sync + AllocGlobal>(
     Ok(records)
 }
 
+// The number that a keeper gives the next record.
+fn next_of(alloc: Global, keeper: &Keeper) -> Option<u64> {
+    match keeper.state(alloc) {
+        Ok(state) => Some(state.next()),
+        Err(_) => None,
+    }
+}
+
 // Whether a keeper takes four of these records, stands where the log's front ends, and then takes
 // only the last one.
 fn stops<R: Threads + Sync + AllocGlobal>(rt: &R, log: &[u8], records: &[KeptRecord]) -> bool {
@@ -208,7 +239,7 @@ fn stops<R: Threads + Sync + AllocGlobal>(rt: &R, log: &[u8], records: &[KeptRec
     let four = taken(rt, &mut keeper, records, &plan) == Some(4);
     let stood = stands_behind(rt, &keeper, log, &plan);
     let one = taken(rt, &mut keeper, last, &plan) == Some(1);
-    four && stood && one && keeper.state().next() == 5
+    four && stood && one && next_of(rt.alloc(), &keeper) == Some(5)
 }
 
 // Whether one does with the records of `ONE_ELEMENT` and two more.
@@ -240,7 +271,7 @@ fn after_kill<R: Threads + Sync + AllocGlobal>(
     let mut keeper = Keeper::new(version, State::empty(rt.alloc()));
     let first = taken(rt, &mut keeper, &records, &plan);
     let killed = taken(rt, &mut keeper, &[kill], &plan);
-    Ok((first, killed, keeper.state().element_count()))
+    Ok((first, killed, keeper.state(rt.alloc())?.element_count()))
 }
 
 // Whether a KILL is taken in version 2, and not in version 1.
@@ -271,10 +302,13 @@ fn is_full_behind_one<R: Threads + Sync + AllocGlobal>(
     let begin = [KeptRecord::Begin { unit: UnitNo(1) }];
     let first = keeper.take(rt, rt.alloc(), &begin, plan);
     let second = keeper.take(rt, rt.alloc(), &begin, plan);
+    let Ok(state) = keeper.state(rt.alloc()) else {
+        return false;
+    };
     first == Ok(1)
         && second == Err(Fault::TooLong)
-        && keeper.state().next() == 4_294_967_295
-        && keeper.state().unit_count() == 1
+        && state.next() == 4_294_967_295
+        && state.unit_count() == 1
 }
 
 // Whether one does that stands before the last record but one.
@@ -287,5 +321,91 @@ fn is_full<R: Threads + Sync + AllocGlobal>(rt: &R) -> Result<bool, Fail> {
 #[test]
 fn a_keeper_takes_no_more_records_than_a_log_may_have(rt: HostRuntime) -> Result<(), Fail> {
     assert!(rt; is_full(&rt)?);
+    Ok(())
+}
+
+// The records of a log, and behind them units that begin and commit: 128 in all.
+fn with_many_more<R: Threads + Sync + AllocGlobal>(rt: &R) -> Result<Vec<KeptRecord>, Fail> {
+    let log = log_of(rt, RETURN_AND_ARRIVAL)?;
+    let mut records = records(rt, Version::One, &log)?;
+    for unit in 4..=60 {
+        records.push(KeptRecord::Begin { unit: UnitNo(unit) })?;
+        records.push(KeptRecord::Commit { unit: UnitNo(unit) })?;
+    }
+    Ok(records)
+}
+
+// Small pieces, one that is large beside the state that it finds, and small ones again.
+const BY_TURNS: &[usize] = &[3, 7, 14, 16, 120, 121, 123, 128];
+
+// What the state of a keeper spells that took the records in pieces, by a plan of this grain. None,
+// if it took fewer.
+fn spelled_behind<R: Threads + Sync + AllocGlobal>(
+    rt: &R,
+    records: &[KeptRecord],
+    ends: &[usize],
+    grain: u32,
+) -> Result<Option<Vec<u8>>, Fail> {
+    let plan = Plan::new(3, grain).ok_or("plan")?;
+    let mut keeper = Keeper::new(Version::One, State::empty(rt.alloc()));
+    if !takes_all(rt, &mut keeper, records, ends, &plan) {
+        return Ok(None);
+    }
+    Ok(Some(kept_spelling(rt.alloc(), &keeper)?))
+}
+
+// What the state spells that a machine comes to by the records, by a plan of this grain. None, if it
+// took fewer.
+fn spelled_after<R: Threads + Sync + AllocGlobal>(
+    rt: &R,
+    records: &[KeptRecord],
+    grain: u32,
+) -> Result<Option<Vec<u8>>, Fail> {
+    let plan = Plan::new(3, grain).ok_or("plan")?;
+    let mut standing = Standing::new(rt.alloc(), Version::One);
+    let count = go_on(rt, rt.alloc(), &mut standing, records, &plan)?;
+    if count < records.len() {
+        return Ok(None);
+    }
+    let state = standing.state(rt.alloc())?;
+    Ok(spelling(rt.alloc(), &state))
+}
+
+// Whether all ways come to one state: on the workers, one record after the other, and by turns. A
+// grain of 200 is more than all records; by a grain of 1 they are many beside the state.
+fn come_to_one_state<R: Threads + Sync + AllocGlobal>(rt: &R) -> Result<bool, Fail> {
+    let records = with_many_more(rt)?;
+    let told = spelled_behind(rt, &records, &[128], 1)?;
+    Ok(told.is_some()
+        && told == spelled_behind(rt, &records, &[128], 200)?
+        && told == spelled_behind(rt, &records, BY_TURNS, 1)?
+        && told == spelled_after(rt, &records, 1)?
+        && told == spelled_after(rt, &records, 200)?)
+}
+
+#[test]
+fn large_and_small_pieces_come_to_one_state(rt: HostRuntime) -> Result<(), Fail> {
+    assert!(rt; come_to_one_state(&rt)?);
+    Ok(())
+}
+
+// How many of these records and two more, the first of which is not lawful, a machine goes on by.
+fn went_on<R: Threads + Sync + AllocGlobal>(rt: &R, grain: u32) -> Result<usize, Fail> {
+    let mut records = with_many_more(rt)?;
+    records.push(KeptRecord::Commit { unit: UnitNo(1) })?;
+    records.push(KeptRecord::Begin { unit: UnitNo(61) })?;
+    let plan = Plan::new(2, grain).ok_or("plan")?;
+    let mut standing = Standing::new(rt.alloc(), Version::One);
+    Ok(go_on(rt, rt.alloc(), &mut standing, &records, &plan)?)
+}
+
+// Whether it stops before that one, on the workers and by itself.
+fn goes_on_by_all<R: Threads + Sync + AllocGlobal>(rt: &R) -> Result<bool, Fail> {
+    Ok(went_on(rt, 1)? == 128 && went_on(rt, 200)? == 128)
+}
+
+#[test]
+fn a_machine_goes_on_as_far_as_is_lawful(rt: HostRuntime) -> Result<(), Fail> {
+    assert!(rt; goes_on_by_all(&rt)?);
     Ok(())
 }

@@ -271,6 +271,29 @@ fn it_knows_the_spelling_of_its_state(rt: HostRuntime) -> Result<(), Fail> {
     Ok(())
 }
 
+// Whether the machine after the records knows its version, the number of the next record, and how
+// much room its state needs at least.
+fn knows_its_numbers(alloc: Global, cases: &[Case]) -> Result<bool, Fail> {
+    let mut standing = Standing::new(alloc, Version::Two);
+    if !goes_on(alloc, &mut standing, cases)? {
+        return Ok(false);
+    }
+    let state = standing.state(alloc)?;
+    let bytes = spelled(alloc, &state)?;
+    Ok(matches!(standing.version(), Version::Two)
+        && standing.next() == state.next()
+        && standing.fits(bytes.len())
+        && !standing.fits(51))
+}
+
+#[test]
+fn it_knows_its_numbers(rt: HostRuntime) -> Result<(), Fail> {
+    for count in 0..=CASES.len() {
+        assert!(rt; knows_its_numbers(rt.alloc(), &CASES[..count])?, "after {count} records");
+    }
+    Ok(())
+}
+
 // Whether the machine of the version names the rule that there is no KILL.
 fn has_no_kill(alloc: Global, version: Version) -> Result<bool, Fail> {
     let kill = kept(alloc, &Kill(0, 1))?;

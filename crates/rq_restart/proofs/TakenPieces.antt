@@ -1,0 +1,139 @@
+-- Records taken up to the first that is not lawful: one after the other, or all at once.
+use Rattle.std.proofs.Common.{◌≡◌, ◌+◌, ◌<◌, ◌≤◌, ℕ, Bool, true, false, List, ◌∷◌, [], ◌++◌, length, map, take, drop}
+use Rattle.std.proofs.Common.{refl, sym, ap, subst, ◌∙◌, append_assoc, arith}
+use Rattle.std.specs.Prelude.{if◌then◌else◌, slice_index_or}
+use Rattle.std.proofs.lemmas.List.{length-append, length-map, length-take, take-append-drop, take_all}
+use Rattle.rq_model.specs.Records.{Record, Version, Two}
+use Rattle.rq_model.specs.States.{State}
+use Rattle.rq_model.specs.Machine.{is_lawful, step, run, all_lawful, lawful_front}
+use Rattle.rq_model.specs.Laws.{VersionTwoIsWider}
+use Rattle.rq_record.specs.Views.{Record as Own, record_of}
+use Rattle.rq_catalog.specs.declared.analysis.Analysis.{Analysis}
+use Rattle.rq_catalog.specs.Analyses.{IsAnalysis}
+use Rattle.rq_catalog.proofs.Fronts.{analysis_is_wider, analysis_of_front, kept_is, lawful_in_two, parted}
+use Rattle.rq_catalog.proofs.Runs.{front_stops, front_whole, lawful_push}
+use Rattle.rq_standing.specs.Stands.{Stands}
+use Rattle.rq_standing.specs.declared.standing.Standing.{Standing}
+use Rattle.rq_restart.specs.Pieces.{WentOn}
+use Rattle.rq_restart.proofs.Walks.{one_more, run_further}
+
+-- so many of the records are the lawful ones
+abbrev pub IsCount : Version → State → List Own → ℕ → Type 0
+IsCount version s all n = n ≡ length (lawful_front version s (map record_of all))
+
+-- no more are lawful than there are
+pub within : (version : Version) (s : State) (all : List Own) (n : ℕ) → IsCount version s all n → n ≤ length all
+within version s all n count =
+    let rs = map record_of all in
+    let p = parted version s rs in
+    omega (
+      arith,
+      count,
+      ap length p.whole,
+      length-append (lawful_front version s rs) p.more,
+      length-map all record_of,
+    )
+
+pub first_are : (version : Version) (s : State) (all : List Own) (n : ℕ) → IsCount version s all n
+    → map record_of (take n all) ≡ lawful_front version s (map record_of all)
+first_are version s all n count = kept_is version s all (take n all) n refl count
+
+pub first_lawful : (version : Version) (s : State) (all : List Own) (n : ℕ) → IsCount version s all n
+    → all_lawful version s (map record_of (take n all)) ≡ true
+first_lawful version s all n count =
+    ap (all_lawful version s) (first_are version s all n count) ∙ (parted version s (map record_of all)).lawful
+
+pub lawful_again : VersionTwoIsWider → (version : Version) (s : State) (all : List Own) (n : ℕ)
+    → IsCount version s all n → all_lawful Two s (map record_of (take n all)) ≡ true
+lawful_again wider version s all n count =
+    lawful_in_two wider version s (map record_of (take n all)) (first_lawful version s all n count)
+
+pub analysed_again : VersionTwoIsWider → (version : Version) (s : State) (all : List Own) (n : ℕ) (a : Analysis)
+    → IsCount version s all n → IsAnalysis version s (map record_of all) a
+    → IsAnalysis Two s (map record_of (take n all)) a
+analysed_again wider version s all n a count is =
+    let rs = map record_of all in
+    subst (λ (xs : List Record). IsAnalysis Two s xs a) (sym (first_are version s all n count))
+    (analysis_is_wider wider version s (lawful_front version s rs) a (parted version s rs).lawful
+    (analysis_of_front version s rs a is))
+
+-- y stands i records behind x, and these are lawful
+abbrev pub HasTaken : Standing → List Own → ℕ → Standing → Type 0
+HasTaken x all i y = (version : Version) (s : State) → Stands version x s
+    → (all_lawful version s (take i (map record_of all)) ≡ true)
+    × Stands version y (run s (take i (map record_of all)))
+
+-- z is where y comes to by one record, and this says whether it is lawful
+pub record TakesOne (y : Standing) (r : Own) (z : Standing) (lawful : Bool) : Type 0 where
+  pub judged : (version : Version) (s : State) → Stands version y s → lawful ≡ is_lawful version s (record_of r)
+  pub stood : (version : Version) (s : State) → Stands version y s
+      → Stands version z (if lawful then step s (record_of r) else s)
+
+pub one_further : (x y z : Standing) (all : List Own) (i : ℕ) (r : Own) (lawful : Bool) → i < length all
+    → r ≡ slice_index_or all i r → HasTaken x all i y → TakesOne y r z lawful → lawful ≡ true → HasTaken x all (i + 1) z
+one_further x y z all i r lawful lt is had one yes = λ version s stands.
+    let rs = map record_of all in
+    let t = run s (take i rs) in
+    let before = had version s stands in
+    let may : is_lawful version t (record_of r) ≡ true = sym (one.judged version t before.1) ∙ yes in (
+      ap (all_lawful version s) (one_more all i r lt is) ∙ lawful_push version s (take i rs) (record_of r) before.0 may,
+      subst (Stands version z) (run_further s all i r lt is)
+          (subst (λ (b : Bool). Stands version z (if b then step t (record_of r) else t)) yes
+          (one.stood version t before.1)),
+    )
+
+-- the records up to one that is not lawful
+ends_before : (version : Version) (s : State) (all : List Own) (i : ℕ) (r : Own) → i < length all
+    → r ≡ slice_index_or all i r → all_lawful version s (take i (map record_of all)) ≡ true
+    → is_lawful version (run s (take i (map record_of all))) (record_of r) ≡ false
+    → take i (map record_of all) ≡ lawful_front version s (map record_of all)
+ends_before version s all i r lt is so no =
+    let rs = map record_of all in
+    sym (front_stops version s (take i rs) (record_of r) (drop (i + 1) rs) so no)
+    ∙ ap (lawful_front version s) (sym (append_assoc (take i rs) (record_of r ∷ []) (drop (i + 1) rs))
+    ∙ ap (λ (xs : List Record). xs ++ drop (i + 1) rs) (sym (one_more all i r lt is)) ∙ take-append-drop (i + 1) rs)
+
+pub ends_there : (x y z : Standing) (all : List Own) (i : ℕ) (r : Own) (lawful : Bool) → i < length all
+    → r ≡ slice_index_or all i r → HasTaken x all i y → TakesOne y r z lawful → lawful ≡ false
+    → WentOn x (map record_of all) z i
+ends_there x y z all i r lawful lt is had one no = record {
+  count = λ version s stands. omega (
+    arith,
+    lt,
+    length-map all record_of,
+    length-take i rs,
+    ap length (front version s stands),
+  );
+  stands = λ version s stands.
+      let t = run s (take i rs) in
+      subst (λ (xs : List Record). Stands version z (run s xs)) (front version s stands)
+      (subst (λ (b : Bool). Stands version z (if b then step t (record_of r) else t)) no
+      (one.stood version t (had version s stands).1));
+}
+  where
+    rs : List Record
+    rs = map record_of all
+
+    front : (version : Version) (s : State) → Stands version x s → take i rs ≡ lawful_front version s rs
+    front version s stands =
+        let before = had version s stands in
+        ends_before version s all i r lt is before.0
+        (sym (one.judged version (run s (take i rs)) before.1) ∙ no)
+
+pub all_taken : (x y : Standing) (all : List Own) (i : ℕ) → length all ≤ i → HasTaken x all i y
+    → WentOn x (map record_of all) y (length all)
+all_taken x y all i end had = record {
+  count = λ version s stands. sym (ap length (front version s stands) ∙ length-map all record_of);
+  stands = λ version s stands. subst (λ (xs : List Record). Stands version y (run s xs))
+      (whole ∙ sym (front version s stands)) (had version s stands).1;
+}
+  where
+    rs : List Record
+    rs = map record_of all
+
+    whole : take i rs ≡ rs
+    whole = take_all i rs (omega (arith, end, length-map all record_of))
+
+    front : (version : Version) (s : State) → Stands version x s → lawful_front version s rs ≡ rs
+    front version s stands = front_whole version s rs
+        (sym (ap (all_lawful version s) whole) ∙ (had version s stands).0)

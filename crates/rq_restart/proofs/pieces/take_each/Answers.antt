@@ -1,0 +1,33 @@
+use Rattle.std.proofs.Common.{◌∙◌, length, map, not, refl, sym, ap, arith}
+use Rattle.rq_model.specs.Machine.{run}
+use Rattle.rq_record.specs.Views.{record_of}
+use Rattle.rq_restart.proofs.TakenPieces.{TakesOne, all_taken, ends_there, one_further}
+use Rattle.rq_restart.proofs.pieces.take_each.Goals as goal
+
+pub loop-place-init : goal.loop-place-init
+loop-place-init c = λ version s stands. (refl, stands)
+
+pub take_one-requires : goal.take_one-requires
+take_one-requires c =
+    let (version, s, stands) = c.requires in
+    (version, _, (c.loop-place.invariant version s stands).1)
+
+pub loop-place-preserved : goal.loop-place-preserved
+loop-place-preserved c =
+    one_further c.args.standing.now c.loop-place.standing c.take_one.new.standing c.args.records.now c.loop-place.place
+    c.index-records-place.result c.in_ok-take_one.field-0 c.loop-place-test.true c.index-records-place.is
+    c.loop-place.invariant
+    (record { judged = c.in_ok-take_one.ensures.lawful; stood = c.in_ok-take_one.ensures.stands })
+    c.if-not-take_one.false
+
+pub returns-then-not-take_one : goal.returns-then-not-take_one
+returns-then-not-take_one c =
+    ends_there c.args.standing.now c.loop-place.standing c.take_one.new.standing c.args.records.now c.loop-place.place
+    c.index-records-place.result c.in_ok-take_one.field-0 c.loop-place-test.true c.index-records-place.is
+    c.loop-place.invariant
+    (record { judged = c.in_ok-take_one.ensures.lawful; stood = c.in_ok-take_one.ensures.stands })
+    c.if-not-take_one.true
+
+pub returns : goal.returns
+returns c = all_taken c.args.standing.now c.loop-place.standing c.args.records.now c.loop-place.place
+    (omega (arith, c.loop-place-test.false)) c.loop-place.invariant

@@ -1,0 +1,20 @@
+-- Records taken up to the first that is not lawful.
+use Rattle.std.specs.Prelude.{ℕ, ◌≡◌, List, length}
+use Rattle.rq_model.specs.Records.{Record, Version}
+use Rattle.rq_model.specs.States.{State}
+use Rattle.rq_model.specs.Machine.{lawful_front, run}
+use Rattle.rq_standing.specs.Stands.{Stands}
+use Rattle.rq_standing.specs.declared.standing.Standing.{Standing}
+
+-- n of the records are lawful from s on, up to the first that is not, and t is the state after them
+pub record ComesTo (version : Version) (s : State) (more : List Record) (t : State) (n : ℕ)
+    : Type 0 where
+  pub count : n ≡ length (lawful_front version s more)
+  pub state : t ≡ run s (lawful_front version s more)
+
+-- n of the records are lawful where x stands, up to the first that is not, and y stands after them
+pub record WentOn (x : Standing) (more : List Record) (y : Standing) (n : ℕ) : Type 0 where
+  pub count : (version : Version) (s : State) → Stands version x s
+      → n ≡ length (lawful_front version s more)
+  pub stands : (version : Version) (s : State) → Stands version x s
+      → Stands version y (run s (lawful_front version s more))
