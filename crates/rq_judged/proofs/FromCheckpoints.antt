@@ -162,6 +162,7 @@ pub record IsJudgedFrom (b : List ℕ) (offset : ℕ) (x : Begun) (kept : List �
   pub from : IsFromCheckpoint (version_of x.version) x.state b offset kept after end why
   pub past : 40 ≤ end
   pub within : end ≤ length b
+  pub few : records ≤ length b
   pub count : records ≡ length (Checkpoint kept ∷ after)
   pub judge : StandsIn (version_of x.version) j (run x.state (Checkpoint kept ∷ after))
 
@@ -179,6 +180,7 @@ judged_from right join law b offset x is j reach are e e_is =
       from = has.from;
       past = omega (arith, is.chain.after, front.few);
       within = front.within;
+      few = omega (arith, are.count, front.few, front.within);
       count = are.count ∙ ap length has.are;
       judge = subst (λ (z : List Record). StandsIn version j (run x.state z)) has.are are.judge;
     }

@@ -1,8 +1,8 @@
 use Rattle.std.proofs.Common.{◌≡◌, ℕ, List, length, ◌∙◌, arith}
 use Rattle.rq_model.specs.Frames.{before}
-use Rattle.rq_restart.proofs.Endings.{IsFramed, framed}
-use Rattle.rq_journal.proofs.frames.append_frame.Goals as goal
-use Rattle.rq_journal.proofs.frames.append_frame.Goals.{In_ok-frame}
+use Rattle.rq_judged.proofs.Starts.{IsFramed, framed}
+use Rattle.rq_judged.proofs.frames.append_frame.Goals as goal
+use Rattle.rq_judged.proofs.frames.append_frame.Goals.{In_ok-frame}
 
 is_framed : (c : In_ok-frame) → IsFramed c.args.out.now.items c.frame.new.out.items c.args.prev.now c.args.body.now
 is_framed c = framed c.args.out.now.items c.frame.new.out.items c.args.prev.now c.args.body.now c.in_ok-frame.ensures
