@@ -68,7 +68,7 @@ fn rule_behind(alloc: Global, front: &JudgedFront, bytes: &[u8]) -> Result<Optio
 }
 
 // The end of a front that was judged, behind which the next record has this number.
-fn end_of(front: &JudgedFront, records: u64, bytes: &[u8]) -> FrontEnd
+fn numbers_of(front: &JudgedFront, records: u64, bytes: &[u8]) -> FrontEnd
     ensures records { result.records ≡ records }
     ensures used { result.used ≡ front.now.used }
     ensures total { result.total ≡ length bytes.now }
@@ -102,7 +102,7 @@ pub fn front_end<R: Threads + Sync>(
     rq_model::runs_are_well_formed();
     let front = judged_front(rt, alloc, bytes, plan)?;
     let rule = rule_behind(alloc, &front, bytes)?;
-    Ok((end_of(&front, front.records as u64, bytes), rule))
+    Ok((numbers_of(&front, front.records as u64, bytes), rule))
 }
 
 /// The same of the front from the checkpoint at an offset on, as the restart from there says it: it
@@ -123,5 +123,5 @@ pub fn front_end_at<R: Threads + Sync>(
     let front = judged_behind(alloc, &begun, bytes)?;
     let rule = rule_behind(alloc, &front, bytes)?;
     let records = begun.state.next() + front.records as u64;
-    Ok((end_of(&front, records, bytes), rule))
+    Ok((numbers_of(&front, records, bytes), rule))
 }

@@ -12,10 +12,10 @@ rule_behind-requires g c =
 pub returns : goal.returns
 returns g c =
     found c.numbers_after.ensures c.runs_are_well_formed.ensures.start c.args.bytes.now c.in_ok-front.front
-    c.in_ok-front.ensures _ c.end_of.ensures.records
+    c.in_ok-front.ensures _ c.numbers_of.ensures.records
     (record {
-      used = c.end_of.ensures.used;
-      total = c.end_of.ensures.total;
-      why = c.end_of.ensures.why;
+      used = c.numbers_of.ensures.used;
+      total = c.numbers_of.ensures.total;
+      why = c.numbers_of.ensures.why;
       rule = c.in_ok-rule.ensures.rule;
     })

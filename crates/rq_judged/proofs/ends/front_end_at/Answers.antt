@@ -3,13 +3,8 @@ use Rattle.rq_model.specs.Records.{Checkpoint}
 use Rattle.rq_model.specs.Frames.{last_of, before}
 use Rattle.rq_model.specs.States.{State}
 use Rattle.rq_model.specs.Machine.{run}
-use Rattle.rq_judged.specs.JudgedFronts.{IsJudgedBehind}
 use Rattle.rq_judged.proofs.FrontEnds.{found_at}
 use Rattle.rq_judged.proofs.ends.front_end_at.Goals as goal
-use Rattle.rq_judged.proofs.ends.front_end_at.Goals.{In_ok-front}
-
-behind : (c : In_ok-front) → IsJudgedBehind c.args.bytes.now c.args.offset c.in_ok-begun.begun.state c.in_ok-front.front
-behind c = c.in_ok-front.ensures.judged c.args.offset c.in_ok-begun.ensures
 
 pub judged_behind-requires : goal.judged_behind-requires
 judged_behind-requires g c = (c.args.offset, c.in_ok-begun.ensures)
@@ -34,10 +29,10 @@ returns g c =
     let h = c.in_ok-front.ensures.judged c.args.offset c.in_ok-begun.ensures in
     let next = ap (λ (s : State). s.next) h.begins in
     found_at c.numbers_after.ensures c.args.bytes.now c.args.offset c.in_ok-front.front h.is _
-    (omega (arith, next, c.next.ensures.next, c.end_of.ensures.records))
+    (omega (arith, next, c.next.ensures.next, c.numbers_of.ensures.records))
     (record {
-      used = c.end_of.ensures.used;
-      total = c.end_of.ensures.total;
-      why = c.end_of.ensures.why;
+      used = c.numbers_of.ensures.used;
+      total = c.numbers_of.ensures.total;
+      why = c.numbers_of.ensures.why;
       rule = c.in_ok-rule.ensures.rule;
     })
