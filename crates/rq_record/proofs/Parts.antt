@@ -43,7 +43,25 @@ piece_at log start len fits =
 pub all_at : (bytes : List ℕ) → EndsAt bytes (length bytes) bytes
 all_at bytes = record { before = []; behind = []; whole = sym (append-nil bytes); there = refl }
 
--- what a reader leaves ends there as well
+-- behind a front of them, the others end there as well
+behind_front : (log bytes front left : List ℕ) (end : ℕ) → EndsAt log end bytes → bytes ≡ front ++ left
+    → EndsAt log end left
+behind_front log bytes front left end h parts = record {
+  before = h.before ++ front;
+  behind = h.behind;
+  whole = h.whole ∙ ap (λ (z : List ℕ). h.before ++ (z ++ h.behind)) parts
+      ∙ ap (λ (z : List ℕ). h.before ++ z) (append_assoc front left h.behind)
+      ∙ sym (append_assoc h.before front (left ++ h.behind));
+  there = omega (
+    arith,
+    h.there,
+    length-append h.before front,
+    ap length parts,
+    length-append front left,
+  );
+}
+
+-- so does what a reader leaves
 pub record IsLeft (log : List ℕ) (end : ℕ) (bytes : List ℕ) : Type 0 where
   pub ends : EndsAt log end bytes
   pub fits : IsBytes bytes
@@ -51,25 +69,6 @@ pub record IsLeft (log : List ℕ) (end : ℕ) (bytes : List ℕ) : Type 0 where
 pub left_at : {X : Type 0} {P : X → Type 0} {spelling : X → List ℕ} {Ends : List ℕ → Type 0} {reader : Reader X}
     → Reads P spelling Ends reader → (log bytes left : List ℕ) (end : ℕ) (x : X) → IsLeft log end bytes
     → reader bytes ≡ Some (x, left) → IsLeft log end left
-left_at {spelling} reads log bytes left end x h is =
+left_at reads log bytes left end x h is =
     let taken = reads.takes bytes (x, left) h.fits is in
-    let before : List ℕ = h.ends.before in
-    let behind : List ℕ = h.ends.behind in
-    let front : List ℕ = spelling x in
-    record {
-      ends = record {
-        before = before ++ front;
-        behind = behind;
-        whole = h.ends.whole ∙ ap (λ (z : List ℕ). before ++ (z ++ behind)) taken.parts
-            ∙ ap (λ (z : List ℕ). before ++ z) (append_assoc front left behind)
-            ∙ sym (append_assoc before front (left ++ behind));
-        there = omega (
-          arith,
-          h.ends.there,
-          length-append before front,
-          ap length taken.parts,
-          length-append front left,
-        );
-      };
-      fits = taken.rest_fits;
-    }
+    record { ends = behind_front log bytes _ left end h.ends taken.parts; fits = taken.rest_fits }

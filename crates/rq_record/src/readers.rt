@@ -122,7 +122,12 @@ fn payload(
 }
 
 #[tactic(auto, unfolding(rq_model::specs::RecordReading::enqueue_read))]
-fn enqueue(alloc: Global, log: &LogBytes<'_>, end: usize, bytes: Cursor<'_>) -> Result<KeptRecord, Fault>
+fn enqueue(
+    alloc: Global,
+    log: &LogBytes<'_>,
+    end: usize,
+    bytes: Cursor<'_>,
+) -> Result<KeptRecord, Fault>
     requires { EndsAt log.now end bytes }
     ensures { KeepsRead record_of result (made enqueue_from enqueue_read bytes.entry) }
 {

@@ -16,14 +16,14 @@ mod tails;
 mod upgrades;
 
 pub use audit_laws::every_log_has_audit;
-pub use audits::{audit, audit_at, audit_lent};
+pub use audits::{audit, audit_at, audit_of};
 pub use keeper::Keeper;
 pub use redone::{RedoneFront, front_state, redone_front, redone_front_at};
 pub use restarted::Restarted;
-pub use restarting_at::{restart_at, restart_lent_at};
-pub use restarts::{restart, restart_lent};
+pub use restarting_at::{restart_at, restart_of_at};
+pub use restarts::{restart, restart_of};
 pub use rq_judged::Why;
 pub use rq_pool::{Gate, Open, Plan};
-pub use rq_record::{Fault, Version};
+pub use rq_record::{Fault, LogBytes, Version};
 pub use tails::{closed, tail};
 pub use upgrades::upgrade;

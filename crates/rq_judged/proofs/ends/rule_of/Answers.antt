@@ -1,2 +1,1 @@
 use Rattle.rq_judged.proofs.ends.rule_of.Goals as goal
-

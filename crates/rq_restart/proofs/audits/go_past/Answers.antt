@@ -3,7 +3,7 @@ use Rattle.std.proofs.lemmas.Bool.{false≢true}
 use Rattle.rq_model.specs.Machine.{is_lawful}
 use Rattle.rq_record.specs.Views.{record_of}
 use Rattle.rq_standing.specs.Stands.{IsTakenAs, Stands, state_with}
-use Rattle.rq_restart.proofs.audits.pass.Goals as goal
+use Rattle.rq_restart.proofs.audits.go_past.Goals as goal
 
 pub unreachable-requires : goal.unreachable-requires
 unreachable-requires c =

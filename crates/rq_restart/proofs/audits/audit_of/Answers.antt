@@ -7,8 +7,8 @@ use Rattle.rq_restart.specs.Audits.{IsAuditedFrom}
 use Rattle.rq_judged.specs.Ends.{IsChain}
 use Rattle.rq_restart.proofs.Audited.{AuditLaws, audits_are}
 use Rattle.rq_judged.proofs.Starts.{log_chain}
-use Rattle.rq_restart.proofs.audits.whole_audit.Goals as goal
-use Rattle.rq_restart.proofs.audits.whole_audit.Goals.{In_ok-found}
+use Rattle.rq_restart.proofs.audits.audit_of.Goals as goal
+use Rattle.rq_restart.proofs.audits.audit_of.Goals.{In_ok-found}
 
 is_chain : (g : _) (c : In_ok-found g) → IsChain c.args.bytes.now 40 c.in_ok-found.found
 is_chain g c =
@@ -23,7 +23,7 @@ checkpoints_of-requires-clause-chain g c κs within =
 pub returns : goal.returns
 returns g c =
     let b = c.args.bytes.now in
-    let version = version_of c.in-Some.version in
+    let version = version_of c.in_ok-version.version in
     let laws : AuditLaws = record {
       right = c.frames_are_right.ensures.right;
       body = c.one_spelling.ensures.body;
@@ -36,7 +36,7 @@ returns g c =
     (λ v. IsAuditedFrom version c.empty-state.result b 40 v.items)
     (λ v told. told 40 (is_chain g ((goal.at.returns g c).In_ok-found)))
     c.checkpoints_of.ensures.found in
-    audits_are version laws b c.in_ok-found.ensures.log.0 c.in-Some.ensures.some c.checkpoints_of.result
+    audits_are version laws b c.in_ok-found.ensures.log.0 c.in_ok-version.ensures.header c.checkpoints_of.result
     (subst (λ (s : State). IfOk c.checkpoints_of.result (λ v. IsAuditedFrom version s b 40 v.items))
     c.empty-state.ensures found)
     c.checkpoints_of.ensures.refused

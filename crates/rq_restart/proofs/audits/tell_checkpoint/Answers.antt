@@ -4,7 +4,7 @@ use Rattle.rq_model.specs.Checkpoints.{Audited}
 use Rattle.rq_record.specs.Views.{Record, record_of}
 use Rattle.rq_restart.specs.Audits.{audit_of, audited_of, is_spelled}
 use Rattle.rq_restart.proofs.Walks.{none_here}
-use Rattle.rq_restart.proofs.audits.look.Goals as goal
+use Rattle.rq_restart.proofs.audits.tell_checkpoint.Goals as goal
 
 pub returns-in_default-clause-found : goal.returns-in_default-clause-found
 returns-in_default-clause-found c = λ version s stands.
