@@ -4,8 +4,8 @@ use Rattle.std.proofs.Common.{append_assoc, arith}
 use Rattle.std.specs.Prelude.{slice_range}
 use Rattle.std.proofs.lemmas.List.{append-nil, take_at, drop_at, take-append-drop, length-append, length-take, length-drop}
 use Rattle.rq_bytes.specs.Readers.{Reader}
-use Rattle.rq_bytes.specs.Reads.{Reads, IsBytes}
-use Rattle.rq_record.specs.LogParts.{EndsAt, IsPartOf}
+use Rattle.rq_bytes.specs.Reads.{Reads}
+use Rattle.rq_record.specs.LogParts.{EndsAt, IsLeftAt, IsPartOf}
 
 -- the last bytes before an end are a part of the log
 pub part_at : (log bytes : List ℕ) (end start : ℕ) → EndsAt log end bytes → start + length bytes ≡ end
@@ -62,13 +62,9 @@ behind_front log bytes front left end h parts = record {
 }
 
 -- so does what a reader leaves
-pub record IsLeft (log : List ℕ) (end : ℕ) (bytes : List ℕ) : Type 0 where
-  pub ends : EndsAt log end bytes
-  pub fits : IsBytes bytes
-
 pub left_at : {X : Type 0} {P : X → Type 0} {spelling : X → List ℕ} {Ends : List ℕ → Type 0} {reader : Reader X}
-    → Reads P spelling Ends reader → (log bytes left : List ℕ) (end : ℕ) (x : X) → IsLeft log end bytes
-    → reader bytes ≡ Some (x, left) → IsLeft log end left
+    → Reads P spelling Ends reader → (log bytes left : List ℕ) (end : ℕ) (x : X) → IsLeftAt log end bytes
+    → reader bytes ≡ Some (x, left) → IsLeftAt log end left
 left_at reads log bytes left end x h is =
-    let taken = reads.takes bytes (x, left) h.fits is in
-    record { ends = behind_front log bytes _ left end h.ends taken.parts; fits = taken.rest_fits }
+    let taken = reads.takes bytes (x, left) h.bytes is in
+    record { ends = behind_front log bytes _ left end h.ends taken.parts; bytes = taken.rest_fits }
