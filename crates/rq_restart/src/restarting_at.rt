@@ -1,15 +1,29 @@
 //! The restart of a log from a checkpoint.
 
+ghost use Rattle.rq_judged.specs.Checkpoints.{BeginsAt};
 ghost use Rattle.rq_restart.specs.Restarts.{RestartsAt};
 
 use crate::restart_ends::finish;
 use crate::restarted::Restarted;
-use rq_judged::{begin_at, front_of};
+use rq_judged::{Begun, begin_at, front_of};
 use rq_pool::{Gate, Plan};
 use rq_record::{Fault, LogBytes};
 use std::alloc::Global;
 use std::marker::Sync;
 use std::thread::Threads;
+
+// Where the restart of a log begins, whose bytes may be shared.
+fn begun_at<R: Threads + Sync>(
+    rt: &R,
+    alloc: Global,
+    bytes: &LogBytes<'_>,
+    offset: u64,
+    plan: &Plan,
+) -> Result<Begun, Fault>
+    ensures { BeginsAt bytes.now offset result }
+{
+    begin_at(rt, alloc, bytes.as_slice(), offset, plan)
+}
 
 /// The restart from a checkpoint of a log whose bytes may be shared: `restart_at` of them. If they
 /// are, another checkpoint behind that one, and a payload of more than 22 bytes, are parts of them
@@ -27,7 +41,7 @@ where
     G: Gate + Sync,
     ensures { RestartsAt bytes.now offset result }
 {
-    let begun = begin_at(rt, alloc, bytes.as_slice(), offset, plan)?;
+    let begun = begun_at(rt, alloc, bytes, offset, plan)?;
     let front = front_of(rt, alloc, bytes, &begun, plan)?;
     finish(
         rt,

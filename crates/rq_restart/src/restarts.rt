@@ -21,8 +21,8 @@ use std::alloc::Global;
 use std::marker::Sync;
 use std::thread::Threads;
 
-/// The version of a log, and the front of all of it.
-pub(crate) fn whole_front<R: Threads + Sync>(
+// The version of a log whose bytes may be shared, and the front of all of it.
+fn whole_front_of<R: Threads + Sync>(
     rt: &R,
     alloc: Global,
     bytes: &LogBytes<'_>,
@@ -44,6 +44,25 @@ pub(crate) fn whole_front<R: Threads + Sync>(
     Ok((version, front))
 }
 
+/// The version of a log, and the front of all of it.
+pub(crate) fn whole_front<R: Threads + Sync>(
+    rt: &R,
+    alloc: Global,
+    bytes: &[u8],
+    plan: &Plan,
+) -> Result<(Version, Front), Fault>
+    ensures front { IfOk result (λ x. IsFrontFrom (version_of x.0) empty bytes.now 40
+        (map record_of x.1.records.items) x.1.end (why_of x.1.why)) }
+    ensures analysis { IfOk result
+        (λ x. IsAnalysis (version_of x.0) empty (map record_of x.1.records.items) x.1.analysis) }
+    ensures header { IfOk result (λ x. HasHeader (version_of x.0) bytes.now) }
+    ensures short { OnOk result (length bytes.now ≤ log_limit) }
+    ensures refused { IfErr result (Refused bytes.now) }
+{
+    let (version, front) = whole_front_of(rt, alloc, &LogBytes::borrowed(bytes), plan)?;
+    Ok((version, front))
+}
+
 /// The restart of a log whose bytes may be shared: `restart` of them. If they are, a checkpoint, and
 /// a payload of more than 22 bytes, are parts of them and no copies. So they stay in memory as long
 /// as one such payload of the state does.
@@ -61,7 +80,7 @@ where
 {
     rq_model::runs_are_well_formed();
     rq_model::frames_join();
-    let (version, front) = whole_front(rt, alloc, bytes, plan)?;
+    let (version, front) = whole_front_of(rt, alloc, bytes, plan)?;
     finish(
         rt,
         alloc,
