@@ -1,6 +1,6 @@
 -- The end of a judged front is that of its restart.
-use Rattle.std.proofs.Common.{◌≡◌, ℕ, ◌+◌, ◌≤◌, true, false, List, ◌∷◌, ◌++◌, length, take, drop, refl, sym, ap, ◌∙◌, arith}
-use Rattle.std.specs.Prelude.{Option, is_some, not, Ok}
+use Rattle.std.proofs.Common.{◌≡◌, ℕ, ◌+◌, ◌≤◌, false, List, ◌∷◌, ◌++◌, length, take, drop, refl, sym, ap, ◌∙◌, arith}
+use Rattle.std.specs.Prelude.{Option, is_some, Ok}
 use Rattle.std.proofs.lemmas.List.{take_at, length-append, length-drop}
 use Rattle.rq_model.specs.Records.{Record, Checkpoint, Version}
 use Rattle.rq_model.specs.Frames.{HasHeader, before, frames_of, header, log_of}
@@ -120,7 +120,7 @@ found_at after b offset f h x records told =
 
 -- a body that spells a record which is not lawful spells no other one
 pub not_lawful : (version : Version) (s : State) (body : List ℕ) (r x : Record) → Spells version r body
-    → is_lawful version s r ≡ false → Spells version x body → not (is_lawful version s x) ≡ true
+    → is_lawful version s r ≡ false → Spells version x body → is_lawful version s x ≡ false
 not_lawful version s body r x spells no spelled =
     let same : x ≡ r = one_record version x r body spelled spells in
-    ap not (ap (is_lawful version s) same ∙ no)
+    ap (is_lawful version s) same ∙ no
