@@ -14,8 +14,10 @@ checkpoints_among-requires g c =
     record {
       framed = (
         offset,
-        framed (version_of c.args.begun.now.version) c.args.begun.now.state c.args.bytes.now offset c.args.begun.now.found
-            (map record_of front.records.items) front.end (why_of front.why) c.deref.result.now c.deref-2.result.now chain
+        framed (version_of c.args.begun.now.version) c.args.begun.now.state c.args.bytes.now offset
+            c.args.begun.now.found
+            (map record_of front.records.items) front.end
+            (why_of front.why) c.deref.result.now c.deref-2.result.now chain
             (c.in_ok-front.ensures.front offset chain) c.in_ok-front.ensures.bodies
             (ap (map record_of) (c.deref.ensures.value ∙ c.records_alone-records.ensures)) c.deref-2.ensures.value,
       );

@@ -28,8 +28,11 @@ front_of-requires-clause-chain g c = λ κs within. (
 )
 
 pub state_behind-requires-clause-front : goal.state_behind-requires-clause-front
-state_behind-requires-clause-front g c = λ κs within.
-    (c.args.offset, c.in_ok-begun.ensures.chain.after, front g ((goal.at.state_behind-requires-clause-front g c).In_ok-front))
+state_behind-requires-clause-front g c = λ κs within. (
+  c.args.offset,
+  c.in_ok-begun.ensures.chain.after,
+  front g ((goal.at.state_behind-requires-clause-front g c).In_ok-front),
+)
 
 pub returns : goal.returns
 returns g c =
