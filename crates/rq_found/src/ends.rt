@@ -1,10 +1,8 @@
 //! Where the front of a log ends, and why.
 
-ghost use Rattle.std.specs.Prelude.{◌≡◌, ◌++◌, Some, string_bytes, IfOk, IfErr, OnOk};
+ghost use Rattle.std.specs.Prelude.{◌≡◌, ◌++◌, string_bytes, IfOk, IfErr, OnOk};
 ghost use Rattle.rq_model.specs.Fronts as fronts;
-ghost use Rattle.rq_model.specs.Fronts.{IsRestart};
-ghost use Rattle.rq_model.specs.Checkpoints.{IsRestartAt};
-ghost use Rattle.rq_front.specs.Chains.{Refused, IsLog};
+ghost use Rattle.rq_front.specs.Chains.{IsLog};
 ghost use Rattle.rq_record.specs.declared.fault.Fault.TheVariants.{Resources};
 ghost use Rattle.rq_judged.specs.FrontEnds.{IsEndOf};
 ghost use Rattle.rq_judged.specs.Views.{why_of};
@@ -16,12 +14,12 @@ use crate::frames::{first_frame, stated_length};
 use crate::misfits::{Misfit, misfit_of};
 use crate::pieces::TextPiece::{Number, Word};
 use crate::pieces::joined_text;
-use rq_catalog::{Judge, Rule};
+use rq_catalog::Rule;
 use rq_front::{FRAME_LEN, version};
-use rq_judged::{FrontEnd, front_end, judged_front, judged_front_at};
-use rq_record::{Fault, Version, decode_kept};
+use rq_judged::{FrontEnd, front_end, front_end_at};
+use rq_record::{Fault, Version};
 use rq_report::why_word;
-use rq_restart::{Open, Plan, Restarted, Why, restart_at};
+use rq_restart::{Plan, Restarted, Why};
 use sha2::{Digest, Sha256};
 use std::alloc::{AllocError, Global};
 use std::fmt::Write;
@@ -118,54 +116,6 @@ pub fn form_reason(alloc: Global, version: Version, body: &[u8]) -> Result<Strin
     }
 }
 
-// What judges the records behind the front of a log, of which the end was found: so memory alone is
-// refused.
-fn judge_behind<R: Threads + Sync>(
-    rt: &R,
-    alloc: Global,
-    bytes: &[u8],
-    at: Option<u64>,
-    plan: &Plan,
-) -> Result<Judge, Fault>
-    ensures { IfErr result (λ e. e ≡ Resources) }
-{
-    let judged = match at {
-        None => judged_front(rt, alloc, bytes, plan),
-        Some(at) => judged_front_at(rt, alloc, bytes, at, plan),
-    };
-    match judged {
-        Ok(front) => Ok(front.judge),
-        Err(_) => Err(Fault::Resources),
-    }
-}
-
-// The rule that the record of a body breaks there, if it is a record and breaks one.
-fn rule_of(alloc: Global, judge: &Judge, body: &[u8]) -> Result<Option<Rule>, Fault>
-    ensures { IfErr result (λ e. e ≡ Resources) }
-{
-    match decode_kept(alloc, judge.version(), body) {
-        Ok(record) => Ok(judge.broken(&record)),
-        Err(Fault::Form) => Ok(None),
-        Err(_) => Err(Fault::Resources),
-    }
-}
-
-// The rule that the record of a body breaks behind the front of a log, if it is a record and breaks
-// one.
-fn rule_behind<R: Threads + Sync>(
-    rt: &R,
-    alloc: Global,
-    bytes: &[u8],
-    at: Option<u64>,
-    body: &[u8],
-    plan: &Plan,
-) -> Result<Option<Rule>, Fault>
-    ensures { IfErr result (λ e. e ≡ Resources) }
-{
-    let judge = judge_behind(rt, alloc, bytes, at, plan)?;
-    rule_of(alloc, &judge, body)
-}
-
 fn law_reason(alloc: Global, rule: Option<Rule>) -> Result<String, AllocError> {
     match rule {
         Some(rule) => format!(in alloc; "{rule}"),
@@ -181,7 +131,7 @@ fn body_of(rest: &[u8]) -> &[u8] {
 }
 
 // Why a front ends there, where the rule that the next record breaks is known, if it breaks one.
-fn reason_by(
+fn reason_of(
     alloc: Global,
     bytes: &[u8],
     end: &FrontEnd,
@@ -201,38 +151,19 @@ fn reason_by(
     }
 }
 
-fn reason_of<R: Threads + Sync>(
-    rt: &R,
-    alloc: Global,
-    bytes: &[u8],
-    at: Option<u64>,
-    end: &FrontEnd,
-    plan: &Plan,
-) -> Result<String, Fault>
-    ensures { IfErr result (λ e. e ≡ Resources) }
-{
-    let (_, rest) = bytes.split_at(bytes.len().min(end.used as usize));
-    let rule = match end.why {
-        Why::Law => rule_behind(rt, alloc, bytes, at, body_of(rest), plan)?,
-        _ => None,
-    };
-    Ok(reason_by(alloc, bytes, end, rule)?)
-}
-
 // Where the front ends, with the reason.
-fn told<R: Threads + Sync>(
-    rt: &R,
+fn told(
     alloc: Global,
     bytes: &[u8],
     at: Option<u64>,
     end: FrontEnd,
-    plan: &Plan,
+    rule: Option<Rule>,
 ) -> Result<End, Fault>
     ensures end { IfOk result
         (λ told. (r : fronts.Restarted) → IsEndOf r end → IsEndOf r (front_end_of told)) }
     ensures refused { IfErr result (λ e. e ≡ Resources) }
 {
-    let reason = reason_of(rt, alloc, bytes, at, &end, plan)?;
+    let reason = reason_of(alloc, bytes, &end, rule)?;
     let FrontEnd {
         records,
         used,
@@ -247,6 +178,48 @@ fn told<R: Threads + Sync>(
         why,
         reason,
     })
+}
+
+// Where the front of a log ends, from the checkpoint on at an offset, if there is one, and the rule
+// that ends it. No queue is redone for it.
+fn ruled_end<R: Threads + Sync>(
+    rt: &R,
+    alloc: Global,
+    bytes: &[u8],
+    at: Option<u64>,
+    plan: &Plan,
+) -> Result<(FrontEnd, Option<Rule>), Fault>
+    ensures log { OnOk result (IsLog bytes.now) }
+    ensures end { IfOk result (λ x. (r : fronts.Restarted) × IsRestartFrom at bytes.now r
+        × IsEndOf r x.0) }
+    ensures refused { IfErr result (RefusedFrom at bytes.now) }
+{
+    match at {
+        None => {
+            let found = front_end(rt, alloc, bytes, plan)?;
+            Ok(found)
+        }
+        Some(at) => {
+            let found = front_end_at(rt, alloc, bytes, at, plan)?;
+            Ok(found)
+        }
+    }
+}
+
+// The rule that ends the front of a log of which there is a restart: so memory alone is refused.
+fn rule_after<R: Threads + Sync>(
+    rt: &R,
+    alloc: Global,
+    bytes: &[u8],
+    at: Option<u64>,
+    plan: &Plan,
+) -> Result<Option<Rule>, Fault>
+    ensures { IfErr result (λ e. e ≡ Resources) }
+{
+    match ruled_end(rt, alloc, bytes, at, plan) {
+        Ok((_, rule)) => Ok(rule),
+        Err(_) => Err(Fault::Resources),
+    }
 }
 
 /// Where the front ends of which the restart is known, from the checkpoint on at an offset, if there
@@ -268,43 +241,13 @@ pub fn end_after<R: Threads + Sync>(
         total: r.total(),
         why: r.why(),
     };
-    let told = told(rt, alloc, bytes, at, end, plan)?;
+    // A restart keeps no rule: so of a log that ends by one this reads the front once more.
+    let rule = match end.why {
+        Why::Law => rule_after(rt, alloc, bytes, at, plan)?,
+        Why::Whole | Why::Cut | Why::Length | Why::Chain | Why::Form => None,
+    };
+    let told = told(alloc, bytes, at, end, rule)?;
     Ok(told)
-}
-
-// Where the front of a log ends. No queue is redone for it.
-fn whole_end<R: Threads + Sync>(
-    rt: &R,
-    alloc: Global,
-    bytes: &[u8],
-    plan: &Plan,
-) -> Result<End, Fault>
-    ensures log { OnOk result (IsLog bytes.now) }
-    ensures end { IfOk result (λ end. (r : fronts.Restarted) × IsRestart bytes.now r
-        × IsEndOf r (front_end_of end)) }
-    ensures refused { IfErr result (Refused bytes.now) }
-{
-    let end = front_end(rt, alloc, bytes, plan)?;
-    let told = told(rt, alloc, bytes, None, end, plan)?;
-    Ok(told)
-}
-
-// Where the front of a log ends that begins with the checkpoint at an offset.
-fn end_at<R: Threads + Sync>(
-    rt: &R,
-    alloc: Global,
-    bytes: &[u8],
-    at: u64,
-    plan: &Plan,
-) -> Result<End, Fault>
-    ensures log { OnOk result (IsLog bytes.now) }
-    ensures end { IfOk result (λ end. (r : fronts.Restarted) × IsRestartAt bytes.now at r
-        × IsEndOf r (front_end_of end)) }
-    ensures refused { IfErr result (RefusedFrom (Some at) bytes.now) }
-{
-    let restarted = restart_at(rt, alloc, bytes, at, plan, &Open)?;
-    let end = end_after(rt, alloc, bytes, Some(at), &restarted, plan)?;
-    Ok(end)
 }
 
 /// Where the front of a log ends, from the checkpoint on at an offset, if there is one.
@@ -320,10 +263,9 @@ pub fn end_of<R: Threads + Sync>(
         × IsEndOf r (front_end_of end)) }
     ensures refused { IfErr result (RefusedFrom at bytes.now) }
 {
-    match at {
-        None => whole_end(rt, alloc, bytes, plan),
-        Some(at) => end_at(rt, alloc, bytes, at, plan),
-    }
+    let (end, rule) = ruled_end(rt, alloc, bytes, at, plan)?;
+    let told = told(alloc, bytes, at, end, rule)?;
+    Ok(told)
 }
 
 /// Puts with which checkpoint a log begins that was carried on; of another, nothing.

@@ -9,9 +9,9 @@ ghost use Rattle.rq_record.specs.Views.{record_of, version_of};
 ghost use Rattle.rq_journal.specs.Places.{Place, IsAppenderAt, behind_header};
 ghost use Rattle.rq_journal.specs.Appenders.{Refuses, KeepsPlace, AppendsUpTo, AppendsOne, AppendsEach};
 
-use crate::frames::append_frame;
 use rq_catalog::{Judge, Rule};
 use rq_front::{FRAME_LEN, HEADER_LEN, LOG_LIMIT};
+use rq_judged::append_frame;
 use rq_record::{KeptRecord, Record, Version, encode};
 use std::alloc::Global;
 

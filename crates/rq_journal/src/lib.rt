@@ -7,7 +7,6 @@ mod audits;
 mod batches;
 mod carried_logs;
 mod checkpoint;
-mod frames;
 mod marks;
 mod opened_logs;
 

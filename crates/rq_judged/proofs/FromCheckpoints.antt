@@ -1,5 +1,6 @@
 -- The front of a log from a checkpoint on: its first record is the checkpoint.
-use Rattle.std.proofs.Common.{◌≡◌, ℕ, ◌+◌, ◌-◌, ◌≤◌, true, false, List, [], ◌∷◌, ◌++◌, length, take, drop, refl, sym, ap}
+use Rattle.std.proofs.Common.{◌≡◌, ℕ, ◌+◌, ◌-◌, ◌≤◌, true, false, List, [], ◌∷◌, ◌++◌, length, take, drop, refl, sym}
+use Rattle.std.proofs.Common.{ap}
 use Rattle.std.proofs.Common.{subst, ◌∙◌, append_assoc, arith, Bool}
 use Rattle.std.specs.Prelude.{Result, Ok, Err, IfOk, IfErr}
 use Rattle.std.specs.Global.{Vec}
@@ -54,7 +55,8 @@ first_is version s p bytes rest kept [] why right body few begins ends =
 first_is version s p bytes rest kept (r ∷ after) why right body few begins ends =
     let f = body_of r in
     let more : List ℕ = frames_of (digest p f) after ++ rest in
-    let parts : bytes ≡ frame p f ++ more = begins.whole ∙ append_assoc (frame p f) (frames_of (digest p f) after) rest in
+    let parts : bytes ≡ frame p f ++ more = begins.whole
+    ∙ append_assoc (frame p f) (frames_of (digest p f) after) rest in
     let here : body_in bytes ≡ f =
     ap body_in parts ∙ (frame_reads p f more (body_fits version r begins.records.0)).body_is in
     let same = one_record version r (Checkpoint kept) f (begins.records.0, refl) (few, sym here ∙ body) in
@@ -122,7 +124,8 @@ from_checkpoint b offset x is rs end why h =
     let version = version_of x.version in
     let kept = is.kept in
     let at = is.checkpoint in
-    let (after, are) = first_is version x.state (before offset b) (drop offset b) (drop end b) kept rs why at.frame at.body
+    let (after, are) = first_is version x.state (before offset b) (drop offset b)
+    (drop end b) kept rs why at.frame at.body
     (small b offset kept at) h.longest.begins h.ends in
     let xs : List Record = Checkpoint kept ∷ after in
     let k = subst (λ (z : List Record). IsFrontFrom version x.state b offset z end why) are h in
@@ -162,6 +165,7 @@ pub record IsJudgedFrom (b : List ℕ) (offset : ℕ) (x : Begun) (kept : List �
   pub from : IsFromCheckpoint (version_of x.version) x.state b offset kept after end why
   pub past : 40 ≤ end
   pub within : end ≤ length b
+  pub few : records ≤ length b
   pub count : records ≡ length (Checkpoint kept ∷ after)
   pub judge : StandsIn (version_of x.version) j (run x.state (Checkpoint kept ∷ after))
 
@@ -179,6 +183,7 @@ judged_from right join law b offset x is j reach are e e_is =
       from = has.from;
       past = omega (arith, is.chain.after, front.few);
       within = front.within;
+      few = omega (arith, are.count, front.few, front.within);
       count = are.count ∙ ap length has.are;
       judge = subst (λ (z : List Record). StandsIn version j (run x.state z)) has.are are.judge;
     }

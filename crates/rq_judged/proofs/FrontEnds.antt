@@ -1,31 +1,126 @@
--- The end of a front is that of its restart.
-use Rattle.std.proofs.Common.{◌≡◌, ℕ, ◌+◌, ◌-◌, ◌≤◌, List, length, refl, arith}
-use Rattle.std.specs.Prelude.{Ok}
-use Rattle.rq_model.specs.Records.{Record, Version}
-use Rattle.rq_model.specs.Frames.{log_limit, HasHeader}
-use Rattle.rq_model.specs.LogLaws.{LogEnds}
+-- The end of a judged front is that of its restart.
+use Rattle.std.proofs.Common.{◌≡◌, ℕ, ◌+◌, ◌≤◌, false, List, ◌∷◌, ◌++◌, length, take, drop, refl, sym, ap, ◌∙◌, arith}
+use Rattle.std.specs.Prelude.{Option, is_some, Ok}
+use Rattle.std.proofs.lemmas.List.{take_at, length-append, length-drop}
+use Rattle.rq_model.specs.Records.{Record, Checkpoint, Version}
+use Rattle.rq_model.specs.Frames.{HasHeader, before, frames_of, header, log_of}
 use Rattle.rq_model.specs.Laws.{NumbersAfter, EmptyIsWellFormed}
-use Rattle.rq_model.specs.States.{empty}
-use Rattle.rq_model.specs.Machine.{run}
-use Rattle.rq_model.specs.Fronts.{Why, restarted}
-use Rattle.rq_judged.specs.Ends.{IsFrontFrom}
-use Rattle.rq_judged.specs.FrontEnds.{FindsEnd, IsEndOf}
+use Rattle.rq_model.specs.Spelling.{Spells}
+use Rattle.rq_model.specs.States.{State, empty}
+use Rattle.rq_model.specs.Machine.{is_lawful, run}
+use Rattle.rq_model.specs.Fronts.{IsFront, restarted}
+use Rattle.rq_model.proofs.Bodies.{one_record}
+use Rattle.rq_model.proofs.Longest.{front_whole}
+use Rattle.rq_model.proofs.Restarts.{header_long}
+use Rattle.rq_catalog.specs.declared.rules.Rule.{Rule}
+use Rattle.rq_judged.specs.FrontEnds.{FindsEnd, FindsEndAt, is_law}
+use Rattle.rq_judged.specs.JudgedFronts.{IsJudged, IsJudgedAt}
 use Rattle.rq_judged.specs.Views.{why_of}
 use Rattle.rq_judged.specs.declared.ends.FrontEnd.{FrontEnd}
-use Rattle.rq_judged.proofs.Starts.{is_restart}
+use Rattle.rq_judged.specs.declared.judged.JudgedFront.{JudgedFront}
 
-pub found : (version : Version) → LogEnds → NumbersAfter → EmptyIsWellFormed
-    → (b : List ℕ) (rs : List Record) (end : ℕ) (why : Why) → length b ≤ log_limit → HasHeader version b
-    → IsFrontFrom version empty b 40 rs end why
-    → (e : FrontEnd) → e.records ≡ length rs → e.used ≡ end → e.total ≡ length b → why_of e.why ≡ why
-    → FindsEnd b (Ok e)
-found version law after well b rs end why short head h e records used total same =
-    let r = restarted (run empty rs) (length b - end) (length b) why in
-    let next : (run empty rs).next ≡ 0 + length rs = (after version empty rs well h.longest.begins.lawful).next in
-    let is : IsEndOf r e = record {
-      records = omega (arith, records, next);
-      used = omega (arith, used, h.within);
-      total = total;
-      why = same;
-    } in
-    (short, (version, head), r, is_restart version law b rs end why r short head h refl, is)
+-- a log with a front begins with its header
+headed : (b : List ℕ) (version : Version) (rs : List Record) (rest : List ℕ) → IsFront b version rs rest
+    → HasHeader version b
+headed b version rs rest h = ap (take 40) h.whole ∙ take_at (header version) h.bytes 40 (header_long version)
+
+-- what is told of a judged front, beside its first record's number
+pub record IsTold (b : List ℕ) (f : JudgedFront) (x : FrontEnd × Option Rule) : Type 0 where
+  pub used : x.0.used ≡ f.used
+  pub total : x.0.total ≡ length b
+  pub why : why_of x.0.why ≡ why_of f.why
+  pub rule : is_some x.1 ≡ is_law (why_of f.why)
+
+pub found : NumbersAfter → EmptyIsWellFormed → (b : List ℕ) (f : JudgedFront) → IsJudged b f
+    → (x : FrontEnd × Option Rule) → x.0.records ≡ f.records → IsTold b f x → FindsEnd b (Ok x)
+found after well b f h x records told =
+    let rest = drop f.used b in
+    let r = restarted (run empty h.records) (length rest) (length b) (why_of f.why) in
+    let next : (run empty h.records).next ≡ 0 + length h.records =
+    (after h.version empty h.records well h.front.longest.begins.lawful).next in
+    let long : length b ≡ f.used + length rest =
+    omega (
+      arith,
+      ap length (front_whole b h.version h.records rest h.front),
+      length-append (log_of h.version h.records) rest,
+      h.used,
+    ) in (
+      h.front.short,
+      (h.version, headed b h.version h.records rest h.front),
+      r,
+      record {
+        version = h.version;
+        records = h.records;
+        rest = rest;
+        why = why_of f.why;
+        front = h.front;
+        ends = h.ends;
+        answer = refl;
+      },
+      record {
+        end = record {
+          records = omega (arith, records, next, h.count);
+          used = omega (arith, told.used, long);
+          total = told.total;
+          why = told.why;
+        };
+        rule = told.rule;
+      },
+    )
+
+pub found_at : NumbersAfter → (b : List ℕ) (offset : ℕ) (f : JudgedFront) (h : IsJudgedAt b offset f)
+    → (x : FrontEnd × Option Rule) → x.0.records ≡ h.base.next + f.records → IsTold b f x
+    → FindsEndAt b offset (Ok x)
+found_at after b offset f h x records told =
+    let rest = drop f.used b in
+    let xs : List Record = Checkpoint h.kept ∷ h.after in
+    let begins = h.front.front.begins in
+    let r = restarted (run h.base xs) (length rest) (length b) (why_of f.why) in
+    let next : (run h.base xs).next ≡ h.base.next + length xs =
+    (after h.version h.base xs h.front.spells.keeps begins.lawful).next in
+    let within : f.used ≤ length b =
+    omega (
+      arith,
+      h.used,
+      ap length begins.whole,
+      length-append (frames_of (before offset b) xs) rest,
+      length-drop offset b,
+      h.front.checkpoint.frame.whole.room,
+    ) in (
+      h.front.short,
+      (h.version, h.front.header),
+      r,
+      record {
+        version = h.version;
+        state = h.base;
+        kept = h.kept;
+        records = xs;
+        rest = rest;
+        why = why_of f.why;
+        short = h.front.short;
+        header = h.front.header;
+        checkpoint = h.front.checkpoint;
+        spells = h.front.spells;
+        front = h.front.front;
+        ends = h.ends;
+        answer = refl;
+      },
+      record {
+        end = record {
+          records = omega (arith, records, next, h.count);
+          used = omega (arith, told.used, length-drop f.used b, within);
+          total = told.total;
+          why = told.why;
+        };
+        rule = told.rule;
+      },
+    )
+
+-- The rule that ends a front.
+
+-- a body that spells a record which is not lawful spells no other one
+pub not_lawful : (version : Version) (s : State) (body : List ℕ) (r x : Record) → Spells version r body
+    → is_lawful version s r ≡ false → Spells version x body → is_lawful version s x ≡ false
+not_lawful version s body r x spells no spelled =
+    let same : x ≡ r = one_record version x r body spelled spells in
+    ap (is_lawful version s) same ∙ no

@@ -1,13 +1,17 @@
--- The start of a log, and its restart.
+-- The start of a log, its restart, and what a frame is linked to.
 use Rattle.std.proofs.Common.{◌≡◌, ℕ, ◌+◌, ◌-◌, ◌≤◌, List, [], ◌++◌, length, take, drop, refl, sym, ap, subst, ◌∙◌}
 use Rattle.std.proofs.Common.{append_assoc, arith}
-use Rattle.std.proofs.lemmas.List.{take_at, drop_at, take-append-drop, length-append, length-take, length-drop}
+use Rattle.std.specs.Int.{w32, to_be_bytes}
+use Rattle.std.proofs.lemmas.List.{append-nil, take_at, drop_at, take-append-drop, length-append, length-take}
+use Rattle.std.proofs.lemmas.List.{length-drop}
 use Rattle.rq_model.specs.Records.{Record, Version}
-use Rattle.rq_model.specs.Frames.{log_limit, magic, start, header, HasHeader, before, last_of, IsFrameRun}
+use Rattle.rq_model.specs.Frames.{log_limit, magic, start, header, HasHeader, before, digest, frame, last_of}
+use Rattle.rq_model.specs.Frames.{IsFrameRun}
 use Rattle.rq_model.specs.LogLaws.{LogEnds}
 use Rattle.rq_model.specs.States.{State, empty}
 use Rattle.rq_model.specs.Machine.{run}
 use Rattle.rq_model.specs.Fronts.{IsLongest, IsFront, IsWhy, IsRestart, Restarted, Why, restarted}
+use Rattle.rq_model.proofs.Runs.{length-sha256}
 use Rattle.std.specs.Prelude.{All, Result, Ok, Err, IfOk, IfErr}
 use Rattle.rq_front.specs.declared.spans.Chain.{Chain}
 use Rattle.rq_front.specs.Chains.{bodies_at, rest_of, spans_from, Refused}
@@ -84,3 +88,24 @@ pub before_is : (kept last rest : List ℕ) (place : ℕ) → length last ≡ 32
     → before place (kept ++ (last ++ rest)) ≡ last
 before_is kept last rest place long is = ap (take 32) (drop_at kept (last ++ rest) (place - 32) (omega (arith, is)))
     ∙ take_at last rest 32 long
+
+-- the last 32 bytes of one frame more
+pub record IsFramed (old new p body : List ℕ) : Type 0 where
+  pub long : 32 ≤ length new
+  pub last : before (length new) new ≡ digest p body
+
+pub framed : (old new p body : List ℕ) → new ≡ old ++ frame p body → IsFramed old new p body
+framed old new p body is =
+    let d = digest p body in
+    let size : List ℕ = to_be_bytes w32 (length body) in
+    let kept : List ℕ = old ++ (size ++ body) in
+    let apart : new ≡ kept ++ (d ++ []) = is ∙ ap (λ (z : List ℕ). old ++ z) (sym (append_assoc size body d))
+    ∙ sym (append_assoc old (size ++ body) d) ∙ ap (λ (z : List ℕ). kept ++ z) (sym (append-nil d)) in
+    let long : length d ≡ 32 = length-sha256 (p ++ (size ++ body)) in
+    let here : length new ≡ length kept + 32 =
+    omega (arith, ap length apart, length-append kept (d ++ []), length-append d [], long) in
+    record {
+      long = omega (arith, here);
+      last =
+          ap (before (length new)) apart ∙ before_is kept d [] (length new) long here;
+    }

@@ -1,5 +1,5 @@
 -- The front of a log, judged, from its start or from a checkpoint on.
-use Rattle.std.specs.Prelude.{◌≡◌, ℕ, ◌+◌, List, ◌∷◌, length, drop, Result, Ok, Err}
+use Rattle.std.specs.Prelude.{◌≡◌, ◌≤◌, ℕ, ◌+◌, List, ◌∷◌, length, drop, Result, Ok, Err}
 use Rattle.rq_model.specs.Records.{Record, Checkpoint, Version}
 use Rattle.rq_model.specs.Frames.{start, log_of, frames_of, last_of, before}
 use Rattle.rq_model.specs.States.{State, empty}
@@ -50,3 +50,9 @@ pub record IsJudgedAt (b : List ℕ) (offset : ℕ) (f : JudgedFront) : Type 0 w
 abbrev pub JudgesFrontAt : List ℕ → ℕ → Result JudgedFront Fault → Type 0
 JudgesFrontAt b offset (Ok f) = IsJudgedAt b offset f
 JudgesFrontAt b offset (Err e) = RefusedAt b offset e
+
+-- the front from there begins in this state, and has no more records than b has bytes
+pub record IsJudgedBehind (b : List ℕ) (offset : ℕ) (base : State) (f : JudgedFront) : Type 0 where
+  pub is : IsJudgedAt b offset f
+  pub begins : is.base ≡ base
+  pub few : f.records ≤ length b

@@ -9,7 +9,7 @@ ghost use Rattle.rq_front.specs.Chains.{bodies_at};
 ghost use Rattle.rq_judged.specs.Readings.{AreApart, AreRead, ReadsBodies};
 
 use rq_front::Span;
-use rq_record::{Fault, KeptRecord, LentLog, Version, decode_at};
+use rq_record::{Fault, KeptRecord, LogBytes, Version, decode_at};
 use std::alloc::Global;
 use std::marker::Sync;
 use std::thread::{Threads, join};
@@ -31,8 +31,7 @@ pub(crate) struct PartedRecords {
 fn read_in_order(
     alloc: Global,
     version: Version,
-    lent: &LentLog,
-    bytes: &[u8],
+    bytes: &LogBytes<'_>,
     spans: &[Span],
     room: usize,
 ) -> Result<Vec<KeptRecord>, Fault>
@@ -43,7 +42,7 @@ fn read_in_order(
 {
     let mut records = Vec::with_capacity(alloc, room)?;
     for span in spans.iter() {
-        match decode_at(alloc, version, lent, bytes, span.start, span.len) {
+        match decode_at(alloc, version, bytes, span.start, span.len) {
             Ok(record) => records.push(record)?,
             Err(Fault::Form) => return Ok(records),
             Err(fault) => return Err(fault),
@@ -59,8 +58,7 @@ fn read_whole<R: Threads + Sync>(
     rt: &R,
     alloc: Global,
     version: Version,
-    lent: &LentLog,
-    bytes: &[u8],
+    bytes: &LogBytes<'_>,
     spans: &[Span],
     workers: u32,
     room: usize,
@@ -70,7 +68,7 @@ fn read_whole<R: Threads + Sync>(
         (bodies_at bytes.now spans.now) (map record_of rs.items)) }
     ensures refused { IfErr result (λ e. e ≡ Resources) }
 {
-    let parts = read_apart(rt, alloc, version, lent, bytes, spans, workers, room)?;
+    let parts = read_apart(rt, alloc, version, bytes, spans, workers, room)?;
     put_together(parts)
 }
 
@@ -82,8 +80,7 @@ fn read_apart<R: Threads + Sync>(
     rt: &R,
     alloc: Global,
     version: Version,
-    lent: &LentLog,
-    bytes: &[u8],
+    bytes: &LogBytes<'_>,
     spans: &[Span],
     workers: u32,
     room: usize,
@@ -94,7 +91,7 @@ fn read_apart<R: Threads + Sync>(
 {
     if workers < 2 || spans.len() <= FEW {
         return Ok(PartedRecords {
-            front: read_in_order(alloc, version, lent, bytes, spans, room)?,
+            front: read_in_order(alloc, version, bytes, spans, room)?,
             back: Vec::new(alloc),
             count: spans.len(),
         });
@@ -108,12 +105,12 @@ fn read_apart<R: Threads + Sync>(
             requires { IsSync R.row × All (λ s. s.start + s.len ≤ length bytes.now) front.now }
             ensures { ReadsBodies (version_of version)
                 (bodies_at bytes.entry.now front.entry.now) result }
-        { read_whole(rt, alloc, version, lent, bytes, front, fewer, room) },
+        { read_whole(rt, alloc, version, bytes, front, fewer, room) },
         || -> Result<Vec<KeptRecord>, Fault>
             requires { All (λ s. s.start + s.len ≤ length bytes.now) back.now }
             ensures { ReadsBodies (version_of version)
                 (bodies_at bytes.entry.now back.entry.now) result }
-        { read_in_order(alloc, version, lent, bytes, back, back.len()) },
+        { read_in_order(alloc, version, bytes, back, back.len()) },
     );
     Ok(PartedRecords {
         front: left?,
@@ -146,8 +143,7 @@ pub(crate) fn read_bodies<R: Threads + Sync>(
     rt: &R,
     alloc: Global,
     version: Version,
-    lent: &LentLog,
-    bytes: &[u8],
+    bytes: &LogBytes<'_>,
     spans: &[Span],
     workers: u32,
 ) -> Result<PartedRecords, Fault>
@@ -158,5 +154,5 @@ pub(crate) fn read_bodies<R: Threads + Sync>(
     // An eighth more, for the aborts of the units that are still open.
     let room = spans.len().saturating_add(spans.len() / 8);
     let readers = (workers as usize).min(spans.len() / FEW + 1) as u32;
-    read_apart(rt, alloc, version, lent, bytes, spans, readers, room)
+    read_apart(rt, alloc, version, bytes, spans, readers, room)
 }

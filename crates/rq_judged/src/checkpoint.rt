@@ -5,7 +5,7 @@ ghost use Rattle.rq_front.specs.Chains.{bodies_at};
 ghost use Rattle.rq_judged.specs.Checkpoints.{BeginsAt, kept_in, chain_start};
 
 use crate::grain::grain_of;
-use rq_front::{Chain, HEADER_LEN, Span, chain, version};
+use rq_front::{Chain, HEADER_LEN, Span, chain, log_version};
 use rq_plan::Plan;
 use rq_record::{Fault, Version};
 use rq_state::{State, read_in};
@@ -13,11 +13,14 @@ use std::alloc::Global;
 use std::marker::Sync;
 use std::thread::Threads;
 
-/// The version of a log, its chain from a checkpoint on, and the state that the checkpoint spells.
+/// Where a front begins: at a checkpoint of a log, or behind its header.
 #[derive(Drop)]
 pub struct Begun {
+    /// The version of the log.
     pub version: Version,
+    /// The chain of its frames from there on.
     pub found: Chain,
+    /// The state there: the one that the checkpoint spells, or the empty one.
     pub state: State,
 }
 
@@ -56,13 +59,11 @@ pub fn begin_at<R: Threads + Sync>(
 {
     rq_model::frames_are_right();
     rq_model::frames_join();
+    let version = log_version(bytes)?;
     let start = chain_start(offset, bytes.len());
     let found = chain(rt, alloc, bytes, start, grain_of(plan))?;
     let Some(kept) = kept_in(bytes, &found.spans) else {
         return Err(Fault::NoCheckpoint);
-    };
-    let Some(version) = version(bytes) else {
-        return Err(Fault::NotALog);
     };
     let state = read_in(alloc, version, kept)?;
     Ok(Begun {

@@ -1,13 +1,24 @@
-//! Where the front of a log ends.
+//! Where the front of a log ends, and which rule ends it.
 
-ghost use Rattle.rq_judged.specs.FrontEnds.{FindsEnd};
+ghost use Rattle.std.specs.Prelude.{◌≡◌, ℕ, false, is_some, List, length, drop, IfOk, IfErr};
+ghost use Rattle.rq_model.specs.Records as records;
+ghost use Rattle.rq_model.specs.Spelling.{Spells};
+ghost use Rattle.rq_model.specs.States as model;
+ghost use Rattle.rq_model.specs.Machine.{is_lawful};
+ghost use Rattle.rq_model.specs.Fronts.{IsWhy};
+ghost use Rattle.rq_record.specs.Views.{record_of};
+ghost use Rattle.rq_record.specs.declared.fault.Fault.TheVariants.{Resources};
+ghost use Rattle.rq_catalog.specs.Judges.{StandsIn};
+ghost use Rattle.rq_judged.specs.FrontEnds.{FindsEnd, FindsEndAt, is_law};
+ghost use Rattle.rq_judged.specs.Views.{why_of};
 
-use crate::front_pass::PassSoFar;
-use crate::grain::grain_of;
+use crate::checkpoint::begin_at;
+use crate::frames::body_at;
+use crate::judged::{JudgedFront, judged_behind, judged_front};
 use crate::why::Why;
-use rq_front::log_version;
+use rq_catalog::{Judge, Rule};
 use rq_plan::Plan;
-use rq_record::Fault;
+use rq_record::{Fault, KeptRecord, decode_kept};
 use std::alloc::Global;
 use std::marker::Sync;
 use std::thread::Threads;
@@ -25,7 +36,63 @@ pub struct FrontEnd {
     pub why: Why,
 }
 
-/// Where the front of a log ends, and why, as its restart says it; no queue is redone.
+// The rule that a record breaks, which is not lawful there.
+fn broken_rule(judge: &Judge, rec: &KeptRecord) -> Rule
+    requires { (version : records.Version) × (s : model.State) × StandsIn version judge.now s
+        × (is_lawful version s (record_of rec.now) ≡ false) }
+{
+    let Some(rule) = judge.broken(rec) else {
+        unreachable!()
+    };
+    rule
+}
+
+// The same of the record that a body spells.
+fn rule_of(alloc: Global, judge: &Judge, body: &[u8]) -> Result<Rule, Fault>
+    requires { (version : records.Version) × (s : model.State) × StandsIn version judge.now s
+        × (r : records.Record) × Spells version r body.now × (is_lawful version s r ≡ false) }
+    ensures { IfErr result (λ e. e ≡ Resources) }
+{
+    match decode_kept(alloc, judge.version(), body) {
+        Ok(record) => Ok(broken_rule(judge, &record)),
+        Err(Fault::Form) => unreachable!(),
+        Err(fault) => Err(fault),
+    }
+}
+
+// The rule that ends a front, if one does.
+fn rule_behind(alloc: Global, front: &JudgedFront, bytes: &[u8]) -> Result<Option<Rule>, Fault>
+    requires { (version : records.Version) × (s : model.State) × StandsIn version front.now.judge s
+        × (p : List ℕ) × IsWhy version s p (drop front.now.used bytes.now) (why_of front.now.why) }
+    ensures rule { IfOk result (λ rule. is_some rule ≡ is_law (why_of front.now.why)) }
+    ensures refused { IfErr result (λ e. e ≡ Resources) }
+{
+    match front.why {
+        Why::Law => {
+            let rule = rule_of(alloc, &front.judge, body_at(bytes, front.used))?;
+            Ok(Some(rule))
+        }
+        Why::Whole | Why::Cut | Why::Length | Why::Chain | Why::Form => Ok(None),
+    }
+}
+
+// The end of a front that was judged, behind which the next record has this number.
+fn numbers_of(front: &JudgedFront, records: u64, bytes: &[u8]) -> FrontEnd
+    ensures records { result.records ≡ records }
+    ensures used { result.used ≡ front.now.used }
+    ensures total { result.total ≡ length bytes.now }
+    ensures why { why_of result.why ≡ why_of front.now.why }
+{
+    FrontEnd {
+        records,
+        used: front.used as u64,
+        total: bytes.len() as u64,
+        why: front.why,
+    }
+}
+
+/// Where the front of a log ends, and why, as its restart says it; and the rule that the record
+/// behind it breaks, exactly if it ends by that. The log is read once; no queue is redone.
 ///
 /// No record is kept, so beside the bytes this takes memory for the queues, registrants and open
 /// units alone, and for a part of the log, whose length does not grow with it.
@@ -37,20 +104,33 @@ pub fn front_end<R: Threads + Sync>(
     alloc: Global,
     bytes: &[u8],
     plan: &Plan,
-) -> Result<FrontEnd, Fault>
+) -> Result<(FrontEnd, Option<Rule>), Fault>
     ensures { FindsEnd bytes.now result }
 {
-    rq_model::frames_join();
     rq_model::numbers_after();
-    rq_model::one_front();
     rq_model::runs_are_well_formed();
-    let version = log_version(bytes)?;
-    let mut pass = PassSoFar::new(alloc, version);
-    let why = pass.finish(rt, alloc, bytes, grain_of(plan))?;
-    Ok(FrontEnd {
-        records: pass.records as u64,
-        used: pass.offset as u64,
-        total: bytes.len() as u64,
-        why,
-    })
+    let front = judged_front(rt, alloc, bytes, plan)?;
+    let rule = rule_behind(alloc, &front, bytes)?;
+    Ok((numbers_of(&front, front.records as u64, bytes), rule))
+}
+
+/// The same of the front from the checkpoint at an offset on, as the restart from there says it: it
+/// begins in the state that the checkpoint spells.
+///
+/// Refused as `restart_at` is.
+pub fn front_end_at<R: Threads + Sync>(
+    rt: &R,
+    alloc: Global,
+    bytes: &[u8],
+    offset: u64,
+    plan: &Plan,
+) -> Result<(FrontEnd, Option<Rule>), Fault>
+    ensures { FindsEndAt bytes.now offset result }
+{
+    rq_model::numbers_after();
+    let begun = begin_at(rt, alloc, bytes, offset, plan)?;
+    let front = judged_behind(alloc, &begun, bytes)?;
+    let rule = rule_behind(alloc, &front, bytes)?;
+    let records = begun.state.next() + front.records as u64;
+    Ok((numbers_of(&front, records, bytes), rule))
 }

@@ -18,12 +18,13 @@ ghost use Rattle.rq_judged.specs.Readings.{AreRead};
 ghost use Rattle.rq_judged.specs.Known.{IsKnownOfBodies, KnowsBodies};
 
 use crate::bodies::{FEW, PartedRecords, put_together, read_bodies};
+use crate::checkpoint::Begun;
 use crate::grain::grain_of;
 use crate::why::Why;
 use rq_catalog::{Analysis, analyse_kept};
 use rq_front::{Chain, Rest, Walk};
 use rq_plan::Plan;
-use rq_record::{Fault, KeptRecord, LentLog, Version};
+use rq_record::{Fault, KeptRecord, LogBytes, Version};
 use rq_state::State;
 use std::alloc::Global;
 use std::marker::Sync;
@@ -36,12 +37,16 @@ pub(crate) struct Known {
     analysis: Analysis,
 }
 
-/// The lawful records, what one pass over them found, where they end, and why.
+/// The front of a log: its lawful records from a state on, where they end, and why.
 #[derive(Drop)]
 pub struct Front {
+    /// The records.
     pub records: Vec<KeptRecord>,
+    /// What one pass over them found.
     pub analysis: Analysis,
+    /// The offset in the log at which they end.
     pub end: usize,
+    /// Why they end there.
     pub why: Why,
 }
 
@@ -139,13 +144,12 @@ fn settled(found: &Chain, known: Known) -> Front
     }
 }
 
-/// The front of the log of the version, in the frames of a chain, from a state on.
-pub fn front_of<R: Threads + Sync>(
+// The front of the log of the version, in the frames of a chain, from a state on.
+fn front_in<R: Threads + Sync>(
     rt: &R,
     alloc: Global,
     version: Version,
-    lent: &LentLog,
-    bytes: &[u8],
+    bytes: &LogBytes<'_>,
     found: &Chain,
     state: &State,
     plan: &Plan,
@@ -162,17 +166,51 @@ pub fn front_of<R: Threads + Sync>(
         (map record_of f.records.items) f.analysis) }
     ensures refused { IfErr result (λ e. e ≡ Resources) }
 {
-    let parts = read_bodies(
-        rt,
-        alloc,
-        version,
-        lent,
-        bytes,
-        &found.spans,
-        plan.workers(),
-    )?;
+    let workers = plan.workers();
+    let parts = read_bodies(rt, alloc, version, bytes, &found.spans, workers)?;
     let known = known_of(alloc, version, parts, state)?;
     Ok(settled(found, known))
+}
+
+/// The front that begins there, in the frames of the chain. Of shared bytes its checkpoints and long
+/// payloads are parts.
+pub fn front_of<R: Threads + Sync>(
+    rt: &R,
+    alloc: Global,
+    bytes: &LogBytes<'_>,
+    begun: &Begun,
+    plan: &Plan,
+) -> Result<Front, Fault>
+    requires chain { (offset : ℕ) × IsChain bytes.now offset begun.now.found }
+    requires next { begun.now.state.next ≤ 4294967295 }
+    ensures front { IfOk result (λ f. (offset : ℕ) → IsChain bytes.now offset begun.now.found
+        → IsFrontFrom (version_of begun.now.version) begun.now.state bytes.now offset
+        (map record_of f.records.items) f.end (why_of f.why)) }
+    ensures bodies { IfOk result
+        (λ f. (left : List (List ℕ)) × (bodies_at bytes.now begun.now.found.spans.items
+        ≡ bodies_of (map record_of f.records.items) ++ left)) }
+    ensures analysis { IfOk result (λ f. IsAnalysis (version_of begun.now.version) begun.now.state
+        (map record_of f.records.items) f.analysis) }
+    ensures refused { IfErr result (λ e. e ≡ Resources) }
+{
+    front_in(
+        rt,
+        alloc,
+        begun.version,
+        bytes,
+        &begun.found,
+        &begun.state,
+        plan,
+    )
+}
+
+// Checks the digests of a walk.
+fn checked<R: Threads + Sync>(rt: &R, bytes: &LogBytes<'_>, walk: Walk, grain: u32) -> Chain
+    requires walk { (from : ℕ) × Walks bytes.now from walk }
+    requires grain { 1 ≤ grain }
+    ensures { (from : ℕ) → Walks bytes.now from walk → IsChecked bytes.now from walk result }
+{
+    walk.checked(rt, bytes.as_slice(), grain)
 }
 
 // Checks the digests of a walk, while another thread puts the records of its bodies together and
@@ -181,7 +219,7 @@ fn check_meanwhile<R: Threads + Sync>(
     rt: &R,
     alloc: Global,
     version: Version,
-    bytes: &[u8],
+    bytes: &LogBytes<'_>,
     walk: Walk,
     parts: PartedRecords,
     state: &State,
@@ -200,7 +238,7 @@ fn check_meanwhile<R: Threads + Sync>(
             requires { IsSync R.row × (1 ≤ grain) × (from : ℕ) × Walks bytes.now from walk }
             ensures { (from : ℕ) → Walks bytes.entry.now from walk
                 → IsChecked bytes.entry.now from walk result }
-        { walk.checked(rt, bytes, grain) },
+        { checked(rt, bytes, walk, grain) },
         move || -> Result<Known, Fault>
             requires { state.now.next ≤ 4294967295 }
             ensures { KnowsBodies (version_of version) state.entry.now parts result }
@@ -208,7 +246,8 @@ fn check_meanwhile<R: Threads + Sync>(
     )
 }
 
-/// The front of the log of the version, in the frames of a walk, from a state on.
+/// The front of the log of the version, in the frames of a walk, from a state on. Of shared bytes its
+/// checkpoints and long payloads are parts.
 ///
 /// Where threads are to be had, the records are read before any digest is known to be right, and
 /// those behind the first wrong one are dropped again: so the one pass over them, which is one
@@ -217,8 +256,7 @@ pub fn front_of_walk<R: Threads + Sync>(
     rt: &R,
     alloc: Global,
     version: Version,
-    lent: &LentLog,
-    bytes: &[u8],
+    bytes: &LogBytes<'_>,
     walk: Walk,
     state: &State,
     plan: &Plan,
@@ -236,18 +274,11 @@ pub fn front_of_walk<R: Threads + Sync>(
 {
     let grain = grain_of(plan);
     if plan.workers() < 2 || walk.spans().len() <= FEW {
-        let found = walk.checked(rt, bytes, grain);
-        return front_of(rt, alloc, version, lent, bytes, &found, state, plan);
+        let found = checked(rt, bytes, walk, grain);
+        return front_in(rt, alloc, version, bytes, &found, state, plan);
     }
-    let parts = read_bodies(
-        rt,
-        alloc,
-        version,
-        lent,
-        bytes,
-        walk.spans(),
-        plan.workers(),
-    )?;
+    let workers = plan.workers();
+    let parts = read_bodies(rt, alloc, version, bytes, walk.spans(), workers)?;
     let (found, known) = check_meanwhile(rt, alloc, version, bytes, walk, parts, state, grain);
     let mut known = known?;
     keep_first(alloc, version, &mut known, found.spans.len(), state)?;

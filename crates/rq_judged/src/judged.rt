@@ -1,8 +1,9 @@
 //! The front of a log, and who judges what may stand behind it.
 
-ghost use Rattle.std.specs.Prelude.{◌≡◌, ℕ};
+ghost use Rattle.std.specs.Prelude.{◌≡◌, ℕ, IfOk, IfErr};
+ghost use Rattle.rq_record.specs.declared.fault.Fault.TheVariants.{Resources};
 ghost use Rattle.rq_judged.specs.Checkpoints.{IsBegun};
-ghost use Rattle.rq_judged.specs.JudgedFronts.{JudgesFront, JudgesFrontAt};
+ghost use Rattle.rq_judged.specs.JudgedFronts.{IsJudgedBehind, JudgesFront, JudgesFrontAt};
 
 use crate::checkpoint::{Begun, begin_at};
 use crate::front::end_of;
@@ -64,11 +65,16 @@ pub fn judged_front<R: Threads + Sync>(
     })
 }
 
-// The front behind the checkpoint that a front begins with, and a judge that stands there.
-fn judged_behind(alloc: Global, begun: &Begun, bytes: &[u8]) -> Result<JudgedFront, Fault>
+/// The front behind the checkpoint that a front begins with, and a judge that stands there.
+pub(crate) fn judged_behind(
+    alloc: Global,
+    begun: &Begun,
+    bytes: &[u8],
+) -> Result<JudgedFront, Fault>
     requires { (offset : ℕ) × IsBegun bytes.now offset begun.now }
-    ensures { (offset : ℕ) → IsBegun bytes.now offset begun.now
-        → JudgesFrontAt bytes.now offset result }
+    ensures judged { IfOk result (λ front. (offset : ℕ) → IsBegun bytes.now offset begun.now
+        → IsJudgedBehind bytes.now offset begun.now.state front) }
+    ensures refused { IfErr result (λ e. e ≡ Resources) }
 {
     rq_model::frames_are_right();
     rq_model::frames_join();
@@ -99,5 +105,6 @@ pub fn judged_front_at<R: Threads + Sync>(
     ensures { JudgesFrontAt bytes.now offset result }
 {
     let begun = begin_at(rt, alloc, bytes, offset, plan)?;
-    judged_behind(alloc, &begun, bytes)
+    let front = judged_behind(alloc, &begun, bytes)?;
+    Ok(front)
 }

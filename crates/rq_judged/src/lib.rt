@@ -6,6 +6,7 @@
 mod bodies;
 mod checkpoint;
 mod ends;
+mod frames;
 mod front;
 mod front_pass;
 mod grain;
@@ -16,7 +17,8 @@ mod why;
 mod window;
 
 pub use checkpoint::{Begun, begin_at};
-pub use ends::{FrontEnd, front_end};
+pub use ends::{FrontEnd, front_end, front_end_at};
+pub use frames::{append_frame, body_at};
 pub use front::{Front, front_of, front_of_walk};
 pub use grain::grain_of;
 pub use growing_front::GrowingFront;

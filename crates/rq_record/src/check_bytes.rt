@@ -1,10 +1,11 @@
 //! The bytes of a checkpoint record.
 
 ghost use Rattle.std.specs.Prelude.{◌≡◌, ◌≤◌, ◌↔◌, length, IsSome, IfSome, IfOk, IfErr};
+ghost use Rattle.rq_record.specs.LogParts.{EndsAt};
 ghost use Rattle.rq_record.specs.declared.fault.Fault.TheVariants.{Resources};
 
 use crate::fault::Fault;
-use crate::lent_log::LentLog;
+use crate::log_bytes::LogBytes;
 use std::alloc::Global;
 use std::marker::Model;
 use std::sync::ArcSlice;
@@ -13,7 +14,7 @@ use std::sync::ArcSlice;
 const LIMIT: usize = 268_435_455;
 
 /// The bytes of a checkpoint record after its kind byte, at most 268,435,455: a part of the log if
-/// that is lent.
+/// that is shared.
 #[derive(Drop)]
 pub struct CheckBytes {
     bytes: Kept,
@@ -53,14 +54,14 @@ impl CheckBytes {
         Some(CheckBytes { bytes })
     }
 
-    /// Bytes that may be the last ones before an end in a log that may be lent. If they are, the
-    /// result is a part of that log, else a copy.
-    pub(crate) fn lent(
+    /// The last bytes before an end in a log: a part of it if that is shared, else a copy.
+    pub(crate) fn before(
         alloc: Global,
-        log: &LentLog,
+        log: &LogBytes<'_>,
         end: usize,
         bytes: &[u8],
     ) -> Result<Option<CheckBytes>, Fault>
+        requires { EndsAt log.now end bytes.now }
         ensures bounded { IfOk result (λ p. IsSome p ↔ (length bytes.now ≤ 268435455)) }
         ensures bytes { IfOk result (λ p. IfSome p (λ q. q ≡ bytes.now)) }
         ensures refused { IfErr result

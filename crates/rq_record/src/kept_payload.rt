@@ -2,17 +2,18 @@
 
 ghost use Rattle.std.specs.Prelude.{◌≡◌, ◌<◌, ◌≤◌, ◌↔◌, length, IsSome, IfSome, IfOk, IfErr};
 ghost use Rattle.rq_record.specs.KeptPayloads.{bytes_of};
+ghost use Rattle.rq_record.specs.LogParts.{EndsAt};
 ghost use Rattle.rq_record.specs.declared.fault.Fault.TheVariants.{Resources};
 
 use crate::fault::Fault;
-use crate::lent_log::LentLog;
+use crate::log_bytes::LogBytes;
 use crate::payload::Payload;
 use std::alloc::Global;
 use std::marker::Model;
 use std::sync::ArcSlice;
 
 /// A payload in 24 bytes, for records and elements, of which a log has many. Up to 22 bytes are
-/// kept in place; more are shared by its copies, and with the log if that is lent.
+/// kept in place; more are shared by its copies, and with the log if that is shared.
 #[derive(Drop)]
 pub struct KeptPayload {
     bytes: Bytes,
@@ -99,14 +100,15 @@ impl KeptPayload {
         Ok(Some(kept(alloc, bytes)?))
     }
 
-    /// The same for bytes that may be the last ones before an end in a log that may be lent. If
-    /// they are, a long payload is a part of that log.
-    pub(crate) fn lent(
+    /// The same for the last bytes before an end in a log: if that is shared, a long payload is a
+    /// part of it.
+    pub(crate) fn before(
         alloc: Global,
-        log: &LentLog,
+        log: &LogBytes<'_>,
         end: usize,
         bytes: &[u8],
     ) -> Result<Option<KeptPayload>, Fault>
+        requires { EndsAt log.now end bytes.now }
         ensures bounded { IfOk result (λ p. IsSome p ↔ (length bytes.now ≤ 65535)) }
         ensures bytes { IfOk result (λ p. IfSome p (λ q. q ≡ bytes.now)) }
         ensures refused { IfErr result

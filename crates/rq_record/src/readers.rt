@@ -10,6 +10,7 @@ ghost use Rattle.rq_model.specs.RecordReading.{register_from, deregister_from, r
 ghost use Rattle.rq_model.specs.RecordReading.{unit_read, enqueue_from, enqueue_read, dequeue_from};
 ghost use Rattle.rq_model.specs.RecordReading.{dequeue_read, checkpoint_read, kill_from, kill_read};
 ghost use Rattle.rq_model.specs.RecordReading.{at_most, record_behind, record_read};
+ghost use Rattle.rq_record.specs.LogParts.{EndsAt, IsLeftAt};
 ghost use Rattle.rq_record.specs.Reading.{KeepsRead, Decodes};
 ghost use Rattle.rq_record.specs.Views.{record_of, version_of};
 
@@ -19,7 +20,7 @@ use crate::kept_by::KeptBy;
 use crate::kept_name::KeptName;
 use crate::kept_payload::KeptPayload;
 use crate::kept_record::KeptRecord;
-use crate::lent_log::LentLog;
+use crate::log_bytes::LogBytes;
 use crate::name::LentName;
 use crate::record::{ElemId, LentBy, QueueNo, Record, UnitNo};
 use crate::version::Version;
@@ -107,20 +108,27 @@ fn unit(bytes: Cursor<'_>) -> Option<UnitNo>
 #[tactic(auto, unfolding(rq_model::specs::RecordReading::at_most))]
 fn payload(
     alloc: Global,
-    log: &LentLog,
+    log: &LogBytes<'_>,
     end: usize,
     bytes: Cursor<'_>,
 ) -> Result<KeptPayload, Fault>
+    requires { EndsAt log.now end bytes }
     ensures { KeepsRead (λ p. p) result (at_most 65535 bytes.entry) }
 {
-    match KeptPayload::lent(alloc, log, end, bytes.rest())? {
+    match KeptPayload::before(alloc, log, end, bytes.rest())? {
         Some(payload) => Ok(payload),
         None => Err(Fault::Form),
     }
 }
 
 #[tactic(auto, unfolding(rq_model::specs::RecordReading::enqueue_read))]
-fn enqueue(alloc: Global, log: &LentLog, end: usize, bytes: Cursor<'_>) -> Result<KeptRecord, Fault>
+fn enqueue(
+    alloc: Global,
+    log: &LogBytes<'_>,
+    end: usize,
+    bytes: Cursor<'_>,
+) -> Result<KeptRecord, Fault>
+    requires { IsLeftAt log.now end bytes }
     ensures { KeepsRead record_of result (made enqueue_from enqueue_read bytes.entry) }
 {
     let mut bytes = bytes;
@@ -157,13 +165,14 @@ fn dequeue(alloc: Global, bytes: Cursor<'_>) -> Result<KeptRecord, Fault>
 #[tactic(auto, unfolding(rq_model::specs::RecordReading::at_most))]
 fn check_bytes(
     alloc: Global,
-    log: &LentLog,
+    log: &LogBytes<'_>,
     end: usize,
     bytes: Cursor<'_>,
 ) -> Result<CheckBytes, Fault>
+    requires { EndsAt log.now end bytes }
     ensures { KeepsRead (λ b. b) result (at_most 268435455 bytes.entry) }
 {
-    match CheckBytes::lent(alloc, log, end, bytes.rest())? {
+    match CheckBytes::before(alloc, log, end, bytes.rest())? {
         Some(bytes) => Ok(bytes),
         None => Err(Fault::Form),
     }
@@ -172,10 +181,11 @@ fn check_bytes(
 #[tactic(auto, unfolding(rq_model::specs::RecordReading::checkpoint_read))]
 fn checkpoint(
     alloc: Global,
-    log: &LentLog,
+    log: &LogBytes<'_>,
     end: usize,
     bytes: Cursor<'_>,
 ) -> Result<KeptRecord, Fault>
+    requires { EndsAt log.now end bytes }
     ensures { KeepsRead record_of result (made Checkpoint checkpoint_read bytes.entry) }
 {
     let bytes = check_bytes(alloc, log, end, bytes)?;
@@ -204,11 +214,12 @@ fn kill(version: Version, bytes: Cursor<'_>) -> Result<KeptRecord, Fault>
 fn of_kind(
     alloc: Global,
     version: Version,
-    log: &LentLog,
+    log: &LogBytes<'_>,
     end: usize,
     kind: u8,
     bytes: Cursor<'_>,
 ) -> Result<KeptRecord, Fault>
+    requires { IsLeftAt log.now end bytes }
     ensures { KeepsRead record_of result (record_behind (version_of version) kind bytes.entry) }
 {
     match kind {
@@ -236,10 +247,11 @@ fn of_kind(
 fn record(
     alloc: Global,
     version: Version,
-    log: &LentLog,
+    log: &LogBytes<'_>,
     end: usize,
     body: &[u8],
 ) -> Result<KeptRecord, Fault>
+    requires { EndsAt log.now end body.now }
     ensures { KeepsRead record_of result (record_read (version_of version) body.now) }
 {
     let mut bytes = Cursor::new(body);
@@ -247,14 +259,15 @@ fn record(
     of_kind(alloc, version, log, end, kind, bytes)
 }
 
-// The record that a body of this version spells; it may end at an end in a log that may be lent.
-fn decode_lent(
+// The record that a body of this version spells, which ends at an end in a log.
+fn decode_before(
     alloc: Global,
     version: Version,
-    log: &LentLog,
+    log: &LogBytes<'_>,
     end: usize,
     body: &[u8],
 ) -> Result<KeptRecord, Fault>
+    requires { EndsAt log.now end body.now }
     ensures decodes { Decodes (version_of version) body.now result }
 {
     record(alloc, version, log, end, body)
@@ -262,13 +275,12 @@ fn decode_lent(
 
 /// The record that `len` bytes of a log from `start` on spell, kept: `decode_kept` of that body.
 ///
-/// If the log is lent as well, a checkpoint, or a payload of more than 22 bytes, is a part of it
-/// and no copy.
+/// If the log is shared, a checkpoint, or a payload of more than 22 bytes, is a part of it and no
+/// copy.
 pub fn decode_at(
     alloc: Global,
     version: Version,
-    lent: &LentLog,
-    bytes: &[u8],
+    bytes: &LogBytes<'_>,
     start: usize,
     len: usize,
 ) -> Result<KeptRecord, Fault>
@@ -277,7 +289,7 @@ pub fn decode_at(
         (slice_range bytes.now start (start + len)) result }
 {
     let end = start + len;
-    decode_lent(alloc, version, lent, end, &bytes[start..end])
+    decode_before(alloc, version, bytes, end, &bytes.as_slice()[start..end])
 }
 
 /// The record that a body of this version spells, kept.
@@ -287,7 +299,7 @@ pub fn decode_at(
 pub fn decode_kept(alloc: Global, version: Version, body: &[u8]) -> Result<KeptRecord, Fault>
     ensures decodes { Decodes (version_of version) body.now result }
 {
-    decode_lent(alloc, version, &LentLog::none(), body.len(), body)
+    decode_before(alloc, version, &LogBytes::borrowed(body), body.len(), body)
 }
 
 /// The record that a body of this version spells.

@@ -1,8 +1,7 @@
 -- The front of a log, and the aborts behind it.
 use Rattle.std.proofs.Common.{◌≡◌, ℕ, ◌+◌, ◌-◌, ◌*◌, ◌/◌, ◌<◌, ◌≤◌, List, get_or, [], ◌∷◌, ◌++◌, length, map, take}
 use Rattle.std.proofs.Common.{drop, refl, sym, ap, subst, ◌∙◌, append_assoc, arith}
-use Rattle.std.specs.Int.{w32, to_be_bytes}
-use Rattle.std.proofs.lemmas.List.{append-nil, drop_more, take_at, drop_at, length-append, length-take, length-drop}
+use Rattle.std.proofs.lemmas.List.{drop_more, take_at, length-append, length-take, length-drop}
 use Rattle.rq_model.specs.Records.{Record, Abort, Version}
 use Rattle.rq_model.specs.Spelling.{body_of}
 use Rattle.rq_model.specs.Frames.{log_limit, start, HasHeader, before, digest, frame, frames_of, last_of, log_of}
@@ -12,7 +11,7 @@ use Rattle.rq_model.specs.Machine.{run, aborts}
 use Rattle.rq_model.specs.Fronts.{IsFront, Why}
 use Rattle.rq_model.specs.Closing.{IsClosedBy}
 use Rattle.rq_model.proofs.Longest.{front_whole}
-use Rattle.rq_model.proofs.Runs.{frame_long, length-sha256}
+use Rattle.rq_model.proofs.Runs.{frame_long}
 use Rattle.rq_record.specs.declared.fault.Fault.{Fault}
 use Rattle.rq_record.specs.declared.fault.Fault.TheVariants as faults
 use Rattle.rq_record.specs.declared.record.UnitNo.{UnitNo}
@@ -21,27 +20,6 @@ use Rattle.rq_judged.specs.Ends.{IsFrontFrom}
 use Rattle.rq_restart.specs.Tails.{IsEnding, StaysOpen}
 use Rattle.rq_restart.specs.declared.tails.Ending.{Ending}
 use Rattle.rq_judged.proofs.Starts.{before_is, started, whole_front}
-
--- the last 32 bytes of one frame more
-pub record IsFramed (old new p body : List ℕ) : Type 0 where
-  pub long : 32 ≤ length new
-  pub last : before (length new) new ≡ digest p body
-
-pub framed : (old new p body : List ℕ) → new ≡ old ++ frame p body → IsFramed old new p body
-framed old new p body is =
-    let d = digest p body in
-    let size : List ℕ = to_be_bytes w32 (length body) in
-    let kept : List ℕ = old ++ (size ++ body) in
-    let apart : new ≡ kept ++ (d ++ []) = is ∙ ap (λ (z : List ℕ). old ++ z) (sym (append_assoc size body d))
-    ∙ sym (append_assoc old (size ++ body) d) ∙ ap (λ (z : List ℕ). kept ++ z) (sym (append-nil d)) in
-    let long : length d ≡ 32 = length-sha256 (p ++ (size ++ body)) in
-    let here : length new ≡ length kept + 32 =
-    omega (arith, ap length apart, length-append kept (d ++ []), length-append d [], long) in
-    record {
-      long = omega (arith, here);
-      last =
-          ap (before (length new)) apart ∙ before_is kept d [] (length new) long here;
-    }
 
 -- of the aborts of units, one is written, and the others are still to come
 pub one_written : (us : List UnitNo) (i : ℕ) (d : UnitNo) (out new p last whole : List ℕ) → i < length us

@@ -1,7 +1,6 @@
 //! Which checkpoints of a log are true, of all of it or from a checkpoint on.
 
 ghost use Rattle.std.specs.Prelude.{◌≡◌, ◌≤◌, true, ◌++◌, ℕ, map, IfOk, OnOk, IfErr};
-ghost use Rattle.std.specs.Arc.{arc_slice_items};
 ghost use Rattle.rq_model.specs.Machine.{is_lawful, step};
 ghost use Rattle.rq_model.specs.Records as records;
 ghost use Rattle.rq_model.specs.States as states;
@@ -12,19 +11,18 @@ ghost use Rattle.rq_restart.specs.Audits.{StandInFrames, Audits, AuditsAt, IsAud
 ghost use Rattle.rq_restart.specs.Audits.{audit_of, audited_of, audits};
 ghost use Rattle.rq_judged.specs.Ends.{IsChain};
 
-use rq_front::{Chain, Span, chain, version};
-use rq_judged::{Front, begin_at, front_of, grain_of};
+use rq_front::{Span, chain, log_version};
+use rq_judged::{Begun, Front, begin_at, front_of, grain_of};
 use rq_plan::Plan;
-use rq_record::{Fault, KeptRecord, LentLog, Version};
+use rq_record::{Fault, KeptRecord, LogBytes, Version};
 use rq_standing::{Standing, Taken};
 use rq_state::State;
 use std::alloc::Global;
 use std::marker::Sync;
-use std::sync::ArcSlice;
 use std::thread::Threads;
 
 // Tells of a checkpoint whose frame stands at an offset whether it spells the state before it.
-fn look(
+fn tell_checkpoint(
     alloc: Global,
     standing: &Standing,
     rec: &KeptRecord,
@@ -46,7 +44,7 @@ fn look(
 }
 
 // One record further, which is lawful: so it is done.
-fn pass(
+fn go_past(
     alloc: Global,
     standing: &mut Standing,
     rec: &KeptRecord,
@@ -63,7 +61,7 @@ fn pass(
         ≡ map audited_of found.old.items ++ audit_of s offset (record_of rec.now)) }
     ensures refused { IfErr result (λ e. e ≡ Resources) }
 {
-    look(alloc, standing, rec, offset, found)?;
+    tell_checkpoint(alloc, standing, rec, offset, found)?;
     match standing.take(alloc, rec) {
         Ok(Taken::Done(_)) => Ok(()),
         Ok(Taken::Unlawful(_)) => unreachable!(),
@@ -90,7 +88,7 @@ fn checkpoints_among(
     let mut found = Vec::new(alloc);
     for place in 0..records.len() {
         let offset = spans[place].offset() as u64;
-        pass(alloc, &mut standing, &records[place], offset, &mut found)?;
+        go_past(alloc, &mut standing, &records[place], offset, &mut found)?;
     }
     Ok(found)
 }
@@ -103,34 +101,37 @@ fn records_alone(front: Front) -> Vec<KeptRecord>
     front.records
 }
 
-// The checkpoints of the front in the frames of a chain, from a state on.
+// The checkpoints of the front that begins there.
 fn checkpoints_of<R: Threads + Sync>(
     rt: &R,
     alloc: Global,
-    version: Version,
-    lent: &LentLog,
-    bytes: &[u8],
-    found: &Chain,
-    state: &State,
+    bytes: &LogBytes<'_>,
+    begun: &Begun,
     plan: &Plan,
 ) -> Result<Vec<(u64, bool)>, Fault>
-    requires chain { (offset : ℕ) × IsChain bytes.now offset found.now }
-    requires next { state.now.next ≤ 4294967295 }
-    ensures found { IfOk result (λ v. (offset : ℕ) → IsChain bytes.now offset found.now
-        → IsAuditedFrom (version_of version) state.now bytes.now offset v.items) }
+    requires chain { (offset : ℕ) × IsChain bytes.now offset begun.now.found }
+    requires next { begun.now.state.next ≤ 4294967295 }
+    ensures found { IfOk result (λ v. (offset : ℕ) → IsChain bytes.now offset begun.now.found
+        → IsAuditedFrom (version_of begun.now.version) begun.now.state bytes.now offset v.items) }
     ensures refused { IfErr result (λ e. e ≡ Resources) }
 {
-    let front = front_of(rt, alloc, version, lent, bytes, found, state, plan)?;
+    let front = front_of(rt, alloc, bytes, begun, plan)?;
     let records = records_alone(front);
-    checkpoints_among(alloc, version, state, &records, &found.spans)
+    checkpoints_among(
+        alloc,
+        begun.version,
+        &begun.state,
+        &records,
+        &begun.found.spans,
+    )
 }
 
-// The audit of a log that may be lent as well.
-fn whole_audit<R: Threads + Sync>(
+/// The audit of a log whose bytes may be shared: `audit` of them. If they are, no checkpoint is
+/// copied.
+pub fn audit_of<R: Threads + Sync>(
     rt: &R,
     alloc: Global,
-    lent: &LentLog,
-    bytes: &[u8],
+    bytes: &LogBytes<'_>,
     plan: &Plan,
 ) -> Result<Vec<(u64, bool)>, Fault>
     ensures { Audits bytes.now result }
@@ -139,12 +140,15 @@ fn whole_audit<R: Threads + Sync>(
     rq_model::one_spelling();
     rq_model::frames_join();
     rq_model::one_front();
-    let found = chain(rt, alloc, bytes, 40, grain_of(plan))?;
-    let Some(version) = version(bytes) else {
-        return Err(Fault::NotALog);
-    };
+    let version = log_version(bytes.as_slice())?;
+    let found = chain(rt, alloc, bytes.as_slice(), 40, grain_of(plan))?;
     let state = State::empty(alloc);
-    checkpoints_of(rt, alloc, version, lent, bytes, &found, &state, plan)
+    let begun = Begun {
+        version,
+        found,
+        state,
+    };
+    checkpoints_of(rt, alloc, bytes, &begun, plan)
 }
 
 /// The checkpoints of the front of a log, rising: the offset of each, and whether it is true, which
@@ -163,20 +167,7 @@ pub fn audit<R: Threads + Sync>(
 ) -> Result<Vec<(u64, bool)>, Fault>
     ensures { Audits bytes.now result }
 {
-    whole_audit(rt, alloc, &LentLog::none(), bytes, plan)
-}
-
-/// The audit of a log that is lent: `audit` of its bytes, of which no checkpoint is copied.
-pub fn audit_lent<R: Threads + Sync>(
-    rt: &R,
-    alloc: Global,
-    log: &ArcSlice<u8>,
-    plan: &Plan,
-) -> Result<Vec<(u64, bool)>, Fault>
-    ensures { Audits (arc_slice_items log.now) result }
-{
-    let lent = LentLog::of(log)?;
-    whole_audit(rt, alloc, &lent, log.as_slice(), plan)
+    audit_of(rt, alloc, &LogBytes::borrowed(bytes), plan)
 }
 
 /// The checkpoints of the front of a log from the checkpoint at an offset on, rising: the offset of
@@ -194,14 +185,5 @@ pub fn audit_at<R: Threads + Sync>(
     ensures { AuditsAt bytes.now offset result }
 {
     let begun = begin_at(rt, alloc, bytes, offset, plan)?;
-    checkpoints_of(
-        rt,
-        alloc,
-        begun.version,
-        &LentLog::none(),
-        bytes,
-        &begun.found,
-        &begun.state,
-        plan,
-    )
+    checkpoints_of(rt, alloc, &LogBytes::borrowed(bytes), &begun, plan)
 }

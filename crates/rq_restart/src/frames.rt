@@ -1,28 +1,11 @@
 //! One frame more at the end of a log.
 
-ghost use Rattle.std.specs.Prelude.{◌≡◌, ◌≤◌, ◌++◌, length, IfOk, IfErr, OnOk};
-ghost use Rattle.rq_model.specs.Frames.{IsBodyLength, before, digest, frame};
+ghost use Rattle.std.specs.Prelude.{◌≡◌, ◌≤◌, ◌++◌, length, IfErr, OnOk};
+ghost use Rattle.rq_model.specs.Frames.{IsBodyLength, before, frame};
 ghost use Rattle.rq_record.specs.declared.fault.Fault.TheVariants.{Resources};
 
-use rq_front::frame;
-use rq_judged::before;
 use rq_record::Fault;
 use sha2::{Digest, Sha256};
-
-/// Appends the frame of a body behind these 32 bytes, and answers its own last 32 bytes.
-pub(crate) fn append_frame(
-    prev: &[u8; 32],
-    body: &[u8],
-    out: &mut Vec<u8>,
-) -> Result<[u8; 32], Fault>
-    requires { IsBodyLength (length body.now) }
-    ensures bytes { OnOk result (out.new.items ≡ out.old.items ++ frame prev.now body.now) }
-    ensures last { IfOk result (λ last. last ≡ digest prev.now body.now) }
-    ensures refused { IfErr result (λ e. e ≡ Resources) }
-{
-    frame(prev, body, out)?;
-    Ok(before(out, out.len()))
-}
 
 /// Appends the frame of a body behind the last 32 bytes of what is there. These, the length and the
 /// body then stand side by side, so that one digest is taken of them where they stand. Where memory

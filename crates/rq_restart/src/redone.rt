@@ -14,7 +14,7 @@ use crate::restarts::whole_front;
 use rq_exchange::replay_analysed;
 use rq_judged::{Front, before, begin_at, front_of};
 use rq_plan::{Open, Plan};
-use rq_record::{Fault, LentLog, Version};
+use rq_record::{Fault, LogBytes, Version};
 use rq_state::State;
 use std::alloc::Global;
 use std::marker::Sync;
@@ -84,7 +84,7 @@ pub fn redone_front<R: Threads + Sync>(
     ensures { RedoesFront bytes.now result }
 {
     rq_model::frames_join();
-    let (version, front) = whole_front(rt, alloc, &LentLog::none(), bytes, plan)?;
+    let (version, front) = whole_front(rt, alloc, bytes, plan)?;
     state_behind(rt, alloc, version, &State::empty(alloc), bytes, front, plan)
 }
 
@@ -102,16 +102,7 @@ pub fn redone_front_at<R: Threads + Sync>(
     ensures { RedoesFrontAt bytes.now offset result }
 {
     let begun = begin_at(rt, alloc, bytes, offset, plan)?;
-    let front = front_of(
-        rt,
-        alloc,
-        begun.version,
-        &LentLog::none(),
-        bytes,
-        &begun.found,
-        &begun.state,
-        plan,
-    )?;
+    let front = front_of(rt, alloc, &LogBytes::borrowed(bytes), &begun, plan)?;
     state_behind(rt, alloc, begun.version, &begun.state, bytes, front, plan)
 }
 

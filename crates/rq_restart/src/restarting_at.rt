@@ -1,24 +1,37 @@
 //! The restart of a log from a checkpoint.
 
-ghost use Rattle.std.specs.Arc.{arc_slice_items};
+ghost use Rattle.rq_judged.specs.Checkpoints.{BeginsAt};
 ghost use Rattle.rq_restart.specs.Restarts.{RestartsAt};
 
 use crate::restart_ends::finish;
 use crate::restarted::Restarted;
-use rq_judged::{begin_at, front_of};
+use rq_judged::{Begun, begin_at, front_of};
 use rq_plan::{Gate, Plan};
-use rq_record::{Fault, LentLog};
+use rq_record::{Fault, LogBytes};
 use std::alloc::Global;
 use std::marker::Sync;
-use std::sync::ArcSlice;
 use std::thread::Threads;
 
-// The restart from a checkpoint of a log that may be lent as well.
-fn restart_at_of<R, G>(
+// Where the restart of a log begins, whose bytes may be shared.
+fn begun_at<R: Threads + Sync>(
     rt: &R,
     alloc: Global,
-    lent: &LentLog,
-    bytes: &[u8],
+    bytes: &LogBytes<'_>,
+    offset: u64,
+    plan: &Plan,
+) -> Result<Begun, Fault>
+    ensures { BeginsAt bytes.now offset result }
+{
+    begin_at(rt, alloc, bytes.as_slice(), offset, plan)
+}
+
+/// The restart from a checkpoint of a log whose bytes may be shared: `restart_at` of them. If they
+/// are, another checkpoint behind that one, and a payload of more than 22 bytes, are parts of them
+/// and no copies.
+pub fn restart_of_at<R, G>(
+    rt: &R,
+    alloc: Global,
+    bytes: &LogBytes<'_>,
     offset: u64,
     plan: &Plan,
     gate: &G,
@@ -28,17 +41,8 @@ where
     G: Gate + Sync,
     ensures { RestartsAt bytes.now offset result }
 {
-    let begun = begin_at(rt, alloc, bytes, offset, plan)?;
-    let front = front_of(
-        rt,
-        alloc,
-        begun.version,
-        lent,
-        bytes,
-        &begun.found,
-        &begun.state,
-        plan,
-    )?;
+    let begun = begun_at(rt, alloc, bytes, offset, plan)?;
+    let front = front_of(rt, alloc, bytes, &begun, plan)?;
     finish(
         rt,
         alloc,
@@ -71,24 +75,5 @@ where
     G: Gate + Sync,
     ensures { RestartsAt bytes.now offset result }
 {
-    restart_at_of(rt, alloc, &LentLog::none(), bytes, offset, plan, gate)
-}
-
-/// The restart from a checkpoint of a log that is lent: `restart_at` of its bytes. Behind the
-/// checkpoint another one, and a payload of more than 22 bytes, are parts of the log and no copies.
-pub fn restart_lent_at<R, G>(
-    rt: &R,
-    alloc: Global,
-    log: &ArcSlice<u8>,
-    offset: u64,
-    plan: &Plan,
-    gate: &G,
-) -> Result<Restarted, Fault>
-where
-    R: Threads + Sync,
-    G: Gate + Sync,
-    ensures { RestartsAt (arc_slice_items log.now) offset result }
-{
-    let lent = LentLog::of(log)?;
-    restart_at_of(rt, alloc, &lent, log.as_slice(), offset, plan, gate)
+    restart_of_at(rt, alloc, &LogBytes::borrowed(bytes), offset, plan, gate)
 }

@@ -1,6 +1,5 @@
 //! The restart of a log from its start.
 
-ghost use Rattle.std.specs.Arc.{arc_slice_items};
 ghost use Rattle.std.specs.Prelude.{◌≡◌, ◌≤◌, length, map, IfOk, IfErr, OnOk};
 ghost use Rattle.rq_model.specs.Frames.{log_limit, HasHeader};
 ghost use Rattle.rq_model.specs.States.{empty};
@@ -13,22 +12,20 @@ ghost use Rattle.rq_judged.specs.Views.{why_of};
 
 use crate::restart_ends::finish;
 use crate::restarted::Restarted;
-use rq_front::{version, walk};
+use rq_front::{log_version, walk};
 use rq_judged::{Front, front_of_walk};
 use rq_plan::{Gate, Plan};
-use rq_record::{Fault, LentLog, Version};
+use rq_record::{Fault, LogBytes, Version};
 use rq_state::State;
 use std::alloc::Global;
 use std::marker::Sync;
-use std::sync::ArcSlice;
 use std::thread::Threads;
 
-/// The version of a log, and the front of all of it.
-pub(crate) fn whole_front<R: Threads + Sync>(
+// The version of a log whose bytes may be shared, and the front of all of it.
+fn whole_front_of<R: Threads + Sync>(
     rt: &R,
     alloc: Global,
-    lent: &LentLog,
-    bytes: &[u8],
+    bytes: &LogBytes<'_>,
     plan: &Plan,
 ) -> Result<(Version, Front), Fault>
     ensures front { IfOk result (λ x. IsFrontFrom (version_of x.0) empty bytes.now 40
@@ -40,29 +37,39 @@ pub(crate) fn whole_front<R: Threads + Sync>(
     ensures refused { IfErr result (Refused bytes.now) }
 {
     rq_model::frames_join();
-    let walk = walk(alloc, bytes, 40)?;
-    let Some(version) = version(bytes) else {
-        return Err(Fault::NotALog);
-    };
-    let front = front_of_walk(
-        rt,
-        alloc,
-        version,
-        lent,
-        bytes,
-        walk,
-        &State::empty(alloc),
-        plan,
-    )?;
+    let version = log_version(bytes.as_slice())?;
+    let walk = walk(alloc, bytes.as_slice(), 40)?;
+    let state = State::empty(alloc);
+    let front = front_of_walk(rt, alloc, version, bytes, walk, &state, plan)?;
     Ok((version, front))
 }
 
-// The restart of a log that may be lent as well.
-fn restart_of<R, G>(
+/// The version of a log, and the front of all of it.
+pub(crate) fn whole_front<R: Threads + Sync>(
     rt: &R,
     alloc: Global,
-    lent: &LentLog,
     bytes: &[u8],
+    plan: &Plan,
+) -> Result<(Version, Front), Fault>
+    ensures front { IfOk result (λ x. IsFrontFrom (version_of x.0) empty bytes.now 40
+        (map record_of x.1.records.items) x.1.end (why_of x.1.why)) }
+    ensures analysis { IfOk result
+        (λ x. IsAnalysis (version_of x.0) empty (map record_of x.1.records.items) x.1.analysis) }
+    ensures header { IfOk result (λ x. HasHeader (version_of x.0) bytes.now) }
+    ensures short { OnOk result (length bytes.now ≤ log_limit) }
+    ensures refused { IfErr result (Refused bytes.now) }
+{
+    let (version, front) = whole_front_of(rt, alloc, &LogBytes::borrowed(bytes), plan)?;
+    Ok((version, front))
+}
+
+/// The restart of a log whose bytes may be shared: `restart` of them. If they are, a checkpoint, and
+/// a payload of more than 22 bytes, are parts of them and no copies. So they stay in memory as long
+/// as one such payload of the state does.
+pub fn restart_of<R, G>(
+    rt: &R,
+    alloc: Global,
+    bytes: &LogBytes<'_>,
     plan: &Plan,
     gate: &G,
 ) -> Result<Restarted, Fault>
@@ -73,7 +80,7 @@ where
 {
     rq_model::runs_are_well_formed();
     rq_model::frames_join();
-    let (version, front) = whole_front(rt, alloc, lent, bytes, plan)?;
+    let (version, front) = whole_front_of(rt, alloc, bytes, plan)?;
     finish(
         rt,
         alloc,
@@ -103,24 +110,5 @@ where
     G: Gate + Sync,
     ensures { Restarts bytes.now result }
 {
-    restart_of(rt, alloc, &LentLog::none(), bytes, plan, gate)
-}
-
-/// The restart of a log that is lent: `restart` of its bytes. A checkpoint, and a payload of more
-/// than 22 bytes, are parts of the log and no copies, so the log stays in memory as long as one
-/// such payload of the state does.
-pub fn restart_lent<R, G>(
-    rt: &R,
-    alloc: Global,
-    log: &ArcSlice<u8>,
-    plan: &Plan,
-    gate: &G,
-) -> Result<Restarted, Fault>
-where
-    R: Threads + Sync,
-    G: Gate + Sync,
-    ensures { Restarts (arc_slice_items log.now) result }
-{
-    let lent = LentLog::of(log)?;
-    restart_of(rt, alloc, &lent, log.as_slice(), plan, gate)
+    restart_of(rt, alloc, &LogBytes::borrowed(bytes), plan, gate)
 }

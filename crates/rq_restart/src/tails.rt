@@ -13,12 +13,11 @@ ghost use Rattle.rq_judged.specs.Ends.{IsFrontFrom};
 ghost use Rattle.rq_judged.specs.Views.{why_of};
 ghost use Rattle.rq_restart.specs.Tails.{Closes, IsEnding, StaysOpen, Tails};
 
-use crate::frames::append_frame;
 use crate::restarts::whole_front;
 use rq_front::LOG_LIMIT;
-use rq_judged::{Front, before};
+use rq_judged::{Front, append_frame, before};
 use rq_plan::Plan;
-use rq_record::{Fault, LentLog, Record, UnitNo, Version, encode};
+use rq_record::{Fault, Record, UnitNo, Version, encode};
 use std::alloc::Global;
 use std::marker::Sync;
 use std::thread::Threads;
@@ -41,7 +40,8 @@ fn append_abort(
 {
     let mut body = Vec::new(alloc);
     encode(&Record::Abort { unit }, &mut body)?;
-    append_frame(prev, &body, out)
+    let last = append_frame(prev, &body, out)?;
+    Ok(last)
 }
 
 // Appends the frames of the units' ABORTs, the first behind these 32 bytes.
@@ -109,7 +109,7 @@ fn ending_of<R: Threads + Sync>(
     ensures ending { IfOk result (IsEnding bytes.now) }
     ensures refused { IfErr result (StaysOpen bytes.now) }
 {
-    let (version, front) = whole_front(rt, alloc, &LentLog::none(), bytes, plan)?;
+    let (version, front) = whole_front(rt, alloc, bytes, plan)?;
     ending_behind(alloc, version, &front, bytes)
 }
 

@@ -2,17 +2,17 @@
 
 ghost use Rattle.std.specs.Prelude.{◌≡◌, ◌≤◌, ◌++◌, length, take, drop, IfOk, IfErr};
 ghost use Rattle.rq_model.specs.Records.{Two};
-ghost use Rattle.rq_model.specs.Frames.{HasFrame, body_in, frames, header, start};
+ghost use Rattle.rq_model.specs.Frames.{frames, header, start};
 ghost use Rattle.rq_record.specs.declared.fault.Fault.TheVariants.{Resources};
 ghost use Rattle.rq_front.specs.Chains.{Refused};
 ghost use Rattle.rq_restart.specs.Upgrades.{HaveFrames, IsExtent, Upgrades, bodies_in};
 
 use crate::frames::append_next;
 use crate::restarts::whole_front;
-use byteorder::{BigEndian, ByteOrder};
 use rq_front::{FRAME_LEN, HEADER_LEN, header_of};
+use rq_judged::body_at;
 use rq_plan::Plan;
-use rq_record::{Fault, LentLog, Version};
+use rq_record::{Fault, Version};
 use std::alloc::Global;
 use std::marker::Sync;
 use std::thread::Threads;
@@ -37,22 +37,12 @@ fn extent_of<R: Threads + Sync>(
     ensures refused { IfErr result (Refused bytes.now) }
 {
     rq_model::frames_join();
-    let (version, front) = whole_front(rt, alloc, &LentLog::none(), bytes, plan)?;
+    let (version, front) = whole_front(rt, alloc, bytes, plan)?;
     Ok(Extent {
         version,
         end: front.end,
         count: front.records.len(),
     })
-}
-
-// The body of the frame at an offset.
-fn body_at(bytes: &[u8], at: usize) -> &[u8]
-    requires { HasFrame (drop at bytes.now) }
-    ensures { result.now ≡ body_in (drop at bytes.now) }
-{
-    let from = &bytes[at..];
-    let len = BigEndian::read_u32(from) as usize;
-    &from[4..4 + len]
 }
 
 // The bodies of the first frames of a log, framed anew behind the header of version 2; room for all

@@ -11,7 +11,7 @@ ghost use Rattle.rq_tool.specs.Written.{PutsText};
 
 use crate::door::{Work, through};
 use rq_report::{Input, Output, write_all};
-use rq_restart::{Fault, Open, Plan, audit_lent};
+use rq_restart::{Fault, LogBytes, Open, Plan, audit_of};
 use std::alloc::{AllocError, Global};
 use std::fmt::Write;
 use std::marker::Sync;
@@ -48,7 +48,7 @@ fn audit_of_read<R: Threads + Sync>(
     ensures { Audits bytes.items result }
 {
     let log = ArcSlice::from_vec(bytes)?;
-    audit_lent(rt, alloc, &log, plan)
+    audit_of(rt, alloc, &LogBytes::shared(&log), plan)
 }
 
 /// Writes a line for each checkpoint of the log.

@@ -10,7 +10,7 @@ ghost use Rattle.rq_tool.specs.Headline.{Runs, WritesOnly};
 
 use crate::door::{Work, through};
 use rq_report::{Input, Output, write_report_by};
-use rq_restart::{Fault, Gate, Plan, Restarted, restart_lent};
+use rq_restart::{Fault, Gate, LogBytes, Plan, Restarted, restart_of};
 use std::alloc::Global;
 use std::marker::Sync;
 use std::sync::ArcSlice;
@@ -31,7 +31,7 @@ where
     ensures { Restarts bytes.items result }
 {
     let log = ArcSlice::from_vec(bytes)?;
-    restart_lent(rt, alloc, &log, plan, gate)
+    restart_of(rt, alloc, &LogBytes::shared(&log), plan, gate)
 }
 
 /// Writes the report of the log.

@@ -12,7 +12,7 @@ ghost use Rattle.rq_tool.specs.Works.{HasNoReportAt};
 use crate::door::{Work, through};
 use crate::input::are_bytes;
 use rq_report::{Input, Output, write_report_by};
-use rq_restart::{Fault, Gate, Plan, Restarted, restart_lent_at};
+use rq_restart::{Fault, Gate, LogBytes, Plan, Restarted, restart_of_at};
 use std::alloc::Global;
 use std::marker::Sync;
 use std::sync::ArcSlice;
@@ -34,7 +34,7 @@ where
     ensures { RestartsAt bytes.items offset result }
 {
     let log = ArcSlice::from_vec(bytes)?;
-    restart_lent_at(rt, alloc, &log, offset, plan, gate)
+    restart_of_at(rt, alloc, &LogBytes::shared(&log), offset, plan, gate)
 }
 
 /// Writes the report of the log from the checkpoint at an offset.

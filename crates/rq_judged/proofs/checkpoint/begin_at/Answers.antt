@@ -23,9 +23,6 @@ returns-in_default g c =
           chain none at,
     )
 
-pub returns-in_default-version : goal.returns-in_default-version
-returns-in_default-version g c = (c.in_ok-found.ensures.log.0, c.in_default-version.ensures.none)
-
 pub returns-in_err-state : goal.returns-in_err-state
 returns-in_err-state g c =
     let b = c.args.bytes.now in
@@ -38,8 +35,8 @@ returns-in_err-state g c =
     let begun = begun_at c.frames_are_right.ensures.right b c.args.offset c.in_ok-found.found kept chain some in
     let answer : c.from_residual-in_err-state.result ≡ Err c.in_err-state.field-0.0 = search rules in
     subst (λ (r : Result Begun Fault). BeginsAt b c.args.offset r) (sym answer)
-    (read_begins (version_of c.in-Some-version.version) b c.args.offset kept c.in_err-state.field-0.0 is.log.0
-    c.in-Some-version.ensures.some begun.1 c.in_err-state.ensures)
+    (read_begins (version_of c.in_ok-version.version) b c.args.offset kept c.in_err-state.field-0.0 is.log.0
+    c.in_ok-version.ensures.header begun.1 c.in_err-state.ensures)
 
 pub returns : goal.returns
 returns g c =
@@ -52,7 +49,7 @@ returns g c =
     (sym c.in-Some.ensures) in
     let begun = begun_at c.frames_are_right.ensures.right b c.args.offset c.in_ok-found.found kept chain some in
     record {
-      header = c.in-Some-version.ensures.some;
+      header = c.in_ok-version.ensures.header;
       chain = begun.0;
       kept = kept;
       checkpoint = begun.1;

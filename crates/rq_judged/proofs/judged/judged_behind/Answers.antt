@@ -1,4 +1,4 @@
-use Rattle.std.proofs.Common.{◌∙◌, ℕ, List, subst, arith}
+use Rattle.std.proofs.Common.{◌∙◌, ℕ, List, refl, subst, arith}
 use Rattle.rq_record.specs.Views.{version_of}
 use Rattle.rq_front.specs.Chains.{bodies_at}
 use Rattle.rq_front.specs.declared.spans.Span.{Span}
@@ -29,18 +29,22 @@ before-requires-clause-after c = omega (arith, (judged c c.requires.0 c.requires
 pub before-requires-clause-within : goal.before-requires-clause-within
 before-requires-clause-within c = (judged c c.requires.0 c.requires.1).within
 
-pub returns : goal.returns
-returns c = λ offset begun.
-    let is = judged ((goal.at.returns c).After-end_of-end) offset begun in
+pub returns-clause-judged : goal.returns-clause-judged
+returns-clause-judged c = λ offset begun.
+    let is = judged ((goal.at.returns-clause-judged c).After-end_of-end) offset begun in
     record {
-      version = version_of c.args.begun.now.version;
-      base = c.args.begun.now.state;
-      kept = begun.kept;
-      after = is.after;
-      front = is.from.front;
-      ends = is.from.ends;
-      used = is.from.used;
-      count = is.count;
-      last = c.before-2.ensures ∙ is.from.last;
-      judge = is.judge;
+      is = record {
+        version = version_of c.args.begun.now.version;
+        base = c.args.begun.now.state;
+        kept = begun.kept;
+        after = is.after;
+        front = is.from.front;
+        ends = is.from.ends;
+        used = is.from.used;
+        count = is.count;
+        last = c.before-2.ensures ∙ is.from.last;
+        judge = is.judge;
+      };
+      begins = refl;
+      few = is.few;
     }

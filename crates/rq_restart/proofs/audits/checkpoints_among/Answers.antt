@@ -17,8 +17,8 @@ bounds-spans-place c =
     let (at, framed) = c.requires.framed in
     (framed.stand c.loop-place.place (omega (arith, c.loop-place-test.true, length-map c.args.records.now record_of))).0
 
-pub pass-requires : goal.pass-requires
-pass-requires c =
+pub go_past-requires : goal.go_past-requires
+go_past-requires c =
     let (at, framed) = c.requires.framed in (
       version_of c.args.version,
       run c.args.state.now (take c.loop-place.place (map record_of c.args.records.now)),
@@ -40,12 +40,12 @@ loop-place-preserved c =
     let none : Span = record { start = 0; len = 0 } in
     let few : i < length (map record_of all) = omega (arith, c.loop-place-test.true, length-map all record_of) in
     let lawful = lawful_at version s all i r c.loop-place-test.true is c.requires.framed.1.lawful in (
-      subst (Stands version c.pass.new.standing) (run_further s all i r c.loop-place-test.true is)
-          (c.in_ok-pass.ensures.stands version before stands lawful),
+      subst (Stands version c.go_past.new.standing) (run_further s all i r c.loop-place-test.true is)
+          (c.in_ok-go_past.ensures.stands version before stands lawful),
       λ at framed. found_further s at all i r (slice_index_or c.args.spans.now i none).start c.offset-offset.result
-          (map audited_of c.loop-place.found.items) (map audited_of c.pass.new.found.items) c.loop-place-test.true is
+          (map audited_of c.loop-place.found.items) (map audited_of c.go_past.new.found.items) c.loop-place-test.true is
           ((framed.stand i few).1 none) c.offset-offset.ensures (c.loop-place.invariant.1 at framed)
-          (c.in_ok-pass.ensures.found version before stands),
+          (c.in_ok-go_past.ensures.found version before stands),
     )
 
 pub returns-clause-found : goal.returns-clause-found

@@ -14,8 +14,10 @@ checkpoints_among-requires g c =
     record {
       framed = (
         offset,
-        framed (version_of c.args.version) c.args.state.now c.args.bytes.now offset c.args.found.now
-            (map record_of front.records.items) front.end (why_of front.why) c.deref.result.now c.deref-2.result.now chain
+        framed (version_of c.args.begun.now.version) c.args.begun.now.state c.args.bytes.now offset
+            c.args.begun.now.found
+            (map record_of front.records.items) front.end
+            (why_of front.why) c.deref.result.now c.deref-2.result.now chain
             (c.in_ok-front.ensures.front offset chain) c.in_ok-front.ensures.bodies
             (ap (map record_of) (c.deref.ensures.value ∙ c.records_alone-records.ensures)) c.deref-2.ensures.value,
       );
@@ -23,10 +25,10 @@ checkpoints_among-requires g c =
 
 pub returns-clause-found : goal.returns-clause-found
 returns-clause-found g c =
-    let version = version_of c.args.version in
-    let s = c.args.state.now in
+    let version = version_of c.args.begun.now.version in
+    let s = c.args.begun.now.state in
     let b = c.args.bytes.now in
-    let chain_of = c.args.found.now in
+    let chain_of = c.args.begun.now.found in
     let front = c.in_ok-front.front in
     let rs = map record_of front.records.items in
     let all = c.deref.result.now in

@@ -1,6 +1,6 @@
-use Rattle.std.proofs.Common.{◌≡◌, ◌-◌, length, map, subst}
+use Rattle.std.proofs.Common.{◌≡◌, ◌-◌, ℕ, map, subst}
 use Rattle.std.specs.Prelude.{IfOk}
-use Rattle.rq_model.specs.States.{State}
+use Rattle.rq_model.specs.States.{State, empty}
 use Rattle.rq_model.specs.Machine.{run}
 use Rattle.rq_model.specs.Fronts.{restarted}
 use Rattle.rq_record.specs.Views.{record_of, version_of}
@@ -14,8 +14,11 @@ returns g c =
     let front = c.in_ok-version.front in
     let is = c.in_ok-version.ensures in
     let rs = map record_of front.records.items in
-    let answer = subst (λ (s : State). IfOk c.finish-2.result
-    (λ r. r ≡ restarted (run s rs) (length b - front.end) (length b) (why_of front.why))) c.empty.ensures
-    c.finish-2.ensures.answer in
+    let why = why_of front.why in
+    let total = c.len.result in
+    let from_empty = subst (λ (s : State). IfOk c.finish-2.result
+    (λ r. r ≡ restarted (run s rs) (total - front.end) total why)) c.empty.ensures c.finish-2.ensures.answer in
+    let answer = subst (λ (n : ℕ). IfOk c.finish-2.result
+    (λ r. r ≡ restarted (run empty rs) (n - front.end) n why)) c.len.ensures from_empty in
     restarts (version_of c.in_ok-version.version) c.frames_join.ensures.end b rs front.end
-    (why_of front.why) is.short is.header is.front c.finish-2.result answer c.finish-2.ensures.refused
+    why is.short is.header is.front c.finish-2.result answer c.finish-2.ensures.refused

@@ -3,7 +3,7 @@ use Rattle.rq_model.specs.Records.{Two}
 use Rattle.rq_model.specs.Frames.{frames, header, start, before, IsBodyLength}
 use Rattle.rq_model.proofs.Restarts.{header_long}
 use Rattle.rq_restart.specs.Upgrades.{HaveFrames, bodies_in}
-use Rattle.rq_restart.proofs.Endings.{framed}
+use Rattle.rq_judged.proofs.Starts.{framed}
 use Rattle.rq_restart.proofs.Upgradings.{IsNext, header_ends, next_at, one_chained, all_chained}
 use Rattle.rq_restart.proofs.upgrades.chained_anew.Goals as goal
 use Rattle.rq_restart.proofs.upgrades.chained_anew.Goals.{In_ok-header_of, In-loop}

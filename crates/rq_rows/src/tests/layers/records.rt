@@ -1,7 +1,7 @@
 //! Names, what a checkpoint spells, and bodies.
 
 use rq_record::{
-    CheckBytes, Fault, KeptRecord, LentLog, Name, Payload, QueueNo, Record, UnitNo, Version,
+    CheckBytes, Fault, KeptRecord, LogBytes, Name, Payload, QueueNo, Record, UnitNo, Version,
     decode, decode_at, encode,
 };
 use std::alloc::Global;
@@ -94,47 +94,36 @@ fn as_written(record: &KeptRecord) -> Option<usize> {
 }
 
 // The record whose body is among others.
-fn read_among(alloc: Global, bytes: &[u8], log: &ArcSlice<u8>) -> Result<KeptRecord, Fail> {
+fn read_among(alloc: Global, bytes: &LogBytes<'_>) -> Result<KeptRecord, Fail> {
     let len = bytes.len().saturating_sub(2);
     if bytes.len() < len.saturating_add(1) {
         return Err("no body".into());
     }
-    let lent = LentLog::of(log)?;
-    Ok(decode_at(alloc, Version::One, &lent, bytes, 1, len)?)
+    Ok(decode_at(alloc, Version::One, bytes, 1, len)?)
 }
 
 // How many bytes the payload or the checkpoint has that is read of a body among others, all of them
-// as they were written, and how many more the lent log holds then.
-fn read_in(
-    alloc: Global,
-    bytes: &[u8],
-    log: &ArcSlice<u8>,
-) -> Result<(Option<usize>, usize), Fail> {
-    let before = ArcSlice::strong_count(log);
-    let record = read_among(alloc, bytes, log)?;
-    let more = ArcSlice::strong_count(log).saturating_sub(before);
+// as they were written, and how many more the shared log holds then.
+fn read_of_shared(alloc: Global, bytes: &[u8]) -> Result<(Option<usize>, usize), Fail> {
+    let log = ArcSlice::from_slice(alloc, bytes)?;
+    let before = ArcSlice::strong_count(&log);
+    let record = read_among(alloc, &LogBytes::shared(&log))?;
+    let more = ArcSlice::strong_count(&log).saturating_sub(before);
     Ok((as_written(&record), more))
 }
 
-// The same of these bytes as the lent log.
-fn read_of(alloc: Global, bytes: &[u8], lent: &[u8]) -> Result<(Option<usize>, usize), Fail> {
-    let log = ArcSlice::from_slice(alloc, lent)?;
-    read_in(alloc, bytes, &log)
-}
-
-// The same if the log that is lent has the body.
 fn payload_of_log(alloc: Global, length: usize) -> Result<(Option<usize>, usize), Fail> {
     let bytes = payload_among_others(alloc, length)?;
-    read_of(alloc, &bytes, &bytes)
+    read_of_shared(alloc, &bytes)
 }
 
 fn checkpoint_of_log(alloc: Global, length: usize) -> Result<(Option<usize>, usize), Fail> {
     let bytes = checkpoint_among_others(alloc, length)?;
-    read_of(alloc, &bytes, &bytes)
+    read_of_shared(alloc, &bytes)
 }
 
 #[test]
-fn a_long_payload_is_a_part_of_the_log_that_is_lent(rt: HostRuntime) -> Result<(), Fail> {
+fn a_long_payload_is_a_part_of_the_shared_log(rt: HostRuntime) -> Result<(), Fail> {
     for (length, more) in [(0, 0), (22, 0), (23, 1), (65_535, 1)] {
         assert!(rt;
             payload_of_log(rt.alloc(), length)? == (Some(length), more),
@@ -145,7 +134,7 @@ fn a_long_payload_is_a_part_of_the_log_that_is_lent(rt: HostRuntime) -> Result<(
 }
 
 #[test]
-fn a_checkpoint_is_a_part_of_the_log_that_is_lent(rt: HostRuntime) -> Result<(), Fail> {
+fn a_checkpoint_is_a_part_of_the_shared_log(rt: HostRuntime) -> Result<(), Fail> {
     for length in [1, 52, 65_536] {
         assert!(rt;
             checkpoint_of_log(rt.alloc(), length)? == (Some(length), 1),
@@ -155,17 +144,10 @@ fn a_checkpoint_is_a_part_of_the_log_that_is_lent(rt: HostRuntime) -> Result<(),
     Ok(())
 }
 
-// Logs that are lent beside one whose bodies have 100 bytes.
-const OTHERS: [&[u8]; 3] = [&[b'q'; 200], &[b'p'; 60], &[]];
-
-// Whether what the body has is a copy, whichever of these logs is lent.
+// Whether what the body of a borrowed log has, 100 bytes, is as it was written.
 fn is_copied(alloc: Global, bytes: &[u8]) -> Result<bool, Fail> {
-    for other in OTHERS {
-        if read_of(alloc, bytes, other)? != (Some(100), 0) {
-            return Ok(false);
-        }
-    }
-    Ok(true)
+    let record = read_among(alloc, &LogBytes::borrowed(bytes))?;
+    Ok(as_written(&record) == Some(100))
 }
 
 fn payload_is_copied(alloc: Global) -> Result<bool, Fail> {
@@ -179,17 +161,13 @@ fn checkpoint_is_copied(alloc: Global) -> Result<bool, Fail> {
 }
 
 #[test]
-fn a_payload_that_is_no_part_of_the_log_that_is_lent_is_a_copy(
-    rt: HostRuntime,
-) -> Result<(), Fail> {
+fn a_payload_of_a_borrowed_log_is_a_copy(rt: HostRuntime) -> Result<(), Fail> {
     assert!(rt; payload_is_copied(rt.alloc())?);
     Ok(())
 }
 
 #[test]
-fn a_checkpoint_that_is_no_part_of_the_log_that_is_lent_is_a_copy(
-    rt: HostRuntime,
-) -> Result<(), Fail> {
+fn a_checkpoint_of_a_borrowed_log_is_a_copy(rt: HostRuntime) -> Result<(), Fail> {
     assert!(rt; checkpoint_is_copied(rt.alloc())?);
     Ok(())
 }

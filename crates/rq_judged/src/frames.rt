@@ -1,0 +1,31 @@
+//! A frame of a log: its body, and one more at the end.
+
+ghost use Rattle.std.specs.Prelude.{◌≡◌, ◌≤◌, length, drop, IfOk};
+ghost use Rattle.rq_model.specs.Frames.{HasFrame, IsBodyLength, before, body_in, digest, frame};
+ghost use Rattle.rq_record.specs.Writing.{Appends};
+
+use crate::links::before;
+use byteorder::{BigEndian, ByteOrder};
+use rq_front::frame;
+use rq_record::Fault;
+
+/// The body of the frame at an offset.
+pub fn body_at(bytes: &[u8], at: usize) -> &[u8]
+    requires { HasFrame (drop at bytes.now) }
+    ensures { result.now ≡ body_in (drop at bytes.now) }
+{
+    let from = &bytes[at..];
+    let len = BigEndian::read_u32(from) as usize;
+    &from[4..4 + len]
+}
+
+/// Appends the frame of a body behind these 32 bytes, and answers its own last 32 bytes. If memory
+/// is refused, nothing is appended.
+pub fn append_frame(prev: &[u8; 32], body: &[u8], out: &mut Vec<u8>) -> Result<[u8; 32], Fault>
+    requires { IsBodyLength (length body.now) }
+    ensures bytes { Appends out.old.items out.new.items (frame prev.now body.now) result }
+    ensures last { IfOk result (λ last. last ≡ digest prev.now body.now) }
+{
+    frame(prev, body, out)?;
+    Ok(before(out, out.len()))
+}

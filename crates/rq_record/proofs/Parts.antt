@@ -1,0 +1,71 @@
+-- What ends at a place of a log.
+use Rattle.std.proofs.Common.{◌≡◌, ℕ, ◌+◌, ◌-◌, ◌≤◌, List, [], ◌++◌, length, take, drop, Some, refl, sym, ap, ◌∙◌}
+use Rattle.std.proofs.Common.{append_assoc, arith}
+use Rattle.std.specs.Prelude.{slice_range}
+use Rattle.std.proofs.lemmas.List.{append-nil, take_at, drop_at, take-append-drop, length-append, length-take}
+use Rattle.std.proofs.lemmas.List.{length-drop}
+use Rattle.rq_bytes.specs.Readers.{Reader}
+use Rattle.rq_bytes.specs.Reads.{Reads}
+use Rattle.rq_record.specs.LogParts.{EndsAt, IsLeftAt, IsPartOf}
+
+-- the last bytes before an end are a part of the log
+pub part_at : (log bytes : List ℕ) (end start : ℕ) → EndsAt log end bytes → start + length bytes ≡ end
+    → IsPartOf log start bytes
+part_at log bytes end start h is =
+    let here : length h.before ≡ start = omega (arith, is, h.there) in
+    let from : drop start log ≡ bytes ++ h.behind =
+    ap (drop start) h.whole ∙ drop_at h.before (bytes ++ h.behind) start here in
+    let size : length bytes ≡ start + length bytes - start = omega arith in (
+      omega (
+        arith,
+        here,
+        ap length h.whole,
+        length-append h.before (bytes ++ h.behind),
+        length-append bytes h.behind,
+      ),
+      ap (take (start + length bytes - start)) from ∙ take_at bytes h.behind (start + length bytes - start) size,
+    )
+
+-- a piece of the log ends where it ends
+pub piece_at : (log : List ℕ) (start len : ℕ) → start + len ≤ length log
+    → EndsAt log (start + len) (slice_range log start (start + len))
+piece_at log start len fits =
+    let from : List ℕ = drop start log in
+    let n = start + len - start in
+    record {
+      before = take start log;
+      behind = drop n from;
+      whole = sym (take-append-drop start log)
+          ∙ ap (λ (z : List ℕ). take start log ++ z) (sym (take-append-drop n from));
+      there = omega (arith, fits, length-take start log, length-take n from, length-drop start log);
+    }
+
+-- all bytes end where they end
+pub all_at : (bytes : List ℕ) → EndsAt bytes (length bytes) bytes
+all_at bytes = record { before = []; behind = []; whole = sym (append-nil bytes); there = refl }
+
+-- behind a front of them, the others end there as well
+behind_front : (log bytes front left : List ℕ) (end : ℕ) → EndsAt log end bytes → bytes ≡ front ++ left
+    → EndsAt log end left
+behind_front log bytes front left end h parts = record {
+  before = h.before ++ front;
+  behind = h.behind;
+  whole = h.whole ∙ ap (λ (z : List ℕ). h.before ++ (z ++ h.behind)) parts
+      ∙ ap (λ (z : List ℕ). h.before ++ z) (append_assoc front left h.behind)
+      ∙ sym (append_assoc h.before front (left ++ h.behind));
+  there = omega (
+    arith,
+    h.there,
+    length-append h.before front,
+    ap length parts,
+    length-append front left,
+  );
+}
+
+-- so does what a reader leaves
+pub left_at : {X : Type 0} {P : X → Type 0} {spelling : X → List ℕ} {Ends : List ℕ → Type 0} {reader : Reader X}
+    → Reads P spelling Ends reader → (log bytes left : List ℕ) (end : ℕ) (x : X) → IsLeftAt log end bytes
+    → reader bytes ≡ Some (x, left) → IsLeftAt log end left
+left_at reads log bytes left end x h is =
+    let taken = reads.takes bytes (x, left) h.bytes is in
+    record { ends = behind_front log bytes _ left end h.ends taken.parts; bytes = taken.rest_fits }
