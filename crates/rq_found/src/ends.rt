@@ -15,13 +15,14 @@ ghost use Rattle.rq_found.specs.Refusals.{RefusedFrom};
 use crate::frames::{first_frame, stated_length};
 use crate::misfits::{Misfit, misfit_of};
 use crate::pieces::TextPiece::{Number, Word};
-use crate::pieces::joined_text;
+use crate::pieces::{Put, joined_text};
+use crate::shown_log::ShownLog;
 use rq_catalog::{Judge, Rule};
 use rq_front::{FRAME_LEN, version};
 use rq_judged::{FrontEnd, front_end, judged_front, judged_front_at};
 use rq_record::{Fault, Version, decode_kept};
 use rq_report::why_word;
-use rq_restart::{Open, Plan, Restarted, Why, restart_at};
+use rq_restart::{Open, Restarted, Why, restart_at};
 use sha2::{Digest, Sha256};
 use std::alloc::{AllocError, Global};
 use std::fmt::Write;
@@ -123,15 +124,13 @@ pub fn form_reason(alloc: Global, version: Version, body: &[u8]) -> Result<Strin
 fn judge_behind<R: Threads + Sync>(
     rt: &R,
     alloc: Global,
-    bytes: &[u8],
-    at: Option<u64>,
-    plan: &Plan,
+    log: &ShownLog<'_>,
 ) -> Result<Judge, Fault>
     ensures { IfErr result (λ e. e ≡ Resources) }
 {
-    let judged = match at {
-        None => judged_front(rt, alloc, bytes, plan),
-        Some(at) => judged_front_at(rt, alloc, bytes, at, plan),
+    let judged = match log.at {
+        None => judged_front(rt, alloc, log.bytes, log.plan),
+        Some(at) => judged_front_at(rt, alloc, log.bytes, at, log.plan),
     };
     match judged {
         Ok(front) => Ok(front.judge),
@@ -155,14 +154,12 @@ fn rule_of(alloc: Global, judge: &Judge, body: &[u8]) -> Result<Option<Rule>, Fa
 fn rule_behind<R: Threads + Sync>(
     rt: &R,
     alloc: Global,
-    bytes: &[u8],
-    at: Option<u64>,
+    log: &ShownLog<'_>,
     body: &[u8],
-    plan: &Plan,
 ) -> Result<Option<Rule>, Fault>
     ensures { IfErr result (λ e. e ≡ Resources) }
 {
-    let judge = judge_behind(rt, alloc, bytes, at, plan)?;
+    let judge = judge_behind(rt, alloc, log)?;
     rule_of(alloc, &judge, body)
 }
 
@@ -204,35 +201,31 @@ fn reason_by(
 fn reason_of<R: Threads + Sync>(
     rt: &R,
     alloc: Global,
-    bytes: &[u8],
-    at: Option<u64>,
+    log: &ShownLog<'_>,
     end: &FrontEnd,
-    plan: &Plan,
 ) -> Result<String, Fault>
     ensures { IfErr result (λ e. e ≡ Resources) }
 {
-    let (_, rest) = bytes.split_at(bytes.len().min(end.used as usize));
+    let (_, rest) = log.bytes.split_at(log.bytes.len().min(end.used as usize));
     let rule = match end.why {
-        Why::Law => rule_behind(rt, alloc, bytes, at, body_of(rest), plan)?,
+        Why::Law => rule_behind(rt, alloc, log, body_of(rest))?,
         _ => None,
     };
-    Ok(reason_by(alloc, bytes, end, rule)?)
+    Ok(reason_by(alloc, log.bytes, end, rule)?)
 }
 
 // Where the front ends, with the reason.
 fn told<R: Threads + Sync>(
     rt: &R,
     alloc: Global,
-    bytes: &[u8],
-    at: Option<u64>,
+    log: &ShownLog<'_>,
     end: FrontEnd,
-    plan: &Plan,
 ) -> Result<End, Fault>
     ensures end { IfOk result
         (λ told. (r : fronts.Restarted) → IsEndOf r end → IsEndOf r (front_end_of told)) }
     ensures refused { IfErr result (λ e. e ≡ Resources) }
 {
-    let reason = reason_of(rt, alloc, bytes, at, &end, plan)?;
+    let reason = reason_of(rt, alloc, log, &end)?;
     let FrontEnd {
         records,
         used,
@@ -240,7 +233,7 @@ fn told<R: Threads + Sync>(
         why,
     } = end;
     Ok(End {
-        at,
+        at: log.at,
         records,
         used,
         total,
@@ -249,15 +242,13 @@ fn told<R: Threads + Sync>(
     })
 }
 
-/// Where the front ends of which the restart is known, from the checkpoint on at an offset, if there
-/// is one. Refuses with `Resources` where memory is refused.
+/// Where the front ends of which the restart is known. Refuses with `Resources` where memory is
+/// refused.
 pub fn end_after<R: Threads + Sync>(
     rt: &R,
     alloc: Global,
-    bytes: &[u8],
-    at: Option<u64>,
+    log: &ShownLog<'_>,
     r: &Restarted,
-    plan: &Plan,
 ) -> Result<End, Fault>
     ensures end { IfOk result (λ end. IsEndOf r.now (front_end_of end)) }
     ensures refused { IfErr result (λ e. e ≡ Resources) }
@@ -268,24 +259,19 @@ pub fn end_after<R: Threads + Sync>(
         total: r.total(),
         why: r.why(),
     };
-    let told = told(rt, alloc, bytes, at, end, plan)?;
+    let told = told(rt, alloc, log, end)?;
     Ok(told)
 }
 
-// Where the front of a log ends. No queue is redone for it.
-fn whole_end<R: Threads + Sync>(
-    rt: &R,
-    alloc: Global,
-    bytes: &[u8],
-    plan: &Plan,
-) -> Result<End, Fault>
-    ensures log { OnOk result (IsLog bytes.now) }
-    ensures end { IfOk result (λ end. (r : fronts.Restarted) × IsRestart bytes.now r
+// Where the front of a log ends that was not carried on. No queue is redone for it.
+fn whole_end<R: Threads + Sync>(rt: &R, alloc: Global, log: &ShownLog<'_>) -> Result<End, Fault>
+    ensures log { OnOk result (IsLog log.now.bytes.now) }
+    ensures end { IfOk result (λ end. (r : fronts.Restarted) × IsRestart log.now.bytes.now r
         × IsEndOf r (front_end_of end)) }
-    ensures refused { IfErr result (Refused bytes.now) }
+    ensures refused { IfErr result (Refused log.now.bytes.now) }
 {
-    let end = front_end(rt, alloc, bytes, plan)?;
-    let told = told(rt, alloc, bytes, None, end, plan)?;
+    let end = front_end(rt, alloc, log.bytes, log.plan)?;
+    let told = told(rt, alloc, log, end)?;
     Ok(told)
 }
 
@@ -293,41 +279,34 @@ fn whole_end<R: Threads + Sync>(
 fn end_at<R: Threads + Sync>(
     rt: &R,
     alloc: Global,
-    bytes: &[u8],
+    log: &ShownLog<'_>,
     at: u64,
-    plan: &Plan,
 ) -> Result<End, Fault>
-    ensures log { OnOk result (IsLog bytes.now) }
-    ensures end { IfOk result (λ end. (r : fronts.Restarted) × IsRestartAt bytes.now at r
+    ensures log { OnOk result (IsLog log.now.bytes.now) }
+    ensures end { IfOk result (λ end. (r : fronts.Restarted) × IsRestartAt log.now.bytes.now at r
         × IsEndOf r (front_end_of end)) }
-    ensures refused { IfErr result (RefusedFrom (Some at) bytes.now) }
+    ensures refused { IfErr result (RefusedFrom (Some at) log.now.bytes.now) }
 {
-    let restarted = restart_at(rt, alloc, bytes, at, plan, &Open)?;
-    let end = end_after(rt, alloc, bytes, Some(at), &restarted, plan)?;
+    let restarted = restart_at(rt, alloc, log.bytes, at, log.plan, &Open)?;
+    let end = end_after(rt, alloc, log, &restarted)?;
     Ok(end)
 }
 
-/// Where the front of a log ends, from the checkpoint on at an offset, if there is one.
-pub fn end_of<R: Threads + Sync>(
-    rt: &R,
-    alloc: Global,
-    bytes: &[u8],
-    at: Option<u64>,
-    plan: &Plan,
-) -> Result<End, Fault>
-    ensures log { OnOk result (IsLog bytes.now) }
-    ensures end { IfOk result (λ end. (r : fronts.Restarted) × IsRestartFrom at bytes.now r
-        × IsEndOf r (front_end_of end)) }
-    ensures refused { IfErr result (RefusedFrom at bytes.now) }
+/// Where the front of a log ends, from the checkpoint on that it begins with, if there is one.
+pub fn end_of<R: Threads + Sync>(rt: &R, alloc: Global, log: &ShownLog<'_>) -> Result<End, Fault>
+    ensures log { OnOk result (IsLog log.now.bytes.now) }
+    ensures end { IfOk result (λ end. (r : fronts.Restarted)
+        × IsRestartFrom log.now.at log.now.bytes.now r × IsEndOf r (front_end_of end)) }
+    ensures refused { IfErr result (RefusedFrom log.now.at log.now.bytes.now) }
 {
-    match at {
-        None => whole_end(rt, alloc, bytes, plan),
-        Some(at) => end_at(rt, alloc, bytes, at, plan),
+    match log.at {
+        None => whole_end(rt, alloc, log),
+        Some(at) => end_at(rt, alloc, log, at),
     }
 }
 
 /// Puts with which checkpoint a log begins that was carried on; of another, nothing.
-pub fn put_beginning(text: &mut String, at: Option<u64>) -> Result<(), AllocError>
+pub fn put_beginning(text: &mut String, at: Option<u64>) -> Put
     ensures { OnOk result (string_bytes text.new ≡ string_bytes text.old ++ beginning_text at) }
 {
     match at {
@@ -337,7 +316,7 @@ pub fn put_beginning(text: &mut String, at: Option<u64>) -> Result<(), AllocErro
 }
 
 /// Puts where the front ends, as a line.
-pub fn put_end(text: &mut String, end: &End) -> Result<(), AllocError>
+pub fn put_end(text: &mut String, end: &End) -> Put
     ensures { OnOk result (string_bytes text.new ≡ string_bytes text.old
         ++ end_text end.now.records end.now.used end.now.total (why_of end.now.why)
         (string_bytes end.now.reason)) }

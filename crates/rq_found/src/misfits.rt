@@ -1,9 +1,8 @@
 //! Where a body is none that a record has.
 
 use crate::pieces::TextPiece::{Number, Word};
-use crate::pieces::put_text_pieces;
+use crate::pieces::{Put, put_text_pieces};
 use rq_record::Version;
-use std::alloc::AllocError;
 
 // The most bytes of a name.
 const NAME: usize = 64;
@@ -32,7 +31,7 @@ pub(crate) enum Misfit {
 
 impl Misfit {
     /// Puts it in words.
-    pub(crate) fn put(&self, text: &mut String) -> Result<(), AllocError> {
+    pub(crate) fn put(&self, text: &mut String) -> Put {
         match self {
             Misfit::Kind(kind) => {
                 put_text_pieces(

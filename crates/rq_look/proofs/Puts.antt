@@ -15,12 +15,8 @@ use Rattle.rq_found.specs.declared.trouble.Trouble.TheVariants.{Log, Output, Unt
 use Rattle.rq_record.specs.declared.fault.Fault.{Fault}
 use Rattle.rq_record.specs.declared.fault.Fault.TheVariants.{Resources}
 use Rattle.rq_model.specs.Reports.{IsText}
-use Rattle.rq_look.specs.Looks.{end_finding, IsReportFrom, BreaksOff}
+use Rattle.rq_look.specs.Looks.{AppendsSome, end_finding, IsReportFrom, BreaksOff}
 use Rattle.rq_look.specs.Scripts.{LeavesOut}
-
--- some text was appended
-abbrev pub AppendsSome : Option (List ℕ) → Option (List ℕ) → Type 0
-AppendsSome old new = (put : List ℕ) × Appends old new put
 
 -- one behind the other
 pub both_put : (old mid new : Option (List ℕ)) → AppendsSome old mid → AppendsSome mid new → AppendsSome old new

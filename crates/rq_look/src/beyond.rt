@@ -1,10 +1,10 @@
 //! A line for each right frame behind the front of a log.
 
 ghost use Rattle.std.specs.Prelude.{◌≡◌, ℕ, List, IfErr, OnOk};
-ghost use Rattle.std.specs.Io.KnownBytes.{Appends};
 ghost use Rattle.rq_front.specs.Chains.{IsLog};
 ghost use Rattle.rq_record.specs.declared.fault.Fault.TheVariants.{Resources};
 ghost use Rattle.rq_found.specs.Refusals.{IsBroken};
+ghost use Rattle.rq_look.specs.Looks.{AppendsSome};
 ghost use Rattle.rq_look.specs.Rests.{EndsFrontOf};
 
 use crate::behind_fronts::{put_behind, standing_behind};
@@ -14,7 +14,7 @@ use crate::sheet::relieve;
 use crate::wanted::Wanted;
 use rq_behind::Found;
 use rq_found::TextPiece::{Number, Word};
-use rq_found::{End, Trouble, form_reason, put_text_pieces, queue_named};
+use rq_found::{End, Put, Trouble, form_reason, put_text_pieces, queue_named};
 use rq_front::{Span, version};
 use rq_record::{Fault, KeptRecord, Version, decode_kept};
 use std::alloc::{AllocError, Global};
@@ -61,7 +61,7 @@ fn put_shown(
     offset: u64,
     record: &KeptRecord,
     wanted: &Wanted<'_>,
-) -> Result<(), AllocError> {
+) -> Put {
     if wanted.json {
         return put_loose(alloc, text, offset, record);
     }
@@ -75,7 +75,7 @@ fn put_reason(
     offset: u64,
     reason: &str,
     wanted: &Wanted<'_>,
-) -> Result<(), AllocError> {
+) -> Put {
     if wanted.json {
         return put_unspelled(alloc, text, offset, reason);
     }
@@ -145,8 +145,7 @@ fn put_frame<W: Write>(
     text: &mut String,
     output: &mut W,
 ) -> Result<bool, Trouble>
-    ensures only { OnOk result
-        ((put : List ℕ) × Appends (W.contents output.old) (W.contents output.new) put) }
+    ensures only { OnOk result (AppendsSome (W.contents output.old) (W.contents output.new)) }
     ensures refused { IfErr result IsBroken }
 {
     let is_wanted = put_line(alloc, it, wanted, text)?;
@@ -164,8 +163,7 @@ fn put_frames<W: Write>(
     text: &mut String,
     output: &mut W,
 ) -> Result<(), Trouble>
-    ensures only { OnOk result
-        ((put : List ℕ) × Appends (W.contents output.old) (W.contents output.new) put) }
+    ensures only { OnOk result (AppendsSome (W.contents output.old) (W.contents output.new)) }
     ensures refused { IfErr result IsBroken }
 {
     let version = version(bytes).unwrap_or(Version::Two);
@@ -194,7 +192,7 @@ fn put_count(
     found: &Found,
     total: u64,
     wanted: &Wanted<'_>,
-) -> Result<(), AllocError> {
+) -> Put {
     if wanted.json {
         return put_behind_object(alloc, text, found);
     }
@@ -214,8 +212,7 @@ pub(crate) fn put_wanted_behind<W: Write>(
 ) -> Result<(), Trouble>
     requires log { IsLog bytes.now }
     requires end { EndsFrontOf bytes.now end.now }
-    ensures only { OnOk result
-        ((put : List ℕ) × Appends (W.contents output.old) (W.contents output.new) put) }
+    ensures only { OnOk result (AppendsSome (W.contents output.old) (W.contents output.new)) }
     ensures refused { IfErr result IsBroken }
 {
     if !wanted.behind {

@@ -1,7 +1,7 @@
 //! Bytes as text.
 
 use rq_found::TextPiece::{Number, Word};
-use rq_found::{is_hidden, put_text_pieces};
+use rq_found::{Put, is_hidden, put_text_pieces};
 use std::alloc::{AllocError, Global};
 use std::str::from_utf8;
 
@@ -46,7 +46,7 @@ pub(crate) fn printable(bytes: &[u8]) -> Option<&str> {
 }
 
 // Puts a character of a text between quotation marks, so that it is told from these and seen.
-fn put_shown(text: &mut String, c: char) -> Result<(), AllocError> {
+fn put_shown(text: &mut String, c: char) -> Put {
     if let Some(escape) = escape_of(c) {
         return text.push_str(escape);
     }
@@ -85,12 +85,7 @@ fn put_hex(
 /// Puts bytes as a text where they are printable, else as digits, and `-` for none; the first of
 /// them alone where they are not wanted in full, and then their number behind, if these are not
 /// all.
-pub(crate) fn put_bytes(
-    alloc: Global,
-    text: &mut String,
-    bytes: &[u8],
-    full: bool,
-) -> Result<(), AllocError> {
+pub(crate) fn put_bytes(alloc: Global, text: &mut String, bytes: &[u8], full: bool) -> Put {
     if bytes.is_empty() {
         return text.push_str("-");
     }

@@ -4,8 +4,8 @@ ghost use Rattle.std.specs.Prelude.{◌≡◌, ◌&&◌, ◌++◌, None, Some, I
 ghost use Rattle.std.specs.Prelude.{string_bytes};
 ghost use Rattle.std.specs.List.{flat_map};
 ghost use Rattle.rq_judged.specs.Views.{why_of};
-ghost use Rattle.rq_found.specs.Ends as ends;
 ghost use Rattle.rq_found.specs.Ends.{end_text};
+ghost use Rattle.rq_found.specs.Ends as ends;
 ghost use Rattle.rq_found.specs.Refusals.{IsRefusal};
 ghost use Rattle.rq_look.specs.Findings.{IsFindings};
 ghost use Rattle.rq_look.specs.Looks.{all_true, checkpoint_finding, end_finding};
@@ -13,8 +13,8 @@ ghost use Rattle.rq_look.specs.Rests.{behind_finding};
 
 use crate::behind_fronts::{put_rest, standing_behind};
 use rq_behind::Found;
-use rq_found::{End, Trouble, end_of, is_whole, put_end};
-use rq_restart::{Plan, audit};
+use rq_found::{End, Put, ShownLog, Trouble, end_of, is_whole, put_end};
+use rq_restart::audit;
 use std::alloc::{AllocError, Global};
 use std::fmt::Write;
 use std::thread::Threads;
@@ -41,7 +41,7 @@ fn is_fine(end: &End, checkpoints: &[(u64, bool)]) -> bool
     is_whole(end.why) && are_true(checkpoints)
 }
 
-fn put_checkpoint(text: &mut String, offset: u64, truth: bool) -> Result<(), AllocError>
+fn put_checkpoint(text: &mut String, offset: u64, truth: bool) -> Put
     ensures { OnOk result
         (string_bytes text.new ≡ string_bytes text.old ++ checkpoint_finding (offset, truth)) }
 {
@@ -89,16 +89,16 @@ fn text_of(
 fn check_whole<R: Threads + Sync>(
     rt: &R,
     alloc: Global,
-    bytes: &[u8],
-    plan: &Plan,
+    log: &ShownLog<'_>,
 ) -> Result<Findings, Trouble>
     ensures checked { IfOk result
-        (λ found. IsFindings None bytes.now found.fine (string_bytes found.text)) }
-    ensures refused { IfErr result (IsRefusal None bytes.now) }
+        (λ found. IsFindings None log.now.bytes.now found.fine (string_bytes found.text)) }
+    ensures refused { IfErr result (IsRefusal None log.now.bytes.now) }
 {
-    let end = end_of(rt, alloc, bytes, None, plan)?;
-    let checkpoints = audit(rt, alloc, bytes, plan)?;
-    let behind = standing_behind(alloc, bytes, &end)?;
+    let plain = ShownLog { at: None, ..*log };
+    let end = end_of(rt, alloc, &plain)?;
+    let checkpoints = audit(rt, alloc, log.bytes, log.plan)?;
+    let behind = standing_behind(alloc, log.bytes, &end)?;
     Ok(Findings {
         fine: is_fine(&end, &checkpoints),
         text: text_of(alloc, &end, &behind, &checkpoints)?,
@@ -124,38 +124,39 @@ fn carried_text(alloc: Global, end: &End, found: &Found) -> Result<String, Alloc
 fn check_at<R: Threads + Sync>(
     rt: &R,
     alloc: Global,
-    bytes: &[u8],
+    log: &ShownLog<'_>,
     at: u64,
-    plan: &Plan,
 ) -> Result<Findings, Trouble>
     ensures checked { IfOk result
-        (λ found. IsFindings (Some at) bytes.now found.fine (string_bytes found.text)) }
-    ensures refused { IfErr result (IsRefusal (Some at) bytes.now) }
+        (λ found. IsFindings (Some at) log.now.bytes.now found.fine (string_bytes found.text)) }
+    ensures refused { IfErr result (IsRefusal (Some at) log.now.bytes.now) }
 {
-    let end = end_of(rt, alloc, bytes, Some(at), plan)?;
-    let behind = standing_behind(alloc, bytes, &end)?;
+    let carried = ShownLog {
+        at: Some(at),
+        ..*log
+    };
+    let end = end_of(rt, alloc, &carried)?;
+    let behind = standing_behind(alloc, log.bytes, &end)?;
     let text = carried_text(alloc, &end, &behind)?;
     Ok(Findings { fine: false, text })
 }
 
 /// Whether a log is whole and each checkpoint of its front true, and what is wrong with it. Of a log
-/// that begins with the checkpoint at an offset it is not known whether this is true: the text says
-/// so, and where its front ends.
+/// that begins with a checkpoint it is not known whether this is true: the text says so, and where its
+/// front ends.
 ///
-/// Refuses what a restart refuses, from there if there is an offset.
+/// Refuses what a restart refuses, from there if the log begins so.
 pub fn check<R: Threads + Sync>(
     rt: &R,
     alloc: Global,
-    bytes: &[u8],
-    at: Option<u64>,
-    plan: &Plan,
+    log: &ShownLog<'_>,
 ) -> Result<Findings, Trouble>
     ensures checked { IfOk result
-        (λ found. IsFindings at bytes.now found.fine (string_bytes found.text)) }
-    ensures refused { IfErr result (IsRefusal at bytes.now) }
+        (λ found. IsFindings log.now.at log.now.bytes.now found.fine (string_bytes found.text)) }
+    ensures refused { IfErr result (IsRefusal log.now.at log.now.bytes.now) }
 {
-    match at {
-        None => check_whole(rt, alloc, bytes, plan),
-        Some(at) => check_at(rt, alloc, bytes, at, plan),
+    match log.at {
+        None => check_whole(rt, alloc, log),
+        Some(at) => check_at(rt, alloc, log, at),
     }
 }

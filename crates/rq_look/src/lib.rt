@@ -22,7 +22,7 @@ mod wanted;
 pub use checks::{Findings, check};
 pub use dumps::dump;
 pub use log_script::script;
-pub use reports::{report, report_json};
+pub use reports::report;
 pub use salvages::salvage;
 pub use stories::story;
 pub use wanted::Wanted;

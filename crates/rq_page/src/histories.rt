@@ -5,8 +5,8 @@ use crate::markup::Html::{Number, Tag, Text};
 use crate::markup::put_pieces;
 use crate::shown::Linked;
 use crate::steps::{Step, put_steps};
+use rq_found::Put;
 use rq_record::Name;
-use std::alloc::AllocError;
 use std::collections::BTreeMap;
 
 // What stands before a table of lives: its name, what it is about, and the heads of its columns.
@@ -16,7 +16,7 @@ fn put_top(
     title: &'static str,
     about: &'static str,
     columns: &'static str,
-) -> Result<(), AllocError> {
+) -> Put {
     put_pieces(
         text,
         &[
@@ -34,12 +34,12 @@ fn put_top(
 }
 
 // What stands behind it.
-fn put_bottom(text: &mut String) -> Result<(), AllocError> {
+fn put_bottom(text: &mut String) -> Put {
     text.push_str("</table></div>\n</section>\n")
 }
 
 // Puts the steps of a life, and the end of its row.
-fn put_life(text: &mut String, shown: &Linked<'_>, steps: &[Step]) -> Result<(), AllocError> {
+fn put_life(text: &mut String, shown: &Linked<'_>, steps: &[Step]) -> Put {
     if steps.is_empty() {
         return text.push_str("the front tells nothing of it</td></tr>\n");
     }
@@ -54,7 +54,7 @@ fn put_numbered(
     kind: &'static str,
     number: u64,
     steps: &[Step],
-) -> Result<(), AllocError> {
+) -> Put {
     let digits = Number(number);
     put_pieces(
         text,
@@ -75,7 +75,7 @@ fn put_all_numbered(
     shown: &Linked<'_>,
     kind: &'static str,
     lives: &BTreeMap<u64, Vec<Step>>,
-) -> Result<(), AllocError> {
+) -> Put {
     for (number, steps) in lives {
         put_numbered(text, shown, kind, *number, steps)?;
     }
@@ -83,11 +83,7 @@ fn put_all_numbered(
 }
 
 /// Puts what became of elements.
-pub(crate) fn put_elements(
-    text: &mut String,
-    shown: &Linked<'_>,
-    lives: &Lives,
-) -> Result<(), AllocError> {
+pub(crate) fn put_elements(text: &mut String, shown: &Linked<'_>, lives: &Lives) -> Put {
     if lives.elements.is_empty() {
         return Ok(());
     }
@@ -103,11 +99,7 @@ pub(crate) fn put_elements(
 }
 
 /// Puts what units did.
-pub(crate) fn put_unit_histories(
-    text: &mut String,
-    shown: &Linked<'_>,
-    lives: &Lives,
-) -> Result<(), AllocError> {
+pub(crate) fn put_unit_histories(text: &mut String, shown: &Linked<'_>, lives: &Lives) -> Put {
     if lives.units.is_empty() {
         return Ok(());
     }
@@ -122,7 +114,7 @@ pub(crate) fn put_unit_histories(
     put_bottom(text)
 }
 
-fn put_queue(text: &mut String, shown: &Linked<'_>, queue: u32) -> Result<(), AllocError> {
+fn put_queue(text: &mut String, shown: &Linked<'_>, queue: u32) -> Put {
     put_pieces(text, &[shown.queue_link(queue), Tag("</td><td>")])
 }
 
@@ -132,7 +124,7 @@ fn put_registrant(
     shown: &Linked<'_>,
     registrant: &(u32, Name),
     steps: &[Step],
-) -> Result<(), AllocError> {
+) -> Put {
     let (queue, name) = (registrant.0, registrant.1.text());
     put_pieces(
         text,
@@ -150,11 +142,7 @@ fn put_registrant(
     put_life(text, shown, steps)
 }
 
-fn put_all_registrants(
-    text: &mut String,
-    shown: &Linked<'_>,
-    lives: &Lives,
-) -> Result<(), AllocError> {
+fn put_all_registrants(text: &mut String, shown: &Linked<'_>, lives: &Lives) -> Put {
     for (registrant, steps) in &lives.registrants {
         put_registrant(text, shown, registrant, steps)?;
     }
@@ -162,11 +150,7 @@ fn put_all_registrants(
 }
 
 /// Puts what registrants did.
-pub(crate) fn put_registrants(
-    text: &mut String,
-    shown: &Linked<'_>,
-    lives: &Lives,
-) -> Result<(), AllocError> {
+pub(crate) fn put_registrants(text: &mut String, shown: &Linked<'_>, lives: &Lives) -> Put {
     if lives.registrants.is_empty() {
         return Ok(());
     }

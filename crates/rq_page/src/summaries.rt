@@ -3,10 +3,10 @@
 use crate::markup::Html::{Count, Number, Tag, Text};
 use crate::markup::{Html, NOTHING, put_pieces};
 use crate::questions::Asked;
-use rq_found::{End, is_whole};
+use rq_found::{End, Put, is_whole};
 use rq_report::why_word;
 use rq_restart::Restarted;
-use std::alloc::{AllocError, Global};
+use std::alloc::Global;
 
 // How many of the checkpoints are not true.
 fn false_ones(checkpoints: &[(u64, bool)]) -> usize {
@@ -17,7 +17,7 @@ fn false_ones(checkpoints: &[(u64, bool)]) -> usize {
 }
 
 // Puts a row: what it is about, and what is said of it.
-fn put_row(text: &mut String, head: &'static str, pieces: &[Html<'_>]) -> Result<(), AllocError> {
+fn put_row(text: &mut String, head: &'static str, pieces: &[Html<'_>]) -> Put {
     put_pieces(
         text,
         &[Tag("<tr><th scope=\"row\">"), Tag(head), Tag("</th><td>")],
@@ -27,7 +27,7 @@ fn put_row(text: &mut String, head: &'static str, pieces: &[Html<'_>]) -> Result
 }
 
 // Puts with which checkpoint a log begins that was carried on.
-fn put_carried(text: &mut String, at: Option<u64>) -> Result<(), AllocError> {
+fn put_carried(text: &mut String, at: Option<u64>) -> Put {
     match at {
         None => Ok(()),
         Some(at) => put_row(
@@ -42,7 +42,7 @@ fn put_carried(text: &mut String, at: Option<u64>) -> Result<(), AllocError> {
     }
 }
 
-fn put_length(text: &mut String, end: &End) -> Result<(), AllocError> {
+fn put_length(text: &mut String, end: &End) -> Put {
     put_row(
         text,
         "front",
@@ -58,7 +58,7 @@ fn put_length(text: &mut String, end: &End) -> Result<(), AllocError> {
 }
 
 // Puts what stands behind the front.
-fn put_reason(text: &mut String, end: &End) -> Result<(), AllocError> {
+fn put_reason(text: &mut String, end: &End) -> Put {
     let class = if is_whole(end.why) { "whole" } else { "bad" };
     put_row(
         text,
@@ -77,7 +77,7 @@ fn put_reason(text: &mut String, end: &End) -> Result<(), AllocError> {
 
 // Puts the digest of the front's last frame, by which a log is known; of a front without records it
 // is what the header has in its place.
-fn put_digest(alloc: Global, text: &mut String, bytes: &[u8], end: &End) -> Result<(), AllocError> {
+fn put_digest(alloc: Global, text: &mut String, bytes: &[u8], end: &End) -> Put {
     let to = bytes.len().min(end.used as usize);
     let digest = hex::encode(alloc, &bytes[to.saturating_sub(32)..to])?;
     let head = if end.records > 0 {
@@ -92,7 +92,7 @@ fn put_digest(alloc: Global, text: &mut String, bytes: &[u8], end: &End) -> Resu
     )
 }
 
-fn put_counts(text: &mut String, r: &Restarted) -> Result<(), AllocError> {
+fn put_counts(text: &mut String, r: &Restarted) -> Put {
     put_row(
         text,
         "units",
@@ -120,7 +120,7 @@ fn put_counts(text: &mut String, r: &Restarted) -> Result<(), AllocError> {
     )
 }
 
-fn put_checkpoints(text: &mut String, checkpoints: &[(u64, bool)]) -> Result<(), AllocError> {
+fn put_checkpoints(text: &mut String, checkpoints: &[(u64, bool)]) -> Put {
     let wrong = false_ones(checkpoints);
     let (before, count, behind) = if wrong == 0 {
         (NOTHING, NOTHING, NOTHING)
@@ -144,7 +144,7 @@ pub(crate) fn put_summary(
     r: &Restarted,
     end: &End,
     checkpoints: &[(u64, bool)],
-) -> Result<(), AllocError> {
+) -> Put {
     text.push_str(
         "<section id=\"front\">\n<h2>The front</h2>\n<table class=\"front\">\n<caption>The log, and what a restart \
         makes of it</caption>\n",
@@ -159,7 +159,7 @@ pub(crate) fn put_summary(
 }
 
 // Puts the numbers that are seen first.
-fn put_tiles(text: &mut String, r: &Restarted, end: &End) -> Result<(), AllocError> {
+fn put_tiles(text: &mut String, r: &Restarted, end: &End) -> Put {
     let state = r.state();
     put_pieces(
         text,
@@ -180,12 +180,7 @@ fn put_tiles(text: &mut String, r: &Restarted, end: &End) -> Result<(), AllocErr
 }
 
 /// Puts the log's name, whether it is whole, who made the page, and the numbers that are seen first.
-pub(crate) fn put_header(
-    text: &mut String,
-    asked: &Asked<'_>,
-    r: &Restarted,
-    end: &End,
-) -> Result<(), AllocError> {
+pub(crate) fn put_header(text: &mut String, asked: &Asked<'_>, r: &Restarted, end: &End) -> Put {
     let badge = if is_whole(end.why) {
         "\"><span class=\"badge good\">whole</span>"
     } else {
@@ -221,7 +216,7 @@ pub(crate) struct Parts {
 }
 
 /// Puts links to the parts of the page.
-pub(crate) fn put_parts(text: &mut String, parts: &Parts) -> Result<(), AllocError> {
+pub(crate) fn put_parts(text: &mut String, parts: &Parts) -> Put {
     put_pieces(
         text,
         &[

@@ -1,11 +1,10 @@
 //! The text of a report in pieces, made by several workers.
 
-ghost use Rattle.std.specs.Prelude.{◌≡◌, ◌≤◌, IfOk, length, string_bytes};
+ghost use Rattle.std.specs.Prelude.{IfOk, string_bytes};
 ghost use Rattle.std.specs.List.{flat_map};
 ghost use Rattle.std.specs.Thread.{IsSync};
 ghost use Rattle.rq_model.specs.Reports.{IsText};
-ghost use Rattle.rq_model.specs.WellFormed.{IsWellFormed};
-ghost use Rattle.rq_report.specs.Pieces.{AreLinesOf};
+ghost use Rattle.rq_report.specs.Pieces.{AreLinesOf, AreQueuesOf};
 
 use crate::report::{counts, put_queues};
 use rq_restart::{Plan, Restarted};
@@ -25,9 +24,7 @@ fn one_piece(
     from: usize,
     to: usize,
 ) -> Result<Vec<String>, AllocError>
-    requires well { IsWellFormed state.now }
-    requires order { from ≤ to }
-    requires within { to ≤ length state.now.definitions }
+    requires { AreQueuesOf state.now from to }
     ensures { IfOk result
         (λ pieces. AreLinesOf state.now from to (flat_map string_bytes pieces.items)) }
 {
@@ -47,9 +44,7 @@ fn queue_pieces<R: Threads + Sync>(
     to: usize,
     count: u32,
 ) -> Result<Vec<String>, AllocError>
-    requires well { IsWellFormed state.now }
-    requires order { from ≤ to }
-    requires within { to ≤ length state.now.definitions }
+    requires { AreQueuesOf state.now from to }
     ensures { IfOk result
         (λ pieces. AreLinesOf state.now from to (flat_map string_bytes pieces.items)) }
 {
@@ -61,14 +56,12 @@ fn queue_pieces<R: Threads + Sync>(
     let (left, right) = join(
         rt,
         || -> Result<Vec<String>, AllocError>
-            requires { IsSync R.row × IsWellFormed state.now
-                × (from ≤ middle) × (middle ≤ length state.now.definitions) }
+            requires { IsSync R.row × AreQueuesOf state.now from middle }
             ensures { IfOk result (λ pieces. AreLinesOf state.entry.now from middle
                 (flat_map string_bytes pieces.items)) }
         { queue_pieces(rt, alloc, state, from, middle, fewer) },
         || -> Result<Vec<String>, AllocError>
-            requires { IsSync R.row × IsWellFormed state.now
-                × (middle ≤ to) × (to ≤ length state.now.definitions) }
+            requires { IsSync R.row × AreQueuesOf state.now middle to }
             ensures { IfOk result (λ pieces. AreLinesOf state.entry.now middle to
                 (flat_map string_bytes pieces.items)) }
         { queue_pieces(rt, alloc, state, middle, to, others) },

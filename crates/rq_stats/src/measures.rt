@@ -7,8 +7,8 @@ use crate::greatest::put_greatest;
 use crate::rows::Value::{Number, Word};
 use crate::rows::{PAYLOADS, Row, UNITS};
 use rq_found::{
-    Effect, End, Event, FollowedQueues, Numbered, Placed, PlacedFrames, first_state, front_frames,
-    kind_of,
+    Effect, End, Event, FollowedQueues, Numbered, Placed, PlacedFrames, ShownLog, first_state,
+    front_frames, kind_of,
 };
 use rq_front::FRAME_LEN;
 use rq_record::{Fault, KeptRecord, Name, UnitNo};
@@ -285,20 +285,11 @@ fn counted_behind(
     Ok(measures)
 }
 
-/// What a front counts that begins with the checkpoint at an offset, if there is one.
-pub(crate) fn counted(
-    alloc: Global,
-    bytes: &[u8],
-    at: Option<u64>,
-    end: &End,
-) -> Result<Measures, Fault>
+/// What the front of a log counts.
+pub(crate) fn counted(alloc: Global, log: &ShownLog<'_>, end: &End) -> Result<Measures, Fault>
     ensures { IfErr result (λ e. e ≡ Resources) }
 {
-    let first = first_state(alloc, bytes, at)?;
-    counted_behind(
-        alloc,
-        &first,
-        front_frames(bytes, &first, at, end.used),
-        end,
-    )
+    let first = first_state(alloc, log.bytes, log.at)?;
+    let frames = front_frames(log.bytes, &first, log.at, end.used);
+    counted_behind(alloc, &first, frames, end)
 }

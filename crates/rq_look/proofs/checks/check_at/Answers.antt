@@ -17,7 +17,7 @@ returns-clause-checked g c =
       behind,
       reason,
       found.1,
-      subst (λ (used : ℕ). IsBehind c.args.bytes.now used behind) found.2.used c.in_ok-behind.ensures.found,
+      subst (λ (used : ℕ). IsBehind c.args.log.now.bytes.now used behind) found.2.used c.in_ok-behind.ensures.found,
       refl,
       c.in_ok-text.ensures
           ∙ ap (λ (t : List ℕ). codes "carried: use rqlog\n" ++ t ++ rest) (same_line found.0 end reason found.2)

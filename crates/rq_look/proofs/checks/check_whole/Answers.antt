@@ -22,7 +22,7 @@ returns-clause-checked g c =
       reason,
       end.1,
       c.in_ok-checkpoints.ensures.2,
-      subst (λ (used : ℕ). IsBehind c.args.bytes.now used behind) end.2.used c.in_ok-behind.ensures.found,
+      subst (λ (used : ℕ). IsBehind c.args.log.now.bytes.now used behind) end.2.used c.in_ok-behind.ensures.found,
       c.is_fine.ensures ∙ ap (λ (why : Why). is_whole why && all_true c.deref.result.now) end.2.why
           ∙ ap (λ (xs : List (ℕ × Bool)). is_whole end.0.why && all_true xs) c.deref.ensures.value,
       c.in_ok-text_of.ensures

@@ -1,21 +1,15 @@
-//! What stands in a queue: its free elements, and its registrants as they are shown.
+//! The registrants of a queue as they are shown.
 
-ghost use Rattle.std.specs.Prelude.{◌≡◌, ◌++◌, ◌∷◌, [], IfOk, OnOk, map, filter, IsPermutation};
-ghost use Rattle.std.specs.List.Sorted.{IsSortedBy};
-ghost use Rattle.rq_model.specs.Machine.{is_free_at};
+ghost use Rattle.std.specs.Prelude.{◌≡◌, IfOk, map};
 ghost use Rattle.rq_model.specs.Queues.{registrants_at};
-ghost use Rattle.rq_model.specs.Reports.{IsListing, kind_text};
-ghost use Rattle.rq_model.specs.States as model;
-ghost use Rattle.rq_state.specs.Views as views;
-ghost use Rattle.rq_report.specs.Order.{is_ahead};
 ghost use Rattle.rq_found.specs.Registrants.{last_shown, last_told, registrant_entry, registrant_told};
 
 use crate::objects::{JsonPiece, JsonTables, write_pieces};
 use rq_record::QueueNo;
-use rq_state::{KeptElement as Element, Last, Mark, OpKind, Registrant, State};
+use rq_report::kind_word;
+use rq_state::{Last, Registrant, State};
 use serde::{Described, Serialize, Serializer};
 use std::alloc::{AllocError, Global};
-use std::cmp::Reverse;
 
 /// The last operation of a registrant.
 #[derive(Clone, Copy)]
@@ -89,82 +83,11 @@ impl Serialize for RegistrantShown<'_> {
     }
 }
 
-fn is_free(e: &Element) -> bool
-    ensures { result ≡ model.is_free e.now.mark }
-{
-    match e.mark {
-        Mark::Free => true,
-        Mark::Fresh(_) | Mark::Held(_) => false,
-    }
-}
-
-// Adds an element if it is free.
-fn list<'a>(found: &mut Vec<&'a Element>, e: &'a Element) -> Result<(), AllocError>
-    ensures { OnOk result (map (λ e. e.now) found.new.items
-        ≡ map (λ e. e.now) found.old.items ++ filter (λ e. model.is_free e.mark) (e.now ∷ [])) }
-{
-    if is_free(e) {
-        found.push(e)?;
-    }
-    Ok(())
-}
-
-// The queue's free elements, in the order of their numbers.
-fn listed(alloc: Global, state: &State, queue: QueueNo) -> Result<Vec<&Element>, AllocError>
-    ensures { IfOk result
-        (λ v. map (λ e. e.now) v.items ≡ filter (is_free_at queue.0) state.now.elements) }
-{
-    let indices = state.elements_of(queue);
-    let mut found = Vec::new(alloc);
-    for at in indices {
-        list(&mut found, state.element(*at))?;
-    }
-    Ok(found)
-}
-
-// By what elements are put in order.
-fn rank(e: &Element) -> (Reverse<u8>, u64)
-    ensures { result ≡ (record { 0 = e.now.priority }, e.now.id) }
-{
-    (Reverse(e.priority), e.id.0)
-}
-
-fn sort(found: &mut [&Element])
-    ensures permutation { IsPermutation found.old found.new }
-    ensures sorted { IsSortedBy (λ x y. is_ahead x.now y.now) found.new }
-{
-    found.sort_unstable_by_key(|e| rank(e));
-}
-
-/// The queue's free elements, in the order in which they would be taken.
-pub fn free_elements(
-    alloc: Global,
-    state: &State,
-    queue: QueueNo,
-) -> Result<Vec<&Element>, AllocError>
-    ensures { IfOk result (λ v. IsListing queue.0 state.now.elements (map (λ e. e.now) v.items)) }
-{
-    // Its contract says that the elements have numbers of their own.
-    state.next();
-    let mut found = listed(alloc, state, queue)?;
-    sort(&mut found);
-    Ok(found)
-}
-
-fn kind_of(kind: OpKind) -> &'static str
-    ensures { result.now ≡ kind_text (views.kind_of kind) }
-{
-    match kind {
-        OpKind::Enqueue => "enqueue",
-        OpKind::Dequeue => "dequeue",
-    }
-}
-
 fn last_shown(last: &Last) -> LastShown<'static>
     ensures { last_told result ≡ last_shown last.now }
 {
     LastShown {
-        kind: kind_of(last.kind),
+        kind: kind_word(last.kind),
         tag: last.tag,
         element: match last.element {
             Some(id) => Some(id.0),

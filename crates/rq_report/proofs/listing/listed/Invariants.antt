@@ -2,7 +2,7 @@ use Rattle.std.proofs.Common.{◌≡◌, ◌++◌, [], ◌∷◌, map, filter, d
 use Rattle.std.specs.List.{flat_map}
 use Rattle.std.specs.Prelude.{slice_index_or}
 use Rattle.rq_model.specs.States as model
-use Rattle.rq_found.proofs.queues.listed.Given as goal
+use Rattle.rq_report.proofs.listing.listed.Given as goal
 
 -- those found, and the free ones at the indices that are left, are the free ones of all indices
 abbrev pub invariant-loop-at : goal.invariant-loop-at

@@ -4,7 +4,7 @@ use Rattle.std.specs.Prelude.{slice_index_or}
 use Rattle.rq_model.specs.States as model
 use Rattle.rq_report.proofs.Ahead.{filter_both}
 use Rattle.rq_report.proofs.Indexed.{indexed_more, indexed_all, flat_of_map, flat_of_filter}
-use Rattle.rq_found.proofs.queues.listed.Goals as goal
+use Rattle.rq_report.proofs.listing.listed.Goals as goal
 
 abbrev no_element : model.Element
 no_element = record { id = 0; home = 0; origin = 0; priority = 0; attempts = 0; payload = []; mark = model.Free }
