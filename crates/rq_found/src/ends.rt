@@ -219,25 +219,19 @@ fn told<R: Threads + Sync>(
     rt: &R,
     alloc: Global,
     log: &ShownLog<'_>,
-    end: FrontEnd,
+    end: &FrontEnd,
 ) -> Result<End, Fault>
     ensures end { IfOk result
-        (λ told. (r : fronts.Restarted) → IsEndOf r end → IsEndOf r (front_end_of told)) }
+        (λ told. (r : fronts.Restarted) → IsEndOf r end.now → IsEndOf r (front_end_of told)) }
     ensures refused { IfErr result (λ e. e ≡ Resources) }
 {
-    let reason = reason_of(rt, alloc, log, &end)?;
-    let FrontEnd {
-        records,
-        used,
-        total,
-        why,
-    } = end;
+    let reason = reason_of(rt, alloc, log, end)?;
     Ok(End {
         at: log.at,
-        records,
-        used,
-        total,
-        why,
+        records: end.records,
+        used: end.used,
+        total: end.total,
+        why: end.why,
         reason,
     })
 }
@@ -259,7 +253,7 @@ pub fn end_after<R: Threads + Sync>(
         total: r.total(),
         why: r.why(),
     };
-    let told = told(rt, alloc, log, end)?;
+    let told = told(rt, alloc, log, &end)?;
     Ok(told)
 }
 
@@ -271,7 +265,7 @@ fn whole_end<R: Threads + Sync>(rt: &R, alloc: Global, log: &ShownLog<'_>) -> Re
     ensures refused { IfErr result (Refused log.now.bytes.now) }
 {
     let end = front_end(rt, alloc, log.bytes, log.plan)?;
-    let told = told(rt, alloc, log, end)?;
+    let told = told(rt, alloc, log, &end)?;
     Ok(told)
 }
 

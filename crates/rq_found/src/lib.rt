@@ -29,7 +29,7 @@ pub use hidden::{Seen, is_hidden};
 pub use json::{FrontShown, front_shown};
 pub use numbered::{Numbered, kind_of, queue_named, queues_behind, queues_of, unit_of};
 pub use objects::{JsonPiece, JsonTables};
-pub use pieces::{Put, TextPiece, put_text_pieces};
+pub use pieces::{Put, TextPiece, put_digits, put_text_pieces};
 pub use registrants::{LastShown, RegistrantShown, registrants_shown};
 pub use restarts::restarted_from;
 pub use rq_restart::{Fault, Plan};

@@ -58,3 +58,15 @@ pub(crate) fn joined_text(alloc: Global, pieces: &[TextPiece<'_>]) -> Result<Str
     put_text_pieces(&mut text, pieces)?;
     Ok(text)
 }
+
+/// Puts the first bytes as digits, two each, and answers how many these are.
+pub fn put_digits(
+    alloc: Global,
+    text: &mut String,
+    bytes: &[u8],
+    most: usize,
+) -> Result<usize, AllocError> {
+    let shown = bytes.len().min(most);
+    text.push_str(hex::encode(alloc, &bytes[..shown])?.as_str())?;
+    Ok(shown)
+}

@@ -1,7 +1,7 @@
 //! Bytes as text.
 
 use rq_found::TextPiece::{Number, Word};
-use rq_found::{Put, is_hidden, put_text_pieces};
+use rq_found::{Put, is_hidden, put_digits, put_text_pieces};
 use std::alloc::{AllocError, Global};
 use std::str::from_utf8;
 
@@ -69,17 +69,15 @@ fn put_quoted(text: &mut String, word: &str, most: usize) -> Result<usize, Alloc
     Ok(shown)
 }
 
-// Puts the first bytes as digits, two each, and answers how many these are.
+// Puts the first bytes as digits, and that they are some, and answers how many these are.
 fn put_hex(
     alloc: Global,
     text: &mut String,
     bytes: &[u8],
     most: usize,
 ) -> Result<usize, AllocError> {
-    let shown = bytes.len().min(most);
     text.push_str("hex ")?;
-    text.push_str(hex::encode(alloc, &bytes[..shown])?.as_str())?;
-    Ok(shown)
+    put_digits(alloc, text, bytes, most)
 }
 
 /// Puts bytes as a text where they are printable, else as digits, and `-` for none; the first of

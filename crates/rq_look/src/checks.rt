@@ -1,11 +1,14 @@
 //! Whether a log is whole, and each of its checkpoints true.
 
-ghost use Rattle.std.specs.Prelude.{◌≡◌, ◌&&◌, ◌++◌, None, Some, IfOk, IfErr, OnOk, codes};
-ghost use Rattle.std.specs.Prelude.{string_bytes};
+ghost use Rattle.std.specs.Prelude.{◌≡◌, ◌&&◌, ◌++◌, ℕ, Bool, List, IfOk, IfErr, OnOk};
+ghost use Rattle.std.specs.Prelude.{codes, map, string_bytes};
 ghost use Rattle.std.specs.List.{flat_map};
+ghost use Rattle.rq_model.specs.Checkpoints.{IsAudit};
+ghost use Rattle.rq_front.specs.Chains.{Refused};
 ghost use Rattle.rq_judged.specs.Views.{why_of};
-ghost use Rattle.rq_found.specs.Ends.{end_text};
+ghost use Rattle.rq_restart.specs.Audits.{audited_of};
 ghost use Rattle.rq_found.specs.Ends as ends;
+ghost use Rattle.rq_found.specs.Ends.{end_text};
 ghost use Rattle.rq_found.specs.Refusals.{IsRefusal};
 ghost use Rattle.rq_look.specs.Findings.{IsFindings};
 ghost use Rattle.rq_look.specs.Looks.{all_true, checkpoint_finding, end_finding};
@@ -14,7 +17,7 @@ ghost use Rattle.rq_look.specs.Rests.{behind_finding};
 use crate::behind_fronts::{put_rest, standing_behind};
 use rq_behind::Found;
 use rq_found::{End, Put, ShownLog, Trouble, end_of, is_whole, put_end};
-use rq_restart::audit;
+use rq_restart::{Fault, audit};
 use std::alloc::{AllocError, Global};
 use std::fmt::Write;
 use std::thread::Threads;
@@ -85,23 +88,28 @@ fn text_of(
     Ok(text)
 }
 
-// Whether a log is whole and each checkpoint of its front true.
-fn check_whole<R: Threads + Sync>(
+// What a check finds of a log that was not carried on, of which it is known where its front ends and
+// what stands behind that.
+fn whole_findings<R: Threads + Sync>(
     rt: &R,
     alloc: Global,
     log: &ShownLog<'_>,
-) -> Result<Findings, Trouble>
-    ensures checked { IfOk result
-        (λ found. IsFindings None log.now.bytes.now found.fine (string_bytes found.text)) }
-    ensures refused { IfErr result (IsRefusal None log.now.bytes.now) }
+    end: &End,
+    behind: &Found,
+) -> Result<Findings, Fault>
+    ensures audited { IfOk result (λ found. (checkpoints : List (ℕ × Bool))
+        × IsAudit log.now.bytes.now (map audited_of checkpoints)
+        × (found.fine ≡ (ends.is_whole (why_of end.now.why) && all_true checkpoints))
+        × (string_bytes found.text ≡ end_finding end.now.records end.now.used
+        end.now.total (why_of end.now.why) (string_bytes end.now.reason)
+        ++ behind_finding (why_of end.now.why) behind.now end.now.total
+        ++ flat_map checkpoint_finding checkpoints)) }
+    ensures refused { IfErr result (Refused log.now.bytes.now) }
 {
-    let plain = ShownLog { at: None, ..*log };
-    let end = end_of(rt, alloc, &plain)?;
     let checkpoints = audit(rt, alloc, log.bytes, log.plan)?;
-    let behind = standing_behind(alloc, log.bytes, &end)?;
     Ok(Findings {
-        fine: is_fine(&end, &checkpoints),
-        text: text_of(alloc, &end, &behind, &checkpoints)?,
+        fine: is_fine(end, &checkpoints),
+        text: text_of(alloc, end, behind, &checkpoints)?,
     })
 }
 
@@ -119,33 +127,12 @@ fn carried_text(alloc: Global, end: &End, found: &Found) -> Result<String, Alloc
     Ok(text)
 }
 
-// Where a log ends that begins with the checkpoint at an offset. Its file alone does not tell whether
-// that is true.
-fn check_at<R: Threads + Sync>(
-    rt: &R,
-    alloc: Global,
-    log: &ShownLog<'_>,
-    at: u64,
-) -> Result<Findings, Trouble>
-    ensures checked { IfOk result
-        (λ found. IsFindings (Some at) log.now.bytes.now found.fine (string_bytes found.text)) }
-    ensures refused { IfErr result (IsRefusal (Some at) log.now.bytes.now) }
-{
-    let carried = ShownLog {
-        at: Some(at),
-        ..*log
-    };
-    let end = end_of(rt, alloc, &carried)?;
-    let behind = standing_behind(alloc, log.bytes, &end)?;
-    let text = carried_text(alloc, &end, &behind)?;
-    Ok(Findings { fine: false, text })
-}
-
 /// Whether a log is whole and each checkpoint of its front true, and what is wrong with it. Of a log
 /// that begins with a checkpoint it is not known whether this is true: the text says so, and where its
 /// front ends.
 ///
 /// Refuses what a restart refuses, from there if the log begins so.
+#[tactic(auto, using(crate::proofs::Puts::resources_refused))]
 pub fn check<R: Threads + Sync>(
     rt: &R,
     alloc: Global,
@@ -155,8 +142,14 @@ pub fn check<R: Threads + Sync>(
         (λ found. IsFindings log.now.at log.now.bytes.now found.fine (string_bytes found.text)) }
     ensures refused { IfErr result (IsRefusal log.now.at log.now.bytes.now) }
 {
+    let end = end_of(rt, alloc, log)?;
+    let behind = standing_behind(alloc, log.bytes, &end)?;
     match log.at {
-        None => check_whole(rt, alloc, log),
-        Some(at) => check_at(rt, alloc, log, at),
+        None => Ok(whole_findings(rt, alloc, log, &end, &behind)?),
+        // Its file alone does not tell whether the checkpoint is true.
+        Some(_) => Ok(Findings {
+            fine: false,
+            text: carried_text(alloc, &end, &behind)?,
+        }),
     }
 }

@@ -10,9 +10,10 @@ ghost use Rattle.rq_found.specs.Refusals.{IsBroken, StaysUnshown};
 ghost use Rattle.rq_look.specs.Looks.{AppendsSome, EndsDump, IsClosing};
 
 use crate::beyond::put_wanted_behind;
+use crate::entries::{Entry, put_entry};
 use crate::json::{put_closing_object, put_numbered};
 use crate::lines::put_record_line;
-use crate::sheet::{relieve, write_out};
+use crate::sheet::write_out;
 use crate::wanted::Wanted;
 use rq_found::{
     End, Numbered, Placed, PlacedFrames, Put, ShownLog, Trouble, end_of, first_state, front_frames,
@@ -59,38 +60,22 @@ fn put_if_wanted(
     Ok(is_wanted)
 }
 
-// Puts the line of the record of a frame, if it is wanted. Answers whether it is.
-fn put_line(
-    alloc: Global,
-    placed: Placed<'_>,
+// The frame of a record of the front, before which so many queues are defined.
+#[derive(Clone, Copy)]
+struct Recorded<'a> {
+    placed: Placed<'a>,
     queues: u32,
-    wanted: &Wanted<'_>,
-    text: &mut String,
-) -> Result<bool, Fault>
-    ensures { IfErr result (λ e. e ≡ Resources) }
-{
-    if placed.offset < wanted.from {
-        return Ok(false);
-    }
-    let it = Numbered::of(alloc, placed, queues)?;
-    Ok(put_if_wanted(alloc, text, &it, wanted)?)
 }
 
-// Puts a record, if it is wanted. Answers whether it is.
-fn put_wanted<W: Write>(
-    alloc: Global,
-    placed: Placed<'_>,
-    queues: u32,
-    wanted: &Wanted<'_>,
-    text: &mut String,
-    output: &mut W,
-) -> Result<bool, Trouble>
-    ensures only { OnOk result (AppendsSome (W.contents output.old) (W.contents output.new)) }
-    ensures refused { IfErr result IsBroken }
-{
-    let is_wanted = put_line(alloc, placed, queues, wanted, text)?;
-    relieve(text, output)?;
-    Ok(is_wanted)
+impl Entry for Recorded<'_> {
+    fn offset(&self) -> u64 {
+        self.placed.offset
+    }
+
+    fn put(&self, alloc: Global, wanted: &Wanted<'_>, text: &mut String) -> Result<bool, Fault> {
+        let it = Numbered::of(alloc, self.placed, self.queues)?;
+        Ok(put_if_wanted(alloc, text, &it, wanted)?)
+    }
 }
 
 // Puts those records of the front that are wanted. So many queues are defined before the first.
@@ -112,7 +97,8 @@ fn put_records<W: Write>(
         if left == 0 {
             return Ok(0);
         }
-        if put_wanted(alloc, placed, queues, wanted, text, output)? {
+        let entry = Recorded { placed, queues };
+        if put_entry(alloc, wanted, &entry, text, output)? {
             left -= 1;
         }
         queues = queues_behind(queues, placed.body);

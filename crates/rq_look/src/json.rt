@@ -271,9 +271,7 @@ impl Described for ClosingShown<'_> {}
 
 impl Serialize for ClosingShown<'_> {
     fn serialize<S: Serializer>(&self, out: &mut S) -> Result<(), S::Error> {
-        out.begin_map(None)?;
-        out.key("front")?;
-        self.front.serialize(out)?;
+        self.front.begin(out)?;
         out.end_map()
     }
 }

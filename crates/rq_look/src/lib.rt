@@ -8,6 +8,7 @@ mod beyond;
 mod bytes;
 mod checks;
 mod dumps;
+mod entries;
 mod fields;
 mod json;
 mod lines;

@@ -54,9 +54,7 @@ impl Described for ReportShown<'_> {}
 
 impl Serialize for ReportShown<'_> {
     fn serialize<S: Serializer>(&self, out: &mut S) -> Result<(), S::Error> {
-        out.begin_map(None)?;
-        out.key("front")?;
-        self.front.serialize(out)?;
+        self.front.begin(out)?;
         JsonTables(&[&self.units.pieces(), &[JsonPiece::Name("queues")]]).serialize(out)?;
         self.queues.serialize(out)?;
         out.end_map()
@@ -118,19 +116,17 @@ fn json_of(
 }
 
 // Writes the report of a restart as one value of JSON.
-fn put_json<R: Threads + Sync, W: Write>(
-    rt: &R,
+fn put_json<W: Write>(
     alloc: Global,
-    log: &ShownLog<'_>,
     restarted: &Restarted,
+    end: &End,
     wanted: Option<u32>,
     output: &mut W,
 ) -> Result<(), Trouble>
     ensures line { OnOk result (AppendsLine (W.contents output.old) (W.contents output.new)) }
     ensures refused { IfErr result (BreaksReport (W.contents output.old) (W.contents output.new)) }
 {
-    let end = end_after(rt, alloc, log, restarted)?;
-    let text = json_of(alloc, restarted, &end, wanted)?;
+    let text = json_of(alloc, restarted, end, wanted)?;
     output.write_all(text.as_bytes())?;
     Ok(())
 }
@@ -242,7 +238,8 @@ pub fn report<R: Threads + Sync, W: Write>(
 {
     let restarted = restarted_with(rt, alloc, log, wanted)?;
     if json {
-        put_json(rt, alloc, log, &restarted, wanted, output)
+        let end = end_after(rt, alloc, log, &restarted)?;
+        put_json(alloc, &restarted, &end, wanted, output)
     } else {
         put_text(rt, alloc, log, &restarted, wanted, output)
     }

@@ -17,8 +17,7 @@ use crate::sheet::{relieve, write_out};
 use rq_behind::Found;
 use rq_found::TextPiece::{Number, Word};
 use rq_found::{End, Put, Trouble, form_reason, is_whole, put_end, put_text_pieces};
-use rq_front::version;
-use rq_record::{Fault, KeptRecord, Version};
+use rq_record::{Fault, KeptRecord};
 use rq_restart::Plan;
 use std::alloc::{AllocError, Global};
 use std::io::Write;
@@ -116,10 +115,9 @@ fn put_spans<W: Write>(
     ensures only { OnOk result (AppendsSome (W.contents output.old) (W.contents output.new)) }
     ensures refused { IfErr result IsBroken }
 {
-    let version = version(bytes).unwrap_or(Version::Two);
     let mut at = from;
     for span in found.spans.iter() {
-        put_span(alloc, text, &Loose::of(bytes, version, *span), at)?;
+        put_span(alloc, text, &Loose::of(bytes, *span), at)?;
         relieve(text, output)?;
         at = span.start.saturating_add(span.len).saturating_add(32);
     }

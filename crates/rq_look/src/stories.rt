@@ -82,7 +82,7 @@ fn put_told(
         (λ count. count ≡ 0 → string_bytes text.new ≡ string_bytes text.old) }
     ensures refused { IfErr result (λ e. e ≡ Resources) }
 {
-    let it = machine.follow(alloc, placed)?;
+    let it = machine.follow(placed)?;
     let count = put_events(alloc, text, &it, machine.events(), subject)?;
     Ok(count)
 }
@@ -169,13 +169,8 @@ fn tell_abort(text: &mut String, machine: &mut FollowedQueues, unit: u64, subjec
 }
 
 // Tells what the restart does behind the front: it aborts the open units, rising.
-fn tell_restart(
-    alloc: Global,
-    text: &mut String,
-    machine: &mut FollowedQueues,
-    subject: Subject,
-) -> Put {
-    let units = machine.open_units(alloc)?;
+fn tell_restart(text: &mut String, machine: &mut FollowedQueues, subject: Subject) -> Put {
+    let units = machine.open_units()?;
     for unit in units.iter() {
         tell_abort(text, machine, *unit, subject)?;
     }
@@ -183,16 +178,10 @@ fn tell_restart(
 }
 
 // Tells where the front begins, if that is told, where it ends, and what the restart does behind it.
-fn tell_end(
-    alloc: Global,
-    text: &mut String,
-    end: &End,
-    machine: &mut FollowedQueues,
-    subject: Subject,
-) -> Put {
+fn tell_end(text: &mut String, end: &End, machine: &mut FollowedQueues, subject: Subject) -> Put {
     put_beginning(text, end.at)?;
     put_end(text, end)?;
-    tell_restart(alloc, text, machine, subject)
+    tell_restart(text, machine, subject)
 }
 
 // Tells of the front, which begins behind these queues, and of its end.
@@ -214,7 +203,7 @@ fn tell_all<W: io::Write>(
     if told == 0 {
         return Err(Trouble::Nothing(subject));
     }
-    tell_end(alloc, text, end, machine, subject)?;
+    tell_end(text, end, machine, subject)?;
     write_out(text, output)?;
     Ok(())
 }

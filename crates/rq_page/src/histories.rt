@@ -9,25 +9,41 @@ use rq_found::Put;
 use rq_record::Name;
 use std::collections::BTreeMap;
 
-// What stands before a table of lives: its name, what it is about, and the heads of its columns.
-fn put_top(
-    text: &mut String,
-    name: &'static str,
-    title: &'static str,
-    about: &'static str,
-    columns: &'static str,
-) -> Put {
+// Of each part its name, its title, what it is about, and the heads of its columns.
+const ELEMENTS: [&str; 4] = [
+    "elements",
+    "Elements",
+    "What became of each element, record by record",
+    "<th scope=\"col\">element</th>",
+];
+
+const UNITS: [&str; 4] = [
+    "units",
+    "Units",
+    "What each unit did, record by record",
+    "<th scope=\"col\">unit</th>",
+];
+
+const REGISTRANTS: [&str; 4] = [
+    "registrants",
+    "Registrants",
+    "What each registrant did, record by record",
+    "<th scope=\"col\">registrant</th><th scope=\"col\">queue</th>",
+];
+
+// What stands before a table of lives.
+fn put_top(text: &mut String, words: &[&'static str; 4]) -> Put {
     put_pieces(
         text,
         &[
             Tag("<section id=\""),
-            Tag(name),
+            Tag(words[0]),
             Tag("\">\n<h2>"),
-            Tag(title),
+            Tag(words[1]),
             Tag("</h2>\n<div class=\"scroll\"><table class=\"lives\">\n<caption>"),
-            Tag(about),
+            Tag(words[2]),
             Tag("</caption>\n<tr>"),
-            Tag(columns),
+            Tag(words[3]),
             Tag("<th scope=\"col\">life</th></tr>\n"),
         ],
     )
@@ -82,36 +98,30 @@ fn put_all_numbered(
     Ok(())
 }
 
-/// Puts what became of elements.
-pub(crate) fn put_elements(text: &mut String, shown: &Linked<'_>, lives: &Lives) -> Put {
-    if lives.elements.is_empty() {
+// Puts a part of lives by number, if there is one.
+fn put_part(
+    text: &mut String,
+    shown: &Linked<'_>,
+    words: &[&'static str; 4],
+    kind: &'static str,
+    lives: &BTreeMap<u64, Vec<Step>>,
+) -> Put {
+    if lives.is_empty() {
         return Ok(());
     }
-    put_top(
-        text,
-        "elements",
-        "Elements",
-        "What became of each element, record by record",
-        "<th scope=\"col\">element</th>",
-    )?;
-    put_all_numbered(text, shown, "e", &lives.elements)?;
+    put_top(text, words)?;
+    put_all_numbered(text, shown, kind, lives)?;
     put_bottom(text)
+}
+
+/// Puts what became of elements.
+pub(crate) fn put_elements(text: &mut String, shown: &Linked<'_>, lives: &Lives) -> Put {
+    put_part(text, shown, &ELEMENTS, "e", &lives.elements)
 }
 
 /// Puts what units did.
 pub(crate) fn put_unit_histories(text: &mut String, shown: &Linked<'_>, lives: &Lives) -> Put {
-    if lives.units.is_empty() {
-        return Ok(());
-    }
-    put_top(
-        text,
-        "units",
-        "Units",
-        "What each unit did, record by record",
-        "<th scope=\"col\">unit</th>",
-    )?;
-    put_all_numbered(text, shown, "u", &lives.units)?;
-    put_bottom(text)
+    put_part(text, shown, &UNITS, "u", &lives.units)
 }
 
 fn put_queue(text: &mut String, shown: &Linked<'_>, queue: u32) -> Put {
@@ -154,13 +164,7 @@ pub(crate) fn put_registrants(text: &mut String, shown: &Linked<'_>, lives: &Liv
     if lives.registrants.is_empty() {
         return Ok(());
     }
-    put_top(
-        text,
-        "registrants",
-        "Registrants",
-        "What each registrant did, record by record",
-        "<th scope=\"col\">registrant</th><th scope=\"col\">queue</th>",
-    )?;
+    put_top(text, &REGISTRANTS)?;
     put_all_registrants(text, shown, lives)?;
     put_bottom(text)
 }

@@ -16,7 +16,7 @@ use crate::questions::{Asked, Order};
 use crate::records::put_record_rows;
 use crate::shown::Linked;
 use crate::style::{STYLE, sum_of_style};
-use crate::summaries::{Parts, put_header, put_parts, put_summary};
+use crate::summaries::{put_header, put_parts, put_summary};
 use crate::surveys::{Survey, surveyed};
 use crate::tables::put_queue_table;
 use crate::units::put_open;
@@ -132,15 +132,6 @@ fn contents_of(
     })
 }
 
-fn parts_of(lives: &Lives) -> Parts {
-    Parts {
-        elements: !lives.elements.is_empty(),
-        units: !lives.units.is_empty(),
-        registrants: !lives.registrants.is_empty(),
-        records: lives.count > 0,
-    }
-}
-
 // What is shown, as far as it is known before lives are gathered: whether those of all may be.
 fn begun(contents: &Contents) -> Linked<'_> {
     let (found, wanted) = (&contents.found, &contents.wanted);
@@ -181,15 +172,9 @@ fn all_fit(alloc: Global, bytes: &[u8], contents: &Contents) -> Result<bool, Tro
     Ok(lives.more == 0)
 }
 
-fn told_of(
-    alloc: Global,
-    bytes: &[u8],
-    found: RestartedLog,
-    asked: &Asked<'_>,
-) -> Result<PageContents, Trouble>
+fn told_of(alloc: Global, bytes: &[u8], contents: Contents) -> Result<PageContents, Trouble>
     ensures { IfErr result IsBroken }
 {
-    let contents = contents_of(alloc, bytes, found, asked)?;
     let all = all_fit(alloc, bytes, &contents)?;
     let lives = gathered(alloc, bytes, &contents, all)?;
     Ok(PageContents {
@@ -225,7 +210,7 @@ fn put_top(
     let (restarted, end) = (&found.restarted, &found.end);
     put_page_head(alloc, text, asked)?;
     put_header(text, asked, restarted, end)?;
-    put_parts(text, &parts_of(&told.lives))?;
+    put_parts(text, &told.lives)?;
     text.push_str("<main>\n")?;
     let checkpoints = found.checkpoints.as_slice();
     put_summary(alloc, text, bytes, restarted, end, checkpoints)
@@ -315,6 +300,7 @@ pub fn page<R: Threads + Sync, W: Write>(
         (W.contents output.old) (W.contents output.new)) }
 {
     let found = found_in(rt, alloc, log)?;
-    let told = told_of(alloc, log.bytes, found, asked)?;
+    let contents = contents_of(alloc, log.bytes, found, asked)?;
+    let told = told_of(alloc, log.bytes, contents)?;
     put_page(alloc, log.bytes, &told, asked, output)
 }

@@ -2,7 +2,7 @@
 
 use crate::markup::Html::{Count, Tag};
 use crate::markup::{put_char, put_pieces};
-use rq_found::Put;
+use rq_found::{Put, put_digits};
 use std::alloc::{AllocError, Global};
 use std::str::from_utf8;
 
@@ -25,19 +25,6 @@ fn put_characters(text: &mut String, word: &str, most: usize) -> Result<usize, A
         put_kept(text, c)?;
         shown = shown.saturating_add(c.len_utf8());
     }
-    Ok(shown)
-}
-
-// Puts the first bytes as digits, two each, and answers how many these are.
-fn put_digits(
-    alloc: Global,
-    text: &mut String,
-    bytes: &[u8],
-    most: usize,
-) -> Result<usize, AllocError> {
-    let shown = bytes.len().min(most);
-    let digits = hex::encode(alloc, &bytes[..shown])?;
-    text.push_str(digits.as_str())?;
     Ok(shown)
 }
 

@@ -138,16 +138,23 @@ fn put_events(text: &mut String, shown: &Linked<'_>, events: &[Event]) -> Put {
     )
 }
 
-/// Puts the row of a record: its number, its offset, what it says, and what happens at it. The truth
-/// is that of a checkpoint.
+/// A record with what happens at it.
+#[derive(Clone, Copy)]
+pub(crate) struct Happening<'a> {
+    pub(crate) it: &'a Numbered,
+    pub(crate) events: &'a [Event],
+    /// Whether it is true, if it is a checkpoint.
+    pub(crate) truth: bool,
+}
+
+/// Puts the row of a record: its number, its offset, what it says, and what happens at it.
 pub(crate) fn put_row(
     alloc: Global,
     text: &mut String,
     shown: &Linked<'_>,
-    it: &Numbered,
-    events: &[Event],
-    truth: bool,
+    done: &Happening<'_>,
 ) -> Put {
+    let it = done.it;
     let (number, kind) = (Number(it.number), Tag(kind_of(&it.record)));
     let (of_unit, unit) = unit_named(shown, &it.record);
     let (of_queue, queue) = queue_named(shown, it);
@@ -171,9 +178,9 @@ pub(crate) fn put_row(
             queue,
         ],
     )?;
-    put_fields(alloc, text, shown, it, truth)?;
+    put_fields(alloc, text, shown, it, done.truth)?;
     text.push_str("</td><td>")?;
-    put_events(text, shown, events)?;
+    put_events(text, shown, done.events)?;
     text.push_str("</td></tr>\n")
 }
 

@@ -1,5 +1,6 @@
 //! The front's summary.
 
+use crate::lives::Lives;
 use crate::markup::Html::{Count, Number, Tag, Text};
 use crate::markup::{Html, NOTHING, put_pieces};
 use crate::questions::Asked;
@@ -92,6 +93,16 @@ fn put_digest(alloc: Global, text: &mut String, bytes: &[u8], end: &End) -> Put 
     )
 }
 
+// How many queues, elements and registrants there are after the restart.
+fn members_of(r: &Restarted) -> [Html<'static>; 3] {
+    let state = r.state();
+    [
+        Count(state.definition_count() as u64),
+        Count(state.element_count() as u64),
+        Count(state.registrant_count() as u64),
+    ]
+}
+
 fn put_counts(text: &mut String, r: &Restarted) -> Put {
     put_row(
         text,
@@ -105,16 +116,16 @@ fn put_counts(text: &mut String, r: &Restarted) -> Put {
             Tag(" cut off"),
         ],
     )?;
-    let state = r.state();
+    let [queues, elements, registrants] = members_of(r);
     put_row(
         text,
         "after the restart",
         &[
-            Count(state.definition_count() as u64),
+            queues,
             Tag(" queues, "),
-            Count(state.element_count() as u64),
+            elements,
             Tag(" elements, "),
-            Count(state.registrant_count() as u64),
+            registrants,
             Tag(" registrants"),
         ],
     )
@@ -160,7 +171,7 @@ pub(crate) fn put_summary(
 
 // Puts the numbers that are seen first.
 fn put_tiles(text: &mut String, r: &Restarted, end: &End) -> Put {
-    let state = r.state();
+    let [queues, elements, registrants] = members_of(r);
     put_pieces(
         text,
         &[
@@ -169,11 +180,11 @@ fn put_tiles(text: &mut String, r: &Restarted, end: &End) -> Put {
             Tag("</dd></div>\n<div><dt>records</dt><dd>"),
             Count(end.records),
             Tag("</dd></div>\n<div><dt>queues</dt><dd>"),
-            Count(state.definition_count() as u64),
+            queues,
             Tag("</dd></div>\n<div><dt>elements</dt><dd>"),
-            Count(state.element_count() as u64),
+            elements,
             Tag("</dd></div>\n<div><dt>registrants</dt><dd>"),
-            Count(state.registrant_count() as u64),
+            registrants,
             Tag("</dd></div>\n</dl>\n</header>\n"),
         ],
     )
@@ -206,30 +217,28 @@ fn part_of(is_there: bool, link: &'static str) -> Html<'static> {
     if is_there { Tag(link) } else { NOTHING }
 }
 
-/// Which parts a page has beside those that each page has.
-#[derive(Clone, Copy)]
-pub(crate) struct Parts {
-    pub(crate) elements: bool,
-    pub(crate) units: bool,
-    pub(crate) registrants: bool,
-    pub(crate) records: bool,
-}
-
 /// Puts links to the parts of the page.
-pub(crate) fn put_parts(text: &mut String, parts: &Parts) -> Put {
+pub(crate) fn put_parts(text: &mut String, lives: &Lives) -> Put {
+    let elements = part_of(
+        !lives.elements.is_empty(),
+        " <a href=\"#elements\">Elements</a>",
+    );
+    let units = part_of(!lives.units.is_empty(), " <a href=\"#units\">Units</a>");
+    let registrants = part_of(
+        !lives.registrants.is_empty(),
+        " <a href=\"#registrants\">Registrants</a>",
+    );
+    let records = part_of(lives.count > 0, " <a href=\"#records\">Records</a>");
     put_pieces(
         text,
         &[
             Tag("<nav aria-label=\"Parts of the page\"><a href=\"#front\">Front</a> "),
             Tag("<a href=\"#log\">Log</a> <a href=\"#open\">Open units</a> "),
             Tag("<a href=\"#queues\">Queues</a>"),
-            part_of(parts.elements, " <a href=\"#elements\">Elements</a>"),
-            part_of(parts.units, " <a href=\"#units\">Units</a>"),
-            part_of(
-                parts.registrants,
-                " <a href=\"#registrants\">Registrants</a>",
-            ),
-            part_of(parts.records, " <a href=\"#records\">Records</a>"),
+            elements,
+            units,
+            registrants,
+            records,
             Tag("</nav>\n"),
         ],
     )

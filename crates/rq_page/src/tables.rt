@@ -7,8 +7,9 @@ use crate::markup::put_pieces;
 use crate::questions::Order;
 use crate::shown::{Linked, QUEUES};
 use crate::surveys::{FEW_BINS, Survey};
-use rq_found::{End, Put, free_elements, registrants_shown};
+use rq_found::{End, Put, registrants_shown};
 use rq_record::{Name, QueueNo};
+use rq_report::free_elements;
 use rq_state::{Definition, State};
 use std::alloc::{AllocError, Global};
 use std::cmp::Reverse;
@@ -17,9 +18,7 @@ use std::cmp::Reverse;
 const OPEN: usize = 100;
 
 // The width and the height of a queue's curve.
-const WIDTH: u64 = 128;
-
-const HEIGHT: u64 = 24;
+const SIZE: (u64, u64) = (128, 24);
 
 // A queue, by what queues are put in order.
 #[derive(Clone, Copy)]
@@ -79,10 +78,11 @@ fn put_depth(text: &mut String, frame: &Canvas, curve: &Curve) -> Put {
 }
 
 fn put_curve(text: &mut String, hall: &Hall<'_>, number: u32) -> Put {
+    let (width, height) = SIZE;
     let frame = Canvas {
-        width: WIDTH,
-        height: HEIGHT,
-        end: along(hall.end.used, hall.end.total, WIDTH),
+        width,
+        height,
+        end: along(hall.end.used, hall.end.total, width),
         bins: FEW_BINS,
     };
     match hall.seen.depths.get(number as usize) {

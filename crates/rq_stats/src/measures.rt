@@ -176,29 +176,19 @@ impl Measures {
     }
 
     // Does the next record of the front.
-    fn step(
-        &mut self,
-        alloc: Global,
-        placed: Placed<'_>,
-        machine: &mut FollowedQueues,
-    ) -> Result<(), Fault>
+    fn step(&mut self, placed: Placed<'_>, machine: &mut FollowedQueues) -> Result<(), Fault>
         ensures { IfErr result (λ e. e ≡ Resources) }
     {
-        let it = machine.follow(alloc, placed)?;
+        let it = machine.follow(placed)?;
         self.take(placed.body, &it, machine.events())
     }
 
     // Does all records of the front.
-    fn walk(
-        &mut self,
-        alloc: Global,
-        frames: PlacedFrames<'_>,
-        machine: &mut FollowedQueues,
-    ) -> Result<(), Fault>
+    fn walk(&mut self, frames: PlacedFrames<'_>, machine: &mut FollowedQueues) -> Result<(), Fault>
         ensures { IfErr result (λ e. e ≡ Resources) }
     {
         for placed in frames {
-            self.step(alloc, placed, machine)?;
+            self.step(placed, machine)?;
         }
         Ok(())
     }
@@ -229,29 +219,23 @@ impl Measures {
     }
 
     // Aborts the units that are open behind the front, as a restart does.
-    fn restart(
-        &mut self,
-        alloc: Global,
-        machine: &mut FollowedQueues,
-        end: &End,
-    ) -> Result<(), AllocError> {
-        let units = machine.open_units(alloc)?;
+    fn restart(&mut self, machine: &mut FollowedQueues, end: &End) -> Result<(), AllocError> {
+        let units = machine.open_units()?;
         self.abort_all(machine, &units, end.records)
     }
 
     // Does all of a front, and its restart.
     fn take_front(
         &mut self,
-        alloc: Global,
         frames: PlacedFrames<'_>,
         machine: &mut FollowedQueues,
         end: &End,
     ) -> Result<(), Fault>
         ensures { IfErr result (λ e. e ≡ Resources) }
     {
-        self.walk(alloc, frames, machine)?;
-        self.restart(alloc, machine, end)?;
-        self.depths = machine.depths(alloc)?;
+        self.walk(frames, machine)?;
+        self.restart(machine, end)?;
+        self.depths = machine.depths()?;
         Ok(())
     }
 
@@ -267,7 +251,7 @@ impl Measures {
     {
         let mut machine = FollowedQueues::of(alloc, first)?;
         self.begin(first)?;
-        self.take_front(alloc, frames, &mut machine, end)
+        self.take_front(frames, &mut machine, end)
     }
 }
 

@@ -34,9 +34,7 @@ impl Described for StatisticsShown<'_> {}
 
 impl Serialize for StatisticsShown<'_> {
     fn serialize<S: Serializer>(&self, out: &mut S) -> Result<(), S::Error> {
-        out.begin_map(None)?;
-        out.key("front")?;
-        self.front.serialize(out)?;
+        self.front.begin(out)?;
         self.write_rows(out)?;
         out.end_map()
     }
