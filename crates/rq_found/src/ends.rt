@@ -198,22 +198,6 @@ fn reason_by(
     }
 }
 
-fn reason_of<R: Threads + Sync>(
-    rt: &R,
-    alloc: Global,
-    log: &ShownLog<'_>,
-    end: &FrontEnd,
-) -> Result<String, Fault>
-    ensures { IfErr result (λ e. e ≡ Resources) }
-{
-    let (_, rest) = log.bytes.split_at(log.bytes.len().min(end.used as usize));
-    let rule = match end.why {
-        Why::Law => rule_behind(rt, alloc, log, body_of(rest))?,
-        _ => None,
-    };
-    Ok(reason_by(alloc, log.bytes, end, rule)?)
-}
-
 // Where the front ends, with the reason.
 fn told<R: Threads + Sync>(
     rt: &R,
@@ -225,7 +209,12 @@ fn told<R: Threads + Sync>(
         (λ told. (r : fronts.Restarted) → IsEndOf r end.now → IsEndOf r (front_end_of told)) }
     ensures refused { IfErr result (λ e. e ≡ Resources) }
 {
-    let reason = reason_of(rt, alloc, log, end)?;
+    let (_, rest) = log.bytes.split_at(log.bytes.len().min(end.used as usize));
+    let rule = match end.why {
+        Why::Law => rule_behind(rt, alloc, log, body_of(rest))?,
+        _ => None,
+    };
+    let reason = reason_by(alloc, log.bytes, end, rule)?;
     Ok(End {
         at: log.at,
         records: end.records,

@@ -1,5 +1,5 @@
 -- What a look at a log promises.
-use Rattle.std.specs.Prelude.{◌≡◌, ℕ, ◌<◌, ◌≤◌, ◌⊎◌, Bool, true, false, ⊤, if◌then◌else◌}
+use Rattle.std.specs.Prelude.{◌≡◌, ℕ, ◌<◌, ◌≤◌, ◌⊎◌, ◌&&◌, Bool, true, false, ⊤, if◌then◌else◌}
 use Rattle.std.specs.Prelude.{List, [], ◌++◌, length, codes, Option, Some, None}
 use Rattle.std.specs.List.{list_all}
 use Rattle.std.specs.Fmt.{decimal}
@@ -27,6 +27,10 @@ AppendsLine old new = (text : List ℕ) × Appends old new (text ++ codes "\n")
 -- of checkpoints, each with its offset and whether it is true
 abbrev pub all_true : List (ℕ × Bool) → Bool
 all_true found = list_all (λ x. x.1) found
+
+-- nothing follows the front, and each of its checkpoints is true
+abbrev pub all_fine : Why → List (ℕ × Bool) → Bool
+all_fine why found = is_whole why && all_true found
 
 -- whether b is whole
 abbrev pub IsKnownWhole : List ℕ → Bool → Type 0

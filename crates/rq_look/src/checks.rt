@@ -1,17 +1,15 @@
 //! Whether a log is whole, and each of its checkpoints true.
 
-ghost use Rattle.std.specs.Prelude.{◌≡◌, ◌&&◌, ◌++◌, ℕ, Bool, List, IfOk, IfErr, OnOk};
+ghost use Rattle.std.specs.Prelude.{◌≡◌, ◌++◌, ℕ, Bool, List, IfOk, IfErr, OnOk};
 ghost use Rattle.std.specs.Prelude.{codes, map, string_bytes};
-ghost use Rattle.std.specs.List.{flat_map};
 ghost use Rattle.rq_model.specs.Checkpoints.{IsAudit};
 ghost use Rattle.rq_front.specs.Chains.{Refused};
 ghost use Rattle.rq_judged.specs.Views.{why_of};
 ghost use Rattle.rq_restart.specs.Audits.{audited_of};
-ghost use Rattle.rq_found.specs.Ends as ends;
 ghost use Rattle.rq_found.specs.Ends.{end_text};
 ghost use Rattle.rq_found.specs.Refusals.{IsRefusal};
-ghost use Rattle.rq_look.specs.Findings.{IsFindings};
-ghost use Rattle.rq_look.specs.Looks.{all_true, checkpoint_finding, end_finding};
+ghost use Rattle.rq_look.specs.Findings.{IsFindings, findings_text};
+ghost use Rattle.rq_look.specs.Looks.{all_fine, all_true, checkpoint_finding, end_finding};
 ghost use Rattle.rq_look.specs.Rests.{behind_finding};
 
 use crate::behind_fronts::{put_rest, standing_behind};
@@ -39,7 +37,7 @@ fn are_true(found: &[(u64, bool)]) -> bool
 }
 
 fn is_fine(end: &End, checkpoints: &[(u64, bool)]) -> bool
-    ensures { result ≡ (ends.is_whole (why_of end.now.why) && all_true checkpoints.now) }
+    ensures { result ≡ all_fine (why_of end.now.why) checkpoints.now }
 {
     is_whole(end.why) && are_true(checkpoints)
 }
@@ -75,10 +73,9 @@ fn text_of(
     behind: &Found,
     checkpoints: &[(u64, bool)],
 ) -> Result<String, AllocError>
-    ensures { IfOk result (λ text. string_bytes text ≡ end_finding end.now.records end.now.used
-        end.now.total (why_of end.now.why) (string_bytes end.now.reason)
-        ++ behind_finding (why_of end.now.why) behind.now end.now.total
-        ++ flat_map checkpoint_finding checkpoints.now) }
+    ensures { IfOk result (λ text. string_bytes text ≡ findings_text end.now.records end.now.used
+        end.now.total (why_of end.now.why) (string_bytes end.now.reason) behind.now
+        checkpoints.now) }
 {
     let mut text = front_text(alloc, end)?;
     put_rest(&mut text, end, behind)?;
@@ -86,31 +83,6 @@ fn text_of(
         put_checkpoint(&mut text, *offset, *truth)?;
     }
     Ok(text)
-}
-
-// What a check finds of a log that was not carried on, of which it is known where its front ends and
-// what stands behind that.
-fn whole_findings<R: Threads + Sync>(
-    rt: &R,
-    alloc: Global,
-    log: &ShownLog<'_>,
-    end: &End,
-    behind: &Found,
-) -> Result<Findings, Fault>
-    ensures audited { IfOk result (λ found. (checkpoints : List (ℕ × Bool))
-        × IsAudit log.now.bytes.now (map audited_of checkpoints)
-        × (found.fine ≡ (ends.is_whole (why_of end.now.why) && all_true checkpoints))
-        × (string_bytes found.text ≡ end_finding end.now.records end.now.used
-        end.now.total (why_of end.now.why) (string_bytes end.now.reason)
-        ++ behind_finding (why_of end.now.why) behind.now end.now.total
-        ++ flat_map checkpoint_finding checkpoints)) }
-    ensures refused { IfErr result (Refused log.now.bytes.now) }
-{
-    let checkpoints = audit(rt, alloc, log.bytes, log.plan)?;
-    Ok(Findings {
-        fine: is_fine(end, &checkpoints),
-        text: text_of(alloc, end, behind, &checkpoints)?,
-    })
 }
 
 // The lines of a log that begins with a checkpoint: that it is not checked, where its front ends, and
@@ -125,6 +97,30 @@ fn carried_text(alloc: Global, end: &End, found: &Found) -> Result<String, Alloc
     put_end(&mut text, end)?;
     put_rest(&mut text, end, found)?;
     Ok(text)
+}
+
+// What a check finds of a log that was not carried on, of which it is known where its front ends and
+// what stands behind that.
+fn whole_findings<R: Threads + Sync>(
+    rt: &R,
+    alloc: Global,
+    log: &ShownLog<'_>,
+    end: &End,
+    behind: &Found,
+) -> Result<Findings, Fault>
+    ensures audited { IfOk result (λ found. (checkpoints : List (ℕ × Bool))
+        × IsAudit log.now.bytes.now (map audited_of checkpoints)
+        × (found.fine ≡ all_fine (why_of end.now.why) checkpoints)
+        × (string_bytes found.text ≡ findings_text end.now.records end.now.used
+        end.now.total (why_of end.now.why) (string_bytes end.now.reason) behind.now
+        checkpoints)) }
+    ensures refused { IfErr result (Refused log.now.bytes.now) }
+{
+    let checkpoints = audit(rt, alloc, log.bytes, log.plan)?;
+    Ok(Findings {
+        fine: is_fine(end, &checkpoints),
+        text: text_of(alloc, end, behind, &checkpoints)?,
+    })
 }
 
 /// Whether a log is whole and each checkpoint of its front true, and what is wrong with it. Of a log
