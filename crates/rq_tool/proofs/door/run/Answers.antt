@@ -1,5 +1,5 @@
 use Rattle.rq_tool.proofs.Writing.{writes_only, writes_runs}
-use Rattle.rq_tool.proofs.engine.run.Goals as goal
+use Rattle.rq_tool.proofs.door.run.Goals as goal
 
 pub returns-clause-runs : goal.returns-clause-runs
 returns-clause-runs g c = λ b is. writes_runs b (g.O.Output.contents c.args.output.now)

@@ -6,7 +6,7 @@ use Rattle.rq_judged.specs.Refusals.{RefusedAt}
 use Rattle.rq_record.specs.declared.fault.Fault.TheVariants.{Resources}
 use Rattle.rq_tool.specs.Works.{HasNoReportAt}
 use Rattle.rq_tool.proofs.Writing.{writes_else}
-use Rattle.rq_tool.proofs.engine_at.run_at.Goals as goal
+use Rattle.rq_tool.proofs.door.run_at.Goals as goal
 
 pub returns-clause-runs : goal.returns-clause-runs
 returns-clause-runs g c = λ b is.
