@@ -1,22 +1,12 @@
 //! The frame of a record.
 
-ghost use Rattle.std.specs.Prelude.{◌≡◌, ◌≤◌, length, IfOk};
-ghost use Rattle.rq_model.specs.Frames.{IsBodyLength, before, digest, frame};
+ghost use Rattle.std.specs.Prelude.{◌≡◌, length, IfOk};
+ghost use Rattle.rq_model.specs.Frames.{IsBodyLength, digest, frame};
 ghost use Rattle.rq_record.specs.Writing.{Appends};
 
 use rq_front::frame;
+use rq_judged::before;
 use rq_record::Fault;
-
-// The 32 bytes before an offset.
-fn before(bytes: &[u8], offset: usize) -> [u8; 32]
-    requires after { 32 ≤ offset }
-    requires within { offset ≤ length bytes.now }
-    ensures { result ≡ before offset bytes.now }
-{
-    let mut kept = [0; 32];
-    kept.copy_from_slice(&bytes[offset - 32..offset]);
-    kept
-}
 
 /// Appends the frame of a body behind these 32 bytes, and answers its own last 32 bytes. If memory
 /// is refused, nothing is appended.

@@ -9,15 +9,9 @@ use std::thread::Threads;
 
 // Two units are open after the first eight records. The last two are the tail that aborts them.
 const TWO_OPEN: &[u8] = b"define jobs 0 -\n\
-    begin 1\n\
-    enqueue 1 0 5 - 0 61\n\
-    commit 1\n\
-    begin 2\n\
-    dequeue 2 0 - 0\n\
-    begin 3\n\
-    dequeue 3 0 - 0\n\
-    abort 2\n\
-    abort 3\n";
+    begin 1\nenqueue 1 0 5 - 0 61\ncommit 1\n\
+    begin 2\ndequeue 2 0 - 0\n\
+    begin 3\ndequeue 3 0 - 0\nabort 2\nabort 3\n";
 
 // Whether the log has this tail, by this plan.
 fn makes_tail<R: Threads + Sync + AllocGlobal>(
@@ -58,20 +52,16 @@ fn the_tail_aborts_what_is_open(rt: HostRuntime) -> Result<(), Fail> {
     Ok(())
 }
 
-// Whether the log of the script has this tail.
-fn made_has_tail<R: Threads + Sync + AllocGlobal>(
-    rt: &R,
-    script: &[u8],
-    want: &[u8],
-) -> Result<bool, Fail> {
+// Whether the log of the script has no tail.
+fn has_none<R: Threads + Sync + AllocGlobal>(rt: &R, script: &[u8]) -> Result<bool, Fail> {
     let log = log_of(rt, script)?;
-    Ok(has_tail(rt, &log, want))
+    Ok(has_tail(rt, &log, &[]))
 }
 
 #[test]
 fn a_log_without_open_units_has_no_tail(rt: HostRuntime) -> Result<(), Fail> {
     for script in [CHECKPOINT, ONE_ELEMENT, b"".as_slice()] {
-        assert!(rt; made_has_tail(&rt, script, &[])?, "{} bytes", script.len());
+        assert!(rt; has_none(&rt, script)?, "{} bytes", script.len());
     }
     Ok(())
 }

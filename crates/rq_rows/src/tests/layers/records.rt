@@ -179,17 +179,13 @@ fn checkpoint_is_copied(alloc: Global) -> Result<bool, Fail> {
 }
 
 #[test]
-fn a_payload_that_is_no_part_of_the_log_that_is_lent_is_a_copy(
-    rt: HostRuntime,
-) -> Result<(), Fail> {
+fn a_payload_that_is_no_part_of_the_lent_log_is_a_copy(rt: HostRuntime) -> Result<(), Fail> {
     assert!(rt; payload_is_copied(rt.alloc())?);
     Ok(())
 }
 
 #[test]
-fn a_checkpoint_that_is_no_part_of_the_log_that_is_lent_is_a_copy(
-    rt: HostRuntime,
-) -> Result<(), Fail> {
+fn a_checkpoint_that_is_no_part_of_the_lent_log_is_a_copy(rt: HostRuntime) -> Result<(), Fail> {
     assert!(rt; checkpoint_is_copied(rt.alloc())?);
     Ok(())
 }
