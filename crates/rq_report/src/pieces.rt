@@ -18,19 +18,13 @@ use std::thread::{Threads, join};
 const SHORT: u64 = 1_048_576;
 
 // The lines of the queues from one of them up to another, as one piece.
-fn one_piece(
-    alloc: Global,
-    state: &State,
-    from: usize,
-    to: usize,
-) -> Result<Vec<String>, AllocError>
+fn one_piece(alloc: Global, state: &State, from: usize, to: usize) -> Result<String, AllocError>
     requires { AreQueuesOf state.now from to }
-    ensures { IfOk result
-        (λ pieces. AreLinesOf state.now from to (flat_map string_bytes pieces.items)) }
+    ensures { IfOk result (λ text. AreLinesOf state.now from to (string_bytes text)) }
 {
     let mut text = String::new(alloc);
     put_queues(alloc, &mut text, state, from, to)?;
-    Ok(vec![in alloc; text]?)
+    Ok(text)
 }
 
 // The lines of the queues from one of them up to another, in about this many pieces: each half of
@@ -49,7 +43,7 @@ fn queue_pieces<R: Threads + Sync>(
         (λ pieces. AreLinesOf state.now from to (flat_map string_bytes pieces.items)) }
 {
     if count < 2 || to - from < 2 {
-        return one_piece(alloc, state, from, to);
+        return Ok(vec![in alloc; one_piece(alloc, state, from, to)?]?);
     }
     let middle = from + (to - from) / 2;
     let (fewer, others) = (count / 2, count - count / 2);
