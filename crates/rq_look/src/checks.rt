@@ -141,11 +141,14 @@ pub fn check<R: Threads + Sync>(
     let end = end_of(rt, alloc, log)?;
     let behind = standing_behind(alloc, log.bytes, &end)?;
     match log.at {
-        None => Ok(whole_findings(rt, alloc, log, &end, &behind)?),
+        None => {
+            let found = whole_findings(rt, alloc, log, &end, &behind)?;
+            Ok(found)
+        }
         // Its file alone does not tell whether the checkpoint is true.
-        Some(_) => Ok(Findings {
-            fine: false,
-            text: carried_text(alloc, &end, &behind)?,
-        }),
+        Some(_) => {
+            let text = carried_text(alloc, &end, &behind)?;
+            Ok(Findings { fine: false, text })
+        }
     }
 }
