@@ -1,6 +1,6 @@
 //! A line for each right frame behind the front of a log.
 
-ghost use Rattle.std.specs.Prelude.{◌≡◌, ℕ, List, IfErr, OnOk};
+ghost use Rattle.std.specs.Prelude.{◌≡◌, IfErr, OnOk};
 ghost use Rattle.rq_front.specs.Chains.{IsLog};
 ghost use Rattle.rq_record.specs.declared.fault.Fault.TheVariants.{Resources};
 ghost use Rattle.rq_found.specs.Refusals.{IsBroken};

@@ -9,7 +9,7 @@ ghost use Rattle.rq_model.specs.Frames.{AreBytes};
 ghost use Rattle.rq_model.specs.Fronts.{Restarted, IsRestart};
 ghost use Rattle.rq_model.specs.Records as model;
 ghost use Rattle.rq_model.specs.Records.{Two};
-ghost use Rattle.rq_model.specs.Reports.{hex_of, payload_text, error_text};
+ghost use Rattle.rq_model.specs.Reports.{hex_of, payload_text};
 ghost use Rattle.rq_model.specs.Spelling.{Spells};
 ghost use Rattle.rq_record.specs.Views.{record_of};
 ghost use Rattle.rq_front.specs.Chains.{IsLog};

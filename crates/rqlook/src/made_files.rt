@@ -4,7 +4,6 @@ use crate::failures::{Failure, FileTrouble, of_file};
 use crate::log_files::is_over_log;
 use crate::requests::Request;
 use crate::words::{numbers_asked, order_asked};
-use clap::ArgMatches;
 use rq_file::VERSION;
 use rq_found::{Fault, Trouble};
 use rq_page::Asked;
