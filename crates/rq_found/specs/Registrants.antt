@@ -2,8 +2,8 @@
 use Rattle.std.specs.Prelude.{ℕ, List, Option, option_map}
 use Rattle.rq_model.specs.Reports.{kind_text}
 use Rattle.rq_model.specs.States.{Last, Registrant}
-use Rattle.rq_found.specs.declared.queues.LastShown.{LastShown}
-use Rattle.rq_found.specs.declared.queues.RegistrantShown.{RegistrantShown}
+use Rattle.rq_found.specs.declared.registrants.LastShown.{LastShown}
+use Rattle.rq_found.specs.declared.registrants.RegistrantShown.{RegistrantShown}
 
 -- what is said of a registrant's last operation: its kind, its tag and its element
 abbrev pub last_shown : Last → List ℕ × ℕ × Option ℕ

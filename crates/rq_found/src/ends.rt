@@ -13,13 +13,14 @@ ghost use Rattle.rq_found.specs.Refusals.{RefusedFrom};
 use crate::frames::{first_frame, stated_length};
 use crate::misfits::{Misfit, misfit_of};
 use crate::pieces::TextPiece::{Number, Word};
-use crate::pieces::joined_text;
+use crate::pieces::{Put, joined_text};
+use crate::shown_log::ShownLog;
 use rq_catalog::Rule;
 use rq_front::{FRAME_LEN, version};
 use rq_judged::{FrontEnd, front_end, front_end_at};
 use rq_record::{Fault, Version};
 use rq_report::why_word;
-use rq_restart::{Plan, Restarted, Why};
+use rq_restart::{Restarted, Why};
 use sha2::{Digest, Sha256};
 use std::alloc::{AllocError, Global};
 use std::fmt::Write;
@@ -154,53 +155,43 @@ fn reason_of(
 // Where the front ends, with the reason.
 fn told(
     alloc: Global,
-    bytes: &[u8],
-    at: Option<u64>,
-    end: FrontEnd,
+    log: &ShownLog<'_>,
+    end: &FrontEnd,
     rule: Option<Rule>,
 ) -> Result<End, Fault>
     ensures end { IfOk result
-        (λ told. (r : fronts.Restarted) → IsEndOf r end → IsEndOf r (front_end_of told)) }
+        (λ told. (r : fronts.Restarted) → IsEndOf r end.now → IsEndOf r (front_end_of told)) }
     ensures refused { IfErr result (λ e. e ≡ Resources) }
 {
-    let reason = reason_of(alloc, bytes, &end, rule)?;
-    let FrontEnd {
-        records,
-        used,
-        total,
-        why,
-    } = end;
+    let reason = reason_of(alloc, log.bytes, end, rule)?;
     Ok(End {
-        at,
-        records,
-        used,
-        total,
-        why,
+        at: log.at,
+        records: end.records,
+        used: end.used,
+        total: end.total,
+        why: end.why,
         reason,
     })
 }
 
-// Where the front of a log ends, from the checkpoint on at an offset, if there is one, and the rule
-// that ends it. No queue is redone for it.
+// Where the front of a log ends, and the rule that ends it. No queue is redone for it.
 fn ruled_end<R: Threads + Sync>(
     rt: &R,
     alloc: Global,
-    bytes: &[u8],
-    at: Option<u64>,
-    plan: &Plan,
+    log: &ShownLog<'_>,
 ) -> Result<(FrontEnd, Option<Rule>), Fault>
-    ensures log { OnOk result (IsLog bytes.now) }
-    ensures end { IfOk result (λ x. (r : fronts.Restarted) × IsRestartFrom at bytes.now r
-        × IsEndOf r x.0) }
-    ensures refused { IfErr result (RefusedFrom at bytes.now) }
+    ensures log { OnOk result (IsLog log.now.bytes.now) }
+    ensures end { IfOk result (λ x. (r : fronts.Restarted)
+        × IsRestartFrom log.now.at log.now.bytes.now r × IsEndOf r x.0) }
+    ensures refused { IfErr result (RefusedFrom log.now.at log.now.bytes.now) }
 {
-    match at {
+    match log.at {
         None => {
-            let found = front_end(rt, alloc, bytes, plan)?;
+            let found = front_end(rt, alloc, log.bytes, log.plan)?;
             Ok(found)
         }
         Some(at) => {
-            let found = front_end_at(rt, alloc, bytes, at, plan)?;
+            let found = front_end_at(rt, alloc, log.bytes, at, log.plan)?;
             Ok(found)
         }
     }
@@ -210,27 +201,23 @@ fn ruled_end<R: Threads + Sync>(
 fn rule_after<R: Threads + Sync>(
     rt: &R,
     alloc: Global,
-    bytes: &[u8],
-    at: Option<u64>,
-    plan: &Plan,
+    log: &ShownLog<'_>,
 ) -> Result<Option<Rule>, Fault>
     ensures { IfErr result (λ e. e ≡ Resources) }
 {
-    match ruled_end(rt, alloc, bytes, at, plan) {
+    match ruled_end(rt, alloc, log) {
         Ok((_, rule)) => Ok(rule),
         Err(_) => Err(Fault::Resources),
     }
 }
 
-/// Where the front ends of which the restart is known, from the checkpoint on at an offset, if there
-/// is one. Refuses with `Resources` where memory is refused.
+/// Where the front ends of which the restart is known. Refuses with `Resources` where memory is
+/// refused.
 pub fn end_after<R: Threads + Sync>(
     rt: &R,
     alloc: Global,
-    bytes: &[u8],
-    at: Option<u64>,
+    log: &ShownLog<'_>,
     r: &Restarted,
-    plan: &Plan,
 ) -> Result<End, Fault>
     ensures end { IfOk result (λ end. IsEndOf r.now (front_end_of end)) }
     ensures refused { IfErr result (λ e. e ≡ Resources) }
@@ -243,33 +230,27 @@ pub fn end_after<R: Threads + Sync>(
     };
     // A restart keeps no rule: so of a log that ends by one this reads the front once more.
     let rule = match end.why {
-        Why::Law => rule_after(rt, alloc, bytes, at, plan)?,
+        Why::Law => rule_after(rt, alloc, log)?,
         Why::Whole | Why::Cut | Why::Length | Why::Chain | Why::Form => None,
     };
-    let told = told(alloc, bytes, at, end, rule)?;
+    let told = told(alloc, log, &end, rule)?;
     Ok(told)
 }
 
-/// Where the front of a log ends, from the checkpoint on at an offset, if there is one.
-pub fn end_of<R: Threads + Sync>(
-    rt: &R,
-    alloc: Global,
-    bytes: &[u8],
-    at: Option<u64>,
-    plan: &Plan,
-) -> Result<End, Fault>
-    ensures log { OnOk result (IsLog bytes.now) }
-    ensures end { IfOk result (λ end. (r : fronts.Restarted) × IsRestartFrom at bytes.now r
-        × IsEndOf r (front_end_of end)) }
-    ensures refused { IfErr result (RefusedFrom at bytes.now) }
+/// Where the front of a log ends, from the checkpoint on that it begins with, if there is one.
+pub fn end_of<R: Threads + Sync>(rt: &R, alloc: Global, log: &ShownLog<'_>) -> Result<End, Fault>
+    ensures log { OnOk result (IsLog log.now.bytes.now) }
+    ensures end { IfOk result (λ end. (r : fronts.Restarted)
+        × IsRestartFrom log.now.at log.now.bytes.now r × IsEndOf r (front_end_of end)) }
+    ensures refused { IfErr result (RefusedFrom log.now.at log.now.bytes.now) }
 {
-    let (end, rule) = ruled_end(rt, alloc, bytes, at, plan)?;
-    let told = told(alloc, bytes, at, end, rule)?;
+    let (end, rule) = ruled_end(rt, alloc, log)?;
+    let told = told(alloc, log, &end, rule)?;
     Ok(told)
 }
 
 /// Puts with which checkpoint a log begins that was carried on; of another, nothing.
-pub fn put_beginning(text: &mut String, at: Option<u64>) -> Result<(), AllocError>
+pub fn put_beginning(text: &mut String, at: Option<u64>) -> Put
     ensures { OnOk result (string_bytes text.new ≡ string_bytes text.old ++ beginning_text at) }
 {
     match at {
@@ -279,7 +260,7 @@ pub fn put_beginning(text: &mut String, at: Option<u64>) -> Result<(), AllocErro
 }
 
 /// Puts where the front ends, as a line.
-pub fn put_end(text: &mut String, end: &End) -> Result<(), AllocError>
+pub fn put_end(text: &mut String, end: &End) -> Put
     ensures { OnOk result (string_bytes text.new ≡ string_bytes text.old
         ++ end_text end.now.records end.now.used end.now.total (why_of end.now.why)
         (string_bytes end.now.reason)) }

@@ -39,6 +39,7 @@ struct Shelf {
 /// the last one.
 #[derive(Drop)]
 pub struct FollowedQueues {
+    alloc: Global,
     events: Vec<Event>,
     defined: u32,
     shelves: Vec<Shelf>,
@@ -50,6 +51,7 @@ impl FollowedQueues {
     // Before the first record.
     fn new(alloc: Global) -> FollowedQueues {
         FollowedQueues {
+            alloc,
             events: Vec::new(alloc),
             defined: 0,
             shelves: Vec::new(alloc),
@@ -63,16 +65,16 @@ impl FollowedQueues {
         let mut queues = FollowedQueues::new(alloc);
         queues.defined = queues_of(state.definitions());
         for definition in state.definitions() {
-            queues.define(alloc, definition.limit, definition.error)?;
+            queues.define(definition.limit, definition.error)?;
         }
-        queues.take_units(alloc, state.units())?;
+        queues.take_units(state.units())?;
         queues.take_elements(state.elements())?;
         Ok(queues)
     }
 
-    fn take_units(&mut self, alloc: Global, units: &[UnitNo]) -> Result<(), AllocError> {
+    fn take_units(&mut self, units: &[UnitNo]) -> Result<(), AllocError> {
         for unit in units {
-            self.open.insert(unit.0, Vec::new(alloc))?;
+            self.open.insert(unit.0, Vec::new(self.alloc))?;
         }
         Ok(())
     }
@@ -101,15 +103,15 @@ impl FollowedQueues {
     }
 
     /// The units that are open, rising.
-    pub fn open_units(&self, alloc: Global) -> Result<Vec<u64>, AllocError> {
-        self.open.keys().copied().collect(alloc)
+    pub fn open_units(&self) -> Result<Vec<u64>, AllocError> {
+        self.open.keys().copied().collect(self.alloc)
     }
 
-    fn define(&mut self, alloc: Global, limit: u16, error: QueueNo) -> Result<(), AllocError> {
+    fn define(&mut self, limit: u16, error: QueueNo) -> Result<(), AllocError> {
         self.shelves.push(Shelf {
             limit,
             error: error.0,
-            free: BTreeSet::new(alloc),
+            free: BTreeSet::new(self.alloc),
         })?;
         Ok(())
     }
@@ -257,11 +259,11 @@ impl FollowedQueues {
     }
 
     // Does a record that is lawful here, and adds what happens.
-    fn step(&mut self, alloc: Global, it: &Numbered) -> Result<(), AllocError> {
+    fn step(&mut self, it: &Numbered) -> Result<(), AllocError> {
         match &it.record {
-            KeptRecord::Define { limit, error, .. } => self.define(alloc, *limit, *error)?,
+            KeptRecord::Define { limit, error, .. } => self.define(*limit, *error)?,
             KeptRecord::Begin { unit } => {
-                self.open.insert(unit.0, Vec::new(alloc))?;
+                self.open.insert(unit.0, Vec::new(self.alloc))?;
             }
             KeptRecord::Commit { unit } => self.end(unit.0, true)?,
             KeptRecord::Abort { unit } => self.end(unit.0, false)?,
@@ -275,13 +277,13 @@ impl FollowedQueues {
     }
 
     /// Does the next record of the front, and answers it.
-    pub fn follow(&mut self, alloc: Global, placed: Placed<'_>) -> Result<Numbered, Fault>
+    pub fn follow(&mut self, placed: Placed<'_>) -> Result<Numbered, Fault>
         ensures { IfErr result (λ e. e ≡ Resources) }
     {
-        let it = Numbered::of(alloc, placed, self.defined)?;
+        let it = Numbered::of(self.alloc, placed, self.defined)?;
         self.defined = queues_behind(self.defined, placed.body);
         self.events.clear();
-        self.step(alloc, &it)?;
+        self.step(&it)?;
         Ok(it)
     }
 
@@ -292,11 +294,11 @@ impl FollowedQueues {
     }
 
     /// How many free elements each queue has, by number.
-    pub fn depths(&self, alloc: Global) -> Result<Vec<u64>, AllocError> {
+    pub fn depths(&self) -> Result<Vec<u64>, AllocError> {
         self.shelves
             .iter()
             .map(|shelf| shelf.free.len() as u64)
-            .collect(alloc)
+            .collect(self.alloc)
     }
 
     /// What happened at the last record, or at the last abort behind the front.

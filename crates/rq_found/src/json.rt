@@ -32,6 +32,13 @@ impl FrontShown<'_> {
             JsonPiece::End,
         ]
     }
+
+    /// Begins an object of which it is the first field.
+    pub fn begin<S: Serializer>(&self, out: &mut S) -> Result<(), S::Error> {
+        out.begin_map(None)?;
+        out.key("front")?;
+        self.serialize(out)
+    }
 }
 
 impl Described for FrontShown<'_> {}

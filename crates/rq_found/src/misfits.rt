@@ -1,9 +1,8 @@
 //! Where a body is none that a record has.
 
 use crate::pieces::TextPiece::{Number, Word};
-use crate::pieces::put_text_pieces;
+use crate::pieces::{Put, TextPiece, put_text_pieces};
 use rq_record::Version;
-use std::alloc::AllocError;
 
 // The most bytes of a name.
 const NAME: usize = 64;
@@ -30,46 +29,36 @@ pub(crate) enum Misfit {
     More(usize),
 }
 
+// Two pieces, among as many as the longest text has.
+fn two(first: TextPiece<'static>, second: TextPiece<'static>) -> [TextPiece<'static>; 5] {
+    let none = Word("");
+    [first, second, none, none, none]
+}
+
 impl Misfit {
-    /// Puts it in words.
-    pub(crate) fn put(&self, text: &mut String) -> Result<(), AllocError> {
+    // The same in words.
+    fn pieces(&self) -> [TextPiece<'static>; 5] {
+        let none = Word("");
         match self {
-            Misfit::Kind(kind) => {
-                put_text_pieces(
-                    text,
-                    &[Word("no record has the kind "), Number(u64::from(*kind))],
-                )
-            }
-            Misfit::Cut(field) => put_text_pieces(
-                text,
-                &[Word("the body ends in its "), Word(field)],
-            ),
-            Misfit::Nameless => text.push_str("the name has no bytes"),
-            Misfit::Long(field, count) => {
-                let count = Number(*count as u64);
-                put_text_pieces(
-                    text,
-                    &[
-                        Word("the "),
-                        Word(field),
-                        Word(" has "),
-                        count,
-                        Word(" bytes"),
-                    ],
-                )
-            }
-            Misfit::Letter(byte) => {
-                put_text_pieces(
-                    text,
-                    &[Word("no name has the byte "), Number(u64::from(*byte))],
-                )
-            }
-            Misfit::Tagged => text.push_str("nobody is named, and the tag is not 0"),
-            Misfit::More(count) => put_text_pieces(
-                text,
-                &[Number(*count as u64), Word(" bytes too many")],
-            ),
+            Misfit::Kind(kind) => two(Word("no record has the kind "), Number(u64::from(*kind))),
+            Misfit::Cut(field) => two(Word("the body ends in its "), Word(*field)),
+            Misfit::Nameless => two(Word("the name has no bytes"), none),
+            Misfit::Long(field, count) => [
+                Word("the "),
+                Word(*field),
+                Word(" has "),
+                Number(*count as u64),
+                Word(" bytes"),
+            ],
+            Misfit::Letter(byte) => two(Word("no name has the byte "), Number(u64::from(*byte))),
+            Misfit::Tagged => two(Word("nobody is named, and the tag is not 0"), none),
+            Misfit::More(count) => two(Number(*count as u64), Word(" bytes too many")),
         }
+    }
+
+    /// Puts it in words.
+    pub(crate) fn put(&self, text: &mut String) -> Put {
+        put_text_pieces(text, &self.pieces())
     }
 }
 

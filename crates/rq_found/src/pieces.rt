@@ -8,6 +8,9 @@ ghost use Rattle.rq_found.specs.Pieces.{piece_text};
 use std::alloc::{AllocError, Global};
 use std::fmt::{self, Write};
 
+/// What is answered by a call that puts something into a text: memory alone refuses it.
+pub type Put = Result<(), AllocError>;
+
 /// A word, or a number in decimal digits.
 #[derive(Clone, Copy)]
 pub enum TextPiece<'a> {
@@ -17,7 +20,7 @@ pub enum TextPiece<'a> {
     Number(u64),
 }
 
-fn put_piece(text: &mut String, piece: &TextPiece<'_>) -> Result<(), AllocError>
+fn put_piece(text: &mut String, piece: &TextPiece<'_>) -> Put
     ensures { OnOk result
         (string_bytes text.new ≡ string_bytes text.old ++ piece_text piece.now) }
 {
@@ -39,7 +42,7 @@ pub(crate) fn write_piece<W: fmt::Write>(
 }
 
 /// Puts the pieces, in order.
-pub fn put_text_pieces(text: &mut String, pieces: &[TextPiece<'_>]) -> Result<(), AllocError>
+pub fn put_text_pieces(text: &mut String, pieces: &[TextPiece<'_>]) -> Put
     ensures { OnOk result (string_bytes text.new
         ≡ string_bytes text.old ++ flat_map piece_text pieces.now) }
 {
@@ -54,4 +57,16 @@ pub(crate) fn joined_text(alloc: Global, pieces: &[TextPiece<'_>]) -> Result<Str
     let mut text = String::new(alloc);
     put_text_pieces(&mut text, pieces)?;
     Ok(text)
+}
+
+/// Puts the first bytes as digits, two each, and answers how many these are.
+pub fn put_digits(
+    alloc: Global,
+    text: &mut String,
+    bytes: &[u8],
+    most: usize,
+) -> Result<usize, AllocError> {
+    let shown = bytes.len().min(most);
+    text.push_str(hex::encode(alloc, &bytes[..shown])?.as_str())?;
+    Ok(shown)
 }

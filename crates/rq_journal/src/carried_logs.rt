@@ -38,7 +38,7 @@ pub fn carried<R: Threads + Sync>(
     bytes: &[u8],
     plan: &Plan,
 ) -> Result<Vec<u8>, Fault>
-    ensures { Carries bytes.now result }
+    ensures carries { Carries bytes.now result }
 {
     rq_model::fronts_are_spelt();
     rq_model::logs_begun_anew();
@@ -59,7 +59,7 @@ pub fn carried_again<R: Threads + Sync>(
     bytes: &[u8],
     plan: &Plan,
 ) -> Result<Vec<u8>, Fault>
-    ensures { CarriesAgain bytes.now result }
+    ensures carries { CarriesAgain bytes.now result }
 {
     rq_model::one_spelling();
     rq_model::logs_begun_anew();

@@ -47,12 +47,12 @@ pub fn marked<R: Threads + Sync>(
     bytes: Vec<u8>,
     plan: &Plan,
 ) -> Result<Vec<u8>, Fault>
-    ensures { Marks bytes.items result }
+    ensures marks { Marks bytes.items result }
 {
+    are_bytes(&bytes);
     rq_model::appended_checkpoints();
     rq_model::fronts_are_spelt();
     rq_model::true_checkpoints_report_the_same();
-    are_bytes(&bytes);
     let front = redone_front(rt, alloc, &bytes, plan)?;
     let body = checkpoint_body(alloc, &front.state)?;
     framed(bytes, front.used, &front.last, &body)

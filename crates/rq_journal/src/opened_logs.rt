@@ -62,7 +62,7 @@ pub fn open<R: Threads + Sync>(
     bytes: &[u8],
     plan: &Plan,
 ) -> Result<Opened, Fault>
-    ensures { Opens bytes.now result }
+    ensures opens { Opens bytes.now result }
 {
     Ok(opened_behind(judged_front(rt, alloc, bytes, plan)?))
 }
@@ -78,7 +78,7 @@ pub fn open_carried<R: Threads + Sync>(
     bytes: &[u8],
     plan: &Plan,
 ) -> Result<Opened, Fault>
-    ensures { OpensCarried bytes.now result }
+    ensures opens { OpensCarried bytes.now result }
 {
     Ok(opened_behind(judged_front_at(rt, alloc, bytes, CARRIED_AT as u64, plan)?))
 }

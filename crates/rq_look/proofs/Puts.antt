@@ -1,5 +1,7 @@
 -- Writing text after text.
 use Rattle.std.proofs.Common.{◌≡◌, ◌++◌, ◌∙◌, ℕ, List, Option, Some, None, false, codes, sym, ap, subst, append_assoc}
+use Rattle.std.specs.Prelude.{Result, Ok, Err}
+use Rattle.std.specs.Result.{OnOk}
 use Rattle.std.specs.Io.KnownBytes.{Appends}
 use Rattle.std.proofs.KnownBytes.{Appends-trans}
 use Rattle.rq_model.specs.Fronts.{Restarted}
@@ -15,12 +17,8 @@ use Rattle.rq_found.specs.declared.trouble.Trouble.TheVariants.{Log, Output, Unt
 use Rattle.rq_record.specs.declared.fault.Fault.{Fault}
 use Rattle.rq_record.specs.declared.fault.Fault.TheVariants.{Resources}
 use Rattle.rq_model.specs.Reports.{IsText}
-use Rattle.rq_look.specs.Looks.{end_finding, IsReportFrom, BreaksOff}
+use Rattle.rq_look.specs.Looks.{AppendsSome, end_finding, IsReportFrom, BreaksOff}
 use Rattle.rq_look.specs.Scripts.{LeavesOut}
-
--- some text was appended
-abbrev pub AppendsSome : Option (List ℕ) → Option (List ℕ) → Type 0
-AppendsSome old new = (put : List ℕ) × Appends old new put
 
 -- one behind the other
 pub both_put : (old mid new : Option (List ℕ)) → AppendsSome old mid → AppendsSome mid new → AppendsSome old new
@@ -79,3 +77,8 @@ broken_off (Nothing subject) h = h
 pub choice_goes_on : (text put : List ℕ) → IsChoice false text → IsChoice false (text ++ put)
 choice_goes_on text put h =
     (h.0 ++ put, ap (λ (t : List ℕ). t ++ put) h.1 ∙ append_assoc (codes "# ") h.0 put)
+
+-- what holds once a call is done
+pub then_ok : {A E : Type 0} (P Q : Type 0) → (P → Q) → (r : Result A E) → OnOk r P → OnOk r Q
+then_ok P Q f (Ok x) p = f p
+then_ok P Q f (Err e) p = tt

@@ -1,5 +1,5 @@
 -- What a look at a log promises.
-use Rattle.std.specs.Prelude.{◌≡◌, ℕ, ◌<◌, ◌≤◌, ◌⊎◌, Bool, true, false, ⊤, if◌then◌else◌}
+use Rattle.std.specs.Prelude.{◌≡◌, ℕ, ◌<◌, ◌≤◌, ◌⊎◌, ◌&&◌, Bool, true, false, ⊤, if◌then◌else◌}
 use Rattle.std.specs.Prelude.{List, [], ◌++◌, length, codes, Option, Some, None}
 use Rattle.std.specs.List.{list_all}
 use Rattle.std.specs.Fmt.{decimal}
@@ -10,13 +10,27 @@ use Rattle.rq_model.specs.Checkpoints.{IsReportAt}
 use Rattle.rq_front.specs.Chains.{IsLog}
 use Rattle.rq_found.specs.Ends.{IsRestartFrom, beginning_text, end_line, end_text, is_whole}
 use Rattle.rq_found.specs.Refusals.{IsBroken, IsRefusal, StaysUnshown}
+use Rattle.rq_look.specs.Scripts.{LeavesOut}
 use Rattle.rq_found.specs.declared.subjects.Subject.{Subject}
 use Rattle.rq_found.specs.declared.trouble.Trouble.{Trouble}
-use Rattle.rq_found.specs.declared.trouble.Trouble.TheVariants.{Output, Untold, NoQueue, Nothing}
+use Rattle.rq_found.specs.declared.trouble.Trouble.TheVariants.{Log, Output, Untold, NoQueue, Nothing}
+use Rattle.rq_record.specs.declared.fault.Fault.TheVariants.{Resources}
+
+-- some text is appended
+abbrev pub AppendsSome : Option (List ℕ) → Option (List ℕ) → Type 0
+AppendsSome old new = (put : List ℕ) × Appends old new put
+
+-- so is one that ends with the end of a line
+abbrev pub AppendsLine : Option (List ℕ) → Option (List ℕ) → Type 0
+AppendsLine old new = (text : List ℕ) × Appends old new (text ++ codes "\n")
 
 -- of checkpoints, each with its offset and whether it is true
 abbrev pub all_true : List (ℕ × Bool) → Bool
 all_true found = list_all (λ x. x.1) found
+
+-- nothing follows the front, and each of its checkpoints is true
+abbrev pub all_fine : Why → List (ℕ × Bool) → Bool
+all_fine why found = is_whole why && all_true found
 
 -- whether b is whole
 abbrev pub IsKnownWhole : List ℕ → Bool → Type 0
@@ -56,6 +70,10 @@ BreaksOff e = IsBroken e
 abbrev pub StaysUntold : List ℕ → Option (List ℕ) → Option (List ℕ) → Trouble → Type 0
 StaysUntold b old new e = (IsLog b × BreaksOff e) ⊎ StaysUnshown None b old new e
 
+-- there is no whole script of b; where a record of its front is left untold, it is the first such
+abbrev pub LacksScript : List ℕ → Option (List ℕ) → Option (List ℕ) → Trouble → Type 0
+LacksScript b old new e = LeavesOut b old new e × StaysUntold b old new e
+
 -- the story of the subject is missing, and the output holds what it held; or it broke off
 abbrev pub LacksStory : Subject → Option (List ℕ) → Option (List ℕ) → Trouble → Type 0
 LacksStory subject old new (Nothing told) = (told ≡ subject) × (new ≡ old)
@@ -86,12 +104,18 @@ LacksReport at b wanted e = IsRefusal at b e
 abbrev pub HasWanted : Option ℕ → List ℕ → Option ℕ → Type 0
 HasWanted at b wanted = IsLog b × (r : Restarted) × IsRestartFrom at b r × HasQueue r wanted
 
--- there is no report of b: it lacks one, and the output holds what it held; or it has one, and the
--- output was refused
+-- a report broke off: the output was refused; or memory was, and the output holds what it held
+abbrev pub BreaksReport : Option (List ℕ) → Option (List ℕ) → Trouble → Type 0
+BreaksReport old new (Output error) = ⊤
+BreaksReport old new (Log fault) = (fault ≡ Resources) × (new ≡ old)
+BreaksReport old new _ = ⊥
+
+-- there is no report of b: it lacks one, and the output holds what it held; or b has the queue that
+-- is wanted, and its report broke off
 abbrev pub StaysUnreported : Option ℕ → List ℕ → Option ℕ → Option (List ℕ) → Option (List ℕ)
     → Trouble → Type 0
-StaysUnreported at b wanted old new (Output error) = HasWanted at b wanted
-StaysUnreported at b wanted old new e = LacksReport at b wanted e × (new ≡ old)
+StaysUnreported at b wanted old new e = (HasWanted at b wanted × BreaksReport old new e)
+    ⊎ (LacksReport at b wanted e × (new ≡ old))
 
 -- the text is the report of b, or that from the checkpoint at an offset
 abbrev pub IsReportFrom : Option ℕ → List ℕ → List ℕ → Type 0
@@ -105,3 +129,10 @@ PutsReport at b None old new = (text : List ℕ) × IsReportFrom at b text
     × Appends old new (beginning_text at ++ text)
 PutsReport at b (Some queue) old new = HasWanted at b (Some queue)
     × (text : List ℕ) × Appends old new text
+
+-- of b, which has the queue that is wanted, this is appended; or one value of JSON is, and the end of
+-- its line
+abbrev pub PutsReportAs : Bool → Option ℕ → List ℕ → Option ℕ → Option (List ℕ) → Option (List ℕ)
+    → Type 0
+PutsReportAs false at b wanted old new = PutsReport at b wanted old new
+PutsReportAs true at b wanted old new = HasWanted at b wanted × AppendsLine old new

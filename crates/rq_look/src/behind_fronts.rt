@@ -8,10 +8,10 @@ ghost use Rattle.rq_look.specs.Rests.{EndsFrontOf, IsBehind, behind_finding, beh
 ghost use Rattle.rq_look.specs.Rests.{frames_text, given_up_text};
 
 use rq_behind::{Found, behind};
-use rq_found::{End, is_whole};
+use rq_found::{End, Put, is_whole};
 use rq_front::{Span, version};
 use rq_record::Fault;
-use std::alloc::{AllocError, Global};
+use std::alloc::Global;
 use std::fmt::Write;
 
 /// What stands behind the front of a log of which the end is known.
@@ -28,7 +28,7 @@ pub(crate) fn standing_behind(alloc: Global, bytes: &[u8], end: &End) -> Result<
     Ok(behind(alloc, version, bytes, end.used as usize)?)
 }
 
-fn put_frames(text: &mut String, spans: &[Span]) -> Result<(), AllocError>
+fn put_frames(text: &mut String, spans: &[Span]) -> Put
     ensures { OnOk result
         (string_bytes text.new ≡ string_bytes text.old ++ frames_text spans.now) }
 {
@@ -43,11 +43,7 @@ fn put_frames(text: &mut String, spans: &[Span]) -> Result<(), AllocError>
 }
 
 /// Puts where the search gave up, if it did, of so many bytes, as a line.
-pub(crate) fn put_given_up(
-    text: &mut String,
-    gave_up: Option<usize>,
-    total: u64,
-) -> Result<(), AllocError>
+pub(crate) fn put_given_up(text: &mut String, gave_up: Option<usize>, total: u64) -> Put
     ensures { OnOk result
         (string_bytes text.new ≡ string_bytes text.old ++ given_up_text gave_up total) }
 {
@@ -63,7 +59,7 @@ pub(crate) fn put_given_up(
 
 /// Puts how many right frames stand behind a front, where the first begins, and how many bytes fit
 /// nothing, as a line.
-pub(crate) fn put_count(text: &mut String, found: &Found) -> Result<(), AllocError>
+pub(crate) fn put_count(text: &mut String, found: &Found) -> Put
     ensures { OnOk result
         (string_bytes text.new ≡ string_bytes text.old ++ count_text found.now) }
 {
@@ -74,7 +70,7 @@ pub(crate) fn put_count(text: &mut String, found: &Found) -> Result<(), AllocErr
 }
 
 /// Puts what stands behind a front, of so many bytes: this line, and another if the search gave up.
-pub(crate) fn put_behind(text: &mut String, found: &Found, total: u64) -> Result<(), AllocError>
+pub(crate) fn put_behind(text: &mut String, found: &Found, total: u64) -> Put
     ensures { OnOk result
         (string_bytes text.new ≡ string_bytes text.old ++ behind_text found.now total) }
 {
@@ -83,7 +79,7 @@ pub(crate) fn put_behind(text: &mut String, found: &Found, total: u64) -> Result
 }
 
 /// Puts the same behind the line of a front's end, unless nothing follows the front.
-pub(crate) fn put_rest(text: &mut String, end: &End, found: &Found) -> Result<(), AllocError>
+pub(crate) fn put_rest(text: &mut String, end: &End, found: &Found) -> Put
     ensures { OnOk result (string_bytes text.new ≡ string_bytes text.old
         ++ behind_finding (why_of end.now.why) found.now end.now.total) }
 {

@@ -1,20 +1,20 @@
 //! A line for each right frame behind the front of a log.
 
-ghost use Rattle.std.specs.Prelude.{◌≡◌, ℕ, List, IfErr, OnOk};
-ghost use Rattle.std.specs.Io.KnownBytes.{Appends};
+ghost use Rattle.std.specs.Prelude.{◌≡◌, IfErr, OnOk};
 ghost use Rattle.rq_front.specs.Chains.{IsLog};
 ghost use Rattle.rq_record.specs.declared.fault.Fault.TheVariants.{Resources};
 ghost use Rattle.rq_found.specs.Refusals.{IsBroken};
+ghost use Rattle.rq_look.specs.Looks.{AppendsSome};
 ghost use Rattle.rq_look.specs.Rests.{EndsFrontOf};
 
 use crate::behind_fronts::{put_behind, standing_behind};
+use crate::entries::{Entry, put_entry};
 use crate::json::{put_behind_object, put_loose, put_unspelled};
 use crate::lines::put_loose_record;
-use crate::sheet::relieve;
 use crate::wanted::Wanted;
 use rq_behind::Found;
 use rq_found::TextPiece::{Number, Word};
-use rq_found::{End, Trouble, form_reason, put_text_pieces, queue_named};
+use rq_found::{End, Put, Trouble, form_reason, put_text_pieces, queue_named};
 use rq_front::{Span, version};
 use rq_record::{Fault, KeptRecord, Version, decode_kept};
 use std::alloc::{AllocError, Global};
@@ -30,13 +30,13 @@ pub(crate) struct Loose<'a> {
 
 impl<'a> Loose<'a> {
     /// The body at a span of a log.
-    pub(crate) fn of(bytes: &'a [u8], version: Version, span: Span) -> Loose<'a> {
+    pub(crate) fn of(bytes: &'a [u8], span: Span) -> Loose<'a> {
         let body = match bytes.get(span.start..span.start.saturating_add(span.len)) {
             Some(body) => body,
             None => &[],
         };
         Loose {
-            version,
+            version: version(bytes).unwrap_or(Version::Two),
             offset: span.offset() as u64,
             body,
         }
@@ -61,7 +61,7 @@ fn put_shown(
     offset: u64,
     record: &KeptRecord,
     wanted: &Wanted<'_>,
-) -> Result<(), AllocError> {
+) -> Put {
     if wanted.json {
         return put_loose(alloc, text, offset, record);
     }
@@ -72,15 +72,15 @@ fn put_shown(
 fn put_reason(
     alloc: Global,
     text: &mut String,
-    offset: u64,
+    it: &Loose<'_>,
     reason: &str,
     wanted: &Wanted<'_>,
-) -> Result<(), AllocError> {
+) -> Put {
     if wanted.json {
-        return put_unspelled(alloc, text, offset, reason);
+        return put_unspelled(alloc, text, it.offset, reason);
     }
     let pieces = [
-        Number(offset),
+        Number(it.offset),
         Word(" behind no record: "),
         Word(reason),
         Word("\n"),
@@ -98,7 +98,7 @@ fn put_other(
     let is_wanted = wanted.wants_no_record();
     if is_wanted {
         let reason = form_reason(alloc, it.version, it.body)?;
-        put_reason(alloc, text, it.offset, reason.as_str(), wanted)?;
+        put_reason(alloc, text, it, reason.as_str(), wanted)?;
     }
     Ok(is_wanted)
 }
@@ -118,40 +118,18 @@ fn put_record(
     Ok(is_wanted)
 }
 
-// Puts the line of a frame, if it is wanted. Answers whether it is.
-fn put_line(
-    alloc: Global,
-    it: &Loose<'_>,
-    wanted: &Wanted<'_>,
-    text: &mut String,
-) -> Result<bool, Fault>
-    ensures { IfErr result (λ e. e ≡ Resources) }
-{
-    if it.offset < wanted.from {
-        return Ok(false);
+impl Entry for Loose<'_> {
+    fn offset(&self) -> u64 {
+        self.offset
     }
-    let is_wanted = match &it.record(alloc)? {
-        Some(record) => put_record(alloc, it.offset, record, wanted, text),
-        None => put_other(alloc, it, wanted, text),
-    };
-    Ok(is_wanted?)
-}
 
-// Puts a frame, if it is wanted. Answers whether it is.
-fn put_frame<W: Write>(
-    alloc: Global,
-    it: &Loose<'_>,
-    wanted: &Wanted<'_>,
-    text: &mut String,
-    output: &mut W,
-) -> Result<bool, Trouble>
-    ensures only { OnOk result
-        ((put : List ℕ) × Appends (W.contents output.old) (W.contents output.new) put) }
-    ensures refused { IfErr result IsBroken }
-{
-    let is_wanted = put_line(alloc, it, wanted, text)?;
-    relieve(text, output)?;
-    Ok(is_wanted)
+    fn put(&self, alloc: Global, wanted: &Wanted<'_>, text: &mut String) -> Result<bool, Fault> {
+        let is_wanted = match &self.record(alloc)? {
+            Some(record) => put_record(alloc, self.offset, record, wanted, text),
+            None => put_other(alloc, self, wanted, text),
+        };
+        Ok(is_wanted?)
+    }
 }
 
 // Puts those frames that are wanted, so many at most.
@@ -160,27 +138,19 @@ fn put_frames<W: Write>(
     bytes: &[u8],
     spans: &[Span],
     wanted: &Wanted<'_>,
-    most: u64,
+    mut left: u64,
     text: &mut String,
     output: &mut W,
 ) -> Result<(), Trouble>
-    ensures only { OnOk result
-        ((put : List ℕ) × Appends (W.contents output.old) (W.contents output.new) put) }
+    ensures only { OnOk result (AppendsSome (W.contents output.old) (W.contents output.new)) }
     ensures refused { IfErr result IsBroken }
 {
-    let version = version(bytes).unwrap_or(Version::Two);
-    let mut left = most;
     for span in spans {
         if left == 0 {
             return Ok(());
         }
-        if put_frame(
-            alloc,
-            &Loose::of(bytes, version, *span),
-            wanted,
-            text,
-            output,
-        )? {
+        let loose = Loose::of(bytes, *span);
+        if put_entry(alloc, wanted, &loose, text, output)? {
             left -= 1;
         }
     }
@@ -194,7 +164,7 @@ fn put_count(
     found: &Found,
     total: u64,
     wanted: &Wanted<'_>,
-) -> Result<(), AllocError> {
+) -> Put {
     if wanted.json {
         return put_behind_object(alloc, text, found);
     }
@@ -214,8 +184,7 @@ pub(crate) fn put_wanted_behind<W: Write>(
 ) -> Result<(), Trouble>
     requires log { IsLog bytes.now }
     requires end { EndsFrontOf bytes.now end.now }
-    ensures only { OnOk result
-        ((put : List ℕ) × Appends (W.contents output.old) (W.contents output.new) put) }
+    ensures only { OnOk result (AppendsSome (W.contents output.old) (W.contents output.new)) }
     ensures refused { IfErr result IsBroken }
 {
     if !wanted.behind {

@@ -1,7 +1,7 @@
 //! Bytes as text.
 
 use rq_found::TextPiece::{Number, Word};
-use rq_found::{is_hidden, put_text_pieces};
+use rq_found::{Put, is_hidden, put_digits, put_text_pieces};
 use std::alloc::{AllocError, Global};
 use std::str::from_utf8;
 
@@ -46,7 +46,7 @@ pub(crate) fn printable(bytes: &[u8]) -> Option<&str> {
 }
 
 // Puts a character of a text between quotation marks, so that it is told from these and seen.
-fn put_shown(text: &mut String, c: char) -> Result<(), AllocError> {
+fn put_shown(text: &mut String, c: char) -> Put {
     if let Some(escape) = escape_of(c) {
         return text.push_str(escape);
     }
@@ -69,28 +69,21 @@ fn put_quoted(text: &mut String, word: &str, most: usize) -> Result<usize, Alloc
     Ok(shown)
 }
 
-// Puts the first bytes as digits, two each, and answers how many these are.
+// Puts the first bytes as digits, and that they are some, and answers how many these are.
 fn put_hex(
     alloc: Global,
     text: &mut String,
     bytes: &[u8],
     most: usize,
 ) -> Result<usize, AllocError> {
-    let shown = bytes.len().min(most);
     text.push_str("hex ")?;
-    text.push_str(hex::encode(alloc, &bytes[..shown])?.as_str())?;
-    Ok(shown)
+    put_digits(alloc, text, bytes, most)
 }
 
 /// Puts bytes as a text where they are printable, else as digits, and `-` for none; the first of
 /// them alone where they are not wanted in full, and then their number behind, if these are not
 /// all.
-pub(crate) fn put_bytes(
-    alloc: Global,
-    text: &mut String,
-    bytes: &[u8],
-    full: bool,
-) -> Result<(), AllocError> {
+pub(crate) fn put_bytes(alloc: Global, text: &mut String, bytes: &[u8], full: bool) -> Put {
     if bytes.is_empty() {
         return text.push_str("-");
     }

@@ -1,20 +1,21 @@
 //! Whether a log is whole, and each of its checkpoints true.
 
-ghost use Rattle.std.specs.Prelude.{◌≡◌, ◌&&◌, ◌++◌, None, Some, IfOk, IfErr, OnOk, codes};
-ghost use Rattle.std.specs.Prelude.{string_bytes};
-ghost use Rattle.std.specs.List.{flat_map};
+ghost use Rattle.std.specs.Prelude.{◌≡◌, ◌++◌, ℕ, Bool, List, IfOk, IfErr, OnOk};
+ghost use Rattle.std.specs.Prelude.{codes, map, string_bytes};
+ghost use Rattle.rq_model.specs.Checkpoints.{IsAudit};
+ghost use Rattle.rq_front.specs.Chains.{Refused};
 ghost use Rattle.rq_judged.specs.Views.{why_of};
-ghost use Rattle.rq_found.specs.Ends as ends;
+ghost use Rattle.rq_restart.specs.Audits.{audited_of};
 ghost use Rattle.rq_found.specs.Ends.{end_text};
 ghost use Rattle.rq_found.specs.Refusals.{IsRefusal};
-ghost use Rattle.rq_look.specs.Findings.{IsFindings};
-ghost use Rattle.rq_look.specs.Looks.{all_true, checkpoint_finding, end_finding};
+ghost use Rattle.rq_look.specs.Findings.{IsFindings, findings_text};
+ghost use Rattle.rq_look.specs.Looks.{all_fine, all_true, checkpoint_finding, end_finding};
 ghost use Rattle.rq_look.specs.Rests.{behind_finding};
 
 use crate::behind_fronts::{put_rest, standing_behind};
 use rq_behind::Found;
-use rq_found::{End, Trouble, end_of, is_whole, put_end};
-use rq_restart::{Plan, audit};
+use rq_found::{End, Put, ShownLog, Trouble, end_of, is_whole, put_end};
+use rq_restart::{Fault, audit};
 use std::alloc::{AllocError, Global};
 use std::fmt::Write;
 use std::thread::Threads;
@@ -36,12 +37,12 @@ fn are_true(found: &[(u64, bool)]) -> bool
 }
 
 fn is_fine(end: &End, checkpoints: &[(u64, bool)]) -> bool
-    ensures { result ≡ (ends.is_whole (why_of end.now.why) && all_true checkpoints.now) }
+    ensures { result ≡ all_fine (why_of end.now.why) checkpoints.now }
 {
     is_whole(end.why) && are_true(checkpoints)
 }
 
-fn put_checkpoint(text: &mut String, offset: u64, truth: bool) -> Result<(), AllocError>
+fn put_checkpoint(text: &mut String, offset: u64, truth: bool) -> Put
     ensures { OnOk result
         (string_bytes text.new ≡ string_bytes text.old ++ checkpoint_finding (offset, truth)) }
 {
@@ -72,10 +73,9 @@ fn text_of(
     behind: &Found,
     checkpoints: &[(u64, bool)],
 ) -> Result<String, AllocError>
-    ensures { IfOk result (λ text. string_bytes text ≡ end_finding end.now.records end.now.used
-        end.now.total (why_of end.now.why) (string_bytes end.now.reason)
-        ++ behind_finding (why_of end.now.why) behind.now end.now.total
-        ++ flat_map checkpoint_finding checkpoints.now) }
+    ensures { IfOk result (λ text. string_bytes text ≡ findings_text end.now.records end.now.used
+        end.now.total (why_of end.now.why) (string_bytes end.now.reason) behind.now
+        checkpoints.now) }
 {
     let mut text = front_text(alloc, end)?;
     put_rest(&mut text, end, behind)?;
@@ -83,26 +83,6 @@ fn text_of(
         put_checkpoint(&mut text, *offset, *truth)?;
     }
     Ok(text)
-}
-
-// Whether a log is whole and each checkpoint of its front true.
-fn check_whole<R: Threads + Sync>(
-    rt: &R,
-    alloc: Global,
-    bytes: &[u8],
-    plan: &Plan,
-) -> Result<Findings, Trouble>
-    ensures checked { IfOk result
-        (λ found. IsFindings None bytes.now found.fine (string_bytes found.text)) }
-    ensures refused { IfErr result (IsRefusal None bytes.now) }
-{
-    let end = end_of(rt, alloc, bytes, None, plan)?;
-    let checkpoints = audit(rt, alloc, bytes, plan)?;
-    let behind = standing_behind(alloc, bytes, &end)?;
-    Ok(Findings {
-        fine: is_fine(&end, &checkpoints),
-        text: text_of(alloc, &end, &behind, &checkpoints)?,
-    })
 }
 
 // The lines of a log that begins with a checkpoint: that it is not checked, where its front ends, and
@@ -119,43 +99,56 @@ fn carried_text(alloc: Global, end: &End, found: &Found) -> Result<String, Alloc
     Ok(text)
 }
 
-// Where a log ends that begins with the checkpoint at an offset. Its file alone does not tell whether
-// that is true.
-fn check_at<R: Threads + Sync>(
+// What a check finds of a log that was not carried on, of which it is known where its front ends and
+// what stands behind that.
+fn whole_findings<R: Threads + Sync>(
     rt: &R,
     alloc: Global,
-    bytes: &[u8],
-    at: u64,
-    plan: &Plan,
-) -> Result<Findings, Trouble>
-    ensures checked { IfOk result
-        (λ found. IsFindings (Some at) bytes.now found.fine (string_bytes found.text)) }
-    ensures refused { IfErr result (IsRefusal (Some at) bytes.now) }
+    log: &ShownLog<'_>,
+    end: &End,
+    behind: &Found,
+) -> Result<Findings, Fault>
+    ensures audited { IfOk result (λ found. (checkpoints : List (ℕ × Bool))
+        × IsAudit log.now.bytes.now (map audited_of checkpoints)
+        × (found.fine ≡ all_fine (why_of end.now.why) checkpoints)
+        × (string_bytes found.text ≡ findings_text end.now.records end.now.used
+        end.now.total (why_of end.now.why) (string_bytes end.now.reason) behind.now
+        checkpoints)) }
+    ensures refused { IfErr result (Refused log.now.bytes.now) }
 {
-    let end = end_of(rt, alloc, bytes, Some(at), plan)?;
-    let behind = standing_behind(alloc, bytes, &end)?;
-    let text = carried_text(alloc, &end, &behind)?;
-    Ok(Findings { fine: false, text })
+    let checkpoints = audit(rt, alloc, log.bytes, log.plan)?;
+    Ok(Findings {
+        fine: is_fine(end, &checkpoints),
+        text: text_of(alloc, end, behind, &checkpoints)?,
+    })
 }
 
 /// Whether a log is whole and each checkpoint of its front true, and what is wrong with it. Of a log
-/// that begins with the checkpoint at an offset it is not known whether this is true: the text says
-/// so, and where its front ends.
+/// that begins with a checkpoint it is not known whether this is true: the text says so, and where its
+/// front ends.
 ///
-/// Refuses what a restart refuses, from there if there is an offset.
+/// Refuses what a restart refuses, from there if the log begins so.
+#[tactic(auto, using(crate::proofs::Puts::resources_refused))]
 pub fn check<R: Threads + Sync>(
     rt: &R,
     alloc: Global,
-    bytes: &[u8],
-    at: Option<u64>,
-    plan: &Plan,
+    log: &ShownLog<'_>,
 ) -> Result<Findings, Trouble>
     ensures checked { IfOk result
-        (λ found. IsFindings at bytes.now found.fine (string_bytes found.text)) }
-    ensures refused { IfErr result (IsRefusal at bytes.now) }
+        (λ found. IsFindings log.now.at log.now.bytes.now found.fine (string_bytes found.text)) }
+    ensures refused { IfErr result (IsRefusal log.now.at log.now.bytes.now) }
 {
-    match at {
-        None => check_whole(rt, alloc, bytes, plan),
-        Some(at) => check_at(rt, alloc, bytes, at, plan),
+    let end = end_of(rt, alloc, log)?;
+    let behind = standing_behind(alloc, log.bytes, &end)?;
+    match log.at {
+        None => {
+            let found = whole_findings(rt, alloc, log, &end, &behind)?;
+            Ok(found)
+        }
+        // Its file alone does not tell whether the checkpoint is true.
+        Some(_) => {
+            let text = carried_text(alloc, &end, &behind)?;
+            Ok(Findings { fine: false, text })
+        }
     }
 }

@@ -6,7 +6,8 @@ use crate::bytes::is_plain;
 use crate::fields::{by_of, element_of, registrant_of, unit_number};
 use rq_behind::Found;
 use rq_found::{
-    End, FrontShown, JsonPiece, JsonTables, Numbered, front_shown, is_hidden, kind_of, queue_named,
+    End, FrontShown, JsonPiece, JsonTables, Numbered, Put, front_shown, is_hidden, kind_of,
+    queue_named,
 };
 use rq_record::{KeptRecord, QueueNo};
 use serde::{Described, Serialize, Serializer};
@@ -166,7 +167,7 @@ impl Serialize for Shown<'_> {
 }
 
 // Puts JSON in a line of its own, with each hidden character spelled by its numbers.
-fn put_json_line(alloc: Global, text: &mut String, json: String) -> Result<(), AllocError>
+fn put_json_line(alloc: Global, text: &mut String, json: String) -> Put
     ensures { OnOk result ((json : List ℕ)
         × (string_bytes text.new ≡ string_bytes text.old ++ (json ++ codes "\n"))) }
 {
@@ -184,11 +185,7 @@ pub(crate) fn written(json: Result<String, serde_json::Error>) -> Result<String,
 }
 
 /// Puts the value as JSON in a line of its own, with each hidden character spelled by its numbers.
-pub(crate) fn put_json<T: Serialize>(
-    alloc: Global,
-    text: &mut String,
-    value: &T,
-) -> Result<(), AllocError>
+pub(crate) fn put_json<T: Serialize>(alloc: Global, text: &mut String, value: &T) -> Put
     ensures { OnOk result ((json : List ℕ)
         × (string_bytes text.new ≡ string_bytes text.old ++ (json ++ codes "\n"))) }
 {
@@ -204,7 +201,7 @@ fn put_shown(
     number: Option<u64>,
     record: &KeptRecord,
     queue: Option<QueueNo>,
-) -> Result<(), AllocError> {
+) -> Put {
     let bytes = BytesShown::of_record(alloc, record)?;
     let shown = Shown {
         offset,
@@ -217,11 +214,7 @@ fn put_shown(
 }
 
 /// Puts a record of the front as an object in a line, with those fields that its kind has.
-pub(crate) fn put_numbered(
-    alloc: Global,
-    text: &mut String,
-    it: &Numbered,
-) -> Result<(), AllocError> {
+pub(crate) fn put_numbered(alloc: Global, text: &mut String, it: &Numbered) -> Put {
     put_shown(
         alloc,
         text,
@@ -234,22 +227,12 @@ pub(crate) fn put_numbered(
 
 /// The same of a record behind the front: its number is not known, nor that of a queue that it
 /// defines.
-pub(crate) fn put_loose(
-    alloc: Global,
-    text: &mut String,
-    offset: u64,
-    record: &KeptRecord,
-) -> Result<(), AllocError> {
+pub(crate) fn put_loose(alloc: Global, text: &mut String, offset: u64, record: &KeptRecord) -> Put {
     put_shown(alloc, text, offset, None, record, queue_named(record))
 }
 
 /// Puts a frame behind the front whose body spells no record, and why, as an object in a line.
-pub(crate) fn put_unspelled(
-    alloc: Global,
-    text: &mut String,
-    offset: u64,
-    reason: &str,
-) -> Result<(), AllocError> {
+pub(crate) fn put_unspelled(alloc: Global, text: &mut String, offset: u64, reason: &str) -> Put {
     let fields = [
         JsonPiece::Begin,
         JsonPiece::Number("offset", Some(offset)),
@@ -262,11 +245,7 @@ pub(crate) fn put_unspelled(
 
 /// Puts how many right frames stand behind the front, where the first begins, how many bytes fit
 /// nothing, and where the search gave up, as an object in a line.
-pub(crate) fn put_behind_object(
-    alloc: Global,
-    text: &mut String,
-    found: &Found,
-) -> Result<(), AllocError> {
+pub(crate) fn put_behind_object(alloc: Global, text: &mut String, found: &Found) -> Put {
     let first = found.spans.first().map(|span| span.offset() as u64);
     let fields = [
         JsonPiece::Begin,
@@ -292,19 +271,13 @@ impl Described for ClosingShown<'_> {}
 
 impl Serialize for ClosingShown<'_> {
     fn serialize<S: Serializer>(&self, out: &mut S) -> Result<(), S::Error> {
-        out.begin_map(None)?;
-        out.key("front")?;
-        self.front.serialize(out)?;
+        self.front.begin(out)?;
         out.end_map()
     }
 }
 
 /// Puts the last line of a dump, of where the front ends, as an object.
-pub(crate) fn put_closing_object(
-    alloc: Global,
-    text: &mut String,
-    end: &End,
-) -> Result<(), AllocError>
+pub(crate) fn put_closing_object(alloc: Global, text: &mut String, end: &End) -> Put
     ensures { OnOk result ((json : List ℕ)
         × (string_bytes text.new ≡ string_bytes text.old ++ (json ++ codes "\n"))) }
 {
@@ -313,7 +286,7 @@ pub(crate) fn put_closing_object(
 }
 
 // Puts a character of JSON; one that is hidden by its numbers.
-fn put_spelled(text: &mut String, c: char) -> Result<(), AllocError> {
+fn put_spelled(text: &mut String, c: char) -> Put {
     if c == '\n' || !is_hidden(c) {
         return text.push(c);
     }

@@ -3,12 +3,12 @@
 use crate::bytes::put_bytes;
 use crate::fields::{by_of, unit_number};
 use rq_found::TextPiece::{Number, Word};
-use rq_found::{Numbered, kind_of, put_text_pieces, queue_named};
+use rq_found::{Numbered, Put, kind_of, put_text_pieces, queue_named};
 use rq_record::{KeptRecord, QueueNo};
-use std::alloc::{AllocError, Global};
+use std::alloc::Global;
 
 // Puts a word and a number, if there is one.
-fn put_known(text: &mut String, word: &str, number: Option<u64>) -> Result<(), AllocError> {
+fn put_known(text: &mut String, word: &str, number: Option<u64>) -> Put {
     match number {
         Some(number) => put_text_pieces(text, &[Word(word), Number(number)]),
         None => Ok(()),
@@ -16,16 +16,12 @@ fn put_known(text: &mut String, word: &str, number: Option<u64>) -> Result<(), A
 }
 
 // Puts the unit and the queue of a record, if it has them.
-fn put_places(
-    text: &mut String,
-    record: &KeptRecord,
-    queue: Option<QueueNo>,
-) -> Result<(), AllocError> {
+fn put_places(text: &mut String, record: &KeptRecord, queue: Option<QueueNo>) -> Put {
     put_known(text, " unit ", unit_number(record))?;
     put_known(text, " queue ", queue.map(|queue| u64::from(queue.0)))
 }
 
-fn put_by(text: &mut String, record: &KeptRecord) -> Result<(), AllocError> {
+fn put_by(text: &mut String, record: &KeptRecord) -> Put {
     match by_of(record) {
         Some(by) => {
             let name = by.name.text();
@@ -38,12 +34,7 @@ fn put_by(text: &mut String, record: &KeptRecord) -> Result<(), AllocError> {
     }
 }
 
-fn put_definition(
-    text: &mut String,
-    name: &str,
-    limit: u16,
-    error: QueueNo,
-) -> Result<(), AllocError> {
+fn put_definition(text: &mut String, name: &str, limit: u16, error: QueueNo) -> Put {
     let number = u64::from(error.0);
     let error = if error == QueueNo::NONE {
         Word("-")
@@ -65,30 +56,19 @@ fn put_definition(
 }
 
 // Puts a word and bytes.
-fn put_load(
-    alloc: Global,
-    text: &mut String,
-    word: &str,
-    bytes: &[u8],
-    full: bool,
-) -> Result<(), AllocError> {
+fn put_load(alloc: Global, text: &mut String, word: &str, bytes: &[u8], full: bool) -> Put {
     text.push_str(word)?;
     put_bytes(alloc, text, bytes, full)
 }
 
 // Puts the priority of an element, and who puts it in.
-fn put_priority(text: &mut String, record: &KeptRecord, priority: u8) -> Result<(), AllocError> {
+fn put_priority(text: &mut String, record: &KeptRecord, priority: u8) -> Put {
     put_text_pieces(text, &[Word(" priority "), Number(u64::from(priority))])?;
     put_by(text, record)
 }
 
 // Puts what no other kind of record has.
-fn put_fields(
-    alloc: Global,
-    text: &mut String,
-    record: &KeptRecord,
-    full: bool,
-) -> Result<(), AllocError> {
+fn put_fields(alloc: Global, text: &mut String, record: &KeptRecord, full: bool) -> Put {
     match record {
         KeptRecord::Define { limit, error, name } => put_definition(
             text,
@@ -125,7 +105,7 @@ pub(crate) fn put_loose_record(
     offset: u64,
     record: &KeptRecord,
     full: bool,
-) -> Result<(), AllocError> {
+) -> Put {
     let kind = kind_of(record);
     put_text_pieces(text, &[Number(offset), Word(" behind "), Word(kind)])?;
     put_places(text, record, queue_named(record))?;
@@ -134,12 +114,7 @@ pub(crate) fn put_loose_record(
 }
 
 /// Puts the line of a record without its end: its offset, its number, its kind and its fields.
-pub(crate) fn put_record(
-    alloc: Global,
-    text: &mut String,
-    it: &Numbered,
-    full: bool,
-) -> Result<(), AllocError> {
+pub(crate) fn put_record(alloc: Global, text: &mut String, it: &Numbered, full: bool) -> Put {
     let (offset, number, kind) = (it.offset, it.number, kind_of(&it.record));
     put_text_pieces(
         text,
@@ -156,12 +131,7 @@ pub(crate) fn put_record(
 }
 
 /// Puts the same, and the end of the line.
-pub(crate) fn put_record_line(
-    alloc: Global,
-    text: &mut String,
-    it: &Numbered,
-    full: bool,
-) -> Result<(), AllocError> {
+pub(crate) fn put_record_line(alloc: Global, text: &mut String, it: &Numbered, full: bool) -> Put {
     put_record(alloc, text, it, full)?;
     text.push_str("\n")
 }

@@ -5,28 +5,32 @@ ghost use Rattle.std.specs.Prelude.{string_bytes};
 ghost use Rattle.std.specs.List.{flat_map};
 ghost use Rattle.std.specs.Fmt.{decimal};
 ghost use Rattle.std.specs.Io.KnownBytes.{Appends};
-ghost use Rattle.rq_model.specs.Fronts.{Restarted, IsRestart};
 ghost use Rattle.rq_model.specs.Frames.{AreBytes};
+ghost use Rattle.rq_model.specs.Fronts.{Restarted, IsRestart};
 ghost use Rattle.rq_model.specs.Records as model;
 ghost use Rattle.rq_model.specs.Records.{Two};
+ghost use Rattle.rq_model.specs.Reports.{hex_of, payload_text};
 ghost use Rattle.rq_model.specs.Spelling.{Spells};
-ghost use Rattle.rq_model.specs.Reports.{hex_of, payload_text, error_text};
 ghost use Rattle.rq_record.specs.Views.{record_of};
+ghost use Rattle.rq_front.specs.Chains.{IsLog};
+ghost use Rattle.rq_judged.specs.FrontEnds.{IsEndOf};
 ghost use Rattle.rq_writer.specs.Script.{record_text, who_name, who_tag, IsNamed, IsTellable};
-ghost use Rattle.rq_look.specs.Looks.{BreaksOff, IsKnownWhole, StaysUntold};
+ghost use Rattle.rq_found.specs.Ends.{front_end_of};
+ghost use Rattle.rq_look.specs.Looks.{BreaksOff, IsKnownWhole, LacksScript};
 ghost use Rattle.rq_look.specs.Scripts.{IsDash, LeavesBody, LeavesOut, PutsScript, by_in};
 ghost use Rattle.rq_look.specs.Scripts.{script_line};
 
 use crate::fields::by_of;
 use crate::sheet::{relieve, write_out};
-use rq_found::{Numbered, Placed, PlacedFrames, Trouble, end_of, is_whole};
+use rq_found::{End, Numbered, Placed, PlacedFrames, Put, ShownLog, Trouble, end_of, is_whole};
 use rq_record::{KeptBy, KeptName, KeptRecord, QueueNo, UnitNo};
+use rq_report::put_error;
 use rq_restart::Plan;
-use std::alloc::{AllocError, Global};
+use std::alloc::Global;
 use std::thread::Threads;
 use std::{fmt, io};
 
-fn put_digits(alloc: Global, text: &mut String, bytes: &[u8]) -> Result<(), AllocError>
+fn put_digits(alloc: Global, text: &mut String, bytes: &[u8]) -> Put
     ensures { OnOk result
         (string_bytes text.new ≡ string_bytes text.old ++ flat_map hex_of bytes.now) }
 {
@@ -35,7 +39,7 @@ fn put_digits(alloc: Global, text: &mut String, bytes: &[u8]) -> Result<(), Allo
     Ok(())
 }
 
-fn put_hex(alloc: Global, text: &mut String, bytes: &[u8]) -> Result<(), AllocError>
+fn put_hex(alloc: Global, text: &mut String, bytes: &[u8]) -> Put
     ensures text { OnOk result
         (string_bytes text.new ≡ string_bytes text.old ++ payload_text bytes.now) }
     ensures bytes { AreBytes bytes.now }
@@ -46,23 +50,7 @@ fn put_hex(alloc: Global, text: &mut String, bytes: &[u8]) -> Result<(), AllocEr
     put_digits(alloc, text, bytes)
 }
 
-fn put_error(text: &mut String, error: QueueNo) -> Result<(), AllocError>
-    ensures { OnOk result (string_bytes text.new ≡ string_bytes text.old ++ error_text error.0) }
-{
-    let number = error.0;
-    if number == QueueNo::NONE.0 {
-        text.push_str("-")
-    } else {
-        write!(text, "{number}")
-    }
-}
-
-fn put_definition(
-    text: &mut String,
-    name: &KeptName,
-    limit: u16,
-    error: QueueNo,
-) -> Result<(), AllocError>
+fn put_definition(text: &mut String, name: &KeptName, limit: u16, error: QueueNo) -> Put
     ensures { OnOk result (string_bytes text.new ≡ string_bytes text.old
         ++ record_text (model.Define limit error.0 name.now)) }
 {
@@ -72,12 +60,7 @@ fn put_definition(
     put_error(text, error)
 }
 
-fn put_named(
-    text: &mut String,
-    word: &str,
-    queue: QueueNo,
-    name: &KeptName,
-) -> Result<(), AllocError>
+fn put_named(text: &mut String, word: &str, queue: QueueNo, name: &KeptName) -> Put
     ensures { OnOk result (string_bytes text.new ≡ string_bytes text.old
         ++ (word.now ++ (decimal queue.0 ++ (32 ∷ name.now)))) }
 {
@@ -87,7 +70,7 @@ fn put_named(
     text.push_str(name.text())
 }
 
-fn put_unit(text: &mut String, word: &str, unit: UnitNo) -> Result<(), AllocError>
+fn put_unit(text: &mut String, word: &str, unit: UnitNo) -> Put
     ensures { OnOk result
         (string_bytes text.new ≡ string_bytes text.old ++ (word.now ++ decimal unit.0)) }
 {
@@ -96,12 +79,7 @@ fn put_unit(text: &mut String, word: &str, unit: UnitNo) -> Result<(), AllocErro
     write!(text, "{number}")
 }
 
-fn put_unit_and_queue(
-    text: &mut String,
-    word: &str,
-    unit: UnitNo,
-    queue: QueueNo,
-) -> Result<(), AllocError>
+fn put_unit_and_queue(text: &mut String, word: &str, unit: UnitNo, queue: QueueNo) -> Put
     ensures { OnOk result (string_bytes text.new ≡ string_bytes text.old
         ++ (word.now ++ (decimal unit.0 ++ (32 ∷ decimal queue.0)))) }
 {
@@ -111,7 +89,7 @@ fn put_unit_and_queue(
 }
 
 // Puts the registrant and the tag of an operation.
-fn put_who(text: &mut String, by: &KeptBy) -> Result<(), AllocError>
+fn put_who(text: &mut String, by: &KeptBy) -> Put
     ensures { OnOk result (string_bytes text.new ≡ string_bytes text.old
         ++ (32 ∷ (who_name by.now ++ (32 ∷ decimal (who_tag by.now))))) }
 {
@@ -127,13 +105,7 @@ fn put_who(text: &mut String, by: &KeptBy) -> Result<(), AllocError>
 }
 
 // Puts what an enqueue says of its element.
-fn put_element(
-    alloc: Global,
-    text: &mut String,
-    priority: u8,
-    by: &KeptBy,
-    payload: &[u8],
-) -> Result<(), AllocError>
+fn put_element(alloc: Global, text: &mut String, priority: u8, by: &KeptBy, payload: &[u8]) -> Put
     ensures text { OnOk result (string_bytes text.new ≡ string_bytes text.old
         ++ (32 ∷ (decimal priority ++ (32 ∷ (who_name by.now
         ++ (32 ∷ (decimal (who_tag by.now) ++ (32 ∷ payload_text payload.now)))))))) }
@@ -146,7 +118,7 @@ fn put_element(
 }
 
 // Puts the record of a checkpoint, in hexadecimal.
-fn put_checkpoint(alloc: Global, text: &mut String, bytes: &[u8]) -> Result<(), AllocError>
+fn put_checkpoint(alloc: Global, text: &mut String, bytes: &[u8]) -> Put
     ensures text { OnOk result (string_bytes text.new ≡ string_bytes text.old
         ++ record_text (model.Checkpoint bytes.now)) }
     ensures bytes { AreBytes bytes.now }
@@ -156,7 +128,7 @@ fn put_checkpoint(alloc: Global, text: &mut String, bytes: &[u8]) -> Result<(), 
 }
 
 // Puts a record, but for the end of its line.
-fn put_record(alloc: Global, text: &mut String, r: &KeptRecord) -> Result<(), AllocError>
+fn put_record(alloc: Global, text: &mut String, r: &KeptRecord) -> Put
     ensures text { OnOk result
         (string_bytes text.new ≡ string_bytes text.old ++ record_text (record_of r.now)) }
     ensures tellable { OnOk result
@@ -172,8 +144,8 @@ fn put_record(alloc: Global, text: &mut String, r: &KeptRecord) -> Result<(), Al
         KeptRecord::Enqueue {
             unit,
             queue,
-            priority,
             by,
+            priority,
             payload,
         } => {
             put_unit_and_queue(text, "enqueue ", *unit, *queue)?;
@@ -203,7 +175,7 @@ pub(crate) fn is_untold(r: &KeptRecord) -> bool
 }
 
 /// Puts the line of a record.
-pub(crate) fn put_line(alloc: Global, text: &mut String, r: &KeptRecord) -> Result<(), AllocError>
+pub(crate) fn put_line(alloc: Global, text: &mut String, r: &KeptRecord) -> Put
     ensures line { OnOk result
         (string_bytes text.new ≡ string_bytes text.old ++ script_line (record_of r.now)) }
     ensures tellable { OnOk result
@@ -280,30 +252,50 @@ pub(crate) fn put_records<W: io::Write>(
     Ok(())
 }
 
+/// Writes the script of the front of a log that was not carried on, and answers where it ends.
+pub(crate) fn put_front<R: Threads + Sync, W: io::Write>(
+    rt: &R,
+    alloc: Global,
+    bytes: &[u8],
+    plan: &Plan,
+    output: &mut W,
+) -> Result<End, Trouble>
+    ensures end { IfOk result (λ end. (r : Restarted) × IsRestart bytes.now r
+        × IsEndOf r (front_end_of end)) }
+    ensures log { OnOk result (IsLog bytes.now) }
+    ensures script { OnOk result
+        (PutsScript bytes.now (W.contents output.old) (W.contents output.new)) }
+    ensures refused { IfErr result
+        (LacksScript bytes.now (W.contents output.old) (W.contents output.new)) }
+{
+    let log = ShownLog {
+        bytes,
+        at: None,
+        plan,
+    };
+    let end = end_of(rt, alloc, &log)?;
+    put_records(alloc, bytes, end.used, output)?;
+    Ok(end)
+}
+
 /// Writes the script of the front of a log, a line for each record, and answers whether that is the
 /// whole log.
 ///
 /// Refuses with `Untold` the first operation of the registrant `-`, which no script tells, once the
 /// lines of the records before it are written; else as `dump` does.
-pub fn script<R, W>(
+pub fn script<R: Threads + Sync, W: io::Write>(
     rt: &R,
     alloc: Global,
     bytes: &[u8],
     plan: &Plan,
     output: &mut W,
 ) -> Result<bool, Trouble>
-where
-    R: Threads + Sync,
-    W: io::Write,
     ensures script { IfOk result (IsKnownWhole bytes.now) }
     ensures told { OnOk result
         (PutsScript bytes.now (W.contents output.old) (W.contents output.new)) }
-    ensures untold { IfErr result
-        (LeavesOut bytes.now (W.contents output.old) (W.contents output.new)) }
     ensures refused { IfErr result
-        (StaysUntold bytes.now (W.contents output.old) (W.contents output.new)) }
+        (LacksScript bytes.now (W.contents output.old) (W.contents output.new)) }
 {
-    let end = end_of(rt, alloc, bytes, None, plan)?;
-    put_records(alloc, bytes, end.used, output)?;
+    let end = put_front(rt, alloc, bytes, plan, output)?;
     Ok(is_whole(end.why))
 }

@@ -6,13 +6,14 @@ ghost use Rattle.rq_model.specs.Reports.{IsText};
 ghost use Rattle.rq_record.specs.declared.fault.Fault.TheVariants.{Resources};
 ghost use Rattle.rq_front.specs.Chains.{IsLog};
 ghost use Rattle.rq_found.specs.Ends.{IsRestartFrom, beginning_text};
-ghost use Rattle.rq_look.specs.Looks.{HasQueue, HasWanted, LacksReport, PutsReport, StaysUnreported};
+ghost use Rattle.rq_look.specs.Looks.{AppendsLine, BreaksReport, HasQueue, LacksReport};
+ghost use Rattle.rq_look.specs.Looks.{PutsReport, PutsReportAs, StaysUnreported};
 
 use crate::json::{spelled_out, written};
 use crate::shown_queues::{QueueShown, queues_shown};
 use rq_found::{
-    End, FrontShown, JsonPiece, JsonTables, Trouble, end_after, front_shown, put_beginning,
-    restarted_from,
+    End, FrontShown, JsonPiece, JsonTables, ShownLog, Trouble, end_after, front_shown,
+    put_beginning, restarted_from,
 };
 use rq_report::{OverWrite, write_report_by};
 use rq_restart::{Fault, Plan, Restarted};
@@ -53,9 +54,7 @@ impl Described for ReportShown<'_> {}
 
 impl Serialize for ReportShown<'_> {
     fn serialize<S: Serializer>(&self, out: &mut S) -> Result<(), S::Error> {
-        out.begin_map(None)?;
-        out.key("front")?;
-        self.front.serialize(out)?;
+        self.front.begin(out)?;
         JsonTables(&[&self.units.pieces(), &[JsonPiece::Name("queues")]]).serialize(out)?;
         self.queues.serialize(out)?;
         out.end_map()
@@ -79,21 +78,19 @@ fn report_shown<'a>(
     })
 }
 
-// The restart of a log, from the checkpoint on at an offset, if there is one. The log has the queue, if
-// one is wanted.
+// The restart of a log that has the queue, if one is wanted.
 fn restarted_with<R: Threads + Sync>(
     rt: &R,
     alloc: Global,
-    bytes: &[u8],
-    at: Option<u64>,
-    plan: &Plan,
+    log: &ShownLog<'_>,
     wanted: Option<u32>,
 ) -> Result<Restarted, Trouble>
-    ensures log { OnOk result (IsLog bytes.now) }
-    ensures restart { IfOk result (λ r. IsRestartFrom at bytes.now r × HasQueue r wanted) }
-    ensures refused { IfErr result (LacksReport at bytes.now wanted) }
+    ensures log { OnOk result (IsLog log.now.bytes.now) }
+    ensures restart { IfOk result
+        (λ r. IsRestartFrom log.now.at log.now.bytes.now r × HasQueue r wanted) }
+    ensures refused { IfErr result (LacksReport log.now.at log.now.bytes.now wanted) }
 {
-    let restarted = restarted_from(rt, alloc, bytes, at, plan)?;
+    let restarted = restarted_from(rt, alloc, log)?;
     match wanted {
         Some(queue) if queue as usize >= restarted.state().definitions().len() => {
             Err(Trouble::NoQueue(queue))
@@ -118,34 +115,18 @@ fn json_of(
     Ok(text)
 }
 
-/// Writes the report of a log as one value of JSON, with all of its queues or the one that is
-/// wanted; from the checkpoint on at an offset, if there is one, and then its front says so.
-///
-/// Refuses with `NoQueue` a queue that is not defined, and else what this restart refuses; with
-/// `Resources` where memory is refused, before anything is written, and with `Output` where the
-/// output fails.
-#[tactic(auto, using(crate::proofs::Puts::resources_refused))]
-pub fn report_json<R, W>(
-    rt: &R,
+// Writes the report of a restart as one value of JSON.
+fn put_json<W: Write>(
     alloc: Global,
-    bytes: &[u8],
-    at: Option<u64>,
-    plan: &Plan,
+    restarted: &Restarted,
+    end: &End,
     wanted: Option<u32>,
     output: &mut W,
 ) -> Result<(), Trouble>
-where
-    R: Threads + Sync,
-    W: Write,
-    ensures log { OnOk result (HasWanted at bytes.now wanted) }
-    ensures line { OnOk result ((text : List ℕ)
-        × Appends (W.contents output.old) (W.contents output.new) (text ++ codes "\n")) }
-    ensures refused { IfErr result
-        (StaysUnreported at bytes.now wanted (W.contents output.old) (W.contents output.new)) }
+    ensures line { OnOk result (AppendsLine (W.contents output.old) (W.contents output.new)) }
+    ensures refused { IfErr result (BreaksReport (W.contents output.old) (W.contents output.new)) }
 {
-    let restarted = restarted_with(rt, alloc, bytes, at, plan, wanted)?;
-    let end = end_after(rt, alloc, bytes, at, &restarted, plan)?;
-    let text = json_of(alloc, &restarted, &end, wanted)?;
+    let text = json_of(alloc, restarted, end, wanted)?;
     output.write_all(text.as_bytes())?;
     Ok(())
 }
@@ -209,35 +190,57 @@ fn put_both<W: Write>(first: &[u8], second: &[u8], output: &mut W) -> io::Result
     Ok(())
 }
 
-/// Writes the report of a log as text, or those lines of it that are of the queue that is wanted; from
-/// the checkpoint on at an offset, if there is one, and then a first line says so, unless a queue is
-/// wanted.
-///
-/// Refuses what `report_json` refuses, in the same way.
-#[tactic(auto, using(crate::proofs::Puts::resources_refused, crate::proofs::Puts::report_from))]
-pub fn report<R, W>(
+// Writes the report of a restart as text, or those lines of it that are of the queue that is wanted.
+#[tactic(auto, using(crate::proofs::Puts::report_from))]
+fn put_text<R: Threads + Sync, W: Write>(
     rt: &R,
     alloc: Global,
-    bytes: &[u8],
-    at: Option<u64>,
-    plan: &Plan,
+    log: &ShownLog<'_>,
+    restarted: &Restarted,
     wanted: Option<u32>,
     output: &mut W,
 ) -> Result<(), Trouble>
-where
-    R: Threads + Sync,
-    W: Write,
-    ensures report { OnOk result
-        (PutsReport at bytes.now wanted (W.contents output.old) (W.contents output.new)) }
-    ensures refused { IfErr result
-        (StaysUnreported at bytes.now wanted (W.contents output.old) (W.contents output.new)) }
+    requires log { IsLog log.now.bytes.now }
+    requires restart { IsRestartFrom log.now.at log.now.bytes.now restarted.now
+        × HasQueue restarted.now wanted }
+    ensures report { OnOk result (PutsReport log.now.at log.now.bytes.now wanted
+        (W.contents output.old) (W.contents output.new)) }
+    ensures refused { IfErr result (BreaksReport (W.contents output.old) (W.contents output.new)) }
 {
-    let restarted = restarted_with(rt, alloc, bytes, at, plan, wanted)?;
-    let text = text_of(rt, alloc, &restarted, plan)?;
-    let beginning = beginning_of(alloc, at)?;
+    let text = text_of(rt, alloc, restarted, log.plan)?;
+    let beginning = beginning_of(alloc, log.at)?;
     match wanted {
         Some(queue) => output.write_all(lines_of(&text, queue))?,
         None => put_both(beginning.as_bytes(), &text, output)?,
     }
     Ok(())
+}
+
+/// Writes the report of a log: as text, with a first line that says with which checkpoint the log
+/// begins, if it was carried on, or those lines alone that are of the queue that is wanted; or as one
+/// value of JSON, whose front says so, with all queues or the one that is wanted.
+///
+/// Refuses with `NoQueue` a queue that is not defined, and else what a restart from there refuses;
+/// with `Resources` where memory is refused, before anything is written, and with `Output` where the
+/// output fails.
+pub fn report<R: Threads + Sync, W: Write>(
+    rt: &R,
+    alloc: Global,
+    log: &ShownLog<'_>,
+    wanted: Option<u32>,
+    json: bool,
+    output: &mut W,
+) -> Result<(), Trouble>
+    ensures report { OnOk result (PutsReportAs json log.now.at log.now.bytes.now wanted
+        (W.contents output.old) (W.contents output.new)) }
+    ensures refused { IfErr result (StaysUnreported log.now.at log.now.bytes.now wanted
+        (W.contents output.old) (W.contents output.new)) }
+{
+    let restarted = restarted_with(rt, alloc, log, wanted)?;
+    if json {
+        let end = end_after(rt, alloc, log, &restarted)?;
+        put_json(alloc, &restarted, &end, wanted, output)
+    } else {
+        put_text(rt, alloc, log, &restarted, wanted, output)
+    }
 }

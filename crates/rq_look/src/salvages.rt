@@ -7,19 +7,17 @@ ghost use Rattle.rq_record.specs.declared.fault.Fault.TheVariants.{Resources};
 ghost use Rattle.rq_judged.specs.Views.{why_of};
 ghost use Rattle.rq_found.specs.Ends as ends;
 ghost use Rattle.rq_found.specs.Refusals.{IsBroken};
-ghost use Rattle.rq_look.specs.Looks.{StaysUntold};
+ghost use Rattle.rq_look.specs.Looks.{AppendsSome, LacksScript};
 ghost use Rattle.rq_look.specs.Rests.{EndsFrontOf, IsChoice, PutsSalvage};
-ghost use Rattle.rq_look.specs.Scripts.{LeavesOut};
 
 use crate::behind_fronts::{put_count, put_given_up, standing_behind};
 use crate::beyond::Loose;
-use crate::log_script::{is_untold, put_line, put_records};
+use crate::log_script::{is_untold, put_front, put_line};
 use crate::sheet::{relieve, write_out};
 use rq_behind::Found;
 use rq_found::TextPiece::{Number, Word};
-use rq_found::{End, Trouble, end_of, form_reason, is_whole, put_end, put_text_pieces};
-use rq_front::version;
-use rq_record::{Fault, KeptRecord, Version};
+use rq_found::{End, Put, Trouble, form_reason, is_whole, put_end, put_text_pieces};
+use rq_record::{Fault, KeptRecord};
 use rq_restart::Plan;
 use std::alloc::{AllocError, Global};
 use std::io::Write;
@@ -36,7 +34,7 @@ const WORDS: &str = "\
 
 // Puts the line of what is no line of a script: a body that spells no record, or an operation of the
 // registrant whom a script takes for nobody.
-fn put_untold(text: &mut String, it: &Loose<'_>, reason: &str) -> Result<(), AllocError> {
+fn put_untold(text: &mut String, it: &Loose<'_>, reason: &str) -> Put {
     let count = it.body.len() as u64;
     put_text_pieces(
         text,
@@ -53,18 +51,13 @@ fn put_untold(text: &mut String, it: &Loose<'_>, reason: &str) -> Result<(), All
 }
 
 // Puts the line of a frame whose body spells no record.
-fn put_formless(alloc: Global, text: &mut String, it: &Loose<'_>) -> Result<(), AllocError> {
+fn put_formless(alloc: Global, text: &mut String, it: &Loose<'_>) -> Put {
     let reason = form_reason(alloc, it.version, it.body)?;
     put_untold(text, it, reason.as_str())
 }
 
 // Puts the line of a frame's record, to choose it or not.
-fn put_record(
-    alloc: Global,
-    text: &mut String,
-    it: &Loose<'_>,
-    record: &KeptRecord,
-) -> Result<(), AllocError> {
+fn put_record(alloc: Global, text: &mut String, it: &Loose<'_>, record: &KeptRecord) -> Put {
     if is_untold(record) {
         return put_untold(text, it, "it names the registrant -");
     }
@@ -84,7 +77,7 @@ fn put_choice(alloc: Global, text: &mut String, it: &Loose<'_>) -> Result<(), Fa
 }
 
 // Puts how many bytes fit nothing between two offsets, if there are any.
-fn put_gap(text: &mut String, from: usize, to: usize) -> Result<(), AllocError> {
+fn put_gap(text: &mut String, from: usize, to: usize) -> Put {
     if from >= to {
         return Ok(());
     }
@@ -119,14 +112,12 @@ fn put_spans<W: Write>(
     text: &mut String,
     output: &mut W,
 ) -> Result<(), Trouble>
-    ensures only { OnOk result
-        ((put : List ℕ) × Appends (W.contents output.old) (W.contents output.new) put) }
+    ensures only { OnOk result (AppendsSome (W.contents output.old) (W.contents output.new)) }
     ensures refused { IfErr result IsBroken }
 {
-    let version = version(bytes).unwrap_or(Version::Two);
     let mut at = from;
     for span in found.spans.iter() {
-        put_span(alloc, text, &Loose::of(bytes, version, *span), at)?;
+        put_span(alloc, text, &Loose::of(bytes, *span), at)?;
         relieve(text, output)?;
         at = span.start.saturating_add(span.len).saturating_add(32);
     }
@@ -184,25 +175,19 @@ fn put_rest<W: Write>(alloc: Global, bytes: &[u8], end: &End, output: &mut W) ->
 ///
 /// Refuses what `script` refuses, and in the same way.
 #[tactic(auto, using(crate::proofs::Puts::nothing_untold, crate::proofs::Puts::broken_off))]
-pub fn salvage<R, W>(
+pub fn salvage<R: Threads + Sync, W: Write>(
     rt: &R,
     alloc: Global,
     bytes: &[u8],
     plan: &Plan,
     output: &mut W,
 ) -> Result<(), Trouble>
-where
-    R: Threads + Sync,
-    W: Write,
     ensures told { OnOk result
         (PutsSalvage bytes.now (W.contents output.old) (W.contents output.new)) }
-    ensures untold { IfErr result
-        (LeavesOut bytes.now (W.contents output.old) (W.contents output.new)) }
     ensures refused { IfErr result
-        (StaysUntold bytes.now (W.contents output.old) (W.contents output.new)) }
+        (LacksScript bytes.now (W.contents output.old) (W.contents output.new)) }
 {
-    let end = end_of(rt, alloc, bytes, None, plan)?;
-    put_records(alloc, bytes, end.used, output)?;
+    let end = put_front(rt, alloc, bytes, plan, output)?;
     put_rest(alloc, bytes, &end, output)?;
     Ok(())
 }

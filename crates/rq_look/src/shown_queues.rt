@@ -1,8 +1,9 @@
 //! The queues of a report as JSON, with their free elements and their registrants.
 
 use crate::json::{BytesShown, queue_number};
-use rq_found::{JsonPiece, JsonTables, RegistrantShown, free_elements, registrants_shown};
+use rq_found::{JsonPiece, JsonTables, RegistrantShown, registrants_shown};
 use rq_record::QueueNo;
+use rq_report::free_elements;
 use rq_state::{Definition, KeptElement as Element, State};
 use serde::{Described, Serialize, Serializer};
 use std::alloc::{AllocError, Global};

@@ -1,21 +1,19 @@
 //! What became of one element, and what one unit did.
 
-ghost use Rattle.std.specs.Prelude.{◌≡◌, [], ℕ, List, IfOk, IfErr, OnOk, string_bytes};
-ghost use Rattle.std.specs.Io.KnownBytes.{Appends};
+ghost use Rattle.std.specs.Prelude.{◌≡◌, [], IfOk, IfErr, OnOk, string_bytes};
 ghost use Rattle.rq_record.specs.declared.fault.Fault.TheVariants.{Resources};
 ghost use Rattle.rq_front.specs.Chains.{IsLog};
 ghost use Rattle.rq_found.specs.Refusals.{IsBroken};
-ghost use Rattle.rq_look.specs.Looks.{LacksStory, StaysWithoutStory};
+ghost use Rattle.rq_look.specs.Looks.{AppendsSome, LacksStory, StaysWithoutStory};
 
 use crate::lines::put_record;
 use crate::sheet::{relieve, write_out};
 use rq_found::TextPiece::{Number, Word};
 use rq_found::{
-    End, Event, FollowedQueues, Numbered, Placed, PlacedFrames, Subject, Trouble, end_of,
-    first_state, front_frames, put_beginning, put_end, put_text_pieces, unit_of,
+    End, Event, FollowedQueues, Numbered, Placed, PlacedFrames, Put, ShownLog, Subject, Trouble,
+    end_of, first_state, front_frames, put_beginning, put_end, put_text_pieces, unit_of,
 };
 use rq_record::{Fault, UnitNo};
-use rq_restart::Plan;
 use std::alloc::{AllocError, Global};
 use std::fmt::Write;
 use std::io;
@@ -30,17 +28,12 @@ fn concerns(subject: Subject, event: &Event) -> bool {
 }
 
 // Puts what happened, and the end of its line.
-fn put_happened(text: &mut String, event: &Event) -> Result<(), AllocError> {
+fn put_happened(text: &mut String, event: &Event) -> Put {
     write!(text, "{event}\n")
 }
 
 // Puts the record, and what happened, as a line.
-fn put_event(
-    alloc: Global,
-    text: &mut String,
-    it: &Numbered,
-    event: &Event,
-) -> Result<(), AllocError> {
+fn put_event(alloc: Global, text: &mut String, it: &Numbered, event: &Event) -> Put {
     put_record(alloc, text, it, false)?;
     text.push_str(": ")?;
     put_happened(text, event)
@@ -89,7 +82,7 @@ fn put_told(
         (λ count. count ≡ 0 → string_bytes text.new ≡ string_bytes text.old) }
     ensures refused { IfErr result (λ e. e ≡ Resources) }
 {
-    let it = machine.follow(alloc, placed)?;
+    let it = machine.follow(placed)?;
     let count = put_events(alloc, text, &it, machine.events(), subject)?;
     Ok(count)
 }
@@ -103,8 +96,7 @@ fn tell_record<W: io::Write>(
     text: &mut String,
     output: &mut W,
 ) -> Result<u64, Trouble>
-    ensures only { OnOk result
-        ((put : List ℕ) × Appends (W.contents output.old) (W.contents output.new) put) }
+    ensures only { OnOk result (AppendsSome (W.contents output.old) (W.contents output.new)) }
     ensures nothing { IfOk result (λ count. count ≡ 0 → string_bytes text.old ≡ []
         → (W.contents output.new ≡ W.contents output.old) × (string_bytes text.new ≡ [])) }
     ensures refused { IfErr result IsBroken }
@@ -123,8 +115,7 @@ fn tell_front<W: io::Write>(
     text: &mut String,
     output: &mut W,
 ) -> Result<u64, Trouble>
-    ensures only { OnOk result
-        ((put : List ℕ) × Appends (W.contents output.old) (W.contents output.new) put) }
+    ensures only { OnOk result (AppendsSome (W.contents output.old) (W.contents output.new)) }
     ensures nothing { IfOk result
         (λ told. told ≡ 0 → string_bytes text.old ≡ []
         → W.contents output.new ≡ W.contents output.old) }
@@ -139,7 +130,7 @@ fn tell_front<W: io::Write>(
 }
 
 // Puts that the restart aborts a unit, and what is said behind it.
-fn put_aborted(text: &mut String, unit: u64, behind: &str) -> Result<(), AllocError> {
+fn put_aborted(text: &mut String, unit: u64, behind: &str) -> Put {
     let unit = Number(unit);
     put_text_pieces(
         text,
@@ -148,12 +139,7 @@ fn put_aborted(text: &mut String, unit: u64, behind: &str) -> Result<(), AllocEr
 }
 
 // Puts what the abort of a unit by the restart does to an element, if that is to be told.
-fn put_abort(
-    text: &mut String,
-    unit: u64,
-    event: &Event,
-    subject: Subject,
-) -> Result<(), AllocError> {
+fn put_abort(text: &mut String, unit: u64, event: &Event, subject: Subject) -> Put {
     let is_told = match subject {
         Subject::Unit(told) => told == unit,
         Subject::Element(_) => concerns(subject, event),
@@ -166,12 +152,7 @@ fn put_abort(
 }
 
 // Puts what the restart does to a unit that is open.
-fn put_restart(
-    text: &mut String,
-    unit: u64,
-    events: &[Event],
-    subject: Subject,
-) -> Result<(), AllocError> {
+fn put_restart(text: &mut String, unit: u64, events: &[Event], subject: Subject) -> Put {
     if subject == Subject::Unit(unit) && events.is_empty() {
         return put_aborted(text, unit, "\n");
     }
@@ -182,24 +163,14 @@ fn put_restart(
 }
 
 // Tells what the restart's abort of an open unit does.
-fn tell_abort(
-    text: &mut String,
-    machine: &mut FollowedQueues,
-    unit: u64,
-    subject: Subject,
-) -> Result<(), AllocError> {
+fn tell_abort(text: &mut String, machine: &mut FollowedQueues, unit: u64, subject: Subject) -> Put {
     machine.abort(unit)?;
     put_restart(text, unit, machine.events(), subject)
 }
 
 // Tells what the restart does behind the front: it aborts the open units, rising.
-fn tell_restart(
-    alloc: Global,
-    text: &mut String,
-    machine: &mut FollowedQueues,
-    subject: Subject,
-) -> Result<(), AllocError> {
-    let units = machine.open_units(alloc)?;
+fn tell_restart(text: &mut String, machine: &mut FollowedQueues, subject: Subject) -> Put {
+    let units = machine.open_units()?;
     for unit in units.iter() {
         tell_abort(text, machine, *unit, subject)?;
     }
@@ -207,16 +178,10 @@ fn tell_restart(
 }
 
 // Tells where the front begins, if that is told, where it ends, and what the restart does behind it.
-fn tell_end(
-    alloc: Global,
-    text: &mut String,
-    end: &End,
-    machine: &mut FollowedQueues,
-    subject: Subject,
-) -> Result<(), AllocError> {
+fn tell_end(text: &mut String, end: &End, machine: &mut FollowedQueues, subject: Subject) -> Put {
     put_beginning(text, end.at)?;
     put_end(text, end)?;
-    tell_restart(alloc, text, machine, subject)
+    tell_restart(text, machine, subject)
 }
 
 // Tells of the front, which begins behind these queues, and of its end.
@@ -230,8 +195,7 @@ fn tell_all<W: io::Write>(
     output: &mut W,
 ) -> Result<(), Trouble>
     requires { string_bytes text.now ≡ [] }
-    ensures only { OnOk result
-        ((put : List ℕ) × Appends (W.contents output.old) (W.contents output.new) put) }
+    ensures only { OnOk result (AppendsSome (W.contents output.old) (W.contents output.new)) }
     ensures refused { IfErr result
         (LacksStory subject (W.contents output.old) (W.contents output.new)) }
 {
@@ -239,7 +203,7 @@ fn tell_all<W: io::Write>(
     if told == 0 {
         return Err(Trouble::Nothing(subject));
     }
-    tell_end(alloc, text, end, machine, subject)?;
+    tell_end(text, end, machine, subject)?;
     write_out(text, output)?;
     Ok(())
 }
@@ -251,8 +215,7 @@ fn tell<W: io::Write>(
     subject: Subject,
     output: &mut W,
 ) -> Result<(), Trouble>
-    ensures only { OnOk result
-        ((put : List ℕ) × Appends (W.contents output.old) (W.contents output.new) put) }
+    ensures only { OnOk result (AppendsSome (W.contents output.old) (W.contents output.new)) }
     ensures refused { IfErr result
         (LacksStory subject (W.contents output.old) (W.contents output.new)) }
 {
@@ -265,28 +228,22 @@ fn tell<W: io::Write>(
 
 /// Writes what became of an element, or what a unit did: a line for each record of the front that
 /// has to do with it, where the front ends, and what the restart's aborts do to it. The front begins
-/// with the checkpoint at the offset, if there is one, and then a line says so.
+/// with the checkpoint that the log begins with, if it was carried on, and then a line says so.
 ///
 /// Refuses with `Nothing` a subject of which there is nothing to tell, and then nothing is written;
 /// else as `dump` does.
-pub fn story<R, W>(
+pub fn story<R: Threads + Sync, W: io::Write>(
     rt: &R,
     alloc: Global,
-    bytes: &[u8],
-    at: Option<u64>,
-    plan: &Plan,
     subject: Subject,
+    log: &ShownLog<'_>,
     output: &mut W,
 ) -> Result<(), Trouble>
-where
-    R: Threads + Sync,
-    W: io::Write,
-    ensures log { OnOk result (IsLog bytes.now) }
-    ensures only { OnOk result
-        ((put : List ℕ) × Appends (W.contents output.old) (W.contents output.new) put) }
-    ensures refused { IfErr result (StaysWithoutStory at bytes.now subject
+    ensures log { OnOk result (IsLog log.now.bytes.now) }
+    ensures only { OnOk result (AppendsSome (W.contents output.old) (W.contents output.new)) }
+    ensures refused { IfErr result (StaysWithoutStory log.now.at log.now.bytes.now subject
         (W.contents output.old) (W.contents output.new)) }
 {
-    let end = end_of(rt, alloc, bytes, at, plan)?;
-    tell(alloc, bytes, &end, subject, output)
+    let end = end_of(rt, alloc, log)?;
+    tell(alloc, log.bytes, &end, subject, output)
 }

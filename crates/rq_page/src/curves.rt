@@ -4,6 +4,7 @@ ghost use Rattle.std.specs.Prelude.{◌≤◌};
 
 use crate::markup::Html::{Count, Number, Tag};
 use crate::markup::{NOTHING, put_pieces};
+use rq_found::Put;
 use std::alloc::{AllocError, Global};
 
 /// Where a part of a whole stands on a line of so many steps.
@@ -106,7 +107,7 @@ impl Curve {
     }
 
     // Puts the line through one bin.
-    fn put_bin(&self, text: &mut String, frame: &Canvas, bin: &Bin) -> Result<(), AllocError> {
+    fn put_bin(&self, text: &mut String, frame: &Canvas, bin: &Bin) -> Put {
         let (from, to) = (frame.at(bin.number), frame.at(bin.number.saturating_add(1)));
         let top = frame.below_top(bin.most, self.most);
         let behind = frame.below_top(bin.last, self.most);
@@ -130,7 +131,7 @@ impl Curve {
         )
     }
 
-    fn put_line(&self, text: &mut String, frame: &Canvas) -> Result<(), AllocError> {
+    fn put_line(&self, text: &mut String, frame: &Canvas) -> Put {
         for bin in &self.changed {
             self.put_bin(text, frame, bin)?;
         }
@@ -139,12 +140,7 @@ impl Curve {
 
     /// Puts the curve as a picture, up to where the front ends. Its scale stands beside it, and its
     /// title says what it shows.
-    pub(crate) fn put(
-        &self,
-        text: &mut String,
-        frame: &Canvas,
-        title: &'static str,
-    ) -> Result<(), AllocError> {
+    pub(crate) fn put(&self, text: &mut String, frame: &Canvas, title: &'static str) -> Put {
         let (width, height) = (Number(frame.width), Number(frame.height));
         put_pieces(
             text,
@@ -178,7 +174,7 @@ impl Curve {
 }
 
 /// Puts the scale below a picture of the whole log.
-pub(crate) fn put_axis(text: &mut String, total: u64) -> Result<(), AllocError> {
+pub(crate) fn put_axis(text: &mut String, total: u64) -> Put {
     put_pieces(
         text,
         &[

@@ -5,41 +5,57 @@ use crate::markup::Html::{Number, Tag, Text};
 use crate::markup::put_pieces;
 use crate::shown::Linked;
 use crate::steps::{Step, put_steps};
+use rq_found::Put;
 use rq_record::Name;
-use std::alloc::AllocError;
 use std::collections::BTreeMap;
 
-// What stands before a table of lives: its name, what it is about, and the heads of its columns.
-fn put_top(
-    text: &mut String,
-    name: &'static str,
-    title: &'static str,
-    about: &'static str,
-    columns: &'static str,
-) -> Result<(), AllocError> {
+// Of each part its name, its title, what it is about, and the heads of its columns.
+const ELEMENTS: [&str; 4] = [
+    "elements",
+    "Elements",
+    "What became of each element, record by record",
+    "<th scope=\"col\">element</th>",
+];
+
+const UNITS: [&str; 4] = [
+    "units",
+    "Units",
+    "What each unit did, record by record",
+    "<th scope=\"col\">unit</th>",
+];
+
+const REGISTRANTS: [&str; 4] = [
+    "registrants",
+    "Registrants",
+    "What each registrant did, record by record",
+    "<th scope=\"col\">registrant</th><th scope=\"col\">queue</th>",
+];
+
+// What stands before a table of lives.
+fn put_top(text: &mut String, words: &[&'static str; 4]) -> Put {
     put_pieces(
         text,
         &[
             Tag("<section id=\""),
-            Tag(name),
+            Tag(words[0]),
             Tag("\">\n<h2>"),
-            Tag(title),
+            Tag(words[1]),
             Tag("</h2>\n<div class=\"scroll\"><table class=\"lives\">\n<caption>"),
-            Tag(about),
+            Tag(words[2]),
             Tag("</caption>\n<tr>"),
-            Tag(columns),
+            Tag(words[3]),
             Tag("<th scope=\"col\">life</th></tr>\n"),
         ],
     )
 }
 
 // What stands behind it.
-fn put_bottom(text: &mut String) -> Result<(), AllocError> {
+fn put_bottom(text: &mut String) -> Put {
     text.push_str("</table></div>\n</section>\n")
 }
 
 // Puts the steps of a life, and the end of its row.
-fn put_life(text: &mut String, shown: &Linked<'_>, steps: &[Step]) -> Result<(), AllocError> {
+fn put_life(text: &mut String, shown: &Linked<'_>, steps: &[Step]) -> Put {
     if steps.is_empty() {
         return text.push_str("the front tells nothing of it</td></tr>\n");
     }
@@ -54,7 +70,7 @@ fn put_numbered(
     kind: &'static str,
     number: u64,
     steps: &[Step],
-) -> Result<(), AllocError> {
+) -> Put {
     let digits = Number(number);
     put_pieces(
         text,
@@ -75,54 +91,40 @@ fn put_all_numbered(
     shown: &Linked<'_>,
     kind: &'static str,
     lives: &BTreeMap<u64, Vec<Step>>,
-) -> Result<(), AllocError> {
+) -> Put {
     for (number, steps) in lives {
         put_numbered(text, shown, kind, *number, steps)?;
     }
     Ok(())
 }
 
-/// Puts what became of elements.
-pub(crate) fn put_elements(
+// Puts a part of lives by number, if there is one.
+fn put_part(
     text: &mut String,
     shown: &Linked<'_>,
-    lives: &Lives,
-) -> Result<(), AllocError> {
-    if lives.elements.is_empty() {
+    words: &[&'static str; 4],
+    kind: &'static str,
+    lives: &BTreeMap<u64, Vec<Step>>,
+) -> Put {
+    if lives.is_empty() {
         return Ok(());
     }
-    put_top(
-        text,
-        "elements",
-        "Elements",
-        "What became of each element, record by record",
-        "<th scope=\"col\">element</th>",
-    )?;
-    put_all_numbered(text, shown, "e", &lives.elements)?;
+    put_top(text, words)?;
+    put_all_numbered(text, shown, kind, lives)?;
     put_bottom(text)
+}
+
+/// Puts what became of elements.
+pub(crate) fn put_elements(text: &mut String, shown: &Linked<'_>, lives: &Lives) -> Put {
+    put_part(text, shown, &ELEMENTS, "e", &lives.elements)
 }
 
 /// Puts what units did.
-pub(crate) fn put_unit_histories(
-    text: &mut String,
-    shown: &Linked<'_>,
-    lives: &Lives,
-) -> Result<(), AllocError> {
-    if lives.units.is_empty() {
-        return Ok(());
-    }
-    put_top(
-        text,
-        "units",
-        "Units",
-        "What each unit did, record by record",
-        "<th scope=\"col\">unit</th>",
-    )?;
-    put_all_numbered(text, shown, "u", &lives.units)?;
-    put_bottom(text)
+pub(crate) fn put_unit_histories(text: &mut String, shown: &Linked<'_>, lives: &Lives) -> Put {
+    put_part(text, shown, &UNITS, "u", &lives.units)
 }
 
-fn put_queue(text: &mut String, shown: &Linked<'_>, queue: u32) -> Result<(), AllocError> {
+fn put_queue(text: &mut String, shown: &Linked<'_>, queue: u32) -> Put {
     put_pieces(text, &[shown.queue_link(queue), Tag("</td><td>")])
 }
 
@@ -132,7 +134,7 @@ fn put_registrant(
     shown: &Linked<'_>,
     registrant: &(u32, Name),
     steps: &[Step],
-) -> Result<(), AllocError> {
+) -> Put {
     let (queue, name) = (registrant.0, registrant.1.text());
     put_pieces(
         text,
@@ -150,11 +152,7 @@ fn put_registrant(
     put_life(text, shown, steps)
 }
 
-fn put_all_registrants(
-    text: &mut String,
-    shown: &Linked<'_>,
-    lives: &Lives,
-) -> Result<(), AllocError> {
+fn put_all_registrants(text: &mut String, shown: &Linked<'_>, lives: &Lives) -> Put {
     for (registrant, steps) in &lives.registrants {
         put_registrant(text, shown, registrant, steps)?;
     }
@@ -162,21 +160,11 @@ fn put_all_registrants(
 }
 
 /// Puts what registrants did.
-pub(crate) fn put_registrants(
-    text: &mut String,
-    shown: &Linked<'_>,
-    lives: &Lives,
-) -> Result<(), AllocError> {
+pub(crate) fn put_registrants(text: &mut String, shown: &Linked<'_>, lives: &Lives) -> Put {
     if lives.registrants.is_empty() {
         return Ok(());
     }
-    put_top(
-        text,
-        "registrants",
-        "Registrants",
-        "What each registrant did, record by record",
-        "<th scope=\"col\">registrant</th><th scope=\"col\">queue</th>",
-    )?;
+    put_top(text, &REGISTRANTS)?;
     put_all_registrants(text, shown, lives)?;
     put_bottom(text)
 }

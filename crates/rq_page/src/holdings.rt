@@ -4,7 +4,7 @@ use crate::markup::Html::{Count, Number, Tag, Text};
 use crate::markup::{Html, put_pieces};
 use crate::payloads::put_payload_cell;
 use crate::shown::Linked;
-use rq_found::{LastShown, RegistrantShown};
+use rq_found::{LastShown, Put, RegistrantShown};
 use rq_state::KeptElement as Element;
 use std::alloc::{AllocError, Global};
 
@@ -17,12 +17,7 @@ const ROOM: usize = 900_000;
 
 const WHOLE: usize = 500_000;
 
-fn put_element(
-    alloc: Global,
-    text: &mut String,
-    shown: &Linked<'_>,
-    e: &Element,
-) -> Result<(), AllocError> {
+fn put_element(alloc: Global, text: &mut String, shown: &Linked<'_>, e: &Element) -> Put {
     put_pieces(
         text,
         &[
@@ -60,7 +55,7 @@ fn put_rows(
 }
 
 /// Puts how many more there are than are shown.
-pub(crate) fn put_more(text: &mut String, all: usize, count: usize) -> Result<(), AllocError> {
+pub(crate) fn put_more(text: &mut String, all: usize, count: usize) -> Put {
     if all <= count {
         return Ok(());
     }
@@ -73,7 +68,7 @@ fn put_elements(
     text: &mut String,
     shown: &Linked<'_>,
     elements: &[&Element],
-) -> Result<(), AllocError> {
+) -> Put {
     if elements.is_empty() {
         return Ok(());
     }
@@ -93,7 +88,7 @@ fn put_last<'a>(
     shown: &Linked<'_>,
     registrant: Html<'a>,
     last: &LastShown<'a>,
-) -> Result<(), AllocError> {
+) -> Put {
     let element = match last.element {
         Some(element) => shown.element_link(element),
         None => Tag("-"),
@@ -115,7 +110,7 @@ fn put_last<'a>(
 }
 
 // Puts a registrant that did nothing.
-fn put_idle(text: &mut String, registrant: Html<'_>) -> Result<(), AllocError> {
+fn put_idle(text: &mut String, registrant: Html<'_>) -> Put {
     put_pieces(
         text,
         &[
@@ -131,7 +126,7 @@ fn put_registrant(
     shown: &Linked<'_>,
     queue: u32,
     it: &RegistrantShown<'_>,
-) -> Result<(), AllocError> {
+) -> Put {
     let registrant = shown.registrant_link(queue, it.name);
     match &it.last {
         Some(last) => put_last(text, shown, registrant, last),
@@ -161,7 +156,7 @@ fn put_registrants(
     shown: &Linked<'_>,
     queue: u32,
     registrants: &[RegistrantShown<'_>],
-) -> Result<(), AllocError> {
+) -> Put {
     if registrants.is_empty() {
         return Ok(());
     }
@@ -176,7 +171,7 @@ fn put_registrants(
 }
 
 // Puts how much folds out below a queue.
-fn put_fold_head(text: &mut String, elements: usize, registrants: usize) -> Result<(), AllocError> {
+fn put_fold_head(text: &mut String, elements: usize, registrants: usize) -> Put {
     put_pieces(
         text,
         &[
@@ -197,7 +192,7 @@ pub(crate) fn put_fold(
     queue: u32,
     elements: &[&Element],
     registrants: &[RegistrantShown<'_>],
-) -> Result<(), AllocError> {
+) -> Put {
     if elements.is_empty() && registrants.is_empty() {
         return Ok(());
     }

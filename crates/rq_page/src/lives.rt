@@ -3,7 +3,7 @@
 ghost use Rattle.std.specs.Prelude.{◌≡◌, IfErr};
 ghost use Rattle.rq_record.specs.declared.fault.Fault.TheVariants.{Resources};
 
-use crate::records::put_row;
+use crate::records::{Happening, put_row};
 use crate::shown::Linked;
 use crate::steps::{At, STEPS, Step, step_of};
 use rq_found::{Event, Numbered, unit_of};
@@ -19,12 +19,12 @@ const ROWS: usize = 1_800_000;
 pub(crate) struct Lives {
     /// The rows of the records.
     pub(crate) rows: String,
-    /// How many these are.
+    /// The number of the first record that is left out, if one is.
+    pub(crate) until: Option<u64>,
+    /// How many rows there are.
     pub(crate) count: u64,
     /// How many more there would be.
     pub(crate) more: u64,
-    /// The number of the first record that is left out.
-    pub(crate) until: u64,
     /// The steps of each element.
     pub(crate) elements: BTreeMap<u64, Vec<Step>>,
     /// The steps of each unit.
@@ -100,9 +100,9 @@ impl Lives {
     pub(crate) fn new(alloc: Global, shown: &Linked<'_>) -> Result<Lives, AllocError> {
         Ok(Lives {
             rows: String::new(alloc),
+            until: None,
             count: 0,
             more: 0,
-            until: u64::MAX,
             elements: begun(alloc, shown.elements)?,
             units: begun(alloc, shown.units)?,
             registrants: BTreeMap::new(alloc),
@@ -241,30 +241,27 @@ impl Lives {
         &mut self,
         alloc: Global,
         shown: &Linked<'_>,
-        it: &Numbered,
-        events: &[Event],
-        truth: bool,
+        done: &Happening<'_>,
     ) -> Result<(), AllocError> {
         if self.rows.len() >= ROWS {
             self.more = self.more.saturating_add(1);
-            self.until = self.until.min(it.number);
+            self.until = self.until.or(Some(done.it.number));
             return Ok(());
         }
         self.count = self.count.saturating_add(1);
-        put_row(alloc, &mut self.rows, shown, it, events, truth)
+        put_row(alloc, &mut self.rows, shown, done)
     }
 
-    /// A record, and what happens at it. The truth is that of a checkpoint.
+    /// A record, and what happens at it.
     pub(crate) fn take(
         &mut self,
         alloc: Global,
         shown: &Linked<'_>,
-        it: &Numbered,
-        events: &[Event],
-        truth: bool,
+        done: &Happening<'_>,
     ) -> Result<(), Fault>
         ensures { IfErr result (λ e. e ≡ Resources) }
     {
+        let (it, events) = (done.it, done.events);
         let unit = unit_of(&it.record).map(|unit| unit.0);
         let of_element = self.take_elements(alloc, shown, events, At::Record(it.number), unit)?;
         let of_unit = self.take_unit(alloc, shown, it, events)?;
@@ -272,7 +269,7 @@ impl Lives {
             self.take_named(alloc, it, events)?;
         }
         if shown.all || of_element || of_unit {
-            self.take_row(alloc, shown, it, events, truth)?;
+            self.take_row(alloc, shown, done)?;
         }
         Ok(())
     }

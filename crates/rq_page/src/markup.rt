@@ -4,8 +4,7 @@ ghost use Rattle.std.specs.Prelude.{◌≡◌, ◌++◌, true, OnOk, string_byte
 ghost use Rattle.rq_page.specs.Markup.{AppendsText, is_text, page_foot};
 
 use crate::markup::Html::{Count, Number, Tag, Text};
-use rq_found::is_hidden;
-use std::alloc::AllocError;
+use rq_found::{Put, is_hidden};
 use std::fmt::Write;
 
 /// A part of a page. A `Tag` is of this crate alone; what is of the log is a number, or a text or a
@@ -67,7 +66,7 @@ fn visible(c: char) -> char
 }
 
 /// Puts a character as text, of which none is markup.
-pub(crate) fn put_char(text: &mut String, c: char) -> Result<(), AllocError>
+pub(crate) fn put_char(text: &mut String, c: char) -> Put
     ensures { OnOk result (AppendsText (string_bytes text.old) (string_bytes text.new)) }
 {
     match c {
@@ -83,7 +82,7 @@ pub(crate) fn put_char(text: &mut String, c: char) -> Result<(), AllocError>
 /// Puts a text into HTML: each character that HTML takes for its own is spelled out, and each hidden
 /// one is shown by its picture, or as one that is not known. Refuses if memory is refused, and
 /// then some of it may stand there.
-pub fn put_text(text: &mut String, word: &str) -> Result<(), AllocError>
+pub fn put_text(text: &mut String, word: &str) -> Put
     ensures { OnOk result (AppendsText (string_bytes text.old) (string_bytes text.new)) }
 {
     for c in word.chars() {
@@ -93,7 +92,7 @@ pub fn put_text(text: &mut String, word: &str) -> Result<(), AllocError>
 }
 
 // Puts the next three digits of a number, and a comma; nothing, if only zeros were before.
-fn put_group(text: &mut String, digits: u64, is_first: bool) -> Result<(), AllocError> {
+fn put_group(text: &mut String, digits: u64, is_first: bool) -> Put {
     if is_first {
         write!(text, "{digits},")
     } else {
@@ -101,7 +100,7 @@ fn put_group(text: &mut String, digits: u64, is_first: bool) -> Result<(), Alloc
     }
 }
 
-fn put_last(text: &mut String, digits: u64, is_first: bool) -> Result<(), AllocError> {
+fn put_last(text: &mut String, digits: u64, is_first: bool) -> Put {
     if is_first {
         write!(text, "{digits}")
     } else {
@@ -109,7 +108,7 @@ fn put_last(text: &mut String, digits: u64, is_first: bool) -> Result<(), AllocE
     }
 }
 
-fn put_count(text: &mut String, number: u64) -> Result<(), AllocError> {
+fn put_count(text: &mut String, number: u64) -> Put {
     let mut left = number;
     let mut is_first = true;
     for group in GROUPS.iter().copied() {
@@ -123,22 +122,22 @@ fn put_count(text: &mut String, number: u64) -> Result<(), AllocError> {
     put_last(text, left, is_first)
 }
 
-fn put_link(text: &mut String, kind: &'static str, number: u64) -> Result<(), AllocError> {
+fn put_link(text: &mut String, kind: &'static str, number: u64) -> Put {
     write!(text, "<a href=\"#{kind}{number}\">{number}</a>")
 }
 
-fn put_named(text: &mut String, queue: u32, name: &str) -> Result<(), AllocError> {
+fn put_named(text: &mut String, queue: u32, name: &str) -> Put {
     write!(text, "{queue} ")?;
     put_text(text, name)
 }
 
-fn put_queue(text: &mut String, queue: u32, name: &str) -> Result<(), AllocError> {
+fn put_queue(text: &mut String, queue: u32, name: &str) -> Put {
     write!(text, "<a href=\"#q{queue}\">")?;
     put_named(text, queue, name)?;
     text.push_str("</a>")
 }
 
-fn put_registrant(text: &mut String, queue: u32, name: &str) -> Result<(), AllocError> {
+fn put_registrant(text: &mut String, queue: u32, name: &str) -> Put {
     write!(text, "<a href=\"#g{queue}-")?;
     put_text(text, name)?;
     text.push_str("\">")?;
@@ -146,7 +145,7 @@ fn put_registrant(text: &mut String, queue: u32, name: &str) -> Result<(), Alloc
     text.push_str("</a>")
 }
 
-fn put_piece(text: &mut String, piece: &Html<'_>) -> Result<(), AllocError> {
+fn put_piece(text: &mut String, piece: &Html<'_>) -> Put {
     match piece {
         Html::Tag(tag) => text.push_str(tag),
         Html::Number(number) => write!(text, "{number}"),
@@ -160,7 +159,7 @@ fn put_piece(text: &mut String, piece: &Html<'_>) -> Result<(), AllocError> {
 }
 
 /// Puts one piece behind the other.
-pub(crate) fn put_pieces(text: &mut String, pieces: &[Html<'_>]) -> Result<(), AllocError> {
+pub(crate) fn put_pieces(text: &mut String, pieces: &[Html<'_>]) -> Put {
     for piece in pieces {
         put_piece(text, piece)?;
     }
@@ -174,7 +173,7 @@ pub(crate) fn put_head<'a>(
     name: &'a str,
     style: &'static str,
     sum: &'a str,
-) -> Result<(), AllocError> {
+) -> Put {
     put_pieces(
         text,
         &[
@@ -197,7 +196,7 @@ pub(crate) fn put_head<'a>(
 }
 
 /// Puts what stands behind the last part.
-pub(crate) fn put_foot(text: &mut String) -> Result<(), AllocError>
+pub(crate) fn put_foot(text: &mut String) -> Put
     ensures { OnOk result (string_bytes text.new ≡ string_bytes text.old ++ page_foot) }
 {
     text.push_str("</body>\n</html>\n")

@@ -16,13 +16,13 @@ use crate::questions::{Asked, Order};
 use crate::records::put_record_rows;
 use crate::shown::Linked;
 use crate::style::{STYLE, sum_of_style};
-use crate::summaries::{Parts, put_header, put_parts, put_summary};
+use crate::summaries::{put_header, put_parts, put_summary};
 use crate::surveys::{Survey, surveyed};
 use crate::tables::put_queue_table;
 use crate::units::put_open;
 use crate::walks::lives_of;
-use rq_found::{End, Trouble, end_after, first_state, restarted_from};
-use rq_restart::{Fault, Plan, Restarted, audit, audit_at};
+use rq_found::{End, Put, ShownLog, Trouble, end_after, first_state, restarted_from};
+use rq_restart::{Fault, Restarted, audit, audit_at};
 use rq_state::State;
 use std::alloc::{AllocError, Global};
 use std::io::Write;
@@ -66,37 +66,34 @@ struct PageContents {
     all: bool,
 }
 
-// Which checkpoints are true, from the one on at an offset, if there is one.
+// Which checkpoints are true, from the one on that the log begins with, if there is one.
 fn audited_from<R: Threads + Sync>(
     rt: &R,
     alloc: Global,
-    bytes: &[u8],
-    at: Option<u64>,
-    plan: &Plan,
+    log: &ShownLog<'_>,
 ) -> Result<Vec<(u64, bool)>, Fault>
-    ensures { IfErr result (RefusedFrom at bytes.now) }
+    ensures { IfErr result (RefusedFrom log.now.at log.now.bytes.now) }
 {
-    match at {
-        None => audit(rt, alloc, bytes, plan),
-        Some(at) => audit_at(rt, alloc, bytes, at, plan),
+    match log.at {
+        None => audit(rt, alloc, log.bytes, log.plan),
+        Some(at) => audit_at(rt, alloc, log.bytes, at, log.plan),
     }
 }
 
 fn found_in<R: Threads + Sync>(
     rt: &R,
     alloc: Global,
-    bytes: &[u8],
-    at: Option<u64>,
-    plan: &Plan,
+    log: &ShownLog<'_>,
 ) -> Result<RestartedLog, Trouble>
-    ensures log { OnOk result (IsLog bytes.now) }
-    ensures restart { IfOk result (λ found. IsRestartFrom at bytes.now found.restarted) }
-    ensures refused { IfErr result
-        (λ e. (IsLog bytes.now × IsBroken e) ⊎ IsRefusal at bytes.now e) }
+    ensures log { OnOk result (IsLog log.now.bytes.now) }
+    ensures restart { IfOk result
+        (λ found. IsRestartFrom log.now.at log.now.bytes.now found.restarted) }
+    ensures refused { IfErr result (λ e. (IsLog log.now.bytes.now × IsBroken e)
+        ⊎ IsRefusal log.now.at log.now.bytes.now e) }
 {
-    let restarted = restarted_from(rt, alloc, bytes, at, plan)?;
-    let end = end_after(rt, alloc, bytes, at, &restarted, plan)?;
-    let checkpoints = audited_from(rt, alloc, bytes, at, plan)?;
+    let restarted = restarted_from(rt, alloc, log)?;
+    let end = end_after(rt, alloc, log, &restarted)?;
+    let checkpoints = audited_from(rt, alloc, log)?;
     Ok(RestartedLog {
         restarted,
         end,
@@ -133,15 +130,6 @@ fn contents_of(
         walked,
         wanted,
     })
-}
-
-fn parts_of(lives: &Lives) -> Parts {
-    Parts {
-        elements: !lives.elements.is_empty(),
-        units: !lives.units.is_empty(),
-        registrants: !lives.registrants.is_empty(),
-        records: lives.count > 0,
-    }
 }
 
 // What is shown, as far as it is known before lives are gathered: whether those of all may be.
@@ -184,15 +172,9 @@ fn all_fit(alloc: Global, bytes: &[u8], contents: &Contents) -> Result<bool, Tro
     Ok(lives.more == 0)
 }
 
-fn told_of(
-    alloc: Global,
-    bytes: &[u8],
-    found: RestartedLog,
-    asked: &Asked<'_>,
-) -> Result<PageContents, Trouble>
+fn told_of(alloc: Global, bytes: &[u8], contents: Contents) -> Result<PageContents, Trouble>
     ensures { IfErr result IsBroken }
 {
-    let contents = contents_of(alloc, bytes, found, asked)?;
     let all = all_fit(alloc, bytes, &contents)?;
     let lives = gathered(alloc, bytes, &contents, all)?;
     Ok(PageContents {
@@ -211,7 +193,7 @@ fn shown_of(told: &PageContents) -> Linked<'_> {
     shown
 }
 
-fn put_page_head(alloc: Global, text: &mut String, asked: &Asked<'_>) -> Result<(), AllocError> {
+fn put_page_head(alloc: Global, text: &mut String, asked: &Asked<'_>) -> Put {
     let sum = sum_of_style(alloc)?;
     put_head(text, asked.name, STYLE, sum.as_str())
 }
@@ -223,12 +205,12 @@ fn put_top(
     bytes: &[u8],
     told: &PageContents,
     asked: &Asked<'_>,
-) -> Result<(), AllocError> {
+) -> Put {
     let found = &told.contents.found;
     let (restarted, end) = (&found.restarted, &found.end);
     put_page_head(alloc, text, asked)?;
     put_header(text, asked, restarted, end)?;
-    put_parts(text, &parts_of(&told.lives))?;
+    put_parts(text, &told.lives)?;
     text.push_str("<main>\n")?;
     let checkpoints = found.checkpoints.as_slice();
     put_summary(alloc, text, bytes, restarted, end, checkpoints)
@@ -241,7 +223,7 @@ fn put_middle(
     shown: &Linked<'_>,
     contents: &Contents,
     order: Order,
-) -> Result<(), AllocError> {
+) -> Put {
     let (seen, found) = (&contents.walked.seen, &contents.found);
     let (state, end) = (found.restarted.state(), &found.end);
     put_picture(alloc, text, seen, end, found.checkpoints.as_slice())?;
@@ -250,7 +232,7 @@ fn put_middle(
 }
 
 // Puts the lives that are shown.
-fn put_lives(text: &mut String, shown: &Linked<'_>, lives: &Lives) -> Result<(), AllocError> {
+fn put_lives(text: &mut String, shown: &Linked<'_>, lives: &Lives) -> Put {
     put_elements(text, shown, lives)?;
     put_unit_histories(text, shown, lives)?;
     put_registrants(text, shown, lives)?;
@@ -265,7 +247,7 @@ fn put_all(
     bytes: &[u8],
     told: &PageContents,
     asked: &Asked<'_>,
-) -> Result<(), AllocError>
+) -> Put
     ensures { OnOk result ((put : List ℕ) × (string_bytes text.new ≡ put ++ page_foot)) }
 {
     let shown = shown_of(told);
@@ -295,34 +277,30 @@ fn put_page<W: Write>(
 /// Writes a log as one page of HTML: where its front ends and why, a picture of the log along its
 /// length, the units that were open at the front's end, and each queue with its depth along the log
 /// and its elements; and what became of each element, unit and registrant, record by record, if all
-/// of it fits, and else of those that are asked for. Of a log that begins with the checkpoint at an
-/// offset it shows what comes from there on. The page has no parts outside and no script. It is made
+/// of it fits, and else of those that are asked for. Of a log that was carried on it shows what comes
+/// from the checkpoint on that it begins with. The page has no parts outside and no script. It is made
 /// in memory, and its length is bounded whatever the log is.
 ///
 /// Refuses what a restart refuses, from there if there is an offset, and with `Resources` if memory
 /// is refused, and before anything is written; and with `Output` if the output fails, and then some
 /// of it may be written.
-pub fn page<R, W>(
+pub fn page<R: Threads + Sync, W: Write>(
     rt: &R,
     alloc: Global,
-    bytes: &[u8],
-    at: Option<u64>,
-    plan: &Plan,
     asked: &Asked<'_>,
+    log: &ShownLog<'_>,
     output: &mut W,
 ) -> Result<(), Trouble>
-where
-    R: Threads + Sync,
-    W: Write,
-    ensures log { OnOk result (IsLog bytes.now) }
+    ensures log { OnOk result (IsLog log.now.bytes.now) }
     ensures restart { OnOk result
-        ((r : fronts.Restarted) × IsRestartFrom at bytes.now r) }
+        ((r : fronts.Restarted) × IsRestartFrom log.now.at log.now.bytes.now r) }
     ensures whole { OnOk result ((put : List ℕ)
         × Appends (W.contents output.old) (W.contents output.new) (put ++ page_foot)) }
-    ensures refused { IfErr result
-        (StaysUnshown at bytes.now (W.contents output.old) (W.contents output.new)) }
+    ensures refused { IfErr result (StaysUnshown log.now.at log.now.bytes.now
+        (W.contents output.old) (W.contents output.new)) }
 {
-    let found = found_in(rt, alloc, bytes, at, plan)?;
-    let told = told_of(alloc, bytes, found, asked)?;
-    put_page(alloc, bytes, &told, asked, output)
+    let found = found_in(rt, alloc, log)?;
+    let contents = contents_of(alloc, log.bytes, found, asked)?;
+    let told = told_of(alloc, log.bytes, contents)?;
+    put_page(alloc, log.bytes, &told, asked, output)
 }

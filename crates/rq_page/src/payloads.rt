@@ -2,6 +2,7 @@
 
 use crate::markup::Html::{Count, Tag};
 use crate::markup::{put_char, put_pieces};
+use rq_found::{Put, put_digits};
 use std::alloc::{AllocError, Global};
 use std::str::from_utf8;
 
@@ -9,7 +10,7 @@ use std::str::from_utf8;
 const FIRST: usize = 80;
 
 // Puts a character; the end of a line and a tab with a mark before them, so that both are seen.
-fn put_kept(text: &mut String, c: char) -> Result<(), AllocError> {
+fn put_kept(text: &mut String, c: char) -> Put {
     match c {
         '\n' => text.push_str("\u{21b5}\n"),
         '\t' => text.push_str("\u{21e5}\t"),
@@ -27,19 +28,6 @@ fn put_characters(text: &mut String, word: &str, most: usize) -> Result<usize, A
     Ok(shown)
 }
 
-// Puts the first bytes as digits, two each, and answers how many these are.
-fn put_digits(
-    alloc: Global,
-    text: &mut String,
-    bytes: &[u8],
-    most: usize,
-) -> Result<usize, AllocError> {
-    let shown = bytes.len().min(most);
-    let digits = hex::encode(alloc, &bytes[..shown])?;
-    text.push_str(digits.as_str())?;
-    Ok(shown)
-}
-
 // Puts the first of a payload, as text if it is one, and answers how many bytes these have.
 fn put_first(
     alloc: Global,
@@ -54,7 +42,7 @@ fn put_first(
 }
 
 // Puts what stands before a payload: whether its bytes are shown as digits.
-fn put_form(text: &mut String, bytes: &[u8]) -> Result<(), AllocError> {
+fn put_form(text: &mut String, bytes: &[u8]) -> Put {
     match from_utf8(bytes) {
         Ok(_) => text.push_str("<bdi class=\"text\">"),
         Err(_) => text.push_str("<bdi class=\"text hex\">"),
@@ -62,7 +50,7 @@ fn put_form(text: &mut String, bytes: &[u8]) -> Result<(), AllocError> {
 }
 
 // Puts all of a payload, behind the first of it.
-fn put_rest(alloc: Global, text: &mut String, bytes: &[u8]) -> Result<(), AllocError> {
+fn put_rest(alloc: Global, text: &mut String, bytes: &[u8]) -> Put {
     put_pieces(
         text,
         &[
@@ -77,13 +65,7 @@ fn put_rest(alloc: Global, text: &mut String, bytes: &[u8]) -> Result<(), AllocE
 }
 
 // Puts what stands behind the first of a payload, of which so many bytes are shown.
-fn put_behind(
-    alloc: Global,
-    text: &mut String,
-    bytes: &[u8],
-    shown: usize,
-    whole: bool,
-) -> Result<(), AllocError> {
+fn put_behind(alloc: Global, text: &mut String, bytes: &[u8], shown: usize, whole: bool) -> Put {
     if shown >= bytes.len() {
         return text.push_str("</bdi>");
     }
@@ -96,12 +78,7 @@ fn put_behind(
 
 /// Puts a payload: its first characters, or bytes if it is no text, and how many bytes it has; all
 /// of it to be folded out, if that is wanted.
-pub(crate) fn put_payload_cell(
-    alloc: Global,
-    text: &mut String,
-    bytes: &[u8],
-    whole: bool,
-) -> Result<(), AllocError> {
+pub(crate) fn put_payload_cell(alloc: Global, text: &mut String, bytes: &[u8], whole: bool) -> Put {
     if bytes.is_empty() {
         return text.push_str("<i>no bytes</i>");
     }

@@ -4,7 +4,7 @@ use crate::curves::{along, bin_of, put_axis};
 use crate::markup::Html::{Count, Number, Tag};
 use crate::markup::{NOTHING, put_pieces};
 use crate::surveys::{BINS, Bin, Survey};
-use rq_found::End;
+use rq_found::{End, Put};
 use std::alloc::{AllocError, Global};
 use std::collections::BTreeMap;
 
@@ -39,11 +39,11 @@ fn most_of(bins: &[Bin]) -> u64 {
     most
 }
 
-fn put_count(text: &mut String, kind: &'static str, count: u64) -> Result<(), AllocError> {
+fn put_count(text: &mut String, kind: &'static str, count: u64) -> Put {
     put_pieces(text, &[Count(count), Tag(" "), Tag(kind), Tag(" ")])
 }
 
-fn put_counts(text: &mut String, bin: &Bin) -> Result<(), AllocError> {
+fn put_counts(text: &mut String, bin: &Bin) -> Put {
     for (kind, count) in bin {
         put_count(text, *kind, *count)?;
     }
@@ -62,7 +62,7 @@ struct BarPart {
 }
 
 // Puts a rectangle, and what stands behind it.
-fn put_part(text: &mut String, part: &BarPart) -> Result<(), AllocError> {
+fn put_part(text: &mut String, part: &BarPart) -> Put {
     put_pieces(
         text,
         &[
@@ -82,13 +82,7 @@ fn put_part(text: &mut String, part: &BarPart) -> Result<(), AllocError> {
 }
 
 // Puts the records of one kind above those below.
-fn put_kind(
-    text: &mut String,
-    kind: &'static str,
-    x: u64,
-    base: u64,
-    top: u64,
-) -> Result<(), AllocError> {
+fn put_kind(text: &mut String, kind: &'static str, x: u64, base: u64, top: u64) -> Put {
     let part = BarPart {
         class: kind,
         x,
@@ -101,7 +95,7 @@ fn put_kind(
 }
 
 // Puts the records of one bin, one kind on the other; the most of any bin fill the height.
-fn put_stack(text: &mut String, bin: &Bin, x: u64, most: u64) -> Result<(), AllocError> {
+fn put_stack(text: &mut String, bin: &Bin, x: u64, most: u64) -> Put {
     let mut below: u64 = 0;
     for (kind, count) in bin {
         let base = along(below, most, HEIGHT);
@@ -112,7 +106,7 @@ fn put_stack(text: &mut String, bin: &Bin, x: u64, most: u64) -> Result<(), Allo
 }
 
 // Puts the same, with what the pointer shows of it.
-fn put_bar(text: &mut String, bin: &Bin, x: u64, most: u64) -> Result<(), AllocError> {
+fn put_bar(text: &mut String, bin: &Bin, x: u64, most: u64) -> Put {
     text.push_str("<g><title>")?;
     put_counts(text, bin)?;
     text.push_str("</title>")?;
@@ -120,7 +114,7 @@ fn put_bar(text: &mut String, bin: &Bin, x: u64, most: u64) -> Result<(), AllocE
     text.push_str("</g>\n")
 }
 
-fn put_bars(text: &mut String, bins: &[Bin], most: u64) -> Result<(), AllocError> {
+fn put_bars(text: &mut String, bins: &[Bin], most: u64) -> Put {
     let mut index = 0;
     for bin in bins {
         if !bin.is_empty() {
@@ -145,7 +139,7 @@ fn marked(
     Ok(())
 }
 
-fn put_mark(text: &mut String, bin: u64, truth: bool) -> Result<(), AllocError> {
+fn put_mark(text: &mut String, bin: u64, truth: bool) -> Put {
     let (class, behind) = if truth {
         ("true", "\"><title>a checkpoint</title></rect>\n")
     } else {
@@ -165,7 +159,7 @@ fn put_mark(text: &mut String, bin: u64, truth: bool) -> Result<(), AllocError> 
     put_part(text, &part)
 }
 
-fn put_marks(text: &mut String, marks: &BTreeMap<u64, bool>) -> Result<(), AllocError> {
+fn put_marks(text: &mut String, marks: &BTreeMap<u64, bool>) -> Put {
     for (bin, truth) in marks {
         put_mark(text, *bin, *truth)?;
     }
@@ -173,7 +167,7 @@ fn put_marks(text: &mut String, marks: &BTreeMap<u64, bool>) -> Result<(), Alloc
 }
 
 // Puts what stands behind the front; however short it is, it is seen.
-fn put_damage(text: &mut String, end: &End) -> Result<(), AllocError> {
+fn put_damage(text: &mut String, end: &End) -> Put {
     if end.used >= end.total {
         return Ok(());
     }
@@ -212,7 +206,7 @@ fn totals(all: &mut Bin, bins: &[Bin]) -> Result<(), AllocError> {
     Ok(())
 }
 
-fn put_kind_item(text: &mut String, kind: &'static str, count: u64) -> Result<(), AllocError> {
+fn put_kind_item(text: &mut String, kind: &'static str, count: u64) -> Put {
     let word = Tag(kind);
     put_pieces(
         text,
@@ -228,7 +222,7 @@ fn put_kind_item(text: &mut String, kind: &'static str, count: u64) -> Result<()
     )
 }
 
-fn put_kinds(text: &mut String, all: &Bin) -> Result<(), AllocError> {
+fn put_kinds(text: &mut String, all: &Bin) -> Put {
     for (kind, count) in all {
         put_kind_item(text, *kind, *count)?;
     }
@@ -236,7 +230,7 @@ fn put_kinds(text: &mut String, all: &Bin) -> Result<(), AllocError> {
 }
 
 // Puts what the colours mean, and how many records of each kind there are.
-fn put_legend(text: &mut String, all: &Bin, end: &End, marks: bool) -> Result<(), AllocError> {
+fn put_legend(text: &mut String, all: &Bin, end: &End, marks: bool) -> Put {
     let mark = if marks {
         Tag("<li class=\"true\">a checkpoint stands here</li>\n")
     } else {
@@ -253,12 +247,7 @@ fn put_legend(text: &mut String, all: &Bin, end: &End, marks: bool) -> Result<()
 }
 
 // Puts the records, the checkpoints and what stands behind the front, above an axis.
-fn put_drawing(
-    text: &mut String,
-    seen: &Survey,
-    end: &End,
-    marks: &BTreeMap<u64, bool>,
-) -> Result<(), AllocError> {
+fn put_drawing(text: &mut String, seen: &Survey, end: &End, marks: &BTreeMap<u64, bool>) -> Put {
     let most = most_of(&seen.bins);
     put_pieces(
         text,
@@ -284,13 +273,7 @@ fn put_drawing(
 }
 
 // The kinds that occur, and what the colours mean.
-fn put_colours(
-    alloc: Global,
-    text: &mut String,
-    seen: &Survey,
-    end: &End,
-    marks: bool,
-) -> Result<(), AllocError> {
+fn put_colours(alloc: Global, text: &mut String, seen: &Survey, end: &End, marks: bool) -> Put {
     let mut all = BTreeMap::new(alloc);
     totals(&mut all, &seen.bins)?;
     put_legend(text, &all, end, marks)
@@ -303,7 +286,7 @@ pub(crate) fn put_picture(
     seen: &Survey,
     end: &End,
     checkpoints: &[(u64, bool)],
-) -> Result<(), AllocError> {
+) -> Put {
     let mut marks = BTreeMap::new(alloc);
     marked(&mut marks, checkpoints, end.total)?;
     put_drawing(text, seen, end, &marks)?;

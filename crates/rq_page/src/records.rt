@@ -5,9 +5,9 @@ use crate::markup::{Html, NOTHING, put_pieces};
 use crate::payloads::put_payload_cell;
 use crate::shown::Linked;
 use crate::steps::{At, put_step, step_of};
-use rq_found::{Event, Numbered, kind_of, unit_of};
+use rq_found::{Event, Numbered, Put, kind_of, unit_of};
 use rq_record::{KeptBy, KeptRecord, QueueNo};
-use std::alloc::{AllocError, Global};
+use std::alloc::Global;
 
 // While the rows have fewer bytes, payloads can be folded out.
 const WHOLE: usize = 500_000;
@@ -32,12 +32,7 @@ fn queue_named<'a>(shown: &Linked<'a>, it: &Numbered) -> (Html<'a>, Html<'a>) {
 }
 
 // Puts whom an operation is by.
-fn put_by(
-    text: &mut String,
-    shown: &Linked<'_>,
-    queue: QueueNo,
-    by: &KeptBy,
-) -> Result<(), AllocError> {
+fn put_by(text: &mut String, shown: &Linked<'_>, queue: QueueNo, by: &KeptBy) -> Put {
     let Some(by) = by.by() else {
         return Ok(());
     };
@@ -48,12 +43,7 @@ fn put_by(
     )
 }
 
-fn put_definition(
-    text: &mut String,
-    shown: &Linked<'_>,
-    limit: u16,
-    error: QueueNo,
-) -> Result<(), AllocError> {
+fn put_definition(text: &mut String, shown: &Linked<'_>, limit: u16, error: QueueNo) -> Put {
     put_pieces(
         text,
         &[
@@ -66,7 +56,7 @@ fn put_definition(
 }
 
 // Puts how many bytes a checkpoint has, and whether it is true.
-fn put_checkpoint(text: &mut String, count: usize, truth: bool) -> Result<(), AllocError> {
+fn put_checkpoint(text: &mut String, count: usize, truth: bool) -> Put {
     let said = if truth {
         Tag(" bytes, true")
     } else {
@@ -76,12 +66,7 @@ fn put_checkpoint(text: &mut String, count: usize, truth: bool) -> Result<(), Al
 }
 
 // Puts an element that is put in: its priority, by whom, and its payload.
-fn put_enqueued(
-    alloc: Global,
-    text: &mut String,
-    shown: &Linked<'_>,
-    it: &Numbered,
-) -> Result<(), AllocError> {
+fn put_enqueued(alloc: Global, text: &mut String, shown: &Linked<'_>, it: &Numbered) -> Put {
     let KeptRecord::Enqueue {
         priority,
         queue,
@@ -98,7 +83,7 @@ fn put_enqueued(
     put_payload_cell(alloc, text, payload.bytes(), text.len() < WHOLE)
 }
 
-fn put_field(text: &mut String, name: &'static str, field: Html<'_>) -> Result<(), AllocError> {
+fn put_field(text: &mut String, name: &'static str, field: Html<'_>) -> Put {
     put_pieces(text, &[Tag(name), field])
 }
 
@@ -109,7 +94,7 @@ fn put_fields(
     shown: &Linked<'_>,
     it: &Numbered,
     truth: bool,
-) -> Result<(), AllocError> {
+) -> Put {
     match &it.record {
         KeptRecord::Define { limit, error, .. } => put_definition(text, shown, *limit, *error),
         KeptRecord::Register { queue, name } | KeptRecord::Deregister { queue, name } => {
@@ -126,18 +111,14 @@ fn put_fields(
     }
 }
 
-fn put_first_events(
-    text: &mut String,
-    shown: &Linked<'_>,
-    events: &[Event],
-) -> Result<(), AllocError> {
+fn put_first_events(text: &mut String, shown: &Linked<'_>, events: &[Event]) -> Put {
     for event in events.iter().take(EVENTS) {
         put_step(text, shown, &step_of(event, At::Here))?;
     }
     Ok(())
 }
 
-fn put_events(text: &mut String, shown: &Linked<'_>, events: &[Event]) -> Result<(), AllocError> {
+fn put_events(text: &mut String, shown: &Linked<'_>, events: &[Event]) -> Put {
     if events.is_empty() {
         return Ok(());
     }
@@ -157,16 +138,23 @@ fn put_events(text: &mut String, shown: &Linked<'_>, events: &[Event]) -> Result
     )
 }
 
-/// Puts the row of a record: its number, its offset, what it says, and what happens at it. The truth
-/// is that of a checkpoint.
+/// A record with what happens at it.
+#[derive(Clone, Copy)]
+pub(crate) struct Happening<'a> {
+    pub(crate) it: &'a Numbered,
+    pub(crate) events: &'a [Event],
+    /// Whether it is true, if it is a checkpoint.
+    pub(crate) truth: bool,
+}
+
+/// Puts the row of a record: its number, its offset, what it says, and what happens at it.
 pub(crate) fn put_row(
     alloc: Global,
     text: &mut String,
     shown: &Linked<'_>,
-    it: &Numbered,
-    events: &[Event],
-    truth: bool,
-) -> Result<(), AllocError> {
+    done: &Happening<'_>,
+) -> Put {
+    let it = done.it;
     let (number, kind) = (Number(it.number), Tag(kind_of(&it.record)));
     let (of_unit, unit) = unit_named(shown, &it.record);
     let (of_queue, queue) = queue_named(shown, it);
@@ -190,14 +178,14 @@ pub(crate) fn put_row(
             queue,
         ],
     )?;
-    put_fields(alloc, text, shown, it, truth)?;
+    put_fields(alloc, text, shown, it, done.truth)?;
     text.push_str("</td><td>")?;
-    put_events(text, shown, events)?;
+    put_events(text, shown, done.events)?;
     text.push_str("</td></tr>\n")
 }
 
 // Puts how many records were left out.
-fn put_left_out(text: &mut String, more: u64) -> Result<(), AllocError> {
+fn put_left_out(text: &mut String, more: u64) -> Put {
     if more == 0 {
         return Ok(());
     }
@@ -205,12 +193,7 @@ fn put_left_out(text: &mut String, more: u64) -> Result<(), AllocError> {
 }
 
 /// Puts the records that were gathered as rows, and how many were left out.
-pub(crate) fn put_record_rows(
-    text: &mut String,
-    rows: &str,
-    count: u64,
-    more: u64,
-) -> Result<(), AllocError> {
+pub(crate) fn put_record_rows(text: &mut String, rows: &str, count: u64, more: u64) -> Put {
     if count == 0 {
         return Ok(());
     }

@@ -76,7 +76,7 @@ impl<'a> Linked<'a> {
     // Whether a record that has to do with these has a row.
     fn has_record(&self, record: u64) -> bool {
         match self.lives {
-            Some(lives) => record < lives.until,
+            Some(lives) => record < lives.until.unwrap_or(u64::MAX),
             None => true,
         }
     }

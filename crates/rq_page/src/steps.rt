@@ -3,7 +3,7 @@
 use crate::markup::Html::{Count, Number, Tag};
 use crate::markup::{Html, NOTHING, put_pieces};
 use crate::shown::Linked;
-use rq_found::{Effect, Event};
+use rq_found::{Effect, Event, Put};
 use std::alloc::AllocError;
 
 /// As many steps of one life are kept.
@@ -142,11 +142,7 @@ fn unit_of(shown: &Linked<'_>, unit: Option<u64>) -> (Html<'static>, Html<'stati
 }
 
 /// Puts a step, with a link to its record if it is told elsewhere.
-pub(crate) fn put_step(
-    text: &mut String,
-    shown: &Linked<'_>,
-    step: &Step,
-) -> Result<(), AllocError> {
+pub(crate) fn put_step(text: &mut String, shown: &Linked<'_>, step: &Step) -> Put {
     let (place, behind) = place_of(shown, step.at);
     let (it, element, after) = element_of(shown, step.element);
     let (in_queue, queue) = queue_of(shown, step.queue);
@@ -192,11 +188,7 @@ fn put_first(text: &mut String, shown: &Linked<'_>, steps: &[Step]) -> Result<us
 }
 
 /// Puts the steps of a life, one behind the other, and whether some are left out.
-pub(crate) fn put_steps(
-    text: &mut String,
-    shown: &Linked<'_>,
-    steps: &[Step],
-) -> Result<(), AllocError> {
+pub(crate) fn put_steps(text: &mut String, shown: &Linked<'_>, steps: &[Step]) -> Put {
     text.push_str("<ol>")?;
     let count = put_first(text, shown, steps)?;
     if count < steps.len() || count >= STEPS {

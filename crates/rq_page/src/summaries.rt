@@ -1,12 +1,13 @@
 //! The front's summary.
 
+use crate::lives::Lives;
 use crate::markup::Html::{Count, Number, Tag, Text};
 use crate::markup::{Html, NOTHING, put_pieces};
 use crate::questions::Asked;
-use rq_found::{End, is_whole};
+use rq_found::{End, Put, is_whole};
 use rq_report::why_word;
 use rq_restart::Restarted;
-use std::alloc::{AllocError, Global};
+use std::alloc::Global;
 
 // How many of the checkpoints are not true.
 fn false_ones(checkpoints: &[(u64, bool)]) -> usize {
@@ -17,7 +18,7 @@ fn false_ones(checkpoints: &[(u64, bool)]) -> usize {
 }
 
 // Puts a row: what it is about, and what is said of it.
-fn put_row(text: &mut String, head: &'static str, pieces: &[Html<'_>]) -> Result<(), AllocError> {
+fn put_row(text: &mut String, head: &'static str, pieces: &[Html<'_>]) -> Put {
     put_pieces(
         text,
         &[Tag("<tr><th scope=\"row\">"), Tag(head), Tag("</th><td>")],
@@ -27,7 +28,7 @@ fn put_row(text: &mut String, head: &'static str, pieces: &[Html<'_>]) -> Result
 }
 
 // Puts with which checkpoint a log begins that was carried on.
-fn put_carried(text: &mut String, at: Option<u64>) -> Result<(), AllocError> {
+fn put_carried(text: &mut String, at: Option<u64>) -> Put {
     match at {
         None => Ok(()),
         Some(at) => put_row(
@@ -42,7 +43,7 @@ fn put_carried(text: &mut String, at: Option<u64>) -> Result<(), AllocError> {
     }
 }
 
-fn put_length(text: &mut String, end: &End) -> Result<(), AllocError> {
+fn put_length(text: &mut String, end: &End) -> Put {
     put_row(
         text,
         "front",
@@ -58,7 +59,7 @@ fn put_length(text: &mut String, end: &End) -> Result<(), AllocError> {
 }
 
 // Puts what stands behind the front.
-fn put_reason(text: &mut String, end: &End) -> Result<(), AllocError> {
+fn put_reason(text: &mut String, end: &End) -> Put {
     let class = if is_whole(end.why) { "whole" } else { "bad" };
     put_row(
         text,
@@ -77,7 +78,7 @@ fn put_reason(text: &mut String, end: &End) -> Result<(), AllocError> {
 
 // Puts the digest of the front's last frame, by which a log is known; of a front without records it
 // is what the header has in its place.
-fn put_digest(alloc: Global, text: &mut String, bytes: &[u8], end: &End) -> Result<(), AllocError> {
+fn put_digest(alloc: Global, text: &mut String, bytes: &[u8], end: &End) -> Put {
     let to = bytes.len().min(end.used as usize);
     let digest = hex::encode(alloc, &bytes[to.saturating_sub(32)..to])?;
     let head = if end.records > 0 {
@@ -92,7 +93,17 @@ fn put_digest(alloc: Global, text: &mut String, bytes: &[u8], end: &End) -> Resu
     )
 }
 
-fn put_counts(text: &mut String, r: &Restarted) -> Result<(), AllocError> {
+// How many queues, elements and registrants there are after the restart.
+fn members_of(r: &Restarted) -> [Html<'static>; 3] {
+    let state = r.state();
+    [
+        Count(state.definition_count() as u64),
+        Count(state.element_count() as u64),
+        Count(state.registrant_count() as u64),
+    ]
+}
+
+fn put_counts(text: &mut String, r: &Restarted) -> Put {
     put_row(
         text,
         "units",
@@ -105,22 +116,22 @@ fn put_counts(text: &mut String, r: &Restarted) -> Result<(), AllocError> {
             Tag(" cut off"),
         ],
     )?;
-    let state = r.state();
+    let [queues, elements, registrants] = members_of(r);
     put_row(
         text,
         "after the restart",
         &[
-            Count(state.definition_count() as u64),
+            queues,
             Tag(" queues, "),
-            Count(state.element_count() as u64),
+            elements,
             Tag(" elements, "),
-            Count(state.registrant_count() as u64),
+            registrants,
             Tag(" registrants"),
         ],
     )
 }
 
-fn put_checkpoints(text: &mut String, checkpoints: &[(u64, bool)]) -> Result<(), AllocError> {
+fn put_checkpoints(text: &mut String, checkpoints: &[(u64, bool)]) -> Put {
     let wrong = false_ones(checkpoints);
     let (before, count, behind) = if wrong == 0 {
         (NOTHING, NOTHING, NOTHING)
@@ -144,7 +155,7 @@ pub(crate) fn put_summary(
     r: &Restarted,
     end: &End,
     checkpoints: &[(u64, bool)],
-) -> Result<(), AllocError> {
+) -> Put {
     text.push_str(
         "<section id=\"front\">\n<h2>The front</h2>\n<table class=\"front\">\n<caption>The log, and what a restart \
         makes of it</caption>\n",
@@ -159,8 +170,8 @@ pub(crate) fn put_summary(
 }
 
 // Puts the numbers that are seen first.
-fn put_tiles(text: &mut String, r: &Restarted, end: &End) -> Result<(), AllocError> {
-    let state = r.state();
+fn put_tiles(text: &mut String, r: &Restarted, end: &End) -> Put {
+    let [queues, elements, registrants] = members_of(r);
     put_pieces(
         text,
         &[
@@ -169,23 +180,18 @@ fn put_tiles(text: &mut String, r: &Restarted, end: &End) -> Result<(), AllocErr
             Tag("</dd></div>\n<div><dt>records</dt><dd>"),
             Count(end.records),
             Tag("</dd></div>\n<div><dt>queues</dt><dd>"),
-            Count(state.definition_count() as u64),
+            queues,
             Tag("</dd></div>\n<div><dt>elements</dt><dd>"),
-            Count(state.element_count() as u64),
+            elements,
             Tag("</dd></div>\n<div><dt>registrants</dt><dd>"),
-            Count(state.registrant_count() as u64),
+            registrants,
             Tag("</dd></div>\n</dl>\n</header>\n"),
         ],
     )
 }
 
 /// Puts the log's name, whether it is whole, who made the page, and the numbers that are seen first.
-pub(crate) fn put_header(
-    text: &mut String,
-    asked: &Asked<'_>,
-    r: &Restarted,
-    end: &End,
-) -> Result<(), AllocError> {
+pub(crate) fn put_header(text: &mut String, asked: &Asked<'_>, r: &Restarted, end: &End) -> Put {
     let badge = if is_whole(end.why) {
         "\"><span class=\"badge good\">whole</span>"
     } else {
@@ -211,30 +217,28 @@ fn part_of(is_there: bool, link: &'static str) -> Html<'static> {
     if is_there { Tag(link) } else { NOTHING }
 }
 
-/// Which parts a page has beside those that each page has.
-#[derive(Clone, Copy)]
-pub(crate) struct Parts {
-    pub(crate) elements: bool,
-    pub(crate) units: bool,
-    pub(crate) registrants: bool,
-    pub(crate) records: bool,
-}
-
 /// Puts links to the parts of the page.
-pub(crate) fn put_parts(text: &mut String, parts: &Parts) -> Result<(), AllocError> {
+pub(crate) fn put_parts(text: &mut String, lives: &Lives) -> Put {
+    let elements = part_of(
+        !lives.elements.is_empty(),
+        " <a href=\"#elements\">Elements</a>",
+    );
+    let units = part_of(!lives.units.is_empty(), " <a href=\"#units\">Units</a>");
+    let registrants = part_of(
+        !lives.registrants.is_empty(),
+        " <a href=\"#registrants\">Registrants</a>",
+    );
+    let records = part_of(lives.count > 0, " <a href=\"#records\">Records</a>");
     put_pieces(
         text,
         &[
             Tag("<nav aria-label=\"Parts of the page\"><a href=\"#front\">Front</a> "),
             Tag("<a href=\"#log\">Log</a> <a href=\"#open\">Open units</a> "),
             Tag("<a href=\"#queues\">Queues</a>"),
-            part_of(parts.elements, " <a href=\"#elements\">Elements</a>"),
-            part_of(parts.units, " <a href=\"#units\">Units</a>"),
-            part_of(
-                parts.registrants,
-                " <a href=\"#registrants\">Registrants</a>",
-            ),
-            part_of(parts.records, " <a href=\"#records\">Records</a>"),
+            elements,
+            units,
+            registrants,
+            records,
             Tag("</nav>\n"),
         ],
     )

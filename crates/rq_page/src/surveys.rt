@@ -160,7 +160,7 @@ impl Survey {
     ) -> Result<(), Fault>
         ensures { IfErr result (λ e. e ≡ Resources) }
     {
-        let it = machine.follow(alloc, placed)?;
+        let it = machine.follow(placed)?;
         self.take(alloc, &it, machine.events(), total)
     }
 

@@ -7,8 +7,9 @@ use crate::markup::put_pieces;
 use crate::questions::Order;
 use crate::shown::{Linked, QUEUES};
 use crate::surveys::{FEW_BINS, Survey};
-use rq_found::{End, free_elements, registrants_shown};
+use rq_found::{End, Put, registrants_shown};
 use rq_record::{Name, QueueNo};
+use rq_report::free_elements;
 use rq_state::{Definition, State};
 use std::alloc::{AllocError, Global};
 use std::cmp::Reverse;
@@ -17,9 +18,7 @@ use std::cmp::Reverse;
 const OPEN: usize = 100;
 
 // The width and the height of a queue's curve.
-const WIDTH: u64 = 128;
-
-const HEIGHT: u64 = 24;
+const SIZE: (u64, u64) = (128, 24);
 
 // A queue, by what queues are put in order.
 #[derive(Clone, Copy)]
@@ -65,7 +64,7 @@ fn arrange(lines: &mut Vec<QueueRow>, order: Order) {
     }
 }
 
-fn put_depth(text: &mut String, frame: &Canvas, curve: &Curve) -> Result<(), AllocError> {
+fn put_depth(text: &mut String, frame: &Canvas, curve: &Curve) -> Put {
     put_pieces(
         text,
         &[
@@ -78,11 +77,12 @@ fn put_depth(text: &mut String, frame: &Canvas, curve: &Curve) -> Result<(), All
     text.push_str("</div></td>")
 }
 
-fn put_curve(text: &mut String, hall: &Hall<'_>, number: u32) -> Result<(), AllocError> {
+fn put_curve(text: &mut String, hall: &Hall<'_>, number: u32) -> Put {
+    let (width, height) = SIZE;
     let frame = Canvas {
-        width: WIDTH,
-        height: HEIGHT,
-        end: along(hall.end.used, hall.end.total, WIDTH),
+        width,
+        height,
+        end: along(hall.end.used, hall.end.total, width),
         bins: FEW_BINS,
     };
     match hall.seen.depths.get(number as usize) {
@@ -91,17 +91,12 @@ fn put_curve(text: &mut String, hall: &Hall<'_>, number: u32) -> Result<(), Allo
     }
 }
 
-fn put_error(text: &mut String, shown: &Linked<'_>, error: QueueNo) -> Result<(), AllocError> {
+fn put_error(text: &mut String, shown: &Linked<'_>, error: QueueNo) -> Put {
     put_pieces(text, &[shown.error_link(error), Tag("</small></th>")])
 }
 
 // Puts a queue by its number and its name, with its limit and its error queue.
-fn put_name(
-    text: &mut String,
-    hall: &Hall<'_>,
-    number: u32,
-    definition: &Definition,
-) -> Result<(), AllocError> {
+fn put_name(text: &mut String, hall: &Hall<'_>, number: u32, definition: &Definition) -> Put {
     let digits = Number(u64::from(number));
     put_pieces(
         text,
@@ -120,12 +115,7 @@ fn put_name(
     put_error(text, &hall.shown, definition.error)
 }
 
-fn put_row(
-    text: &mut String,
-    hall: &Hall<'_>,
-    line: &QueueRow,
-    definition: &Definition,
-) -> Result<(), AllocError> {
+fn put_row(text: &mut String, hall: &Hall<'_>, line: &QueueRow, definition: &Definition) -> Put {
     put_name(text, hall, line.number, definition)?;
     put_pieces(text, &[Tag("<td>"), Count(line.depth as u64), Tag("</td>")])?;
     put_curve(text, hall, line.number)?;
@@ -133,24 +123,14 @@ fn put_row(
 }
 
 // Puts what folds out below a queue.
-fn put_holdings(
-    alloc: Global,
-    text: &mut String,
-    hall: &Hall<'_>,
-    number: u32,
-) -> Result<(), AllocError> {
+fn put_holdings(alloc: Global, text: &mut String, hall: &Hall<'_>, number: u32) -> Put {
     let queue = QueueNo(number);
     let elements = free_elements(alloc, hall.state, queue)?;
     let registrants = registrants_shown(alloc, hall.state, queue)?;
     put_fold(alloc, text, &hall.shown, number, &elements, &registrants)
 }
 
-fn put_queue(
-    alloc: Global,
-    text: &mut String,
-    hall: &Hall<'_>,
-    line: &QueueRow,
-) -> Result<(), AllocError> {
+fn put_queue(alloc: Global, text: &mut String, hall: &Hall<'_>, line: &QueueRow) -> Put {
     let Some(definition) = hall.shown.definitions.get(line.number as usize) else {
         return Ok(());
     };
@@ -159,12 +139,7 @@ fn put_queue(
 }
 
 // Puts these queues as a table.
-fn put_table(
-    alloc: Global,
-    text: &mut String,
-    hall: &Hall<'_>,
-    lines: &[QueueRow],
-) -> Result<(), AllocError> {
+fn put_table(alloc: Global, text: &mut String, hall: &Hall<'_>, lines: &[QueueRow]) -> Put {
     text.push_str(
         "<table class=\"queues\">\n<caption>Queues after the restart, with what they held along the \
         log</caption>\n<tr><th scope=\"col\">queue</th><th scope=\"col\">elements</th>\
@@ -179,12 +154,7 @@ fn put_table(
 }
 
 // Puts the queues behind the first as a table that is folded, as many as are shown.
-fn put_more_queues(
-    alloc: Global,
-    text: &mut String,
-    hall: &Hall<'_>,
-    lines: &[QueueRow],
-) -> Result<(), AllocError> {
+fn put_more_queues(alloc: Global, text: &mut String, hall: &Hall<'_>, lines: &[QueueRow]) -> Put {
     if lines.is_empty() {
         return Ok(());
     }
@@ -202,12 +172,7 @@ fn put_more_queues(
 }
 
 // Puts as many queues as are shown, of which the first stand open, and the end of their section.
-fn put_tables(
-    alloc: Global,
-    text: &mut String,
-    hall: &Hall<'_>,
-    lines: &[QueueRow],
-) -> Result<(), AllocError> {
+fn put_tables(alloc: Global, text: &mut String, hall: &Hall<'_>, lines: &[QueueRow]) -> Put {
     let count = lines.len().min(QUEUES);
     let (open, folded) = lines[..count].split_at(count.min(OPEN));
     put_table(alloc, text, hall, open)?;
@@ -217,7 +182,7 @@ fn put_tables(
 }
 
 // Puts the head of the section, and in which order its queues stand.
-fn put_order(text: &mut String, order: Order) -> Result<(), AllocError> {
+fn put_order(text: &mut String, order: Order) -> Put {
     let said = match order {
         Order::Depth => "<p>By the number of their elements, the most first.</p>\n",
         Order::Number => "<p>By number.</p>\n",
@@ -236,7 +201,7 @@ pub(crate) fn put_queue_table(
     state: &State,
     end: &End,
     order: Order,
-) -> Result<(), AllocError> {
+) -> Put {
     let hall = Hall {
         shown: *shown,
         seen,

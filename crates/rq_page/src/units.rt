@@ -5,8 +5,7 @@ use crate::markup::Html::{Count, Number, Tag};
 use crate::markup::{Html, NOTHING, put_pieces};
 use crate::shown::Linked;
 use crate::surveys::{BINS, Survey};
-use rq_found::End;
-use std::alloc::AllocError;
+use rq_found::{End, Put};
 
 // The picture's width, the height of the curve, and of one unit.
 const WIDTH: u64 = 1000;
@@ -27,7 +26,7 @@ fn begun_at(begun: u64, end: &End) -> (Html<'static>, Html<'static>) {
     }
 }
 
-fn put_bar(text: &mut String, unit: u64, begun: u64, end: &End, y: u64) -> Result<(), AllocError> {
+fn put_bar(text: &mut String, unit: u64, begun: u64, end: &End, y: u64) -> Put {
     let x = along(begun, end.total, WIDTH - 2);
     let until = along(end.used, end.total, WIDTH);
     let width = until.saturating_sub(x).max(2);
@@ -52,7 +51,7 @@ fn put_bar(text: &mut String, unit: u64, begun: u64, end: &End, y: u64) -> Resul
 }
 
 // Puts the units that have been open longest, one below the other.
-fn put_first(text: &mut String, seen: &Survey, end: &End) -> Result<(), AllocError> {
+fn put_first(text: &mut String, seen: &Survey, end: &End) -> Put {
     let mut y: u64 = 2;
     for (unit, begun) in seen.begun.iter().take(SHOWN) {
         put_bar(text, *unit, *begun, end, y)?;
@@ -61,7 +60,7 @@ fn put_first(text: &mut String, seen: &Survey, end: &End) -> Result<(), AllocErr
     Ok(())
 }
 
-fn put_bars(text: &mut String, seen: &Survey, end: &End) -> Result<(), AllocError> {
+fn put_bars(text: &mut String, seen: &Survey, end: &End) -> Put {
     let height = BAR.saturating_mul(seen.begun.len().min(SHOWN) as u64);
     put_pieces(
         text,
@@ -85,7 +84,7 @@ fn put_name(
     unit: u64,
     begun: (Html<'static>, Html<'static>),
     before: &'static str,
-) -> Result<(), AllocError> {
+) -> Put {
     let pieces = [
         Tag(before),
         shown.unit_link(unit),
@@ -97,12 +96,7 @@ fn put_name(
     put_pieces(text, &pieces)
 }
 
-fn put_first_names(
-    text: &mut String,
-    shown: &Linked<'_>,
-    seen: &Survey,
-    end: &End,
-) -> Result<(), AllocError> {
+fn put_first_names(text: &mut String, shown: &Linked<'_>, seen: &Survey, end: &End) -> Put {
     let mut is_first = true;
     for (unit, begun) in seen.begun.iter().take(SHOWN) {
         let before = if is_first { "" } else { ", " };
@@ -113,12 +107,7 @@ fn put_first_names(
 }
 
 // Puts which units these are.
-fn put_names(
-    text: &mut String,
-    shown: &Linked<'_>,
-    seen: &Survey,
-    end: &End,
-) -> Result<(), AllocError> {
+fn put_names(text: &mut String, shown: &Linked<'_>, seen: &Survey, end: &End) -> Put {
     text.push_str("<p>Open where the front ends, and aborted by the restart: ")?;
     put_first_names(text, shown, seen, end)?;
     let more = seen.begun.len().saturating_sub(SHOWN) as u64;
@@ -129,7 +118,7 @@ fn put_names(
 }
 
 // Puts how many units are open along the log.
-fn put_curve(text: &mut String, seen: &Survey, end: &End) -> Result<(), AllocError> {
+fn put_curve(text: &mut String, seen: &Survey, end: &End) -> Put {
     let frame = Canvas {
         width: WIDTH,
         height: CURVE,
@@ -142,12 +131,7 @@ fn put_curve(text: &mut String, seen: &Survey, end: &End) -> Result<(), AllocErr
 }
 
 /// Puts how many units are open along the log, and those that are open at the front's end.
-pub(crate) fn put_open(
-    text: &mut String,
-    shown: &Linked<'_>,
-    seen: &Survey,
-    end: &End,
-) -> Result<(), AllocError> {
+pub(crate) fn put_open(text: &mut String, shown: &Linked<'_>, seen: &Survey, end: &End) -> Put {
     let (most, count) = (seen.open.most(), seen.begun.len() as u64);
     put_pieces(
         text,

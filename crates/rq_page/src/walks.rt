@@ -5,6 +5,7 @@ ghost use Rattle.rq_record.specs.declared.fault.Fault.TheVariants.{Resources};
 ghost use Rattle.rq_found.specs.Refusals.{IsBroken};
 
 use crate::lives::Lives;
+use crate::records::Happening;
 use crate::shown::Linked;
 use rq_found::{End, FollowedQueues, Placed, PlacedFrames, Trouble, front_frames};
 use rq_record::Fault;
@@ -44,24 +45,28 @@ impl Lives {
         shown: &Linked<'_>,
         machine: &mut FollowedQueues,
     ) -> Result<(), AllocError> {
-        let units = machine.open_units(alloc)?;
+        let units = machine.open_units()?;
         self.abort_all(alloc, shown, machine, &units)
     }
 
-    // The next record of the front, and what happens at it.
+    // The next record of the front, and what happens at it. The truth is that of a checkpoint.
     fn follow(
         &mut self,
         alloc: Global,
-        shown: &Linked<'_>,
         placed: Placed<'_>,
+        truth: bool,
+        shown: &Linked<'_>,
         machine: &mut FollowedQueues,
-        truths: &BTreeMap<u64, bool>,
     ) -> Result<(), Fault>
         ensures { IfErr result (λ e. e ≡ Resources) }
     {
-        let it = machine.follow(alloc, placed)?;
-        let truth = truths.get(&it.offset).copied().unwrap_or(true);
-        self.take(alloc, shown, &it, machine.events(), truth)
+        let it = machine.follow(placed)?;
+        let done = Happening {
+            it: &it,
+            events: machine.events(),
+            truth,
+        };
+        self.take(alloc, shown, &done)
     }
 
     // All records of the front, and the restart behind it.
@@ -76,7 +81,8 @@ impl Lives {
         ensures { IfErr result (λ e. e ≡ Resources) }
     {
         for placed in frames {
-            self.follow(alloc, shown, placed, machine, truths)?;
+            let truth = truths.get(&placed.offset).copied().unwrap_or(true);
+            self.follow(alloc, placed, truth, shown, machine)?;
         }
         self.close(alloc, shown, machine)?;
         Ok(())

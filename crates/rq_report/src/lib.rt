@@ -9,6 +9,7 @@ mod report;
 mod stream;
 mod writers;
 
-pub use lines::why_word;
+pub use lines::{kind_word, put_error, why_word};
+pub use listing::free_elements;
 pub use stream::{Input, Output, OverRead, OverWrite};
 pub use writers::{write_all, write_report, write_report_by};

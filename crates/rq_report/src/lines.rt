@@ -54,7 +54,8 @@ pub(crate) fn put_units_line(text: &mut String, r: &Restarted) -> Result<(), All
     Ok(())
 }
 
-fn put_error(text: &mut String, error: QueueNo) -> Result<(), AllocError>
+/// Puts the number of an error queue, or `-` if there is none.
+pub fn put_error(text: &mut String, error: QueueNo) -> Result<(), AllocError>
     ensures { OnOk result (string_bytes text.new ≡ string_bytes text.old ++ error_text error.0) }
 {
     let number = error.0;
@@ -108,7 +109,8 @@ fn put_optional(text: &mut String, element: Option<ElemId>) -> Result<(), AllocE
     }
 }
 
-fn kind_word(kind: OpKind) -> &'static str
+/// The word for the kind of a registrant's last operation.
+pub fn kind_word(kind: OpKind) -> &'static str
     ensures { result.now ≡ kind_text (kind_of kind) }
 {
     match kind {

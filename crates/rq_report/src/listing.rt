@@ -5,7 +5,6 @@ ghost use Rattle.std.specs.List.Sorted.{IsSortedBy};
 ghost use Rattle.rq_model.specs.Machine.{is_free_at};
 ghost use Rattle.rq_model.specs.States as model;
 ghost use Rattle.rq_model.specs.Reports.{IsListing};
-ghost use Rattle.rq_model.specs.WellFormed.{IsWellFormed};
 ghost use Rattle.rq_report.specs.Order.{is_ahead};
 
 use rq_record::QueueNo;
@@ -34,11 +33,7 @@ fn list<'a>(found: &mut Vec<&'a KeptElement>, e: &'a KeptElement) -> Result<(), 
 }
 
 // The queue's free elements, in the order of their numbers.
-fn free_elements<'a>(
-    alloc: Global,
-    queue: QueueNo,
-    state: &'a State,
-) -> Result<Vec<&'a KeptElement>, AllocError>
+fn listed(alloc: Global, state: &State, queue: QueueNo) -> Result<Vec<&KeptElement>, AllocError>
     ensures { IfOk result
         (λ v. map (λ e. e.now) v.items ≡ filter (is_free_at queue.0) state.now.elements) }
 {
@@ -65,16 +60,17 @@ fn sort(found: &mut [&KeptElement])
     found.sort_unstable_by_key(|e| rank(e));
 }
 
-/// The queue's free elements, in the order of the queue.
-pub(crate) fn listing<'a>(
+/// The queue's free elements, in the order in which they would be taken.
+pub fn free_elements(
     alloc: Global,
+    state: &State,
     queue: QueueNo,
-    state: &'a State,
-) -> Result<Vec<&'a KeptElement>, AllocError>
-    requires { IsWellFormed state.now }
+) -> Result<Vec<&KeptElement>, AllocError>
     ensures { IfOk result (λ v. IsListing queue.0 state.now.elements (map (λ e. e.now) v.items)) }
 {
-    let mut found = free_elements(alloc, queue, state)?;
+    // Its contract says that the elements have numbers of their own.
+    state.next();
+    let mut found = listed(alloc, state, queue)?;
     sort(&mut found);
     Ok(found)
 }

@@ -1,11 +1,10 @@
 //! The text of a report in pieces, made by several workers.
 
-ghost use Rattle.std.specs.Prelude.{◌≡◌, ◌≤◌, IfOk, length, string_bytes};
+ghost use Rattle.std.specs.Prelude.{IfOk, string_bytes};
 ghost use Rattle.std.specs.List.{flat_map};
 ghost use Rattle.std.specs.Thread.{IsSync};
 ghost use Rattle.rq_model.specs.Reports.{IsText};
-ghost use Rattle.rq_model.specs.WellFormed.{IsWellFormed};
-ghost use Rattle.rq_report.specs.Pieces.{AreLinesOf};
+ghost use Rattle.rq_report.specs.Pieces.{AreLinesOf, AreQueuesOf};
 
 use crate::report::{counts, put_queues};
 use rq_restart::{Plan, Restarted};
@@ -19,21 +18,13 @@ use std::thread::{Threads, join};
 const SHORT: u64 = 1_048_576;
 
 // The lines of the queues from one of them up to another, as one piece.
-fn one_piece(
-    alloc: Global,
-    state: &State,
-    from: usize,
-    to: usize,
-) -> Result<Vec<String>, AllocError>
-    requires well { IsWellFormed state.now }
-    requires order { from ≤ to }
-    requires within { to ≤ length state.now.definitions }
-    ensures { IfOk result
-        (λ pieces. AreLinesOf state.now from to (flat_map string_bytes pieces.items)) }
+fn one_piece(alloc: Global, state: &State, from: usize, to: usize) -> Result<String, AllocError>
+    requires { AreQueuesOf state.now from to }
+    ensures { IfOk result (λ text. AreLinesOf state.now from to (string_bytes text)) }
 {
     let mut text = String::new(alloc);
     put_queues(alloc, &mut text, state, from, to)?;
-    Ok(vec![in alloc; text]?)
+    Ok(text)
 }
 
 // The lines of the queues from one of them up to another, in about this many pieces: each half of
@@ -47,28 +38,24 @@ fn queue_pieces<R: Threads + Sync>(
     to: usize,
     count: u32,
 ) -> Result<Vec<String>, AllocError>
-    requires well { IsWellFormed state.now }
-    requires order { from ≤ to }
-    requires within { to ≤ length state.now.definitions }
+    requires { AreQueuesOf state.now from to }
     ensures { IfOk result
         (λ pieces. AreLinesOf state.now from to (flat_map string_bytes pieces.items)) }
 {
     if count < 2 || to - from < 2 {
-        return one_piece(alloc, state, from, to);
+        return Ok(vec![in alloc; one_piece(alloc, state, from, to)?]?);
     }
     let middle = from + (to - from) / 2;
     let (fewer, others) = (count / 2, count - count / 2);
     let (left, right) = join(
         rt,
         || -> Result<Vec<String>, AllocError>
-            requires { IsSync R.row × IsWellFormed state.now
-                × (from ≤ middle) × (middle ≤ length state.now.definitions) }
+            requires { IsSync R.row × AreQueuesOf state.now from middle }
             ensures { IfOk result (λ pieces. AreLinesOf state.entry.now from middle
                 (flat_map string_bytes pieces.items)) }
         { queue_pieces(rt, alloc, state, from, middle, fewer) },
         || -> Result<Vec<String>, AllocError>
-            requires { IsSync R.row × IsWellFormed state.now
-                × (middle ≤ to) × (to ≤ length state.now.definitions) }
+            requires { IsSync R.row × AreQueuesOf state.now middle to }
             ensures { IfOk result (λ pieces. AreLinesOf state.entry.now middle to
                 (flat_map string_bytes pieces.items)) }
         { queue_pieces(rt, alloc, state, middle, to, others) },

@@ -12,7 +12,7 @@ ghost use Rattle.rq_report.specs.Pieces.{AreLinesOf};
 use crate::lines::{
     put_element_line, put_front, put_queue_line, put_registrant_line, put_units_line,
 };
-use crate::listing::listing;
+use crate::listing::free_elements;
 use rq_record::QueueNo;
 use rq_restart::Restarted;
 use rq_state::{KeptElement, State};
@@ -45,14 +45,13 @@ fn put_queue(
     queue: QueueNo,
     state: &State,
 ) -> Result<(), AllocError>
-    requires well { IsWellFormed state.now }
-    requires defined { queue.0 < length state.now.definitions }
+    requires { queue.0 < length state.now.definitions }
     ensures { OnOk result ((d : model.Definition) →
         (elements : List model.Element) × IsListing queue.0 state.now.elements elements
         × (string_bytes text.new ≡ string_bytes text.old ++ queue_text queue.0
         (slice_index_or state.now.definitions queue.0 d) elements state.now.registrants)) }
 {
-    let elements = listing(alloc, queue, state)?;
+    let elements = free_elements(alloc, state, queue)?;
     put_queue_line(text, queue, state.definition(queue.0 as usize))?;
     put_elements(text, &elements)?;
     put_registrants(text, queue, state)

@@ -6,6 +6,7 @@ mod fronts;
 mod layers;
 mod many;
 mod program;
+mod remade;
 mod scripts;
 mod standby;
 mod streams;

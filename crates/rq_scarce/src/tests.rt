@@ -14,49 +14,23 @@ use std::test::Fail;
 use std::thread::Threads;
 
 // An element of `jobs` goes to `dead` at its second abort; `ann` finds it there at its second look.
-const ARRIVAL: &[u8] = b"define dead 0 -\n\
-    define jobs 2 0\n\
-    register 0 ann\n\
-    begin 1\n\
-    enqueue 1 1 5 - 0 61\n\
-    commit 1\n\
-    begin 2\n\
-    dequeue 2 1 - 0\n\
-    abort 2\n\
-    begin 3\n\
-    dequeue 3 1 - 0\n\
-    begin 4\n\
-    dequeue 4 0 ann 70\n\
-    commit 4\n\
-    abort 3\n\
-    begin 5\n\
-    dequeue 5 0 ann 71\n\
-    commit 5\n";
+const ARRIVAL: &[u8] = b"define dead 0 -\ndefine jobs 2 0\nregister 0 ann\n\
+    begin 1\nenqueue 1 1 5 - 0 61\ncommit 1\n\
+    begin 2\ndequeue 2 1 - 0\nabort 2\n\
+    begin 3\ndequeue 3 1 - 0\n\
+    begin 4\ndequeue 4 0 ann 70\ncommit 4\nabort 3\n\
+    begin 5\ndequeue 5 0 ann 71\ncommit 5\n";
 
 // A checkpoint with a unit open, which commits after it. The log has 724 bytes, and 679 before the
 // last record.
-const CHECKPOINT: &[u8] = b"define jobs 0 -\n\
-    register 0 ann\n\
-    begin 1\n\
-    enqueue 1 0 5 - 0 61\n\
-    commit 1\n\
-    begin 2\n\
-    dequeue 2 0 ann 10\n\
-    enqueue 2 0 8 - 0 62\n\
-    checkpoint\n\
-    commit 2\n";
+const CHECKPOINT: &[u8] = b"define jobs 0 -\nregister 0 ann\n\
+    begin 1\nenqueue 1 0 5 - 0 61\ncommit 1\n\
+    begin 2\ndequeue 2 0 ann 10\nenqueue 2 0 8 - 0 62\ncheckpoint\ncommit 2\n";
 
 // The same, closed while the unit is open.
-const CLOSED: &[u8] = b"define jobs 0 -\n\
-    register 0 ann\n\
-    begin 1\n\
-    enqueue 1 0 5 - 0 61\n\
-    commit 1\n\
-    begin 2\n\
-    dequeue 2 0 ann 10\n\
-    enqueue 2 0 8 - 0 62\n\
-    checkpoint\n\
-    abort 2\n";
+const CLOSED: &[u8] = b"define jobs 0 -\nregister 0 ann\n\
+    begin 1\nenqueue 1 0 5 - 0 61\ncommit 1\n\
+    begin 2\ndequeue 2 0 ann 10\nenqueue 2 0 8 - 0 62\ncheckpoint\nabort 2\n";
 
 const MAKE: Command<'static> = Command::Make {
     script: "script",

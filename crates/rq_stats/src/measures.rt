@@ -7,8 +7,8 @@ use crate::greatest::put_greatest;
 use crate::rows::Value::{Number, Word};
 use crate::rows::{PAYLOADS, Row, UNITS};
 use rq_found::{
-    Effect, End, Event, FollowedQueues, Numbered, Placed, PlacedFrames, first_state, front_frames,
-    kind_of,
+    Effect, End, Event, FollowedQueues, Numbered, Placed, PlacedFrames, ShownLog, first_state,
+    front_frames, kind_of,
 };
 use rq_front::FRAME_LEN;
 use rq_record::{Fault, KeptRecord, Name, UnitNo};
@@ -176,29 +176,19 @@ impl Measures {
     }
 
     // Does the next record of the front.
-    fn step(
-        &mut self,
-        alloc: Global,
-        placed: Placed<'_>,
-        machine: &mut FollowedQueues,
-    ) -> Result<(), Fault>
+    fn step(&mut self, placed: Placed<'_>, machine: &mut FollowedQueues) -> Result<(), Fault>
         ensures { IfErr result (λ e. e ≡ Resources) }
     {
-        let it = machine.follow(alloc, placed)?;
+        let it = machine.follow(placed)?;
         self.take(placed.body, &it, machine.events())
     }
 
     // Does all records of the front.
-    fn walk(
-        &mut self,
-        alloc: Global,
-        frames: PlacedFrames<'_>,
-        machine: &mut FollowedQueues,
-    ) -> Result<(), Fault>
+    fn walk(&mut self, frames: PlacedFrames<'_>, machine: &mut FollowedQueues) -> Result<(), Fault>
         ensures { IfErr result (λ e. e ≡ Resources) }
     {
         for placed in frames {
-            self.step(alloc, placed, machine)?;
+            self.step(placed, machine)?;
         }
         Ok(())
     }
@@ -229,29 +219,23 @@ impl Measures {
     }
 
     // Aborts the units that are open behind the front, as a restart does.
-    fn restart(
-        &mut self,
-        alloc: Global,
-        machine: &mut FollowedQueues,
-        end: &End,
-    ) -> Result<(), AllocError> {
-        let units = machine.open_units(alloc)?;
+    fn restart(&mut self, machine: &mut FollowedQueues, end: &End) -> Result<(), AllocError> {
+        let units = machine.open_units()?;
         self.abort_all(machine, &units, end.records)
     }
 
     // Does all of a front, and its restart.
     fn take_front(
         &mut self,
-        alloc: Global,
         frames: PlacedFrames<'_>,
         machine: &mut FollowedQueues,
         end: &End,
     ) -> Result<(), Fault>
         ensures { IfErr result (λ e. e ≡ Resources) }
     {
-        self.walk(alloc, frames, machine)?;
-        self.restart(alloc, machine, end)?;
-        self.depths = machine.depths(alloc)?;
+        self.walk(frames, machine)?;
+        self.restart(machine, end)?;
+        self.depths = machine.depths()?;
         Ok(())
     }
 
@@ -267,7 +251,7 @@ impl Measures {
     {
         let mut machine = FollowedQueues::of(alloc, first)?;
         self.begin(first)?;
-        self.take_front(alloc, frames, &mut machine, end)
+        self.take_front(frames, &mut machine, end)
     }
 }
 
@@ -285,20 +269,11 @@ fn counted_behind(
     Ok(measures)
 }
 
-/// What a front counts that begins with the checkpoint at an offset, if there is one.
-pub(crate) fn counted(
-    alloc: Global,
-    bytes: &[u8],
-    at: Option<u64>,
-    end: &End,
-) -> Result<Measures, Fault>
+/// What the front of a log counts.
+pub(crate) fn counted(alloc: Global, log: &ShownLog<'_>, end: &End) -> Result<Measures, Fault>
     ensures { IfErr result (λ e. e ≡ Resources) }
 {
-    let first = first_state(alloc, bytes, at)?;
-    counted_behind(
-        alloc,
-        &first,
-        front_frames(bytes, &first, at, end.used),
-        end,
-    )
+    let first = first_state(alloc, log.bytes, log.at)?;
+    let frames = front_frames(log.bytes, &first, log.at, end.used);
+    counted_behind(alloc, &first, frames, end)
 }

@@ -1,8 +1,8 @@
 //! Rows of numbers, as lines and as JSON. All rows have one type, and what each sort of them says
 //! stands in a table: a type with fields of its own for each sort is dear to prove.
 
+use rq_found::Put;
 use serde::Serializer;
-use std::alloc::AllocError;
 use std::fmt::Write;
 
 /// What rows of one sort say: the name of their list, the names of their fields, and the words of a
@@ -78,7 +78,7 @@ impl Row<'_> {
     }
 }
 
-fn put_field(text: &mut String, word: &str, field: &Value<'_>) -> Result<(), AllocError> {
+fn put_field(text: &mut String, word: &str, field: &Value<'_>) -> Put {
     text.push_str(word)?;
     match field {
         Value::Number(number) => write!(text, "{number}"),
@@ -87,7 +87,7 @@ fn put_field(text: &mut String, word: &str, field: &Value<'_>) -> Result<(), All
 }
 
 // Puts the line of a row.
-fn put_row(text: &mut String, row: &Row<'_>) -> Result<(), AllocError> {
+fn put_row(text: &mut String, row: &Row<'_>) -> Put {
     let (words, fields) = (&row.sort.words, &row.fields);
     put_field(text, words[0], &fields[0])?;
     put_field(text, words[1], &fields[1])?;
@@ -96,7 +96,7 @@ fn put_row(text: &mut String, row: &Row<'_>) -> Result<(), AllocError> {
 }
 
 /// Puts the lines of the rows of one sort.
-pub(crate) fn put_rows(text: &mut String, sort: &Sort, rows: &[Row<'_>]) -> Result<(), AllocError> {
+pub(crate) fn put_rows(text: &mut String, sort: &Sort, rows: &[Row<'_>]) -> Put {
     for row in rows {
         if row.is_of(sort) {
             put_row(text, row)?;

@@ -6,7 +6,7 @@ use crate::rows::Value::{Number, Word};
 use crate::rows::{
     DEPTHS, KINDS, MOVES, OUTCOMES, PAYLOADS, Row, Sort, UNITS, put_rows, write_list, write_only,
 };
-use rq_found::FrontShown;
+use rq_found::{FrontShown, Put};
 use rq_record::Name;
 use serde::{Described, Serialize, Serializer};
 use std::alloc::{AllocError, Global};
@@ -34,16 +34,14 @@ impl Described for StatisticsShown<'_> {}
 
 impl Serialize for StatisticsShown<'_> {
     fn serialize<S: Serializer>(&self, out: &mut S) -> Result<(), S::Error> {
-        out.begin_map(None)?;
-        out.key("front")?;
-        self.front.serialize(out)?;
+        self.front.begin(out)?;
         self.write_rows(out)?;
         out.end_map()
     }
 }
 
 // Puts the lines of all rows.
-fn put_lines(text: &mut String, rows: &[Row<'_>]) -> Result<(), AllocError> {
+fn put_lines(text: &mut String, rows: &[Row<'_>]) -> Put {
     put_rows(text, &KINDS, rows)?;
     put_rows(text, &OUTCOMES, rows)?;
     put_rows(text, &UNITS, rows)?;

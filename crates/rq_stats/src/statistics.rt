@@ -11,7 +11,7 @@ ghost use Rattle.rq_stats.specs.Statistics.{AreNumbers, PutsNumbers};
 
 use crate::measures::{Measures, counted};
 use crate::shown::{StatisticsShown, joined_lines, rows_of};
-use rq_found::{End, Plan, Trouble, end_of, front_shown, put_beginning, put_end};
+use rq_found::{End, ShownLog, Trouble, end_of, front_shown, put_beginning, put_end};
 use std::alloc::{AllocError, Global};
 use std::io::Write;
 use std::thread::Threads;
@@ -62,55 +62,45 @@ fn json_of(alloc: Global, end: &End, measures: &Measures) -> Result<String, Trou
 }
 
 // The numbers of a front of which the end is known.
-fn numbers_of(
-    alloc: Global,
-    bytes: &[u8],
-    at: Option<u64>,
-    end: &End,
-    json: bool,
-) -> Result<String, Trouble>
-    requires end { (r : Restarted) × IsRestartFrom at bytes.now r
+fn numbers_of(alloc: Global, log: &ShownLog<'_>, end: &End, json: bool) -> Result<String, Trouble>
+    requires end { (r : Restarted) × IsRestartFrom log.now.at log.now.bytes.now r
         × IsEndOf r (front_end_of end.now) }
     ensures numbers { IfOk result
-        (λ text. AreNumbers at bytes.now json (string_bytes text)) }
+        (λ text. AreNumbers log.now.at log.now.bytes.now json (string_bytes text)) }
     ensures refused { IfErr result IsBroken }
 {
-    let measures: Measures = counted(alloc, bytes, at, end)?;
+    let measures: Measures = counted(alloc, log, end)?;
     if json {
         let object = json_of(alloc, end, &measures)?;
         return Ok(object);
     }
-    let text = text_of(alloc, at, end, &measures)?;
+    let text = text_of(alloc, log.at, end, &measures)?;
     Ok(text)
 }
 
 /// Writes numbers of a log: where its front ends, the records and bytes of each kind, the units by
 /// outcome, those that were open over the most records, the largest payloads, and the queues with
 /// the most free elements after the restart and those to which the most elements moved; of each the
-/// first ten. As lines, or as one value of JSON; from the checkpoint on at an offset, if there is one.
+/// first ten. As lines, or as one value of JSON; from the checkpoint on that the log begins with, if it
+/// was carried on.
 ///
 /// Refuses what a restart from there refuses; with `Resources` if memory is refused, before
 /// anything is written, and with `Output` if the output fails.
-pub fn stats<R, W>(
+pub fn stats<R: Threads + Sync, W: Write>(
     rt: &R,
     alloc: Global,
-    bytes: &[u8],
-    at: Option<u64>,
-    plan: &Plan,
+    log: &ShownLog<'_>,
     json: bool,
     output: &mut W,
 ) -> Result<(), Trouble>
-where
-    R: Threads + Sync,
-    W: Write,
-    ensures log { OnOk result (IsLog bytes.now) }
-    ensures numbers { OnOk result
-        (PutsNumbers at bytes.now json (W.contents output.old) (W.contents output.new)) }
-    ensures refused { IfErr result
-        (StaysUnshown at bytes.now (W.contents output.old) (W.contents output.new)) }
+    ensures log { OnOk result (IsLog log.now.bytes.now) }
+    ensures numbers { OnOk result (PutsNumbers log.now.at log.now.bytes.now json
+        (W.contents output.old) (W.contents output.new)) }
+    ensures refused { IfErr result (StaysUnshown log.now.at log.now.bytes.now
+        (W.contents output.old) (W.contents output.new)) }
 {
-    let end = end_of(rt, alloc, bytes, at, plan)?;
-    let text = numbers_of(alloc, bytes, at, &end, json)?;
+    let end = end_of(rt, alloc, log)?;
+    let text = numbers_of(alloc, log, &end, json)?;
     output.write_all(text.as_bytes())?;
     Ok(())
 }

@@ -5,13 +5,9 @@ ghost use Rattle.rq_tool.specs.Acts.{ActsOn, ActsOnly};
 ghost use Rattle.rq_tool.specs.Commands.{command_line};
 ghost use Rattle.rq_tool.specs.Streams.{ReadFaults, TakesInput, WriteFaults};
 
-use crate::audits::audit_log;
-use crate::closed_logs::close_log;
 use crate::commands::Command;
-use crate::engine::run;
-use crate::engine_at::run_at;
+use crate::door::{audit_log, close_log, run, run_at, upgrade_log};
 use crate::made_logs::make_log_in;
-use crate::upgrades::upgrade_log;
 use rq_report::{Input, Output};
 use rq_restart::{Fault, Gate, Version};
 use std::alloc::Global;
@@ -21,7 +17,7 @@ use std::thread::Threads;
 /// Reads the command's first file from `input` and writes to `output` what the command prints or
 /// puts into its second file: what `make_log_in`, `run`, `run_at`, `audit_log`, `close_log` or
 /// `upgrade_log` writes, with their faults. Nothing is written before all bytes are there.
-pub fn act<R, I, O, G>(
+pub fn act<R: Threads + Sync, I: Input, O: Output, G: Gate + Sync>(
     rt: &R,
     alloc: Global,
     command: &Command<'_>,
@@ -29,11 +25,6 @@ pub fn act<R, I, O, G>(
     output: &mut O,
     gate: &G,
 ) -> Result<(), Fault>
-where
-    R: Threads + Sync,
-    I: Input,
-    O: Output,
-    G: Gate + Sync,
     requires reads { I.faults input.old < 18446744073709551615 }
     requires writes { O.faults output.old < 18446744073709551615 }
     ensures acts { (b : List ℕ) → I.remaining input.old ≡ Some b

@@ -1,18 +1,21 @@
 //! From a log that a reader gives to what is written of it.
 
 ghost use Rattle.std.specs.Prelude.{◌≡◌, ℕ, ◌<◌, List, Some};
+ghost use Rattle.rq_model.specs.Checkpoints.{TrueAt};
+ghost use Rattle.rq_tool.specs.AuditTexts.{AuditsLog};
+ghost use Rattle.rq_tool.specs.Closings.{ClosesLog};
+ghost use Rattle.rq_tool.specs.Headline.{Runs, RunsAt, WritesOnly, WritesReport};
 ghost use Rattle.rq_tool.specs.Streams.{ReadFaults, TakesInput, WriteFaults};
+ghost use Rattle.rq_tool.specs.Upgrades.{UpgradesLog};
 ghost use Rattle.rq_tool.specs.Works.{IsTextOf, IsWhyNot};
 ghost use Rattle.rq_tool.specs.Written.{PutsText, Writes};
 
-use crate::audits::put_audit;
-use crate::closed_logs::put_closed;
-use crate::engine::put_report;
-use crate::engine_at::put_report_at;
+use crate::audits::audited_lines;
+use crate::engine::{put_report, put_report_at};
 use crate::input::read_log;
-use crate::upgrades::put_upgraded;
-use rq_report::{Input, Output};
-use rq_restart::{Fault, Gate, Plan};
+use crate::remade_logs::{closed_log, upgraded_log};
+use rq_report::{Input, Output, write_all};
+use rq_restart::{Fault, Gate, Open, Plan};
 use std::alloc::Global;
 use std::marker::Sync;
 use std::thread::Threads;
@@ -33,7 +36,7 @@ pub(crate) enum Work {
 }
 
 // Writes what is made of the bytes. All of it is made before any is written.
-fn put<R, O, G>(
+fn put<R: Threads + Sync, O: Output, G: Gate + Sync>(
     rt: &R,
     alloc: Global,
     bytes: Vec<u8>,
@@ -42,10 +45,6 @@ fn put<R, O, G>(
     plan: &Plan,
     gate: &G,
 ) -> Result<(), Fault>
-where
-    R: Threads + Sync,
-    O: Output,
-    G: Gate + Sync,
     requires { O.faults output.old < 18446744073709551615 }
     ensures { PutsText (IsTextOf work bytes.items) (IsWhyNot work bytes.items)
         (O.faults output.old) (O.faults output.new)
@@ -53,15 +52,24 @@ where
 {
     match work {
         Work::Report => put_report(rt, alloc, bytes, output, plan, gate),
-        Work::ReportAt(offset) => put_report_at(rt, alloc, bytes, output, offset, plan, gate),
-        Work::Audit => put_audit(rt, alloc, bytes, output, plan),
-        Work::Close => put_closed(rt, alloc, bytes, output, plan),
-        Work::Upgrade => put_upgraded(rt, alloc, bytes, output, plan),
+        Work::ReportAt(offset) => put_report_at(rt, alloc, bytes, offset, output, plan, gate),
+        Work::Audit => {
+            let text = audited_lines(rt, alloc, bytes, plan)?;
+            write_all(output, text.as_bytes())
+        }
+        Work::Close => {
+            let closed = closed_log(rt, alloc, bytes, plan)?;
+            write_all(output, &closed)
+        }
+        Work::Upgrade => {
+            let upgraded = upgraded_log(rt, alloc, &bytes, plan)?;
+            write_all(output, &upgraded)
+        }
     }
 }
 
 /// Reads the input to its end, but at most 4,294,967,296 bytes, and writes what is made of it.
-pub(crate) fn through<R, I, O, G>(
+pub(crate) fn through<R: Threads + Sync, I: Input, O: Output, G: Gate + Sync>(
     rt: &R,
     alloc: Global,
     input: &mut I,
@@ -70,11 +78,6 @@ pub(crate) fn through<R, I, O, G>(
     plan: &Plan,
     gate: &G,
 ) -> Result<(), Fault>
-where
-    R: Threads + Sync,
-    I: Input,
-    O: Output,
-    G: Gate + Sync,
     requires reads { I.faults input.old < 18446744073709551615 }
     requires writes { O.faults output.old < 18446744073709551615 }
     ensures writes { (b : List ℕ) → I.remaining input.old ≡ Some b
@@ -88,4 +91,144 @@ where
 {
     let bytes = read_log(alloc, input)?;
     put(rt, alloc, bytes, output, work, plan, gate)
+}
+
+/// Reads the input to its end, but at most 4,294,967,296 bytes, restarts, and writes the report.
+///
+/// Nothing else is written. Refuses with `ReadFailed`, `TooLong`, `NotALog` or `Resources`, and
+/// then writes nothing, and with `WriteFailed`, and then has written a beginning of the report.
+pub fn run<R: Threads + Sync, I: Input, O: Output, G: Gate + Sync>(
+    rt: &R,
+    alloc: Global,
+    input: &mut I,
+    output: &mut O,
+    plan: &Plan,
+    gate: &G,
+) -> Result<(), Fault>
+    requires reads { I.faults input.old < 18446744073709551615 }
+    requires writes { O.faults output.old < 18446744073709551615 }
+    ensures runs { (b : List ℕ) → I.remaining input.old ≡ Some b
+        → Runs b (O.contents output.old) (O.contents output.new) result }
+    ensures quiet { WritesOnly (O.contents output.old) (O.contents output.new) result }
+    ensures takes { TakesInput (I.remaining input.old) (I.remaining input.new) result }
+    ensures read_faults { ReadFaults (I.faults input.old) (I.faults input.new) result }
+    ensures write_faults { WriteFaults (O.faults output.old) (O.faults output.new) result }
+{
+    through(rt, alloc, input, output, Work::Report, plan, gate)
+}
+
+/// Reads the input to its end, but at most 4,294,967,296 bytes, restarts from the checkpoint at an
+/// offset, and writes the report. From a true checkpoint it is the report of the log, and only
+/// memory, the reader or the writer refuse it.
+///
+/// Nothing else is written. Refuses with `NoCheckpoint` where no checkpoint begins at the offset,
+/// with `BadCheckpoint` where it spells no well-formed state, and else as `run` does.
+pub fn run_at<R: Threads + Sync, I: Input, O: Output, G: Gate + Sync>(
+    rt: &R,
+    alloc: Global,
+    input: &mut I,
+    output: &mut O,
+    offset: u64,
+    plan: &Plan,
+    gate: &G,
+) -> Result<(), Fault>
+    requires reads { I.faults input.old < 18446744073709551615 }
+    requires writes { O.faults output.old < 18446744073709551615 }
+    ensures runs { (b : List ℕ) → I.remaining input.old ≡ Some b
+        → RunsAt b offset (O.contents output.old) (O.contents output.new) result }
+    ensures same { (b : List ℕ) → I.remaining input.old ≡ Some b → TrueAt b offset
+        → WritesReport b (O.contents output.old) (O.contents output.new) result }
+    ensures quiet { (b : List ℕ)
+        × RunsAt b offset (O.contents output.old) (O.contents output.new) result }
+    ensures takes { TakesInput (I.remaining input.old) (I.remaining input.new) result }
+    ensures read_faults { ReadFaults (I.faults input.old) (I.faults input.new) result }
+    ensures write_faults { WriteFaults (O.faults output.old) (O.faults output.new) result }
+{
+    rq_model::true_checkpoints_report_the_same();
+    through(rt, alloc, input, output, Work::ReportAt(offset), plan, gate)
+}
+
+/// Reads the input to its end, but at most 4,294,967,296 bytes, and writes a line for each
+/// checkpoint of the log's front, rising: its offset, and whether it is true.
+///
+/// Nothing else is written. Refused as `run` is; with `WriteFailed` a beginning of the lines is
+/// written, else nothing.
+pub fn audit_log<R: Threads + Sync, I: Input, O: Output>(
+    rt: &R,
+    alloc: Global,
+    input: &mut I,
+    output: &mut O,
+    plan: &Plan,
+) -> Result<(), Fault>
+    requires reads { I.faults input.old < 18446744073709551615 }
+    requires writes { O.faults output.old < 18446744073709551615 }
+    ensures audits { (b : List ℕ) → I.remaining input.old ≡ Some b
+        → AuditsLog b (O.contents output.old) (O.contents output.new) result }
+    ensures quiet { (b : List ℕ)
+        × AuditsLog b (O.contents output.old) (O.contents output.new) result }
+    ensures takes { TakesInput (I.remaining input.old) (I.remaining input.new) result }
+    ensures read_faults { ReadFaults (I.faults input.old) (I.faults input.new) result }
+    ensures write_faults { WriteFaults (O.faults output.old) (O.faults output.new) result }
+{
+    through(rt, alloc, input, output, Work::Audit, plan, &Open)
+}
+
+/// Reads the input to its end, but at most 4,294,967,296 bytes, and writes the closed log: its
+/// front, and behind it an ABORT for each unit that is open. No queue is redone for it.
+///
+/// A restart of the closed log answers the state that a restart of the log answers; and so does a
+/// restart of as much of it as a crash leaves, once the front is there. To close it again changes
+/// nothing.
+///
+/// Nothing else is written. Refuses with `TooLarge` where the closed log would have more than
+/// 4,294,967,295 bytes, and else as `run` does; with `WriteFailed` a beginning of the closed log is
+/// written, else nothing.
+pub fn close_log<R: Threads + Sync, I: Input, O: Output>(
+    rt: &R,
+    alloc: Global,
+    input: &mut I,
+    output: &mut O,
+    plan: &Plan,
+) -> Result<(), Fault>
+    requires reads { I.faults input.old < 18446744073709551615 }
+    requires writes { O.faults output.old < 18446744073709551615 }
+    ensures closes { (b : List ℕ) → I.remaining input.old ≡ Some b
+        → ClosesLog b (O.contents output.old) (O.contents output.new) result }
+    ensures quiet { (b : List ℕ)
+        × ClosesLog b (O.contents output.old) (O.contents output.new) result }
+    ensures takes { TakesInput (I.remaining input.old) (I.remaining input.new) result }
+    ensures read_faults { ReadFaults (I.faults input.old) (I.faults input.new) result }
+    ensures write_faults { WriteFaults (O.faults output.old) (O.faults output.new) result }
+{
+    through(rt, alloc, input, output, Work::Close, plan, &Open)
+}
+
+/// Reads the input to its end, but at most 4,294,967,296 bytes, and writes the log in version 2:
+/// the records of its front, whose frames are chained anew behind the header of version 2. What
+/// stood behind the front is dropped. No queue is redone for it.
+///
+/// The upgraded log has the report of the log, but that all of its bytes are front. It has the same
+/// checkpoints at the same offsets, true where they were; and from each true one the same restart,
+/// again but that all bytes are front. To upgrade it again changes nothing.
+///
+/// Nothing else is written. Refused as `run` is; with `WriteFailed` a beginning of the upgraded log
+/// is written, else nothing.
+pub fn upgrade_log<R: Threads + Sync, I: Input, O: Output>(
+    rt: &R,
+    alloc: Global,
+    input: &mut I,
+    output: &mut O,
+    plan: &Plan,
+) -> Result<(), Fault>
+    requires reads { I.faults input.old < 18446744073709551615 }
+    requires writes { O.faults output.old < 18446744073709551615 }
+    ensures upgrades { (b : List ℕ) → I.remaining input.old ≡ Some b
+        → UpgradesLog b (O.contents output.old) (O.contents output.new) result }
+    ensures quiet { (b : List ℕ)
+        × UpgradesLog b (O.contents output.old) (O.contents output.new) result }
+    ensures takes { TakesInput (I.remaining input.old) (I.remaining input.new) result }
+    ensures read_faults { ReadFaults (I.faults input.old) (I.faults input.new) result }
+    ensures write_faults { WriteFaults (O.faults output.old) (O.faults output.new) result }
+{
+    through(rt, alloc, input, output, Work::Upgrade, plan, &Open)
 }

@@ -1,16 +1,16 @@
-//! The engine of the program.
+//! The report of a log, from its beginning or from a checkpoint.
 
-ghost use Rattle.std.specs.Prelude.{◌≡◌, ℕ, ◌<◌, List, Some};
+ghost use Rattle.std.specs.Prelude.{◌<◌};
+ghost use Rattle.rq_model.specs.Checkpoints.{IsReportAt};
 ghost use Rattle.rq_model.specs.Reports.{IsReport};
 ghost use Rattle.rq_front.specs.Chains.{IsLog, Refused};
-ghost use Rattle.rq_restart.specs.Restarts.{Restarts};
-ghost use Rattle.rq_tool.specs.Streams.{ReadFaults, TakesInput, WriteFaults};
+ghost use Rattle.rq_restart.specs.Restarts.{Restarts, RestartsAt};
+ghost use Rattle.rq_tool.specs.Works.{HasNoReportAt};
 ghost use Rattle.rq_tool.specs.Written.{PutsText};
-ghost use Rattle.rq_tool.specs.Headline.{Runs, WritesOnly};
 
-use crate::door::{Work, through};
-use rq_report::{Input, Output, write_report_by};
-use rq_restart::{Fault, Gate, LogBytes, Plan, Restarted, restart_of};
+use crate::input::are_bytes;
+use rq_report::{Output, write_report_by};
+use rq_restart::{Fault, Gate, LogBytes, Plan, Restarted, restart_of, restart_of_at};
 use std::alloc::Global;
 use std::marker::Sync;
 use std::sync::ArcSlice;
@@ -18,16 +18,13 @@ use std::thread::Threads;
 
 // The restart of the bytes that were read. Long payloads are parts of them; what holds none lets
 // them go.
-fn restart_read<R, G>(
+fn restart_read<R: Threads + Sync, G: Gate + Sync>(
     rt: &R,
     alloc: Global,
     bytes: Vec<u8>,
     plan: &Plan,
     gate: &G,
 ) -> Result<Restarted, Fault>
-where
-    R: Threads + Sync,
-    G: Gate + Sync,
     ensures { Restarts bytes.items result }
 {
     let log = ArcSlice::from_vec(bytes)?;
@@ -35,7 +32,7 @@ where
 }
 
 /// Writes the report of the log.
-pub(crate) fn put_report<R, O, G>(
+pub(crate) fn put_report<R: Threads + Sync, O: Output, G: Gate + Sync>(
     rt: &R,
     alloc: Global,
     bytes: Vec<u8>,
@@ -43,10 +40,6 @@ pub(crate) fn put_report<R, O, G>(
     plan: &Plan,
     gate: &G,
 ) -> Result<(), Fault>
-where
-    R: Threads + Sync,
-    O: Output,
-    G: Gate + Sync,
     requires { O.faults output.old < 18446744073709551615 }
     ensures { PutsText (λ text. IsLog bytes.items × IsReport bytes.items text) (Refused bytes.items)
         (O.faults output.old) (O.faults output.new)
@@ -56,31 +49,41 @@ where
     write_report_by(rt, alloc, &restarted, plan, output)
 }
 
-/// Reads the input to its end, but at most 4,294,967,296 bytes, restarts, and writes the report.
-///
-/// Nothing else is written. Refuses with `ReadFailed`, `TooLong`, `NotALog` or `Resources`, and
-/// then writes nothing, and with `WriteFailed`, and then has written a beginning of the report.
-pub fn run<R, I, O, G>(
+// The restart of the bytes that were read, from the checkpoint at an offset. Long payloads behind
+// it are parts of them.
+fn restart_read_at<R: Threads + Sync, G: Gate + Sync>(
     rt: &R,
     alloc: Global,
-    input: &mut I,
+    bytes: Vec<u8>,
+    offset: u64,
+    plan: &Plan,
+    gate: &G,
+) -> Result<Restarted, Fault>
+    ensures { RestartsAt bytes.items offset result }
+{
+    let log = ArcSlice::from_vec(bytes)?;
+    restart_of_at(rt, alloc, &LogBytes::shared(&log), offset, plan, gate)
+}
+
+/// Writes the report of the log from the checkpoint at an offset.
+pub(crate) fn put_report_at<R: Threads + Sync, O: Output, G: Gate + Sync>(
+    rt: &R,
+    alloc: Global,
+    bytes: Vec<u8>,
+    offset: u64,
     output: &mut O,
     plan: &Plan,
     gate: &G,
 ) -> Result<(), Fault>
-where
-    R: Threads + Sync,
-    I: Input,
-    O: Output,
-    G: Gate + Sync,
-    requires reads { I.faults input.old < 18446744073709551615 }
-    requires writes { O.faults output.old < 18446744073709551615 }
-    ensures runs { (b : List ℕ) → I.remaining input.old ≡ Some b
-        → Runs b (O.contents output.old) (O.contents output.new) result }
-    ensures quiet { WritesOnly (O.contents output.old) (O.contents output.new) result }
-    ensures takes { TakesInput (I.remaining input.old) (I.remaining input.new) result }
-    ensures read_faults { ReadFaults (I.faults input.old) (I.faults input.new) result }
-    ensures write_faults { WriteFaults (O.faults output.old) (O.faults output.new) result }
+    requires { O.faults output.old < 18446744073709551615 }
+    ensures { PutsText (λ text. IsLog bytes.items × IsReportAt bytes.items offset text)
+        (HasNoReportAt bytes.items offset) (O.faults output.old) (O.faults output.new)
+        (O.contents output.old) (O.contents output.new) result }
 {
-    through(rt, alloc, input, output, Work::Report, plan, gate)
+    rq_model::every_log_has_report();
+    rq_model::true_checkpoints_report_the_same();
+    rq_model::versions();
+    are_bytes(&bytes);
+    let from_there = restart_read_at(rt, alloc, bytes, offset, plan, gate)?;
+    write_report_by(rt, alloc, &from_there, plan, output)
 }

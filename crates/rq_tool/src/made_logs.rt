@@ -22,16 +22,13 @@ fn one_worker() -> Plan {
 }
 
 // Writes the log of a script, in a version.
-fn put_log<R, O>(
+fn put_log<R: Threads + Sync, O: Output>(
     rt: &R,
     alloc: Global,
     version: Version,
     script: Vec<u8>,
     output: &mut O,
 ) -> Result<(), Fault>
-where
-    R: Threads + Sync,
-    O: Output,
     requires faults { O.faults output.old < 18446744073709551615 }
     requires short { length script.items ≤ 4294967295 }
     ensures { PutsText (IsLogOf (version_of version) script.items)
@@ -49,17 +46,13 @@ where
 /// bytes, with `Script` and the number of the earliest line that is none, with `TooLarge` where the
 /// state of a `checkpoint` is too large to be spelled, and with `ReadFailed` or `Resources`, and
 /// then writes nothing; with `WriteFailed`, and then has written a beginning of the log.
-pub fn make_log_in<R, I, O>(
+pub fn make_log_in<R: Threads + Sync, I: Input, O: Output>(
     rt: &R,
     alloc: Global,
     version: Version,
     input: &mut I,
     output: &mut O,
 ) -> Result<(), Fault>
-where
-    R: Threads + Sync,
-    I: Input,
-    O: Output,
     requires reads { I.faults input.old < 18446744073709551615 }
     requires writes { O.faults output.old < 18446744073709551615 }
     ensures makes { (b : List ℕ) → I.remaining input.old ≡ Some b

@@ -47,7 +47,7 @@ fn append_all(
     if !log.has_numbers(records.len()) {
         return Err(Refusal::Ended);
     }
-    match log.appender.append_each(alloc, records, frames) {
+    match log.opened.appender.append_each(alloc, records, frames) {
         (_, None) => {
             log.next = log.next.saturating_add(records.len() as u64);
             Ok(())
@@ -84,7 +84,7 @@ fn append_checkpoint(
         return Err(Refusal::Ended);
     }
     let checkpoint = checkpoint_of(alloc, state)?;
-    match log.appender.append(alloc, &checkpoint, frames) {
+    match log.opened.appender.append(alloc, &checkpoint, frames) {
         Ok(()) => Ok(()),
         Err(why) => Err(refused(why)),
     }
@@ -101,7 +101,7 @@ fn marked_behind<R: Threads + Sync>(
     ends_units: bool,
 ) -> Result<Marked, Refusal> {
     let mut made = Marked {
-        used: log.used,
+        used: log.opened.used,
         offset: 0,
         frames: Vec::new(alloc),
     };
@@ -147,6 +147,6 @@ pub(crate) fn close_carried<R: Threads + Sync>(
 ) -> Result<(), Refusal> {
     let mut log = front_of(rt, alloc, bytes, plan)?;
     let aborts = aborts_behind(rt, alloc, bytes, plan)?;
-    bytes.truncate(log.used);
+    bytes.truncate(log.opened.used);
     append_all(alloc, &mut log, &aborts, bytes)
 }

@@ -39,17 +39,14 @@ fn told(done: io::Result<()>) -> Result<(), Refusal> {
 }
 
 // Writes the frames of a script behind a log, and tells so.
-fn write_script<R>(
+fn write_script<R: Files<File = File> + Print>(
     rt: &R,
     held: &mut HeldLog,
     read: usize,
     used: usize,
     made: &Written,
     json: bool,
-) -> Result<(), Refusal>
-where
-    R: Files<File = File> + Print,
-{
+) -> Result<(), Refusal> {
     held.append(rt, read, used, &made.frames)?;
     let len = used.saturating_add(made.frames.len()) as u64;
     told(tell_appended(rt, json, made.count, used as u64, len))
@@ -68,7 +65,7 @@ fn append_script<R>(
 where
     R: Files<File = File> + Print + AllocGlobal,
 {
-    let used = log.used;
+    let used = log.opened.used;
     let made = frames_of(rt.alloc(), log, script, words.get_flag("each"))?;
     if made.is_kept() {
         write_script(rt, held, read, used, &made, words.get_flag("json"))?;
@@ -101,16 +98,13 @@ where
 }
 
 // Writes a checkpoint behind a log of which so many bytes were read, and tells so.
-fn write_mark<R>(
+fn write_mark<R: Files<File = File> + Print>(
     rt: &R,
     held: &mut HeldLog,
     read: usize,
     made: &Marked,
     json: bool,
-) -> Result<(), Refusal>
-where
-    R: Files<File = File> + Print,
-{
+) -> Result<(), Refusal> {
     held.append(rt, read, made.used, &made.frames)?;
     let len = made.used.saturating_add(made.frames.len()) as u64;
     told(tell_marked(rt, json, made.offset as u64, len))
@@ -194,8 +188,19 @@ where
     carry_bytes(rt, &bytes, plan, new, words.get_flag("json"))
 }
 
-// Prints the report of a log, plain or carried on.
-fn print_report<R, F>(rt: &R, is_carried: bool, from: F, plan: &Plan) -> Result<(), Fault>
+// What is printed of a log.
+#[derive(Clone, Copy)]
+enum Shown {
+    // The report of a plain log.
+    Report,
+    // The report of one that was carried on.
+    CarriedReport,
+    // Which checkpoints of a plain log are true.
+    Audit,
+}
+
+// Prints it.
+fn print_shown<R, F>(rt: &R, shown: Shown, from: F, plan: &Plan) -> Result<(), Fault>
 where
     R: Print + Clock + AllocGlobal + Threads + Sync,
     F: Read + Drop,
@@ -205,11 +210,13 @@ where
         rt,
         inner: io::writer(rt),
     });
-    if is_carried {
-        let offset = CARRIED_AT as u64;
-        rq_tool::run_at(rt, rt.alloc(), &mut input, &mut output, offset, plan, &Open)
-    } else {
-        rq_tool::run(rt, rt.alloc(), &mut input, &mut output, plan, &Open)
+    match shown {
+        Shown::Report => rq_tool::run(rt, rt.alloc(), &mut input, &mut output, plan, &Open),
+        Shown::CarriedReport => {
+            let offset = CARRIED_AT as u64;
+            rq_tool::run_at(rt, rt.alloc(), &mut input, &mut output, offset, plan, &Open)
+        }
+        Shown::Audit => rq_tool::audit_log(rt, rt.alloc(), &mut input, &mut output, plan),
     }
 }
 
@@ -218,7 +225,12 @@ where
     R: Files<File = File> + Print + Clock + AllocGlobal + Threads + Sync,
 {
     let (is_carried, from) = begun_log(rt, opened(rt, path)?)?;
-    Ok(print_report(rt, is_carried, from, plan)?)
+    let shown = if is_carried {
+        Shown::CarriedReport
+    } else {
+        Shown::Report
+    };
+    Ok(print_shown(rt, shown, from, plan)?)
 }
 
 // The closed log, plain or carried on.
@@ -287,20 +299,6 @@ where
     Ok(rt.write_all(text.as_bytes())?)
 }
 
-// Prints which checkpoints of a plain log are true.
-fn print_audit<R, F>(rt: &R, from: F, plan: &Plan) -> Result<(), Fault>
-where
-    R: Print + Clock + AllocGlobal + Threads + Sync,
-    F: Read + Drop,
-{
-    let mut input = OverRead::new(from);
-    let mut output = OverWrite::new(Patient {
-        rt,
-        inner: io::writer(rt),
-    });
-    rq_tool::audit_log(rt, rt.alloc(), &mut input, &mut output, plan)
-}
-
 fn audit<R>(rt: &R, path: &str, plan: &Plan) -> Result<(), Refusal>
 where
     R: Files<File = File> + Print + Clock + AllocGlobal + Threads + Sync,
@@ -309,7 +307,7 @@ where
     if is_carried {
         return tell_audit(rt, from, plan);
     }
-    Ok(print_audit(rt, from, plan)?)
+    Ok(print_shown(rt, Shown::Audit, from, plan)?)
 }
 
 /// Does the command of the words.

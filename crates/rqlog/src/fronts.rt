@@ -4,7 +4,7 @@ use crate::inputs::{begins_carried, judged_log, rest_of_log};
 use crate::refusal::Refusal;
 use byteorder::{BigEndian, ByteOrder};
 use rq_journal::{
-    Appender, CARRIED_AT, Fault, Opened, Plan, Why, is_carried, open, open_carried, opened_behind,
+    CARRIED_AT, Fault, Opened, Plan, Why, is_carried, open, open_carried, opened_behind,
 };
 use rq_record::Version;
 use rq_restart::{RedoneFront, redone_front, redone_front_at};
@@ -18,11 +18,8 @@ const NUMBERS: u64 = 4_294_967_295;
 /// Stands where the front of a log ends.
 #[derive(Drop)]
 pub(crate) struct OpenLog {
-    pub(crate) appender: Appender,
-    /// So many bytes the front and what is before it take.
-    pub(crate) used: usize,
-    /// Why the front ends.
-    pub(crate) why: Why,
+    /// Its file, opened.
+    pub(crate) opened: Opened,
     /// The number of the next record, over all files of the log.
     pub(crate) next: u64,
 }
@@ -30,7 +27,7 @@ pub(crate) struct OpenLog {
 impl OpenLog {
     /// The version by whose rules records follow.
     pub(crate) fn version(&self) -> Version {
-        self.appender.version()
+        self.opened.appender.version()
     }
 
     /// Whether a state behind so many records more can be spelled.
@@ -44,11 +41,11 @@ impl OpenLog {
     }
 }
 
-// How many records were numbered before the first frame: the spelling of the state that a log begins
-// with tells it first, behind the length and the kind of its checkpoint.
+// How many records were numbered before the first frame of a log that was carried on: the spelling of
+// the state that it begins with tells it first, behind the length and the kind of its checkpoint.
 fn numbered_before(bytes: &[u8]) -> u64 {
     let at = CARRIED_AT + 5;
-    if !is_carried(bytes) || bytes.len() < at + 8 {
+    if bytes.len() < at + 8 {
         return 0;
     }
     BigEndian::read_u64(&bytes[at..])
@@ -56,18 +53,8 @@ fn numbered_before(bytes: &[u8]) -> u64 {
 
 // Where a log was opened, before whose first frame so many records were numbered.
 fn open_at(opened: Opened, before: u64) -> OpenLog {
-    let Opened {
-        appender,
-        used,
-        records,
-        why,
-    } = opened;
-    OpenLog {
-        appender,
-        used,
-        why,
-        next: before.saturating_add(records as u64),
-    }
+    let next = before.saturating_add(opened.records as u64);
+    OpenLog { opened, next }
 }
 
 /// Where the front of a log ends.
@@ -77,18 +64,17 @@ pub(crate) fn front_of<R: Threads + Sync>(
     bytes: &[u8],
     plan: &Plan,
 ) -> Result<OpenLog, Fault> {
-    let opened = if is_carried(bytes) {
-        open_carried(rt, alloc, bytes, plan)?
-    } else {
-        open(rt, alloc, bytes, plan)?
-    };
-    Ok(open_at(opened, numbered_before(bytes)))
+    if is_carried(bytes) {
+        let opened = open_carried(rt, alloc, bytes, plan)?;
+        return Ok(open_at(opened, numbered_before(bytes)));
+    }
+    Ok(open_at(open(rt, alloc, bytes, plan)?, 0))
 }
 
 // Refuses a front behind which bytes stand that are no beginning of a frame: they hide records, or
 // a fault of the writer.
 fn undamaged(found: OpenLog) -> Result<OpenLog, Refusal> {
-    match found.why {
+    match found.opened.why {
         Why::Whole | Why::Cut => Ok(found),
         why => Err(Refusal::Damaged(why)),
     }

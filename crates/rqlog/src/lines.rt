@@ -126,7 +126,7 @@ fn broken(rule: Option<Rule>) -> Reason {
 // Which rule a record breaks that is not lawful.
 fn rule_of(alloc: Global, log: &OpenLog, record: &Record) -> Reason {
     match KeptRecord::of(alloc, record) {
-        Ok(record) => broken(log.appender.broken(&record)),
+        Ok(record) => broken(log.opened.appender.broken(&record)),
         Err(_) => Reason::Memory,
     }
 }
@@ -159,7 +159,7 @@ fn append_record(
     if log.is_at_end() {
         return Err(Reason::Ended);
     }
-    match log.appender.append(alloc, record, frames) {
+    match log.opened.appender.append(alloc, record, frames) {
         Ok(()) => {
             log.next = log.next.saturating_add(1);
             Ok(())

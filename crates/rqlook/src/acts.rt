@@ -1,13 +1,14 @@
 //! What the program does for each of its commands.
 
 use crate::failures::{Failure, FileTrouble, of_file};
-use crate::log_files::{PlannedLog, read_log_file};
+use crate::log_files::read_log_file;
 use crate::made_files::make_file;
 use crate::narrow_lines::Narrow;
 use crate::progress::{Watch, Watched};
+use crate::requests::Request;
 use crate::words::{columns_asked, records_asked, subject_asked};
 use clap::ArgMatches;
-use rq_found::{Plan, Trouble, begins_at};
+use rq_found::{Plan, ShownLog, Trouble, begins_at};
 use std::io::{self, ErrorKind, Write};
 use std::os::fd::AsFd;
 use std::rt::{Clock, Files};
@@ -36,39 +37,16 @@ fn print_found<W: Write>(text: &str, output: &mut W) -> Result<(), Trouble> {
 }
 
 // Prints what a check finds, unless it is to say nothing. Answers whether it finds nothing.
-fn check<R, W>(
+fn check<R: AllocGlobal + Threads + Sync, W: Write>(
     rt: &R,
-    log: PlannedLog<'_>,
-    words: &ArgMatches<'_>,
+    asked: &Request<'_, '_>,
     output: &mut W,
-) -> Result<bool, Trouble>
-where
-    R: AllocGlobal + Threads + Sync,
-    W: Write,
-{
-    let found = rq_look::check(rt, rt.alloc(), log.bytes, log.at, &log.plan)?;
-    if !words.get_flag("quiet") {
+) -> Result<bool, Trouble> {
+    let found = rq_look::check(rt, rt.alloc(), &asked.log)?;
+    if !asked.words.get_flag("quiet") {
         print_found(found.text.as_str(), output)?;
     }
     Ok(found.fine)
-}
-
-fn report<R, W>(
-    rt: &R,
-    log: PlannedLog<'_>,
-    words: &ArgMatches<'_>,
-    output: &mut W,
-) -> Result<(), Trouble>
-where
-    R: AllocGlobal + Threads + Sync,
-    W: Write,
-{
-    let queue = words.get_one::<u32>("queue");
-    if words.get_flag("json") {
-        rq_look::report_json(rt, rt.alloc(), log.bytes, log.at, &log.plan, queue, output)
-    } else {
-        rq_look::report(rt, rt.alloc(), log.bytes, log.at, &log.plan, queue, output)
-    }
 }
 
 // Tells how long a megabyte of the log took, if there is a clock.
@@ -80,85 +58,50 @@ fn tell_time<R: Eprint + Clock>(rt: &R, bytes: &[u8], begun: Option<Instant>) {
     let _ = eprintln!(rt; "rqlook: {each} microseconds for a megabyte");
 }
 
-fn stats<R, W>(
+fn stats<R: Eprint + Clock + AllocGlobal + Threads + Sync, W: Write>(
     rt: &R,
-    log: PlannedLog<'_>,
-    words: &ArgMatches<'_>,
+    asked: &Request<'_, '_>,
     output: &mut W,
-) -> Result<(), Trouble>
-where
-    R: Eprint + Clock + AllocGlobal + Threads + Sync,
-    W: Write,
-{
-    let begun = if words.get_flag("time") {
+) -> Result<(), Trouble> {
+    let begun = if asked.words.get_flag("time") {
         Instant::now(rt).ok()
     } else {
         None
     };
-    let json = words.get_flag("json");
-    rq_stats::stats(rt, rt.alloc(), log.bytes, log.at, &log.plan, json, output)?;
-    tell_time(rt, log.bytes, begun);
+    let json = asked.words.get_flag("json");
+    rq_stats::stats(rt, rt.alloc(), &asked.log, json, output)?;
+    tell_time(rt, asked.log.bytes, begun);
     Ok(())
 }
 
 // Prints what a command shows that finds nothing.
-fn show<R, W>(
+fn show<R: Eprint + Clock + AllocGlobal + Threads + Sync, W: Write>(
     rt: &R,
-    name: &str,
-    log: PlannedLog<'_>,
-    words: &ArgMatches<'_>,
+    asked: &Request<'_, '_>,
     output: &mut W,
-) -> Result<(), Trouble>
-where
-    R: Eprint + Clock + AllocGlobal + Threads + Sync,
-    W: Write,
-{
-    let PlannedLog {
-        bytes,
-        at,
-        plan,
-        ..
-    } = log;
-    match name {
-        "dump" => rq_look::dump(
-            rt,
-            rt.alloc(),
-            bytes,
-            at,
-            &plan,
-            &records_asked(words),
-            output,
-        ),
-        "report" => report(rt, log, words, output),
-        "stats" => stats(rt, log, words, output),
-        _ => rq_look::story(
-            rt,
-            rt.alloc(),
-            bytes,
-            at,
-            &plan,
-            subject_asked(words),
-            output,
-        ),
+) -> Result<(), Trouble> {
+    let (alloc, log, words) = (rt.alloc(), &asked.log, asked.words);
+    match asked.name {
+        "dump" => rq_look::dump(rt, alloc, log, &records_asked(words), output),
+        "report" => {
+            let (queue, json) = (words.get_one::<u32>("queue"), words.get_flag("json"));
+            rq_look::report(rt, alloc, log, queue, json, output)
+        }
+        "stats" => stats(rt, asked, output),
+        _ => rq_look::story(rt, alloc, subject_asked(words), log, output),
     }
 }
 
-fn perform<R, W>(
+fn perform<R: Eprint + Clock + AllocGlobal + Threads + Sync, W: Write>(
     rt: &R,
-    name: &str,
-    log: PlannedLog<'_>,
-    words: &ArgMatches<'_>,
+    asked: &Request<'_, '_>,
     output: &mut W,
-) -> Result<bool, Trouble>
-where
-    R: Eprint + Clock + AllocGlobal + Threads + Sync,
-    W: Write,
-{
-    match name {
-        "check" => check(rt, log, words, output),
-        "script" => rq_look::script(rt, rt.alloc(), log.bytes, &log.plan, output),
+) -> Result<bool, Trouble> {
+    match asked.name {
+        "check" => check(rt, asked, output),
+        "script" => rq_look::script(rt, rt.alloc(), asked.log.bytes, asked.log.plan, output),
         _ => {
-            show(rt, name, log, words, output)?;
+            show(rt, asked, output)?;
             Ok(true)
         }
     }
@@ -181,42 +124,31 @@ fn output_watch(name: &str, watch: Watch) -> Watch {
 }
 
 // Prints what a command shows on standard output.
-fn print_shown<R>(
-    rt: &R,
-    name: &str,
-    log: PlannedLog<'_>,
-    words: &ArgMatches<'_>,
-    watch: Watch,
-) -> Result<bool, Trouble>
+fn print_shown<R>(rt: &R, asked: &Request<'_, '_>, watch: Watch) -> Result<bool, Trouble>
 where
     R: Print + Eprint + Clock + AllocGlobal + Threads + Sync,
 {
+    let (name, columns) = (asked.name, columns_of(asked.name, asked.words, watch));
     let watched = Watched::new(rt, io::writer(rt), output_watch(name, watch), "written");
-    let mut output = Narrow::new(rt.alloc(), watched, columns_of(name, words, watch));
-    perform(rt, name, log, words, &mut output)
+    let mut output = Narrow::new(rt.alloc(), watched, columns);
+    perform(rt, asked, &mut output)
 }
 
-// Does the command of this name on a log.
-fn act_on<R>(
-    rt: &R,
-    name: &str,
-    log: PlannedLog<'_>,
-    words: &ArgMatches<'_>,
-    watch: Watch,
-) -> Result<bool, Failure>
+// Does the command on its log.
+fn act_on<R>(rt: &R, asked: &Request<'_, '_>, watch: Watch) -> Result<bool, Failure>
 where
     R: Files + Print + Eprint + Clock + AllocGlobal + Threads + Sync,
     R::File: AsFd,
 {
-    if log.at.is_some() && begins_with_the_first(name) {
-        return Err(of_file(rt, log.file, FileTrouble::Carried));
+    if asked.log.at.is_some() && begins_with_the_first(asked.name) {
+        return Err(of_file(rt, asked.file, FileTrouble::Carried));
     }
-    if let Some(to) = words.get_str("OUT") {
-        return make_file(rt, name, log, words, to);
+    if let Some(to) = asked.words.get_str("OUT") {
+        return make_file(rt, asked, to);
     }
-    match print_shown(rt, name, log, words, watch) {
+    match print_shown(rt, asked, watch) {
         Ok(fine) => Ok(fine),
-        Err(trouble) => Err(of_file(rt, log.file, FileTrouble::Refused(trouble))),
+        Err(trouble) => Err(of_file(rt, asked.file, FileTrouble::Refused(trouble))),
     }
 }
 
@@ -235,11 +167,16 @@ where
     let file = words.get_str("LOG").unwrap_or("-");
     let bytes = read_log_file(rt, file, watch)?;
     watch.begins(rt, &bytes);
-    let log = PlannedLog {
-        file,
+    let log = ShownLog {
         bytes: &bytes,
         at: begins_at(&bytes),
-        plan,
+        plan: &plan,
     };
-    act_on(rt, name, log, words, watch)
+    let asked = Request {
+        name,
+        words,
+        file,
+        log,
+    };
+    act_on(rt, &asked, watch)
 }

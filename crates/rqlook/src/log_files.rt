@@ -2,7 +2,7 @@
 
 use crate::failures::{Failure, FileTrouble, of_file};
 use crate::progress::{Watch, Watched};
-use rq_found::{Fault, Plan, Trouble};
+use rq_found::{Fault, Trouble};
 use std::fs;
 use std::io::{self, ErrorKind, Read};
 use std::os::unix::fs::MetadataExt;
@@ -10,17 +10,6 @@ use std::rt::{Clock, Files};
 
 // One byte more than the longest log has.
 const LIMIT: u64 = 4_294_967_296;
-
-/// A log, and how many work on it.
-#[derive(Clone, Copy)]
-pub(crate) struct PlannedLog<'a> {
-    /// The name of its file.
-    pub(crate) file: &'a str,
-    pub(crate) bytes: &'a [u8],
-    /// Where its first frame begins, if it was carried on.
-    pub(crate) at: Option<u64>,
-    pub(crate) plan: Plan,
-}
 
 fn read_to_limit<R: Read + Drop, A: AllocGlobal>(rt: &A, from: R) -> io::Result<Vec<u8>> {
     let mut bytes = Vec::new(rt.alloc());

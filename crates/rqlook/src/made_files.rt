@@ -1,9 +1,9 @@
 //! The files that the program makes of a log.
 
 use crate::failures::{Failure, FileTrouble, of_file};
-use crate::log_files::{PlannedLog, is_over_log};
+use crate::log_files::is_over_log;
+use crate::requests::Request;
 use crate::words::{numbers_asked, order_asked};
-use clap::ArgMatches;
 use rq_file::VERSION;
 use rq_found::{Fault, Trouble};
 use rq_page::Asked;
@@ -13,45 +13,36 @@ use std::rt::Files;
 use std::thread::Threads;
 
 // Puts the page that the words ask for of a log into memory.
-fn put_page<R>(
+fn put_page<R: AllocGlobal + Threads + Sync>(
     rt: &R,
-    log: PlannedLog<'_>,
-    words: &ArgMatches<'_>,
+    asked: &Request<'_, '_>,
     made: &mut Vec<u8>,
-) -> Result<(), Trouble>
-where
-    R: AllocGlobal + Threads + Sync,
-{
-    let elements = numbers_asked(rt.alloc(), words, "element")?;
-    let units = numbers_asked(rt.alloc(), words, "unit")?;
-    let asked = Asked {
-        name: if log.file == "-" {
+) -> Result<(), Trouble> {
+    let elements = numbers_asked(rt.alloc(), asked.words, "element")?;
+    let units = numbers_asked(rt.alloc(), asked.words, "unit")?;
+    let page = Asked {
+        name: if asked.file == "-" {
             "standard input"
         } else {
-            log.file
+            asked.file
         },
         version: VERSION,
-        order: order_asked(words),
+        order: order_asked(asked.words),
         elements: elements.as_slice(),
         units: units.as_slice(),
     };
-    rq_page::page(rt, rt.alloc(), log.bytes, log.at, &log.plan, &asked, made)
+    rq_page::page(rt, rt.alloc(), &page, &asked.log, made)
 }
 
 // Puts the page of a log, or its script with what stands behind its front, into memory.
-fn put_made<R>(
+fn put_made<R: AllocGlobal + Threads + Sync>(
     rt: &R,
-    name: &str,
-    log: PlannedLog<'_>,
-    words: &ArgMatches<'_>,
+    asked: &Request<'_, '_>,
     made: &mut Vec<u8>,
-) -> Result<(), Trouble>
-where
-    R: AllocGlobal + Threads + Sync,
-{
-    let done = match name {
-        "page" => put_page(rt, log, words, made),
-        _ => rq_look::salvage(rt, rt.alloc(), log.bytes, &log.plan, made),
+) -> Result<(), Trouble> {
+    let done = match asked.name {
+        "page" => put_page(rt, asked, made),
+        _ => rq_look::salvage(rt, rt.alloc(), asked.log.bytes, asked.log.plan, made),
     };
     match done {
         // A write into memory fails for want of it alone.
@@ -78,23 +69,17 @@ where
 }
 
 /// Makes the page of a log, or its salvage. The file is whole or as it was, and never the log.
-pub(crate) fn make_file<R>(
-    rt: &R,
-    name: &str,
-    log: PlannedLog<'_>,
-    words: &ArgMatches<'_>,
-    to: &str,
-) -> Result<bool, Failure>
+pub(crate) fn make_file<R>(rt: &R, asked: &Request<'_, '_>, to: &str) -> Result<bool, Failure>
 where
     R: Files + Print + AllocGlobal + Threads + Sync,
     R::File: AsFd,
 {
-    if is_over_log(rt, log.file, to) {
+    if is_over_log(rt, asked.file, to) {
         return Err(Failure::Same);
     }
     let mut made = Vec::new(rt.alloc());
-    match put_made(rt, name, log, words, &mut made) {
+    match put_made(rt, asked, &mut made) {
         Ok(()) => write_made(rt, to, &made),
-        Err(trouble) => Err(of_file(rt, log.file, FileTrouble::Refused(trouble))),
+        Err(trouble) => Err(of_file(rt, asked.file, FileTrouble::Refused(trouble))),
     }
 }

@@ -8,6 +8,7 @@ mod log_files;
 mod made_files;
 mod narrow_lines;
 mod progress;
+mod requests;
 mod words;
 
 use crate::acts::act;

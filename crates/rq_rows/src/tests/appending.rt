@@ -22,12 +22,8 @@ const TAKING: [Record; 3] = [
 
 // `ONE_ELEMENT`, whose log has 237 bytes, and the lines of these records.
 const TAKEN: &[u8] = b"define jobs 0 -\n\
-    begin 1\n\
-    enqueue 1 0 5 - 0 61\n\
-    commit 1\n\
-    begin 2\n\
-    dequeue 2 0 - 0\n\
-    commit 2\n";
+    begin 1\nenqueue 1 0 5 - 0 61\ncommit 1\n\
+    begin 2\ndequeue 2 0 - 0\ncommit 2\n";
 
 // Whether the records are taken one by one, with these frames, and a second commit is not.
 fn takes(alloc: Global, opened: Opened, frames: &[u8]) -> bool {

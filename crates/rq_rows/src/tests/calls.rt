@@ -1,9 +1,9 @@
 //! Calls that the program never makes, or makes only through others, each once, with ample memory.
 
+use super::log_of;
+use super::remade::{self, Remade};
 use super::scripts::{CHECKPOINT, ONE_ELEMENT};
-use super::{PLANS, log_of};
 use rq_record::Version;
-use rq_restart::upgrade;
 use rq_tool::{Command, Open, OverRead, OverWrite, Plan, act, make_log_in};
 use rq_writer::{decimal_number, make_in};
 use std::io::Cursor;
@@ -55,32 +55,6 @@ fn upgraded_log<R: Threads + Sync + AllocGlobal>(rt: &R) -> Result<Vec<u8>, Fail
     Ok(make_in(rt, rt.alloc(), Version::Two, script, &plan)?)
 }
 
-// Whether the log is upgraded to this one, by this plan.
-fn upgrades_by<R: Threads + Sync + AllocGlobal>(
-    rt: &R,
-    log: &[u8],
-    plan: &Plan,
-    want: &[u8],
-) -> bool {
-    match upgrade(rt, rt.alloc(), log, plan) {
-        Ok(made) => made.as_slice() == want,
-        Err(_) => false,
-    }
-}
-
-// Whether it is, whatever the plan is.
-fn upgrades<R: Threads + Sync + AllocGlobal>(rt: &R, log: &[u8], want: &[u8]) -> bool {
-    for (workers, grain) in PLANS {
-        let Some(plan) = Plan::new(workers, grain) else {
-            return false;
-        };
-        if !upgrades_by(rt, log, &plan, want) {
-            return false;
-        }
-    }
-    true
-}
-
 // The log of `ONE_ELEMENT`, with its payload damaged.
 fn damaged_log<R: Threads + Sync + AllocGlobal>(rt: &R) -> Result<Vec<u8>, Fail> {
     let mut log = log_of(rt, ONE_ELEMENT)?;
@@ -94,7 +68,7 @@ fn damaged_log<R: Threads + Sync + AllocGlobal>(rt: &R) -> Result<Vec<u8>, Fail>
 fn upgrades_damaged<R: Threads + Sync + AllocGlobal>(rt: &R) -> Result<bool, Fail> {
     let log = damaged_log(rt)?;
     let want = upgraded_log(rt)?;
-    Ok(want.len() == 132 && upgrades(rt, &log, &want))
+    Ok(want.len() == 132 && remade::makes(rt, &log, Remade::Upgraded, &want))
 }
 
 #[test]

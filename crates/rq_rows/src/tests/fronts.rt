@@ -10,14 +10,9 @@ use std::thread::Threads;
 
 // Unit 2 is open after the first eight records: it holds element 3, has put in element 7 and has a
 // note of ann. The checkpoint after them has the bytes that this state spells.
-const INSIDE_A_UNIT: &[u8] = b"define jobs 0 -\n\
-    register 0 ann\n\
-    begin 1\n\
-    enqueue 1 0 5 - 0 61\n\
-    commit 1\n\
-    begin 2\n\
-    dequeue 2 0 ann 10\n\
-    enqueue 2 0 8 - 0 62\n\
+const INSIDE_A_UNIT: &[u8] = b"define jobs 0 -\nregister 0 ann\n\
+    begin 1\nenqueue 1 0 5 - 0 61\ncommit 1\n\
+    begin 2\ndequeue 2 0 ann 10\nenqueue 2 0 8 - 0 62\n\
     checkpoint-hex \
     0000000000000008000000000000000200000000000000010000000000000000000000010000ffff\
     ffff046a6f6273000000010000000000000002000000010000000003616e6e000000000200000000\

@@ -22,13 +22,6 @@ pub const RETURN_AND_ARRIVAL: &[u8] = b"define dead 0 -\n\
 
 /// Until the last record a unit is open that has taken one element and put in another. The log has
 /// 724 bytes, and 679 before the last record.
-pub const CHECKPOINT: &[u8] = b"define jobs 0 -\n\
-    register 0 ann\n\
-    begin 1\n\
-    enqueue 1 0 5 - 0 61\n\
-    commit 1\n\
-    begin 2\n\
-    dequeue 2 0 ann 10\n\
-    enqueue 2 0 8 - 0 62\n\
-    checkpoint\n\
-    commit 2\n";
+pub const CHECKPOINT: &[u8] = b"define jobs 0 -\nregister 0 ann\n\
+    begin 1\nenqueue 1 0 5 - 0 61\ncommit 1\n\
+    begin 2\ndequeue 2 0 ann 10\nenqueue 2 0 8 - 0 62\ncheckpoint\ncommit 2\n";

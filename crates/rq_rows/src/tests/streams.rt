@@ -19,32 +19,29 @@ const REPORT: &[u8; 206] = b"front 14 records, 745 of 745 bytes, whole\n\
     r ann dequeue tag 9 element 5\n\
     queue 1 jobs limit 1 error 0\n";
 
-// Gives at most 7 bytes a call. Each call that does not come after an interrupted one is
-// interrupted, if that is asked for. The call of one number fails; calls are counted from 1,
-// without those interrupted.
-#[derive(Drop)]
-struct Rough<'a> {
-    inner: Cursor<&'a [u8]>,
+// How a reader or a writer fails. Each call that does not come after an interrupted one is
+// interrupted, if that is asked for. The call of one number fails; calls are counted from 1, without
+// those interrupted.
+#[derive(Clone, Copy)]
+struct Faults {
     is_interrupted: bool,
     interrupts: bool,
     calls: u64,
     fails_at: u64,
 }
 
-impl<'a> Rough<'a> {
-    fn new(bytes: &'a [u8], interrupts: bool, fails_at: u64) -> Self {
-        Rough {
-            inner: Cursor::new(bytes),
+impl Faults {
+    fn new(interrupts: bool, fails_at: u64) -> Self {
+        Faults {
             is_interrupted: false,
             interrupts,
             calls: 0,
             fails_at,
         }
     }
-}
 
-impl<'a> Read for Rough<'a> {
-    fn read(&mut self, piece: &mut [u8]) -> io::Result<usize> {
+    // Counts a call, unless it is interrupted.
+    fn count(&mut self) -> io::Result<()> {
         self.is_interrupted = self.interrupts && !self.is_interrupted;
         if self.is_interrupted {
             return Err(io::Error::from(ErrorKind::Interrupted));
@@ -53,43 +50,35 @@ impl<'a> Read for Rough<'a> {
         if self.calls == self.fails_at {
             return Err(io::Error::from(ErrorKind::Other));
         }
+        Ok(())
+    }
+}
+
+// Gives at most 7 bytes a call.
+#[derive(Drop)]
+struct Rough<'a> {
+    inner: Cursor<&'a [u8]>,
+    faults: Faults,
+}
+
+impl<'a> Read for Rough<'a> {
+    fn read(&mut self, piece: &mut [u8]) -> io::Result<usize> {
+        self.faults.count()?;
         let want = piece.len().min(7);
         self.inner.read(&mut piece[..want])
     }
 }
 
-// Takes at most 3 bytes a call, and is interrupted and fails as `Rough` is and does.
+// Takes at most 3 bytes a call.
 #[derive(Drop)]
 struct Narrow {
     taken: Vec<u8>,
-    is_interrupted: bool,
-    interrupts: bool,
-    calls: u64,
-    fails_at: u64,
-}
-
-impl Narrow {
-    fn new(taken: Vec<u8>, interrupts: bool, fails_at: u64) -> Self {
-        Narrow {
-            taken,
-            is_interrupted: false,
-            interrupts,
-            calls: 0,
-            fails_at,
-        }
-    }
+    faults: Faults,
 }
 
 impl Write for Narrow {
     fn write(&mut self, bytes: &[u8]) -> io::Result<usize> {
-        self.is_interrupted = self.interrupts && !self.is_interrupted;
-        if self.is_interrupted {
-            return Err(io::Error::from(ErrorKind::Interrupted));
-        }
-        self.calls = self.calls.wrapping_add(1);
-        if self.calls == self.fails_at {
-            return Err(io::Error::from(ErrorKind::Other));
-        }
+        self.faults.count()?;
         let count = bytes.len().min(3);
         match self.taken.extend_from_slice(&bytes[..count]) {
             Ok(()) => Ok(count),
@@ -105,20 +94,16 @@ impl Write for Narrow {
 // Whether a run whose read of one number fails says so and writes nothing; or, if no read has that
 // number, writes the report. There are 105 calls of 7 bytes; two of 5, where the header ends and
 // where the log does; and one that finds the end.
-fn reads<R: Threads + Sync + AllocGlobal>(
-    rt: &R,
-    workers: u32,
-    grain: u32,
-    rough: Rough<'_>,
-) -> bool {
-    let Some(plan) = Plan::new(workers, grain) else {
-        return false;
-    };
-    let fails_at = rough.fails_at;
-    let mut input = OverRead::new(rough);
+fn reads<R>(rt: &R, log: &[u8], plan: &Plan, faults: Faults) -> bool
+where
+    R: Threads + Sync + AllocGlobal,
+{
+    let fails_at = faults.fails_at;
+    let inner = Cursor::new(log);
+    let mut input = OverRead::new(Rough { inner, faults });
     let mut output = OverWrite::new(Vec::new(rt.alloc()));
-    let done = run(rt, rt.alloc(), &mut input, &mut output, &plan, &Open);
-    let calls = input.into_inner().calls;
+    let done = run(rt, rt.alloc(), &mut input, &mut output, plan, &Open);
+    let calls = input.into_inner().faults.calls;
     let written = output.into_inner();
     if 0 < fails_at && fails_at <= 108 {
         done == Err(Fault::ReadFailed) && calls == fails_at && written.is_empty()
@@ -127,17 +112,69 @@ fn reads<R: Threads + Sync + AllocGlobal>(
     }
 }
 
-// The first read of which this is not so.
-fn wrong_read<R: Threads + Sync + AllocGlobal>(
-    rt: &R,
-    workers: u32,
-    grain: u32,
-    interrupts: bool,
-) -> Result<Option<u64>, Fail> {
-    let log = log_of(rt, RETURN_AND_ARRIVAL)?;
+// Whether a run whose write of one number fails says so and leaves a beginning of the report; or,
+// if no write has that number, writes all of it. There are 68 calls that take 3 bytes, and one that
+// takes the last 2.
+fn writes<R>(rt: &R, log: &[u8], plan: &Plan, faults: Faults) -> bool
+where
+    R: Threads + Sync + AllocGlobal,
+{
+    let fails_at = faults.fails_at;
+    let taken = Vec::new(rt.alloc());
+    let mut input = OverRead::new(Cursor::new(log));
+    let mut output = OverWrite::new(Narrow { taken, faults });
+    let done = run(rt, rt.alloc(), &mut input, &mut output, plan, &Open);
+    let narrow = output.into_inner();
+    let calls = narrow.faults.calls;
+    if 0 < fails_at && fails_at <= 69 {
+        let took = fails_at.saturating_sub(1).saturating_mul(3);
+        let is_told = done == Err(Fault::WriteFailed) && calls == fails_at;
+        is_told && narrow.taken.len() as u64 == took && REPORT.as_slice().starts_with(&narrow.taken)
+    } else {
+        done.is_ok() && calls == 69 && narrow.taken.as_slice() == REPORT.as_slice()
+    }
+}
+
+// Which calls fail.
+#[derive(Clone, Copy)]
+enum Failing {
+    Reads,
+    Writes,
+}
+
+// Whether the failed call is told as it must be.
+fn is_told<R>(rt: &R, log: &[u8], plan: &Plan, failing: Failing, faults: Faults) -> bool
+where
+    R: Threads + Sync + AllocGlobal,
+{
+    match failing {
+        Failing::Reads => reads(rt, log, plan, faults),
+        Failing::Writes => writes(rt, log, plan, faults),
+    }
+}
+
+// The first call of which this is not so, where one fails after the other, and last none.
+fn wrong_by<R>(rt: &R, log: &[u8], plan: &Plan, failing: Failing, interrupts: bool) -> Option<u64>
+where
+    R: Threads + Sync + AllocGlobal,
+{
     for fails_at in 0..110 {
-        if !reads(rt, workers, grain, Rough::new(&log, interrupts, fails_at)) {
-            return Ok(Some(fails_at));
+        if !is_told(rt, log, plan, failing, Faults::new(interrupts, fails_at)) {
+            return Some(fails_at);
+        }
+    }
+    None
+}
+
+// The same, of calls that are interrupted and of others, by each of those plans.
+fn wrong<R: Threads + Sync + AllocGlobal>(rt: &R, failing: Failing) -> Result<Option<u64>, Fail> {
+    let log = log_of(rt, RETURN_AND_ARRIVAL)?;
+    for (workers, grain) in FEW_PLANS {
+        let plan = Plan::new(workers, grain).ok_or("plan")?;
+        let steady = wrong_by(rt, &log, &plan, failing, false);
+        let wrong = steady.or(wrong_by(rt, &log, &plan, failing, true));
+        if wrong.is_some() {
+            return Ok(wrong);
         }
     }
     Ok(None)
@@ -145,67 +182,15 @@ fn wrong_read<R: Threads + Sync + AllocGlobal>(
 
 #[test]
 fn a_read_that_fails_is_told_and_nothing_is_written(rt: HostRuntime) -> Result<(), Fail> {
-    for (workers, grain) in FEW_PLANS {
-        for interrupts in [false, true] {
-            let wrong = wrong_read(&rt, workers, grain, interrupts)?;
-            assert!(rt; wrong.is_none(), "call {}", wrong.unwrap_or(0));
-        }
-    }
+    let wrong = wrong(&rt, Failing::Reads)?;
+    assert!(rt; wrong.is_none(), "call {}", wrong.unwrap_or(0));
     Ok(())
-}
-
-// Whether a run whose write of one number fails says so and leaves a beginning of the report; or,
-// if no write has that number, writes all of it. There are 68 calls that take 3 bytes, and one that
-// takes the last 2.
-fn writes<R: Threads + Sync + AllocGlobal>(
-    rt: &R,
-    workers: u32,
-    grain: u32,
-    log: &[u8],
-    narrow: Narrow,
-) -> bool {
-    let Some(plan) = Plan::new(workers, grain) else {
-        return false;
-    };
-    let fails_at = narrow.fails_at;
-    let mut input = OverRead::new(Cursor::new(log));
-    let mut output = OverWrite::new(narrow);
-    let done = run(rt, rt.alloc(), &mut input, &mut output, &plan, &Open);
-    let narrow = output.into_inner();
-    if fails_at <= 69 {
-        let took = fails_at.saturating_sub(1).saturating_mul(3);
-        let is_told = done == Err(Fault::WriteFailed) && narrow.calls == fails_at;
-        is_told && narrow.taken.len() as u64 == took && REPORT.as_slice().starts_with(&narrow.taken)
-    } else {
-        done.is_ok() && narrow.calls == 69 && narrow.taken.as_slice() == REPORT.as_slice()
-    }
-}
-
-// The first write of which this is not so.
-fn wrong_write<R: Threads + Sync + AllocGlobal>(
-    rt: &R,
-    workers: u32,
-    grain: u32,
-    interrupts: bool,
-) -> Result<Option<u64>, Fail> {
-    let log = log_of(rt, RETURN_AND_ARRIVAL)?;
-    for fails_at in 1..75 {
-        let narrow = Narrow::new(Vec::new(rt.alloc()), interrupts, fails_at);
-        if !writes(rt, workers, grain, &log, narrow) {
-            return Ok(Some(fails_at));
-        }
-    }
-    Ok(None)
 }
 
 #[test]
 fn a_write_that_fails_is_told_and_leaves_a_beginning(rt: HostRuntime) -> Result<(), Fail> {
-    for (workers, grain) in FEW_PLANS {
-        for interrupts in [false, true] {
-            let wrong = wrong_write(&rt, workers, grain, interrupts)?;
-            assert!(rt; wrong.is_none(), "call {}", wrong.unwrap_or(0));
-        }
-    }
+    let wrong = wrong(&rt, Failing::Writes)?;
+    assert!(rt; wrong.is_none(), "call {}", wrong.unwrap_or(0));
     Ok(())
 }
 

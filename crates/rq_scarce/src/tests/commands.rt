@@ -156,13 +156,9 @@ fn a_close_is_whole_or_refused(rt: HostRuntime) -> Result<(), Fail> {
 
 // Whether the script's log has this many bytes, and is made so, however little memory there is, or
 // not at all.
-fn makes<R: Threads + Sync + AllocGlobal>(
-    rt: &R,
-    script: &[u8],
-    bytes: usize,
-) -> Result<bool, Fail> {
+fn makes<R: Threads + Sync + AllocGlobal>(rt: &R, script: &[u8], len: usize) -> Result<bool, Fail> {
     let want = log_of(rt, script)?;
-    Ok(want.len() == bytes && acts(rt, MAKE, script, &want)?)
+    Ok(want.len() == len && acts(rt, MAKE, script, &want)?)
 }
 
 #[test]

@@ -18,19 +18,19 @@ const KEPT: usize = 7;
 // There is room for this many blocks that a host gives.
 const ROOM: usize = 50_000;
 
-// A block of a size that is not kept apart.
-const PIN: usize = 1_088;
-
 /// The host's memory, all of it taken except a store, of which a round leaves a part.
 #[derive(Drop)]
 pub struct Scarce {
-    alloc: Global,
     plugs: Vec<Vec<u8>>,
     taken: Vec<Vec<u8>>,
     rest: Vec<Vec<u8>>,
     last: Vec<Vec<u8>>,
     spare: Vec<Vec<u8>>,
+    alloc: Global,
 }
+
+// A block of a size that is not kept apart.
+const PIN: usize = 1_088;
 
 impl Scarce {
     /// Takes all memory but the store. What is made before is not in the store.

@@ -50,22 +50,14 @@ impl Opening {
     }
 }
 
-#[test]
-fn a_room_is_opened_or_refused(rt: HostRuntime) -> Result<(), Fail> {
-    assert!(rt; is_right(&rt, &mut Call::Open(Opening { seen: None }))?);
-    Ok(())
-}
-
 // What the source of its number hands in.
 #[derive(Drop)]
-struct Parcel {
-    number: u32,
-}
+struct Parcel(u32);
 
 impl Fits for Parcel {
     type Key = ();
 
-    ghost fits = { λ _ source parcel. parcel.number ≡ source };
+    ghost fits = { λ _ source parcel. parcel.0 ≡ source };
 }
 
 /// How many arrivals of two a countdown counted, and whether the second was told that it is the
@@ -82,8 +74,8 @@ impl Arriving {
 
     pub fn call(&mut self, alloc: Global) -> Result<(), Fault> {
         let (countdown, mut passes) = Countdown::<Parcel>::open(alloc, (), 2, 2)?;
-        let _ = countdown.arrive(&mut passes[1], 1, Parcel { number: 1 });
-        let second = countdown.arrive(&mut passes[0], 0, Parcel { number: 0 });
+        let _ = countdown.arrive(&mut passes[1], 1, Parcel(1));
+        let second = countdown.arrive(&mut passes[0], 0, Parcel(0));
         let is_last = is_last(&second);
         let closing = countdown.close(passes);
         self.seen = Some((closing.arrived(), is_last));
@@ -97,6 +89,12 @@ impl Arriving {
     pub fn is_untouched(&self) -> bool {
         self.seen.is_none()
     }
+}
+
+#[test]
+fn a_room_is_opened_or_refused(rt: HostRuntime) -> Result<(), Fail> {
+    assert!(rt; is_right(&rt, &mut Call::Open(Opening { seen: None }))?);
+    Ok(())
 }
 
 #[test]
@@ -149,9 +147,9 @@ fn both_arrived(closing: &Closing<Parcel>) -> bool {
 fn ends(alloc: Global) -> Result<bool, Fault> {
     let (countdown, mut passes) = Countdown::<Parcel>::open(alloc, (), 2, 2)?;
     let scarce = Scarce::whole(alloc)?;
-    let first = countdown.arrive(&mut passes[0], 1, Parcel { number: 1 });
-    let again = countdown.arrive(&mut passes[1], 1, Parcel { number: 1 });
-    let second = countdown.arrive(&mut passes[1], 0, Parcel { number: 0 });
+    let first = countdown.arrive(&mut passes[0], 1, Parcel(1));
+    let again = countdown.arrive(&mut passes[1], 1, Parcel(1));
+    let second = countdown.arrive(&mut passes[1], 0, Parcel(0));
     let closing = countdown.close(passes);
     drop(scarce);
     let told = is_not_last(&first) && is_twice(&again) && is_last(&second);

@@ -20,21 +20,11 @@ use std::thread::Threads;
 
 // An abort takes an element out of its queue, and another takes it out of its error queue, to the
 // end of the chain. A registrant that is still at work takes it there.
-const CHAINED: &[u8] = b"define dead 0 -\n\
-    define late 1 0\n\
-    define jobs 1 1\n\
-    register 0 ann\n\
-    begin 1\n\
-    enqueue 1 2 5 - 0 61\n\
-    commit 1\n\
-    begin 2\n\
-    dequeue 2 2 - 0\n\
-    abort 2\n\
-    begin 3\n\
-    dequeue 3 1 - 0\n\
-    abort 3\n\
-    begin 4\n\
-    dequeue 4 0 ann 70\n";
+const CHAINED: &[u8] = b"define dead 0 -\ndefine late 1 0\ndefine jobs 1 1\nregister 0 ann\n\
+    begin 1\nenqueue 1 2 5 - 0 61\ncommit 1\n\
+    begin 2\ndequeue 2 2 - 0\nabort 2\n\
+    begin 3\ndequeue 3 1 - 0\nabort 3\n\
+    begin 4\ndequeue 4 0 ann 70\n";
 
 // The record whose body is there.
 fn record_at(alloc: Global, log: &[u8], span: &Span) -> Result<Record, Fail> {

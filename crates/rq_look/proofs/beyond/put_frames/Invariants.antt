@@ -1,4 +1,4 @@
-use Rattle.rq_look.proofs.Puts.{AppendsSome}
+use Rattle.rq_look.specs.Looks.{AppendsSome}
 use Rattle.rq_look.proofs.beyond.put_frames.Given as goal
 
 abbrev pub invariant-loop-span : goal.invariant-loop-span

@@ -10,7 +10,7 @@ returns-clause-last g c =
     let behind = c.in_ok-put_wanted_behind.ensures.only in
     let records = both_put (held c.args.output.now) (held c.put_records.new.output)
     (held c.put_wanted_behind.new.output) (front.0, front.1) (behind.0, behind.1) in
-    let closing = c.in_ok-put_closing.ensures c.args.at c.args.bytes.now end.0 end.1 end.2 in
+    let closing = c.in_ok-put_closing.ensures c.args.log.now.at c.args.log.now.bytes.now end.0 end.1 end.2 in
     let text = string_bytes c.put_origin.new.text in (
       records.0 ++ text,
       closing.0,
@@ -21,4 +21,4 @@ returns-clause-last g c =
 
 pub put_wanted_behind-requires-clause-end : goal.put_wanted_behind-requires-clause-end
 put_wanted_behind-requires-clause-end g c =
-    let end = c.requires.end in (c.args.at, end.0, end.1, end.2)
+    let end = c.requires.end in (c.args.log.now.at, end.0, end.1, end.2)

@@ -1,4 +1,4 @@
-use Rattle.rq_look.proofs.Puts.{AppendsSome}
+use Rattle.rq_look.specs.Looks.{AppendsSome}
 use Rattle.rq_look.proofs.dumps.put_records.Given as goal
 
 abbrev pub invariant-loop-placed : goal.invariant-loop-placed

@@ -1,11 +1,6 @@
-use Rattle.std.proofs.Common.{Result, Ok, Err}
-use Rattle.std.specs.Result.{OnOk}
 use Rattle.rq_record.specs.Views.{record_of}
+use Rattle.rq_look.proofs.Puts.{then_ok}
 use Rattle.rq_look.proofs.log_script.put_placed.Goals as goal
-
-then_ok : {A E : Type 0} (P Q : Type 0) → (P → Q) → (r : Result A E) → OnOk r P → OnOk r Q
-then_ok P Q f (Ok x) p = f p
-then_ok P Q f (Err e) p = tt
 
 pub returns-clause-line : goal.returns-clause-line
 returns-clause-line g c =

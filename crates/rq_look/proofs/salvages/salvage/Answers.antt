@@ -12,7 +12,7 @@ pub returns-clause-told : goal.returns-clause-told
 returns-clause-told g c =
     let held = g.W.Write.contents in
     let end = c.in_ok-end.ensures.end in
-    let script = c.in_ok-put_records.ensures.script in
+    let script = c.in_ok-end.ensures.script in
     let choice = c.in_ok-put_rest.ensures.choice in (
       end.0,
       end.1,
@@ -20,6 +20,6 @@ returns-clause-told g c =
       choice.0,
       script.1,
       subst (λ (why : Why). IsChoice (is_whole why) choice.0) end.2.why choice.1,
-      Appends-trans (held c.args.output.now) (held c.put_records.new.output) (held c.put_rest.new.output) script.0
+      Appends-trans (held c.args.output.now) (held c.put_front.new.output) (held c.put_rest.new.output) script.0
           choice.0 script.2 choice.2,
     )

@@ -1,5 +1,5 @@
 use Rattle.std.proofs.Common.{◌≡◌, [], string_bytes}
-use Rattle.rq_look.proofs.Puts.{AppendsSome}
+use Rattle.rq_look.specs.Looks.{AppendsSome}
 use Rattle.rq_look.proofs.stories.tell_front.Given as goal
 
 -- what is written so far; nothing is, nor waits, where nothing was told

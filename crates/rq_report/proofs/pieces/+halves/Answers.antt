@@ -20,4 +20,4 @@ returns g t c =
     subst (AreLinesOf s c.args.from c.args.to)
     (sym (ap (flat_map string_bytes) both ∙ flat_map-append string_bytes front back))
     (both_are s c.args.from middle c.args.to (flat_map string_bytes front) (flat_map string_bytes back) (omega arith)
-    (omega (arith, c.requires.order)) c.requires.within first second)
+    (omega (arith, c.requires.1)) c.requires.2 first second)

@@ -1,0 +1,55 @@
+use Rattle.std.proofs.Common.{◌∙◌, ◌++◌, List, ℕ, Option, false, ap, subst, sym, refl, codes, string_bytes}
+use Rattle.rq_model.specs.Fronts.{Why}
+use Rattle.rq_found.specs.Ends.{end_line, IsRestartFrom}
+use Rattle.rq_found.proofs.Lines.{same_line}
+use Rattle.rq_judged.specs.Views.{why_of}
+use Rattle.rq_look.specs.Findings.{IsFindings, findings_text}
+use Rattle.rq_look.specs.Looks.{all_fine}
+use Rattle.rq_look.specs.Rests.{IsBehind, behind_finding}
+use Rattle.rq_look.proofs.Puts.{same_rest}
+use Rattle.rq_look.proofs.checks.check.Goals as goal
+
+pub standing_behind-requires-clause-end : goal.standing_behind-requires-clause-end
+standing_behind-requires-clause-end g c =
+    let end = c.in_ok-end.ensures.end in (c.args.log.now.at, end.0, end.1, end.2)
+
+pub returns-in-None-clause-checked : goal.returns-in-None-clause-checked
+returns-in-None-clause-checked g c =
+    let b = c.args.log.now.bytes.now in
+    let end = c.in_ok-end.ensures.end in
+    let reason = string_bytes c.in_ok-end.end.reason in
+    let behind = c.in_ok-behind.behind in
+    let found = c.in_ok-found.found in
+    let h = c.in_ok-found.ensures.audited in
+    subst (λ (at : Option ℕ). IsFindings at b found.fine (string_bytes found.text)) (sym c.in-None.is) (
+      end.0,
+      h.0,
+      behind,
+      reason,
+      subst (λ (at : Option ℕ). IsRestartFrom at b end.0) c.in-None.is end.1,
+      h.1,
+      subst (λ (used : ℕ). IsBehind b used behind) end.2.used c.in_ok-behind.ensures.found,
+      h.2 ∙ ap (λ (why : Why). all_fine why h.0) end.2.why,
+      h.3 ∙ (λ i. findings_text (end.2.records i) (end.2.used i) (end.2.total i) (end.2.why i) reason behind h.0),
+    )
+
+pub returns-in-Some-clause-checked : goal.returns-in-Some-clause-checked
+returns-in-Some-clause-checked g c =
+    let b = c.args.log.now.bytes.now in
+    let end = c.in_ok-end.ensures.end in
+    let e = c.in_ok-end.end in
+    let reason = string_bytes e.reason in
+    let behind = c.in_ok-behind.behind in
+    let rest = behind_finding (why_of e.why) behind e.total in
+    subst (λ (at : Option ℕ). IsFindings at b false (string_bytes c.in_ok-text.text)) (sym c.in-Some.is) (
+      end.0,
+      behind,
+      reason,
+      subst (λ (at : Option ℕ). IsRestartFrom at b end.0) c.in-Some.is end.1,
+      subst (λ (used : ℕ). IsBehind b used behind) end.2.used c.in_ok-behind.ensures.found,
+      refl,
+      c.in_ok-text.ensures
+          ∙ ap (λ (t : List ℕ). codes "carried: use rqlog\n" ++ t ++ rest) (same_line end.0 e reason end.2)
+          ∙ ap (λ (t : List ℕ). codes "carried: use rqlog\n" ++ end_line end.0 reason ++ t)
+          (same_rest end.0 e behind end.2),
+    )
