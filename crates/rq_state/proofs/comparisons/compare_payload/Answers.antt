@@ -1,6 +1,5 @@
 use Rattle.std.proofs.Common.{length}
 use Rattle.std.specs.Int.{w16, to_be_bytes}
-use Rattle.rq_state.specs.Comparing.{behind}
 use Rattle.rq_state.proofs.Behind.{follow}
 use Rattle.rq_state.proofs.comparisons.compare_payload.Goals as goal
 

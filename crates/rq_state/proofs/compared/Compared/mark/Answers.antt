@@ -1,6 +1,5 @@
-use Rattle.std.proofs.Common.{◌++◌, ◌∷◌, [], subst, sym}
+use Rattle.std.proofs.Common.{◌∷◌, []}
 use Rattle.std.specs.Int.{w64, to_be_bytes}
-use Rattle.rq_state.specs.Comparing.{behind}
 use Rattle.rq_state.proofs.Behind.{follow}
 use Rattle.rq_state.proofs.compared.Compared.mark.Goals as goal
 

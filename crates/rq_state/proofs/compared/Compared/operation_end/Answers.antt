@@ -1,4 +1,3 @@
-use Rattle.std.proofs.Common.{◌++◌}
 use Rattle.std.specs.Int.{w64, to_be_bytes}
 use Rattle.rq_model.specs.StateSpelling.{element_number}
 use Rattle.rq_state.specs.Views.{id_of}
