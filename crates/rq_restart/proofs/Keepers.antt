@@ -1,16 +1,18 @@
 -- A keeper stands behind all that it has taken.
-use Rattle.std.proofs.Common.{◌≡◌, ◌+◌, ◌≤◌, ℕ, true, List, length, map, take, refl, sym, ap, subst, ◌∙◌, arith}
-use Rattle.std.specs.Prelude.{Result, Ok, Err}
-use Rattle.std.proofs.lemmas.List.{length-append, take-map}
+use Rattle.std.proofs.Common.{◌≡◌, ◌+◌, ◌≤◌, ◌++◌, ℕ, true, Option, List, length, map, take, refl, sym, ap, subst, ◌∙◌, arith}
+use Rattle.std.specs.Prelude.{Result, Ok, Err, IfOk, IfSome}
+use Rattle.std.specs.Result.{result_ok}
+use Rattle.std.proofs.lemmas.List.{length-append, map-append, take-map}
 use Rattle.rq_model.specs.Records.{Record, Version}
 use Rattle.rq_model.specs.States.{State}
 use Rattle.rq_model.specs.Machine.{run, all_lawful, lawful_front}
 use Rattle.rq_model.proofs.Restarts.{lawful_join, next_run, run_join}
 use Rattle.rq_record.specs.Views.{Record as Own, record_of}
 use Rattle.rq_record.specs.declared.fault.Fault.{Fault}
-use Rattle.rq_record.specs.declared.fault.Fault.TheVariants as fault
-use Rattle.rq_catalog.proofs.Fronts.{kept_is, parted}
-use Rattle.rq_restart.specs.Keepers.{KeptState, StandsBehind, StandsFurther, TakesMore}
+use Rattle.rq_catalog.proofs.Fronts.{IsParted, kept_is, parted}
+use Rattle.rq_standing.specs.Stands.{Stands}
+use Rattle.rq_standing.specs.declared.standing.Standing.{Standing}
+use Rattle.rq_restart.specs.Keepers.{KeptState, StandsFurther}
 use Rattle.rq_restart.specs.Pieces.{ComesTo}
 
 pub further : (k v : KeptState) (all : List Own) (n : ℕ) → v.version ≡ k.version
@@ -41,7 +43,7 @@ further k v all n rules to few = record {
     rs : List Record
     rs = map record_of all
 
-    p : _
+    p : IsParted k.version k.state rs (lawful_front k.version k.state rs)
     p = parted k.version k.state rs
 
     first : take n rs ≡ lawful_front k.version k.state rs
@@ -50,17 +52,18 @@ further k v all n rules to few = record {
     lawful : all_lawful k.version k.state (take n rs) ≡ true
     lawful = ap (all_lawful k.version k.state) first ∙ p.lawful
 
--- its state can be numbered, whatever comes of it
-pub stays_numbered : (k v : KeptState) (more : List Record) (r : Result ℕ Fault) → TakesMore k more v r
-    → k.state.next ≤ 4294967295 → v.state.next ≤ 4294967295
-stays_numbered k v more (Ok n) h few = h.numbered
-stays_numbered k v more (Err fault.TooLong) h few = subst (λ (x : KeptState). x.state.next ≤ 4294967295) (sym h.0) few
-stays_numbered k v more (Err fault.Resources) h few = subst (λ (x : KeptState). x.state.next ≤ 4294967295) (sym h) few
-stays_numbered k v more (Err fault.Form) h few = absurd h
-stays_numbered k v more (Err fault.NotALog) h few = absurd h
-stays_numbered k v more (Err fault.TooLarge) h few = absurd h
-stays_numbered k v more (Err fault.BadCheckpoint) h few = absurd h
-stays_numbered k v more (Err fault.NoCheckpoint) h few = absurd h
-stays_numbered k v more (Err (fault.Script line)) h few = absurd h
-stays_numbered k v more (Err fault.ReadFailed) h few = absurd h
-stays_numbered k v more (Err fault.WriteFailed) h few = absurd h
+-- what is noted is what was done
+pub run_noted : (base : State) (old new piece : List Own) → new ≡ old ++ piece
+    → run base (map record_of new) ≡ run (run base (map record_of old)) (map record_of piece)
+run_noted base old new piece is = ap (λ (rs : List Own). run base (map record_of rs)) is
+    ∙ ap (run base) (map-append record_of old piece) ∙ run_join base (map record_of old) (map record_of piece)
+
+-- what is taken out stands where it stood
+pub is_second : (version : Version) (s : State) (second out : Option Standing) → out ≡ second
+    → IfSome second (λ x. Stands version x s) → IfSome out (λ x. Stands version x s)
+is_second version s second out is = subst (λ (o : Option Standing). IfSome o (λ x. Stands version x s)) (sym is)
+
+-- of what follows nothing is kept if it is refused
+pub if_followed : (r : Result Standing Fault) (P : Standing → Type 0) → IfOk r P → IfSome (result_ok r) P
+if_followed (Ok x) P h = h
+if_followed (Err e) P h = tt

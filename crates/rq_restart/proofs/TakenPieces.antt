@@ -71,14 +71,14 @@ pub record TakesOne (y : Standing) (r : Own) (z : Standing) (lawful : Bool) : Ty
 
 pub one_further : (x y z : Standing) (all : List Own) (i : ℕ) (r : Own) (lawful : Bool) → i < length all
     → r ≡ slice_index_or all i r → HasTaken x all i y → TakesOne y r z lawful → lawful ≡ true → HasTaken x all (i + 1) z
-one_further x y z all i r lawful lt is had one yes = λ version s stands.
+one_further x y z all i r lawful lt is had one taken = λ version s stands.
     let rs = map record_of all in
     let t = run s (take i rs) in
     let before = had version s stands in
-    let may : is_lawful version t (record_of r) ≡ true = sym (one.judged version t before.1) ∙ yes in (
+    let may : is_lawful version t (record_of r) ≡ true = sym (one.judged version t before.1) ∙ taken in (
       ap (all_lawful version s) (one_more all i r lt is) ∙ lawful_push version s (take i rs) (record_of r) before.0 may,
       subst (Stands version z) (run_further s all i r lt is)
-          (subst (λ (b : Bool). Stands version z (if b then step t (record_of r) else t)) yes
+          (subst (λ (b : Bool). Stands version z (if b then step t (record_of r) else t)) taken
           (one.stood version t before.1)),
     )
 
@@ -87,16 +87,16 @@ ends_before : (version : Version) (s : State) (all : List Own) (i : ℕ) (r : Ow
     → r ≡ slice_index_or all i r → all_lawful version s (take i (map record_of all)) ≡ true
     → is_lawful version (run s (take i (map record_of all))) (record_of r) ≡ false
     → take i (map record_of all) ≡ lawful_front version s (map record_of all)
-ends_before version s all i r lt is so no =
+ends_before version s all i r lt is so broken =
     let rs = map record_of all in
-    sym (front_stops version s (take i rs) (record_of r) (drop (i + 1) rs) so no)
+    sym (front_stops version s (take i rs) (record_of r) (drop (i + 1) rs) so broken)
     ∙ ap (lawful_front version s) (sym (append_assoc (take i rs) (record_of r ∷ []) (drop (i + 1) rs))
     ∙ ap (λ (xs : List Record). xs ++ drop (i + 1) rs) (sym (one_more all i r lt is)) ∙ take-append-drop (i + 1) rs)
 
 pub ends_there : (x y z : Standing) (all : List Own) (i : ℕ) (r : Own) (lawful : Bool) → i < length all
     → r ≡ slice_index_or all i r → HasTaken x all i y → TakesOne y r z lawful → lawful ≡ false
     → WentOn x (map record_of all) z i
-ends_there x y z all i r lawful lt is had one no = record {
+ends_there x y z all i r lawful lt is had one broken = record {
   count = λ version s stands. omega (
     arith,
     lt,
@@ -107,7 +107,7 @@ ends_there x y z all i r lawful lt is had one no = record {
   stands = λ version s stands.
       let t = run s (take i rs) in
       subst (λ (xs : List Record). Stands version z (run s xs)) (front version s stands)
-      (subst (λ (b : Bool). Stands version z (if b then step t (record_of r) else t)) no
+      (subst (λ (b : Bool). Stands version z (if b then step t (record_of r) else t)) broken
       (one.stood version t (had version s stands).1));
 }
   where
@@ -118,7 +118,7 @@ ends_there x y z all i r lawful lt is had one no = record {
     front version s stands =
         let before = had version s stands in
         ends_before version s all i r lt is before.0
-        (sym (one.judged version (run s (take i rs)) before.1) ∙ no)
+        (sym (one.judged version (run s (take i rs)) before.1) ∙ broken)
 
 pub all_taken : (x y : Standing) (all : List Own) (i : ℕ) → length all ≤ i → HasTaken x all i y
     → WentOn x (map record_of all) y (length all)

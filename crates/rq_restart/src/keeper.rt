@@ -8,8 +8,8 @@ ghost use Rattle.rq_standing.specs.Stands.{Stands};
 ghost use Rattle.rq_restart.specs.Positions.{IsPosition};
 ghost use Rattle.rq_restart.specs.Keepers.{StandsBehind, TakesMore};
 
-use crate::position::Position;
 use crate::pieces::{room_beside, take_each};
+use crate::position::Position;
 use diary::{Diary, Noting};
 use rq_plan::Plan;
 use rq_record::{Fault, KeptRecord, Version};

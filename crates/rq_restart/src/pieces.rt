@@ -2,7 +2,7 @@
 
 ghost use Rattle.std.specs.Prelude.{◌≡◌, ◌<◌, ◌^◌, ◌+◌, length, map, if◌then◌else◌, IfOk, IfErr};
 ghost use Rattle.rq_model.specs.Machine.{is_lawful, step};
-ghost use Rattle.rq_model.specs.Records as records;
+ghost use Rattle.rq_model.specs.Records as model;
 ghost use Rattle.rq_model.specs.States as states;
 ghost use Rattle.rq_record.specs.Views.{record_of, version_of};
 ghost use Rattle.rq_record.specs.declared.fault.Fault.TheVariants.{Resources};
@@ -34,10 +34,10 @@ pub(crate) fn room_beside(count: usize, plan: &Plan) -> usize {
 
 // Whether a record is lawful. If it is, it is done.
 fn take_one(alloc: Global, standing: &mut Standing, rec: &KeptRecord) -> Result<bool, Fault>
-    requires { (version : records.Version) × (s : states.State) × Stands version standing.old s }
-    ensures lawful { IfOk result (λ lawful. (version : records.Version) (s : states.State) →
+    requires { (version : model.Version) × (s : states.State) × Stands version standing.old s }
+    ensures lawful { IfOk result (λ lawful. (version : model.Version) (s : states.State) →
         Stands version standing.old s → lawful ≡ is_lawful version s (record_of rec.now)) }
-    ensures stands { IfOk result (λ lawful. (version : records.Version) (s : states.State) →
+    ensures stands { IfOk result (λ lawful. (version : model.Version) (s : states.State) →
         Stands version standing.old s
         → Stands version standing.new (if lawful then step s (record_of rec.now) else s)) }
     ensures refused { IfErr result (λ e. e ≡ Resources) }
@@ -56,7 +56,7 @@ pub(crate) fn take_each(
     standing: &mut Standing,
     records: &[KeptRecord],
 ) -> Result<usize, Fault>
-    requires { (version : records.Version) × (s : states.State) × Stands version standing.old s }
+    requires { (version : model.Version) × (s : states.State) × Stands version standing.old s }
     ensures went_on { IfOk result
         (WentOn standing.old (map record_of records.now) standing.new) }
     ensures refused { IfErr result (λ e. e ≡ Resources) }
@@ -100,7 +100,7 @@ fn stand_anew<R: Threads + Sync>(
     records: &[KeptRecord],
     plan: &Plan,
 ) -> Result<usize, Fault>
-    requires { (version : records.Version) × (s : states.State) × Stands version standing.old s }
+    requires { (version : model.Version) × (s : states.State) × Stands version standing.old s }
     ensures went_on { IfOk result
         (WentOn standing.old (map record_of records.now) standing.new) }
     ensures refused { IfErr result (λ e. e ≡ Resources) }
@@ -130,7 +130,7 @@ pub fn go_on<R: Threads + Sync>(
     records: &[KeptRecord],
     plan: &Plan,
 ) -> Result<usize, Fault>
-    requires { (version : records.Version) × (s : states.State) × Stands version standing.old s }
+    requires { (version : model.Version) × (s : states.State) × Stands version standing.old s }
     ensures went_on { IfOk result
         (WentOn standing.old (map record_of records.now) standing.new) }
     ensures refused { IfErr result (λ e. e ≡ Resources) }

@@ -2,7 +2,7 @@
 
 ghost use Rattle.std.specs.Prelude.{◌≡◌, ◌<◌, ◌^◌, ◌+◌, true, length, map, IfOk, IfErr};
 ghost use Rattle.rq_model.specs.Machine.{all_lawful, run};
-ghost use Rattle.rq_model.specs.Records as records;
+ghost use Rattle.rq_model.specs.Records as model;
 ghost use Rattle.rq_model.specs.States as states;
 ghost use Rattle.rq_record.specs.Views.{record_of, version_of};
 ghost use Rattle.rq_record.specs.declared.fault.Fault.TheVariants.{Resources};
@@ -30,7 +30,7 @@ pub(crate) enum Position {
 impl Position {
     /// The number that the next record gets.
     pub(crate) fn next(&self) -> u64
-        ensures { (version : records.Version) (s : states.State) → IsPosition version self.now s
+        ensures { (version : model.Version) (s : states.State) → IsPosition version self.now s
             → result ≡ s.next }
     {
         match self {

@@ -18,16 +18,16 @@ loop-place-preserved c =
     c.index-records-place.result c.in_ok-take_one.field-0 c.loop-place-test.true c.index-records-place.is
     c.loop-place.invariant
     (record { judged = c.in_ok-take_one.ensures.lawful; stood = c.in_ok-take_one.ensures.stands })
-    c.if-not-take_one.false
+    c.if-not-branch.false
 
-pub returns-then-not-take_one : goal.returns-then-not-take_one
-returns-then-not-take_one c =
+pub returns-then-not-branch-clause-went_on : goal.returns-then-not-branch-clause-went_on
+returns-then-not-branch-clause-went_on c =
     ends_there c.args.standing.now c.loop-place.standing c.take_one.new.standing c.args.records.now c.loop-place.place
     c.index-records-place.result c.in_ok-take_one.field-0 c.loop-place-test.true c.index-records-place.is
     c.loop-place.invariant
     (record { judged = c.in_ok-take_one.ensures.lawful; stood = c.in_ok-take_one.ensures.stands })
-    c.if-not-take_one.true
+    c.if-not-branch.true
 
-pub returns : goal.returns
-returns c = all_taken c.args.standing.now c.loop-place.standing c.args.records.now c.loop-place.place
+pub returns-clause-went_on : goal.returns-clause-went_on
+returns-clause-went_on c = all_taken c.args.standing.now c.loop-place.standing c.args.records.now c.loop-place.place
     (omega (arith, c.loop-place-test.false)) c.loop-place.invariant
