@@ -121,6 +121,6 @@ found_at after b offset f h x records told =
 -- a body that spells a record which is not lawful spells no other one
 pub not_lawful : (version : Version) (s : State) (body : List ℕ) (r x : Record) → Spells version r body
     → is_lawful version s r ≡ false → Spells version x body → is_lawful version s x ≡ false
-not_lawful version s body r x spells no spelled =
+not_lawful version s body r x spells breaks spelled =
     let same : x ≡ r = one_record version x r body spelled spells in
-    ap (is_lawful version s) same ∙ no
+    ap (is_lawful version s) same ∙ breaks

@@ -1,17 +1,20 @@
 //! The records of a chain.
 
 ghost use Rattle.std.specs.Prelude.{◌≡◌, ◌≤◌, ◌+◌, ℕ, List, length, map, All, IfOk, IfErr};
+ghost use Rattle.std.specs.Arc.{arc_slice_items};
 ghost use Rattle.std.specs.Thread.{IsSync};
 ghost use Rattle.rq_model.specs.Records as model;
+ghost use Rattle.rq_record.specs.Reading.{Decodes};
 ghost use Rattle.rq_record.specs.Views.{record_of, version_of};
 ghost use Rattle.rq_record.specs.declared.fault.Fault.TheVariants.{Resources};
-ghost use Rattle.rq_front.specs.Chains.{bodies_at};
+ghost use Rattle.rq_front.specs.Chains.{bodies_at, body_at};
 ghost use Rattle.rq_judged.specs.Readings.{AreApart, AreRead, ReadsBodies};
 
 use rq_front::Span;
 use rq_record::{Fault, KeptRecord, LogBytes, Version, decode_at};
 use std::alloc::Global;
 use std::marker::Sync;
+use std::sync::ArcSlice;
 use std::thread::{Threads, join};
 
 /// As many bodies are read by one thread, so that the restart of a small log starts none.
@@ -26,23 +29,41 @@ pub(crate) struct PartedRecords {
     count: usize,
 }
 
+// The record of the version that the body at a span spells.
+fn decode_there(
+    alloc: Global,
+    version: Version,
+    bytes: &[u8],
+    whole: &[ArcSlice<u8>],
+    span: &Span,
+) -> Result<KeptRecord, Fault>
+    requires inside { span.now.start + span.now.len ≤ length bytes.now }
+    requires whole { All (λ log. arc_slice_items log ≡ bytes.now) whole.now }
+    ensures decodes { Decodes (version_of version) (body_at bytes.now span.now) result }
+{
+    let log = LogBytes::of_parts(bytes, whole);
+    decode_at(alloc, version, &log, span.start, span.len)
+}
+
 // The records of the version that the bodies spell, read by one thread, with room for as many as
 // are to stand with them.
 fn read_in_order(
     alloc: Global,
     version: Version,
-    bytes: &LogBytes<'_>,
+    bytes: &[u8],
+    whole: &[ArcSlice<u8>],
     spans: &[Span],
     room: usize,
 ) -> Result<Vec<KeptRecord>, Fault>
-    requires { All (λ s. s.start + s.len ≤ length bytes.now) spans.now }
+    requires inside { All (λ s. s.start + s.len ≤ length bytes.now) spans.now }
+    requires whole { All (λ log. arc_slice_items log ≡ bytes.now) whole.now }
     ensures records { IfOk result (λ rs. AreRead (version_of version)
         (bodies_at bytes.now spans.now) (map record_of rs.items)) }
     ensures refused { IfErr result (λ e. e ≡ Resources) }
 {
     let mut records = Vec::with_capacity(alloc, room)?;
     for span in spans.iter() {
-        match decode_at(alloc, version, bytes, span.start, span.len) {
+        match decode_there(alloc, version, bytes, whole, span) {
             Ok(record) => records.push(record)?,
             Err(Fault::Form) => return Ok(records),
             Err(fault) => return Err(fault),
@@ -58,17 +79,19 @@ fn read_whole<R: Threads + Sync>(
     rt: &R,
     alloc: Global,
     version: Version,
-    bytes: &LogBytes<'_>,
+    bytes: &[u8],
+    whole: &[ArcSlice<u8>],
     spans: &[Span],
     workers: u32,
     room: usize,
 ) -> Result<Vec<KeptRecord>, Fault>
-    requires { All (λ s. s.start + s.len ≤ length bytes.now) spans.now }
+    requires inside { All (λ s. s.start + s.len ≤ length bytes.now) spans.now }
+    requires whole { All (λ log. arc_slice_items log ≡ bytes.now) whole.now }
     ensures records { IfOk result (λ rs. AreRead (version_of version)
         (bodies_at bytes.now spans.now) (map record_of rs.items)) }
     ensures refused { IfErr result (λ e. e ≡ Resources) }
 {
-    let parts = read_apart(rt, alloc, version, bytes, spans, workers, room)?;
+    let parts = read_apart(rt, alloc, version, bytes, whole, spans, workers, room)?;
     put_together(parts)
 }
 
@@ -80,18 +103,20 @@ fn read_apart<R: Threads + Sync>(
     rt: &R,
     alloc: Global,
     version: Version,
-    bytes: &LogBytes<'_>,
+    bytes: &[u8],
+    whole: &[ArcSlice<u8>],
     spans: &[Span],
     workers: u32,
     room: usize,
 ) -> Result<PartedRecords, Fault>
-    requires { All (λ s. s.start + s.len ≤ length bytes.now) spans.now }
+    requires inside { All (λ s. s.start + s.len ≤ length bytes.now) spans.now }
+    requires whole { All (λ log. arc_slice_items log ≡ bytes.now) whole.now }
     ensures parts { IfOk result (AreApart (version_of version) (bodies_at bytes.now spans.now)) }
     ensures refused { IfErr result (λ e. e ≡ Resources) }
 {
     if workers < 2 || spans.len() <= FEW {
         return Ok(PartedRecords {
-            front: read_in_order(alloc, version, bytes, spans, room)?,
+            front: read_in_order(alloc, version, bytes, whole, spans, room)?,
             back: Vec::new(alloc),
             count: spans.len(),
         });
@@ -102,15 +127,17 @@ fn read_apart<R: Threads + Sync>(
     let (left, right) = join(
         rt,
         || -> Result<Vec<KeptRecord>, Fault>
-            requires { IsSync R.row × All (λ s. s.start + s.len ≤ length bytes.now) front.now }
+            requires { IsSync R.row × All (λ s. s.start + s.len ≤ length bytes.now) front.now
+                × All (λ log. arc_slice_items log ≡ bytes.now) whole.now }
             ensures { ReadsBodies (version_of version)
                 (bodies_at bytes.entry.now front.entry.now) result }
-        { read_whole(rt, alloc, version, bytes, front, fewer, room) },
+        { read_whole(rt, alloc, version, bytes, whole, front, fewer, room) },
         || -> Result<Vec<KeptRecord>, Fault>
-            requires { All (λ s. s.start + s.len ≤ length bytes.now) back.now }
+            requires { All (λ s. s.start + s.len ≤ length bytes.now) back.now
+                × All (λ log. arc_slice_items log ≡ bytes.now) whole.now }
             ensures { ReadsBodies (version_of version)
                 (bodies_at bytes.entry.now back.entry.now) result }
-        { read_in_order(alloc, version, bytes, back, back.len()) },
+        { read_in_order(alloc, version, bytes, whole, back, back.len()) },
     );
     Ok(PartedRecords {
         front: left?,
@@ -154,5 +181,14 @@ pub(crate) fn read_bodies<R: Threads + Sync>(
     // An eighth more, for the aborts of the units that are still open.
     let room = spans.len().saturating_add(spans.len() / 8);
     let readers = (workers as usize).min(spans.len() / FEW + 1) as u32;
-    read_apart(rt, alloc, version, bytes, spans, readers, room)
+    read_apart(
+        rt,
+        alloc,
+        version,
+        bytes.as_slice(),
+        bytes.whole(),
+        spans,
+        readers,
+        room,
+    )
 }

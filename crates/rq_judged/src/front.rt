@@ -232,13 +232,14 @@ fn check_meanwhile<R: Threads + Sync>(
         → IsChecked bytes.now from walk result.0 }
     ensures known { KnowsBodies (version_of version) state.now parts result.1 }
 {
+    let slice = bytes.as_slice();
     join(
         rt,
         move || -> Chain
-            requires { IsSync R.row × (1 ≤ grain) × (from : ℕ) × Walks bytes.now from walk }
-            ensures { (from : ℕ) → Walks bytes.entry.now from walk
-                → IsChecked bytes.entry.now from walk result }
-        { checked(rt, bytes, walk, grain) },
+            requires { IsSync R.row × (1 ≤ grain) × (from : ℕ) × Walks slice.now from walk }
+            ensures { (from : ℕ) → Walks slice.entry.now from walk
+                → IsChecked slice.entry.now from walk result }
+        { walk.checked(rt, slice, grain) },
         move || -> Result<Known, Fault>
             requires { state.now.next ≤ 4294967295 }
             ensures { KnowsBodies (version_of version) state.entry.now parts result }

@@ -1,12 +1,13 @@
 //! The bytes of a log.
 
-ghost use Rattle.std.specs.Prelude.{◌≡◌, length, IfOk, IfErr, IfSome};
+ghost use Rattle.std.specs.Prelude.{◌≡◌, length, All, IfOk, IfErr, IfSome};
 ghost use Rattle.std.specs.Arc.{arc_slice_items};
 ghost use Rattle.rq_record.specs.LogParts.{EndsAt, IsPartOf};
 ghost use Rattle.rq_record.specs.declared.fault.Fault.TheVariants.{Resources};
 
 use crate::fault::Fault;
 use std::marker::Model;
+use std::slice::from_ref;
 use std::sync::ArcSlice;
 
 /// The bytes of a log, borrowed or shared. What is read of them does not depend on which. If they
@@ -15,18 +16,19 @@ use std::sync::ArcSlice;
 #[derive(Drop)]
 pub struct LogBytes<'a> {
     bytes: &'a [u8],
-    whole: Option<&'a ArcSlice<u8>>,
+    // None or one.
+    whole: &'a [ArcSlice<u8>],
 }
 
 impl<'a> Model for LogBytes<'a> {
-    ghost use Rattle.std.specs.Prelude.{◌≡◌, ℕ, List, IfSome};
+    ghost use Rattle.std.specs.Prelude.{◌≡◌, ℕ, List, All};
     ghost use Rattle.std.specs.Arc.{arc_slice_items};
 
     ghost Value = { List ℕ };
 
     ghost view = { λ p. p.bytes.now };
 
-    ghost invariant = { λ p. IfSome p.whole (λ whole. arc_slice_items whole.now ≡ p.bytes.now) };
+    ghost invariant = { λ p. All (λ log. arc_slice_items log ≡ p.bytes.now) p.whole.now };
 }
 
 impl<'a> LogBytes<'a> {
@@ -34,7 +36,7 @@ impl<'a> LogBytes<'a> {
     pub fn borrowed(bytes: &'a [u8]) -> LogBytes<'a>
         ensures { result ≡ bytes.now }
     {
-        LogBytes { bytes, whole: None }
+        LogBytes { bytes, whole: &[] }
     }
 
     /// Shared bytes: what is kept of them may be a part of them.
@@ -43,8 +45,24 @@ impl<'a> LogBytes<'a> {
     {
         LogBytes {
             bytes: whole.as_slice(),
-            whole: Some(whole),
+            whole: from_ref(whole),
         }
+    }
+
+    /// The bytes of a log, and the log itself if it shares them.
+    pub fn of_parts(bytes: &'a [u8], whole: &'a [ArcSlice<u8>]) -> LogBytes<'a>
+        requires { All (λ log. arc_slice_items log ≡ bytes.now) whole.now }
+        ensures { result ≡ bytes.now }
+    {
+        LogBytes { bytes, whole }
+    }
+
+    /// The log itself, if it shares them. A closure captures it beside `as_slice`, since its contract
+    /// does not reach what has a lifetime of its own.
+    pub fn whole(&self) -> &'a [ArcSlice<u8>]
+        ensures { All (λ log. arc_slice_items log ≡ self.now) result.now }
+    {
+        self.whole
     }
 
     /// The bytes.
@@ -72,7 +90,7 @@ impl<'a> LogBytes<'a> {
             (λ p. IfSome p (λ x. IsPartOf (arc_slice_items x.0) x.1 bytes.now)) }
         ensures refused { IfErr result (λ e. e ≡ Resources) }
     {
-        let Some(whole) = self.whole else {
+        let Some(whole) = self.whole.first() else {
             return Ok(None);
         };
         if end > u32::MAX as usize {

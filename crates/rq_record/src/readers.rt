@@ -288,8 +288,9 @@ pub fn decode_at(
     ensures decodes { Decodes (version_of version)
         (slice_range bytes.now start (start + len)) result }
 {
+    let whole = bytes.as_slice();
     let end = start + len;
-    decode_before(alloc, version, bytes, end, &bytes.as_slice()[start..end])
+    decode_before(alloc, version, bytes, end, &whole[start..end])
 }
 
 /// The record that a body of this version spells, kept.

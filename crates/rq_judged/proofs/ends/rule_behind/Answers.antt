@@ -1,9 +1,24 @@
-use Rattle.rq_model.specs.Fronts.{Law}
+use Rattle.std.proofs.Common.{List, ℕ, drop, subst, sym}
+use Rattle.rq_model.specs.Frames.{body_in}
+use Rattle.rq_model.specs.Spelling.{Spells}
+use Rattle.rq_model.specs.Fronts.{IsWhy, Law}
+use Rattle.rq_judged.specs.Views.{why_of}
+use Rattle.rq_judged.specs.declared.why.Why.{Why}
 use Rattle.rq_judged.proofs.ends.rule_behind.Goals as goal
 
--- of a front that ends by law: the record behind it stands in a right frame
 pub body_at-requires : goal.body_at-requires
-body_at-requires c = c.requires.4.0.whole
+body_at-requires c =
+    let (version, s, stands, p, ends) = c.requires in
+    let bytes : List ℕ = drop c.args.front.now.used c.args.bytes.now in
+    let law : IsWhy version s p bytes Law =
+    subst (λ (w : Why). IsWhy version s p bytes (why_of w)) c.in-Law.is ends in
+    law.0.whole
 
 pub rule_of-requires : goal.rule_of-requires
-rule_of-requires c = (c.requires.0, c.requires.1, c.requires.2, c.requires.4.1, c.requires.4.2, c.requires.4.3)
+rule_of-requires c =
+    let (version, s, stands, p, ends) = c.requires in
+    let bytes : List ℕ = drop c.args.front.now.used c.args.bytes.now in
+    let law : IsWhy version s p bytes Law =
+    subst (λ (w : Why). IsWhy version s p bytes (why_of w)) c.in-Law.is ends in
+    let spells = subst (Spells version law.1) (sym c.body_at.ensures) law.2 in
+    (version, s, stands, law.1, spells, law.3)

@@ -11,15 +11,15 @@ use Rattle.rq_judged.proofs.ends.rule_of.Goals as goal
 
 pub broken_rule-requires : goal.broken_rule-requires
 broken_rule-requires c =
-    let (version, s, stands, r, spells, no) = c.requires in
+    let (version, s, stands, r, spells, breaks) = c.requires in
     let x = record_of c.in-Ok.record in
     let spelled = subst (λ (v : records.Version). Spells v x c.args.body.now) (c.version.ensures version s stands)
     c.in-Ok.ensures.decodes in
-    (version, s, stands, not_lawful version s c.args.body.now r x spells no spelled)
+    (version, s, stands, not_lawful version s c.args.body.now r x spells breaks spelled)
 
 pub unreachable-requires : goal.unreachable-requires
 unreachable-requires c =
-    let (version, s, stands, r, spells, no) = c.requires in
+    let (version, s, stands, r, spells, breaks) = c.requires in
     let none : Decodes (version_of c.version.result) c.args.body.now (Err Form) =
     subst (λ (e : Fault). Decodes (version_of c.version.result) c.args.body.now (Err e)) c.in-Err-Form.field-0-is
     c.in-Err-Form.ensures.decodes in
