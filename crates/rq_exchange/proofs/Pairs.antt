@@ -34,7 +34,7 @@ module _ {A B : Type 0} (R : A → B → Type 0) where
 
 -- two lists that are taken apart from their ends
 module _ {A B : Type 0} (End : A → B → Type 0) (wholes : List A) (others : List B) where
-  pub all_before : length others ≡ length wholes → Halfway End wholes others wholes others
+  unfoldable pub all_before : length others ≡ length wholes → Halfway End wholes others wholes others
   all_before e = record {
     rest = [];
     more = [];
@@ -56,7 +56,7 @@ module _ {A B : Type 0} (End : A → B → Type 0) (wholes : List A) (others : L
     as_long =
         omega (arith, h.same_long, ap length e, ap length f, length-append ys (x ∷ []), length-append vs (u ∷ []))
 
-    pub one_back : End x u → Halfway End wholes others ys vs
+    unfoldable pub one_back : End x u → Halfway End wholes others ys vs
     one_back now = record {
       rest = x ∷ h.rest;
       more = u ∷ h.more;

@@ -29,7 +29,7 @@ sources_of-requires g c =
     )
 
 pub redo_all-requires : goal.redo_all-requires
-redo_all-requires g c κs within =
+redo_all-requires g c =
     let s = c.args.state.now in
     let rs : List Record = map record_of c.args.records.now in
     let defs = c.definitions-definitions.result.now in
