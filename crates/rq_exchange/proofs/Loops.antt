@@ -4,7 +4,7 @@ use Rattle.rq_exchange.proofs.Words.{Yields, into_iter_items, into_iter_len, int
 use Rattle.rq_exchange.proofs.Words.{YieldsList-from_vec}
 use Rattle.std.proofs.lemmas.Iterator.Consumers.{YieldsList-turn, YieldsList-end}
 
-module _ {A Z : Type 0} {s t u : IntoIter A Z} {r : Option A} (all : List A) (from : into_iter_items s ≡ all)
+module _ {A Z : Type 0} (s t u : IntoIter A Z) {r : Option A} (all : List A) (from : into_iter_items s ≡ all)
     (long : into_iter_len s ≡ length all) (xs : List A) (y : Yields (into_iter_steps {X = A} {Z = Z}) s xs t) where
   -- what comes next is at the index that was reached
   pub comes_next : {x : A} → r ≡ Some x → into_iter_steps t r u

@@ -1,9 +1,9 @@
 -- The countdowns, one queue more.
-use Rattle.std.proofs.Common.{◌≡◌, ◌⊎◌, ℕ, ◌+◌, ◌<◌, List, [], ◌∷◌, ◌++◌, All, length, length-append, map, refl, sym}
+use Rattle.std.proofs.Common.{◌≡◌, ◌⊎◌, ℕ, ◌+◌, ◌<◌, List, [], ◌∷◌, ◌++◌, All, length, length-append, refl, sym}
 use Rattle.std.proofs.Common.{ap, ◌∙◌, arith, inl, inr, Vec, Global, slice_index_or}
 use Rattle.rq_exchange.proofs.Words.{get_or_append_left, get_or-map, get_or-append_seam, listed, Countdown, Pass}
 use Rattle.rq_exchange.proofs.Words.{Ghosts, history_of, CountdownChain, Outbox, Target, Job, IsCountdownOf, ArePasses}
-use Rattle.rq_exchange.proofs.Words.{HasPasses, at, IsFreshColumn, Opened, AreOpened}
+use Rattle.rq_exchange.proofs.Words.{HasPasses, at, AreColumns, IsFreshColumn, Opened, AreOpened}
 use Rattle.rq_exchange.proofs.Steps.{same_or}
 use Rattle.rq_exchange.proofs.Pairs.{pairs_at, pairs_long, pairs_push}
 
@@ -57,7 +57,7 @@ module _ {g : Ghosts Outbox Target} (job : Job) (workers : ℕ) where
     adds c column slot_is some_here keyed fresh = record {
       queues = o.queues ++ m ∷ [];
       long = omega (arith, o.long, length-append slots (slot ∷ []));
-      few = omega (arith, o.few, longer);
+      few = omega (arith, o.few, length-append cs (c ∷ []));
       bare = λ x lt none. elim (below_or x m lt) [
         | inl l ↦ old x l ∙ o.bare x l none
         | inr e ↦ absurd (omega (arith, some_here, ap (λ y. length (listed job.sources.now y)) e, none))
@@ -103,21 +103,17 @@ module _ {g : Ghosts Outbox Target} (job : Job) (workers : ℕ) where
     pub has_passes : HasPasses chain workers
     has_passes = λ k d lt. (each_fresh k d (some_of columns k (omega (arith, lt, as_many))) lt).passes
 
-    pub rows_are : (rows : List (Vec (Pass Outbox Target g) Global)) → length rows ≡ workers
-        → ((k : ℕ) (d : Vec (Pass Outbox Target g) Global) → k < workers
-        → length (slice_index_or rows k d).items ≡ length columns)
-        → ((k : ℕ) (d : Vec (Pass Outbox Target g) Global) (x : Pass Outbox Target g) → k < workers
-        → (slice_index_or rows k d).items ≡ map (λ r. slice_index_or r.items k x) columns)
+    pub rows_are : (rows : List (Vec (Pass Outbox Target g) Global)) → AreColumns columns workers rows
         → All (λ ps. ArePasses chain ps.items × All (λ p. history_of p ≡ []) ps.items) rows
-    rows_are rows count long turned k d lt =
-        let near : k < workers = omega (arith, lt, count) in (
+    rows_are rows turned k d lt =
+        let near : k < workers = omega (arith, lt, turned.len) in (
           record {
-            each = long k d near ∙ sym as_many;
+            each = turned.long k d near ∙ sym as_many;
             own = λ j c p there. let f = each_fresh j c d there in
                 rw (element near j p (omega (arith, there, as_many))) (f.own k p (omega (arith, near, f.count)));
           },
           λ j p there.
-              let in_columns : j < length columns = omega (arith, there, long k d near) in
+              let in_columns : j < length columns = omega (arith, there, turned.long k d near) in
               let in_countdowns : j < length chain.countdowns.items = omega (arith, in_columns, as_many) in
               let f = each_fresh j (some_of chain.countdowns.items j in_countdowns) d in_countdowns in
               rw (element near j p in_columns) (f.blank k p (omega (arith, near, f.count))),
@@ -125,5 +121,5 @@ module _ {g : Ghosts Outbox Target} (job : Job) (workers : ℕ) where
       where
         element : k < workers → (j : ℕ) (p : Pass Outbox Target g) → j < length columns
             → slice_index_or (slice_index_or rows k d).items j p ≡ slice_index_or (slice_index_or columns j d).items k p
-        element near j p there = ap (λ l. slice_index_or l j p) (turned k d p near)
+        element near j p there = ap (λ l. slice_index_or l j p) (turned.each k d p near)
             ∙ get_or-map (λ (r : Vec (Pass Outbox Target g) Global). slice_index_or r.items k p) columns j d p there

@@ -34,7 +34,7 @@ module _ {A B : Type 0} (R : A → B → Type 0) where
 
 -- two lists that are taken apart from their ends
 module _ {A B : Type 0} (End : A → B → Type 0) (wholes : List A) (others : List B) where
-  pub all_before : length others ≡ length wholes → Halfway End wholes others wholes others
+  unfoldable pub all_before : length others ≡ length wholes → Halfway End wholes others wholes others
   all_before e = record {
     rest = [];
     more = [];
@@ -46,17 +46,17 @@ module _ {A B : Type 0} (End : A → B → Type 0) (wholes : List A) (others : L
 
   module _ (xs ys : List A) (x : A) (us vs : List B) (u : B) (e : xs ≡ ys ++ x ∷ []) (f : us ≡ vs ++ u ∷ [])
       (h : Halfway End wholes others xs us) where
-    wholes_are : wholes ≡ ys ++ x ∷ h.rest
+    pub wholes_are : wholes ≡ ys ++ x ∷ h.rest
     wholes_are = h.whole ∙ ap (λ l. l ++ h.rest) e ∙ append_assoc ys (x ∷ []) h.rest
 
-    others_are : others ≡ vs ++ u ∷ h.more
+    pub others_are : others ≡ vs ++ u ∷ h.more
     others_are = h.other ∙ ap (λ l. l ++ h.more) f ∙ append_assoc vs (u ∷ []) h.more
 
-    as_long : length vs ≡ length ys
+    pub as_long : length vs ≡ length ys
     as_long =
         omega (arith, h.same_long, ap length e, ap length f, length-append ys (x ∷ []), length-append vs (u ∷ []))
 
-    pub one_back : End x u → Halfway End wholes others ys vs
+    unfoldable pub one_back : End x u → Halfway End wholes others ys vs
     one_back now = record {
       rest = x ∷ h.rest;
       more = u ∷ h.more;

@@ -20,19 +20,19 @@ apart_times q y xs apart = sym (times_more y q xs ∙ ap (λ b. times y xs + con
 pub times_append : (x : ℕ) (xs ys : List ℕ) → times x (xs ++ ys) ≡ times x xs + times x ys
 times_append x xs ys = sum_by-append (λ z. cond (eqb z x) 1 0) xs ys
 
-no_more : (b : Bool) → 0 ≡ cond b 0 0
+no_more : (b : Bool) → ◌≡◌ {A = ℕ} 0 (cond b 0 0)
 no_more true = refl
 no_more false = refl
+
+one_longer : {A B : Type 0} (f : A → List B) (d : List A) (x : A)
+    → length (flat_map f (d ++ x ∷ [])) ≡ length (flat_map f d) + length (f x)
+one_longer f d x = ap length (flat_map-append f d (x ∷ [])) ∙ length-append (flat_map f d) (f x ++ [])
+    ∙ ap (λ n. length (flat_map f d) + length n) (append-nil (f x))
 
 module _ {T : Type 0} where
   only_long : (b : Bool) (x : Entry T) → length (only b (x ∷ [])) ≡ cond b 1 0
   only_long true x = refl
   only_long false x = refl
-
-  one_longer : {A B : Type 0} (f : A → List B) (d : List A) (x : A)
-      → length (flat_map f (d ++ x ∷ [])) ≡ length (flat_map f d) + length (f x)
-  one_longer f d x = ap length (flat_map-append f d (x ∷ [])) ∙ length-append (flat_map f d) (f x ++ [])
-      ∙ ap (λ n. length (flat_map f d) + length n) (append-nil (f x))
 
   lasts_more : (d : List (Entry T)) (k : ℕ) (x : T) (a : Arrival T)
       → length (last_lists (d ++ entry k x a ∷ [])) ≡ length (last_lists d) + length (if_last a)

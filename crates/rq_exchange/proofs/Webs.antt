@@ -1,5 +1,5 @@
 -- How the queues are linked, once the countdowns are opened.
-use Rattle.std.proofs.Common.{◌≡◌, ℕ, ◌<◌, List, length, sym, ◌∙◌, subst, arith, inl, inr, true, Vec, Global}
+use Rattle.std.proofs.Common.{◌≡◌, ℕ, ◌<◌, List, length, ap, sym, ◌∙◌, subst, arith, inl, inr, true, Vec, Global}
 use Rattle.std.proofs.Common.{slice_index_or, ◌==◌}
 use Rattle.rq_exchange.proofs.Words.{eqb-true, get_or-map, length-map, Definition, no_definition, listed, indices_of}
 use Rattle.rq_exchange.proofs.Words.{Pass, Ghosts, CountdownChain, Outbox, Target, Job, IsChainOf, IsCountdownOf, IsJob}
@@ -62,7 +62,7 @@ module _ (job : Job) (is : IsJob job) where
     is_at : (x : ℕ) → x < length job.definitions.now → at chain.slots.items x < length chain.countdowns.items
         → at o.queues (at chain.slots.items x) ≡ x
     is_at x near there = elim (same_or (length (listed job.sources.now x)) 0) [
-      | inl none ↦ absurd (omega (arith, o.bare x near none, o.few, as_many, there))
+      | inl none ↦ absurd (omega (arith, o.bare x near none, o.few, there))
       | inr some ↦ (o.fed x near (omega (arith, some))).1
     ]
 
@@ -72,7 +72,7 @@ module _ (job : Job) (is : IsJob job) where
         fall = λ q l m. is.fall q (omega (arith, l, many)) (omega (arith, m, many));
         apart = λ x y l m there e. sym (is_at y m (omega (arith, there, e))) ∙ ap (at o.queues) e ∙ is_at x l there;
         fed = λ x l some. omega (arith, (o.fed x l some).0, as_many);
-        bare = λ x l none. omega (arith, o.bare x l none, o.few, as_many);
+        bare = λ x l none. omega (arith, o.bare x l none, o.few);
         ranked = λ q l m. ranked q l m;
         exact = λ e i l lt. ((source_is e i l lt).0, (source_is e i l lt).1, rank_is e i l lt);
       };

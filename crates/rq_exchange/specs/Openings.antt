@@ -61,7 +61,7 @@ module _ {g : Ghosts Outbox Target} where
       : Type 0 where
     pub queues : List ℕ
     pub long : length slots ≡ m
-    pub few : length queues ≤ m
+    pub few : length countdowns ≤ m
     pub bare : (x : ℕ) → x < m → length (listed job.sources.now x) ≡ 0
         → at slots x ≡ length job.definitions.now
     pub fed : (x : ℕ) → x < m → 0 < length (listed job.sources.now x)

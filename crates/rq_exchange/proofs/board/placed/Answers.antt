@@ -11,7 +11,7 @@ pub loop-done-preserved : goal.loop-done-preserved
 loop-done-preserved c = (
   c.place.ensures.size ∙ c.loop-done.invariant.0,
   λ s all x h.
-      let placed = c.place.ensures.placed s (next_has c.args.all.items (cc) (cc) c.loop-done.yielded
+      let placed = c.place.ensures.placed s (next_has _ _ c.next.new.self c.args.all.items (cc) (cc) c.loop-done.yielded
       c.loop-done.yielded_by (λ done. All (IsPart s) done.items) all c.in-Some.is c.next.ensures.steps) in
       elim (lists_or x queues_in c.in-Some.done c.loop-done.yielded h)
       [ inl here ↦ placed.parts x here | inr before ↦ placed.keeps x (c.loop-done.invariant.1 s all x before) ],
@@ -20,5 +20,6 @@ loop-done-preserved c = (
 pub returns-clause-placed : goal.returns-clause-placed
 returns-clause-placed c = λ s all. subst (λ (ds : List (Vec Redone Global)). (x : ℕ) → 0 < times_in x (map queues_in ds)
     → HasPart s c.loop-done.parts.items x)
-    (all_came c.args.all.items (cc) (cc) c.loop-done.yielded c.loop-done.yielded_by c.in-None.is c.next.ensures.steps)
+    (all_came _ _ c.next.new.self c.args.all.items
+    (cc) (cc) c.loop-done.yielded c.loop-done.yielded_by c.in-None.is c.next.ensures.steps)
     (c.loop-done.invariant.1 s all)

@@ -4,6 +4,7 @@ use Rattle.rq_exchange.proofs.Pairs.{all_before, taken, one_back, all_gone, pair
 use Rattle.rq_exchange.proofs.closings.close_all.Goals as goal
 
 pub loop-countdown-init : goal.loop-countdown-init
+unfolding all_before
 loop-countdown-init c = (
   all_before IsSettled c.args.countdowns.items c.args.columns.items
       (sym (pairs_long IsColumn c.args.countdowns.items c.args.columns.items c.requires.own)),
@@ -19,6 +20,7 @@ close-requires c =
     record { own = both.0; all = both.1 }
 
 pub loop-countdown-preserved : goal.loop-countdown-preserved
+unfolding one_back
 loop-countdown-preserved c = (
   one_back IsSettled c.args.countdowns.items c.args.columns.items c.loop-countdown.countdowns.items c.pop.new.self.items
       c.in-Some.countdown c.loop-countdown.columns.items c.pop-in-Some.new.self.items c.in-Some-pop.column

@@ -20,7 +20,7 @@ pub loop-row-preserved : goal.loop-row-preserved
 loop-row-preserved g c =
     let i = c.loop-row.invariant in
     let long : length c.in-Some.row.items ≡ c.args.count =
-    next_has c.args.rows.items (cc) (cc) c.loop-row.yielded c.loop-row.yielded_by
+    next_has _ _ c.next.new.self c.args.rows.items (cc) (cc) c.loop-row.yielded c.loop-row.yielded_by
     (λ (r : Vec g.row.T.Denot Global). length r.items ≡ c.args.count) c.requires c.in-Some.is c.next.ensures.steps in
     record {
       len = c.spread.ensures.len ∙ i.len;
@@ -38,5 +38,6 @@ loop-row-preserved g c =
 pub returns-clause-columns : goal.returns-clause-columns
 returns-clause-columns g c = subst (λ (rs : List (Vec g.row.T.Denot Global)). AreColumns rs c.args.count
     c.loop-row.columns.items)
-    (all_came c.args.rows.items (cc) (cc) c.loop-row.yielded c.loop-row.yielded_by c.in-None.is c.next.ensures.steps)
+    (all_came _ _ c.next.new.self c.args.rows.items
+    (cc) (cc) c.loop-row.yielded c.loop-row.yielded_by c.in-None.is c.next.ensures.steps)
     c.loop-row.invariant

@@ -9,7 +9,7 @@ loop-one-init c = λ job chain room all. none_handed job chain room _ _ c.new-se
 
 pub loop-one-preserved : goal.loop-one-preserved
 loop-one-preserved c = λ job chain room all.
-    let works = next_has c.args.ended.items (cc) (cc) c.loop-one.yielded c.loop-one.yielded_by
+    let works = next_has _ _ c.next.new.self c.args.ended.items (cc) (cc) c.loop-one.yielded c.loop-one.yielded_by
     (Works job chain room) all
     c.in-Some.is c.next.ensures.steps in
     let has : HasEnded job chain room c.in_ok-seat.field-0 = subst (Works job chain room) c.in_ok-seat.was works in
@@ -20,5 +20,6 @@ loop-one-preserved c = λ job chain room all.
 pub returns-clause-back : goal.returns-clause-back
 returns-clause-back c = λ job chain room all. subst (λ (ws : List (Result Ended Fault)). AreHandedBack job chain room
     (length ws) c.loop-one.seats.items c.loop-one.all.items)
-    (all_came c.args.ended.items (cc) (cc) c.loop-one.yielded c.loop-one.yielded_by c.in-None.is c.next.ensures.steps)
+    (all_came _ _ c.next.new.self c.args.ended.items
+    (cc) (cc) c.loop-one.yielded c.loop-one.yielded_by c.in-None.is c.next.ensures.steps)
     (c.loop-one.invariant job chain room all)

@@ -7,7 +7,8 @@ use Rattle.rq_exchange.proofs.gathered.pour_all.Goals as goal
 pub loop-slot-preserved : goal.loop-slot-preserved
 loop-slot-preserved c = λ t are.
     let n = length c.loop-slot.yielded in
-    let turn = comes_next c.args.parts.items (cc) (cc) c.loop-slot.yielded c.loop-slot.yielded_by c.in-Some.is
+    let turn = comes_next _ _ c.next.new.self c.args.parts.items
+    (cc) (cc) c.loop-slot.yielded c.loop-slot.yielded_by c.in-Some.is
     c.next.ensures.steps in
     let there : Some c.in-Some-slot.part ≡ Some (part_of t n) = sym c.in-Some-slot.is ∙ turn.1
     ∙ get_or_default c.args.parts.items n c.in-Some.slot None turn.0 ∙ are n turn.0 in
@@ -23,5 +24,6 @@ loop-slot-preserved c = λ t are.
 pub returns-clause-poured : goal.returns-clause-poured
 returns-clause-poured c = λ t are. subst (λ (slots : List (Option Part)). HasPoured t (length slots) c.args.fields
     c.loop-slot.poured)
-    (all_came c.args.parts.items (cc) (cc) c.loop-slot.yielded c.loop-slot.yielded_by c.in-None.is c.next.ensures.steps)
+    (all_came _ _ c.next.new.self c.args.parts.items
+    (cc) (cc) c.loop-slot.yielded c.loop-slot.yielded_by c.in-None.is c.next.ensures.steps)
     (c.loop-slot.invariant t are)

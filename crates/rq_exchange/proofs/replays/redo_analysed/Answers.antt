@@ -29,7 +29,7 @@ sources_of-requires g c =
     )
 
 pub redo_all-requires : goal.redo_all-requires
-redo_all-requires g c κs within =
+redo_all-requires g c =
     let s = c.args.state.now in
     let rs : List Record = map record_of c.args.records.now in
     let defs = c.definitions-definitions.result.now in
@@ -41,29 +41,32 @@ redo_all-requires g c κs within =
     ap length names ∙ length-map defs (λ (d : Definition). d.error) in
     let count : c.len.result ≡ length defs =
     c.len.ensures ∙ c.in_ok-errors.errors.ok.0 ∙ ap length c.in_ok-errors.ensures.errors
-    ∙ length-map defs (λ (d : Definition). d.error) in
-    record {
-      job = record {
-        well = c.is_well_formed.ensures;
-        lawful = c.requires.lawful;
-        fits = c.requires.fits;
-        touching = λ q. c.requires.analysis.touching q
-            ∙ ap (λ xs. numbered s xs q) (front_whole Two s rs c.requires.lawful);
-        definitions = e.0 ∙ (c.numbers_after.ensures Two s rs c.is_well_formed.ensures c.requires.lawful).definitions;
-        few = few;
-        tables = ap length c.deref-2.ensures.value ∙ c.in_ok-sources.ensures.len ∙ count;
-        sources = λ q l.
-            ap (λ (ls : List (Vec ℕ)). listed ls q) c.deref-2.ensures.value
-            ∙ c.in_ok-sources.ensures.listed q (omega (arith, l, count))
-            ∙ ap (indices_of (λ (n : ℕ). n == q) 0) names
-            ∙ places_map (λ n. n == q) (λ (d : Definition). d.error) 0 defs;
-        fall = errors_fall defs (map (λ (d : Definition). d.error) defs)
-            (subst (AreDefinitions 0) (sym e.0) e.1.definitions) few refl;
-        ranks = subst (λ (z : List ℕ × (ℕ × (ℕ × List ℕ))). AreRanks z.0 z.1.0 z.1.1.0 z.1.1.1)
-            (λ i. (names i, (count i, (as_many i, sym c.deref-3.ensures.value i))))
-            c.in_ok-sources.ensures.ranks;
-      };
-    }
+    ∙ length-map defs (λ (d : Definition). d.error) in (
+      record { shared = c.type_bounds.sync-R.shared },
+      (
+        record { shared = c.type_bounds.sync-G.shared },
+        record {
+          well = c.is_well_formed.ensures;
+          lawful = c.requires.lawful;
+          fits = c.requires.fits;
+          touching = λ q. c.requires.analysis.touching q
+              ∙ ap (λ xs. numbered s xs q) (front_whole Two s rs c.requires.lawful);
+          definitions = e.0 ∙ (c.numbers_after.ensures Two s rs c.is_well_formed.ensures c.requires.lawful).definitions;
+          few = few;
+          tables = ap length c.deref-2.ensures.value ∙ c.in_ok-sources.ensures.len ∙ count;
+          sources = λ q l.
+              ap (λ (ls : List (Vec ℕ)). listed ls q) c.deref-2.ensures.value
+              ∙ c.in_ok-sources.ensures.listed q (omega (arith, l, count))
+              ∙ ap (indices_of (λ (n : ℕ). n == q) 0) names
+              ∙ places_map (λ n. n == q) (λ (d : Definition). d.error) 0 defs;
+          fall = errors_fall defs (map (λ (d : Definition). d.error) defs)
+              (subst (AreDefinitions 0) (sym e.0) e.1.definitions) few refl;
+          ranks = subst (λ (z : List ℕ × (ℕ × (ℕ × List ℕ))). AreRanks z.0 z.1.0 z.1.1.0 z.1.1.1)
+              (λ i. (names i, (count i, (as_many i, sym c.deref-3.ensures.value i))))
+              c.in_ok-sources.ensures.ranks;
+        },
+      ),
+    )
 
 pub returns-clause-course : goal.returns-clause-course
 returns-clause-course g c = subst (λ (ds : List Definition). StartsByLast (map (λ d. d.error) ds) c.in_ok-parts.course)

@@ -45,4 +45,4 @@ pub returns-clause-rows : goal.returns-clause-rows
 returns-clause-rows c =
     let chain : CountdownChain = record { countdowns = c.loop-queue.countdowns; slots = c.loop-queue.slots } in
     rows_are c.args.job.now c.args.workers c.loop-queue.queue chain c.loop-queue.all.items c.loop-queue.invariant
-    c.in_ok-rows.rows.items c.in_ok-rows.ensures.len c.in_ok-rows.ensures.long c.in_ok-rows.ensures.columns
+    c.in_ok-rows.rows.items c.in_ok-rows.ensures.columns
