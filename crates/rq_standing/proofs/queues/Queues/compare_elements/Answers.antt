@@ -2,7 +2,7 @@ use Rattle.std.proofs.Common.{◌≡◌, ◌<◌, ◌≤◌, ◌∙◌, arith, a
 use Rattle.std.specs.List.{flat_map}
 use Rattle.rq_model.specs.Queues.{Part}
 use Rattle.rq_model.specs.States.{State, Element, id_before}
-use Rattle.rq_model.specs.StateSpelling.{element_bytes}
+use Rattle.rq_model.specs.StateSpelling.{counted, element_bytes}
 use Rattle.rq_model.specs.WellFormed.{Ordered}
 use Rattle.rq_model.proofs.StateCodes.{are_few}
 use Rattle.rq_state.specs.Comparing.{behind}
@@ -22,7 +22,7 @@ all_are c t holds = elements_in_order c.parts_make_the_state.ensures c.any_order
 
 pub returns-then-not-agree-clause-compared : goal.returns-then-not-agree-clause-compared
 returns-then-not-agree-clause-compared c = λ t holds.
-    still_differ _ c.args.bytes.now (sym c.agree.ensures ∙ c.if-not-agree.true)
+    still_differ (counted element_bytes t.elements) c.args.bytes.now (sym c.agree.ensures ∙ c.if-not-agree.true)
 
 pub order-requires : goal.order-requires
 order-requires c =

@@ -2,7 +2,7 @@ use Rattle.std.proofs.Common.{◌≡◌, ◌<◌, ◌≤◌, ◌∙◌, arith, a
 use Rattle.std.specs.List.{flat_map}
 use Rattle.rq_model.specs.Queues.{Part}
 use Rattle.rq_model.specs.States.{State, Note}
-use Rattle.rq_model.specs.StateSpelling.{note_bytes}
+use Rattle.rq_model.specs.StateSpelling.{counted, note_bytes}
 use Rattle.rq_model.specs.WellFormed.{Ordered}
 use Rattle.rq_model.proofs.StateCodes.{are_few}
 use Rattle.rq_state.specs.Comparing.{behind}
@@ -22,7 +22,7 @@ all_are c t holds =
 
 pub returns-then-not-agree-clause-compared : goal.returns-then-not-agree-clause-compared
 returns-then-not-agree-clause-compared c = λ t holds.
-    still_differ _ c.args.bytes.now (sym c.agree.ensures ∙ c.if-not-agree.true)
+    still_differ (counted note_bytes t.notes) c.args.bytes.now (sym c.agree.ensures ∙ c.if-not-agree.true)
 
 pub order-requires : goal.order-requires
 order-requires c =
