@@ -91,7 +91,8 @@ impl OpenUnits {
         ensures { (s : State) → IsWellFormed s → AreUnits self.now s
             → bytes.new ≡ behind (counted (to_be_bytes w64) s.units) bytes.old }
     {
-        bytes.count(self.count());
+        let units = self.count();
+        bytes.count(units);
         compare_each(&self.named, bytes);
     }
 

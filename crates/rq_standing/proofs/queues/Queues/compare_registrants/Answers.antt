@@ -18,6 +18,16 @@ registrants_in-requires c =
     holds.size))
     (are_few t holds.well (subst (λ n. n ≤ 4294967295) holds.next c.requires.next)).registrants
 
+pub count-requires : goal.count-requires
+count-requires c =
+    let t = c.requires.holds.0 in
+    let holds = c.requires.holds.1 in
+    subst (λ n. n < 4294967296)
+    (sym (c.registrants_in.ensures ∙ (ap (sum_by (λ (p : Part). length p.registrants)) c.deref.ensures.value
+    ∙ registrants_counted c.parts_make_the_state.ensures t c.args.self.now.parts.items holds.well holds.parts
+    holds.size)))
+    (are_few t holds.well (subst (λ n. n ≤ 4294967295) holds.next c.requires.next)).registrants
+
 pub returns : goal.returns
 returns c = λ t holds.
     let law = c.parts_make_the_state.ensures in
