@@ -42,7 +42,7 @@ piece_at log start len fits =
 
 -- all bytes end where they end
 pub all_at : (bytes : List ℕ) → EndsAt bytes (length bytes) bytes
-all_at bytes = record { before = []; behind = []; whole = sym (append-nil bytes); there = refl }
+all_at bytes = record { before = []; behind = []; whole = sym (append-nil bytes); there = omega arith }
 
 -- behind a front of them, the others end there as well
 behind_front : (log bytes front left : List ℕ) (end : ℕ) → EndsAt log end bytes → bytes ≡ front ++ left
