@@ -1,5 +1,5 @@
 -- What ends at a place of a log.
-use Rattle.std.proofs.Common.{◌≡◌, ℕ, ◌+◌, ◌-◌, ◌≤◌, List, [], ◌++◌, length, take, drop, Some, refl, sym, ap, ◌∙◌}
+use Rattle.std.proofs.Common.{◌≡◌, ℕ, ◌+◌, ◌-◌, ◌≤◌, List, [], ◌++◌, length, take, drop, Some, sym, ap, ◌∙◌}
 use Rattle.std.proofs.Common.{append_assoc, arith}
 use Rattle.std.specs.Prelude.{slice_range}
 use Rattle.std.proofs.lemmas.List.{append-nil, take_at, drop_at, take-append-drop, length-append, length-take}
@@ -42,7 +42,7 @@ piece_at log start len fits =
 
 -- all bytes end where they end
 pub all_at : (bytes : List ℕ) → EndsAt bytes (length bytes) bytes
-all_at bytes = record { before = []; behind = []; whole = sym (append-nil bytes); there = refl }
+all_at bytes = record { before = []; behind = []; whole = sym (append-nil bytes); there = omega arith }
 
 -- behind a front of them, the others end there as well
 behind_front : (log bytes front left : List ℕ) (end : ℕ) → EndsAt log end bytes → bytes ≡ front ++ left

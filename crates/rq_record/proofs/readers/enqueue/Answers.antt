@@ -1,4 +1,4 @@
-use Rattle.std.proofs.Common.{◌≡◌, Some, ap, sym, ◌∙◌}
+use Rattle.std.proofs.Common.{◌≡◌, Some, rules}
 use Rattle.rq_bytes.specs.Readers.{byte, number}
 use Rattle.rq_bytes.proofs.Single.{reads_byte, reads_u32, reads_u64}
 use Rattle.rq_model.specs.RecordReading.{who_read}
@@ -6,8 +6,8 @@ use Rattle.rq_model.proofs.RecordReaders.{reads_who}
 use Rattle.rq_record.proofs.Parts.{left_at}
 use Rattle.rq_record.proofs.readers.enqueue.Goals as goal
 
-pub payload-payload-requires : goal.payload-payload-requires
-payload-payload-requires c =
+pub payload-requires : goal.payload-requires
+payload-requires c =
     let log = c.args.log.now in
     let end = c.args.end in
     let unit : number 8 c.args.bytes ≡ Some (c.in_ok-unit.unit, c.u64.new.self) = search rules in

@@ -1,4 +1,4 @@
-use Rattle.std.proofs.Common.{◌≡◌, Some, arith}
+use Rattle.std.proofs.Common.{◌≡◌, Some, arith, rules}
 use Rattle.rq_bytes.specs.Readers.{byte}
 use Rattle.rq_bytes.proofs.Single.{reads_byte}
 use Rattle.rq_record.proofs.Parts.{left_at}

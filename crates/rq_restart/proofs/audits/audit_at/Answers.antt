@@ -22,11 +22,11 @@ returns g c =
     let version = version_of begun.version in
     let same = c.borrowed.ensures in
     let chain = subst (λ (z : List ℕ). IsChain z offset begun.found) (sym same) is.chain in
-    audits_at b offset begun is c.checkpoints_of-2.result
-    (IfOk-weaker c.checkpoints_of-2.result
+    audits_at b offset begun is c.checkpoints_of.result
+    (IfOk-weaker c.checkpoints_of.result
     (λ v. (at : ℕ) → IsChain c.borrowed.result at begun.found
     → IsAuditedFrom version begun.state c.borrowed.result at v.items)
     (λ v. IsAuditedFrom version begun.state b offset v.items)
     (λ v told. subst (λ (z : List ℕ). IsAuditedFrom version begun.state z offset v.items) same (told offset chain))
-    c.checkpoints_of-2.ensures.found)
-    c.checkpoints_of-2.ensures.refused
+    c.checkpoints_of.ensures.found)
+    c.checkpoints_of.ensures.refused
