@@ -2,14 +2,13 @@
 use Rattle.std.proofs.Common.{◌≡◌, ℕ, zero, suc, ◌+◌, ◌-◌, ◌<◌, ◌≤◌, true, List, [], ◌∷◌, ◌++◌, length}
 use Rattle.std.proofs.Common.{map, take, drop, get_or, refl, sym, ap, subst, ◌∙◌, append_assoc, arith}
 use Rattle.std.specs.Prelude.{slice_index_or}
-use Rattle.std.proofs.lemmas.Bool.{and_parts}
 use Rattle.std.proofs.lemmas.List.{append-nil, drop-take, length-map, map-append, take-append-drop, take-map}
 use Rattle.std.proofs.lemmas.List.{get_or-map, take_more}
 use Rattle.rq_model.specs.Records.{Record, Version}
 use Rattle.rq_model.specs.Spelling.{body_of}
 use Rattle.rq_model.specs.Frames.{bodies_of}
 use Rattle.rq_model.specs.States.{State}
-use Rattle.rq_model.specs.Machine.{is_lawful, step, run, all_lawful}
+use Rattle.rq_model.specs.Machine.{step, run, all_lawful}
 use Rattle.rq_model.specs.Fronts.{Why}
 use Rattle.rq_model.specs.Checkpoints.{Audited}
 use Rattle.rq_model.proofs.Restarts.{lawful_cut, run_join}
