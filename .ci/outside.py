@@ -497,9 +497,11 @@ def threads() -> None:
 
 
 def threads_of_audits(shim: str, long: str) -> None:
-    """An audit finds the front on the workers, and then one thread goes along the records. So it starts threads if the log is
-    long, and no more than `close`, which redoes no queue. With every plan it says the same."""
-    for log, count, is_long in [(told_log(), 150, False), (redone_log(), 7, False), (long, 0, True)]:
+    """An audit finds the front on the workers, and then goes along the records up to the last checkpoint. Those before one are
+    redone on the workers if they are many beside what stands. So it starts threads if the log is long, and more than `close`,
+    which redoes no queue, if there is such a checkpoint. With every plan it says the same."""
+    for log, count, is_long, is_redone in [(told_log(), 150, False, False), (redone_log(), 7, False, False),
+                                           (long, 0, True, False), ("halfway.log", 1, True, True)]:
         alone = run("audit", log, 1)
         counted = alone[0], alone[1].count(b" true\n"), alone[1].count(b"\n")
         check(f"audit of {count} true checkpoints", counted, (0, count, count))
@@ -507,7 +509,7 @@ def threads_of_audits(shim: str, long: str) -> None:
             started, _ = threads_of(shim, "audit", log, workers)
             closing, _ = threads_of(shim, "close", log, "audited.closed", workers)
             name = f"threads of an audit of {count} checkpoints with {workers} workers"
-            check(name, (started > 0, started <= closing), (is_long and workers > 1, True))
+            check(name, (started > 0, started > closing), (is_long and workers > 1, is_redone and workers > 1))
             same = run("audit", log, workers) == alone
             check(f"audit of {count} true checkpoints with {workers} workers", same, True)
 

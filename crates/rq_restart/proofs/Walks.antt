@@ -1,17 +1,17 @@
 -- On the way through the records: where their frames stand, the state before each, and what is found.
-use Rattle.std.proofs.Common.{◌≡◌, ℕ, zero, suc, ◌+◌, ◌-◌, ◌<◌, true, List, [], ◌∷◌, ◌++◌, length}
+use Rattle.std.proofs.Common.{◌≡◌, ℕ, zero, suc, ◌+◌, ◌-◌, ◌<◌, ◌≤◌, true, List, [], ◌∷◌, ◌++◌, length}
 use Rattle.std.proofs.Common.{map, take, drop, get_or, refl, sym, ap, subst, ◌∙◌, append_assoc, arith}
 use Rattle.std.specs.Prelude.{slice_index_or}
-use Rattle.std.proofs.lemmas.Bool.{and_parts}
-use Rattle.std.proofs.lemmas.List.{append-nil, length-map, take-append-drop, get_or-map, take_more}
+use Rattle.std.proofs.lemmas.List.{append-nil, drop-take, length-map, map-append, take-append-drop, take-map}
+use Rattle.std.proofs.lemmas.List.{get_or-map, take_more}
 use Rattle.rq_model.specs.Records.{Record, Version}
 use Rattle.rq_model.specs.Spelling.{body_of}
 use Rattle.rq_model.specs.Frames.{bodies_of}
 use Rattle.rq_model.specs.States.{State}
-use Rattle.rq_model.specs.Machine.{is_lawful, step, run, all_lawful}
+use Rattle.rq_model.specs.Machine.{step, run, all_lawful}
 use Rattle.rq_model.specs.Fronts.{Why}
 use Rattle.rq_model.specs.Checkpoints.{Audited}
-use Rattle.rq_model.proofs.Restarts.{lawful_cut}
+use Rattle.rq_model.proofs.Restarts.{lawful_cut, run_join}
 use Rattle.rq_record.specs.declared.record.RecordOf.TheVariants as own
 use Rattle.rq_record.specs.Views.{Record as Own, record_of}
 use Rattle.rq_front.specs.declared.spans.Chain.{Chain}
@@ -53,19 +53,6 @@ one_more all i r lt is =
     let here : get_or rs i (record_of r) ≡ record_of r =
     get_or-map record_of all i r (record_of r) lt ∙ ap record_of (sym is) in
     take_more rs i (record_of r) few ∙ ap (λ (q : Record). take i rs ++ q ∷ []) here
-
--- it is lawful
-pub lawful_at : (version : Version) (s : State) (all : List Own) (i : ℕ) (r : Own) → i < length all
-    → r ≡ slice_index_or all i r → all_lawful version s (map record_of all) ≡ true
-    → is_lawful version (run s (take i (map record_of all))) (record_of r) ≡ true
-lawful_at version s all i r lt is lawful =
-    let rs = map record_of all in
-    let whole : all_lawful version s (take (i + 1) rs ++ drop (i + 1) rs) ≡ true =
-    ap (all_lawful version s) (take-append-drop (i + 1) rs) ∙ lawful in
-    let first : all_lawful version s (take i rs ++ record_of r ∷ []) ≡ true =
-    sym (ap (all_lawful version s) (one_more all i r lt is))
-    ∙ (lawful_cut version s (take (i + 1) rs) (drop (i + 1) rs) whole).0 in
-    (and_parts _ _ (lawful_cut version s (take i rs) (record_of r ∷ []) first).1).0
 
 pub run_further : (s : State) (all : List Own) (i : ℕ) (r : Own) → i < length all → r ≡ slice_index_or all i r
     → step (run s (take i (map record_of all))) (record_of r) ≡ run s (take (i + 1) (map record_of all))
@@ -110,3 +97,57 @@ none_here s at (own.Dequeue unit queue by) h = refl
 none_here s at (own.Commit unit) h = refl
 none_here s at (own.Abort unit) h = refl
 none_here s at (own.Kill queue element) h = refl
+
+pub nothing_further : (s : State) (at : ℕ) (all : List Own) (i : ℕ) (r : Own) (found : List Audited) → i < length all
+    → r ≡ slice_index_or all i r → ((kept : List ℕ) → r ≡ own.Checkpoint kept → ⊥)
+    → found ≡ audits s at (take i (map record_of all)) → found ≡ audits s at (take (i + 1) (map record_of all))
+nothing_further s at all i r found lt is none so_far =
+    let rs = map record_of all in
+    let before = audits s at (take i rs) in
+    so_far ∙ sym (ap (audits s at) (one_more all i r lt is) ∙ audits_push s at (take i rs) (record_of r)
+    ∙ ap (λ (z : List Audited). before ++ z) (none_here (run s (take i rs)) (past at (take i rs)) r none)
+    ∙ append-nil before)
+
+-- the records from one to another, behind those before the first
+
+take_within : {X : Type 0} (m n : ℕ) (xs : List X) → m ≤ n → take m (take n xs) ≡ take m xs
+take_within zero n xs h = refl
+take_within (suc m) zero xs h = absurd (omega (arith, h))
+take_within (suc m) (suc n) [] h = refl
+take_within {X} (suc m) (suc n) (x ∷ xs) h = ap (λ (ys : List X). x ∷ ys) (take_within m n xs (omega (arith, h)))
+
+own_between : (all : List Own) (done i : ℕ) → done ≤ i → take done all ++ take (i - done) (drop done all) ≡ take i all
+own_between all done i h =
+    ap (λ (xs : List Own). xs ++ take (i - done) (drop done all)) (sym (take_within done i all h))
+    ∙ ap (λ (ys : List Own). take done (take i all) ++ ys) (sym (ap (λ (n : ℕ). drop done (take n all)) (there done i h)
+    ∙ drop-take done (i - done) all))
+    ∙ take-append-drop done (take i all)
+  where
+    there : (m n : ℕ) → m ≤ n → n ≡ m + (n - m)
+    there m n l = omega (arith, l)
+
+pub between_are : (all : List Own) (done i : ℕ) → done ≤ i
+    → take done (map record_of all) ++ map record_of (take (i - done) (drop done all)) ≡ take i (map record_of all)
+between_are all done i h =
+    let more = take (i - done) (drop done all) in
+    ap (λ (rs : List Record). rs ++ map record_of more) (take-map record_of done all)
+    ∙ sym (map-append record_of (take done all) more) ∙ ap (map record_of) (own_between all done i h)
+    ∙ sym (take-map record_of i all)
+
+-- they are lawful behind those
+pub lawful_between : (version : Version) (s : State) (all : List Own) (done i : ℕ) → done ≤ i
+    → all_lawful version s (map record_of all) ≡ true
+    → all_lawful version (run s (take done (map record_of all))) (map record_of (take (i - done) (drop done all))) ≡ true
+lawful_between version s all done i h lawful =
+    let rs = map record_of all in
+    let first : all_lawful version s (take i rs) ≡ true =
+    (lawful_cut version s (take i rs) (drop i rs) (ap (all_lawful version s) (take-append-drop i rs) ∙ lawful)).0 in
+    (lawful_cut version s (take done rs) (map record_of (take (i - done) (drop done all)))
+    (ap (all_lawful version s) (between_are all done i h) ∙ first)).1
+
+pub run_between : (s : State) (all : List Own) (done i : ℕ) → done ≤ i
+    → run (run s (take done (map record_of all))) (map record_of (take (i - done) (drop done all)))
+    ≡ run s (take i (map record_of all))
+run_between s all done i h =
+    sym (run_join s (take done (map record_of all)) (map record_of (take (i - done) (drop done all))))
+    ∙ ap (run s) (between_are all done i h)

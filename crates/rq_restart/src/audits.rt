@@ -1,7 +1,7 @@
 //! Which checkpoints of a log are true, of all of it or from a checkpoint on.
 
-ghost use Rattle.std.specs.Prelude.{◌≡◌, ◌≤◌, true, ◌++◌, ℕ, map, IfOk, OnOk, IfErr};
-ghost use Rattle.rq_model.specs.Machine.{is_lawful, step};
+ghost use Rattle.std.specs.Prelude.{◌≡◌, ◌≤◌, true, ◌++◌, ℕ, length, map, IfOk, OnOk, IfErr};
+ghost use Rattle.rq_model.specs.Machine.{all_lawful, run};
 ghost use Rattle.rq_model.specs.Records as records;
 ghost use Rattle.rq_model.specs.States as states;
 ghost use Rattle.rq_record.specs.Views.{record_of, version_of};
@@ -11,71 +11,57 @@ ghost use Rattle.rq_restart.specs.Audits.{StandInFrames, Audits, AuditsAt, IsAud
 ghost use Rattle.rq_restart.specs.Audits.{audit_of, audited_of, audits};
 ghost use Rattle.rq_judged.specs.Ends.{IsChain};
 
+use crate::pieces::go_on;
 use rq_front::{Span, chain, log_version};
 use rq_judged::{Begun, Front, begin_at, front_of, grain_of};
 use rq_plan::Plan;
 use rq_record::{Fault, KeptRecord, LogBytes, Version};
-use rq_standing::{Standing, Taken};
+use rq_standing::Standing;
 use rq_state::State;
 use std::alloc::Global;
 use std::marker::Sync;
 use std::thread::Threads;
 
-// Tells of a checkpoint whose frame stands at an offset whether it spells the state before it.
-fn tell_checkpoint(
+// Goes on by lawful records, and tells of the checkpoint behind them, whose frame stands at an
+// offset, whether it spells the state there.
+fn look_behind<R: Threads + Sync>(
+    rt: &R,
     alloc: Global,
-    standing: &Standing,
-    rec: &KeptRecord,
+    standing: &mut Standing,
+    before: &[KeptRecord],
+    kept: &[u8],
     offset: u64,
+    plan: &Plan,
     found: &mut Vec<(u64, bool)>,
 ) -> Result<(), Fault>
-    requires { (version : records.Version) × (s : states.State) × Stands version standing.now s }
+    requires lawful { (version : records.Version) × (s : states.State)
+        × Stands version standing.old s
+        × (all_lawful version s (map record_of before.now) ≡ true) }
+    requires short { length kept.now ≤ 268435455 }
+    ensures stands { OnOk result ((version : records.Version) (s : states.State) →
+        Stands version standing.old s → all_lawful version s (map record_of before.now) ≡ true
+        → Stands version standing.new (run s (map record_of before.now))) }
     ensures found { OnOk result ((version : records.Version) (s : states.State) →
-        Stands version standing.now s → map audited_of found.new.items
-        ≡ map audited_of found.old.items ++ audit_of s offset (record_of rec.now)) }
+        Stands version standing.old s → all_lawful version s (map record_of before.now) ≡ true
+        → map audited_of found.new.items ≡ map audited_of found.old.items
+        ++ audit_of (run s (map record_of before.now)) offset (records.Checkpoint kept.now)) }
     ensures refused { IfErr result (λ e. e ≡ Resources) }
 {
-    let KeptRecord::Checkpoint { bytes } = rec else {
-        return Ok(());
-    };
-    let is_true = standing.is_spelled_by(alloc, bytes.bytes())?;
+    go_on(rt, alloc, standing, before, plan)?;
+    let is_true = standing.is_spelled_by(alloc, kept)?;
     found.push((offset, is_true))?;
     Ok(())
 }
 
-// One record further, which is lawful: so it is done.
-fn go_past(
-    alloc: Global,
-    standing: &mut Standing,
-    rec: &KeptRecord,
-    offset: u64,
-    found: &mut Vec<(u64, bool)>,
-) -> Result<(), Fault>
-    requires { (version : records.Version) × (s : states.State) × Stands version standing.old s
-        × (is_lawful version s (record_of rec.now) ≡ true) }
-    ensures stands { OnOk result ((version : records.Version) (s : states.State) →
-        Stands version standing.old s → is_lawful version s (record_of rec.now) ≡ true
-        → Stands version standing.new (step s (record_of rec.now))) }
-    ensures found { OnOk result ((version : records.Version) (s : states.State) →
-        Stands version standing.old s → map audited_of found.new.items
-        ≡ map audited_of found.old.items ++ audit_of s offset (record_of rec.now)) }
-    ensures refused { IfErr result (λ e. e ≡ Resources) }
-{
-    tell_checkpoint(alloc, standing, rec, offset, found)?;
-    match standing.take(alloc, rec) {
-        Ok(Taken::Done(_)) => Ok(()),
-        Ok(Taken::Unlawful(_)) => unreachable!(),
-        Err(fault) => Err(fault),
-    }
-}
-
-// The checkpoints among lawful records, which begin in a state.
-fn checkpoints_among(
+// The checkpoints among lawful records, which begin in a state. Behind the last one nothing is done.
+fn checkpoints_among<R: Threads + Sync>(
+    rt: &R,
     alloc: Global,
     version: Version,
     state: &State,
     records: &[KeptRecord],
     spans: &[Span],
+    plan: &Plan,
 ) -> Result<Vec<(u64, bool)>, Fault>
     requires framed { (at : ℕ)
         × StandInFrames (version_of version) state.now at (map record_of records.now) spans.now }
@@ -86,9 +72,24 @@ fn checkpoints_among(
 {
     let mut standing = Standing::of(alloc, version, state)?;
     let mut found = Vec::new(alloc);
+    let mut done = 0;
     for place in 0..records.len() {
+        let KeptRecord::Checkpoint { bytes } = &records[place] else {
+            continue;
+        };
+        let before = &records[done..place];
         let offset = spans[place].offset() as u64;
-        go_past(alloc, &mut standing, &records[place], offset, &mut found)?;
+        look_behind(
+            rt,
+            alloc,
+            &mut standing,
+            before,
+            bytes.bytes(),
+            offset,
+            plan,
+            &mut found,
+        )?;
+        done = place;
     }
     Ok(found)
 }
@@ -118,11 +119,13 @@ fn checkpoints_of<R: Threads + Sync>(
     let front = front_of(rt, alloc, bytes, begun, plan)?;
     let records = records_alone(front);
     checkpoints_among(
+        rt,
         alloc,
         begun.version,
         &begun.state,
         &records,
         &begun.found.spans,
+        plan,
     )
 }
 
@@ -154,8 +157,10 @@ pub fn audit_of<R: Threads + Sync>(
 /// The checkpoints of the front of a log, rising: the offset of each, and whether it is true, which
 /// is to say that it spells the state before it.
 ///
-/// The front is found on all workers of the plan. Then the calling thread goes along the records
-/// once. That costs what the records touch, and of each checkpoint at most about its bytes.
+/// The front is found on all workers of the plan. Then its records are done once, up to the last
+/// checkpoint, as `go_on` does those from one to the next: on the workers, where they are many
+/// beside what stands. That costs what the records touch, and of each checkpoint at most about its
+/// bytes.
 ///
 /// Refuses with `TooLong` more than 4,294,967,295 bytes, with `NotALog` bytes that begin with no
 /// version's header, and with `Resources` where memory is refused.

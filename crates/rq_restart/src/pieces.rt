@@ -130,7 +130,7 @@ pub fn go_on<R: Threads + Sync>(
     records: &[KeptRecord],
     plan: &Plan,
 ) -> Result<usize, Fault>
-    requires { (version : model.Version) × (s : states.State) × Stands version standing.old s }
+    requires stands { (version : model.Version) × (s : states.State) × Stands version standing.old s }
     ensures went_on { IfOk result
         (WentOn standing.old (map record_of records.now) standing.new) }
     ensures refused { IfErr result (λ e. e ≡ Resources) }

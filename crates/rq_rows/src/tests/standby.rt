@@ -376,11 +376,13 @@ fn spelled_after<R: Threads + Sync + AllocGlobal>(
 fn come_to_one_state<R: Threads + Sync + AllocGlobal>(rt: &R) -> Result<bool, Fail> {
     let records = with_many_more(rt)?;
     let told = spelled_behind(rt, &records, &[128], 1)?;
-    Ok(told.is_some()
-        && told == spelled_behind(rt, &records, &[128], 200)?
-        && told == spelled_behind(rt, &records, BY_TURNS, 1)?
-        && told == spelled_after(rt, &records, 1)?
-        && told == spelled_after(rt, &records, 200)?)
+    Ok(
+        told.is_some()
+            && told == spelled_behind(rt, &records, &[128], 200)?
+            && told == spelled_behind(rt, &records, BY_TURNS, 1)?
+            && told == spelled_after(rt, &records, 1)?
+            && told == spelled_after(rt, &records, 200)?,
+    )
 }
 
 #[test]

@@ -7,21 +7,16 @@ use Rattle.rq_judged.specs.Views.{why_of}
 use Rattle.rq_restart.proofs.Walks.{framed}
 use Rattle.rq_restart.proofs.audits.checkpoints_of.Goals as goal
 
-pub checkpoints_among-requires : goal.checkpoints_among-requires
-checkpoints_among-requires g c =
+pub checkpoints_among-requires-clause-framed : goal.checkpoints_among-requires-clause-framed
+checkpoints_among-requires-clause-framed g c κs within =
     let (offset, chain) = c.requires.chain in
-    let front = c.in_ok-front.front in
-    record {
-      framed = (
-        offset,
-        framed (version_of c.args.begun.now.version) c.args.begun.now.state c.args.bytes.now offset
-            c.args.begun.now.found
-            (map record_of front.records.items) front.end
-            (why_of front.why) c.deref.result.now c.deref-2.result.now chain
-            (c.in_ok-front.ensures.front offset chain) c.in_ok-front.ensures.bodies
-            (ap (map record_of) (c.deref.ensures.value ∙ c.records_alone-records.ensures)) c.deref-2.ensures.value,
-      );
-    }
+    let front = c.in_ok-front.front in (
+      offset,
+      framed (version_of c.args.begun.now.version) c.args.begun.now.state c.args.bytes.now offset
+          c.args.begun.now.found (map record_of front.records.items) front.end (why_of front.why) c.deref.result.now
+          c.deref-2.result.now chain (c.in_ok-front.ensures.front offset chain) c.in_ok-front.ensures.bodies
+          (ap (map record_of) (c.deref.ensures.value ∙ c.records_alone-records.ensures)) c.deref-2.ensures.value,
+    )
 
 pub returns-clause-found : goal.returns-clause-found
 returns-clause-found g c =

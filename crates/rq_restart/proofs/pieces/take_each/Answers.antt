@@ -1,7 +1,5 @@
-use Rattle.std.proofs.Common.{◌∙◌, length, map, not, refl, sym, ap, arith}
-use Rattle.rq_model.specs.Machine.{run}
-use Rattle.rq_record.specs.Views.{record_of}
-use Rattle.rq_restart.proofs.TakenPieces.{TakesOne, all_taken, ends_there, one_further}
+use Rattle.std.proofs.Common.{refl, arith}
+use Rattle.rq_restart.proofs.TakenPieces.{all_taken, ends_there, one_further}
 use Rattle.rq_restart.proofs.pieces.take_each.Goals as goal
 
 pub loop-place-init : goal.loop-place-init

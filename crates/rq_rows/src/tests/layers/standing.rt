@@ -280,16 +280,21 @@ fn knows_its_numbers(alloc: Global, cases: &[Case]) -> Result<bool, Fail> {
     }
     let state = standing.state(alloc)?;
     let bytes = spelled(alloc, &state)?;
-    Ok(matches!(standing.version(), Version::Two)
-        && standing.next() == state.next()
-        && standing.fits(bytes.len())
-        && !standing.fits(51))
+    Ok(
+        matches!(standing.version(), Version::Two)
+            && standing.next() == state.next()
+            && standing.fits(bytes.len())
+            && !standing.fits(51),
+    )
 }
 
 #[test]
 fn it_knows_its_numbers(rt: HostRuntime) -> Result<(), Fail> {
     for count in 0..=CASES.len() {
-        assert!(rt; knows_its_numbers(rt.alloc(), &CASES[..count])?, "after {count} records");
+        assert!(rt;
+            knows_its_numbers(rt.alloc(), &CASES[..count])?,
+            "after {count} records"
+        );
     }
     Ok(())
 }

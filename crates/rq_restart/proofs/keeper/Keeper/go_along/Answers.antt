@@ -17,9 +17,12 @@ use Rattle.rq_restart.proofs.keeper.Keeper.go_along.Goals as goal
 pub take_each-requires : goal.take_each-requires
 take_each-requires c =
     let v = version_of c.self.inside.version in
-    let t = run c.self.inside.base.value (map record_of c.self.inside.taken) in
-    (v, t, c.in_ok-ahead.ensures.stands t c.self.invariant.0 (is_second v t c.self.inside.second c.take-second.result
-    c.take-second.ensures.value c.self.invariant.1))
+    let t = run c.self.inside.base.value (map record_of c.self.inside.taken) in (
+      v,
+      t,
+      c.in_ok-ahead.ensures.stands t c.self.invariant.0 (is_second v t c.self.inside.second c.take-second.result
+          c.take-second.ensures.value c.self.invariant.1),
+    )
 
 pub slice_bounds-taken-end : goal.slice_bounds-taken-end
 slice_bounds-taken-end c =
