@@ -19,8 +19,8 @@ returns-in-None-clause-checked g c =
     let end = c.in_ok-end.ensures.end in
     let reason = string_bytes c.in_ok-end.end.reason in
     let behind = c.in_ok-behind.behind in
-    let found = c.in_ok-found.found in
-    let h = c.in_ok-found.ensures.audited in
+    let found = c.in_ok-found-in-None.found in
+    let h = c.in_ok-found-in-None.ensures.audited in
     subst (λ (at : Option ℕ). IsFindings at b found.fine (string_bytes found.text)) (sym c.in-None.is) (
       end.0,
       h.0,
@@ -33,22 +33,22 @@ returns-in-None-clause-checked g c =
       h.3 ∙ (λ i. findings_text (end.2.records i) (end.2.used i) (end.2.total i) (end.2.why i) reason behind h.0),
     )
 
-pub returns-in-Some-clause-checked : goal.returns-in-Some-clause-checked
-returns-in-Some-clause-checked g c =
+pub returns-clause-checked : goal.returns-clause-checked
+returns-clause-checked g c =
     let b = c.args.log.now.bytes.now in
     let end = c.in_ok-end.ensures.end in
     let e = c.in_ok-end.end in
     let reason = string_bytes e.reason in
     let behind = c.in_ok-behind.behind in
     let rest = behind_finding (why_of e.why) behind e.total in
-    subst (λ (at : Option ℕ). IsFindings at b false (string_bytes c.in_ok-text.text)) (sym c.in-Some.is) (
+    subst (λ (at : Option ℕ). IsFindings at b false (string_bytes c.in_ok-text-in-Some.text)) (sym c.in-Some.is) (
       end.0,
       behind,
       reason,
       subst (λ (at : Option ℕ). IsRestartFrom at b end.0) c.in-Some.is end.1,
       subst (λ (used : ℕ). IsBehind b used behind) end.2.used c.in_ok-behind.ensures.found,
       refl,
-      c.in_ok-text.ensures
+      c.in_ok-text-in-Some.ensures
           ∙ ap (λ (t : List ℕ). codes "carried: use rqlog\n" ++ t ++ rest) (same_line end.0 e reason end.2)
           ∙ ap (λ (t : List ℕ). codes "carried: use rqlog\n" ++ end_line end.0 reason ++ t)
           (same_rest end.0 e behind end.2),
