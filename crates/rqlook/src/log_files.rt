@@ -22,9 +22,14 @@ pub(crate) struct PlannedLog<'a> {
     pub(crate) plan: Plan,
 }
 
-fn read_to_limit<R: Read + Drop, A: AllocGlobal>(rt: &A, from: R) -> io::Result<Vec<u8>> {
+fn read_to_limit<R, S>(rt: &R, from: S, watch: Watch) -> io::Result<Vec<u8>>
+where
+    R: Eprint + Clock + AllocGlobal,
+    S: Read + Drop,
+{
     let mut bytes = Vec::new(rt.alloc());
-    from.take(LIMIT).read_to_end(&mut bytes)?;
+    let watched = Watched::new(rt, from, watch, "read");
+    watched.take(LIMIT).read_to_end(&mut bytes)?;
     Ok(bytes)
 }
 
@@ -33,9 +38,9 @@ where
     R: Files + Input + Eprint + Clock + AllocGlobal,
 {
     if file == "-" {
-        read_to_limit(rt, Watched::new(rt, rt.reader(), watch, "read"))
+        read_to_limit(rt, rt.reader(), watch)
     } else {
-        read_to_limit(rt, Watched::new(rt, fs::open(rt, file)?, watch, "read"))
+        read_to_limit(rt, fs::open(rt, file)?, watch)
     }
 }
 
@@ -58,6 +63,11 @@ where
     }
 }
 
+/// What a log is called that has this file.
+pub(crate) fn shown_name(file: &str) -> &str {
+    if file == "-" { "standard input" } else { file }
+}
+
 /// Whether what is written to the second name would be written over the log of the first: both are
 /// of one file. Standard input may be a file, too; standard output is none that is written over.
 pub(crate) fn is_over_log<R: Files>(rt: &R, file: &str, to: &str) -> bool {
@@ -65,7 +75,7 @@ pub(crate) fn is_over_log<R: Files>(rt: &R, file: &str, to: &str) -> bool {
         return false;
     }
     let log = if file == "-" { "/dev/stdin" } else { file };
-    match (fs::metadata(rt, log), fs::metadata(rt, to)) {
+    match (&fs::metadata(rt, log), &fs::metadata(rt, to)) {
         (Ok(one), Ok(other)) => one.is_file()
             && one.dev() == other.dev()
             && one.ino() == other.ino(),
