@@ -8,7 +8,6 @@ use crate::progress::{Watch, Watched};
 use crate::words::{columns_asked, records_asked, subject_asked};
 use clap::ArgMatches;
 use rq_found::{Plan, Trouble, begins_at};
-use rq_look::Findings;
 use std::io::{self, ErrorKind, Write};
 use std::os::fd::AsFd;
 use std::rt::{Clock, Files};
@@ -27,7 +26,7 @@ fn plan_of(words: &ArgMatches<'_>) -> Option<Plan> {
     Plan::new(words.get_one::<u32>("workers")?, GRAIN)
 }
 
-// Prints a text of a check. What it tells was found before, and stands also if nobody reads on.
+// Prints what a check found. It was found before it is written, also if nobody reads on.
 fn print_found<W: Write>(text: &str, output: &mut W) -> Result<(), Trouble> {
     match output.write_all(text.as_bytes()) {
         Ok(()) => Ok(()),
@@ -36,18 +35,7 @@ fn print_found<W: Write>(text: &str, output: &mut W) -> Result<(), Trouble> {
     }
 }
 
-// Prints what a check found, unless it is to say nothing. Answers whether it found nothing.
-fn tell_found<W: Write>(
-    found: &Findings,
-    words: &ArgMatches<'_>,
-    output: &mut W,
-) -> Result<bool, Trouble> {
-    if !words.get_flag("quiet") {
-        print_found(found.text.as_str(), output)?;
-    }
-    Ok(found.fine)
-}
-
+// Prints what a check finds, unless it is to say nothing. Answers whether it finds nothing.
 fn check<R, W>(
     rt: &R,
     log: PlannedLog<'_>,
@@ -59,51 +47,10 @@ where
     W: Write,
 {
     let found = rq_look::check(rt, rt.alloc(), log.bytes, log.at, &log.plan)?;
-    tell_found(&found, words, output)
-}
-
-fn dump<R, W>(
-    rt: &R,
-    log: PlannedLog<'_>,
-    words: &ArgMatches<'_>,
-    output: &mut W,
-) -> Result<(), Trouble>
-where
-    R: AllocGlobal + Threads + Sync,
-    W: Write,
-{
-    let wanted = records_asked(words);
-    rq_look::dump(
-        rt,
-        rt.alloc(),
-        log.bytes,
-        log.at,
-        &log.plan,
-        &wanted,
-        output,
-    )
-}
-
-fn story<R, W>(
-    rt: &R,
-    log: PlannedLog<'_>,
-    words: &ArgMatches<'_>,
-    output: &mut W,
-) -> Result<(), Trouble>
-where
-    R: AllocGlobal + Threads + Sync,
-    W: Write,
-{
-    let subject = subject_asked(words);
-    rq_look::story(
-        rt,
-        rt.alloc(),
-        log.bytes,
-        log.at,
-        &log.plan,
-        subject,
-        output,
-    )
+    if !words.get_flag("quiet") {
+        print_found(found.text.as_str(), output)?;
+    }
+    Ok(found.fine)
 }
 
 fn report<R, W>(
@@ -133,15 +80,6 @@ fn tell_time<R: Eprint + Clock>(rt: &R, bytes: &[u8], begun: Option<Instant>) {
     let _ = eprintln!(rt; "rqlook: {each} microseconds for a megabyte");
 }
 
-// When the work begins, if the words ask how long it takes and there is a clock.
-fn begun<R: Clock>(rt: &R, words: &ArgMatches<'_>) -> Option<Instant> {
-    if words.get_flag("time") {
-        Instant::now(rt).ok()
-    } else {
-        None
-    }
-}
-
 fn stats<R, W>(
     rt: &R,
     log: PlannedLog<'_>,
@@ -152,7 +90,11 @@ where
     R: Eprint + Clock + AllocGlobal + Threads + Sync,
     W: Write,
 {
-    let begun = begun(rt, words);
+    let begun = if words.get_flag("time") {
+        Instant::now(rt).ok()
+    } else {
+        None
+    };
     let json = words.get_flag("json");
     rq_stats::stats(rt, rt.alloc(), log.bytes, log.at, &log.plan, json, output)?;
     tell_time(rt, log.bytes, begun);
@@ -171,11 +113,33 @@ where
     R: Eprint + Clock + AllocGlobal + Threads + Sync,
     W: Write,
 {
+    let PlannedLog {
+        bytes,
+        at,
+        plan,
+        ..
+    } = log;
     match name {
-        "dump" => dump(rt, log, words, output),
+        "dump" => rq_look::dump(
+            rt,
+            rt.alloc(),
+            bytes,
+            at,
+            &plan,
+            &records_asked(words),
+            output,
+        ),
         "report" => report(rt, log, words, output),
         "stats" => stats(rt, log, words, output),
-        _ => story(rt, log, words, output),
+        _ => rq_look::story(
+            rt,
+            rt.alloc(),
+            bytes,
+            at,
+            &plan,
+            subject_asked(words),
+            output,
+        ),
     }
 }
 
@@ -256,30 +220,6 @@ where
     }
 }
 
-// Does the command of this name on the log that the words name.
-fn act_on_file<R>(
-    rt: &R,
-    name: &str,
-    plan: Plan,
-    words: &ArgMatches<'_>,
-    watch: Watch,
-) -> Result<bool, Failure>
-where
-    R: Files + Input + Print + Eprint + Clock + AllocGlobal + Threads + Sync,
-    R::File: AsFd,
-{
-    let file = words.get_str("LOG").unwrap_or("-");
-    let bytes = read_log_file(rt, file, watch)?;
-    watch.begins(rt, &bytes);
-    let log = PlannedLog {
-        file,
-        bytes: &bytes,
-        at: begins_at(&bytes),
-        plan,
-    };
-    act_on(rt, name, log, words, watch)
-}
-
 /// Does the command of the words on its log. False answers that something is wrong with the log.
 pub(crate) fn act<R>(rt: &R, matches: &ArgMatches<'_>, watch: Watch) -> Result<bool, Failure>
 where
@@ -292,5 +232,14 @@ where
     let Some(plan) = plan_of(words) else {
         return Err(Failure::Workers);
     };
-    act_on_file(rt, name, plan, words, watch)
+    let file = words.get_str("LOG").unwrap_or("-");
+    let bytes = read_log_file(rt, file, watch)?;
+    watch.begins(rt, &bytes);
+    let log = PlannedLog {
+        file,
+        bytes: &bytes,
+        at: begins_at(&bytes),
+        plan,
+    };
+    act_on(rt, name, log, words, watch)
 }

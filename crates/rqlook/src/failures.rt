@@ -108,9 +108,9 @@ fn answer_words(rt: &HostRuntime, error: &clap::Error) -> u8 {
         let _ = eprint!(rt; "{error}");
         return USAGE;
     }
-    match &print!(rt; "{error}") {
+    match print!(rt; "{error}") {
         Ok(()) => 0,
-        Err(error) => output_failed(rt, error),
+        Err(error) => output_failed(rt, &error),
     }
 }
 
@@ -145,7 +145,8 @@ fn tell_file(rt: &HostRuntime, file: &str, trouble: &FileTrouble) -> u8 {
 }
 
 impl Failure {
-    /// Says on standard error why the program ends, and answers its exit status.
+    /// Prints what was asked for of the words, or says on standard error why the program ends, and
+    /// answers its exit status.
     pub(crate) fn tell(&self, rt: &HostRuntime) -> u8 {
         match self {
             Failure::Words(error) => answer_words(rt, error),

@@ -22,14 +22,9 @@ pub(crate) struct PlannedLog<'a> {
     pub(crate) plan: Plan,
 }
 
-fn read_to_limit<R, S>(rt: &R, from: S, watch: Watch) -> io::Result<Vec<u8>>
-where
-    R: Eprint + Clock + AllocGlobal,
-    S: Read + Drop,
-{
+fn read_to_limit<R: Read + Drop, A: AllocGlobal>(rt: &A, from: R) -> io::Result<Vec<u8>> {
     let mut bytes = Vec::new(rt.alloc());
-    let watched = Watched::new(rt, from, watch, "read");
-    watched.take(LIMIT).read_to_end(&mut bytes)?;
+    from.take(LIMIT).read_to_end(&mut bytes)?;
     Ok(bytes)
 }
 
@@ -38,9 +33,9 @@ where
     R: Files + Input + Eprint + Clock + AllocGlobal,
 {
     if file == "-" {
-        read_to_limit(rt, rt.reader(), watch)
+        read_to_limit(rt, Watched::new(rt, rt.reader(), watch, "read"))
     } else {
-        read_to_limit(rt, fs::open(rt, file)?, watch)
+        read_to_limit(rt, Watched::new(rt, fs::open(rt, file)?, watch, "read"))
     }
 }
 
@@ -75,7 +70,7 @@ pub(crate) fn is_over_log<R: Files>(rt: &R, file: &str, to: &str) -> bool {
         return false;
     }
     let log = if file == "-" { "/dev/stdin" } else { file };
-    match (&fs::metadata(rt, log), &fs::metadata(rt, to)) {
+    match (fs::metadata(rt, log), fs::metadata(rt, to)) {
         (Ok(one), Ok(other)) => one.is_file()
             && one.dev() == other.dev()
             && one.ino() == other.ino(),

@@ -7,32 +7,10 @@ use clap::ArgMatches;
 use rq_file::VERSION;
 use rq_found::{Fault, Trouble};
 use rq_page::Asked;
-use std::io::{self, ErrorKind};
+use std::io::ErrorKind;
 use std::os::fd::AsFd;
 use std::rt::Files;
 use std::thread::Threads;
-
-// Puts the page that the words ask for of a log, with the stories of these elements, into memory.
-fn put_page_with<R>(
-    rt: &R,
-    log: PlannedLog<'_>,
-    words: &ArgMatches<'_>,
-    elements: &[u64],
-    made: &mut Vec<u8>,
-) -> Result<(), Trouble>
-where
-    R: AllocGlobal + Threads + Sync,
-{
-    let units = numbers_asked(rt.alloc(), words, "unit")?;
-    let asked = Asked {
-        name: shown_name(log.file),
-        version: VERSION,
-        order: order_asked(words),
-        elements,
-        units: units.as_slice(),
-    };
-    rq_page::page(rt, rt.alloc(), log.bytes, log.at, &log.plan, &asked, made)
-}
 
 // Puts the page that the words ask for of a log into memory.
 fn put_page<R>(
@@ -45,7 +23,15 @@ where
     R: AllocGlobal + Threads + Sync,
 {
     let elements = numbers_asked(rt.alloc(), words, "element")?;
-    put_page_with(rt, log, words, &elements, made)
+    let units = numbers_asked(rt.alloc(), words, "unit")?;
+    let asked = Asked {
+        name: shown_name(log.file),
+        version: VERSION,
+        order: order_asked(words),
+        elements: elements.as_slice(),
+        units: units.as_slice(),
+    };
+    rq_page::page(rt, rt.alloc(), log.bytes, log.at, &log.plan, &asked, made)
 }
 
 // Puts the page of a log, or its script with what stands behind its front, into memory.
@@ -70,14 +56,6 @@ where
     }
 }
 
-// Why what was made is not in the file of this name.
-fn unmade<R: AllocGlobal>(rt: &R, to: &str, error: io::Error) -> Failure {
-    if error.kind() == ErrorKind::OutOfMemory {
-        return Failure::Memory;
-    }
-    of_file(rt, to, FileTrouble::Stream(error))
-}
-
 // Writes what was made to the file of this name, or to standard output for `-`.
 fn write_made<R>(rt: &R, to: &str, made: &[u8]) -> Result<bool, Failure>
 where
@@ -90,7 +68,8 @@ where
     }
     match rq_file::put_file(rt, to, made) {
         Ok(()) => Ok(true),
-        Err(error) => Err(unmade(rt, to, error)),
+        Err(error) if error.kind() == ErrorKind::OutOfMemory => Err(Failure::Memory),
+        Err(error) => Err(of_file(rt, to, FileTrouble::Stream(error))),
     }
 }
 

@@ -62,10 +62,19 @@ fn command_of<'a>(alloc: Global, text: &Subcommand) -> Result<Command<'a>, Alloc
         .args(arguments)
 }
 
+fn add_command<'a>(
+    alloc: Global,
+    text: &Subcommand,
+    commands: &mut Vec<Command<'a>>,
+) -> Result<(), AllocError> {
+    commands.push(command_of(alloc, text)?)?;
+    Ok(())
+}
+
 fn commands<'a>(alloc: Global) -> Result<Vec<Command<'a>>, AllocError> {
     let mut commands = Vec::new(alloc);
     for text in COMMANDS.as_slice() {
-        commands.push(command_of(alloc, text)?)?;
+        add_command(alloc, text, &mut commands)?;
     }
     Ok(commands)
 }
