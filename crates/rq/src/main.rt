@@ -17,7 +17,7 @@ use std::{env, io};
 const USAGE: u8 = 2;
 
 // Why the program ends before it is done.
-#[derive(Clone, Copy, Debug, PartialEq, Eq)]
+#[derive(Clone, Copy)]
 enum Stop {
     Usage,
     By(Fault),

@@ -3,11 +3,11 @@
 use crate::fronts::{OpenLog, front_of, opened_front, redone_behind};
 use crate::refusal::Refusal;
 use rq_journal::{NotTaken, Plan, checkpoint_of};
-use rq_record::{Record, kept_records};
+use rq_record::{Fault, Record, kept_records};
 use rq_restart::{RedoneFront, go_on};
 use rq_standing::Standing;
 use rq_state::State;
-use std::alloc::{AllocError, Global};
+use std::alloc::Global;
 use std::thread::Threads;
 
 /// A checkpoint that is to stand behind a log.
@@ -29,7 +29,7 @@ fn refused(why: NotTaken) -> Refusal {
 }
 
 // The ABORT of each open unit of a state, rising.
-fn aborts_of(alloc: Global, state: &State) -> Result<Vec<Record>, AllocError> {
+fn aborts_of(alloc: Global, state: &State) -> Result<Vec<Record>, Fault> {
     let mut aborts = Vec::with_capacity(alloc, state.units().len())?;
     for unit in state.units() {
         aborts.push(Record::Abort { unit: *unit })?;
@@ -133,9 +133,9 @@ fn aborts_behind<R: Threads + Sync>(
     alloc: Global,
     bytes: &[u8],
     plan: &Plan,
-) -> Result<Vec<Record>, Refusal> {
+) -> Result<Vec<Record>, Fault> {
     let front = redone_behind(rt, alloc, bytes, plan)?;
-    Ok(aborts_of(alloc, &front.state)?)
+    aborts_of(alloc, &front.state)
 }
 
 /// Makes of a log that was carried on the closed one.

@@ -1,7 +1,7 @@
 //! What the program does for each of its commands.
 
 use crate::checkpoints::{Marked, close_carried, mark};
-use crate::files::{HeldLog, put_whole};
+use crate::files::{HeldLog, Hold, put_whole};
 use crate::fronts::{OpenLog, front_in, opened_front};
 use crate::inputs::{begun_log, log_from, log_in, opened, rest_of_log, script_in};
 use crate::lines::{Written, frames_of};
@@ -38,16 +38,19 @@ fn told(done: io::Result<()>) -> Result<(), Refusal> {
     }
 }
 
-// Writes the frames of a script behind a log, and tells so.
+// Writes the frames of a script behind a log, if they are kept, and tells so.
 fn write_script<R: Files<File = File> + Print>(
     rt: &R,
     held: &mut HeldLog,
-    read: usize,
-    used: usize,
+    log: &OpenLog,
     made: &Written,
     json: bool,
 ) -> Result<(), Refusal> {
-    held.append(rt, read, used, &made.frames)?;
+    if !made.is_kept() {
+        return Ok(());
+    }
+    let used = log.opened.used;
+    held.append(rt, log.read, used, &made.frames)?;
     let len = used.saturating_add(made.frames.len()) as u64;
     told(tell_appended(rt, json, made.count, used as u64, len))
 }
@@ -57,7 +60,6 @@ fn write_script<R: Files<File = File> + Print>(
 fn append_script<R>(
     rt: &R,
     held: &mut HeldLog,
-    read: usize,
     log: &mut OpenLog,
     script: &[u8],
     words: &ArgMatches<'_>,
@@ -65,11 +67,8 @@ fn append_script<R>(
 where
     R: Files<File = File> + Print + AllocGlobal,
 {
-    let used = log.opened.used;
     let made = frames_of(rt.alloc(), log, script, words.get_flag("each"))?;
-    if made.is_kept() {
-        write_script(rt, held, read, used, &made, words.get_flag("json"))?;
-    }
+    write_script(rt, held, log, &made, words.get_flag("json"))?;
     made.lines_refused()
 }
 
@@ -84,8 +83,8 @@ fn append_behind<R>(
 where
     R: Files<File = File> + Print + AllocGlobal + Threads + Sync,
 {
-    let (mut log, read) = front_in(rt, held.file(), plan)?;
-    append_script(rt, held, read, &mut log, script, words)
+    let mut log = front_in(rt, held.file(), plan)?;
+    append_script(rt, held, &mut log, script, words)
 }
 
 fn append<R>(rt: &R, path: &str, plan: &Plan, words: &ArgMatches<'_>) -> Result<(), Refusal>
@@ -93,7 +92,7 @@ where
     R: Files<File = File> + Input + Print + AllocGlobal + Threads + Sync,
 {
     let script = script_in(rt, words.get_str("SCRIPT").unwrap_or("-"))?;
-    let mut held = HeldLog::to_write(rt, path)?;
+    let mut held = HeldLog::open(rt, path, Hold::ToWrite)?;
     append_behind(rt, &mut held, plan, &script, words)
 }
 
@@ -129,7 +128,7 @@ fn checkpoint<R>(rt: &R, path: &str, plan: &Plan, words: &ArgMatches<'_>) -> Res
 where
     R: Files<File = File> + Print + AllocGlobal + Threads + Sync,
 {
-    let mut held = HeldLog::to_write(rt, path)?;
+    let mut held = HeldLog::open(rt, path, Hold::ToWrite)?;
     mark_log(rt, &mut held, plan, words)
 }
 
@@ -139,10 +138,7 @@ where
     R: AllocGlobal + Threads + Sync,
 {
     let log = opened_front(rt, rt.alloc(), bytes, plan)?;
-    if log.is_at_end() {
-        return Err(Refusal::Ended);
-    }
-    Ok(log.next)
+    log.next_carried()
 }
 
 // A log that goes on from this one.
@@ -183,7 +179,7 @@ where
 {
     let new = words.get_str("NEW").unwrap_or("-");
     expect_free(rt, new)?;
-    let mut held = HeldLog::to_read(rt, path)?;
+    let mut held = HeldLog::open(rt, path, Hold::ToRead)?;
     let bytes = rest_of_log(rt, held.file())?;
     carry_bytes(rt, &bytes, plan, new, words.get_flag("json"))
 }
@@ -224,7 +220,7 @@ fn restart<R>(rt: &R, path: &str, plan: &Plan) -> Result<(), Refusal>
 where
     R: Files<File = File> + Print + Clock + AllocGlobal + Threads + Sync,
 {
-    let (is_carried, from) = begun_log(rt, opened(rt, path)?)?;
+    let (is_carried, from) = begun_log(rt, opened(rt, path, Stream::Log)?)?;
     let shown = if is_carried {
         Shown::CarriedReport
     } else {
@@ -260,7 +256,7 @@ fn close_in_place<R>(rt: &R, path: &str, plan: &Plan) -> Result<(), Refusal>
 where
     R: Files<File = File> + AllocGlobal + Threads + Sync,
 {
-    let mut held = HeldLog::to_replace(rt, path)?;
+    let mut held = HeldLog::open(rt, path, Hold::ToReplace)?;
     let bytes = rest_of_log(rt, held.file())?;
     let read = bytes.len();
     let made = closed_of(rt, bytes, plan)?;
@@ -303,7 +299,7 @@ fn audit<R>(rt: &R, path: &str, plan: &Plan) -> Result<(), Refusal>
 where
     R: Files<File = File> + Print + Clock + AllocGlobal + Threads + Sync,
 {
-    let (is_carried, from) = begun_log(rt, opened(rt, path)?)?;
+    let (is_carried, from) = begun_log(rt, opened(rt, path, Stream::Log)?)?;
     if is_carried {
         return tell_audit(rt, from, plan);
     }

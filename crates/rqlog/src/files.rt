@@ -11,20 +11,22 @@ pub(crate) struct HeldLog {
     place: NamedFile<File>,
 }
 
-// How a log is held.
+/// For what the file of a log is held.
 #[derive(Clone, Copy)]
-enum Hold {
-    // Nobody else has it.
-    Alone,
-    // Nobody writes it.
-    Unwritten,
+pub(crate) enum Hold {
+    /// To read it while no other program writes it.
+    ToRead,
+    /// To put another into its place.
+    ToReplace,
+    /// To read it and to write it.
+    ToWrite,
 }
 
 // Takes the lock of a log's writers, or of its readers.
 fn lock(file: &File, hold: Hold) -> Result<(), Refusal> {
     let locked = match hold {
-        Hold::Alone => file.try_lock(),
-        Hold::Unwritten => file.try_lock_shared(),
+        Hold::ToRead => file.try_lock_shared(),
+        Hold::ToReplace | Hold::ToWrite => file.try_lock(),
     };
     match locked {
         Ok(()) => Ok(()),
@@ -34,53 +36,40 @@ fn lock(file: &File, hold: Hold) -> Result<(), Refusal> {
 }
 
 impl HeldLog {
-    // Opens the file of a log. Once it has the lock, the file must still have its name: else another
-    // program put its own there while this one came.
-    fn open<R>(rt: &R, path: &str, writes: bool, hold: Hold) -> Result<HeldLog, Refusal>
+    // Opens the file of a log, which anybody may still write.
+    fn found<R>(rt: &R, path: &str, writes: bool) -> Result<HeldLog, Refusal>
     where
         R: Files<File = File> + AllocGlobal,
     {
         let mut options = OpenOptions::new();
         options.read(true).write(writes);
         match NamedFile::open(rt, path, &options) {
-            Ok(place) => HeldLog::held(rt, place, hold),
+            Ok(place) => Ok(HeldLog { place }),
             Err(error) => Err(failed(Stream::Log, error)),
         }
     }
 
-    fn held<R>(rt: &R, place: NamedFile<File>, hold: Hold) -> Result<HeldLog, Refusal>
+    // Takes the lock. The file must still have its name then: else another program put its own
+    // there while this one came.
+    fn hold<R>(&self, rt: &R, hold: Hold) -> Result<(), Refusal>
     where
         R: Files<File = File>,
     {
-        lock(place.file(), hold)?;
-        if !place.is_there(rt) {
+        lock(self.place.file(), hold)?;
+        if !self.place.is_there(rt) {
             return Err(Refusal::Changed);
         }
-        Ok(HeldLog { place })
+        Ok(())
     }
 
-    /// Opens the file of a log to read it while no other program writes it.
-    pub(crate) fn to_read<R>(rt: &R, path: &str) -> Result<HeldLog, Refusal>
+    /// Opens the file of a log and holds it.
+    pub(crate) fn open<R>(rt: &R, path: &str, hold: Hold) -> Result<HeldLog, Refusal>
     where
         R: Files<File = File> + AllocGlobal,
     {
-        HeldLog::open(rt, path, false, Hold::Unwritten)
-    }
-
-    /// Opens the file of a log that another is to replace.
-    pub(crate) fn to_replace<R>(rt: &R, path: &str) -> Result<HeldLog, Refusal>
-    where
-        R: Files<File = File> + AllocGlobal,
-    {
-        HeldLog::open(rt, path, false, Hold::Alone)
-    }
-
-    /// Opens the file of a log to read it and to write it.
-    pub(crate) fn to_write<R>(rt: &R, path: &str) -> Result<HeldLog, Refusal>
-    where
-        R: Files<File = File> + AllocGlobal,
-    {
-        HeldLog::open(rt, path, true, Hold::Alone)
+        let log = HeldLog::found(rt, path, matches!(hold, Hold::ToWrite))?;
+        log.hold(rt, hold)?;
+        Ok(log)
     }
 
     /// The file.

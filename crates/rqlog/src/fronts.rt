@@ -1,11 +1,12 @@
 //! Where the front of a log ends, plain or carried on.
 
-use crate::inputs::{begins_carried, judged_log, rest_of_log};
+use crate::inputs::{begins_carried, feed_file, rest_of_log};
 use crate::refusal::Refusal;
 use byteorder::{BigEndian, ByteOrder};
 use rq_journal::{
     CARRIED_AT, Fault, Opened, Plan, Why, is_carried, open, open_carried, opened_behind,
 };
+use rq_judged::GrowingFront;
 use rq_record::Version;
 use rq_restart::{RedoneFront, redone_front, redone_front_at};
 use std::alloc::Global;
@@ -20,6 +21,8 @@ const NUMBERS: u64 = 4_294_967_295;
 pub(crate) struct OpenLog {
     /// Its file, opened.
     pub(crate) opened: Opened,
+    /// So many bytes of the log were read: all that it had.
+    pub(crate) read: usize,
     /// The number of the next record, over all files of the log.
     pub(crate) next: u64,
 }
@@ -39,6 +42,14 @@ impl OpenLog {
     pub(crate) fn is_at_end(&self) -> bool {
         !self.has_numbers(1)
     }
+
+    /// How many records stand before a log that goes on from this one.
+    pub(crate) fn next_carried(&self) -> Result<u64, Refusal> {
+        if self.is_at_end() {
+            return Err(Refusal::Ended);
+        }
+        Ok(self.next)
+    }
 }
 
 // How many records were numbered before the first frame of a log that was carried on: the spelling of
@@ -51,10 +62,10 @@ fn numbered_before(bytes: &[u8]) -> u64 {
     BigEndian::read_u64(&bytes[at..])
 }
 
-// Where a log was opened, before whose first frame so many records were numbered.
-fn open_at(opened: Opened, before: u64) -> OpenLog {
+// Where a log of so many bytes was opened, before whose first frame so many records were numbered.
+fn open_at(opened: Opened, read: usize, before: u64) -> OpenLog {
     let next = before.saturating_add(opened.records as u64);
-    OpenLog { opened, next }
+    OpenLog { opened, read, next }
 }
 
 /// Where the front of a log ends.
@@ -66,9 +77,9 @@ pub(crate) fn front_of<R: Threads + Sync>(
 ) -> Result<OpenLog, Fault> {
     if is_carried(bytes) {
         let opened = open_carried(rt, alloc, bytes, plan)?;
-        return Ok(open_at(opened, numbered_before(bytes)));
+        return Ok(open_at(opened, bytes.len(), numbered_before(bytes)));
     }
-    Ok(open_at(open(rt, alloc, bytes, plan)?, 0))
+    Ok(open_at(open(rt, alloc, bytes, plan)?, bytes.len(), 0))
 }
 
 // Refuses a front behind which bytes stand that are no beginning of a frame: they hide records, or
@@ -90,20 +101,36 @@ pub(crate) fn opened_front<R: Threads + Sync>(
     undamaged(front_of(rt, alloc, bytes, plan)?)
 }
 
-/// Where the front of the log in an open file ends, behind which records may follow, and how many
-/// bytes the file has. Of a plain log no more is held than a window.
-pub(crate) fn front_in<R>(rt: &R, file: &mut File, plan: &Plan) -> Result<(OpenLog, usize), Refusal>
+// Where the front of the log in an open file ends, behind which records may follow. All of it is held.
+fn held_front_in<R>(rt: &R, file: &mut File, plan: &Plan) -> Result<OpenLog, Refusal>
+where
+    R: AllocGlobal + Threads + Sync,
+{
+    let bytes = rest_of_log(rt, file)?;
+    opened_front(rt, rt.alloc(), &bytes, plan)
+}
+
+// Where the front of the plain log in an open file ends, of which no more is held than a window.
+fn grown_front_in<R>(rt: &R, file: &mut File, plan: &Plan) -> Result<OpenLog, Refusal>
+where
+    R: AllocGlobal + Threads + Sync,
+{
+    let mut front = GrowingFront::new(rt.alloc());
+    let read = feed_file(rt, file, &mut front, plan)?;
+    let judged = front.judged(rt, rt.alloc(), plan)?;
+    Ok(open_at(opened_behind(judged), read, 0))
+}
+
+/// Where the front of the log in an open file ends, behind which records may follow.
+pub(crate) fn front_in<R>(rt: &R, file: &mut File, plan: &Plan) -> Result<OpenLog, Refusal>
 where
     R: AllocGlobal + Threads + Sync,
 {
     if begins_carried(file) {
-        let bytes = rest_of_log(rt, file)?;
-        let log = opened_front(rt, rt.alloc(), &bytes, plan)?;
-        return Ok((log, bytes.len()));
+        held_front_in(rt, file, plan)
+    } else {
+        undamaged(grown_front_in(rt, file, plan)?)
     }
-    let (front, total) = judged_log(rt, file, plan)?;
-    let log = undamaged(open_at(opened_behind(front), 0))?;
-    Ok((log, total))
 }
 
 /// The state behind the front of a log. Open units stay open.

@@ -5,7 +5,7 @@ ghost use Rattle.rq_judged.specs.GrowingFronts.{GoesAlong};
 
 use crate::refusal::{Refusal, Stream, failed};
 use rq_journal::{Fault, Plan, is_carried};
-use rq_judged::{GrowingFront, JudgedFront};
+use rq_judged::GrowingFront;
 use std::alloc::{AllocError, Global};
 use std::fs::{self, File, Files};
 use std::io::{self, Chain, Cursor, ErrorKind, Read};
@@ -108,34 +108,55 @@ fn room_for_piece(alloc: Global) -> Result<Vec<u8>, AllocError> {
     vec![in alloc; 0u8; PIECE]
 }
 
-/// The front of the log in an open file, read from where that stands, and how many bytes there are.
-/// No more of them is held than a window.
-pub(crate) fn judged_log<R>(
+// Goes along with all that comes, piece by piece, and answers how many bytes these are.
+fn feed_pieces<R>(
     rt: &R,
     file: &mut File,
+    piece: &mut [u8],
+    front: &mut GrowingFront,
     plan: &Plan,
-) -> Result<(JudgedFront, usize), Refusal>
+) -> Result<usize, Refusal>
 where
     R: AllocGlobal + Threads + Sync,
+    requires { (b : List ℕ) × GoesAlong b front.old }
+    ensures { OnOk result ((b : List ℕ) × GoesAlong b front.new) }
 {
-    let alloc = rt.alloc();
-    let mut piece = room_for_piece(alloc)?;
-    let (mut front, mut total) = (GrowingFront::new(alloc), 0usize);
+    let mut total = 0usize;
     for _ in 0..u64::MAX {
-        let count = feed_piece(rt, file, &mut piece, &mut front, plan)?;
+        let count = feed_piece(rt, file, piece, front, plan)?;
         if count == 0 {
             break;
         }
         total = total.saturating_add(count);
     }
-    Ok((front.judged(rt, alloc, plan)?, total))
+    Ok(total)
 }
 
-/// Opens a log to read it.
-pub(crate) fn opened<R: Files<File = File>>(rt: &R, path: &str) -> Result<File, Refusal> {
+/// Goes along with the log in an open file, read from where that stands to its end, and answers how
+/// many bytes these are.
+pub(crate) fn feed_file<R>(
+    rt: &R,
+    file: &mut File,
+    front: &mut GrowingFront,
+    plan: &Plan,
+) -> Result<usize, Refusal>
+where
+    R: AllocGlobal + Threads + Sync,
+    requires { (b : List ℕ) × GoesAlong b front.old }
+    ensures { OnOk result ((b : List ℕ) × GoesAlong b front.new) }
+{
+    let mut piece = room_for_piece(rt.alloc())?;
+    feed_pieces(rt, file, &mut piece, front, plan)
+}
+
+/// Opens a log or a script to read it.
+pub(crate) fn opened<R>(rt: &R, path: &str, stream: Stream) -> Result<File, Refusal>
+where
+    R: Files<File = File>,
+{
     match fs::open(rt, path) {
         Ok(file) => Ok(file),
-        Err(error) => Err(Refusal::Failed(Stream::Log, error)),
+        Err(error) => Err(Refusal::Failed(stream, error)),
     }
 }
 
@@ -144,7 +165,7 @@ pub(crate) fn log_in<R>(rt: &R, path: &str) -> Result<Vec<u8>, Refusal>
 where
     R: Files<File = File> + AllocGlobal,
 {
-    log_from(rt, opened(rt, path)?)
+    log_from(rt, opened(rt, path, Stream::Log)?)
 }
 
 /// The bytes of the script in a file, or of standard input for `-`.
@@ -155,8 +176,6 @@ where
     if path == "-" {
         return within(read_to_limit(rt, rt.reader()), Stream::Script);
     }
-    match fs::open(rt, path) {
-        Ok(file) => within(read_to_limit(rt, file), Stream::Script),
-        Err(error) => Err(Refusal::Failed(Stream::Script, error)),
-    }
+    let file = opened(rt, path, Stream::Script)?;
+    within(read_to_limit(rt, file), Stream::Script)
 }

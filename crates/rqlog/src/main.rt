@@ -45,10 +45,8 @@ fn obey<R>(rt: &R, words: &[String]) -> Result<(), Refusal>
 where
     R: Files<File = File> + Input + Print + Eprint + Clock + AllocGlobal + Threads + Sync,
 {
-    match program(rt.alloc())?.try_get_matches_from(words) {
-        Ok(matches) => act(rt, &matches),
-        Err(error) => asked(rt, error),
-    }
+    let matches = program(rt.alloc())?.try_get_matches_from(words)?;
+    act(rt, &matches)
 }
 
 // Arguments that are no text are no command; if memory ran out nothing is known of them.
@@ -58,13 +56,4 @@ fn unread(error: io::Error) -> Refusal {
     } else {
         Refusal::NoText
     }
-}
-
-// Prints the help or the version that was asked for, or refuses the words.
-fn asked<R: Print>(rt: &R, error: clap::Error) -> Result<(), Refusal> {
-    if error.exit_code() == 0 {
-        print!(rt; "{error}")?;
-        return Ok(());
-    }
-    Err(Refusal::from(error))
 }

@@ -39,7 +39,7 @@ pub(crate) enum Stream {
 /// Why the program ends before it is done.
 #[derive(Drop)]
 pub(crate) enum Refusal {
-    /// The words are no command.
+    /// The words are no command, or ask for the help or the version, which are the error's text.
     Words(clap::Error),
     /// The words are no text.
     NoText,
@@ -106,17 +106,35 @@ pub(crate) fn failed(stream: Stream, error: io::Error) -> Refusal {
 }
 
 impl Stream {
-    // What it is called, and what is left after it failed.
-    fn texts(self) -> (&'static str, &'static str) {
+    // What it is called.
+    fn name(self) -> &'static str {
         match self {
-            Stream::Log => ("LOG", ""),
-            Stream::Script => ("SCRIPT", ""),
-            Stream::New => ("NEW", ""),
-            Stream::Out => ("OUT", ""),
-            Stream::LogAsItWas => ("LOG", ": nothing was appended"),
-            Stream::LogUnknown => ("LOG", ": some records may stand there: rqlook check tells"),
-            Stream::Output => ("standard output", ""),
-            Stream::Telling => ("standard output", ": it is done all the same"),
+            Stream::Log | Stream::LogAsItWas | Stream::LogUnknown => "LOG",
+            Stream::Script => "SCRIPT",
+            Stream::New => "NEW",
+            Stream::Out => "OUT",
+            Stream::Output | Stream::Telling => "standard output",
+        }
+    }
+
+    // What is left after it failed, if that is to be told.
+    fn left(self) -> &'static str {
+        match self {
+            Stream::LogAsItWas => ": nothing was appended",
+            Stream::LogUnknown => ": some records may stand there: rqlook check tells",
+            Stream::Telling => ": it is done all the same",
+            _ => "",
+        }
+    }
+}
+
+// Prints the help or the version that was asked for, and answers the exit status.
+fn show_help(rt: &HostRuntime, help: &clap::Error) -> u8 {
+    match print!(rt; "{help}") {
+        Ok(()) => 0,
+        Err(error) => {
+            let _ = eprintln!(rt; "rqlog: standard output: {error}");
+            STREAM
         }
     }
 }
@@ -168,7 +186,7 @@ impl Refusal {
         match self {
             Refusal::Words(error) => eprint!(rt; "{error}"),
             Refusal::Failed(stream, error) => {
-                let (name, left) = stream.texts();
+                let (name, left) = (stream.name(), stream.left());
                 eprintln!(rt; "rqlog: {name}: {error}{left}")
             }
             Refusal::Damaged(why) => {
@@ -187,9 +205,15 @@ impl Refusal {
         }
     }
 
-    /// Says on standard error why the program ends, and answers its exit status.
+    /// Prints what was asked for of the words, or says on standard error why the program ends, and
+    /// answers its exit status.
     pub(crate) fn tell(&self, rt: &HostRuntime) -> u8 {
-        let _ = self.say(rt);
-        self.exit()
+        match self {
+            Refusal::Words(help) if help.exit_code() == 0 => show_help(rt, help),
+            _ => {
+                let _ = self.say(rt);
+                self.exit()
+            }
+        }
     }
 }

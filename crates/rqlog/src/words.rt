@@ -27,22 +27,11 @@ struct Word {
     help: &'static str,
 }
 
-// Which command.
-#[derive(Clone, Copy)]
-enum Which {
-    Append,
-    Checkpoint,
-    Carry,
-    Restart,
-    Close,
-    Audit,
-}
-
-// A command: its name, what the help says of it, and which it is.
+// A command: its name, what the help says of it, and its words.
 struct CommandText {
     name: &'static str,
     about: &'static str,
-    which: Which,
+    words: &'static [Word],
 }
 
 const LOG: Word = Word {
@@ -69,116 +58,89 @@ const WORKERS_OPTION: Word = Word {
     help: "How many threads work, 1 to 64",
 };
 
-static APPEND: [Word; 5] = [
-    LOG,
-    Word {
-        name: "SCRIPT",
-        form: WordForm::TextOrInput,
-        help: "The file of the script, or - for standard input",
-    },
-    Word {
-        name: "each",
-        form: WordForm::Flag,
-        help: "Appends the records before the first that is not lawful, in place of none",
-    },
-    JSON,
-    WORKERS_OPTION,
-];
-
-static CHECKPOINT: [Word; 4] = [
-    LOG,
-    Word {
-        name: "close",
-        form: WordForm::Flag,
-        help: "Ends each open unit before, by an ABORT",
-    },
-    JSON,
-    WORKERS_OPTION,
-];
-
-static CARRY: [Word; 4] = [
-    LOG,
-    Word {
-        name: "NEW",
-        form: WordForm::Text,
-        help: "The file of the new log, which is not there yet",
-    },
-    JSON,
-    WORKERS_OPTION,
-];
-
-static RESTART: [Word; 3] = [
-    LOG,
-    WORKERS,
-    Word {
-        name: "GRAIN",
-        form: WordForm::Number("1000"),
-        help: "How many frames a worker checks at once, 1 to 1000000",
-    },
-];
-
-static CLOSE: [Word; 3] = [
-    LOG,
-    Word {
-        name: "OUT",
-        form: WordForm::Text,
-        help: "The file of the closed log, which may be LOG",
-    },
-    WORKERS,
-];
-
-static AUDIT: [Word; 2] = [LOG, WORKERS];
-
 static COMMANDS: [CommandText; 6] = [
     CommandText {
         name: "append",
         about: "Appends the records of a script to a log, all of them or none",
-        which: Which::Append,
+        words: &[
+            LOG,
+            Word {
+                name: "SCRIPT",
+                form: WordForm::TextOrInput,
+                help: "The file of the script, or - for standard input",
+            },
+            Word {
+                name: "each",
+                form: WordForm::Flag,
+                help: "Appends the records before the first that is not lawful, in place of none",
+            },
+            JSON,
+            WORKERS_OPTION,
+        ],
     },
     CommandText {
         name: "checkpoint",
         about: "Appends a checkpoint of the state behind a log, and prints its offset",
-        which: Which::Checkpoint,
+        words: &[
+            LOG,
+            Word {
+                name: "close",
+                form: WordForm::Flag,
+                help: "Ends each open unit before, by an ABORT",
+            },
+            JSON,
+            WORKERS_OPTION,
+        ],
     },
     CommandText {
         name: "carry",
         about: "Makes a new log that goes on where a log ends, with its state alone",
-        which: Which::Carry,
+        words: &[
+            LOG,
+            Word {
+                name: "NEW",
+                form: WordForm::Text,
+                help: "The file of the new log, which is not there yet",
+            },
+            JSON,
+            WORKERS_OPTION,
+        ],
     },
     CommandText {
         name: "restart",
         about: "Prints the report of a log's restart, as rq restart does",
-        which: Which::Restart,
+        words: &[
+            LOG,
+            WORKERS,
+            Word {
+                name: "GRAIN",
+                form: WordForm::Number("1000"),
+                help: "How many frames a worker checks at once, 1 to 1000000",
+            },
+        ],
     },
     CommandText {
         name: "close",
         about: "Writes the closed log, as rq close does",
-        which: Which::Close,
+        words: &[
+            LOG,
+            Word {
+                name: "OUT",
+                form: WordForm::Text,
+                help: "The file of the closed log, which may be LOG",
+            },
+            WORKERS,
+        ],
     },
     CommandText {
         name: "audit",
         about: "Prints which checkpoints of a log are true, as rq audit does",
-        which: Which::Audit,
+        words: &[LOG, WORKERS],
     },
 ];
 
-fn words_of(which: Which) -> &'static [Word] {
-    match which {
-        Which::Append => APPEND.as_slice(),
-        Which::Checkpoint => CHECKPOINT.as_slice(),
-        Which::Carry => CARRY.as_slice(),
-        Which::Restart => RESTART.as_slice(),
-        Which::Close => CLOSE.as_slice(),
-        Which::Audit => AUDIT.as_slice(),
-    }
-}
-
 fn plain<'a>(alloc: Global, word: &Word) -> Arg<'a> {
     Arg::new(alloc, word.name).help(word.help)
-}
-
-fn text<'a>(alloc: Global, word: &Word) -> Arg<'a> {
-    plain(alloc, word).required(true)
 }
 
 fn flag<'a>(alloc: Global, word: &Word) -> Arg<'a> {
@@ -202,7 +164,7 @@ fn option<'a>(alloc: Global, word: &Word, usual: &'static str) -> Arg<'a> {
 
 fn argument<'a>(alloc: Global, word: &Word) -> Arg<'a> {
     match word.form {
-        WordForm::Text => text(alloc, word),
+        WordForm::Text => plain(alloc, word).required(true),
         WordForm::TextOrInput => plain(alloc, word).default_value("-"),
         WordForm::Number(usual) => number(alloc, word, usual),
         WordForm::Option(usual) => option(alloc, word, usual),
@@ -210,40 +172,44 @@ fn argument<'a>(alloc: Global, word: &Word) -> Arg<'a> {
     }
 }
 
-fn with_words<'a>(
-    alloc: Global,
-    command: Command<'a>,
-    words: &'static [Word],
-) -> Result<Command<'a>, AllocError> {
-    let mut command = command;
+fn arguments<'a>(alloc: Global, words: &'static [Word]) -> Result<Vec<Arg<'a>>, AllocError> {
+    let mut arguments = Vec::new(alloc);
     for word in words {
-        command = command.arg(argument(alloc, word))?;
+        arguments.push(argument(alloc, word))?;
     }
-    Ok(command)
+    Ok(arguments)
 }
 
-fn with_command<'a>(
+fn command_of<'a>(alloc: Global, text: &CommandText) -> Result<Command<'a>, AllocError> {
+    let arguments = arguments(alloc, text.words)?;
+    Command::new(alloc, text.name)
+        .about(text.about)
+        .args(arguments)
+}
+
+fn add_command<'a>(
     alloc: Global,
-    program: Command<'a>,
     text: &CommandText,
-) -> Result<Command<'a>, AllocError> {
-    let command = Command::new(alloc, text.name).about(text.about);
-    program.subcommand(with_words(alloc, command, words_of(text.which))?)
+    commands: &mut Vec<Command<'a>>,
+) -> Result<(), AllocError> {
+    commands.push(command_of(alloc, text)?)?;
+    Ok(())
 }
 
-fn with_commands<'a>(alloc: Global, program: Command<'a>) -> Result<Command<'a>, AllocError> {
-    let mut program = program;
+fn commands<'a>(alloc: Global) -> Result<Vec<Command<'a>>, AllocError> {
+    let mut commands = Vec::new(alloc);
     for text in COMMANDS.as_slice() {
-        program = with_command(alloc, program, text)?;
+        add_command(alloc, text, &mut commands)?;
     }
-    Ok(program)
+    Ok(commands)
 }
 
 /// The program's command.
 pub(crate) fn program<'a>(alloc: Global) -> Result<Command<'a>, AllocError> {
-    let program = Command::new(alloc, "rqlog")
+    let commands = commands(alloc)?;
+    Command::new(alloc, "rqlog")
         .about("Appends to the log of a recoverable queue manager, marks it and carries it on")
         .version(VERSION)
-        .subcommand_required(true);
-    with_commands(alloc, program)
+        .subcommand_required(true)
+        .subcommands(commands)
 }

@@ -1,5 +1,6 @@
 //! Why the program ends before it is done.
 
+use crate::log_files::shown_name;
 use clap::error::ErrorKind;
 use rq_found::{Seen, Trouble};
 use std::alloc::AllocError;
@@ -32,7 +33,7 @@ pub(crate) enum FileTrouble {
 /// Why the program ends before it is done.
 #[derive(Drop)]
 pub(crate) enum Failure {
-    /// The words are no command.
+    /// The words are no command, or ask for the help or the version, which are the error's text.
     Words(clap::Error),
     /// The words are no text.
     NoText,
@@ -101,13 +102,21 @@ fn output_failed(rt: &HostRuntime, error: &io::Error) -> u8 {
     }
 }
 
+// Prints the help or the version that was asked for, or says why the words are no command.
+fn answer_words(rt: &HostRuntime, error: &clap::Error) -> u8 {
+    if error.exit_code() != 0 {
+        let _ = eprint!(rt; "{error}");
+        return USAGE;
+    }
+    match print!(rt; "{error}") {
+        Ok(()) => 0,
+        Err(error) => output_failed(rt, &error),
+    }
+}
+
 // The name of a file, as it is told.
 fn told(file: &str) -> Seen<'_> {
-    if file == "-" {
-        Seen("standard input")
-    } else {
-        Seen(file)
-    }
+    Seen(shown_name(file))
 }
 
 fn refused(rt: &HostRuntime, file: &str, trouble: &Trouble) -> u8 {
@@ -136,13 +145,11 @@ fn tell_file(rt: &HostRuntime, file: &str, trouble: &FileTrouble) -> u8 {
 }
 
 impl Failure {
-    /// Says on standard error why the program ends, and answers its exit status.
+    /// Prints what was asked for of the words, or says on standard error why the program ends, and
+    /// answers its exit status.
     pub(crate) fn tell(&self, rt: &HostRuntime) -> u8 {
         match self {
-            Failure::Words(error) => {
-                let _ = eprint!(rt; "{error}");
-                USAGE
-            }
+            Failure::Words(error) => answer_words(rt, error),
             Failure::NoText => tell_words(rt, "a word is no text", USAGE),
             Failure::Workers => tell_words(rt, "workers are 1 to 64", USAGE),
             Failure::Same => tell_words(rt, "nothing is written over its log", USAGE),

@@ -47,6 +47,11 @@ where
     }
 }
 
+/// What a log is called that has this file.
+pub(crate) fn shown_name(file: &str) -> &str {
+    if file == "-" { "standard input" } else { file }
+}
+
 /// Whether what is written to the second name would be written over the log of the first: both are
 /// of one file. Standard input may be a file, too; standard output is none that is written over.
 pub(crate) fn is_over_log<R: Files>(rt: &R, file: &str, to: &str) -> bool {

@@ -1,7 +1,7 @@
 //! The files that the program makes of a log.
 
 use crate::failures::{Failure, FileTrouble, of_file};
-use crate::log_files::is_over_log;
+use crate::log_files::{is_over_log, shown_name};
 use crate::requests::Request;
 use crate::words::{numbers_asked, order_asked};
 use rq_file::VERSION;
@@ -21,11 +21,7 @@ fn put_page<R: AllocGlobal + Threads + Sync>(
     let elements = numbers_asked(rt.alloc(), asked.words, "element")?;
     let units = numbers_asked(rt.alloc(), asked.words, "unit")?;
     let page = Asked {
-        name: if asked.file == "-" {
-            "standard input"
-        } else {
-            asked.file
-        },
+        name: shown_name(asked.file),
         version: VERSION,
         order: order_asked(asked.words),
         elements: elements.as_slice(),

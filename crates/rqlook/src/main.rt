@@ -63,10 +63,8 @@ where
     R: Files + Input + Print + Eprint + Clock + AllocGlobal + Threads + Sync,
     R::File: AsFd,
 {
-    match program(rt.alloc())?.try_get_matches_from(words) {
-        Ok(matches) => act(rt, &matches, watch),
-        Err(error) => asked(rt, error),
-    }
+    let matches = program(rt.alloc())?.try_get_matches_from(words)?;
+    act(rt, &matches, watch)
 }
 
 // Arguments that are no text are no command; if memory ran out nothing is known of them.
@@ -76,13 +74,4 @@ fn unread(error: io::Error) -> Failure {
     } else {
         Failure::NoText
     }
-}
-
-// Prints the help or the version that was asked for, or refuses the words.
-fn asked<R: Print>(rt: &R, error: clap::Error) -> Result<bool, Failure> {
-    if error.exit_code() == 0 {
-        print!(rt; "{error}")?;
-        return Ok(true);
-    }
-    Err(Failure::from(error))
 }

@@ -47,21 +47,36 @@ fn argument<'a>(alloc: Global, word: &Argument) -> Arg<'a> {
     }
 }
 
-fn with_words<'a>(
-    alloc: Global,
-    command: Command<'a>,
-    words: &'static [Argument],
-) -> Result<Command<'a>, AllocError> {
-    let mut command = command;
+fn arguments<'a>(alloc: Global, words: &'static [Argument]) -> Result<Vec<Arg<'a>>, AllocError> {
+    let mut arguments = Vec::new(alloc);
     for word in words {
-        command = command.arg(argument(alloc, word))?;
+        arguments.push(argument(alloc, word))?;
     }
-    Ok(command)
+    Ok(arguments)
 }
 
 fn command_of<'a>(alloc: Global, text: &Subcommand) -> Result<Command<'a>, AllocError> {
-    let command = Command::new(alloc, text.name).about(text.about);
-    with_words(alloc, command, text.words)
+    let arguments = arguments(alloc, text.words)?;
+    Command::new(alloc, text.name)
+        .about(text.about)
+        .args(arguments)
+}
+
+fn add_command<'a>(
+    alloc: Global,
+    text: &Subcommand,
+    commands: &mut Vec<Command<'a>>,
+) -> Result<(), AllocError> {
+    commands.push(command_of(alloc, text)?)?;
+    Ok(())
+}
+
+fn commands<'a>(alloc: Global) -> Result<Vec<Command<'a>>, AllocError> {
+    let mut commands = Vec::new(alloc);
+    for text in COMMANDS.as_slice() {
+        add_command(alloc, text, &mut commands)?;
+    }
+    Ok(commands)
 }
 
 // The program without its commands.
@@ -75,12 +90,8 @@ fn bare<'a>(alloc: Global) -> Command<'a> {
 
 /// The program's command.
 pub(crate) fn program<'a>(alloc: Global) -> Result<Command<'a>, AllocError> {
-    let mut program = bare(alloc);
-    for text in COMMANDS.as_slice() {
-        let command = command_of(alloc, text)?;
-        program = program.subcommand(command)?;
-    }
-    Ok(program)
+    let commands = commands(alloc)?;
+    bare(alloc).subcommands(commands)
 }
 
 /// To how many columns the words want lines cut, 0 for none, if the output has so many where a person
