@@ -153,12 +153,7 @@ fn reason_of(
 }
 
 // Where the front ends, with the reason.
-fn told(
-    alloc: Global,
-    log: &ShownLog<'_>,
-    end: &FrontEnd,
-    rule: Option<Rule>,
-) -> Result<End, Fault>
+fn told(alloc: Global, log: &ShownLog<'_>, end: &FrontEnd, rule: Option<Rule>) -> Result<End, Fault>
     ensures end { IfOk result
         (λ told. (r : fronts.Restarted) → IsEndOf r end.now → IsEndOf r (front_end_of told)) }
     ensures refused { IfErr result (λ e. e ≡ Resources) }
