@@ -1,9 +1,7 @@
 -- The front of a log from a checkpoint on: its first record is the checkpoint.
 use Rattle.std.proofs.Common.{◌≡◌, ℕ, ◌+◌, ◌-◌, ◌≤◌, true, false, List, [], ◌∷◌, ◌++◌, length, take, drop, refl, sym}
 use Rattle.std.proofs.Common.{ap}
-use Rattle.std.proofs.Common.{subst, ◌∙◌, append_assoc, arith, Bool}
-use Rattle.std.specs.Prelude.{Result, Ok, Err, IfOk, IfErr}
-use Rattle.std.specs.Global.{Vec}
+use Rattle.std.proofs.Common.{subst, ◌∙◌, append_assoc, arith}
 use Rattle.std.proofs.lemmas.List.{length-append, length-take, length-drop, take-append-drop, drop-drop}
 use Rattle.rq_model.specs.Records.{Record, Checkpoint, Version}
 use Rattle.rq_model.specs.Spelling.{body_of}
@@ -16,8 +14,6 @@ use Rattle.rq_model.specs.Checkpoints.{IsCheckpointAt}
 use Rattle.rq_model.specs.Carrying.{IsFrontAt}
 use Rattle.rq_model.proofs.Bodies.{body_fits, one_record}
 use Rattle.rq_model.proofs.Runs.{frame_reads, last_at_end, no_right}
-use Rattle.rq_record.specs.declared.fault.Fault.{Fault}
-use Rattle.rq_record.specs.declared.fault.Fault.TheVariants.{Resources}
 use Rattle.rq_record.specs.Views.{version_of}
 use Rattle.rq_front.specs.Chains.{bodies_at, rest_of}
 use Rattle.rq_catalog.specs.declared.judge.Judge.{Judge}

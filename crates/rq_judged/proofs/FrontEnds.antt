@@ -1,5 +1,5 @@
 -- The end of a judged front is that of its restart.
-use Rattle.std.proofs.Common.{◌≡◌, ℕ, ◌+◌, ◌≤◌, false, List, ◌∷◌, ◌++◌, length, take, drop, refl, sym, ap, ◌∙◌, arith}
+use Rattle.std.proofs.Common.{◌≡◌, ℕ, ◌+◌, ◌≤◌, false, List, ◌∷◌, length, take, drop, refl, ap, ◌∙◌, arith}
 use Rattle.std.specs.Prelude.{Option, is_some, Ok}
 use Rattle.std.proofs.lemmas.List.{take_at, length-append, length-drop}
 use Rattle.rq_model.specs.Records.{Record, Checkpoint, Version}

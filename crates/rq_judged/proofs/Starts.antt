@@ -8,15 +8,13 @@ use Rattle.rq_model.specs.Records.{Record, Version}
 use Rattle.rq_model.specs.Frames.{log_limit, magic, start, header, HasHeader, before, digest, frame, last_of}
 use Rattle.rq_model.specs.Frames.{IsFrameRun}
 use Rattle.rq_model.specs.LogLaws.{LogEnds}
-use Rattle.rq_model.specs.States.{State, empty}
+use Rattle.rq_model.specs.States.{empty}
 use Rattle.rq_model.specs.Machine.{run}
 use Rattle.rq_model.specs.Fronts.{IsLongest, IsFront, IsWhy, IsRestart, Restarted, Why, restarted}
 use Rattle.rq_model.proofs.Runs.{length-sha256}
-use Rattle.std.specs.Prelude.{All, Result, Ok, Err, IfOk, IfErr}
+use Rattle.std.specs.Prelude.{All}
 use Rattle.rq_front.specs.declared.spans.Chain.{Chain}
-use Rattle.rq_front.specs.Chains.{bodies_at, rest_of, spans_from, Refused}
-use Rattle.rq_record.specs.declared.fault.Fault.{Fault}
-use Rattle.rq_record.specs.declared.fault.Fault.TheVariants.{Resources}
+use Rattle.rq_front.specs.Chains.{bodies_at, rest_of, spans_from}
 use Rattle.rq_judged.specs.Ends.{IsChain, IsFrontFrom}
 
 -- the header has 40 bytes, and its last 32 are what the first frame is chained to

@@ -1,5 +1,4 @@
 use Rattle.std.proofs.Common.{List, ℕ, drop, subst, sym}
-use Rattle.rq_model.specs.Frames.{body_in}
 use Rattle.rq_model.specs.Spelling.{Spells}
 use Rattle.rq_model.specs.Fronts.{IsWhy, Law}
 use Rattle.rq_judged.specs.Views.{why_of}

@@ -4,7 +4,7 @@ use Rattle.rq_judged.specs.Ends.{IsChain, IsFrontFrom}
 use Rattle.rq_judged.specs.Views.{why_of}
 use Rattle.rq_restart.proofs.RedoneFronts.{redoes_at}
 use Rattle.rq_restart.proofs.redone.redone_front_at.Goals as goal
-use Rattle.rq_restart.proofs.redone.redone_front_at.Goals.{In_ok-begun, In_ok-front}
+use Rattle.rq_restart.proofs.redone.redone_front_at.Goals.{In_ok-front}
 
 chain : (g : _) (c : In_ok-front g) → IsChain c.borrowed.result c.args.offset c.in_ok-begun.begun.found
 chain g c = subst (λ (b : List ℕ). IsChain b c.args.offset c.in_ok-begun.begun.found) (sym c.borrowed.ensures)
