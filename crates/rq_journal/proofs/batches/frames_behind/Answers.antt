@@ -23,7 +23,7 @@ returns-in-None g c =
     let taken = subst (λ (old : List ℕ). AppendsEach o.appender a first old out) c.new-out.ensures.items
     c.append_each-count.ensures.taken in
     let same : first ≡ xs = sym (take-map record_of n all) ∙ all_taken n xs (drop-map record_of n all ∙ stops) in
-    behind c.args.bytes.now o a xs out c.in-Ok.ensures
+    behind c.args.bytes.now o a xs out c.in-Ok.ensures.opens
     (subst (λ (ys : List model.Record). AppendsEach o.appender a ys [] out)
     same taken) c.appended_logs.ensures.crash c.appended_logs.ensures.front
 
@@ -44,7 +44,7 @@ returns g c =
     let same : first ≡ take n xs = sym (take-map record_of n all) in
     let why : Option NotTaken = Some c.in-Some.why in
     let others : left ≡ drop n xs = sym (drop-map record_of n all) in
-    held_back c.args.bytes.now o a xs n out c.in-Some.why c.in-Ok.ensures
+    held_back c.args.bytes.now o a xs n out c.in-Some.why c.in-Ok.ensures.opens
     (subst (λ (ys : List model.Record). AppendsEach o.appender a ys [] out) same taken)
     (subst (λ (ys : List model.Record). AppendsUpTo o.appender (take n xs) ys why) others
     (subst (λ (ys : List model.Record). AppendsUpTo o.appender ys left why) same stops))

@@ -13,5 +13,7 @@ returns g c =
     let f = c.in_ok-front.front in
     let begun = subst (λ (z : List ℕ). BeginsFile (version_of f.version) f.last z c.begun.result) c.deref.ensures.value
     c.begun.ensures in
-    carries c.args.bytes.now f c.in_ok-body.body.items c.in_ok-front.ensures c.in_ok-body.ensures c.begun.result
-    c.fronts_are_spelt.ensures c.logs_begun_anew.ensures.starts c.continued_logs.ensures.loud c.logs_begun_anew.ensures.gap c.logs_begun_anew.ensures.join begun
+    record {
+      carries = carries c.args.bytes.now f c.in_ok-body.body.items c.in_ok-front.ensures c.in_ok-body.ensures c.begun.result
+          c.fronts_are_spelt.ensures c.logs_begun_anew.ensures.starts c.continued_logs.ensures.loud c.logs_begun_anew.ensures.gap c.logs_begun_anew.ensures.join begun;
+    }

@@ -15,6 +15,8 @@ returns g c =
     let redone = subst (λ (z : List ℕ). IsRedoneFront z f) c.deref-2.ensures.value c.in_ok-front.ensures in
     let framed = subst (λ (z : List ℕ). PutsFrame (take f.used b) f.last z c.framed.result) c.deref-3.ensures.value
     c.framed.ensures in
-    marks b f c.in_ok-body.body.items redone c.in_ok-body.ensures c.framed.result
-    (subst AreBytes c.deref.ensures.value c.are_bytes.ensures) c.appended_checkpoints.ensures.truth
-    c.appended_checkpoints.ensures.queues c.true_checkpoints_report_the_same.ensures framed
+    record {
+      marks = marks b f c.in_ok-body.body.items redone c.in_ok-body.ensures c.framed.result
+          (subst AreBytes c.deref.ensures.value c.are_bytes.ensures) c.appended_checkpoints.ensures.truth
+          c.appended_checkpoints.ensures.queues c.true_checkpoints_report_the_same.ensures framed;
+    }
