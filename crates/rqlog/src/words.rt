@@ -196,9 +196,12 @@ fn add_command<'a>(
     Ok(())
 }
 
-fn commands<'a>(alloc: Global) -> Result<Vec<Command<'a>>, AllocError> {
+fn commands<'a>(
+    alloc: Global,
+    texts: &'static [CommandText],
+) -> Result<Vec<Command<'a>>, AllocError> {
     let mut commands = Vec::new(alloc);
-    for text in COMMANDS.as_slice() {
+    for text in texts {
         add_command(alloc, text, &mut commands)?;
     }
     Ok(commands)
@@ -206,7 +209,7 @@ fn commands<'a>(alloc: Global) -> Result<Vec<Command<'a>>, AllocError> {
 
 /// The program's command.
 pub(crate) fn program<'a>(alloc: Global) -> Result<Command<'a>, AllocError> {
-    let commands = commands(alloc)?;
+    let commands = commands(alloc, COMMANDS.as_slice())?;
     Command::new(alloc, "rqlog")
         .about("Appends to the log of a recoverable queue manager, marks it and carries it on")
         .version(VERSION)
