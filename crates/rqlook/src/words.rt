@@ -1,6 +1,6 @@
 //! The words of the program.
 
-use crate::command_table::{Argument, ArgumentForm, COMMANDS, Subcommand, TEXT};
+use crate::command_table::{Argument, ArgumentForm, Subcommand, TEXT, subcommands};
 use clap::builder::ValueParser;
 use clap::{Arg, ArgAction, ArgMatches, Command};
 use rq_file::VERSION;
@@ -93,7 +93,7 @@ fn bare<'a>(alloc: Global) -> Command<'a> {
 
 /// The program's command.
 pub(crate) fn program<'a>(alloc: Global) -> Result<Command<'a>, AllocError> {
-    let commands = commands(alloc, COMMANDS.as_slice())?;
+    let commands = commands(alloc, subcommands())?;
     bare(alloc).subcommands(commands)
 }
 
