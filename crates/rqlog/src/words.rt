@@ -139,6 +139,12 @@ static COMMANDS: [CommandText; 6] = [
     },
 ];
 
+// The commands of the program, as its help shows them. (A function of its own, since the check of
+// one grows with the statics that it names.)
+fn command_texts() -> &'static [CommandText] {
+    COMMANDS.as_slice()
+}
+
 fn plain<'a>(alloc: Global, word: &Word) -> Arg<'a> {
     Arg::new(alloc, word.name).help(word.help)
 }
@@ -196,9 +202,12 @@ fn add_command<'a>(
     Ok(())
 }
 
-fn commands<'a>(alloc: Global) -> Result<Vec<Command<'a>>, AllocError> {
+fn commands<'a>(
+    alloc: Global,
+    texts: &'static [CommandText],
+) -> Result<Vec<Command<'a>>, AllocError> {
     let mut commands = Vec::new(alloc);
-    for text in COMMANDS.as_slice() {
+    for text in texts {
         add_command(alloc, text, &mut commands)?;
     }
     Ok(commands)
@@ -206,7 +215,7 @@ fn commands<'a>(alloc: Global) -> Result<Vec<Command<'a>>, AllocError> {
 
 /// The program's command.
 pub(crate) fn program<'a>(alloc: Global) -> Result<Command<'a>, AllocError> {
-    let commands = commands(alloc)?;
+    let commands = commands(alloc, command_texts())?;
     Command::new(alloc, "rqlog")
         .about("Appends to the log of a recoverable queue manager, marks it and carries it on")
         .version(VERSION)

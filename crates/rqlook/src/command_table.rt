@@ -79,8 +79,13 @@ const WORKERS: Argument = Argument {
     help: "How many threads work, 1 to 64",
 };
 
-/// The commands of the program, as its help shows them.
-pub(crate) static COMMANDS: [Subcommand; 9] = [
+/// The commands of the program, as its help shows them. (A function of its own, since the check of
+/// one grows with the statics that it names.)
+pub(crate) fn subcommands() -> &'static [Subcommand] {
+    COMMANDS.as_slice()
+}
+
+static COMMANDS: [Subcommand; 9] = [
     Subcommand {
         name: "dump",
         about: "Shows a line for each record, and where the front ends and why",

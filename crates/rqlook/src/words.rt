@@ -1,6 +1,6 @@
 //! The words of the program.
 
-use crate::command_table::{Argument, ArgumentForm, COMMANDS, Subcommand, TEXT};
+use crate::command_table::{Argument, ArgumentForm, Subcommand, TEXT, subcommands};
 use clap::builder::ValueParser;
 use clap::{Arg, ArgAction, ArgMatches, Command};
 use rq_file::VERSION;
@@ -71,9 +71,12 @@ fn add_command<'a>(
     Ok(())
 }
 
-fn commands<'a>(alloc: Global) -> Result<Vec<Command<'a>>, AllocError> {
+fn commands<'a>(
+    alloc: Global,
+    texts: &'static [Subcommand],
+) -> Result<Vec<Command<'a>>, AllocError> {
     let mut commands = Vec::new(alloc);
-    for text in COMMANDS.as_slice() {
+    for text in texts {
         add_command(alloc, text, &mut commands)?;
     }
     Ok(commands)
@@ -90,7 +93,7 @@ fn bare<'a>(alloc: Global) -> Command<'a> {
 
 /// The program's command.
 pub(crate) fn program<'a>(alloc: Global) -> Result<Command<'a>, AllocError> {
-    let commands = commands(alloc)?;
+    let commands = commands(alloc, subcommands())?;
     bare(alloc).subcommands(commands)
 }
 
