@@ -1,8 +1,8 @@
 -- What the parts of all queues have, one after the other, is the state's.
-use Rattle.std.proofs.Common.{◌≡◌, ℕ, zero, suc, ◌+◌, ◌<◌, ◌≤◌, Bool, true, ◌||◌, List, [], ◌∷◌, ◌++◌, length, take}
+use Rattle.std.proofs.Common.{◌≡◌, ℕ, zero, suc, ◌+◌, ◌<◌, ◌≤◌, true, ◌||◌, List, [], ◌∷◌, ◌++◌, length, take}
 use Rattle.std.proofs.Common.{refl, sym, ap, ◌∙◌, subst, arith, append_assoc, IsPermutation, sum_by, take_all}
 use Rattle.std.proofs.Common.{length-append}
-use Rattle.std.specs.Prelude.{◌==◌, ◌&&◌, nat_lt}
+use Rattle.std.specs.Prelude.{◌==◌, ◌&&◌}
 use Rattle.std.specs.List.{AllByRecursion, flat_map}
 use Rattle.std.proofs.lemmas.Bool.{eqb-true, lt-ltb}
 use Rattle.std.proofs.lemmas.List.{flat_map_more, take_more}
@@ -11,11 +11,11 @@ use Rattle.std.proofs.lemmas.List.Sums.{sum_by-cons}
 use Rattle.rq_model.specs.Laws.{gathered}
 use Rattle.rq_model.specs.Queues.{Part, part_of, registrants_at}
 use Rattle.rq_model.specs.StateSpelling.{registrant_bytes}
-use Rattle.rq_model.specs.States.{State, Element, Note, Registrant, registrant_before, name_before, id_before}
+use Rattle.rq_model.specs.States.{State, Element, Registrant, registrant_before, name_before, id_before}
 use Rattle.rq_model.specs.WellFormed.{IsWellFormed, Ordered}
 use Rattle.rq_model.proofs.Lists.{each_weaker, each_append, each_passes}
 use Rattle.rq_model.proofs.Merged.{ordered_append, ordered_filter}
-use Rattle.rq_state.specs.Laws.{PartsMakeTheState, AnyOrderMakesTheState, HasSame}
+use Rattle.rq_state.specs.Laws.{PartsMakeTheState, AnyOrderMakesTheState}
 use Rattle.rq_state.specs.Orders.{put_in_order, place_before}
 use Rattle.rq_state.proofs.InOrder.{registrant_is_order}
 use Rattle.rq_state.proofs.Whole.{whole_itself}

@@ -1,10 +1,9 @@
 use Rattle.std.proofs.Common.{◌≡◌, ◌<◌, ◌+◌, ◌++◌, ◌∷◌, [], List, length, take, sym, ap, ◌∙◌, subst, arith, IsPermutation}
 use Rattle.std.specs.List.{flat_map}
-use Rattle.std.proofs.lemmas.List.{flat_map_more, take_more, get_or_default}
+use Rattle.std.proofs.lemmas.List.{flat_map_more, take_more}
 use Rattle.std.proofs.lemmas.List.Sorted.{IsPermutation-trans, IsPermutation-append_left}
 use Rattle.rq_model.specs.Queues.{Part}
 use Rattle.rq_model.specs.States.{Element}
-use Rattle.rq_standing.specs.Parts.{part_at, no_part}
 use Rattle.rq_standing.proofs.compared_parts.lent_elements.Goals as goal
 
 pub loop-part-preserved : goal.loop-part-preserved

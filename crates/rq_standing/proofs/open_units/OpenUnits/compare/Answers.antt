@@ -9,7 +9,7 @@ use Rattle.rq_standing.proofs.open_units.OpenUnits.compare.Goals as goal
 pub count-requires : goal.count-requires
 count-requires c =
     let few = c.requires.few in
-    subst (λ n. n < 4294967296) (sym (c.count-units.ensures few.0 few.1 few.2.0)) few.2.1
+    subst (λ n. n < 4294967296) (sym (c.count-units.ensures few.0 few.1 few.2)) few.3
 
 pub returns : goal.returns
 returns c = λ s well are.

@@ -1,4 +1,4 @@
-use Rattle.std.proofs.Common.{◌<◌, ◌≤◌, ◌∙◌, ap, subst, List}
+use Rattle.std.proofs.Common.{◌≤◌, ◌∙◌, ap, subst, List}
 use Rattle.std.specs.List.{flat_map}
 use Rattle.rq_model.specs.States.{Definition}
 use Rattle.rq_model.specs.StateSpelling.{definition_bytes}

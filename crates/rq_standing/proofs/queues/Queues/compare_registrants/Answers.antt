@@ -1,4 +1,4 @@
-use Rattle.std.proofs.Common.{◌<◌, ◌≤◌, ◌∙◌, ap, sym, subst, sum_by, length, List}
+use Rattle.std.proofs.Common.{◌<◌, ◌≤◌, ◌∙◌, ap, sym, subst, sum_by, length}
 use Rattle.std.specs.List.{flat_map}
 use Rattle.rq_model.specs.Queues.{Part}
 use Rattle.rq_model.specs.StateSpelling.{registrant_bytes}

@@ -1,9 +1,7 @@
-use Rattle.std.proofs.Common.{◌≡◌, ◌≤◌, ◌&&◌, nat_le, ap, sym, ◌∙◌, subst, length, is_some, Some}
+use Rattle.std.proofs.Common.{ap, sym, ◌∙◌}
 use Rattle.std.proofs.lemmas.Bool.{and_parts, leb-true}
-use Rattle.rq_model.specs.States.{State}
 use Rattle.rq_state.specs.Comparing.{behind}
-use Rattle.rq_standing.specs.Spelled.{head_of, least_bytes}
-use Rattle.rq_standing.specs.Standings.{HoldsState}
+use Rattle.rq_standing.specs.Spelled.{head_of}
 use Rattle.rq_standing.proofs.Spellings.{not_spelled, is_spelled}
 use Rattle.rq_standing.proofs.queues.Queues.is_spelled_by.Goals as goal
 
@@ -17,8 +15,7 @@ returns-then-not-may_follow-clause-truth c = λ t holds.
     let x = c.args.self.now in
     not_spelled t c.args.kept.now x.next c.compare_head.new.bytes c.may_follow.result holds.next
     (c.compare_head.ensures t holds ∙ ap (behind (head_of t)) c.new-bytes.ensures)
-    (c.may_follow.ensures t holds ∙ ap (λ n. nat_le x.next 4294967295
-    && (is_some c.compare_head.new.bytes && nat_le (least_bytes t) n)) c.len.ensures)
+    (c.may_follow.ensures t holds)
     c.if-not-may_follow.true
 
 pub returns-clause-truth : goal.returns-clause-truth
@@ -28,6 +25,5 @@ returns-clause-truth c = λ t holds.
     ∙ is_spelled t c.args.kept.now x.next c.compare_head.new.bytes c.compare_lists.new.bytes c.may_follow.result
     holds.next
     (c.compare_head.ensures t holds ∙ ap (behind (head_of t)) c.new-bytes.ensures)
-    (c.may_follow.ensures t holds ∙ ap (λ n. nat_le x.next 4294967295
-    && (is_some c.compare_head.new.bytes && nat_le (least_bytes t) n)) c.len.ensures)
+    (c.may_follow.ensures t holds)
     c.if-not-may_follow.false (c.in_ok-compare_lists.ensures.compared t holds)
